@@ -1,16 +1,15 @@
 -- What ended maps have left behind roots stays there while further ones end, and what such a one leaves comes to it.
 use Rattle.std.specs.Prelude.{◌≢◌, Option, Some, None}
-use Rattle.std.proofs.Common.{◌≡◌, ℕ, zero, suc, ◌+◌, ◌<◌, ◌≤◌, Bool, true, false, List, [], ◌∷◌, ◌++◌, ◌⊎◌, inl, inr, refl, arith, ap, sym, subst, ◌∙◌}
+use Rattle.std.proofs.Common.{◌≡◌, ℕ, zero, suc, ◌+◌, ◌<◌, ◌≤◌, Bool, true, List, [], ◌∷◌, ◌++◌, ◌⊎◌, inl, inr, refl, arith, ap, sym, subst, ◌∙◌}
 use Rattle.std.proofs.lemmas.Bool.{cases_eq, cases_lt}
 use Rattle.seize_words.specs.declared.at.At.TheVariants.{Root, Used, Entry}
 use Rattle.seize_words.specs.Mem.{Mem, value_at, word_at}
 use Rattle.seize.specs.declared.rows.settle.Settled.{Settled}
 use Rattle.seize.specs.declared.states.TheConstants.{NEXT}
-use Rattle.seize.specs.World.{World, Hand, NoBlock, Making, InUse, Parting, Cutting, Handed, LeftTo, IsNotLeft, Ends, Happens, times, with_at, with_effect}
-use Rattle.seize.specs.Law.{Ended}
+use Rattle.seize.specs.World.{World, Hand, LeftTo, IsNotLeft, times, with_at}
 use Rattle.seize_rule.proofs.Rows.Others.{with_here, with_other}
 use Rattle.seize_reclaims.specs.Roots.{all_lists}
-use Rattle.papaya_tables.specs.Nodes.{deferred_word, was_left}
+use Rattle.papaya_tables.specs.Nodes.{was_left}
 use Rattle.papaya_tables.specs.declared.node.Node.{Node}
 use Rattle.papaya_tables.specs.declared.setting.Setting.{Setting}
 use Rattle.papaya_raw.specs.declared.machines.end_map.EndMap.{EndMap}
@@ -18,13 +17,13 @@ use Rattle.papaya_callers.specs.Together.{UnderWay}
 use Rattle.papaya_callers.proofs.Together.At.{at_other, at_same}
 use Rattle.papaya_finishes.specs.Endings.{Finishing, FinishingFacts, finishing_of, waiting_by, HasFinished, EndingsTogether, StepsOfEnding}
 use Rattle.papaya_finishes.specs.FactsEnds.{Deed, Looks, TakesPair, LeavesTable, JoinsPair, TakesLeft, TakesCounter, WritesRoot, taken_by, left_by, joined_by, RootIs}
-use Rattle.papaya_finishes.specs.Makings.{Beginning, HasTaken}
+use Rattle.papaya_finishes.specs.Makings.{Beginning}
 use Rattle.papaya_finishes.specs.Maps.{Standing}
 use Rattle.papaya_finishes.proofs.Among.LeftAlone.{root_taken}
 use Rattle.papaya_finishes.proofs.Beside.Makings.Steps.{one_made}
 use Rattle.papaya_finishes.proofs.Ends.CountedBlocks.{times-append, some_here, some_last}
 use Rattle.papaya_reclaims.specs.Left.{IsSomebodys, LeftAmong, EndingsBeginAndLeaveIt, GoesOnBy, EndingsLeaveIt}
-use Rattle.papaya_reclaims.specs.Reclaims.{IsRootOf, RootLeads}
+use Rattle.papaya_reclaims.specs.Reclaims.{RootLeads}
 use Rattle.papaya_reclaims.proofs.Behind.Kept.{in_all, leads_by}
 
 one_of : {X : Type 0} (x y : X) → ◌≡◌ {A = Option X} (Some x) (Some y) → x ≡ y

@@ -1,6 +1,6 @@
 -- What ended maps have left behind roots stays there while maps are made.
 use Rattle.std.specs.Prelude.{◌≢◌, Option, Some, None, ◌/◌}
-use Rattle.std.proofs.Common.{◌≡◌, ℕ, ◌<◌, Bool, true, false, List, [], ◌∷◌, ◌⊎◌, inl, inr, refl, arith, ap, sym, subst, ◌∙◌}
+use Rattle.std.proofs.Common.{◌≡◌, ℕ, ◌<◌, Bool, false, List, [], ◌∷◌, ◌⊎◌, inl, inr, refl, arith, ap, sym, subst, ◌∙◌}
 use Rattle.std.proofs.lemmas.Bool.{cases_eq}
 use Rattle.seize_words.specs.Word.{block_in}
 use Rattle.seize_words.specs.declared.fault.Fault.{Fault}
@@ -8,7 +8,7 @@ use Rattle.seize_words.specs.declared.at.At.TheVariants.{Root, Used}
 use Rattle.seize_words.specs.Mem.{Mem, value_at, word_at}
 use Rattle.seize.specs.declared.progress.Progress.{Progress}
 use Rattle.seize.specs.declared.progress.Progress.TheVariants as progress
-use Rattle.seize.specs.World.{World, LeftTo, times, with_at}
+use Rattle.seize.specs.World.{World, times, with_at}
 use Rattle.seize_rule.proofs.Words.Named.{link-block}
 use Rattle.papaya_tables.specs.Nodes.{was_left}
 use Rattle.papaya_tables.specs.declared.node.Node.{Node}
@@ -16,12 +16,12 @@ use Rattle.papaya_tables.specs.declared.setting.Setting.{Setting}
 use Rattle.papaya_resize.specs.declared.new_map.NewMap.{NewMap}
 use Rattle.papaya_callers.specs.Together.{UnderWay}
 use Rattle.papaya_callers.proofs.Together.At.{at_other, at_same}
-use Rattle.papaya_finishes.specs.Endings.{Finishing, EndingsTogether, MakingToldAmong, MakingStepsAmong}
+use Rattle.papaya_finishes.specs.Endings.{Finishing, EndingsTogether, MakingStepsAmong}
 use Rattle.papaya_finishes.specs.Makings.{Beginning, HasTaken, HasComeTo, KeepsIts, LeavesRest, IsTakenRoot}
 use Rattle.papaya_finishes.specs.Maps.{Standing}
 use Rattle.papaya_finishes.proofs.Beside.Makings.Lasts.{taken_root}
 use Rattle.papaya_finishes.proofs.Beside.Makings.Steps.{one_made}
-use Rattle.papaya_reclaims.specs.Left.{IsSomebodys, LeftAmong, MakingsBeginAndLeaveIt, MakingLeft, MakingsLeaveIt}
+use Rattle.papaya_reclaims.specs.Left.{IsSomebodys, LeftAmong, MakingsBeginAndLeaveIt, MakingsLeaveIt}
 use Rattle.papaya_reclaims.specs.Reclaims.{IsRootOf, RootLeads}
 use Rattle.papaya_reclaims.proofs.Behind.Kept.{in_all, leads_by}
 use Rattle.papaya_reclaims.proofs.Behind.Points.{root_of_map}
