@@ -12,4 +12,5 @@ pub mod MachinesTold
 pub mod Makings
 pub mod Begins
 pub mod Own
+pub mod Owners
 mod Samples

@@ -7,3 +7,4 @@ pub mod Sweeps
 pub mod Machines
 pub mod Maps
 pub mod Makings
+pub mod Owners

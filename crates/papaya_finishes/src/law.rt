@@ -1,9 +1,13 @@
 //! What is promised of calls on several maps, and of maps that are made and end meanwhile.
-ghost use Rattle.std.specs.Prelude.{ℕ, Bool};
-ghost use Rattle.papaya_finishes.specs.Makings.{NoMakingsBegin, MakingsBegin, MakingsStand, CallsBeginBeside, CallsStandBeside, RepliesStandBeside, RowsStandBeside, GuardsStandBeside};
-ghost use Rattle.papaya_finishes.specs.Maps.{NoMapsBegin, MapsCome, CallsBeginInMaps, CallsStandInMaps, RepliesStandInMaps, RowsStandInMaps, GuardsStandInMaps};
+ghost use Rattle.std.specs.Prelude.{ℕ, Bool, Option};
+ghost use Rattle.seize.specs.World.{World};
+ghost use Rattle.papaya_tables.specs.declared.node.Node.{Node};
+ghost use Rattle.papaya_callers.specs.Together.{UnderWay};
+ghost use Rattle.papaya_finishes.specs.Makings.{Beginning, NoMakingsBegin, MakingsBegin, MakingsStand, CallsBeginBeside, CallsStandBeside, RepliesStandBeside, RowsStandBeside, GuardsStandBeside};
+ghost use Rattle.papaya_finishes.specs.Owners.{OwnEndingsBegin, OwnEndingsStand};
+ghost use Rattle.papaya_finishes.specs.Maps.{Standing, NoMapsBegin, MapsCome, CallsBeginInMaps, CallsStandInMaps, RepliesStandInMaps, RowsStandInMaps, GuardsStandInMaps};
 ghost use Rattle.papaya_finishes.specs.Countings.{CountingsBeginAmong, CountingsStandAmong};
-ghost use Rattle.papaya_finishes.specs.Endings.{NoEndingsBegin, EndingsBegin, EndingsStand, CallsBeginAmong, CallsStandAmong, RepliesStandAmong, RowsStandAmong, GuardsStandAmong, MakingsBeginAmong, MakingsStandAmong};
+ghost use Rattle.papaya_finishes.specs.Endings.{Finishing, NoEndingsBegin, EndingsBegin, EndingsStand, CallsBeginAmong, CallsStandAmong, RepliesStandAmong, RowsStandAmong, GuardsStandAmong, MakingsBeginAmong, MakingsStandAmong};
 ghost use Rattle.papaya_finishes.specs.Machines.{MachinesStandAmong, MachinesToldAmong};
 ghost use Rattle.papaya_finishes.specs.Rooms.{RoomsBeginAmong, RoomsStandAmong, RoomRowsStandAmong};
 ghost use Rattle.papaya_finishes.specs.Sweeps.{SweepsBeginAmong, SweepsStandAmong, SweepsToldAmong, SweepRowsStandAmong};
@@ -26,6 +30,15 @@ pub fn maps_end_meanwhile<K, V, Q>()
     ensures guards { (same : K → K → Bool) (asks : Q → K → Bool) (batch_size : ℕ) (roots : ℕ) (slot : ℕ → ℕ) → GuardsStandAmong V same asks batch_size roots slot }
     ensures makings_begin { (same : K → K → Bool) (asks : Q → K → Bool) (batch_size : ℕ) (roots : ℕ) (slot : ℕ → ℕ) → MakingsBeginAmong {Q = Q} V same asks batch_size roots slot }
     ensures makings_step { (same : K → K → Bool) (asks : Q → K → Bool) (batch_size : ℕ) (roots : ℕ) (slot : ℕ → ℕ) → MakingsStandAmong {Q = Q} V same asks batch_size roots slot }
+{}
+
+/// A map that owns its collector ends, where it is the only one that stands, nothing else is under way, and nobody is inside of a slot. Whoever ends it may
+/// take each step of that, while nobody else takes one, and it never waits. A step takes one block away at most, which it hands out: the map's pairs, then
+/// table by table what that carried and the table, and its counter, in an order that the map's tables say. At the end all of that was reclaimed, each block
+/// once, its root is free, and maps may be made again.
+pub fn maps_end_with_their_collector<K, V, Q>()
+    ensures begins { (same : K → K → Bool) (asks : Q → K → Bool) (batch_size : ℕ) (roots : ℕ) (slot : ℕ → ℕ) (maps : ℕ → Option (Standing K)) (calls : ℕ → ℕ → Option (UnderWay K V Q)) (makers : ℕ → Option (Beginning K)) (enders : ℕ → Option (Finishing K V)) (w : World (Node K V)) (i : ℕ) → OwnEndingsBegin V same asks batch_size roots slot maps calls makers enders w i }
+    ensures steps { (same : K → K → Bool) (asks : Q → K → Bool) (batch_size : ℕ) (roots : ℕ) (slot : ℕ → ℕ) (maps : ℕ → Option (Standing K)) (calls : ℕ → ℕ → Option (UnderWay K V Q)) (makers : ℕ → Option (Beginning K)) (enders : ℕ → Option (Finishing K V)) (w : World (Node K V)) (i : ℕ) → OwnEndingsStand V same asks batch_size roots slot maps calls makers enders w i }
 {}
 
 /// Reservations stand among all of these. A caller that has no call, makes no map and ends none may begin one on a map that stands, within its section.

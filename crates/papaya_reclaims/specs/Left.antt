@@ -17,7 +17,7 @@ use Rattle.papaya_callers.specs.Together.{UnderWay, IsOfSlots}
 use Rattle.papaya_finishes.specs.Endings.{Finishing, finishing_of, waiting_by, HasFinished, EndingsTogether, StepsOfEnding, MakingToldAmong, MakingStepsAmong}
 use Rattle.papaya_finishes.specs.FactsEnds.{Deed, taken_by}
 use Rattle.papaya_finishes.specs.Machines.{MachineStepsAmong}
-use Rattle.papaya_finishes.specs.Makings.{Beginning, HasTaken}
+use Rattle.papaya_finishes.specs.Makings.{Beginning, HasTaken, IsFreeRoot}
 use Rattle.papaya_finishes.specs.Maps.{Standing, IsSameMap}
 use Rattle.papaya_reclaims.specs.Reclaims.{IsRootOf, RootLeads, LeftBehind}
 
@@ -38,6 +38,12 @@ module _ {K V : Type 0} (roots : ℕ) (w : World (Node K V)) (maps : ℕ → Opt
     -- they are none of those that an end which is under way has left over so far
     pub apart : (j : ℕ) (f : Finishing K V) → enders j ≡ Some f → (b : ℕ) → 0 < times b (all_lists lists roots)
         → (times b f.waits ≡ 0) × ((t : ℕ) → f.chart.first ≤ t → t < f.chart.past → times (f.blocks.table t) f.back ≡ 0 → b ≢ f.blocks.table t)
+
+-- Where each root is somebody's, or free, nothing is left behind any.
+abbrev pub NothingIsLeft : Type 0 → Type 0 → Type 0
+NothingIsLeft K V =
+    (roots : ℕ) (w : World (Node K V)) (maps : ℕ → Option (Standing K)) (makers : ℕ → Option (Beginning K)) (enders : ℕ → Option (Finishing K V))
+    → ((r : ℕ) → r < roots → IsSomebodys maps makers enders r ⊎ IsFreeRoot w r) → LeftAmong roots w maps makers enders (λ r. [])
 
 -- Where no map is made, and none ends, it is what a caller that reclaims all finds there, and leaves there.
 abbrev pub LeftIsLeftBehind : Type 0 → Type 0 → Type 0

@@ -6,7 +6,7 @@ ghost use Rattle.papaya_callers.specs.Together.{UnderWay};
 ghost use Rattle.papaya_finishes.specs.Endings.{Finishing};
 ghost use Rattle.papaya_finishes.specs.Makings.{Beginning};
 ghost use Rattle.papaya_finishes.specs.Maps.{Standing};
-ghost use Rattle.papaya_reclaims.specs.Left.{LeftIsLeftBehind, MachinesLeaveIt, GuardsLeaveIt};
+ghost use Rattle.papaya_reclaims.specs.Left.{NothingIsLeft, LeftIsLeftBehind, MachinesLeaveIt, GuardsLeaveIt, MakingsBeginAndLeaveIt, MakingsLeaveIt, EndingsBeginAndLeaveIt, EndingsLeaveIt};
 ghost use Rattle.papaya_reclaims.specs.Reclaims.{ReclaimingBegins, ReclaimingStands};
 
 /// Where maps stand together on one collector, and no call, making, end or row is under way, any caller may reclaim all, step by step. It may take each
@@ -21,10 +21,16 @@ pub fn all_is_reclaimed_among_maps<K, V, Q>()
 {}
 
 /// What maps have left behind their roots that have ended stays there while others go on, until a caller reclaims all: over each step of the machine that a
-/// caller has under way on a map that stands, and over each row between calls. Where no map is made, and none ends, it is what a caller that reclaims all
-/// finds behind the roots, and what it leaves there.
+/// caller has under way on a map that stands, over each row between calls, and while maps are made and end. A map that has ended leaves what waits behind
+/// its root, and those that are made take roots that are free. Where no map is made, and none ends, it is what a caller that reclaims all finds behind the
+/// roots, and what it leaves there.
 pub fn what_is_left_stays<K, V, Q>()
+    ensures starts { NothingIsLeft K V }
     ensures behind { LeftIsLeftBehind K V }
     ensures machines { (same : K → K → Bool) (asks : Q → K → Bool) (batch_size roots : ℕ) (slot : ℕ → ℕ) (w : World (Node K V)) (maps : ℕ → Option (Standing K)) (calls : ℕ → ℕ → Option (UnderWay K V Q)) (makers : ℕ → Option (Beginning K)) (enders : ℕ → Option (Finishing K V)) → MachinesLeaveIt V same asks batch_size roots slot w maps calls makers enders }
     ensures guards { (same : K → K → Bool) (asks : Q → K → Bool) (batch_size roots : ℕ) (slot : ℕ → ℕ) (w : World (Node K V)) (maps : ℕ → Option (Standing K)) (calls : ℕ → ℕ → Option (UnderWay K V Q)) (makers : ℕ → Option (Beginning K)) (enders : ℕ → Option (Finishing K V)) → GuardsLeaveIt V same asks batch_size roots slot w maps calls makers enders }
+    ensures makings_begin { (same : K → K → Bool) (asks : Q → K → Bool) (batch_size roots : ℕ) (slot : ℕ → ℕ) (w : World (Node K V)) (maps : ℕ → Option (Standing K)) (calls : ℕ → ℕ → Option (UnderWay K V Q)) (makers : ℕ → Option (Beginning K)) (enders : ℕ → Option (Finishing K V)) → MakingsBeginAndLeaveIt V same asks batch_size roots slot w maps calls makers enders }
+    ensures makings { (same : K → K → Bool) (asks : Q → K → Bool) (batch_size roots : ℕ) (slot : ℕ → ℕ) (w : World (Node K V)) (maps : ℕ → Option (Standing K)) (calls : ℕ → ℕ → Option (UnderWay K V Q)) (makers : ℕ → Option (Beginning K)) (enders : ℕ → Option (Finishing K V)) → MakingsLeaveIt V same asks batch_size roots slot w maps calls makers enders }
+    ensures endings_begin { (same : K → K → Bool) (asks : Q → K → Bool) (batch_size roots : ℕ) (slot : ℕ → ℕ) (w : World (Node K V)) (maps : ℕ → Option (Standing K)) (calls : ℕ → ℕ → Option (UnderWay K V Q)) (makers : ℕ → Option (Beginning K)) (enders : ℕ → Option (Finishing K V)) → EndingsBeginAndLeaveIt V same asks batch_size roots slot w maps calls makers enders }
+    ensures endings { (same : K → K → Bool) (asks : Q → K → Bool) (batch_size roots : ℕ) (slot : ℕ → ℕ) (w : World (Node K V)) (maps : ℕ → Option (Standing K)) (calls : ℕ → ℕ → Option (UnderWay K V Q)) (makers : ℕ → Option (Beginning K)) (enders : ℕ → Option (Finishing K V)) → EndingsLeaveIt V same asks batch_size roots slot w maps calls makers enders }
 {}

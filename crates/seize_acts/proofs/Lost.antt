@@ -6,9 +6,10 @@ use Rattle.seize_words.specs.Mem.{value_at, word_at}
 use Rattle.seize.specs.declared.states.TheConstants.{LAST_SLOT, NEXT}
 use Rattle.seize.specs.Law.{is_retired}
 use Rattle.seize.specs.WaitingSets.{is_one_of}
-use Rattle.seize.specs.Further.{FurtherFrom}
-use Rattle.seize.specs.World.{World, Row, Rests, Hand, Handed, at_start}
+use Rattle.seize.specs.Further.{FurtherFrom, FurtherAre}
+use Rattle.seize.specs.World.{World, Row, Rests, Hand, NoBlock, Making, InUse, Parting, Cutting, Handed, LeftTo, at_start}
 use Rattle.seize_acts.specs.Laws.{IsPutBehind, NothingIsLost}
+use Rattle.seize_acts.specs.Reclaimed.{IsStillHad, IsPutBehindOthers}
 use Rattle.seize_moves.proofs.State.Ghost.{Life, IsFree, IsOwned, IsLinked, IsUnlinked, IsDeferring, IsDeferred, IsPending, IsIn, IsDoomed, IsLeft, State, lies_with, can_carry}
 use Rattle.seize_rule.proofs.Points.Aside.{HandFits}
 use Rattle.seize_rule.proofs.Words.Chains.{Chain}
@@ -85,31 +86,54 @@ module _ {T : Type 0} {size : ℕ} (defers : T → Option ℕ) (w : World T) (go
               (undrained (m.life t) (good.extra.drained t) carries.1 (λ i z. none_doomed t i z) (good.shows.lists.drains t)) (good.shows.lists.deferring t))),
         )
 
-    carried : IsPutBehind defers w b
+    carried : FurtherAre defers w.memory t (m.deferred t) × (is_one_of b (m.deferred t) ≡ true)
     carried = at (value_at w.memory t) refl
       where
-        at : (o : Option T) → value_at w.memory t ≡ o → IsPutBehind defers w b
+        at : (o : Option T) → value_at w.memory t ≡ o → FurtherAre defers w.memory t (m.deferred t) × (is_one_of b (m.deferred t) ≡ true)
         at None f = absurd (grind (arith, value_there defers (LAST_SLOT + 1) w.memory m good.extra t good.shows (living (m.life t) carries.1), f))
         at (Some value) f =
-            (t, m.deferred t, (value, f, from (defers value) (ap (list_in defers) f)), counted_in b (m.deferred t) (λ z. let k = good.inv.places.all_deferred t b in grind (arith, z, k, e)))
+            ((value, f, from (defers value) (ap (list_in defers) f)), counted_in b (m.deferred t) (λ z. let k = good.inv.places.all_deferred t b in grind (arith, z, k, e)))
 
-  pub none_lost : (b : ℕ) → w.hand b ≡ Handed → (is_retired b w.log ≡ true) ⊎ IsPutBehind defers w b
-  none_lost b h = by (m.life b) refl (subst (λ (u : Hand). HandFits u (m.life b)) h (good.hands b))
+  -- what the collector has is retired, or stands on the list of another block
+  waits_so : (b : ℕ) → w.hand b ≡ Handed → (is_retired b w.log ≡ true) ⊎ ((t : ℕ) × (m.life b ≡ IsDeferred t))
+  waits_so b h = by (m.life b) refl (subst (λ (u : Hand). HandFits u (m.life b)) h (good.hands b))
     where
-      given : (y : Bool) → y ≡ true → is_retired b m.log ≡ y → is_retired b w.log ≡ true
-      given y e k = ap (is_retired b) (sym good.logged) ∙ k ∙ e
-
-      by : (l : Life) → m.life b ≡ l → HandFits Handed (m.life b) → (is_retired b w.log ≡ true) ⊎ IsPutBehind defers w b
+      by : (l : Life) → m.life b ≡ l → HandFits Handed (m.life b) → (is_retired b w.log ≡ true) ⊎ ((t : ℕ) × (m.life b ≡ IsDeferred t))
       by IsFree e f = absurd (grind (arith, e, f))
       by (IsOwned i) e f = absurd (grind (arith, e, f))
       by IsLinked e f = absurd (grind (arith, e, f))
       by (IsUnlinked i) e f = absurd (grind (arith, e, f))
       by (IsLeft i) e f = absurd (grind (arith, e, f))
       by (IsDeferring i s t) e f = absurd (let k = (good.inv.logged.on_way b i s t e).1 in let z = (idles i).outside.defers in omega (arith, k, z))
-      by (IsDeferred t) e f = inr (carried b t e)
+      by (IsDeferred t) e f = inr (t, e)
       by (IsPending i) e f = absurd (grind (arith, e, good.inv.places.to_retire i b, (idles i).empty.pending, (idles i).empty.puts))
       by (IsIn x) e f = inl (ap (is_retired b) (sym good.logged) ∙ grind (arith, good.inv.logged.given b, e))
       by (IsDoomed i) e f = inl (ap (is_retired b) (sym good.logged) ∙ grind (arith, good.inv.logged.given b, e))
+
+  pub none_lost : (b : ℕ) → w.hand b ≡ Handed → (is_retired b w.log ≡ true) ⊎ IsPutBehind defers w b
+  none_lost b h = elim (waits_so b h) as (λ _. (is_retired b w.log ≡ true) ⊎ IsPutBehind defers w b) [
+    | inl is ↦ inl is
+    | inr (t, e) ↦ inr (t, m.deferred t, (carried b t e).0, (carried b t e).1)
+  ]
+
+  -- where nothing is retired, that one is not the collector's
+  pub behind_others : ((b : ℕ) → is_retired b w.log ≡ false) → (b : ℕ) → w.hand b ≡ Handed → IsPutBehindOthers defers w b
+  behind_others none b h = elim (waits_so b h) as (λ _. IsPutBehindOthers defers w b) [
+    | inl is ↦ absurd (let none_now = none b in cc (is, none_now))
+    | inr (t, e) ↦ (t, m.deferred t, had t (w.hand t) refl (good.hands t) (carries b t e).1, (carried b t e).0, (carried b t e).1)
+  ]
+    where
+      had : (t : ℕ) (hand : Hand) → w.hand t ≡ hand → HandFits (w.hand t) (m.life t) → can_carry (m.life t) ≡ true → IsStillHad (w.hand t)
+      had t NoBlock f k c = absurd (let l = subst (λ (u : Hand). HandFits u (m.life t)) f k in grind (arith, l, c))
+      had t (Making i) f k c = absurd (let l = subst (λ (u : Hand). HandFits u (m.life t)) f k in grind (arith, l, c))
+      had t (InUse o) f k c = subst IsStillHad (sym f) tt
+      had t (Parting i) f k c = subst IsStillHad (sym f) tt
+      had t (Cutting i) f k c = subst IsStillHad (sym f) tt
+      had t Handed f k c = absurd (elim (waits_so t f) as (λ _. ⊥) [
+        | inl is ↦ let none_now = none t in cc (is, none_now)
+        | inr (u, on) ↦ grind (arith, on, c)
+      ])
+      had t (LeftTo i) f k c = absurd (let l = subst (λ (u : Hand). HandFits u (m.life t)) f k in grind (arith, l, c))
 
 pub nothing_lost : {T : Type 0} (defers : T → Option ℕ) → NothingIsLost defers
 nothing_lost defers size roots acts w h rests b handed =

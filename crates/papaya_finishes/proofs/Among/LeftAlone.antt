@@ -2,7 +2,7 @@
 use Rattle.std.specs.Prelude.{◌≢◌, cond, map, Some}
 use Rattle.std.proofs.Common.{◌≡◌, ℕ, ◌<◌, ◌≤◌, Bool, true, false, List, [], ◌∷◌, inl, inr, refl, arith, ap, sym, subst, ◌∙◌}
 use Rattle.std.proofs.lemmas.Bool.{cases_lt}
-use Rattle.seize_words.specs.Mem.{value_at, word_at}
+use Rattle.seize_words.specs.Mem.{Mem, value_at, word_at}
 use Rattle.seize_words.specs.declared.at.At.TheVariants.{Root, Used}
 use Rattle.seize.specs.World.{World, times}
 use Rattle.papaya_tables.specs.Chunks.{is_incremental}
@@ -12,7 +12,9 @@ use Rattle.papaya_tables.specs.declared.node.Node.{Node}
 use Rattle.papaya_tables.specs.declared.table_words.TheConstants.{DEFERRED}
 use Rattle.papaya_raw.specs.declared.machines.end_map.Ending.{Ending}
 use Rattle.papaya_raw.specs.declared.machines.end_map.Ending.TheVariants as at
-use Rattle.papaya_rule.specs.Words.{root_word}
+use Rattle.papaya_tables.specs.declared.setting.Setting.{Setting}
+use Rattle.papaya_rule.specs.Chart.{Chart}
+use Rattle.papaya_rule.specs.Words.{Blocks, root_word}
 use Rattle.papaya_callers.specs.Kept.{IsMaking}
 use Rattle.papaya_callers.specs.Together.{CameAbout}
 use Rattle.papaya_finishes.proofs.Beside.Endings.Spares.{IsUsedOf, IsSpared, SparesEnd}
@@ -33,6 +35,24 @@ map_some f x (y ∷ l) some = elim (some_of_first x y l some) as (λ _. 0 < time
   | inl e ↦ subst (λ (z : ℕ). 0 < times (f x) (f z ∷ map f l)) e (some_here (f x) (map f l))
   | inr there ↦ some_last (f x) (f y ∷ []) (map f l) (map_some f x l there)
 ]
+
+-- until it is over the root of a map that ends is taken
+pub used_until_over : {K V : Type 0} (hash : K → ℕ) (setting : Setting) (c : Chart K) (blocks : Blocks) (m : Mem (Node K V)) (stage : Ending) → (stage ≡ at.Over → ⊥) → RootAt hash setting c blocks m stage
+    → word_at m (Used setting.root) ≡ Some 1
+used_until_over hash setting c blocks m at.Over none h = absurd (none refl)
+used_until_over hash setting c blocks m at.Reads none h = h.1
+used_until_over hash setting c blocks m at.Words none h = h.1
+used_until_over hash setting c blocks m (at.Takes pair) none h = h.1
+used_until_over hash setting c blocks m at.Nexts none h = h.1
+used_until_over hash setting c blocks m at.Carries none h = h.1
+used_until_over hash setting c blocks m (at.Joins pair) none h = h.1
+used_until_over hash setting c blocks m (at.Follows pair) none h = h.1
+used_until_over hash setting c blocks m (at.Gives pair next) none h = h.1
+used_until_over hash setting c blocks m at.Afters none h = h.1
+used_until_over hash setting c blocks m (at.Drops next) none h = h.1
+used_until_over hash setting c blocks m at.Shards none h = h.1
+used_until_over hash setting c blocks m at.Sets none h = h.1
+used_until_over hash setting c blocks m at.Frees none h = h.1
 
 module _ {K V : Type 0} (same : K → K → Bool) (batch_size : ℕ) (w : World (Node K V)) (i : ℕ) (f : Finishing K V) (facts : FinishingFacts same batch_size w i f) where
   once : (x : ℕ) → times x (back_of f.setting f.chart f.blocks facts.lists false) ≤ 1
@@ -68,24 +88,8 @@ module _ {K V : Type 0} (same : K → K → Bool) (batch_size : ℕ) (w : World 
   not_over e = subst (λ (stage : Ending). EndingFacts f.setting f.chart f.blocks facts.lists false i f.hash w f.machine facts.past f.back stage) e facts.facts.point
 
   -- its root is taken
-  taken_at : (stage : Ending) → (stage ≡ at.Over → ⊥) → RootAt f.hash f.setting f.chart f.blocks w.memory stage → word_at w.memory (Used f.setting.root) ≡ Some 1
-  taken_at at.Reads none h = h.1
-  taken_at at.Words none h = h.1
-  taken_at (at.Takes pair) none h = h.1
-  taken_at at.Nexts none h = h.1
-  taken_at at.Carries none h = h.1
-  taken_at (at.Joins pair) none h = h.1
-  taken_at (at.Follows pair) none h = h.1
-  taken_at (at.Gives pair next) none h = h.1
-  taken_at at.Afters none h = h.1
-  taken_at (at.Drops next) none h = h.1
-  taken_at at.Shards none h = h.1
-  taken_at at.Sets none h = h.1
-  taken_at at.Frees none h = h.1
-  taken_at at.Over none h = absurd (none refl)
-
   pub root_taken : word_at w.memory (Used f.setting.root) ≡ Some 1
-  root_taken = taken_at f.machine.stands not_over facts.facts.root
+  root_taken = used_until_over f.hash f.setting f.chart f.blocks w.memory f.machine.stands not_over facts.facts.root
 
   -- The facts hold where what the map has was left alone.
   pub facts_alone : (w2 : World (Node K V)) → CameAbout batch_size w2 → IsLeftAlone f.setting f.chart f.blocks facts.lists false w w2 facts.past f.back

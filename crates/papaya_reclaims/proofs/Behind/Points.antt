@@ -40,7 +40,7 @@ some_of : {X : Type 0} (o : Option X) (x : X) → o ≡ Some x → IsSome o
 some_of {X} o x e = subst (λ (p : Option X). IsSome p) (sym e) refl
 
 -- the root of a map leads nowhere, or to a table
-root_of_map : {K V : Type 0} (same : K → K → Bool) (hash : K → ℕ) (setting : Setting) (w : World (Node K V)) (c : Chart K) (blocks : Blocks) → IsMapIn same hash setting w c blocks
+pub root_of_map : {K V : Type 0} (same : K → K → Bool) (hash : K → ℕ) (setting : Setting) (w : World (Node K V)) (c : Chart K) (blocks : Blocks) → IsMapIn same hash setting w c blocks
     → (a : ℕ) × (word_at w.memory (Root setting.root) ≡ Some a) × ((a ≡ 0) ⊎ ((value : Node K V) × (value_at w.memory (block_in a) ≡ Some value) × (was_left value ≡ false)))
 root_of_map {K} {V} same hash setting w c blocks map = (root_word hash c blocks, map.map.shows.root_there, by (eqb c.past 0) (eqb-false c.past 0))
   where

@@ -1,15 +1,16 @@
 -- What is left over and the roots that are nobody's are as they were: what is behind roots stays.
-use Rattle.std.specs.Prelude.{Option, Some, None}
-use Rattle.std.proofs.Common.{◌≡◌, ℕ, ◌<◌, ◌≤◌, Bool, List, [], ◌∷◌, ◌⊎◌, inl, inr, refl, arith, ap, sym, subst, ◌∙◌}
+use Rattle.std.specs.Prelude.{Option, Some}
+use Rattle.std.proofs.Common.{◌≡◌, ℕ, zero, suc, ◌<◌, List, [], ◌∷◌, ◌⊎◌, inl, inr, refl, arith}
 use Rattle.seize_words.specs.declared.at.At.TheVariants.{Used}
 use Rattle.seize_words.specs.Mem.{word_at}
-use Rattle.seize.specs.World.{World, LeftTo, times}
+use Rattle.seize.specs.World.{World, times}
+use Rattle.seize_reclaims.specs.Roots.{all_lists}
 use Rattle.papaya_tables.specs.declared.node.Node.{Node}
-use Rattle.papaya_callers.specs.Together.{UnderWay}
-use Rattle.papaya_finishes.specs.Endings.{Finishing, EndingsTogether}
+use Rattle.papaya_finishes.specs.Endings.{Finishing}
 use Rattle.papaya_finishes.specs.Makings.{Beginning}
 use Rattle.papaya_finishes.specs.Maps.{Standing}
-use Rattle.papaya_reclaims.specs.Left.{IsSomebodys, LeftAmong, LeftIsLeftBehind}
+use Rattle.papaya_finishes.proofs.Ends.CountedBlocks.{times-append}
+use Rattle.papaya_reclaims.specs.Left.{IsSomebodys, LeftAmong, NothingIsLeft, LeftIsLeftBehind}
 use Rattle.papaya_reclaims.specs.Reclaims.{IsRootOf, RootLeads}
 use Rattle.papaya_reclaims.proofs.Behind.Kept.{KeepsLeft, in_all, leads_by}
 
@@ -74,3 +75,17 @@ left_is_left_behind K V roots w maps makers enders lists no_makers no_enders = (
     of_map r (inl is) = is
     of_map r (inr (inl (j, b, makes, taken, is))) = absurd (let none = no_makers j in cc (none, makes))
     of_map r (inr (inr (j, f, ends, is))) = absurd (let none = no_enders j in cc (none, ends))
+
+none_in_all : (n x : ℕ) → times x (all_lists (λ r. []) n) ≡ 0
+none_in_all zero x = refl
+none_in_all (suc n) x = let k = times-append x (all_lists (λ r. []) n) [] in let ih = none_in_all n x in omega (arith, k, ih)
+
+-- at the beginning
+pub nothing_is_left : (K V : Type 0) → NothingIsLeft K V
+nothing_is_left K V roots w maps makers enders each = record {
+  root = each;
+  none = λ r below is. refl;
+  left = λ b on. absurd (let k = none_in_all roots b in omega (arith, k, on));
+  once = λ b. let k = none_in_all roots b in omega (arith, k);
+  apart = λ j f ends b on. absurd (let k = none_in_all roots b in omega (arith, k, on));
+}

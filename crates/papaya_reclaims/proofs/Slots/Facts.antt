@@ -23,7 +23,7 @@ use Rattle.seize_sets.proofs.Turns.Begins.{Shown}
 use Rattle.seize_sets.proofs.Turns.Heads.{has_words, has_word, idle_word}
 use Rattle.seize_acts.specs.Laws.{IsPutBehind}
 use Rattle.seize_acts.specs.Reclaimed.{HasNothingLeft}
-use Rattle.seize_acts.proofs.Lost.{none_lost}
+use Rattle.seize_acts.proofs.Lost.{behind_others}
 use Rattle.seize_acts.proofs.Reclaimed.Flushed.{batch_zero}
 use Rattle.seize_acts.proofs.Reclaimed.Quiet.{quiet_sets, quiet_shown, opened_below, opened_past}
 use Rattle.papaya_tables.specs.Nodes.{deferred_word}
@@ -121,7 +121,7 @@ module _ {K V : Type 0} (size : ℕ) where
 
   -- where no slot is in use, and none has a batch, nothing is left
   pub nothing_left : size < 2 ^ 64 → (w : World (Node K V)) → CameAbout size w → IsQuiet w → HasNothingLeft deferred_word w
-  nothing_left word w came quiet = (quiet.rests, retired, quiet.vacant, (λ s x le is. quiet.none s le x is), put)
+  nothing_left word w came quiet = (quiet.rests, retired, quiet.vacant, (λ s x le is. quiet.none s le x is), behind_others deferred_word w (rested_by w came quiet.rests).good quiet.rests retired)
     where
       outside : (t : ℕ) → IsOutside (w.uses t)
       outside t = vacant_outside (w.uses t) (quiet.vacant t)
@@ -134,9 +134,3 @@ module _ {K V : Type 0} (size : ℕ) where
 
       retired : (b : ℕ) → is_retired b w.log ≡ false
       retired b = none_retired deferred_word (LAST_SLOT + 1) size refl w (sets_now w came quiet.rests outside) (shown_now w came quiet.rests outside) quiet.vacant none_open b
-
-      put : (b : ℕ) → w.hand b ≡ Handed → IsPutBehind deferred_word w b
-      put b h = elim (none_lost deferred_word w (rested_by w came quiet.rests).good quiet.rests b h) as (λ _. IsPutBehind deferred_word w b) [
-        | inl is ↦ absurd (let none_now = retired b in cc (is, none_now))
-        | inr behind ↦ behind
-      ]

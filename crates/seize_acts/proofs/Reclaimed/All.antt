@@ -6,7 +6,7 @@ use Rattle.seize.specs.declared.states.TheConstants.{LAST_SLOT}
 use Rattle.seize.specs.declared.rows.enter.Unregister.{Unregister}
 use Rattle.seize.specs.Law.{is_retired}
 use Rattle.seize.specs.WaitingSets.{Sets}
-use Rattle.seize.specs.World.{World, Use, Vacant, Outside, Changing, Frees, Unregister', IsOutside, Handed, with_row, with_use, at_start}
+use Rattle.seize.specs.World.{World, Use, Vacant, Outside, Changing, Frees, Unregister', IsOutside, with_row, with_use, at_start}
 use Rattle.seize_waiting.proofs.Flushes.{much}
 use Rattle.seize_rule.proofs.World.Start.{start_good}
 use Rattle.seize_ends.proofs.Batches.Rows.{HeldByRows, runs_held, start_held}
@@ -17,9 +17,8 @@ use Rattle.seize_sets.proofs.Turns.All.{calls_come}
 use Rattle.seize_sets.proofs.Turns.Begins.{Shown}
 use Rattle.seize_rule.proofs.Rows.Short.{tries_on}
 use Rattle.seize_acts.specs.Reclaimed.{HasNothingLeft, EverythingCanBeReclaimed}
-use Rattle.seize_acts.specs.Laws.{IsPutBehind}
 use Rattle.seize_acts.proofs.Fine.{all_fine}
-use Rattle.seize_acts.proofs.Lost.{none_lost}
+use Rattle.seize_acts.proofs.Lost.{behind_others}
 use Rattle.seize_acts.proofs.Reclaimed.Whole.{Calm, Reaches, reaches_on, call_there, calls_calm, frees_reach}
 use Rattle.seize_acts.proofs.Reclaimed.Quiet.{quiet_sets, quiet_shown, opened_below, opened_past}
 use Rattle.seize_acts.proofs.Reclaimed.Settled.{Settled, all_settle, settled_vacant}
@@ -104,8 +103,13 @@ module _ {T : Type 0} (defers : T → Option ℕ) (size i : ℕ) (word : size < 
   -- what is left then
   nothing_left : (slots : ℕ) (w v : World T) (sets : Sets) → Freeing defers size i word slots w sets slots v → ((s : ℕ) → sets.open_batch s ≡ [])
       → HasNothingLeft defers v
-  nothing_left slots w v sets f none =
-      (f.shown.rested.rests, retired, vacant, (λ s x le is. batch_zero defers size v sets f.shown f.held s (omega (arith, le)) (none s) x is), put)
+  nothing_left slots w v sets f none = (
+    f.shown.rested.rests,
+    retired,
+    vacant,
+    (λ s x le is. batch_zero defers size v sets f.shown f.held s (omega (arith, le)) (none s) x is),
+    behind_others defers v f.shown.rested.good f.shown.rested.rests retired,
+  )
     where
       vacant : (t : ℕ) → v.uses t ≡ Vacant
       vacant t = elim (cases_lt t slots) as (λ _. v.uses t ≡ Vacant) [
@@ -115,12 +119,6 @@ module _ {T : Type 0} (defers : T → Option ℕ) (size i : ℕ) (word : size < 
 
       retired : (b : ℕ) → is_retired b v.log ≡ false
       retired b = none_retired defers (LAST_SLOT + 1) size refl v sets f.shown vacant none b
-
-      put : (b : ℕ) → v.hand b ≡ Handed → IsPutBehind defers v b
-      put b h = elim (none_lost defers v f.shown.rested.good f.shown.rested.rests b h) as (λ _. IsPutBehind defers v b) [
-        | inl is ↦ absurd (let none_now = retired b in cc (is, none_now))
-        | inr behind ↦ behind
-      ]
 
   no_more : (k : ℕ) → k ≤ k
   no_more k = omega arith

@@ -32,7 +32,7 @@ use Rattle.papaya_finishes.proofs.Ends.Points.{end_steps}
 use Rattle.papaya_finishes.proofs.Ends.SinceOn.{theirs_on}
 
 -- what waits behind a root says that it is taken, and what doesn't that it leads nowhere
-root_of_waits : {K V : Type 0} (w : World (Node K V)) (f : Finishing K V) (l : List ℕ) → RootIs f.setting w.memory l → IsRoot w f.setting.root
+pub root_of_waits : {K V : Type 0} (w : World (Node K V)) (f : Finishing K V) (l : List ℕ) → RootIs f.setting w.memory l → IsRoot w f.setting.root
 root_of_waits w f [] h = (0, h.1, λ none. h.0)
 root_of_waits w f (x ∷ l) h = (1, h.3, λ none. absurd (omega (arith, none)))
 

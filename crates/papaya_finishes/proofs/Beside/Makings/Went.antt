@@ -1,6 +1,6 @@
 -- What a step of a making comes to, before it is put together with the other makings and the maps that stand.
 use Rattle.std.specs.Prelude.{◌≡◌, ◌≤◌, ◌^◌, ℕ, Bool, max, [], Option, Some, None, ◌⊎◌}
-use Rattle.std.proofs.Common.{refl, sym, subst, ◌∙◌, inl, inr}
+use Rattle.std.proofs.Common.{refl, sym, subst, ◌∙◌, inl}
 use Rattle.seize_words.specs.declared.at.At.TheVariants.{Used}
 use Rattle.seize_words.specs.Mem.{Mem, value_at, word_at}
 use Rattle.seize.specs.World.{World}
