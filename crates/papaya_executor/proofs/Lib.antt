@@ -1,4 +1,6 @@
+pub mod Begins
 pub mod Changed
+pub mod Few
 pub mod Forgotten
 pub mod Places
 pub mod Replies

@@ -1,5 +1,5 @@
 -- How callers, maps and a memory stand at a moment, and that an executor is there.
-use Rattle.std.specs.Prelude.{◌≡◌, ◌≢◌, ◌≤◌, ℕ, ◌==◌, ◌/◌, ◌%◌, Bool, length, Option, Some, None, option_map, slice_index_or, if◌then◌else◌}
+use Rattle.std.specs.Prelude.{◌≡◌, ◌≢◌, ◌<◌, ◌≤◌, ℕ, ◌==◌, ◌/◌, ◌%◌, Bool, length, Option, Some, None, option_map, slice_index_or, if◌then◌else◌}
 use Rattle.seize.specs.World.{World, Rests}
 use Rattle.papaya_tables.specs.declared.node.Node.{Node}
 use Rattle.papaya_resize.specs.declared.new_map.NewMap.{NewMap}
@@ -72,7 +72,8 @@ module _ {K V S : Type 0} where
   pub record ChangesAt (place : ℕ) (next : Option (Worker K V)) (old new : Executor K V S) : Type 0 where
     pub here : worker_at new place ≡ next
     pub elsewhere : (p : ℕ) → p ≢ place → worker_at new p ≡ worker_at old p
-    pub count : length new.workers.items ≡ length old.workers.items
+    pub there : place < length new.workers.items
+    pub grows : length old.workers.items ≤ length new.workers.items
     pub hasher : new.hasher ≡ old.hasher
     pub batch_size : new.batch_size ≡ old.batch_size
     pub roots : new.roots ≡ old.roots
