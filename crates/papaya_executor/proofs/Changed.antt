@@ -1,4 +1,4 @@
--- An executor whose one place has changed, after a step of the call there, is there again.
+-- An executor whose one place has changed, as the call there has begun, gone on or ended, is there again.
 use Rattle.std.specs.Prelude.{◌≡◌, ◌≢◌, ◌<◌, ◌≤◌, ◌⊎◌, ℕ, Bool, length, Option, Some, None, option_map, slice_index_or}
 use Rattle.std.proofs.Common.{refl, sym, ap, subst, ◌∙◌, inl, inr, arith}
 use Rattle.std.proofs.lemmas.Bool.{cases_eq}
@@ -42,8 +42,10 @@ module _ {K V S : Type 0} (same : K → K → Bool) (hash : K → ℕ) (e : Exec
       of None none = absurd (cc (here, at.together.makings.standing.only m i none))
       of (Some standing) is = (standing, is)
 
-  work_own : work_of e i ≡ Some (work.Call m (machine_of u))
-  work_own = ap (in_slot (slot_of i)) worker_is ∙ own_work (slot_of i) m (Some (machine_of u))
+module _ {K V S : Type 0} (same : K → K → Bool) (hash : K → ℕ) (e : Executor K V S) (s : Scene K V) (at : IsAt same hash e s) (m i : ℕ)
+    (x : Option (Machine K V K)) (before : worker_at e (place_of i) ≡ worker_with (slot_of i) m x) where
+  work_own : work_of e i ≡ option_map (λ machine. work.Call m machine) x
+  work_own = ap (in_slot (slot_of i)) before ∙ own_work (slot_of i) m x
 
   module _ (e2 : Executor K V S) (next : Option (UnderWay K V K)) (changes : ChangesAt (place_of i) (worker_with (slot_of i) m (option_map machine_of next)) e e2) where
     work_next : work_of e2 i ≡ option_map (λ machine. work.Call m machine) (option_map machine_of next)
@@ -57,7 +59,7 @@ module _ {K V S : Type 0} (same : K → K → Bool) (hash : K → ℕ) (e : Exec
         by (inl p) =
             let apart : slot_of j ≢ slot_of i = λ q. ne (same_caller i j p q) in
             (ap (λ (x : ℕ). in_slot (slot_of j) (worker_at e2 x)) p ∙ ap (in_slot (slot_of j)) changes.here ∙ no_work (slot_of i) (slot_of j) m (option_map machine_of next) apart)
-            ∙ sym (ap (λ (x : ℕ). in_slot (slot_of j) (worker_at e x)) p ∙ ap (in_slot (slot_of j)) worker_is ∙ no_work (slot_of i) (slot_of j) m (Some (machine_of u)) apart)
+            ∙ sym (ap (λ (x : ℕ). in_slot (slot_of j) (worker_at e x)) p ∙ ap (in_slot (slot_of j)) before ∙ no_work (slot_of i) (slot_of j) m x apart)
         by (inr other) = ap (in_slot (slot_of j)) (changes.elsewhere (place_of j) other)
 
     abbrev calls2 : ℕ → ℕ → Option (UnderWay K V K)
@@ -82,7 +84,7 @@ module _ {K V S : Type 0} (same : K → K → Bool) (hash : K → ℕ) (e : Exec
             ∙ sym (ap (λ (x : ℕ). call_in (work_of e2 j) x) en ∙ ap (λ (x : Option (Work K V)). call_in x m) (work_other j nj))
         by (inr nn) (inl ej) =
             ap (option_map machine_of) (elsewhere nn) ∙ at.calls n j
-            ∙ (ap (λ (x : ℕ). call_in (work_of e x) n) ej ∙ ap (λ (x : Option (Work K V)). call_in x n) work_own ∙ no_call m n (Some (machine_of u)) nn)
+            ∙ (ap (λ (x : ℕ). call_in (work_of e x) n) ej ∙ ap (λ (x : Option (Work K V)). call_in x n) work_own ∙ no_call m n x nn)
             ∙ sym (ap (λ (x : ℕ). call_in (work_of e2 x) n) ej ∙ ap (λ (x : Option (Work K V)). call_in x n) work_next ∙ no_call m n (option_map machine_of next) nn)
         by (inr nn) (inr nj) = ap (option_map machine_of) (elsewhere nn) ∙ at.calls n j ∙ sym (ap (λ (x : Option (Work K V)). call_in x n) (work_other j nj))
 
@@ -91,7 +93,7 @@ module _ {K V S : Type 0} (same : K → K → Bool) (hash : K → ℕ) (e : Exec
       where
         by : (j ≡ i) ⊎ (j ≢ i) → option_map (λ b. (b.map, b.machine)) (s.makers j) ≡ making_in (work_of e2 j)
         by (inl ej) =
-            at.makers j ∙ (ap (λ (x : ℕ). making_in (work_of e x)) ej ∙ ap making_in work_own)
+            at.makers j ∙ (ap (λ (x : ℕ). making_in (work_of e x)) ej ∙ ap making_in work_own ∙ no_making m x)
             ∙ sym (ap (λ (x : ℕ). making_in (work_of e2 x)) ej ∙ ap making_in work_next ∙ no_making m (option_map machine_of next))
         by (inr nj) = at.makers j ∙ ap making_in (sym (work_other j nj))
 
@@ -100,7 +102,7 @@ module _ {K V S : Type 0} (same : K → K → Bool) (hash : K → ℕ) (e : Exec
       where
         by : (j ≡ i) ⊎ (j ≢ i) → option_map (λ f. f.machine) (s.enders j) ≡ ending_in (work_of e2 j)
         by (inl ej) =
-            at.enders j ∙ (ap (λ (x : ℕ). ending_in (work_of e x)) ej ∙ ap ending_in work_own)
+            at.enders j ∙ (ap (λ (x : ℕ). ending_in (work_of e x)) ej ∙ ap ending_in work_own ∙ no_ending m x)
             ∙ sym (ap (λ (x : ℕ). ending_in (work_of e2 x)) ej ∙ ap ending_in work_next ∙ no_ending m (option_map machine_of next))
         by (inr nj) = at.enders j ∙ ap ending_in (sym (work_other j nj))
 
@@ -114,8 +116,8 @@ module _ {K V S : Type 0} (same : K → K → Bool) (hash : K → ℕ) (e : Exec
 
       rests_on : (j : ℕ) → length e2.workers.items ≤ place_of j → w2.row j ≡ Rests
       rests_on j past =
-          let past1 : length e.workers.items ≤ place_of j = subst (λ (x : ℕ). x ≤ place_of j) changes.count past in
-          rows j (λ ej. absurd (omega (arith, place_there, past1, ap place_of ej))) ∙ at.rests j past1
+          let unused : length e.workers.items ≤ place_of j = omega (arith, past, changes.grows) in
+          rows j (λ ej. absurd (omega (arith, changes.there, past, ap place_of ej))) ∙ at.rests j unused
 
       pub is_at_on : IsAt same hash e2 scene2
       is_at_on = record {

@@ -1,4 +1,7 @@
+pub mod Begins
 pub mod Changed
+pub mod Few
+pub mod First
 pub mod Forgotten
 pub mod Places
 pub mod Replies

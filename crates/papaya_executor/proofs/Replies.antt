@@ -12,7 +12,7 @@ use Rattle.papaya_finishes.proofs.Among.MachinesTold.{machines_told_among}
 use Rattle.papaya_executor.specs.declared.executor.Executor.{Executor}
 use Rattle.papaya_executor.specs.IsAt.{Scene, IsAt, ChangesAt, place_of, slot_of, worker_with, worker_at}
 use Rattle.papaya_executor.specs.Replying.{PutBack, scene_with, ReplyLeads, AskLeads}
-use Rattle.papaya_executor.proofs.Changed.{standing_is, is_at_on}
+use Rattle.papaya_executor.proofs.Changed.{worker_is, standing_is, is_at_on}
 use Rattle.papaya_executor.proofs.Taken.{taken_call, through}
 
 module _ {K V S : Type 0} (same : K → K → Bool) (hash : K → ℕ) (e : Executor K V S) (s : Scene K V) (at : IsAt same hash e s) (i : ℕ)
@@ -36,7 +36,7 @@ module _ {K V S : Type 0} (same : K → K → Bool) (hash : K → ℕ) (e : Exec
     goes_on : (next : UnderWay K V K) → machine_of next ≡ after
         → EndingsTogether V same same e.batch_size e.roots slot_of s.world s.maps (with_call s.calls m i (Some next)) s.makers s.enders → IsAt same hash e2 (scene_with m i next s)
     goes_on next as_after together =
-        is_at_on same hash e s at m i u here e2 (Some next)
+        is_at_on same hash e s at m i (Some (machine_of u)) (worker_is same hash e s at m i u here) e2 (Some next)
         (subst (λ (x : Machine K V K). ChangesAt (place_of i) (worker_with (slot_of i) m (Some x)) e e2) (sym as_after) changes)
         s.world s.maps (at.memory ∙ ap (λ t. t.memory) (sym memory)) (λ j ne. refl) (λ n. refl) at.hashes together
 

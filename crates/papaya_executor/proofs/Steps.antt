@@ -18,7 +18,7 @@ use Rattle.papaya_finishes.proofs.Among.Machines.{machines_stand_among}
 use Rattle.papaya_executor.specs.declared.executor.Executor.{Executor}
 use Rattle.papaya_executor.specs.IsAt.{Scene, IsAt, ChangesAt, place_of, slot_of, worker_with}
 use Rattle.papaya_executor.specs.Stepping.{going_on, StepsFrom, SteppedAs, scene_after}
-use Rattle.papaya_executor.proofs.Changed.{standing_is, is_at_on}
+use Rattle.papaya_executor.proofs.Changed.{worker_is, standing_is, is_at_on}
 use Rattle.papaya_executor.proofs.Forgotten.{as_step}
 use Rattle.papaya_executor.proofs.Taken.{through}
 
@@ -110,7 +110,7 @@ module _ {K V S : Type 0} (same : K → K → Bool) (hash : K → ℕ) (e : Exec
       stands,
       steps,
       did,
-      is_at_on same hash e s at m i u here e2 did.next
+      is_at_on same hash e s at m i (Some (machine_of u)) (worker_is same hash e s at m i u here) e2 did.next
           (subst (λ (x : Option (Machine K V K)). ChangesAt (place_of i) (worker_with (slot_of i) m x) e e2) (sym (goes_as machine told did.next did.goes_on)) changes)
           did.w2 did.maps2 did.memory did.rows (λ n. (keeps n).setting) (λ n. (keeps n).hashes) did.together,
     )

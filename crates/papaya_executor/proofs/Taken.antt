@@ -1,6 +1,6 @@
 -- The call of a caller that was taken out of its place, and the executor without it.
 use Rattle.std.specs.Prelude.{◌≡◌, ℕ, Bool, Option, Some, None, length, slice_index_or, slice_set}
-use Rattle.std.proofs.Common.{sym, ap, ◌∙◌}
+use Rattle.std.proofs.Common.{sym, ap, ◌∙◌, arith}
 use Rattle.std.proofs.lemmas.List.{get_or-set_other, length-set}
 use Rattle.papaya_raw.specs.declared.machines.machine.Machine.{Machine}
 use Rattle.papaya_callers.specs.Together.{UnderWay}
@@ -13,12 +13,18 @@ use Rattle.papaya_executor.proofs.Changed.{worker_is}
 
 module _ {K V : Type 0} where
   -- a call at a place is one call
+  same_call : (map map2 : ℕ) (machine machine2 : Machine K V K) → work.Call map machine ≡ work.Call map2 machine2 → (map ≡ map2) × (machine ≡ machine2)
+  same_call map map2 machine machine2 is = (cc is, cc is)
+
+  same_parts : (worker worker2 : Worker K V) → Some worker ≡ Some worker2 → worker ≡ worker2
+  same_parts worker worker2 is = cc is
+
   pub same_worker : (slot map slot2 map2 : ℕ) (machine machine2 : Machine K V K) → worker_with slot map (Some machine) ≡ worker_with slot2 map2 (Some machine2)
       → (slot ≡ slot2) × (map ≡ map2) × (machine ≡ machine2)
   same_worker slot map slot2 map2 machine machine2 is =
-      let both : record { slot = slot; work = work.Call map machine } ≡ record { slot = slot2; work = work.Call map2 machine2 } = cc is in
-      let calls : work.Call map machine ≡ work.Call map2 machine2 = ap (λ (x : Worker K V). x.work) both in
-      (ap (λ (x : Worker K V). x.slot) both, cc calls, cc calls)
+      let both = same_parts _ _ is in
+      let calls = same_call map map2 machine machine2 (ap (λ (x : Worker K V). x.work) both) in
+      (ap (λ (x : Worker K V). x.slot) both, calls.0, calls.1)
 
 module _ {K V S : Type 0} (same : K → K → Bool) (hash : K → ℕ) (e : Executor K V S) (s : Scene K V) (at : IsAt same hash e s) (i : ℕ) where
   -- a caller that has a call has it at its place
@@ -37,7 +43,8 @@ module _ {K V S : Type 0} (e e1 e2 : Executor K V S) (place : ℕ) (next : Optio
   through items hasher batch_size roots maps changes = record {
     here = changes.here;
     elsewhere = λ p ne. changes.elsewhere p ne ∙ ap (λ xs. slice_index_or xs p None) items ∙ get_or-set_other e.workers.items place p None None ne;
-    count = changes.count ∙ ap length items ∙ length-set e.workers.items place None;
+    there = changes.there;
+    grows = omega (arith, changes.grows, ap length items, length-set e.workers.items place None);
     hasher = changes.hasher ∙ hasher;
     batch_size = changes.batch_size ∙ batch_size;
     roots = changes.roots ∙ roots;

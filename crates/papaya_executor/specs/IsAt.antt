@@ -1,6 +1,7 @@
 -- How callers, maps and a memory stand at a moment, and that an executor is there.
-use Rattle.std.specs.Prelude.{◌≡◌, ◌≢◌, ◌≤◌, ℕ, ◌==◌, ◌/◌, ◌%◌, Bool, length, Option, Some, None, option_map, slice_index_or, if◌then◌else◌}
-use Rattle.seize.specs.World.{World, Rests}
+use Rattle.std.specs.Prelude.{◌≡◌, ◌≢◌, ◌<◌, ◌≤◌, ℕ, ◌==◌, ◌/◌, ◌%◌, Bool, length, Option, Some, None, option_map, slice_index_or, if◌then◌else◌}
+use Rattle.seize.specs.World.{World, Rests, at_start}
+use Rattle.papaya_tables.specs.Nodes.{deferred_word}
 use Rattle.papaya_tables.specs.declared.node.Node.{Node}
 use Rattle.papaya_resize.specs.declared.new_map.NewMap.{NewMap}
 use Rattle.papaya_raw.specs.declared.machines.end_map.EndMap.{EndMap}
@@ -23,6 +24,10 @@ pub record Scene (K V : Type 0) : Type 0 where
   pub calls : ℕ → ℕ → Option (UnderWay K V K)
   pub makers : ℕ → Option (Beginning K)
   pub enders : ℕ → Option (Finishing K V)
+
+-- no map and no caller, in a memory with as many roots
+abbrev pub at_first : {K V : Type 0} → ℕ → Scene K V
+at_first roots = record { world = at_start deferred_word roots; maps = λ m. None; calls = λ m i. None; makers = λ i. None; enders = λ i. None }
 
 -- The number of a caller tells its place, and its slot.
 abbrev pub place_of : ℕ → ℕ
@@ -72,7 +77,8 @@ module _ {K V S : Type 0} where
   pub record ChangesAt (place : ℕ) (next : Option (Worker K V)) (old new : Executor K V S) : Type 0 where
     pub here : worker_at new place ≡ next
     pub elsewhere : (p : ℕ) → p ≢ place → worker_at new p ≡ worker_at old p
-    pub count : length new.workers.items ≡ length old.workers.items
+    pub there : place < length new.workers.items
+    pub grows : length old.workers.items ≤ length new.workers.items
     pub hasher : new.hasher ≡ old.hasher
     pub batch_size : new.batch_size ≡ old.batch_size
     pub roots : new.roots ≡ old.roots

@@ -1,3 +1,4 @@
+pub mod Beginning
 pub mod IsAt
 pub mod Replying
 pub mod Stepping

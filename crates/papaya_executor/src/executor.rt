@@ -1,8 +1,12 @@
 //! The memory, the maps in it, and the callers that have something under way.
+ghost use Rattle.std.specs.Prelude.{ℕ, Bool, IfOk};
+ghost use Rattle.papaya_executor.specs.IsAt.{IsAt, at_first};
+
 use crate::worker::Worker;
 use papaya_raw::{Node, Setting};
 use papaya_teller::teller::Teller;
 use seize_words::Plain;
+use std::alloc::{AllocError, Global};
 
 /// The memory, the maps in it, and the callers that have something under way.
 #[derive(Drop)]
@@ -19,4 +23,20 @@ pub struct Executor<K, V, S> {
     pub maps: Vec<Option<Setting>>,
     /// The callers by their places. A place is used once.
     pub workers: Vec<Option<Worker<K, V>>>,
+}
+
+impl<K: Drop, V: Drop, S: Drop> Executor<K, V, S> {
+    /// With no map and no caller, and with as many roots.
+    pub fn new(alloc: Global, hasher: S, batch_size: u64, roots: u64) -> Result<Self, AllocError>
+        ensures { IfOk result (λ executor. (same : K → K → Bool) (hash : K → ℕ) → IsAt same hash executor (at_first roots)) }
+    {
+        Ok(Executor {
+            memory: Teller::new(Plain::new(alloc, roots)?),
+            hasher,
+            batch_size,
+            roots,
+            maps: Vec::new(alloc),
+            workers: Vec::new(alloc),
+        })
+    }
 }

@@ -1,6 +1,7 @@
 //! Executes calls, and the makings and ends of maps, that many callers have under way: one step of one of them at a time.
 #![tactic(auto)]
 
+pub mod beginning;
 pub mod executor;
 pub mod replying;
 pub mod stepping;

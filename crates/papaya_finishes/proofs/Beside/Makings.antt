@@ -14,5 +14,5 @@ pub mod Tables
 pub mod Steps
 pub mod RowSteps
 pub mod Promised
-mod Samples
+pub mod Samples
 mod Plans

@@ -56,7 +56,7 @@ module _ {K Q : Type 0} (V : Type 0) (same : K → K → Bool) (asks : Q → K �
     makes_within_a_call i m b u makes has all = let none = all.alone i b makes m in cc (none, has)
 
   -- all roots are free at the start
-  start_roots : HasRoots (at_start {T = Node K V} deferred_word roots) roots
+  pub start_roots : HasRoots (at_start {T = Node K V} deferred_word roots) roots
   start_roots r l = (0, zero_at roots r l, λ none. zero_at roots r l)
 
   -- and a first caller makes a first map there

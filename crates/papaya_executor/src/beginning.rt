@@ -1,0 +1,31 @@
+//! The beginning of a call.
+ghost use Rattle.std.specs.Prelude.{◌≡◌, ◌<◌, ◌+◌, ◌*◌, ℕ, Bool, length, IfOk};
+ghost use Rattle.papaya_executor.specs.IsAt.{Scene, IsAt};
+ghost use Rattle.papaya_executor.specs.Beginning.{BeginLeads};
+ghost use Rattle.papaya_executor.specs.declared.worker.TheConstants.{SLOTS};
+
+use crate::executor::Executor;
+use crate::worker::{SLOTS, Work, Worker};
+use papaya_raw::machines::Machine;
+use std::alloc::AllocError;
+
+/// So many callers there can be. For each further one there is no memory.
+const MOST_CALLERS: usize = 1 << 32;
+
+impl<K: Drop, V: Drop, S> Executor<K, V, S> {
+    /// Begins a call on the map of this number, for a caller in this slot, and answers with the number of the caller. On an error nothing has changed, and
+    /// the call is dropped.
+    pub fn begin(&mut self, slot: u64, map: u64, machine: Machine<K, V>) -> Result<u64, AllocError>
+        requires { slot < SLOTS }
+        ensures number { IfOk result (λ caller. caller ≡ length self.old.workers.items * SLOTS + slot) }
+        ensures leads { IfOk result (λ caller. (same : K → K → Bool) (hash : K → ℕ) (s : Scene K V) → IsAt same hash self.old s → BeginLeads same hash map machine caller s self.old self.new) }
+    {
+        let place = self.workers.len();
+        if place >= MOST_CALLERS {
+            return Err(AllocError);
+        }
+        let work = Work::Call { map, machine };
+        self.workers.push(Some(Worker { slot, work }))?;
+        Ok(place as u64 * SLOTS + slot)
+    }
+}
