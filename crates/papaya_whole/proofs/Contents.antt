@@ -6,5 +6,6 @@ pub mod Runs
 pub mod Length
 pub mod Numbered
 pub mod Swept
+pub mod KeptBy
 pub mod Answers
 pub mod AtEnd

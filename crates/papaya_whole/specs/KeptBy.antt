@@ -1,0 +1,36 @@
+-- A retaining that is told to keep just the pairs that pass a test: what it leaves of the list. And the list of the pairs that a walk has shown.
+use Rattle.std.specs.Prelude.{◌≡◌, ℕ, ◌<◌, Bool, true, cond, List, [], ◌∷◌, filter, Some}
+use Rattle.seize_words.specs.Mem.{Mem, value_at}
+use Rattle.papaya_tables.specs.declared.node.Node.{Node}
+use Rattle.papaya_tables.specs.declared.node.Node.TheVariants as node
+use Rattle.papaya_sweeps.specs.declared.sweep.Purpose.TheVariants.{Walks, Retains}
+use Rattle.papaya_sweeps.specs.declared.sweep.Sweeping.TheVariants as at
+use Rattle.papaya_rule.specs.Chart.{Chart}
+use Rattle.papaya_rule.specs.Words.{Blocks}
+use Rattle.papaya_late.specs.Covers.{times, Came}
+use Rattle.papaya_callers.specs.OverAll.{CallOverAll}
+use Rattle.papaya_whole.specs.Contents.{AreContents}
+use Rattle.papaya_whole.specs.LoneSweeps.{goes_once}
+use Rattle.papaya_whole.specs.SweptPairs.{HasSwept, is_done}
+
+module _ {K V : Type 0} (test : K → V → Bool) (m0 : Mem (Node K V)) (blocks0 : Blocks) where
+  -- of the pairs that it was told about, it was told to keep just those that pass the test
+  abbrev pub KeptBy : List ℕ → List ℕ → Type 0
+  KeptBy asked done = (n : ℕ) (k : K) (v : V) → 0 < times n asked → value_at m0 (blocks0.pair n) ≡ Some (node.Pair k v) → is_done done n ≡ test k v
+
+  -- So it is before it was told anything,
+  abbrev pub KeptBegins : Type 0
+  KeptBegins = (done : List ℕ) → KeptBy [] done
+
+  -- and so it stays where it is told of one more pair, and by the test.
+  abbrev pub KeptTold : Type 0
+  KeptTold =
+      (asked done : List ℕ) → KeptBy asked done → (n : ℕ) → times n asked ≡ 0 → times n done ≡ 0 → (k : K) (v : V) → value_at m0 (blocks0.pair n) ≡ Some (node.Pair k v)
+      → KeptBy (n ∷ asked) (cond (test k v) (n ∷ done) done)
+
+  -- Where it is done, and goes over one table alone, it has left just the pairs that pass.
+  abbrev pub KeptAtEnd : Type 0
+  KeptAtEnd =
+      (incremental : Bool) (m : Mem (Node K V)) (c0 c : Chart K) (blocks : Blocks) (asked : List ℕ) (o : CallOverAll) → HasSwept incremental m0 c0 blocks0 asked o m c blocks
+      → Came c o.entered o.sweep.purpose o.done → o.sweep.stands ≡ at.Over → goes_once incremental o.sweep.purpose ≡ true → o.sweep.purpose ≡ Retains → KeptBy asked o.done
+      → (xs : List (K × V)) → AreContents m0 c0 blocks0 xs → AreContents m c blocks (filter (λ x. test x.0 x.1) xs)
