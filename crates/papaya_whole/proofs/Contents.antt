@@ -7,5 +7,6 @@ pub mod Length
 pub mod Numbered
 pub mod Swept
 pub mod KeptBy
+pub mod Shown
 pub mod Answers
 pub mod AtEnd

@@ -20,10 +20,10 @@ use Rattle.papaya_whole.proofs.Contents.Numbered.{numbered_last, numbered_before
 use Rattle.papaya_whole.proofs.Contents.Swept.{sweeps_leave}
 
 -- how often a pair is behind another one
-times_here : (n : ℕ) (xs : List ℕ) → times n (n ∷ xs) ≡ suc (times n xs)
+pub times_here : (n : ℕ) (xs : List ℕ) → times n (n ∷ xs) ≡ suc (times n xs)
 times_here n xs = let e : cond (eqb n n) 1 0 ≡ 1 = ap {B = ℕ} (λ (x : Bool). cond x 1 0) (eq-eqb n n refl) in omega (arith, e)
 
-times_other : (n i : ℕ) (xs : List ℕ) → i ≢ n → times i (n ∷ xs) ≡ times i xs
+pub times_other : (n i : ℕ) (xs : List ℕ) → i ≢ n → times i (n ∷ xs) ≡ times i xs
 times_other n i xs other = let e : cond (eqb i n) 1 0 ≡ 0 = ap {B = ℕ} (λ (x : Bool). cond x 1 0) (ne_eqb i n other) in omega (arith, e)
 
 module _ {K V : Type 0} (test : K → V → Bool) (m0 : Mem (Node K V)) (blocks0 : Blocks) where
