@@ -1,5 +1,5 @@
 -- A retaining that is told to keep just the pairs that pass a test leaves just those.
-use Rattle.std.specs.Prelude.{◌≡◌, ◌≢◌, ℕ, zero, suc, ◌+◌, ◌<◌, Bool, true, false, cond, eqb, nat_lt, List, [], ◌∷◌, ◌++◌, map, filter, Some}
+use Rattle.std.specs.Prelude.{◌≡◌, ◌≢◌, ℕ, zero, suc, ◌<◌, Bool, true, false, cond, eqb, nat_lt, List, [], ◌∷◌, ◌++◌, filter, Some}
 use Rattle.std.proofs.Common.{refl, ap, sym, subst, ◌∙◌, inl, inr, arith}
 use Rattle.std.proofs.lemmas.Bool.{cases_eq, eq-eqb, ne_eqb, lt-ltb}
 use Rattle.std.proofs.lemmas.List.{append-nil}
@@ -8,12 +8,11 @@ use Rattle.seize_words.specs.Mem.{Mem, value_at}
 use Rattle.papaya_tables.specs.declared.node.Node.{Node}
 use Rattle.papaya_tables.specs.declared.node.Node.TheVariants as node
 use Rattle.papaya_sweeps.specs.declared.sweep.Purpose.{Purpose}
-use Rattle.papaya_sweeps.specs.declared.sweep.Purpose.TheVariants.{Retains}
 use Rattle.papaya_rule.specs.Chart.{Chart}
 use Rattle.papaya_rule.specs.Words.{Blocks}
 use Rattle.papaya_late.specs.Covers.{times}
 use Rattle.papaya_whole.specs.Contents.{AreContents}
-use Rattle.papaya_whole.specs.KeptBy.{KeptBy, KeptBegins, KeptTold, KeptAtEnd}
+use Rattle.papaya_whole.specs.KeptBy.{KeptBegins, KeptTold, KeptAtEnd}
 use Rattle.papaya_whole.specs.SweptPairs.{NumberedBelow, AreNumbered, pairs_of, those, is_done, left_by}
 use Rattle.papaya_whole.proofs.Contents.Below.{decided}
 use Rattle.papaya_whole.proofs.Contents.Numbered.{numbered_last, numbered_before, pairs_append, numbers_are, numbers_go}

@@ -1,17 +1,13 @@
 -- A walk that is done has shown the pairs of the list, each once, in some order.
-use Rattle.std.specs.Prelude.{◌≡◌, ◌≢◌, ℕ, zero, suc, ◌+◌, ◌<◌, ◌≤◌, ◌⊎◌, Bool, true, false, cond, eqb, List, [], ◌∷◌, ◌++◌, IsPermutation, Some}
+use Rattle.std.specs.Prelude.{◌≡◌, ◌≢◌, ℕ, zero, suc, ◌+◌, ◌<◌, ◌≤◌, Bool, true, false, cond, eqb, List, [], ◌∷◌, ◌++◌, IsPermutation, Some}
 use Rattle.std.proofs.Common.{refl, ap, sym, subst, ◌∙◌, inl, inr, arith}
-use Rattle.std.proofs.lemmas.Bool.{cases_eq, cases_lt, eq-eqb, ne_eqb}
+use Rattle.std.proofs.lemmas.Bool.{cases_eq}
 use Rattle.std.proofs.lemmas.List.Sorted.{IsPermutation-refl, IsPermutation-sym, IsPermutation-trans, IsPermutation-to_front, IsPermutation-middle, IsPermutation-cons}
 use Rattle.seize_words.specs.Mem.{Mem, value_at}
-use Rattle.seize.specs.World.{World}
 use Rattle.papaya_tables.specs.declared.node.Node.{Node}
 use Rattle.papaya_tables.specs.declared.node.Node.TheVariants as node
-use Rattle.papaya_tables.specs.declared.setting.Setting.{Setting}
-use Rattle.papaya_sweeps.specs.declared.sweep.Purpose.TheVariants.{Walks}
 use Rattle.papaya_rule.specs.Chart.{Chart}
 use Rattle.papaya_rule.specs.Words.{Blocks}
-use Rattle.papaya_rule.specs.InWorld.{IsMapIn}
 use Rattle.papaya_rule.proofs.World.Hands.{current_known}
 use Rattle.papaya_late.specs.Covers.{times}
 use Rattle.papaya_whole.specs.KeptBy.{AreShownAs, WalksShowAll}
@@ -39,17 +35,17 @@ module _ {K V : Type 0} (m : Mem (Node K V)) (blocks : Blocks) where
   take_out n [] ps shown l = absurd (omega (arith, l))
   take_out n (x ∷ done) ps (k, v, qs, block, shown, is) l = elim (cases_eq n x) as (λ _. Without n (x ∷ done) ps) [
     | inl e ↦ record {
-        rest = done;
-        front = [];
-        back = qs;
-        key = k;
-        value = v;
-        block = ap (λ (y : ℕ). value_at m (blocks.pair y)) e ∙ block;
-        shown = shown;
-        is = is;
-        here = ap (λ (y : ℕ). times n (y ∷ done)) (sym e) ∙ times_here n done;
-        other = λ i ne. times_other x i done (λ z. ne (z ∙ sym e));
-      }
+      rest = done;
+      front = [];
+      back = qs;
+      key = k;
+      value = v;
+      block = ap (λ (y : ℕ). value_at m (blocks.pair y)) e ∙ block;
+      shown = shown;
+      is = is;
+      here = ap (λ (y : ℕ). times n (y ∷ done)) (sym e) ∙ times_here n done;
+      other = λ i ne. times_other x i done (λ z. ne (z ∙ sym e));
+    }
     | inr ne ↦ behind (take_out n done qs shown (let e = times_other x n done ne in omega (arith, l, e))) ne
   ]
     where
