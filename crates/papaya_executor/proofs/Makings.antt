@@ -208,10 +208,10 @@ module _ {K V S : Type 0} (same : K → K → Bool) (hash : K → ℕ) (e : Exec
             (sym (ap (λ x. making_in (making_on {K = K} {V = V} b.map opening x)) is)) as_it_is together
         by progress.Waits is set none = none
         by (progress.Done setting) is set (standing, made, together) = (
-            standing,
-            made,
-            is_made (with_at s.maps b.map (Some standing)) (settings_with setting standing made.setting_is set) (hashes_with standing made.hash_is) None
-            (sym (ap (λ x. making_in (making_on {K = K} {V = V} b.map opening x)) is)) (λ c some. absurd (cc some)) together,
+          standing,
+          made,
+          is_made (with_at s.maps b.map (Some standing)) (settings_with setting standing made.setting_is set) (hashes_with standing made.hash_is) None
+              (sym (ap (λ x. making_in (making_on {K = K} {V = V} b.map opening x)) is)) (λ c some. absurd (cc some)) together,
         )
         by (progress.Refused fault) is set together =
             is_made s.maps (λ m. at.maps m ∙ ap (λ xs. slice_index_or xs m None) (sym set)) at.hashes None

@@ -24,7 +24,7 @@ within xs p x is = by (cases_lt p (length xs))
 
 module _ {K V : Type 0} where
   -- in its own slot a caller has that under way, and in another one nothing
-  pub   own_worker : (slot : ℕ) (it : Option (Work K V)) → in_slot slot (worker_of slot it) ≡ it
+  pub own_worker : (slot : ℕ) (it : Option (Work K V)) → in_slot slot (worker_of slot it) ≡ it
   own_worker slot None = refl
   own_worker slot (Some it) = ap (λ (b : Bool). if b then Some it else None) (eq-eqb slot slot refl)
 
