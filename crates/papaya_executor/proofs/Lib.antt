@@ -4,6 +4,7 @@ pub mod Few
 pub mod First
 pub mod Forgotten
 pub mod Fresh
+pub mod Made
 pub mod Makings
 pub mod Places
 pub mod Replies

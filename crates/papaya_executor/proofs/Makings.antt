@@ -26,8 +26,8 @@ use Rattle.papaya_executor.specs.declared.worker.Work.TheVariants as work
 use Rattle.papaya_executor.specs.declared.worker.Worker.{Worker}
 use Rattle.papaya_executor.specs.IsAt.{Scene, IsAt, IsMaking, ChangesAt, place_of, slot_of, in_slot, call_in, making_in, ending_in, worker_of, worker_at, work_of}
 use Rattle.papaya_executor.specs.Making.{making_on, maps_on, MakingStepsFrom, MakingComesTo}
-use Rattle.papaya_executor.proofs.Changed.{work_own, work_next, work_other, unused}
 use Rattle.papaya_executor.proofs.Forgotten.{as_step}
+use Rattle.papaya_executor.proofs.Made.{made_at}
 use Rattle.papaya_executor.proofs.Places.{making_found}
 
 -- the settings are as many as they were
@@ -91,83 +91,23 @@ module _ {K V S : Type 0} (same : K → K → Bool) (hash : K → ℕ) (e : Exec
         (subst (λ (x : Mem (Node K V)). Steps Took value_at x (new_map_plan {K = K} {V = V} b.machine) e2.memory.memory (opening, told)) (sym at.memory)
         (as_step e.memory.memory Nothing (new_map_plan b.machine) e2.memory.memory e2.memory.changed (opening, told) steps))
 
-    abbrev has : Option (Work K V)
-    has = making_on b.map opening told
-
-    own : work_of e i ≡ Some (work.Making b.map b.machine)
-    own = work_own e mid i (Some (work.Making b.map b.machine)) has making_is changes
-
-    as_mid : (j : ℕ) → work_of e2 j ≡ work_of mid j
-    as_mid j = ap (λ xs. in_slot (slot_of j) (slice_index_or xs (place_of j) None)) workers
-
-    later : work_of e2 i ≡ has
-    later = as_mid i ∙ work_next e mid i (Some (work.Making b.map b.machine)) has making_is changes
-
-    other : (j : ℕ) → j ≢ i → work_of e2 j ≡ work_of e j
-    other j ne = as_mid j ∙ work_other e mid i (Some (work.Making b.map b.machine)) has making_is changes j ne
+    rows : did.step.w2.row ≡ s.world.row
+    rows = events_rows e.batch_size did.step.events s.world did.step.w2 did.step.users did.step.runs
 
     count : length e2.maps.items ≡ length e.maps.items
     count = ap length maps ∙ same_count b.map told e.maps.items
 
-    rows : did.step.w2.row ≡ s.world.row
-    rows = events_rows e.batch_size did.step.events s.world did.step.w2 did.step.users did.step.runs
-
     -- the maps after the step, and what is being made
     module _ (maps2 : ℕ → Option (Standing K)) (settings : (m : ℕ) → option_map (λ standing. standing.setting) (maps2 m) ≡ slice_index_or e2.maps.items m None)
         (hashes : (m : ℕ) (standing : Standing K) → maps2 m ≡ Some standing → standing.hash ≡ hash)
-        (next : Option (Beginning K)) (next_is : option_map (λ b. (b.map, b.machine)) next ≡ making_in has)
+        (next : Option (Beginning K)) (next_is : option_map (λ b. (b.map, b.machine)) next ≡ making_in (making_on {K = K} {V = V} b.map opening told))
         (next_so : (c : Beginning K) → next ≡ Some c → (c.hash ≡ hash) × (c.map < length e.maps.items))
         (together : EndingsTogether V same same e.batch_size e.roots slot_of did.step.w2 maps2 s.calls (with_at s.makers i next) s.enders) where
-      calls_on : (m j : ℕ) → option_map machine_of (s.calls m j) ≡ call_in (work_of e2 j) m
-      calls_on m j = by (cases_eq j i)
-        where
-          by : (j ≡ i) ⊎ (j ≢ i) → option_map machine_of (s.calls m j) ≡ call_in (work_of e2 j) m
-          by (inl ej) =
-              at.calls m j ∙ (ap (λ (x : ℕ). call_in (work_of e x) m) ej ∙ ap (λ (x : Option (Work K V)). call_in x m) own)
-              ∙ sym (ap (λ (x : ℕ). call_in (work_of e2 x) m) ej ∙ ap (λ (x : Option (Work K V)). call_in x m) later ∙ no_call K V b.map m opening told)
-          by (inr nj) = at.calls m j ∙ ap (λ (x : Option (Work K V)). call_in x m) (sym (other j nj))
-
-      makers_on : (j : ℕ) → option_map (λ b. (b.map, b.machine)) (with_at s.makers i next j) ≡ making_in (work_of e2 j)
-      makers_on j = by (cases_eq j i)
-        where
-          by : (j ≡ i) ⊎ (j ≢ i) → option_map (λ b. (b.map, b.machine)) (with_at s.makers i next j) ≡ making_in (work_of e2 j)
-          by (inl ej) = ap (option_map (λ b. (b.map, b.machine))) (at_same s.makers i next j ej) ∙ next_is ∙ sym (ap (λ (x : ℕ). making_in (work_of e2 x)) ej ∙ ap making_in later)
-          by (inr nj) = ap (option_map (λ b. (b.map, b.machine))) (at_other s.makers i next j nj) ∙ at.makers j ∙ ap making_in (sym (other j nj))
-
-      enders_on : (j : ℕ) → option_map (λ f. f.machine) (s.enders j) ≡ ending_in (work_of e2 j)
-      enders_on j = by (cases_eq j i)
-        where
-          by : (j ≡ i) ⊎ (j ≢ i) → option_map (λ f. f.machine) (s.enders j) ≡ ending_in (work_of e2 j)
-          by (inl ej) =
-              at.enders j ∙ (ap (λ (x : ℕ). ending_in (work_of e x)) ej ∙ ap ending_in own)
-              ∙ sym (ap (λ (x : ℕ). ending_in (work_of e2 x)) ej ∙ ap ending_in later ∙ no_ending K V b.map opening told)
-          by (inr nj) = at.enders j ∙ ap ending_in (sym (other j nj))
-
-      made_so : (j : ℕ) (c : Beginning K) → with_at s.makers i next j ≡ Some c → (c.hash ≡ hash) × (c.map < length e2.maps.items)
-      made_so j c makes = by (cases_eq j i)
-        where
-          by : (j ≡ i) ⊎ (j ≢ i) → (c.hash ≡ hash) × (c.map < length e2.maps.items)
-          by (inl ej) = let so = next_so c (sym (at_same s.makers i next j ej) ∙ makes) in (so.0, subst (λ (x : ℕ). c.map < x) (sym count) so.1)
-          by (inr nj) =
-              let was = sym (at_other s.makers i next j nj) ∙ makes in
-              (at.hashes_made j c was, subst (λ (x : ℕ). c.map < x) (sym count) (at.numbers j c was))
-
       is_made : IsAt same hash e2 (record s { world = did.step.w2; maps = maps2; makers = with_at s.makers i next })
-      is_made = record {
-        memory = did.step.memory;
-        together = subst (λ (x : ℕ). EndingsTogether V same same x e2.roots slot_of did.step.w2 maps2 s.calls (with_at s.makers i next) s.enders) (sym batch_size)
-            (subst (λ (x : ℕ). EndingsTogether V same same e.batch_size x slot_of did.step.w2 maps2 s.calls (with_at s.makers i next) s.enders) (sym roots) together);
-        maps = settings;
-        hashes = hashes;
-        calls = calls_on;
-        makers = makers_on;
-        enders = enders_on;
-        hashes_made = λ j c makes. (made_so j c makes).0;
-        numbers = λ j c makes. (made_so j c makes).1;
-        rests = λ j past.
-            let past2 = unused e mid i (Some (work.Making b.map b.machine)) has making_is changes j (subst (λ xs. length xs ≤ place_of j) workers past) in
-            ap (λ (f : ℕ → Row). f j) rows ∙ at.rests j past2.0;
-      }
+      is_made =
+          made_at same hash e s at i (Some (work.Making b.map b.machine)) (making_on b.map opening told) making_is (λ m. refl) (λ m. no_call K V b.map m opening told) refl
+          (no_ending K V b.map opening told) mid e2 changes workers batch_size roots (omega (arith, count)) did.step.w2 did.step.memory (λ j ne. ap (λ (f : ℕ → Row). f j) rows)
+          maps2 settings hashes next next_is (λ c is. let so = next_so c is in (so.0, subst (λ (x : ℕ). c.map < x) (sym count) so.1)) together
 
     pub comes : MakingComesTo same hash s e e2 i b opening did.step.w2 told
     comes = by told refl maps did.told
