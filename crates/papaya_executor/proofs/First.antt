@@ -31,5 +31,7 @@ module _ {K V S : Type 0} (same : K → K → Bool) (hash : K → ℕ) (e : Exec
     calls = λ m i. sym (ap (λ x. call_in x m) (no_work i));
     makers = λ i. sym (ap making_in (no_work i));
     enders = λ i. sym (ap ending_in (no_work i));
+    hashes_made = λ i b here. absurd (cc here);
+    numbers = λ i b here. absurd (cc here);
     rests = λ i past. refl;
   }

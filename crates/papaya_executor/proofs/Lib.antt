@@ -3,6 +3,9 @@ pub mod Changed
 pub mod Few
 pub mod First
 pub mod Forgotten
+pub mod Fresh
+pub mod Made
+pub mod Makings
 pub mod Places
 pub mod Replies
 pub mod Steps

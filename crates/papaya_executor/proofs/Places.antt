@@ -3,11 +3,12 @@ use Rattle.std.specs.Prelude.{◌≡◌, ◌≢◌, ◌<◌, ◌≤◌, ◌⊎�
 use Rattle.std.proofs.Common.{refl, sym, ap, ◌∙◌, inl, inr, arith}
 use Rattle.std.proofs.lemmas.Bool.{cases_lt, eq-eqb, ne_eqb}
 use Rattle.std.proofs.lemmas.List.{get_or_past}
+use Rattle.papaya_resize.specs.declared.new_map.NewMap.{NewMap}
 use Rattle.papaya_raw.specs.declared.machines.machine.Machine.{Machine}
 use Rattle.papaya_executor.specs.declared.worker.Work.{Work}
 use Rattle.papaya_executor.specs.declared.worker.Work.TheVariants as work
 use Rattle.papaya_executor.specs.declared.worker.Worker.{Worker}
-use Rattle.papaya_executor.specs.IsAt.{place_of, slot_of, in_slot, call_in, worker_with}
+use Rattle.papaya_executor.specs.IsAt.{place_of, slot_of, in_slot, call_in, making_in, worker_of, worker_with}
 
 -- a number is told by place and slot
 pub same_caller : (i j : ℕ) → place_of j ≡ place_of i → slot_of j ≡ slot_of i → j ≡ i
@@ -22,14 +23,14 @@ within xs p x is = by (cases_lt p (length xs))
     by (inr past) = absurd (cc (get_or_past xs p None past, is))
 
 module _ {K V : Type 0} where
-  -- in its own slot it has that call under way, and in another one nothing
-  pub own_work : (slot m : ℕ) (x : Option (Machine K V K)) → in_slot slot (worker_with slot m x) ≡ option_map (λ machine. work.Call m machine) x
-  own_work slot m None = refl
-  own_work slot m (Some machine) = ap (λ (b : Bool). if b then Some (work.Call m machine) else None) (eq-eqb slot slot refl)
+  -- in its own slot a caller has that under way, and in another one nothing
+  pub own_worker : (slot : ℕ) (it : Option (Work K V)) → in_slot slot (worker_of slot it) ≡ it
+  own_worker slot None = refl
+  own_worker slot (Some it) = ap (λ (b : Bool). if b then Some it else None) (eq-eqb slot slot refl)
 
-  pub no_work : (slot other m : ℕ) (x : Option (Machine K V K)) → other ≢ slot → in_slot other (worker_with slot m x) ≡ None
-  no_work slot other m None ne = refl
-  no_work slot other m (Some machine) ne = ap (λ (b : Bool). if b then Some (work.Call m machine) else None) (ne_eqb slot other (λ e. ne (sym e)))
+  pub no_worker : (slot other : ℕ) (it : Option (Work K V)) → other ≢ slot → in_slot other (worker_of slot it) ≡ None
+  no_worker slot other None ne = refl
+  no_worker slot other (Some it) ne = ap (λ (b : Bool). if b then Some it else None) (ne_eqb slot other (λ e. ne (sym e)))
 
   -- it is a call of that map, and of no other
   pub own_call : (m : ℕ) (x : Option (Machine K V K)) → call_in (option_map (λ machine. work.Call m machine) x) m ≡ x
@@ -64,3 +65,23 @@ module _ {K V : Type 0} where
     where
       built : (worker : Worker K V) → worker.slot ≡ slot → worker.work ≡ work.Call m x → Some worker ≡ worker_with slot m (Some x)
       built worker e f = ap (λ (x : ℕ). Some (record { slot = x; work = worker.work })) e ∙ ap (λ (x : Work K V). Some (record { slot = slot; work = x })) f
+
+  same_making : (map map2 : ℕ) (opening opening2 : NewMap) → ◌≡◌ {A = ℕ × NewMap} (map, opening) (map2, opening2) → ◌≡◌ {A = Work K V} (work.Making map opening) (work.Making map2 opening2)
+  same_making map map2 opening opening2 is = ap (λ x. work.Making x.0 x.1) is
+
+  -- whose making of a map is this, is at its place with that
+  making_of : (map : ℕ) (opening : NewMap) (it : Work K V) → making_in (Some it) ≡ Some (map, opening) → it ≡ work.Making map opening
+  making_of map opening (work.Call map2 machine) is = absurd (cc is)
+  making_of map opening (work.Making map2 opening2) is = same_making map2 map opening2 opening (cc is)
+  making_of map opening (work.Ending map2 ending) is = absurd (cc is)
+
+  at_slot : (slot map : ℕ) (opening : NewMap) (worker : Worker K V) (b : Bool) → (worker.slot == slot) ≡ b → making_in (if b then Some worker.work else None) ≡ Some (map, opening)
+      → Some worker ≡ worker_of slot (Some (work.Making map opening))
+  at_slot slot map opening worker true e is =
+      ap (λ (x : ℕ). Some (record { slot = x; work = worker.work })) (grind (arith, e))
+      ∙ ap (λ (x : Work K V). Some (record { slot = slot; work = x })) (making_of map opening worker.work is)
+  at_slot slot map opening worker false e is = absurd (cc is)
+
+  pub making_found : (slot map : ℕ) (opening : NewMap) (it : Option (Worker K V)) → making_in (in_slot slot it) ≡ Some (map, opening) → it ≡ worker_of slot (Some (work.Making map opening))
+  making_found slot map opening None is = absurd (cc is)
+  making_found slot map opening (Some worker) is = at_slot slot map opening worker (worker.slot == slot) refl is

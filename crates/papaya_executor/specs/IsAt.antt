@@ -41,6 +41,10 @@ module _ {K V : Type 0} where
   abbrev pub HasCall : Scene K V → ℕ → Type 0
   HasCall s i = (m : ℕ) × (u : UnderWay K V K) × (s.calls m i ≡ Some u)
 
+  -- or makes a map
+  abbrev pub IsMaking : Scene K V → ℕ → Type 0
+  IsMaking s i = (b : Beginning K) × (s.makers i ≡ Some b)
+
   -- whoever is at a place, if it stands in this slot
   abbrev pub in_slot : ℕ → Option (Worker K V) → Option (Work K V)
   in_slot slot None = None
@@ -59,10 +63,14 @@ module _ {K V : Type 0} where
   ending_in (Some (work.Ending map ending)) = Some ending
   ending_in _ = None
 
-  -- who is at the place of a call on a map that goes on as this machine, or of one that has ended
+  -- who is at the place of a caller that has this under way, or nothing any more
+  abbrev pub worker_of : ℕ → Option (Work K V) → Option (Worker K V)
+  worker_of slot None = None
+  worker_of slot (Some it) = Some record { slot = slot; work = it }
+
+  -- who is at that of a call on a map that goes on as this machine, or of one that has ended
   abbrev pub worker_with : ℕ → ℕ → Option (Machine K V K) → Option (Worker K V)
-  worker_with slot m None = None
-  worker_with slot m (Some machine) = Some record { slot = slot; work = work.Call m machine }
+  worker_with slot m machine = worker_of slot (option_map (λ machine. work.Call m machine) machine)
 
 module _ {K V S : Type 0} where
   -- who is at a place
@@ -95,4 +103,7 @@ module _ {K V S : Type 0} (same : K → K → Bool) (hash : K → ℕ) where
     pub calls : (m i : ℕ) → option_map machine_of (s.calls m i) ≡ call_in (work_of e i) m
     pub makers : (i : ℕ) → option_map (λ b. (b.map, b.machine)) (s.makers i) ≡ making_in (work_of e i)
     pub enders : (i : ℕ) → option_map (λ f. f.machine) (s.enders i) ≡ ending_in (work_of e i)
+    -- keys of a map that is being made have that hash, too, and its setting has a place
+    pub hashes_made : (i : ℕ) (b : Beginning K) → s.makers i ≡ Some b → b.hash ≡ hash
+    pub numbers : (i : ℕ) (b : Beginning K) → s.makers i ≡ Some b → b.map < length e.maps.items
     pub rests : (i : ℕ) → length e.workers.items ≤ place_of i → s.world.row i ≡ Rests

@@ -1,4 +1,5 @@
 pub mod Beginning
 pub mod IsAt
+pub mod Making
 pub mod Replying
 pub mod Stepping

@@ -3,7 +3,9 @@
 
 pub mod beginning;
 pub mod executor;
+pub mod making;
 pub mod replying;
 pub mod stepping;
 mod taking;
+mod telling;
 pub mod worker;

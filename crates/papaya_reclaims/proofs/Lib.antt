@@ -2,3 +2,4 @@ pub mod Slots
 pub mod Behind
 pub mod Left
 pub mod Promised
+mod Samples

@@ -6,5 +6,7 @@ pub mod Runs
 pub mod Length
 pub mod Numbered
 pub mod Swept
+pub mod KeptBy
+pub mod Shown
 pub mod Answers
 pub mod AtEnd

@@ -5,4 +5,5 @@ pub mod Contents
 pub mod AtEnd
 pub mod LoneSweeps
 pub mod SweptPairs
+pub mod KeptBy
 pub mod WholeSweeps

@@ -101,11 +101,11 @@ module _ (K V : Type 0) where
     ContentsBetween =
         HasSwept incremental m0 c0 blocks0 asked o m c blocks → (ns : List (ℕ × (K × V))) → AreNumbered m0 c0 blocks0 ns → AreNumbered m c blocks (those c.current ns)
 
-    -- A pair that the map has then is in the list of the beginning, with the same value.
+    -- A pair that the map has then is in the list of the beginning, and its block had the same value.
     abbrev pub ShownIsInIt : Type 0
     ShownIsInIt =
         HasSwept incremental m0 c0 blocks0 asked o m c blocks → (ns : List (ℕ × (K × V))) → AreNumbered m0 c0 blocks0 ns
-        → (n : ℕ) (k : K) (v : V) → n < c.stored → c.current n ≡ true → value_at m (blocks.pair n) ≡ Some (node.Pair k v) → Contains ns (n, (k, v))
+        → (n : ℕ) (k : K) (v : V) → n < c.stored → c.current n ≡ true → value_at m (blocks.pair n) ≡ Some (node.Pair k v) → Contains ns (n, (k, v)) × (value_at m0 (blocks0.pair n) ≡ Some (node.Pair k v))
 
     -- Where a retaining that goes over one table alone asks about a pair, it was not told about it before.
     abbrev pub AsksOnce : Type 0

@@ -10,6 +10,7 @@ ghost use Rattle.papaya_whole.specs.Whole.{MapBeginsAtRest, RepliesCountNothing,
 ghost use Rattle.papaya_whole.specs.Contents.{ContentsAre, RunsBegin, ContentsFollow, AnswersOfPairs};
 ghost use Rattle.papaya_whole.specs.AtEnd.{AnswersTellThePairs};
 ghost use Rattle.papaya_whole.specs.SweptPairs.{NumbersAre, NumbersGo, PairsAreInIt, SweptBegins, ContentsBetween, ShownIsInIt, AsksOnce, RefusedKeepsAll, SweepsLeave};
+ghost use Rattle.papaya_whole.specs.KeptBy.{KeptBegins, KeptTold, KeptAtEnd, WalksShowAll};
 ghost use Rattle.papaya_whole.specs.WholeSweeps.{SweepsBeginAlone, SweepsGoOnAlone, SweepsToldAlone, SweepsComeToAnEnd, TellingCountsNothing, TellingKeepsThePurpose, SweptPairsCounted};
 ghost use Rattle.papaya_whole.specs.WholeRooms.{RoomsBeginAlone, RoomsGoOnAlone, RoomsComeToAnEnd, CountingsBeginAlone, CountingsGoOnAlone, CountingsComeTo};
 
@@ -60,9 +61,10 @@ pub fn sweeps_run_whole<K, V, Q>()
 
 /// What a sweep has run since a state of the map (`runs` of each step above, and of what it is told) tells the list of the pairs, each behind its number. As it
 /// begins, it has done nothing. While it goes on, the list is that of the beginning without the pairs that were removed, and each pair that is shown, or asked
-/// about, is one of it, with its key and value. At its end a walk has left all pairs, and has shown each once; a `clear` has left none; a `retain` has left
+/// about, is one of it, with its key and value. At its end a walk has left all pairs, and has shown each once, in some order; a `clear` has left none; a `retain` has left
 /// those that it was told to keep, in their order. In incremental mode a `retain` was told about each pair of the list once, and one that is refused leaves
-/// the list as it was: it has seen each copying through before it comes to a place, so it meets no mark, and never begins anew.
+/// the list as it was: it has seen each copying through before it comes to a place, so it meets no mark, and never begins anew. And where it was told to keep just
+/// the pairs that pass a test, the list at its end is that of the beginning, filtered by the test.
 pub fn sweeps_leave_pairs<K, V>()
     ensures numbers { NumbersAre K V }
     ensures pairs { NumbersGo K V }
@@ -73,6 +75,10 @@ pub fn sweeps_leave_pairs<K, V>()
     ensures asks_once { (incremental : Bool) (m0 m : Mem (Node K V)) (c0 c : Chart K) (blocks0 blocks : Blocks) (asked : List ℕ) (o : CallOverAll) → AsksOnce K V incremental m0 m c0 c blocks0 blocks asked o }
     ensures refused { (incremental : Bool) (m0 m : Mem (Node K V)) (c0 c : Chart K) (blocks0 blocks : Blocks) (asked : List ℕ) (o : CallOverAll) → RefusedKeepsAll K V incremental m0 m c0 c blocks0 blocks asked o }
     ensures leaves { (incremental : Bool) (m0 m : Mem (Node K V)) (c0 c : Chart K) (blocks0 blocks : Blocks) (asked : List ℕ) (o : CallOverAll) → SweepsLeave K V incremental m0 m c0 c blocks0 blocks asked o }
+    ensures kept_begins { (test : K → V → Bool) (m0 : Mem (Node K V)) (blocks0 : Blocks) → KeptBegins test m0 blocks0 }
+    ensures kept_told { (test : K → V → Bool) (m0 : Mem (Node K V)) (blocks0 : Blocks) → KeptTold test m0 blocks0 }
+    ensures kept { (test : K → V → Bool) (m0 : Mem (Node K V)) (blocks0 : Blocks) → KeptAtEnd test m0 blocks0 }
+    ensures shown_all { (same : K → K → Bool) (hash : K → ℕ) → WalksShowAll V same hash }
 {}
 
 /// The pairs of a map are a list, in the order in which they were stored, with no two keys of one class. What runs at keys of one class has changed nothing as

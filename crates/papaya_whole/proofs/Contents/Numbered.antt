@@ -42,7 +42,7 @@ module _ {K V : Type 0} (m : Mem (Node K V)) (c : Chart K) (blocks : Blocks) (n 
   pub number_none : (xs : List (ℕ × (K × V))) → c.current n ≡ false → NumberedBelow m c blocks n xs → NumberedBelow m c blocks (suc n) xs
   number_none xs e h = subst (Below xs) (sym e) h
 
-pairs_append : {K V : Type 0} (xs : List (ℕ × (K × V))) (n : ℕ) (k : K) (v : V) → pairs_of (xs ++ ((n, (k, v)) ∷ [])) ≡ pairs_of xs ++ ((k, v) ∷ [])
+pub pairs_append : {K V : Type 0} (xs : List (ℕ × (K × V))) (n : ℕ) (k : K) (v : V) → pairs_of (xs ++ ((n, (k, v)) ∷ [])) ≡ pairs_of xs ++ ((k, v) ∷ [])
 pairs_append [] n k v = refl
 pairs_append (x ∷ xs) n k v = ap (λ l. x.1 ∷ l) (pairs_append xs n k v)
 

@@ -45,10 +45,11 @@ module _ {K V : Type 0} (incremental : Bool) (m0 m : Mem (Node K V)) (c0 c : Cha
   pub contents_between : AreNumbered m c blocks (those c.current ns)
   contents_between = by_test c.current (λ n l e. refl)
 
-  pub shown_is_in_it : (n : ℕ) (k : K) (v : V) → n < c.stored → c.current n ≡ true → value_at m (blocks.pair n) ≡ Some (node.Pair k v) → Contains {X = ℕ × (K × V)} ns (n, (k, v))
+  pub shown_is_in_it : (n : ℕ) (k : K) (v : V) → n < c.stored → c.current n ≡ true → value_at m (blocks.pair n) ≡ Some (node.Pair k v)
+      → Contains {X = ℕ × (K × V)} ns (n, (k, v)) × (value_at m0 (blocks0.pair n) ≡ Some (node.Pair k v))
   shown_is_in_it n k v low here block =
       let first : n < c0.stored = (let s = swept.stored in omega (arith, low, s)) in
-      pairs_are_in_it m0 c0 blocks0 ns are n k v first (swept.keeps.were n first here) (sym (swept.keeps.values n first here) ∙ block)
+      let had = sym (swept.keeps.values n first here) ∙ block in (pairs_are_in_it m0 c0 blocks0 ns are n k v first (swept.keeps.were n first here) had, had)
 
   -- where the pairs are the same
   all_left : c.current ≡ c0.current → AreNumbered m c blocks ns

@@ -1,0 +1,22 @@
+//! A step of a row, or of the making or the end of a map, in the memory that tells.
+ghost use Rattle.seize_words.specs.Mem.{Can, Took, value_at};
+ghost use Rattle.seize_words.specs.Plan.{May};
+ghost use Rattle.papaya_teller.specs.Tells.{StepsTold};
+ghost use Rattle.papaya_teller.specs.declared.changed.Changed.TheVariants.{Nothing};
+
+use papaya_raw::Node;
+use papaya_teller::teller::Teller;
+use seize::Machine;
+use seize_words::Plain;
+
+/// Takes a step, and tells what it has changed.
+pub(crate) fn step_telling<K, V, R: Machine<Node<K, V>>>(
+    memory: &mut Teller<Plain<Node<K, V>>>,
+    row: &mut R,
+) -> R::Progress
+    requires { May Can Took value_at memory.old.memory (R.plan row.old) }
+    ensures { StepsTold K V (R × R.Progress) memory.old.memory Nothing (R.plan row.old) memory.new.memory memory.new.changed (row.new, result) }
+{
+    memory.forget();
+    row.step(memory)
+}
