@@ -2,4 +2,5 @@ pub mod Slots
 pub mod Behind
 pub mod Left
 pub mod Promised
+pub mod Ends
 mod Samples

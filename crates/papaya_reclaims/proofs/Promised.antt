@@ -54,7 +54,7 @@ module _ {K Q : Type 0} (V : Type 0) (same : K → K → Bool) (asks : Q → K �
     at_stage (at.Unuses root) ss rs h = absurd h
     at_stage at.Over ss rs (none, quiet) = (quiet, left, λ r lt. absurd (omega (arith, lt, none, rs)))
 
-    staged : Stage batch_size roots i c v → Together' maps2 v lists c
+    pub staged : Stage batch_size roots i c v → Together' maps2 v lists c
     staged st = record { stand = idle; roots_are = st.roots_are; point = at_stage c.stands st.size_is st.roots_are st.here }
 
   module _ (word : batch_size < 2 ^ 64) (lists : ℕ → List ℕ) (idle : Idle maps w) (left : LeftBehind roots w maps lists) where

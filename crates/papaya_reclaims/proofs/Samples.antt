@@ -1,17 +1,15 @@
 -- What reclaiming all finds behind roots in a small memory, and what its definitions forbid.
 use Rattle.std.specs.Prelude.{Option, None, Some}
-use Rattle.std.proofs.Common.{◌≡◌, ℕ, true, false, List, [], ◌∷◌, refl, arith, inl, inr}
-use Rattle.seize_words.specs.Mem.{Mem}
+use Rattle.std.proofs.Common.{ℕ, true, List, [], ◌∷◌, refl, arith, inl, inr}
 use Rattle.seize_words.specs.Word.{link_to}
 use Rattle.seize_words.specs.declared.block.Block.{Block}
 use Rattle.seize.specs.declared.rows.settle.Settled.TheVariants as settled
-use Rattle.seize.specs.Law.{is_retired}
-use Rattle.seize.specs.World.{World, Rests, Vacant, Outside, InUse, Handed, NoBlock, LeftTo, Retire, Leave', Register', Begin, Step, Clears}
+use Rattle.seize.specs.World.{World, Rests, Vacant, Outside, Handed, LeftTo, Retire, Leave', Register', Begin, Step}
 use Rattle.seize_acts.specs.Reclaimed.{IsStillHad}
 use Rattle.papaya_tables.specs.declared.node.Node.{Node}
 use Rattle.papaya_tables.specs.declared.node.Node.TheVariants as node
 use Rattle.papaya_finishes.specs.Maps.{Standing}
-use Rattle.papaya_reclaims.specs.Reclaims.{RootLeads, ReclaimingTold, AllIsReclaimed, HasTaken}
+use Rattle.papaya_reclaims.specs.Reclaims.{RootLeads, ReclaimingTold, AllIsReclaimed}
 use Rattle.papaya_reclaims.specs.Slots.{AreItsRows, IsQuiet}
 
 -- Root 0 leads to block 1, a pair, and that one to block 2. Root 1 is free.

@@ -1,3 +1,4 @@
 pub mod Slots
 pub mod Reclaims
 pub mod Left
+pub mod Ends

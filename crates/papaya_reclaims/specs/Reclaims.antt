@@ -74,8 +74,8 @@ module _ {K V : Type 0} where
     ReclaimingAt at.Over = IsQuiet w × LeftBehind roots w maps lists × ((r : ℕ) → r < roots → lists r ≡ [])
     ReclaimingAt p = (c.batch_size ≡ batch_size) × LeftBehind roots w maps lists × OnSlotsAt batch_size i c w p
 
-  -- Nothing waits any more but what is deferred: no row is under way, nothing is retired, no slot is in use, none has a batch, and each root that no
-  -- standing map has is free and leads nowhere.
+  -- Nothing waits any more but what is put behind blocks that the collector does not have: no row is under way, nothing is retired, no slot is in use,
+  -- none has a batch, and each root that no standing map has is free and leads nowhere.
   pub record AllIsReclaimed (roots : ℕ) (w : World (Node K V)) (maps : ℕ → Option (Standing K)) : Type 0 where
     pub nothing : HasNothingLeft deferred_word w
     pub free : (r : ℕ) → r < roots → IsRootOf maps r ⊎ IsFreeRoot w r

@@ -1,6 +1,6 @@
 mod Answers
 mod Begun
-mod Ends
+pub mod Ends
 mod Fine
 pub mod Lost
 pub mod Reclaimed

@@ -8,7 +8,7 @@ use Rattle.seize.specs.declared.states.TheConstants.{HEAD, BATCH, LAST_SLOT}
 use Rattle.seize.specs.Law.{is_retired}
 use Rattle.seize.specs.Sequence.{RunsOn, Calls}
 use Rattle.seize.specs.WaitingSets.{Sets}
-use Rattle.seize.specs.World.{World, Use, Vacant, Outside, Request, Handed, Event, Begin, Step, Runs, IsOutside, at_start}
+use Rattle.seize.specs.World.{World, Use, Vacant, Outside, Request, Event, Begin, Step, Runs, IsOutside, at_start}
 use Rattle.seize_moves.proofs.State.Ghost.{is_never}
 use Rattle.seize_rule.proofs.Rows.Short.{tries_on}
 use Rattle.seize_rule.proofs.Words.Named.{words_of, word_found}
@@ -21,7 +21,6 @@ use Rattle.seize_sets.proofs.Reclaims.Ends.{none_retired}
 use Rattle.seize_sets.proofs.Reclaims.Sets.{open_none}
 use Rattle.seize_sets.proofs.Turns.Begins.{Shown}
 use Rattle.seize_sets.proofs.Turns.Heads.{has_words, has_word, idle_word}
-use Rattle.seize_acts.specs.Laws.{IsPutBehind}
 use Rattle.seize_acts.specs.Reclaimed.{HasNothingLeft}
 use Rattle.seize_acts.proofs.Lost.{behind_others}
 use Rattle.seize_acts.proofs.Reclaimed.Flushed.{batch_zero}

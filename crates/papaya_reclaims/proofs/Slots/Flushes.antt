@@ -81,7 +81,7 @@ module _ {K V : Type 0} (size roots i : ℕ) (word : size < 2 ^ 64) where
       abbrev batch_c : ReclaimAll
       batch_c = here (at.Batches s)
 
-      passed : word_at w.memory (name.Slot s BATCH) ≡ Some 0 → Flushing slots (suc s) again w
+      pub passed : word_at w.memory (name.Slot s BATCH) ≡ Some 0 → Flushing slots (suc s) again w
       passed zero_word = record {
         rests = f.rests;
         few = f.few;
@@ -141,13 +141,13 @@ module _ {K V : Type 0} (size roots i : ℕ) (word : size < 2 ^ 64) where
       behind = next_batch (record flush_c { again = true }) s
 
       module _ (m2 : Mem (Node K V)) where
-        flush_step : (e : Settle × Settled (Node K V)) → Steps Took value_at w.memory (settle_plan deferred_word l) m2 e → Steps' deferred_word i (w.row i) w (settles_on w i l m2 e)
+        pub flush_step : (e : Settle × Settled (Node K V)) → Steps Took value_at w.memory (settle_plan deferred_word l) m2 e → Steps' deferred_word i (w.row i) w (settles_on w i l m2 e)
         flush_step e st = subst (λ (row : Row). Steps' deferred_word i row w (settles_on w i l m2 e)) (sym h.row_is) (m2, e, st, refl)
 
-        flush_came : (e : Settle × Settled (Node K V)) → Steps Took value_at w.memory (settle_plan deferred_word l) m2 e → CameAbout size (settles_on w i l m2 e)
+        pub flush_came : (e : Settle × Settled (Node K V)) → Steps Took value_at w.memory (settle_plan deferred_word l) m2 e → CameAbout size (settles_on w i l m2 e)
         flush_came e st = came_next size w (settles_on w i l m2 e) (Step i) came (flush_step e st)
 
-        flush_on : (d : Settle) (p : Settled (Node K V)) (st : Steps Took value_at w.memory (settle_plan deferred_word l) m2 (d, p)) → (settles_on w i l m2 (d, p)).row i ≡ Settles d
+        pub flush_on : (d : Settle) (p : Settled (Node K V)) (st : Steps Took value_at w.memory (settle_plan deferred_word l) m2 (d, p)) → (settles_on w i l m2 (d, p)).row i ≡ Settles d
             → Stage size roots i (flushing_at d) (settles_on w i l m2 (d, p))
         flush_on d p st is = record {
           size_is = ss;
@@ -155,7 +155,7 @@ module _ {K V : Type 0} (size roots i : ℕ) (word : size < 2 ^ 64) where
           here = (lt, more_in size i (Flush s) (Flushing slots s again) (λ v so. so.rests) (Settles l) (Settles d) w (settles_on w i l m2 (d, p)) h (flush_step (d, p) st) is);
         }
 
-        flush_over : (d : Settle) (st : Steps Took value_at w.memory (settle_plan deferred_word l) m2 (d, settled.Done)) → Stage size roots i behind (settles_on w i l m2 (d, settled.Done))
+        pub flush_over : (d : Settle) (st : Steps Took value_at w.memory (settle_plan deferred_word l) m2 (d, settled.Done)) → Stage size roots i behind (settles_on w i l m2 (d, settled.Done))
         flush_over d st =
             let u = settles_on w i l m2 (d, settled.Done) in
             let v = h.before in

@@ -73,7 +73,7 @@ module _ {K V : Type 0} (size i : ℕ) where
         (begins_lone deferred_word (LAST_SLOT + 1) size refl i request h.before h.begun (rested_by size h.before h.came (quiet h.before h.so)) h.begins) h.takes
 
     -- it takes one more step
-    pub more_in : (row row2 : Row) (w w2 : World (Node K V)) → Within size i request So row w → Steps' deferred_word i (w.row i) w w2 → w2.row i ≡ row2 → Within size i request So row2 w2
+    abbrev pub more_in : (row row2 : Row) (w w2 : World (Node K V)) → Within size i request So row w → Steps' deferred_word i (w.row i) w w2 → w2.row i ≡ row2 → Within size i request So row2 w2
     more_in row row2 w w2 h st is = record {
       before = h.before;
       so = h.so;

@@ -42,6 +42,18 @@ none_lower a b less le = omega (arith, less, le)
 one_lower : (a b k : ℕ) → a < b → b ≤ suc k → a ≤ k
 one_lower a b k less le = omega (arith, less, le)
 
+module _ {T : Type 0} (defers : T → Option ℕ) (size i : ℕ) (v : World T) (sets : Sets) (shown : Shown defers (LAST_SLOT + 1) size v sets) where
+  once_now : (s : ℕ) → s < LAST_SLOT + 1 → Once (sets.open_batch s) [] sets.further
+  once_now s l =
+      let n = LAST_SLOT + 1 in
+      let g = shown.rested.good in
+      subst (λ (p : List ℕ). Once (sets.open_batch s) p sets.further) (rest defers n size refl i v sets shown).pending
+      (once_shown n i s g.state shown.order sets l g.inv shown.models)
+
+  -- a flush of a batch that isn't empty leaves less in the sets
+  pub flush_lower : sets.active ≡ [] → (s : ℕ) → s < LAST_SLOT + 1 → 0 < length (sets.open_batch s) → much (LAST_SLOT + 1) (flushed size s sets).sets < much (LAST_SLOT + 1) sets
+  flush_lower quiet s l some = lower _ _ (length (sets.open_batch s)) (flushed_falls size s (LAST_SLOT + 1) sets l quiet (once_now s l)) some
+
 module _ {T : Type 0} (defers : T → Option ℕ) (size i : ℕ) (word : size < 2 ^ 64) (slots : ℕ) (few : slots ≤ LAST_SLOT + 1) where
   -- No slot is active, and only the first ones have batches: how far it has come from w.
   pub record Flushing (w v : World T) (sets : Sets) : Type 0 where
@@ -75,13 +87,6 @@ module _ {T : Type 0} (defers : T → Option ℕ) (size i : ℕ) (word : size < 
         },
       )
 
-  once_now : (w v : World T) (sets : Sets) → Flushing w v sets → (s : ℕ) → s < slots → Once (sets.open_batch s) [] sets.further
-  once_now w v sets f s l =
-      let n = LAST_SLOT + 1 in
-      let g = f.shown.rested.good in
-      subst (λ (p : List ℕ). Once (sets.open_batch s) p sets.further) (rest defers n size refl i v sets f.shown).pending
-      (once_shown n i s g.state f.shown.order sets (omega (arith, l, few)) g.inv f.shown.models)
-
   -- until no batch is open
   pub record Emptied (w v : World T) : Type 0 where
     pub sets : Sets
@@ -100,8 +105,7 @@ module _ {T : Type 0} (defers : T → Option ℕ) (size i : ℕ) (word : size < 
 
   falls : (w v : World T) (sets : Sets) → Flushing w v sets → (s : ℕ) → s < slots → 0 < length (sets.open_batch s)
       → much (LAST_SLOT + 1) (flushed size s sets).sets < much (LAST_SLOT + 1) sets
-  falls w v sets f s l some =
-      lower _ _ (length (sets.open_batch s)) (flushed_falls size s (LAST_SLOT + 1) sets (omega (arith, l, few)) f.quiet (once_now w v sets f s l)) some
+  falls w v sets f s l some = flush_lower defers size i v sets f.shown f.quiet s (omega (arith, l, few)) some
 
   pub all_flush : (fuel : ℕ) (w v : World T) (sets : Sets) → Flushing w v sets → much (LAST_SLOT + 1) sets ≤ fuel → (u : World T) × Emptied w u
   all_flush zero w v sets f le = elim (find sets.open_batch slots) as (λ _. (u : World T) × Emptied w u) [

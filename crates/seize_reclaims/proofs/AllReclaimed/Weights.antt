@@ -37,15 +37,15 @@ lt_of a b l = grind (arith, l)
 le_of : (a b : ℕ) → nat_lt a b ≡ false → b ≤ a
 le_of a b l = grind (arith, l)
 
-abbrev weight : ReclaimAll → ℕ
+abbrev pub weight : ReclaimAll → ℕ
 weight c = weight_at c c.stands
 
 -- how many points lie before where it goes on, and that no row is under way there
 
-abbrev Rested : ReclaimAll → ℕ → Type 0
+abbrev pub Rested : ReclaimAll → ℕ → Type 0
 Rested c k = (weight c ≤ k) × (is_within c.stands ≡ false)
 
-at_first_root : (c : ReclaimAll) → Rested (first_root c) (6 * c.roots)
+pub at_first_root : (c : ReclaimAll) → Rested (first_root c) (6 * c.roots)
 at_first_root c = by (c.roots == 0)
   where
     by : (b : Bool) → Rested (if b then standing c at.Over else standing c (at.Roots 0)) (6 * c.roots)
@@ -56,14 +56,14 @@ some_more : (b : Bool) (k : ℕ) → (if b then k else 0) ≤ k
 some_more true k = omega arith
 some_more false k = omega arith
 
-at_first_batch : (c : ReclaimAll) → c.slots ≤ LAST_SLOT + 1 → Rested (first_batch c) (3 * (LAST_SLOT + 1) + 6 * c.roots + 3)
+pub at_first_batch : (c : ReclaimAll) → c.slots ≤ LAST_SLOT + 1 → Rested (first_batch c) (3 * (LAST_SLOT + 1) + 6 * c.roots + 3)
 at_first_batch c le = by (c.slots == 0)
   where
     by : (b : Bool) → Rested (if b then first_root c else standing c (at.Batches 0)) (3 * (LAST_SLOT + 1) + 6 * c.roots + 3)
     by true = let k = at_first_root c in (let l = k.0 in omega (arith, l), k.1)
     by false = (let m = some_more c.again (c.slots + 1) in omega (arith, m, le), refl)
 
-at_next_head : (c : ReclaimAll) (s : ℕ) → s < LAST_SLOT + 1 → Rested (next_head c s) (2 * (LAST_SLOT + 1 - s) + 3 * (LAST_SLOT + 1) + 6 * c.roots + 1)
+pub at_next_head : (c : ReclaimAll) (s : ℕ) → s < LAST_SLOT + 1 → Rested (next_head c s) (2 * (LAST_SLOT + 1 - s) + 3 * (LAST_SLOT + 1) + 6 * c.roots + 1)
 at_next_head c s lt = by (nat_lt s LAST_SLOT) refl
   where
     by : (b : Bool) → nat_lt s LAST_SLOT ≡ b
@@ -71,7 +71,7 @@ at_next_head c s lt = by (nat_lt s LAST_SLOT) refl
     by true e = (let l = lt_of s LAST_SLOT e in omega (arith, l), refl)
     by false e = let k = at_first_batch (record c { slots = LAST_SLOT + 1 }) (omega arith) in (let l = k.0 in omega (arith, l, lt), k.1)
 
-at_next_batch : (c : ReclaimAll) (s : ℕ) → s < c.slots → (weight (next_batch c s) < weight_at c (at.Batches s)) × (is_within (next_batch c s).stands ≡ false)
+pub at_next_batch : (c : ReclaimAll) (s : ℕ) → s < c.slots → (weight (next_batch c s) < weight_at c (at.Batches s)) × (is_within (next_batch c s).stands ≡ false)
 at_next_batch c s lt = by (nat_lt s (c.slots - 1)) refl c.again
   where
     by : (b : Bool) → nat_lt s (c.slots - 1) ≡ b → (a : Bool)
@@ -83,7 +83,7 @@ at_next_batch c s lt = by (nat_lt s (c.slots - 1)) refl c.again
     by false e true = (omega (arith, lt), refl)
     by false e false = (omega (arith, lt), refl)
 
-at_next_free : (c : ReclaimAll) (s : ℕ) → s < c.slots → (weight (next_free c s) < weight_at c (at.Frees s)) × (is_within (next_free c s).stands ≡ false)
+pub at_next_free : (c : ReclaimAll) (s : ℕ) → s < c.slots → (weight (next_free c s) < weight_at c (at.Frees s)) × (is_within (next_free c s).stands ≡ false)
 at_next_free c s lt = by (nat_lt s (c.slots - 1)) refl
   where
     by : (b : Bool) → nat_lt s (c.slots - 1) ≡ b
@@ -106,7 +106,7 @@ row_to_go defers m (at.Empties root) = 0
 row_to_go defers m (at.Unuses root) = 0
 row_to_go defers m at.Over = 0
 
-none_to_go : {T : Type 0} (defers : T → Option ℕ) (m : Mem T) (p : Reclaiming) → is_within p ≡ false → row_to_go defers m p ≡ 0
+pub none_to_go : {T : Type 0} (defers : T → Option ℕ) (m : Mem T) (p : Reclaiming) → is_within p ≡ false → row_to_go defers m p ≡ 0
 none_to_go defers m (at.Leaves slot leave) e = absurd (cc e)
 none_to_go defers m (at.Flushes slot settle) e = absurd (cc e)
 none_to_go defers m (at.Heads slot) e = refl
@@ -120,7 +120,7 @@ none_to_go defers m (at.Empties root) e = refl
 none_to_go defers m (at.Unuses root) e = refl
 none_to_go defers m at.Over e = refl
 
-not_flushing : (p : Reclaiming) → is_within p ≡ false → is_flushing p ≡ false
+pub not_flushing : (p : Reclaiming) → is_within p ≡ false → is_flushing p ≡ false
 not_flushing (at.Leaves slot leave) e = absurd (cc e)
 not_flushing (at.Flushes slot settle) e = absurd (cc e)
 not_flushing (at.Heads slot) e = refl
@@ -134,17 +134,13 @@ not_flushing (at.Empties root) e = refl
 not_flushing (at.Unuses root) e = refl
 not_flushing at.Over e = refl
 
-module _ {T : Type 0} (defers : T → Option ℕ) (left_over : T → Bool) (batch_size roots : ℕ) (m : Mem T) (h : History) (lists : ℕ → List ℕ)
-    (c : ReclaimAll) (m2 : Mem T) (given : List T) (m3 : Mem T) (end : ReclaimAll × Settled T) where
-  abbrev OnSlotsAt : Reclaiming → Type 0
-  OnSlotsAt p = OnSlots defers left_over batch_size roots m h lists p c m2 given
-
-  lower : (k : ℕ) (c4 : ReclaimAll) → end ≡ (c4, Goes) → weight c4 < k → weight end.0 < k
+module _ {T : Type 0} (c : ReclaimAll) (end : ReclaimAll × Settled T) where
+  pub lower : (k : ℕ) (c4 : ReclaimAll) → end ≡ (c4, Goes) → weight c4 < k → weight end.0 < k
   lower k c4 e l = subst (λ (q : ReclaimAll × Settled T). weight q.0 < k) (sym e) l
 
   -- steps between two rows
 
-  head_lower : (s : ℕ) → s < LAST_SLOT + 1 → (x y z : Bool) (shown : ℕ → Option T)
+  pub head_lower : (s : ℕ) → s < LAST_SLOT + 1 → (x y z : Bool) (shown : ℕ → Option T)
       → Ends shown (if x then to (first_batch (record c { slots = s })) else
       (if y then to (standing c (at.Retakes s)) else
       (if z then to (next_head c s) else to (standing c (at.Leaves s (leaving s c.batch_size IDLE false)))))) end
@@ -154,24 +150,39 @@ module _ {T : Type 0} (defers : T → Option ℕ) (left_over : T → Bool) (batc
   head_lower s lt false false true shown e = let k = (at_next_head c s lt).0 in lower (weight_at c (at.Heads s)) (next_head c s) e (omega (arith, k))
   head_lower s lt false false false shown e = lower (weight_at c (at.Heads s)) (standing c (at.Leaves s (leaving s c.batch_size IDLE false))) e (omega arith)
 
-  batch_lower : (s : ℕ) → s < c.slots → (x : Bool) (shown : ℕ → Option T) → Ends shown (if x then to (next_batch c s) else to (standing c (at.Flushes s (flushing s c.batch_size)))) end
+  pub batch_lower : (s : ℕ) → s < c.slots → (x : Bool) (shown : ℕ → Option T) → Ends shown (if x then to (next_batch c s) else to (standing c (at.Flushes s (flushing s c.batch_size)))) end
       → weight end.0 < weight_at c (at.Batches s)
   batch_lower s lt true shown e = lower (weight_at c (at.Batches s)) (next_batch c s) e (at_next_batch c s lt).0
   batch_lower s lt false shown e = lower (weight_at c (at.Batches s)) (standing c (at.Flushes s (flushing s c.batch_size))) e (omega (arith, lt))
 
+  pub leave_less : (s : ℕ) → s < LAST_SLOT + 1 → (l2 : Leave) (p : Settled T) → end ≡ within (λ (k : Leave). standing c (at.Leaves s k)) (next_head c s) (l2, p)
+      → (weight end.0 ≤ weight_at c (at.Leaves s l2)) × (is_flushing end.0.stands ≡ false)
+  leave_less s lt l2 Goes e = subst (λ (q : ReclaimAll × Settled T). (weight q.0 ≤ weight_at c (at.Leaves s l2)) × (is_flushing q.0.stands ≡ false)) (sym e) (omega arith, refl)
+  leave_less s lt l2 Waits e = subst (λ (q : ReclaimAll × Settled T). (weight q.0 ≤ weight_at c (at.Leaves s l2)) × (is_flushing q.0.stands ≡ false)) (sym e) (omega arith, refl)
+  leave_less s lt l2 (Gave value) e = subst (λ (q : ReclaimAll × Settled T). (weight q.0 ≤ weight_at c (at.Leaves s l2)) × (is_flushing q.0.stands ≡ false)) (sym e) (omega arith, refl)
+  leave_less s lt l2 Done e =
+      let k = at_next_head c s lt in
+      subst (λ (q : ReclaimAll × Settled T). (weight q.0 ≤ weight_at c (at.Leaves s l2)) × (is_flushing q.0.stands ≡ false)) (sym e)
+      (let l = k.0 in omega (arith, l), not_flushing (next_head c s).stands k.1)
+
+module _ {T : Type 0} (defers : T → Option ℕ) (left_over : T → Bool) (batch_size roots : ℕ) (m : Mem T) (h : History) (lists : ℕ → List ℕ)
+    (c : ReclaimAll) (m2 : Mem T) (given : List T) (m3 : Mem T) (end : ReclaimAll × Settled T) where
+  abbrev OnSlotsAt : Reclaiming → Type 0
+  OnSlotsAt p = OnSlots defers left_over batch_size roots m h lists p c m2 given
+
   slots_lower : (p : Reclaiming) → is_within p ≡ false → OnSlotsAt p → Steps Took value_at m2 (plan_at defers left_over c p) m3 end → weight end.0 < weight_at c p
   slots_lower (at.Heads s) o x st =
-      let d = loaded m2 (head_read c s) (name.Slot s HEAD) m3 end st in head_lower s x.here.1 (d.0 == NEVER) (d.0 == FREE) (nat_lt d.0 ACTIVE) (value_at m2) d.3
+      let d = loaded m2 (head_read c s) (name.Slot s HEAD) m3 end st in head_lower c end s x.here.1 (d.0 == NEVER) (d.0 == FREE) (nat_lt d.0 ACTIVE) (value_at m2) d.3
   slots_lower (at.Retakes s) o x st =
       let d = stored m2 (λ out. to (next_head c s)) (name.Slot s HEAD) IDLE m3 end st in
       let k = (at_next_head c s x.here.1).0 in
-      lower (weight_at c (at.Retakes s)) (next_head c s) d.1 (omega (arith, k))
-  slots_lower (at.Batches s) o x st = let d = loaded m2 (batch_read c s) (name.Slot s BATCH) m3 end st in batch_lower s x.here.0 (d.0 == 0) (value_at m2) d.3
+      lower c end (weight_at c (at.Retakes s)) (next_head c s) d.1 (omega (arith, k))
+  slots_lower (at.Batches s) o x st = let d = loaded m2 (batch_read c s) (name.Slot s BATCH) m3 end st in batch_lower c end s x.here.0 (d.0 == 0) (value_at m2) d.3
   slots_lower (at.Frees s) o x st =
       let row : Unregister = record { slot = s } in
       let goes : Unregister × Progress Unit → ReclaimAll × Settled T = λ k. (next_free c s, Goes) in
       let back = steps_back goes m2 m3 (unregister_plan row) end st in
-      lower (weight_at c (at.Frees s)) (next_free c s) back.2 (at_next_free c s x.here.0).0
+      lower c end (weight_at c (at.Frees s)) (next_free c s) back.2 (at_next_free c s x.here.0).0
   slots_lower (at.Leaves s l) o x st = absurd (cc o)
   slots_lower (at.Flushes s d) o x st = absurd (cc o)
   slots_lower (at.Roots root) o x st = absurd x.row
@@ -207,20 +218,10 @@ module _ {T : Type 0} (defers : T → Option ℕ) (left_over : T → Bool) (batc
 
   -- a row within
 
-  leave_less : (s : ℕ) → s < LAST_SLOT + 1 → (l2 : Leave) (p : Settled T) → end ≡ within (λ (k : Leave). standing c (at.Leaves s k)) (next_head c s) (l2, p)
-      → (weight end.0 ≤ weight_at c (at.Leaves s l2)) × (is_flushing end.0.stands ≡ false)
-  leave_less s lt l2 Goes e = subst (λ (q : ReclaimAll × Settled T). (weight q.0 ≤ weight_at c (at.Leaves s l2)) × (is_flushing q.0.stands ≡ false)) (sym e) (omega arith, refl)
-  leave_less s lt l2 Waits e = subst (λ (q : ReclaimAll × Settled T). (weight q.0 ≤ weight_at c (at.Leaves s l2)) × (is_flushing q.0.stands ≡ false)) (sym e) (omega arith, refl)
-  leave_less s lt l2 (Gave value) e = subst (λ (q : ReclaimAll × Settled T). (weight q.0 ≤ weight_at c (at.Leaves s l2)) × (is_flushing q.0.stands ≡ false)) (sym e) (omega arith, refl)
-  leave_less s lt l2 Done e =
-      let k = at_next_head c s lt in
-      subst (λ (q : ReclaimAll × Settled T). (weight q.0 ≤ weight_at c (at.Leaves s l2)) × (is_flushing q.0.stands ≡ false)) (sym e)
-      (let l = k.0 in omega (arith, l), not_flushing (next_head c s).stands k.1)
-
   less_at : (p : Reclaiming) → is_within p ≡ true → is_flushing p ≡ false → OnSlotsAt p → Steps Took value_at m2 (plan_at defers left_over c p) m3 end
       → (weight end.0 ≤ weight_at c p) × (is_flushing end.0.stands ≡ false)
   less_at (at.Leaves s l) o f x st =
-      let back = steps_back (within (λ (k : Leave). standing c (at.Leaves s k)) (next_head c s)) m2 m3 (leave_plan defers l) end st in leave_less s x.here.1 back.0.0 back.0.1 back.2
+      let back = steps_back (within (λ (k : Leave). standing c (at.Leaves s k)) (next_head c s)) m2 m3 (leave_plan defers l) end st in leave_less c end s x.here.1 back.0.0 back.0.1 back.2
   less_at (at.Flushes s d) o f x st = absurd (cc f)
   less_at (at.Heads s) o f x st = absurd (cc o)
   less_at (at.Retakes s) o f x st = absurd (cc o)
