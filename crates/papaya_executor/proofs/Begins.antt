@@ -1,13 +1,10 @@
 -- The beginning of a call: the executor is there again.
-use Rattle.std.specs.Prelude.{◌≡◌, ◌≢◌, ◌<◌, ◌≤◌, ◌+◌, ◌*◌, ◌^◌, ◌⊎◌, ℕ, Bool, [], ◌∷◌, ◌++◌, length, Option, Some, None, option_map, slice_index_or}
-use Rattle.std.proofs.Common.{refl, sym, ap, subst, ◌∙◌, inl, inr, arith}
-use Rattle.std.proofs.lemmas.Bool.{cases_lt}
-use Rattle.std.proofs.lemmas.List.{get_or_past, get_or_push, get_or_append_left, length-append}
+use Rattle.std.specs.Prelude.{◌≡◌, ◌<◌, ◌^◌, ℕ, Bool, [], ◌∷◌, ◌++◌, length, Some, None}
+use Rattle.std.proofs.Common.{refl, sym, ap, subst, ◌∙◌}
 use Rattle.seize.specs.World.{IsInside}
 use Rattle.papaya_raw.specs.declared.machines.machine.Machine.{Machine}
 use Rattle.papaya_callers.specs.Together.{UnderWay, OnKey, ForRoom, Counting, OverAll}
 use Rattle.papaya_finishes.specs.Endings.{EndingsTogether}
-use Rattle.papaya_finishes.specs.Machines.{machine_of}
 use Rattle.papaya_finishes.specs.Maps.{Standing, with_call}
 use Rattle.papaya_finishes.proofs.Among.Calls.{calls_begin_among}
 use Rattle.papaya_finishes.proofs.Among.Countings.{countings_begin_among}
@@ -15,10 +12,9 @@ use Rattle.papaya_finishes.proofs.Among.Rooms.{rooms_begin_among}
 use Rattle.papaya_finishes.proofs.Among.Sweeps.{sweeps_begin_among}
 use Rattle.papaya_executor.specs.declared.executor.Executor.{Executor}
 use Rattle.papaya_executor.specs.declared.worker.TheConstants.{SLOTS}
-use Rattle.papaya_executor.specs.declared.worker.Work.{Work}
 use Rattle.papaya_executor.specs.declared.worker.Work.TheVariants as work
 use Rattle.papaya_executor.specs.Beginning.{Begins, BeginLeads}
-use Rattle.papaya_executor.specs.IsAt.{Scene, IsAt, ChangesAt, place_of, slot_of, in_slot, call_in, making_in, ending_in, worker_with, worker_at, work_of}
+use Rattle.papaya_executor.specs.IsAt.{Scene, IsAt, ChangesAt, place_of, slot_of, worker_with}
 use Rattle.papaya_executor.proofs.Changed.{is_at_on}
 use Rattle.papaya_executor.proofs.Few.{are_few}
 use Rattle.papaya_executor.proofs.Fresh.{caller_in, fresh_place, fresh_before, fresh_changes, no_calls_yet, no_making_yet, no_ending_yet, resting}

@@ -5,6 +5,7 @@ pub mod First
 pub mod Forgotten
 pub mod Fresh
 pub mod Made
+pub mod MakingBegun
 pub mod Makings
 pub mod Places
 pub mod Replies

@@ -1,5 +1,5 @@
 -- A step of the making of a map: it may be taken, and the executor is there again.
-use Rattle.std.specs.Prelude.{◌≡◌, ◌≢◌, ◌<◌, ◌≤◌, ◌⊎◌, ℕ, Bool, List, length, Option, Some, None, option_map, slice_index_or, slice_set}
+use Rattle.std.specs.Prelude.{◌≡◌, ◌≢◌, ◌<◌, ◌⊎◌, ℕ, Bool, List, length, Option, Some, None, option_map, slice_index_or, slice_set}
 use Rattle.std.proofs.Common.{refl, sym, ap, subst, ◌∙◌, inl, inr, arith}
 use Rattle.std.proofs.lemmas.Bool.{cases_eq}
 use Rattle.std.proofs.lemmas.List.{get_or-set_other, get_or-set_same, length-set}
@@ -16,7 +16,6 @@ use Rattle.papaya_teller.specs.declared.changed.Changed.TheVariants.{Nothing}
 use Rattle.papaya_callers.proofs.Together.At.{at_other, at_same}
 use Rattle.papaya_callers.proofs.Together.Users.{events_rows}
 use Rattle.papaya_finishes.specs.Endings.{EndingsTogether, MakingStepsAmong, MakingToldAmong}
-use Rattle.papaya_finishes.specs.Machines.{machine_of}
 use Rattle.papaya_finishes.specs.Makings.{Beginning}
 use Rattle.papaya_finishes.specs.Maps.{Standing}
 use Rattle.papaya_finishes.proofs.Among.Makings.{makings_stand_among}
@@ -24,7 +23,7 @@ use Rattle.papaya_executor.specs.declared.executor.Executor.{Executor}
 use Rattle.papaya_executor.specs.declared.worker.Work.{Work}
 use Rattle.papaya_executor.specs.declared.worker.Work.TheVariants as work
 use Rattle.papaya_executor.specs.declared.worker.Worker.{Worker}
-use Rattle.papaya_executor.specs.IsAt.{Scene, IsAt, IsMaking, ChangesAt, place_of, slot_of, in_slot, call_in, making_in, ending_in, worker_of, worker_at, work_of}
+use Rattle.papaya_executor.specs.IsAt.{Scene, IsAt, IsMaking, ChangesAt, place_of, slot_of, call_in, making_in, ending_in, worker_of, worker_at}
 use Rattle.papaya_executor.specs.Making.{making_on, maps_on, MakingStepsFrom, MakingComesTo}
 use Rattle.papaya_executor.proofs.Forgotten.{as_step}
 use Rattle.papaya_executor.proofs.Made.{made_at}

@@ -1,12 +1,14 @@
-//! The beginning of a call.
+//! The beginning of a call, and of the making of a map.
 ghost use Rattle.std.specs.Prelude.{◌≡◌, ◌<◌, ◌+◌, ◌*◌, ℕ, Bool, length, IfOk};
 ghost use Rattle.papaya_executor.specs.IsAt.{Scene, IsAt};
 ghost use Rattle.papaya_executor.specs.Beginning.{BeginLeads};
+ghost use Rattle.papaya_executor.specs.MakingBegins.{MakingBegins};
 ghost use Rattle.papaya_executor.specs.declared.worker.TheConstants.{SLOTS};
 
 use crate::executor::Executor;
 use crate::worker::{SLOTS, Work, Worker};
-use papaya_raw::machines::Machine;
+use papaya_raw::Setting;
+use papaya_raw::machines::{Machine, NewMap};
 use std::alloc::AllocError;
 
 /// So many callers there can be. For each further one there is no memory.
@@ -25,6 +27,30 @@ impl<K: Drop, V: Drop, S> Executor<K, V, S> {
             return Err(AllocError);
         }
         let work = Work::Call { map, machine };
+        self.workers.push(Some(Worker { slot, work }))?;
+        Ok(place as u64 * SLOTS + slot)
+    }
+
+    /// Begins to make a map with this setting, and with a first table of so many places, for a caller in this slot. The map gets the number that comes next. It
+    /// answers with the number of the caller. On an error nothing has begun.
+    pub fn begin_making(
+        &mut self,
+        slot: u64,
+        given: Setting,
+        places: u64,
+    ) -> Result<u64, AllocError>
+        requires { slot < SLOTS }
+        ensures number { IfOk result (λ caller. caller ≡ length self.old.workers.items * SLOTS + slot) }
+        ensures leads { IfOk result (λ caller. (same : K → K → Bool) (hash : K → ℕ) (s : Scene K V) → IsAt same hash self.old s → MakingBegins same hash given places caller s self.old self.new) }
+    {
+        let place = self.workers.len();
+        if place >= MOST_CALLERS {
+            return Err(AllocError);
+        }
+        let map = self.maps.len() as u64;
+        let opening = NewMap::new(given, self.roots, places);
+        let work = Work::Making { map, opening };
+        self.maps.push(None)?;
         self.workers.push(Some(Worker { slot, work }))?;
         Ok(place as u64 * SLOTS + slot)
     }

@@ -1,0 +1,19 @@
+-- The beginning of the making of a map.
+use Rattle.std.proofs.Common.{rules, ◌≡◌, ◌+◌, ◌*◌, ◌++◌, ◌∷◌, [], ℕ, length, refl, sym, ap, subst, ◌∙◌}
+use Rattle.std.specs.Prelude.{Some}
+use Rattle.papaya_executor.specs.MakingBegins.{MakingBegins}
+use Rattle.papaya_executor.specs.declared.worker.TheConstants.{SLOTS}
+use Rattle.papaya_executor.specs.declared.worker.Work.TheVariants as work
+use Rattle.papaya_executor.proofs.MakingBegun.{making_begins}
+use Rattle.papaya_executor.proofs.executor.Executor.begin_making.Goals as goal
+
+pub returns-clause-leads : goal.returns-clause-leads
+returns-clause-leads g c = λ same hash s at.
+    let count : c.len-place.result ≡ length c.args.self.now.workers.items = search (rules, c.len-place.ensures) in
+    let number : c.len-map.result ≡ length c.args.self.now.maps.items = search (rules, c.len-map.ensures) in
+    let new = record c.args.self.now { maps = c.push.new.self; workers = c.push-2.new.self } in
+    let items = c.in_ok-push-2.ensures.items
+    ∙ ap (λ x. c.args.self.now.workers.items ++ Some (record { slot = c.args.slot; work = work.Making x c.new-opening.result }) ∷ []) number
+    ∙ ap (λ x. c.args.self.now.workers.items ++ Some (record { slot = c.args.slot; work = work.Making (length c.args.self.now.maps.items) x }) ∷ []) c.new-opening.ensures in
+    subst (λ (n : ℕ). MakingBegins same hash c.args.given c.args.places (n * SLOTS + c.args.slot) s c.args.self.now new) (sym count)
+    (making_begins same hash c.args.self.now s at c.args.slot c.requires c.args.given c.args.places new refl items refl refl refl c.in_ok-push.ensures.items)
