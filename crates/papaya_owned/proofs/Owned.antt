@@ -1,2 +1,4 @@
 -- The map of one owner, and its pairs.
+pub mod Keys
 pub mod Lookups
+pub mod Making

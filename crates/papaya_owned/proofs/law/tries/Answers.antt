@@ -1,5 +1,7 @@
-use Rattle.papaya_owned.proofs.Owned.Lookups.{finds_word}
+use Rattle.papaya_owned.proofs.Owned.Making.{came_about, opens_first, runs_made}
 use Rattle.papaya_owned.proofs.law.tries.Goals as goal
+
+use Rattle.papaya_owned.proofs.Owned.Keys.{course_step}
 
 pub returns : goal.returns
 returns c d = 0
