@@ -31,7 +31,8 @@ use Rattle.papaya_callers.specs.Pairs.{Given, kind_of}
 use Rattle.papaya_late.specs.Kinds.{IsFit, ComesFit, TellsFit}
 use Rattle.papaya_late.proofs.KindsKept.Laws.{calls_keep_their_kind}
 use Rattle.papaya_callers.specs.Sights.{Sight}
-use Rattle.papaya_callers.specs.Together.{CallOnKey, OnKey as OnKeyOf, AnswersOnce}
+use Rattle.papaya_callers.specs.Together.{CallOnKey, OnKey as OnKeyOf, AnswersOnce, in_slot}
+use Rattle.papaya_rule.specs.InWorld.{IsMapIn}
 use Rattle.papaya_whole.specs.Contents.{HasRun}
 use Rattle.papaya_whole.specs.Owner.{AtRest, IsAlone}
 use Rattle.papaya_whole.specs.Whole.{GoesOn as CallGoesOn, StepsOn, StepLeads, Leads}
@@ -96,6 +97,7 @@ module _ {K V Q S : Type 0} (same : K → K → Bool) (asks : Q → K → Bool) 
     pub rests : AtRest {K = K} {V = V} {Q = Q} same hash asks setting slot_of w c blocks sights
     pub memory : w.memory ≡ m
     pub seen : Blocks
+    pub seen_map : IsMapIn same hash (in_slot setting setting.slot) w c seen
     pub sees : (o : ℕ) → c.current o ≡ true → seen.pair o ≡ blocks.pair o
     pub answers : AnswersOnce V same hash asks setting slot_of w c seen 0 (going change call) change answer
     pub runs : HasRun same hash setting keys m0 c0 blocks0 change w.memory c blocks
@@ -168,6 +170,7 @@ module _ {K V Q S : Type 0} (same : K → K → Bool) (asks : Q → K → Bool) 
       rests = l.leads.0;
       memory = l.memory;
       seen = l.leads.1;
+      seen_map = l.leads.2;
       sees = l.leads.3;
       answers = l.leads.4;
       runs = l.runs m0 c0 blocks0 rule0 at.runs;

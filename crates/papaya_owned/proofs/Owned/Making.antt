@@ -1,5 +1,5 @@
 -- The map of one owner is made: then it rests, with no pair.
-use Rattle.std.specs.Prelude.{◌≡◌, ◌≢◌, ℕ, zero, suc, ◌+◌, ◌%◌, ◌^◌, ◌<◌, ◌≤◌, ◌⊎◌, max, Bool, false, List, [], ◌∷◌, ◌++◌, Option, Some, None, Result, Ok, Err}
+use Rattle.std.specs.Prelude.{◌≡◌, ◌≢◌, ℕ, zero, suc, ◌+◌, ◌%◌, ◌^◌, ◌<◌, ◌≤◌, ◌⊎◌, max, Bool, true, false, List, [], ◌∷◌, ◌++◌, Option, Some, None, Result, Ok, Err}
 use Rattle.std.specs.Int.{IsPowerOfTwo}
 use Rattle.std.proofs.Common.{refl, sym, ◌∙◌, ap, subst, arith, inl, inr, ⊎_elim}
 use Rattle.seize_words.specs.Mem.{Mem, Can, Took, value_at, word_at}
@@ -137,7 +137,7 @@ module _ {K V : Type 0} (same : K → K → Bool) (hash : K → ℕ) (lawful : A
   opens_end n m o = ends_below (suc (new_map_left n)) n m o (omega arith)
 
   -- what it comes to
-  module _ (one : setting.mask ≡ 0) (size : setting.batch_size < 2 ^ 64) where
+  module _ (one : setting.mask ≡ 0) (size : setting.batch_size < 2 ^ 64) (incremental : is_incremental setting.mode ≡ true) where
     no_contents : (m : Mem (Node K V)) (c : Chart K) (blocks : Blocks) → ((n : ℕ) → c.current n ≡ false) → (n : ℕ) → ContentsBelow m c blocks n []
     no_contents m c blocks empty zero = refl
     no_contents m c blocks empty (suc n) = none_last m c blocks n [] (empty n) (no_contents m c blocks empty n)
@@ -169,6 +169,7 @@ module _ {K V : Type 0} (same : K → K → Bool) (hash : K → ℕ) (lawful : A
         lawful = lawful;
         initial = subst IsPowerOfTwo (sym (ap (λ (x : Setting). x.initial) answer_is)) initial;
         one_shard = ap (λ (x : Setting). x.mask) answer_is ∙ one;
+        incremental = ap (λ (x : Setting). is_incremental x.mode) answer_is ∙ incremental;
         size = subst (λ x. x < 2 ^ 64) (sym (ap (λ (x : Setting). x.batch_size) answer_is)) size;
         world = w;
         chart = c;
