@@ -1,4 +1,5 @@
 -- The map of one owner, and its pairs.
+pub mod Blocks
 pub mod Calls
 pub mod Keys
 pub mod Lookups
