@@ -4,3 +4,4 @@ pub mod Calls
 pub mod Keys
 pub mod Lookups
 pub mod Making
+pub mod Refreshes

@@ -44,23 +44,19 @@ use Rattle.papaya_owned.proofs.Owned.Lookups.{found_is, left_is}
 -- The owner rests, whatever the next call is asked with.
 module _ {K V : Type 0} (same : K → K → Bool) (hash : K → ℕ) (setting : Setting) (incremental : is_incremental setting.mode ≡ true) (slot : ℕ → ℕ) {Q1 Q2 : Type 0} (asks1 : Q1 → K → Bool) (asks2 : Q2 → K → Bool)
     (w : World (Node K V)) (c : Chart K) (blocks : Blocks) (sights : ℕ → Sight) where
-  pub rests_as : AtRest {K = K} {V = V} {Q = Q1} same hash asks1 setting slot w c blocks sights → AtRest {K = K} {V = V} {Q = Q2} same hash asks2 setting slot w c blocks sights
-  rests_as r =
+  pub together_as : AtRest {K = K} {V = V} {Q = Q1} same hash asks1 setting slot w c blocks sights → Together {K = K} {Q = Q2} V same hash asks2 setting slot w c blocks sights (λ i. None)
+  together_as r =
       let g = r.together.ground in record {
-        calls = λ i. None;
-        none = λ i. refl;
-        together = record {
-          ground = record { came = g.came; map = g.map; moments = g.moments; kept = g.kept; owned = g.owned; behind = g.behind; sources = g.sources; counter = g.counter; sight = g.sight };
-          inside = λ i u is. absurd (cc is);
-          stand = λ i u is. absurd (cc is);
-          idle = λ i is. r.together.idle i (r.none i);
-          onto = λ t j from to on. absurd (r.together.onto t j from to on (r.none j));
-          few = λ e. absurd (true≢false (sym incremental ∙ e));
-        };
-        rows = r.rows;
-        inside = r.inside;
-        alone = r.alone;
+        ground = record { came = g.came; map = g.map; moments = g.moments; kept = g.kept; owned = g.owned; behind = g.behind; sources = g.sources; counter = g.counter; sight = g.sight };
+        inside = λ i u is. absurd (cc is);
+        stand = λ i u is. absurd (cc is);
+        idle = λ i is. r.together.idle i (r.none i);
+        onto = λ t j from to on. absurd (r.together.onto t j from to on (r.none j));
+        few = λ e. absurd (true≢false (sym incremental ∙ e));
       }
+
+  pub rests_as : AtRest {K = K} {V = V} {Q = Q1} same hash asks1 setting slot w c blocks sights → AtRest {K = K} {V = V} {Q = Q2} same hash asks2 setting slot w c blocks sights
+  rests_as r = record { calls = λ i. None; none = λ i. refl; together = together_as r; rows = r.rows; inside = r.inside; alone = r.alone }
 
 -- from what the map held
 module _ {K V S : Type 0} (same : K → K → Bool) (hashes : S → K → ℕ) (b : Bor S) (setting : Setting) (m0 : Mem (Node K V)) (xs : List (K × V)) (h : Holds same (hashes b.now) setting m0 xs)
