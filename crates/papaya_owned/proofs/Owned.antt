@@ -2,6 +2,8 @@
 pub mod Blocks
 pub mod Calls
 pub mod Keys
+pub mod Lawful
 pub mod Lookups
 pub mod Making
+pub mod Places
 pub mod Refreshes
