@@ -67,10 +67,10 @@ module _ {K V S : Type 0} (same : K → K → Bool) (hashes : S → K → ℕ) (
   abbrev slot_of : ℕ → ℕ
   slot_of i = setting.slot
 
-  abbrev map0 : IsMapIn same hash setting h.world h.chart h.blocks
+  abbrev pub map0 : IsMapIn same hash setting h.world h.chart h.blocks
   map0 = h.rests.together.ground.map
 
-  abbrev UnderIt : OnKey K V K S → Mem (Node K V) → Type 0
+  abbrev pub UnderIt : OnKey K V K S → Mem (Node K V) → Type 0
   UnderIt = Under {Q = K} same same hashes b setting h.lawful h.initial h.world.memory h.chart h.blocks map0.map.rule (same k) (Begun kind pair)
 
   nothing_added : (s : ℕ) → s % 2 ^ 64 ≡ (s + 0) % 2 ^ 64
