@@ -1,19 +1,18 @@
 -- Lookups of a map for one owner, and the counting of its pairs.
-use Rattle.std.specs.Prelude.{◌≡◌, ℕ, zero, suc, ◌+◌, ◌-◌, ◌%◌, ◌^◌, ◌<◌, Bool, List, length, Option, Some, None, is_some, option_map}
-use Rattle.std.proofs.Common.{refl, sym, ◌∙◌, ap, subst, arith}
-use Rattle.seize_words.specs.Mem.{Mem, word_at, value_at}
+use Rattle.std.specs.Prelude.{◌≡◌, ℕ, suc, ◌+◌, ◌-◌, ◌%◌, ◌^◌, ◌<◌, Bool, List, length, Option, Some, None, is_some}
+use Rattle.std.proofs.Common.{sym, ◌∙◌, ap, subst, arith}
+use Rattle.seize_words.specs.Mem.{Mem, word_at}
 use Rattle.seize_words.specs.declared.at.At.TheVariants.{Word}
 use Rattle.papaya_tables.specs.Counts.{count_in}
 use Rattle.papaya_tables.specs.declared.node.Node.{Node}
 use Rattle.papaya_tables.specs.declared.setting.Setting.{Setting}
 use Rattle.papaya_resize.specs.Lookup.{looking}
-use Rattle.papaya_resize.specs.Sum.{summing}
 use Rattle.papaya_resize.specs.declared.lookup.Lookup.{Lookup}
 use Rattle.papaya_rule.specs.Maps.{IsClass}
-use Rattle.papaya_alone.specs.Counting.{shards_sum, count_ahead, number_in}
+use Rattle.papaya_alone.specs.Counting.{shards_sum, number_in}
 use Rattle.papaya_whole.proofs.Contents.Length.{countings_come_to}
 use Rattle.papaya_owned.specs.Looking.{LooksIn, Finds}
-use Rattle.papaya_owned.specs.Owned.{Holds, IsWordOf, NamesAPair, found_by}
+use Rattle.papaya_owned.specs.Owned.{Holds, IsWordOf, found_by}
 use Rattle.papaya_owned.proofs.Owned.Lookups.{look_in, finds_word}
 
 module _ {K V : Type 0} (same : K → K → Bool) (hash : K → ℕ) (setting : Setting) (m : Mem (Node K V)) (xs : List (K × V)) (h : Holds same hash setting m xs) where
@@ -32,11 +31,12 @@ module _ {K V : Type 0} (same : K → K → Bool) (hash : K → ℕ) (setting : 
   counted_so total fits is =
       ap count_in (one_word total fits (ap (shards_sum h.world.memory setting.counter) (ap suc h.one_shard) ∙ one_sum)) ∙ countings_come_to same hash setting h.world h.chart h.blocks h.rests.together.ground.map h.counted xs h.are
     where
-    one_sum : shards_sum h.world.memory setting.counter 1 ≡ total + shards_sum h.world.memory setting.counter 0
-    one_sum = let e = ap number_in (ap (λ (x : Mem (Node K V)). word_at x (Word setting.counter 0)) h.memory ∙ is) in omega (arith, e)
-    one_word : (total : ℕ) → total < 2 ^ 64 → shards_sum h.world.memory setting.counter (suc setting.mask) ≡ total + shards_sum h.world.memory setting.counter 0
-        → total ≡ (0 + (shards_sum h.world.memory setting.counter (suc setting.mask) - shards_sum h.world.memory setting.counter 0)) % 2 ^ 64
-    one_word total fits sum = omega (arith, fits, sum)
+      one_sum : shards_sum h.world.memory setting.counter 1 ≡ total + shards_sum h.world.memory setting.counter 0
+      one_sum = let e = ap number_in (ap (λ (x : Mem (Node K V)). word_at x (Word setting.counter 0)) h.memory ∙ is) in omega (arith, e)
+
+      one_word : (total : ℕ) → total < 2 ^ 64 → shards_sum h.world.memory setting.counter (suc setting.mask) ≡ total + shards_sum h.world.memory setting.counter 0
+          → total ≡ (0 + (shards_sum h.world.memory setting.counter (suc setting.mask) - shards_sum h.world.memory setting.counter 0)) % 2 ^ 64
+      one_word total fits sum = omega (arith, fits, sum)
 
 module _ {K V : Type 0} (keys : K → Bool) (m : Mem (Node K V)) (xs : List (K × V)) where
   -- by the word that was found

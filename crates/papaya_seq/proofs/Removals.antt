@@ -1,5 +1,5 @@
 -- Changes of a map for one owner.
-use Rattle.std.specs.Prelude.{◌≡◌, ℕ, ◌^◌, ◌<◌, Bool, true, false, List, [], ◌∷◌, Option, Some, None, Result, Ok, is_some, if◌then◌else◌}
+use Rattle.std.specs.Prelude.{◌≡◌, ℕ, ◌^◌, ◌<◌, Bool, true, false, List, [], ◌∷◌, Some, None, Result, Ok, is_some, if◌then◌else◌}
 use Rattle.std.proofs.Common.{refl, sym, ap, subst, inl, inr}
 use denote.Ref.{Bor}
 use Rattle.seize_words.specs.Mem.{Mem}
@@ -11,7 +11,6 @@ use Rattle.papaya_tables.specs.Nodes.{deferred_word}
 use Rattle.papaya_tables.specs.declared.node.Node.{Node}
 use Rattle.papaya_tables.specs.declared.setting.Setting.{Setting}
 use Rattle.papaya_raw.specs.CallPoints.{removing}
-use Rattle.papaya_raw.specs.declared.machines.asking.Takes.TheVariants as takes
 use Rattle.papaya_raw.specs.declared.machines.call.KeyCall.{KeyCall}
 use Rattle.papaya_rule.specs.Maps.{IsClass}
 use Rattle.papaya_callers.specs.Kind.{removes}
@@ -64,16 +63,16 @@ module _ {K V : Type 0} (same : K → K → Bool) (hash : K → ℕ) (setting : 
   left_none [] none = refl
   left_none (y ∷ ys) none = by (keys y.0) none (left_none ys)
     where
-    by : (b : Bool) → (if b then Some y else found_by keys ys) ≡ None → (found_by keys ys ≡ None → left_by keys ys ≡ ys) → (if b then left_by keys ys else y ∷ left_by keys ys) ≡ y ∷ ys
-    by true none more = absurd (cc none)
-    by false none more = ap (λ zs. y ∷ zs) (more none)
+      by : (b : Bool) → (if b then Some y else found_by keys ys) ≡ None → (found_by keys ys ≡ None → left_by keys ys ≡ ys) → (if b then left_by keys ys else y ∷ left_by keys ys) ≡ y ∷ ys
+      by true none more = absurd (cc none)
+      by false none more = ap (λ zs. y ∷ zs) (more none)
 
   -- what a removal comes to
   pub removes_by : (s : Stop) → EndsBy same hash setting m removes None keys xs (Ok s) → (has_removed s ≡ is_some (found_by keys xs)) × Holds same hash setting m (left_by keys xs)
   removes_by (stop.Answered (answers.Removed word)) e = (sym (ap is_some e.1.1), e.1.3)
   removes_by (stop.Answered answers.Absent) e = (sym (ap is_some e.1.0), subst (Holds same hash setting m) (sym (left_none xs e.1.0)) e.1.1)
-  removes_by (stop.Answered (answers.Found word)) e = absurd (elim e.0 as (λ _. ⊥) [ | inl p ↦ cc p | inr p ↦ cc p.0 ])
-  removes_by (stop.Answered (answers.Stored word)) e = absurd (elim e.0 as (λ _. ⊥) [ | inl p ↦ cc p | inr p ↦ cc p ])
-  removes_by (stop.Answered (answers.Replaced old new)) e = absurd (elim e.0 as (λ _. ⊥) [ | inl p ↦ cc p | inr p ↦ cc p.0 ])
+  removes_by (stop.Answered (answers.Found word)) e = absurd (elim e.0 as (λ _. ⊥) [ inl p ↦ cc p | inr p ↦ cc p.0 ])
+  removes_by (stop.Answered (answers.Stored word)) e = absurd (elim e.0 as (λ _. ⊥) [ inl p ↦ cc p | inr p ↦ cc p ])
+  removes_by (stop.Answered (answers.Replaced old new)) e = absurd (elim e.0 as (λ _. ⊥) [ inl p ↦ cc p | inr p ↦ cc p.0 ])
   removes_by (stop.Asks None) e = absurd (cc e)
   removes_by (stop.Asks (Some word)) e = absurd (cc e)
