@@ -1,3 +1,4 @@
+-- What a lookup keeps from step to step, and what each step lowers.
 use Rattle.std.proofs.Common.{◌≡◌, ℕ}
 use Rattle.papaya_owned.specs.Looking.{LooksIn}
 use Rattle.papaya_rule.specs.Chart.{Chart}

@@ -1,3 +1,4 @@
+-- What a run keeps from step to step, and what each step lowers.
 use Rattle.std.proofs.Common.{◌≡◌, Result}
 use Rattle.seize_words.specs.Mem.{Mem}
 use Rattle.seize_words.specs.declared.fault.Fault.{Fault}

@@ -1,3 +1,4 @@
+-- Both lengths fit a table.
 use Rattle.papaya_owned.proofs.Owned.Places.{first_table, no_table_yet}
 use Rattle.papaya_seq.proofs.making.places_for.Goals as goal
 
