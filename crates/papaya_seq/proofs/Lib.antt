@@ -1,1 +1,4 @@
--- Proofs.
+-- Lemmas on maps for one owner.
+mod Looks
+mod Makes
+mod Removals

@@ -1,118 +1,74 @@
-//! Changes of a map for one owner, on one key. Each begins with a refresh.
+//! Removals from a map for one owner. Each change begins with a refresh.
+ghost use Rattle.std.specs.Prelude.{◌≡◌, List, None, is_some, IfOk, OnOk, OnErr};
+ghost use Rattle.papaya_callers.specs.Kind.{removes};
+ghost use Rattle.papaya_seq.specs.Maps.{HasPairs, has_removed};
+ghost use Rattle.papaya_owned.specs.Owned.{Holds, EndsBy, found_by, hashed_by, left_by};
 
-use crate::lookups::pair_at;
 use crate::map::HashMap;
-use crate::refused::{OccupiedError, Refused};
 use papaya_owned::{OnKey, Refreshes, Stop, run};
 use papaya_raw::machines::{KeyAnswer, KeyCall};
-use papaya_tables::{Equivalent, Hashes, Node};
+use papaya_tables::{Hashes, Node, Setting};
 use seize::rows::Leave;
-use seize_words::Fault;
+use seize_words::{Fault, Plain};
 use std::hash::{BuildHasher, Hash};
 
-/// How a call that stores its own pair has ended.
-enum Stored<K, V> {
-    /// The pair is in the map. The word of the one before it, if there was one.
-    New(Option<u64>, u64),
-    /// The key is there with the pair of this word, and this one was not stored.
-    There(u64, K, V),
-    /// It was refused.
-    Not(Refused<K, V>),
+/// Ends the owner's section, and begins the next one: what is out of the map is given back.
+pub(crate) fn refresh<K: Eq + Hash + Drop, V: Drop, S: BuildHasher>(
+    memory: &mut Plain<Node<K, V>>,
+    setting: Setting,
+    _hasher: &S,
+)
+    requires { (xs : List (K × V)) × Holds K.eq (hashed_by S.Hasher.finish S.Hasher.write S.build_hasher K.hash_input _hasher.now) setting memory.old xs }
+    ensures { (xs : List (K × V)) → Holds K.eq (hashed_by S.Hasher.finish S.Hasher.write S.build_hasher K.hash_input _hasher.now) setting memory.old xs
+        → Holds K.eq (hashed_by S.Hasher.finish S.Hasher.write S.build_hasher K.hash_input _hasher.now) setting memory.new xs }
+{
+    let leave = Leave::refresh(setting.slot, setting.batch_size);
+    let mut machine = Refreshes { leave };
+    let _ = run(&mut machine, memory);
+}
+
+/// Runs a removal to its end.
+fn take<K: Eq + Hash + Drop, V: Drop, S: BuildHasher>(
+    memory: &mut Plain<Node<K, V>>,
+    setting: Setting,
+    hasher: &S,
+    key: K,
+) -> Result<Stop, Fault>
+    requires { (xs : List (K × V)) × Holds K.eq (hashed_by S.Hasher.finish S.Hasher.write S.build_hasher K.hash_input hasher.now) setting memory.old xs }
+    ensures { (xs : List (K × V)) → Holds K.eq (hashed_by S.Hasher.finish S.Hasher.write S.build_hasher K.hash_input hasher.now) setting memory.old xs
+        → EndsBy K.eq (hashed_by S.Hasher.finish S.Hasher.write S.build_hasher K.hash_input hasher.now) setting memory.new removes None (K.eq key) xs result }
+{
+    let hash = hasher.hash_of(&key);
+    let call = KeyCall::remove(setting, hash, key);
+    let mut machine: OnKey<'_, K, V, K, S> = OnKey {
+        call,
+        hasher,
+        unstored: None,
+    };
+    run(&mut machine, memory)
+}
+
+/// Whether a removal has removed a pair.
+fn removed(stop: Stop) -> bool
+    ensures { result ≡ has_removed stop }
+{
+    matches!(stop, Stop::Answered(KeyAnswer::Removed(_)))
 }
 
 impl<K: Eq + Hash + Drop, V: Drop, S: BuildHasher> HashMap<K, V, S> {
-    /// Ends the section, and begins the next one: what is out of the map is given back.
-    pub(crate) fn refresh(&mut self) {
-        let leave = Leave::refresh(self.setting.slot, self.setting.batch_size);
-        let _ = run(&mut Refreshes { leave }, &mut self.memory);
-    }
-
-    /// Runs a call that was begun with a pair.
-    fn store(&mut self, call: KeyCall<K, V, K>) -> Stored<K, V> {
-        let mut machine = OnKey {
-            call,
-            hasher: &self.hasher,
-            unstored: None,
-        };
-        let end = run(&mut machine, &mut self.memory);
-        match (end, machine.unstored) {
-            (Ok(Stop::Answered(KeyAnswer::Stored(word))), _) => Stored::New(None, word),
-            (Ok(Stop::Answered(KeyAnswer::Replaced { old, new })), _) => Stored::New(Some(old), new),
-            (Ok(Stop::Answered(KeyAnswer::Found(word))), Some(Node::Pair(key, value))) => {
-                Stored::There(word, key, value)
-            }
-            (Err(fault), Some(Node::Pair(key, value))) => Stored::Not(Refused { fault, key, value }),
-            _ => unreachable!(),
-        }
-    }
-
-    /// Stores a pair, also in the place of another one of its key, and answers the value of that one, which can be read until the next change.
-    /// The faults are `Fault::Capacity` and `Fault::Memory`; then no pair has changed.
-    pub fn insert(&mut self, key: K, value: V) -> Result<Option<&V>, Refused<K, V>> {
-        self.refresh();
-        let hash = self.hasher.hash_of(&key);
-        match self.store(KeyCall::insert(self.setting, hash, key, value)) {
-            Stored::New(None, _) => Ok(None),
-            Stored::New(Some(old), _) => Ok(Some(pair_at(&self.memory, old).1)),
-            Stored::Not(refused) => Err(refused),
-            Stored::There(..) => unreachable!(),
-        }
-    }
-
-    /// Stores a pair, if its key is not there yet, and answers its value in the map. Where the key is there, it answers the value that the map has,
-    /// with the one that was not stored. The faults are `Fault::Capacity` and `Fault::Memory`; then no pair has changed.
-    pub fn try_insert(
-        &mut self,
-        key: K,
-        value: V,
-    ) -> Result<Result<&V, OccupiedError<'_, V>>, Refused<K, V>> {
-        self.refresh();
-        let hash = self.hasher.hash_of(&key);
-        match self.store(KeyCall::try_insert(self.setting, hash, key, value)) {
-            Stored::New(_, new) => Ok(Ok(pair_at(&self.memory, new).1)),
-            Stored::There(word, _, value) => Ok(Err(OccupiedError {
-                current: pair_at(&self.memory, word).1,
-                not_inserted: value,
-            })),
-            Stored::Not(refused) => Err(refused),
-        }
-    }
-
-    /// Runs the removal of a key, and answers the word of the pair that it has removed.
-    fn take<Q: Equivalent<K> + Drop>(&mut self, asked: Q) -> Result<Option<u64>, Fault> {
-        let hash = self.hasher.hash_of(&asked);
-        let mut machine = OnKey {
-            call: KeyCall::remove(self.setting, hash, asked),
-            hasher: &self.hasher,
-            unstored: None,
-        };
-        match run(&mut machine, &mut self.memory)? {
-            Stop::Answered(KeyAnswer::Removed(word)) => Ok(Some(word)),
-            Stop::Answered(_) => Ok(None),
-            Stop::Asks(_) => unreachable!(),
-        }
-    }
-
-    /// Removes the pair of a key, and answers its value, which can be read until the next change. The only fault is `Fault::Memory`; then
-    /// no pair has changed.
-    pub fn remove<Q: Equivalent<K> + Drop>(&mut self, asked: Q) -> Result<Option<&V>, Fault> {
-        self.refresh();
-        match self.take(asked)? {
-            Some(word) => Ok(Some(pair_at(&self.memory, word).1)),
-            None => Ok(None),
-        }
-    }
-
-    /// Removes the pair of a key, and answers its key and its value, which can be read until the next change. The only fault is
-    /// `Fault::Memory`; then no pair has changed.
-    pub fn remove_entry<Q: Equivalent<K> + Drop>(
-        &mut self,
-        asked: Q,
-    ) -> Result<Option<(&K, &V)>, Fault> {
-        self.refresh();
-        match self.take(asked)? {
-            Some(word) => Ok(Some(pair_at(&self.memory, word))),
-            None => Ok(None),
+    /// Removes the pair of a key, and answers whether there was one. The only fault is `Fault::Memory`; then no pair has changed.
+    pub fn remove(&mut self, key: K) -> Result<bool, Fault>
+        requires { (xs : List (K × V)) × HasPairs K.eq (hashed_by S.Hasher.finish S.Hasher.write S.build_hasher K.hash_input) self.old xs }
+        ensures some { (xs : List (K × V)) → HasPairs K.eq (hashed_by S.Hasher.finish S.Hasher.write S.build_hasher K.hash_input) self.old xs → IfOk result (λ was. was ≡ is_some (found_by (K.eq key) xs)) }
+        ensures removed { (xs : List (K × V)) → HasPairs K.eq (hashed_by S.Hasher.finish S.Hasher.write S.build_hasher K.hash_input) self.old xs
+            → OnOk result (HasPairs K.eq (hashed_by S.Hasher.finish S.Hasher.write S.build_hasher K.hash_input) self.new (left_by (K.eq key) xs)) }
+        ensures refused { (xs : List (K × V)) → HasPairs K.eq (hashed_by S.Hasher.finish S.Hasher.write S.build_hasher K.hash_input) self.old xs
+            → OnErr result (HasPairs K.eq (hashed_by S.Hasher.finish S.Hasher.write S.build_hasher K.hash_input) self.new xs) }
+    {
+        refresh(&mut self.memory, self.setting, &self.hasher);
+        match take(&mut self.memory, self.setting, &self.hasher, key) {
+            Ok(stop) => Ok(removed(stop)),
+            Err(fault) => Err(fault),
         }
     }
 }

@@ -4,10 +4,9 @@
 mod changes;
 mod counting;
 mod lookups;
+mod making;
 mod map;
 mod refused;
-#[cfg(test)]
-mod tests;
 
 pub use map::HashMap;
 pub use papaya_tables::Equivalent;

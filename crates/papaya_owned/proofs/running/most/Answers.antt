@@ -1,3 +1,4 @@
+-- There is a least bound.
 use Rattle.papaya_owned.proofs.Runs.Steps.{lowest_at}
 use Rattle.papaya_owned.proofs.running.most.Goals as goal
 

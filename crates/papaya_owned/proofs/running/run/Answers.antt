@@ -1,3 +1,4 @@
+-- Each step may be taken, leads on, and lowers the bound.
 use Rattle.std.proofs.Common.{refl}
 use Rattle.papaya_owned.specs.Ending.{stops, goes}
 use Rattle.papaya_owned.proofs.Runs.Steps.{may_step, ends_on, less, on_of}
