@@ -42,7 +42,7 @@ module _ {K V : Type 0} (same : K → K → Bool) (hash : K → ℕ) (setting : 
   holds_moves_none incremental =
       let rule = h.rests.together.ground.map.map.rule in
       let none = none_copying same (spot_of hash) h.chart h.rests.alone.idle (is_incremental setting.mode) rule
-          (claims_none (is_incremental setting.mode) _ _ _ (h.rests.together.idle 0 (h.rests.none 0))) in
+      (claims_none (is_incremental setting.mode) _ _ _ (h.rests.together.idle 0 (h.rests.none 0))) in
       λ e. none incremental
 
   pub holds_pairs : xs ≡ pairs_stored m h.chart h.blocks h.chart.stored

@@ -6,9 +6,7 @@ mod counting;
 mod lookups;
 mod making;
 mod map;
-mod refused;
 
 pub use map::HashMap;
 pub use papaya_tables::Equivalent;
-pub use refused::{OccupiedError, Refused};
 pub use seize_words::Fault;
