@@ -1,5 +1,5 @@
 -- The map that one owner has in a memory of its own, between its calls, and its pairs as a list.
-use Rattle.std.specs.Prelude.{◌≡◌, ℕ, ◌%◌, ◌^◌, ◌<◌, Bool, List, [], ◌∷◌, Option, Some, None, fold, if◌then◌else◌}
+use Rattle.std.specs.Prelude.{◌≡◌, ℕ, ◌%◌, ◌^◌, ◌<◌, Bool, true, List, [], ◌∷◌, ◌++◌, Result, Ok, Err, Option, Some, None, fold, if◌then◌else◌}
 use Rattle.std.specs.Int.{IsPowerOfTwo}
 use Rattle.seize_words.specs.Mem.{Mem, value_at}
 use Rattle.seize_words.specs.Word.{block_in}
@@ -7,13 +7,22 @@ use Rattle.seize.specs.World.{World}
 use Rattle.papaya_tables.specs.declared.node.Node.{Node}
 use Rattle.papaya_tables.specs.declared.node.Node.TheVariants as node
 use Rattle.papaya_tables.specs.declared.setting.Setting.{Setting}
+use Rattle.papaya_tables.specs.Chunks.{is_incremental}
+use Rattle.papaya_raw.specs.declared.machines.answer.Called.TheVariants as called
+use Rattle.papaya_raw.specs.declared.machines.answer.KeyAnswer.{KeyAnswer}
+use Rattle.papaya_raw.specs.declared.machines.answer.KeyAnswer.TheVariants as answers
 use Rattle.papaya_rule.specs.Chart.{Chart}
 use Rattle.papaya_rule.specs.Words.{Blocks}
 use Rattle.papaya_points.specs.Steps.{AreLawful}
 use Rattle.papaya_alone.specs.Counting.{IsCounted}
+use Rattle.papaya_callers.specs.Kind.{Kind}
 use Rattle.papaya_callers.specs.Sights.{Sight}
+use Rattle.papaya_late.specs.Kinds.{Fits, TellsFit}
 use Rattle.papaya_whole.specs.Contents.{AreContents}
 use Rattle.papaya_whole.specs.Owner.{AtRest}
+use Rattle.papaya_owned.specs.declared.machines.Stop.{Stop}
+use Rattle.papaya_owned.specs.declared.machines.Stop.TheVariants as stop
+use Rattle.seize_words.specs.declared.fault.Fault.{Fault}
 
 -- the hash that a hasher gives to what a key writes
 abbrev pub hashed_by : {K S H : Type 0} → (H → ℕ) → (H → List ℕ → H) → (S → H) → (K → List (List ℕ)) → S → K → ℕ
@@ -36,6 +45,7 @@ module _ {K V : Type 0} (same : K → K → Bool) (hash : K → ℕ) (setting : 
     pub lawful : AreLawful same hash
     pub initial : IsPowerOfTwo setting.initial
     pub one_shard : setting.mask ≡ 0
+    pub incremental : is_incremental setting.mode ≡ true
     pub size : setting.batch_size < 2 ^ 64
     pub world : World (Node K V)
     pub chart : Chart K
@@ -50,3 +60,25 @@ module _ {K V : Type 0} (same : K → K → Bool) (hash : K → ℕ) (setting : 
 abbrev pub IsWordOf : {K V : Type 0} → (K → Bool) → Mem (Node K V) → List (K × V) → Option ℕ → Type 0
 IsWordOf keys m xs None = found_by keys xs ≡ None
 IsWordOf {K} {V} keys m xs (Some word) = (k : K) × (v : V) × (value_at m (block_in word) ≡ Some (node.Pair k v)) × (found_by keys xs ≡ Some (k, v))
+
+-- a pair stands in the block of this word
+abbrev pub NamesAPair : {K V : Type 0} → Mem (Node K V) → ℕ → Type 0
+NamesAPair {K} {V} m word = (k : K) × (v : V) × (value_at m (block_in word) ≡ Some (node.Pair k v))
+
+module _ {K V : Type 0} (same : K → K → Bool) (hash : K → ℕ) (setting : Setting) (m : Mem (Node K V)) (kind : Kind) (pair : Option (Node K V)) (keys : K → Bool) (xs : List (K × V)) where
+  -- What a call that was begun with this pair, if with one, has come to, by its answer: the pairs that the map had, and has.
+  abbrev pub AnswersBy : KeyAnswer → Type 0
+  AnswersBy answers.Absent = (found_by keys xs ≡ None) × Holds same hash setting m xs
+  AnswersBy (answers.Found word) =
+      (j : K) × (v : V) × (found_by keys xs ≡ Some (j, v)) × (value_at m (block_in word) ≡ Some (node.Pair j v)) × Holds same hash setting m xs
+  AnswersBy (answers.Stored word) =
+      (found_by keys xs ≡ None) × (j : K) × (v : V) × (pair ≡ Some (node.Pair j v)) × (value_at m (block_in word) ≡ Some (node.Pair j v)) × Holds same hash setting m (xs ++ ((j, v) ∷ []))
+  AnswersBy (answers.Replaced old new) =
+      (x : K × V) × (found_by keys xs ≡ Some x) × NamesAPair m old × (j : K) × (v : V) × (pair ≡ Some (node.Pair j v)) × (value_at m (block_in new) ≡ Some (node.Pair j v))
+      × Holds same hash setting m (left_by keys xs ++ ((j, v) ∷ []))
+  AnswersBy (answers.Removed word) = (x : K × V) × (found_by keys xs ≡ Some x) × NamesAPair m word × Holds same hash setting m (left_by keys xs)
+
+  abbrev pub EndsBy : Result Stop Fault → Type 0
+  EndsBy (Ok (stop.Answered answer)) = Fits kind.present kind.absent kind.takes answer × AnswersBy answer
+  EndsBy (Ok (stop.Asks asked)) = TellsFit kind.present kind.absent kind.takes {T = Node K V} (called.Asks asked)
+  EndsBy (Err fault) = Holds same hash setting m xs

@@ -1,1 +1,2 @@
--- Proofs.
+-- Lemmas on maps for one owner.
+mod Makes

@@ -1,1 +1,1 @@
--- Definitions.
+pub mod Maps

@@ -1,0 +1,34 @@
+-- Keys whose hashes come from what they write are lawful, and so is what stands for them.
+use Rattle.std.specs.Cmp.{IsEquivalence}
+use Rattle.std.specs.Prelude.{◌%◌, fold, IsTrue}
+use Rattle.std.proofs.Common.{◌≡◌, ℕ, ◌+◌, ◌<◌, ◌^◌, Bool, true, List, ap, arith, sym, subst}
+use Rattle.std.proofs.Math.Nat.{mod-lt}
+use Rattle.papaya_tables.specs.Probes.{triangular}
+use Rattle.papaya_rule.specs.Maps.{IsClass, spot_at}
+use Rattle.papaya_points.specs.Steps.{AreLawful}
+use Rattle.papaya_owned.specs.Owned.{hashed_by}
+
+module _ {K S H : Type 0} (eq : K → K → Bool) (finish : H → ℕ) (write : H → List ℕ → H) (build : S → H) (input : K → List (List ℕ)) (hasher : S) where
+  number : List (List ℕ) → ℕ
+  number written = finish (fold write (build hasher) written)
+
+  pub are_lawful : IsEquivalence eq → ((x y : K) → eq x y ≡ true → input x ≡ input y) → AreLawful eq (hashed_by finish write build input hasher)
+  are_lawful classes respects = record {
+    lawful = record {
+      classes = classes;
+      respects = λ len j k other alike. ap (λ (written : List (List ℕ)). spot_at len (finish (fold write (build hasher) written) % 2 ^ 64) j) (respects k other alike);
+      within = λ len j k some. mod-lt (hashed_by finish write build input hasher k + triangular j) some;
+    };
+    fits = λ k. word (finish (fold write (build hasher) (input k)));
+  }
+    where
+      word : (n : ℕ) → n % 2 ^ 64 < 2 ^ 64
+      word n = omega arith
+
+  -- what stands for keys is of one class with them
+  pub is_class : {Q : Type 0} (asks : Q → K → Bool) (q_input : Q → List (List ℕ)) → ((asked : Q) (key : K) → IsTrue (asks asked key) → q_input asked ≡ input key)
+      → ((asked : Q) (key other : K) → IsTrue (asks asked key) → asks asked other ≡ eq key other) → (asked : Q) → IsClass eq (hashed_by finish write build input hasher) (asks asked) (hashed_by finish write build q_input hasher asked)
+  is_class asks q_input hashes ones asked = record {
+    hashes = λ k is. ap (λ (written : List (List ℕ)). finish (fold write (build hasher) written) % 2 ^ 64) (sym (hashes asked k is));
+    one = λ k other is. ones asked k other is;
+  }

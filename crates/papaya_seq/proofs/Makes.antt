@@ -1,0 +1,55 @@
+-- A map is made.
+use Rattle.std.specs.Prelude.{◌≡◌, ℕ, max, Bool, true, List, [], ◌∷◌, Some, Result, Ok, Err, IfOk}
+use Rattle.std.specs.Int.{IsPowerOfTwo}
+use Rattle.std.proofs.Common.{refl, sym, subst, arith}
+use Rattle.seize_words.specs.Mem.{Mem, word_at}
+use Rattle.seize_words.specs.declared.at.At.TheVariants.{Root, Used}
+use Rattle.seize_words.specs.declared.fault.Fault.{Fault}
+use Rattle.seize.specs.World.{IsInside, Inside, Vacant}
+use Rattle.seize_alone.specs.Alone.{History, IsHistory, nothing_yet, registered}
+use Rattle.seize_alone.proofs.Laws.{histories_begin}
+use Rattle.seize_rule.proofs.Rows.Others.{with_here}
+use Rattle.papaya_tables.specs.Lengths.{IsTableLen}
+use Rattle.papaya_tables.specs.Nodes.{deferred_word}
+use Rattle.papaya_tables.specs.declared.node.Node.{Node}
+use Rattle.papaya_tables.specs.declared.resize_mode.ResizeMode.TheVariants.{Incremental}
+use Rattle.papaya_tables.specs.declared.setting.Setting.{Setting}
+use Rattle.papaya_resize.specs.NewMap.{opening, new_map_plan}
+use Rattle.papaya_resize.specs.declared.new_map.NewMap.{NewMap}
+use Rattle.papaya_points.specs.Steps.{AreLawful}
+use Rattle.papaya_owned.specs.Ending.{Ends, RunsTo}
+use Rattle.papaya_owned.specs.Owned.{Holds}
+use Rattle.papaya_owned.proofs.Owned.Making.{Opens, Made, opens_first, opens_end, runs_made}
+
+module _ {K V : Type 0} (same : K → K → Bool) (hash : K → ℕ) (lawful : AreLawful same hash) (slot places initial : ℕ) (is : initial ≡ max places 1) (power : IsPowerOfTwo (max places 1))
+    (table : IsTableLen (max places 8)) (m : Mem (Node K V)) (h : History) (had : IsHistory deferred_word 32 1 m h) (inside : IsInside (h.uses slot)) (root : word_at m (Root 0) ≡ Some 0)
+    (used : word_at m (Used 0) ≡ Some 0) where
+  abbrev setting : Setting
+  setting = record { slot = slot; batch_size = 32; root = 0; mode = Incremental 64; counter = 0; mask = 0; initial = initial }
+
+  abbrev power_of : IsPowerOfTwo setting.initial
+  power_of = subst IsPowerOfTwo (sym is) power
+
+  first : Opens same hash lawful setting power_of (omega arith) places m h (opening setting 1 places) m
+  first = opens_first same hash lawful setting power_of (omega arith) places m h had inside root used (λ few. table)
+
+  pub begins_ends : (n : NewMap) → n ≡ opening setting 1 places → Ends (new_map_plan {K = K} {V = V}) n m
+  begins_ends n e = subst (λ (x : NewMap). Ends (new_map_plan {K = K} {V = V}) x m) (sym e) (opens_end same hash lawful setting power_of (omega arith) places m h (opening setting 1 places) m first)
+
+  made_ok : (m2 : Mem (Node K V)) (result : Result Setting Fault) → Made same hash lawful setting power_of (omega arith) places m h refl (omega arith) refl m2 result → IfOk result (λ s. Holds same hash s m2 [])
+  made_ok m2 (Ok s) made = made
+  made_ok m2 (Err fault) made = tt
+
+  pub begins_holds : (n : NewMap) → n ≡ opening setting 1 places → (n2 : NewMap) (m2 : Mem (Node K V)) (result : Result Setting Fault) → RunsTo (new_map_plan {K = K} {V = V}) n m n2 m2 result
+      → IfOk result (λ s. Holds same hash s m2 [])
+  begins_holds n e n2 m2 result runs =
+      made_ok m2 result
+      (runs_made same hash lawful setting power_of (omega arith) places m h refl (omega arith) refl (opening setting 1 places) m n2 m2 result
+      (subst (λ (x : NewMap). RunsTo (new_map_plan {K = K} {V = V}) x m n2 m2 result) e runs) first)
+
+-- nothing has happened, and then the slot was taken
+pub nothing_happened : {K V : Type 0} (m : Mem (Node K V)) → m ≡ record { roots = 0 ∷ []; used = 0 ∷ []; slots = []; blocks = []; choices = [] } → IsHistory deferred_word 32 1 m nothing_yet
+nothing_happened {K} {V} m e = subst (λ (x : Mem (Node K V)). IsHistory deferred_word 32 1 x nothing_yet) (sym e) (histories_begin (deferred_word {K = K} {V = V}) 32 1)
+
+pub taken_inside : (slot : ℕ) → IsInside ((registered true slot nothing_yet).uses slot)
+taken_inside slot = subst IsInside (sym (with_here (λ s. Vacant) slot (Inside 0))) tt

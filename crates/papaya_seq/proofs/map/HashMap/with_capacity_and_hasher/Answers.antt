@@ -1,0 +1,13 @@
+-- Nothing has happened to its memory before.
+use Rattle.seize_alone.specs.Alone.{nothing_yet, registered}
+use Rattle.std.proofs.Common.{true}
+use Rattle.papaya_seq.proofs.Makes.{nothing_happened, taken_inside}
+use Rattle.papaya_seq.proofs.map.HashMap.with_capacity_and_hasher.Goals as goal
+
+pub register-requires : goal.register-requires
+register-requires g c = (32, 1, nothing_yet, nothing_happened {K = g.row.K.Denot} {V = g.row.V.Denot} c.in_ok-memory.memory c.in_ok-memory.ensures)
+
+pub begin-requires-clause-history : goal.begin-requires-clause-history
+begin-requires-clause-history g c =
+    let t = c.in_ok-slot.ensures.told 32 1 nothing_yet (nothing_happened {K = g.row.K.Denot} {V = g.row.V.Denot} c.in_ok-memory.memory c.in_ok-memory.ensures) in
+    (registered true c.in_ok-slot.slot nothing_yet, t.1, taken_inside c.in_ok-slot.slot)
