@@ -4,6 +4,7 @@
 mod making;
 mod map;
 mod refused;
+mod sweeps;
 
 pub use map::HashMap;
 pub use papaya_tables::Equivalent;

@@ -39,3 +39,16 @@ module _ {K V S : Type 0} (same : K → K → Bool) (hashes : S → K → ℕ) (
 
   pub clearing_by : (x : OverPairs S) (m : Mem (Node K V)) (result : Result Pause Fault) → RunsTo (over_pairs_plan {V = V} hashes) (record { sweep = p; hasher = b }) m0 x m result → ClearedBy same (hashes b.now) setting m xs result
   clearing_by x m result runs = cleared x m result (comes_to same hashes b setting m0 xs h Clears clears_not_walks [] _ m0 x m result runs begun)
+
+  done_by : (m : Mem (Node K V)) (end : Pause) → ClearedBy same (hashes b.now) setting m xs (Ok end) → Holds same (hashes b.now) setting m []
+  done_by m pause.Ended c = c
+  done_by m pause.Ready c = absurd c
+  done_by m (pause.Shows word) c = absurd c
+  done_by m (pause.Asks word) c = absurd c
+
+  -- so it is where it is done, however it says so
+  pub clearing_done : (x : OverPairs S) (m : Mem (Node K V)) (end : Pause) → RunsTo (over_pairs_plan {V = V} hashes) (record { sweep = p; hasher = b }) m0 x m (Ok end) → Holds same (hashes b.now) setting m []
+  clearing_done x m end runs = done_by m end (clearing_by x m (Ok end) runs)
+
+  pub clearing_refused : (x : OverPairs S) (m : Mem (Node K V)) (fault : Fault) → RunsTo (over_pairs_plan {V = V} hashes) (record { sweep = p; hasher = b }) m0 x m (Err fault) → Holds same (hashes b.now) setting m xs
+  clearing_refused x m fault runs = clearing_by x m (Err fault) runs
