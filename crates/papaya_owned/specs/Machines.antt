@@ -1,6 +1,5 @@
 -- What a step of each machine does that one owner runs.
-use Rattle.std.specs.Prelude.{ℕ, Bool, Option, Some, None}
-use denote.Ref.{Bor}
+use Rattle.std.specs.Prelude.{ℕ, Bool, Option, Some}
 use Rattle.seize_words.specs.Plan.{Plan, plan_as}
 use Rattle.seize.specs.Leave.{leave_plan}
 use Rattle.seize.specs.declared.progress.Progress.{Progress}

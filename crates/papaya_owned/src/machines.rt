@@ -63,8 +63,7 @@ impl<K: Drop, V: Drop, Q, S> OnKey<'_, K, V, Q, S> {
 }
 
 impl<K: Eq + Hash + Drop, V: Drop, Q: Equivalent<K>, S: Hashes<K>> Machine<Node<K, V>>
-    for OnKey<'_, K, V, Q, S>
-{
+    for OnKey<'_, K, V, Q, S> {
     ghost use Rattle.papaya_owned.specs.Machines.{on_key_plan};
 
     type Progress = Progress<Stop>;

@@ -9,7 +9,10 @@ use std::marker::PhantomData;
 use std::snapshot::Snapshot;
 
 /// How many steps there are still at most, where each run comes to an end.
-fn most<T, A, M: Machine<T, Progress = Progress<A>>>(machine: &M, memory: &Plain<T>) -> Most<T, A, M>
+fn most<T, A, M: Machine<T, Progress = Progress<A>>>(
+    machine: &M,
+    memory: &Plain<T>,
+) -> Most<T, A, M>
     requires { Ends M.Machine.plan machine.now memory.now }
     ensures machine { result.machine.value ≡ machine.now }
     ensures memory { result.memory.value ≡ memory.now }

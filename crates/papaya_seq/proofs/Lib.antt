@@ -1,2 +1,4 @@
 -- Lemmas on maps for one owner.
+mod Looks
 mod Makes
+mod Removals

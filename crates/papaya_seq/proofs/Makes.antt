@@ -1,5 +1,5 @@
 -- A map is made.
-use Rattle.std.specs.Prelude.{◌≡◌, ℕ, max, Bool, true, List, [], ◌∷◌, Some, Result, Ok, Err, IfOk}
+use Rattle.std.specs.Prelude.{◌≡◌, ℕ, max, Bool, true, [], ◌∷◌, Some, Result, Ok, Err, IfOk}
 use Rattle.std.specs.Int.{IsPowerOfTwo}
 use Rattle.std.proofs.Common.{refl, sym, subst, arith}
 use Rattle.seize_words.specs.Mem.{Mem, word_at}

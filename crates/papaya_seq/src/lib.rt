@@ -1,6 +1,9 @@
 //! A hash map for one owner: its calls run the map's machines to the end, over a memory and a collector of its own.
 #![tactic(auto)]
 
+mod changes;
+mod counting;
+mod lookups;
 mod making;
 mod map;
 mod refused;

@@ -87,11 +87,7 @@ impl<K: Eq + Hash + Drop, V: Drop, S: BuildHasher + Drop> HashMap<K, V, S> {
 
     /// A map with no pair, with room for so many, and with this hasher. The faults are `Fault::Capacity`, where that is too many, and
     /// `Fault::Memory`.
-    pub fn with_capacity_and_hasher(
-        alloc: Global,
-        capacity: u64,
-        hasher: S,
-    ) -> Result<Self, Fault>
+    pub fn with_capacity_and_hasher(alloc: Global, capacity: u64, hasher: S) -> Result<Self, Fault>
         ensures { IfOk result (λ map. HasPairs K.eq (hashed_by S.Hasher.finish S.Hasher.write S.build_hasher K.hash_input) map []) }
     {
         let places = places_for(capacity)?;

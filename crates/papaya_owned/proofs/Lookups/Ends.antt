@@ -3,7 +3,7 @@ use Rattle.std.specs.Prelude.{◌≡◌, ◌≢◌, ◌⊎◌, ℕ, ◌<◌, Boo
 use Rattle.std.proofs.Common.{refl, sym, ◌∙◌, ap, subst, arith, inl, inr}
 use Rattle.seize_words.specs.Mem.{Mem, Can, Took, Gives, value_at}
 use Rattle.seize_words.specs.Op.{Op, Out, Load}
-use Rattle.seize_words.specs.Plan.{Then, Plan, Do, Turn, Now, May, MaySee, Steps, Ends as Comes}
+use Rattle.seize_words.specs.Plan.{Then, Do, Turn, Now, May, MaySee, Steps, Ends as Comes}
 use Rattle.seize_words.specs.declared.at.At.{At}
 use Rattle.seize_words.specs.declared.fault.Fault.{Fault}
 use Rattle.seize_words.specs.declared.lent.Lent.{Lent}
@@ -26,7 +26,7 @@ use Rattle.papaya_rule.specs.Lasts.{Lasts}
 use Rattle.papaya_rule.specs.Maps.{spot_of}
 use Rattle.papaya_rule.specs.Words.{Blocks}
 use Rattle.papaya_tables.specs.Chunks.{is_incremental}
-use Rattle.papaya_points.specs.FactsLooks.{LookupFacts, LookingFacts}
+use Rattle.papaya_points.specs.FactsLooks.{LookingFacts}
 use Rattle.papaya_points.specs.Measures.{IsBelow, EndsFrom, ends}
 use Rattle.papaya_points.specs.MeasuresLooks.{number_of_lookup, number_at_looking}
 use Rattle.papaya_points.specs.Told.{LookupTold}
@@ -95,11 +95,11 @@ module _ {K V : Type 0} (same : K → K → Bool) (hash : K → ℕ) (keys : K �
   two_numbers : (l l2 : Lookup) → length (number_of_lookup c l2) ≡ length (number_of_lookup c l)
   two_numbers l l2 = two l2.stands ∙ sym (two l.stands)
     where
-    two : (stands : Looking) → length (number_at_looking c stands) ≡ 2
-    two at.Roots = refl
-    two (at.Probes trial) = refl
-    two (at.Nexts table) = refl
-    two (at.Over found) = refl
+      two : (stands : Looking) → length (number_at_looking c stands) ≡ 2
+      two at.Roots = refl
+      two (at.Probes trial) = refl
+      two (at.Nexts table) = refl
+      two (at.Over found) = refl
 
   goes_here : (l l2 : Lookup) → LooksHere l → (told : Progress (Option ℕ)) → GoesOn told → (m2 : Mem (Node K V)) → m2 ≡ m → TellsHere (l2, told)
       → Steps Took value_at m (lookup_plan keys l) m2 (l2, told) → LooksHere l2 × IsBelow (number_of_lookup c l2) (number_of_lookup c l)
@@ -126,11 +126,11 @@ module _ {K V : Type 0} (same : K → K → Bool) (hash : K → ℕ) (keys : K �
       → Steps Took value_at m (lookup_plan keys l) m (l2, told) → LooksHere l2 × GoesOn told
   looks_on l l2 h told more s = by_told told more (looks_tell l h m (l2, told) s).1
     where
-    by_told : (told : Progress (Option ℕ)) → ((found : Option ℕ) → told ≢ progress.Done found) → TellsHere (l2, told) → LooksHere l2 × GoesOn told
-    by_told progress.Goes more tells = (on_here l h l2 tells, tt)
-    by_told progress.Waits more tells = absurd tells
-    by_told (progress.Done found) more tells = absurd (more found refl)
-    by_told (progress.Refused fault) more tells = absurd tells
+      by_told : (told : Progress (Option ℕ)) → ((found : Option ℕ) → told ≢ progress.Done found) → TellsHere (l2, told) → LooksHere l2 × GoesOn told
+      by_told progress.Goes more tells = (on_here l h l2 tells, tt)
+      by_told progress.Waits more tells = absurd tells
+      by_told (progress.Done found) more tells = absurd (more found refl)
+      by_told (progress.Refused fault) more tells = absurd tells
 
 -- over a memory that is lent
 module _ {T : Type 0} where
@@ -144,7 +144,6 @@ module _ {T : Type 0} where
   shown_lent x = value_at x.memory.now
 
 module _ {T R : Type 0} (lent : Lent T) where
-
   lent_load : (at : At) (rest : Out T → Then T R) → May Can Took value_at lent.memory.now (Do (Load at) rest) → May CanLent TookLent shown_lent lent (Do (Load at) rest)
   lent_load at rest may = (may.0, λ out n took. subst (λ (x : Lent T). MaySee (shown_lent x) (rest out)) (sym took.1) (may.1 out lent.memory.now (took.0, refl)))
 
@@ -187,10 +186,10 @@ goes_so _ = Unit {0}
 pub not_done : {A : Type 0} (told : Progress A) → (told ≡ progress.Goes) ⊎ ((told ≡ progress.Waits) ⊎ ((fault : Fault) × (told ≡ progress.Refused fault))) → (a : A) → told ≢ progress.Done a
 not_done {A} told more a is = subst (goes_so {A = A}) is (by_more more)
   where
-  by_more : (told ≡ progress.Goes) ⊎ ((told ≡ progress.Waits) ⊎ ((fault : Fault) × (told ≡ progress.Refused fault))) → goes_so told
-  by_more (inl e) = subst (goes_so {A = A}) (sym e) tt
-  by_more (inr (inl e)) = subst (goes_so {A = A}) (sym e) tt
-  by_more (inr (inr (fault, e))) = subst (goes_so {A = A}) (sym e) tt
+    by_more : (told ≡ progress.Goes) ⊎ ((told ≡ progress.Waits) ⊎ ((fault : Fault) × (told ≡ progress.Refused fault))) → goes_so told
+    by_more (inl e) = subst (goes_so {A = A}) (sym e) tt
+    by_more (inr (inl e)) = subst (goes_so {A = A}) (sym e) tt
+    by_more (inr (inr (fault, e))) = subst (goes_so {A = A}) (sym e) tt
 
 -- the least bound is lower after a step
 pub lower_asked : {K V Q : Type 0} (asks : Q → K → Bool) (n : ℕ) (m m0 : Mem (Node K V)) (l l0 : Lookup) (q q0 : Q) → m0 ≡ m → l0 ≡ l → q0 ≡ q → IsLeast (λ k. within (lookup_plan (asks q0)) k l0 m0) n

@@ -1,6 +1,6 @@
 -- Where a memory shows one map by two ways of looking, the pairs of the map stand in the same blocks.
-use Rattle.std.specs.Prelude.{◌≡◌, ◌≢◌, ℕ, zero, suc, ◌+◌, ◌-◌, ◌*◌, ◌<◌, ◌≤◌, ◌^◌, ◌⊎◌, Bool, true, false, cond, List, [], Option, Some, None}
-use Rattle.std.proofs.Common.{refl, sym, ◌∙◌, ap, subst, arith, inl, inr, ⊎_elim, eqb, ltb}
+use Rattle.std.specs.Prelude.{◌≡◌, ℕ, zero, suc, ◌+◌, ◌-◌, ◌*◌, ◌<◌, ◌≤◌, ◌^◌, Bool, true, false, cond, [], Option, Some, None}
+use Rattle.std.proofs.Common.{sym, ◌∙◌, ap, subst, arith, ⊎_elim, eqb, ltb}
 use Rattle.std.proofs.lemmas.Bool.Decides.{nat_tests}
 use Rattle.std.proofs.lemmas.Bool.{cases_lt, eqb-true, false_from_ne_true}
 use Rattle.seize_words.specs.Mem.{Mem, word_at}
@@ -10,7 +10,7 @@ use Rattle.papaya_tables.specs.declared.node.Node.{Node}
 use Rattle.papaya_rule.specs.Chart.{Chart, Phase, Place, Empty, Holds}
 use Rattle.papaya_rule.specs.Maps.{spot_of}
 use Rattle.papaya_rule.specs.Rule.{Rule}
-use Rattle.papaya_rule.specs.Words.{Blocks, Shows, root_word, next_word, place_word}
+use Rattle.papaya_rule.specs.Words.{Blocks, Shows, place_word}
 use Rattle.papaya_callers.proofs.Asked.By.{block_of_word}
 
 same_word : (x y : ℕ) → ◌≡◌ {A = Option ℕ} (Some x) (Some y) → x ≡ y
@@ -53,8 +53,8 @@ module _ {K V : Type 0} (same : K → K → Bool) (hash : K → ℕ) (fits : (k 
       same_times _ _ (cond_so (ltb (suc t) c.past) (blocks.table (suc t) * 2048) (blocks2.table (suc t) * 2048) 0 (below_so t c.past made)
       (same_word _ _ (sym p ∙ ap (λ x. word_at m (Word x NEXT)) before ∙ q)))
     where
-    below_so : (t past : ℕ) → suc t < past → ltb (suc t) past ≡ true
-    below_so t past l = grind (arith, nat_tests, l)
+      below_so : (t past : ℕ) → suc t < past → ltb (suc t) past ≡ true
+      below_so t past l = grind (arith, nat_tests, l)
 
   -- the pairs of the map
   pub pair_same : (o : ℕ) → c.current o ≡ true → blocks2.pair o ≡ blocks.pair o

@@ -1,5 +1,5 @@
 -- A whole call on one key, from the list of pairs to the list of pairs.
-use Rattle.std.specs.Prelude.{◌≡◌, ◌≢◌, ℕ, ◌+◌, ◌%◌, ◌^◌, ◌⊎◌, ◌<◌, ◌/◌, Bool, true, false, List, [], ◌∷◌, ◌++◌, Option, Some, None, Result, Ok, Err}
+use Rattle.std.specs.Prelude.{◌≡◌, ℕ, ◌+◌, ◌%◌, ◌^◌, ◌<◌, Bool, true, List, [], ◌∷◌, ◌++◌, Option, Some, None, Result, Ok, Err}
 use Rattle.std.proofs.Common.{refl, sym, ◌∙◌, ap, subst, arith, inl, inr}
 use Rattle.std.proofs.lemmas.Bool.{true≢false}
 use denote.Ref.{Bor}
@@ -18,16 +18,14 @@ use Rattle.papaya_rule.specs.Chart.{Chart, Phase, Holds as HoldsPair, Still}
 use Rattle.papaya_rule.specs.Words.{Blocks, place_word}
 use Rattle.papaya_rule.specs.InWorld.{IsMapIn}
 use Rattle.papaya_points.specs.FactsCalls.{Change, Unchanged, Stored, Replaced, Removed, Tells}
-use Rattle.papaya_points.specs.Steps.{AreLawful}
 use Rattle.papaya_alone.specs.Counted.{HasAdded, counted_at}
-use Rattle.papaya_alone.specs.Counting.{IsCounted}
-use Rattle.papaya_callers.specs.Pairs.{Given, Begun, kind_of}
+use Rattle.papaya_callers.specs.Pairs.{Begun}
 use Rattle.papaya_callers.specs.Kind.{Kind}
 use Rattle.papaya_callers.specs.Sights.{Sight}
-use Rattle.papaya_callers.specs.Together.{Ground, Together, IsBegun, AnswersOnce, in_slot}
+use Rattle.papaya_callers.specs.Together.{Together, IsBegun, in_slot}
 use Rattle.papaya_callers.proofs.Asked.By.{block_of_word}
 use Rattle.papaya_whole.specs.AtEnd.{AnswersSo}
-use Rattle.papaya_whole.specs.Contents.{AreContents, HasPairFor, pair_for, without}
+use Rattle.papaya_whole.specs.Contents.{AreContents, pair_for, without}
 use Rattle.papaya_whole.specs.Owner.{AtRest}
 use Rattle.papaya_whole.proofs.Contents.AtEnd.{answers_tell_the_pairs}
 use Rattle.papaya_whole.proofs.Contents.Follow.{contents_follow}
@@ -38,7 +36,7 @@ use Rattle.papaya_owned.specs.Owned.{Holds, AnswersBy, EndsBy, NamesAPair, found
 use Rattle.papaya_owned.specs.declared.machines.OnKey.{OnKey}
 use Rattle.papaya_owned.specs.declared.machines.Stop.{Stop}
 use Rattle.papaya_owned.specs.declared.machines.Stop.TheVariants as stop
-use Rattle.papaya_owned.proofs.Owned.Keys.{Under, Course, OfKind, Answered, IsRefused, ComesTo, it}
+use Rattle.papaya_owned.proofs.Owned.Keys.{Under, OfKind, Answered, IsRefused, ComesTo}
 use Rattle.papaya_owned.proofs.Owned.Lookups.{found_is, left_is}
 
 -- The owner rests, whatever the next call is asked with.
@@ -67,10 +65,10 @@ module _ {K V S : Type 0} (same : K → K → Bool) (hashes : S → K → ℕ) (
   abbrev slot_of : ℕ → ℕ
   slot_of i = setting.slot
 
-  abbrev map0 : IsMapIn same hash setting h.world h.chart h.blocks
+  abbrev pub map0 : IsMapIn same hash setting h.world h.chart h.blocks
   map0 = h.rests.together.ground.map
 
-  abbrev UnderIt : OnKey K V K S → Mem (Node K V) → Type 0
+  abbrev pub UnderIt : OnKey K V K S → Mem (Node K V) → Type 0
   UnderIt = Under {Q = K} same same hashes b setting h.lawful h.initial h.world.memory h.chart h.blocks map0.map.rule (same k) (Begun kind pair)
 
   nothing_added : (s : ℕ) → s % 2 ^ 64 ≡ (s + 0) % 2 ^ 64
@@ -201,9 +199,16 @@ module _ {K V S : Type 0} (same : K → K → Bool) (hashes : S → K → ℕ) (
       let t = told m (answers.Stored word) a in let s = t.2 in let i = s.5 in
       (found ∙ s.0, s.2, s.3, sym s.6.2 ∙ i.3, at_word m (answers.Stored word) a word s.1 i.0 i.1 i.2 s.2 s.3 i.3, subst (HoldsIt m) s.4 (holds_at m (answers.Stored word) a t.0 t.1))
   answered_by m (answers.Replaced old new) a =
-      let t = told m (answers.Replaced old new) a in let s = t.2 in let i = s.6 in let p = s.1 in
-      ((p.0, p.1), found ∙ p.3, old_of m old new a, s.3, s.4, sym s.8.2 ∙ i.3, at_word m (answers.Replaced old new) a new s.2 i.0 i.1 i.2 s.3 s.4 i.3,
-      subst (HoldsIt m) (s.5 ∙ ap (λ z. z ++ ((s.3, s.4) ∷ [])) (sym left)) (holds_at m (answers.Replaced old new) a t.0 t.1))
+      let t = told m (answers.Replaced old new) a in let s = t.2 in let i = s.6 in let p = s.1 in (
+        (p.0, p.1),
+        found ∙ p.3,
+        old_of m old new a,
+        s.3,
+        s.4,
+        sym s.8.2 ∙ i.3,
+        at_word m (answers.Replaced old new) a new s.2 i.0 i.1 i.2 s.3 s.4 i.3,
+        subst (HoldsIt m) (s.5 ∙ ap (λ z. z ++ ((s.3, s.4) ∷ [])) (sym left)) (holds_at m (answers.Replaced old new) a t.0 t.1),
+      )
   answered_by m (answers.Removed word) a =
       let t = told m (answers.Removed word) a in let s = t.2 in let p = s.1 in
       ((p.0, p.1), found ∙ p.3, gone_of m word a, subst (HoldsIt m) (s.2 ∙ sym left) (holds_at m (answers.Removed word) a t.0 t.1))

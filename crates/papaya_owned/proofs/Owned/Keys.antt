@@ -1,7 +1,7 @@
 -- A call on one key of one owner's map, run to its end.
-use Rattle.std.specs.Prelude.{◌≡◌, ◌≢◌, ℕ, ◌⊎◌, ◌^◌, ◌<◌, Bool, true, List, [], ◌∷◌, Option, Some, None, Result, Ok, Err}
+use Rattle.std.specs.Prelude.{◌≡◌, ℕ, Bool, true, Option, Some, Result, Ok, Err}
 use Rattle.std.specs.Int.{IsPowerOfTwo}
-use Rattle.std.proofs.Common.{refl, sym, ◌∙◌, ap, subst, inl, inr}
+use Rattle.std.proofs.Common.{refl, sym, ap, subst}
 use denote.Ref.{Bor}
 use Rattle.seize_words.specs.Mem.{Mem, Can, Took, value_at}
 use Rattle.seize_words.specs.Op.{Op, Out}
@@ -35,7 +35,7 @@ use Rattle.papaya_callers.specs.Together.{CallOnKey, OnKey as OnKeyOf, AnswersOn
 use Rattle.papaya_rule.specs.InWorld.{IsMapIn}
 use Rattle.papaya_whole.specs.Contents.{HasRun}
 use Rattle.papaya_whole.specs.Owner.{AtRest, IsAlone}
-use Rattle.papaya_whole.specs.Whole.{GoesOn as CallGoesOn, StepsOn, StepLeads, Leads}
+use Rattle.papaya_whole.specs.Whole.{GoesOn as CallGoesOn, StepsOn, StepLeads}
 use Rattle.papaya_whole.proofs.Keys.Whole.{calls_go_on_alone}
 use Rattle.papaya_whole.proofs.Keys.Ends.{calls_come_to_an_end}
 use Rattle.papaya_owned.specs.Ending.{GoesOn, Tells, Ends, all_end, RunsTo, stops, goes}
@@ -274,9 +274,9 @@ module _ {K V Q S : Type 0} (same : K → K → Bool) (asks : Q → K → Bool) 
   stopped : (x2 : OnKey K V Q S) (m2 : Mem (Node K V)) (told : Progress Stop) (result : Result Stop Fault) → Next x2 m2 told → Tells told result → ComesTo m2 result
   stopped x2 m2 (progress.Done a) (Ok b) next tells = subst (λ z. ComesTo m2 (Ok z)) (sym tells) (done a next)
     where
-    done : (a : Stop) → Next x2 m2 (progress.Done a) → ComesTo m2 (Ok a)
-    done (stop.Answered answer) next = next
-    done (stop.Asks asked) next = next
+      done : (a : Stop) → Next x2 m2 (progress.Done a) → ComesTo m2 (Ok a)
+      done (stop.Answered answer) next = next
+      done (stop.Asks asked) next = next
   stopped x2 m2 (progress.Refused f) (Err g) next tells = next
   stopped x2 m2 (progress.Refused f) (Ok b) next tells = absurd tells
   stopped x2 m2 (progress.Done a) (Err g) next tells = absurd tells

@@ -1,7 +1,7 @@
 -- Keys whose hashes come from what they write are lawful, and so is what stands for them.
 use Rattle.std.specs.Cmp.{IsEquivalence}
 use Rattle.std.specs.Prelude.{◌%◌, fold, IsTrue}
-use Rattle.std.proofs.Common.{◌≡◌, ℕ, ◌+◌, ◌<◌, ◌^◌, Bool, true, List, ap, arith, sym, subst}
+use Rattle.std.proofs.Common.{◌≡◌, ℕ, ◌+◌, ◌<◌, ◌^◌, Bool, true, List, ap, arith, sym}
 use Rattle.std.proofs.Math.Nat.{mod-lt}
 use Rattle.papaya_tables.specs.Probes.{triangular}
 use Rattle.papaya_rule.specs.Maps.{IsClass, spot_at}

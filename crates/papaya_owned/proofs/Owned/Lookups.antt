@@ -1,7 +1,6 @@
 -- What a lookup finds is the pair of its keys in the list.
-use Rattle.std.specs.Prelude.{◌≡◌, ℕ, zero, suc, ◌<◌, ◌^◌, Bool, true, false, List, [], ◌∷◌, ◌++◌, Option, Some, None, if◌then◌else◌}
-use Rattle.std.proofs.Common.{refl, sym, ◌∙◌, ap, subst, arith, inl, inr}
-use Rattle.std.specs.Prelude.{◌/◌}
+use Rattle.std.specs.Prelude.{◌≡◌, ℕ, zero, suc, Bool, true, false, List, [], ◌∷◌, ◌++◌, Option, Some, None, if◌then◌else◌}
+use Rattle.std.proofs.Common.{refl, sym, ◌∙◌, ap, subst, inl, inr}
 use Rattle.seize_words.specs.Mem.{Mem, value_at}
 use Rattle.seize_words.specs.Word.{block_in}
 use Rattle.seize.specs.World.{World}
@@ -14,10 +13,9 @@ use Rattle.papaya_rule.specs.Words.{Blocks}
 use Rattle.papaya_rule.specs.Maps.{IsClass, IsAbsent, IsMap}
 use Rattle.papaya_rule.specs.InWorld.{IsMapIn}
 use Rattle.papaya_points.specs.Steps.{AreLawful}
-use Rattle.papaya_points.specs.FactsLooks.{Answers}
 use Rattle.papaya_points.proofs.Calls.StepsTold.{lookups_begin}
 use Rattle.papaya_callers.proofs.Asked.By.{block_of_word}
-use Rattle.papaya_whole.specs.Contents.{ContentsBelow, AreContents, pair_for, without}
+use Rattle.papaya_whole.specs.Contents.{ContentsBelow, pair_for, without}
 use Rattle.papaya_whole.proofs.Contents.Answers.{present_below}
 use Rattle.papaya_whole.proofs.Contents.Below.{decided, ends_with, as_before, has_pair, same_key}
 use Rattle.papaya_rule.proofs.World.Hands.{current_known}
@@ -29,10 +27,10 @@ module _ {K V : Type 0} where
   found_append keys [] ys none = refl
   found_append keys (x ∷ xs) ys none = by (keys x.0) refl none (found_append keys xs ys)
     where
-    by : (b : Bool) → keys x.0 ≡ b → (if b then Some x else found_by keys xs) ≡ None → (found_by keys xs ≡ None → found_by keys (xs ++ ys) ≡ found_by keys ys)
-        → (if b then Some x else found_by keys (xs ++ ys)) ≡ found_by keys ys
-    by true e none more = absurd (cc none)
-    by false e none more = more none
+      by : (b : Bool) → keys x.0 ≡ b → (if b then Some x else found_by keys xs) ≡ None → (found_by keys xs ≡ None → found_by keys (xs ++ ys) ≡ found_by keys ys)
+          → (if b then Some x else found_by keys (xs ++ ys)) ≡ found_by keys ys
+      by true e none more = absurd (cc none)
+      by false e none more = more none
 
   -- by the test of a class
   pub found_is : (same : K → K → Bool) (k : K) (keys : K → Bool) → ((j : K) → keys j ≡ same k j) → (xs : List (K × V)) → found_by keys xs ≡ pair_for same k xs
@@ -81,7 +79,7 @@ module _ {K V : Type 0} (same : K → K → Bool) (hash : K → ℕ) (setting : 
       v,
       subst (λ (x : Mem (Node K V)). value_at x (block_in word) ≡ Some (node.Pair k v)) h.memory (ap (value_at h.world.memory) is ∙ block),
       found_is same k keys (λ j. class.one k j of) xs
-      ∙ present_below same hash h.lawful setting h.world h.chart h.blocks map_there k n now k v block (sym (class.one k k of) ∙ of) h.chart.stored xs h.are (current_known same hash setting h.world h.chart h.blocks map_there.map.rule map_there.map.shows n now).0,
+          ∙ present_below same hash h.lawful setting h.world h.chart h.blocks map_there k n now k v block (sym (class.one k k of) ∙ of) h.chart.stored xs h.are (current_known same hash setting h.world h.chart h.blocks map_there.map.rule map_there.map.shows n now).0,
     )
 
     pub finds_word : (found : Option ℕ) → Finds same hash keys h.chart h.blocks (looking setting.root setting.mode code) found → IsWordOf keys m xs found

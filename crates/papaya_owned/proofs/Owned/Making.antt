@@ -1,5 +1,5 @@
 -- The map of one owner is made: then it rests, with no pair.
-use Rattle.std.specs.Prelude.{◌≡◌, ◌≢◌, ℕ, zero, suc, ◌+◌, ◌%◌, ◌^◌, ◌<◌, ◌≤◌, ◌⊎◌, max, Bool, true, false, List, [], ◌∷◌, ◌++◌, Option, Some, None, Result, Ok, Err}
+use Rattle.std.specs.Prelude.{◌≡◌, ℕ, zero, suc, ◌+◌, ◌^◌, ◌<◌, ◌≤◌, max, Bool, true, false, List, [], ◌∷◌, ◌++◌, Option, Some, None, Result, Ok, Err}
 use Rattle.std.specs.Int.{IsPowerOfTwo}
 use Rattle.std.proofs.Common.{refl, sym, ◌∙◌, ap, subst, arith, inl, inr, ⊎_elim}
 use Rattle.seize_words.specs.Mem.{Mem, Can, Took, value_at, word_at}
@@ -26,21 +26,21 @@ use Rattle.papaya_points.specs.Steps.{AreLawful}
 use Rattle.papaya_points.proofs.Making.NewTable.{links_current}
 use Rattle.papaya_alone.specs.Counting.{IsCounted, one_if, pairs_in}
 use Rattle.papaya_alone.specs.FactsAloneCalls.{RestsAlone}
-use Rattle.papaya_alone.proofs.Lone.Beside.{rests_first, rests_linked}
+use Rattle.papaya_alone.proofs.Lone.Beside.{rests_linked}
 use Rattle.papaya_callers.specs.Together.{CameAbout, Together}
 use Rattle.papaya_callers.specs.Sights.{Sight}
 use Rattle.papaya_rule.specs.Words.{Blocks}
 use Rattle.papaya_points.specs.Told.{OnlyLinks}
 use Rattle.papaya_whole.proofs.Contents.Below.{none_last}
 use Rattle.papaya_callers.proofs.Together.Users.{events_uses, events_rows}
-use Rattle.papaya_finishes.specs.Makings.{Beginning, HasRoots, IsMade, IsNewChart, MakingsTogether, StepsOfMaking}
+use Rattle.papaya_finishes.specs.Makings.{Beginning, HasRoots, IsNewChart, MakingsTogether, StepsOfMaking}
 use Rattle.papaya_finishes.specs.Maps.{Standing}
 use Rattle.papaya_finishes.proofs.Beside.Makings.Promised.{no_makings_begin, makings_begin, makings_stand}
 use Rattle.papaya_finishes.proofs.Beside.Maps.Comes.{no_maps_begin}
 use Rattle.papaya_maps.specs.AloneBegins.{IsOpening, OpensTo}
 use Rattle.papaya_maps.specs.MeasuresBegins.{new_map_left}
 use Rattle.papaya_maps.proofs.Laws.{maps_may_begin, maps_go_on, beginnings_come_nearer}
-use Rattle.papaya_whole.specs.Contents.{ContentsBelow, AreContents}
+use Rattle.papaya_whole.specs.Contents.{ContentsBelow}
 use Rattle.papaya_whole.specs.Owner.{AtRest}
 use Rattle.papaya_owned.specs.Ending.{GoesOn, Tells, Ends, all_end, RunsTo, stops, goes}
 use Rattle.papaya_owned.specs.Owned.{Holds}
@@ -200,13 +200,13 @@ module _ {K V : Type 0} (same : K → K → Bool) (hash : K → ℕ) (lawful : A
     pub runs_made : (n : NewMap) (m : Mem (Node K V)) (n2 : NewMap) (m2 : Mem (Node K V)) (result : Result Setting Fault) → RunsTo (new_map_plan {K = K} {V = V}) n m n2 m2 result → Opens n m → Made m2 result
     runs_made n m n2 m2 result (stops _ _ _ _ told _ s tells) o = by_told told result s tells
       where
-      by_told : (told : Progress Setting) (result : Result Setting Fault) → Steps Took value_at m (new_map_plan n) m2 (n2, told) → Tells told result → Made m2 result
-      by_told (progress.Done begun) (Ok b) s tells = subst (λ (x : Setting). Holds same hash x m2 []) (sym tells) (done_holds n m o m2 n2 begun s)
-      by_told (progress.Done begun) (Err f) s tells = absurd tells
-      by_told told (Err f) s tells = tt
-      by_told progress.Goes (Ok b) s tells = absurd tells
-      by_told progress.Waits (Ok b) s tells = absurd tells
-      by_told (progress.Refused f) (Ok b) s tells = absurd tells
+        by_told : (told : Progress Setting) (result : Result Setting Fault) → Steps Took value_at m (new_map_plan n) m2 (n2, told) → Tells told result → Made m2 result
+        by_told (progress.Done begun) (Ok b) s tells = subst (λ (x : Setting). Holds same hash x m2 []) (sym tells) (done_holds n m o m2 n2 begun s)
+        by_told (progress.Done begun) (Err f) s tells = absurd tells
+        by_told told (Err f) s tells = tt
+        by_told progress.Goes (Ok b) s tells = absurd tells
+        by_told progress.Waits (Ok b) s tells = absurd tells
+        by_told (progress.Refused f) (Ok b) s tells = absurd tells
     runs_made n m n2 m2 result (goes _ _ n1 m1 told on s _ _ _ runs) o = runs_made n1 m1 n2 m2 result runs (opens_on n m o m1 n1 told on s).0
 
   -- it begins where nothing else has happened but that the owner's slot was taken
@@ -218,8 +218,8 @@ module _ {K V : Type 0} (same : K → K → Bool) (hash : K → ℕ) (lawful : A
     roots_there : HasRoots start 1
     roots_there r l = (0, subst (λ x. word_at m0 (Used x) ≡ Some 0) (first r l) used, λ e. subst (λ x. word_at m0 (Root x) ≡ Some 0) (first r l) root)
       where
-      first : (r : ℕ) → r < 1 → 0 ≡ r
-      first r l = omega (arith, l)
+        first : (r : ℕ) → r < 1 → 0 ≡ r
+        first r l = omega (arith, l)
 
     pub opens_first : Opens (opening setting 1 places) m0
     opens_first = record {

@@ -1,18 +1,17 @@
 -- The owner's section is refreshed: the map rests then, with the same pairs.
-use Rattle.std.specs.Prelude.{◌≡◌, ◌≢◌, ℕ, zero, suc, ◌+◌, ◌%◌, ◌^◌, ◌<◌, ◌==◌, ◌⊎◌, Bool, true, false, List, [], ◌∷◌, length, Option, Some, None, Result, Ok, Err, if◌then◌else◌, nat_lt}
+use Rattle.std.specs.Prelude.{◌≡◌, ◌≢◌, ℕ, zero, suc, ◌+◌, ◌%◌, ◌^◌, ◌<◌, ◌==◌, Bool, true, false, List, [], ◌∷◌, length, Option, None, Result, Ok, Err, if◌then◌else◌, nat_lt}
 use Rattle.std.proofs.Common.{refl, sym, ◌∙◌, ap, subst, arith, inl, inr, eqb}
 use Rattle.std.specs.Prelude.{cond}
 use Rattle.std.proofs.lemmas.Bool.{eqb-true, eqb-false, eq-eqb, false_from_ne_true}
 use Rattle.seize_words.specs.Mem.{Mem, Can, Took, value_at, with_word}
-use Rattle.seize_words.specs.Op.{Found}
-use Rattle.seize_words.specs.Plan.{Plan, Now, May, Steps, Ends as Comes}
+use Rattle.seize_words.specs.Plan.{Plan, Now, May, Steps}
 use Rattle.seize_words.specs.declared.at.At.TheVariants.{Slot}
 use Rattle.seize_words.specs.declared.fault.Fault.{Fault}
 use Rattle.seize_words.proofs.OneOwner.Operations.{swapped, stored}
 use Rattle.seize_words.proofs.Plans.{ends_if}
 use Rattle.seize.specs.Leave.{leave_plan, plan_at as leave_plan_at, list_taken, settled, counted_down, standing, leaving as leaving_slot}
 use Rattle.seize.specs.Settle.{settle_plan, counting_down}
-use Rattle.seize.specs.World.{World, Row, Rests, Leaves, Refresh, Begin, Step, Steps', MayStep, IsInside, Vacant, Outside, Inside, Changing, Use, leaves_on, left_as, left_row, with_at, with_row, with_use, at_start}
+use Rattle.seize.specs.World.{World, Row, Rests, Leaves, Refresh, Steps', MayStep, IsInside, Vacant, Outside, Inside, Changing, Use, leaves_on, left_as, left_row, with_row, with_use, at_start}
 use Rattle.seize.specs.declared.progress.Progress.{Progress}
 use Rattle.seize.specs.declared.progress.Progress.TheVariants as progress
 use Rattle.seize.specs.declared.rows.leave.Leave.{Leave}
@@ -29,9 +28,8 @@ use Rattle.seize_rule.proofs.Rows.Known.{works_on}
 use Rattle.seize_moves.proofs.State.Ghost.{Head}
 use Rattle.seize_waiting.specs.Held.{count, same as same_number}
 use Rattle.seize_alone.proofs.Histories.Reached.{Reached}
-use Rattle.seize_rule.proofs.World.Rested.{Lone}
 use Rattle.seize_rule.proofs.World.Start.{start_good}
-use Rattle.seize_alone.proofs.Histories.NotTaken.{IsKept, kept_value}
+use Rattle.seize_alone.proofs.Histories.NotTaken.{kept_value}
 use Rattle.seize_ends.proofs.Batches.Rows.{HeldByRows, start_held, runs_held}
 use Rattle.seize_ends.proofs.Rows.Lone.{leave_to_go, leaves_lower}
 use Rattle.seize_ends.proofs.Settling.Most.{is_going}
@@ -39,21 +37,18 @@ use Rattle.papaya_tables.specs.Nodes.{deferred_word}
 use Rattle.papaya_tables.specs.Chunks.{is_incremental}
 use Rattle.papaya_tables.specs.declared.node.Node.{Node}
 use Rattle.papaya_tables.specs.declared.setting.Setting.{Setting}
-use Rattle.papaya_rule.specs.Chart.{Chart}
 use Rattle.papaya_rule.specs.InWorld.{IsMapIn}
 use Rattle.papaya_rule.specs.Words.{Blocks}
-use Rattle.papaya_points.specs.Steps.{AreLawful}
 use Rattle.papaya_alone.specs.Counted.{HasAdded}
 use Rattle.papaya_alone.specs.Counting.{IsCounted}
 use Rattle.papaya_callers.specs.Sights.{Sight}
-use Rattle.papaya_callers.specs.Together.{CameAbout, Together, UnderWay, AllStand}
+use Rattle.papaya_callers.specs.Together.{CameAbout, Together, AllStand}
 use Rattle.papaya_callers.proofs.Rows.Keep.{kept_block, used_kept}
 use Rattle.papaya_callers.proofs.Together.Came.{came_reached}
 use Rattle.papaya_callers.proofs.Together.Guards.{guards_stand_together}
 use Rattle.papaya_callers.proofs.Together.Rows.{map2}
 use Rattle.papaya_whole.proofs.Contents.Below.{below_stays}
 use Rattle.papaya_whole.proofs.Rows.Shards.{row_shards}
-use Rattle.papaya_whole.specs.Owner.{AtRest}
 use Rattle.papaya_owned.specs.Ending.{GoesOn, Tells, Ends, all_end, RunsTo, stops, goes}
 use Rattle.papaya_owned.specs.Machines.{refreshes_plan, refreshes_after, refreshes_settled}
 use Rattle.papaya_owned.specs.Owned.{Holds}
@@ -113,8 +108,8 @@ inside_at_rest defers size w r rests s in_it =
     inside_none (w.uses s) _ _ _ (r.good.used.fits s)
     (none_counted (r.good.used.team s) (λ i. r.good.used.teamed s i ∙ ap (λ x. same_number (s + 1) (works_on x)) (rests i) ∙ none_here s)) in_it
   where
-  none_here : (s : ℕ) → same_number (s + 1) (works_on Rests) ≡ 0
-  none_here s = ap (λ b. cond b 1 0) (false_from_ne_true (eqb (s + 1) 0) (λ z. let e = eqb-true (s + 1) 0 z in omega (arith, e)))
+    none_here : (s : ℕ) → same_number (s + 1) (works_on Rests) ≡ 0
+    none_here s = ap (λ b. cond b 1 0) (false_from_ne_true (eqb (s + 1) 0) (λ z. let e = eqb-true (s + 1) 0 z in omega (arith, e)))
 
 module _ {K V : Type 0} (same : K → K → Bool) (hash : K → ℕ) (setting : Setting) (m0 : Mem (Node K V)) (xs : List (K × V)) (h : Holds same hash setting m0 xs) where
   abbrev slot_of : ℕ → ℕ
@@ -199,16 +194,17 @@ module _ {K V : Type 0} (same : K → K → Bool) (hash : K → ℕ) (setting : 
         added = added2 m2 (d, o) s;
       },
       subst (λ (x : Mem (Node K V)). leave_to_go deferred_word m2 d < leave_to_go deferred_word x r.leave) at.memory
-      (leaves_lower deferred_word setting.batch_size 0 at.w (record { good = came_good.good; sized = came_good.sized; others = at.others }) held r.leave at.row m2 d o (steps_at m2 (d, o) s) going),
+          (leaves_lower deferred_word setting.batch_size 0 at.w (record { good = came_good.good; sized = came_good.sized; others = at.others }) held r.leave at.row m2 d o (steps_at m2 (d, o) s) going),
     )
       where
-      came_good : Reached deferred_word setting.batch_size at.w
-      came_good = came_reached setting.batch_size at.w at.together.ground.came
-      held : HeldByRows at.w
-      held =
-          let came = at.together.ground.came in
-          runs_held (deferred_word {K = K} {V = V}) setting.batch_size came.1 (at_start deferred_word came.0) at.w (start_good (deferred_word {K = K} {V = V}) (LAST_SLOT + 1) setting.batch_size came.0) (λ i. tt) came.2
-          (start_held (deferred_word {K = K} {V = V}) setting.batch_size came.0)
+        came_good : Reached deferred_word setting.batch_size at.w
+        came_good = came_reached setting.batch_size at.w at.together.ground.came
+
+        held : HeldByRows at.w
+        held =
+            let came = at.together.ground.came in
+            runs_held (deferred_word {K = K} {V = V}) setting.batch_size came.1 (at_start deferred_word came.0) at.w (start_good (deferred_word {K = K} {V = V}) (LAST_SLOT + 1) setting.batch_size came.0) (λ i. tt) came.2
+            (start_held (deferred_word {K = K} {V = V}) setting.batch_size came.0)
 
     -- it has ended
     has_ended : (m2 : Mem (Node K V)) (d : Leave) (s : Steps Took value_at m (leave_plan deferred_word r.leave) m2 (d, settling.Done)) → Holds same hash setting m2 xs
@@ -235,29 +231,29 @@ module _ {K V : Type 0} (same : K → K → Bool) (hash : K → ℕ) (setting : 
       are = below_stays same h.world.memory m2 h.chart h.chart h.blocks (stand2 m2 (d, settling.Done) s).0 h.chart.stored xs (λ o l. refl) (λ o l is. stays2 m2 (d, settling.Done) s o is) h.are;
     }
       where
-      rows_rest : (i : ℕ) (b : Bool) → eqb i 0 ≡ b → (w2 m2 (d, settling.Done) s).row i ≡ Rests
-      rows_rest i true e = subst (λ x. (w2 m2 (d, settling.Done) s).row x ≡ Rests) (sym (eqb-true i 0 e)) (with_here at.w.row 0 Rests)
-      rows_rest i false e = others2 m2 (d, settling.Done) s i (eqb-false i 0 e)
+        rows_rest : (i : ℕ) (b : Bool) → eqb i 0 ≡ b → (w2 m2 (d, settling.Done) s).row i ≡ Rests
+        rows_rest i true e = subst (λ x. (w2 m2 (d, settling.Done) s).row x ≡ Rests) (sym (eqb-true i 0 e)) (with_here at.w.row 0 Rests)
+        rows_rest i false e = others2 m2 (d, settling.Done) s i (eqb-false i 0 e)
 
-      inside_if : (b : Bool) (u : Use) → b ≡ true → IsInside (if b then Inside 0 else u)
-      inside_if true u e = tt
-      inside_if false u e = absurd (cc e)
+        inside_if : (b : Bool) (u : Use) → b ≡ true → IsInside (if b then Inside 0 else u)
+        inside_if true u e = tt
+        inside_if false u e = absurd (cc e)
 
-      inside_over : (stands : Leaving) → stands ≡ leaving.Over → IsInside (left_as r.leave stands (at.w.uses r.leave.slot))
-      inside_over stands e =
-          subst (λ x. IsInside (left_as r.leave x (at.w.uses r.leave.slot))) (sym e)
-          (inside_if (r.leave.becomes == ACTIVE) (if r.leave.frees then at.w.uses r.leave.slot else Outside 0) (eq-eqb r.leave.becomes ACTIVE at.becomes_is))
+        inside_over : (stands : Leaving) → stands ≡ leaving.Over → IsInside (left_as r.leave stands (at.w.uses r.leave.slot))
+        inside_over stands e =
+            subst (λ x. IsInside (left_as r.leave x (at.w.uses r.leave.slot))) (sym e)
+            (inside_if (r.leave.becomes == ACTIVE) (if r.leave.frees then at.w.uses r.leave.slot else Outside 0) (eq-eqb r.leave.becomes ACTIVE at.becomes_is))
 
-      inside2 : IsInside ((w2 m2 (d, settling.Done) s).uses setting.slot)
-      inside2 =
-          subst (λ x. IsInside ((w2 m2 (d, settling.Done) s).uses x)) at.slot_is
-          (subst IsInside (sym (with_here at.w.uses r.leave.slot (left_as r.leave r.leave.stands (at.w.uses r.leave.slot)))) (inside_over r.leave.stands ((keeps m2 (d, settling.Done) s).2 refl)))
+        inside2 : IsInside ((w2 m2 (d, settling.Done) s).uses setting.slot)
+        inside2 =
+            subst (λ x. IsInside ((w2 m2 (d, settling.Done) s).uses x)) at.slot_is
+            (subst IsInside (sym (with_here at.w.uses r.leave.slot (left_as r.leave r.leave.stands (at.w.uses r.leave.slot)))) (inside_over r.leave.stands ((keeps m2 (d, settling.Done) s).2 refl)))
 
-      no_more : (s : ℕ) → (s + 0) % 2 ^ 64 ≡ s % 2 ^ 64
-      no_more s = ap (λ x. x % 2 ^ 64) (omega arith)
+        no_more : (s : ℕ) → (s + 0) % 2 ^ 64 ≡ s % 2 ^ 64
+        no_more s = ap (λ x. x % 2 ^ 64) (omega arith)
 
-      same_count : HasAdded setting h.world.memory 0 m2 → IsCounted setting h.world.memory h.chart → IsCounted setting m2 h.chart
-      same_count had counted = had ∙ no_more _ ∙ counted
+        same_count : HasAdded setting h.world.memory 0 m2 → IsCounted setting h.world.memory h.chart → IsCounted setting m2 h.chart
+        same_count had counted = had ∙ no_more _ ∙ counted
 
   -- where a step of the machine leads, by what it tells
   abbrev Next : Refreshes → Mem (Node K V) → Mem (Node K V) → Refreshes → Progress Unit → Type 0
@@ -341,5 +337,5 @@ module _ {K V : Type 0} (same : K → K → Bool) (hash : K → ℕ) (setting : 
     added = none_added _;
   }
     where
-    none_added : (s : ℕ) → s % 2 ^ 64 ≡ (s + 0) % 2 ^ 64
-    none_added s = ap (λ x. x % 2 ^ 64) (omega arith)
+      none_added : (s : ℕ) → s % 2 ^ 64 ≡ (s + 0) % 2 ^ 64
+      none_added s = ap (λ x. x % 2 ^ 64) (omega arith)

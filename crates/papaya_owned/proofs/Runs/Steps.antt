@@ -1,7 +1,7 @@
 -- Where each run comes to an end, a number bounds them, and each step leaves a lower one.
-use Rattle.std.specs.Prelude.{◌≡◌, ◌≢◌, ℕ, zero, suc, ◌<◌, ◌≤◌, ◌+◌, ◌==◌, ◌&&◌, ◌^◌, ◌⊎◌, Bool, true, false, cond, length, Option, Some, None, Ok, Err}
+use Rattle.std.specs.Prelude.{◌≡◌, ℕ, zero, suc, ◌<◌, ◌≤◌, ◌+◌, ◌==◌, ◌&&◌, ◌^◌, ◌⊎◌, Bool, true, false, cond, length, Option, Some, None, Ok, Err}
 use Rattle.std.proofs.Common.{refl, sym, ◌∙◌, ap, subst, arith, ⊎_elim, inl, inr}
-use Rattle.std.proofs.lemmas.Bool.{eqb-true, eqb-false, eq-eqb, false≢true, cases_lt, false_from_ne_true}
+use Rattle.std.proofs.lemmas.Bool.{eqb-true, eq-eqb, false≢true, cases_lt}
 use Rattle.seize_words.specs.Mem.{Mem, Can, Took, Gives, after, block_of, value_at, word_at}
 use Rattle.seize_words.specs.Op.{Op, Out, Load, Store, Swap, Add, Or, Exchange, Make, Take, Rewrite, Room, Found, Stored, Exchanged, Made, Taken, Roomed}
 use Rattle.seize_words.specs.Place.{capacity}
@@ -144,11 +144,12 @@ module _ (so : ℕ → Bool) where
   searched zero = inl (λ k l. absurd (omega (arith, l)))
   searched (suc n) = ⊎_elim (λ none. search_at n none (so n) refl) inr (searched n)
     where
-    below_suc : (n k : ℕ) → ((j : ℕ) → j < n → so j ≡ false) → so n ≡ false → k < suc n → so k ≡ false
-    below_suc n k none at l = ⊎_elim (none k) (λ le. ap so (let e : k ≡ n = omega (arith, l, le) in e) ∙ at) (cases_lt k n)
-    search_at : (n : ℕ) → ((k : ℕ) → k < n → so k ≡ false) → (b : Bool) → so n ≡ b → ((k : ℕ) → k < suc n → so k ≡ false) ⊎ HasLeast so
-    search_at n none true is = inr (n, (is, none))
-    search_at n none false is = inl (λ k l. below_suc n k none is l)
+      below_suc : (n k : ℕ) → ((j : ℕ) → j < n → so j ≡ false) → so n ≡ false → k < suc n → so k ≡ false
+      below_suc n k none at l = ⊎_elim (none k) (λ le. ap so (let e : k ≡ n = omega (arith, l, le) in e) ∙ at) (cases_lt k n)
+
+      search_at : (n : ℕ) → ((k : ℕ) → k < n → so k ≡ false) → (b : Bool) → so n ≡ b → ((k : ℕ) → k < suc n → so k ≡ false) ⊎ HasLeast so
+      search_at n none true is = inr (n, (is, none))
+      search_at n none false is = inl (λ k l. below_suc n k none is l)
 
   pub least_of : HasBound so → HasLeast so
   least_of (n, is) = ⊎_elim (λ none. (n, (is, none))) (λ l. l) (searched n)

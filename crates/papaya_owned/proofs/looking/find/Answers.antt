@@ -1,8 +1,4 @@
 -- Its steps over the memory that is lent are those over the memory.
-use Rattle.std.proofs.Common.{sym, subst}
-use Rattle.seize_words.specs.Mem.{Mem, Took, value_at}
-use Rattle.papaya_resize.specs.Lookup.{lookup_plan}
-use Rattle.papaya_owned.proofs.Runs.Steps.{less}
 use Rattle.papaya_owned.proofs.Lookups.Ends.{looks_may, looks_tell, looks_end, looks_on, may_lent, steps_lent, not_done, lower_asked}
 use Rattle.papaya_owned.proofs.looking.find.Goals as goal
 

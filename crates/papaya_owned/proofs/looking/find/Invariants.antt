@@ -1,7 +1,5 @@
 use Rattle.std.proofs.Common.{◌≡◌, ℕ}
-use Rattle.papaya_owned.specs.Ending.{Ends}
 use Rattle.papaya_owned.specs.Looking.{LooksIn}
-use Rattle.papaya_resize.specs.Lookup.{lookup_plan}
 use Rattle.papaya_rule.specs.Chart.{Chart}
 use Rattle.papaya_rule.specs.Words.{Blocks}
 use Rattle.papaya_owned.proofs.looking.find.Given as goal

@@ -1,4 +1,4 @@
-use Rattle.std.proofs.Common.{◌≡◌, ℕ, Result}
+use Rattle.std.proofs.Common.{◌≡◌, Result}
 use Rattle.seize_words.specs.Mem.{Mem}
 use Rattle.seize_words.specs.declared.fault.Fault.{Fault}
 use Rattle.papaya_owned.specs.Ending.{Ends, RunsTo}

@@ -1,0 +1,48 @@
+-- Lookups of a map for one owner, and the counting of its pairs.
+use Rattle.std.specs.Prelude.{◌≡◌, ℕ, suc, ◌+◌, ◌-◌, ◌%◌, ◌^◌, ◌<◌, Bool, List, length, Option, Some, None, is_some}
+use Rattle.std.proofs.Common.{sym, ◌∙◌, ap, subst, arith}
+use Rattle.seize_words.specs.Mem.{Mem, word_at}
+use Rattle.seize_words.specs.declared.at.At.TheVariants.{Word}
+use Rattle.papaya_tables.specs.Counts.{count_in}
+use Rattle.papaya_tables.specs.declared.node.Node.{Node}
+use Rattle.papaya_tables.specs.declared.setting.Setting.{Setting}
+use Rattle.papaya_resize.specs.Lookup.{looking}
+use Rattle.papaya_resize.specs.declared.lookup.Lookup.{Lookup}
+use Rattle.papaya_rule.specs.Maps.{IsClass}
+use Rattle.papaya_alone.specs.Counting.{shards_sum, number_in}
+use Rattle.papaya_whole.proofs.Contents.Length.{countings_come_to}
+use Rattle.papaya_owned.specs.Looking.{LooksIn, Finds}
+use Rattle.papaya_owned.specs.Owned.{Holds, IsWordOf, found_by}
+use Rattle.papaya_owned.proofs.Owned.Lookups.{look_in, finds_word}
+
+module _ {K V : Type 0} (same : K → K → Bool) (hash : K → ℕ) (setting : Setting) (m : Mem (Node K V)) (xs : List (K × V)) (h : Holds same hash setting m xs) where
+  pub look_ready : (keys : K → Bool) (code : ℕ) → IsClass same hash keys code → (l : Lookup) → l ≡ looking setting.root setting.mode code → LooksIn same hash keys m h.chart h.blocks l l
+  look_ready keys code class l is = subst (λ (x : Lookup). LooksIn same hash keys m h.chart h.blocks x x) (sym is) (look_in same hash setting m xs h keys code class)
+
+  pub look_found : (keys : K → Bool) (code : ℕ) → IsClass same hash keys code → (l : Lookup) → l ≡ looking setting.root setting.mode code → (found : Option ℕ) → Finds same hash keys h.chart h.blocks l found → IsWordOf keys m xs found
+  look_found keys code class l is found so =
+      finds_word same hash setting m xs h keys code class found (subst (λ (x : Lookup). Finds same hash keys h.chart h.blocks x found) is so)
+
+  -- the one shard says how many pairs there are
+  pub shard_there : (count : ℕ) × (word_at m (Word setting.counter 0) ≡ Some count)
+  shard_there = let s = h.rests.together.ground.map.shards 0 (omega arith) in (s.0, subst (λ (x : Mem (Node K V)). word_at x (Word setting.counter 0) ≡ Some s.0) h.memory s.1)
+
+  pub counted_so : (total : ℕ) → total < 2 ^ 64 → word_at m (Word setting.counter 0) ≡ Some total → count_in total ≡ length xs
+  counted_so total fits is =
+      ap count_in (one_word total fits (ap (shards_sum h.world.memory setting.counter) (ap suc h.one_shard) ∙ one_sum)) ∙ countings_come_to same hash setting h.world h.chart h.blocks h.rests.together.ground.map h.counted xs h.are
+    where
+      one_sum : shards_sum h.world.memory setting.counter 1 ≡ total + shards_sum h.world.memory setting.counter 0
+      one_sum = let e = ap number_in (ap (λ (x : Mem (Node K V)). word_at x (Word setting.counter 0)) h.memory ∙ is) in omega (arith, e)
+
+      one_word : (total : ℕ) → total < 2 ^ 64 → shards_sum h.world.memory setting.counter (suc setting.mask) ≡ total + shards_sum h.world.memory setting.counter 0
+          → total ≡ (0 + (shards_sum h.world.memory setting.counter (suc setting.mask) - shards_sum h.world.memory setting.counter 0)) % 2 ^ 64
+      one_word total fits sum = omega (arith, fits, sum)
+
+module _ {K V : Type 0} (keys : K → Bool) (m : Mem (Node K V)) (xs : List (K × V)) where
+  -- by the word that was found
+  pub names_found : (found : Option ℕ) (word : ℕ) → IsWordOf keys m xs found → found ≡ Some word → IsWordOf keys m xs (Some word)
+  names_found found word so is = subst (IsWordOf keys m xs) is so
+
+  pub some_found : (found : Option ℕ) → IsWordOf keys m xs found → is_some found ≡ is_some (found_by keys xs)
+  some_found None so = ap is_some (sym so)
+  some_found (Some word) so = ap is_some (sym so.3)

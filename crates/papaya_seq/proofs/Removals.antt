@@ -1,0 +1,78 @@
+-- Changes of a map for one owner.
+use Rattle.std.specs.Prelude.{◌≡◌, ℕ, ◌^◌, ◌<◌, Bool, true, false, List, [], ◌∷◌, Some, None, Result, Ok, is_some, if◌then◌else◌}
+use Rattle.std.proofs.Common.{refl, sym, ap, subst, inl, inr}
+use denote.Ref.{Bor}
+use Rattle.seize_words.specs.Mem.{Mem}
+use Rattle.seize_words.specs.declared.fault.Fault.{Fault}
+use Rattle.seize.specs.Leave.{leaving}
+use Rattle.seize.specs.declared.rows.leave.Leave.{Leave}
+use Rattle.seize.specs.declared.states.TheConstants.{ACTIVE}
+use Rattle.papaya_tables.specs.Nodes.{deferred_word}
+use Rattle.papaya_tables.specs.declared.node.Node.{Node}
+use Rattle.papaya_tables.specs.declared.setting.Setting.{Setting}
+use Rattle.papaya_raw.specs.CallPoints.{removing}
+use Rattle.papaya_raw.specs.declared.machines.call.KeyCall.{KeyCall}
+use Rattle.papaya_rule.specs.Maps.{IsClass}
+use Rattle.papaya_callers.specs.Kind.{removes}
+use Rattle.papaya_callers.specs.Pairs.{Begun}
+use Rattle.papaya_callers.specs.Together.{Removes}
+use Rattle.papaya_owned.specs.Ending.{Ends, RunsTo}
+use Rattle.papaya_owned.specs.Machines.{on_key_plan, refreshes_plan}
+use Rattle.papaya_owned.specs.Owned.{Holds, EndsBy, found_by, left_by}
+use Rattle.papaya_owned.specs.declared.machines.OnKey.{OnKey}
+use Rattle.papaya_owned.specs.declared.machines.Refreshes.{Refreshes}
+use Rattle.papaya_owned.specs.declared.machines.Stop.{Stop}
+use Rattle.papaya_owned.specs.declared.machines.Stop.TheVariants as stop
+use Rattle.papaya_raw.specs.declared.machines.answer.KeyAnswer.TheVariants as answers
+use Rattle.papaya_seq.specs.Maps.{has_removed}
+use Rattle.papaya_owned.proofs.Owned.Calls.{UnderIt, begins_under, ends_by}
+use Rattle.papaya_owned.proofs.Owned.Keys.{under_ends, comes_to}
+use Rattle.papaya_owned.proofs.Owned.Refreshes.{refreshing_ends, refreshed, begins_refreshing}
+
+module _ {K V : Type 0} (same : K → K → Bool) (hash : K → ℕ) (setting : Setting) (m : Mem (Node K V)) (xs : List (K × V)) (h : Holds same hash setting m xs) (leave : Leave)
+    (is : leave ≡ leaving setting.slot setting.batch_size ACTIVE false) where
+  pub refresh_ends : Ends (refreshes_plan (deferred_word {K = K} {V = V})) (record { leave = leave }) m
+  refresh_ends =
+      subst (λ (x : Leave). Ends (refreshes_plan (deferred_word {K = K} {V = V})) (record { leave = x }) m) (sym is)
+      (refreshing_ends same hash setting m xs h (record { leave = leaving setting.slot setting.batch_size ACTIVE false }) m (begins_refreshing same hash setting m xs h))
+
+  pub refresh_holds : (x : Refreshes) (m2 : Mem (Node K V)) (result : Result Unit Fault) → RunsTo (refreshes_plan (deferred_word {K = K} {V = V})) (record { leave = leave }) m x m2 result → Holds same hash setting m2 xs
+  refresh_holds x m2 result runs =
+      refreshed same hash setting m xs h (record { leave = leaving setting.slot setting.batch_size ACTIVE false }) m x m2 result
+      (subst (λ (y : Leave). RunsTo (refreshes_plan (deferred_word {K = K} {V = V})) (record { leave = y }) m x m2 result) is runs) (begins_refreshing same hash setting m xs h)
+
+module _ {K V S : Type 0} (same : K → K → Bool) (hashes : S → K → ℕ) (b : Bor S) (setting : Setting) (m : Mem (Node K V)) (xs : List (K × V)) (h : Holds same (hashes b.now) setting m xs) (key : K) (code : ℕ)
+    (class : IsClass same (hashes b.now) (same key) code) (fits : code < 2 ^ 64) (call : KeyCall K V K) (is : call ≡ removing setting code key) where
+  under : UnderIt same hashes b setting m xs h key removes None (record { call = call; hasher = b; unstored = None }) m
+  under =
+      subst (λ (c : KeyCall K V K). UnderIt same hashes b setting m xs h key removes None (record { call = c; hasher = b; unstored = None }) m) (sym is)
+      (begins_under same hashes b setting m xs h key removes None (removing setting code key) (Removes key code fits class) refl
+      (refl, refl, record { takes_is = refl; removes = λ e. absurd (cc e); choices = λ e. absurd (cc e) }, (λ e. absurd (cc e)), (λ present absent. cc present)))
+
+  pub removal_ends : Ends (on_key_plan {Q = K} same same hashes) (record { call = call; hasher = b; unstored = None }) m
+  removal_ends = under_ends same same hashes b setting h.lawful h.initial h.world.memory h.chart h.blocks h.rests.together.ground.map.map.rule (same key) (Begun removes None) _ m under
+
+  pub removal_by : (x : OnKey K V K S) (m2 : Mem (Node K V)) (result : Result Stop Fault) → RunsTo (on_key_plan {Q = K} same same hashes) (record { call = call; hasher = b; unstored = None }) m x m2 result
+      → EndsBy same (hashes b.now) setting m2 removes None (same key) xs result
+  removal_by x m2 result runs =
+      ends_by same hashes b setting m xs h key removes None m2 result
+      (comes_to same same hashes b setting h.lawful h.initial h.world.memory h.chart h.blocks h.rests.together.ground.map.map.rule (same key) (Begun removes None) _ m x m2 result runs under)
+
+module _ {K V : Type 0} (same : K → K → Bool) (hash : K → ℕ) (setting : Setting) (m : Mem (Node K V)) (keys : K → Bool) (xs : List (K × V)) where
+  left_none : (ys : List (K × V)) → found_by keys ys ≡ None → left_by keys ys ≡ ys
+  left_none [] none = refl
+  left_none (y ∷ ys) none = by (keys y.0) none (left_none ys)
+    where
+      by : (b : Bool) → (if b then Some y else found_by keys ys) ≡ None → (found_by keys ys ≡ None → left_by keys ys ≡ ys) → (if b then left_by keys ys else y ∷ left_by keys ys) ≡ y ∷ ys
+      by true none more = absurd (cc none)
+      by false none more = ap (λ zs. y ∷ zs) (more none)
+
+  -- what a removal comes to
+  pub removes_by : (s : Stop) → EndsBy same hash setting m removes None keys xs (Ok s) → (has_removed s ≡ is_some (found_by keys xs)) × Holds same hash setting m (left_by keys xs)
+  removes_by (stop.Answered (answers.Removed word)) e = (sym (ap is_some e.1.1), e.1.3)
+  removes_by (stop.Answered answers.Absent) e = (sym (ap is_some e.1.0), subst (Holds same hash setting m) (sym (left_none xs e.1.0)) e.1.1)
+  removes_by (stop.Answered (answers.Found word)) e = absurd (elim e.0 as (λ _. ⊥) [ inl p ↦ cc p | inr p ↦ cc p.0 ])
+  removes_by (stop.Answered (answers.Stored word)) e = absurd (elim e.0 as (λ _. ⊥) [ inl p ↦ cc p | inr p ↦ cc p ])
+  removes_by (stop.Answered (answers.Replaced old new)) e = absurd (elim e.0 as (λ _. ⊥) [ inl p ↦ cc p | inr p ↦ cc p.0 ])
+  removes_by (stop.Asks None) e = absurd (cc e)
+  removes_by (stop.Asks (Some word)) e = absurd (cc e)
