@@ -8,4 +8,5 @@ pub mod Lookups
 pub mod Making
 pub mod Places
 pub mod Refreshes
+pub mod Retains
 pub mod Sweeps
