@@ -9,4 +9,5 @@ pub mod Making
 pub mod Places
 pub mod Refreshes
 pub mod Retains
+pub mod Sifts
 pub mod Sweeps

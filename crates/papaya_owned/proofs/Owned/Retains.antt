@@ -133,6 +133,7 @@ module _ {K V S : Type 0} (same : K → K → Bool) (hashes : S → K → ℕ) (
     pub listed : Contains numbered.0 (number, (key, value))
     pub had : value_at h.world.memory (h.blocks.pair number) ≡ Some (node.Pair key value)
     pub new : times number said.asked ≡ 0
+    pub fresh : times number said.done ≡ 0
     pub fewer : (keeps : Bool) → suc (unasked (said_of said number keeps).asked numbered.0) ≡ unasked said.asked numbered.0
 
   module _ (said : Said) (x : OverPairs S) (m : Mem (Node K V)) (word : ℕ) (u : AsksIt said x m word) where
@@ -158,11 +159,13 @@ module _ {K V S : Type 0} (same : K → K → Bool) (hashes : S → K → ℕ) (
           listed = listed.0;
           had = listed.1;
           new = new;
+          fresh = ap (times about.0) (sym c.done_is) ∙ about.3.1;
           fewer = λ keeps. one_less h.world.memory h.chart h.blocks about.0 said.asked new (c.runs.keeps.were about.0 low names.is_there) h.chart.stored low numbered.0 numbered.1;
         }
 
     -- told, it is under way again
-    pub told : (keeps : Bool) → UnderIt (said_of said about.0 keeps) (record x { sweep = after_reply x.sweep keeps }) m
+    pub told : (keeps : Bool) → UnderIt (said_of said question.number keeps) (record x { sweep = after_reply x.sweep keeps }) m
+    unfolding question
     told keeps =
         let c = u.asking.course in let replied = is_told.replied word about.0 about.1 about.2 u.asking.asks about.3.0 keeps in
         record {
