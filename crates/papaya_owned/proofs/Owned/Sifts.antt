@@ -66,18 +66,21 @@ module _ {K V S : Type 0} (same : K → K → Bool) (hashes : S → K → ℕ) (
         → ComesTo same hashes b setting m0 xs h Retains retains_not_walks s.said x2 m2 result
     came x2 m2 result runs = comes_to same hashes b setting m0 xs h Retains retains_not_walks s.said x m x2 m2 result runs s.under
 
-    pub sifting_asks : (x2 : OverPairs S) (m2 : Mem (Node K V)) (word : ℕ) → RunsTo (over_pairs_plan {V = V} hashes) x m x2 m2 (Ok (pause.Asks word)) → Asking x2 m2 left word
-    sifting_asks x2 m2 word runs = record { said = s.said; asks = came x2 m2 (Ok (pause.Asks word)) runs; left_is = s.left_is; kept = s.kept }
+    ran : (x2 : OverPairs S) (m2 : Mem (Node K V)) (end known : Pause) → end ≡ known → RunsTo (over_pairs_plan {V = V} hashes) x m x2 m2 (Ok end) → ComesTo same hashes b setting m0 xs h Retains retains_not_walks s.said x2 m2 (Ok known)
+    ran x2 m2 end known is runs = came x2 m2 (Ok known) (subst (λ (e : Pause). RunsTo (over_pairs_plan {V = V} hashes) x m x2 m2 (Ok e)) is runs)
 
-    pub sifting_done : (x2 : OverPairs S) (m2 : Mem (Node K V)) → RunsTo (over_pairs_plan {V = V} hashes) x m x2 m2 (Ok pause.Ended) → (test : K → V → Bool) → obeys test
+    pub sifting_asks : (x2 : OverPairs S) (m2 : Mem (Node K V)) (word : ℕ) (end : Pause) → end ≡ pause.Asks word → RunsTo (over_pairs_plan {V = V} hashes) x m x2 m2 (Ok end) → Asking x2 m2 left word
+    sifting_asks x2 m2 word end is runs = record { said = s.said; asks = ran x2 m2 end (pause.Asks word) is runs; left_is = s.left_is; kept = s.kept }
+
+    pub sifting_done : (x2 : OverPairs S) (m2 : Mem (Node K V)) (end : Pause) → end ≡ pause.Ended → RunsTo (over_pairs_plan {V = V} hashes) x m x2 m2 (Ok end) → (test : K → V → Bool) → obeys test
         → Holds same (hashes b.now) setting m2 (filter (λ y. test y.0 y.1) xs)
-    sifting_done x2 m2 runs test so = let d = came x2 m2 (Ok pause.Ended) runs in retained_holds same hashes b setting m0 xs h test s.said d.0 m2 d.1 (s.kept test so)
+    sifting_done x2 m2 end is runs test so = let d = ran x2 m2 end pause.Ended is runs in retained_holds same hashes b setting m0 xs h test s.said d.0 m2 d.1 (s.kept test so)
 
-    pub never_ready : (x2 : OverPairs S) (m2 : Mem (Node K V)) → RunsTo (over_pairs_plan {V = V} hashes) x m x2 m2 (Ok pause.Ready) → ⊥
-    never_ready x2 m2 runs = came x2 m2 (Ok pause.Ready) runs
+    pub never_ready : (x2 : OverPairs S) (m2 : Mem (Node K V)) (end : Pause) → end ≡ pause.Ready → RunsTo (over_pairs_plan {V = V} hashes) x m x2 m2 (Ok end) → ⊥
+    never_ready x2 m2 end is runs = ran x2 m2 end pause.Ready is runs
 
-    pub never_shows : (x2 : OverPairs S) (m2 : Mem (Node K V)) (word : ℕ) → RunsTo (over_pairs_plan {V = V} hashes) x m x2 m2 (Ok (pause.Shows word)) → ⊥
-    never_shows x2 m2 word runs = came x2 m2 (Ok (pause.Shows word)) runs
+    pub never_shows : (x2 : OverPairs S) (m2 : Mem (Node K V)) (word : ℕ) (end : Pause) → end ≡ pause.Shows word → RunsTo (over_pairs_plan {V = V} hashes) x m x2 m2 (Ok end) → ⊥
+    never_shows x2 m2 word end is runs = ran x2 m2 end (pause.Shows word) is runs
 
     pub sifting_refused : (x2 : OverPairs S) (m2 : Mem (Node K V)) (fault : Fault) → RunsTo (over_pairs_plan {V = V} hashes) x m x2 m2 (Err fault) → Holds same (hashes b.now) setting m2 xs
     sifting_refused x2 m2 fault runs = let r = came x2 m2 (Err fault) runs in refused_holds same hashes b setting m0 xs h Retains retains_not_walks s.said r.0 m2 r.1
