@@ -1,9 +1,13 @@
 -- The map of one owner, and its pairs.
 pub mod Blocks
 pub mod Calls
+pub mod Clears
 pub mod Keys
 pub mod Lawful
 pub mod Lookups
 pub mod Making
 pub mod Places
 pub mod Refreshes
+pub mod Retains
+pub mod Sifts
+pub mod Sweeps

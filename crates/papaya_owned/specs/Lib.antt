@@ -2,4 +2,5 @@ pub mod Ending
 pub mod Looking
 pub mod Machines
 pub mod Owned
+pub mod Sweeping
 pub mod Within

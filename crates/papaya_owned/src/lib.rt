@@ -6,7 +6,9 @@ mod machines;
 mod most;
 mod most_looks;
 mod running;
+mod sweeping;
 
 pub use looking::find;
 pub use machines::{ForRoom, OnKey, Refreshes, Stop};
 pub use running::run;
+pub use sweeping::{OverPairs, Pause};

@@ -6,6 +6,7 @@ mod counting;
 mod lookups;
 mod making;
 mod map;
+mod sweeps;
 
 pub use map::HashMap;
 pub use papaya_tables::Equivalent;

@@ -1,0 +1,195 @@
+-- A retaining of one owner's map: what it asks about, how it goes on once it is told, that it asks about fewer and fewer pairs, and what it leaves.
+use Rattle.std.specs.Prelude.{◌≡◌, ◌≢◌, ℕ, zero, suc, ◌+◌, ◌<◌, ◌≤◌, Bool, true, false, cond, nat_lt, not, List, [], ◌∷◌, ◌++◌, length, filter, Contains, Some}
+use Rattle.std.proofs.Common.{refl, sym, ◌∙◌, ap, subst, arith, inl, inr}
+use Rattle.std.proofs.lemmas.Bool.{cases_eq, lt-ltb}
+use Rattle.std.proofs.lemmas.List.{length-append}
+use Rattle.std.proofs.lemmas.List.Elements.{filter-append}
+use denote.Ref.{Bor}
+use Rattle.seize_words.specs.Mem.{Mem, value_at}
+use Rattle.seize_words.specs.Word.{block_in}
+use Rattle.papaya_tables.specs.Chunks.{is_incremental}
+use Rattle.papaya_tables.specs.declared.node.Node.{Node}
+use Rattle.papaya_tables.specs.declared.node.Node.TheVariants as node
+use Rattle.papaya_tables.specs.declared.setting.Setting.{Setting}
+use Rattle.papaya_sweeps.specs.SweepPoints.{after_reply}
+use Rattle.papaya_sweeps.specs.declared.sweep.Purpose.TheVariants.{Walks, Retains}
+use Rattle.papaya_rule.specs.Chart.{Chart}
+use Rattle.papaya_rule.specs.Words.{Blocks}
+use Rattle.papaya_late.specs.Covers.{times}
+use Rattle.papaya_alone.specs.Counting.{pairs_in}
+use Rattle.papaya_callers.specs.OverAll.{CallOverAll, told_of}
+use Rattle.papaya_whole.specs.KeptBy.{KeptBy}
+use Rattle.papaya_whole.specs.SweptPairs.{AreNumbered, NumberedBelow, pairs_of, those, is_done}
+use Rattle.papaya_whole.specs.WholeSweeps.{NamesNew, IsTold}
+use Rattle.papaya_whole.proofs.Contents.Below.{decided}
+use Rattle.papaya_whole.proofs.Contents.KeptBy.{times_here, times_other, kept_at_end}
+use Rattle.papaya_whole.proofs.Contents.Numbered.{numbered_last, numbered_before, numbers_are}
+use Rattle.papaya_whole.proofs.Contents.Swept.{shown, asks_once}
+use Rattle.papaya_whole.proofs.Sweeps.Counting.{telling_counts_nothing, telling_keeps_the_purpose}
+use Rattle.papaya_whole.proofs.Sweeps.ToldOn.{sweeps_told_alone}
+use Rattle.papaya_owned.specs.Owned.{Holds}
+use Rattle.papaya_owned.specs.declared.sweeping.OverPairs.{OverPairs}
+use Rattle.papaya_owned.proofs.Owned.Sweeps.{Said, Under, UnderAsking, IsDone, goes_over_one, holds_at}
+
+pub retains_not_walks : Retains ≡ Walks → ⊥
+retains_not_walks e = cc e
+
+-- it was not told about this pair
+abbrev pub is_new : List ℕ → ℕ → Bool
+is_new asked n = not (is_done asked n)
+
+-- how many of these it was not told about
+abbrev pub unasked : {X : Type 0} → List ℕ → List (ℕ × X) → ℕ
+unasked asked ns = length (those (is_new asked) ns)
+
+one_if : {X : Type 0} (b : Bool) (y : X) → length (cond b (y ∷ []) []) ≡ cond b 1 0
+one_if true y = refl
+one_if false y = refl
+
+unasked_last : {X : Type 0} (asked : List ℕ) (before : List (ℕ × X)) (n : ℕ) (x : X) → unasked asked (before ++ ((n, x) ∷ [])) ≡ unasked asked before + cond (is_new asked n) 1 0
+unasked_last {X} asked before n x =
+    ap length (filter-append (λ y. is_new asked y.0) before ((n, x) ∷ [])) ∙ length-append {A = ℕ × X} (those (is_new asked) before) (cond (is_new asked n) ((n, x) ∷ []) [])
+    ∙ ap (λ k. unasked asked before + k) (one_if {X = ℕ × X} (is_new asked n) (n, x))
+
+-- told about one that is new, it is left with one less
+module _ {K V : Type 0} (m : Mem (Node K V)) (c : Chart K) (blocks : Blocks) (q : ℕ) (asked : List ℕ) (new : times q asked ≡ 0) (here : c.current q ≡ true) where
+  new_then : is_new asked q ≡ true
+  new_then = ap (λ t. not (nat_lt 0 t)) new
+
+  old_now : is_new (q ∷ asked) q ≡ false
+  old_now = ap not (lt-ltb 0 (times q (q ∷ asked)) (let e = times_here q asked in omega (arith, e)))
+
+  other_same : (n : ℕ) → n ≢ q → is_new (q ∷ asked) n ≡ is_new asked n
+  other_same n other = ap (λ t. not (nat_lt 0 t)) (times_other q n asked other)
+
+  same_below : (n : ℕ) → n ≤ q → (ns : List (ℕ × (K × V))) → NumberedBelow m c blocks n ns → unasked (q ∷ asked) ns ≡ unasked asked ns
+  same_below zero low ns is = ap (unasked (q ∷ asked)) is ∙ sym (ap (unasked asked) is)
+  same_below (suc n) low ns below = elim (decided (c.current n)) as (λ _. unasked (q ∷ asked) ns ≡ unasked asked ns) [
+    | inl e ↦
+        (let l = numbered_last m c blocks n ns e below in
+        let ih = same_below n (omega (arith, low)) l.before l.below in
+        let one = ap (unasked (q ∷ asked)) l.is ∙ unasked_last (q ∷ asked) l.before n (l.key, l.value) in
+        let two = ap (unasked asked) l.is ∙ unasked_last asked l.before n (l.key, l.value) in
+        let same = ap {B = ℕ} (λ (b : Bool). cond b 1 0) (other_same n (λ z. omega (arith, z, low))) in
+        omega (arith, ih, one, two, same))
+    | inr e ↦ same_below n (omega (arith, low)) ns (numbered_before m c blocks n ns e below)
+  ]
+
+  pub one_less : (n : ℕ) → q < n → (ns : List (ℕ × (K × V))) → NumberedBelow m c blocks n ns → suc (unasked (q ∷ asked) ns) ≡ unasked asked ns
+  one_less zero low ns is = absurd (omega (arith, low))
+  one_less (suc n) low ns below = elim (decided (c.current n)) as (λ _. suc (unasked (q ∷ asked) ns) ≡ unasked asked ns) [
+    | inl e ↦
+        (let l = numbered_last m c blocks n ns e below in
+        let one = ap (unasked (q ∷ asked)) l.is ∙ unasked_last (q ∷ asked) l.before n (l.key, l.value) in
+        let two = ap (unasked asked) l.is ∙ unasked_last asked l.before n (l.key, l.value) in
+        elim (cases_eq n q) as (λ _. suc (unasked (q ∷ asked) ns) ≡ unasked asked ns) [
+          | inl is ↦
+              (let same = same_below n (omega (arith, is)) l.before l.below in
+              let then = ap {B = ℕ} (λ (b : Bool). cond b 1 0) (ap (is_new asked) is ∙ new_then) in
+              let now = ap {B = ℕ} (λ (b : Bool). cond b 1 0) (ap (is_new (q ∷ asked)) is ∙ old_now) in
+              omega (arith, one, two, same, then, now))
+          | inr other ↦
+              (let ih = one_less n (omega (arith, low, other)) l.before l.below in
+              let same = ap {B = ℕ} (λ (b : Bool). cond b 1 0) (other_same n other) in
+              omega (arith, one, two, ih, same))
+        ])
+    | inr e ↦ elim (cases_eq n q) as (λ _. suc (unasked (q ∷ asked) ns) ≡ unasked asked ns) [
+      | inl is ↦ absurd (let t : true ≡ false = sym here ∙ sym (ap c.current is) ∙ e in cc t)
+      | inr other ↦ one_less n (omega (arith, low, other)) ns (numbered_before m c blocks n ns e below)
+    ]
+  ]
+
+-- from what the map held
+module _ {K V S : Type 0} (same : K → K → Bool) (hashes : S → K → ℕ) (b : Bor S) (setting : Setting) (m0 : Mem (Node K V)) (xs : List (K × V)) (h : Holds same (hashes b.now) setting m0 xs) where
+  abbrev hash : K → ℕ
+  hash = hashes b.now
+
+  abbrev slot_of : ℕ → ℕ
+  slot_of i = setting.slot
+
+  abbrev pub UnderIt : Said → OverPairs S → Mem (Node K V) → Type 0
+  UnderIt = Under same hashes b setting m0 xs h Retains retains_not_walks
+
+  abbrev pub AsksIt : Said → OverPairs S → Mem (Node K V) → ℕ → Type 0
+  AsksIt = UnderAsking same hashes b setting m0 xs h Retains retains_not_walks
+
+  abbrev pub DoneIt : Said → CallOverAll → Mem (Node K V) → Type 0
+  DoneIt = IsDone same hashes b setting m0 xs h Retains retains_not_walks
+
+  -- the pairs of the list, each behind its number
+  pub numbered : (ns : List (ℕ × (K × V))) × AreNumbered h.world.memory h.chart h.blocks ns × (pairs_of ns ≡ xs)
+  numbered = numbers_are h.world.memory h.chart h.blocks xs h.are
+
+  -- it is told whether to keep this pair
+  abbrev pub said_of : Said → ℕ → Bool → Said
+  said_of said n keeps = record { asked = n ∷ said.asked; done = cond keeps (n ∷ said.done) said.done }
+
+  -- The pair that it asks about is one of the list, and is in the block of the word. It was not told about it before.
+  pub record Question (said : Said) (m : Mem (Node K V)) (word : ℕ) : Type 0 where
+    pub number : ℕ
+    pub key : K
+    pub value : V
+    pub block : value_at m (block_in word) ≡ Some (node.Pair key value)
+    pub listed : Contains numbered.0 (number, (key, value))
+    pub had : value_at h.world.memory (h.blocks.pair number) ≡ Some (node.Pair key value)
+    pub new : times number said.asked ≡ 0
+    pub fresh : times number said.done ≡ 0
+    pub fewer : (keeps : Bool) → suc (unasked (said_of said number keeps).asked numbered.0) ≡ unasked said.asked numbered.0
+
+  module _ (said : Said) (x : OverPairs S) (m : Mem (Node K V)) (word : ℕ) (u : AsksIt said x m word) where
+    is_told : IsTold {Q = K} V same hash same setting slot_of u.asking.course.w u.asking.course.c u.asking.course.blocks u.asking.course.sights u.o
+    is_told =
+        let c = u.asking.course in sweeps_told_alone same hash same setting slot_of h.lawful c.w c.c c.blocks c.sights u.o c.alone
+
+    pub about : (n : ℕ) × (k : K) × (v : V) × NamesNew hash u.asking.course.w.memory u.asking.course.c u.asking.course.blocks u.o.done word n k v
+    about = is_told.asks_about word u.asking.asks
+
+    pub question : Question said m word
+    question =
+        let c = u.asking.course in let names = about.3.0 in
+        let once = goes_over_one same hashes b setting m0 xs h Retains retains_not_walks u.o.sweep.purpose in
+        let listed = shown (is_incremental setting.mode) h.world.memory c.w.memory h.chart c.c h.blocks c.blocks said.asked u.o c.runs numbered.0 numbered.1 about.0 about.1 about.2 names.stored names.is_there names.value in
+        let new = asks_once (is_incremental setting.mode) h.world.memory c.w.memory h.chart c.c h.blocks c.blocks said.asked u.o c.runs once c.purpose_is word u.asking.asks about.0 names.is_there about.3.1 in
+        let low : about.0 < h.chart.stored = subst (λ s. about.0 < s) c.runs.stored names.stored in
+        record {
+          number = about.0;
+          key = about.1;
+          value = about.2;
+          block = subst (λ (y : Mem (Node K V)). value_at y (block_in word) ≡ Some (node.Pair about.1 about.2)) c.memory (ap (value_at c.w.memory) names.block ∙ names.value);
+          listed = listed.0;
+          had = listed.1;
+          new = new;
+          fresh = ap (times about.0) (sym c.done_is) ∙ about.3.1;
+          fewer = λ keeps. one_less h.world.memory h.chart h.blocks about.0 said.asked new (c.runs.keeps.were about.0 low names.is_there) h.chart.stored low numbered.0 numbered.1;
+        }
+
+    -- told, it is under way again
+    pub told : (keeps : Bool) → UnderIt (said_of said question.number keeps) (record x { sweep = after_reply x.sweep keeps }) m
+    unfolding question
+    told keeps =
+        let c = u.asking.course in let replied = is_told.replied word about.0 about.1 about.2 u.asking.asks about.3.0 keeps in
+        record {
+          o = told_of u.o about.0 keeps;
+          is = ap (λ (y : OverPairs S). record y { sweep = after_reply y.sweep keeps }) u.is;
+          course = record {
+            w = c.w;
+            c = c.c;
+            blocks = c.blocks;
+            sights = c.sights;
+            alone = replied.0;
+            memory = c.memory;
+            runs = replied.1 h.world.memory h.chart h.blocks said.asked c.runs;
+            done_is = ap (λ (l : List ℕ). cond keeps (about.0 ∷ l) l) c.done_is;
+            counts = c.counts ∙ ap (λ k. pairs_in c.c + k) (sym ((telling_counts_nothing u.o.sweep).1 keeps));
+            purpose_is = (telling_keeps_the_purpose u.o.sweep).1 keeps ∙ c.purpose_is;
+          };
+        }
+
+  -- Done, it has left the pairs that pass a test, where it was told to keep just those.
+  pub retained_holds : (test : K → V → Bool) (said : Said) (o : CallOverAll) (m : Mem (Node K V)) → DoneIt said o m → KeptBy test h.world.memory h.blocks said.asked said.done
+      → Holds same hash setting m (filter (λ x. test x.0 x.1) xs)
+  retained_holds test said o m d kept =
+      let e = d.ended in
+      holds_at same hashes b setting m0 xs h Retains retains_not_walks said o m e (filter (λ x. test x.0 x.1) xs)
+      (kept_at_end test h.world.memory h.blocks (is_incremental setting.mode) e.w.memory h.chart e.c e.blocks said.asked o e.runs d.came d.over
+      (goes_over_one same hashes b setting m0 xs h Retains retains_not_walks o.sweep.purpose) e.purpose_is (subst (KeptBy test h.world.memory h.blocks said.asked) (sym e.done_is) kept) xs h.are)
