@@ -1,6 +1,8 @@
 -- The map of one owner, and its pairs.
 pub mod Blocks
 pub mod Calls
+pub mod ComesBack
+pub mod HandsBack
 pub mod Keys
 pub mod Lawful
 pub mod Lookups
