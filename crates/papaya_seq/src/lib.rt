@@ -3,10 +3,13 @@
 
 mod changes;
 mod counting;
+mod insertions;
 mod lookups;
 mod making;
 mod map;
+mod refused;
 
 pub use map::HashMap;
 pub use papaya_tables::Equivalent;
+pub use refused::Refused;
 pub use seize_words::Fault;
