@@ -2,6 +2,8 @@
 pub mod Blocks
 pub mod Calls
 pub mod Clears
+pub mod ComesBack
+pub mod HandsBack
 pub mod Keys
 pub mod Lawful
 pub mod Lookups

@@ -1,5 +1,5 @@
 -- The map that one owner has in a memory of its own, between its calls, and its pairs as a list.
-use Rattle.std.specs.Prelude.{◌≡◌, ℕ, ◌%◌, ◌^◌, ◌<◌, Bool, true, List, [], ◌∷◌, ◌++◌, Result, Ok, Err, Option, Some, None, fold, if◌then◌else◌}
+use Rattle.std.specs.Prelude.{◌≡◌, ℕ, ◌%◌, ◌^◌, ◌<◌, Bool, true, List, [], ◌∷◌, ◌++◌, Result, Ok, Err, Option, Some, None, fold, if◌then◌else◌, ◌⊎◌}
 use Rattle.std.specs.Int.{IsPowerOfTwo}
 use Rattle.seize_words.specs.Mem.{Mem, value_at}
 use Rattle.seize_words.specs.Word.{block_in}
@@ -82,3 +82,14 @@ module _ {K V : Type 0} (same : K → K → Bool) (hash : K → ℕ) (setting : 
   EndsBy (Ok (stop.Answered answer)) = Fits kind.present kind.absent kind.takes answer × AnswersBy answer
   EndsBy (Ok (stop.Asks asked)) = TellsFit kind.present kind.absent kind.takes {T = Node K V} (called.Asks asked)
   EndsBy (Err fault) = Holds same hash setting m xs
+
+-- an answer with which the call's own pair is in the map
+abbrev pub PutsIt : KeyAnswer → Type 0
+PutsIt (answers.Stored word) = Unit {0}
+PutsIt (answers.Replaced old new) = Unit {0}
+PutsIt _ = ⊥
+
+-- The pair that a call was begun with comes back, unless it is in the map.
+abbrev pub ComesBack : {N : Type 0} → Option N → Result Stop Fault → Option N → Type 0
+ComesBack pair (Ok (stop.Answered answer)) back = PutsIt answer ⊎ (back ≡ pair)
+ComesBack pair _ back = back ≡ pair

@@ -2,3 +2,4 @@
 mod Looks
 mod Makes
 mod Removals
+mod Stores

@@ -58,8 +58,9 @@ module _ {K V S : Type 0} (same : K → K → Bool) (hashes : S → K → ℕ) (
       ends_by same hashes b setting m xs h key removes None m2 result
       (comes_to same same hashes b setting h.lawful h.initial h.world.memory h.chart h.blocks h.rests.together.ground.map.map.rule (same key) (Begun removes None) _ m x m2 result runs under)
 
-module _ {K V : Type 0} (same : K → K → Bool) (hash : K → ℕ) (setting : Setting) (m : Mem (Node K V)) (keys : K → Bool) (xs : List (K × V)) where
-  left_none : (ys : List (K × V)) → found_by keys ys ≡ None → left_by keys ys ≡ ys
+-- where there is none of these keys, none is taken out
+module _ {K V : Type 0} (keys : K → Bool) where
+  pub left_none : (ys : List (K × V)) → found_by keys ys ≡ None → left_by keys ys ≡ ys
   left_none [] none = refl
   left_none (y ∷ ys) none = by (keys y.0) none (left_none ys)
     where
@@ -67,10 +68,11 @@ module _ {K V : Type 0} (same : K → K → Bool) (hash : K → ℕ) (setting : 
       by true none more = absurd (cc none)
       by false none more = ap (λ zs. y ∷ zs) (more none)
 
+module _ {K V : Type 0} (same : K → K → Bool) (hash : K → ℕ) (setting : Setting) (m : Mem (Node K V)) (keys : K → Bool) (xs : List (K × V)) where
   -- what a removal comes to
   pub removes_by : (s : Stop) → EndsBy same hash setting m removes None keys xs (Ok s) → (has_removed s ≡ is_some (found_by keys xs)) × Holds same hash setting m (left_by keys xs)
   removes_by (stop.Answered (answers.Removed word)) e = (sym (ap is_some e.1.1), e.1.3)
-  removes_by (stop.Answered answers.Absent) e = (sym (ap is_some e.1.0), subst (Holds same hash setting m) (sym (left_none xs e.1.0)) e.1.1)
+  removes_by (stop.Answered answers.Absent) e = (sym (ap is_some e.1.0), subst (Holds same hash setting m) (sym (left_none keys xs e.1.0)) e.1.1)
   removes_by (stop.Answered (answers.Found word)) e = absurd (elim e.0 as (λ _. ⊥) [ inl p ↦ cc p | inr p ↦ cc p.0 ])
   removes_by (stop.Answered (answers.Stored word)) e = absurd (elim e.0 as (λ _. ⊥) [ inl p ↦ cc p | inr p ↦ cc p ])
   removes_by (stop.Answered (answers.Replaced old new)) e = absurd (elim e.0 as (λ _. ⊥) [ inl p ↦ cc p | inr p ↦ cc p.0 ])

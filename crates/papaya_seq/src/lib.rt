@@ -3,11 +3,14 @@
 
 mod changes;
 mod counting;
+mod insertions;
 mod lookups;
 mod making;
 mod map;
+mod refused;
 mod sweeps;
 
 pub use map::HashMap;
 pub use papaya_tables::Equivalent;
+pub use refused::Refused;
 pub use seize_words::Fault;

@@ -32,7 +32,7 @@ use Rattle.papaya_alone.specs.Counted.{HasAdded, counted_for, counted_at}
 use Rattle.papaya_alone.specs.Counting.{IsCounted}
 use Rattle.papaya_alone.specs.Endings.{RunsEnd}
 use Rattle.papaya_callers.specs.Kept.{IsMaking}
-use Rattle.papaya_callers.specs.Pairs.{Given}
+use Rattle.papaya_callers.specs.Pairs.{Given, HandsBack}
 use Rattle.papaya_callers.specs.Sights.{Sight, seen_by}
 use Rattle.papaya_callers.specs.Together.{CallOnKey, OnKey, CameAbout, no_blocks, no_sight, in_slot, IsBegun, begun_at, AnswersOnce, IsReclaimed, RepliesTaken}
 use Rattle.papaya_whole.specs.Owner.{AtRest, IsAlone}
@@ -87,6 +87,8 @@ module _ {K V Q : Type 0} (same : K → K → Bool) (hash : K → ℕ) (asks : Q
     pub counts : (m0 : Mem (Node K V)) → HasAdded setting m0 (counted_at u.call.stands) w.memory → HasAdded setting m0 (counted_at p2.stands) w2.memory
     pub answered : (answer : KeyAnswer) → progress ≡ called.Done answer → counted_at p2.stands ≡ counted_for answer
     pub refused : (fault : Fault) → progress ≡ called.Refused fault → (m0 : Mem (Node K V)) → HasAdded setting m0 (counted_at u.call.stands) w.memory → HasAdded setting m0 0 w2.memory
+    -- what it hands back is the pair that it was begun with
+    pub hands : (value : Node K V) → progress ≡ called.Unstored value → HandsBack u.pair value
 
 module _ {K Q : Type 0} (V : Type 0) (same : K → K → Bool) (hash : K → ℕ) (asks : Q → K → Bool) (setting : Setting) (slot : ℕ → ℕ) where
   -- A map that has no table yet rests, where no row is under way, and the slot is within a section.

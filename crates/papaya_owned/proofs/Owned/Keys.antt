@@ -123,7 +123,7 @@ module _ {K V Q S : Type 0} (same : K → K → Bool) (asks : Q → K → Bool) 
   CourseTo p m _ = Course p m
 
   module _ (p : KeyCall K V Q) (m : Mem (Node K V)) (at : Course p m) where
-    abbrev Leading : Mem (Node K V) → KeyCall K V Q → Called (Node K V) → Type 0
+    abbrev pub Leading : Mem (Node K V) → KeyCall K V Q → Called (Node K V) → Type 0
     Leading m2 p2 told = StepLeads same hash asks setting slot_of at.w at.c at.blocks (going at.change p) m2 p2 told
 
     pub course_may : May Can Took value_at m (call_plan asks same hash p)
@@ -131,7 +131,7 @@ module _ {K V Q S : Type 0} (same : K → K → Bool) (asks : Q → K → Bool) 
         subst (λ (x : Mem (Node K V)). May Can Took value_at x (call_plan asks same hash p)) at.memory
         (calls_go_on_alone same hash asks setting slot_of lawful initial at.w at.c at.blocks at.sights (going at.change p) at.alone).0
 
-    leading : (m2 : Mem (Node K V)) (p2 : KeyCall K V Q) (told : Called (Node K V)) → Steps Took value_at m (call_plan asks same hash p) m2 (p2, told) → Leading m2 p2 told
+    pub leading : (m2 : Mem (Node K V)) (p2 : KeyCall K V Q) (told : Called (Node K V)) → Steps Took value_at m (call_plan asks same hash p) m2 (p2, told) → Leading m2 p2 told
     leading m2 p2 told s =
         (calls_go_on_alone same hash asks setting slot_of lawful initial at.w at.c at.blocks at.sights (going at.change p) at.alone).1 m2 p2 told
         (subst (λ (x : Mem (Node K V)). Steps Took value_at x (call_plan asks same hash p) m2 (p2, told)) (sym at.memory) s)
@@ -284,7 +284,7 @@ module _ {K V Q S : Type 0} (same : K → K → Bool) (asks : Q → K → Bool) 
   stopped x2 m2 progress.Goes (Err g) next tells = absurd tells
   stopped x2 m2 progress.Waits result next tells = absurd next
 
-  on_under : (x2 : OnKey K V Q S) (m2 : Mem (Node K V)) (told : Progress Stop) → GoesOn told → Next x2 m2 told → Under x2 m2
+  pub on_under : (x2 : OnKey K V Q S) (m2 : Mem (Node K V)) (told : Progress Stop) → GoesOn told → Next x2 m2 told → Under x2 m2
   on_under x2 m2 progress.Goes on next = next
   on_under x2 m2 progress.Waits on next = absurd next
   on_under x2 m2 (progress.Done a) on next = absurd on

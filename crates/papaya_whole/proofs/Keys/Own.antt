@@ -190,6 +190,7 @@ module _ {K V Q : Type 0} (same : K → K → Bool) (hash : K → ℕ) (asks : Q
           memory = lone.memory;
           leads = by progress refl lone.told.0.facts (lone.told.1 a.lone);
           counts = λ m0 had. subst (HasAdded setting m0 (counted_at p2.stands)) (sym lone.memory) (counting m0 had).0;
+          hands = stepped.hands;
           answered = λ answer is. answered_counted answer p2.stands (subst (CallFactsAfter same hash asks 0 here u.keys lone.w2 lone.c2 lone.blocks2 lone.told.0.change2 p2) is lone.told.0.facts).0;
           refused = λ fault is m0 had. subst (HasAdded setting m0 0) (sym lone.memory) ((counting m0 had).1 fault is);
           runs = λ m0 c0 blocks0 rule0. run_on same hash setting u.keys m0 c0 blocks0 w.memory lone.w2.memory c lone.c2 blocks stepped.blocks2 u.change lone.told.0.change2

@@ -287,5 +287,6 @@ module _ {K V Q : Type 0} (same : K → K → Bool) (hash : K → ℕ) (asks : Q
       counts = row_counts;
       answered = row_answered;
       refused = row_refused;
+      hands = led.hands;
       leads = by_account (p2, progress) refl (account same hash asks (slot 0) u.call now.v.memory m2 is_row (p2, progress) steps_now);
     }

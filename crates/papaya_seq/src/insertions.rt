@@ -1,0 +1,80 @@
+//! Insertions into a map for one owner. Each begins with a refresh.
+ghost use Rattle.std.specs.Prelude.{◌≡◌, List, [], ◌∷◌, ◌++◌, None, Some, is_some, IfOk, IfErr, OnOk, OnErr};
+ghost use Rattle.papaya_callers.specs.Kind.{Kind};
+ghost use Rattle.papaya_tables.specs.declared.node.Node.TheVariants as node;
+ghost use Rattle.papaya_owned.specs.Owned.{Holds, EndsBy, ComesBack, found_by, hashed_by, left_by};
+ghost use Rattle.papaya_seq.specs.Maps.{HasPairs, StoresPair, has_replaced};
+
+use crate::changes::refresh;
+use crate::map::HashMap;
+use crate::refused::Refused;
+use papaya_owned::{OnKey, Stop, run};
+use papaya_raw::machines::{KeyAnswer, KeyCall};
+use papaya_tables::{Hashes, Node, Setting};
+use seize_words::{Fault, Plain};
+use std::hash::{BuildHasher, Hash};
+
+/// Runs a call that may store a pair to its end, and answers that pair, too, where it was not stored.
+fn store<K: Eq + Hash + Drop, V: Drop, S: BuildHasher>(
+    memory: &mut Plain<Node<K, V>>,
+    setting: Setting,
+    hasher: &S,
+    call: KeyCall<K, V, K>,
+) -> (Result<Stop, Fault>, Option<Node<K, V>>)
+    requires map { (xs : List (K × V)) × Holds K.eq (hashed_by S.Hasher.finish S.Hasher.write S.build_hasher K.hash_input hasher.now) setting memory.old xs }
+    requires call { (kind : Kind) × (key : K) × (value : V) × StoresPair (hashed_by S.Hasher.finish S.Hasher.write S.build_hasher K.hash_input hasher.now) setting key value kind call }
+    ensures ends { (xs : List (K × V)) (kind : Kind) (key : K) (value : V) → Holds K.eq (hashed_by S.Hasher.finish S.Hasher.write S.build_hasher K.hash_input hasher.now) setting memory.old xs
+        → StoresPair (hashed_by S.Hasher.finish S.Hasher.write S.build_hasher K.hash_input hasher.now) setting key value kind call
+        → EndsBy K.eq (hashed_by S.Hasher.finish S.Hasher.write S.build_hasher K.hash_input hasher.now) setting memory.new kind (Some (node.Pair key value)) (K.eq key) xs result.0 }
+    ensures back { (xs : List (K × V)) (kind : Kind) (key : K) (value : V) → Holds K.eq (hashed_by S.Hasher.finish S.Hasher.write S.build_hasher K.hash_input hasher.now) setting memory.old xs
+        → StoresPair (hashed_by S.Hasher.finish S.Hasher.write S.build_hasher K.hash_input hasher.now) setting key value kind call → ComesBack (Some (node.Pair key value)) result.0 result.1 }
+{
+    let mut machine: OnKey<'_, K, V, K, S> = OnKey {
+        call,
+        hasher,
+        unstored: None,
+    };
+    let end = run(&mut machine, memory);
+    (end, machine.unstored)
+}
+
+/// Whether a call has replaced a pair.
+fn replaced(stop: Stop) -> bool
+    ensures { result ≡ has_replaced stop }
+{
+    matches!(stop, Stop::Answered(KeyAnswer::Replaced { .. }))
+}
+
+/// A call was refused, and its pair came back.
+fn refused<K: Drop, V: Drop>(fault: Fault, pair: Option<Node<K, V>>) -> Refused<K, V>
+    requires { (key : K) × (value : V) × (pair ≡ Some (node.Pair key value)) }
+    ensures key { (key : K) (value : V) → pair ≡ Some (node.Pair key value) → result.key ≡ key }
+    ensures value { (key : K) (value : V) → pair ≡ Some (node.Pair key value) → result.value ≡ value }
+{
+    match pair {
+        Some(Node::Pair(key, value)) => Refused { fault, key, value },
+        Some(Node::Table { .. } | Node::Shards) | None => unreachable!(),
+    }
+}
+
+impl<K: Eq + Hash + Drop, V: Drop, S: BuildHasher> HashMap<K, V, S> {
+    /// Stores a pair, also in the place of another one of its key, and answers whether there was one. The faults are `Fault::Capacity` and
+    /// `Fault::Memory`; then no pair has changed.
+    pub fn insert(&mut self, key: K, value: V) -> Result<bool, Refused<K, V>>
+        requires { (xs : List (K × V)) × HasPairs K.eq (hashed_by S.Hasher.finish S.Hasher.write S.build_hasher K.hash_input) self.old xs }
+        ensures some { (xs : List (K × V)) → HasPairs K.eq (hashed_by S.Hasher.finish S.Hasher.write S.build_hasher K.hash_input) self.old xs → IfOk result (λ was. was ≡ is_some (found_by (K.eq key) xs)) }
+        ensures stored { (xs : List (K × V)) → HasPairs K.eq (hashed_by S.Hasher.finish S.Hasher.write S.build_hasher K.hash_input) self.old xs
+            → OnOk result (HasPairs K.eq (hashed_by S.Hasher.finish S.Hasher.write S.build_hasher K.hash_input) self.new (left_by (K.eq key) xs ++ ((key, value) ∷ []))) }
+        ensures refused { (xs : List (K × V)) → HasPairs K.eq (hashed_by S.Hasher.finish S.Hasher.write S.build_hasher K.hash_input) self.old xs
+            → OnErr result (HasPairs K.eq (hashed_by S.Hasher.finish S.Hasher.write S.build_hasher K.hash_input) self.new xs) }
+        ensures back { (xs : List (K × V)) → HasPairs K.eq (hashed_by S.Hasher.finish S.Hasher.write S.build_hasher K.hash_input) self.old xs → IfErr result (λ r. (r.key ≡ key) × (r.value ≡ value)) }
+    {
+        refresh(&mut self.memory, self.setting, &self.hasher);
+        let hash = self.hasher.hash_of(&key);
+        let call = KeyCall::insert(self.setting, hash, key, value);
+        match store(&mut self.memory, self.setting, &self.hasher, call) {
+            (Ok(stop), _) => Ok(replaced(stop)),
+            (Err(fault), pair) => Err(refused(fault, pair)),
+        }
+    }
+}
