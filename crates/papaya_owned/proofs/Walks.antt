@@ -1,6 +1,6 @@
 -- What the memory of a map that one owner has shows of its pairs, where it rests.
-use Rattle.std.specs.Prelude.{cond, Option}
-use Rattle.std.proofs.Common.{◌≡◌, ℕ, zero, suc, ◌+◌, Bool, true, false, List, [], ◌∷◌, ◌++◌, Some, refl, ap, sym, subst, ◌∙◌}
+use Rattle.std.specs.Prelude.{cond}
+use Rattle.std.proofs.Common.{◌≡◌, ℕ, zero, suc, Bool, true, false, List, [], ◌∷◌, ◌++◌, Some, refl, ap, sym, subst, ◌∙◌}
 use Rattle.std.proofs.lemmas.List.{append-nil}
 use Rattle.seize_words.specs.Mem.{Mem, value_at}
 use Rattle.papaya_tables.specs.Chunks.{is_incremental}
@@ -11,7 +11,7 @@ use Rattle.papaya_rule.specs.Chart.{Chart}
 use Rattle.papaya_rule.specs.Words.{Blocks}
 use Rattle.papaya_rule.specs.Maps.{spot_of, IsMap}
 use Rattle.papaya_maps.proofs.Rests.NoneMoves.{none_copying, claims_none}
-use Rattle.papaya_whole.specs.Contents.{ContentsBelow, AreContents}
+use Rattle.papaya_whole.specs.Contents.{ContentsBelow}
 use Rattle.papaya_shown.specs.Chain.{pair_of}
 use Rattle.papaya_shown.specs.Shown.{Stands, NoneMoves, pairs_stored}
 use Rattle.papaya_owned.specs.Owned.{Holds}

@@ -1,5 +1,5 @@
 -- Insertions into a map for one owner.
-use Rattle.std.specs.Prelude.{◌≡◌, ℕ, Bool, true, List, [], ◌∷◌, ◌++◌, Option, Some, None, Result, Ok, Err, is_some, ◌⊎◌}
+use Rattle.std.specs.Prelude.{◌≡◌, ℕ, Bool, true, List, [], ◌∷◌, ◌++◌, Option, Some, None, Result, Ok, Err, is_some, IsTrue, IfErr, OnErr, false}
 use Rattle.std.proofs.Common.{refl, sym, ◌∙◌, ap, subst, inl, inr}
 use denote.Ref.{Bor}
 use Rattle.seize_words.specs.Mem.{Mem}
@@ -23,7 +23,7 @@ use Rattle.papaya_owned.proofs.Owned.Calls.{UnderIt, begins_under, ends_by}
 use Rattle.papaya_owned.proofs.Owned.ComesBack.{comes_back}
 use Rattle.papaya_owned.proofs.Owned.HandsBack.{HasPair}
 use Rattle.papaya_owned.proofs.Owned.Keys.{under_ends, comes_to}
-use Rattle.papaya_seq.specs.Maps.{StoresPair, has_replaced}
+use Rattle.papaya_seq.specs.Maps.{StoresPair, has_found, has_replaced}
 use Rattle.papaya_seq.proofs.Removals.{left_none}
 
 module _ {K V S : Type 0} (same : K → K → Bool) (hashes : S → K → ℕ) (b : Bor S) (setting : Setting) (m : Mem (Node K V)) (xs : List (K × V)) (h : Holds same (hashes b.now) setting m xs) (key : K) (value : V) where
@@ -90,7 +90,28 @@ module _ {K V : Type 0} (same : K → K → Bool) (hash : K → ℕ) (setting : 
   inserts_by (stop.Asks None) e = absurd (cc e)
   inserts_by (stop.Asks (Some word)) e = absurd (cc e)
 
+  -- what an insertion comes to that replaces none
+  Tried : Stop → Type 0
+  Tried s = (has_found s ≡ false → (found_by keys xs ≡ None) × Holds same hash setting m (xs ++ ((key, value) ∷ [])))
+      × (has_found s ≡ true → IsTrue (is_some (found_by keys xs)) × Holds same hash setting m xs)
+
+  tries_by : (s : Stop) → EndsBy same hash setting m tries_to_insert given keys xs (Ok s) → Tried s
+  unfolding Tried
+  tries_by (stop.Answered (answers.Stored word)) e = let a = e.1 in ((λ no_pair. (a.0, as_given xs a.1 a.2 a.3 a.5)), (λ one. absurd (cc one)))
+  tries_by (stop.Answered (answers.Found word)) e = let a = e.1 in ((λ no_pair. absurd (cc no_pair)), (λ one. (subst (λ o. IsTrue (is_some o)) (sym a.2) refl, a.4)))
+  tries_by (stop.Answered (answers.Replaced old new)) e = absurd (elim e.0 as (λ _. ⊥) [ inl p ↦ cc p | inr p ↦ cc p.0 ])
+  tries_by (stop.Answered answers.Absent) e = absurd (elim e.0 as (λ _. ⊥) [ inl p ↦ cc p | inr p ↦ cc p.0 ])
+  tries_by (stop.Answered (answers.Removed word)) e = absurd (elim e.0 as (λ _. ⊥) [ inl p ↦ cc p | inr p ↦ cc p.0 ])
+  tries_by (stop.Asks None) e = absurd (cc e)
+  tries_by (stop.Asks (Some word)) e = absurd (cc e)
+
   -- by the result of its run
+  pub tried_so : (result : Result Stop Fault) → EndsBy same hash setting m tries_to_insert given keys xs result → (s : Stop) → result ≡ Ok s
+      → (has_found s ≡ false → (found_by keys xs ≡ None) × Holds same hash setting m (xs ++ ((key, value) ∷ [])))
+      × (has_found s ≡ true → IsTrue (is_some (found_by keys xs)) × Holds same hash setting m xs)
+  unfolding Tried
+  tried_so result e s is = tries_by s (subst (EndsBy same hash setting m tries_to_insert given keys xs) is e)
+
   pub stored_so : (result : Result Stop Fault) → EndsBy same hash setting m inserts given keys xs result → (s : Stop) → result ≡ Ok s
       → (has_replaced s ≡ is_some (found_by keys xs)) × Holds same hash setting m (left_by keys xs ++ ((key, value) ∷ []))
   stored_so result e s is = inserts_by s (subst (EndsBy same hash setting m inserts given keys xs) is e)
@@ -101,3 +122,34 @@ module _ {K V : Type 0} (same : K → K → Bool) (hash : K → ℕ) (setting : 
 -- the pair comes back with a fault
 pub back_so : {N : Type 0} (pair : Option N) (result : Result Stop Fault) (back : Option N) → ComesBack pair result back → (fault : Fault) → result ≡ Err fault → back ≡ pair
 back_so pair result back e fault is = subst (λ r. ComesBack pair r back) is e
+
+-- and where it has found another one
+pub back_found : {N : Type 0} (pair : Option N) (result : Result Stop Fault) (back : Option N) → ComesBack pair result back → (s : Stop) → result ≡ Ok s → has_found s ≡ true → back ≡ pair
+back_found {N} pair result back e s is found = by s (subst (λ r. ComesBack pair r back) is e) found
+  where
+    by : (s : Stop) → ComesBack pair (Ok s) back → has_found s ≡ true → back ≡ pair
+    by (stop.Answered (answers.Found word)) (inl puts) found = absurd puts
+    by (stop.Answered (answers.Found word)) (inr so) found = so
+    by (stop.Answered answers.Absent) so found = absurd (cc found)
+    by (stop.Answered (answers.Stored word)) so found = absurd (cc found)
+    by (stop.Answered (answers.Replaced old new)) so found = absurd (cc found)
+    by (stop.Answered (answers.Removed word)) so found = absurd (cc found)
+    by (stop.Asks asked) so found = absurd (cc found)
+
+module _ {K V : Type 0} (hash : K → ℕ) (setting : Setting) (key : K) (value : V) (call : KeyCall K V K) (code : ℕ) (is : code ≡ hash key) where
+  -- the call that was begun
+  pub inserts_this : call ≡ inserting setting code key value → StoresPair hash setting key value inserts call
+  inserts_this so = inl (refl, so ∙ ap (λ x. inserting setting x key value) is)
+
+  pub tries_this : call ≡ trying_to_insert setting code key value → StoresPair hash setting key value tries_to_insert call
+  tries_this so = inr (refl, so ∙ ap (λ x. trying_to_insert setting x key value) is)
+
+-- one pair has one key and one value
+pub same_pair : {K V : Type 0} (back : Option (Node K V)) (key j : K) (value v : V) → back ≡ Some (node.Pair key value) → back ≡ Some (node.Pair j v) → (j ≡ key) × (v ≡ value)
+same_pair back key j value v e f = (cc (e, f), cc (e, f))
+
+-- the value that comes back where it has found another pair is the one that was given
+pub value_back : {K V : Type 0} (back : Option (Node K V)) (key : K) (value : V) (found : Bool) (tried : Result Unit V) → OnErr tried (found ≡ true) → IfErr tried (λ v. (j : K) × (back ≡ Some (node.Pair j v)))
+    → (found ≡ true → back ≡ Some (node.Pair key value)) → IfErr tried (λ v. v ≡ value)
+value_back back key value found (Ok done) is has back_is = tt
+value_back back key value found (Err v) is has back_is = (same_pair back key has.0 value v (back_is is) has.1).1

@@ -24,6 +24,11 @@ abbrev pub has_replaced : Stop → Bool
 has_replaced (stop.Answered (answers.Replaced old new)) = true
 has_replaced _ = false
 
+-- a call on one key has found a pair, and left it
+abbrev pub has_found : Stop → Bool
+has_found (stop.Answered (answers.Found word)) = true
+has_found _ = false
+
 -- A call of this kind was begun that may store this pair, also in the place of another one, or only where there is none.
 abbrev pub StoresPair : {K V Q : Type 0} → (K → ℕ) → Setting → K → V → Kind → KeyCall K V Q → Type 0
 StoresPair hash setting key value kind call =

@@ -1,9 +1,9 @@
 //! Insertions into a map for one owner. Each begins with a refresh.
-ghost use Rattle.std.specs.Prelude.{◌≡◌, List, [], ◌∷◌, ◌++◌, None, Some, is_some, IfOk, IfErr, OnOk, OnErr};
+ghost use Rattle.std.specs.Prelude.{◌≡◌, true, false, List, [], ◌∷◌, ◌++◌, None, Some, is_some, IsTrue, IfOk, IfErr, OnOk, OnErr};
 ghost use Rattle.papaya_callers.specs.Kind.{Kind};
 ghost use Rattle.papaya_tables.specs.declared.node.Node.TheVariants as node;
 ghost use Rattle.papaya_owned.specs.Owned.{Holds, EndsBy, ComesBack, found_by, hashed_by, left_by};
-ghost use Rattle.papaya_seq.specs.Maps.{HasPairs, StoresPair, has_replaced};
+ghost use Rattle.papaya_seq.specs.Maps.{HasPairs, StoresPair, has_found, has_replaced};
 
 use crate::changes::refresh;
 use crate::map::HashMap;
@@ -45,15 +45,36 @@ fn replaced(stop: Stop) -> bool
     matches!(stop, Stop::Answered(KeyAnswer::Replaced { .. }))
 }
 
-/// A call was refused, and its pair came back.
-fn refused<K: Drop, V: Drop>(fault: Fault, pair: Option<Node<K, V>>) -> Refused<K, V>
-    requires { (key : K) × (value : V) × (pair ≡ Some (node.Pair key value)) }
-    ensures key { (key : K) (value : V) → pair ≡ Some (node.Pair key value) → result.key ≡ key }
-    ensures value { (key : K) (value : V) → pair ≡ Some (node.Pair key value) → result.value ≡ value }
+/// The key and the value of the pair of a call, which came back.
+fn pair_of<K: Drop, V: Drop>(back: Option<Node<K, V>>) -> (K, V)
+    requires { (key : K) × (value : V) × (back ≡ Some (node.Pair key value)) }
+    ensures { back ≡ Some (node.Pair result.0 result.1) }
 {
-    match pair {
-        Some(Node::Pair(key, value)) => Refused { fault, key, value },
+    match back {
+        Some(Node::Pair(key, value)) => (key, value),
         Some(Node::Table { .. } | Node::Shards) | None => unreachable!(),
+    }
+}
+
+/// A call was refused, and its pair came back.
+fn refused<K: Drop, V: Drop>(fault: Fault, back: Option<Node<K, V>>) -> Refused<K, V>
+    requires { (key : K) × (value : V) × (back ≡ Some (node.Pair key value)) }
+    ensures { back ≡ Some (node.Pair result.key result.value) }
+{
+    let (key, value) = pair_of(back);
+    Refused { fault, key, value }
+}
+
+/// What a call comes to that stores its pair only where there is none: where it has found one, its own value comes back.
+fn tried<K: Drop, V: Drop>(stop: Stop, back: Option<Node<K, V>>) -> Result<(), V>
+    requires { IsTrue (has_found stop) → (key : K) × (value : V) × (back ≡ Some (node.Pair key value)) }
+    ensures stored { OnOk result (has_found stop ≡ false) }
+    ensures found { OnErr result (has_found stop ≡ true) }
+    ensures back { IfErr result (λ value. (key : K) × (back ≡ Some (node.Pair key value))) }
+{
+    match stop {
+        Stop::Answered(KeyAnswer::Found(_)) => Err(pair_of(back).1),
+        Stop::Answered(_) | Stop::Asks(_) => Ok(()),
     }
 }
 
@@ -74,7 +95,28 @@ impl<K: Eq + Hash + Drop, V: Drop, S: BuildHasher> HashMap<K, V, S> {
         let call = KeyCall::insert(self.setting, hash, key, value);
         match store(&mut self.memory, self.setting, &self.hasher, call) {
             (Ok(stop), _) => Ok(replaced(stop)),
-            (Err(fault), pair) => Err(refused(fault, pair)),
+            (Err(fault), back) => Err(refused(fault, back)),
+        }
+    }
+    /// Stores a pair, if its key is not there yet. Where it is there, no pair has changed, and the value that was not stored is handed back. The
+    /// faults are `Fault::Capacity` and `Fault::Memory`; then no pair has changed, either.
+    pub fn try_insert(&mut self, key: K, value: V) -> Result<Result<(), V>, Refused<K, V>>
+        requires { (xs : List (K × V)) × HasPairs K.eq (hashed_by S.Hasher.finish S.Hasher.write S.build_hasher K.hash_input) self.old xs }
+        ensures stored { (xs : List (K × V)) → HasPairs K.eq (hashed_by S.Hasher.finish S.Hasher.write S.build_hasher K.hash_input) self.old xs
+            → IfOk result (λ tried. OnOk tried ((found_by (K.eq key) xs ≡ None) × HasPairs K.eq (hashed_by S.Hasher.finish S.Hasher.write S.build_hasher K.hash_input) self.new (xs ++ ((key, value) ∷ [])))) }
+        ensures found { (xs : List (K × V)) → HasPairs K.eq (hashed_by S.Hasher.finish S.Hasher.write S.build_hasher K.hash_input) self.old xs
+            → IfOk result (λ tried. OnErr tried (IsTrue (is_some (found_by (K.eq key) xs)) × HasPairs K.eq (hashed_by S.Hasher.finish S.Hasher.write S.build_hasher K.hash_input) self.new xs)) }
+        ensures kept { (xs : List (K × V)) → HasPairs K.eq (hashed_by S.Hasher.finish S.Hasher.write S.build_hasher K.hash_input) self.old xs → IfOk result (λ tried. IfErr tried (λ back. back ≡ value)) }
+        ensures refused { (xs : List (K × V)) → HasPairs K.eq (hashed_by S.Hasher.finish S.Hasher.write S.build_hasher K.hash_input) self.old xs
+            → OnErr result (HasPairs K.eq (hashed_by S.Hasher.finish S.Hasher.write S.build_hasher K.hash_input) self.new xs) }
+        ensures back { (xs : List (K × V)) → HasPairs K.eq (hashed_by S.Hasher.finish S.Hasher.write S.build_hasher K.hash_input) self.old xs → IfErr result (λ r. (r.key ≡ key) × (r.value ≡ value)) }
+    {
+        refresh(&mut self.memory, self.setting, &self.hasher);
+        let hash = self.hasher.hash_of(&key);
+        let call = KeyCall::try_insert(self.setting, hash, key, value);
+        match store(&mut self.memory, self.setting, &self.hasher, call) {
+            (Ok(stop), back) => Ok(tried(stop, back)),
+            (Err(fault), back) => Err(refused(fault, back)),
         }
     }
 }

@@ -1,7 +1,7 @@
 -- The pair that a call on one key was begun with comes back by its run, unless it is in the map then.
 use Rattle.std.specs.Prelude.{◌≡◌, ℕ, Bool, Option, Some, Result, Ok, Err, ◌⊎◌}
 use Rattle.std.specs.Int.{IsPowerOfTwo}
-use Rattle.std.proofs.Common.{refl, sym, ◌∙◌, ap, subst, inl, inr}
+use Rattle.std.proofs.Common.{refl, sym, subst, inl, inr}
 use denote.Ref.{Bor}
 use Rattle.seize_words.specs.Mem.{Mem, Took, value_at}
 use Rattle.seize_words.specs.Plan.{Plan, Steps}
@@ -26,7 +26,7 @@ use Rattle.papaya_rule.specs.Rule.{Rule}
 use Rattle.papaya_rule.specs.Words.{Blocks}
 use Rattle.papaya_points.specs.Steps.{AreLawful}
 use Rattle.papaya_callers.specs.Kind.{Kind}
-use Rattle.papaya_callers.specs.Pairs.{Given, Begun}
+use Rattle.papaya_callers.specs.Pairs.{Begun}
 use Rattle.papaya_owned.specs.Ending.{GoesOn, Tells, RunsTo, stops, goes}
 use Rattle.papaya_owned.specs.Machines.{on_key_settled, on_key_plan}
 use Rattle.papaya_owned.specs.Owned.{PutsIt, ComesBack}

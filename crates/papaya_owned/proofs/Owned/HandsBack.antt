@@ -1,16 +1,16 @@
 -- A call that was begun with a pair has it, in hand or in its own block, until it has put it into the map, or hands it out.
 use Rattle.std.specs.Prelude.{◌==◌, ◌^◌, ◌<◌, Option, Some, None, Ok, Err, if◌then◌else◌}
-use Rattle.std.proofs.Common.{◌≡◌, ◌≢◌, ℕ, Bool, true, false, refl, sym, subst, ◌∙◌, arith, eqb-true}
+use Rattle.std.proofs.Common.{◌≡◌, ◌≢◌, ℕ, Bool, true, false, refl, sym, subst, arith, eqb-true}
 use Rattle.std.proofs.lemmas.Bool.{eqb-false}
 use Rattle.seize_words.specs.Mem.{Mem, value_at, Took}
-use Rattle.seize_words.specs.Op.{Out, Make, Found, Stored, Exchanged, Made, Taken, Roomed}
+use Rattle.seize_words.specs.Op.{Out, Found, Stored, Exchanged, Made, Taken, Roomed}
 use Rattle.seize_words.specs.Plan.{Steps}
 use Rattle.seize.specs.declared.progress.Progress.{Progress}
 use Rattle.seize.specs.declared.progress.Progress.TheVariants as progress
 use Rattle.seize.specs.declared.rows.settle.Settled.{Settled}
 use Rattle.seize.specs.declared.rows.settle.Settled.TheVariants as settled
 use Rattle.papaya_raw.specs.Answers.{ended}
-use Rattle.papaya_raw.specs.Call.{made, makes_of, root_found, next_found, dropped, key_read, pair_read, word_read, word_found, tried, first_made, next_made, disposed, helped, copied, plan_at}
+use Rattle.papaya_raw.specs.Call.{makes_of, root_found, next_found, dropped, key_read, pair_read, word_read, word_found, tried, first_made, next_made, disposed, helped, copied, plan_at}
 use Rattle.papaya_raw.specs.CallPoints.{word_to, going, standing, over, ending, tableless, at_free, at_end, at_last, at_pair, passed, told_of, entering, went_on, changed, counted}
 use Rattle.papaya_tables.specs.Chunks.{is_incremental}
 use Rattle.papaya_resize.specs.Copier.{copier_plan}
