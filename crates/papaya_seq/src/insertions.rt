@@ -98,6 +98,7 @@ impl<K: Eq + Hash + Drop, V: Drop, S: BuildHasher> HashMap<K, V, S> {
             (Err(fault), back) => Err(refused(fault, back)),
         }
     }
+
     /// Stores a pair, if its key is not there yet. Where it is there, no pair has changed, and the value that was not stored is handed back. The
     /// faults are `Fault::Capacity` and `Fault::Memory`; then no pair has changed, either.
     pub fn try_insert(&mut self, key: K, value: V) -> Result<Result<(), V>, Refused<K, V>>
