@@ -1,6 +1,6 @@
 -- A retaining of one owner's map, from question to question: what is so as it begins, where it asks, once it is told, and where it ends.
-use Rattle.std.specs.Prelude.{◌≡◌, ℕ, suc, ◌<◌, ◌-◌, Bool, true, cond, List, [], ◌∷◌, length, filter, map, Some, Result, Ok, Err}
-use Rattle.std.proofs.Common.{refl, sym, ◌∙◌, ap, subst, arith}
+use Rattle.std.specs.Prelude.{◌≡◌, ℕ, ◌<◌, ◌-◌, Bool, true, cond, List, [], ◌∷◌, length, filter, Result, Ok, Err}
+use Rattle.std.proofs.Common.{sym, ◌∙◌, ap, subst, arith}
 use Rattle.std.proofs.lemmas.List.{length-map}
 use denote.Ref.{Bor}
 use Rattle.seize_words.specs.Mem.{Mem}
@@ -10,9 +10,7 @@ use Rattle.papaya_tables.specs.declared.setting.Setting.{Setting}
 use Rattle.papaya_sweeps.specs.SweepPoints.{sweeping, after_reply}
 use Rattle.papaya_sweeps.specs.declared.sweep.Purpose.TheVariants.{Retains}
 use Rattle.papaya_sweeps.specs.declared.sweep.Sweep.{Sweep}
-use Rattle.papaya_late.specs.Covers.{times}
 use Rattle.papaya_whole.specs.KeptBy.{KeptBy}
-use Rattle.papaya_whole.specs.SweptPairs.{pairs_of}
 use Rattle.papaya_whole.proofs.Contents.KeptBy.{kept_begins, kept_told}
 use Rattle.papaya_whole.proofs.Contents.Numbered.{all_those}
 use Rattle.papaya_owned.specs.Ending.{Ends, RunsTo}
@@ -21,7 +19,7 @@ use Rattle.papaya_owned.specs.Sweeping.{over_pairs_plan}
 use Rattle.papaya_owned.specs.declared.sweeping.OverPairs.{OverPairs}
 use Rattle.papaya_owned.specs.declared.sweeping.Pause.{Pause}
 use Rattle.papaya_owned.specs.declared.sweeping.Pause.TheVariants as pause
-use Rattle.papaya_owned.proofs.Owned.Retains.{Question, UnderIt, AsksIt, about, numbered, question, retained_holds, retains_not_walks, said_of, told, unasked}
+use Rattle.papaya_owned.proofs.Owned.Retains.{Question, UnderIt, AsksIt, numbered, question, retained_holds, retains_not_walks, said_of, told, unasked}
 use Rattle.papaya_owned.proofs.Owned.Sweeps.{Said, nothing, ComesTo, begins_under, under_ends, comes_to, refused_holds}
 
 module _ {K V S : Type 0} (same : K → K → Bool) (hashes : S → K → ℕ) (b : Bor S) (setting : Setting) (m0 : Mem (Node K V)) (xs : List (K × V)) (h : Holds same (hashes b.now) setting m0 xs)

@@ -1,5 +1,5 @@
 -- It is under way from question to question, and what it comes to.
-use Rattle.std.proofs.Common.{rules, of_calls, refl, sym, ap, ◌∙◌, arith}
+use Rattle.std.proofs.Common.{of_calls, refl, ap, ◌∙◌, arith}
 use Rattle.papaya_owned.proofs.Owned.Sifts.{sifting_begins, sifting_ends, sifting_asks, sifting_done, sifting_refused, never_ready, never_shows, asking_names, asking_left, asking_told, asked_about}
 use Rattle.papaya_seq.proofs.sweeps.sift.Goals as goal
 
