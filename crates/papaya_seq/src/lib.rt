@@ -9,8 +9,10 @@ mod making;
 mod map;
 mod refused;
 mod sweeps;
+mod walks;
 
 pub use map::HashMap;
+pub use papaya_shown::Pairs;
 pub use papaya_tables::Equivalent;
 pub use refused::Refused;
 pub use seize_words::Fault;
