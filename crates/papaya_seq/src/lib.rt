@@ -8,6 +8,7 @@ mod lookups;
 mod making;
 mod map;
 mod refused;
+mod requests;
 
 pub use map::HashMap;
 pub use papaya_tables::Equivalent;
