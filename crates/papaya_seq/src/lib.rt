@@ -8,6 +8,7 @@ mod lookups;
 mod making;
 mod map;
 mod refused;
+mod requests;
 mod sweeps;
 mod walks;
 

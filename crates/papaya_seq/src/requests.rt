@@ -1,0 +1,13 @@
+//! Requests for memory of a map for one owner that are refused, so that what is done then can be tried.
+ghost use Rattle.std.specs.Prelude.{◌≡◌};
+
+use crate::map::HashMap;
+
+impl<K, V, S> HashMap<K, V, S> {
+    /// From now on so many requests for memory are met, and each later one is refused.
+    pub fn refuse_after(&mut self, requests: u64)
+        ensures { self.new ≡ self.old }
+    {
+        self.memory.refuse_after(requests);
+    }
+}
