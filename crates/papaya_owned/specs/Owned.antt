@@ -17,7 +17,7 @@ use Rattle.papaya_points.specs.Steps.{AreLawful}
 use Rattle.papaya_alone.specs.Counting.{IsCounted}
 use Rattle.papaya_callers.specs.Kind.{Kind}
 use Rattle.papaya_callers.specs.Sights.{Sight}
-use Rattle.papaya_late.specs.Kinds.{Fits, TellsFit}
+use Rattle.papaya_late.specs.Kinds.{Fits, FaultFits, TellsFit}
 use Rattle.papaya_whole.specs.Contents.{AreContents}
 use Rattle.papaya_whole.specs.Owner.{AtRest}
 use Rattle.papaya_owned.specs.declared.machines.Stop.{Stop}
@@ -81,7 +81,7 @@ module _ {K V : Type 0} (same : K → K → Bool) (hash : K → ℕ) (setting : 
   abbrev pub EndsBy : Result Stop Fault → Type 0
   EndsBy (Ok (stop.Answered answer)) = Fits kind.present kind.absent kind.takes answer × AnswersBy answer
   EndsBy (Ok (stop.Asks asked)) = TellsFit kind.present kind.absent kind.takes {T = Node K V} (called.Asks asked)
-  EndsBy (Err fault) = Holds same hash setting m xs
+  EndsBy (Err fault) = FaultFits kind.present kind.absent kind.takes fault × Holds same hash setting m xs
 
 -- an answer with which the call's own pair is in the map
 abbrev pub PutsIt : KeyAnswer → Type 0

@@ -13,7 +13,10 @@ use Rattle.papaya_tables.specs.declared.setting.Setting.{Setting}
 use Rattle.papaya_raw.specs.CallPoints.{removing}
 use Rattle.papaya_raw.specs.declared.machines.call.KeyCall.{KeyCall}
 use Rattle.papaya_rule.specs.Maps.{IsClass}
-use Rattle.papaya_callers.specs.Kind.{removes}
+use Rattle.papaya_callers.specs.Kind.{Kind, removes}
+use Rattle.papaya_late.specs.Faults.{IsRoom}
+use Rattle.papaya_late.specs.Kinds.{FaultFits}
+use Rattle.papaya_raw.specs.declared.machines.asking.Takes.TheVariants as replies
 use Rattle.papaya_callers.specs.Pairs.{Begun}
 use Rattle.papaya_callers.specs.Together.{Removes}
 use Rattle.papaya_owned.specs.Ending.{Ends, RunsTo}
@@ -78,3 +81,8 @@ module _ {K V : Type 0} (same : K → K → Bool) (hash : K → ℕ) (setting : 
   removes_by (stop.Answered (answers.Replaced old new)) e = absurd (elim e.0 as (λ _. ⊥) [ inl p ↦ cc p | inr p ↦ cc p.0 ])
   removes_by (stop.Asks None) e = absurd (cc e)
   removes_by (stop.Asks (Some word)) e = absurd (cc e)
+
+-- a call that is told nothing is refused for room
+pub room_of : (kind : Kind) (fault : Fault) → kind.takes ≡ replies.Nothing → FaultFits kind.present kind.absent kind.takes fault → IsRoom fault
+room_of kind fault none (inl fits) = fits.1
+room_of kind fault none (inr fits) = let e = fits.0 in absurd (cc (none, e))

@@ -13,6 +13,7 @@ use Rattle.papaya_raw.specs.declared.machines.call.KeyCall.{KeyCall}
 use Rattle.papaya_callers.specs.Kind.{Kind, inserts, tries_to_insert}
 use Rattle.papaya_callers.specs.Pairs.{Begun}
 use Rattle.papaya_callers.specs.Together.{Inserts, TriesToInsert}
+use Rattle.papaya_late.specs.Kinds.{FaultFits}
 use Rattle.papaya_owned.specs.Ending.{Ends, RunsTo}
 use Rattle.papaya_owned.specs.Machines.{on_key_plan}
 use Rattle.papaya_owned.specs.Owned.{Holds, EndsBy, ComesBack, found_by, left_by}
@@ -116,7 +117,8 @@ module _ {K V : Type 0} (same : K → K → Bool) (hash : K → ℕ) (setting : 
       → (has_replaced s ≡ is_some (found_by keys xs)) × Holds same hash setting m (left_by keys xs ++ ((key, value) ∷ []))
   stored_so result e s is = inserts_by s (subst (EndsBy same hash setting m inserts given keys xs) is e)
 
-  pub refused_so : (kind : Kind) (result : Result Stop Fault) → EndsBy same hash setting m kind given keys xs result → (fault : Fault) → result ≡ Err fault → Holds same hash setting m xs
+  pub refused_so : (kind : Kind) (result : Result Stop Fault) → EndsBy same hash setting m kind given keys xs result → (fault : Fault) → result ≡ Err fault
+      → FaultFits kind.present kind.absent kind.takes fault × Holds same hash setting m xs
   refused_so kind result e fault is = subst (EndsBy same hash setting m kind given keys xs) is e
 
 -- the pair comes back with a fault

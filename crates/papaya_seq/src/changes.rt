@@ -1,6 +1,7 @@
 //! Removals from a map for one owner. Each change begins with a refresh.
-ghost use Rattle.std.specs.Prelude.{◌≡◌, List, None, is_some, IfOk, OnOk, OnErr};
+ghost use Rattle.std.specs.Prelude.{◌≡◌, List, None, is_some, IfErr, IfOk, OnOk, OnErr};
 ghost use Rattle.papaya_callers.specs.Kind.{removes};
+ghost use Rattle.papaya_late.specs.Faults.{IsRoom};
 ghost use Rattle.papaya_seq.specs.Maps.{HasPairs, has_removed};
 ghost use Rattle.papaya_owned.specs.Owned.{Holds, EndsBy, found_by, hashed_by, left_by};
 
@@ -56,7 +57,8 @@ fn removed(stop: Stop) -> bool
 }
 
 impl<K: Eq + Hash + Drop, V: Drop, S: BuildHasher> HashMap<K, V, S> {
-    /// Removes the pair of a key, and answers whether there was one. The only fault is `Fault::Memory`; then no pair has changed.
+    /// Removes the pair of a key, and answers whether there was one. The faults are `Fault::Capacity` and
+    /// `Fault::Memory`; then no pair has changed.
     pub fn remove(&mut self, key: K) -> Result<bool, Fault>
         requires { (xs : List (K × V)) × HasPairs K.eq (hashed_by S.Hasher.finish S.Hasher.write S.build_hasher K.hash_input) self.old xs }
         ensures some { (xs : List (K × V)) → HasPairs K.eq (hashed_by S.Hasher.finish S.Hasher.write S.build_hasher K.hash_input) self.old xs → IfOk result (λ was. was ≡ is_some (found_by (K.eq key) xs)) }
@@ -64,6 +66,7 @@ impl<K: Eq + Hash + Drop, V: Drop, S: BuildHasher> HashMap<K, V, S> {
             → OnOk result (HasPairs K.eq (hashed_by S.Hasher.finish S.Hasher.write S.build_hasher K.hash_input) self.new (left_by (K.eq key) xs)) }
         ensures refused { (xs : List (K × V)) → HasPairs K.eq (hashed_by S.Hasher.finish S.Hasher.write S.build_hasher K.hash_input) self.old xs
             → OnErr result (HasPairs K.eq (hashed_by S.Hasher.finish S.Hasher.write S.build_hasher K.hash_input) self.new xs) }
+        ensures fault { IfErr result IsRoom }
     {
         refresh(&mut self.memory, self.setting, &self.hasher);
         match take(&mut self.memory, self.setting, &self.hasher, key) {

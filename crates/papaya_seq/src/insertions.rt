@@ -1,6 +1,7 @@
 //! Insertions into a map for one owner. Each begins with a refresh.
 ghost use Rattle.std.specs.Prelude.{◌≡◌, true, false, List, [], ◌∷◌, ◌++◌, None, Some, is_some, IsTrue, IfOk, IfErr, OnOk, OnErr};
 ghost use Rattle.papaya_callers.specs.Kind.{Kind};
+ghost use Rattle.papaya_late.specs.Faults.{IsRoom};
 ghost use Rattle.papaya_tables.specs.declared.node.Node.TheVariants as node;
 ghost use Rattle.papaya_owned.specs.Owned.{Holds, EndsBy, ComesBack, found_by, hashed_by, left_by};
 ghost use Rattle.papaya_seq.specs.Maps.{HasPairs, StoresPair, has_found, has_replaced};
@@ -59,7 +60,8 @@ fn pair_of<K: Drop, V: Drop>(back: Option<Node<K, V>>) -> (K, V)
 /// A call was refused, and its pair came back.
 fn refused<K: Drop, V: Drop>(fault: Fault, back: Option<Node<K, V>>) -> Refused<K, V>
     requires { (key : K) × (value : V) × (back ≡ Some (node.Pair key value)) }
-    ensures { back ≡ Some (node.Pair result.key result.value) }
+    ensures fault { result.fault ≡ fault }
+    ensures pair { back ≡ Some (node.Pair result.key result.value) }
 {
     let (key, value) = pair_of(back);
     Refused { fault, key, value }
@@ -89,6 +91,7 @@ impl<K: Eq + Hash + Drop, V: Drop, S: BuildHasher> HashMap<K, V, S> {
         ensures refused { (xs : List (K × V)) → HasPairs K.eq (hashed_by S.Hasher.finish S.Hasher.write S.build_hasher K.hash_input) self.old xs
             → OnErr result (HasPairs K.eq (hashed_by S.Hasher.finish S.Hasher.write S.build_hasher K.hash_input) self.new xs) }
         ensures back { (xs : List (K × V)) → HasPairs K.eq (hashed_by S.Hasher.finish S.Hasher.write S.build_hasher K.hash_input) self.old xs → IfErr result (λ r. (r.key ≡ key) × (r.value ≡ value)) }
+        ensures fault { IfErr result (λ r. IsRoom r.fault) }
     {
         refresh(&mut self.memory, self.setting, &self.hasher);
         let hash = self.hasher.hash_of(&key);
@@ -111,6 +114,7 @@ impl<K: Eq + Hash + Drop, V: Drop, S: BuildHasher> HashMap<K, V, S> {
         ensures refused { (xs : List (K × V)) → HasPairs K.eq (hashed_by S.Hasher.finish S.Hasher.write S.build_hasher K.hash_input) self.old xs
             → OnErr result (HasPairs K.eq (hashed_by S.Hasher.finish S.Hasher.write S.build_hasher K.hash_input) self.new xs) }
         ensures back { (xs : List (K × V)) → HasPairs K.eq (hashed_by S.Hasher.finish S.Hasher.write S.build_hasher K.hash_input) self.old xs → IfErr result (λ r. (r.key ≡ key) × (r.value ≡ value)) }
+        ensures fault { IfErr result (λ r. IsRoom r.fault) }
     {
         refresh(&mut self.memory, self.setting, &self.hasher);
         let hash = self.hasher.hash_of(&key);

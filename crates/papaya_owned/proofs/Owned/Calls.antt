@@ -218,4 +218,4 @@ module _ {K V S : Type 0} (same : K → K → Bool) (hashes : S → K → ℕ) (
       → ComesTo {Q = K} same same hashes b setting h.lawful h.initial h.world.memory h.chart h.blocks map0.map.rule (same k) (Begun kind pair) m result → EndsBy same hash setting m kind pair (same k) xs result
   ends_by m (Ok (stop.Answered answer)) a = (a.answers.0, answered_by m answer a)
   ends_by m (Ok (stop.Asks asked)) t = t
-  ends_by m (Err fault) r = refused_holds m r
+  ends_by m (Err fault) r = (r.1, refused_holds m r.0)

@@ -28,7 +28,7 @@ use Rattle.papaya_points.specs.Steps.{AreLawful}
 use Rattle.papaya_alone.specs.Counted.{HasAdded, counted_at, counted_for}
 use Rattle.papaya_alone.specs.Endings.{RunsEnd, runs_end}
 use Rattle.papaya_callers.specs.Pairs.{Given, kind_of}
-use Rattle.papaya_late.specs.Kinds.{IsFit, ComesFit, TellsFit}
+use Rattle.papaya_late.specs.Kinds.{IsFit, ComesFit, FaultFits, TellsFit}
 use Rattle.papaya_late.proofs.KindsKept.Laws.{calls_keep_their_kind}
 use Rattle.papaya_callers.specs.Sights.{Sight}
 use Rattle.papaya_callers.specs.Together.{CallOnKey, OnKey as OnKeyOf, AnswersOnce, in_slot}
@@ -119,7 +119,7 @@ module _ {K V Q S : Type 0} (same : K → K → Bool) (asks : Q → K → Bool) 
   CourseTo p m called.Waits = ⊥
   CourseTo p m (called.Asks asked) = Course p m × TellsFit (kind_of given).present (kind_of given).absent (kind_of given).takes {T = Node K V} (called.Asks asked)
   CourseTo p m (called.Done answer) = Answered m answer
-  CourseTo p m (called.Refused fault) = IsRefused m
+  CourseTo p m (called.Refused fault) = IsRefused m × FaultFits (kind_of given).present (kind_of given).absent (kind_of given).takes fault
   CourseTo p m _ = Course p m
 
   module _ (p : KeyCall K V Q) (m : Mem (Node K V)) (at : Course p m) where
@@ -176,7 +176,7 @@ module _ {K V Q S : Type 0} (same : K → K → Bool) (asks : Q → K → Bool) 
       runs = l.runs m0 c0 blocks0 rule0 at.runs;
       counts = subst (λ x. HasAdded setting m0 x l.w2.memory) (l.answered answer refl) (l.counts m0 at.counts);
     }
-    course_by m2 p2 (called.Refused fault) l f = record {
+    course_by m2 p2 (called.Refused fault) l f = (record {
       w = l.w2;
       c = l.c2;
       blocks = l.blocks2;
@@ -185,7 +185,7 @@ module _ {K V Q S : Type 0} (same : K → K → Bool) (asks : Q → K → Bool) 
       memory = l.memory;
       runs = subst (λ x. HasRun same hash setting keys m0 c0 blocks0 x l.w2.memory l.c2 l.blocks2) l.leads.1 (l.runs m0 c0 blocks0 rule0 at.runs);
       counts = l.refused fault refl m0 at.counts;
-    }
+    }, f.1)
 
     pub course_step : (m2 : Mem (Node K V)) (p2 : KeyCall K V Q) (told : Called (Node K V)) → Steps Took value_at m (call_plan asks same hash p) m2 (p2, told) → CourseTo p2 m2 told
     course_step m2 p2 told s = course_by m2 p2 told (leading m2 p2 told s) (fits m2 p2 told s)
@@ -208,7 +208,7 @@ module _ {K V Q S : Type 0} (same : K → K → Bool) (asks : Q → K → Bool) 
   Next x m progress.Waits = ⊥
   Next x m (progress.Done (stop.Answered answer)) = Answered m answer
   Next x m (progress.Done (stop.Asks asked)) = TellsFit (kind_of given).present (kind_of given).absent (kind_of given).takes {T = Node K V} (called.Asks asked)
-  Next x m (progress.Refused fault) = IsRefused m
+  Next x m (progress.Refused fault) = IsRefused m × FaultFits (kind_of given).present (kind_of given).absent (kind_of given).takes fault
 
   next_by : (p : KeyCall K V Q) (o : Option (Node K V)) (m : Mem (Node K V)) (told : Called (Node K V)) → CourseTo p m told → Next (on_key_settled (it p o) told).0 m (on_key_settled (it p o) told).1
   next_by p o m called.Goes c = record { p = p; unstored = o; is = refl; course = c }
@@ -269,7 +269,7 @@ module _ {K V Q S : Type 0} (same : K → K → Bool) (asks : Q → K → Bool) 
   abbrev pub ComesTo : Mem (Node K V) → Result Stop Fault → Type 0
   ComesTo m (Ok (stop.Answered answer)) = Answered m answer
   ComesTo m (Ok (stop.Asks asked)) = TellsFit (kind_of given).present (kind_of given).absent (kind_of given).takes {T = Node K V} (called.Asks asked)
-  ComesTo m (Err fault) = IsRefused m
+  ComesTo m (Err fault) = IsRefused m × FaultFits (kind_of given).present (kind_of given).absent (kind_of given).takes fault
 
   stopped : (x2 : OnKey K V Q S) (m2 : Mem (Node K V)) (told : Progress Stop) (result : Result Stop Fault) → Next x2 m2 told → Tells told result → ComesTo m2 result
   stopped x2 m2 (progress.Done a) (Ok b) next tells = subst (λ z. ComesTo m2 (Ok z)) (sym tells) (done a next)
@@ -277,7 +277,7 @@ module _ {K V Q S : Type 0} (same : K → K → Bool) (asks : Q → K → Bool) 
       done : (a : Stop) → Next x2 m2 (progress.Done a) → ComesTo m2 (Ok a)
       done (stop.Answered answer) next = next
       done (stop.Asks asked) next = next
-  stopped x2 m2 (progress.Refused f) (Err g) next tells = next
+  stopped x2 m2 (progress.Refused f) (Err g) next tells = subst (λ z. ComesTo m2 (Err z)) (sym tells) next
   stopped x2 m2 (progress.Refused f) (Ok b) next tells = absurd tells
   stopped x2 m2 (progress.Done a) (Err g) next tells = absurd tells
   stopped x2 m2 progress.Goes (Ok b) next tells = absurd tells

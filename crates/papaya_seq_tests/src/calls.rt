@@ -1,0 +1,106 @@
+//! Calls on a map from numbers to numbers, and what they answer.
+ghost use Rattle.std.specs.Prelude.{◌==◌};
+ghost use Rattle.std.specs.Hash as fed;
+ghost use Rattle.papaya_owned.specs.Owned.{hashed_by};
+ghost use Rattle.papaya_seq_tests.specs.Numbers.{HasSome};
+
+use papaya_seq::{Fault, HashMap};
+use std::hash::BuildHasher;
+
+/// A call.
+#[derive(Clone, Copy)]
+pub(crate) enum Call {
+    /// Stores a pair, also in the place of another one.
+    Insert(u64, u64),
+    /// Stores a pair where there is none.
+    TryInsert(u64, u64),
+    /// Removes the pair of a key.
+    Remove(u64),
+    /// Looks for the value of a key.
+    Get(u64),
+    /// Looks for a key.
+    Contains(u64),
+    /// Counts the pairs.
+    Len,
+}
+
+/// What it answers.
+#[derive(Clone, Copy, PartialEq, Eq)]
+pub(crate) enum Answer {
+    /// Whether there was a pair.
+    Was(bool),
+    /// The pair was stored where there was none.
+    Stored,
+    /// There was a pair, and this value came back.
+    Back(u64),
+    /// The value.
+    Value(Option<u64>),
+    /// So many pairs.
+    Count(u64),
+    /// It was refused for this, and this pair came back.
+    Refused(Fault, u64, u64),
+    /// It was refused for this.
+    Faulty(Fault),
+}
+
+fn inserted<S: BuildHasher>(map: &mut HashMap<u64, u64, S>, key: u64, value: u64) -> Answer
+    requires { HasSome (hashed_by S.Hasher.finish S.Hasher.write S.build_hasher fed.u64) map.old }
+    ensures { HasSome (hashed_by S.Hasher.finish S.Hasher.write S.build_hasher fed.u64) map.new }
+{
+    match map.insert(key, value) {
+        Ok(was) => Answer::Was(was),
+        Err(refused) => Answer::Refused(refused.fault, refused.key, refused.value),
+    }
+}
+
+fn tried<S: BuildHasher>(map: &mut HashMap<u64, u64, S>, key: u64, value: u64) -> Answer
+    requires { HasSome (hashed_by S.Hasher.finish S.Hasher.write S.build_hasher fed.u64) map.old }
+    ensures { HasSome (hashed_by S.Hasher.finish S.Hasher.write S.build_hasher fed.u64) map.new }
+{
+    match map.try_insert(key, value) {
+        Ok(Ok(())) => Answer::Stored,
+        Ok(Err(back)) => Answer::Back(back),
+        Err(refused) => Answer::Refused(refused.fault, refused.key, refused.value),
+    }
+}
+
+fn removed<S: BuildHasher>(map: &mut HashMap<u64, u64, S>, key: u64) -> Answer
+    requires { HasSome (hashed_by S.Hasher.finish S.Hasher.write S.build_hasher fed.u64) map.old }
+    ensures { HasSome (hashed_by S.Hasher.finish S.Hasher.write S.build_hasher fed.u64) map.new }
+{
+    match map.remove(key) {
+        Ok(was) => Answer::Was(was),
+        Err(fault) => Answer::Faulty(fault),
+    }
+}
+
+/// Makes a call.
+pub(crate) fn called<S: BuildHasher>(map: &mut HashMap<u64, u64, S>, call: Call) -> Answer
+    requires { HasSome (hashed_by S.Hasher.finish S.Hasher.write S.build_hasher fed.u64) map.old }
+    ensures { HasSome (hashed_by S.Hasher.finish S.Hasher.write S.build_hasher fed.u64) map.new }
+{
+    match call {
+        Call::Insert(key, value) => inserted(map, key, value),
+        Call::TryInsert(key, value) => tried(map, key, value),
+        Call::Remove(key) => removed(map, key),
+        Call::Get(key) => Answer::Value(map.get(&key).copied()),
+        Call::Contains(key) => Answer::Was(map.contains_key(&key)),
+        Call::Len => Answer::Count(map.len()),
+    }
+}
+
+/// Whether each of these calls answers so, one after another.
+pub(crate) fn answers<S: BuildHasher>(
+    map: &mut HashMap<u64, u64, S>,
+    rows: &[(Call, Answer)],
+) -> bool
+    requires { HasSome (hashed_by S.Hasher.finish S.Hasher.write S.build_hasher fed.u64) map.old }
+    ensures { HasSome (hashed_by S.Hasher.finish S.Hasher.write S.build_hasher fed.u64) map.new }
+{
+    for (call, expected) in rows {
+        if called(map, *call) != *expected {
+            return false;
+        }
+    }
+    true
+}

@@ -1,0 +1,54 @@
+//! Pairs are stored, replaced, removed and looked for, with hashes that differ and with one hash.
+use crate::calls::Answer::{Back, Count, Stored, Value, Was};
+use crate::calls::Call::{Contains, Get, Insert, Len, Remove, TryInsert};
+use crate::calls::{Answer, Call, answers};
+use papaya_runs::key_hash::KeyHash;
+use papaya_seq::{Fault, HashMap};
+use std::alloc::Global;
+
+/// Eight pairs are stored, then one more for a key that is there, and then two are removed.
+const STORED_AND_REMOVED: [(Call, Answer); 30] = [
+    (Len, Count(0)),
+    (Get(0), Value(None)),
+    (Remove(0), Was(false)),
+    (Insert(0, 0), Was(false)),
+    (Insert(1, 10), Was(false)),
+    (Insert(2, 20), Was(false)),
+    (Insert(3, 30), Was(false)),
+    (Insert(4, 40), Was(false)),
+    (Insert(5, 50), Was(false)),
+    (Insert(6, 60), Was(false)),
+    (Insert(7, 70), Was(false)),
+    (Len, Count(8)),
+    (Get(0), Value(Some(0))),
+    (Get(7), Value(Some(70))),
+    (Get(8), Value(None)),
+    (Insert(3, 33), Was(true)),
+    (Len, Count(8)),
+    (Get(3), Value(Some(33))),
+    (TryInsert(3, 34), Back(34)),
+    (Get(3), Value(Some(33))),
+    (Remove(3), Was(true)),
+    (Remove(3), Was(false)),
+    (Contains(3), Was(false)),
+    (Contains(4), Was(true)),
+    (Len, Count(7)),
+    (TryInsert(3, 35), Stored),
+    (Get(3), Value(Some(35))),
+    (Remove(0), Was(true)),
+    (Get(0), Value(None)),
+    (Len, Count(7)),
+];
+
+/// Whether the calls answer so.
+fn goes_so(alloc: Global, by: KeyHash) -> Result<bool, Fault> {
+    let mut map = HashMap::with_hasher(alloc, by)?;
+    Ok(answers(&mut map, &STORED_AND_REMOVED))
+}
+
+#[test]
+fn pairs_are_stored_replaced_and_removed(rt: HostRuntime) {
+    for by in [KeyHash::Key, KeyHash::Zero] {
+        assert!(rt; goes_so(rt.alloc(), by) == Ok(true));
+    }
+}
