@@ -1,4 +1,4 @@
-//! Tests of the map for one owner: calls with what each answers, and calls that are refused memory.
+//! Tests of the map for one owner: calls with what each answers, calls that are refused memory, and what goes over all pairs.
 #![tactic(auto)]
 
 #[cfg(test)]
@@ -9,3 +9,5 @@ mod filled;
 mod refused;
 #[cfg(test)]
 mod rows;
+#[cfg(test)]
+mod swept;
