@@ -18,6 +18,8 @@ pub(crate) enum Call {
     Remove(u64),
     /// Looks for the value of a key.
     Get(u64),
+    /// Looks for the pair of a key.
+    Pair(u64),
     /// Looks for a key.
     Contains(u64),
     /// Counts the pairs.
@@ -35,6 +37,8 @@ pub(crate) enum Answer {
     Back(u64),
     /// The value.
     Value(Option<u64>),
+    /// The key and its value.
+    KeyValue(Option<(u64, u64)>),
     /// So many pairs.
     Count(u64),
     /// It was refused for this, and this pair came back.
@@ -74,6 +78,14 @@ fn removed<S: BuildHasher>(map: &mut HashMap<u64, u64, S>, key: u64) -> Answer
     }
 }
 
+/// A pair that was found.
+fn copied(found: Option<(&u64, &u64)>) -> Option<(u64, u64)> {
+    match found {
+        Some((key, value)) => Some((*key, *value)),
+        None => None,
+    }
+}
+
 /// Makes a call.
 pub(crate) fn called<S: BuildHasher>(map: &mut HashMap<u64, u64, S>, call: Call) -> Answer
     requires { HasSome (hashed_by S.Hasher.finish S.Hasher.write S.build_hasher fed.u64) map.old }
@@ -84,6 +96,7 @@ pub(crate) fn called<S: BuildHasher>(map: &mut HashMap<u64, u64, S>, call: Call)
         Call::TryInsert(key, value) => tried(map, key, value),
         Call::Remove(key) => removed(map, key),
         Call::Get(key) => Answer::Value(map.get(&key).copied()),
+        Call::Pair(key) => Answer::KeyValue(copied(map.get_key_value(&key))),
         Call::Contains(key) => Answer::Was(map.contains_key(&key)),
         Call::Len => Answer::Count(map.len()),
     }

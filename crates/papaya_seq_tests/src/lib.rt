@@ -6,6 +6,8 @@ mod calls;
 #[cfg(test)]
 mod filled;
 #[cfg(test)]
+mod makers;
+#[cfg(test)]
 mod refused;
 #[cfg(test)]
 mod rows;

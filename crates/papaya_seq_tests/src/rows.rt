@@ -1,13 +1,13 @@
 //! Pairs are stored, replaced, removed and looked for, with hashes that differ and with one hash.
-use crate::calls::Answer::{Back, Count, Stored, Value, Was};
-use crate::calls::Call::{Contains, Get, Insert, Len, Remove, TryInsert};
+use crate::calls::Answer::{Back, Count, KeyValue, Stored, Value, Was};
+use crate::calls::Call::{Contains, Get, Insert, Len, Pair, Remove, TryInsert};
 use crate::calls::{Answer, Call, answers};
 use papaya_runs::key_hash::KeyHash;
 use papaya_seq::{Fault, HashMap};
 use std::alloc::Global;
 
 /// Eight pairs are stored, then one more for a key that is there, and then two are removed.
-const STORED_AND_REMOVED: [(Call, Answer); 30] = [
+const STORED_AND_REMOVED: [(Call, Answer); 32] = [
     (Len, Count(0)),
     (Get(0), Value(None)),
     (Remove(0), Was(false)),
@@ -34,9 +34,11 @@ const STORED_AND_REMOVED: [(Call, Answer); 30] = [
     (Contains(4), Was(true)),
     (Len, Count(7)),
     (TryInsert(3, 35), Stored),
+    (Pair(3), KeyValue(Some((3, 35)))),
     (Get(3), Value(Some(35))),
     (Remove(0), Was(true)),
     (Get(0), Value(None)),
+    (Pair(0), KeyValue(None)),
     (Len, Count(7)),
 ];
 
