@@ -176,16 +176,19 @@ module _ {K V Q S : Type 0} (same : K → K → Bool) (asks : Q → K → Bool) 
       runs = l.runs m0 c0 blocks0 rule0 at.runs;
       counts = subst (λ x. HasAdded setting m0 x l.w2.memory) (l.answered answer refl) (l.counts m0 at.counts);
     }
-    course_by m2 p2 (called.Refused fault) l f = (record {
-      w = l.w2;
-      c = l.c2;
-      blocks = l.blocks2;
-      sights = l.sights2;
-      rests = l.leads.0;
-      memory = l.memory;
-      runs = subst (λ x. HasRun same hash setting keys m0 c0 blocks0 x l.w2.memory l.c2 l.blocks2) l.leads.1 (l.runs m0 c0 blocks0 rule0 at.runs);
-      counts = l.refused fault refl m0 at.counts;
-    }, f.1)
+    course_by m2 p2 (called.Refused fault) l f = (
+      record {
+        w = l.w2;
+        c = l.c2;
+        blocks = l.blocks2;
+        sights = l.sights2;
+        rests = l.leads.0;
+        memory = l.memory;
+        runs = subst (λ x. HasRun same hash setting keys m0 c0 blocks0 x l.w2.memory l.c2 l.blocks2) l.leads.1 (l.runs m0 c0 blocks0 rule0 at.runs);
+        counts = l.refused fault refl m0 at.counts;
+      },
+      f.1,
+    )
 
     pub course_step : (m2 : Mem (Node K V)) (p2 : KeyCall K V Q) (told : Called (Node K V)) → Steps Took value_at m (call_plan asks same hash p) m2 (p2, told) → CourseTo p2 m2 told
     course_step m2 p2 told s = course_by m2 p2 told (leading m2 p2 told s) (fits m2 p2 told s)
