@@ -3,5 +3,5 @@ use Rattle.std.proofs.Common.{◌∙◌}
 use Rattle.papaya_executor.proofs.First.{first_is}
 use Rattle.papaya_executor.proofs.executor.Executor.new.Goals as goal
 
-pub returns : goal.returns
-returns g c = λ same hash. first_is same hash _ (c.new-2.ensures.memory ∙ c.in_ok-new.ensures) c.new-4.ensures.items c.new-3.ensures.items
+pub returns-clause-stands : goal.returns-clause-stands
+returns-clause-stands g c = λ same hash. first_is same hash _ (c.new-2.ensures.memory ∙ c.in_ok-new.ensures) c.new-4.ensures.items c.new-3.ensures.items
