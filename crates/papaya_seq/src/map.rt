@@ -6,7 +6,7 @@ use seize_words::Plain;
 /// A hash map for one owner.
 ///
 /// It has its memory and its collector for itself. Each change begins with a refresh of its one section: what changes before it took out of
-/// the map is given back then, and no earlier, so the old pair that a change answers can be read until the next one begins.
+/// the map is given back then, and no earlier.
 #[derive(Drop)]
 pub struct HashMap<K, V, S> {
     pub(crate) memory: Plain<Node<K, V>>,
