@@ -30,7 +30,9 @@ pub fn calls_run_whole<K, V, Q>()
 {}
 
 /// So it is with a reservation: it begins where the owner rests, may take each of its steps, those of the collector's rows among them, and none of them has
-/// to wait. No pair of the map changes by it, nor what the shards of the counter say. Each run of its steps comes to an end, and then the owner rests.
+/// to wait. No pair of the map changes by it, nor what the shards of the counter say. Each run of its steps comes to an end, and then the owner rests. In
+/// incremental mode it looks at the root alone, and copies into the root or a table behind it; at its end the root has the places for as many pairs as the
+/// shards say and the further ones (`places` of each step).
 pub fn reservations_run_whole<K, V, Q>()
     ensures begins { (same : K → K → Bool) (hash : K → ℕ) (asks : Q → K → Bool) (setting : Setting) (slot : ℕ → ℕ) → RoomsBeginAlone V same hash asks setting slot }
     ensures steps { (same : K → K → Bool) (hash : K → ℕ) (asks : Q → K → Bool) (setting : Setting) (slot : ℕ → ℕ) → RoomsGoOnAlone V same hash asks setting slot }
