@@ -1,2 +1,3 @@
-pub mod Keeping
+pub mod Calls
 pub mod Maps
+pub mod Orders

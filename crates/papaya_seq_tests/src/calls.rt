@@ -1,8 +1,4 @@
 //! Calls on a map from numbers to numbers, and what they answer.
-ghost use Rattle.std.specs.Prelude.{◌==◌};
-ghost use Rattle.std.specs.Hash as fed;
-ghost use Rattle.papaya_owned.specs.Owned.{hashed_by};
-ghost use Rattle.papaya_seq_tests.specs.Numbers.{HasSome};
 
 use papaya_seq::{Fault, HashMap};
 use std::hash::BuildHasher;
@@ -47,20 +43,14 @@ pub(crate) enum Answer {
     Faulty(Fault),
 }
 
-fn inserted<S: BuildHasher>(map: &mut HashMap<u64, u64, S>, key: u64, value: u64) -> Answer
-    requires { HasSome (hashed_by S.Hasher.finish S.Hasher.write S.build_hasher fed.u64) map.old }
-    ensures { HasSome (hashed_by S.Hasher.finish S.Hasher.write S.build_hasher fed.u64) map.new }
-{
+fn inserted<S: BuildHasher>(map: &mut HashMap<u64, u64, S>, key: u64, value: u64) -> Answer {
     match map.insert(key, value) {
         Ok(was) => Answer::Was(was),
         Err(refused) => Answer::Refused(refused.fault, refused.key, refused.value),
     }
 }
 
-fn tried<S: BuildHasher>(map: &mut HashMap<u64, u64, S>, key: u64, value: u64) -> Answer
-    requires { HasSome (hashed_by S.Hasher.finish S.Hasher.write S.build_hasher fed.u64) map.old }
-    ensures { HasSome (hashed_by S.Hasher.finish S.Hasher.write S.build_hasher fed.u64) map.new }
-{
+fn tried<S: BuildHasher>(map: &mut HashMap<u64, u64, S>, key: u64, value: u64) -> Answer {
     match map.try_insert(key, value) {
         Ok(Ok(())) => Answer::Stored,
         Ok(Err(back)) => Answer::Back(back),
@@ -68,10 +58,7 @@ fn tried<S: BuildHasher>(map: &mut HashMap<u64, u64, S>, key: u64, value: u64) -
     }
 }
 
-fn removed<S: BuildHasher>(map: &mut HashMap<u64, u64, S>, key: u64) -> Answer
-    requires { HasSome (hashed_by S.Hasher.finish S.Hasher.write S.build_hasher fed.u64) map.old }
-    ensures { HasSome (hashed_by S.Hasher.finish S.Hasher.write S.build_hasher fed.u64) map.new }
-{
+fn removed<S: BuildHasher>(map: &mut HashMap<u64, u64, S>, key: u64) -> Answer {
     match map.remove(key) {
         Ok(was) => Answer::Was(was),
         Err(fault) => Answer::Faulty(fault),
@@ -87,10 +74,7 @@ fn copied(found: Option<(&u64, &u64)>) -> Option<(u64, u64)> {
 }
 
 /// Makes a call.
-pub(crate) fn called<S: BuildHasher>(map: &mut HashMap<u64, u64, S>, call: Call) -> Answer
-    requires { HasSome (hashed_by S.Hasher.finish S.Hasher.write S.build_hasher fed.u64) map.old }
-    ensures { HasSome (hashed_by S.Hasher.finish S.Hasher.write S.build_hasher fed.u64) map.new }
-{
+pub(crate) fn called<S: BuildHasher>(map: &mut HashMap<u64, u64, S>, call: Call) -> Answer {
     match call {
         Call::Insert(key, value) => inserted(map, key, value),
         Call::TryInsert(key, value) => tried(map, key, value),
@@ -106,10 +90,7 @@ pub(crate) fn called<S: BuildHasher>(map: &mut HashMap<u64, u64, S>, call: Call)
 pub(crate) fn answers<S: BuildHasher>(
     map: &mut HashMap<u64, u64, S>,
     rows: &[(Call, Answer)],
-) -> bool
-    requires { HasSome (hashed_by S.Hasher.finish S.Hasher.write S.build_hasher fed.u64) map.old }
-    ensures { HasSome (hashed_by S.Hasher.finish S.Hasher.write S.build_hasher fed.u64) map.new }
-{
+) -> bool {
     for (call, expected) in rows {
         if called(map, *call) != *expected {
             return false;

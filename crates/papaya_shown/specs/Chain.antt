@@ -4,12 +4,14 @@ use Rattle.std.proofs.Common.{refl, ap}
 use Rattle.std.specs.Coded.{Coded-set, coded_ℕ, ×_prop, Π_prop}
 use mathlib.Core.HLevel.{Σ_prop_path}
 use Rattle.seize_words.specs.Word.{block_in}
-use Rattle.seize_words.specs.declared.at.At.TheVariants.{Word}
+use Rattle.seize_words.specs.declared.at.At.TheVariants.{Root, Word}
 use Rattle.seize_words.specs.Mem.{Mem, value_at, word_at}
+use Rattle.papaya_tables.specs.Chunks.{is_incremental}
 use Rattle.papaya_tables.specs.Marks.{has_mark}
 use Rattle.papaya_tables.specs.declared.marks.TheConstants.{COPYING}
 use Rattle.papaya_tables.specs.declared.node.Node.{Node}
 use Rattle.papaya_tables.specs.declared.node.Node.TheVariants as node
+use Rattle.papaya_tables.specs.declared.setting.Setting.{Setting}
 use Rattle.papaya_tables.specs.declared.table_words.TheConstants.{NEXT, PLACES}
 
 absurd_prop : IsProp ⊥
@@ -72,6 +74,14 @@ module _ {K V : Type 0} where
       abbrev pub pairs_on : ℕ → ℕ → List (K × V)
       pairs_on zero link = []
       pairs_on (suc tables) link = pairs_at link 0 (places_of (value_at m (block_in link))) ++ pairs_on tables (behind link)
+
+    -- the link to the first table of a map
+    abbrev pub root_link : Setting → ℕ
+    root_link setting = word_or_none (word_at m (Root setting.root))
+
+    -- the pairs in so many tables of a map, from the first one on
+    abbrev pub pairs_from_root : Setting → ℕ → List (K × V)
+    pairs_from_root setting tables = pairs_on (is_incremental setting.mode) tables (root_link setting)
 
     -- the place has a word, which names a pair or none
     abbrev pub IsPlace : ℕ → ℕ → Type 0

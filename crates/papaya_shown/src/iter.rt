@@ -6,7 +6,7 @@ ghost use Rattle.papaya_rule.specs.Words.{Blocks};
 ghost use Rattle.papaya_shown.specs.Shown.{Stands, NoneMoves, pairs_stored};
 ghost use Rattle.std.specs.Iterator.{YieldsFirstBy, item_count};
 ghost use Rattle.papaya_tables.specs.Chunks.{is_incremental};
-ghost use Rattle.papaya_shown.specs.Chain.{CanBeRead, HasTables, CountsTables, pairs_on};
+ghost use Rattle.papaya_shown.specs.Chain.{CanBeRead, HasTables, CountsTables, pairs_from_root, pairs_on, root_link};
 ghost use Rattle.papaya_shown.specs.Lent.{pair_shown};
 ghost use Rattle.papaya_shown.specs.Coming.{pairs_to_come, can_go_on};
 
@@ -38,6 +38,7 @@ impl<'a, K, V> Pairs<'a, K, V> {
 pub fn pairs_of<K, V>(memory: &Plain<Node<K, V>>, setting: Setting) -> Pairs<'_, K, V>
     requires { (eq : K → K → Bool) × (hash : K → ℕ) × (c : Chart K) × (blocks : Blocks) × Stands eq hash memory.now setting c blocks }
     ensures can { can_go_on result }
+    ensures all { (tables : ℕ) → HasTables memory.now tables (root_link memory.now setting) → pairs_to_come result ≡ pairs_from_root memory.now setting tables }
     ensures pairs { (eq : K → K → Bool) (hash : K → ℕ) (c : Chart K) (blocks : Blocks) → Stands eq hash memory.now setting c blocks → is_incremental setting.mode ≡ true → NoneMoves true c → IsPermutation (pairs_to_come result) (pairs_stored memory.now c blocks c.stored) }
 {
     let link = memory.look().load(At::Root(setting.root));

@@ -1,57 +1,32 @@
--- By what the insertion comes to, after the refresh.
-use Rattle.std.specs.Prelude.{Some}
-use Rattle.std.proofs.Common.{◌∙◌, refl, subst, sym}
-use Rattle.papaya_tables.specs.declared.node.Node.TheVariants as node
-use Rattle.papaya_callers.specs.Kind.{inserts}
-use Rattle.papaya_late.specs.Faults.{IsRoom}
-use Rattle.papaya_owned.specs.Owned.{hashed_by}
-use Rattle.papaya_seq.proofs.Removals.{room_of}
-use Rattle.papaya_seq.proofs.Stores.{stored_so, refused_so, back_so, inserts_this, same_pair}
+-- By what the insertion comes to in the order in which its pairs were stored.
+use Rattle.papaya_seq.proofs.Shows.{counts, either_rests, left_and, seen_first, seen_held, shows_done, shows_refused, told_same}
 use Rattle.papaya_seq.proofs.map.HashMap.insert.Goals as goal
 
-pub store-requires-clause-call : goal.store-requires-clause-call
-store-requires-clause-call g c = (inserts, c.args.key, c.args.value, inserts_this (hashed_by g.S.Hasher.Hasher.finish g.S.Hasher.Hasher.write g.S.BuildHasher.build_hasher g.K.Hash.hash_input c.args.self.now.hasher) c.args.self.now.setting c.args.key c.args.value _ _ c.hash_of-hash.ensures c.insert-call.ensures)
+pub insert-requires : goal.insert-requires
+insert-requires g c = c.self.invariant
 
-pub refused-requires : goal.refused-requires
-refused-requires g c =
-    let r = c.requires in (
-      c.args.key,
-      c.args.value,
-      back_so (Some (node.Pair c.args.key c.args.value)) c.store.result.0 c.store.result.1
-          (c.store.ensures.back r.0 inserts c.args.key c.args.value (c.refresh.ensures r.0 r.1)
-          (inserts_this (hashed_by g.S.Hasher.Hasher.finish g.S.Hasher.Hasher.write g.S.BuildHasher.build_hasher g.K.Hash.hash_input c.args.self.now.hasher) c.args.self.now.setting c.args.key c.args.value _ _ c.hash_of-hash.ensures c.insert-call.ensures)) c.in-Err-default.fault c.in-Err-default.is-0,
-    )
+pub invariant_of-self-inside : goal.invariant_of-self-inside
+invariant_of-self-inside g c =
+    let held = c.self.invariant in
+    let rests = either_rests _ _ _ _ c.insert.result _ _ (c.insert.ensures.stored held.0 held.1) (c.insert.ensures.refused held.0 held.1) in
+    record { tables = counts _ _ _ _ rests.0 rests.1 }
 
-pub returns-in-Err-default-clause-refused : goal.returns-in-Err-default-clause-refused
-returns-in-Err-default-clause-refused g c = λ xs has.
-    (refused_so g.K.PartialEq.eq (hashed_by g.S.Hasher.Hasher.finish g.S.Hasher.Hasher.write g.S.BuildHasher.build_hasher g.K.Hash.hash_input c.args.self.now.hasher) c.args.self.now.setting c.store.new.memory (g.K.PartialEq.eq c.args.key)
-    xs c.args.key c.args.value inserts c.store.result.0 (c.store.ensures.ends xs inserts c.args.key c.args.value (c.refresh.ensures xs has)
-    (inserts_this (hashed_by g.S.Hasher.Hasher.finish g.S.Hasher.Hasher.write g.S.BuildHasher.build_hasher g.K.Hash.hash_input c.args.self.now.hasher) c.args.self.now.setting c.args.key c.args.value _ _ c.hash_of-hash.ensures c.insert-call.ensures)) c.in-Err-default.fault c.in-Err-default.is-0).1
+pub invariant_of-self : goal.invariant_of-self
+invariant_of-self g c =
+    let held = c.self.invariant in
+    either_rests _ _ _ _ c.insert.result _ _ (c.insert.ensures.stored held.0 held.1) (c.insert.ensures.refused held.0 held.1)
 
-pub returns-in-Err-default-clause-fault : goal.returns-in-Err-default-clause-fault
-returns-in-Err-default-clause-fault g c =
-    let r = c.requires in
-    subst IsRoom (sym c.refused.ensures.fault) (room_of inserts c.in-Err-default.fault refl
-    (refused_so g.K.PartialEq.eq (hashed_by g.S.Hasher.Hasher.finish g.S.Hasher.Hasher.write g.S.BuildHasher.build_hasher g.K.Hash.hash_input c.args.self.now.hasher) c.args.self.now.setting c.store.new.memory (g.K.PartialEq.eq c.args.key)
-    r.0 c.args.key c.args.value inserts c.store.result.0 (c.store.ensures.ends r.0 inserts c.args.key c.args.value (c.refresh.ensures r.0 r.1)
-    (inserts_this (hashed_by g.S.Hasher.Hasher.finish g.S.Hasher.Hasher.write g.S.BuildHasher.build_hasher g.K.Hash.hash_input c.args.self.now.hasher) c.args.self.now.setting c.args.key c.args.value _ _ c.hash_of-hash.ensures c.insert-call.ensures)) c.in-Err-default.fault c.in-Err-default.is-0).0)
+pub returns-clause-some : goal.returns-clause-some
+returns-clause-some g c =
+    let held = c.self.invariant in
+    told_same (g.K.PartialEq.eq c.args.key) held.0 _ (seen_first _ _ _ _ held.0 held.1 c.self.inside.resting.tables _ _ c.self.view_is (g.K.PartialEq.eq c.args.key) (g.met.K.Eq.laws.congr c.args.key)) c.insert.result (c.insert.ensures.some held.0 held.1)
 
-pub returns-in-Err-default-clause-back : goal.returns-in-Err-default-clause-back
-returns-in-Err-default-clause-back g c = λ xs has.
-    same_pair c.store.result.1 c.args.key c.refused.result.key c.args.value c.refused.result.value
-    (back_so (Some (node.Pair c.args.key c.args.value)) c.store.result.0 c.store.result.1
-    (c.store.ensures.back xs inserts c.args.key c.args.value (c.refresh.ensures xs has)
-    (inserts_this (hashed_by g.S.Hasher.Hasher.finish g.S.Hasher.Hasher.write g.S.BuildHasher.build_hasher g.K.Hash.hash_input c.args.self.now.hasher) c.args.self.now.setting c.args.key c.args.value _ _ c.hash_of-hash.ensures c.insert-call.ensures)) c.in-Err-default.fault c.in-Err-default.is-0) c.refused.ensures.pair
+pub returns-clause-stored : goal.returns-clause-stored
+returns-clause-stored g c =
+    let held = c.self.invariant in
+    shows_done _ _ _ _ _ c.insert.result _ _ (left_and (g.K.PartialEq.eq c.args.key) held.0 _ _ (seen_held _ _ _ _ held.0 held.1 c.self.inside.resting.tables _ _ c.self.view_is)) (c.insert.ensures.stored held.0 held.1)
 
-pub returns-in-Ok-default-clause-some : goal.returns-in-Ok-default-clause-some
-returns-in-Ok-default-clause-some g c = λ xs has.
-    c.replaced.ensures
-    ∙ (stored_so g.K.PartialEq.eq (hashed_by g.S.Hasher.Hasher.finish g.S.Hasher.Hasher.write g.S.BuildHasher.build_hasher g.K.Hash.hash_input c.args.self.now.hasher) c.args.self.now.setting c.store.new.memory (g.K.PartialEq.eq c.args.key)
-    xs c.args.key c.args.value c.store.result.0 (c.store.ensures.ends xs inserts c.args.key c.args.value (c.refresh.ensures xs has)
-    (inserts_this (hashed_by g.S.Hasher.Hasher.finish g.S.Hasher.Hasher.write g.S.BuildHasher.build_hasher g.K.Hash.hash_input c.args.self.now.hasher) c.args.self.now.setting c.args.key c.args.value _ _ c.hash_of-hash.ensures c.insert-call.ensures)) c.in-Ok-default.stop c.in-Ok-default.is-0).0
-
-pub returns-in-Ok-default-clause-stored : goal.returns-in-Ok-default-clause-stored
-returns-in-Ok-default-clause-stored g c = λ xs has.
-    (stored_so g.K.PartialEq.eq (hashed_by g.S.Hasher.Hasher.finish g.S.Hasher.Hasher.write g.S.BuildHasher.build_hasher g.K.Hash.hash_input c.args.self.now.hasher) c.args.self.now.setting c.store.new.memory (g.K.PartialEq.eq c.args.key)
-    xs c.args.key c.args.value c.store.result.0 (c.store.ensures.ends xs inserts c.args.key c.args.value (c.refresh.ensures xs has)
-    (inserts_this (hashed_by g.S.Hasher.Hasher.finish g.S.Hasher.Hasher.write g.S.BuildHasher.build_hasher g.K.Hash.hash_input c.args.self.now.hasher) c.args.self.now.setting c.args.key c.args.value _ _ c.hash_of-hash.ensures c.insert-call.ensures)) c.in-Ok-default.stop c.in-Ok-default.is-0).1
+pub returns-clause-refused : goal.returns-clause-refused
+returns-clause-refused g c =
+    let held = c.self.invariant in
+    shows_refused _ _ _ _ _ c.insert.result held.0 _ (seen_held _ _ _ _ held.0 held.1 c.self.inside.resting.tables _ _ c.self.view_is) (c.insert.ensures.refused held.0 held.1)

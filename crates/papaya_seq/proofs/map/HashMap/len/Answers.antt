@@ -1,11 +1,14 @@
--- The one shard says it.
-use Rattle.std.proofs.Common.{◌∙◌, ap, sym}
-use Rattle.seize_words.specs.Mem.{word_at}
-use Rattle.seize_words.specs.declared.at.At.TheVariants.{Word}
-use Rattle.papaya_seq.proofs.Looks.{counted_so}
+-- The one shard says it, and its words show as many pairs.
+use Rattle.std.proofs.Common.{◌∙◌}
+use Rattle.papaya_seq.proofs.Shows.{seen_as_many, seen_apart}
 use Rattle.papaya_seq.proofs.map.HashMap.len.Goals as goal
 
+pub count-requires : goal.count-requires
+count-requires g c = c.self.invariant
+
 pub returns : goal.returns
-returns g c = λ xs has.
-    c.read.ensures ∙ counted_so _ _ _ _ xs has c.load-total.result c.load-total.type_inv
-    (sym (ap (λ m. word_at m (Word c.args.self.now.setting.counter 0)) c.look-look.ensures) ∙ c.load-total.ensures.0)
+returns g c =
+    let held = c.self.invariant in record {
+      len = c.count.ensures held.0 held.1 ∙ seen_as_many _ _ _ _ held.0 held.1 c.self.inside.resting.tables _ _ c.self.view_is;
+      apart = seen_apart _ _ _ _ held.0 held.1 c.self.inside.resting.tables _ _ c.self.view_is;
+    }

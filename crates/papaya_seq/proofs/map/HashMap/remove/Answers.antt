@@ -1,23 +1,33 @@
--- By what the removal comes to, after the refresh.
-use Rattle.std.proofs.Common.{◌∙◌, refl}
-use Rattle.papaya_callers.specs.Kind.{removes}
-use Rattle.papaya_owned.specs.Owned.{hashed_by}
-use Rattle.papaya_seq.proofs.Removals.{removes_by, room_of}
+-- By what the removal comes to in the order in which its pairs were stored.
+use Rattle.papaya_seq.proofs.Orders.{left_same}
+use Rattle.papaya_seq.proofs.Shows.{counts, either_rests, seen_first, seen_held, shows_done, shows_refused, told_same}
 use Rattle.papaya_seq.proofs.map.HashMap.remove.Goals as goal
 
-pub returns-in-Ok-clause-some : goal.returns-in-Ok-clause-some
-returns-in-Ok-clause-some g c = λ xs has.
-    c.removed.ensures
-    ∙ (removes_by g.K.PartialEq.eq (hashed_by g.S.Hasher.Hasher.finish g.S.Hasher.Hasher.write g.S.BuildHasher.build_hasher g.K.Hash.hash_input c.args.self.now.hasher) c.args.self.now.setting c.take.new.memory
-    (g.K.PartialEq.eq c.args.key) xs c.in-Ok.stop (c.in-Ok.ensures xs (c.refresh.ensures xs has))).0
+pub remove-requires : goal.remove-requires
+remove-requires g c = c.self.invariant
 
-pub returns-in-Ok-clause-removed : goal.returns-in-Ok-clause-removed
-returns-in-Ok-clause-removed g c = λ xs has.
-    (removes_by g.K.PartialEq.eq (hashed_by g.S.Hasher.Hasher.finish g.S.Hasher.Hasher.write g.S.BuildHasher.build_hasher g.K.Hash.hash_input c.args.self.now.hasher) c.args.self.now.setting c.take.new.memory
-    (g.K.PartialEq.eq c.args.key) xs c.in-Ok.stop (c.in-Ok.ensures xs (c.refresh.ensures xs has))).1
+pub invariant_of-self-inside : goal.invariant_of-self-inside
+invariant_of-self-inside g c =
+    let held = c.self.invariant in
+    let rests = either_rests _ _ _ _ c.remove.result _ _ (c.remove.ensures.removed held.0 held.1) (c.remove.ensures.refused held.0 held.1) in
+    record { tables = counts _ _ _ _ rests.0 rests.1 }
 
-pub returns-in-Err-clause-refused : goal.returns-in-Err-clause-refused
-returns-in-Err-clause-refused g c = λ xs has. (c.in-Err.ensures xs (c.refresh.ensures xs has)).1
+pub invariant_of-self : goal.invariant_of-self
+invariant_of-self g c =
+    let held = c.self.invariant in
+    either_rests _ _ _ _ c.remove.result _ _ (c.remove.ensures.removed held.0 held.1) (c.remove.ensures.refused held.0 held.1)
 
-pub returns-in-Err-clause-fault : goal.returns-in-Err-clause-fault
-returns-in-Err-clause-fault g c = let r = c.requires in room_of removes _ refl (c.in-Err.ensures r.0 (c.refresh.ensures r.0 r.1)).0
+pub returns-clause-some : goal.returns-clause-some
+returns-clause-some g c =
+    let held = c.self.invariant in
+    told_same (g.K.PartialEq.eq c.args.key) held.0 _ (seen_first _ _ _ _ held.0 held.1 c.self.inside.resting.tables _ _ c.self.view_is (g.K.PartialEq.eq c.args.key) (g.met.K.Eq.laws.congr c.args.key)) c.remove.result (c.remove.ensures.some held.0 held.1)
+
+pub returns-clause-removed : goal.returns-clause-removed
+returns-clause-removed g c =
+    let held = c.self.invariant in
+    shows_done _ _ _ _ _ c.remove.result _ _ (left_same (g.K.PartialEq.eq c.args.key) held.0 _ (seen_held _ _ _ _ held.0 held.1 c.self.inside.resting.tables _ _ c.self.view_is)) (c.remove.ensures.removed held.0 held.1)
+
+pub returns-clause-refused : goal.returns-clause-refused
+returns-clause-refused g c =
+    let held = c.self.invariant in
+    shows_refused _ _ _ _ _ c.remove.result held.0 _ (seen_held _ _ _ _ held.0 held.1 c.self.inside.resting.tables _ _ c.self.view_is) (c.remove.ensures.refused held.0 held.1)
