@@ -1,5 +1,5 @@
 -- A retaining of one owner's map, from question to question: what is so as it begins, where it asks, once it is told, and where it ends.
-use Rattle.std.specs.Prelude.{◌≡◌, ℕ, ◌<◌, ◌-◌, Bool, true, cond, List, [], ◌∷◌, length, filter, Result, Ok, Err}
+use Rattle.std.specs.Prelude.{◌≡◌, ℕ, ◌<◌, ◌-◌, Bool, cond, List, [], ◌∷◌, length, filter, Result, Ok, Err}
 use Rattle.std.proofs.Common.{sym, ◌∙◌, ap, subst, arith}
 use Rattle.std.proofs.lemmas.List.{length-map}
 use denote.Ref.{Bor}
