@@ -1,6 +1,6 @@
 -- What users and rows do puts nothing behind a block, and leaves what lies there. Behind one that its maker has there is nothing.
 use Rattle.std.specs.Prelude.{Option, IsSome, Ok, Err}
-use Rattle.std.proofs.Common.{◌≡◌, ℕ, Bool, true, false, cond, eqb, List, [], ◌∷◌, refl, ap, sym, subst, ◌∙◌}
+use Rattle.std.proofs.Common.{◌≡◌, ℕ, Bool, true, false, cond, eqb, List, [], ◌∷◌, refl, arith, ap, sym, subst, ◌∙◌}
 use Rattle.seize_words.specs.Op.{Out, Make, Found, Stored, Exchanged, Made, Taken, Roomed}
 use Rattle.seize_words.specs.Mem.{Mem, Took, value_at}
 use Rattle.seize.specs.Law.{Place, Nowhere, Standing, With, without, where_is, is_somewhere, owner_of}
@@ -17,21 +17,8 @@ use Rattle.papaya_rule.specs.InWorld.{AllUsers}
 use Rattle.papaya_callers.specs.Kept.{IsPairOf}
 
 -- what carries a block is linked, and so its maker doesn't have it
-carried : (life : ℕ → Life) (x t : ℕ) (q : Bool) → is_linked (life x) ≡ q → cond q (With x) Nowhere ≡ With t → is_linked (life t) ≡ true
-carried life x t true e h = subst (λ (y : ℕ). is_linked (life y) ≡ true) (cc h) e
-carried life x t false e h = absurd (cc h)
-
 carrier_linked : (life : ℕ → Life) (l : Life) (t : ℕ) → place_of life l ≡ With t → is_linked (life t) ≡ true
-carrier_linked life IsFree t h = absurd (cc h)
-carrier_linked life (IsOwned i) t h = absurd (cc h)
-carrier_linked life IsLinked t h = absurd (cc h)
-carrier_linked life (IsUnlinked i) t h = absurd (cc h)
-carrier_linked life (IsDeferring i s x) t h = carried life x t (is_linked (life x)) refl h
-carrier_linked life (IsDeferred x) t h = carried life x t (is_linked (life x)) refl h
-carrier_linked life (IsPending i) t h = absurd (cc h)
-carrier_linked life (IsIn x) t h = absurd (cc h)
-carrier_linked life (IsDoomed i) t h = absurd (cc h)
-carrier_linked life (IsLeft i) t h = absurd (cc h)
+carrier_linked life l t h = grind (arith, h)
 
 pub carrier_not_made : {T : Type 0} (defers : T → Option ℕ) (size : ℕ) (w : World T) → Reached defers size w → (b t : ℕ) → where_is b w.log ≡ With t → (i : ℕ) → w.hand t ≡ Making i → ⊥
 carrier_not_made defers size w r b t at i making =
@@ -43,13 +30,7 @@ carrier_not_made defers size w r b t at i making =
 
 -- the collector has what lies behind a block
 handed_by : (h : Hand) (life : ℕ → Life) (l : Life) (t : ℕ) → place_of life l ≡ With t → HandFits h l → h ≡ Handed
-handed_by NoBlock life l t at fits = absurd (let e : place_of life l ≡ Nowhere = ap (place_of life) fits in cc (at, e))
-handed_by (Making i) life l t at fits = absurd (let e : place_of life l ≡ Nowhere = ap (place_of life) fits in cc (at, e))
-handed_by (InUse o) life l t at fits = absurd (let e : place_of life l ≡ Standing = ap (place_of life) fits in cc (at, e))
-handed_by (Parting i) life l t at fits = absurd (let e : place_of life l ≡ Standing = ap (place_of life) fits in cc (at, e))
-handed_by (Cutting i) life l t at fits = absurd (let e : place_of life l ≡ Nowhere = ap (place_of life) fits in cc (at, e))
-handed_by Handed life l t at fits = refl
-handed_by (LeftTo i) life l t at fits = absurd (let e : place_of life l ≡ Nowhere = ap (place_of life) fits in cc (at, e))
+handed_by h life l t at fits = grind (arith, at, fits)
 
 pub behind_handed : {T : Type 0} (defers : T → Option ℕ) (size : ℕ) (w : World T) → Reached defers size w → (x t : ℕ) → where_is x w.log ≡ With t → w.hand x ≡ Handed
 behind_handed defers size w r x t at =
@@ -75,13 +56,7 @@ deferred_behind false stands d t before is at = absurd (cc is)
 
 -- where something is unlinked, what lies behind a block lay there before
 without_back : (t c : ℕ) (p : Place) → without c p ≡ With t → p ≡ With t
-without_back t c Nowhere h = absurd (cc h)
-without_back t c Standing h = absurd (cc h)
-without_back t c (With u) h = by (eqb u c) h
-  where
-    by : (q : Bool) → cond q Nowhere (With u) ≡ With t → With u ≡ With t
-    by true k = absurd (cc k)
-    by false k = k
+without_back t c p h = grind (arith, h)
 
 module _ {T : Type 0} (defers : T → Option ℕ) (size x t : ℕ) where
   -- it is none that its maker has
@@ -94,12 +69,9 @@ module _ {T : Type 0} (defers : T → Option ℕ) (size x t : ℕ) where
   user_back (Step i) w w2 r u e = absurd u
   user_back (Makes i value words) w w2 r u e = subst (LaySo x t w) (sym e.4) (made_back e.0 e.3)
     where
-      there : where_is x w.log ≡ With t → IsSome (value_at w.memory x)
-      there at = kept_there defers size w r x (CanBeReached (ap is_somewhere at))
-
       made_back : (out : Out T) → Took w.memory (Make value words) out e.1 → LaySo x t w (made_by defers w i e.1 out)
-      made_back (Made (Ok b)) took at = (at, refl, made_value defers w.memory x value words (Made (Ok b)) e.1 (there at) took)
-      made_back (Made (Err back)) took at = (at, refl, made_value defers w.memory x value words (Made (Err back)) e.1 (there at) took)
+      made_back (Made (Ok b)) took at = (at, refl, made_value defers w.memory x value words (Made (Ok b)) e.1 (kept_there defers size w r x (CanBeReached (ap is_somewhere at))) took)
+      made_back (Made (Err back)) took at = (at, refl, made_value defers w.memory x value words (Made (Err back)) e.1 (kept_there defers size w r x (CanBeReached (ap is_somewhere at))) took)
       made_back (Found word) took at = absurd took.0
       made_back Stored took at = absurd took.0
       made_back (Exchanged result) took at = absurd took.0

@@ -1,11 +1,9 @@
 -- What is refused among many callers.
 use Rattle.std.specs.Prelude.{◌≡◌, ◌≢◌, ◌<◌, ◌≤◌, ℕ, suc, Bool, true, false, Option, Some, None}
 use Rattle.std.proofs.Common.{subst, arith}
-use Rattle.seize_words.specs.Mem.{value_at}
 use Rattle.seize.specs.Law.{With, where_is, holds, owner_of}
 use Rattle.seize.specs.World.{World, Changing, IsInside, IsOnto}
 use Rattle.papaya_tables.specs.declared.node.Node.{Node}
-use Rattle.papaya_tables.specs.declared.node.Node.TheVariants as node
 use Rattle.papaya_tables.specs.declared.setting.Setting.{Setting}
 use Rattle.papaya_rule.specs.Chart.{Chart}
 use Rattle.papaya_rule.specs.Words.{Blocks}
@@ -34,11 +32,6 @@ module _ {K V Q : Type 0} (same : K → K → Bool) (hash : K → ℕ) (asks : Q
   lies_behind_anothers : (t x : ℕ) → c.first ≤ t → t < c.past → where_is x w.log ≡ With (blocks.table t) → owner_of x w.log ≢ setting.counter
       → Together V same hash asks setting slot w c blocks sights calls → ⊥
   lies_behind_anothers t x l made at other all = other (all.ground.behind t x l made at).0.owner_is
-
-  -- what lies behind a linked table is no pair
-  lies_there_as_a_counter : (t x : ℕ) → c.first ≤ t → t < c.past → where_is x w.log ≡ With (blocks.table t) → value_at w.memory x ≡ Some node.Shards
-      → Together V same hash asks setting slot w c blocks sights calls → ⊥
-  lies_there_as_a_counter t x l made at is all = let p = (all.ground.behind t x l made at).0.pair.2 in cc (p, is)
 
   -- a pair lies behind the last table, from which nothing is to be copied
   lies_behind_the_last : (t x : ℕ) → c.first ≤ t → suc t ≡ c.past → where_is x w.log ≡ With (blocks.table t) → Together V same hash asks setting slot w c blocks sights calls → ⊥
