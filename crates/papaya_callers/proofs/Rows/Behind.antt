@@ -1,12 +1,12 @@
 -- What users and rows do puts nothing behind a block, and leaves what lies there. Behind one that its maker has there is nothing.
-use Rattle.std.specs.Prelude.{Option, IsSome, Ok, Err}
+use Rattle.std.specs.Prelude.{Option, Ok, Err}
 use Rattle.std.proofs.Common.{◌≡◌, ℕ, Bool, true, false, cond, eqb, List, [], ◌∷◌, refl, arith, ap, sym, subst, ◌∙◌}
 use Rattle.seize_words.specs.Op.{Out, Make, Found, Stored, Exchanged, Made, Taken, Roomed}
 use Rattle.seize_words.specs.Mem.{Mem, Took, value_at}
 use Rattle.seize.specs.Law.{Place, Nowhere, Standing, With, without, where_is, is_somewhere, owner_of}
 use Rattle.seize.specs.Sequence.{IsUsers}
-use Rattle.seize.specs.World.{World, Hand, NoBlock, Making, InUse, Parting, Cutting, Handed, LeftTo, Event, Begin, Step, Makes, Drops, Links, Parts, Unlinks, Rewrites, Operates, Ends, LeavesOver, Relinks, Clears, Chooses, Happens, Runs, Steps', made_by}
-use Rattle.seize_moves.proofs.State.Ghost.{Life, IsFree, IsOwned, IsLinked, IsUnlinked, IsDeferring, IsDeferred, IsPending, IsIn, IsDoomed, IsLeft, is_linked, place_of}
+use Rattle.seize.specs.World.{World, Hand, Making, Handed, Event, Begin, Step, Makes, Drops, Links, Parts, Unlinks, Rewrites, Operates, Ends, LeavesOver, Relinks, Clears, Chooses, Happens, Runs, Steps', made_by}
+use Rattle.seize_moves.proofs.State.Ghost.{Life, IsOwned, is_linked, place_of}
 use Rattle.seize_rule.proofs.Points.Aside.{HandFits}
 use Rattle.seize_rule.proofs.Rows.Effects.{owner_kept, place_kept}
 use Rattle.seize_rule.proofs.World.Values.{own_op_value, taken_value, made_value, rewritten_value}
