@@ -1,8 +1,10 @@
 -- Which blocks of a map no row of the collector takes: its users have them, or they can be reached.
-use Rattle.std.specs.Prelude.{◌≡◌, ℕ, ◌<◌, ◌≤◌, true, ◌⊎◌}
+use Rattle.std.specs.Prelude.{◌≡◌, ℕ, suc, ◌<◌, ◌≤◌, true, Some, ◌⊎◌}
+use Rattle.seize_words.specs.Mem.{value_at}
 use Rattle.seize.specs.Law.{With, where_is, holds, reachable, owner_of}
 use Rattle.seize.specs.World.{World, Hand, NoBlock, Making, InUse, Cutting, Handed, LeftTo, IsInside, Parting}
 use Rattle.papaya_tables.specs.declared.node.Node.{Node}
+use Rattle.papaya_tables.specs.declared.node.Node.TheVariants as node
 use Rattle.papaya_tables.specs.declared.setting.Setting.{Setting}
 use Rattle.papaya_rule.specs.Chart.{Chart}
 use Rattle.papaya_rule.specs.Words.{Blocks}
@@ -59,6 +61,15 @@ module _ {K V : Type 0} (w : World (Node K V)) where
     pub tables : (t : ℕ) → t < c.past → blocks.table_known t ≡ true → owner_of (blocks.table t) w.log ≡ owner
     pub pairs : (n : ℕ) → n < c.stored → blocks.pair_known n ≡ true → owner_of (blocks.pair n) w.log ≡ owner
 
-  -- what is deferred behind a linked table is this owner's
+  -- the block is that of a pair
+  abbrev pub IsPair : ℕ → Type 0
+  IsPair b = (key : K) × (value : V) × (value_at w.memory b ≡ Some (node.Pair key value))
+
+  -- and the pair is this owner's
+  pub record IsPairOf (owner b : ℕ) : Type 0 where
+    pub owner_is : owner_of b w.log ≡ owner
+    pub pair : IsPair b
+
+  -- What is deferred behind a linked table is a pair of this owner's, and another table is linked behind that one: it is to be copied, or was.
   abbrev pub BehindIsOwned : Chart K → Blocks → ℕ → Type 0
-  BehindIsOwned c blocks owner = (t x : ℕ) → c.first ≤ t → t < c.past → where_is x w.log ≡ With (blocks.table t) → owner_of x w.log ≡ owner
+  BehindIsOwned c blocks owner = (t x : ℕ) → c.first ≤ t → t < c.past → where_is x w.log ≡ With (blocks.table t) → IsPairOf owner x × (suc t < c.past)

@@ -221,7 +221,7 @@ module _ {K Q : Type 0} (V : Type 0) (same : K → K → Bool) (hash : K → ℕ
       ⊎ ((w.row i ≡ row_of_sweep (slot i) o.sweep.stands) × IsRowOfSweep o.sweep.stands × KnowsSweep w c seen i o (sweep_once_over o.sweep))
 
   -- The world came about from the start, the map stands by its rule, what may be looked at is the map's own and there, whoever takes the next step,
-  -- and what a section sees it holds. What is deferred behind a linked table is the map's own, too.
+  -- and what a section sees it holds. What is deferred behind a linked table is a pair of the map's own.
   pub record Ground (w : World (Node K V)) (c : Chart K) (blocks : Blocks) (sights : ℕ → Sight) : Type 0 where
     pub came : CameAbout setting.batch_size w
     pub map : IsMapIn same hash setting w c blocks

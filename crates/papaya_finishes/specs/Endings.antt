@@ -24,6 +24,7 @@ use Rattle.papaya_rule.specs.Chart.{Chart}
 use Rattle.papaya_rule.specs.Words.{Blocks}
 use Rattle.papaya_points.specs.Steps.{AreLawful}
 use Rattle.papaya_points.specs.Told.{IsRowOfCall}
+use Rattle.papaya_callers.specs.Kept.{IsPair}
 use Rattle.papaya_callers.specs.Pairs.{Given}
 use Rattle.papaya_callers.specs.Claims.{AreFew}
 use Rattle.papaya_finishes.specs.Maps.{Standing, IsSameMap, with_call}
@@ -82,6 +83,7 @@ pub record FinishingFacts {K V : Type 0} (same : K → K → Bool) (batch_size :
   pub theirs : CarryTheirs f.setting f.chart f.blocks lists false w past
   pub each : AllPairsOnce (is_incremental f.setting.mode) f.chart
   pub waits_are : f.waits ≡ wait_before f.setting f.chart f.blocks lists false past
+  pub waiting : (x : ℕ) → 0 < times x f.waits → IsPair w x  -- what waits are pairs
 
 -- It has ended: it has reclaimed the map's pairs, its tables and its counter, in their order, and what it left over waits behind its root. Without that
 -- the root is free. No number is twice among these, nor among those.

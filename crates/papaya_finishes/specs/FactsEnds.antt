@@ -23,7 +23,7 @@ use Rattle.papaya_raw.specs.declared.machines.end_map.Ending.TheVariants as at
 use Rattle.papaya_rule.specs.Chart.{Chart}
 use Rattle.papaya_rule.specs.Words.{Blocks, next_word, root_word}
 use Rattle.papaya_rule.specs.InWorld.{IsMapIn}
-use Rattle.papaya_callers.specs.Kept.{IsMaking}
+use Rattle.papaya_callers.specs.Kept.{IsMaking, IsPairOf}
 use Rattle.papaya_finishes.specs.Orders.{pairs_from, pairs_behind, tables_from, waits_from, waits_in, all_back}
 
 -- what a step of the end of a map does, beside reading
@@ -197,9 +197,9 @@ module _ {K : Type 0} (setting : Setting) (c : Chart K) (blocks : Blocks) (lists
       -- what tables carry is reclaimed at once where the map owns its collector: no section holds anything
       pub free : owns ≡ true → (s x : ℕ) → holds s x w.log ≡ false
 
-  -- whatever can be reached through a table of the map, from this one on, is the map's
-  abbrev pub CarryTheirs : {T : Type 0} → World T → ℕ → Type 0
-  CarryTheirs w past = (t x : ℕ) → c.first ≤ t → past ≤ t → t < c.past → where_is x w.log ≡ With (blocks.table t) → owner_of x w.log ≡ setting.counter
+  -- whatever can be reached through a table of the map, from this one on, is a pair of the map's
+  abbrev pub CarryTheirs : {V : Type 0} → World (Node K V) → ℕ → Type 0
+  CarryTheirs w past = (t x : ℕ) → c.first ≤ t → past ≤ t → t < c.past → where_is x w.log ≡ With (blocks.table t) → IsPairOf w setting.counter x
 
   module _ {V : Type 0} where
     -- a list that is joined to those before: it has come to this block of it

@@ -1,6 +1,6 @@
 -- What reclaiming all finds behind roots in a small memory, and what its definitions forbid.
-use Rattle.std.specs.Prelude.{Option, None, Some}
-use Rattle.std.proofs.Common.{ℕ, true, List, [], ◌∷◌, refl, arith, inl, inr}
+use Rattle.std.specs.Prelude.{◌≡◌, Option, None, Some}
+use Rattle.std.proofs.Common.{ℕ, suc, true, List, [], ◌∷◌, refl, arith, inl, inr}
 use Rattle.seize_words.specs.Word.{link_to}
 use Rattle.seize_words.specs.declared.block.Block.{Block}
 use Rattle.seize.specs.declared.rows.settle.Settled.TheVariants as settled
@@ -9,6 +9,7 @@ use Rattle.seize_acts.specs.Reclaimed.{IsStillHad}
 use Rattle.papaya_tables.specs.declared.node.Node.{Node}
 use Rattle.papaya_tables.specs.declared.node.Node.TheVariants as node
 use Rattle.papaya_finishes.specs.Maps.{Standing}
+use Rattle.papaya_reclaims.specs.Deferred.{IsDeferredOn, OnlyPairsWait}
 use Rattle.papaya_reclaims.specs.Reclaims.{RootLeads, ReclaimingTold, AllIsReclaimed}
 use Rattle.papaya_reclaims.specs.Slots.{AreItsRows, IsQuiet}
 
@@ -78,3 +79,14 @@ not_its had = had
 
 not_left : IsStillHad (LeftTo 0) → ⊥
 not_left had = had
+
+-- Nothing is deferred on the last table of a map: its resize has not begun.
+not_on_the_last : (w : World (Node ℕ ℕ)) (s : Standing ℕ) (t b : ℕ) → suc t ≡ s.chart.past → IsDeferredOn w s t b → ⊥
+not_on_the_last w s t b last on = let next = on.unfinished in omega (arith, next, last)
+
+-- Where no map stands, what the collector has is deferred on no table of one.
+abbrev handed_over : World (Node ℕ ℕ)
+handed_over = record left { hand = λ b. Handed }
+
+waits_nowhere : OnlyPairsWait handed_over no_maps → ⊥
+waits_nowhere waits = let stands = (waits 1 refl).2 in cc stands

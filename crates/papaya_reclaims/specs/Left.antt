@@ -1,12 +1,12 @@
 -- What ended maps have left behind roots, while others have calls on maps that stand, and while maps are made and end: it stays there.
-use Rattle.std.specs.Prelude.{◌≡◌, ◌≢◌, ℕ, ◌<◌, ◌≤◌, ◌⊎◌, Bool, true, List, [], ◌++◌, Option, Some, None}
-use Rattle.seize_words.specs.Mem.{Mem, value_at}
+use Rattle.std.specs.Prelude.{◌≡◌, ◌≢◌, ℕ, ◌<◌, ◌≤◌, ◌⊎◌, Bool, List, [], ◌++◌, Option, Some, None}
+use Rattle.seize_words.specs.Mem.{Mem}
 use Rattle.seize.specs.declared.progress.Progress.{Progress as Counted}
 use Rattle.seize.specs.declared.progress.Progress.TheVariants as counted
 use Rattle.seize.specs.declared.rows.settle.Settled.{Settled}
 use Rattle.seize.specs.World.{World, LeftTo, Request, Begin, Step, Ends, Happens, times, with_at}
 use Rattle.seize_reclaims.specs.Roots.{all_lists}
-use Rattle.papaya_tables.specs.Nodes.{deferred_word, was_left}
+use Rattle.papaya_tables.specs.Nodes.{deferred_word}
 use Rattle.papaya_tables.specs.declared.node.Node.{Node}
 use Rattle.papaya_tables.specs.declared.setting.Setting.{Setting}
 use Rattle.papaya_resize.specs.declared.new_map.NewMap.{NewMap}
@@ -105,12 +105,11 @@ module _ {K Q : Type 0} (V : Type 0) (same : K → K → Bool) (asks : Q → K �
     pub back_is : f2.back ≡ f.back ++ taken_by deed
     pub waits_are : f2.waits ≡ f.waits ++ waiting_by deed
 
-  -- It takes a step. At its end what waits is behind its root, if all of that are pairs.
+  -- It takes a step. At its end what waits is behind its root.
   abbrev pub EndingsLeaveIt : Type 0
   EndingsLeaveIt =
       (lists : ℕ → List ℕ) → EndingsTogether V same asks batch_size roots slot w maps calls makers enders → LeftAmong roots w maps makers enders lists
       → (i : ℕ) (f : Finishing K V) → enders i ≡ Some f → (m2 : Mem (Node K V)) (end : EndMap × Settled (Node K V))
       → (st : StepsOfEnding V same asks batch_size roots slot w maps calls makers enders i f m2 end)
       → ((f2 : Finishing K V) → GoesOnBy f st.deed f2 → LeftAmong roots st.w2 maps makers (with_at enders i (Some f2)) lists)
-      × (HasFinished st.w2.memory f → ((b : ℕ) → 0 < times b f.waits → (value : Node K V) × (value_at st.w2.memory b ≡ Some value) × (was_left value ≡ true))
-      → LeftAmong roots st.w2 maps makers (with_at enders i None) (with_at lists f.setting.root f.waits))
+      × (HasFinished st.w2.memory f → LeftAmong roots st.w2 maps makers (with_at enders i None) (with_at lists f.setting.root f.waits))

@@ -1,4 +1,5 @@
 pub mod Slots
+pub mod Deferred
 pub mod Reclaims
 pub mod Left
 pub mod Ends

@@ -25,6 +25,7 @@ use Rattle.papaya_finishes.specs.Endings.{Finishing, EndingsTogether}
 use Rattle.papaya_finishes.specs.FactsEnds.{TakesLeft, WritesRoot, events_of}
 use Rattle.papaya_finishes.specs.Makings.{Beginning, IsFreeRoot}
 use Rattle.papaya_finishes.specs.Maps.{Standing, IsSameMap}
+use Rattle.papaya_reclaims.specs.Deferred.{TablesCarryPairs, OnlyTheyCarry, OnlyPairsWait}
 use Rattle.papaya_reclaims.specs.Slots.{AreItsRows, AllRest, IsQuiet, OnSlotsAt}
 
 -- the root is that of a map that stands
@@ -75,10 +76,11 @@ module _ {K V : Type 0} where
     ReclaimingAt p = (c.batch_size ≡ batch_size) × LeftBehind roots w maps lists × OnSlotsAt batch_size i c w p
 
   -- Nothing waits any more but what is put behind blocks that the collector does not have: no row is under way, nothing is retired, no slot is in use,
-  -- none has a batch, and each root that no standing map has is free and leads nowhere.
+  -- none has a batch, and each root that no standing map has is free and leads nowhere. What is put behind a linked table of a map that stands is deferred there.
   pub record AllIsReclaimed (roots : ℕ) (w : World (Node K V)) (maps : ℕ → Option (Standing K)) : Type 0 where
     pub nothing : HasNothingLeft deferred_word w
     pub free : (r : ℕ) → r < roots → IsRootOf maps r ⊎ IsFreeRoot w r
+    pub carry : TablesCarryPairs w maps
 
   -- What a step has reclaimed: nothing; or a block that was retired; or the next one of what was behind the first root that had something behind it. Its
   -- value is handed out. A step never waits.
@@ -93,6 +95,10 @@ module _ {K V : Type 0} where
     ReclaimingTold settled.Waits = ⊥
     ReclaimingTold (settled.Gave value) = (b : ℕ) × (value_at w.memory b ≡ Some value) × (value_at w2.memory b ≡ None) × HasTaken b
     ReclaimingTold settled.Done = (lists2 ≡ lists) × (w2 ≡ w)
+
+-- The promise: if users have no other block behind which something may be put, then all that waits is so deferred.
+abbrev pub WaitsOnTables : Type 0 → Type 0 → Type 0
+WaitsOnTables K V = (roots : ℕ) (w : World (Node K V)) (maps : ℕ → Option (Standing K)) → AllIsReclaimed roots w maps → OnlyTheyCarry w maps → OnlyPairsWait w maps
 
 module _ {K Q : Type 0} (V : Type 0) (same : K → K → Bool) (asks : Q → K → Bool) (batch_size roots : ℕ) (slot : ℕ → ℕ) where
   module _ (maps : ℕ → Option (Standing K)) (calls : ℕ → ℕ → Option (UnderWay K V Q)) (makers : ℕ → Option (Beginning K)) (enders : ℕ → Option (Finishing K V)) where

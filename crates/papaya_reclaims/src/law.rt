@@ -7,7 +7,7 @@ ghost use Rattle.papaya_finishes.specs.Endings.{Finishing};
 ghost use Rattle.papaya_finishes.specs.Makings.{Beginning};
 ghost use Rattle.papaya_finishes.specs.Maps.{Standing};
 ghost use Rattle.papaya_reclaims.specs.Left.{NothingIsLeft, LeftIsLeftBehind, MachinesLeaveIt, GuardsLeaveIt, MakingsBeginAndLeaveIt, MakingsLeaveIt, EndingsBeginAndLeaveIt, EndingsLeaveIt};
-ghost use Rattle.papaya_reclaims.specs.Reclaims.{ReclaimingBegins, ReclaimingStands};
+ghost use Rattle.papaya_reclaims.specs.Reclaims.{ReclaimingBegins, ReclaimingStands, WaitsOnTables};
 ghost use Rattle.papaya_reclaims.specs.Ends.{ReclaimingEnds};
 
 /// Where maps stand together on one collector, and no call, making, end or row is under way, any caller may reclaim all, step by step. It may take each
@@ -15,11 +15,14 @@ ghost use Rattle.papaya_reclaims.specs.Ends.{ReclaimingEnds};
 /// were given up are taken again, those that are active leave, all flush until none has a batch, and all are given up. Then it takes what maps have left
 /// behind their roots that have ended, root by root, and frees these. A step takes one block away at most, which was retired or was left over, and
 /// hands its value out. Each map that stands does so on, with its tables and pairs as they were. At the end nothing is retired, no slot is in use, none
-/// has a batch, and each root that is no standing map's is free and leads nowhere. Whichever steps it takes, it comes to that end.
+/// has a batch, and each root that is no standing map's is free and leads nowhere. What is put behind a linked table of a map that stands is a pair of that
+/// map then, deferred in a resize that is unfinished; and if users have no other block behind which something may be put, then nothing else waits. Whichever
+/// steps it takes, it comes to that end.
 pub fn all_is_reclaimed_among_maps<K, V, Q>()
     ensures begins { (same : K → K → Bool) (asks : Q → K → Bool) (batch_size roots : ℕ) (slot : ℕ → ℕ) (maps : ℕ → Option (Standing K)) (calls : ℕ → ℕ → Option (UnderWay K V Q)) (makers : ℕ → Option (Beginning K)) (enders : ℕ → Option (Finishing K V)) (w : World (Node K V)) (i : ℕ) → ReclaimingBegins V same asks batch_size roots slot maps calls makers enders w i }
     ensures steps { (same : K → K → Bool) (asks : Q → K → Bool) (batch_size roots : ℕ) (slot : ℕ → ℕ) (maps : ℕ → Option (Standing K)) (calls : ℕ → ℕ → Option (UnderWay K V Q)) (makers : ℕ → Option (Beginning K)) (enders : ℕ → Option (Finishing K V)) (w : World (Node K V)) (i : ℕ) → ReclaimingStands V same asks batch_size roots slot maps calls makers enders w i }
     ensures ends { (same : K → K → Bool) (asks : Q → K → Bool) (batch_size roots : ℕ) (slot : ℕ → ℕ) (maps : ℕ → Option (Standing K)) (calls : ℕ → ℕ → Option (UnderWay K V Q)) (makers : ℕ → Option (Beginning K)) (enders : ℕ → Option (Finishing K V)) (w : World (Node K V)) (i : ℕ) → ReclaimingEnds V same asks batch_size roots slot maps calls makers enders w i }
+    ensures waits { WaitsOnTables K V }
 {}
 
 /// What maps have left behind their roots that have ended stays there while others go on, until a caller reclaims all: over each step of the machine that a

@@ -73,8 +73,8 @@ module _ {K V Q : Type 0} (same : K → K → Bool) (hash : K → ℕ) (asks : Q
           request = Retire (slot i) b;
           hands = (own, its);
           happened = (rests, retire_begins);
-          ground = handed.ground_begun same hash asks setting slot lawful w c blocks sights calls s i inside b _ w.log its other here (λ y ne. refl) (λ t y h. h) (λ y. refl) own came map;
-          others = handed.others_begun same hash asks setting slot lawful w c blocks sights calls s i inside b _ w.log its other here (λ y ne. refl) (λ t y h. h) (λ y. refl) own came map;
+          ground = handed.ground_begun same hash asks setting slot lawful w c blocks sights calls s i inside b _ w.log its other here (λ y ne. refl) (λ t y h. h) (λ y. refl) (λ t l made at. s.ground.behind t b l made at) came map;
+          others = handed.others_begun same hash asks setting slot lawful w c blocks sights calls s i inside b _ w.log its other here (λ y ne. refl) (λ t y h. h) (λ y. refl) (λ t l made at. s.ground.behind t b l made at) came map;
           now_inside = handed.inside_on w.uses (slot i) (slot i) inside;
           rows = λ j ne. with_other w.row i j (Settles (retiring (slot i) setting.batch_size (b * 2048))) ne;
           row_is = with_here w.row i (Settles (retiring (slot i) setting.batch_size (b * 2048))) ∙ is;

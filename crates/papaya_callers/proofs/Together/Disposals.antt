@@ -1,7 +1,7 @@
 -- A caller whose disposal of a pair stands at a row of the collector begins it: the pair is retired, or deferred by the table before its own.
-use Rattle.std.specs.Prelude.{◌≡◌, ◌≢◌, ℕ, ◌*◌, ◌<◌, Bool, true, cond, ◌∷◌, Option}
+use Rattle.std.specs.Prelude.{◌≡◌, ◌≢◌, ℕ, suc, ◌*◌, ◌<◌, ◌≤◌, Bool, true, cond, eqb, ◌∷◌, Option}
 use Rattle.std.proofs.Common.{false, refl, ap, sym, subst, ◌∙◌, inl, inr, arith}
-use Rattle.std.proofs.lemmas.Bool.{cases_lt, ne_eqb}
+use Rattle.std.proofs.lemmas.Bool.{cases_lt, eq-eqb, ne_eqb}
 use Rattle.seize_words.specs.declared.at.At.TheVariants.{Word}
 use Rattle.seize.specs.declared.rows.defer.Defer.{Defer}
 use Rattle.seize.specs.Defer.{deferring}
@@ -25,9 +25,11 @@ use Rattle.papaya_rule.specs.InWorld.{IsOut, IsHeldBy, IsMapIn}
 use Rattle.papaya_points.specs.FactsDisposes.{DisposeFacts}
 use Rattle.papaya_points.specs.Told.{IsRowOf}
 use Rattle.papaya_points.specs.Steps.{AreLawful}
+use Rattle.papaya_callers.specs.Kept.{IsPairOf}
 use Rattle.papaya_callers.specs.Rows.{row_of_disposal}
 use Rattle.papaya_callers.specs.Sights.{Sight, seen_by}
 use Rattle.papaya_callers.specs.Together.{UnderWay, in_slot, CameAbout, Together}
+use Rattle.papaya_callers.proofs.Rows.Behind.{deferred_behind}
 use Rattle.papaya_callers.proofs.Rows.Defers.{defer_linked_in, defer_old_in}
 use Rattle.papaya_callers.proofs.Rows.Retires.{counter_no_pair}
 use Rattle.papaya_callers.proofs.Together.Came.{came_reached, came_next}
@@ -114,6 +116,14 @@ module _ {K V Q : Type 0} (same : K → K → Bool) (hash : K → ℕ) (asks : Q
     elsewhere : (y : ℕ) → y ≢ b → where_is y (Deferred b t ∷ w.log) ≡ where_is y w.log
     elsewhere y ne = ap (λ (e : Bool). cond e (cond (is_standing (where_is t w.log)) (With t) Nowhere) (where_is y w.log)) (ne_eqb y b ne)
 
+    -- it is a pair of the map, and lies behind the table before its own
+    carried : (u : ℕ) → c.first ≤ u → u < c.past → where_is b (Deferred b t ∷ w.log) ≡ With (blocks.table u) → IsPairOf w setting.counter b × (suc u < c.past)
+    carried u l u_made at =
+        let p = s.ground.map.map.shows.pairs n f.left.0 known in
+        let same_table : u ≡ v = s.ground.map.map.shows.tables_apart u v u_made made (s.ground.map.map.shows.linked u l u_made) table_known
+        (sym (deferred_behind (eqb b b) (is_standing (where_is t w.log)) t (blocks.table u) (where_is b w.log) (eq-eqb b b refl) at)) in
+        (record { owner_is = s.ground.owned.pairs n f.left.0 known; pair = (p.0, p.1, p.2) }, let next = f.point.3 in let its_made = f.table.made in omega (arith, same_table, next, its_made))
+
     came : CameAbout setting.batch_size begun
     came = came_next setting.batch_size w begun (Begin i (Defer' (slot i) b t)) s.ground.came (rests, begins)
 
@@ -126,9 +136,9 @@ module _ {K V Q : Type 0} (same : K → K → Bool) (hash : K → ℕ) (asks : Q
       hands = (s.ground.owned.pairs n f.left.0 known, parting_its, s.ground.owned.tables v made table_known);
       happened = (rests, begins);
       ground = handed.ground_begun same hash asks setting slot lawful w c blocks sights calls s i inside b _ _ parting_its other here elsewhere on (λ y. refl)
-          (s.ground.owned.pairs n f.left.0 known) came map;
+          carried came map;
       others = handed.others_begun same hash asks setting slot lawful w c blocks sights calls s i inside b _ _ parting_its other here elsewhere on (λ y. refl)
-          (s.ground.owned.pairs n f.left.0 known) came map;
+          carried came map;
       now_inside = handed.inside_on w.uses (slot i) (slot i) inside;
       rows = λ j ne. with_other w.row i j (Defers (slot i) (deferring (b * 2048) (Word t DEFERRED))) ne;
       row_is = with_here w.row i (Defers (slot i) (deferring (b * 2048) (Word t DEFERRED))) ∙ ap (Defers (slot i)) (sym f.point.5) ∙ is;

@@ -1,8 +1,8 @@
 -- A caller hands a block to the collector that its section holds: all that is looked at is there still.
-use Rattle.std.specs.Prelude.{◌≡◌, ◌≢◌, ℕ, Bool, true, List, Option}
+use Rattle.std.specs.Prelude.{◌≡◌, ◌≢◌, ℕ, suc, ◌<◌, ◌≤◌, Bool, true, List, Option}
 use Rattle.std.proofs.Common.{refl, ap, sym, subst, ◌∙◌, inl, inr}
 use Rattle.std.proofs.lemmas.Bool.{cases_eq}
-use Rattle.seize.specs.Law.{Effect, where_is, is_somewhere, holds, owner_of}
+use Rattle.seize.specs.Law.{Effect, With, where_is, is_somewhere, holds, owner_of}
 use Rattle.seize.specs.World.{World, Row, Use, Vacant, Outside, Inside, Changing, Handed, IsInside, one_more, with_at}
 use Rattle.seize_rule.proofs.Rows.Others.{with_other}
 use Rattle.papaya_tables.specs.Chunks.{is_incremental}
@@ -17,9 +17,10 @@ use Rattle.papaya_rule.proofs.World.Hands.{at_cases, hand_kept}
 use Rattle.papaya_rule.proofs.History.LeavingOn.{leaves_same}
 use Rattle.papaya_rule.proofs.World.OthersSpared.{held_once, keeps_handed}
 use Rattle.papaya_points.specs.Others.{OthersStep}
-use Rattle.papaya_callers.specs.Kept.{IsUsersOwn, IsMaking, IsKeptBy, IsWithin, BehindIsOwned}
+use Rattle.papaya_callers.specs.Kept.{IsUsersOwn, IsMaking, IsKeptBy, IsWithin, IsPairOf, BehindIsOwned}
 use Rattle.papaya_callers.specs.Sights.{Sight, seen_by}
 use Rattle.papaya_callers.specs.Together.{Ground, UnderWay, in_slot, CameAbout, Together}
+use Rattle.papaya_callers.proofs.Rows.Behind.{pair_on}
 use Rattle.papaya_callers.proofs.Sights.Seen.{map_seen}
 use Rattle.papaya_callers.proofs.Together.FactsOn.{idle_on}
 use Rattle.papaya_callers.proofs.Together.Fits.{map_in_slot, Fits, stands_on}
@@ -56,7 +57,8 @@ module _ {K V Q : Type 0} (same : K → K → Bool) (hash : K → ℕ) (asks : Q
   }
 
   module _ (its : IsHeldBy i (w.hand b)) (other : setting.counter ≢ b) (here : holds (slot i) b log ≡ true) (placed : (x : ℕ) → x ≢ b → where_is x log ≡ where_is x w.log)
-      (on : (t x : ℕ) → holds t x w.log ≡ true → holds t x log ≡ true) (owners : (x : ℕ) → owner_of x log ≡ owner_of x w.log) (own : owner_of b w.log ≡ setting.counter)
+      (on : (t x : ℕ) → holds t x w.log ≡ true → holds t x log ≡ true) (owners : (x : ℕ) → owner_of x log ≡ owner_of x w.log)
+      (carried : (t : ℕ) → c.first ≤ t → t < c.past → where_is b log ≡ With (blocks.table t) → IsPairOf w setting.counter b × (suc t < c.past))
       (came : CameAbout setting.batch_size begun) (map : IsMapIn same hash setting begun c blocks) where
     abbrev now_inside : (t : ℕ) → IsInside (w.uses t) → IsInside (begun.uses t)
     now_inside t h = inside_on w.uses (slot i) t h
@@ -80,12 +82,15 @@ module _ {K V Q : Type 0} (same : K → K → Bool) (hash : K → ℕ) (asks : Q
       counter = subst IsMaking (sym (hand_kept w.hand b Handed (w.hand setting.counter) setting.counter other refl)) h.counter;
     }
 
-    -- it is the map's, behind whatever it lies then
+    -- what lies behind a table is as it was, and so is this block
     behind : BehindIsOwned begun c blocks setting.counter
-    behind t x l made at = elim (cases_eq x b) as (λ _. owner_of x log ≡ setting.counter) [
-      | inl e ↦ owners x ∙ ap (λ (y : ℕ). owner_of y w.log) e ∙ own
-      | inr ne ↦ owners x ∙ s.ground.behind t x l made (sym (placed x ne) ∙ at)
+    behind t x l made at = elim (cases_eq x b) as (λ _. IsPairOf begun setting.counter x × (suc t < c.past)) [
+      | inl e ↦ on_begun x (subst (λ (y : ℕ). IsPairOf w setting.counter y × (suc t < c.past)) (sym e) (carried t l made (subst (λ (y : ℕ). where_is y log ≡ With (blocks.table t)) e at)))
+      | inr ne ↦ on_begun x (s.ground.behind t x l made (sym (placed x ne) ∙ at))
     ]
+      where
+        on_begun : (y : ℕ) → IsPairOf w setting.counter y × (suc t < c.past) → IsPairOf begun setting.counter y × (suc t < c.past)
+        on_begun y k = (pair_on setting.counter y w begun (owners y) refl k.0, k.1)
 
     pub ground_begun : Ground V same hash asks setting slot begun c blocks sights
     ground_begun = record {

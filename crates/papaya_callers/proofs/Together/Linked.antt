@@ -1,8 +1,8 @@
 -- Behind a table that a step of a call has linked nothing lies, and no row is onto it: what lies behind linked tables is the map's, as before.
-use Rattle.std.specs.Prelude.{◌≡◌, ◌≤◌, ◌<◌, ℕ, Bool, Option, ◌⊎◌}
+use Rattle.std.specs.Prelude.{◌≡◌, suc, ◌≤◌, ◌<◌, ℕ, Bool, Option, ◌⊎◌}
 use Rattle.std.proofs.Common.{ap, subst, ◌∙◌, inl, inr, arith}
 use Rattle.std.proofs.lemmas.Bool.{cases_lt}
-use Rattle.seize_words.specs.Mem.{Mem}
+use Rattle.seize_words.specs.Mem.{Mem, value_at}
 use Rattle.seize.specs.Law.{With, where_is, owner_of}
 use Rattle.seize.specs.World.{World, Row, Making, IsOnto}
 use Rattle.papaya_tables.specs.Nodes.{deferred_word}
@@ -11,14 +11,14 @@ use Rattle.papaya_tables.specs.declared.setting.Setting.{Setting}
 use Rattle.papaya_rule.specs.Chart.{Chart}
 use Rattle.papaya_rule.specs.Words.{Blocks}
 use Rattle.papaya_rule.specs.InWorld.{Went}
-use Rattle.papaya_callers.specs.Kept.{BehindIsOwned}
+use Rattle.papaya_callers.specs.Kept.{IsPairOf, BehindIsOwned}
 use Rattle.papaya_callers.specs.Together.{UnderWay, HasCall, PutsWithin, CameAbout}
-use Rattle.papaya_callers.proofs.Rows.Behind.{carrier_not_made, events_back}
+use Rattle.papaya_callers.proofs.Rows.Behind.{carrier_not_made, events_back, pair_on}
 use Rattle.papaya_callers.proofs.Together.Came.{came_reached, none_onto_made}
 use Rattle.papaya_callers.proofs.Together.Users.{events_rows}
 
 module _ {K V : Type 0} (same : K → K → Bool) (hash : K → ℕ) (setting : Setting) (i : ℕ) (w : World (Node K V)) (c : Chart K) (seen : Blocks)
-    (m2 : Mem (Node K V)) (Told : World (Node K V) → Chart K → Blocks → Type 0) (went : Went same hash setting i w c seen m2 Told) (came : CameAbout setting.batch_size w) (first : c.first ≤ went.c2.first)
+    (m2 : Mem (Node K V)) (Told : World (Node K V) → Chart K → Blocks → Type 0) (went : Went same hash setting i w c seen m2 Told) (came : CameAbout setting.batch_size w) (first : c.first ≤ went.c2.first) (past : c.past ≤ went.c2.past)
     (blocks blocks2 : Blocks) (old : (t : ℕ) → t < c.past → blocks2.table t ≡ blocks.table t) (new : (t : ℕ) → c.past ≤ t → blocks2.table t ≡ went.blocks2.table t) where
   linked_before : (t : ℕ) → went.c2.first ≤ t → c.first ≤ t
   linked_before t l = omega (arith, first, l)
@@ -30,11 +30,11 @@ module _ {K V : Type 0} (same : K → K → Bool) (hash : K → ℕ) (setting : 
   pub behind_went : (owner : ℕ) → BehindIsOwned w c blocks owner → BehindIsOwned went.w2 went.c2 blocks2 owner
   behind_went owner behind t x l made at = by (cases_lt t c.past)
     where
-      lay : (where_is x w.log ≡ With (blocks2.table t)) × (owner_of x went.w2.log ≡ owner_of x w.log)
-      lay = events_back deferred_word setting.batch_size x (blocks2.table t) went.events w went.w2 went.users went.runs at
+      lay : (where_is x w.log ≡ With (blocks2.table t)) × (owner_of x went.w2.log ≡ owner_of x w.log) × (value_at went.w2.memory x ≡ value_at w.memory x)
+      lay = events_back deferred_word setting.batch_size x (blocks2.table t) went.events w went.w2 (came_reached setting.batch_size w came) went.users went.runs at
 
-      by : (t < c.past) ⊎ (c.past ≤ t) → owner_of x went.w2.log ≡ owner
-      by (inl was) = lay.1 ∙ behind t x (linked_before t l) was (lay.0 ∙ ap With (old t was))
+      by : (t < c.past) ⊎ (c.past ≤ t) → IsPairOf went.w2 owner x × (suc t < went.c2.past)
+      by (inl was) = let k = behind t x (linked_before t l) was (lay.0 ∙ ap With (old t was)) in (pair_on owner x w went.w2 lay.1 lay.2 k.0, let more = k.1 in omega (arith, more, past))
       by (inr is_new) = absurd (carrier_not_made deferred_word setting.batch_size w (came_reached setting.batch_size w came) x (blocks2.table t) lay.0 i (new_made t is_new made))
 
   pub puts_went : {Q : Type 0} (calls : ℕ → Option (UnderWay K V Q)) → PutsWithin calls w c blocks → PutsWithin calls went.w2 went.c2 blocks2

@@ -184,7 +184,7 @@ module _ {K V Q : Type 0} (same : K → K → Bool) (hash : K → ℕ) (asks : Q
         moments = moments2;
         kept = kept2;
         owned = owned2;
-        behind = behind_went same hash here i w c (seen_by blocks (sights (slot i))) m2 Tells went s.ground.came lasts.first blocks blocks_then old_table new_table setting.counter s.ground.behind;
+        behind = behind_went same hash here i w c (seen_by blocks (sights (slot i))) m2 Tells went s.ground.came lasts.first lasts.past blocks blocks_then old_table new_table setting.counter s.ground.behind;
         sources = sources_wider same hash here i w c blocks (sights (slot i)) (whole (slot i)) mine_closed m2 Tells went lasts s.ground.moments remembers s.ground.sources;
         counter = (within2 (slot i) inside).counter;
         sight = λ r in_it. (closed2 r (inside_before r in_it), within2 r (inside_before r in_it));
@@ -259,5 +259,5 @@ module _ {K V Q : Type 0} (same : K → K → Bool) (hash : K → ℕ) (asks : Q
       -- and so all stand together, if the caller does
       pub moves_together : Fits same hash asks setting slot went.w2 went.c2 blocks_then (sights_then (slot i)) i it → Stand went.w2 went.c2 blocks_then sights_then (with_at calls i it)
       moves_together mine = stands_by same hash asks setting slot went.w2 went.c2 blocks_then sights_then calls i it ground2 mine others few
-          (puts_went same hash here i w c (seen_by blocks (sights (slot i))) m2 Tells went s.ground.came lasts.first blocks blocks_then old_table new_table calls s.onto)
+          (puts_went same hash here i w c (seen_by blocks (sights (slot i))) m2 Tells went s.ground.came lasts.first lasts.past blocks blocks_then old_table new_table calls s.onto)
           (λ none. row_same i ∙ rests)

@@ -22,6 +22,7 @@ use Rattle.papaya_callers.specs.Kept.{IsKeptBy, IsWithin}
 use Rattle.papaya_callers.specs.Sights.{SeesSources, Sight, seen_by, IsSight}
 use Rattle.papaya_callers.specs.Together.{UnderWay, in_slot, CameAbout, Stands, Together, AllStand}
 use Rattle.papaya_callers.proofs.Rows.Begins.{beside_in}
+use Rattle.papaya_callers.proofs.Rows.Behind.{pair_on}
 use Rattle.papaya_callers.proofs.Rows.Forgets.{forgotten_in}
 use Rattle.papaya_callers.proofs.Rows.Forgotten.{Forgets}
 use Rattle.papaya_callers.proofs.Rows.Keep.{used_kept}
@@ -211,7 +212,7 @@ module _ {K V Q : Type 0} (same : K → K → Bool) (hash : K → ℕ) (asks : Q
             moments = s.ground.moments;
             kept = record { tables = kept_table; pairs = kept_pair };
             owned = record { tables = λ t made h. s.ground.owned.tables t made (forgets.tables t made h); pairs = λ n was h. s.ground.owned.pairs n was (forgets.pairs n was h) };
-            behind = s.ground.behind;
+            behind = λ t x l made at. let k = s.ground.behind t x l made at in (pair_on setting.counter x w begun refl refl k.0, k.1);
             sources = sources2;
             counter = s.ground.counter;
             sight = λ r inside. (closed2 r inside, within2 r inside);

@@ -1,9 +1,9 @@
 -- A step of a row of the collector leaves the map, and what is looked at of it, to all callers as they were.
 use Rattle.std.specs.Prelude.{◌≡◌, ◌≢◌, ℕ, Bool, true, Option}
 use Rattle.std.proofs.Common.{refl, ap, sym, subst, ◌∙◌, inl, inr, ◌<◌}
-use Rattle.seize.specs.Law.{where_is, owner_of}
+use Rattle.seize.specs.Law.{owner_of}
 use Rattle.seize.specs.World.{World, Step, Steps', IsInside}
-use Rattle.seize_rule.proofs.Rows.Effects.{owner_kept, place_kept}
+use Rattle.seize_rule.proofs.Rows.Effects.{owner_kept}
 use Rattle.seize_alone.proofs.Histories.NotTaken.{IsKept, IsHeld, did, still_held, kept_value}
 use Rattle.seize_alone.proofs.Histories.Onto.{steps_onto}
 use Rattle.seize_alone.proofs.Histories.Reached.{Reached}
@@ -23,6 +23,7 @@ use Rattle.papaya_points.specs.Others.{OthersStep}
 use Rattle.papaya_callers.specs.Kept.{IsMaking, IsKeptBy, IsWithin, AllOwned, BehindIsOwned}
 use Rattle.papaya_callers.specs.Sights.{Sight, seen_by}
 use Rattle.papaya_callers.specs.Together.{CallOnKey, Ground, UnderWay, PutsWithin, in_slot, Knows, Together}
+use Rattle.papaya_callers.proofs.Rows.Behind.{row_back, pair_on}
 use Rattle.papaya_callers.proofs.Rows.Beside.{making_own, users_hand, row_keeps_blocks}
 use Rattle.papaya_callers.proofs.Rows.Keep.{kept_block, row_keeps_map, row_keeps_block}
 use Rattle.papaya_callers.proofs.Rows.Within.{row_within}
@@ -67,8 +68,9 @@ module _ {K V Q : Type 0} (same : K → K → Bool) (hash : K → ℕ) (asks : Q
   -- and behind what it lies
   pub behind2 : BehindIsOwned w2 c blocks setting.counter
   behind2 t x l made at =
-      let d = did deferred_word setting.batch_size w r i w2 step in
-      owners x ∙ s.ground.behind t x l made (sym (ap (where_is x) d.logged ∙ place_kept x d.effects w.log d.one) ∙ at)
+      let lay = row_back deferred_word setting.batch_size x (blocks.table t) w w2 r i step at in
+      let k = s.ground.behind t x l made lay.0 in
+      (pair_on setting.counter x w w2 lay.1 lay.2 k.0, k.1)
 
   -- no row comes onto a linked table by it
   pub puts2 : PutsWithin calls w2 c blocks

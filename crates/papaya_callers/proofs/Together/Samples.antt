@@ -1,6 +1,6 @@
 -- What is refused among many callers.
-use Rattle.std.specs.Prelude.{◌≡◌, ◌≢◌, ◌<◌, ◌≤◌, ℕ, Bool, true, false, Option, Some, None}
-use Rattle.std.proofs.Common.{subst}
+use Rattle.std.specs.Prelude.{◌≡◌, ◌≢◌, ◌<◌, ◌≤◌, ℕ, suc, Bool, true, false, Option, Some, None}
+use Rattle.std.proofs.Common.{subst, arith}
 use Rattle.seize.specs.Law.{With, where_is, holds, owner_of}
 use Rattle.seize.specs.World.{World, Changing, IsInside, IsOnto}
 use Rattle.papaya_tables.specs.declared.node.Node.{Node}
@@ -31,4 +31,8 @@ module _ {K V Q : Type 0} (same : K → K → Bool) (hash : K → ℕ) (asks : Q
   -- what lies behind a linked table is another map's
   lies_behind_anothers : (t x : ℕ) → c.first ≤ t → t < c.past → where_is x w.log ≡ With (blocks.table t) → owner_of x w.log ≢ setting.counter
       → Together V same hash asks setting slot w c blocks sights calls → ⊥
-  lies_behind_anothers t x l made at other all = other (all.ground.behind t x l made at)
+  lies_behind_anothers t x l made at other all = other (all.ground.behind t x l made at).0.owner_is
+
+  -- a pair lies behind the last table, from which nothing is to be copied
+  lies_behind_the_last : (t x : ℕ) → c.first ≤ t → suc t ≡ c.past → where_is x w.log ≡ With (blocks.table t) → Together V same hash asks setting slot w c blocks sights calls → ⊥
+  lies_behind_the_last t x l last at all = let next = (all.ground.behind t x l (omega (arith, last)) at).1 in omega (arith, next, last)

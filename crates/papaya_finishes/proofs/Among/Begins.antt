@@ -131,7 +131,8 @@ module _ {K V : Type 0} (same : K → K → Bool) (batch_size : ℕ) (w : World 
   }
 
   pub facts_as_one_ends : FinishingFacts same batch_size ended i f
-  facts_as_one_ends = facts_alone same batch_size w i f facts ended came left_alone (λ lists2 t x from later made at. facts.theirs t x from later made at)
+  facts_as_one_ends = facts_alone same batch_size w i f facts ended came left_alone
+      (λ lists2 t x from later made at. let k = facts.theirs t x from later made at in record { owner_is = k.owner_is; pair = k.pair }) facts.waiting
 
 module _ {K Q : Type 0} (V : Type 0) (same : K → K → Bool) (asks : Q → K → Bool) (batch_size roots : ℕ) (slot : ℕ → ℕ) where
   pub no_endings_begin : NoEndingsBegin V same asks batch_size roots slot
@@ -173,9 +174,10 @@ module _ {K Q : Type 0} (V : Type 0) (same : K → K → Bool) (asks : Q → K �
       past = s.chart.first;
       stood = began_in same s.hash s.setting s.chart s.blocks (lists_then same asks slot w s (calls m) stands none) false i w may;
       facts = end_begins same s.hash s.setting s.chart s.blocks (lists_then same asks slot w s (calls m) stands none) false i w may;
-      theirs = λ t x from later made at. stands.ground.behind t x from made at;
+      theirs = λ t x from later made at. let k = (stands.ground.behind t x from made at).0 in record { owner_is = k.owner_is; pair = k.pair };
       each = each_pair same asks slot w s (calls m) stands none (all.makings.standing.fit m s here).0;
       waits_are = sym (before_none s.setting s.chart s.blocks (lists_then same asks slot w s (calls m) stands none) false s.chart.first (omega arith));
+      waiting = λ x on. absurd (omega (arith, on));
     })
       where
         may : MayEnd s.setting s.chart s.blocks (lists_then same asks slot w s (calls m) stands none) false same s.hash w

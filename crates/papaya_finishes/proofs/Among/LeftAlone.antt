@@ -15,8 +15,9 @@ use Rattle.papaya_raw.specs.declared.machines.end_map.Ending.TheVariants as at
 use Rattle.papaya_tables.specs.declared.setting.Setting.{Setting}
 use Rattle.papaya_rule.specs.Chart.{Chart}
 use Rattle.papaya_rule.specs.Words.{Blocks, root_word}
-use Rattle.papaya_callers.specs.Kept.{IsMaking}
+use Rattle.papaya_callers.specs.Kept.{IsMaking, IsPair}
 use Rattle.papaya_callers.specs.Together.{CameAbout}
+use Rattle.papaya_callers.proofs.Rows.Behind.{pair_on}
 use Rattle.papaya_finishes.proofs.Beside.Endings.Spares.{IsUsedOf, IsSpared, SparesEnd}
 use Rattle.papaya_finishes.specs.Endings.{Finishing, HasCounter, FinishingFacts}
 use Rattle.papaya_finishes.specs.FactsEnds.{RootAt, CarryTheirs, EndingFacts, back_of, from_table}
@@ -93,8 +94,8 @@ module _ {K V : Type 0} (same : K → K → Bool) (batch_size : ℕ) (w : World 
 
   -- The facts hold where what the map has was left alone.
   pub facts_alone : (w2 : World (Node K V)) → CameAbout batch_size w2 → IsLeftAlone f.setting f.chart f.blocks facts.lists false w w2 facts.past f.back
-      → ((lists2 : ℕ → List ℕ) → CarryTheirs f.setting f.chart f.blocks lists2 false w2 facts.past) → FinishingFacts same batch_size w2 i f
-  facts_alone w2 came alone theirs =
+      → ((lists2 : ℕ → List ℕ) → CarryTheirs f.setting f.chart f.blocks lists2 false w2 facts.past) → ((x : ℕ) → 0 < times x f.waits → IsPair w2 x) → FinishingFacts same batch_size w2 i f
+  facts_alone w2 came alone theirs waiting =
       let last = facts_last same f.hash facts.lawful f.setting f.chart f.blocks facts.lists false refl i f.began facts.stood w w2 facts.past f.back
       (subst (λ (size : ℕ). CameAbout size w2) (sym facts.batches) came) alone f.machine facts.facts in
       record {
@@ -107,6 +108,7 @@ module _ {K V : Type 0} (same : K → K → Bool) (batch_size : ℕ) (w : World 
         theirs = theirs last.0;
         each = facts.each;
         waits_are = facts.waits_are ∙ sym last.3;
+        waiting = waiting;
       }
 
   module _ (w2 : World (Node K V)) (o : ℕ) (o_is : HasCounter f → o ≡ f.setting.counter) (spares : SparesEnd w w2 batch_size o f.setting.root i) where
@@ -182,13 +184,19 @@ module _ {K V : Type 0} (same : K → K → Bool) (batch_size : ℕ) (w : World 
       root = root_at f.machine.stands not_over facts.facts.root;
     }
 
-    -- what is behind its tables is still its own
+    -- what is behind its tables are still pairs of its own
     theirs2 : (lists2 : ℕ → List ℕ) → CarryTheirs f.setting f.chart f.blocks lists2 false w2 facts.past
     theirs2 lists2 t x from later made at =
         let fresh = later_fresh f.hash f.setting f.chart f.blocks facts.lists false i w f.machine facts.past f.back f.began facts.facts once t from later made in
         let lay = spares.behind (f.blocks.table t) x (table_used t from later made fresh) at in
-        lay.1 ∙ facts.theirs t x from later made lay.0
+        pair_on f.setting.counter x w w2 lay.1 lay.2 (facts.theirs t x from later made lay.0)
+
+    -- and so are those that wait
+    waiting2 : (x : ℕ) → 0 < times x f.waits → IsPair w2 x
+    waiting2 x on =
+        let left = facts.facts.since.waits x (subst (λ (l : List ℕ). 0 < times x l) facts.waits_are on) in
+        let p = facts.waiting x on in (p.0, p.1, (spares.blocks x (inr left)).value ∙ p.2)
 
     -- the facts hold after the step
     pub facts_on : FinishingFacts same batch_size w2 i f
-    facts_on = facts_alone w2 spares.came left_alone theirs2
+    facts_on = facts_alone w2 spares.came left_alone theirs2 waiting2

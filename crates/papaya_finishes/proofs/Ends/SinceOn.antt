@@ -1,11 +1,12 @@
 -- What was so since a map began to end is so in another world, where its own blocks and those that wait are as they were.
 use Rattle.std.specs.Prelude.{◌≢◌, Option, Some, None, IsSome}
-use Rattle.std.proofs.Common.{◌≡◌, ℕ, ◌<◌, ◌≤◌, Bool, true, false, List, arith, sym, subst, ap, ◌∙◌}
+use Rattle.std.proofs.Common.{◌≡◌, ℕ, ◌<◌, ◌≤◌, Bool, true, false, List, [], refl, arith, sym, subst, ap, ◌∙◌}
 use Rattle.seize_words.specs.declared.at.At.TheVariants.{Word}
 use Rattle.seize_words.specs.Mem.{value_at, word_at}
 use Rattle.seize.specs.Further.{FurtherFrom}
 use Rattle.seize.specs.Law.{With, holds, is_orphan, is_over, owner_of}
-use Rattle.seize.specs.World.{World, IsOnto, times}
+use Rattle.seize.specs.World.{World, Handed, IsOnto, times}
+use Rattle.seize_alone.proofs.Histories.Reached.{Reached}
 use Rattle.papaya_tables.specs.Nodes.{deferred_word}
 use Rattle.papaya_tables.specs.declared.node.Node.{Node}
 use Rattle.papaya_tables.specs.declared.setting.Setting.{Setting}
@@ -13,7 +14,9 @@ use Rattle.papaya_tables.specs.declared.table_words.TheConstants.{DEFERRED}
 use Rattle.papaya_rule.specs.Chart.{Chart}
 use Rattle.papaya_rule.specs.Words.{Blocks}
 use Rattle.papaya_callers.specs.Kept.{IsMaking}
+use Rattle.papaya_callers.proofs.Rows.Behind.{behind_handed, pair_on}
 use Rattle.papaya_finishes.specs.FactsEnds.{Deed, Looks, TakesPair, LeavesTable, JoinsPair, TakesLeft, TakesCounter, WritesRoot, CarryTheirs, IsItsDeed, taken_by, left_by, cut_by, joined_by, Spares, HasBehind, IsOverStill, IsTableYet, Since, wait_before}
+use Rattle.papaya_finishes.proofs.Ends.CountedBlocks.{times_other}
 use Rattle.papaya_finishes.proofs.Ends.Memory.{list_kept}
 
 -- a block is as it was: its value, who has it, whose it is, and whether its owner has ended
@@ -91,11 +94,24 @@ module _ {K V : Type 0} (setting : Setting) (c : Chart K) (blocks : Blocks) (own
               left = λ before. let k = y.left before in (s.0.hand ∙ k.0, ap (times (blocks.table t)) waits_same ∙ k.1);
             }
 
--- What can be reached through the map's tables is the map's after a deed, too.
-module _ {K V : Type 0} (setting : Setting) (c : Chart K) (blocks : Blocks) (lists : ℕ → List ℕ) (owns : Bool) (caller : ℕ) (w w2 : World (Node K V)) (past : ℕ)
-    (theirs : CarryTheirs setting c blocks lists owns w past) where
-  pub theirs_on : (deed : Deed) (past2 : ℕ) → Spares setting caller w w2 deed → IsItsDeed setting c blocks lists owns caller w past past2 deed → CarryTheirs setting c blocks lists owns w2 past2
-  theirs_on deed past2 s next t x from later made behind = s.owners x ∙ theirs t x from (no_less deed past2 next later) made (s.behind x (blocks.table t) behind)
+-- What can be reached through the map's tables is a pair of the map's after a deed, too.
+module _ {K V : Type 0} (setting : Setting) (c : Chart K) (blocks : Blocks) (lists : ℕ → List ℕ) (owns : Bool) (caller : ℕ) (w w2 : World (Node K V)) (past : ℕ) where
+  -- a deed takes nothing away that the collector has
+  pub handed_stays : (deed : Deed) (past2 : ℕ) → IsItsDeed setting c blocks lists owns caller w past past2 deed → (x : ℕ) → w.hand x ≡ Handed → times x (taken_by deed) ≡ 0
+  handed_stays Looks past2 its x handed = refl
+  handed_stays (TakesPair b) past2 its x handed = times_other x b [] (λ e. let used = its.1 in let at = ap w.hand e in cc (used, at, handed))
+  handed_stays (LeavesTable b further) past2 its x handed = refl
+  handed_stays (JoinsPair b word) past2 its x handed = refl
+  handed_stays (TakesLeft b) past2 its x handed = times_other x b [] (λ e. let left = its.1 in let at = ap w.hand e in cc (left, at, handed))
+  handed_stays (TakesCounter b) past2 its x handed = times_other x b [] (λ e. subst IsMaking (sym (ap w.hand e) ∙ handed) its.2)
+  handed_stays (WritesRoot at word) past2 its x handed = refl
+
+  pub theirs_on : (size : ℕ) → Reached deferred_word size w → CarryTheirs setting c blocks lists owns w past → (deed : Deed) (past2 : ℕ) → Spares setting caller w w2 deed
+      → IsItsDeed setting c blocks lists owns caller w past past2 deed → CarryTheirs setting c blocks lists owns w2 past2
+  theirs_on size reached theirs deed past2 s next t x from later made behind =
+      let before = s.behind x (blocks.table t) behind in
+      pair_on setting.counter x w w2 (s.owners x) (s.values x (handed_stays deed past2 next x (behind_handed deferred_word size w reached x (blocks.table t) before)))
+      (theirs t x from (no_less deed past2 next later) made before)
     where
       no_less : (deed : Deed) (past2 : ℕ) → IsItsDeed setting c blocks lists owns caller w past past2 deed → past2 ≤ t → past ≤ t
       no_less Looks past2 is l = omega (arith, is, l)

@@ -2,8 +2,10 @@
 use Rattle.std.specs.Prelude.{◌≢◌, Option, Some, None}
 use Rattle.std.proofs.Common.{◌≡◌, ℕ, zero, suc, ◌<◌, Bool, inl, inr, refl, arith, ap, sym, subst, ◌∙◌}
 use Rattle.std.proofs.lemmas.Bool.{cases_eq}
-use Rattle.seize.specs.Law.{is_somewhere, where_is}
+use Rattle.seize_words.specs.Mem.{value_at}
+use Rattle.seize.specs.Law.{With, is_somewhere, where_is}
 use Rattle.seize.specs.World.{World, Row, Use, LeftTo, IsInside, IsOnto, times}
+use Rattle.papaya_tables.specs.Nodes.{deferred_word}
 use Rattle.papaya_tables.specs.declared.node.Node.{Node}
 use Rattle.papaya_tables.specs.declared.setting.Setting.{Setting}
 use Rattle.papaya_rule.specs.Chart.{Chart}
@@ -13,6 +15,8 @@ use Rattle.papaya_points.specs.Steps.{AreLawful}
 use Rattle.papaya_callers.specs.Kept.{IsMaking, IsUsersOwn, IsKeptBy}
 use Rattle.papaya_callers.specs.Sights.{Sight}
 use Rattle.papaya_callers.specs.Together.{UnderWay, CameAbout, Together}
+use Rattle.papaya_callers.proofs.Rows.Behind.{behind_handed}
+use Rattle.papaya_callers.proofs.Together.Came.{came_reached}
 use Rattle.papaya_finishes.specs.Endings.{Finishing}
 use Rattle.papaya_finishes.specs.FactsEnds.{Deed, taken_by, left_by, cut_by, Spares}
 use Rattle.papaya_finishes.specs.Makings.{Beginning, HasRoots, MakingsTogether}
@@ -53,6 +57,12 @@ module _ {K V : Type 0} (size i : ℕ) (its : Setting) (w w2 : World (Node K V))
     known_none : (b : ℕ) → IsKnownBlock c blocks b → times b (taken_by did.deed) ≡ 0
     known_none b known = out_taken b (known_out same hash asks setting slot w c blocks sights calls s b known)
 
+    -- what lies behind another block keeps its value
+    behind_value : (x b : ℕ) → where_is x w.log ≡ With b → value_at w2.memory x ≡ value_at w.memory x
+    behind_value x b at =
+        let handed = behind_handed deferred_word setting.batch_size w (came_reached setting.batch_size w s.ground.came) x b at in
+        did.spares.values x (none_taken x (λ j e. (cc (handed, e))))
+
     place_same : (b : ℕ) → times b (taken_by did.deed) ≡ 0 → where_is b w2.log ≡ where_is b w.log
     place_same b none = did.spares.places b none (did.none_cut b) (λ t at. did.none_cut t)
 
@@ -79,7 +89,7 @@ module _ {K V : Type 0} (size i : ℕ) (its : Setting) (w w2 : World (Node K V))
     leaves = record {
       came = subst (λ (n : ℕ). CameAbout n w2) (sym sized) did.came2;
       known = known_left;
-      behind = λ t x from made at. (did.spares.behind x (blocks.table t) at, did.spares.owners x);
+      behind = λ t x from made at. let before = did.spares.behind x (blocks.table t) at in (before, did.spares.owners x, behind_value x (blocks.table t) before);
       onto = λ t j from made on. subst (λ (r : ℕ → Row). IsOnto (blocks.table t) (r j)) did.spares.rows on;
       root = λ word is. (did.spares.roots setting.root roots).0 ∙ is;
       counter_value = did.spares.values setting.counter counter_taken;

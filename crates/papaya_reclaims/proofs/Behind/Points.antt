@@ -30,6 +30,7 @@ use Rattle.papaya_finishes.specs.Makings.{Beginning, IsFreeRoot}
 use Rattle.papaya_finishes.specs.Maps.{Standing}
 use Rattle.papaya_reclaims.specs.Reclaims.{IsRootOf, RootLeads, LeftBehind, Opened, ReclaimingAt, AllStandIdle, StepsOfReclaiming}
 use Rattle.papaya_reclaims.specs.Slots.{IsQuiet}
+use Rattle.papaya_reclaims.proofs.Behind.Deferred.{tables_carry}
 use Rattle.papaya_reclaims.proofs.Behind.Kept.{same_still}
 use Rattle.papaya_reclaims.proofs.Slots.Facts.{nothing_left}
 
@@ -234,5 +235,6 @@ module _ {K Q : Type 0} (V : Type 0) (same : K → K → Bool) (asks : Q → K �
             | inl of ↦ inl of
             | inr leads ↦ inr (subst (λ (l : List ℕ). RootLeads w r l) (none r lt) leads)
           ]);
+          carry = tables_carry V same asks batch_size roots slot maps calls makers enders w idle;
         };
       })

@@ -6,11 +6,12 @@ use Rattle.seize_words.specs.declared.at.At.TheVariants.{Root, Used, Entry}
 use Rattle.seize_words.specs.Mem.{Mem, value_at, word_at}
 use Rattle.seize.specs.declared.rows.settle.Settled.{Settled}
 use Rattle.seize.specs.declared.states.TheConstants.{NEXT}
-use Rattle.seize.specs.World.{World, Hand, LeftTo, IsNotLeft, times, with_at}
+use Rattle.seize.specs.World.{World, Hand, LeftTo, times, with_at}
 use Rattle.seize_rule.proofs.Rows.Others.{with_here, with_other}
 use Rattle.seize_reclaims.specs.Roots.{all_lists}
 use Rattle.papaya_tables.specs.Nodes.{was_left}
 use Rattle.papaya_tables.specs.declared.node.Node.{Node}
+use Rattle.papaya_tables.specs.declared.node.Node.TheVariants as node
 use Rattle.papaya_tables.specs.declared.setting.Setting.{Setting}
 use Rattle.papaya_raw.specs.declared.machines.end_map.EndMap.{EndMap}
 use Rattle.papaya_callers.specs.Together.{UnderWay}
@@ -20,6 +21,7 @@ use Rattle.papaya_finishes.specs.FactsEnds.{Deed, Looks, TakesPair, LeavesTable,
 use Rattle.papaya_finishes.specs.Makings.{Beginning}
 use Rattle.papaya_finishes.specs.Maps.{Standing}
 use Rattle.papaya_finishes.proofs.Among.LeftAlone.{root_taken}
+use Rattle.papaya_finishes.proofs.Among.Own.Waiting.{left_not, waits_left, waits_stay, waiting_then}
 use Rattle.papaya_finishes.proofs.Beside.Makings.Steps.{one_made}
 use Rattle.papaya_finishes.proofs.Ends.CountedBlocks.{times-append, some_here, some_last}
 use Rattle.papaya_reclaims.specs.Left.{IsSomebodys, LeftAmong, EndingsBeginAndLeaveIt, GoesOnBy, EndingsLeaveIt}
@@ -28,9 +30,6 @@ use Rattle.papaya_reclaims.proofs.Behind.Kept.{in_all, leads_by}
 
 one_of : {X : Type 0} (x y : X) → ◌≡◌ {A = Option X} (Some x) (Some y) → x ≡ y
 one_of x y e = cc e
-
-left_not : (h : Hand) (j : ℕ) → h ≡ LeftTo j → IsNotLeft h → ⊥
-left_not h j e not = subst IsNotLeft e not
 
 none_of : (k : ℕ) → (0 < k → ⊥) → k ≡ 0
 none_of zero none = refl
@@ -210,7 +209,7 @@ module _ {K Q : Type 0} (V : Type 0) (same : K → K → Bool) (asks : Q → K �
       }
 
     -- it is over: what waits is behind its root
-    module _ (done : HasFinished st.w2.memory f) (pairs : (b : ℕ) → 0 < times b f.waits → (value : Node K V) × (value_at st.w2.memory b ≡ Some value) × (was_left value ≡ true)) where
+    module _ (done : HasFinished st.w2.memory f) where
       abbrev root : ℕ
       root = f.setting.root
 
@@ -220,23 +219,18 @@ module _ {K Q : Type 0} (V : Type 0) (same : K → K → Bool) (asks : Q → K �
       abbrev Over : ℕ → Type 0
       Over r = IsSomebodys maps makers (with_at enders i None) r
 
-      waits_left : (x : ℕ) → 0 < times x f.waits → w.hand x ≡ LeftTo i
-      waits_left x on = facts.facts.since.waits x (subst (λ (l : List ℕ). 0 < times x l) facts.waits_are on)
+      its_waits : (x : ℕ) → 0 < times x f.waits → w.hand x ≡ LeftTo i
+      its_waits x on = waits_left same batch_size w i f facts x on
 
       waits_then : (x : ℕ) → 0 < times x f.waits → st.w2.hand x ≡ LeftTo i
-      waits_then x on = by (st.spares.hands x none_taken none_left)
+      waits_then x on = st.spares.hands x (waits_stay same batch_size w i f facts st.deed st.done_to.takes x on) none_left ∙ its_waits x on
         where
-          some_value : (o : Option (Node K V)) (v : Node K V) → o ≡ Some v → o ≡ None → ⊥
-          some_value o v a b = cc (a, b)
-
-          none_taken : times x (taken_by st.deed) ≡ 0
-          none_taken = none_of (times x (taken_by st.deed)) (λ some. let k = pairs x on in some_value (value_at st.w2.memory x) k.0 k.1 (st.spares.gone x some))
-
           none_left : times x (left_by st.deed) ≡ 0
-          none_left = none_of (times x (left_by st.deed)) (λ some. left_not (w.hand x) i (waits_left x on) (st.done_to.leaves x some))
+          none_left = none_of (times x (left_by st.deed)) (λ some. left_not (w.hand x) i (its_waits x on) (st.done_to.leaves x some))
 
-          by : st.w2.hand x ≡ w.hand x → st.w2.hand x ≡ LeftTo i
-          by same = same ∙ waits_left x on
+      -- it is pairs
+      pairs : (x : ℕ) → 0 < times x f.waits → (value : Node K V) × (value_at st.w2.memory x ≡ Some value) × (was_left value ≡ true)
+      pairs x on = let p = waiting_then same batch_size w i f facts st.w2 st.deed st.spares st.done_to.takes x on in (node.Pair p.0 p.1, p.2, refl)
 
       -- how often a block stands in all lists
       either : (x : ℕ) → 0 < times x (all_lists (with_at lists f.setting.root f.waits) roots) → (0 < times x (all_lists lists roots)) ⊎ (0 < times x f.waits)
@@ -301,14 +295,14 @@ module _ {K Q : Type 0} (V : Type 0) (same : K → K → Bool) (asks : Q → K �
 
         none_of_its : times x g.waits ≡ 0
         none_of_its = none_of (times x g.waits) (λ some.
-            two_callers (sym (waits_left x on) ∙ its.facts.since.waits x (subst (λ (l : List ℕ). 0 < times x l) its.waits_are some)))
+            two_callers (sym (its_waits x on) ∙ its.facts.since.waits x (subst (λ (l : List ℕ). 0 < times x l) its.waits_are some)))
 
         none_of_tables : (t : ℕ) → g.chart.first ≤ t → t < g.chart.past → times (g.blocks.table t) g.back ≡ 0 → x ≢ g.blocks.table t
         none_of_tables t from made fresh e =
             let y = its.facts.since.tables t from made fresh in
             elim (cases_lt t its.past) as (λ _. ⊥) [
-              | inl before ↦ two_callers (sym (waits_left x on) ∙ ap w.hand e ∙ (y.left before).0)
-              | inr later ↦ (let used = (y.used later).0 in let at = ap w.hand e in let l = waits_left x on in cc (used, at, l))
+              | inl before ↦ two_callers (sym (its_waits x on) ∙ ap w.hand e ∙ (y.left before).0)
+              | inr later ↦ (let used = (y.used later).0 in let at = ap w.hand e in let l = its_waits x on in cc (used, at, l))
             ]
 
       apart_over : (j : ℕ) (g : Finishing K V) → with_at enders i None j ≡ Some g → (b : ℕ) → 0 < times b (all_lists (with_at lists f.setting.root f.waits) roots)
@@ -335,4 +329,4 @@ module _ {K Q : Type 0} (V : Type 0) (same : K → K → Bool) (asks : Q → K �
 
   pub endings_leave_it : EndingsLeaveIt V same asks batch_size roots slot w maps calls makers enders
   endings_leave_it lists all left i f ends m2 end st =
-      (λ f2 on_by. goes_on lists all left i f ends m2 end st f2 on_by, λ done pairs. is_over lists all left i f ends m2 end st done pairs)
+      (λ f2 on_by. goes_on lists all left i f ends m2 end st f2 on_by, λ done. is_over lists all left i f ends m2 end st done)

@@ -13,11 +13,13 @@ use Rattle.papaya_tables.specs.declared.node.Node.TheVariants as node
 use Rattle.papaya_rule.specs.InWorld.{IsHeldBy, KeepsBlocks}
 use Rattle.papaya_callers.specs.Kept.{IsMaking}
 use Rattle.papaya_callers.specs.Together.{CameAbout}
+use Rattle.papaya_callers.proofs.Rows.Behind.{behind_handed}
 use Rattle.papaya_callers.proofs.Together.Came.{came_reached}
 use Rattle.papaya_finishes.specs.Endings.{Finishing, HasCounter, FinishingFacts}
 use Rattle.papaya_finishes.specs.FactsEnds.{Deed, Looks, TakesPair, LeavesTable, JoinsPair, TakesLeft, TakesCounter, WritesRoot, taken_by, left_by, cut_by, joined_by, Spares, IsItsDeed, IsFresh}
 use Rattle.papaya_finishes.proofs.Ends.CountedBlocks.{times_other}
 use Rattle.papaya_finishes.proofs.Ends.OrdersOnce.{plain_order, pair_there}
+use Rattle.papaya_finishes.proofs.Ends.SinceOn.{handed_stays}
 
 none_of : (k : ℕ) → (0 < k → ⊥) → k ≡ 0
 none_of zero none = refl
@@ -93,7 +95,7 @@ module _ {K V : Type 0} (same : K → K → Bool) (batch_size : ℕ) (w : World 
       ap (λ (y : ℕ). owner_of y w.log) named ∙ (facts.facts.since.tables t from made (subst (λ (y : ℕ). times y f.back ≡ 0) named fresh)).still.owner_is
 
   behind_owner : (b x : ℕ) → f.chart.first ≤ facts.past → facts.past < f.chart.past → b ≡ f.blocks.table facts.past → where_is x w.log ≡ With b → owner_of x w.log ≡ f.setting.counter
-  behind_owner b x from made named at = facts.theirs facts.past x from (omega arith) made (at ∙ ap With named)
+  behind_owner b x from made named at = (facts.theirs facts.past x from (omega arith) made (at ∙ ap With named)).owner_is
 
   -- nothing is done to a block that is apart
   undone : (past2 : ℕ) (deed : Deed) → DoesNew deed → DoesIts past2 deed → (x : ℕ) → IsApart w i f x → IsUndone deed x
@@ -137,6 +139,12 @@ module _ {K V : Type 0} (same : K → K → Bool) (batch_size : ℕ) (w : World 
   behind_uncut came past2 (WritesRoot place word) fresh its x apart b at = refl
 
   module _ (w2 : World (Node K V)) (did : Did w2) where
+    -- what lies behind another block keeps its value
+    pub behind_value : (x b : ℕ) → where_is x w.log ≡ With b → value_at w2.memory x ≡ value_at w.memory x
+    behind_value x b at =
+        did.spares.values x (handed_stays f.setting f.chart f.blocks facts.lists false i w w2 facts.past did.deed did.past2 did.its x
+        (behind_handed deferred_word batch_size w (came_reached batch_size w did.came) x b at))
+
     -- a block is as it was: its value, its words and its link, who has it, how it can be reached, and which sections hold it
     pub record IsAsBefore (x : ℕ) : Type 0 where
       pub value : value_at w2.memory x ≡ value_at w.memory x

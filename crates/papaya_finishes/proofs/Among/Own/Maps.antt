@@ -16,7 +16,7 @@ use Rattle.papaya_finishes.proofs.Beside.Maps.Left.{IsLeft, Leaves, left_spared}
 use Rattle.papaya_finishes.proofs.Beside.Maps.OtherSteps.{making_not_out, known_out, known_owner}
 use Rattle.papaya_finishes.proofs.Beside.Maps.Stays.{stays}
 use Rattle.papaya_finishes.specs.Endings.{Finishing, HasCounter, FinishingFacts}
-use Rattle.papaya_finishes.proofs.Among.Own.Apart.{IsApart, making_apart, Did, IsAsBefore, as_before, keeps_all}
+use Rattle.papaya_finishes.proofs.Among.Own.Apart.{IsApart, making_apart, Did, behind_value, IsAsBefore, as_before, keeps_all}
 
 module _ {K V : Type 0} (same : K → K → Bool) (batch_size : ℕ) (w : World (Node K V)) (i : ℕ) (f : Finishing K V) (facts : FinishingFacts same batch_size w i f) (w2 : World (Node K V))
     (did : Did same batch_size w i f facts w2) where
@@ -61,7 +61,7 @@ module _ {K V : Type 0} (same : K → K → Bool) (batch_size : ℕ) (w : World 
     leaves = record {
       came = subst (λ (n : ℕ). CameAbout n w2) (sym size) did.came2;
       known = known_left;
-      behind = λ t x from made at. (did.spares.behind x (blocks.table t) at, did.spares.owners x);
+      behind = λ t x from made at. let before = did.spares.behind x (blocks.table t) at in (before, did.spares.owners x, behind_value same batch_size w i f facts w2 did x (blocks.table t) before);
       onto = λ t j from made on. subst (λ (r : ℕ → Row). IsOnto (blocks.table t) (r j)) did.spares.rows on;
       root = λ word is. (did.spares.roots setting.root (λ e. roots (sym e))).0 ∙ is;
       counter_value = counter_before.value;

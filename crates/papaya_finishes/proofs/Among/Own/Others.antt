@@ -7,7 +7,7 @@ use Rattle.papaya_callers.specs.Kept.{IsMaking}
 use Rattle.papaya_finishes.proofs.Beside.Endings.Spares.{IsUsedOf, IsOfEnd, IsSpared, SparesEnd}
 use Rattle.papaya_finishes.specs.Endings.{Finishing, HasCounter, FinishingFacts}
 use Rattle.papaya_finishes.proofs.Among.LeftAlone.{facts_on}
-use Rattle.papaya_finishes.proofs.Among.Own.Apart.{IsApart, making_apart, Did, as_before}
+use Rattle.papaya_finishes.proofs.Among.Own.Apart.{IsApart, making_apart, Did, behind_value, as_before}
 
 module _ {K V : Type 0} (same : K → K → Bool) (batch_size : ℕ) (w : World (Node K V)) (i : ℕ) (f : Finishing K V) (facts : FinishingFacts same batch_size w i f) (w2 : World (Node K V))
     (did : Did same batch_size w i f facts w2) where
@@ -62,7 +62,7 @@ module _ {K V : Type 0} (same : K → K → Bool) (batch_size : ℕ) (w : World 
       blocks = λ b of. apart_spared b (of_other b of);
       counter = λ is making. apart_spared owner (making_apart w i f owner making counters);
       links = λ b word left is. (as_before same batch_size w i f facts w2 did b (left_to_other b left)).link ∙ is;
-      behind = λ b x used at. (did.spares.behind x b at, did.spares.owners x);
+      behind = λ b x used at. let before = did.spares.behind x b at in (before, did.spares.owners x, behind_value same batch_size w i f facts w2 did x b before);
       onto = λ b l used on. subst (λ (r : ℕ → Row). IsOnto b (r l)) did.spares.rows on;
       root_leads = λ word is. (did.spares.roots root roots).0 ∙ is;
       root_used = λ is. (did.spares.roots root roots).1 ∙ is;

@@ -1,10 +1,10 @@
 -- Whichever caller takes a step of its end of a map, it may take it, and all stand together again; once it is over, the map has ended.
 use Rattle.std.specs.Prelude.{Option, Some, None, map}
-use Rattle.std.proofs.Common.{◌≡◌, ℕ, ◌<◌, ◌≤◌, Bool, false, List, [], ◌∷◌, ◌++◌, refl, arith, ap, sym, subst, ◌∙◌, ◌⊎◌, inl, inr, true}
+use Rattle.std.proofs.Common.{◌≡◌, ℕ, ◌<◌, ◌≤◌, Bool, false, List, [], ◌∷◌, ◌++◌, refl, arith, ap, sym, subst, ◌∙◌, inl, inr}
 use Rattle.std.proofs.lemmas.List.{append-nil}
 use Rattle.seize_words.specs.declared.at.At.TheVariants.{Used}
 use Rattle.seize_words.specs.Mem.{Mem, word_at}
-use Rattle.seize.specs.World.{World, Runs, Hand, NoBlock, Making, InUse, Parting, Cutting, Handed, LeftTo, IsNotLeft, times, with_at}
+use Rattle.seize.specs.World.{World, Runs, Hand, InUse, IsNotLeft, times, with_at}
 use Rattle.seize.specs.declared.rows.settle.Settled.{Settled}
 use Rattle.seize.specs.declared.rows.settle.Settled.TheVariants as settled
 use Rattle.papaya_tables.specs.Chunks.{is_incremental}
@@ -16,14 +16,14 @@ use Rattle.papaya_raw.specs.declared.machines.end_map.Ending.TheVariants as at
 use Rattle.papaya_finishes.specs.Makings.{Beginning}
 use Rattle.papaya_finishes.specs.Maps.{Standing}
 use Rattle.papaya_callers.specs.Together.{UnderWay}
-use Rattle.papaya_callers.proofs.Together.Came.{came_on}
-use Rattle.papaya_callers.specs.Kept.{IsMaking}
+use Rattle.papaya_callers.proofs.Together.Came.{came_reached, came_on}
 use Rattle.papaya_finishes.specs.Endings.{IsDoneTo, Finishing, HasCounter, FinishingFacts, HasFinished, EndingsTogether, FinishingTold, EndingsStand, waiting_by}
 use Rattle.papaya_finishes.specs.FactsEnds.{Deed, Looks, TakesPair, LeavesTable, JoinsPair, TakesLeft, TakesCounter, WritesRoot, events_of, RootIs, RootAt, EndingFacts, EndFacts, HasEnded, EndTold, EndWent, back_of, from_table, wait_before}
 use Rattle.papaya_finishes.specs.Orders.{pairs_of}
 use Rattle.papaya_finishes.proofs.Among.Own.Apart.{DoesNew, DoesIts, Did}
 use Rattle.papaya_finishes.proofs.Among.Own.Makings.{IsRoot}
 use Rattle.papaya_finishes.proofs.Among.Own.Together.{ends_stand}
+use Rattle.papaya_finishes.proofs.Among.Own.Waiting.{TakesSo, takes_so, waiting_on}
 use Rattle.papaya_finishes.proofs.Ends.CountedBlocks.{none_before, some_last, some_of_first}
 use Rattle.papaya_finishes.proofs.Ends.Frames.{that_one}
 use Rattle.papaya_finishes.proofs.Ends.Known.{back_once}
@@ -98,9 +98,10 @@ module _ {K V : Type 0} (same : K → K → Bool) (batch_size : ℕ) (w : World 
     past = did.past2;
     stood = facts.stood;
     facts = h;
-    theirs = theirs_on f.setting f.chart f.blocks facts.lists false i w w2 facts.past facts.theirs did.deed did.past2 did.spares did.its;
+    theirs = theirs_on f.setting f.chart f.blocks facts.lists false i w w2 facts.past batch_size (came_reached batch_size w did.came) facts.theirs did.deed did.past2 did.spares did.its;
     each = facts.each;
     waits_are = waits_then did.deed did.past2 did.its;
+    waiting = waiting_on same batch_size w i f facts w2 did;
   }
 
   -- a step that ends it leaves no table over: all were reclaimed before
@@ -138,16 +139,6 @@ module _ {K V : Type 0} (same : K → K → Bool) (batch_size : ℕ) (w : World 
       );
     }
 
--- what its maker has is left to nobody
-making_not_left : (h : Hand) → IsMaking h → IsNotLeft h
-making_not_left NoBlock making = absurd making
-making_not_left (Making j) making = tt
-making_not_left (InUse o) making = absurd making
-making_not_left (Parting j) making = absurd making
-making_not_left (Cutting j) making = absurd making
-making_not_left Handed making = absurd making
-making_not_left (LeftTo j) making = absurd making
-
 -- what a deed is done to
 module _ {K Q : Type 0} (V : Type 0) (same : K → K → Bool) (asks : Q → K → Bool) (batch_size roots : ℕ) (slot : ℕ → ℕ)
     (w : World (Node K V)) (maps : ℕ → Option (Standing K)) (calls : ℕ → ℕ → Option (UnderWay K V Q)) (makers : ℕ → Option (Beginning K)) (enders : ℕ → Option (Finishing K V))
@@ -161,44 +152,29 @@ module _ {K Q : Type 0} (V : Type 0) (same : K → K → Bool) (asks : Q → K �
   hand_of : (x b : ℕ) (h : Hand) → x ≡ b → w.hand b ≡ h → w.hand x ≡ h
   hand_of x b h e is = ap w.hand e ∙ is
 
-  which_table : (b : ℕ) → ◌⊎◌ (false ≡ true) ((t : ℕ) × (f.chart.first ≤ t) × (t < f.chart.past) × (b ≡ f.blocks.table t)) → (t : ℕ) × (f.chart.first ≤ t) × (t < f.chart.past) × (b ≡ f.blocks.table t)
-  which_table b (inl e) = absurd (cc e)
-  which_table b (inr k) = k
+  takes : (past2 : ℕ) (deed : Deed) → DoesIts same batch_size w i f facts past2 deed → DoesNew same batch_size w i f facts deed → TakesSo same batch_size w i f facts deed
+  takes past2 deed its fresh = takes_so same batch_size w i f facts past2 deed its fresh
 
   done_to : (past2 : ℕ) (deed : Deed) → DoesIts same batch_size w i f facts past2 deed → DoesNew same batch_size w i f facts deed → To deed
-  done_to past2 Looks its fresh = record { takes = λ x on. none x on; leaves = λ x on. none x on; joins = λ x on. none x on }
-  done_to past2 (TakesPair b) (is, used, n, current, named) fresh = record {
-    takes = λ x on. inl (subst IsNotLeft (sym (hand_of x b (InUse f.setting.counter) (that_one x b on) used)) tt);
-    leaves = λ x on. none x on;
-    joins = λ x on. none x on;
-  }
-  done_to past2 (LeavesTable b further) (is, used, behind, from, made, named, list) fresh = record {
-    takes = λ x on. none x on;
+  done_to past2 Looks its fresh = record { takes = takes past2 Looks its fresh; leaves = λ x on. none x on; joins = λ x on. none x on }
+  done_to past2 (TakesPair b) its fresh = record { takes = takes past2 (TakesPair b) its fresh; leaves = λ x on. none x on; joins = λ x on. none x on }
+  done_to past2 (LeavesTable b further) its fresh = record {
+    takes = takes past2 (LeavesTable b further) its fresh;
     leaves = λ x on. (elim (some_of_first x b further on) as (λ _. IsNotLeft (w.hand x)) [
-      | inl e ↦ subst IsNotLeft (sym (hand_of x b (InUse f.setting.counter) e used)) tt
-      | inr there ↦ subst IsNotLeft (sym (behind.theirs x there).0) tt
+      | inl e ↦ subst IsNotLeft (sym (hand_of x b (InUse f.setting.counter) e its.1)) tt
+      | inr there ↦ subst IsNotLeft (sym (its.2.theirs x there).0) tt
     ]);
     joins = λ x on. none x on;
   }
-  done_to past2 (JoinsPair b word) (is, left, waits) fresh = record {
-    takes = λ x on. none x on;
+  done_to past2 (JoinsPair b word) its fresh = record {
+    takes = takes past2 (JoinsPair b word) its fresh;
     leaves = λ x on. none x on;
     joins = λ x on. subst (λ (l : List ℕ). 0 < times x l) (sym facts.waits_are)
-        (subst (λ (y : ℕ). 0 < times y (wait_before f.setting f.chart f.blocks facts.lists false facts.past)) (sym (that_one x b on)) waits);
+        (subst (λ (y : ℕ). 0 < times y (wait_before f.setting f.chart f.blocks facts.lists false facts.past)) (sym (that_one x b on)) its.2);
   }
-  done_to past2 (TakesLeft b) (is, left, which) fresh = record {
-    takes = λ x on.
-        let e = that_one x b on in
-        inr (hand_of x b (LeftTo i) e left, subst (λ (y : ℕ). times y f.back ≡ 0) (sym e) fresh, (let k = which_table b which in (k.0, k.1, k.2, e ∙ k.3)));
-    leaves = λ x on. none x on;
-    joins = λ x on. none x on;
-  }
-  done_to past2 (TakesCounter b) (is, named, making) fresh = record {
-    takes = λ x on. inl (making_not_left (w.hand x) (subst (λ (y : ℕ). IsMaking (w.hand y)) (sym (that_one x b on)) making));
-    leaves = λ x on. none x on;
-    joins = λ x on. none x on;
-  }
-  done_to past2 (WritesRoot place word) its fresh = record { takes = λ x on. none x on; leaves = λ x on. none x on; joins = λ x on. none x on }
+  done_to past2 (TakesLeft b) its fresh = record { takes = takes past2 (TakesLeft b) its fresh; leaves = λ x on. none x on; joins = λ x on. none x on }
+  done_to past2 (TakesCounter b) its fresh = record { takes = takes past2 (TakesCounter b) its fresh; leaves = λ x on. none x on; joins = λ x on. none x on }
+  done_to past2 (WritesRoot place word) its fresh = record { takes = takes past2 (WritesRoot place word) its fresh; leaves = λ x on. none x on; joins = λ x on. none x on }
 
 module _ {K Q : Type 0} (V : Type 0) (same : K → K → Bool) (asks : Q → K → Bool) (batch_size roots : ℕ) (slot : ℕ → ℕ) where
   module _ (w : World (Node K V)) (maps : ℕ → Option (Standing K)) (calls : ℕ → ℕ → Option (UnderWay K V Q)) (makers : ℕ → Option (Beginning K)) (enders : ℕ → Option (Finishing K V))

@@ -41,7 +41,7 @@ module _ {K V Q : Type 0} (same : K → K → Bool) (hash : K → ℕ) (asks : Q
     kept = λ b known k. k;
     owner = λ b known. refl;
     held = λ b known r in_it h. h;
-    behind = λ t x l made at. (at, refl);
+    behind = λ t x l made at. (at, refl, refl);
     onto = λ t j l made on. on;
     value = λ n was known. refl;
     counter = s.ground.counter;

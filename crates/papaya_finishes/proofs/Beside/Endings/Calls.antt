@@ -22,7 +22,7 @@ use Rattle.papaya_callers.specs.Together.{CameAbout}
 use Rattle.papaya_finishes.proofs.Beside.Endings.Spares.{IsOfEnd, IsSpared, SparesEnd, end_not_made, end_there}
 use Rattle.papaya_finishes.proofs.Beside.Maps.OtherSteps.{making_not_out}
 use Rattle.papaya_callers.proofs.Rows.Behind.{events_back}
-use Rattle.papaya_callers.proofs.Together.Came.{came_on}
+use Rattle.papaya_callers.proofs.Together.Came.{came_reached, came_on}
 use Rattle.papaya_callers.proofs.Together.Users.{events_rows}
 
 module _ {K V : Type 0} (same : K → K → Bool) (hash : K → ℕ) (other : Setting) (i : ℕ) (w : World (Node K V)) (c : Chart K) (blocks : Blocks)
@@ -84,7 +84,7 @@ module _ {K V : Type 0} (same : K → K → Bool) (hash : K → ℕ) (other : Se
     blocks = λ b of. let h = end_there other.batch_size w came owner ender b of in spared b h.0 h.1 (not_its b of) (not_counter b of);
     counter = λ is making. spared owner node.Shards is (counter_not_its is making) counters;
     links = λ b word left is. word_stays (Entry b NEXT) word (λ making. (cc (left, making))) is;
-    behind = λ b x used. events_back deferred_word other.batch_size x b went.events w went.w2 went.users went.runs;
+    behind = λ b x used. events_back deferred_word other.batch_size x b went.events w went.w2 (came_reached other.batch_size w came) went.users went.runs;
     onto = λ b j used on. subst (IsOnto b) (ap (λ (f : ℕ → Row). f j) (events_rows other.batch_size went.events w went.w2 went.users went.runs)) on;
     root_leads = λ word is. word_stays (Root root) word roots is;
     root_used = λ is. word_stays (Used root) 1 (λ none. none) is;

@@ -12,6 +12,7 @@ use Rattle.papaya_callers.specs.Together.{CameAbout}
 use Rattle.papaya_finishes.proofs.Beside.Endings.Spares.{IsOfEnd, IsSpared, SparesEnd, end_not_made, end_there}
 use Rattle.papaya_finishes.proofs.Beside.Makings.Leaves.{IsItsBlock, IsItsRoot, IsAsItWas, LeavesOthers, came_then, rows_same}
 use Rattle.papaya_callers.proofs.Rows.Behind.{events_back}
+use Rattle.papaya_callers.proofs.Together.Came.{came_reached}
 
 module _ {K V : Type 0} (size roots i : ℕ) (n : NewMap) (w w2 : World (Node K V)) (came : CameAbout size w) (left : LeavesOthers i n w w2 size roots)
     (owner root ender : ℕ) (counter : HasMade n.stands → owner ≢ n.setting.counter) (other_root : IsItsRoot i n w root → ⊥) where
@@ -39,7 +40,7 @@ module _ {K V : Type 0} (size roots i : ℕ) (n : NewMap) (w w2 : World (Node K 
     blocks = λ b of. spared b (as_it_was b of);
     counter = λ is making. spared owner (left.blocks owner node.Shards is (counter_not_its is));
     links = λ b word is_left is. (as_it_was b (inr is_left)).link word (end_not_made w owner ender b (inr is_left) i) is;
-    behind = λ b x used. events_back deferred_word size x b left.events w w2 left.users left.runs;
+    behind = λ b x used. events_back deferred_word size x b left.events w w2 (came_reached size w came) left.users left.runs;
     onto = λ b j used on. subst (IsOnto b) (rows_same size roots i n w w2 came left j) on;
     root_leads = λ word is. left.root root word is other_root;
     root_used = λ is. left.used root is other_root;

@@ -2,9 +2,10 @@
 use Rattle.std.specs.Prelude.{◌≡◌, ◌≢◌, ℕ, Bool, cond, eqb, List, ◌∷◌, slice_get}
 use Rattle.std.proofs.Common.{refl, ap, sym, subst, ◌∙◌, inl, inr}
 use Rattle.std.proofs.lemmas.Bool.{cases_eq, eq-eqb, ne_eqb}
+use Rattle.seize_words.specs.Mem.{value_at}
 use Rattle.seize.specs.Law.{Effect, With, Nowhere, Deferred, where_is, is_standing, owner_of, is_orphan, is_over}
 use Rattle.seize.specs.World.{World, Row, Use, Handed, Request, Register', Enter', Leave', LeaveOwned, Refresh, Unregister', Retire, Flush, Defer', Begin, Step, Happens, IsOnto, with_at}
-use Rattle.seize_rule.proofs.Rows.Effects.{owner_kept, place_kept}
+use Rattle.seize_rule.proofs.Rows.Effects.{owner_kept}
 use Rattle.seize_alone.proofs.Histories.LeftTo.{still_orphan, still_over, still_linked}
 use Rattle.seize_alone.proofs.Histories.NotTaken.{IsKept, did, not_taken, kept_value, kept_hand}
 use Rattle.seize_alone.proofs.Histories.Onto.{steps_onto}
@@ -17,8 +18,8 @@ use Rattle.papaya_rule.proofs.World.Hands.{at_cases, hand_kept}
 use Rattle.papaya_callers.specs.Kept.{IsMaking}
 use Rattle.papaya_callers.specs.Together.{CameAbout, HandsOver, IsOfSlots, IsOneStep}
 use Rattle.papaya_finishes.proofs.Beside.Endings.Spares.{IsUsedOf, IsOfEnd, IsSpared, SparesEnd, end_own, end_not_held, spares_then}
-use Rattle.papaya_finishes.proofs.Beside.Maps.OtherBegins.{cutting_not_making, cut_not_making, deferred_behind}
-use Rattle.papaya_callers.proofs.Rows.Behind.{LaySo}
+use Rattle.papaya_finishes.proofs.Beside.Maps.OtherBegins.{cutting_not_making, cut_not_making}
+use Rattle.papaya_callers.proofs.Rows.Behind.{LaySo, deferred_behind, row_back}
 use Rattle.papaya_callers.proofs.Rows.Beside.{making_own}
 use Rattle.papaya_callers.proofs.Rows.Keep.{kept_block}
 use Rattle.papaya_callers.proofs.Together.Came.{came_reached, came_next}
@@ -38,18 +39,13 @@ module _ {K V : Type 0} (size : ℕ) (w : World (Node K V)) (came : CameAbout si
     over = still_over deferred_word size w reached i w2 step b;
   }
 
-  lay : (x b : ℕ) → LaySo x b w w2
-  lay x b at =
-      let d = did deferred_word size w reached i w2 step in
-      (sym (ap (where_is x) d.logged ∙ place_kept x d.effects w.log d.one) ∙ at, ap (owner_of x) d.logged ∙ owner_kept x d.effects w.log d.one)
-
   pub step_spares_end : SparesEnd w w2 size owner root ender
   step_spares_end = record {
     came = came_next size w w2 (Step i) came step;
     blocks = λ b of. spared b (kept_block w b (inl (end_own w owner ender b of)));
     counter = λ is making. spared owner (kept_block w owner (inl (making_own (w.hand owner) making)));
     links = λ b word left is. still_linked deferred_word size w reached i w2 step b ender left ∙ is;
-    behind = λ b x used. lay x b;
+    behind = λ b x used. row_back deferred_word size x b w w2 reached i step;
     onto = λ b j used on. steps_onto deferred_word size w reached w2 i step j b on;
     root_leads = λ word is. ap (λ l. slice_get l root) (did deferred_word size w reached i w2 step).frames.roots ∙ is;
     root_used = λ is. ap (λ l. slice_get l root) (did deferred_word size w reached i w2 step).frames.used ∙ is;
@@ -70,7 +66,7 @@ module _ {K V : Type 0} (size : ℕ) (w : World (Node K V)) (owner root ender i 
     blocks = λ b of. record { value = refl; words = λ field word no is. is; hand = refl; owner = refl; orphan = refl; over = refl };
     counter = λ is making. record { value = refl; words = λ field word no is. is; hand = refl; owner = refl; orphan = refl; over = refl };
     links = λ b word left is. is;
-    behind = λ b x used at. (at, refl);
+    behind = λ b x used at. (at, refl, refl);
     onto = λ b j used on. none_onto none b j on;
     root_leads = λ word is. is;
     root_used = λ is. is;
@@ -101,9 +97,9 @@ module _ {K V : Type 0} (size : ℕ) (w : World (Node K V)) (owner root ender i 
       }
 
       lay_so : (b y : ℕ) → IsUsedOf w owner b → LaySo y b w handed
-      lay_so b y used at = elim (cases_eq y x) as (λ _. (where_is y w.log ≡ With b) × (owner_of y log ≡ owner_of y w.log)) [
-        | inl e ↦ (subst (λ (z : ℕ). where_is z w.log ≡ With b) (sym e) (behind_other b used (subst (λ (z : ℕ). where_is z log ≡ With b) e at)), owners y)
-        | inr ne ↦ (sym (placed y ne) ∙ at, owners y)
+      lay_so b y used at = elim (cases_eq y x) as (λ _. (where_is y w.log ≡ With b) × (owner_of y log ≡ owner_of y w.log) × (value_at w.memory y ≡ value_at w.memory y)) [
+        | inl e ↦ (subst (λ (z : ℕ). where_is z w.log ≡ With b) (sym e) (behind_other b used (subst (λ (z : ℕ). where_is z log ≡ With b) e at)), owners y, refl)
+        | inr ne ↦ (sym (placed y ne) ∙ at, owners y, refl)
       ]
 
       handed_spares : CameAbout size handed → SparesEnd w handed size owner root ender

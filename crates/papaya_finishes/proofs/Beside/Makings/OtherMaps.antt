@@ -19,6 +19,7 @@ use Rattle.papaya_finishes.proofs.Beside.Maps.Left.{Leaves, left_spared}
 use Rattle.papaya_finishes.proofs.Beside.Maps.OtherSteps.{known_out, known_there}
 use Rattle.papaya_finishes.proofs.Beside.Maps.Stays.{stays}
 use Rattle.papaya_callers.proofs.Rows.Behind.{events_back}
+use Rattle.papaya_callers.proofs.Together.Came.{came_reached}
 
 module _ {K V Q : Type 0} (same : K → K → Bool) (hash : K → ℕ) (asks : Q → K → Bool) (setting : Setting) (slot : ℕ → ℕ) (lawful : AreLawful same hash)
     (w : World (Node K V)) (c : Chart K) (blocks : Blocks) (sights : ℕ → Sight) (calls : ℕ → Option (UnderWay K V Q)) (s : Together V same hash asks setting slot w c blocks sights calls)
@@ -49,7 +50,7 @@ module _ {K V Q : Type 0} (same : K → K → Bool) (hash : K → ℕ) (asks : Q
       kept = kept_then setting.batch_size roots i n w w2 s.ground.came left b (known_as b known);
       held = goes_on_holding setting.batch_size roots i n w w2 s.ground.came left b;
     };
-    behind = λ t x l made. events_back deferred_word setting.batch_size x (blocks.table t) left.events w w2 left.users left.runs;
+    behind = λ t x l made. events_back deferred_word setting.batch_size x (blocks.table t) left.events w w2 (came_reached setting.batch_size w s.ground.came) left.users left.runs;
     onto = λ t j l made on. subst (IsOnto (blocks.table t)) (rows_same setting.batch_size roots i n w w2 s.ground.came left j) on;
     root = λ word is. left.root setting.root word is root;
     counter_value = counter_as.value;

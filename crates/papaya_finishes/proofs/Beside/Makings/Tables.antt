@@ -189,7 +189,7 @@ module _ {K Q : Type 0} (V : Type 0) (same : K → K → Bool) (asks : Q → K �
 
         none_behind : (x : ℕ) → where_is x went.w2.log ≡ With (went.blocks2.table 0) → ⊥
         none_behind x at =
-            let lay = events_back deferred_word its.batch_size x (went.blocks2.table 0) went.events w went.w2 went.users went.runs at in
+            let lay = events_back deferred_word its.batch_size x (went.blocks2.table 0) went.events w went.w2 (came_reached its.batch_size w (subst (λ (size : ℕ). CameAbout size w) (sym batches) came)) went.users went.runs at in
             carrier_not_made deferred_word batch_size w (came_reached batch_size w came) x (went.blocks2.table 0) lay.0 i first_made
 
         none_onto : (j : ℕ) → IsOnto (went.blocks2.table 0) (went.w2.row j) → ⊥

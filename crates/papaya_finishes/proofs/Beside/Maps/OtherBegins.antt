@@ -1,8 +1,9 @@
 -- A row that begins on a block of one map leaves each other map as it is.
-use Rattle.std.specs.Prelude.{◌≡◌, ◌≢◌, ◌<◌, ◌≤◌, ℕ, Bool, true, false, cond, eqb, List, ◌∷◌, Option, Some, None}
+use Rattle.std.specs.Prelude.{◌≡◌, ◌≢◌, ◌<◌, ◌≤◌, ℕ, Bool, true, cond, eqb, List, ◌∷◌, Option, Some, None}
 use Rattle.std.proofs.Common.{refl, ap, sym, subst, ◌∙◌, inl, inr}
 use Rattle.std.proofs.lemmas.Bool.{cases_eq, eq-eqb, ne_eqb}
-use Rattle.seize.specs.Law.{Effect, Place, With, Nowhere, Deferred, where_is, is_standing, is_somewhere, is_open, holds, owner_of}
+use Rattle.seize_words.specs.Mem.{value_at}
+use Rattle.seize.specs.Law.{Effect, With, Nowhere, Deferred, where_is, is_standing, is_somewhere, is_open, holds, owner_of}
 use Rattle.seize.specs.World.{World, Row, Hand, NoBlock, Making, InUse, Parting, Cutting, Handed, LeftTo, Request, Register', Enter', Leave', LeaveOwned, Refresh, Unregister', Retire, Flush, Defer', Begin, Happens, IsOnto, MayCut, one_more, with_at}
 use Rattle.seize_rule.proofs.Rows.Others.{with_other}
 use Rattle.papaya_tables.specs.Nodes.{deferred_word}
@@ -21,7 +22,7 @@ use Rattle.papaya_callers.specs.Sights.{Sight}
 use Rattle.papaya_callers.specs.Together.{UnderWay, CameAbout, HandsOver, Together}
 use Rattle.papaya_finishes.proofs.Beside.Maps.Stays.{Spared, stays}
 use Rattle.papaya_finishes.proofs.Beside.Maps.OtherSteps.{known_owner}
-use Rattle.papaya_callers.proofs.Rows.Behind.{LaySo}
+use Rattle.papaya_callers.proofs.Rows.Behind.{LaySo, deferred_behind}
 use Rattle.papaya_callers.proofs.Together.Came.{came_next}
 use Rattle.papaya_callers.proofs.Together.Handed.{inside_on, inside_back}
 
@@ -88,12 +89,13 @@ module _ {K V Q : Type 0} (same : K → K → Bool) (hash : K → ℕ) (asks : Q
 
     -- nothing of the map came behind a table by it
     behind : (u x : ℕ) → c.first ≤ u → u < c.past → LaySo x (blocks.table u) w handed
-    behind u x l made at = elim (cases_eq x b) as (λ _. (where_is x w.log ≡ With (blocks.table u)) × (owner_of x log ≡ owner_of x w.log)) [
+    behind u x l made at = elim (cases_eq x b) as (λ _. (where_is x w.log ≡ With (blocks.table u)) × (owner_of x log ≡ owner_of x w.log) × (value_at w.memory x ≡ value_at w.memory x)) [
       | inl e ↦ (
         subst (λ (y : ℕ). where_is y w.log ≡ With (blocks.table u)) (sym e) (behind_other u (linked u l made) (subst (λ (y : ℕ). where_is y log ≡ With (blocks.table u)) e at)),
         owners x,
+        refl,
       )
-      | inr ne ↦ (sym (placed x ne) ∙ at, owners x)
+      | inr ne ↦ (sym (placed x ne) ∙ at, owners x, refl)
     ]
 
     onto : (u j : ℕ) → c.first ≤ u → u < c.past → IsOnto (blocks.table u) (handed.row j) → IsOnto (blocks.table u) (w.row j)
@@ -119,12 +121,6 @@ module _ {K V Q : Type 0} (same : K → K → Bool) (hash : K → ℕ) (asks : Q
       where
         not_caller : (j : ℕ) (u : UnderWay K V Q) → calls j ≡ Some u → j ≢ i
         not_caller j u has e = let at : calls j ≡ None = ap calls e ∙ none in cc (at, has)
-
--- what is deferred lies behind that block, if behind any
-pub deferred_behind : (here stands : Bool) (d t : ℕ) (before : Place) → here ≡ true → cond here (cond stands (With d) Nowhere) before ≡ With t → d ≡ t
-deferred_behind true true d t before is at = cc at
-deferred_behind true false d t before is at = absurd (cc at)
-deferred_behind false stands d t before is at = absurd (cc is)
 
 -- what is unlinked, or may be, its maker hasn't
 pub cutting_not_making : (h : Hand) → {j : ℕ} → h ≡ Cutting j → IsMaking h → ⊥

@@ -116,7 +116,7 @@ module _ {K V Q : Type 0} (same : K → K → Bool) (hash : K → ℕ) (asks : Q
         kept = kept b known;
         held = λ t in_it h. events_hold setting.batch_size b t went.events w went.w2 reached in_it went.users runs h;
       };
-      behind = λ t x l made. events_back deferred_word setting.batch_size x (blocks.table t) went.events w went.w2 went.users runs;
+      behind = λ t x l made. events_back deferred_word setting.batch_size x (blocks.table t) went.events w went.w2 reached went.users runs;
       onto = λ t j l made on. subst (IsOnto (blocks.table t)) (row_same j) on;
       root = λ word is. word_stays (Root setting.root) word roots is;
       counter_value = counter_beside.value;

@@ -17,7 +17,7 @@ use Rattle.papaya_points.specs.Steps.{AreLawful}
 use Rattle.papaya_callers.specs.Kept.{IsMaking, IsKeptBy, IsWithin}
 use Rattle.papaya_callers.specs.Sights.{Sight, seen_by}
 use Rattle.papaya_callers.specs.Together.{UnderWay, in_slot, CameAbout, Ground, Stands, Together}
-use Rattle.papaya_callers.proofs.Rows.Behind.{LaySo}
+use Rattle.papaya_callers.proofs.Rows.Behind.{LaySo, pair_on}
 use Rattle.papaya_callers.proofs.Sights.Seen.{map_seen}
 use Rattle.papaya_callers.proofs.Together.Fits.{map_in_slot, stands_on}
 
@@ -71,7 +71,7 @@ module _ {K V Q : Type 0} (same : K → K → Bool) (hash : K → ℕ) (asks : Q
       tables = λ t made known. spared.owner (blocks.table t) (table_known t made known) ∙ s.ground.owned.tables t made known;
       pairs = λ n was known. spared.owner (blocks.pair n) (pair_known n was known) ∙ s.ground.owned.pairs n was known;
     };
-    behind = λ t x l made at. let lay = spared.behind t x l made at in lay.1 ∙ s.ground.behind t x l made lay.0;
+    behind = λ t x l made at. let lay = spared.behind t x l made at in let k = s.ground.behind t x l made lay.0 in (pair_on setting.counter x w w2 lay.1 lay.2 k.0, k.1);
     sources = s.ground.sources;
     counter = spared.counter;
     sight = λ r in_it. ((s.ground.sight r (spared.inside_before r in_it)).0, within r (spared.inside_before r in_it));
