@@ -9,7 +9,7 @@ use Rattle.papaya_tables.specs.declared.node.Node.{Node}
 use Rattle.papaya_tables.specs.declared.node.Node.TheVariants as node
 use Rattle.papaya_tables.specs.declared.setting.Setting.{Setting}
 use Rattle.papaya_schedules.specs.declared.effect.Effect.{Effect}
-use Rattle.papaya_schedules.specs.Effects.{with_effects}
+use Rattle.papaya_schedules.specs.Effects.{AtEachEffect, with_effects}
 use Rattle.papaya_schedules.specs.Moment.{Moment}
 use Rattle.papaya_teller.specs.declared.changed.Changed.{Changed}
 use Rattle.papaya_rule.specs.Chart.{Chart}
@@ -22,8 +22,10 @@ use Rattle.papaya_finishes.specs.Maps.{Standing}
 use Rattle.papaya_effects.specs.Known.{Known}
 use Rattle.papaya_effects.specs.declared.role.Role.TheVariants as role
 use Rattle.papaya_follows.specs.Blocks.{HasRole, ShowsBlocks}
+use Rattle.papaya_follows.specs.Finds.{FindsMap}
 use Rattle.papaya_follows.specs.Maps.{table_of, ShowsMap}
 use Rattle.papaya_follows.proofs.Alike.{IsAlike, alike_same, still_all}
+use Rattle.papaya_follows.proofs.Finds.{still_find}
 use Rattle.papaya_follows.proofs.Onward.{KeepsRoles, StaysTables, StaysPairs, blocks_grown, map_on}
 use Rattle.papaya_follows.proofs.Operations.{LeavesBy}
 use Rattle.papaya_follows.proofs.Told.{IsQuiet}
@@ -41,6 +43,7 @@ module _ {K V : Type 0} (same : K → K → Bool) (slot caller map : ℕ) (name 
   led effects = with_effects name (Some map) effects m
 
   pub record LeadsOn (effects : List Effect) (after : Known) : Type 0 where
+    pub finds : AtEachEffect (FindsMap map) name (Some map) effects m
     pub number_then : ℕ → ℕ
     pub own : ShowsMap map number_then after_step (led effects) after
     pub others : (other : ℕ) → other ≢ map → IsAlike other m (led effects)
@@ -60,6 +63,7 @@ module _ {K V : Type 0} (same : K → K → Bool) (slot caller map : ℕ) (name 
       let alike = still_all name map effects m quiet.still in
       let as_many = ap length alike.stored in
       record {
+        finds = still_find map name effects m quiet.still;
         number_then = number;
         own = map_on map number s after_step m (led effects) known after (blocks_grown s.chart s.blocks went.blocks2 blocks2 grown) quiet.keeps refl tables pairs (alike_same map m (led effects) alike) shown;
         others = λ other ne. alike_same other m (led effects) alike;

@@ -3,6 +3,7 @@ pub mod Alike
 pub mod Lists
 pub mod Nowhere
 pub mod Onward
+pub mod Finds
 pub mod Kept
 pub mod Quiet
 pub mod Told

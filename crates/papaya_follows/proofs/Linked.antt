@@ -31,8 +31,10 @@ use Rattle.papaya_effects.specs.Known.{Known, with_role}
 use Rattle.papaya_effects.specs.declared.role.Role.{Role}
 use Rattle.papaya_effects.specs.declared.role.Role.TheVariants as role
 use Rattle.papaya_follows.specs.Blocks.{WasLinked, HasRole, ShowsBlocks}
+use Rattle.papaya_follows.specs.Finds.{MayBeRoot}
 use Rattle.papaya_follows.specs.Maps.{table_of, shape_at, tables_to, ShowsThere, ShowsTables, ShowsMap}
 use Rattle.papaya_follows.proofs.Alike.{put_here, put_elsewhere, linked_other, promoted_other}
+use Rattle.papaya_follows.proofs.Finds.{tables_many}
 use Rattle.papaya_follows.proofs.Kept.{role_kept}
 use Rattle.papaya_follows.proofs.Leads.{LeadsOn, after_step}
 use Rattle.papaya_follows.proofs.Onward.{IsLasting, KeepsRoles, StaysPairs, StaysBlocks, blocks_grown, pairs_on, counter_on, tables_as_long}
@@ -176,6 +178,7 @@ module _ {K V : Type 0} (same : K → K → Bool) (slot caller map : ℕ) (name 
     leads_linked =
         let many : length v.stored ≡ length m.stored = ap length (none_stored (acting name m) (table_of map c.past) shape m.stored).0 in
         record {
+          finds = ((refl, tables_many map number s m known shown), tt);
           number_then = number;
           own = record {
             there = record { there = shown.there.there; is = shown.there.is; root = shown.there.root; mode = shown.there.mode; first = shown.there.first ∙ sym first };
@@ -197,7 +200,7 @@ module _ {K V : Type 0} (same : K → K → Bool) (slot caller map : ℕ) (name 
           blocks = blocks_linked v many;
         }
 
-  module _ (t : ℕ) (ahead : c.first < t) (past : went.c2.past ≡ c.past) (first : went.c2.first ≡ t) (lens : (u : ℕ) → u < c.past → (went.c2.len u ≡ c.len u) × (went.c2.limit u ≡ c.limit u)) where
+  module _ (t : ℕ) (ahead : c.first < t) (may : MayBeRoot map m (table_of map t)) (past : went.c2.past ≡ c.past) (first : went.c2.first ≡ t) (lens : (u : ℕ) → u < c.past → (went.c2.len u ≡ c.len u) × (went.c2.limit u ≡ c.limit u)) where
     abbrev u : Moment K V
     u = with_effect name (Some map) (Promoted (table_of map t)) m
 
@@ -205,6 +208,7 @@ module _ {K V : Type 0} (same : K → K → Bool) (slot caller map : ℕ) (name 
     leads_promoted =
         let many : length u.stored ≡ length m.stored = ap length (none_stored (acting name m) (table_of map t) (record { len = 0; limit = 0 }) m.stored).1 in
         record {
+          finds = ((refl, may), tt);
           number_then = number;
           own = record {
             there = record {

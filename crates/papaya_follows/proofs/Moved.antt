@@ -43,13 +43,15 @@ use Rattle.papaya_effects.specs.declared.acting.Acting.TheVariants.{Call}
 use Rattle.papaya_effects.specs.declared.role.Role.{Role}
 use Rattle.papaya_effects.specs.declared.role.Role.TheVariants as role
 use Rattle.papaya_follows.specs.Blocks.{ShowsBlocks}
+use Rattle.papaya_follows.specs.Finds.{MayBeRoot}
 use Rattle.papaya_follows.specs.Maps.{table_of, ShowsMap}
 use Rattle.papaya_follows.specs.Steps.{HasPair}
+use Rattle.papaya_follows.proofs.Finds.{may_stand, may_be_root}
 use Rattle.papaya_follows.proofs.Leads.{LeadsOn, tables_seen, leads_quiet}
 use Rattle.papaya_follows.proofs.Linked.{leads_linked, leads_promoted, was_own as own_before}
 use Rattle.papaya_follows.proofs.Onward.{StaysTables, StaysPairs, tables_same, pairs_same}
 use Rattle.papaya_follows.proofs.Operations.{StaysThere, LeavesBy}
-use Rattle.papaya_follows.proofs.Stored.{inside, still_home, still_current, was_own, some_number, leads_stored, leads_removed, leads_replaced}
+use Rattle.papaya_follows.proofs.Stored.{in_root, comes_next, comes_last, inside, still_home, still_current, was_own, some_number, leads_stored, leads_removed, leads_replaced}
 use Rattle.papaya_follows.proofs.Told.{IsQuiet as IsStill, as_before, quiet_told}
 use Rattle.papaya_follows.proofs.Writes.{Says, nothing_free, place_says, next_says, root_says}
 
@@ -230,16 +232,16 @@ module _ {K V : Type 0} (same : K → K → Bool) (slot caller map : ℕ) (name 
               (subst (λ (x : ℕ). Told_at (last_link setting seen_blocks x)) (sym e) (says p e)) (λ st. leads)
 
       -- the root comes to a table behind it
-      promoted : (t : ℕ) → c.first < t → t < c.past → went.c2 ≡ after (spot_of s.hash) incremental (Promotes t) c
+      promoted : (t : ℕ) → c.first < t → t < c.past → MayBeRoot map m (table_of map t) → went.c2 ≡ after (spot_of s.hash) incremental (Promotes t) c
           → seen ≡ Wrote (Root setting.root) (seen_blocks.table c.first * 2048) (seen_blocks.table t * 2048) → Comes
-      promoted t ahead made is wrote =
+      promoted t ahead made may is wrote =
           as_said (Root setting.root) old new told_so (Promoted (table_of map t) ∷ []) known
           (root_says its known setting.root old new apart (role.Table (table_of map c.first) (c.len c.first)) (role.Table (table_of map t) (c.len t))
           (ap known.roles (block_of_link (s.blocks.table c.first)) ∙ table_role c.first (omega arith) (omega (arith, ahead, made)))
           (ap known.roles (block_of_link (s.blocks.table t)) ∙ table_role t (omega (arith, ahead)) made))
           (λ st. leads_promoted same slot caller map name number s lawful w sight is_sight is_map m2 Told went blocks2 grown sights2 m known shown shown_blocks (values (Root setting.root) old new told_so)
           (record { stored = ap (λ (x : Chart K). x.stored) is; current = λ n l. ap (λ (x : Chart K). x.current n) is })
-          t ahead (ap (λ (x : Chart K). x.past) is) (ap (λ (x : Chart K). x.first) is) (λ u l. (ap (λ (x : Chart K). x.len u) is, ap (λ (x : Chart K). x.limit u) is)))
+          t ahead may (ap (λ (x : Chart K). x.past) is) (ap (λ (x : Chart K). x.first) is) (λ u l. (ap (λ (x : Chart K). x.len u) is, ap (λ (x : Chart K). x.limit u) is)))
         where
           old : ℕ
           old = s.blocks.table c.first * 2048
@@ -257,7 +259,8 @@ module _ {K V : Type 0} (same : K → K → Bool) (slot caller map : ℕ) (name 
               omega (arith, turns, ahead))
 
       -- a place that holds a pair which may be changed is seen
-      module _ (t i n : ℕ) (borrowed : Bool) (k : K) (held : c.place t i ≡ Holds n Still borrowed) (home : c.first ≤ t) (current : c.current n ≡ true) (within : (t < c.past) × (i < c.len t)) where
+      module _ (t i n : ℕ) (borrowed : Bool) (k : K) (held : c.place t i ≡ Holds n Still borrowed) (home : c.first ≤ t) (current : c.current n ≡ true) (within : (t < c.past) × (i < c.len t))
+          (root : incremental ≡ false → t ≡ c.first) where
         known_table : sight.tables t ≡ true
         known_table = is_sight.linked t home within.0
 
@@ -293,7 +296,7 @@ module _ {K V : Type 0} (same : K → K → Bool) (slot caller map : ℕ) (name 
             as_said (place_at seen_blocks t i) held_word new told_so (Replaced (number n) ∷ Stored (known.stored + 1) spot ∷ []) (with_pair (block_in new) known)
             (place_says its known (s.blocks.table t) (table_of map t) (c.len t) (table_role t home within.0) held_word new apart (role.Pair (number n)) (role.OwnPair own.0) was_pair own.1 i within.1)
             (λ st. leads_replaced same slot caller map name number s lawful w sight is_sight is_map m2 Told went blocks2 grown sights2 m known shown shown_blocks (values (place_at seen_blocks t i) held_word new told_so)
-            n its_pair.0 current one_more fresh (block_in new) names tables spot
+            n its_pair.0 current one_more fresh (block_in new) names tables spot (may_stand map number s m known shown t i home within.0 within.1 root)
             (λ o l. ap (λ (x : Chart K). x.current o) is ∙ ap (λ (q : Bool). cond q true (without (spot_of s.hash) incremental (c.place t i) c.current o)) (ne_eqb o c.stored (λ e. omega (arith, l, e)))
             ∙ ap (λ p. without (spot_of s.hash) incremental p c.current o) held) st.1.0)
           where
@@ -323,13 +326,13 @@ module _ {K V : Type 0} (same : K → K → Bool) (slot caller map : ℕ) (name 
             apart e = (let one : role.Pair (number n) ≡ role.OwnPair own.0 = sym was_pair ∙ ap known.roles e ∙ own.1 in cc one)
 
       -- an empty place gets a pair
-      stored : (t i : ℕ) (k : K) (j : ℕ) → c.first ≤ t → t < c.past → i < c.len t → i ≡ spot_of s.hash (c.len t) k j → c.place t i ≡ Empty false → went.c2 ≡ after (spot_of s.hash) incremental (Stores t k j) c
+      stored : (t i : ℕ) (k : K) (j : ℕ) → c.first ≤ t → t < c.past → i < c.len t → (incremental ≡ false → t ≡ c.first) → i ≡ spot_of s.hash (c.len t) k j → c.place t i ≡ Empty false → went.c2 ≡ after (spot_of s.hash) incremental (Stores t k j) c
           → seen ≡ Wrote (place_at seen_blocks t i) 0 (new_word s.hash setting c seen_blocks went.c2 went.blocks2) → Comes
-      stored t i k j home made within i_is empty is wrote =
+      stored t i k j home made within root i_is empty is wrote =
           as_said (place_at seen_blocks t i) 0 new told_so (Stored (known.stored + 1) spot ∷ []) (with_pair (block_in new) known)
           (place_says its known (s.blocks.table t) (table_of map t) (c.len t) (table_role t home made) 0 new apart role.Free (role.OwnPair own.0) free own.1 i within)
           (λ st. leads_stored same slot caller map name number s lawful w sight is_sight is_map m2 Told went blocks2 grown sights2 m known shown shown_blocks (values (place_at seen_blocks t i) 0 new told_so)
-          one_more fresh (block_in new) names tables spot st.0
+          one_more fresh (block_in new) names tables spot (may_stand map number s m known shown t i home made within root) st.0
           (λ o l. ap (λ (x : Chart K). x.current o) is ∙ ap (λ (q : Bool). cond q true (without (spot_of s.hash) incremental (c.place t (spot_of s.hash (c.len t) k j)) c.current o)) (ne_eqb o c.stored (λ e. omega (arith, l, e)))
           ∙ ap (λ p. without (spot_of s.hash) incremental p c.current o) (ap (c.place t) (sym i_is) ∙ empty)))
         where
@@ -367,15 +370,16 @@ module _ {K V : Type 0} (same : K → K → Bool) (slot caller map : ℕ) (name 
           → IsSeenAs s.hash setting c seen_blocks went.c2 went.blocks2 move seen → Comes
       by_move (Links len limit) allowed is saw = linked len limit allowed.0 is saw
       by_move (Stores t k j) allowed is saw =
-          stored t (spot_of s.hash (c.len t) k j) k j allowed.1 allowed.0 (lawful.lawful.within (c.len t) j k (is_map.map.rule.common.lens t allowed.0).0) refl allowed.3 is saw
+          stored t (spot_of s.hash (c.len t) k j) k j allowed.1 allowed.0 (lawful.lawful.within (c.len t) j k (is_map.map.rule.common.lens t allowed.0).0)
+          (in_root same (spot_of s.hash) c t k incremental allowed.5) refl allowed.3 is saw
       by_move (Replaces t i k) allowed is (n, borrowed, held, wrote) =
           replaced t i n borrowed k held (still_home same (spot_of s.hash) c t i n borrowed k held incremental is_map.map.rule allowed.1)
           (still_current same (spot_of s.hash) c t i n borrowed k held incremental is_map.map.rule allowed.1)
-          (inside same (spot_of s.hash) c t i n borrowed k held incremental is_map.map.rule) is wrote
+          (inside same (spot_of s.hash) c t i n borrowed k held incremental is_map.map.rule) (in_root same (spot_of s.hash) c t k incremental allowed.1) is wrote
       by_move (Removes t i) (k, still, may) is (n, borrowed, held, wrote) =
           removed t i n borrowed k held (still_home same (spot_of s.hash) c t i n borrowed k held incremental is_map.map.rule may)
           (still_current same (spot_of s.hash) c t i n borrowed k held incremental is_map.map.rule may)
-          (inside same (spot_of s.hash) c t i n borrowed k held incremental is_map.map.rule) is wrote
+          (inside same (spot_of s.hash) c t i n borrowed k held incremental is_map.map.rule) (in_root same (spot_of s.hash) c t k incremental may) is wrote
       by_move (Puts i place t k j) allowed is (n, borrowed, held, wrote) =
           let root_made : c.first < c.past = let a = allowed.0 in let b = allowed.1 in omega (arith, a, b) in
           let root_seen = is_sight.linked c.first (omega arith) root_made in
@@ -414,7 +418,9 @@ module _ {K V : Type 0} (same : K → K → Bool) (slot caller map : ℕ) (name 
               by : (q : Bool) → sight.tables t ≡ q → sight.tables t ≡ true
               by true e = e
               by false e = absurd (let kept = (went.tables t made (λ k. cc (e, k))).0 i in let empty = allowed.4 in cc (kept, holds_then, empty))
-      by_move (Promotes t) allowed is saw = promoted t allowed.0 allowed.1 is saw
+      by_move (Promotes t) allowed is saw =
+          promoted t allowed.0 allowed.1 (may_be_root map number s m known shown t allowed.0 allowed.1 (comes_next same (spot_of s.hash) c t incremental allowed)
+          (comes_last same (spot_of s.hash) c t incremental is_map.map.rule allowed)) is saw
       by_move (Marks i place) allowed is saw = calm_by (Marks i place) is saw (record { past = refl; first = refl; lens = λ u l. (refl, refl) }) (record { stored = refl; current = λ o l. refl })
       by_move (MarksBlocking place) allowed is saw = calm_by (MarksBlocking place) is saw (record { past = refl; first = refl; lens = λ u l. (refl, refl) }) (record { stored = refl; current = λ o l. refl })
       by_move (Skips i t place) allowed is saw = calm_by (Skips i t place) is saw (record { past = refl; first = refl; lens = λ u l. (refl, refl) }) (record { stored = refl; current = λ o l. refl })

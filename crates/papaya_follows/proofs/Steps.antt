@@ -13,7 +13,7 @@ use Rattle.papaya_raw.specs.Machine.{machine_plan}
 use Rattle.papaya_raw.specs.declared.machines.machine.Machine.{Machine}
 use Rattle.papaya_raw.specs.declared.machines.progress.Progress.{Progress}
 use Rattle.papaya_schedules.specs.declared.effect.Effect.{Effect}
-use Rattle.papaya_schedules.specs.Effects.{with_effects}
+use Rattle.papaya_schedules.specs.Effects.{AtEachEffect, with_effects}
 use Rattle.papaya_schedules.specs.Moment.{Moment}
 use Rattle.papaya_teller.specs.declared.changed.Changed.{Changed}
 use Rattle.papaya_teller.specs.declared.changed.Changed.TheVariants as changed
@@ -41,10 +41,12 @@ use Rattle.papaya_executor.specs.Stepping.{StepsFrom, StepLeads, scene_after}
 use Rattle.papaya_executor.specs.declared.executor.Executor.{Executor}
 use Rattle.papaya_executor.proofs.Steps.{may_step}
 use Rattle.papaya_follows.specs.Blocks.{HasRole, ShowsBlocks}
+use Rattle.papaya_follows.specs.Finds.{FindsMap}
 use Rattle.papaya_follows.specs.Maps.{ShowsMap}
 use Rattle.papaya_follows.specs.Shows.{Shows}
 use Rattle.papaya_follows.specs.Steps.{StoreTheirs, Did, IsOfNoRow, CallsAreShown}
 use Rattle.papaya_follows.proofs.Alike.{alike_same, still_all}
+use Rattle.papaya_follows.proofs.Finds.{still_find}
 use Rattle.papaya_follows.proofs.Kept.{NoMore}
 use Rattle.papaya_follows.proofs.Leads.{LeadsOn}
 use Rattle.papaya_follows.proofs.Moved.{by_moved}
@@ -151,12 +153,15 @@ module _ {K V S : Type 0} (same : K → K → Bool) (hash : K → ℕ) (m : Mome
               (map_on n (shown.number n) st st m v known after (blocks_same st.chart st.blocks) lead.keeps refl (tables_same st.chart) (pairs_same st.chart) (lead.others n ne) (shown.maps n st was))
         ]
 
-        pub moved_shown : (rest : Scene K V) → Shows v after (record rest { world = w2; maps = maps2 })
-        moved_shown rest = record {
-          blocks = subst (λ (x : World (Node K V)). ShowsBlocks v after x) (sym w_is) lead.blocks;
-          number = with_at shown.number map lead.number_then;
-          maps = map_then;
-        }
+        pub moved_shown : (rest : Scene K V) → AtEachEffect (FindsMap map) (Some caller) (Some map) effects m × Shows v after (record rest { world = w2; maps = maps2 })
+        moved_shown rest = (
+          lead.finds,
+          record {
+            blocks = subst (λ (x : World (Node K V)). ShowsBlocks v after x) (sym w_is) lead.blocks;
+            number = with_at shown.number map lead.number_then;
+            maps = map_then;
+          },
+        )
 
     -- A step that has left the memory as it was has moved nothing.
     module _ (still : m2 ≡ w.memory) where
@@ -190,19 +195,21 @@ module _ {K V S : Type 0} (same : K → K → Bool) (hash : K → ℕ) (m : Mome
             subst (λ (x : Standing K). ShowsMap n (shown.number n) x v after) (one_of now st (sym here ∙ is))
             (map_on n (shown.number n) before now m v known after (blocks_part before.chart before.blocks blocks part) quiet.keeps refl (tables_same before.chart) (pairs_same before.chart) alike (shown.maps n before e))
 
-        pub stayed_shown : (rest : Scene K V) → Shows v after (record rest { world = w2; maps = maps2 })
+        pub stayed_shown : (rest : Scene K V) → AtEachEffect (FindsMap map) (Some caller) (Some map) effects m × Shows v after (record rest { world = w2; maps = maps2 })
         stayed_shown rest =
             let same_so = still_all (Some caller) map effects m quiet.still in
-            let as_many = ap length same_so.stored in
-            record {
-              blocks = subst (λ (x : World (Node K V)). ShowsBlocks v after x) (sym w_is) (record {
-                roles = λ b. subst (λ (n : ℕ). HasRole w n b (after.roles b)) (sym as_many) (quiet.roles b);
-                once = quiet.once;
-                stored = quiet.stored ∙ shown.blocks.stored ∙ sym as_many;
-              });
-              number = shown.number;
-              maps = λ n st is. same_map n (s.maps n) refl (maps_same n) st is;
-            }
+            let as_many = ap length same_so.stored in (
+              still_find map (Some caller) effects m quiet.still,
+              record {
+                blocks = subst (λ (x : World (Node K V)). ShowsBlocks v after x) (sym w_is) (record {
+                  roles = λ b. subst (λ (n : ℕ). HasRole w n b (after.roles b)) (sym as_many) (quiet.roles b);
+                  once = quiet.once;
+                  stored = quiet.stored ∙ shown.blocks.stored ∙ sym as_many;
+                });
+                number = shown.number;
+                maps = λ n st is. same_map n (s.maps n) refl (maps_same n) st is;
+              },
+            )
 
 module _ (K V S : Type 0) (same : K → K → Bool) (hash : K → ℕ) where
   pub calls_are_shown : CallsAreShown K V S same hash
@@ -219,7 +226,8 @@ module _ (K V S : Type 0) (same : K → K → Bool) (hash : K → ℕ) where
           (operated old.memory.memory new.memory.memory new.memory.changed (machine_plan same same hash (machine_of u)) (to.1, told) (may_step same hash old s at map i u here) to.3)
 
       Goal : Type 0
-      Goal = Shows (with_effects (Some caller) (Some map) (effects_of (Call i map) known new.memory.changed) m) (known_after (Call i map) new.memory.changed known)
+      Goal = AtEachEffect (FindsMap map) (Some caller) (Some map) (effects_of (Call i map) known new.memory.changed) m
+          × Shows (with_effects (Some caller) (Some map) (effects_of (Call i map) known new.memory.changed) m) (known_after (Call i map) new.memory.changed known)
           (scene_after same hash s old new map i to.0 u to.1 told to.4)
 
       inside : IsInside (s.world.uses (slot_of i))

@@ -24,7 +24,7 @@ use Rattle.papaya_tells.specs.Tells.{place_at}
 use Rattle.papaya_rule.specs.Chart.{Phase, Still, Empty, Holds, Chart, is_settled}
 use Rattle.papaya_rule.specs.Chart as chart
 use Rattle.papaya_rule.specs.Rule.{Rule}
-use Rattle.papaya_rule.specs.Moves.{Move, Stores, Replaces, Removes, MayChange, Allowed, after, without}
+use Rattle.papaya_rule.specs.Moves.{Move, Stores, Replaces, Removes, Promotes, MayChange, Allowed, after, without}
 use Rattle.papaya_rule.specs.Words.{Blocks, byte_of, place_word}
 use Rattle.papaya_rule.specs.Maps.{spot_of}
 use Rattle.papaya_rule.specs.InWorld.{IsMapIn, Went}
@@ -39,6 +39,7 @@ use Rattle.papaya_effects.specs.declared.acting.Acting.TheVariants.{Call}
 use Rattle.papaya_effects.specs.declared.role.Role.{Role}
 use Rattle.papaya_effects.specs.declared.role.Role.TheVariants as role
 use Rattle.papaya_follows.specs.Blocks.{WasLinked, HasRole, ShowsBlocks}
+use Rattle.papaya_follows.specs.Finds.{MayStandAt}
 use Rattle.papaya_follows.specs.Maps.{table_of, ShowsPairs, ShowsMap}
 use Rattle.papaya_follows.specs.Steps.{HasPair}
 use Rattle.papaya_follows.proofs.Alike.{AlikePairs, IsAlike, alike_then, put_here, put_elsewhere, stored_other, replaced_other, removed_other}
@@ -64,6 +65,25 @@ in_map_true a Handed e = absurd (cc e)
 in_map_true a Behind e = absurd (cc e)
 in_map_true a Left e = absurd (cc e)
 in_map_true a GivenBack e = absurd (cc e)
+
+module _ {K : Type 0} (same : K → K → Bool) (spot : ℕ → K → ℕ → ℕ) (c : Chart K) (t : ℕ) where
+  -- in blocking mode pairs change in the root's table alone
+  pub in_root : (k : K) (b : Bool) → MayChange same spot b c t k → b ≡ false → t ≡ c.first
+  in_root k true may e = absurd (cc e)
+  in_root k false may e = may
+
+  -- in incremental mode the root comes to the next table
+  pub comes_next : (b : Bool) → Allowed same spot b (Promotes t) c → b ≡ true → t ≡ suc c.first
+  comes_next true allowed e = allowed.3
+  comes_next false allowed e = absurd (cc e)
+
+  -- and in blocking mode to the last one
+  pub comes_last : (b : Bool) → Rule same spot b c → Allowed same spot b (Promotes t) c → b ≡ false → suc t ≡ c.past
+  comes_last true rule allowed e = absurd (cc e)
+  comes_last false rule allowed e = elim (cases_lt (suc t) c.past) as (λ _. suc t ≡ c.past) [
+    | inl more ↦ absurd (let lost = rule.in_mode.given_up t allowed.0 (rule.in_mode.aborted t allowed.0 more) in let counted = allowed.2 lost.0 lost.1 in let is = lost.2 in cc (counted, is))
+    | inr last ↦ (let made = allowed.1 in omega (arith, last, made))
+  ]
 
 -- what may be changed, and is not marked, is in the map
 module _ {K : Type 0} (same : K → K → Bool) (spot : ℕ → K → ℕ → ℕ) (c : Chart K) (t i n : ℕ) (borrowed : Bool) (k : K) (held : c.place t i ≡ Holds n Still borrowed) where
@@ -181,7 +201,7 @@ module _ {K V : Type 0} (same : K → K → Bool) (slot caller map : ℕ) (name 
     its_role = put_here b (role.Pair (known.stored + 1)) known.roles (blocks2.pair c.stored) ((grown.new_pairs c.stored (omega arith)).0 ∙ sym its_block)
 
     -- no table has come with it
-    module _ (tables : StaysTables s.chart went.c2) (spot : Spot) where
+    module _ (tables : StaysTables s.chart went.c2) (spot : Spot) (may : MayStandAt map m spot) where
       -- at a place where none was
       pub leads_stored : HasPair (acting name m) (Stored (known.stored + 1) spot) → ((n : ℕ) → n < c.stored → went.c2.current n ≡ c.current n) → Leads (Stored (known.stored + 1) spot ∷ []) (with_pair b known)
       leads_stored has others =
@@ -190,6 +210,7 @@ module _ {K V : Type 0} (same : K → K → Bool) (slot caller map : ℕ) (name 
           let many = stored_one (acting name m) (known.stored + 1) spot m.stored has in
           let next : known.stored + 1 ≡ length m.stored + 1 = omega (arith, n) in
           record {
+            finds = ((next, may), tt);
             number_then = put c.stored (known.stored + 1) number;
             own = record {
               there = there_on map number s s2 m v known (with_pair b known) blocks_on keeps_stored refl tables (record { there = refl; tables = refl }) shown.there;
@@ -226,6 +247,7 @@ module _ {K V : Type 0} (same : K → K → Bool) (slot caller map : ℕ) (name 
         let v = with_effect name (Some map) (Removed its) m in
         let many : length v.stored ≡ length m.stored = ap length (stored_no_more (acting name m) its m.stored).1 in
         record {
+          finds = (was_there, tt);
           number_then = number;
           own = record {
             there = there_on map number s s2 m v known known blocks_on (λ b lasting. refl) refl tables (record { there = refl; tables = refl }) shown.there;
@@ -246,7 +268,7 @@ module _ {K V : Type 0} (same : K → K → Bool) (slot caller map : ℕ) (name 
 
     -- or another one does
     module _ (one_more : went.c2.stored ≡ suc c.stored) (fresh : went.c2.current c.stored ≡ true) (b : ℕ) (its_block : b ≡ went.blocks2.pair c.stored)
-        (tables : StaysTables s.chart went.c2) (spot : Spot) (others : (n : ℕ) → n < c.stored → went.c2.current n ≡ cond (eqb n p) false (c.current n)) where
+        (tables : StaysTables s.chart went.c2) (spot : Spot) (may : MayStandAt map m spot) (others : (n : ℕ) → n < c.stored → went.c2.current n ≡ cond (eqb n p) false (c.current n)) where
       abbrev out : Moment K V
       out = with_effect name (Some map) (Replaced its) m
 
@@ -260,6 +282,7 @@ module _ {K V : Type 0} (same : K → K → Bool) (slot caller map : ℕ) (name 
           let next : known.stored + 1 ≡ length out.stored + 1 = omega (arith, n, none_more) in
           let keeps = keeps_stored one_more fresh b its_block in
           record {
+            finds = (was_there, ((next, may), tt));
             number_then = put c.stored (known.stored + 1) number;
             own = record {
               there = there_on map number s s2 m v known (with_pair b known) blocks_on keeps refl tables (record { there = refl; tables = refl }) shown.there;

@@ -26,6 +26,7 @@ use Rattle.papaya_finishes.specs.Maps.{Standing}
 use Rattle.papaya_executor.specs.IsAt.{Scene, IsAt, slot_of}
 use Rattle.papaya_executor.specs.Stepping.{StepLeads, scene_after}
 use Rattle.papaya_executor.specs.declared.executor.Executor.{Executor}
+use Rattle.papaya_follows.specs.Finds.{FindsMap}
 use Rattle.papaya_follows.specs.Shows.{Shows}
 
 module _ {K V : Type 0} where
@@ -73,8 +74,8 @@ module _ {K V : Type 0} (same : K → K → Bool) (batch_size roots : ℕ) (w : 
   IsOfNoRow (OverAll o) machine told did = IsFirst did.4
 
 module _ (K V S : Type 0) (same : K → K → Bool) (hash : K → ℕ) where
-  -- The promise, of a step of a call that is none of a row: where it stores no pair but such as the call has to store, its effects lead to a moment that
-  -- shows the scene after it, with what is known after it.
+  -- The promise, of a step of a call that is none of a row: where it stores no pair but such as the call has to store, its effects find the map as they
+  -- must, and lead to a moment that shows the scene after it, with what is known after it.
   abbrev pub CallsAreShown : Type 0
   CallsAreShown =
       (m : Moment K V) (known : Known) (s : Scene K V) (old new : Executor K V S) → IsAt same hash old s → Shows m known s
@@ -82,7 +83,8 @@ module _ (K V S : Type 0) (same : K → K → Bool) (hash : K → ℕ) where
       → (let to = leads map u here in
       IsOfNoRow same old.batch_size old.roots s.world s.maps s.calls s.makers s.enders map to.0 i new.memory.memory to.4.w2 to.4.maps2 to.4.next u to.1 told to.4.did
       → (caller : List ℕ) → StoreTheirs caller map (effects_of (Call i map) known new.memory.changed) m
-      → Shows (with_effects (Some caller) (Some map) (effects_of (Call i map) known new.memory.changed) m) (known_after (Call i map) new.memory.changed known)
+      → AtEachEffect (FindsMap map) (Some caller) (Some map) (effects_of (Call i map) known new.memory.changed) m
+      × Shows (with_effects (Some caller) (Some map) (effects_of (Call i map) known new.memory.changed) m) (known_after (Call i map) new.memory.changed known)
       (scene_after same hash s old new map i to.0 u to.1 told to.4))
 
   -- The promise, of a step of a row within a call: where it takes no block away, and hands over what has left its map alone, it is the same.
