@@ -24,7 +24,7 @@ use Rattle.papaya_late.specs.CoversSweeps.{DoneAt}
 use Rattle.papaya_late.specs.ToldSweeps.{IsRowOfSweep, word_told, SweepTold}
 use Rattle.papaya_callers.specs.Claims.{AreFew}
 use Rattle.papaya_callers.specs.OverAll.{CallOverAll, begun_over_all, gone_on, come_to, told_of, RemovesTold}
-use Rattle.papaya_callers.specs.Sights.{Sight, seen_by}
+use Rattle.papaya_callers.specs.Sights.{Sight, IsGrown, seen_by}
 use Rattle.papaya_callers.specs.Together.{UnderWay, OverAll, HasCall, in_slot, next_over_all, IsOneStep, IsReclaimed, Together}
 
 module _ {K : Type 0} (hash : K → ℕ) (c : Chart K) (seen : Blocks) (o : CallOverAll) where
@@ -63,6 +63,7 @@ module _ {K Q : Type 0} (V : Type 0) (same : K → K → Bool) (hash : K → ℕ
       pub shows : (word : ℕ) → word_told end ≡ Some word → ShowsPair hash went.c2 went.blocks2 o word
       pub comes : end ≡ swept.Done → Came went.c2 entered2 o.sweep.purpose done2
       pub blocks2 : Blocks
+      pub grown : IsGrown c blocks went.blocks2 blocks2
       pub sights2 : ℕ → Sight
       pub together : Together V same hash asks setting slot went.w2 went.c2 blocks2 sights2 (with_at calls i (next_over_all (come_to o entered2 done2 p2) end))
 

@@ -63,7 +63,7 @@ use Rattle.papaya_late.specs.FactsReserves.{ReserveFacts}
 use Rattle.papaya_late.specs.LateReserves.{LateReserveFacts}
 use Rattle.papaya_late.specs.LateToldReserves.{LateReserveTold}
 use Rattle.papaya_late.specs.ToldReserves.{ReserveTold, IsRowOfReserve}
-use Rattle.papaya_callers.specs.Sights.{SeesSources, Sight, seen_by, IsSight}
+use Rattle.papaya_callers.specs.Sights.{SeesSources, Sight, seen_by, IsPartOf, IsGrown, IsSight}
 use Rattle.papaya_callers.specs.Since.{WasChanged, SoSince, Since}
 use Rattle.papaya_points.specs.Told.{IsRowOfCall, CallTold}
 use Rattle.papaya_points.specs.Steps.{AreLawful, told_first}
@@ -316,6 +316,7 @@ module _ {K Q : Type 0} (V : Type 0) (same : K → K → Bool) (hash : K → ℕ
     pub went : Went same hash (in_slot setting (slot i)) i w c (seen_by blocks (sights (slot i))) m2 (StepTold c i u p2 progress)
     pub remembers : Remembers (is_incremental setting.mode) c went.c2
     pub blocks2 : Blocks
+    pub grown : IsGrown c blocks went.blocks2 blocks2
     pub sights2 : ℕ → Sight
     pub together : Together went.w2 went.c2 blocks2 sights2 (with_at calls i (next_of (record { keys = u.keys; pair = u.pair; began = u.began; change = change_told went.told; call = p2 }) progress))
     pub answers : (answer : KeyAnswer) → progress ≡ called.Done answer → AnswersOnce went.w2 went.c2 went.blocks2 i u (change_told went.told) answer
@@ -357,25 +358,25 @@ module _ {K Q : Type 0} (V : Type 0) (same : K → K → Bool) (hash : K → ℕ
       × ((m2 : Mem (Node K V)) (p2 : KeyCall K V Q) (progress : Called (Node K V)) → Steps Took value_at w.memory (call_plan asks same hash u.call) m2 (p2, progress)
       → RowStepsTogether w c blocks sights calls i u m2 p2 progress)
 
-  -- all stand together, with what may be looked at then, and by whom
-  abbrev pub AllStand : World (Node K V) → Chart K → (ℕ → Option (UnderWay K V Q)) → Type 0
-  AllStand w c calls = (blocks : Blocks) × (sights : ℕ → Sight) × Together w c blocks sights calls
+  -- all stand together, with what may be looked at then of what could be before, and by whom
+  abbrev pub AllStand : World (Node K V) → Chart K → Blocks → (ℕ → Option (UnderWay K V Q)) → Type 0
+  AllStand w c before calls = (blocks : Blocks) × (sights : ℕ → Sight) × Together w c blocks sights calls × IsPartOf c blocks before
 
   -- what a caller that has no call may do: it registers, enters, leaves, refreshes, flushes or gives up its slot, and ends no section in which a call
   -- is under way
-  abbrev pub GuardsOf : World (Node K V) → Chart K → (ℕ → Option (UnderWay K V Q)) → ℕ → Type 0
-  GuardsOf w c calls i =
+  abbrev pub GuardsOf : World (Node K V) → Chart K → Blocks → (ℕ → Option (UnderWay K V Q)) → ℕ → Type 0
+  GuardsOf w c blocks calls i =
       ((request : Request) → IsOfSlots request → ((j : ℕ) (u : UnderWay K V Q) → calls j ≡ Some u → Closes request (slot j) → ⊥)
-      → (w2 : World (Node K V)) → Happens deferred_word setting.batch_size (Begin i request) w w2 → AllStand w2 c calls)
+      → (w2 : World (Node K V)) → Happens deferred_word setting.batch_size (Begin i request) w w2 → AllStand w2 c blocks calls)
       × MayStep deferred_word (w.row i) w.memory
-      × ((w2 : World (Node K V)) → Happens deferred_word setting.batch_size (Step i) w w2 → AllStand w2 c calls)
+      × ((w2 : World (Node K V)) → Happens deferred_word setting.batch_size (Step i) w w2 → AllStand w2 c blocks calls)
 
   -- The promise of rows between calls.
   abbrev pub GuardsStandTogether : Type 0
   GuardsStandTogether =
       AreLawful same hash
       → (w : World (Node K V)) (c : Chart K) (blocks : Blocks) (sights : ℕ → Sight) (calls : ℕ → Option (UnderWay K V Q)) → Together w c blocks sights calls
-      → (i : ℕ) → calls i ≡ None → GuardsOf w c calls i
+      → (i : ℕ) → calls i ≡ None → GuardsOf w c blocks calls i
 
   -- what a call asks about: the pair of a word, or none
   abbrev pub AsksAbout : Chart K → Blocks → Asking → Option ℕ → Type 0
@@ -421,6 +422,7 @@ module _ {K Q : Type 0} (V : Type 0) (same : K → K → Bool) (hash : K → ℕ
     pub remembers : Remembers (is_incremental setting.mode) c went.c2
     pub same_pairs : went.c2.current ≡ c.current
     pub blocks2 : Blocks
+    pub grown : IsGrown c blocks went.blocks2 blocks2
     pub sights2 : ℕ → Sight
     pub together : Together went.w2 went.c2 blocks2 sights2 (with_at calls i (next_for_room (record { began = r.began; reserve = p2 }) end))
 

@@ -1,5 +1,5 @@
 -- What an operation does to pairs and tables: its effects, by what it has changed, by what the blocks were before, and by who made it.
-use Rattle.std.specs.Prelude.{ℕ, ◌+◌, ◌-◌, ◌==◌, ◌<◌, ◌^◌, nat_lt, true, List, [], ◌∷◌, if◌then◌else◌}
+use Rattle.std.specs.Prelude.{ℕ, ◌+◌, ◌-◌, ◌==◌, ◌<◌, ◌^◌, ◌&&◌, nat_le, nat_lt, Bool, true, List, [], ◌∷◌, if◌then◌else◌}
 use Rattle.seize_words.specs.declared.at.At.{At}
 use Rattle.seize_words.specs.declared.at.At.TheVariants.{Root, Entry, Word}
 use Rattle.seize_words.specs.Word.{block_in}
@@ -42,7 +42,7 @@ table_at acting turn = record { map = map_of acting; turn = turn }
 -- what a new block is
 abbrev pub made_role : Acting → Kind → Role
 made_role acting kind.Pair = role.OwnPair (caller_of acting)
-made_role acting (kind.Table len limit turn) = role.OwnTable (table_at acting turn) (record { len = len; limit = limit })
+made_role acting (kind.Table len limit turn) = role.OwnTable turn (record { len = len; limit = limit })
 made_role acting kind.Shards = role.Counter (map_of acting)
 
 -- what was made
@@ -63,23 +63,25 @@ table_taken acting t = effect.Reclaimed (ATable t)
 -- what a block that is taken away was
 abbrev pub taken_by : Acting → Role → List Effect
 taken_by acting (role.OwnPair caller) = effect.PairGivenUp ∷ []
-taken_by acting (role.OwnTable t shape) = effect.TableGivenUp t ∷ []
+taken_by acting (role.OwnTable turn shape) = effect.TableGivenUp (table_at acting turn) ∷ []
 taken_by acting (role.Pair n) = pair_taken acting n ∷ []
-taken_by acting (role.Table t) = table_taken acting t ∷ []
+taken_by acting (role.Table t len) = table_taken acting t ∷ []
 taken_by acting _ = []
 
--- Words that are written, by what the block is that they named, and what that is which they name
+-- Words that are written, by what the block is that they named, and what that is which they name. One that goes on naming the same block does nothing.
+abbrev pub names_same : ℕ → ℕ → Bool
+names_same old new = block_in old == block_in new
 
 -- the link to the next table
-abbrev pub followed_by : Role → List Effect
-followed_by (role.OwnTable t shape) = effect.Linked t shape ∷ []
-followed_by _ = []
+abbrev pub followed_by : Acting → Role → List Effect
+followed_by acting (role.OwnTable turn shape) = effect.Linked (table_at acting turn) shape ∷ []
+followed_by acting _ = []
 
 -- the root
-abbrev pub led_to : Role → Role → List Effect
-led_to was (role.OwnTable t shape) = effect.Linked t shape ∷ []
-led_to (role.Table t) (role.Table u) = effect.Promoted u ∷ []
-led_to _ _ = []
+abbrev pub led_to : Acting → Role → Role → List Effect
+led_to acting was (role.OwnTable turn shape) = effect.Linked (table_at acting turn) shape ∷ []
+led_to acting (role.Table t len) (role.Table u other) = effect.Promoted u ∷ []
+led_to acting _ _ = []
 
 -- the head of the list of pairs that a table carries
 abbrev pub carried : Table → Role → List Effect
@@ -98,24 +100,27 @@ placed s stored _ _ = []
 abbrev pub spot_at : Table → ℕ → Spot
 spot_at t field = record { turn = t.turn; place = field - PLACES }
 
--- a word of a table
-abbrev pub in_table : Table → ℕ → ℕ → Role → Role → List Effect
-in_table t field stored was is =
-    if field == NEXT then followed_by is else
-    (if field == DEFERRED then carried t is else
-    (if nat_lt field PLACES then [] else placed (spot_at t field) stored was is))
+-- the word of a place, in a table with so many places
+abbrev pub is_place : ℕ → ℕ → Bool
+is_place len field = nat_le PLACES field && nat_lt (field - PLACES) len
 
--- a word of a block's own
-abbrev pub in_block : Role → ℕ → ℕ → Role → Role → List Effect
-in_block (role.Table t) field stored was is = in_table t field stored was is
-in_block (role.Counter map) field stored was is = effect.Counted field ∷ []
-in_block _ field stored was is = []
+-- a word of a table
+abbrev pub in_table : Acting → Table → ℕ → ℕ → ℕ → Role → Role → List Effect
+in_table acting t len field stored was is =
+    if field == NEXT then followed_by acting is else
+    (if field == DEFERRED then carried t is else (if is_place len field then placed (spot_at t field) stored was is else []))
+
+-- a word of a block's own, which goes on naming the same, or names another one
+abbrev pub in_block : Acting → Role → ℕ → ℕ → Bool → Role → Role → List Effect
+in_block acting (role.Table t len) field stored same was is = if same then [] else in_table acting t len field stored was is
+in_block acting (role.Counter map) field stored same was is = effect.Counted field ∷ []
+in_block acting _ field stored same was is = []
 
 -- The word of a block's entry that links to the first block of its batch: with it a call retires the block. A row of no call writes it, too, into blocks that
 -- waited behind a table that it has reclaimed; those were retired as the table was.
 abbrev pub batched : Acting → ℕ → Role → List Effect
 batched (Call caller map) field (role.Pair n) = if field == FIRST then effect.Retired (APair n) ∷ [] else []
-batched (Call caller map) field (role.Table t) = if field == FIRST then effect.Retired (ATable t) ∷ [] else []
+batched (Call caller map) field (role.Table t len) = if field == FIRST then effect.Retired (ATable t) ∷ [] else []
 batched _ field _ = []
 
 -- what a block is that a word names
@@ -123,9 +128,9 @@ abbrev pub named : Known → ℕ → Role
 named known word = known.roles (block_in word)
 
 abbrev pub written_by : Acting → Known → At → ℕ → ℕ → List Effect
-written_by acting known (Root r) old new = led_to (named known old) (named known new)
-written_by acting known (Word b field) old new = in_block (known.roles b) field known.stored (named known old) (named known new)
-written_by acting known (Entry b field) old new = batched acting field (known.roles b)
+written_by acting known (Root r) old new = if names_same old new then [] else led_to acting (named known old) (named known new)
+written_by acting known (Word b field) old new = in_block acting (known.roles b) field known.stored (names_same old new) (named known old) (named known new)
+written_by acting known (Entry b field) old new = if names_same old new then [] else batched acting field (known.roles b)
 written_by acting known _ old new = []
 
 -- What an operation does.
@@ -140,29 +145,30 @@ effects_of acting known (changed.Roomed bucket had) = if nat_lt bucket known.buc
 -- What is known after it
 
 -- a table that is linked is one of its map
-abbrev pub linked_on : ℕ → Role → Known → Known
-linked_on b (role.OwnTable t shape) known = with_role b (role.Table t) known
-linked_on b _ known = known
+abbrev pub linked_on : Acting → ℕ → Role → Known → Known
+linked_on acting b (role.OwnTable turn shape) known = with_role b (role.Table (table_at acting turn) shape.len) known
+linked_on acting b _ known = known
 
 -- a pair that is stored has its number
 abbrev pub stored_on : ℕ → Role → Known → Known
 stored_on b (role.OwnPair caller) known = with_pair b known
 stored_on b _ known = known
 
-abbrev pub in_table_on : ℕ → ℕ → Role → Known → Known
-in_table_on field b is known = if field == NEXT then linked_on b is known else (if nat_lt field PLACES then known else stored_on b is known)
+abbrev pub in_table_on : Acting → ℕ → ℕ → ℕ → Role → Known → Known
+in_table_on acting len field b is known =
+    if field == NEXT then linked_on acting b is known else (if is_place len field then stored_on b is known else known)
 
-abbrev pub in_block_on : Role → ℕ → ℕ → Role → Known → Known
-in_block_on (role.Table t) field b is known = in_table_on field b is known
-in_block_on _ field b is known = known
+abbrev pub in_block_on : Acting → Role → ℕ → Bool → ℕ → Role → Known → Known
+in_block_on acting (role.Table t len) field same b is known = if same then known else in_table_on acting len field b is known
+in_block_on acting _ field same b is known = known
 
-abbrev pub written_on : At → ℕ → Known → Known
-written_on (Root r) new known = linked_on (block_in new) (named known new) known
-written_on (Word b field) new known = in_block_on (known.roles b) field (block_in new) (named known new) known
-written_on _ new known = known
+abbrev pub written_on : Acting → At → ℕ → ℕ → Known → Known
+written_on acting (Root r) old new known = if names_same old new then known else linked_on acting (block_in new) (named known new) known
+written_on acting (Word b field) old new known = in_block_on acting (known.roles b) field (names_same old new) (block_in new) (named known new) known
+written_on acting _ old new known = known
 
 abbrev pub known_after : Acting → Changed → Known → Known
-known_after acting (changed.Wrote at old new) known = written_on at new known
+known_after acting (changed.Wrote at old new) known = written_on acting at old new known
 known_after acting (changed.Made kind b) known = with_role b (made_role acting kind) known
 known_after acting (changed.Took b) known = with_role b role.Free known
 known_after acting (changed.Roomed bucket true) known = with_bucket bucket known

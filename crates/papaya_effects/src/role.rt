@@ -14,15 +14,20 @@ pub enum Role {
     },
     /// A table that was made, and is no table of its map yet.
     OwnTable {
-        /// Which one it is to be.
-        table: Table,
+        /// Its turn.
+        turn: u64,
         /// Its length, and its last try.
         shape: TableShape,
     },
     /// The pair of this number.
     Pair(u64),
     /// A table of a map.
-    Table(Table),
+    Table {
+        /// Which one it is.
+        table: Table,
+        /// How many places it has.
+        len: u64,
+    },
     /// The shards of the count of the map of this number.
     Counter(u64),
 }

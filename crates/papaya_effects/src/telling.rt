@@ -1,11 +1,11 @@
 //! What an operation does to pairs and tables, and what is known after it.
-ghost use Rattle.std.specs.Prelude.{◌≡◌, ◌==◌, ◌<◌, ◌+◌, ◌^◌, nat_lt, [], ◌∷◌, if◌then◌else◌, OnOk, OnErr};
+ghost use Rattle.std.specs.Prelude.{◌≡◌, ◌==◌, ◌<◌, ◌+◌, ◌^◌, nat_lt, Bool, [], ◌∷◌, if◌then◌else◌, OnOk, OnErr};
 ghost use Rattle.seize.specs.declared.states.TheConstants.{FIRST};
 ghost use Rattle.papaya_schedules.specs.declared.effect.Effect.TheVariants.{Asked, Retired};
 ghost use Rattle.papaya_schedules.specs.declared.effect.Growth.TheVariants.{ABlock, ABucket};
 ghost use Rattle.papaya_effects.specs.Did.{listed};
 ghost use Rattle.papaya_effects.specs.Known.{known};
-ghost use Rattle.papaya_effects.specs.Effects.{map_of, caller_of, table_at, made_role, made_by, pair_taken, table_taken, taken_by, followed_by, led_to, carried, placed, spot_at, in_table, in_block, batched, named, written_by, effects_of, linked_on, stored_on, in_table_on, in_block_on, written_on, known_after, HasNumber};
+ghost use Rattle.papaya_effects.specs.Effects.{map_of, caller_of, table_at, made_role, made_by, pair_taken, table_taken, taken_by, names_same, followed_by, led_to, carried, placed, spot_at, is_place, in_table, in_block, batched, named, written_by, effects_of, linked_on, stored_on, in_table_on, in_block_on, written_on, known_after, HasNumber};
 
 use crate::acting::Acting;
 use crate::did::Did;
@@ -59,7 +59,7 @@ impl Acting {
                 caller: self.caller(),
             },
             Kind::Table { len, limit, turn } => Role::OwnTable {
-                table: self.table(turn),
+                turn,
                 shape: TableShape { len, limit },
             },
             Kind::Shards => Role::Counter(self.map()),
@@ -108,10 +108,75 @@ impl Acting {
     {
         match role {
             Role::OwnPair { .. } => Did::One(Effect::PairGivenUp),
-            Role::OwnTable { table, .. } => Did::One(Effect::TableGivenUp(table)),
+            Role::OwnTable { turn, .. } => Did::One(Effect::TableGivenUp(self.table(turn))),
             Role::Pair(pair) => Did::One(self.pair_taken(pair)),
-            Role::Table(table) => Did::One(self.table_taken(table)),
+            Role::Table { table, .. } => Did::One(self.table_taken(table)),
             Role::Counter(_) | Role::Free => Did::Nothing,
+        }
+    }
+
+    /// What a link to the next table says.
+    fn followed(self, is: Role) -> Did
+        ensures { listed result ≡ followed_by self is }
+    {
+        match is {
+            Role::OwnTable { turn, shape } => {
+                let table = self.table(turn);
+                Did::One(Effect::Linked { table, shape })
+            }
+            _ => Did::Nothing,
+        }
+    }
+
+    /// What a root says, by what it led to before.
+    fn led_to(self, was: Role, is: Role) -> Did
+        ensures { listed result ≡ led_to self was is }
+    {
+        match (was, is) {
+            (_, Role::OwnTable { turn, shape }) => {
+                let table = self.table(turn);
+                Did::One(Effect::Linked { table, shape })
+            }
+            (Role::Table { .. }, Role::Table { table, .. }) => Did::One(Effect::Promoted(table)),
+            _ => Did::Nothing,
+        }
+    }
+
+    /// What a word of a table says, which has so many places.
+    fn in_table(self, table: Table, len: u64, field: u64, stored: u64, was: Role, is: Role) -> Did
+        requires { stored + 1 < 2 ^ 64 }
+        ensures { listed result ≡ in_table self table len field stored was is }
+    {
+        if field == NEXT {
+            self.followed(is)
+        } else if field == DEFERRED {
+            carried(table, is)
+        } else if is_place(len, field) {
+            let at = Spot {
+                turn: table.turn,
+                place: field - PLACES,
+            };
+            placed(at, stored, was, is)
+        } else {
+            Did::Nothing
+        }
+    }
+
+    /// What a word of a block's own says, which goes on naming the same block, or names another one.
+    fn in_block(self, role: Role, field: u64, stored: u64, same: bool, was: Role, is: Role) -> Did
+        requires { stored + 1 < 2 ^ 64 }
+        ensures { listed result ≡ in_block self role field stored same was is }
+    {
+        match role {
+            Role::Table { table, len } => {
+                if same {
+                    Did::Nothing
+                } else {
+                    self.in_table(table, len, field, stored, was, is)
+                }
+            }
+            Role::Counter(_) => Did::One(Effect::Counted(field)),
+            _ => Did::Nothing,
         }
     }
 
@@ -121,7 +186,10 @@ impl Acting {
     {
         match (self, role) {
             (Acting::Call { .. }, Role::Pair(pair)) => retired(field, Thing::APair(pair)),
-            (Acting::Call { .. }, Role::Table(table)) => retired(field, Thing::ATable(table)),
+            (Acting::Call { .. }, Role::Table { table, .. }) => retired(
+                field,
+                Thing::ATable(table),
+            ),
             _ => Did::Nothing,
         }
     }
@@ -135,27 +203,6 @@ fn retired(field: u64, thing: Thing) -> Did
         Did::One(Effect::Retired(thing))
     } else {
         Did::Nothing
-    }
-}
-
-/// What a link to the next table says.
-fn followed(is: Role) -> Did
-    ensures { listed result ≡ followed_by is }
-{
-    match is {
-        Role::OwnTable { table, shape } => Did::One(Effect::Linked { table, shape }),
-        _ => Did::Nothing,
-    }
-}
-
-/// What a root says, by what it led to before.
-fn led_to(was: Role, is: Role) -> Did
-    ensures { listed result ≡ led_to was is }
-{
-    match (was, is) {
-        (_, Role::OwnTable { table, shape }) => Did::One(Effect::Linked { table, shape }),
-        (Role::Table(_), Role::Table(table)) => Did::One(Effect::Promoted(table)),
-        _ => Did::Nothing,
     }
 }
 
@@ -189,36 +236,18 @@ fn placed(at: Spot, stored: u64, was: Role, is: Role) -> Did
     }
 }
 
-/// What a word of a table says.
-fn in_table(table: Table, field: u64, stored: u64, was: Role, is: Role) -> Did
-    requires { stored + 1 < 2 ^ 64 }
-    ensures { listed result ≡ in_table table field stored was is }
+/// Whether a word names the same block as before.
+fn names_same(old: u64, new: u64) -> bool
+    ensures { result ≡ names_same old new }
 {
-    if field == NEXT {
-        followed(is)
-    } else if field == DEFERRED {
-        carried(table, is)
-    } else if field < PLACES {
-        Did::Nothing
-    } else {
-        let at = Spot {
-            turn: table.turn,
-            place: field - PLACES,
-        };
-        placed(at, stored, was, is)
-    }
+    Link::block_of(old) == Link::block_of(new)
 }
 
-/// What a word of a block's own says.
-fn in_block(role: Role, field: u64, stored: u64, was: Role, is: Role) -> Did
-    requires { stored + 1 < 2 ^ 64 }
-    ensures { listed result ≡ in_block role field stored was is }
+/// Whether this is the word of a place, in a table with so many places.
+fn is_place(len: u64, field: u64) -> bool
+    ensures { result ≡ is_place len field }
 {
-    match role {
-        Role::Table(table) => in_table(table, field, stored, was, is),
-        Role::Counter(_) => Did::One(Effect::Counted(field)),
-        _ => Did::Nothing,
-    }
+    field >= PLACES && field - PLACES < len
 }
 
 impl Notes {
@@ -234,13 +263,16 @@ impl Notes {
         requires { (known self.now).stored + 1 < 2 ^ 64 }
         ensures { listed result ≡ written_by acting (known self.now) at old new }
     {
+        let same = names_same(old, new);
         let was = self.named(old);
         let is = self.named(new);
         match at {
-            At::Root(_) => led_to(was, is),
-            At::Word(block, field) => in_block(self.role_of(block), field, self.stored(), was, is),
-            At::Entry(block, field) => acting.batched(field, self.role_of(block)),
-            At::Used(_) | At::Slot(_, _) => Did::Nothing,
+            At::Word(block, field) => {
+                acting.in_block(self.role_of(block), field, self.stored(), same, was, is)
+            }
+            At::Root(_) if !same => acting.led_to(was, is),
+            At::Entry(block, field) if !same => acting.batched(field, self.role_of(block)),
+            _ => Did::Nothing,
         }
     }
 
@@ -271,12 +303,16 @@ impl Notes {
     }
 
     /// A table that is linked is one of its map.
-    fn link(&mut self, block: u64, is: Role) -> Result<(), AllocError>
-        ensures ok { OnOk result (known self.new ≡ linked_on block is (known self.old)) }
+    fn link(&mut self, acting: Acting, block: u64, is: Role) -> Result<(), AllocError>
+        ensures ok { OnOk result (known self.new ≡ linked_on acting block is (known self.old)) }
         ensures err { OnErr result (known self.new ≡ known self.old) }
     {
         match is {
-            Role::OwnTable { table, .. } => self.put(block, Role::Table(table)),
+            Role::OwnTable { turn, shape } => {
+                let table = acting.table(turn);
+                let len = shape.len;
+                self.put(block, Role::Table { table, len })
+            }
             _ => Ok(()),
         }
     }
@@ -293,33 +329,43 @@ impl Notes {
         }
     }
 
-    /// A word of a table names this block.
-    fn write_in_table(&mut self, field: u64, block: u64, is: Role) -> Result<(), AllocError>
+    /// A word of a table, which has so many places, names this block from now on.
+    fn write_in_table(
+        &mut self,
+        acting: Acting,
+        len: u64,
+        field: u64,
+        block: u64,
+        is: Role,
+    ) -> Result<(), AllocError>
         requires { (known self.old).stored + 1 < 2 ^ 64 }
-        ensures ok { OnOk result (known self.new ≡ in_table_on field block is (known self.old)) }
+        ensures ok { OnOk result (known self.new ≡ in_table_on acting len field block is (known self.old)) }
         ensures err { OnErr result (known self.new ≡ known self.old) }
     {
         if field == NEXT {
-            self.link(block, is)
-        } else if field < PLACES {
-            Ok(())
-        } else {
+            self.link(acting, block, is)
+        } else if is_place(len, field) {
             self.store(block, is)
+        } else {
+            Ok(())
         }
     }
 
     /// A word was written.
-    fn write(&mut self, at: At, new: u64) -> Result<(), AllocError>
+    fn write(&mut self, acting: Acting, at: At, old: u64, new: u64) -> Result<(), AllocError>
         requires { (known self.old).stored + 1 < 2 ^ 64 }
-        ensures ok { OnOk result (known self.new ≡ written_on at new (known self.old)) }
+        ensures ok { OnOk result (known self.new ≡ written_on acting at old new (known self.old)) }
         ensures err { OnErr result (known self.new ≡ known self.old) }
     {
+        if names_same(old, new) {
+            return Ok(());
+        }
         let is = self.named(new);
         let named = Link::block_of(new);
         match at {
-            At::Root(_) => self.link(named, is),
+            At::Root(_) => self.link(acting, named, is),
             At::Word(block, field) => match self.role_of(block) {
-                Role::Table(_) => self.write_in_table(field, named, is),
+                Role::Table { len, .. } => self.write_in_table(acting, len, field, named, is),
                 _ => Ok(()),
             },
             At::Used(_) | At::Slot(_, _) | At::Entry(_, _) => Ok(()),
@@ -334,7 +380,7 @@ impl Notes {
         ensures err { OnErr result (known self.new ≡ known self.old) }
     {
         match changed {
-            Changed::Wrote { at, new, .. } => self.write(at, new),
+            Changed::Wrote { at, old, new } => self.write(acting, at, old, new),
             Changed::Made { kind, block } => self.put(block, acting.made_role(kind)),
             Changed::Took { block } => self.put(block, Role::Free),
             Changed::Roomed { bucket, had: true } => {

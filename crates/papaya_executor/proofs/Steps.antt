@@ -53,7 +53,7 @@ module _ {K : Type 0} (hash : K → ℕ) where
 
   same_map_keeps : (before after : Option (Standing K)) → ((standing : Standing K) → before ≡ Some standing → standing.hash ≡ hash) → IsSameMap before after → Keeps before after
   same_map_keeps None after had is = record { setting = ap (option_map (λ standing. standing.setting)) is; hashes = λ standing some. absurd (cc (is, some)) }
-  same_map_keeps (Some old) after had (blocks, sights, is) = record {
+  same_map_keeps (Some old) after had (blocks, sights, is, part) = record {
     setting = ap (option_map (λ standing. standing.setting)) is;
     hashes = λ standing some. ap (hash_or hash) (sym some ∙ is) ∙ had old refl;
   }

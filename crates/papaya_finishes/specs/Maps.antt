@@ -23,7 +23,7 @@ use Rattle.papaya_points.specs.Told.{IsRowOfCall}
 use Rattle.papaya_callers.specs.Pairs.{Given}
 use Rattle.papaya_callers.specs.Claims.{AreFew}
 use Rattle.papaya_callers.specs.Kept.{IsMaking}
-use Rattle.papaya_callers.specs.Sights.{Sight, seen_by}
+use Rattle.papaya_callers.specs.Sights.{Sight, IsPartOf, seen_by}
 use Rattle.papaya_callers.specs.Together.{RepliesTaken, CallOnKey, UnderWay, OnKey, HasCall, CameAbout, IsOfSlots, Closes, IsBegun, begun_at, next_of, change_told, no_blocks, no_sight, Together, StepsTogether, RowStepsTogether}
 
 -- a map that stands: its setting, the hash of its keys, its tables, the blocks that may be looked at, and what each section sees of them
@@ -42,10 +42,10 @@ new_map setting hash = record { setting = setting; hash = hash; chart = no_table
 abbrev pub with_call : {X : Type 0} → (ℕ → ℕ → Option X) → ℕ → ℕ → Option X → ℕ → ℕ → Option X
 with_call calls m i it = with_at calls m (with_at (calls m) i it)
 
--- the map is as it was, but for which of its blocks may be looked at, and by whom
+-- the map is as it was, but that fewer of its blocks may be looked at, and by whom
 abbrev pub IsSameMap : {K : Type 0} → Option (Standing K) → Option (Standing K) → Type 0
 IsSameMap None after = after ≡ None
-IsSameMap (Some s) after = (blocks : Blocks) × (sights : ℕ → Sight) × (after ≡ Some (record s { blocks = blocks; sights = sights }))
+IsSameMap (Some s) after = (blocks : Blocks) × (sights : ℕ → Sight) × (after ≡ Some (record s { blocks = blocks; sights = sights })) × IsPartOf s.chart blocks s.blocks
 
 -- Maps by number, on a collector with batches of this size.
 module _ {K Q : Type 0} (V : Type 0) (same : K → K → Bool) (asks : Q → K → Bool) (batch_size : ℕ) (slot : ℕ → ℕ) where

@@ -1,5 +1,5 @@
 -- A map in the collector's world: who has its blocks, and what one step of a call of the map comes to there.
-use Rattle.std.specs.Prelude.{◌≡◌, ◌≢◌, ℕ, ◌<◌, ◌≤◌, Bool, true, List, [], ◌∷◌, Some, ◌⊎◌}
+use Rattle.std.specs.Prelude.{◌≡◌, ◌≢◌, ℕ, suc, ◌<◌, ◌≤◌, Bool, true, List, [], ◌∷◌, Option, Some, None, ◌⊎◌}
 use Rattle.seize_words.specs.declared.at.At.{At}
 use Rattle.seize_words.specs.declared.at.At.TheVariants.{Root, Entry, Word}
 use Rattle.seize_words.specs.Mem.{Mem, value_at, word_at}
@@ -145,6 +145,12 @@ module _ {K V : Type 0} (setting : Setting) (caller : ℕ) (w : World (Node K V)
   AllIts [] = Unit {0}
   AllIts (e ∷ events) = IsItsEvent e × AllIts events
 
+-- what was a table with places is that table, and nothing else becomes one, while it is there
+abbrev pub StaysTable : {K V : Type 0} → Option (Node K V) → Option (Node K V) → Type 0
+StaysTable (Some (node.Table (suc len) limit turn)) (Some value) = value ≡ node.Table (suc len) limit turn
+StaysTable (Some before) (Some value) = deferred_word value ≡ None
+StaysTable _ _ = Unit {0}
+
 module _ {K V : Type 0} (setting : Setting) (caller : ℕ) (w : World (Node K V)) (c : Chart K) (blocks : Blocks) where
   -- What a step of this caller may write: the link to its map's root, the words of tables that can be looked at, those of its own blocks, and
   -- those of its map's counter.
@@ -158,6 +164,8 @@ module _ {K V : Type 0} (setting : Setting) (caller : ℕ) (w : World (Node K V)
   pub record IsFramed (m2 : Mem (Node K V)) : Type 0 where
     pub words : (at : At) (word : ℕ) → word_at w.memory at ≡ Some word → (InFootprint at → ⊥) → word_at m2 at ≡ Some word
     pub values : (b : ℕ) (value : Node K V) → value_at w.memory b ≡ Some value → (IsOwnBlock caller w b → ⊥) → value_at m2 b ≡ Some value
+    -- a table is the same one, while it is there
+    pub tables : (b : ℕ) → StaysTable (value_at w.memory b) (value_at m2 b)
 
 module _ {K V : Type 0} (same : K → K → Bool) (hash : K → ℕ) (setting : Setting) where
   -- A step of this caller came to this memory. Users' events alone lead there, one move at most was made, and more is told of where it led.

@@ -1,5 +1,5 @@
 -- What a memory that tells makes of an operation, and what it then tells.
-use Rattle.std.specs.Prelude.{◌≡◌, ◌+◌, ◌^◌, ◌%◌, true, false, bit_or, Ok, Err}
+use Rattle.std.specs.Prelude.{◌≡◌, ◌+◌, ◌^◌, ◌%◌, ◌==◌, if◌then◌else◌, true, false, bit_or, Ok, Err}
 use Rattle.seize_words.specs.Op.{Op, Out, Store, Swap, Add, Or, Exchange, Make, Take, Room, Found, Stored, Exchanged, Made, Roomed}
 use Rattle.papaya_tables.specs.declared.node.Node.{Node}
 use Rattle.papaya_tables.specs.declared.node.Node.TheVariants as node
@@ -8,10 +8,10 @@ use Rattle.papaya_teller.specs.declared.changed.Kind.TheVariants as kind
 use Rattle.papaya_teller.specs.declared.changed.Changed.{Changed}
 use Rattle.papaya_teller.specs.declared.changed.Changed.TheVariants as changed
 
--- what a value is
+-- what a value is; a table of no places stands for a pair that is out of its block
 abbrev pub kind_of : {K V : Type 0} → Node K V → Kind
 kind_of (node.Pair key value) = kind.Pair
-kind_of (node.Table len limit turn) = kind.Table len limit turn
+kind_of (node.Table len limit turn) = if len == 0 then kind.Pair else kind.Table len limit turn
 kind_of node.Shards = kind.Shards
 
 module _ {T : Type 0} where

@@ -5,7 +5,7 @@ ghost use Rattle.papaya_teller.specs.Changed.{kind_of};
 use papaya_tables::Node;
 use seize_words::At;
 
-/// What the value of a block is, without what a pair holds.
+/// What the value of a block is, without what a pair holds. A table of no places stands in a block whose pair is out.
 #[derive(Clone, Copy, Debug, PartialEq, Eq)]
 pub enum Kind {
     /// A pair.
@@ -29,7 +29,7 @@ impl Kind {
         ensures { result ≡ kind_of value.now }
     {
         match value {
-            Node::Pair(_, _) => Kind::Pair,
+            Node::Pair(_, _) | Node::Table { len: 0, .. } => Kind::Pair,
             Node::Table { len, limit, turn } => Kind::Table {
                 len: *len,
                 limit: *limit,

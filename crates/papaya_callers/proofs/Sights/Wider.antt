@@ -23,7 +23,7 @@ use Rattle.papaya_rule.proofs.Words.BlocksApart.{values_apart}
 use Rattle.papaya_rule.proofs.World.Hands.{current_known}
 use Rattle.papaya_callers.proofs.Sights.Closed.{Named, names_before}
 use Rattle.papaya_callers.proofs.Sights.Sources.{below, above, sources_then}
-use Rattle.papaya_callers.specs.Sights.{SeesSources, Sight, IsSight}
+use Rattle.papaya_callers.specs.Sights.{SeesSources, Sight, IsGrown, IsSight}
 
 -- the root after a move is a table that was there, or the one that it was
 root_moved : {K : Type 0} (same : K → K → Bool) (spot : ℕ → K → ℕ → ℕ) (incremental : Bool) (c : Chart K) (move : Move K) → Allowed same spot incremental move c
@@ -93,6 +93,14 @@ module _ {K V : Type 0} (same : K → K → Bool) (hash : K → ℕ) (setting : 
 
     new_pair_known : (n : ℕ) → c.stored ≤ n → wider.pair_known n ≡ after_it.pair_known n
     new_pair_known n l = above n c.stored (blocks.pair_known n) (after_it.pair_known n) l
+
+    pub is_wider : IsGrown c blocks went.blocks2 wider
+    is_wider = record {
+      tables = λ t l. (old_table t l, old_known t l);
+      pairs = λ n l. (old_pair n l, old_pair_known n l);
+      new_tables = λ t l. (new_table t l, new_known t l);
+      new_pairs = λ n l. (new_pair n l, new_pair_known n l);
+    }
 
     -- what the caller looks at has the same blocks in both
     pub table_agrees : (t : ℕ) → after_it.table_known t ≡ true → (wider.table t ≡ after_it.table t) × (wider.table_known t ≡ true)

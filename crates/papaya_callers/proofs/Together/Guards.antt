@@ -41,20 +41,20 @@ module _ {K V Q : Type 0} (same : K → K → Bool) (hash : K → ℕ) (asks : Q
     module _ (w2 : World (Node K V)) (came : CameAbout setting.batch_size w2) where
       -- it comes to this world
       comes : (row : Row) (uses2 : ℕ → Use) → ((b : ℕ) → IsOnto b row → ⊥) → w2 ≡ begun same hash asks setting slot lawful w c blocks sights calls s (with_at w.row i row) uses2
-          → ((r : ℕ) → IsInside (uses2 r) → IsInside (w.uses r)) → ((j : ℕ) (u : UnderWay K V Q) → calls j ≡ Some u → IsInside (uses2 (slot j))) → AllStand V same hash asks setting slot w2 c calls
+          → ((r : ℕ) → IsInside (uses2 r) → IsInside (w.uses r)) → ((j : ℕ) (u : UnderWay K V Q) → calls j ≡ Some u → IsInside (uses2 (slot j))) → AllStand V same hash asks setting slot w2 c blocks calls
       comes row uses2 none_onto e back calls_in =
-          subst (λ (v : World (Node K V)). AllStand V same hash asks setting slot v c calls) (sym e)
+          subst (λ (v : World (Node K V)). AllStand V same hash asks setting slot v c blocks calls) (sym e)
           (narrowed same hash asks setting slot lawful w c blocks sights calls s (with_at w.row i row) uses2 back
           (subst (λ (v : World (Node K V)). CameAbout setting.batch_size v) e came) calls_in (λ j u has. with_other w.row i j row (other j u has))
           (λ j b. at_cases (λ (r : Row). IsOnto b r → IsOnto b (w.row j)) w.row i row j (λ e on. absurd (none_onto b on)) (λ ne on. on)))
 
       changes : (row : Row) (t : ℕ) → ((b : ℕ) → IsOnto b row → ⊥) → w2 ≡ begun same hash asks setting slot lawful w c blocks sights calls s (with_at w.row i row) (with_at w.uses t Changing)
-          → ((j : ℕ) (u : UnderWay K V Q) → calls j ≡ Some u → slot j ≢ t) → AllStand V same hash asks setting slot w2 c calls
+          → ((j : ℕ) (u : UnderWay K V Q) → calls j ≡ Some u → slot j ≢ t) → AllStand V same hash asks setting slot w2 c blocks calls
       changes row t none_onto e apart =
           comes row (with_at w.uses t Changing) none_onto e (changing_back w.uses t) (λ j u has. changing_on w.uses t (slot j) (apart j u has) (s.inside j u has))
 
       begins : (request : Request) → IsOfSlots request → ((j : ℕ) (u : UnderWay K V Q) → calls j ≡ Some u → Closes request (slot j) → ⊥) → Happens deferred_word setting.batch_size (Begin i request) w w2
-          → AllStand V same hash asks setting slot w2 c calls
+          → AllStand V same hash asks setting slot w2 c blocks calls
       begins (Register' enters) of apart h = comes _ w.uses (λ b on. on) h.1 (λ r inside. inside) (λ j u has. s.inside j u has)
       begins (Enter' t) of apart h = changes _ t (λ b on. on) h.1.1 (λ j u has. not_outside w.uses t (slot j) h.1.0 (s.inside j u has))
       begins (Leave' t) of apart h = changes _ t (λ b on. on) h.1.1 apart

@@ -28,13 +28,13 @@ use Rattle.papaya_rule.specs.Lasts.{Lasts}
 use Rattle.papaya_rule.proofs.World.CounterSpared.{spares_counter}
 use Rattle.papaya_late.proofs.Lasts.Copiers.{ClaimsStayFew}
 use Rattle.papaya_rule.specs.Maps.{spot_of}
-use Rattle.papaya_callers.specs.Sights.{Sight, seen_by, IsSight}
+use Rattle.papaya_callers.specs.Sights.{Sight, seen_by, IsGrown, IsSight}
 use Rattle.papaya_points.specs.Others.{OthersStep}
 use Rattle.papaya_late.proofs.Known.Steps.{moments_on, remembers_went, lasts_went, others_step}
 use Rattle.papaya_rule.proofs.History.LeavingOn.{leaves_same}
 use Rattle.papaya_rule.proofs.World.OthersSpared.{keeps_same}
 use Rattle.papaya_callers.proofs.Sights.Sources.{below, above}
-use Rattle.papaya_callers.proofs.Sights.Wider.{wider, table_agrees, pair_agrees, stands_wider, sources_wider, closed_then}
+use Rattle.papaya_callers.proofs.Sights.Wider.{wider, is_wider, table_agrees, pair_agrees, stands_wider, sources_wider, closed_then}
 use Rattle.papaya_callers.proofs.Together.Few.{claim_few}
 use Rattle.papaya_callers.proofs.Together.Linked.{behind_went, puts_went}
 use Rattle.papaya_callers.proofs.Together.FactsOn.{idle_on}
@@ -88,6 +88,9 @@ module _ {K V Q : Type 0} (same : K → K → Bool) (hash : K → ℕ) (asks : Q
         tables = λ t. cond (ltb t c.past) ((sights r).tables t) (went.blocks2.table_known t);
         pairs = λ n. cond (ltb n c.stored) ((sights r).pairs n) (went.blocks2.pair_known n);
       }
+
+      pub grown_then : IsGrown c blocks went.blocks2 blocks_then
+      grown_then = is_wider same hash here i w c blocks (sights (slot i)) (whole (slot i)) mine_closed m2 Tells went lasts
 
       old_table : (t : ℕ) → t < c.past → blocks_then.table t ≡ blocks.table t
       old_table t l = below t c.past (blocks.table t) (went.blocks2.table t) l

@@ -201,7 +201,7 @@ module _ {K V Q : Type 0} (same : K → K → Bool) (hash : K → ℕ) (asks : Q
           (map_seen same hash (in_slot setting (slot j)) begun c fewer (sights (slot j)) (map_in_slot same hash setting begun c fewer (slot j) map2) (closed2 (slot j) inside))
           s.ground.moments (step j (seen_by blocks (sights (slot j)))) (λ blocking t made l. l) j (inl refl) (rows_same j u has) u (s.stand j u has)
 
-      pub narrowed : AllStand V same hash asks setting slot begun c calls
+      pub narrowed : AllStand V same hash asks setting slot begun c blocks calls
       narrowed = (
         fewer,
         sights,
@@ -223,4 +223,5 @@ module _ {K V Q : Type 0} (same : K → K → Bool) (hash : K → ℕ) (asks : Q
           onto = λ t j l made on. s.onto t j l made (onto j (blocks.table t) on);
           few = s.few;
         },
+        record { tables = λ t. refl; pairs = λ n. refl; tables_known = forgets.tables; pairs_known = forgets.pairs },
       )

@@ -17,6 +17,7 @@ use Rattle.papaya_rule.specs.InWorld.{IsReached, IsMapIn}
 use Rattle.papaya_rule.specs.Maps.{spot_of}
 use Rattle.papaya_rule.specs.Moments.{Moments}
 use Rattle.papaya_points.specs.Steps.{AreLawful}
+use Rattle.papaya_callers.proofs.Sights.Parts.{part_same}
 use Rattle.papaya_callers.specs.Kept.{IsWithin}
 use Rattle.papaya_callers.specs.Sights.{Sight, seen_by, IsSight}
 use Rattle.papaya_callers.specs.Together.{UnderWay, CameAbout, Stands, Together, AllStand}
@@ -123,7 +124,7 @@ module _ {K V Q : Type 0} (same : K → K → Bool) (hash : K → ℕ) (asks : Q
       subst (λ (z : Bool). Stands V same hash asks setting slot w2 c (seen_by blocks (choose z (sights (slot j)) (fresh same hash setting w2 c blocks r2 map))) j u)
       (sym (inside_is (w.uses (slot j)) (s.inside j u has))) (fits.stand u has)
 
-  pub opened : AllStand V same hash asks setting slot w2 c calls
+  pub opened : AllStand V same hash asks setting slot w2 c blocks calls
   opened = (
     blocks,
     sights2,
@@ -148,4 +149,5 @@ module _ {K V Q : Type 0} (same : K → K → Bool) (hash : K → ℕ) (asks : Q
       onto = puts2 same hash asks setting slot lawful w c blocks sights calls s i w2 step;
       few = s.few;
     },
+    part_same c blocks,
   )

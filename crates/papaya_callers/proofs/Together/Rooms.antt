@@ -169,6 +169,7 @@ module _ {K V Q : Type 0} (same : K → K → Bool) (hash : K → ℕ) (asks : Q
         remembers = remembers;
         same_pairs = pairs_same;
         blocks2 = blocks_then;
+        grown = moves.grown_then same hash asks setting slot lawful w c blocks sights calls s i inside m2 Tells rests went (next_for_room after end) few;
         sights2 = sights_then;
         together = moves.moves_together same hash asks setting slot lawful w c blocks sights calls s i inside m2 Tells rests went (next_for_room after end) few (mine end knows_then);
       }

@@ -154,6 +154,7 @@ module _ {K V Q : Type 0} (same : K → K → Bool) (hash : K → ℕ) (asks : Q
         went = went;
         remembers = remembers;
         blocks2 = blocks_then;
+        grown = moves.grown_then same hash asks setting slot lawful w c blocks sights calls s i inside m2 Tells rests went (next_of after progress) few;
         sights2 = sights_then;
         together = moves.moves_together same hash asks setting slot lawful w c blocks sights calls s i inside m2 Tells rests went (next_of after progress) few
             (mine progress (after_told same hash asks setting slot i u w went.w2 c went.c2 (seen_by blocks (sights (slot i))) went.blocks2 p2 progress went.told) its_pair);

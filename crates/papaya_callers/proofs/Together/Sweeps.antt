@@ -185,6 +185,7 @@ module _ {K V Q : Type 0} (same : K → K → Bool) (hash : K → ℕ) (asks : Q
         comes = λ over. subst (λ (x : Purpose). Came went.c2 more.0 x more.1) went.told.stands.purpose
             (came_at_end hash went.c2 went.blocks2 o.began more.0 more.2 more.1 p2 more.4 o.sweep.stands end went.told.stands.tells over);
         blocks2 = blocks_then;
+        grown = moves.grown_then same hash asks setting slot lawful w c blocks sights calls s i inside m2 Tells rests went (next_over_all after end) few;
         sights2 = sights_then;
         together = moves.moves_together same hash asks setting slot lawful w c blocks sights calls s i inside m2 Tells rests went (next_over_all after end) few
             (mine end went.told.facts went.told.stands.tells);

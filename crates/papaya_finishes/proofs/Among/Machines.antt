@@ -50,6 +50,7 @@ use Rattle.papaya_rule.proofs.World.PlansWithin.{as_may}
 use Rattle.papaya_points.specs.Told.{IsRowOf, IsRowOfCopier, IsRowOfCall}
 use Rattle.papaya_late.specs.ToldReserves.{IsRowOfReserve}
 use Rattle.papaya_late.specs.ToldSweeps.{IsRowOfSweep}
+use Rattle.papaya_callers.proofs.Sights.Parts.{part_same}
 use Rattle.papaya_callers.specs.OverAll.{CallOverAll, gone_on}
 use Rattle.papaya_callers.specs.Rooms.{CallForRoom}
 use Rattle.papaya_callers.specs.Together.{UnderWay, OnKey, ForRoom, Counting, OverAll, CallOnKey, IsOneStep, next_of, next_for_room, next_of_counting, next_over_all}
@@ -131,7 +132,7 @@ module _ (K V Q : Type 0) where
 
 same_map : {K : Type 0} (it : Option (Standing K)) → IsSameMap it it
 same_map None = refl
-same_map (Some s) = (s.blocks, s.sights, refl)
+same_map (Some s) = (s.blocks, s.sights, refl, part_same s.chart s.blocks)
 
 remembers_same : {K : Type 0} (incremental : Bool) (c : Chart K) → Remembers incremental c c
 remembers_same incremental c = record { now = omega arith; was = λ moment l. refl; passed = λ t l. refl; leaves = λ t l before. absurd (omega (arith, l, before)); from = λ t l. refl }

@@ -148,7 +148,7 @@ module _ {K V : Type 0} (same : K → K → Bool) (hash : K → ℕ) (setting : 
       happens : Steps' deferred_word 0 (at.w.row 0) at.w w2
       happens = subst (λ (x : Row). Steps' deferred_word 0 x at.w w2) (sym at.row) (m2, end, steps_at m2 end s, refl)
 
-      stand2 : AllStand {K = K} {Q = K} V same hash same setting slot_of w2 h.chart (λ i. None)
+      stand2 : AllStand {K = K} {Q = K} V same hash same setting slot_of w2 h.chart at.blocks (λ i. None)
       stand2 = (guards_stand_together {Q = K} same hash same setting slot_of h.lawful at.w h.chart at.blocks at.sights (λ i. None) at.together 0 refl).2 w2 happens
 
       came2 : CameAbout setting.batch_size w2
@@ -316,7 +316,7 @@ module _ {K V : Type 0} (same : K → K → Bool) (hash : K → ℕ) (setting : 
   inside0 : h.world.uses setting.slot ≡ Inside 0
   inside0 = inside_at_rest deferred_word setting.batch_size h.world (came_reached setting.batch_size h.world h.rests.together.ground.came) h.rests.rows setting.slot h.rests.inside
 
-  began : AllStand {K = K} {Q = K} V same hash same setting slot_of w1 h.chart (λ i. None)
+  began : AllStand {K = K} {Q = K} V same hash same setting slot_of w1 h.chart h.blocks (λ i. None)
   began =
       (guards_stand_together {Q = K} same hash same setting slot_of h.lawful h.world h.chart h.blocks h.sights (λ i. None) still 0 refl).0
       (Refresh setting.slot) tt (λ j u is closes. absurd (cc is)) w1 (h.rests.rows 0, (inside0, refl))

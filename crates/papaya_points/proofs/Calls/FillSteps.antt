@@ -232,7 +232,7 @@ module _ {K V Q : Type 0} (same : K → K → Bool) (hash : K → ℕ) (asks : Q
     went_rewrites asked key own =
         let d = rewritten w.memory (filled (filling value told key) word) (block_in p.own) (node.Pair key.key value) m2 end (subst (λ plan. Steps Took value_at w.memory plan m2 end) (rewrites_this value told key own) s) in
         by_end (going (filling value told key) (at.Tries word p.own)) d.3
-        (went_rewritten same hash setting w c blocks map (block_in p.own) caller vacant (node.Pair key.key value) (ap w.hand (vacant_block value told key own) ∙ own.hand) (vacant_there value told key own) (λ e. cc e) refl m2 d.2
+        (went_rewritten same hash setting w c blocks map (block_in p.own) caller vacant (node.Pair key.key value) (ap w.hand (vacant_block value told key own) ∙ own.hand) (vacant_there value told key own) (λ e. cc e) refl refl m2 d.2
         (λ w2 c2 blocks2. Told w2 c2 blocks2 (going (filling value told key) (at.Tries word p.own)))
         (filled_so asked key after p.own (filled_pair value told key after p.own own.block own.number own.word_is own.hand new_there)))
       where
@@ -249,7 +249,7 @@ module _ {K V Q : Type 0} (same : K → K → Bool) (hash : K → ℕ) (asks : Q
         let d = rewritten w.memory (emptied p word) (block_in p.own) vacant m2 end (subst (λ plan. Steps Took value_at w.memory plan m2 end) (empties_this own out) s) in
         let was : d.0 ≡ node.Pair own.key own.value = (let there = pair_there own in cc (there, d.1)) in
         by_end (going (taken_back p own.key own.value) (at.Asks (asking.Fills word))) (subst (λ (x : Node K V). Ends' x end) was d.3)
-        (went_rewritten same hash setting w c blocks map (block_in p.own) caller (node.Pair own.key own.value) vacant (ap w.hand (pair_block own) ∙ own.hand) (pair_there own) (λ e. cc e) refl m2 d.2
+        (went_rewritten same hash setting w c blocks map (block_in p.own) caller (node.Pair own.key own.value) vacant (ap w.hand (pair_block own) ∙ own.hand) (pair_there own) (λ e. cc e) refl refl m2 d.2
         (λ w2 c2 blocks2. Told w2 c2 blocks2 (going (taken_back p own.key own.value) (at.Asks (asking.Fills word))))
         (let back = is_out own in
         goes after (backed own) back.takes_is back.fits

@@ -11,6 +11,7 @@ use Rattle.seize_alone.proofs.Histories.NotTaken.{did}
 use Rattle.seize_reclaims.specs.Roots.{all_lists}
 use Rattle.papaya_tables.specs.Nodes.{deferred_word}
 use Rattle.papaya_tables.specs.declared.node.Node.{Node}
+use Rattle.papaya_callers.proofs.Sights.Parts.{part_same, part_then}
 use Rattle.papaya_callers.specs.Together.{UnderWay, CameAbout, IsOfSlots}
 use Rattle.papaya_callers.proofs.Together.Came.{came_reached}
 use Rattle.papaya_finishes.specs.Endings.{Finishing}
@@ -29,12 +30,12 @@ use Rattle.papaya_reclaims.specs.Slots.{IsForSlots, AreItsRows}
 
 pub same_then : {K : Type 0} (o a b : Option (Standing K)) → IsSameMap o a → IsSameMap a b → IsSameMap o b
 same_then {K} None a b first then = subst (λ (x : Option (Standing K)). IsSameMap x b) first then
-same_then {K} (Some s) a b (blocks, sights, is) then =
-    let k = subst (λ (x : Option (Standing K)). IsSameMap x b) is then in (k.0, k.1, k.2)
+same_then {K} (Some s) a b (blocks, sights, is, part) then =
+    let k = subst (λ (x : Option (Standing K)). IsSameMap x b) is then in (k.0, k.1, k.2, part_then s.chart k.0 blocks s.blocks part k.3)
 
 pub same_still : {K : Type 0} (o : Option (Standing K)) → IsSameMap o o
 same_still None = refl
-same_still (Some s) = (s.blocks, s.sights, refl)
+same_still (Some s) = (s.blocks, s.sights, refl, part_same s.chart s.blocks)
 
 -- the setting of a map that was there
 still_setting : {K : Type 0} (o after : Option (Standing K)) → IsSameMap o after → (s : Standing K) → o ≡ Some s → (s2 : Standing K) × (after ≡ Some s2) × (s2.setting ≡ s.setting)

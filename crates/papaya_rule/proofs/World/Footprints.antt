@@ -1,7 +1,7 @@
 -- What a step of a caller writes, and what is as it was.
-use Rattle.std.specs.Prelude.{◌≡◌, ◌≢◌, ℕ, Bool, true, false, cond, Some, None, Ok, IsSome}
+use Rattle.std.specs.Prelude.{◌≡◌, ◌≢◌, ℕ, zero, suc, Bool, true, false, cond, Option, Some, None, Ok, IsSome}
 use Rattle.std.proofs.Common.{refl, ap, sym, subst, ◌∙◌, inl, inr}
-use Rattle.std.proofs.lemmas.Bool.{ne_eqb}
+use Rattle.std.proofs.lemmas.Bool.{ne_eqb, eq-eqb, cases_eq}
 use Rattle.seize_words.specs.declared.at.At.{At}
 use Rattle.seize_words.specs.declared.at.At.TheVariants.{Root, Used, Slot, Entry, Word}
 use Rattle.seize_words.specs.Op.{Op, Make, Made}
@@ -11,12 +11,31 @@ use Rattle.seize_rule.proofs.Words.Named.{block_there, same_at-true}
 use Rattle.seize.specs.World.{World, Making, IsOwn, IsOwnOp}
 use Rattle.papaya_tables.specs.Nodes.{deferred_word}
 use Rattle.papaya_tables.specs.declared.node.Node.{Node}
+use Rattle.papaya_tables.specs.declared.node.Node.TheVariants as node
 use Rattle.papaya_tables.specs.declared.setting.Setting.{Setting}
 use Rattle.papaya_rule.specs.Chart.{Chart}
 use Rattle.papaya_rule.specs.Words.{Blocks}
-use Rattle.papaya_rule.specs.InWorld.{IsMapIn, IsOwnBlock, InFootprint, IsFramed}
+use Rattle.papaya_rule.specs.InWorld.{IsMapIn, IsOwnBlock, InFootprint, StaysTable, IsFramed}
 use Rattle.papaya_rule.proofs.Words.BlocksApart.{new_apart}
 use Rattle.papaya_rule.proofs.World.OthersSpared.{IsAside, out_aside, own_aside}
+
+module _ {K V : Type 0} where
+  pub stays_same : (o : Option (Node K V)) → StaysTable o o
+  stays_same None = tt
+  stays_same (Some (node.Pair k v)) = refl
+  stays_same (Some (node.Table zero limit turn)) = refl
+  stays_same (Some (node.Table (suc len) limit turn)) = refl
+  stays_same (Some node.Shards) = refl
+
+  pub stays_so : (o o2 : Option (Node K V)) → o2 ≡ o → StaysTable o o2
+  stays_so o o2 e = subst (StaysTable o) (sym e) (stays_same o)
+
+  pub stays_none : (o o2 : Option (Node K V)) → o2 ≡ None → StaysTable o o2
+  stays_none None o2 e = tt
+  stays_none (Some (node.Pair k v)) o2 e = subst (StaysTable (Some (node.Pair k v))) (sym e) tt
+  stays_none (Some (node.Table zero limit turn)) o2 e = subst (StaysTable (Some (node.Table zero limit turn))) (sym e) tt
+  stays_none (Some (node.Table (suc len) limit turn)) o2 e = subst (StaysTable (Some (node.Table (suc len) limit turn))) (sym e) tt
+  stays_none (Some node.Shards) o2 e = subst (StaysTable {K = K} {V = V} (Some node.Shards)) (sym e) tt
 
 module _ {K V : Type 0} (setting : Setting) (caller : ℕ) (w : World (Node K V)) (c : Chart K) (blocks : Blocks) where
   -- a word that this caller may write
@@ -28,12 +47,13 @@ module _ {K V : Type 0} (setting : Setting) (caller : ℕ) (w : World (Node K V)
   MayWriteBy op at = IsOwnOp deferred_word w.memory op × InFootprint setting caller w c blocks at
 
   pub framed_same : IsFramed setting caller w c blocks w.memory
-  framed_same = record { words = λ at word is other. is; values = λ b value is other. is }
+  framed_same = record { words = λ at word is other. is; values = λ b value is other. is; tables = λ b. stays_same (value_at w.memory b) }
 
   pub framed_written : (at : At) (word : ℕ) → IsSome (word_at w.memory at) → InFootprint setting caller w c blocks at → IsFramed setting caller w c blocks (with_word w.memory at word)
   framed_written at word some mine = record {
     words = λ x old is other. by x old is other (same_at x at) refl;
     values = λ b value is other. value_at-with_word w.memory at word b some ∙ is;
+    tables = λ b. stays_so (value_at w.memory b) (value_at (with_word w.memory at word) b) (value_at-with_word w.memory at word b some);
   }
     where
       by : (x : At) (old : ℕ) → word_at w.memory x ≡ Some old → (InFootprint setting caller w c blocks x → ⊥) → (q : Bool) → same_at x at ≡ q → word_at (with_word w.memory at word) x ≡ Some old
@@ -46,10 +66,15 @@ module _ {K V : Type 0} (setting : Setting) (caller : ℕ) (w : World (Node K V)
       → ((x : ℕ) (value : Node K V) → value_at w.memory x ≡ Some value → (IsOwnBlock caller w x → ⊥) → x ≢ b)
       → ((x field word : ℕ) → word_at w.memory (Entry x field) ≡ Some word → (w.hand x ≡ Making caller → ⊥) → x ≢ b)
       → ((x field word : ℕ) → word_at w.memory (Word x field) ≡ Some word → (IsOwnBlock caller w x → ⊥) → x ≢ b)
+      → StaysTable (value_at w.memory b) (value_at m2 b)
       → IsFramed setting caller w c blocks m2
-  framed_blocks m2 b roots used slots others values entries words = record {
+  framed_blocks m2 b roots used slots others values entries words stays = record {
     words = λ at word is other. by at word is other;
     values = λ x value is other. ap value_in (others x (values x value is other)) ∙ is;
+    tables = λ x. elim (cases_eq x b) [
+      | inl e ↦ subst (λ (y : ℕ). StaysTable (value_at w.memory y) (value_at m2 y)) (sym e) stays
+      | inr ne ↦ stays_so (value_at w.memory x) (value_at m2 x) (ap value_in (others x ne))
+    ];
   }
     where
       by : (at : At) (word : ℕ) → word_at w.memory at ≡ Some word → (InFootprint setting caller w c blocks at → ⊥) → word_at m2 at ≡ Some word
@@ -67,6 +92,7 @@ module _ {K V : Type 0} (setting : Setting) (caller : ℕ) (w : World (Node K V)
       (λ x it is other. new_apart w.memory x b it is free)
       (λ x field word is other e. (let there = subst (λ (y : ℕ). word_at w.memory (Entry y field) ≡ Some word) e is in let none = ap (λ o. entry_in o field) free.0 in cc (there, none)))
       (λ x field word is other e. (let there = subst (λ (y : ℕ). word_at w.memory (Word y field) ≡ Some word) e is in let none = ap (λ o. word_in o field) free.0 in cc (there, none)))
+      (subst (λ (o : Option (Node K V)). StaysTable o (value_at (mem_after w.memory (Make value words) (Made (Ok b))) b)) (sym (ap value_in free.0)) tt)
 
   -- one of the caller's own is taken away
   pub framed_dropped : (b : ℕ) → IsOwnBlock caller w b → IsSome (value_at w.memory b) → IsFramed setting caller w c blocks (with_block w.memory b None)
@@ -74,7 +100,11 @@ module _ {K V : Type 0} (setting : Setting) (caller : ℕ) (w : World (Node K V)
       framed_blocks (with_block w.memory b None) b (λ r. refl) (λ r. refl) (λ s field. refl)
       (λ x ne. let y = block_there w.memory b there in block_of-with_block w.memory b x y.0 None y.1 ∙ ap (λ q. cond q None (block_of w.memory x)) (ne_eqb x b ne))
       (λ x it is other e. other (its x e)) (λ x field word is other e. other (ap w.hand e ∙ own.0)) (λ x field word is other e. other (its x e))
+      (stays_none (value_at w.memory b) (value_at (with_block w.memory b None) b) gone)
     where
+      gone : value_at (with_block w.memory b None) b ≡ None
+      gone = let y = block_there w.memory b there in ap value_in (block_of-with_block w.memory b b y.0 None y.1 ∙ ap (λ q. cond q None (block_of w.memory b)) (eq-eqb b b refl))
+
       its : (x : ℕ) → x ≡ b → IsOwnBlock caller w x
       its x e = subst (IsOwnBlock caller w) (sym e) own
 

@@ -1,18 +1,21 @@
 -- A step of a call that replaced the value of a block of its own.
-use Rattle.std.specs.Prelude.{◌≡◌, ◌≢◌, ℕ, Bool, true, [], ◌∷◌, Some, IsSome, cond, if◌then◌else◌}
-use Rattle.std.proofs.Common.{subst, refl, ap, sym, ◌∙◌, inl}
-use Rattle.std.proofs.lemmas.Bool.{ne_eqb}
+use Rattle.std.specs.Prelude.{◌≡◌, ◌≢◌, ℕ, zero, suc, Bool, true, [], ◌∷◌, Option, Some, None, IsSome, cond, if◌then◌else◌}
+use Rattle.std.proofs.Common.{arith, subst, refl, ap, sym, ◌∙◌, inl, inr}
+use Rattle.std.proofs.lemmas.Bool.{ne_eqb, eq-eqb, cases_eq}
 use Rattle.seize_words.specs.declared.at.At.TheVariants.{Root, Word}
 use Rattle.seize_words.specs.Mem.{Mem, value_at, word_at, with_value}
 use Rattle.seize_words.proofs.OneOwner.AfterWrites.{word_at-with_value, value_at-with_value}
 use Rattle.seize.specs.World.{World, Making, Rewrites}
 use Rattle.papaya_tables.specs.Nodes.{deferred_word}
+use Rattle.papaya_tables.proofs.Lists.{table_list}
 use Rattle.papaya_tables.specs.declared.node.Node.{Node}
 use Rattle.papaya_tables.specs.declared.node.Node.TheVariants as node
 use Rattle.papaya_tables.specs.declared.setting.Setting.{Setting}
+use Rattle.papaya_tables.specs.declared.table_words.TheConstants.{DEFERRED}
 use Rattle.papaya_rule.specs.Chart.{Chart}
 use Rattle.papaya_rule.specs.Words.{Blocks}
-use Rattle.papaya_rule.specs.InWorld.{IsHeldBy, KeepsBlocks, IsFramed, IsMapIn, Went}
+use Rattle.papaya_rule.specs.InWorld.{IsHeldBy, KeepsBlocks, StaysTable, IsFramed, IsMapIn, Went}
+use Rattle.papaya_rule.proofs.World.Footprints.{stays_so}
 use Rattle.papaya_rule.proofs.World.Framed.{shows_framed}
 use Rattle.papaya_rule.proofs.World.FramedSteps.{IsOutside}
 use Rattle.papaya_rule.proofs.World.Hands.{hands_of, own_outside}
@@ -59,10 +62,26 @@ module _ {K V : Type 0} (same : K → K → Bool) (hash : K → ℕ) (setting : 
       })
       (record { tables = map.tables; pairs = map.pairs; named = map.named; tables_out = map.tables_out; pairs_out = map.pairs_out })
 
-  framed : IsFramed setting i w c blocks (with_value w.memory b new)
-  framed = record {
-    words = λ at word here rest. word_at-with_value w.memory b new at there ∙ here;
-    values = λ x value here mine. value_beside x (λ e. mine (its x e)) ∙ here;
+  -- what carries no list is no table with places
+  stays_rewritten : (value : Node K V) → deferred_word new ≡ deferred_word value → deferred_word new ≡ None → StaysTable (Some value) (Some new)
+  stays_rewritten (node.Pair k v) lists none = none
+  stays_rewritten (node.Table zero limit turn) lists none = none
+  stays_rewritten (node.Table (suc len) limit turn) lists none = absurd (let some : deferred_word new ≡ Some DEFERRED = lists ∙ table_list K V (suc len) limit turn (omega arith) in cc (some, none))
+  stays_rewritten node.Shards lists none = none
+
+  here : value_at (with_value w.memory b new) b ≡ Some new
+  here = value_at-with_value w.memory b new b there ∙ ap (λ q. if q then Some new else value_at w.memory b) (eq-eqb b b refl)
+
+  framed : deferred_word new ≡ deferred_word before → deferred_word new ≡ None → IsFramed setting i w c blocks (with_value w.memory b new)
+  framed lists none = record {
+    words = λ at word is rest. word_at-with_value w.memory b new at there ∙ is;
+    values = λ x value is mine. value_beside x (λ e. mine (its x e)) ∙ is;
+    tables = λ x. elim (cases_eq x b) [
+      | inl e ↦ subst (λ (y : ℕ). StaysTable (value_at w.memory y) (value_at (with_value w.memory b new) y)) (sym e)
+          (subst (λ (o : Option (Node K V)). StaysTable o (value_at (with_value w.memory b new) b)) (sym is)
+          (subst (StaysTable (Some before)) (sym here) (stays_rewritten before lists none)))
+      | inr ne ↦ stays_so (value_at w.memory x) (value_at (with_value w.memory b new) x) (value_beside x ne)
+    ];
   }
     where
       its : (x : ℕ) → x ≡ b → (w.hand x ≡ Making i) × (value_at w.memory x ≢ Some node.Shards)
@@ -74,9 +93,9 @@ module _ {K V : Type 0} (same : K → K → Bool) (hash : K → ℕ) (setting : 
     words = λ x field value here unlike made. word_at-with_value w.memory b new (Word x field) there;
   }
 
-  pub went_rewritten : deferred_word new ≡ deferred_word before → (m2 : Mem (Node K V)) → m2 ≡ with_value w.memory b new → (Told : World (Node K V) → Chart K → Blocks → Type 0)
+  pub went_rewritten : deferred_word new ≡ deferred_word before → deferred_word new ≡ None → (m2 : Mem (Node K V)) → m2 ≡ with_value w.memory b new → (Told : World (Node K V) → Chart K → Blocks → Type 0)
       → Told world_rewritten c blocks → Went same hash setting i w c blocks m2 Told
-  went_rewritten lists m2 after Told told = record {
+  went_rewritten lists none m2 after Told told = record {
     w2 = world_rewritten;
     c2 = c;
     blocks2 = blocks;
@@ -87,7 +106,7 @@ module _ {K V : Type 0} (same : K → K → Bool) (hash : K → ℕ) (setting : 
     memory = sym after;
     tables = tables_same c blocks;
     links = links_none i w world_rewritten c c blocks refl refl (outs_same w.memory w.hand);
-    frame = subst (IsFramed setting i w c blocks) (sym after) framed;
+    frame = subst (IsFramed setting i w c blocks) (sym after) (framed lists none);
     spares = spared;
     moved = inl refl;
     map = rewritten_in;

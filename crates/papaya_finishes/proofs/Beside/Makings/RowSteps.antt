@@ -27,7 +27,7 @@ use Rattle.papaya_callers.proofs.Together.Came.{came_next, came_reached}
 -- a map that is as it was, but for what may be looked at of it, has its setting
 pub same_setting : {K : Type 0} (o after : Option (Standing K)) → IsSameMap o after → (s2 : Standing K) → after ≡ Some s2 → (s : Standing K) × (o ≡ Some s) × (s2.setting ≡ s.setting)
 same_setting {K} None after is s2 e = absurd (cc (is, e))
-same_setting {K} (Some s) after (blocks, sights, is) s2 e = (s, refl, ap (λ (x : Standing K). x.setting) (one_of s2 (record s { blocks = blocks; sights = sights }) (sym e ∙ is)))
+same_setting {K} (Some s) after (blocks, sights, is, part) s2 e = (s, refl, ap (λ (x : Standing K). x.setting) (one_of s2 (record s { blocks = blocks; sights = sights }) (sym e ∙ is)))
 
 module _ {K Q : Type 0} (V : Type 0) (same : K → K → Bool) (asks : Q → K → Bool) (batch_size roots : ℕ) (slot : ℕ → ℕ) (maps : ℕ → Option (Standing K)) (makers : ℕ → Option (Beginning K)) where
   abbrev Left : World (Node K V) → World (Node K V) → Type 0

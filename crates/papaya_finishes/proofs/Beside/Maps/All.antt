@@ -8,7 +8,7 @@ use Rattle.papaya_tables.specs.declared.node.Node.{Node}
 use Rattle.papaya_rule.specs.Words.{Blocks}
 use Rattle.papaya_points.specs.Steps.{AreLawful}
 use Rattle.papaya_finishes.specs.Maps.{Standing, IsSameMap, with_call, MapsTogether, AllMapsStand}
-use Rattle.papaya_callers.specs.Sights.{Sight}
+use Rattle.papaya_callers.specs.Sights.{Sight, IsPartOf}
 use Rattle.papaya_callers.specs.Together.{UnderWay, HasCall, CameAbout, Together}
 use Rattle.papaya_callers.proofs.Together.At.{at_other, at_same}
 
@@ -25,7 +25,7 @@ module _ {K Q : Type 0} (V : Type 0) (same : K → K → Bool) (asks : Q → K �
   StandsSo w s calls = Together V same s.hash asks s.setting slot w s.chart s.blocks s.sights calls
 
   abbrev pub StandsSomehow : World (Node K V) → Standing K → (ℕ → Option (UnderWay K V Q)) → Type 0
-  StandsSomehow w s calls = (blocks : Blocks) × (sights : ℕ → Sight) × Together V same s.hash asks s.setting slot w s.chart blocks sights calls
+  StandsSomehow w s calls = (blocks : Blocks) × (sights : ℕ → Sight) × Together V same s.hash asks s.setting slot w s.chart blocks sights calls × IsPartOf s.chart blocks s.blocks
 
   -- from such maps, in another world, and with other calls
   module _ (w : World (Node K V)) (maps : ℕ → Option (Standing K)) (calls : ℕ → ℕ → Option (UnderWay K V Q)) (all : MapsTogether V same asks size slot w maps calls)
@@ -54,7 +54,7 @@ module _ {K Q : Type 0} (V : Type 0) (same : K → K → Bool) (asks : Q → K �
 
     is_same : (m : ℕ) (o : Option (Standing K)) (e : maps m ≡ o) → IsSameMap o (narrowed m o e)
     is_same m None e = refl
-    is_same m (Some s) e = let t = stands m s e in (t.0, t.1, refl)
+    is_same m (Some s) e = let t = stands m s e in (t.0, t.1, refl, t.3)
 
     was_none : (m : ℕ) (o : Option (Standing K)) (e : maps m ≡ o) → narrowed m o e ≡ None → o ≡ None
     was_none m None e h = refl

@@ -12,6 +12,7 @@ use Rattle.papaya_callers.specs.Together.{OnKey, UnderWay, CameAbout, IsOneStep,
 use Rattle.papaya_finishes.proofs.Beside.Maps.All.{one_of, not_none, StandsSo, StandsSomehow, all_stand, calls_only, calls_once, its_calls, others_calls}
 use Rattle.papaya_finishes.proofs.Beside.Maps.OtherBegins.{other_begun}
 use Rattle.papaya_finishes.proofs.Beside.Maps.Steps.{no_other}
+use Rattle.papaya_callers.proofs.Sights.Parts.{part_same}
 use Rattle.papaya_callers.proofs.Together.Came.{came_next, came_reached}
 use Rattle.papaya_callers.proofs.Together.Guards.{guards_stand_together}
 use Rattle.papaya_callers.proofs.Together.Stepped.{rows_stand_together}
@@ -39,7 +40,7 @@ module _ {K Q : Type 0} (V : Type 0) (same : K → K → Bool) (asks : Q → K �
     stands : (n : ℕ) (r : Standing K) → maps n ≡ Some r → StandsSomehow V same asks size slot w2 r (with_call calls m i goes_on n)
     stands n r is = elim (cases_eq n m) as (λ _. StandsSomehow V same asks size slot w2 r (with_call calls m i goes_on n)) [
       | inl e ↦ subst (StandsSomehow V same asks size slot w2 r) (sym (ap (with_call calls m i goes_on) e ∙ its_calls V same asks size slot maps calls m i goes_on))
-          (subst (λ (x : Standing K). StandsSomehow V same asks size slot w2 x (with_at (calls m) i goes_on)) (one_of s r (sym here ∙ ap maps (sym e) ∙ is)) (s.blocks, s.sights, mine))
+          (subst (λ (x : Standing K). StandsSomehow V same asks size slot w2 x (with_at (calls m) i goes_on)) (one_of s r (sym here ∙ ap maps (sym e) ∙ is)) (s.blocks, s.sights, mine, part_same s.chart s.blocks))
       | inr ne ↦ subst (StandsSomehow V same asks size slot w2 r) (sym (others_calls V same asks size slot maps calls m i goes_on n ne)) (other n r ne is w2 happened)
     ]
 
@@ -60,7 +61,7 @@ module _ {K Q : Type 0} (V : Type 0) (same : K → K → Bool) (asks : Q → K �
 
   -- each map for itself
   abbrev guards : (w : World (Node K V)) (maps : ℕ → Option (Standing K)) (calls : ℕ → ℕ → Option (UnderWay K V Q)) (all : MapsTogether V same asks size slot w maps calls)
-      (i : ℕ) (alone : (n : ℕ) → calls n i ≡ None) (n : ℕ) (r : Standing K) (is : maps n ≡ Some r) → GuardsOf V same r.hash asks r.setting slot w r.chart (calls n) i
+      (i : ℕ) (alone : (n : ℕ) → calls n i ≡ None) (n : ℕ) (r : Standing K) (is : maps n ≡ Some r) → GuardsOf V same r.hash asks r.setting slot w r.chart r.blocks (calls n) i
   guards w maps calls all i alone n r is = guards_stand_together same r.hash asks r.setting slot (all.fit n r is).0 w r.chart r.blocks r.sights (calls n) (all.each n r is) i (alone n)
 
   pub guards_stand_in_maps : GuardsStandInMaps V same asks size slot

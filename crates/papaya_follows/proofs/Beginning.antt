@@ -1,0 +1,15 @@
+-- A run begins so.
+use Rattle.std.specs.Prelude.{ℕ}
+use Rattle.std.proofs.Common.{refl, arith}
+use Rattle.papaya_follows.specs.Beginning.{RunsBegin}
+
+pub runs_begin : (K V : Type 0) → RunsBegin K V
+runs_begin K V roots = record {
+  blocks = record {
+    roles = λ b. (grind arith);
+    once = λ b d n is is2. absurd (cc is);
+    stored = refl;
+  };
+  number = λ map n. 0;
+  maps = λ map standing is. absurd (cc is);
+}

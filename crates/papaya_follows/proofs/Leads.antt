@@ -1,0 +1,76 @@
+-- Where a step of a call leads that is none of a row: its map, and all blocks, are shown at the moment after its effects, and other maps have not changed.
+use Rattle.std.specs.Prelude.{◌≡◌, ◌≢◌, ℕ, zero, suc, ◌+◌, ◌*◌, ◌/◌, ◌<◌, ◌≤◌, ◌^◌, ◌==◌, Bool, true, false, cond, eqb, List, [], ◌∷◌, ◌++◌, length, filter, Option, Some, None, if◌then◌else◌, ◌⊎◌}
+use Rattle.std.proofs.Common.{refl, ap, sym, subst, ◌∙◌, arith, inl, inr}
+use Rattle.std.proofs.lemmas.Bool.{ne_eqb, eq-eqb, cases_eq, cases_lt}
+use Rattle.seize_words.specs.Mem.{Mem, value_at}
+use Rattle.seize.specs.World.{World, Making}
+use Rattle.papaya_tables.specs.Chunks.{is_incremental}
+use Rattle.papaya_tables.specs.declared.node.Node.{Node}
+use Rattle.papaya_tables.specs.declared.node.Node.TheVariants as node
+use Rattle.papaya_tables.specs.declared.setting.Setting.{Setting}
+use Rattle.papaya_schedules.specs.declared.effect.Effect.{Effect}
+use Rattle.papaya_schedules.specs.Effects.{AtEachEffect, with_effects}
+use Rattle.papaya_schedules.specs.Moment.{Moment}
+use Rattle.papaya_teller.specs.declared.changed.Changed.{Changed}
+use Rattle.papaya_rule.specs.Chart.{Chart}
+use Rattle.papaya_rule.specs.Words.{Blocks}
+use Rattle.papaya_rule.specs.InWorld.{IsMapIn, Went}
+use Rattle.papaya_points.specs.Steps.{AreLawful}
+use Rattle.papaya_callers.specs.Sights.{Sight, seen_by, IsGrown, IsSight}
+use Rattle.papaya_callers.specs.Together.{in_slot}
+use Rattle.papaya_finishes.specs.Maps.{Standing}
+use Rattle.papaya_effects.specs.Known.{Known}
+use Rattle.papaya_effects.specs.declared.role.Role.TheVariants as role
+use Rattle.papaya_follows.specs.Blocks.{HasRole, ShowsBlocks}
+use Rattle.papaya_follows.specs.Finds.{FindsMap}
+use Rattle.papaya_follows.specs.Maps.{table_of, ShowsMap}
+use Rattle.papaya_follows.proofs.Alike.{IsAlike, alike_same, still_all}
+use Rattle.papaya_follows.proofs.Finds.{still_find}
+use Rattle.papaya_follows.proofs.Onward.{KeepsRoles, StaysTables, StaysPairs, blocks_grown, map_on}
+use Rattle.papaya_follows.proofs.Operations.{LeavesBy}
+use Rattle.papaya_follows.proofs.Told.{IsQuiet}
+
+module _ {K V : Type 0} (same : K → K → Bool) (slot caller map : ℕ) (name : Option (List ℕ)) (number : ℕ → ℕ) (s : Standing K) (lawful : AreLawful same s.hash)
+    (w : World (Node K V)) (sight : Sight) (is_sight : IsSight s.chart s.blocks sight) (is_map : IsMapIn same s.hash (in_slot s.setting slot) w s.chart (seen_by s.blocks sight))
+    (m2 : Mem (Node K V)) (Told : World (Node K V) → Chart K → Blocks → Type 0)
+    (went : Went same s.hash (in_slot s.setting slot) caller w s.chart (seen_by s.blocks sight) m2 Told) (blocks2 : Blocks) (grown : IsGrown s.chart s.blocks went.blocks2 blocks2) (sights2 : ℕ → Sight)
+    (m : Moment K V) (known : Known) (shown : ShowsMap map number s m known) (shown_blocks : ShowsBlocks m known w) where
+  -- the map after the step, and the moment after these effects
+  abbrev pub after_step : Standing K
+  after_step = record s { chart = went.c2; blocks = blocks2; sights = sights2 }
+
+  abbrev pub led : List Effect → Moment K V
+  led effects = with_effects name (Some map) effects m
+
+  pub record LeadsOn (effects : List Effect) (after : Known) : Type 0 where
+    pub finds : AtEachEffect (FindsMap map) name (Some map) effects m
+    pub number_then : ℕ → ℕ
+    pub own : ShowsMap map number_then after_step (led effects) after
+    pub others : (other : ℕ) → other ≢ map → IsAlike other m (led effects)
+    pub keeps : KeepsRoles known after
+    pub blocks : ShowsBlocks (led effects) after went.w2
+
+  -- tables that the caller looks at have their roles
+  pub tables_seen : (t : ℕ) → t < s.chart.past → sight.tables t ≡ true → known.roles (s.blocks.table t) ≡ role.Table (table_of map t) (s.chart.len t)
+  tables_seen t l seen = shown.tables.roles t l (is_sight.tables t l seen)
+
+  abbrev Quiet : List Effect → Known → Type 0
+  Quiet = IsQuiet same s.hash (in_slot s.setting slot) caller w s.chart (seen_by s.blocks sight) m2 Told went is_map map (length m.stored) known shown_blocks.roles shown_blocks.once tables_seen
+
+  -- where nothing has moved
+  pub leads_quiet : (effects : List Effect) (after : Known) → Quiet effects after → StaysTables s.chart went.c2 → StaysPairs s.chart went.c2 → LeadsOn effects after
+  leads_quiet effects after quiet tables pairs =
+      let alike = still_all name map effects m quiet.still in
+      let as_many = ap length alike.stored in
+      record {
+        finds = still_find map name effects m quiet.still;
+        number_then = number;
+        own = map_on map number s after_step m (led effects) known after (blocks_grown s.chart s.blocks went.blocks2 blocks2 grown) quiet.keeps refl tables pairs (alike_same map m (led effects) alike) shown;
+        others = λ other ne. alike_same other m (led effects) alike;
+        keeps = quiet.keeps;
+        blocks = record {
+          roles = λ b. subst (λ (n : ℕ). HasRole went.w2 n b (after.roles b)) (sym as_many) (quiet.roles b);
+          once = quiet.once;
+          stored = quiet.stored ∙ shown_blocks.stored ∙ sym as_many;
+        };
+      }

@@ -1,0 +1,181 @@
+-- A step of a row within a call: the moment after its effects shows the scene after it, where it takes no block away and hands over what has left its map.
+use Rattle.std.specs.Prelude.{◌≡◌, ◌≢◌, ℕ, ◌<◌, nat_le, nat_lt, Bool, true, false, List, [], ◌∷◌, Option, Some, None, length, ◌⊎◌, if◌then◌else◌}
+use Rattle.std.proofs.Common.{refl, ap, sym, subst, ◌∙◌, arith, inl, inr}
+use Rattle.seize_words.specs.declared.at.At.{At}
+use Rattle.seize_words.specs.Mem.{Mem, value_at, word_at}
+use Rattle.seize.specs.World.{World}
+use Rattle.papaya_tables.specs.declared.node.Node.{Node}
+use Rattle.papaya_tables.specs.declared.setting.Setting.{Setting}
+use Rattle.papaya_raw.specs.Machine.{machine_plan}
+use Rattle.papaya_raw.specs.declared.machines.machine.Machine.{Machine}
+use Rattle.papaya_raw.specs.declared.machines.progress.Progress.{Progress}
+use Rattle.papaya_schedules.specs.declared.effect.Effect.{Effect}
+use Rattle.papaya_schedules.specs.declared.effect.Effect.TheVariants.{Asked}
+use Rattle.papaya_schedules.specs.declared.effect.Growth.TheVariants.{ABlock, ABucket}
+use Rattle.papaya_schedules.specs.Effects.{with_effects}
+use Rattle.papaya_schedules.specs.Moment.{Moment}
+use Rattle.papaya_teller.specs.declared.changed.Changed.{Changed}
+use Rattle.papaya_teller.specs.declared.changed.Changed.TheVariants as changed
+use Rattle.papaya_callers.specs.Together.{UnderWay, OnKey, ForRoom, Counting, OverAll, CameAbout, IsOneStep, Together}
+use Rattle.papaya_finishes.specs.Machines.{machine_of, MachineStepsAmong}
+use Rattle.papaya_finishes.specs.Maps.{Standing, IsSameMap}
+use Rattle.papaya_effects.specs.Effects.{effects_of, known_after}
+use Rattle.papaya_effects.specs.Known.{Known}
+use Rattle.papaya_effects.specs.declared.acting.Acting.{Acting}
+use Rattle.papaya_effects.specs.declared.acting.Acting.TheVariants.{Call}
+use Rattle.papaya_effects.specs.declared.role.Role.{Role}
+use Rattle.papaya_effects.specs.declared.role.Role.TheVariants as role
+use Rattle.papaya_executor.specs.IsAt.{Scene, IsAt, slot_of}
+use Rattle.papaya_executor.specs.Stepping.{StepsFrom, StepLeads, scene_after}
+use Rattle.papaya_executor.specs.declared.executor.Executor.{Executor}
+use Rattle.papaya_executor.proofs.Steps.{may_step}
+use Rattle.papaya_follows.specs.Blocks.{HasRole, ShowsBlocks}
+use Rattle.papaya_follows.specs.Maps.{ShowsMap}
+use Rattle.papaya_follows.specs.Shows.{Shows}
+use Rattle.papaya_follows.specs.Steps.{HandTheirs, TakesNone, Did, IsOfNoRow, RowsAreShown}
+use Rattle.papaya_follows.proofs.Alike.{alike_same}
+use Rattle.papaya_follows.proofs.Handed.{hands_shown, hands_many}
+use Rattle.papaya_follows.proofs.Onward.{tables_same, pairs_same, blocks_same, blocks_part, map_on}
+use Rattle.papaya_follows.proofs.Operations.{StaysThere, LeavesBy, Operated, operated, operated_leaves}
+use Rattle.papaya_follows.proofs.Rows.{HandsOn, IsStill, KeepsBlock, RowLeaves, one_step_leaves, row_written}
+use Rattle.papaya_follows.proofs.Steps.{one_of}
+use Rattle.papaya_follows.proofs.Told.{roomed_as_many}
+
+module _ {K V : Type 0} (caller map : ℕ) (m : Moment K V) (known : Known) (w w2 : World (Node K V)) (shown : ShowsBlocks m known w) (leaves : RowLeaves w w2) where
+  abbrev its : Acting
+  its = Call caller map
+
+  -- each block has its role still
+  row_role : (b : ℕ) → StaysThere w.memory w2.memory b → (r : Role) → HasRole w (length m.stored) b r → HasRole w2 (length m.stored) b r
+  row_role b stays = of
+    where
+      keeps : (value : Node K V) → value_at w.memory b ≡ Some value → KeepsBlock w w2 b value
+      keeps value is = by (leaves.blocks b value is)
+        where
+          by : (value_at w2.memory b ≡ None) ⊎ KeepsBlock w w2 b value → KeepsBlock w w2 b value
+          by (inl gone) = absurd (let there = (stays.there value is).1 in cc (gone, there))
+          by (inr kept) = kept
+
+      of : (r : Role) → HasRole w (length m.stored) b r → HasRole w2 (length m.stored) b r
+      of role.Free has = stays.gone has
+      of (role.OwnPair i) has = (has.0, (keeps has.0 has.1).is, has.2)
+      of (role.OwnTable turn shape) has = (has.0, (keeps _ has.1).is)
+      of (role.Pair n) has = (has.0, has.1, has.2, has.3, (keeps _ has.4).is, (keeps _ has.4).linked has.5)
+      of (role.Table t len) has = (has.0, (keeps _ has.1).is, (keeps _ has.1).linked has.2)
+      of (role.Counter number) has = (keeps _ has).is
+
+  pub record RowDone (told : Changed) : Type 0 where
+    pub hands : HandsOn (effects_of its known told)
+    pub roles : (known_after its told known).roles ≡ known.roles
+    pub as_many : (known_after its told known).stored ≡ known.stored
+    pub has : (b : ℕ) → HasRole w2 (length m.stored) b (known.roles b)
+
+  all_have : ((b : ℕ) → StaysThere w.memory w2.memory b) → (b : ℕ) → HasRole w2 (length m.stored) b (known.roles b)
+  all_have stays b = row_role b (stays b) (known.roles b) (shown.roles b)
+
+  roomed_hands : (q : Bool) → HandsOn (if q then [] else Asked ABucket ∷ [])
+  roomed_hands true = IsStill [] tt
+  roomed_hands false = IsStill (Asked ABucket ∷ []) (refl, tt)
+
+  pub row_done : (told : Changed) → LeavesBy w.memory w2.memory told → TakesNone told → RowDone told
+  row_done changed.Nothing left none = record { hands = IsStill [] tt; roles = refl; as_many = refl; has = all_have left }
+  row_done (changed.Wrote at old new) left none =
+      let done = row_written caller map (length m.stored) known w w2 shown.roles leaves left.2 at old new left.0 left.1 in
+      record {
+        hands = done.0;
+        roles = ap (λ (k : Known). k.roles) done.1;
+        as_many = ap (λ (k : Known). k.stored) done.1;
+        has = all_have (λ b. record { gone = λ gone. left.2 b ∙ gone; there = λ value is. (value, left.2 b ∙ is) });
+      }
+  row_done (changed.Made k b) left none = absurd (let gone = leaves.none b left.0 in let there = left.3 in cc (gone, there))
+  row_done (changed.Unmade k) left none = record { hands = IsStill (Asked ABlock ∷ []) (refl, tt); roles = refl; as_many = refl; has = all_have left }
+  row_done (changed.Took b) left none = absurd none
+  row_done (changed.Roomed bucket had) left none =
+      let same = roomed_as_many its known bucket had in record { hands = roomed_hands (nat_lt bucket known.buckets); roles = same.0; as_many = same.1; has = all_have left }
+
+module _ {K V S : Type 0} (same : K → K → Bool) (hash : K → ℕ) (m : Moment K V) (known : Known) (s : Scene K V) (old new : Executor K V S) (at : IsAt same hash old s) (shown : Shows m known s)
+    (map i : ℕ) (standing : Standing K) (there : s.maps map ≡ Some standing) (caller : List ℕ)
+    (made : Operated s.world.memory new.memory.memory new.memory.changed) (none : TakesNone new.memory.changed)
+    (hands : HandTheirs caller map (effects_of (Call i map) known new.memory.changed) m)
+    (w2 : World (Node K V)) (memory : w2.memory ≡ new.memory.memory) (happened : IsOneStep standing.setting i s.world w2) where
+  abbrev told : Changed
+  told = new.memory.changed
+
+  abbrev w : World (Node K V)
+  w = s.world
+
+  abbrev effects : List Effect
+  effects = effects_of (Call i map) known told
+
+  abbrev after : Known
+  after = known_after (Call i map) told known
+
+  abbrev v : Moment K V
+  v = with_effects (Some caller) (Some map) effects m
+
+  each : Together V same standing.hash same standing.setting slot_of w standing.chart standing.blocks standing.sights (s.calls map)
+  each = at.together.makings.standing.each map standing there
+
+  left : LeavesBy w.memory w2.memory told
+  left = subst (λ (n : Mem (Node K V)). LeavesBy w.memory n told) (sym memory) (operated_leaves w.memory new.memory.memory told made)
+
+  done : RowDone i map m known w w2 shown.blocks (one_step_leaves standing.setting i w w2 each.ground.came happened) told
+  done = row_done i map m known w w2 shown.blocks (one_step_leaves standing.setting i w w2 each.ground.came happened) told left none
+
+  many : length v.stored ≡ length m.stored
+  many = hands_many caller map m effects done.hands
+
+  module _ (w3 : World (Node K V)) (maps2 : ℕ → Option (Standing K)) (w_is : w3 ≡ w2) (maps_same : (n : ℕ) → IsSameMap (s.maps n) (maps2 n)) where
+    map_then : (n : ℕ) (o : Option (Standing K)) → s.maps n ≡ o → IsSameMap o (maps2 n) → (st : Standing K) → maps2 n ≡ Some st → ShowsMap n (shown.number n) st v after
+    map_then n None e gone st is = absurd (cc (gone, is))
+    map_then n (Some before) e (blocks, sights, here, part) st is =
+        let now = record before { blocks = blocks; sights = sights } in
+        let with_known = hands_shown caller map n (shown.number n) before blocks sights m known (blocks_part before.chart before.blocks blocks part) (shown.maps n before e) effects done.hands hands in
+        subst (λ (x : Standing K). ShowsMap n (shown.number n) x v after) (one_of now st (sym here ∙ is))
+        (map_on n (shown.number n) now now v v known after (blocks_same before.chart blocks) (λ b lasting. ap (λ (f : ℕ → Role). f b) done.roles) refl (tables_same before.chart) (pairs_same before.chart)
+        (alike_same n v v (record { place = refl; born = refl; maps = refl; tables = refl; stored = refl })) with_known)
+
+    pub row_shown : (rest : Scene K V) → Shows v after (record rest { world = w3; maps = maps2 })
+    row_shown rest = record {
+      blocks = subst (λ (x : World (Node K V)). ShowsBlocks v after x) (sym w_is) (record {
+        roles = λ b. subst (λ (n : ℕ). HasRole w2 n b (after.roles b)) (sym many) (subst (λ (f : ℕ → Role). HasRole w2 (length m.stored) b (f b)) (sym done.roles) (done.has b));
+        once = λ b d n is is2. shown.blocks.once b d n (ap (λ (f : ℕ → Role). f b) (sym done.roles) ∙ is) (ap (λ (f : ℕ → Role). f d) (sym done.roles) ∙ is2);
+        stored = done.as_many ∙ shown.blocks.stored ∙ sym many;
+      });
+      number = shown.number;
+      maps = λ n st is. map_then n (s.maps n) refl (maps_same n) st is;
+    }
+
+module _ (K V S : Type 0) (same : K → K → Bool) (hash : K → ℕ) where
+  pub rows_are_shown : RowsAreShown K V S same hash
+  rows_are_shown m known s old new at shown map i u here told leads not_own caller none hands = by u to.4.did not_own
+    where
+      to : (standing : Standing K) × (machine : Machine K V K) × (s.maps map ≡ Some standing) × StepsFrom same hash (machine_of u) old new machine told
+          × (did : MachineStepsAmong V same same old.batch_size old.roots slot_of s.world s.maps s.calls s.makers s.enders map standing i new.memory.memory u machine told)
+          × IsAt same hash new (scene_after same hash s old new map i standing u machine told did)
+      to = leads map u here
+
+      made : Operated s.world.memory new.memory.memory new.memory.changed
+      made = subst (λ (x : Mem (Node K V)). Operated x new.memory.memory new.memory.changed) (sym at.memory)
+          (operated old.memory.memory new.memory.memory new.memory.changed (machine_plan same same hash (machine_of u)) (to.1, told) (may_step same hash old s at map i u here) to.3)
+
+      Goal : Type 0
+      Goal = Shows (with_effects (Some caller) (Some map) (effects_of (Call i map) known new.memory.changed) m) (known_after (Call i map) new.memory.changed known)
+          (scene_after same hash s old new map i to.0 u to.1 told to.4)
+
+      by : (x : UnderWay K V K)
+          → (did : Did same old.batch_size old.roots s.world s.maps s.calls s.makers s.enders map to.0 i new.memory.memory to.4.w2 to.4.maps2 to.4.next x to.1 told)
+          → (IsOfNoRow same old.batch_size old.roots s.world s.maps s.calls s.makers s.enders map to.0 i new.memory.memory to.4.w2 to.4.maps2 to.4.next x to.1 told did → ⊥) → Goal
+      by (OnKey x) (p2, end, machine_is, told_is, inl step) other = absurd (other tt)
+      by (OnKey x) (p2, end, machine_is, told_is, inr (row, stayed)) other =
+          row_shown same hash m known s old new at shown map i to.0 to.2 caller made none hands row.step.w2 row.step.memory row.step.happened to.4.w2 to.4.maps2 stayed.0 stayed.1
+          (scene_after same hash s old new map i to.0 u to.1 told to.4)
+      by (ForRoom x) (p2, end, machine_is, told_is, inl step) other = absurd (other tt)
+      by (ForRoom x) (p2, end, machine_is, told_is, inr (row, stayed)) other =
+          row_shown same hash m known s old new at shown map i to.0 to.2 caller made none hands row.step.w2 row.step.memory row.step.happened to.4.w2 to.4.maps2 stayed.0 stayed.1
+          (scene_after same hash s old new map i to.0 u to.1 told to.4)
+      by (Counting x) did other = absurd (other tt)
+      by (OverAll x) (p2, end, machine_is, told_is, inl step) other = absurd (other tt)
+      by (OverAll x) (p2, end, machine_is, told_is, inr (row, stayed)) other =
+          row_shown same hash m known s old new at shown map i to.0 to.2 caller made none hands row.step.w2 row.step.memory row.step.happened to.4.w2 to.4.maps2 stayed.0 stayed.1
+          (scene_after same hash s old new map i to.0 u to.1 told to.4)

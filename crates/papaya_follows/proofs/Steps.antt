@@ -1,0 +1,253 @@
+-- A step of a call that is none of a row, of whichever kind the call is: the moment after its effects shows the scene after it.
+use Rattle.std.specs.Prelude.{◌≡◌, ◌≢◌, ℕ, Bool, List, Option, Some, None, length, ◌⊎◌}
+use Rattle.std.proofs.Common.{refl, ap, sym, subst, ◌∙◌, arith, inl, inr}
+use Rattle.std.proofs.lemmas.Bool.{cases_eq}
+use Rattle.seize_words.specs.declared.at.At.{At}
+use Rattle.seize_words.specs.declared.at.At.TheVariants.{Root, Used, Slot, Entry, Word}
+use Rattle.seize_words.specs.Mem.{Mem, value_at, word_at}
+use Rattle.seize_words.specs.Word.{block_in}
+use Rattle.seize.specs.World.{World, IsInside, with_at}
+use Rattle.papaya_tables.specs.declared.node.Node.{Node}
+use Rattle.papaya_tables.specs.declared.setting.Setting.{Setting}
+use Rattle.papaya_raw.specs.Machine.{machine_plan}
+use Rattle.papaya_raw.specs.declared.machines.machine.Machine.{Machine}
+use Rattle.papaya_raw.specs.declared.machines.progress.Progress.{Progress}
+use Rattle.papaya_schedules.specs.declared.effect.Effect.{Effect}
+use Rattle.papaya_schedules.specs.Effects.{AtEachEffect, with_effects}
+use Rattle.papaya_schedules.specs.Moment.{Moment}
+use Rattle.papaya_teller.specs.declared.changed.Changed.{Changed}
+use Rattle.papaya_teller.specs.declared.changed.Changed.TheVariants as changed
+use Rattle.papaya_tells.specs.Seen.{Seen, Unseen, Wrote, seen_of}
+use Rattle.papaya_tells.specs.Tells.{KeepsNames, IsTold}
+use Rattle.papaya_tells.proofs.Promised.{operations_tell, still_steps_tell}
+use Rattle.papaya_rule.specs.Chart.{Chart}
+use Rattle.papaya_rule.specs.Words.{Blocks}
+use Rattle.papaya_rule.specs.InWorld.{IsMapIn, Went}
+use Rattle.papaya_rule.proofs.World.WentTold.{went_as}
+use Rattle.papaya_points.specs.Steps.{AreLawful}
+use Rattle.papaya_callers.specs.Sights.{Sight, seen_by, IsGrown, IsSight}
+use Rattle.papaya_callers.specs.Together.{UnderWay, OnKey, ForRoom, Counting, OverAll, in_slot, Together}
+use Rattle.papaya_callers.proofs.Sights.Seen.{map_seen}
+use Rattle.papaya_callers.proofs.Together.At.{at_other, at_same}
+use Rattle.papaya_callers.proofs.Together.Fits.{map_in_slot}
+use Rattle.papaya_finishes.specs.Machines.{machine_of, MachineStepsAmong}
+use Rattle.papaya_finishes.specs.Maps.{Standing, IsSameMap}
+use Rattle.papaya_effects.specs.Effects.{effects_of, known_after}
+use Rattle.papaya_effects.specs.Known.{Known}
+use Rattle.papaya_effects.specs.declared.acting.Acting.{Acting}
+use Rattle.papaya_effects.specs.declared.acting.Acting.TheVariants.{Call}
+use Rattle.papaya_executor.specs.IsAt.{Scene, IsAt, slot_of}
+use Rattle.papaya_executor.specs.Stepping.{StepsFrom, StepLeads, scene_after}
+use Rattle.papaya_executor.specs.declared.executor.Executor.{Executor}
+use Rattle.papaya_executor.proofs.Steps.{may_step}
+use Rattle.papaya_follows.specs.Blocks.{HasRole, ShowsBlocks}
+use Rattle.papaya_follows.specs.Finds.{FindsMap}
+use Rattle.papaya_follows.specs.Maps.{ShowsMap}
+use Rattle.papaya_follows.specs.Shows.{Shows}
+use Rattle.papaya_follows.specs.Steps.{StoreTheirs, Did, IsOfNoRow, CallsAreShown}
+use Rattle.papaya_follows.proofs.Alike.{alike_same, still_all}
+use Rattle.papaya_follows.proofs.Finds.{still_find}
+use Rattle.papaya_follows.proofs.Kept.{NoMore}
+use Rattle.papaya_follows.proofs.Leads.{LeadsOn}
+use Rattle.papaya_follows.proofs.Moved.{by_moved}
+use Rattle.papaya_follows.proofs.Nowhere.{went_nowhere}
+use Rattle.papaya_follows.proofs.Onward.{KeepsRoles, tables_same, pairs_same, blocks_same, blocks_part, map_on}
+use Rattle.papaya_follows.proofs.Operations.{LeavesBy, MadeOperation, Operated, operated, operated_leaves, seen_write, told_write}
+use Rattle.papaya_follows.proofs.Told.{IsQuiet, quiet_told}
+
+pub one_of : {X : Type 0} (x y : X) → ◌≡◌ {A = Option X} (Some x) (Some y) → x ≡ y
+one_of x y e = cc e
+
+module _ {K V S : Type 0} (same : K → K → Bool) (hash : K → ℕ) (m : Moment K V) (known : Known) (s : Scene K V) (old new : Executor K V S) (at : IsAt same hash old s) (shown : Shows m known s)
+    (map i : ℕ) (standing : Standing K) (there : s.maps map ≡ Some standing) (caller : List ℕ)
+    (made : Operated s.world.memory new.memory.memory new.memory.changed) where
+  abbrev m2 : Mem (Node K V)
+  m2 = new.memory.memory
+
+  abbrev told : Changed
+  told = new.memory.changed
+
+  abbrev w : World (Node K V)
+  w = s.world
+
+  abbrev its : Acting
+  its = Call i map
+
+  abbrev effects : List Effect
+  effects = effects_of its known told
+
+  abbrev after : Known
+  after = known_after its told known
+
+  abbrev v : Moment K V
+  v = with_effects (Some caller) (Some map) effects m
+
+  abbrev setting : Setting
+  setting = in_slot standing.setting (slot_of i)
+
+  abbrev sight : Sight
+  sight = standing.sights (slot_of i)
+
+  each : Together V same standing.hash same standing.setting slot_of w standing.chart standing.blocks standing.sights (s.calls map)
+  each = at.together.makings.standing.each map standing there
+
+  lawful : AreLawful same standing.hash
+  lawful = (at.together.makings.standing.fit map standing there).0
+
+  left : LeavesBy w.memory m2 told
+  left = operated_leaves w.memory m2 told made
+
+  abbrev is_shown : ShowsMap map (shown.number map) standing m known
+  is_shown = shown.maps map standing there
+
+  -- within its section
+  module _ (inside : IsInside (w.uses (slot_of i))) where
+    is_sight : IsSight standing.chart standing.blocks sight
+    is_sight = (each.ground.sight (slot_of i) inside).0
+
+    is_map : IsMapIn same standing.hash setting w standing.chart (seen_by standing.blocks sight)
+    is_map = map_seen same standing.hash setting w standing.chart standing.blocks sight (map_in_slot same standing.hash standing.setting w standing.chart standing.blocks (slot_of i) each.ground.map) is_sight
+
+    module _ (Told : World (Node K V) → Chart K → Blocks → Type 0) (had : Went same standing.hash setting i w standing.chart (seen_by standing.blocks sight) m2 Told)
+        (blocks2 : Blocks) (grown : IsGrown standing.chart standing.blocks had.blocks2 blocks2) (sights2 : ℕ → Sight) (stores : StoreTheirs caller map effects m) where
+      abbrev None2 : World (Node K V) → Chart K → Blocks → Type 0
+      None2 w2 c2 blocks2 = Unit {0}
+
+      abbrev went : Went same standing.hash setting i w standing.chart (seen_by standing.blocks sight) m2 (λ w2 c2 blocks2. Unit {0})
+      went = went_as same standing.hash setting i w standing.chart (seen_by standing.blocks sight) m2 Told (λ w2 c2 blocks2. Unit {0}) (λ w2 c2 blocks2 map moved alike told. tt) had
+
+      abbrev Lead : Type 0
+      Lead = LeadsOn same (slot_of i) i map (Some caller) (shown.number map) standing lawful w sight is_sight is_map m2 (λ w2 c2 blocks2. Unit {0}) went blocks2 grown sights2 m known is_shown shown.blocks effects after
+
+      lead : Lead
+      lead = by made
+        where
+          leads_by : (seen : Seen (Node K V)) → ((at : At) (x y : ℕ) → seen ≡ Wrote at x y → told ≡ changed.Wrote at x y) → ((at : At) (x y : ℕ) → told ≡ changed.Wrote at x y → seen ≡ Wrote at x y)
+              → IsTold standing.hash setting standing.chart (seen_by standing.blocks sight) went.c2 went.blocks2 same i went.moved seen → Lead
+          leads_by = by_moved same (slot_of i) i map (Some caller) (shown.number map) standing lawful w sight is_sight is_map m2 (λ w2 c2 blocks2. Unit {0}) went blocks2 grown sights2 m known is_shown shown.blocks told left stores
+
+          by : Operated w.memory m2 told → Lead
+          by (inl (still, nothing)) =
+              leads_by Unseen (λ at x y e. absurd (cc e)) (λ at x y e. absurd (cc (nothing, e)))
+              (still_steps_tell V same standing.hash lawful.lawful lawful.fits setting i w standing.chart (seen_by standing.blocks sight) m2 is_map went still)
+          by (inr op) =
+              leads_by (seen_of w.memory op.op op.out) (λ at x y e. op.is ∙ told_write at x y op.op op.out (seen_of w.memory op.op op.out) e)
+              (λ at x y e. seen_write at x y op.op op.out (seen_of w.memory op.op op.out) (sym op.is ∙ e))
+              (operations_tell V same standing.hash lawful.lawful lawful.fits setting i w standing.chart (seen_by standing.blocks sight) m2 is_map went op.op op.out op.can op.took)
+
+      -- the tables of its map have moved on
+      module _ (w2 : World (Node K V)) (maps2 : ℕ → Option (Standing K)) (w_is : w2 ≡ had.w2)
+          (maps_are : maps2 ≡ with_at s.maps map (Some (record standing { chart = had.c2; blocks = blocks2; sights = sights2 }))) where
+        abbrev moved_on : Standing K
+        moved_on = record standing { chart = had.c2; blocks = blocks2; sights = sights2 }
+
+        map_then : (n : ℕ) (st : Standing K) → maps2 n ≡ Some st → ShowsMap n (with_at shown.number map lead.number_then n) st v after
+        map_then n st is = elim (cases_eq n map) as (λ _. ShowsMap n (with_at shown.number map lead.number_then n) st v after) [
+          | inl e ↦
+              let its_standing : moved_on ≡ st = one_of moved_on st (sym (at_same s.maps map (Some moved_on) n e) ∙ ap (λ (f : ℕ → Option (Standing K)). f n) (sym maps_are) ∙ is) in
+              subst (λ (f : ℕ → ℕ). ShowsMap n f st v after) (sym (at_same shown.number map lead.number_then n e))
+              (subst (λ (x : ℕ). ShowsMap x lead.number_then st v after) (sym e) (subst (λ (x : Standing K). ShowsMap map lead.number_then x v after) its_standing lead.own))
+          | inr ne ↦
+              let was : s.maps n ≡ Some st = sym (at_other s.maps map (Some moved_on) n ne) ∙ ap (λ (f : ℕ → Option (Standing K)). f n) (sym maps_are) ∙ is in
+              subst (λ (f : ℕ → ℕ). ShowsMap n f st v after) (sym (at_other shown.number map lead.number_then n ne))
+              (map_on n (shown.number n) st st m v known after (blocks_same st.chart st.blocks) lead.keeps refl (tables_same st.chart) (pairs_same st.chart) (lead.others n ne) (shown.maps n st was))
+        ]
+
+        pub moved_shown : (rest : Scene K V) → AtEachEffect (FindsMap map) (Some caller) (Some map) effects m × Shows v after (record rest { world = w2; maps = maps2 })
+        moved_shown rest = (
+          lead.finds,
+          record {
+            blocks = subst (λ (x : World (Node K V)). ShowsBlocks v after x) (sym w_is) lead.blocks;
+            number = with_at shown.number map lead.number_then;
+            maps = map_then;
+          },
+        )
+
+    -- A step that has left the memory as it was has moved nothing.
+    module _ (still : m2 ≡ w.memory) where
+      abbrev stayed : Went same standing.hash setting i w standing.chart (seen_by standing.blocks sight) m2 (λ w2 c2 blocks2. Unit {0})
+      stayed = went_nowhere same standing.hash setting i w standing.chart (seen_by standing.blocks sight) is_map m2 still
+
+      same_word : (at : At) (x y : ℕ) → told ≡ changed.Wrote at x y → y ≡ x
+      same_word at x y e =
+          let words = subst (LeavesBy w.memory m2) e left in
+          let now : word_at w.memory at ≡ Some y = ap (λ (n : Mem (Node K V)). word_at n at) (sym still) ∙ words.1 in
+          let was = words.0 in cc (now, was)
+
+      keeps_names : (at : At) (x y : ℕ) → y ≡ x → KeepsNames setting standing.chart (seen_by standing.blocks sight) at x y
+      keeps_names (Root r) x y e = λ is. e
+      keeps_names (Used r) x y e = tt
+      keeps_names (Slot r field) x y e = tt
+      keeps_names (Entry b field) x y e = tt
+      keeps_names (Word b field) x y e = λ t l known is. (λ next. e, λ place l is. ap block_in e)
+
+      quiet : IsQuiet same standing.hash setting i w standing.chart (seen_by standing.blocks sight) m2 (λ w2 c2 blocks2. Unit {0}) stayed is_map map (length m.stored) known
+          shown.blocks.roles shown.blocks.once (λ t l seen. is_shown.tables.roles t l (is_sight.tables t l seen)) effects after
+      quiet = quiet_told same standing.hash setting i w standing.chart (seen_by standing.blocks sight) m2 (λ w2 c2 blocks2. Unit {0}) stayed is_map map (length m.stored) known
+          shown.blocks.roles shown.blocks.once (λ t l seen. is_shown.tables.roles t l (is_sight.tables t l seen)) told left (λ at x y e. keeps_names at x y (same_word at x y e))
+
+      module _ (w2 : World (Node K V)) (maps2 : ℕ → Option (Standing K)) (w_is : w2 ≡ w) (maps_same : (n : ℕ) → IsSameMap (s.maps n) (maps2 n)) where
+        same_map : (n : ℕ) (o : Option (Standing K)) → s.maps n ≡ o → IsSameMap o (maps2 n) → (st : Standing K) → maps2 n ≡ Some st → ShowsMap n (shown.number n) st v after
+        same_map n None e none st is = absurd (cc (none, is))
+        same_map n (Some before) e (blocks, sights, here, part) st is =
+            let alike = alike_same n m v (still_all (Some caller) map effects m quiet.still) in
+            let now = record before { blocks = blocks; sights = sights } in
+            subst (λ (x : Standing K). ShowsMap n (shown.number n) x v after) (one_of now st (sym here ∙ is))
+            (map_on n (shown.number n) before now m v known after (blocks_part before.chart before.blocks blocks part) quiet.keeps refl (tables_same before.chart) (pairs_same before.chart) alike (shown.maps n before e))
+
+        pub stayed_shown : (rest : Scene K V) → AtEachEffect (FindsMap map) (Some caller) (Some map) effects m × Shows v after (record rest { world = w2; maps = maps2 })
+        stayed_shown rest =
+            let same_so = still_all (Some caller) map effects m quiet.still in
+            let as_many = ap length same_so.stored in (
+              still_find map (Some caller) effects m quiet.still,
+              record {
+                blocks = subst (λ (x : World (Node K V)). ShowsBlocks v after x) (sym w_is) (record {
+                  roles = λ b. subst (λ (n : ℕ). HasRole w n b (after.roles b)) (sym as_many) (quiet.roles b);
+                  once = quiet.once;
+                  stored = quiet.stored ∙ shown.blocks.stored ∙ sym as_many;
+                });
+                number = shown.number;
+                maps = λ n st is. same_map n (s.maps n) refl (maps_same n) st is;
+              },
+            )
+
+module _ (K V S : Type 0) (same : K → K → Bool) (hash : K → ℕ) where
+  pub calls_are_shown : CallsAreShown K V S same hash
+  calls_are_shown m known s old new at shown map i u here told leads own caller stores =
+      by u here to.4.did own
+    where
+      to : (standing : Standing K) × (machine : Machine K V K) × (s.maps map ≡ Some standing) × StepsFrom same hash (machine_of u) old new machine told
+          × (did : MachineStepsAmong V same same old.batch_size old.roots slot_of s.world s.maps s.calls s.makers s.enders map standing i new.memory.memory u machine told)
+          × IsAt same hash new (scene_after same hash s old new map i standing u machine told did)
+      to = leads map u here
+
+      made : Operated s.world.memory new.memory.memory new.memory.changed
+      made = subst (λ (x : Mem (Node K V)). Operated x new.memory.memory new.memory.changed) (sym at.memory)
+          (operated old.memory.memory new.memory.memory new.memory.changed (machine_plan same same hash (machine_of u)) (to.1, told) (may_step same hash old s at map i u here) to.3)
+
+      Goal : Type 0
+      Goal = AtEachEffect (FindsMap map) (Some caller) (Some map) (effects_of (Call i map) known new.memory.changed) m
+          × Shows (with_effects (Some caller) (Some map) (effects_of (Call i map) known new.memory.changed) m) (known_after (Call i map) new.memory.changed known)
+          (scene_after same hash s old new map i to.0 u to.1 told to.4)
+
+      inside : IsInside (s.world.uses (slot_of i))
+      inside = (at.together.makings.standing.each map to.0 to.2).inside i u here
+
+      by : (x : UnderWay K V K) → s.calls map i ≡ Some x
+          → (did : Did same old.batch_size old.roots s.world s.maps s.calls s.makers s.enders map to.0 i new.memory.memory to.4.w2 to.4.maps2 to.4.next x to.1 told)
+          → IsOfNoRow same old.batch_size old.roots s.world s.maps s.calls s.makers s.enders map to.0 i new.memory.memory to.4.w2 to.4.maps2 to.4.next x to.1 told did → Goal
+      by (OnKey x) has (p2, end, machine_is, told_is, inl (step, moved)) own =
+          moved_shown same hash m known s old new at shown map i to.0 to.2 caller made inside _ step.step.went step.step.blocks2 step.step.grown step.step.sights2 stores to.4.w2 to.4.maps2 moved.0 moved.1
+          (scene_after same hash s old new map i to.0 u to.1 told to.4)
+      by (OnKey x) has (p2, end, machine_is, told_is, inr row) own = absurd own
+      by (ForRoom x) has (p2, end, machine_is, told_is, inl (step, moved)) own =
+          moved_shown same hash m known s old new at shown map i to.0 to.2 caller made inside _ step.step.went step.step.blocks2 step.step.grown step.step.sights2 stores to.4.w2 to.4.maps2 moved.0 moved.1
+          (scene_after same hash s old new map i to.0 u to.1 told to.4)
+      by (ForRoom x) has (p2, end, machine_is, told_is, inr row) own = absurd own
+      by (Counting x) has (p2, end, machine_is, told_is, still, stayed) own =
+          stayed_shown same hash m known s old new at shown map i to.0 to.2 caller made inside still to.4.w2 to.4.maps2 stayed.0 stayed.1
+          (scene_after same hash s old new map i to.0 u to.1 told to.4)
+      by (OverAll x) has (p2, end, machine_is, told_is, inl (step, moved)) own =
+          moved_shown same hash m known s old new at shown map i to.0 to.2 caller made inside _ step.step.went step.step.blocks2 step.step.grown step.step.sights2 stores to.4.w2 to.4.maps2 moved.0 moved.1
+          (scene_after same hash s old new map i to.0 u to.1 told to.4)
+      by (OverAll x) has (p2, end, machine_is, told_is, inr row) own = absurd own

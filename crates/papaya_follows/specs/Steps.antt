@@ -1,0 +1,99 @@
+-- Where a step of a call leads: the moment after its effects, and what is noted then, show the scene after it.
+use Rattle.std.specs.Prelude.{◌≡◌, ℕ, ◌<◌, Bool, false, List, [], ◌∷◌, Option, Some, None, ◌⊎◌}
+use Rattle.std.proofs.Common.{inl, inr}
+use Rattle.seize_words.specs.Mem.{Mem}
+use Rattle.seize.specs.World.{World}
+use Rattle.papaya_tables.specs.declared.node.Node.{Node}
+use Rattle.papaya_raw.specs.declared.machines.machine.Machine.{Machine}
+use Rattle.papaya_raw.specs.declared.machines.progress.Progress.{Progress}
+use Rattle.papaya_schedules.specs.declared.effect.Effect.{Effect}
+use Rattle.papaya_schedules.specs.declared.effect.Effect.TheVariants.{Stored, Deferred, Retired}
+use Rattle.papaya_schedules.specs.declared.effect.Thing.TheVariants.{APair, ATable}
+use Rattle.papaya_schedules.specs.Entry.{acting}
+use Rattle.papaya_schedules.specs.Effects.{new_pair, with_effects, AtEachEffect}
+use Rattle.papaya_schedules.specs.Moment.{UnderWay as CallThere, Moment}
+use Rattle.papaya_schedules.specs.Views.{is_in_a_map, first_of}
+use Rattle.papaya_teller.specs.declared.changed.Changed.{Changed}
+use Rattle.papaya_teller.specs.declared.changed.Changed.TheVariants as changed
+use Rattle.papaya_effects.specs.Effects.{effects_of, known_after}
+use Rattle.papaya_effects.specs.Known.{Known}
+use Rattle.papaya_effects.specs.declared.acting.Acting.TheVariants.{Call}
+use Rattle.papaya_callers.specs.Together.{UnderWay, OnKey, ForRoom, Counting, OverAll}
+use Rattle.papaya_finishes.specs.Endings.{Finishing}
+use Rattle.papaya_finishes.specs.Machines.{DidOfKind}
+use Rattle.papaya_finishes.specs.Makings.{Beginning}
+use Rattle.papaya_finishes.specs.Maps.{Standing}
+use Rattle.papaya_executor.specs.IsAt.{Scene, IsAt, slot_of}
+use Rattle.papaya_executor.specs.Stepping.{StepLeads, scene_after}
+use Rattle.papaya_executor.specs.declared.executor.Executor.{Executor}
+use Rattle.papaya_follows.specs.Finds.{FindsMap}
+use Rattle.papaya_follows.specs.Shows.{Shows}
+
+module _ {K V : Type 0} where
+  -- what is stored the call has to store
+  abbrev pub HasPair : Option (CallThere K V) → Effect → Type 0
+  HasPair (Some c) (Stored n s) = (pair : K × V) × (new_pair c.call c n ≡ pair ∷ [])
+  HasPair None (Stored n s) = ⊥
+  HasPair _ _ = Unit {0}
+
+  -- each pair that these effects of a call store is one that it has to store
+  abbrev pub StoreTheirs : List ℕ → ℕ → List Effect → Moment K V → Type 0
+  StoreTheirs caller map effects m = AtEachEffect (λ v f. HasPair (acting (Some caller) v) f) (Some caller) (Some map) effects m
+
+  -- what is handed over has left its map: a pair, or a table that the root has passed
+  abbrev pub HasLeft : Moment K V → Effect → Type 0
+  HasLeft m (Deferred n t) = is_in_a_map (m.place n) ≡ false
+  HasLeft m (Retired (APair n)) = is_in_a_map (m.place n) ≡ false
+  HasLeft m (Retired (ATable t)) = t.turn < first_of t.map m
+  HasLeft m _ = Unit {0}
+
+  abbrev pub HandTheirs : List ℕ → ℕ → List Effect → Moment K V → Type 0
+  HandTheirs caller map effects m = AtEachEffect HasLeft (Some caller) (Some map) effects m
+
+-- no block was taken away
+abbrev pub TakesNone : Changed → Type 0
+TakesNone (changed.Took b) = ⊥
+TakesNone _ = Unit {0}
+
+-- the first of two
+abbrev pub IsFirst : {A B : Type 0} → A ⊎ B → Type 0
+IsFirst (inl a) = Unit {0}
+IsFirst (inr b) = ⊥
+
+module _ {K V : Type 0} (same : K → K → Bool) (batch_size roots : ℕ) (w : World (Node K V)) (maps : ℕ → Option (Standing K)) (calls : ℕ → ℕ → Option (UnderWay K V K))
+    (makers : ℕ → Option (Beginning K)) (enders : ℕ → Option (Finishing K V)) (m : ℕ) (s : Standing K) (i : ℕ) (m2 : Mem (Node K V)) (w2 : World (Node K V))
+    (maps2 : ℕ → Option (Standing K)) (next : Option (UnderWay K V K)) where
+  abbrev pub Did : UnderWay K V K → Machine K V K → Progress (Node K V) → Type 0
+  Did u machine told = DidOfKind V same same batch_size roots slot_of w maps calls makers enders m s i m2 w2 maps2 next u machine told
+
+  -- the step was none of a row of the collector
+  abbrev pub IsOfNoRow : (u : UnderWay K V K) (machine : Machine K V K) (told : Progress (Node K V)) → Did u machine told → Type 0
+  IsOfNoRow (OnKey u) machine told did = IsFirst did.4
+  IsOfNoRow (ForRoom r) machine told did = IsFirst did.4
+  IsOfNoRow (Counting sum) machine told did = Unit {0}
+  IsOfNoRow (OverAll o) machine told did = IsFirst did.4
+
+module _ (K V S : Type 0) (same : K → K → Bool) (hash : K → ℕ) where
+  -- The promise, of a step of a call that is none of a row: where it stores no pair but such as the call has to store, its effects find the map as they
+  -- must, and lead to a moment that shows the scene after it, with what is known after it.
+  abbrev pub CallsAreShown : Type 0
+  CallsAreShown =
+      (m : Moment K V) (known : Known) (s : Scene K V) (old new : Executor K V S) → IsAt same hash old s → Shows m known s
+      → (map i : ℕ) (u : UnderWay K V K) (here : s.calls map i ≡ Some u) (told : Progress (Node K V)) (leads : StepLeads same hash i told s old new)
+      → (let to = leads map u here in
+      IsOfNoRow same old.batch_size old.roots s.world s.maps s.calls s.makers s.enders map to.0 i new.memory.memory to.4.w2 to.4.maps2 to.4.next u to.1 told to.4.did
+      → (caller : List ℕ) → StoreTheirs caller map (effects_of (Call i map) known new.memory.changed) m
+      → AtEachEffect (FindsMap map) (Some caller) (Some map) (effects_of (Call i map) known new.memory.changed) m
+      × Shows (with_effects (Some caller) (Some map) (effects_of (Call i map) known new.memory.changed) m) (known_after (Call i map) new.memory.changed known)
+      (scene_after same hash s old new map i to.0 u to.1 told to.4))
+
+  -- The promise, of a step of a row within a call: where it takes no block away, and hands over what has left its map alone, it is the same.
+  abbrev pub RowsAreShown : Type 0
+  RowsAreShown =
+      (m : Moment K V) (known : Known) (s : Scene K V) (old new : Executor K V S) → IsAt same hash old s → Shows m known s
+      → (map i : ℕ) (u : UnderWay K V K) (here : s.calls map i ≡ Some u) (told : Progress (Node K V)) (leads : StepLeads same hash i told s old new)
+      → (let to = leads map u here in
+      (IsOfNoRow same old.batch_size old.roots s.world s.maps s.calls s.makers s.enders map to.0 i new.memory.memory to.4.w2 to.4.maps2 to.4.next u to.1 told to.4.did → ⊥)
+      → (caller : List ℕ) → TakesNone new.memory.changed → HandTheirs caller map (effects_of (Call i map) known new.memory.changed) m
+      → Shows (with_effects (Some caller) (Some map) (effects_of (Call i map) known new.memory.changed) m) (known_after (Call i map) new.memory.changed known)
+      (scene_after same hash s old new map i to.0 u to.1 told to.4))
