@@ -12,7 +12,7 @@ use papaya_raw::machines::{Machine, NewMap};
 use std::alloc::AllocError;
 
 /// So many callers there can be. For each further one there is no memory.
-const MOST_CALLERS: usize = 1 << 32;
+pub(crate) const MOST_CALLERS: usize = 1 << 32;
 
 impl<K: Drop, V: Drop, S> Executor<K, V, S> {
     /// Begins a call on the map of this number, for a caller in this slot, and answers with the number of the caller. On an error nothing has changed, and

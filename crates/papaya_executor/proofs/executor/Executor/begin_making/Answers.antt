@@ -16,4 +16,4 @@ returns-clause-leads g c = λ same hash s at.
     ∙ ap (λ x. c.args.self.now.workers.items ++ Some (record { slot = c.args.slot; work = work.Making x c.new-opening.result }) ∷ []) number
     ∙ ap (λ x. c.args.self.now.workers.items ++ Some (record { slot = c.args.slot; work = work.Making (length c.args.self.now.maps.items) x }) ∷ []) c.new-opening.ensures in
     subst (λ (n : ℕ). MakingBegins same hash c.args.given c.args.places (n * SLOTS + c.args.slot) s c.args.self.now new) (sym count)
-    (making_begins same hash c.args.self.now s at c.args.slot c.requires c.args.given c.args.places new refl items refl refl refl c.in_ok-push.ensures.items)
+    (making_begins same hash c.args.self.now s at c.args.slot c.requires c.args.given c.args.places new refl items refl refl refl refl c.in_ok-push.ensures.items)
