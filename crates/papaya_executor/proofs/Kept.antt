@@ -1,10 +1,13 @@
 -- An executor that holds what it held is there still.
-use Rattle.std.specs.Prelude.{◌≡◌, ◌≤◌, ℕ, Bool, length, Option, None, slice_index_or}
+use Rattle.std.specs.Prelude.{◌≡◌, ◌≤◌, ℕ, Bool, [], ◌∷◌, ◌++◌, length, Option, None, slice_index_or, Result, Ok, Err, IfErr}
 use Rattle.std.proofs.Common.{sym, ap, subst, ◌∙◌, arith}
+use Rattle.std.proofs.lemmas.List.{length-append}
 use Rattle.papaya_finishes.specs.Endings.{EndingsTogether}
 use Rattle.papaya_executor.specs.declared.executor.Executor.{Executor}
 use Rattle.papaya_executor.specs.declared.row.SlotUse.TheVariants as used
 use Rattle.papaya_executor.specs.declared.worker.Work.{Work}
+use Rattle.papaya_executor.specs.Beginning.{IsRefused}
+use Rattle.papaya_executor.proofs.Places.{one_number}
 use Rattle.papaya_executor.specs.IsAt.{Scene, IsAt, HasRow, IsUsedAs, place_of, slot_of, in_slot, call_in, making_in, ending_in, work_of}
 
 module _ {K V S : Type 0} (same : K → K → Bool) (hash : K → ℕ) (e : Executor K V S) (s : Scene K V) (at : IsAt same hash e s) (e2 : Executor K V S) (memory : e2.memory ≡ e.memory)
@@ -31,3 +34,20 @@ module _ {K V S : Type 0} (same : K → K → Bool) (hash : K → ℕ) (e : Exec
     slots = ap length slots ∙ at.slots;
     uses = λ t. subst (λ xs. IsUsedAs (slice_index_or xs t used.Vacant) (s.world.uses t)) (sym slots) (at.uses t);
   }
+
+-- And so it is where a beginning was refused: no place was taken.
+module _ {K V S : Type 0} (e e2 : Executor K V S) (memory : e2.memory ≡ e.memory)
+    (workers : e2.workers.items ≡ e.workers.items) (batch_size : e2.batch_size ≡ e.batch_size) (roots : e2.roots ≡ e.roots) (slots : e2.slots.items ≡ e.slots.items) where
+  pub refused_so : e2.maps.items ≡ e.maps.items → IsRefused e e2
+  refused_so maps same hash s at = kept_at same hash e s at e2 memory workers batch_size roots slots (λ m. ap (λ xs. slice_index_or xs m None) maps) (omega (arith, ap length maps))
+
+  -- with a number that is no map's
+  pub refused_with : e2.maps.items ≡ e.maps.items ++ None ∷ [] → IsRefused e e2
+  refused_with maps same hash s at =
+      kept_at same hash e s at e2 memory workers batch_size roots slots
+      (λ m. ap (λ xs. slice_index_or xs m None) maps ∙ one_number e.maps.items m) (omega (arith, ap length maps, length-append e.maps.items (None ∷ [])))
+
+-- what is so anyhow is so where it was refused
+pub if_refused : {T E : Type 0} (r : Result T E) {P : E → Type 0} → ((y : E) → P y) → IfErr r P
+if_refused (Ok x) all = tt
+if_refused (Err y) all = all y

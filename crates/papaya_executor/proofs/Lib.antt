@@ -19,3 +19,4 @@ pub mod RowsGo
 pub mod Steps
 pub mod Taken
 pub mod Uses
+pub mod Vacated

@@ -1,9 +1,7 @@
 -- The beginning of the making of a map: the executor is there again.
-use Rattle.std.specs.Prelude.{◌≡◌, ◌<◌, ◌≤◌, ◌+◌, ◌-◌, ◌⊎◌, ℕ, zero, suc, Bool, List, [], ◌∷◌, ◌++◌, length, Option, Some, None, option_map, slice_index_or}
-use Rattle.std.proofs.Common.{refl, sym, ap, ◌∙◌, inl, inr, arith}
-use Rattle.std.proofs.lemmas.Bool.{cases_lt}
-use Rattle.std.proofs.lemmas.List.{get_or_past, get_or_append_left, length-append}
-use Rattle.std.proofs.Math.Seq.{get_or-append_right}
+use Rattle.std.specs.Prelude.{◌≡◌, ◌<◌, ◌+◌, ℕ, Bool, [], ◌∷◌, ◌++◌, length, Option, Some, None, option_map, slice_index_or}
+use Rattle.std.proofs.Common.{refl, sym, ap, ◌∙◌, arith}
+use Rattle.std.proofs.lemmas.List.{get_or_past, length-append}
 use Rattle.papaya_tables.specs.declared.setting.Setting.{Setting}
 use Rattle.papaya_callers.proofs.Together.Slots.{alike_same}
 use Rattle.papaya_finishes.specs.Makings.{Beginning}
@@ -16,15 +14,7 @@ use Rattle.papaya_executor.specs.IsAt.{Scene, IsAt, slot_of}
 use Rattle.papaya_executor.specs.MakingBegins.{next_making, MakingBegins}
 use Rattle.papaya_executor.proofs.Fresh.{caller_in, fresh_before, fresh_changes, no_calls_yet, no_making_yet, no_ending_yet, resting}
 use Rattle.papaya_executor.proofs.Made.{made_at}
-use Rattle.papaya_executor.proofs.Places.{none_of}
-
--- a place for one more setting
-abbrev one_place : List (Option Setting)
-one_place = None ∷ []
-
-nothing : (k : ℕ) → slice_index_or one_place k None ≡ None
-nothing zero = refl
-nothing (suc k) = refl
+use Rattle.papaya_executor.proofs.Places.{none_of, one_number}
 
 module _ {K V S : Type 0} (same : K → K → Bool) (hash : K → ℕ) (e : Executor K V S) (s : Scene K V) (at : IsAt same hash e s) (slot : ℕ) (fits : slot < SLOTS) (given : Setting) (places : ℕ)
     (e2 : Executor K V S) (memory : e2.memory ≡ e.memory)
@@ -41,11 +31,7 @@ module _ {K V S : Type 0} (same : K → K → Bool) (hash : K → ℕ) (e : Exec
   count = ap length maps ∙ length-append e.maps.items _
 
   settings : (m : ℕ) → option_map (λ standing. standing.setting) (s.maps m) ≡ slice_index_or e2.maps.items m None
-  settings m = at.maps m ∙ sym (ap (λ xs. slice_index_or xs m None) maps ∙ by (cases_lt m (length e.maps.items)))
-    where
-      by : (m < length e.maps.items) ⊎ (length e.maps.items ≤ m) → slice_index_or (e.maps.items ++ None ∷ []) m None ≡ slice_index_or e.maps.items m None
-      by (inl l) = get_or_append_left e.maps.items _ None m l
-      by (inr past) = get_or-append_right e.maps.items one_place m None past ∙ nothing (m - length e.maps.items) ∙ sym (get_or_past e.maps.items m None past)
+  settings m = at.maps m ∙ sym (ap (λ xs. slice_index_or xs m None) maps ∙ one_number e.maps.items m)
 
   abbrev mid : Executor K V S
   mid = record e2 { maps = e.maps }

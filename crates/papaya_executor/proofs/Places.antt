@@ -1,8 +1,9 @@
 -- Callers by their numbers, and who is at their places.
-use Rattle.std.specs.Prelude.{◌≡◌, ◌≢◌, ◌<◌, ◌≤◌, ◌⊎◌, ℕ, ◌==◌, Bool, true, false, List, length, Option, Some, None, option_map, slice_index_or, if◌then◌else◌}
+use Rattle.std.specs.Prelude.{zero, suc, ◌-◌, ◌++◌, ◌∷◌, [], ◌≡◌, ◌≢◌, ◌<◌, ◌≤◌, ◌⊎◌, ℕ, ◌==◌, Bool, true, false, List, length, Option, Some, None, option_map, slice_index_or, if◌then◌else◌}
 use Rattle.std.proofs.Common.{refl, sym, ap, ◌∙◌, inl, inr, arith}
 use Rattle.std.proofs.lemmas.Bool.{cases_lt, eq-eqb, ne_eqb}
-use Rattle.std.proofs.lemmas.List.{get_or_past}
+use Rattle.std.proofs.lemmas.List.{get_or_past, get_or_append_left}
+use Rattle.std.proofs.Math.Seq.{get_or-append_right}
 use Rattle.papaya_resize.specs.declared.new_map.NewMap.{NewMap}
 use Rattle.papaya_raw.specs.declared.machines.end_map.EndMap.{EndMap}
 use Rattle.papaya_raw.specs.declared.machines.machine.Machine.{Machine}
@@ -15,6 +16,18 @@ use Rattle.papaya_executor.specs.IsAt.{place_of, slot_of, in_slot, call_in, maki
 pub none_of : {X Y : Type 0} (f : X → Y) (it : Option X) → option_map f it ≡ None → it ≡ None
 none_of f None is = refl
 none_of f (Some x) is = absurd (cc is)
+
+-- a list has no more in it with a place for one more
+nothing : {X : Type 0} (k : ℕ) → slice_index_or {A = Option X} (None ∷ []) k None ≡ None
+nothing zero = refl
+nothing (suc k) = refl
+
+pub one_number : {X : Type 0} (xs : List (Option X)) (m : ℕ) → slice_index_or (xs ++ None ∷ []) m None ≡ slice_index_or xs m None
+one_number xs m = by (cases_lt m (length xs))
+  where
+    by : (m < length xs) ⊎ (length xs ≤ m) → slice_index_or (xs ++ None ∷ []) m None ≡ slice_index_or xs m None
+    by (inl l) = get_or_append_left xs _ None m l
+    by (inr past) = get_or-append_right xs (None ∷ []) m None past ∙ nothing (m - length xs) ∙ sym (get_or_past xs m None past)
 
 -- a number is told by place and slot
 pub same_caller : (i j : ℕ) → place_of j ≡ place_of i → slot_of j ≡ slot_of i → j ≡ i

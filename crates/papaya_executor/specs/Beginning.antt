@@ -1,5 +1,6 @@
 -- What it leads to that a caller begins a call.
-use Rattle.std.specs.Prelude.{◌≡◌, ℕ, Bool, Some}
+use Rattle.std.specs.Prelude.{◌≡◌, ◌≤◌, ◌^◌, ◌⊎◌, ℕ, Bool, length, Some}
+use Rattle.std.specs.Vec.{vec_capacity, vec_len}
 use Rattle.papaya_resize.specs.Sum.{summing}
 use Rattle.papaya_reserves.specs.Reserve.{reserving}
 use Rattle.papaya_sweeps.specs.declared.sweep.Purpose.{Purpose}
@@ -20,6 +21,19 @@ module _ {K V : Type 0} (same : K → K → Bool) where
   Begins s i (ForRoom r) = (additional : ℕ) × (r ≡ record { began = s.chart.now; reserve = reserving (in_slot s.setting (slot_of i)) additional })
   Begins s i (Counting sum) = sum ≡ summing (in_slot s.setting (slot_of i))
   Begins s i (OverAll o) = (purpose : Purpose) × (o ≡ begun_over_all s.chart.now (in_slot s.setting (slot_of i)) purpose)
+
+module _ {K V S : Type 0} where
+  -- Where a beginning is refused the executor is there as it was.
+  abbrev pub IsRefused : Executor K V S → Executor K V S → Type 0
+  IsRefused old new = (same : K → K → Bool) (hash : K → ℕ) (s : Scene K V) → IsAt same hash old s → IsAt same hash new s
+
+  -- It is refused where there are as many callers as there can be, or no more room for one without asking for memory,
+  abbrev pub HasNoPlace : Executor K V S → Type 0
+  HasNoPlace e = (2 ^ 32 ≤ length e.workers.items) ⊎ (vec_capacity e.workers ≤ vec_len e.workers)
+
+  -- or, if a map is to be made, for its setting.
+  abbrev pub HasNoNumber : Executor K V S → Type 0
+  HasNoNumber e = HasNoPlace e ⊎ (vec_capacity e.maps ≤ vec_len e.maps)
 
 module _ {K V S : Type 0} (same : K → K → Bool) (hash : K → ℕ) where
   -- A call that begins so, while its slot is entered, on a map that stands, is under way, and nothing else has changed: the executor is there.

@@ -1,7 +1,7 @@
 //! The beginning of a call, and of the making of a map.
-ghost use Rattle.std.specs.Prelude.{◌≡◌, ◌<◌, ◌+◌, ◌*◌, ℕ, Bool, length, IfOk};
+ghost use Rattle.std.specs.Prelude.{◌≡◌, ◌<◌, ◌+◌, ◌*◌, ℕ, Bool, length, IfOk, IfErr, OnErr};
 ghost use Rattle.papaya_executor.specs.IsAt.{Scene, IsAt};
-ghost use Rattle.papaya_executor.specs.Beginning.{BeginLeads};
+ghost use Rattle.papaya_executor.specs.Beginning.{BeginLeads, IsRefused, HasNoPlace, HasNoNumber};
 ghost use Rattle.papaya_executor.specs.MakingBegins.{MakingBegins};
 ghost use Rattle.papaya_executor.specs.declared.worker.TheConstants.{SLOTS};
 
@@ -21,6 +21,8 @@ impl<K: Drop, V: Drop, S> Executor<K, V, S> {
         requires { slot < SLOTS }
         ensures number { IfOk result (λ caller. caller ≡ length self.old.workers.items * SLOTS + slot) }
         ensures leads { IfOk result (λ caller. (same : K → K → Bool) (hash : K → ℕ) (s : Scene K V) → IsAt same hash self.old s → BeginLeads same hash map machine caller s self.old self.new) }
+        ensures refused { IfErr result (λ error. IsRefused self.old self.new) }
+        ensures only { OnErr result (HasNoPlace self.old) }
     {
         let place = self.workers.len();
         if place >= MOST_CALLERS {
@@ -42,6 +44,8 @@ impl<K: Drop, V: Drop, S> Executor<K, V, S> {
         requires { slot < SLOTS }
         ensures number { IfOk result (λ caller. caller ≡ length self.old.workers.items * SLOTS + slot) }
         ensures leads { IfOk result (λ caller. (same : K → K → Bool) (hash : K → ℕ) (s : Scene K V) → IsAt same hash self.old s → MakingBegins same hash given places caller s self.old self.new) }
+        ensures refused { IfErr result (λ error. IsRefused self.old self.new) }
+        ensures only { OnErr result (HasNoNumber self.old) }
     {
         let place = self.workers.len();
         if place >= MOST_CALLERS {

@@ -1,7 +1,8 @@
 //! The beginning of the end of a map, and a step of it.
-ghost use Rattle.std.specs.Prelude.{◌≡◌, ◌<◌, ◌+◌, ◌*◌, ℕ, Bool, length, slice_index_or, slice_set, Some, None, IfOk};
+ghost use Rattle.std.specs.Prelude.{◌≡◌, ◌<◌, ◌+◌, ◌*◌, ℕ, Bool, length, slice_index_or, slice_set, Some, None, IfOk, IfErr, OnErr};
 ghost use Rattle.papaya_tables.specs.declared.setting.Setting.{Setting};
 ghost use Rattle.papaya_executor.specs.IsAt.{Scene, IsAt, IsEnding, worker_of};
+ghost use Rattle.papaya_executor.specs.Beginning.{IsRefused, HasNoPlace};
 ghost use Rattle.papaya_executor.specs.Ending.{ending_on, EndingBegins, EndingLeads};
 ghost use Rattle.papaya_executor.specs.declared.worker.TheConstants.{SLOTS};
 
@@ -55,6 +56,8 @@ impl<K: Drop, V: Drop, S> Executor<K, V, S> {
         requires stands { (setting : Setting) × (slice_index_or self.old.maps.items map None ≡ Some setting) }
         ensures number { IfOk result (λ caller. caller ≡ length self.old.workers.items * SLOTS + slot) }
         ensures leads { IfOk result (λ caller. (same : K → K → Bool) (hash : K → ℕ) (s : Scene K V) → IsAt same hash self.old s → EndingBegins same hash map caller s self.old self.new) }
+        ensures refused { IfErr result (λ error. IsRefused self.old self.new) }
+        ensures only { OnErr result (HasNoPlace self.old) }
     {
         let place = self.workers.len();
         if place >= MOST_CALLERS {

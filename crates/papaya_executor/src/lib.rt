@@ -10,5 +10,6 @@ pub mod replying;
 pub mod row;
 pub mod stepping;
 mod taking;
-mod telling;
+pub mod telling;
+pub mod vacating;
 pub mod worker;

@@ -1,7 +1,8 @@
 //! A row on a slot begins, and takes its steps.
-ghost use Rattle.std.specs.Prelude.{◌≡◌, ◌<◌, ◌+◌, ◌*◌, ℕ, Bool, length, slice_set, Some, IfOk};
+ghost use Rattle.std.specs.Prelude.{◌≡◌, ◌<◌, ◌+◌, ◌*◌, ℕ, Bool, length, slice_set, Some, IfOk, IfErr, OnErr};
 ghost use Rattle.seize.specs.World.{MayStep, Registers, Enters, Settles, Leaves, Frees};
 ghost use Rattle.papaya_tables.specs.Nodes.{deferred_word};
+ghost use Rattle.papaya_executor.specs.Beginning.{IsRefused, HasNoPlace};
 ghost use Rattle.papaya_executor.specs.IsAt.{Scene, IsAt, row_of, work_of, worker_of};
 ghost use Rattle.papaya_executor.specs.OnSlots.{row_on, RowSteps, RowBegins, RowLeads};
 ghost use Rattle.papaya_executor.specs.Rows.{uses_begun, uses_after};
@@ -118,7 +119,7 @@ fn going_on<K, V>(slot: u64, row: SlotRow, told: &RowTold<Node<K, V>>) -> Option
 }
 
 /// Notes how a slot is used.
-fn use_as(slots: &mut Vec<SlotUse>, slot: u64, used: SlotUse)
+pub(crate) fn use_as(slots: &mut Vec<SlotUse>, slot: u64, used: SlotUse)
     ensures { slots.new.items ≡ slice_set slots.old.items slot used }
 {
     if (slot as usize) < slots.len() {
@@ -158,6 +159,8 @@ impl<K: Drop, V: Drop, S> Executor<K, V, S> {
         requires { slot < SLOTS }
         ensures number { IfOk result (λ caller. caller ≡ length self.old.workers.items * SLOTS + slot) }
         ensures leads { IfOk result (λ caller. (same : K → K → Bool) (hash : K → ℕ) (s : Scene K V) → IsAt same hash self.old s → RowBegins same hash called caller s self.old self.new) }
+        ensures refused { IfErr result (λ error. IsRefused self.old self.new) }
+        ensures only { OnErr result (HasNoPlace self.old) }
     {
         let place = self.workers.len();
         if place >= MOST_CALLERS {
