@@ -8,6 +8,7 @@ pub mod Stand
 pub mod Replies
 pub mod Rows
 pub mod RowSteps
+pub mod Slots
 pub mod RowsOfCopiers
 pub mod FactsOn
 pub mod At

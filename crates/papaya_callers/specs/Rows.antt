@@ -1,8 +1,8 @@
 -- The rows of the collector within a call on one key: it retires or defers a pair that it has taken out, or retires a table.
 use Rattle.papaya_resize.specs.CopierPromotes.{table_retired}
 use Rattle.papaya_resize.specs.declared.copier.Copier.{Copier}
-use Rattle.std.specs.Prelude.{ℕ}
-use Rattle.seize.specs.World.{Row, Rests, Settles, Defers}
+use Rattle.std.specs.Prelude.{◌≡◌, ℕ}
+use Rattle.seize.specs.World.{World, Row, Rests, Registers, Enters, Settles, Leaves, Defers, Frees, Use, Vacant, Outside, Inside, Changing}
 use Rattle.papaya_raw.specs.declared.machines.call.KeyCall.{KeyCall}
 use Rattle.papaya_raw.specs.declared.machines.call.Calling.{Calling}
 use Rattle.papaya_raw.specs.declared.machines.call.Calling.TheVariants as at
@@ -43,3 +43,25 @@ past_row stands = stands
 
 abbrev pub once_over : {K V Q : Type 0} → KeyCall K V Q → KeyCall K V Q
 once_over p = record p { stands = past_row p.stands }
+
+-- the row works on this slot, or none is under way, or one that seeks a slot
+abbrev pub IsRowOn : ℕ → Row → Type 0
+IsRowOn s Rests = Unit {0}
+IsRowOn s (Registers c) = Unit {0}
+IsRowOn s (Enters c) = c.slot ≡ s
+IsRowOn s (Settles c) = c.slot ≡ s
+IsRowOn s (Leaves c) = c.slot ≡ s
+IsRowOn s (Defers t c) = t ≡ s
+IsRowOn s (Frees c) = c.slot ≡ s
+
+-- a slot is used as it was, however many rows work on it
+abbrev pub IsUsedAlike : Use → Use → Type 0
+IsUsedAlike Vacant after = after ≡ Vacant
+IsUsedAlike (Outside n) after = (k : ℕ) × (after ≡ Outside k)
+IsUsedAlike (Inside n) after = (k : ℕ) × (after ≡ Inside k)
+IsUsedAlike Changing after = after ≡ Changing
+
+-- What a step of a call leaves of slots: each is used as it was, and a row of the caller's that works on this one does so on.
+pub record LeavesSlots {T : Type 0} (s i : ℕ) (w w2 : World T) : Type 0 where
+  pub uses : (t : ℕ) → IsUsedAlike (w.uses t) (w2.uses t)
+  pub on_slot : IsRowOn s (w.row i) → IsRowOn s (w2.row i)

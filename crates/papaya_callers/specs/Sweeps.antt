@@ -24,6 +24,7 @@ use Rattle.papaya_late.specs.CoversSweeps.{DoneAt}
 use Rattle.papaya_late.specs.ToldSweeps.{IsRowOfSweep, word_told, SweepTold}
 use Rattle.papaya_callers.specs.Claims.{AreFew}
 use Rattle.papaya_callers.specs.OverAll.{CallOverAll, begun_over_all, gone_on, come_to, told_of, RemovesTold}
+use Rattle.papaya_callers.specs.Rows.{LeavesSlots}
 use Rattle.papaya_callers.specs.Sights.{Sight, IsGrown, seen_by}
 use Rattle.papaya_callers.specs.Together.{UnderWay, OverAll, HasCall, in_slot, next_over_all, IsOneStep, IsReclaimed, Together}
 
@@ -76,6 +77,8 @@ module _ {K Q : Type 0} (V : Type 0) (same : K → K → Bool) (hash : K → ℕ
       pub silent : word_told end ≡ None
       pub comes : end ≡ swept.Done → Came c o.entered o.sweep.purpose o.done
       pub gives : (value : Node K V) → end ≡ swept.Gave value → IsReclaimed w w2 value
+      pub rests : next_over_all {K = K} {V = V} {Q = Q} (gone_on o p2) end ≡ None → w2.row i ≡ Rests
+      pub slots : LeavesSlots (slot i) i w w2
 
   -- The promise: whichever caller takes a step of its sweep that is none of a row of the collector, it may take it, and all stand together again.
   abbrev pub SweepsStandTogether : Type 0

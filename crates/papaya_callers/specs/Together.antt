@@ -39,7 +39,7 @@ use Rattle.papaya_late.specs.Kinds.{FaultFits}
 use Rattle.papaya_late.specs.Kinds as kinds
 use Rattle.papaya_callers.specs.Kind.{gets, removes, inserts, tries_to_insert, computes, updates, updates_or_inserts, tries_to_insert_with, removes_if}
 use Rattle.papaya_callers.specs.Pairs.{Given, Begun, IsTold, kind_of, and_told, AsksFirst, HandsBack, RemovesNone, StoresGiven, LeavesGiven, KeepsGiven}
-use Rattle.papaya_callers.specs.Rows.{row_of, once_over}
+use Rattle.papaya_callers.specs.Rows.{row_of, once_over, LeavesSlots}
 use Rattle.papaya_callers.specs.Rooms.{CallForRoom, row_of_room, room_once_over, RoomClaims}
 use Rattle.papaya_callers.specs.OverAll.{CallOverAll, row_of_sweep, sweep_once_over, SweepClaims, TriesTold}
 use Rattle.papaya_sweeps.specs.declared.sweep.Sweep.{Sweep}
@@ -347,6 +347,9 @@ module _ {K Q : Type 0} (V : Type 0) (same : K → K → Bool) (hash : K → ℕ
     pub refuses : (fault : Fault) → progress ≡ called.Refused fault → RefusesOnce c (seen_by blocks (sights (slot i))) u u.change fault
     pub hands : (value : Node K V) → progress ≡ called.Unstored value → HandsBack u.pair value
     pub gives : (value : Node K V) → progress ≡ called.Gave value → IsReclaimed w w2 value
+    -- once the call has ended it has no row under way
+    pub rests : next_of {K = K} {V = V} {Q = Q} (record { keys = u.keys; pair = u.pair; began = u.began; change = u.change; call = p2 }) progress ≡ None → w2.row i ≡ Rests
+    pub slots : LeavesSlots (slot i) i w w2
 
   -- The promise of the steps of rows within calls.
   abbrev pub RowsStandTogether : Type 0
@@ -444,6 +447,8 @@ module _ {K Q : Type 0} (V : Type 0) (same : K → K → Bool) (hash : K → ℕ
     pub happened : IsOneStep setting i w w2
     pub together : Together w2 c blocks sights (with_at calls i (next_for_room (record { began = r.began; reserve = p2 }) end))
     pub gives : (value : Node K V) → end ≡ outcome.Gave value → IsReclaimed w w2 value
+    pub rests : next_for_room {K = K} {V = V} {Q = Q} (record { began = r.began; reserve = p2 }) end ≡ None → w2.row i ≡ Rests
+    pub slots : LeavesSlots (slot i) i w w2
 
   -- The promise of the steps of rows within reservations.
   abbrev pub RoomRowsStandTogether : Type 0

@@ -3,6 +3,7 @@ use Rattle.std.specs.Prelude.{◌≡◌, ◌<◌, ◌^◌, ℕ, Bool, [], ◌∷
 use Rattle.std.proofs.Common.{refl, sym, ap, subst, ◌∙◌}
 use Rattle.seize.specs.World.{IsInside}
 use Rattle.papaya_raw.specs.declared.machines.machine.Machine.{Machine}
+use Rattle.papaya_callers.proofs.Together.Slots.{alike_same}
 use Rattle.papaya_callers.specs.Together.{UnderWay, OnKey, ForRoom, Counting, OverAll}
 use Rattle.papaya_finishes.specs.Endings.{EndingsTogether}
 use Rattle.papaya_finishes.specs.Maps.{Standing, with_call}
@@ -14,7 +15,9 @@ use Rattle.papaya_executor.specs.declared.executor.Executor.{Executor}
 use Rattle.papaya_executor.specs.declared.worker.TheConstants.{SLOTS}
 use Rattle.papaya_executor.specs.declared.worker.Work.TheVariants as work
 use Rattle.papaya_executor.specs.Beginning.{Begins, BeginLeads}
-use Rattle.papaya_executor.specs.IsAt.{Scene, IsAt, ChangesAt, place_of, slot_of, worker_with}
+use Rattle.papaya_executor.specs.declared.row.SlotUse.{SlotUse}
+use Rattle.papaya_executor.specs.declared.row.SlotUse.TheVariants as used
+use Rattle.papaya_executor.specs.IsAt.{Scene, IsAt, ChangesAt, IsUsedAs, place_of, slot_of, worker_with, use_at}
 use Rattle.papaya_executor.proofs.Changed.{is_at_on}
 use Rattle.papaya_executor.proofs.Few.{are_few}
 use Rattle.papaya_executor.proofs.Fresh.{caller_in, fresh_place, fresh_before, fresh_changes, no_calls_yet, no_making_yet, no_ending_yet, resting}
@@ -22,7 +25,7 @@ use Rattle.papaya_executor.proofs.Fresh.{caller_in, fresh_place, fresh_before, f
 module _ {K V S : Type 0} (same : K → K → Bool) (hash : K → ℕ) (e : Executor K V S) (s : Scene K V) (at : IsAt same hash e s) (slot m : ℕ) (machine : Machine K V K)
     (fits : slot < SLOTS) (few : length e.workers.items < 2 ^ 32) (e2 : Executor K V S) (memory : e2.memory ≡ e.memory)
     (items : e2.workers.items ≡ e.workers.items ++ Some (record { slot = slot; work = work.Call m machine }) ∷ []) (hasher : e2.hasher ≡ e.hasher)
-    (batch_size : e2.batch_size ≡ e.batch_size) (roots : e2.roots ≡ e.roots) (maps : e2.maps.items ≡ e.maps.items) where
+    (batch_size : e2.batch_size ≡ e.batch_size) (roots : e2.roots ≡ e.roots) (maps : e2.maps.items ≡ e.maps.items) (slots : e2.slots.items ≡ e.slots.items) where
   abbrev caller : ℕ
   caller = caller_in e slot
 
@@ -58,10 +61,16 @@ module _ {K V S : Type 0} (same : K → K → Bool) (hash : K → ℕ) (e : Exec
         (sweeps_begin_among V same same e.batch_size e.roots slot_of s.world s.maps s.calls s.makers s.enders at.together caller no_maker no_ender no_calls
         (resting same hash e s at slot fits) inside m standing stands (λ blocking. are_few same hash e s at m caller place_is few) purpose)
 
+  -- somebody is inside of a slot that is entered
+  entered : use_at e (slot_of caller) ≡ used.Inside → IsInside (s.world.uses (slot_of caller))
+  entered v =
+      let is = subst (λ (x : SlotUse). IsUsedAs x (s.world.uses (slot_of caller))) v (at.uses (slot_of caller)) in
+      subst IsInside (sym is.1) tt
+
   pub begin_leads : BeginLeads same hash m machine caller s e e2
   begin_leads standing stands inside u as_machine begins = (
     memory,
     is_at_on same hash e s at m caller None (fresh_before e slot fits) e2 (Some u)
-        (subst (λ (x : Machine K V K). ChangesAt (place_of caller) (worker_with (slot_of caller) m (Some x)) e e2) (sym as_machine) (fresh_changes e slot fits (work.Call m machine) e2 items hasher batch_size roots maps))
-        s.world s.maps (at.memory ∙ ap (λ t. t.memory) (sym memory)) (λ j ne. refl) (λ n. refl) at.hashes (together standing stands inside u begins),
+        (subst (λ (x : Machine K V K). ChangesAt (place_of caller) (worker_with (slot_of caller) m (Some x)) e e2) (sym as_machine) (fresh_changes e slot fits (work.Call m machine) e2 items hasher batch_size roots maps slots))
+        s.world s.maps (at.memory ∙ ap (λ t. t.memory) (sym memory)) (λ j ne. refl) (record { uses = λ t. alike_same (s.world.uses t); on_slot = λ on. on }) (λ none. absurd (cc none)) (λ n. refl) at.hashes (together standing stands (entered inside) u begins),
   )

@@ -1,7 +1,9 @@
 -- An executor with no map and no caller is there.
-use Rattle.std.specs.Prelude.{◌≡◌, ℕ, Bool, [], None, slice_index_or}
-use Rattle.std.proofs.Common.{refl, sym, ap}
-use Rattle.seize.specs.World.{at_start}
+use Rattle.std.specs.Prelude.{◌≡◌, ◌<◌, ◌≤◌, ◌^◌, ◌⊎◌, ℕ, Bool, [], length, replicate, Option, None, slice_index_or}
+use Rattle.std.proofs.Common.{refl, sym, ap, subst, ◌∙◌, inl, inr, arith}
+use Rattle.std.proofs.lemmas.Bool.{cases_lt}
+use Rattle.std.proofs.lemmas.List.{get_or-replicate, get_or_past, length-replicate}
+use Rattle.seize.specs.World.{Rests, Vacant, at_start}
 use Rattle.papaya_tables.specs.Nodes.{deferred_word}
 use Rattle.papaya_finishes.specs.Endings.{EndingsTogether}
 use Rattle.papaya_finishes.proofs.Among.Begins.{no_endings_begin}
@@ -9,10 +11,19 @@ use Rattle.papaya_finishes.proofs.Beside.Makings.Promised.{no_makings_begin}
 use Rattle.papaya_finishes.proofs.Beside.Makings.Samples.{start_roots}
 use Rattle.papaya_finishes.proofs.Beside.Maps.Comes.{no_maps_begin}
 use Rattle.papaya_executor.specs.declared.executor.Executor.{Executor}
-use Rattle.papaya_executor.specs.IsAt.{IsAt, at_first, slot_of, place_of, work_of, in_slot, call_in, making_in, ending_in}
+use Rattle.papaya_executor.specs.declared.row.SlotUse.{SlotUse}
+use Rattle.papaya_executor.specs.declared.row.SlotUse.TheVariants as slot_use
+use Rattle.papaya_executor.specs.declared.worker.TheConstants.{SLOTS}
+use Rattle.papaya_executor.specs.declared.worker.Work.{Work}
+use Rattle.papaya_executor.specs.IsAt.{IsAt, HasRow, IsUsedAs, at_first, slot_of, place_of, work_of, in_slot, call_in, making_in, ending_in}
+
+-- at first each slot is vacant
+all_vacant : (t : ℕ) → (t < SLOTS) ⊎ (SLOTS ≤ t) → slice_index_or (replicate SLOTS slot_use.Vacant) t slot_use.Vacant ≡ slot_use.Vacant
+all_vacant t (inl l) = get_or-replicate SLOTS t slot_use.Vacant slot_use.Vacant l
+all_vacant t (inr past) = get_or_past (replicate SLOTS slot_use.Vacant) t slot_use.Vacant (omega (arith, past, length-replicate SLOTS slot_use.Vacant))
 
 module _ {K V S : Type 0} (same : K → K → Bool) (hash : K → ℕ) (e : Executor K V S) (memory : e.memory.memory ≡ (at_start (deferred_word {K = K} {V = V}) e.roots).memory)
-    (workers : e.workers.items ≡ []) (maps : e.maps.items ≡ []) where
+    (workers : e.workers.items ≡ []) (maps : e.maps.items ≡ []) (slots : e.slots.items ≡ replicate SLOTS slot_use.Vacant) (small : e.batch_size < 2 ^ 64) where
   together : EndingsTogether V same same e.batch_size e.roots slot_of (at_start (deferred_word {K = K} {V = V}) e.roots) (λ m. None) (λ m i. None) (λ i. None) (λ i. None)
   together =
       no_endings_begin V same same e.batch_size e.roots slot_of _ _ _ _
@@ -33,5 +44,9 @@ module _ {K V S : Type 0} (same : K → K → Bool) (hash : K → ℕ) (e : Exec
     enders = λ i. sym (ap ending_in (no_work i));
     hashes_made = λ i b here. absurd (cc here);
     numbers = λ i b here. absurd (cc here);
-    rests = λ i past. refl;
+    rows = λ i. subst (λ (x : Option (Work K V)). HasRow x Rests) (sym (no_work i)) refl;
+    on_slots = λ i. tt;
+    small = small;
+    slots = ap length slots ∙ length-replicate SLOTS slot_use.Vacant;
+    uses = λ t. subst (λ (x : SlotUse). IsUsedAs x Vacant) (sym (ap (λ xs. slice_index_or xs t slot_use.Vacant) slots ∙ all_vacant t (cases_lt t SLOTS))) refl;
   }

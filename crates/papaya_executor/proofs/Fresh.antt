@@ -1,6 +1,6 @@
 -- A caller whose place comes next: it has nothing under way yet.
-use Rattle.std.specs.Prelude.{◌≡◌, ◌≢◌, ◌<◌, ◌≤◌, ◌+◌, ◌*◌, ◌⊎◌, ℕ, Bool, [], ◌∷◌, ◌++◌, length, Option, Some, None, option_map, slice_index_or}
-use Rattle.std.proofs.Common.{refl, sym, ap, subst, ◌∙◌, inl, inr, arith}
+use Rattle.std.specs.Prelude.{◌≡◌, ◌≢◌, ◌<◌, ◌≤◌, ◌+◌, ◌*◌, ◌⊎◌, ℕ, Bool, [], ◌∷◌, ◌++◌, length, Option, Some, None, slice_index_or}
+use Rattle.std.proofs.Common.{sym, ap, subst, ◌∙◌, inl, inr, arith}
 use Rattle.std.proofs.lemmas.Bool.{cases_lt}
 use Rattle.std.proofs.lemmas.List.{get_or_past, get_or_push, get_or_append_left, length-append}
 use Rattle.seize.specs.World.{Rests}
@@ -8,11 +8,8 @@ use Rattle.papaya_finishes.specs.Machines.{machine_of}
 use Rattle.papaya_executor.specs.declared.executor.Executor.{Executor}
 use Rattle.papaya_executor.specs.declared.worker.TheConstants.{SLOTS}
 use Rattle.papaya_executor.specs.declared.worker.Work.{Work}
-use Rattle.papaya_executor.specs.IsAt.{Scene, IsAt, ChangesAt, place_of, slot_of, in_slot, call_in, making_in, ending_in, worker_of, worker_at, work_of}
-
-pub none_of : {X Y : Type 0} (f : X → Y) (it : Option X) → option_map f it ≡ None → it ≡ None
-none_of f None is = refl
-none_of f (Some x) is = absurd (cc is)
+use Rattle.papaya_executor.specs.IsAt.{Scene, IsAt, ChangesAt, HasRow, place_of, slot_of, in_slot, call_in, making_in, ending_in, worker_of, worker_at, work_of}
+use Rattle.papaya_executor.proofs.Places.{none_of}
 
 -- its number
 abbrev pub caller_in : {K V S : Type 0} → Executor K V S → ℕ → ℕ
@@ -22,7 +19,7 @@ module _ {K V S : Type 0} (e : Executor K V S) (slot : ℕ) (fits : slot < SLOTS
   pub fresh_place : place_of (caller_in e slot) ≡ length e.workers.items
   fresh_place = omega (arith, fits)
 
-  slot_is : slot_of (caller_in e slot) ≡ slot
+  pub slot_is : slot_of (caller_in e slot) ≡ slot
   slot_is = omega (arith, fits)
 
   -- nobody was at its place
@@ -34,7 +31,7 @@ module _ {K V S : Type 0} (e : Executor K V S) (slot : ℕ) (fits : slot < SLOTS
 
   -- it comes there with this
   module _ (it : Work K V) (e2 : Executor K V S) (items : e2.workers.items ≡ e.workers.items ++ Some (record { slot = slot; work = it }) ∷ []) (hasher : e2.hasher ≡ e.hasher)
-      (batch_size : e2.batch_size ≡ e.batch_size) (roots : e2.roots ≡ e.roots) (maps : e2.maps.items ≡ e.maps.items) where
+      (batch_size : e2.batch_size ≡ e.batch_size) (roots : e2.roots ≡ e.roots) (maps : e2.maps.items ≡ e.maps.items) (slots : e2.slots.items ≡ e.slots.items) where
     count : length e2.workers.items ≡ length e.workers.items + 1
     count = ap length items ∙ length-append e.workers.items _
 
@@ -60,6 +57,7 @@ module _ {K V S : Type 0} (e : Executor K V S) (slot : ℕ) (fits : slot < SLOTS
       batch_size = batch_size;
       roots = roots;
       maps = maps;
+      slots = slots;
     }
 
 module _ {K V S : Type 0} (same : K → K → Bool) (hash : K → ℕ) (e : Executor K V S) (s : Scene K V) (at : IsAt same hash e s) (slot : ℕ) (fits : slot < SLOTS) where
@@ -73,4 +71,4 @@ module _ {K V S : Type 0} (same : K → K → Bool) (hash : K → ℕ) (e : Exec
   no_ending_yet = none_of _ (s.enders (caller_in e slot)) (at.enders (caller_in e slot) ∙ ap ending_in (no_work e slot fits))
 
   pub resting : s.world.row (caller_in e slot) ≡ Rests
-  resting = at.rests (caller_in e slot) (omega (arith, fresh_place e slot fits))
+  resting = subst (λ (x : Option (Work K V)). HasRow x (s.world.row (caller_in e slot))) (no_work e slot fits) (at.rows (caller_in e slot))

@@ -1,10 +1,9 @@
 -- The beginning of the making of a map: the executor is there again.
-use Rattle.std.specs.Prelude.{◌≡◌, ◌<◌, ◌≤◌, ◌+◌, ◌-◌, ◌⊎◌, ℕ, zero, suc, Bool, List, [], ◌∷◌, ◌++◌, length, Option, Some, None, option_map, slice_index_or}
-use Rattle.std.proofs.Common.{refl, sym, ap, ◌∙◌, inl, inr, arith}
-use Rattle.std.proofs.lemmas.Bool.{cases_lt}
-use Rattle.std.proofs.lemmas.List.{get_or_past, get_or_append_left, length-append}
-use Rattle.std.proofs.Math.Seq.{get_or-append_right}
+use Rattle.std.specs.Prelude.{◌≡◌, ◌<◌, ◌+◌, ℕ, Bool, [], ◌∷◌, ◌++◌, length, Option, Some, None, option_map, slice_index_or}
+use Rattle.std.proofs.Common.{refl, sym, ap, ◌∙◌, arith}
+use Rattle.std.proofs.lemmas.List.{get_or_past, length-append}
 use Rattle.papaya_tables.specs.declared.setting.Setting.{Setting}
+use Rattle.papaya_callers.proofs.Together.Slots.{alike_same}
 use Rattle.papaya_finishes.specs.Makings.{Beginning}
 use Rattle.papaya_finishes.proofs.Among.Makings.{makings_begin_among}
 use Rattle.papaya_finishes.proofs.Beside.Makings.Promised.{makings_begin}
@@ -13,21 +12,14 @@ use Rattle.papaya_executor.specs.declared.worker.TheConstants.{SLOTS}
 use Rattle.papaya_executor.specs.declared.worker.Work.TheVariants as work
 use Rattle.papaya_executor.specs.IsAt.{Scene, IsAt, slot_of}
 use Rattle.papaya_executor.specs.MakingBegins.{next_making, MakingBegins}
-use Rattle.papaya_executor.proofs.Fresh.{none_of, caller_in, fresh_before, fresh_changes, no_calls_yet, no_making_yet, no_ending_yet}
+use Rattle.papaya_executor.proofs.Fresh.{caller_in, fresh_before, fresh_changes, no_calls_yet, no_making_yet, no_ending_yet, resting}
 use Rattle.papaya_executor.proofs.Made.{made_at}
-
--- a place for one more setting
-abbrev one_place : List (Option Setting)
-one_place = None ∷ []
-
-nothing : (k : ℕ) → slice_index_or one_place k None ≡ None
-nothing zero = refl
-nothing (suc k) = refl
+use Rattle.papaya_executor.proofs.Places.{none_of, one_number}
 
 module _ {K V S : Type 0} (same : K → K → Bool) (hash : K → ℕ) (e : Executor K V S) (s : Scene K V) (at : IsAt same hash e s) (slot : ℕ) (fits : slot < SLOTS) (given : Setting) (places : ℕ)
     (e2 : Executor K V S) (memory : e2.memory ≡ e.memory)
     (items : e2.workers.items ≡ e.workers.items ++ Some (record { slot = slot; work = work.Making (length e.maps.items) (next_making {V = V} {S = S} hash given places e).machine }) ∷ [])
-    (hasher : e2.hasher ≡ e.hasher) (batch_size : e2.batch_size ≡ e.batch_size) (roots : e2.roots ≡ e.roots) (maps : e2.maps.items ≡ e.maps.items ++ None ∷ []) where
+    (hasher : e2.hasher ≡ e.hasher) (batch_size : e2.batch_size ≡ e.batch_size) (roots : e2.roots ≡ e.roots) (slots : e2.slots.items ≡ e.slots.items) (maps : e2.maps.items ≡ e.maps.items ++ None ∷ []) where
   abbrev b : Beginning K
   b = next_making {V = V} {S = S} hash given places e
 
@@ -39,11 +31,7 @@ module _ {K V S : Type 0} (same : K → K → Bool) (hash : K → ℕ) (e : Exec
   count = ap length maps ∙ length-append e.maps.items _
 
   settings : (m : ℕ) → option_map (λ standing. standing.setting) (s.maps m) ≡ slice_index_or e2.maps.items m None
-  settings m = at.maps m ∙ sym (ap (λ xs. slice_index_or xs m None) maps ∙ by (cases_lt m (length e.maps.items)))
-    where
-      by : (m < length e.maps.items) ⊎ (length e.maps.items ≤ m) → slice_index_or (e.maps.items ++ None ∷ []) m None ≡ slice_index_or e.maps.items m None
-      by (inl l) = get_or_append_left e.maps.items _ None m l
-      by (inr past) = get_or-append_right e.maps.items one_place m None past ∙ nothing (m - length e.maps.items) ∙ sym (get_or_past e.maps.items m None past)
+  settings m = at.maps m ∙ sym (ap (λ xs. slice_index_or xs m None) maps ∙ one_number e.maps.items m)
 
   abbrev mid : Executor K V S
   mid = record e2 { maps = e.maps }
@@ -51,9 +39,10 @@ module _ {K V S : Type 0} (same : K → K → Bool) (hash : K → ℕ) (e : Exec
   pub making_begins : MakingBegins same hash given places (caller_in e slot) s e e2
   making_begins lawful initial batches mask some sized = (
     memory,
-    made_at same hash e s at (caller_in e slot) None (Some (work.Making b.map b.machine)) (fresh_before e slot fits) (λ m. refl) (λ m. refl) refl refl mid e2
-        (fresh_changes e slot fits (work.Making b.map b.machine) mid items hasher batch_size roots refl) refl batch_size roots (omega (arith, count))
-        s.world (at.memory ∙ ap (λ t. t.memory) (sym memory)) (λ j ne. refl) s.maps settings at.hashes (Some b) refl (λ c is. so c is)
+    made_at same hash e s at (caller_in e slot) None (Some (work.Making b.map b.machine)) (fresh_before e slot fits) (λ m. refl) (λ m. refl) mid e2
+        (fresh_changes e slot fits (work.Making b.map b.machine) mid items hasher batch_size roots refl slots) refl batch_size roots slots (omega (arith, count))
+        s.world (at.memory ∙ ap (λ t. t.memory) (sym memory)) (λ j ne. refl) (record { uses = λ t. alike_same (s.world.uses t); on_slot = λ on. on }) (resting same hash e s at slot fits)
+        s.maps settings at.hashes refl refl (Some b) refl (λ c is. so c is)
         (makings_begin_among {Q = K} V same same e.batch_size e.roots slot_of s.world s.maps s.calls s.makers s.enders at.together (caller_in e slot) (no_ending_yet same hash e s at slot fits) b
         (makings_begin {Q = K} V same same e.batch_size e.roots slot_of s.world s.maps s.calls s.makers at.together.makings (caller_in e slot) (no_making_yet same hash e s at slot fits)
         (no_calls_yet same hash e s at slot fits) b.map no_map (λ j d has is. absurd (omega (arith, at.numbers j d has, is))) given hash places lawful initial batches mask some sized) refl),

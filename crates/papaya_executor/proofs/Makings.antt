@@ -5,16 +5,18 @@ use Rattle.std.proofs.lemmas.Bool.{cases_eq}
 use Rattle.std.proofs.lemmas.List.{get_or-set_other, get_or-set_same, length-set}
 use Rattle.seize_words.specs.Mem.{Mem, Can, Took, value_at}
 use Rattle.seize_words.specs.Plan.{May, Steps}
-use Rattle.seize.specs.World.{Row, with_at}
+use Rattle.seize.specs.World.{Row, Rests, with_at}
 use Rattle.seize.specs.declared.progress.Progress.{Progress}
 use Rattle.seize.specs.declared.progress.Progress.TheVariants as progress
+use Rattle.papaya_tables.specs.Nodes.{deferred_word}
 use Rattle.papaya_tables.specs.declared.node.Node.{Node}
 use Rattle.papaya_tables.specs.declared.setting.Setting.{Setting}
 use Rattle.papaya_resize.specs.NewMap.{new_map_plan}
 use Rattle.papaya_resize.specs.declared.new_map.NewMap.{NewMap}
 use Rattle.papaya_teller.specs.declared.changed.Changed.TheVariants.{Nothing}
 use Rattle.papaya_callers.proofs.Together.At.{at_other, at_same}
-use Rattle.papaya_callers.proofs.Together.Users.{events_rows}
+use Rattle.papaya_callers.proofs.Together.Slots.{all_between, between_rows, between_slots}
+use Rattle.papaya_callers.specs.Rows.{LeavesSlots}
 use Rattle.papaya_finishes.specs.Endings.{EndingsTogether, MakingStepsAmong, MakingToldAmong}
 use Rattle.papaya_finishes.specs.Makings.{Beginning}
 use Rattle.papaya_finishes.specs.Maps.{Standing}
@@ -23,8 +25,9 @@ use Rattle.papaya_executor.specs.declared.executor.Executor.{Executor}
 use Rattle.papaya_executor.specs.declared.worker.Work.{Work}
 use Rattle.papaya_executor.specs.declared.worker.Work.TheVariants as work
 use Rattle.papaya_executor.specs.declared.worker.Worker.{Worker}
-use Rattle.papaya_executor.specs.IsAt.{Scene, IsAt, IsMaking, ChangesAt, place_of, slot_of, call_in, making_in, ending_in, worker_of, worker_at}
+use Rattle.papaya_executor.specs.IsAt.{Scene, IsAt, IsMaking, ChangesAt, HasRow, place_of, slot_of, call_in, making_in, ending_in, worker_of, worker_at}
 use Rattle.papaya_executor.specs.Making.{making_on, maps_on, MakingStepsFrom, MakingComesTo}
+use Rattle.papaya_executor.proofs.Again.{own}
 use Rattle.papaya_executor.proofs.Forgotten.{as_step}
 use Rattle.papaya_executor.proofs.Made.{made_at}
 use Rattle.papaya_executor.proofs.Places.{making_found}
@@ -49,14 +52,20 @@ module _ (K V : Type 0) where
   no_ending map opening (progress.Done setting) = refl
   no_ending map opening (progress.Refused fault) = refl
 
+  no_row : (map : ℕ) (opening : NewMap) (told : Progress Setting) (row : Row) → row ≡ Rests → HasRow {K = K} {V = V} (making_on map opening told) row
+  no_row map opening progress.Goes row is = is
+  no_row map opening progress.Waits row is = is
+  no_row map opening (progress.Done setting) row is = is
+  no_row map opening (progress.Refused fault) row is = is
+
   making_parts : (map map2 : ℕ) (opening opening2 : NewMap) → ◌≡◌ {A = Work K V} (work.Making map opening) (work.Making map2 opening2) → (map ≡ map2) × (opening ≡ opening2)
   making_parts map map2 opening opening2 is = (cc is, cc is)
 
 -- somebody was taken out of a place, and another put there
 module _ {K V S : Type 0} (e e2 : Executor K V S) (place : ℕ) (next : Option (Worker K V)) where
-  set_there : place < length e.workers.items → e2.workers.items ≡ slice_set (slice_set e.workers.items place None) place next → e2.hasher ≡ e.hasher → e2.batch_size ≡ e.batch_size
-      → e2.roots ≡ e.roots → e2.maps.items ≡ e.maps.items → ChangesAt place next e e2
-  set_there within items hasher batch_size roots maps =
+  pub set_there : place < length e.workers.items → e2.workers.items ≡ slice_set (slice_set e.workers.items place None) place next → e2.hasher ≡ e.hasher → e2.batch_size ≡ e.batch_size
+      → e2.roots ≡ e.roots → e2.maps.items ≡ e.maps.items → e2.slots.items ≡ e.slots.items → ChangesAt place next e e2
+  set_there within items hasher batch_size roots maps slots =
       let short : length (slice_set e.workers.items place None) ≡ length e.workers.items = length-set e.workers.items place None in
       let count : length e2.workers.items ≡ length e.workers.items = ap length items ∙ length-set (slice_set e.workers.items place None) place next ∙ short in
       record {
@@ -70,6 +79,7 @@ module _ {K V S : Type 0} (e e2 : Executor K V S) (place : ℕ) (next : Option (
         batch_size = batch_size;
         roots = roots;
         maps = maps;
+        slots = slots;
       }
 
 module _ {K V S : Type 0} (same : K → K → Bool) (hash : K → ℕ) (e : Executor K V S) (s : Scene K V) (at : IsAt same hash e s) (i : ℕ) (b : Beginning K) (here : s.makers i ≡ Some b) where
@@ -84,14 +94,20 @@ module _ {K V S : Type 0} (same : K → K → Bool) (hash : K → ℕ) (e : Exec
 
   module _ (mid e2 : Executor K V S) (opening : NewMap) (told : Progress Setting) (steps : MakingStepsFrom b.machine e e2 opening told)
       (changes : ChangesAt (place_of i) (worker_of (slot_of i) (making_on b.map opening told)) e mid)
-      (workers : e2.workers.items ≡ mid.workers.items) (batch_size : e2.batch_size ≡ e.batch_size) (roots : e2.roots ≡ e.roots) (maps : e2.maps.items ≡ maps_on b.map told e.maps.items) where
+      (workers : e2.workers.items ≡ mid.workers.items) (slots : e2.slots.items ≡ e.slots.items) (batch_size : e2.batch_size ≡ e.batch_size) (roots : e2.roots ≡ e.roots) (maps : e2.maps.items ≡ maps_on b.map told e.maps.items) where
     pub did : MakingStepsAmong V same same e.batch_size e.roots slot_of s.world s.maps s.calls s.makers s.enders i b e2.memory.memory (opening, told)
     did = (makings_stand_among {Q = K} V same same e.batch_size e.roots slot_of s.world s.maps s.calls s.makers s.enders at.together i b here).1 e2.memory.memory (opening, told)
         (subst (λ (x : Mem (Node K V)). Steps Took value_at x (new_map_plan {K = K} {V = V} b.machine) e2.memory.memory (opening, told)) (sym at.memory)
         (as_step e.memory.memory Nothing (new_map_plan b.machine) e2.memory.memory e2.memory.changed (opening, told) steps))
 
     rows : did.step.w2.row ≡ s.world.row
-    rows = events_rows e.batch_size did.step.events s.world did.step.w2 did.step.users did.step.runs
+    rows = between_rows deferred_word e.batch_size did.step.events s.world did.step.w2 (all_between did.step.events did.step.users) did.step.runs
+
+    leaves : LeavesSlots (slot_of i) i s.world did.step.w2
+    leaves = between_slots deferred_word e.batch_size did.step.events s.world did.step.w2 (all_between did.step.events did.step.users) did.step.runs (slot_of i) i
+
+    resting : did.step.w2.row i ≡ Rests
+    resting = ap (λ (f : ℕ → Row). f i) rows ∙ subst (λ (x : Option (Work K V)). HasRow x (s.world.row i)) (own same hash e s at i (Some (work.Making b.map b.machine)) (making_on b.map opening told) making_is mid e2 changes workers) (at.rows i)
 
     count : length e2.maps.items ≡ length e.maps.items
     count = ap length maps ∙ same_count b.map told e.maps.items
@@ -104,9 +120,9 @@ module _ {K V S : Type 0} (same : K → K → Bool) (hash : K → ℕ) (e : Exec
         (together : EndingsTogether V same same e.batch_size e.roots slot_of did.step.w2 maps2 s.calls (with_at s.makers i next) s.enders) where
       is_made : IsAt same hash e2 (record s { world = did.step.w2; maps = maps2; makers = with_at s.makers i next })
       is_made =
-          made_at same hash e s at i (Some (work.Making b.map b.machine)) (making_on b.map opening told) making_is (λ m. refl) (λ m. no_call K V b.map m opening told) refl
-          (no_ending K V b.map opening told) mid e2 changes workers batch_size roots (omega (arith, count)) did.step.w2 did.step.memory (λ j ne. ap (λ (f : ℕ → Row). f j) rows)
-          maps2 settings hashes next next_is (λ c is. let so = next_so c is in (so.0, subst (λ (x : ℕ). c.map < x) (sym count) so.1)) together
+          made_at same hash e s at i (Some (work.Making b.map b.machine)) (making_on b.map opening told) making_is (λ m. refl) (λ m. no_call K V b.map m opening told)
+          mid e2 changes workers batch_size roots slots (omega (arith, count)) did.step.w2 did.step.memory (λ j ne. ap (λ (f : ℕ → Row). f j) rows) leaves
+          (no_row K V b.map opening told (did.step.w2.row i) resting) maps2 settings hashes refl (no_ending K V b.map opening told) next next_is (λ c is. let so = next_so c is in (so.0, subst (λ (x : ℕ). c.map < x) (sym count) so.1)) together
 
     pub comes : MakingComesTo same hash s e e2 i b opening did.step.w2 told
     comes = by told refl maps did.told
@@ -167,12 +183,12 @@ module _ {K V S : Type 0} (same : K → K → Bool) (hash : K → ℕ) (e : Exec
   pub making_leads : (e2 : Executor K V S) (opening : NewMap) (told : Progress Setting) (slot map : ℕ) (before : NewMap) → (slot ≡ slot_of i) × (map ≡ b.map) × (before ≡ b.machine)
       → place_of i < length e.workers.items → MakingStepsFrom before e e2 opening told
       → e2.workers.items ≡ slice_set (slice_set e.workers.items (place_of i) None) (place_of i) (worker_of slot (making_on map opening told))
-      → e2.hasher ≡ e.hasher → (batch_size : e2.batch_size ≡ e.batch_size) (roots : e2.roots ≡ e.roots) → e2.maps.items ≡ maps_on map told e.maps.items
+      → e2.hasher ≡ e.hasher → (batch_size : e2.batch_size ≡ e.batch_size) (roots : e2.roots ≡ e.roots) → e2.slots.items ≡ e.slots.items → e2.maps.items ≡ maps_on map told e.maps.items
       → (opening : NewMap) × MakingStepsFrom b.machine e e2 opening told
       × (did : MakingStepsAmong V same same e.batch_size e.roots slot_of s.world s.maps s.calls s.makers s.enders i b e2.memory.memory (opening, told))
       × MakingComesTo same hash s e e2 i b opening did.step.w2 told
-  making_leads e2 opening told slot map before is within steps items hasher batch_size roots maps =
-      (opening, steps2, did mid e2 opening told steps2 changes refl batch_size roots maps2, comes mid e2 opening told steps2 changes refl batch_size roots maps2)
+  making_leads e2 opening told slot map before is within steps items hasher batch_size roots slots maps =
+      (opening, steps2, did mid e2 opening told steps2 changes refl slots batch_size roots maps2, comes mid e2 opening told steps2 changes refl slots batch_size roots maps2)
     where
       steps2 : MakingStepsFrom b.machine e e2 opening told
       steps2 = subst (λ (x : NewMap). MakingStepsFrom x e e2 opening told) is.2 steps
@@ -186,7 +202,7 @@ module _ {K V S : Type 0} (same : K → K → Bool) (hash : K → ℕ) (e : Exec
       changes : ChangesAt (place_of i) (worker_of (slot_of i) (making_on b.map opening told)) e mid
       changes = subst (λ (x : ℕ). ChangesAt (place_of i) (worker_of x (making_on b.map opening told)) e mid) is.0
           (subst (λ (x : ℕ). ChangesAt (place_of i) (worker_of slot (making_on x opening told)) e mid) is.1
-          (set_there e mid (place_of i) (worker_of slot (making_on map opening told)) within items hasher batch_size roots refl))
+          (set_there e mid (place_of i) (worker_of slot (making_on map opening told)) within items hasher batch_size roots refl slots))
 
 -- who makes a map has that at its place
 module _ {K V S : Type 0} (same : K → K → Bool) (hash : K → ℕ) (e : Executor K V S) (s : Scene K V) (at : IsAt same hash e s) (i : ℕ) (making : IsMaking s i) where

@@ -1,14 +1,33 @@
 -- Callers by their numbers, and who is at their places.
-use Rattle.std.specs.Prelude.{◌≡◌, ◌≢◌, ◌<◌, ◌≤◌, ◌⊎◌, ℕ, ◌==◌, Bool, true, false, List, length, Option, Some, None, option_map, slice_index_or, if◌then◌else◌}
+use Rattle.std.specs.Prelude.{zero, suc, ◌-◌, ◌++◌, ◌∷◌, [], ◌≡◌, ◌≢◌, ◌<◌, ◌≤◌, ◌⊎◌, ℕ, ◌==◌, Bool, true, false, List, length, Option, Some, None, option_map, slice_index_or, if◌then◌else◌}
 use Rattle.std.proofs.Common.{refl, sym, ap, ◌∙◌, inl, inr, arith}
 use Rattle.std.proofs.lemmas.Bool.{cases_lt, eq-eqb, ne_eqb}
-use Rattle.std.proofs.lemmas.List.{get_or_past}
+use Rattle.std.proofs.lemmas.List.{get_or_past, get_or_append_left}
+use Rattle.std.proofs.Math.Seq.{get_or-append_right}
 use Rattle.papaya_resize.specs.declared.new_map.NewMap.{NewMap}
+use Rattle.papaya_raw.specs.declared.machines.end_map.EndMap.{EndMap}
 use Rattle.papaya_raw.specs.declared.machines.machine.Machine.{Machine}
 use Rattle.papaya_executor.specs.declared.worker.Work.{Work}
 use Rattle.papaya_executor.specs.declared.worker.Work.TheVariants as work
 use Rattle.papaya_executor.specs.declared.worker.Worker.{Worker}
-use Rattle.papaya_executor.specs.IsAt.{place_of, slot_of, in_slot, call_in, making_in, worker_of, worker_with}
+use Rattle.papaya_executor.specs.IsAt.{place_of, slot_of, in_slot, call_in, making_in, ending_in, worker_of, worker_with}
+
+-- what maps to nothing is nothing
+pub none_of : {X Y : Type 0} (f : X → Y) (it : Option X) → option_map f it ≡ None → it ≡ None
+none_of f None is = refl
+none_of f (Some x) is = absurd (cc is)
+
+-- a list has no more in it with a place for one more
+nothing : {X : Type 0} (k : ℕ) → slice_index_or {A = Option X} (None ∷ []) k None ≡ None
+nothing zero = refl
+nothing (suc k) = refl
+
+pub one_number : {X : Type 0} (xs : List (Option X)) (m : ℕ) → slice_index_or (xs ++ None ∷ []) m None ≡ slice_index_or xs m None
+one_number xs m = by (cases_lt m (length xs))
+  where
+    by : (m < length xs) ⊎ (length xs ≤ m) → slice_index_or (xs ++ None ∷ []) m None ≡ slice_index_or xs m None
+    by (inl l) = get_or_append_left xs _ None m l
+    by (inr past) = get_or-append_right xs (None ∷ []) m None past ∙ nothing (m - length xs) ∙ sym (get_or_past xs m None past)
 
 -- a number is told by place and slot
 pub same_caller : (i j : ℕ) → place_of j ≡ place_of i → slot_of j ≡ slot_of i → j ≡ i
@@ -56,7 +75,8 @@ module _ {K V : Type 0} where
           ap2 : map ≡ m → machine ≡ x → work.Call map machine ≡ work.Call m x
           ap2 e f = cc (e, f)
       of (work.Making map opening) is = absurd (cc is)
-      of (work.Ending map ending) is = absurd (cc is)
+      of (work.Ending ending) is = absurd (cc is)
+      of (work.OnSlot row) is = absurd (cc is)
   call_is slot m x worker false e is = absurd (cc is)
 
   pub call_found : (slot m : ℕ) (x : Machine K V K) (it : Option (Worker K V)) → call_in (in_slot slot it) m ≡ Some x → it ≡ worker_with slot m (Some x)
@@ -66,22 +86,41 @@ module _ {K V : Type 0} where
       built : (worker : Worker K V) → worker.slot ≡ slot → worker.work ≡ work.Call m x → Some worker ≡ worker_with slot m (Some x)
       built worker e f = ap (λ (x : ℕ). Some (record { slot = x; work = worker.work })) e ∙ ap (λ (x : Work K V). Some (record { slot = slot; work = x })) f
 
+  -- whose work in its slot is this, is at its place with that
+  pub found_in : (slot : ℕ) (it : Option (Worker K V)) (x : Work K V) → in_slot slot it ≡ Some x → it ≡ worker_of slot (Some x)
+  found_in slot None x is = absurd (cc is)
+  found_in slot (Some worker) x is = by (worker.slot == slot) refl is
+    where
+      by : (b : Bool) → (worker.slot == slot) ≡ b → (if b then Some worker.work else None) ≡ Some x → Some worker ≡ worker_of slot (Some x)
+      by true e is =
+          ap (λ (n : ℕ). Some (record { slot = n; work = worker.work })) (grind (arith, e))
+          ∙ ap (λ (y : Work K V). Some (record { slot = slot; work = y })) (cc is)
+      by false e is = absurd (cc is)
+
   same_making : (map map2 : ℕ) (opening opening2 : NewMap) → ◌≡◌ {A = ℕ × NewMap} (map, opening) (map2, opening2) → ◌≡◌ {A = Work K V} (work.Making map opening) (work.Making map2 opening2)
   same_making map map2 opening opening2 is = ap (λ x. work.Making x.0 x.1) is
 
-  -- whose making of a map is this, is at its place with that
-  making_of : (map : ℕ) (opening : NewMap) (it : Work K V) → making_in (Some it) ≡ Some (map, opening) → it ≡ work.Making map opening
-  making_of map opening (work.Call map2 machine) is = absurd (cc is)
-  making_of map opening (work.Making map2 opening2) is = same_making map2 map opening2 opening (cc is)
-  making_of map opening (work.Ending map2 ending) is = absurd (cc is)
-
-  at_slot : (slot map : ℕ) (opening : NewMap) (worker : Worker K V) (b : Bool) → (worker.slot == slot) ≡ b → making_in (if b then Some worker.work else None) ≡ Some (map, opening)
-      → Some worker ≡ worker_of slot (Some (work.Making map opening))
-  at_slot slot map opening worker true e is =
-      ap (λ (x : ℕ). Some (record { slot = x; work = worker.work })) (grind (arith, e))
-      ∙ ap (λ (x : Work K V). Some (record { slot = slot; work = x })) (making_of map opening worker.work is)
-  at_slot slot map opening worker false e is = absurd (cc is)
+  -- whose making of a map is this
+  making_of : (map : ℕ) (opening : NewMap) (it : Option (Work K V)) → making_in it ≡ Some (map, opening) → it ≡ Some (work.Making map opening)
+  making_of map opening None is = absurd (cc is)
+  making_of map opening (Some (work.Call map2 machine)) is = absurd (cc is)
+  making_of map opening (Some (work.Making map2 opening2)) is = ap Some (same_making map2 map opening2 opening (cc is))
+  making_of map opening (Some (work.Ending ending)) is = absurd (cc is)
+  making_of map opening (Some (work.OnSlot row)) is = absurd (cc is)
 
   pub making_found : (slot map : ℕ) (opening : NewMap) (it : Option (Worker K V)) → making_in (in_slot slot it) ≡ Some (map, opening) → it ≡ worker_of slot (Some (work.Making map opening))
-  making_found slot map opening None is = absurd (cc is)
-  making_found slot map opening (Some worker) is = at_slot slot map opening worker (worker.slot == slot) refl is
+  making_found slot map opening it is = found_in slot it (work.Making map opening) (making_of map opening (in_slot slot it) is)
+
+  same_ending : (ending ending2 : EndMap) → ending ≡ ending2 → ◌≡◌ {A = Work K V} (work.Ending ending) (work.Ending ending2)
+  same_ending ending ending2 is = ap work.Ending is
+
+  -- and whose end of one
+  ending_of : (ending : EndMap) (it : Option (Work K V)) → ending_in it ≡ Some ending → it ≡ Some (work.Ending ending)
+  ending_of ending None is = absurd (cc is)
+  ending_of ending (Some (work.Call map machine)) is = absurd (cc is)
+  ending_of ending (Some (work.Making map opening)) is = absurd (cc is)
+  ending_of ending (Some (work.Ending ending2)) is = ap Some (same_ending ending2 ending (cc is))
+  ending_of ending (Some (work.OnSlot row)) is = absurd (cc is)
+
+  pub ending_found : (slot : ℕ) (ending : EndMap) (it : Option (Worker K V)) → ending_in (in_slot slot it) ≡ Some ending → it ≡ worker_of slot (Some (work.Ending ending))
+  ending_found slot ending it is = found_in slot it (work.Ending ending) (ending_of ending (in_slot slot it) is)

@@ -4,6 +4,7 @@ use Rattle.std.proofs.Common.{refl, sym, ap, subst, ◌∙◌}
 use Rattle.papaya_raw.specs.Machine.{machine_replied, machine_asked}
 use Rattle.papaya_raw.specs.declared.machines.asking.Reply.{Reply}
 use Rattle.papaya_raw.specs.declared.machines.machine.Machine.{Machine}
+use Rattle.papaya_callers.proofs.Together.Slots.{alike_same}
 use Rattle.papaya_callers.specs.Together.{UnderWay}
 use Rattle.papaya_finishes.specs.Endings.{EndingsTogether}
 use Rattle.papaya_finishes.specs.Machines.{machine_of}
@@ -17,7 +18,7 @@ use Rattle.papaya_executor.proofs.Taken.{taken_call, through}
 
 module _ {K V S : Type 0} (same : K → K → Bool) (hash : K → ℕ) (e : Executor K V S) (s : Scene K V) (at : IsAt same hash e s) (i : ℕ)
     (e1 e2 : Executor K V S) (memory1 : e1.memory ≡ e.memory) (items : e1.workers.items ≡ slice_set e.workers.items (place_of i) None) (hasher : e1.hasher ≡ e.hasher)
-    (batch_size : e1.batch_size ≡ e.batch_size) (roots : e1.roots ≡ e.roots) (maps : e1.maps.items ≡ e.maps.items)
+    (batch_size : e1.batch_size ≡ e.batch_size) (roots : e1.roots ≡ e.roots) (maps : e1.maps.items ≡ e.maps.items) (slots : e1.slots.items ≡ e.slots.items)
     (slot map : ℕ) (before : Machine K V K) (there : worker_at e (place_of i) ≡ worker_with slot map (Some before)) (after : Machine K V K)
     (put : PutBack (place_of i) (worker_with slot map (Some after)) e1 e2) where
   memory : e2.memory ≡ e.memory
@@ -28,7 +29,7 @@ module _ {K V S : Type 0} (same : K → K → Bool) (hash : K → ℕ) (e : Exec
     is = taken_call same hash e s at i m u here slot map before there
 
     changes : ChangesAt (place_of i) (worker_with (slot_of i) m (Some after)) e e2
-    changes = through e e1 e2 (place_of i) (worker_with (slot_of i) m (Some after)) items hasher batch_size roots maps
+    changes = through e e1 e2 (place_of i) (worker_with (slot_of i) m (Some after)) items hasher batch_size roots maps slots
         (subst (λ (x : ℕ). ChangesAt (place_of i) (worker_with x m (Some after)) e1 e2) is.0
         (subst (λ (x : ℕ). ChangesAt (place_of i) (worker_with slot x (Some after)) e1 e2) is.1 put.1))
 
@@ -38,7 +39,7 @@ module _ {K V S : Type 0} (same : K → K → Bool) (hash : K → ℕ) (e : Exec
     goes_on next as_after together =
         is_at_on same hash e s at m i (Some (machine_of u)) (worker_is same hash e s at m i u here) e2 (Some next)
         (subst (λ (x : Machine K V K). ChangesAt (place_of i) (worker_with (slot_of i) m (Some x)) e e2) (sym as_after) changes)
-        s.world s.maps (at.memory ∙ ap (λ t. t.memory) (sym memory)) (λ j ne. refl) (λ n. refl) at.hashes together
+        s.world s.maps (at.memory ∙ ap (λ t. t.memory) (sym memory)) (λ j ne. refl) (record { uses = λ t. alike_same (s.world.uses t); on_slot = λ on. on }) (λ none. absurd (cc none)) (λ n. refl) at.hashes together
 
   pub reply_leads : (told : Reply V) (result : Result Unit (Reply V)) → (after, result) ≡ machine_replied before told → ReplyLeads same hash i told result s e e2
   reply_leads told result replied m u here =

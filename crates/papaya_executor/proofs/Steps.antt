@@ -47,11 +47,11 @@ hash_or none (Some standing) = standing.hash
 
 module _ {K : Type 0} (hash : K → ℕ) where
   -- a map goes on with its setting, and with this hash, which it had
-  record Keeps (before after : Option (Standing K)) : Type 0 where
-    setting : option_map (λ standing. standing.setting) after ≡ option_map (λ standing. standing.setting) before
-    hashes : (standing : Standing K) → after ≡ Some standing → standing.hash ≡ hash
+  pub record Keeps (before after : Option (Standing K)) : Type 0 where
+    pub setting : option_map (λ standing. standing.setting) after ≡ option_map (λ standing. standing.setting) before
+    pub hashes : (standing : Standing K) → after ≡ Some standing → standing.hash ≡ hash
 
-  same_map_keeps : (before after : Option (Standing K)) → ((standing : Standing K) → before ≡ Some standing → standing.hash ≡ hash) → IsSameMap before after → Keeps before after
+  pub same_map_keeps : (before after : Option (Standing K)) → ((standing : Standing K) → before ≡ Some standing → standing.hash ≡ hash) → IsSameMap before after → Keeps before after
   same_map_keeps None after had is = record { setting = ap (option_map (λ standing. standing.setting)) is; hashes = λ standing some. absurd (cc (is, some)) }
   same_map_keeps (Some old) after had (blocks, sights, is, part) = record {
     setting = ap (option_map (λ standing. standing.setting)) is;
@@ -112,12 +112,12 @@ module _ {K V S : Type 0} (same : K → K → Bool) (hash : K → ℕ) (e : Exec
       did,
       is_at_on same hash e s at m i (Some (machine_of u)) (worker_is same hash e s at m i u here) e2 did.next
           (subst (λ (x : Option (Machine K V K)). ChangesAt (place_of i) (worker_with (slot_of i) m x) e e2) (sym (goes_as machine told did.next did.goes_on)) changes)
-          did.w2 did.maps2 did.memory did.rows (λ n. (keeps n).setting) (λ n. (keeps n).hashes) did.together,
+          did.w2 did.maps2 did.memory did.rows did.slots did.rests (λ n. (keeps n).setting) (λ n. (keeps n).hashes) did.together,
     )
 
   -- so the step of a call that was taken out of its place leads where one of the caller's does
   module _ (e1 e2 : Executor K V S) (memory : e1.memory.memory ≡ e.memory.memory) (items : e1.workers.items ≡ slice_set e.workers.items (place_of i) None) (hasher : e1.hasher ≡ e.hasher)
-      (batch_size : e1.batch_size ≡ e.batch_size) (roots : e1.roots ≡ e.roots) (maps : e1.maps.items ≡ e.maps.items) (told : Progress (Node K V)) where
+      (batch_size : e1.batch_size ≡ e.batch_size) (roots : e1.roots ≡ e.roots) (maps : e1.maps.items ≡ e.maps.items) (slots : e1.slots.items ≡ e.slots.items) (told : Progress (Node K V)) where
     pub leads_on : (slot map : ℕ) (before : Machine K V K) → (slot ≡ slot_of i) × (map ≡ m) × (before ≡ machine_of u) → SteppedAs same hash (place_of i) slot map before told e1 e2
         → (standing : Standing K) × (machine : Machine K V K) × (s.maps m ≡ Some standing) × StepsFrom same hash (machine_of u) e e2 machine told
         × (did : MachineStepsAmong V same same e.batch_size e.roots slot_of s.world s.maps s.calls s.makers s.enders m standing i e2.memory.memory u machine told)
@@ -126,6 +126,6 @@ module _ {K V S : Type 0} (same : K → K → Bool) (hash : K → ℕ) (e : Exec
         stepped e2 machine told
         (subst (λ (x : Mem (Node K V)). StepsTold K V (Machine K V K × Progress (Node K V)) x Nothing (machine_plan same same hash (machine_of u)) e2.memory.memory e2.memory.changed (machine, told))
         memory (subst (λ (x : Machine K V K). StepsFrom same hash x e1 e2 machine told) before_is steps))
-        (through e e1 e2 (place_of i) _ items hasher batch_size roots maps
+        (through e e1 e2 (place_of i) _ items hasher batch_size roots maps slots
         (subst (λ (x : ℕ). ChangesAt (place_of i) (worker_with x m (going_on machine told)) e1 e2) slot_is
         (subst (λ (x : ℕ). ChangesAt (place_of i) (worker_with slot x (going_on machine told)) e1 e2) map_is changes)))

@@ -38,9 +38,9 @@ module _ {K V S : Type 0} (same : K → K → Bool) (hash : K → ℕ) (e : Exec
 
 -- once it was, the executor is another one at that place alone
 module _ {K V S : Type 0} (e e1 e2 : Executor K V S) (place : ℕ) (next : Option (Worker K V)) where
-  pub through : e1.workers.items ≡ slice_set e.workers.items place None → e1.hasher ≡ e.hasher → e1.batch_size ≡ e.batch_size → e1.roots ≡ e.roots → e1.maps.items ≡ e.maps.items
+  pub through : e1.workers.items ≡ slice_set e.workers.items place None → e1.hasher ≡ e.hasher → e1.batch_size ≡ e.batch_size → e1.roots ≡ e.roots → e1.maps.items ≡ e.maps.items → e1.slots.items ≡ e.slots.items
       → ChangesAt place next e1 e2 → ChangesAt place next e e2
-  through items hasher batch_size roots maps changes = record {
+  through items hasher batch_size roots maps slots changes = record {
     here = changes.here;
     elsewhere = λ p ne. changes.elsewhere p ne ∙ ap (λ xs. slice_index_or xs p None) items ∙ get_or-set_other e.workers.items place p None None ne;
     there = changes.there;
@@ -49,4 +49,5 @@ module _ {K V S : Type 0} (e e1 e2 : Executor K V S) (place : ℕ) (next : Optio
     batch_size = changes.batch_size ∙ batch_size;
     roots = changes.roots ∙ roots;
     maps = changes.maps ∙ maps;
+    slots = changes.slots ∙ slots;
   }

@@ -1,17 +1,22 @@
 -- How callers, maps and a memory stand at a moment, and that an executor is there.
-use Rattle.std.specs.Prelude.{◌≡◌, ◌≢◌, ◌<◌, ◌≤◌, ℕ, ◌==◌, ◌/◌, ◌%◌, Bool, length, Option, Some, None, option_map, slice_index_or, if◌then◌else◌}
-use Rattle.seize.specs.World.{World, Rests, at_start}
+use Rattle.std.specs.Prelude.{◌≡◌, ◌≢◌, ◌<◌, ◌≤◌, ◌^◌, ℕ, ◌==◌, ◌/◌, ◌%◌, Bool, length, Option, Some, None, option_map, slice_index_or, if◌then◌else◌}
+use Rattle.seize.specs.World.{World, Row, Rests, Registers, Enters, Settles, Leaves, Frees, Use, Vacant, Outside, Inside, Changing, at_start}
 use Rattle.papaya_tables.specs.Nodes.{deferred_word}
 use Rattle.papaya_tables.specs.declared.node.Node.{Node}
 use Rattle.papaya_resize.specs.declared.new_map.NewMap.{NewMap}
 use Rattle.papaya_raw.specs.declared.machines.end_map.EndMap.{EndMap}
 use Rattle.papaya_raw.specs.declared.machines.machine.Machine.{Machine}
+use Rattle.papaya_callers.specs.Rows.{IsRowOn}
 use Rattle.papaya_callers.specs.Together.{UnderWay}
 use Rattle.papaya_finishes.specs.Endings.{Finishing, EndingsTogether}
 use Rattle.papaya_finishes.specs.Machines.{machine_of}
 use Rattle.papaya_finishes.specs.Makings.{Beginning}
 use Rattle.papaya_finishes.specs.Maps.{Standing}
 use Rattle.papaya_executor.specs.declared.executor.Executor.{Executor}
+use Rattle.papaya_executor.specs.declared.row.SlotRow.{SlotRow}
+use Rattle.papaya_executor.specs.declared.row.SlotRow.TheVariants as rows
+use Rattle.papaya_executor.specs.declared.row.SlotUse.{SlotUse}
+use Rattle.papaya_executor.specs.declared.row.SlotUse.TheVariants as slot_use
 use Rattle.papaya_executor.specs.declared.worker.TheConstants.{SLOTS}
 use Rattle.papaya_executor.specs.declared.worker.Work.{Work}
 use Rattle.papaya_executor.specs.declared.worker.Work.TheVariants as work
@@ -36,6 +41,21 @@ place_of caller = caller / SLOTS
 abbrev pub slot_of : ℕ → ℕ
 slot_of caller = caller % SLOTS
 
+-- A row between calls is this one.
+abbrev pub row_of : SlotRow → Row
+row_of (rows.Registers register) = Registers register
+row_of (rows.Enters enter) = Enters enter
+row_of (rows.Leaves leave) = Leaves leave
+row_of (rows.Flushes settle) = Settles settle
+row_of (rows.Frees unregister) = Frees unregister
+
+-- A slot is used so, however many rows work on it.
+abbrev pub IsUsedAs : SlotUse → Use → Type 0
+IsUsedAs slot_use.Vacant v = v ≡ Vacant
+IsUsedAs slot_use.Outside v = (n : ℕ) × (v ≡ Outside n)
+IsUsedAs slot_use.Inside v = (n : ℕ) × (v ≡ Inside n)
+IsUsedAs slot_use.Changing v = v ≡ Changing
+
 module _ {K V : Type 0} where
   -- a caller has a call under way, on some map
   abbrev pub HasCall : Scene K V → ℕ → Type 0
@@ -44,6 +64,10 @@ module _ {K V : Type 0} where
   -- or makes a map
   abbrev pub IsMaking : Scene K V → ℕ → Type 0
   IsMaking s i = (b : Beginning K) × (s.makers i ≡ Some b)
+
+  -- or ends one
+  abbrev pub IsEnding : Scene K V → ℕ → Type 0
+  IsEnding s i = (f : Finishing K V) × (s.enders i ≡ Some f)
 
   -- whoever is at a place, if it stands in this slot
   abbrev pub in_slot : ℕ → Option (Worker K V) → Option (Work K V)
@@ -60,8 +84,14 @@ module _ {K V : Type 0} where
   making_in _ = None
 
   abbrev pub ending_in : Option (Work K V) → Option EndMap
-  ending_in (Some (work.Ending map ending)) = Some ending
+  ending_in (Some (work.Ending ending)) = Some ending
   ending_in _ = None
+
+  -- The row that a caller has under way, which has this under way: within a call it is the map's to say, and without a row between calls there is none.
+  abbrev pub HasRow : Option (Work K V) → Row → Type 0
+  HasRow (Some (work.Call map machine)) row = Unit {0}
+  HasRow (Some (work.OnSlot it)) row = row ≡ row_of it
+  HasRow _ row = row ≡ Rests
 
   -- who is at the place of a caller that has this under way, or nothing any more
   abbrev pub worker_of : ℕ → Option (Work K V) → Option (Worker K V)
@@ -81,6 +111,10 @@ module _ {K V S : Type 0} where
   abbrev pub work_of : Executor K V S → ℕ → Option (Work K V)
   work_of e i = in_slot (slot_of i) (worker_at e (place_of i))
 
+  -- how a slot is used
+  abbrev pub use_at : Executor K V S → ℕ → SlotUse
+  use_at e t = slice_index_or e.slots.items t slot_use.Vacant
+
   -- the executor is another one at one place, and in its memory, alone
   pub record ChangesAt (place : ℕ) (next : Option (Worker K V)) (old new : Executor K V S) : Type 0 where
     pub here : worker_at new place ≡ next
@@ -91,10 +125,11 @@ module _ {K V S : Type 0} where
     pub batch_size : new.batch_size ≡ old.batch_size
     pub roots : new.roots ≡ old.roots
     pub maps : new.maps.items ≡ old.maps.items
+    pub slots : new.slots.items ≡ old.slots.items
 
 module _ {K V S : Type 0} (same : K → K → Bool) (hash : K → ℕ) where
-  -- The executor is there: it has the memory, the settings of the maps that stand, and of each caller what it has under way; all keys have one hash. Who has
-  -- a place that was not used yet has no row under way.
+  -- The executor is there: it has the memory, the settings of the maps that stand, of each caller what it has under way, and of each slot how it is used;
+  -- all keys have one hash. A row is under way where a caller has one, and works on its slot.
   pub record IsAt (e : Executor K V S) (s : Scene K V) : Type 0 where
     pub memory : s.world.memory ≡ e.memory.memory
     pub together : EndingsTogether V same same e.batch_size e.roots slot_of s.world s.maps s.calls s.makers s.enders
@@ -106,4 +141,8 @@ module _ {K V S : Type 0} (same : K → K → Bool) (hash : K → ℕ) where
     -- keys of a map that is being made have that hash, too, and its setting has a place
     pub hashes_made : (i : ℕ) (b : Beginning K) → s.makers i ≡ Some b → b.hash ≡ hash
     pub numbers : (i : ℕ) (b : Beginning K) → s.makers i ≡ Some b → b.map < length e.maps.items
-    pub rests : (i : ℕ) → length e.workers.items ≤ place_of i → s.world.row i ≡ Rests
+    pub rows : (i : ℕ) → HasRow (work_of e i) (s.world.row i)
+    pub on_slots : (i : ℕ) → IsRowOn (slot_of i) (s.world.row i)
+    pub small : e.batch_size < 2 ^ 64
+    pub slots : length e.slots.items ≡ SLOTS
+    pub uses : (t : ℕ) → IsUsedAs (use_at e t) (s.world.uses t)

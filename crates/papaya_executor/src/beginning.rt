@@ -1,7 +1,7 @@
 //! The beginning of a call, and of the making of a map.
-ghost use Rattle.std.specs.Prelude.{◌≡◌, ◌<◌, ◌+◌, ◌*◌, ℕ, Bool, length, IfOk};
+ghost use Rattle.std.specs.Prelude.{◌≡◌, ◌<◌, ◌+◌, ◌*◌, ℕ, Bool, length, IfOk, IfErr, OnErr};
 ghost use Rattle.papaya_executor.specs.IsAt.{Scene, IsAt};
-ghost use Rattle.papaya_executor.specs.Beginning.{BeginLeads};
+ghost use Rattle.papaya_executor.specs.Beginning.{BeginLeads, IsRefused, HasNoPlace, HasNoNumber};
 ghost use Rattle.papaya_executor.specs.MakingBegins.{MakingBegins};
 ghost use Rattle.papaya_executor.specs.declared.worker.TheConstants.{SLOTS};
 
@@ -12,7 +12,7 @@ use papaya_raw::machines::{Machine, NewMap};
 use std::alloc::AllocError;
 
 /// So many callers there can be. For each further one there is no memory.
-const MOST_CALLERS: usize = 1 << 32;
+pub(crate) const MOST_CALLERS: usize = 1 << 32;
 
 impl<K: Drop, V: Drop, S> Executor<K, V, S> {
     /// Begins a call on the map of this number, for a caller in this slot, and answers with the number of the caller. On an error nothing has changed, and
@@ -21,6 +21,8 @@ impl<K: Drop, V: Drop, S> Executor<K, V, S> {
         requires { slot < SLOTS }
         ensures number { IfOk result (λ caller. caller ≡ length self.old.workers.items * SLOTS + slot) }
         ensures leads { IfOk result (λ caller. (same : K → K → Bool) (hash : K → ℕ) (s : Scene K V) → IsAt same hash self.old s → BeginLeads same hash map machine caller s self.old self.new) }
+        ensures refused { IfErr result (λ error. IsRefused self.old self.new) }
+        ensures only { OnErr result (HasNoPlace self.old) }
     {
         let place = self.workers.len();
         if place >= MOST_CALLERS {
@@ -42,6 +44,8 @@ impl<K: Drop, V: Drop, S> Executor<K, V, S> {
         requires { slot < SLOTS }
         ensures number { IfOk result (λ caller. caller ≡ length self.old.workers.items * SLOTS + slot) }
         ensures leads { IfOk result (λ caller. (same : K → K → Bool) (hash : K → ℕ) (s : Scene K V) → IsAt same hash self.old s → MakingBegins same hash given places caller s self.old self.new) }
+        ensures refused { IfErr result (λ error. IsRefused self.old self.new) }
+        ensures only { OnErr result (HasNoNumber self.old) }
     {
         let place = self.workers.len();
         if place >= MOST_CALLERS {

@@ -2,7 +2,8 @@
 ghost use Rattle.std.specs.Prelude.{◌≡◌, ℕ, Bool, IfOk};
 ghost use Rattle.papaya_executor.specs.IsAt.{IsAt, at_first};
 
-use crate::worker::Worker;
+use crate::row::SlotUse;
+use crate::worker::{SLOTS, Worker};
 use papaya_raw::{Node, Setting};
 use papaya_teller::teller::Teller;
 use seize_words::Plain;
@@ -23,6 +24,8 @@ pub struct Executor<K, V, S> {
     pub maps: Vec<Option<Setting>>,
     /// The callers by their places. A place is used once.
     pub workers: Vec<Option<Worker<K, V>>>,
+    /// How each slot is used.
+    pub slots: Vec<SlotUse>,
 }
 
 impl<K: Drop, V: Drop, S: Drop> Executor<K, V, S> {
@@ -38,6 +41,7 @@ impl<K: Drop, V: Drop, S: Drop> Executor<K, V, S> {
             roots,
             maps: Vec::new(alloc),
             workers: Vec::new(alloc),
+            slots: Vec::from_elem(alloc, SlotUse::Vacant, SLOTS as usize)?,
         })
     }
 }

@@ -2,10 +2,14 @@
 #![tactic(auto)]
 
 pub mod beginning;
+pub mod ending;
 pub mod executor;
 pub mod making;
+pub mod on_slots;
 pub mod replying;
+pub mod row;
 pub mod stepping;
 mod taking;
-mod telling;
+pub mod telling;
+pub mod vacating;
 pub mod worker;

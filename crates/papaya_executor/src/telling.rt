@@ -1,9 +1,11 @@
 //! A step of a row, or of the making or the end of a map, in the memory that tells.
+ghost use Rattle.std.specs.Prelude.{◌≡◌};
 ghost use Rattle.seize_words.specs.Mem.{Can, Took, value_at};
 ghost use Rattle.seize_words.specs.Plan.{May};
 ghost use Rattle.papaya_teller.specs.Tells.{StepsTold};
 ghost use Rattle.papaya_teller.specs.declared.changed.Changed.TheVariants.{Nothing};
 
+use crate::executor::Executor;
 use papaya_raw::Node;
 use papaya_teller::teller::Teller;
 use seize::Machine;
@@ -19,4 +21,15 @@ pub(crate) fn step_telling<K, V, R: Machine<Node<K, V>>>(
 {
     memory.forget();
     row.step(memory)
+}
+
+impl<K, V, S> Executor<K, V, S> {
+    /// Takes a step of what is no caller's, and tells what it has changed.
+    pub fn step_nobodys<R: Machine<Node<K, V>>>(&mut self, row: &mut R) -> R::Progress
+        requires { May Can Took value_at self.old.memory.memory (R.plan row.old) }
+        ensures told { StepsTold K V (R × R.Progress) self.old.memory.memory Nothing (R.plan row.old) self.new.memory.memory self.new.memory.changed (row.new, result) }
+        ensures rest { self.new ≡ record self.old { memory = self.new.memory } }
+    {
+        step_telling(&mut self.memory, row)
+    }
 }

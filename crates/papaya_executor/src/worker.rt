@@ -1,4 +1,5 @@
 //! What a caller has under way.
+use crate::row::SlotRow;
 use papaya_raw::machines::{EndMap, Machine, NewMap};
 
 /// So many slots there can be: the number of a caller is that of its place among the callers, times this, and its slot.
@@ -23,10 +24,13 @@ pub enum Work<K, V> {
     },
     /// The end of a map.
     Ending {
-        /// The number that the map had.
-        map: u64,
         /// How far it is.
         ending: EndMap,
+    },
+    /// A row on a slot.
+    OnSlot {
+        /// How far it is.
+        row: SlotRow,
     },
 }
 

@@ -2,7 +2,7 @@
 use Rattle.std.specs.Prelude.{◌≡◌, ◌≢◌, ℕ, ◌⊎◌, Bool, true, false, Option, Some, None}
 use Rattle.seize_words.specs.Mem.{Mem, Can, Took, value_at}
 use Rattle.seize_words.specs.Plan.{May, Steps}
-use Rattle.seize.specs.World.{World, with_at}
+use Rattle.seize.specs.World.{World, Rests, with_at}
 use Rattle.seize.specs.declared.progress.Progress.{Progress as Counted}
 use Rattle.papaya_tables.specs.Chunks.{is_incremental}
 use Rattle.papaya_tables.specs.declared.node.Node.{Node}
@@ -29,6 +29,7 @@ use Rattle.papaya_rule.specs.Words.{Blocks}
 use Rattle.papaya_rule.specs.Moments.{Remembers}
 use Rattle.papaya_late.specs.Covers.{NamesPair}
 use Rattle.papaya_callers.specs.OverAll.{told_of, come_to, gone_on}
+use Rattle.papaya_callers.specs.Rows.{LeavesSlots}
 use Rattle.papaya_callers.specs.Sights.{Sight, seen_by}
 use Rattle.papaya_callers.specs.Together.{UnderWay, OnKey, ForRoom, Counting, OverAll, told_about, AsksAbout}
 use Rattle.papaya_callers.specs.Together.{next_of, next_for_room, next_of_counting, next_over_all, change_told}
@@ -97,16 +98,19 @@ module _ {K Q : Type 0} (V : Type 0) (same : K → K → Bool) (asks : Q → K �
           ⊎ ((to : SweepRowsAmong V same asks batch_size roots slot w maps calls makers enders m s i o m2 p2 end)
           × HasStayed w2 maps2 next to.step.w2 (next_over_all (gone_on o p2) end)))
 
-    -- Where a step of a machine leads: its map stands on, the others as they were, and all calls, makings and ends with them. No other caller's row has gone on.
+    -- Where a step of a machine leads: its map stands on, the others as they were, and all calls, makings and ends with them. No other caller's row has gone on,
+    -- this one's has if it is within one, and none is under way once the machine has ended. Each slot is used as it was.
     pub record MachineStepsAmong (u : UnderWay K V Q) (machine : Machine K V Q) (told : Progress (Node K V)) : Type 0 where
       pub w2 : World (Node K V)
       pub memory : w2.memory ≡ m2
       pub rows : (j : ℕ) → j ≢ i → w2.row j ≡ w.row j
+      pub slots : LeavesSlots (slot i) i w w2
       pub maps2 : ℕ → Option (Standing K)
       pub its_map : StandsOn s (maps2 m)
       pub others : (n : ℕ) → n ≢ m → IsSameMap (maps n) (maps2 n)
       pub next : Option (UnderWay K V Q)
       pub goes_on : GoesOnAs machine told next
+      pub rests : next ≡ None → w2.row i ≡ Rests
       pub together : EndingsTogether V same asks batch_size roots slot w2 maps2 (with_call calls m i next) makers enders
       pub did : DidOfKind w2 maps2 next u machine told
 

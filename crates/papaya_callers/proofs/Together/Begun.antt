@@ -17,6 +17,7 @@ use Rattle.papaya_rule.specs.Words.{Blocks}
 use Rattle.papaya_rule.specs.InWorld.{IsHeldBy}
 use Rattle.papaya_points.specs.FactsDisposes.{IsToRetire}
 use Rattle.papaya_points.specs.Steps.{AreLawful}
+use Rattle.papaya_callers.specs.Rows.{IsRowOn, IsUsedAlike}
 use Rattle.papaya_callers.specs.Sights.{Sight, seen_by}
 use Rattle.papaya_callers.specs.Together.{ClaimsInto, Ground, UnderWay, HasCall, PutsWithin, in_slot, HandsOver, Together, Stands, IsReclaimed}
 use Rattle.papaya_callers.proofs.Rows.Retired.{retire_in}
@@ -27,6 +28,7 @@ use Rattle.papaya_callers.proofs.Together.Handed as handed
 use Rattle.papaya_callers.proofs.Together.Few.{few_with}
 use Rattle.papaya_callers.proofs.Together.Fits.{Fits, fits_some, stands_by}
 use Rattle.papaya_callers.proofs.Together.RetiresBlocking.{handed_over}
+use Rattle.papaya_callers.proofs.Together.Slots.{alike_more, alike_at}
 
 module _ {K V Q : Type 0} (same : K → K → Bool) (hash : K → ℕ) (asks : Q → K → Bool) (setting : Setting) (slot : ℕ → ℕ) (lawful : AreLawful same hash)
     (w : World (Node K V)) (c : Chart K) (blocks : Blocks) (sights : ℕ → Sight) (calls : ℕ → Option (UnderWay K V Q)) (s : Together V same hash asks setting slot w c blocks sights calls)
@@ -44,6 +46,8 @@ module _ {K V Q : Type 0} (same : K → K → Bool) (hash : K → ℕ) (asks : Q
     pub now_inside : IsInside (v.uses (slot i))
     pub rows : (j : ℕ) → j ≢ i → v.row j ≡ w.row j
     pub row_is : v.row i ≡ row
+    pub alike : (t : ℕ) → IsUsedAlike (w.uses t) (v.uses t)
+    pub on_slot : IsRowOn (slot i) (v.row i)
 
   -- a block is retired
   abbrev pub row_then : ℕ → ℕ → Row
@@ -78,6 +82,8 @@ module _ {K V Q : Type 0} (same : K → K → Bool) (hash : K → ℕ) (asks : Q
           now_inside = handed.inside_on w.uses (slot i) (slot i) inside;
           rows = λ j ne. with_other w.row i j (Settles (retiring (slot i) setting.batch_size (b * 2048))) ne;
           row_is = with_here w.row i (Settles (retiring (slot i) setting.batch_size (b * 2048))) ∙ is;
+          alike = alike_at w.uses (slot i) (one_more (w.uses (slot i))) (alike_more (w.uses (slot i)));
+          on_slot = subst (IsRowOn (slot i)) (sym (with_here w.row i (Settles (retiring (slot i) setting.batch_size (b * 2048))))) refl;
         }
 
   -- a table is retired that its section sees

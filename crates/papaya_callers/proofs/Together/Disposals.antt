@@ -6,7 +6,7 @@ use Rattle.seize_words.specs.declared.at.At.TheVariants.{Word}
 use Rattle.seize.specs.declared.rows.defer.Defer.{Defer}
 use Rattle.seize.specs.Defer.{deferring}
 use Rattle.seize.specs.Law.{With, Nowhere, Deferred, where_is, is_standing, holds}
-use Rattle.seize.specs.World.{World, Row, Rests, Settles, Defers, Hand, Begin, Defer', Begins, IsInside, IsNotLeft, MayCut}
+use Rattle.seize.specs.World.{World, Row, Rests, Settles, Defers, Hand, Begin, Defer', Begins, IsInside, IsNotLeft, MayCut, one_more}
 use Rattle.seize_moves.proofs.State.Held.{held_on}
 use Rattle.seize_rule.proofs.Rows.Others.{with_here, with_other}
 use Rattle.papaya_tables.proofs.Lists.{table_list}
@@ -26,7 +26,7 @@ use Rattle.papaya_points.specs.FactsDisposes.{DisposeFacts}
 use Rattle.papaya_points.specs.Told.{IsRowOf}
 use Rattle.papaya_points.specs.Steps.{AreLawful}
 use Rattle.papaya_callers.specs.Kept.{IsPairOf}
-use Rattle.papaya_callers.specs.Rows.{row_of_disposal}
+use Rattle.papaya_callers.specs.Rows.{row_of_disposal, IsRowOn}
 use Rattle.papaya_callers.specs.Sights.{Sight, seen_by}
 use Rattle.papaya_callers.specs.Together.{UnderWay, in_slot, CameAbout, Together}
 use Rattle.papaya_callers.proofs.Rows.Behind.{deferred_behind}
@@ -36,6 +36,7 @@ use Rattle.papaya_callers.proofs.Together.Came.{came_reached, came_next}
 use Rattle.papaya_callers.proofs.Together.Begun as rows
 use Rattle.papaya_callers.proofs.Together.Begun.{RowBegun}
 use Rattle.papaya_callers.proofs.Together.Handed as handed
+use Rattle.papaya_callers.proofs.Together.Slots.{alike_more, alike_at}
 
 -- a block that is out is left to nobody
 out_not_left : (h : Hand) → IsOut h → IsNotLeft h
@@ -142,6 +143,8 @@ module _ {K V Q : Type 0} (same : K → K → Bool) (hash : K → ℕ) (asks : Q
       now_inside = handed.inside_on w.uses (slot i) (slot i) inside;
       rows = λ j ne. with_other w.row i j (Defers (slot i) (deferring (b * 2048) (Word t DEFERRED))) ne;
       row_is = with_here w.row i (Defers (slot i) (deferring (b * 2048) (Word t DEFERRED))) ∙ ap (Defers (slot i)) (sym f.point.5) ∙ is;
+      alike = alike_at w.uses (slot i) (one_more (w.uses (slot i))) (alike_more (w.uses (slot i)));
+      on_slot = subst (IsRowOn (slot i)) (sym (with_here w.row i (Defers (slot i) (deferring (b * 2048) (Word t DEFERRED))))) refl;
     }
 
   pub disposal_begins : (d : Dispose) (x : Disposing) → IsRowOf x → DisposeFacts w i (in_slot setting (slot i)) c (seen_by blocks (sights (slot i))) (dispose.standing d x) → (row : Row) → row_of_disposal (slot i) x ≡ row

@@ -1,6 +1,6 @@
 -- A reservation that is within a row of the collector, or stands at one, takes the row's next step: all stand together.
-use Rattle.std.specs.Prelude.{◌≡◌, ℕ, Bool, Option, Some}
-use Rattle.std.proofs.Common.{sym, subst, inl, inr, refl, ◌≡◌}
+use Rattle.std.specs.Prelude.{◌≡◌, ℕ, Bool, Option, Some, None}
+use Rattle.std.proofs.Common.{ap, sym, subst, ◌∙◌, inl, inr, refl}
 use Rattle.seize_words.specs.Mem.{Mem, Can, Took, value_at}
 use Rattle.seize_words.specs.Plan.{May, Steps, plan_as}
 use Rattle.seize.specs.declared.rows.settle.Settle.{Settle}
@@ -9,6 +9,7 @@ use Rattle.seize.specs.declared.rows.settle.Settled.TheVariants as settled
 use Rattle.seize.specs.Settle.{settle_plan}
 use Rattle.seize.specs.World.{World, Rests, Settles, Step, Happens, IsInside, with_at}
 use Rattle.seize_rule.proofs.Rows.Leaving.{steps_back}
+use Rattle.seize_rule.proofs.Rows.Teams.{shares}
 use Rattle.papaya_tables.specs.Nodes.{deferred_word}
 use Rattle.papaya_tables.specs.declared.node.Node.{Node}
 use Rattle.papaya_tables.specs.declared.setting.Setting.{Setting}
@@ -46,6 +47,8 @@ use Rattle.papaya_late.specs.ToldReserves.{IsRowOfReserve}
 use Rattle.papaya_rule.specs.InWorld.{IsMapIn}
 use Rattle.papaya_callers.specs.Rooms.{CallForRoom, row_of_room, past_room, room_once_over, RoomClaims}
 use Rattle.papaya_callers.proofs.Sights.Seen.{map_seen}
+use Rattle.papaya_callers.proofs.Together.Came.{came_reached}
+use Rattle.papaya_callers.proofs.Together.Slots.{step_leaves, begun_leaves, room_shares}
 use Rattle.papaya_callers.proofs.Together.Begun as begun
 use Rattle.papaya_callers.proofs.Together.Begun.{RowBegun}
 use Rattle.papaya_callers.proofs.Together.RetiresWhole as whole
@@ -97,6 +100,7 @@ module _ {K V Q : Type 0} (same : K → K → Bool) (hash : K → ℕ) (asks : Q
     pub happened : Happens deferred_word setting.batch_size (Step i) w w2
     pub together : Together V same hash asks setting slot w2 c blocks sights (with_at calls i (next_for_room (then_at end.0) end.1))
     pub gives : (value : Node K V) → end.1 ≡ outcome.Gave value → IsReclaimed w w2 value
+    pub rests : next_for_room {K = K} {V = V} {Q = Q} (then_at end.0) end.1 ≡ None → w2.row i ≡ Rests
 
   knows_came : (m2 : Mem (Node K V)) (row : Row) (came : RowCame same hash asks setting slot lawful w c blocks sights calls s i inside m2 row) (p : Reserve) → KnowsOf w p → KnowsOf came.w2 p
   knows_came m2 row came p k =
@@ -115,13 +119,13 @@ module _ {K V Q : Type 0} (same : K → K → Bool) (hash : K → ℕ) (asks : Q
           (λ blocking. few_with calls i c (s.few blocking) its (ForRoom (then_at p2)) (room_row_claims_none p2.stands is_row)) came.puts (λ none. absurd (cc none))
 
       goes : Led m2 (p2, outcome.Goes)
-      goes = record { w2 = came.w2; memory = came.memory; happened = came.happened; together = still; gives = λ value e. absurd (cc e) }
+      goes = record { w2 = came.w2; memory = came.memory; happened = came.happened; together = still; gives = λ value e. absurd (cc e); rests = λ none. absurd (cc none) }
 
       waits : Led m2 (p2, outcome.Waits)
-      waits = record { w2 = came.w2; memory = came.memory; happened = came.happened; together = still; gives = λ value e. absurd (cc e) }
+      waits = record { w2 = came.w2; memory = came.memory; happened = came.happened; together = still; gives = λ value e. absurd (cc e); rests = λ none. absurd (cc none) }
 
       gave : (value : Node K V) → IsReclaimed w came.w2 value → Led m2 (p2, outcome.Gave value)
-      gave value taken = record { w2 = came.w2; memory = came.memory; happened = came.happened; together = still; gives = λ it e. subst (IsReclaimed w came.w2) (same_value it e) taken }
+      gave value taken = record { w2 = came.w2; memory = came.memory; happened = came.happened; together = still; gives = λ it e. subst (IsReclaimed w came.w2) (same_value it e) taken; rests = λ none. absurd (cc none) }
         where
           same_value : (it : Node K V) → ◌≡◌ {A = Outcome (Node K V) Unit} (outcome.Gave value) (outcome.Gave it) → value ≡ it
           same_value it e = cc e
@@ -137,6 +141,7 @@ module _ {K V Q : Type 0} (same : K → K → Bool) (hash : K → ℕ) (asks : Q
           (fits_some same hash asks setting slot came.w2 c blocks (sights (slot i)) i (ForRoom (then_at p2)) came.still_inside (inl (came.row_is, knows_came m2 Rests came p2 k))) came.others
           (λ blocking. few_with calls i c (s.few blocking) its (ForRoom (then_at p2)) claims) came.puts (λ none. absurd (cc none));
       gives = λ value e. absurd (cc e);
+      rests = λ none. absurd (cc none);
     }
 
     by_told : (p a e : Copier × Outcome (Node K V) Table) → e ≡ a → (m2 : Mem (Node K V)) (end : Reserve × Outcome (Node K V) Unit) → end ≡ reserves.copied r.reserve e
@@ -228,7 +233,7 @@ module _ {K V Q : Type 0} (same : K → K → Bool) (hash : K → ℕ) (asks : Q
       by (inr (here, row, k)) =
           let leads = within_row same hash asks setting slot lawful w c blocks sights calls s i r (s.inside i (ForRoom r) has) its r.reserve.stands row here k in (
             leads.0,
-            λ m2 p2 end st. let l = leads.1 m2 (p2, end) st in record { w2 = l.w2; memory = l.memory; happened = inl l.happened; together = l.together; gives = l.gives },
+            λ m2 p2 end st. let l = leads.1 m2 (p2, end) st in record { w2 = l.w2; memory = l.memory; happened = inl l.happened; together = l.together; gives = l.gives; rests = l.rests; slots = step_leaves deferred_word setting.batch_size w (came_reached setting.batch_size w s.ground.came) i l.w2 (slot i) (ap shares here ∙ room_shares r.reserve.stands row) l.happened },
           )
       by (inl (rests, k)) =
           let b = begins_at same hash asks setting slot lawful w c blocks sights calls s i r (s.inside i (ForRoom r) has) rests r.reserve.stands is_row k in
@@ -244,5 +249,8 @@ module _ {K V Q : Type 0} (same : K → K → Bool) (hash : K → ℕ) (asks : Q
                   happened = inr (b.row.request, b.row.v, b.row.hands, b.row.happened, l.happened);
                   together = l.together;
                   gives = λ value e. begun.begun_gives same hash asks setting slot lawful w c blocks sights calls s i (s.inside i (ForRoom r) has) rests (row_of_room r.reserve.stands) b.row l.w2 value (l.gives value e);
+                  rests = l.rests;
+                  slots = begun_leaves (slot i) i w b.row.v l.w2 b.row.alike b.row.on_slot
+                      (step_leaves deferred_word setting.batch_size b.row.v (came_reached setting.batch_size b.row.v b.row.ground.came) i l.w2 (slot i) (ap shares b.row.row_is ∙ room_shares r.reserve.stands is_row) l.happened);
                 },
           )

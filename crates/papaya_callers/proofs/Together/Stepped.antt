@@ -1,10 +1,12 @@
 -- Calls of many callers stand together, whoever takes the next step of a row within its call.
 use Rattle.std.specs.Prelude.{ℕ, Bool}
-use Rattle.std.proofs.Common.{subst, sym, inl, inr}
+use Rattle.std.proofs.Common.{ap, subst, sym, ◌∙◌, inl, inr}
 use Rattle.seize_words.specs.Mem.{Mem, Can, Took, value_at}
 use Rattle.seize_words.specs.Plan.{May, Steps}
+use Rattle.papaya_tables.specs.Nodes.{deferred_word}
 use Rattle.papaya_tables.specs.declared.node.Node.{Node}
 use Rattle.papaya_tables.specs.declared.setting.Setting.{Setting}
+use Rattle.seize_rule.proofs.Rows.Teams.{shares}
 use Rattle.papaya_raw.specs.Call.{call_plan}
 use Rattle.papaya_raw.specs.declared.machines.answer.Called.{Called}
 use Rattle.papaya_raw.specs.declared.machines.call.KeyCall.{KeyCall}
@@ -13,6 +15,8 @@ use Rattle.papaya_callers.specs.Together.{OnKey, HasCall, Stands, RowStepsTogeth
 use Rattle.papaya_callers.specs.Rows.{row_of}
 use Rattle.papaya_callers.proofs.Together.Begun as begun
 use Rattle.papaya_callers.proofs.Together.BeginsRows.{begun_row, begun_together}
+use Rattle.papaya_callers.proofs.Together.Came.{came_reached}
+use Rattle.papaya_callers.proofs.Together.Slots.{step_leaves, begun_leaves, call_shares}
 use Rattle.papaya_callers.proofs.Together.WithinRows.{within_row}
 
 module _ {K V Q : Type 0} (same : K → K → Bool) (hash : K → ℕ) (asks : Q → K → Bool) (setting : Setting) (slot : ℕ → ℕ) where
@@ -29,7 +33,7 @@ module _ {K V Q : Type 0} (same : K → K → Bool) (hash : K → ℕ) (asks : Q
       by (inr (here, row, k)) =
           let leads = within_row same hash asks setting slot lawful w c blocks sights calls s i u (s.inside i (OnKey u) has) its u.call.stands row here k in (
             leads.0,
-            λ m2 p2 progress st. let l = leads.1 m2 (p2, progress) st in record { w2 = l.w2; memory = l.memory; happened = inl l.happened; together = l.together; answers = l.answers; refuses = l.refuses; hands = l.hands; gives = l.gives },
+            λ m2 p2 progress st. let l = leads.1 m2 (p2, progress) st in record { w2 = l.w2; memory = l.memory; happened = inl l.happened; together = l.together; answers = l.answers; refuses = l.refuses; hands = l.hands; gives = l.gives; rests = l.rests; slots = step_leaves deferred_word setting.batch_size w (came_reached setting.batch_size w s.ground.came) i l.w2 (slot i) (ap shares here ∙ call_shares (slot i) u.call.stands row) l.happened },
           )
       by (inl (rests, k)) =
           let b = begun_row same hash asks setting slot lawful w c blocks sights calls s i u (s.inside i (OnKey u) has) rests has is_row k in
@@ -38,5 +42,5 @@ module _ {K V Q : Type 0} (same : K → K → Bool) (hash : K → ℕ) (asks : Q
             subst (λ (m : Mem (Node K V)). May Can Took value_at m (call_plan asks same hash u.call)) b.row.memory leads.0,
             λ m2 p2 progress st.
                 let l = leads.1 m2 (p2, progress) (subst (λ (m : Mem (Node K V)). Steps Took value_at m (call_plan asks same hash u.call) m2 (p2, progress)) (sym b.row.memory) st) in
-                record { w2 = l.w2; memory = l.memory; happened = inr (b.row.request, b.row.v, b.row.hands, b.row.happened, l.happened); together = l.together; answers = l.answers; refuses = l.refuses; hands = l.hands; gives = λ value e. begun.begun_gives same hash asks setting slot lawful w c blocks sights calls s i (s.inside i (OnKey u) has) rests (row_of (slot i) u.call.stands) b.row l.w2 value (l.gives value e) },
+                record { w2 = l.w2; memory = l.memory; happened = inr (b.row.request, b.row.v, b.row.hands, b.row.happened, l.happened); together = l.together; answers = l.answers; refuses = l.refuses; hands = l.hands; gives = λ value e. begun.begun_gives same hash asks setting slot lawful w c blocks sights calls s i (s.inside i (OnKey u) has) rests (row_of (slot i) u.call.stands) b.row l.w2 value (l.gives value e); rests = l.rests; slots = begun_leaves (slot i) i w b.row.v l.w2 b.row.alike b.row.on_slot (step_leaves deferred_word setting.batch_size b.row.v (came_reached setting.batch_size b.row.v b.row.ground.came) i l.w2 (slot i) (ap shares b.row.row_is ∙ call_shares (slot i) u.call.stands is_row) l.happened) },
           )

@@ -84,6 +84,7 @@ module _ {K V Q : Type 0} (same : K → K → Bool) (hash : K → ℕ) (asks : Q
     pub happened : Happens deferred_word setting.batch_size (Step i) w w2
     pub together : Together V same hash asks setting slot w2 c blocks sights (with_at calls i (next_over_all (gone_on o end.0) end.1))
     pub over : (IsRowOfSweep end.0.stands → ⊥) → w2.row i ≡ Rests
+    pub rests : next_over_all {K = K} {V = V} {Q = Q} (gone_on o end.0) end.1 ≡ None → w2.row i ≡ Rests
     pub silent : word_told end.1 ≡ None
     pub comes : end.1 ≡ swept.Done → Came c o.entered o.sweep.purpose o.done
     pub gives : (value : Node K V) → end.1 ≡ swept.Gave value → IsReclaimed w w2 value
@@ -113,10 +114,10 @@ module _ {K V Q : Type 0} (same : K → K → Bool) (hash : K → ℕ) (asks : Q
           (λ blocking. few_with calls i c (s.few blocking) its (OverAll (gone_on o p2)) (sweep_row_claims_none p2.stands is_row)) came.puts (λ none. absurd (cc none))
 
       goes : Led m2 (p2, swept.Goes)
-      goes = record { w2 = came.w2; memory = came.memory; happened = came.happened; together = still; over = λ none. absurd (none is_row); silent = refl; comes = λ e. absurd (cc e); gives = λ value e. absurd (cc e) }
+      goes = record { w2 = came.w2; memory = came.memory; happened = came.happened; together = still; over = λ none. absurd (none is_row); rests = λ none. absurd (cc none); silent = refl; comes = λ e. absurd (cc e); gives = λ value e. absurd (cc e) }
 
       waits : Led m2 (p2, swept.Waits)
-      waits = record { w2 = came.w2; memory = came.memory; happened = came.happened; together = still; over = λ none. absurd (none is_row); silent = refl; comes = λ e. absurd (cc e); gives = λ value e. absurd (cc e) }
+      waits = record { w2 = came.w2; memory = came.memory; happened = came.happened; together = still; over = λ none. absurd (none is_row); rests = λ none. absurd (cc none); silent = refl; comes = λ e. absurd (cc e); gives = λ value e. absurd (cc e) }
 
       gave : (value : Node K V) → IsReclaimed w came.w2 value → Led m2 (p2, swept.Gave value)
       gave value taken = record {
@@ -125,6 +126,7 @@ module _ {K V Q : Type 0} (same : K → K → Bool) (hash : K → ℕ) (asks : Q
         happened = came.happened;
         together = still;
         over = λ none. absurd (none is_row);
+        rests = λ none. absurd (cc none);
         silent = refl;
         comes = λ e. absurd (cc e);
         gives = λ it e. subst (IsReclaimed w came.w2) (same_value it e) taken;
@@ -146,6 +148,7 @@ module _ {K V Q : Type 0} (same : K → K → Bool) (hash : K → ℕ) (asks : Q
             (inl (came.row_is, (let h = knows_came m2 Rests came p2 k in record { facts = h.facts; began_before = h.began_before; from = h.from; covers = h.covers; tries = h.tries })))) came.others
             (λ blocking. few_with calls i c (s.few blocking) its (OverAll (gone_on o p2)) claims) came.puts (λ none. absurd (cc none));
         over = λ none. came.row_is;
+        rests = λ none. came.row_is;
         silent = refl;
         comes = λ e. absurd (cc e);
         gives = λ value e. absurd (cc e);
@@ -161,6 +164,7 @@ module _ {K V Q : Type 0} (same : K → K → Bool) (hash : K → ℕ) (asks : Q
             (fits_none same hash asks setting slot came.w2 c blocks (sights (slot i)) i ((knows_came m2 Rests came p2 k).facts.idle (λ copies. by p2.stands is copies))) came.others
             (λ blocking. few_without calls i c (s.few blocking) its) came.puts (λ none. came.row_is);
         over = λ none. came.row_is;
+        rests = λ none. came.row_is;
         silent = refl;
         comes = λ e. came_to;
         gives = λ value e. absurd (cc e);

@@ -1,9 +1,11 @@
 -- A walk, a clearing or a retaining that stands at a row of the collector begins it, and takes each step of it: all stand together.
 use Rattle.std.specs.Prelude.{◌≡◌, ℕ, Bool, Option}
-use Rattle.std.proofs.Common.{sym, subst, inl, inr, refl}
+use Rattle.std.proofs.Common.{ap, sym, subst, ◌∙◌, inl, inr, refl}
 use Rattle.seize_words.specs.Mem.{Mem, Can, Took, value_at}
 use Rattle.seize_words.specs.Plan.{May, Steps}
 use Rattle.seize.specs.World.{World, Settles, Rests, IsInside}
+use Rattle.seize_rule.proofs.Rows.Teams.{shares}
+use Rattle.papaya_tables.specs.Nodes.{deferred_word}
 use Rattle.papaya_tables.specs.declared.node.Node.{Node}
 use Rattle.papaya_tables.specs.declared.setting.Setting.{Setting}
 use Rattle.papaya_resize.specs.CopierPromotes as retiring
@@ -38,6 +40,8 @@ use Rattle.papaya_callers.proofs.Together.Disposals.{disposal_begins}
 use Rattle.papaya_callers.proofs.Together.Few.{sweep_row_claims_none}
 use Rattle.papaya_callers.proofs.Together.RetiresWhole as whole
 use Rattle.papaya_callers.proofs.Together.RowsOfCopiers.{at_retirement}
+use Rattle.papaya_callers.proofs.Together.Came.{came_reached}
+use Rattle.papaya_callers.proofs.Together.Slots.{step_leaves, begun_leaves, sweep_shares}
 use Rattle.papaya_callers.proofs.Together.SweepRows.{KnowsOf, seen_map, at_row, within_row}
 
 module _ {K V Q : Type 0} (same : K → K → Bool) (hash : K → ℕ) (asks : Q → K → Bool) (setting : Setting) (slot : ℕ → ℕ) (lawful : AreLawful same hash)
@@ -136,7 +140,7 @@ module _ {K V Q : Type 0} (same : K → K → Bool) (hash : K → ℕ) (asks : Q
           let leads = within_row same hash asks setting slot lawful w c blocks sights calls s i o (s.inside i (OverAll o) has) its o.sweep.stands row here k in (
             leads.0,
             λ m2 p2 end st. let l = leads.1 m2 (p2, end) st in
-                record { w2 = l.w2; memory = l.memory; happened = inl l.happened; together = l.together; silent = l.silent; comes = l.comes; gives = l.gives },
+                record { w2 = l.w2; memory = l.memory; happened = inl l.happened; together = l.together; silent = l.silent; comes = l.comes; gives = l.gives; rests = l.rests; slots = step_leaves deferred_word setting.batch_size w (came_reached setting.batch_size w s.ground.came) i l.w2 (slot i) (ap shares here ∙ sweep_shares (slot i) o.sweep.stands row) l.happened },
           )
       by (inl (rests, k)) =
           let b = begins_at same hash asks setting slot lawful w c blocks sights calls s i o (s.inside i (OverAll o) has) rests o.sweep.stands is_row k in
@@ -154,5 +158,8 @@ module _ {K V Q : Type 0} (same : K → K → Bool) (hash : K → ℕ) (asks : Q
                   silent = l.silent;
                   comes = l.comes;
                   gives = λ value e. begun.begun_gives same hash asks setting slot lawful w c blocks sights calls s i (s.inside i (OverAll o) has) rests (row_of_sweep (slot i) o.sweep.stands) b.row l.w2 value (l.gives value e);
+                  rests = l.rests;
+                  slots = begun_leaves (slot i) i w b.row.v l.w2 b.row.alike b.row.on_slot
+                      (step_leaves deferred_word setting.batch_size b.row.v (came_reached setting.batch_size b.row.v b.row.ground.came) i l.w2 (slot i) (ap shares b.row.row_is ∙ sweep_shares (slot i) o.sweep.stands is_row) l.happened);
                 },
           )

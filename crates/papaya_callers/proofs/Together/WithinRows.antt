@@ -74,8 +74,9 @@ module _ {K V Q : Type 0} (same : K → K → Bool) (hash : K → ℕ) (asks : Q
     pub refuses : (fault : Fault) → end.1 ≡ called.Refused fault → RefusesOnce V same hash asks setting slot c (seen_by blocks (sights (slot i))) u u.change fault
     pub hands : (value : Node K V) → end.1 ≡ called.Unstored value → HandsBack u.pair value
     pub gives : (value : Node K V) → end.1 ≡ called.Gave value → IsReclaimed w w2 value
-    -- it rests once it is no row's step that is next
+    -- it rests once it is no row's step that is next, and once it has ended
     pub over : (IsRowOfCall end.0.stands → ⊥) → w2.row i ≡ Rests
+    pub rests : next_of {K = K} {V = V} {Q = Q} (record { keys = u.keys; pair = u.pair; began = u.began; change = u.change; call = end.0 }) end.1 ≡ None → w2.row i ≡ Rests
 
   -- a step may be taken, and leads on
   abbrev pub Leads : Calling → Type 0
@@ -96,10 +97,10 @@ module _ {K V Q : Type 0} (same : K → K → Bool) (hash : K → ℕ) (asks : Q
         (λ blocking. few_with calls i c (s.few blocking) its (OnKey (then_at p2)) (row_claims_none p2.stands is_row)) came.puts (λ none. absurd (cc none))
 
     goes : Led m2 (p2, called.Goes)
-    goes = record { w2 = came.w2; memory = came.memory; happened = came.happened; together = still; answers = λ answer e. absurd (cc e); refuses = λ fault e. absurd (cc e); hands = λ value e. absurd (cc e); gives = λ value e. absurd (cc e); over = λ none. absurd (none is_row) }
+    goes = record { w2 = came.w2; memory = came.memory; happened = came.happened; together = still; answers = λ answer e. absurd (cc e); refuses = λ fault e. absurd (cc e); hands = λ value e. absurd (cc e); gives = λ value e. absurd (cc e); over = λ none. absurd (none is_row); rests = λ none. absurd (cc none) }
 
     waits : Led m2 (p2, called.Waits)
-    waits = record { w2 = came.w2; memory = came.memory; happened = came.happened; together = still; answers = λ answer e. absurd (cc e); refuses = λ fault e. absurd (cc e); hands = λ value e. absurd (cc e); gives = λ value e. absurd (cc e); over = λ none. absurd (none is_row) }
+    waits = record { w2 = came.w2; memory = came.memory; happened = came.happened; together = still; answers = λ answer e. absurd (cc e); refuses = λ fault e. absurd (cc e); hands = λ value e. absurd (cc e); gives = λ value e. absurd (cc e); over = λ none. absurd (none is_row); rests = λ none. absurd (cc none) }
 
     gave : (value : Node K V) → IsReclaimed w came.w2 value → Led m2 (p2, called.Gave value)
     gave value taken = record {
@@ -112,6 +113,7 @@ module _ {K V Q : Type 0} (same : K → K → Bool) (hash : K → ℕ) (asks : Q
       hands = λ value e. absurd (cc e);
       gives = λ it e. subst (IsReclaimed w came.w2) (same_value it e) taken;
       over = λ none. absurd (none is_row);
+      rests = λ none. absurd (cc none);
     }
       where
         same_value : (it : Node K V) → ◌≡◌ {A = Called (Node K V)} (called.Gave value) (called.Gave it) → value ≡ it
@@ -132,6 +134,7 @@ module _ {K V Q : Type 0} (same : K → K → Bool) (hash : K → ℕ) (asks : Q
     hands = λ value e. absurd (cc e);
     gives = λ value e. absurd (cc e);
     over = λ none. came.row_is;
+    rests = λ none. came.row_is;
   }
 
   -- a disposal
@@ -158,6 +161,7 @@ module _ {K V Q : Type 0} (same : K → K → Bool) (hash : K → ℕ) (asks : Q
           hands = λ value e. absurd (cc e);
           gives = λ value e. absurd (cc e);
           over = λ none. came.row_is;
+          rests = λ none. came.row_is;
         }
       where
         same_answer : (it : KeyAnswer) → ◌≡◌ {A = Called (Node K V)} (called.Done answer) (called.Done it) → answer ≡ it

@@ -6,7 +6,7 @@ use Rattle.seize_words.specs.declared.fault.Fault.{Fault}
 use Rattle.seize_words.specs.Plan.{Plan, May, Steps, plan_as}
 use Rattle.seize_rule.proofs.Rows.Leaving.{steps_back}
 use Rattle.seize_rule.proofs.Rows.Others.{begins_others, steps_others}
-use Rattle.seize.specs.World.{World, Row, Event, Runs, with_at}
+use Rattle.seize.specs.World.{World, Row, Rests, Event, Runs, with_at}
 use Rattle.seize.specs.declared.progress.Progress.{Progress as Counted}
 use Rattle.seize.specs.declared.progress.Progress.TheVariants as counted
 use Rattle.papaya_tables.specs.Chunks.{is_incremental}
@@ -53,11 +53,13 @@ use Rattle.papaya_late.specs.ToldSweeps.{IsRowOfSweep}
 use Rattle.papaya_callers.proofs.Sights.Parts.{part_same}
 use Rattle.papaya_callers.specs.OverAll.{CallOverAll, gone_on}
 use Rattle.papaya_callers.specs.Rooms.{CallForRoom}
-use Rattle.papaya_callers.specs.Together.{UnderWay, OnKey, ForRoom, Counting, OverAll, CallOnKey, IsOneStep, next_of, next_for_room, next_of_counting, next_over_all}
+use Rattle.papaya_callers.specs.Rows.{LeavesSlots}
+use Rattle.papaya_callers.specs.Sights.{seen_by}
+use Rattle.papaya_callers.specs.Together.{UnderWay, OnKey, ForRoom, Counting, OverAll, CallOnKey, Stands, IsOneStep, next_of, next_for_room, next_of_counting, next_over_all}
 use Rattle.papaya_finishes.specs.Makings.{Beginning}
 use Rattle.papaya_finishes.specs.Maps.{Standing, IsSameMap, with_call}
 use Rattle.papaya_callers.proofs.Together.At.{at_other, at_same}
-use Rattle.papaya_callers.proofs.Together.Users.{events_rows}
+use Rattle.papaya_callers.proofs.Together.Slots.{alike_same, all_between, between_rows, between_slots}
 use Rattle.papaya_finishes.specs.Endings.{Finishing, EndingsTogether, StepsAmong, RowStepsAmong}
 use Rattle.papaya_finishes.specs.Rooms.{RoomStepsAmong, RoomRowsAmong}
 use Rattle.papaya_finishes.specs.Sweeps.{SweepStepsAmong, SweepRowsAmong}
@@ -139,8 +141,12 @@ remembers_same incremental c = record { now = omega arith; was = λ moment l. re
 
 -- rows of other callers are as they were
 module _ {K V : Type 0} (setting : Setting) (w w2 : World (Node K V)) where
-  users_rows : (events : List (Event (Node K V))) → AllUsers events → Runs deferred_word setting.batch_size events w w2 → {i : ℕ} (j : ℕ) → j ≢ i → w2.row j ≡ w.row j
-  users_rows events users runs j ne = ap (λ (f : ℕ → Row). f j) (events_rows setting.batch_size events w w2 users runs)
+  users_rows : (events : List (Event (Node K V))) → AllUsers events → Runs deferred_word setting.batch_size events w w2 → (j : ℕ) → w2.row j ≡ w.row j
+  users_rows events users runs j = ap (λ (f : ℕ → Row). f j) (between_rows deferred_word setting.batch_size events w w2 (all_between events users) runs)
+
+  -- and so are slots
+  users_slots : (events : List (Event (Node K V))) → AllUsers events → Runs deferred_word setting.batch_size events w w2 → (s i : ℕ) → LeavesSlots s i w w2
+  users_slots events users = between_slots deferred_word setting.batch_size events w w2 (all_between events users)
 
   one_step_rows : {i : ℕ} → IsOneStep setting i w w2 → (j : ℕ) → j ≢ i → w2.row j ≡ w.row j
   one_step_rows {i} (inl step) j ne = steps_others deferred_word setting.batch_size w w2 i j ne (w.row i) step
@@ -156,8 +162,9 @@ module _ {K Q : Type 0} (V : Type 0) (same : K → K → Bool) (asks : Q → K �
     abbrev All : World (Node K V) → (ℕ → Option (Standing K)) → Option (UnderWay K V Q) → Type 0
     All w2 maps2 next = EndingsTogether V same asks batch_size roots slot w2 maps2 (with_call calls m i next) makers enders
 
-    module _ (m2 : Mem (Node K V)) (w2 : World (Node K V)) (memory : w2.memory ≡ m2) (rows : (j : ℕ) → j ≢ i → w2.row j ≡ w.row j)
-        (u : UnderWay K V Q) (machine : Machine K V Q) (told : Progress (Node K V)) (next : Option (UnderWay K V Q)) (goes_on : GoesOnAs machine told next) where
+    module _ (m2 : Mem (Node K V)) (w2 : World (Node K V)) (memory : w2.memory ≡ m2) (rows : (j : ℕ) → j ≢ i → w2.row j ≡ w.row j) (slots : LeavesSlots (slot i) i w w2)
+        (u : UnderWay K V Q) (machine : Machine K V Q) (told : Progress (Node K V)) (next : Option (UnderWay K V Q)) (goes_on : GoesOnAs machine told next)
+        (rests : next ≡ None → w2.row i ≡ Rests) where
       abbrev Did : (ℕ → Option (Standing K)) → Type 0
       Did maps2 = DidOfKind V same asks batch_size roots slot w maps calls makers enders m s i m2 w2 maps2 next u machine told
 
@@ -167,11 +174,13 @@ module _ {K Q : Type 0} (V : Type 0) (same : K → K → Bool) (asks : Q → K �
         w2 = w2;
         memory = memory;
         rows = rows;
+        slots = slots;
         maps2 = with_at maps m (Some s2);
         its_map = subst (StandsOn s) (sym (at_same maps m (Some s2) m refl)) stands_on;
         others = λ n ne. subst (IsSameMap (maps n)) (sym (at_other maps m (Some s2) n ne)) (same_map (maps n));
         next = next;
         goes_on = goes_on;
+        rests = rests;
         together = together;
         did = did;
       }
@@ -182,11 +191,13 @@ module _ {K Q : Type 0} (V : Type 0) (same : K → K → Bool) (asks : Q → K �
         w2 = w2;
         memory = memory;
         rows = rows;
+        slots = slots;
         maps2 = maps2;
         its_map = (let h = subst (λ (x : Option (Standing K)). IsSameMap x (maps2 m)) here (maps_same m) in (s.chart, h.0, h.1, remembers_same (is_incremental s.setting.mode) s.chart, h.2));
         others = λ n ne. maps_same n;
         next = next;
         goes_on = goes_on;
+        rests = rests;
         together = together;
         did = did;
       }
@@ -207,6 +218,28 @@ module _ {K Q : Type 0} (V : Type 0) (same : K → K → Bool) (asks : Q → K �
         λ m2 machine told st. let e = steps_back as_call w.memory m2 plan (machine, told) st in subst (Leads m2 u) (sym e.2) (leads m2 e.0 e.1),
       )
 
+    -- a call that is at no row's step has none under way
+    stands_now : (u : UnderWay K V Q) → calls m i ≡ Some u → Stands V same s.hash asks s.setting slot w s.chart (seen_by s.blocks (s.sights (slot i))) i u
+    stands_now u has = (all.makings.standing.each m s here).stand i u has
+
+    key_rests : (u : CallOnKey K V Q) → calls m i ≡ Some (OnKey u) → (IsRowOfCall u.call.stands → ⊥) → w.row i ≡ Rests
+    key_rests u has none = elim (stands_now (OnKey u) has) as (λ _. w.row i ≡ Rests) [
+      | inl h ↦ h.0
+      | inr h ↦ absurd (none h.1)
+    ]
+
+    room_rests : (r : CallForRoom) → calls m i ≡ Some (ForRoom r) → (IsRowOfReserve r.reserve.stands → ⊥) → w.row i ≡ Rests
+    room_rests r has none = elim (stands_now (ForRoom r) has) as (λ _. w.row i ≡ Rests) [
+      | inl h ↦ h.0
+      | inr h ↦ absurd (none h.1)
+    ]
+
+    sweep_rests : (o : CallOverAll) → calls m i ≡ Some (OverAll o) → (IsRowOfSweep o.sweep.stands → ⊥) → w.row i ≡ Rests
+    sweep_rests o has none = elim (stands_now (OverAll o) has) as (λ _. w.row i ≡ Rests) [
+      | inl h ↦ h.0
+      | inr h ↦ absurd (none h.1)
+    ]
+
     by_key : (u : CallOnKey K V Q) → calls m i ≡ Some (OnKey u) → Either (IsRowOfCall u.call.stands) → Comes (OnKey u)
     by_key u has (inr none) = wrapped (OnKey u) machines.called (call_plan asks same s.hash u.call) leads.0 by
       where
@@ -218,8 +251,10 @@ module _ {K Q : Type 0} (V : Type 0) (same : K → K → Bool) (asks : Q → K �
         by : (m2 : Mem (Node K V)) (end : KeyCall K V Q × Called (Node K V)) → Steps Took value_at w.memory (call_plan asks same s.hash u.call) m2 end → Leads m2 (OnKey u) (machines.called end)
         by m2 (p2, told) st =
             let to = leads.1 m2 p2 told st in
-            moved m2 to.step.went.w2 to.step.went.memory (users_rows s.setting w to.step.went.w2 to.step.went.events to.step.went.users to.step.went.runs)
-            (OnKey u) (kinds.Key p2) (of_called told) _ (key_on K V Q _ told) (record s { chart = to.step.went.c2; blocks = to.step.blocks2; sights = to.step.sights2 })
+            moved m2 to.step.went.w2 to.step.went.memory (λ j ne. users_rows s.setting w to.step.went.w2 to.step.went.events to.step.went.users to.step.went.runs j)
+            (users_slots s.setting w to.step.went.w2 to.step.went.events to.step.went.users to.step.went.runs (slot i) i)
+            (OnKey u) (kinds.Key p2) (of_called told) _ (key_on K V Q _ told)
+            (λ over. users_rows s.setting w to.step.went.w2 to.step.went.events to.step.went.users to.step.went.runs i ∙ key_rests u has none) (record s { chart = to.step.went.c2; blocks = to.step.blocks2; sights = to.step.sights2 })
             (p2, told, refl, refl, inl (to, (refl, refl, refl))) (to.step.went.c2, to.step.blocks2, to.step.sights2, to.step.remembers, refl) to.together
     by_key u has (inl row) = wrapped (OnKey u) machines.called (call_plan asks same s.hash u.call) leads.0 by
       where
@@ -231,7 +266,8 @@ module _ {K Q : Type 0} (V : Type 0) (same : K → K → Bool) (asks : Q → K �
         by : (m2 : Mem (Node K V)) (end : KeyCall K V Q × Called (Node K V)) → Steps Took value_at w.memory (call_plan asks same s.hash u.call) m2 end → Leads m2 (OnKey u) (machines.called end)
         by m2 (p2, told) st =
             let to = leads.1 m2 p2 told st in
-            stayed m2 to.step.w2 to.step.memory (one_step_rows s.setting w to.step.w2 to.step.happened) (OnKey u) (kinds.Key p2) (of_called told) _ (key_on K V Q (record { keys = u.keys; pair = u.pair; began = u.began; change = u.change; call = p2 }) told) to.together.0
+            stayed m2 to.step.w2 to.step.memory (one_step_rows s.setting w to.step.w2 to.step.happened) to.step.slots
+            (OnKey u) (kinds.Key p2) (of_called told) _ (key_on K V Q (record { keys = u.keys; pair = u.pair; began = u.began; change = u.change; call = p2 }) told) to.step.rests to.together.0
             (p2, told, refl, refl, inr (to, (refl, to.together.1, refl))) to.together.1 to.together.2
 
     by_room : (r : CallForRoom) → calls m i ≡ Some (ForRoom r) → Either (IsRowOfReserve r.reserve.stands) → Comes (ForRoom r)
@@ -245,8 +281,10 @@ module _ {K Q : Type 0} (V : Type 0) (same : K → K → Bool) (asks : Q → K �
         by : (m2 : Mem (Node K V)) (end : Reserve × Outcome (Node K V) Unit) → Steps Took value_at w.memory (reserve_plan s.hash r.reserve) m2 end → Leads m2 (ForRoom r) (machines.reserved end)
         by m2 (p2, end) st =
             let to = leads.1 m2 p2 end st in
-            moved m2 to.step.went.w2 to.step.went.memory (users_rows s.setting w to.step.went.w2 to.step.went.events to.step.went.users to.step.went.runs)
-            (ForRoom r) (kinds.Reserve p2) (of_outcome end) _ (room_on K V Q _ end) (record s { chart = to.step.went.c2; blocks = to.step.blocks2; sights = to.step.sights2 })
+            moved m2 to.step.went.w2 to.step.went.memory (λ j ne. users_rows s.setting w to.step.went.w2 to.step.went.events to.step.went.users to.step.went.runs j)
+            (users_slots s.setting w to.step.went.w2 to.step.went.events to.step.went.users to.step.went.runs (slot i) i)
+            (ForRoom r) (kinds.Reserve p2) (of_outcome end) _ (room_on K V Q _ end)
+            (λ over. users_rows s.setting w to.step.went.w2 to.step.went.events to.step.went.users to.step.went.runs i ∙ room_rests r has none) (record s { chart = to.step.went.c2; blocks = to.step.blocks2; sights = to.step.sights2 })
             (p2, end, refl, refl, inl (to, (refl, refl, refl))) (to.step.went.c2, to.step.blocks2, to.step.sights2, to.step.remembers, refl) to.together
     by_room r has (inl row) = wrapped (ForRoom r) machines.reserved (reserve_plan s.hash r.reserve) leads.0 by
       where
@@ -258,7 +296,8 @@ module _ {K Q : Type 0} (V : Type 0) (same : K → K → Bool) (asks : Q → K �
         by : (m2 : Mem (Node K V)) (end : Reserve × Outcome (Node K V) Unit) → Steps Took value_at w.memory (reserve_plan s.hash r.reserve) m2 end → Leads m2 (ForRoom r) (machines.reserved end)
         by m2 (p2, end) st =
             let to = leads.1 m2 p2 end st in
-            stayed m2 to.step.w2 to.step.memory (one_step_rows s.setting w to.step.w2 to.step.happened) (ForRoom r) (kinds.Reserve p2) (of_outcome end) _ (room_on K V Q (record { began = r.began; reserve = p2 }) end) to.together.0
+            stayed m2 to.step.w2 to.step.memory (one_step_rows s.setting w to.step.w2 to.step.happened) to.step.slots
+            (ForRoom r) (kinds.Reserve p2) (of_outcome end) _ (room_on K V Q (record { began = r.began; reserve = p2 }) end) to.step.rests to.together.0
             (p2, end, refl, refl, inr (to, (refl, to.together.1, refl))) to.together.1 to.together.2
 
     by_sweep : (o : CallOverAll) → calls m i ≡ Some (OverAll o) → Either (IsRowOfSweep o.sweep.stands) → Comes (OverAll o)
@@ -272,8 +311,10 @@ module _ {K Q : Type 0} (V : Type 0) (same : K → K → Bool) (asks : Q → K �
         by : (m2 : Mem (Node K V)) (end : Sweep × Swept (Node K V)) → Steps Took value_at w.memory (sweep_plan s.hash o.sweep) m2 end → Leads m2 (OverAll o) (machines.swept end)
         by m2 (p2, end) st =
             let to = leads.1 m2 p2 end st in
-            moved m2 to.step.went.w2 to.step.went.memory (users_rows s.setting w to.step.went.w2 to.step.went.events to.step.went.users to.step.went.runs)
-            (OverAll o) (kinds.Sweep p2) (of_swept end) _ (sweep_on K V Q _ end) (record s { chart = to.step.went.c2; blocks = to.step.blocks2; sights = to.step.sights2 })
+            moved m2 to.step.went.w2 to.step.went.memory (λ j ne. users_rows s.setting w to.step.went.w2 to.step.went.events to.step.went.users to.step.went.runs j)
+            (users_slots s.setting w to.step.went.w2 to.step.went.events to.step.went.users to.step.went.runs (slot i) i)
+            (OverAll o) (kinds.Sweep p2) (of_swept end) _ (sweep_on K V Q _ end)
+            (λ over. users_rows s.setting w to.step.went.w2 to.step.went.events to.step.went.users to.step.went.runs i ∙ sweep_rests o has none) (record s { chart = to.step.went.c2; blocks = to.step.blocks2; sights = to.step.sights2 })
             (p2, end, refl, refl, inl (to, (refl, refl, refl))) (to.step.went.c2, to.step.blocks2, to.step.sights2, to.step.remembers, refl) to.together
     by_sweep o has (inl row) = wrapped (OverAll o) machines.swept (sweep_plan s.hash o.sweep) leads.0 by
       where
@@ -285,7 +326,8 @@ module _ {K Q : Type 0} (V : Type 0) (same : K → K → Bool) (asks : Q → K �
         by : (m2 : Mem (Node K V)) (end : Sweep × Swept (Node K V)) → Steps Took value_at w.memory (sweep_plan s.hash o.sweep) m2 end → Leads m2 (OverAll o) (machines.swept end)
         by m2 (p2, end) st =
             let to = leads.1 m2 p2 end st in
-            stayed m2 to.step.w2 to.step.memory (one_step_rows s.setting w to.step.w2 to.step.happened) (OverAll o) (kinds.Sweep p2) (of_swept end) _ (sweep_on K V Q (gone_on o p2) end) to.together.0
+            stayed m2 to.step.w2 to.step.memory (one_step_rows s.setting w to.step.w2 to.step.happened) to.step.slots
+            (OverAll o) (kinds.Sweep p2) (of_swept end) _ (sweep_on K V Q (gone_on o p2) end) to.step.rests to.together.0
             (p2, end, refl, refl, inr (to, (refl, to.together.1, refl))) to.together.1 to.together.2
 
     by_counting : (sum : Sum) → calls m i ≡ Some (Counting sum) → Comes (Counting sum)
@@ -299,7 +341,7 @@ module _ {K Q : Type 0} (V : Type 0) (same : K → K → Bool) (asks : Q → K �
         by : (m2 : Mem (Node K V)) (end : Sum × Counted ℕ) → Steps Took value_at w.memory (sum_plan sum) m2 end → Leads m2 (Counting sum) (machines.counted end)
         by m2 (sum2, end) st =
             let to = leads.1 m2 sum2 end st in
-            stayed m2 w (sym to.0) (λ j ne. refl) (Counting sum) (kinds.Count sum2) (of_counting end) (next_of_counting sum2 end) (count_on K V Q sum2 end) maps
+            stayed m2 w (sym to.0) (λ j ne. refl) (record { uses = λ t. alike_same (w.uses t); on_slot = λ on. on }) (Counting sum) (kinds.Count sum2) (of_counting end) (next_of_counting sum2 end) (count_on K V Q sum2 end) (λ over. (stands_now (Counting sum) has).0) maps
             (sum2, end, refl, refl, to.0, (refl, (λ n. same_map (maps n)), refl)) (λ n. same_map (maps n)) to.3
 
     each : (u : UnderWay K V Q) → calls m i ≡ Some u → Comes u

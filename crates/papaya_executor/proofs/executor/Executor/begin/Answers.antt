@@ -11,4 +11,4 @@ returns-clause-leads g c = λ same hash s at.
     let few : length c.args.self.now.workers.items < 2 ^ 32 = grind (arith, c.if-place-ge-MOST_CALLERS.false, count) in
     let new = record c.args.self.now { workers = c.push.new.self } in
     subst (λ (n : ℕ). BeginLeads same hash c.args.map c.args.machine (n * SLOTS + c.args.slot) s c.args.self.now new) (sym count)
-    (begin_leads same hash c.args.self.now s at c.args.slot c.args.map c.args.machine c.requires few new refl c.in_ok-push.ensures.items refl refl refl refl)
+    (begin_leads same hash c.args.self.now s at c.args.slot c.args.map c.args.machine c.requires few new refl c.in_ok-push.ensures.items refl refl refl refl refl)

@@ -9,5 +9,5 @@ take_call-slot-requires g c = has_place _ _ _ _ c.requires.3 c.args.caller c.req
 
 pub returns : goal.returns
 returns g c = λ same hash s at.
-    reply_leads same hash _ s at c.args.caller _ _ refl c.take_call-slot.ensures.after refl refl refl refl _ _ _ c.take_call-slot.ensures.before _ c.put_back.ensures
+    reply_leads same hash _ s at c.args.caller _ _ refl c.take_call-slot.ensures.after refl refl refl refl refl _ _ _ c.take_call-slot.ensures.before _ c.put_back.ensures
     c.args.reply c.reply-taken.result c.reply-taken.ensures

@@ -1,0 +1,50 @@
+//! All that waits is reclaimed, one step at a time.
+ghost use Rattle.std.specs.Prelude.{◌≡◌, ℕ, Bool, List};
+ghost use Rattle.papaya_executor.specs.IsAt.{Scene, IsAt};
+ghost use Rattle.papaya_reclaiming.specs.Reclaiming.{NobodyHas, MayReclaim, IsReclaiming, Leaves, ReclaimingLeads};
+
+use papaya_executor::executor::Executor;
+use papaya_raw::Node;
+use seize::rows::{ReclaimAll, Settled};
+
+/// All that waits is being reclaimed. It is no caller's: nobody has anything under way meanwhile.
+#[derive(Clone, Copy)]
+pub struct Reclaiming {
+    /// How far it is.
+    pub all: ReclaimAll,
+}
+
+/// Once it is over no slot is in use.
+fn leave<K, V, S>(executor: &mut Executor<K, V, S>, told: &Settled<Node<K, V>>)
+    ensures { Leaves executor.old executor.new told.now }
+{
+    if let Settled::Done = told {
+        executor.vacate();
+    }
+}
+
+impl Reclaiming {
+    /// Begins with the slots, if one was ever taken, else with the roots.
+    pub fn new<K, V, S>(executor: &Executor<K, V, S>, taken: bool) -> Self
+        ensures { (same : K → K → Bool) (hash : K → ℕ) (s : Scene K V) (i : ℕ) (lists : ℕ → List ℕ) → IsAt same hash executor.now s → NobodyHas executor.now → MayReclaim executor.now s lists taken
+            → IsReclaiming same hash executor.now s i lists result.all }
+    {
+        let all = if taken {
+            ReclaimAll::reclaim_all(executor.batch_size, executor.roots)
+        } else {
+            ReclaimAll::clearing(executor.roots)
+        };
+        Reclaiming { all }
+    }
+
+    /// Takes the next step: at most one operation. Once it is over no slot is in use.
+    pub fn step<K, V, S>(&mut self, executor: &mut Executor<K, V, S>) -> Settled<Node<K, V>>
+        requires { (same : K → K → Bool) × (hash : K → ℕ) × (s : Scene K V) × (i : ℕ) × (lists : ℕ → List ℕ) × IsReclaiming same hash executor.old s i lists self.old.all }
+        ensures { (same : K → K → Bool) (hash : K → ℕ) (s : Scene K V) (i : ℕ) (lists : ℕ → List ℕ) → IsReclaiming same hash executor.old s i lists self.old.all
+            → ReclaimingLeads same hash s i lists executor.old executor.new self.old.all self.new.all result }
+    {
+        let told = executor.step_nobodys(&mut self.all);
+        leave(executor, &told);
+        told
+    }
+}
