@@ -1,4 +1,5 @@
 -- The map of one owner, and its pairs.
+pub mod Answered
 pub mod Blocks
 pub mod Calls
 pub mod Clears
@@ -10,6 +11,7 @@ pub mod Lookups
 pub mod Making
 pub mod Places
 pub mod Refreshes
+pub mod Rests
 pub mod Retains
 pub mod Sifts
 pub mod Sweeps

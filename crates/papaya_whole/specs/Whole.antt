@@ -1,10 +1,11 @@
 -- What is promised of whole calls for one owner: where each begins, where each of its steps leads, and that its steps come to an end.
-use Rattle.std.specs.Prelude.{◌≡◌, ℕ, ◌≤◌, Bool, Some, true}
+use Rattle.std.specs.Prelude.{◌≡◌, ℕ, ◌<◌, ◌≤◌, Bool, Some, true}
 use Rattle.std.specs.Int.{IsPowerOfTwo}
 use Rattle.seize_words.specs.Mem.{Mem, Can, Took, value_at, word_at}
 use Rattle.seize_words.specs.Plan.{May, Steps}
 use Rattle.seize_words.specs.declared.at.At.TheVariants.{Root, Word}
 use Rattle.seize_words.specs.declared.fault.Fault.{Fault}
+use Rattle.seize_words.specs.declared.fault.Fault.TheVariants.{RemoveNothing}
 use Rattle.seize.specs.World.{World, Rests, IsInside}
 use Rattle.papaya_tables.specs.declared.node.Node.{Node}
 use Rattle.papaya_tables.specs.declared.setting.Setting.{Setting}
@@ -32,7 +33,7 @@ use Rattle.papaya_alone.specs.Counted.{HasAdded, counted_for, counted_at}
 use Rattle.papaya_alone.specs.Counting.{IsCounted}
 use Rattle.papaya_alone.specs.Endings.{RunsEnd}
 use Rattle.papaya_callers.specs.Kept.{IsMaking}
-use Rattle.papaya_callers.specs.Pairs.{Given, HandsBack}
+use Rattle.papaya_callers.specs.Pairs.{Given, HandsBack, RemovesNone}
 use Rattle.papaya_callers.specs.Sights.{Sight, seen_by}
 use Rattle.papaya_callers.specs.Together.{CallOnKey, OnKey, CameAbout, no_blocks, no_sight, in_slot, IsBegun, begun_at, AnswersOnce, IsReclaimed, RepliesTaken}
 use Rattle.papaya_whole.specs.Owner.{AtRest, IsAlone}
@@ -68,7 +69,7 @@ module _ {K V Q : Type 0} (same : K → K → Bool) (hash : K → ℕ) (asks : Q
   Leads w w2 c2 blocks2 sights2 u (called.Asks asked) = IsAlone same hash asks setting slot w2 c2 blocks2 sights2 (OnKey u) × (asks_at : Asking) × (u.call.stands ≡ at.Asks asks_at)
   Leads w w2 c2 blocks2 sights2 u (called.Done answer) =
       AtRest {K = K} {V = V} {Q = Q} same hash asks setting slot w2 c2 blocks2 sights2 × (seen : Blocks) × IsMapIn same hash (in_slot setting (slot 0)) w2 c2 seen
-      × ((o : ℕ) → c2.current o ≡ true → seen.pair o ≡ blocks2.pair o) × AnswersOnce V same hash asks setting slot w2 c2 seen 0 u u.change answer
+      × ((o : ℕ) → o < c2.stored → seen.pair_known o ≡ true → seen.pair o ≡ blocks2.pair o) × AnswersOnce V same hash asks setting slot w2 c2 seen 0 u u.change answer
   Leads w w2 c2 blocks2 sights2 u (called.Refused fault) = AtRest {K = K} {V = V} {Q = Q} same hash asks setting slot w2 c2 blocks2 sights2 × (u.change ≡ Unchanged)
 
   -- where a step leads, be it one of a row of the collector
@@ -89,6 +90,11 @@ module _ {K V Q : Type 0} (same : K → K → Bool) (hash : K → ℕ) (asks : Q
     pub refused : (fault : Fault) → progress ≡ called.Refused fault → (m0 : Mem (Node K V)) → HasAdded setting m0 (counted_at u.call.stands) w.memory → HasAdded setting m0 0 w2.memory
     -- what it hands back is the pair that it was begun with
     pub hands : (value : Node K V) → progress ≡ called.Unstored value → HandsBack u.pair value
+    -- it is refused the removal of what is not there where it was told to remove that
+    pub removes : (fault : Fault) → progress ≡ called.Refused fault → fault ≡ RemoveNothing → RemovesNone u.pair
+    -- the pairs that could be looked at can be still, in the same blocks, with the same values
+    pub looks : (o : ℕ) → o < c.stored → blocks.pair_known o ≡ true
+        → (blocks2.pair_known o ≡ true) × (blocks2.pair o ≡ blocks.pair o) × (value_at w2.memory (blocks.pair o) ≡ value_at w.memory (blocks.pair o))
 
 module _ {K Q : Type 0} (V : Type 0) (same : K → K → Bool) (hash : K → ℕ) (asks : Q → K → Bool) (setting : Setting) (slot : ℕ → ℕ) where
   -- A map that has no table yet rests, where no row is under way, and the slot is within a section.

@@ -1,5 +1,5 @@
 -- A step of a call that is alone, none of a row of the collector: it does not wait, and the call is alone still, or it asks, or the owner rests.
-use Rattle.std.specs.Prelude.{◌≡◌, ℕ, Bool, Option, Some, None}
+use Rattle.std.specs.Prelude.{◌≡◌, ℕ, ◌<◌, Bool, Option, Some, None}
 use Rattle.std.specs.Int.{IsPowerOfTwo}
 use Rattle.std.proofs.Common.{inl, inr, refl, ap, sym, subst, ◌∙◌, true}
 use Rattle.std.proofs.lemmas.Bool.{cases_eq, cases_lt}
@@ -17,7 +17,7 @@ use Rattle.papaya_raw.specs.declared.machines.answer.Called.TheVariants as calle
 use Rattle.papaya_raw.specs.declared.machines.call.KeyCall.{KeyCall}
 use Rattle.papaya_rule.specs.Chart.{Chart}
 use Rattle.papaya_rule.specs.Words.{Blocks}
-use Rattle.papaya_rule.specs.InWorld.{IsMapIn, Went}
+use Rattle.papaya_rule.specs.InWorld.{IsMapIn, IsOut, Went}
 use Rattle.papaya_rule.proofs.World.WentTold.{went_as}
 use Rattle.papaya_points.specs.FactsCalls.{CallFacts}
 use Rattle.papaya_points.specs.Steps.{AreLawful}
@@ -39,7 +39,6 @@ use Rattle.papaya_whole.specs.Whole.{then_so, Leads, StepLeads}
 use Rattle.papaya_points.proofs.MovedLasts.{moved_lasts}
 use Rattle.papaya_alone.proofs.Calls.Changes.{changed_on}
 use Rattle.papaya_callers.proofs.Sights.Sources.{below, above}
-use Rattle.papaya_rule.proofs.World.Hands.{current_known}
 use Rattle.papaya_whole.proofs.Contents.Runs.{were_told, went_keeps, run_on, still_on}
 use Rattle.seize_words.specs.declared.fault.Fault.{Fault}
 use Rattle.papaya_alone.specs.Counted.{HasAdded, counted_at}
@@ -149,14 +148,22 @@ module _ {K V Q : Type 0} (same : K → K → Bool) (hash : K → ℕ) (asks : Q
                 of_root = of_root_then (together2.stand 0 (OnKey after) has2);
               }
 
-        -- what it has looked at are the pairs of the map
-        pair_seen : (o : ℕ) → lone.c2.current o ≡ true → lone.blocks2.pair o ≡ stepped.blocks2.pair o
-        pair_seen o is = elim (cases_lt o c.stored) as (λ _. lone.blocks2.pair o ≡ stepped.blocks2.pair o) [
-          | inl low ↦
-              (let known = current_known same hash here lone.w2 lone.c2 lone.blocks2 lone.map.map.rule lone.map.map.shows o is in
-              (lone.blocks_same.pairs o low (lone.blocks_same.pairs_back o low known.1)).0 ∙ sym (below o c.stored (blocks.pair o) (lone.blocks2.pair o) low))
+        -- what it has looked at has the blocks that it has for all
+        pair_seen : (o : ℕ) → lone.blocks2.pair_known o ≡ true → lone.blocks2.pair o ≡ stepped.blocks2.pair o
+        pair_seen o known = elim (cases_lt o c.stored) as (λ _. lone.blocks2.pair o ≡ stepped.blocks2.pair o) [
+          | inl low ↦ (lone.blocks_same.pairs o low (lone.blocks_same.pairs_back o low known)).0 ∙ sym (below o c.stored (blocks.pair o) (lone.blocks2.pair o) low)
           | inr high ↦ sym (above o c.stored (blocks.pair o) (lone.blocks2.pair o) high)
         ]
+
+        whole : IsMapIn same hash setting w c blocks
+        whole = a.together.ground.map
+
+        -- and its value
+        value_same : (o : ℕ) → o < c.stored → blocks.pair_known o ≡ true → value_at lone.w2.memory (blocks.pair o) ≡ value_at w.memory (blocks.pair o)
+        value_same o low known =
+            let is = (whole.map.shows.pairs o low known).2 in
+            ap (λ (m : Mem (Node K V)). value_at m (blocks.pair o)) lone.memory
+            ∙ lone.frame.values (blocks.pair o) _ is (λ making. subst IsOut making.0 (whole.pairs_out o low known)) ∙ sym is
 
         -- where it has ended, the owner rests
         at_rest : RestsAlone (is_incremental setting.mode) 0 lone.c2 → next_of after progress ≡ None → AtRest {Q = Q} same hash asks setting slot lone.w2 lone.c2 stepped.blocks2 stepped.sights2
@@ -191,6 +198,12 @@ module _ {K V Q : Type 0} (same : K → K → Bool) (hash : K → ℕ) (asks : Q
           leads = by progress refl lone.told.0.facts (lone.told.1 a.lone);
           counts = λ m0 had. subst (HasAdded setting m0 (counted_at p2.stands)) (sym lone.memory) (counting m0 had).0;
           hands = stepped.hands;
+          removes = λ fault is nothing. ((stepped.refuses fault is).2 nothing).0;
+          looks = λ o low known. (
+            below o c.stored (blocks.pair_known o) (lone.blocks2.pair_known o) low ∙ known,
+            below o c.stored (blocks.pair o) (lone.blocks2.pair o) low,
+            value_same o low known,
+          );
           answered = λ answer is. answered_counted answer p2.stands (subst (CallFactsAfter same hash asks 0 here u.keys lone.w2 lone.c2 lone.blocks2 lone.told.0.change2 p2) is lone.told.0.facts).0;
           refused = λ fault is m0 had. subst (HasAdded setting m0 0) (sym lone.memory) ((counting m0 had).1 fault is);
           runs = λ m0 c0 blocks0 rule0. run_on same hash setting u.keys m0 c0 blocks0 w.memory lone.w2.memory c lone.c2 blocks stepped.blocks2 u.change lone.told.0.change2
@@ -208,5 +221,5 @@ module _ {K V Q : Type 0} (same : K → K → Bool) (hash : K → ℕ) (asks : Q
             by (called.Gave value) is facts alone = absurd facts
             by (called.Unstored value) is facts alone = still_alone facts alone.0 (ap (next_of after) is)
             by (called.Asks asked) is facts alone = (still_alone facts alone.0 (ap (next_of after) is), alone.1, alone.2)
-            by (called.Done answer) is facts alone = (at_rest alone (ap (next_of after) is), lone.blocks2, lone.map, pair_seen, stepped.answers answer is)
+            by (called.Done answer) is facts alone = (at_rest alone (ap (next_of after) is), lone.blocks2, lone.map, (λ o low known. pair_seen o known), stepped.answers answer is)
             by (called.Refused fault) is facts alone = (at_rest alone (ap (next_of after) is), facts.1)

@@ -1,0 +1,10 @@
+-- Calls on a key that ask, as one owner runs them to their ends.
+pub mod Begins
+pub mod Ends
+pub mod Finishes
+pub mod Questions
+pub mod Replied
+pub mod Runs
+pub mod Steps
+pub mod Told
+pub mod Undisturbed
