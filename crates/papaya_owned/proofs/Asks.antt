@@ -1,6 +1,8 @@
 -- Calls on a key that ask, as one owner runs them to their ends.
 pub mod Begins
+pub mod Calls
 pub mod Ends
+pub mod Finished
 pub mod Finishes
 pub mod Questions
 pub mod Replied

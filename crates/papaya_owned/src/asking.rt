@@ -5,6 +5,7 @@ ghost use Rattle.papaya_callers.specs.Pairs.{IsTold};
 ghost use Rattle.papaya_callers.specs.Together.{IsBegun};
 ghost use Rattle.papaya_raw.specs.CallAsks.{replied};
 ghost use Rattle.papaya_raw.specs.declared.machines.asking.Reply.TheVariants as replies;
+ghost use Rattle.papaya_raw.specs.declared.machines.asking.Told.TheVariants as tells;
 ghost use Rattle.papaya_owned.specs.Asking.{IsTaken, EndsAs, Pauses, StartsAs, ToldThis, HasKeyBack, HasPairBack};
 ghost use Rattle.papaya_owned.specs.Owned.{Holds};
 
@@ -14,6 +15,7 @@ use papaya_raw::machines::{KeyAnswer, Reply, Told};
 use papaya_tables::{Equivalent, Hashes, Node, Setting};
 use seize_words::{Fault, Plain};
 use std::hash::Hash;
+use std::mem;
 
 /// Takes the steps of a call that asks until it does, or has ended.
 pub(crate) fn start<K: Eq + Hash + Drop, V: Drop, Q: Equivalent<K>, S: Hashes<K>>(
@@ -56,25 +58,42 @@ pub(crate) fn finish<K: Eq + Hash + Drop, V: Drop, Q: Equivalent<K>, S: Hashes<K
 }
 
 /// The key of a call that was refused.
-pub(crate) fn key_of<K: Drop, V: Drop, Q: Drop, S>(machine: OnKey<'_, K, V, Q, S>) -> K
-    requires { (key : K) × HasKeyBack machine key }
-    ensures { (key : K) → HasKeyBack machine key → result ≡ key }
+pub(crate) fn key_of<K: Drop, V: Drop, Q, S>(machine: &mut OnKey<'_, K, V, Q, S>) -> K
+    requires { (key : K) × HasKeyBack machine.old key }
+    ensures { (key : K) → HasKeyBack machine.old key → result ≡ key }
 {
-    match (machine.unstored, machine.call.replies.key) {
-        (Some(Node::Pair(key, _)), _) => key,
-        (None, Some(key)) => key,
-        (Some(Node::Table { .. } | Node::Shards), _) | (None, None) => unreachable!(),
+    match machine.unstored.take() {
+        Some(Node::Pair(key, _)) => key,
+        Some(Node::Table { .. } | Node::Shards) => unreachable!(),
+        None => match machine.call.replies.key.take() {
+            Some(key) => key,
+            None => unreachable!(),
+        },
+    }
+}
+
+/// The value that a call was told to store where its key is missing.
+fn value_of<V: Drop>(told: &mut Told<V>) -> V
+    requires { (value : V) × (told.old ≡ tells.Value value) }
+    ensures { told.old ≡ tells.Value result }
+{
+    match mem::replace(told, Told::Nothing) {
+        Told::Value(value) => value,
+        Told::Nothing | Told::Own | Told::Removes => unreachable!(),
     }
 }
 
 /// The key and the value of a call that was refused, and was to store them where the key is missing.
-pub(crate) fn pair_of<K: Drop, V: Drop, Q: Drop, S>(machine: OnKey<'_, K, V, Q, S>) -> (K, V)
-    requires { (key : K) × (value : V) × HasPairBack machine key value }
-    ensures { (key : K) (value : V) → HasPairBack machine key value → (result.0 ≡ key) × (result.1 ≡ value) }
+pub(crate) fn pair_of<K: Drop, V: Drop, Q, S>(machine: &mut OnKey<'_, K, V, Q, S>) -> (K, V)
+    requires { (key : K) × (value : V) × HasPairBack machine.old key value }
+    ensures { (key : K) (value : V) → HasPairBack machine.old key value → (result.0 ≡ key) × (result.1 ≡ value) }
 {
-    match (machine.unstored, machine.call.replies.key, machine.call.replies.absent) {
-        (Some(Node::Pair(key, value)), _, _) => (key, value),
-        (None, Some(key), Told::Value(value)) => (key, value),
-        (_, _, _) => unreachable!(),
+    match machine.unstored.take() {
+        Some(Node::Pair(key, value)) => (key, value),
+        Some(Node::Table { .. } | Node::Shards) => unreachable!(),
+        None => match machine.call.replies.key.take() {
+            Some(key) => (key, value_of(&mut machine.call.replies.absent)),
+            None => unreachable!(),
+        },
     }
 }

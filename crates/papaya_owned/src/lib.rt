@@ -9,14 +9,16 @@ mod machines;
 mod most;
 mod most_looks;
 mod refused;
+mod removals;
 mod running;
 mod sweeping;
 mod updates;
 
-pub use computing::{Computed, Operation};
+pub use computing::{Computed, Operation, compute};
 pub use looking::{find, pair_at};
 pub use machines::{ForRoom, OnKey, Refreshes, Stop};
 pub use refused::{RefusedKey, RefusedPair};
+pub use removals::{remove, remove_if};
 pub use running::run;
 pub use sweeping::{OverPairs, Pause};
-pub use updates::update;
+pub use updates::{insert_with, update, update_or_insert, update_or_insert_with};

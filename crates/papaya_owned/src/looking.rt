@@ -14,7 +14,7 @@ use crate::most_looks::MostLooks;
 use papaya_raw::machines::Lookup;
 use papaya_tables::{Equivalent, Node};
 use seize::Progress;
-use seize_words::{Link, Plain};
+use seize_words::{Link, Look, Plain};
 use std::hash::Hash;
 use std::snapshot::Snapshot;
 

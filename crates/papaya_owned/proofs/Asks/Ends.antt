@@ -56,9 +56,9 @@ use Rattle.papaya_owned.proofs.Asks.Undisturbed.{AsksFor, Undisturbed, Undisturb
 no_key : {K V : Type 0} (its : Option K) → (v : V) → ◌≡◌ {A = Option V} None (Some v) → (◌≡◌ {A = Option V} None (Some v)) × (k : K) × (its ≡ Some k)
 no_key its v e = absurd (cc e)
 
-asks_of : {K V : Type 0} (kind : Kind) (asked : Option ℕ) → TellsFit kind.present kind.absent kind.takes {T = Node K V} (called.Asks asked) → AsksOf kind asked
-asks_of kind None fit = fit
-asks_of kind (Some word) fit = fit
+asks_of : (K V : Type 0) (kind : Kind) (asked : Option ℕ) → TellsFit kind.present kind.absent kind.takes {T = Node K V} (called.Asks asked) → AsksOf kind asked
+asks_of K V kind None fit = fit
+asks_of K V kind (Some word) fit = fit
 
 -- its key comes back
 pub key_back : {K V Q S : Type 0} (its : Option K) (known value : Option V) (x : OnKey K V Q S) → HandedOut its known value true x ⊎ InHand its known value true x → (k : K) → its ≡ Some k → HasKeyBack x k
@@ -123,8 +123,8 @@ module _ {K V Q S : Type 0} (asks : Q → K → Bool) (same : K → K → Bool) 
           }
 
       unasked : (answer : KeyAnswer) → by.AnswersTo same asks hashes b setting m0 xs h keys (IsTold kind its []) m answer → AnswersAs same (hashes b.now) setting m keys xs its (Unasked kind) answer
-      unasked answers.Absent a = (told.unasked_none kind.absent kind.takes a.1, a.0, a.2)
-      unasked (answers.Found word) a = (a.0, told.unasked_pair a.3 kind.present kind.takes a.4, a.1, a.2, a.5)
+      unasked answers.Absent a = (told.unasked_none V kind.absent kind.takes a.1, a.0, a.2)
+      unasked (answers.Found word) a = (a.0, told.unasked_pair V a.3 kind.present kind.takes a.4, a.1, a.2, a.5)
       unasked (answers.Stored word) a = absurd (let e = a.3.1 in cc e)
       unasked (answers.Replaced old new) a = absurd (let e = a.6.1 in cc e)
       unasked (answers.Removed word) a = absurd (elim a.4 as (λ _. ⊥) [ inl e ↦ cc e | inr e ↦ cc e ])
@@ -138,7 +138,19 @@ module _ {K V Q S : Type 0} (asks : Q → K → Bool) (same : K → K → Bool) 
           unasked answer (by.answered_it same asks hashes b setting m0 xs h keys (IsTold kind its []) facts.one facts.named m answer (stopped (Ok (stop.Answered answer)) runs))
       start_so (Ok (stop.Asks asked)) runs =
           let s = stopped (Ok (stop.Asks asked)) runs in let c = come (Ok (stop.Asks asked)) runs in
-          (pauses asked s runs, ap (λ (y : OnKey K V Q S). y.hasher) s.under.is, asked_word asked s c, asks_of kind asked s.fit)
+          (pauses asked s runs, ap (λ (y : OnKey K V Q S). y.hasher) s.under.is, asked_word asked s c, asks_of K V kind asked s.fit)
       start_so (Err fault) runs =
           let s = stopped (Err fault) runs in let c = come (Err fault) runs in
-          (room fault s.1 s.2, by.refused_it same asks hashes b setting m0 xs h keys (IsTold kind its []) m s.0, key_back its None None x c)
+          (room fault s.1.0 s.1.1, by.refused_it same asks hashes b setting m0 xs h keys (IsTold kind its []) m s.0, key_back its None None x c)
+
+  -- the machine of a call that begins
+  module _ (x : OnKey K V Q S) (none : x.unstored ≡ None) (m0 : Mem (Node K V)) (h : Holds same (hashes x.hasher.now) setting m0 xs)
+      (begun : IsBegun V same (hashes x.hasher.now) asks setting slot_of 0 keys (IsTold kind its []) x.call) where
+    fresh : x ≡ record { call = x.call; hasher = x.hasher; unstored = None }
+    fresh = ap (λ (u : Option (Node K V)). record { call = x.call; hasher = x.hasher; unstored = u }) none
+
+    pub begin_ends : Ends the_plan x m0
+    begin_ends = subst (λ (y : OnKey K V Q S). Ends the_plan y m0) (sym fresh) (start_ends x.hasher m0 h x.call begun)
+
+    pub begin_so : (x2 : OnKey K V Q S) (m2 : Mem (Node K V)) (result : Result Stop Fault) → RunsTo the_plan x m0 x2 m2 result → StartsAs asks same hashes setting kind its keys xs x.hasher x2 m2 result
+    begin_so x2 m2 result runs = start_so x.hasher m0 h x.call begun x2 m2 result (subst (λ (y : OnKey K V Q S). RunsTo the_plan y m0 x2 m2 result) fresh runs)

@@ -60,7 +60,7 @@ IsAlike (Some a) (Some b) = Unit {0}
 IsAlike _ _ = ⊥
 
 -- a question is about none, or about a pair, as the call asks
-module _ {K V Q : Type 0} (same : K → K → Bool) (hash : K → ℕ) (asks : Q → K → Bool) (setting : Setting) (slot : ℕ → ℕ) (c : Chart K) (seen : Blocks) where
+module _ {K Q : Type 0} (V : Type 0) (same : K → K → Bool) (hash : K → ℕ) (asks : Q → K → Bool) (setting : Setting) (slot : ℕ → ℕ) (c : Chart K) (seen : Blocks) where
   abbrev About : Asking → Option ℕ → Type 0
   About = AsksAbout V same hash asks setting slot c seen
 
@@ -76,7 +76,7 @@ module _ {K V Q : Type 0} (same : K → K → Bool) (hash : K → ℕ) (asks : Q
   about_alike (Some w) (asking.GivesUp other) about for of_it = absurd for
 
 -- the word that it asks about is that of a pair
-some_word : {K V Q : Type 0} (kind : Kind) (asked : Option ℕ) (a : Asking) → AsksFor asked (at.Asks a) → FitsAt kind.present kind.absent kind.takes (at.Asks a) → (word : ℕ) → asked ≡ Some word → word ≢ 0
+some_word : (kind : Kind) (asked : Option ℕ) (a : Asking) → AsksFor asked (at.Asks a) → FitsAt kind.present kind.absent kind.takes (at.Asks a) → (word : ℕ) → asked ≡ Some word → word ≢ 0
 some_word kind None a for fit word is = absurd (cc is)
 some_word kind (Some w) (asking.Present other) for fit word is = λ zero. fit.1 (let e : w ≡ word = cc is in for ∙ e ∙ zero)
 some_word kind (Some w) (asking.Absent gap) for fit word is = absurd for
@@ -93,7 +93,7 @@ insert_taken takes.Choices (Some word) v taken e = absurd taken
 module _ {K V : Type 0} (its : Option K) where
   knows_key : (kinds : Takes) → (kinds ≢ takes.Choices → (k : K) × (its ≡ Some k)) → (asked : Option ℕ) (said : Reply V) → IsTaken kinds asked said
       → (v : V) → known_by asked said ≡ Some v → (value_by said ≡ Some v) × (k : K) × (its ≡ Some k)
-  knows_key kinds key None (reply.Insert w) taken v e = (e, key (insert_taken kinds None w taken))
+  knows_key kinds key None (reply.Insert w) taken v e = let k = key (insert_taken kinds None w taken) in (e, k.0, k.1)
   knows_key kinds key None reply.Remove taken v e = absurd (cc e)
   knows_key kinds key None reply.Abort taken v e = absurd (cc e)
   knows_key kinds key None reply.Yes taken v e = absurd (cc e)
@@ -103,7 +103,7 @@ module _ {K V : Type 0} (its : Option K) where
   -- it asks no more, but maybe about a pair where it was told what to do where there is none
   asks_no_more : {Q : Type 0} (m : Mem (Node K V)) (p : KeyCall K V Q) (asked : Option ℕ) (said : Reply V) (again : Option ℕ) (a : Asking) → AsksFor again (at.Asks a)
       → UndisturbedAt its (known_by asked said) (value_by said) (seeks_by asked said) m p (at.Asks a) → (asked ≡ None) × ((word : ℕ) × (again ≡ Some word))
-  asks_no_more m p asked said (Some word) (asking.Present other) for point = (seeking asked said point.0, word, refl)
+  asks_no_more m p asked said (Some word) (asking.Present other) for point = (seeking asked said point.0, (word, refl))
     where
       seeking : (asked : Option ℕ) (said : Reply V) → seeks_by asked said ≡ true → asked ≡ None
       seeking None said e = refl
@@ -211,7 +211,7 @@ module _ {K V Q S : Type 0} (asks : Q → K → Bool) (same : K → K → Bool) 
   undisturbed2 : Undisturbed its (known_by asked said) (value_by said) (seeks_by asked said) m (replied x.call said).0
   undisturbed2 =
       replied_undisturbed its m x.call c.1 kind.takes (ap (λ (z : KeyCall K V Q). z.replies.takes) call_is ∙ takes_is) facts.has_key said asked taken s.asks_at stands_is for
-      (some_word {K = K} {V = V} {Q = Q} kind asked s.asks_at for (subst (FitsAt kind.present kind.absent kind.takes) s.stands s.under.course.fit.4))
+      (some_word kind asked s.asks_at for (subst (FitsAt kind.present kind.absent kind.takes) s.stands s.under.course.fit.4))
 
   -- what it was told is so of what the map had
   as_none : found_by keys xs ≡ None → kind.absent ≡ missing.Asks → (m2 : Mem (Node K V)) (answer : KeyAnswer)
@@ -267,7 +267,7 @@ module _ {K V Q S : Type 0} (asks : Q → K → Bool) (same : K → K → Bool) 
       let for2 = subst (AsksFor again) here c2.2 in
       let none = asks_no_more its m2 z.call asked said again s2.asks_at for2
           (subst (UndisturbedAt its (known_by asked said) (value_by said) (seeks_by asked said) m2 z.call) here c2.1.point) in
-      apart again none.1 none.2 (asks_so same asks hashes x.hasher setting p.before xs h keys given2 facts.one z m2 again s2 for2) asked none.0 started.2
+      apart again none.1.0 none.1.1 (asks_so same asks hashes x.hasher setting p.before xs h keys given2 facts.one z m2 again s2 for2) asked none.0 started.2
     where
       apart : (again : Option ℕ) (word : ℕ) → again ≡ Some word → IsWordOf keys m2 xs again → (asked : Option ℕ) → asked ≡ None → IsWordOf keys m xs asked → ⊥
       apart (Some w) word is some None none absent = let e = some.3 in cc (e, absent)
@@ -290,7 +290,7 @@ module _ {K V Q S : Type 0} (asks : Q → K → Bool) (same : K → K → Bool) 
   refused_by fault (Some w) None word alike fits removes = absurd alike
 
   alike : IsAlike asked about
-  alike = about_alike same hash asks setting slot_of s.under.course.c (seen_by s.under.course.blocks (s.under.course.sights (slot_of 0))) asked s.asks_at about for law.0.1
+  alike = about_alike V same hash asks setting slot_of s.under.course.c (seen_by s.under.course.blocks (s.under.course.sights (slot_of 0))) asked s.asks_at about for law.0.1
 
   pub told_so : (z : OnKey K V Q S) (m2 : Mem (Node K V)) (result : Result Stop Fault) → RunsTo (on_key_plan asks same hashes) told_call m z m2 result → EndsSo m2 result
   told_so z m2 (Ok (stop.Answered answer)) runs =
@@ -299,7 +299,7 @@ module _ {K V Q S : Type 0} (asks : Q → K → Bool) (same : K → K → Bool) 
   told_so z m2 (Ok (stop.Asks again)) runs = never_again z m2 again runs
   told_so z m2 (Err fault) runs =
       let s2 = stopped2 z m2 (Err fault) runs in
-      (refused_by fault asked about started.2 alike s2.1 s2.2, by.refused_it same asks hashes x.hasher setting p.before xs h keys given2 m2 s2.0)
+      (refused_by fault asked about started.2 alike s2.1.0 s2.1.1, by.refused_it same asks hashes x.hasher setting p.before xs h keys given2 m2 s2.0)
 
   -- what comes back where it is refused
   pub told_back : (z : OnKey K V Q S) (m2 : Mem (Node K V)) (fault : Fault) → RunsTo (on_key_plan asks same hashes) told_call m z m2 (Err fault) → (k : K) → its ≡ Some k → HasKeyBack z k

@@ -19,6 +19,7 @@ use Rattle.papaya_points.specs.FactsCalls.{Unchanged, Seeks}
 use Rattle.papaya_points.specs.Told.{HasAnswered, IsRowOfCall}
 use Rattle.papaya_callers.specs.Pairs.{Given}
 use Rattle.papaya_callers.specs.Since.{SoSince}
+use Rattle.papaya_callers.specs.Together.{in_slot}
 use Rattle.papaya_whole.specs.Contents.{HasRun}
 use Rattle.papaya_whole.proofs.Keys.Own as own
 use Rattle.papaya_owned.specs.Owned.{Holds, IsWordOf, found_by}
@@ -60,14 +61,14 @@ module _ {K V Q S : Type 0} (same : K → K → Bool) (asks : Q → K → Bool) 
     known : own.KnowsHere same hash asks setting slot_of h.lawful course.w course.c course.blocks course.sights (going {Q = Q} {S = S} same asks hashes b setting h.lawful h.initial h.world.memory h.chart h.blocks h.rests.together.ground.map.map.rule keys given course.change p) course.alone no_row
     known = own.knows_here same hash asks setting slot_of h.lawful course.w course.c course.blocks course.sights (going {Q = Q} {S = S} same asks hashes b setting h.lawful h.initial h.world.memory h.chart h.blocks h.rests.together.ground.map.map.rule keys given course.change p) course.alone no_row
 
+    abbrev seen : Blocks
+    seen = own.seen same hash asks setting slot_of h.lawful course.w course.c course.blocks course.sights (going {Q = Q} {S = S} same asks hashes b setting h.lawful h.initial h.world.memory h.chart h.blocks h.rests.together.ground.map.map.rule keys given course.change p) course.alone
+
     unchanged : course.change ≡ Unchanged
-    unchanged = known.2.unchanged (subst Seeks (sym stands) tt)
+    unchanged = known.2.unchanged (subst (Seeks same hash asks course.w 0 (in_slot setting (slot_of 0)) course.c seen keys course.change) (sym stands) tt)
 
     run : HasRun same hash setting keys h.world.memory h.chart h.blocks Unchanged course.w.memory course.c course.blocks
     run = subst (λ x. HasRun same hash setting keys h.world.memory h.chart h.blocks x course.w.memory course.c course.blocks) unchanged course.runs
-
-    abbrev seen : Blocks
-    seen = own.seen same hash asks setting slot_of h.lawful course.w course.c course.blocks course.sights (going {Q = Q} {S = S} same asks hashes b setting h.lawful h.initial h.world.memory h.chart h.blocks h.rests.together.ground.map.map.rule keys given course.change p) course.alone
 
     so : (answer : KeyAnswer) → HasAnswered answer (at.Asks a) → SoSince hash course.c seen keys h.chart.now answer
     so answer has = known.1.since.answered unchanged answer (subst (HasAnswered answer) (sym stands) has)

@@ -76,8 +76,8 @@ module _ {V : Type 0} (told : Reply V) where
   removes_none e = means reply.Remove (told_none reply.Remove e)
 
 -- where it asks about a pair, and where about none
-pub unasked_pair : {V : Type 0} (o : ℕ) (t : There) (kind : Takes) → LeavesPair {V = V} [] t kind o → t ≢ there.Asks
-unasked_pair {V} o t kind so asks = by kind (subst (λ (x : There). LeavesPair {V = V} [] x kind o) asks so)
+pub unasked_pair : (V : Type 0) (o : ℕ) (t : There) (kind : Takes) → LeavesPair {V = V} [] t kind o → t ≢ there.Asks
+unasked_pair V o t kind so asks = by kind (subst (λ (x : There). LeavesPair {V = V} [] x kind o) asks so)
   where
     by : (kind : Takes) → LeavesPair {V = V} [] there.Asks kind o → ⊥
     by takes.Changes e = cc e
@@ -85,8 +85,8 @@ unasked_pair {V} o t kind so asks = by kind (subst (λ (x : There). LeavesPair {
     by takes.Values e = e
     by takes.Nothing e = e
 
-pub unasked_none : {V : Type 0} (x : Missing) (kind : Takes) → LeavesNone {V = V} [] x kind → x ≢ missing.Asks
-unasked_none {V} x kind so asks = by kind (subst (λ (y : Missing). LeavesNone {V = V} [] y kind) asks so)
+pub unasked_none : (V : Type 0) (x : Missing) (kind : Takes) → LeavesNone {V = V} [] x kind → x ≢ missing.Asks
+unasked_none V x kind so asks = by kind (subst (λ (y : Missing). LeavesNone {V = V} [] y kind) asks so)
   where
     by : (kind : Takes) → LeavesNone {V = V} [] missing.Asks kind → ⊥
     by takes.Changes e = cc e

@@ -269,14 +269,14 @@ module _ {K V Q S : Type 0} (same : K → K → Bool) (asks : Q → K → Bool) 
       -- what was stored
       puts_first : (g : Given K V) (n : ℕ) (j : K) (v : V) → value_at a.w.memory (a.seen.pair n) ≡ Some (node.Pair j v) → StoresGiven hash a.w.memory a.c a.seen g (Stored n) → PutsBy g None j v
       puts_first (Begun kind pair) n j v there s = sym s.2 ∙ there
-      puts_first (IsTold kind its asked) n j v there s = pair_is s.1 s.2 (sym s.3 ∙ there) s.4 s.5
+      puts_first (IsTold kind its asked) n j v there s = pair_is s.1.0 s.1.1 (sym s.1.2 ∙ there) s.1.3 s.1.4
         where
           pair_is : (key : K) (value : V) → Some (node.Pair key value) ≡ Some (node.Pair j v) → its ≡ Some key → last_told None asked ≡ Some (reply.Insert value) → (its ≡ Some j) × (last_told None asked ≡ Some (reply.Insert v))
           pair_is key value e is said = let k : key ≡ j = cc e in let x : value ≡ v = cc e in (is ∙ ap (λ z. Some z) k, said ∙ ap (λ z. Some (reply.Insert z)) x)
 
       puts_again : (g : Given K V) (o n : ℕ) (j : K) (v : V) → value_at a.w.memory (a.seen.pair n) ≡ Some (node.Pair j v) → StoresGiven hash a.w.memory a.c a.seen g (Replaced o n) → PutsBy g (Some o) j v
       puts_again (Begun kind pair) o n j v there s = sym s.2 ∙ there
-      puts_again (IsTold kind its asked) o n j v there s = pair_is s.1 s.2 (sym s.3 ∙ there) s.4 s.5
+      puts_again (IsTold kind its asked) o n j v there s = pair_is s.1.0 s.1.1 (sym s.1.2 ∙ there) s.1.3 s.1.4
         where
           pair_is : (key : K) (value : V) → Some (node.Pair key value) ≡ Some (node.Pair j v) → its ≡ Some key → last_told (Some o) asked ≡ Some (reply.Insert value) → (its ≡ Some j) × (last_told (Some o) asked ≡ Some (reply.Insert v))
           pair_is key value e is said = let k : key ≡ j = cc e in let x : value ≡ v = cc e in (is ∙ ap (λ z. Some z) k, said ∙ ap (λ z. Some (reply.Insert z)) x)
