@@ -1,6 +1,7 @@
 -- Calls on a key that ask, as one owner runs them to their ends.
 pub mod Begins
 pub mod Calls
+pub mod Comes
 pub mod Ends
 pub mod Finished
 pub mod Finishes
