@@ -1,4 +1,5 @@
 -- Lemmas on what one owner runs to its end.
+pub mod Asks
 pub mod Lookups
 pub mod Owned
 pub mod Runs

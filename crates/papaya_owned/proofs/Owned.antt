@@ -10,7 +10,9 @@ pub mod Lawful
 pub mod Lookups
 pub mod Making
 pub mod Places
+pub mod Questions
 pub mod Refreshes
+pub mod Rests
 pub mod Retains
 pub mod Rooms
 pub mod Siftings

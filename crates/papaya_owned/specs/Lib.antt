@@ -1,3 +1,5 @@
+pub mod Asking
+pub mod Closures
 pub mod Ending
 pub mod Looking
 pub mod Machines

@@ -61,12 +61,17 @@ abbrev pub IsWordOf : {K V : Type 0} → (K → Bool) → Mem (Node K V) → Lis
 IsWordOf keys m xs None = found_by keys xs ≡ None
 IsWordOf {K} {V} keys m xs (Some word) = (k : K) × (v : V) × (value_at m (block_in word) ≡ Some (node.Pair k v)) × (found_by keys xs ≡ Some (k, v))
 
--- a pair stands in the block of this word
+-- this pair stands in the block of a word
+abbrev pub IsPairAt : {K V : Type 0} → Mem (Node K V) → ℕ → K × V → Type 0
+IsPairAt m word x = value_at m (block_in word) ≡ Some (node.Pair x.0 x.1)
+
+-- some pair does
 abbrev pub NamesAPair : {K V : Type 0} → Mem (Node K V) → ℕ → Type 0
 NamesAPair {K} {V} m word = (k : K) × (v : V) × (value_at m (block_in word) ≡ Some (node.Pair k v))
 
 module _ {K V : Type 0} (same : K → K → Bool) (hash : K → ℕ) (setting : Setting) (m : Mem (Node K V)) (kind : Kind) (pair : Option (Node K V)) (keys : K → Bool) (xs : List (K × V)) where
-  -- What a call that was begun with this pair, if with one, has come to, by its answer: the pairs that the map had, and has.
+  -- What a call that was begun with this pair, if with one, has come to, by its answer: the pairs that the map had, and has. In the block of a word that it tells
+  -- is the pair that was found, stored, replaced or removed.
   abbrev pub AnswersBy : KeyAnswer → Type 0
   AnswersBy answers.Absent = (found_by keys xs ≡ None) × Holds same hash setting m xs
   AnswersBy (answers.Found word) =
@@ -74,9 +79,9 @@ module _ {K V : Type 0} (same : K → K → Bool) (hash : K → ℕ) (setting : 
   AnswersBy (answers.Stored word) =
       (found_by keys xs ≡ None) × (j : K) × (v : V) × (pair ≡ Some (node.Pair j v)) × (value_at m (block_in word) ≡ Some (node.Pair j v)) × Holds same hash setting m (xs ++ ((j, v) ∷ []))
   AnswersBy (answers.Replaced old new) =
-      (x : K × V) × (found_by keys xs ≡ Some x) × (value_at m (block_in old) ≡ Some (node.Pair x.0 x.1)) × (j : K) × (v : V) × (pair ≡ Some (node.Pair j v)) × (value_at m (block_in new) ≡ Some (node.Pair j v))
+      (x : K × V) × (found_by keys xs ≡ Some x) × IsPairAt m old x × (j : K) × (v : V) × (pair ≡ Some (node.Pair j v)) × (value_at m (block_in new) ≡ Some (node.Pair j v))
       × Holds same hash setting m (left_by keys xs ++ ((j, v) ∷ []))
-  AnswersBy (answers.Removed word) = (x : K × V) × (found_by keys xs ≡ Some x) × (value_at m (block_in word) ≡ Some (node.Pair x.0 x.1)) × Holds same hash setting m (left_by keys xs)
+  AnswersBy (answers.Removed word) = (x : K × V) × (found_by keys xs ≡ Some x) × IsPairAt m word x × Holds same hash setting m (left_by keys xs)
 
   abbrev pub EndsBy : Result Stop Fault → Type 0
   EndsBy (Ok (stop.Answered answer)) = Fits kind.present kind.absent kind.takes answer × AnswersBy answer

@@ -1,7 +1,11 @@
 //! Lookups that the owner of a map runs to their ends, over a memory that is only read.
-ghost use Rattle.std.specs.Prelude.{◌≡◌, ℕ};
+ghost use Rattle.std.specs.Prelude.{◌≡◌, ℕ, Some};
+ghost use Rattle.seize_words.specs.Mem.{value_at};
+ghost use Rattle.seize_words.specs.Word.{block_in};
+ghost use Rattle.papaya_tables.specs.declared.node.Node.TheVariants as node;
 ghost use Rattle.papaya_owned.specs.Ending.{Ends};
 ghost use Rattle.papaya_owned.specs.Looking.{LooksIn, Finds};
+ghost use Rattle.papaya_owned.specs.Owned.{NamesAPair};
 ghost use Rattle.papaya_resize.specs.Lookup.{lookup_plan};
 ghost use Rattle.papaya_rule.specs.Chart.{Chart};
 ghost use Rattle.papaya_rule.specs.Words.{Blocks};
@@ -10,7 +14,7 @@ use crate::most_looks::MostLooks;
 use papaya_raw::machines::Lookup;
 use papaya_tables::{Equivalent, Node};
 use seize::Progress;
-use seize_words::Plain;
+use seize_words::{Link, Look, Plain};
 use std::hash::Hash;
 use std::snapshot::Snapshot;
 
@@ -52,5 +56,16 @@ pub fn find<K: Eq + Hash, V, Q: Equivalent<K>>(
             Progress::Done(found) => return found,
         }
         left = most(memory, &lookup, asked);
+    }
+}
+
+/// The pair of a word.
+pub fn pair_at<K, V>(memory: &Plain<Node<K, V>>, word: u64) -> (&K, &V)
+    requires { NamesAPair memory.now word }
+    ensures { (k : K) (v : V) → value_at memory.now (block_in word) ≡ Some (node.Pair k v) → (result.0.now ≡ k) × (result.1.now ≡ v) }
+{
+    match memory.value(Link::block_of(word)) {
+        Node::Pair(key, value) => (key, value),
+        Node::Table { .. } | Node::Shards => unreachable!(),
     }
 }

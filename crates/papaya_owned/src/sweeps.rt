@@ -3,7 +3,7 @@ ghost use Rattle.std.specs.Prelude.{◌≡◌, List, [], OnOk, OnErr, length};
 ghost use Rattle.papaya_owned.specs.Owned.{Holds};
 ghost use Rattle.papaya_owned.specs.Retaining.{KeepsOf};
 
-use crate::pairs::pair_at;
+use crate::looking::pair_at;
 use crate::running::run;
 use crate::sweeping::{OverPairs, Pause};
 use papaya_raw::machines::Sweep;

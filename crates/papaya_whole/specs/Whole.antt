@@ -5,6 +5,7 @@ use Rattle.seize_words.specs.Mem.{Mem, Can, Took, value_at, word_at}
 use Rattle.seize_words.specs.Plan.{May, Steps}
 use Rattle.seize_words.specs.declared.at.At.TheVariants.{Root, Word}
 use Rattle.seize_words.specs.declared.fault.Fault.{Fault}
+use Rattle.seize_words.specs.declared.fault.Fault.TheVariants.{RemoveNothing}
 use Rattle.seize.specs.World.{World, Rests, IsInside}
 use Rattle.papaya_tables.specs.declared.node.Node.{Node}
 use Rattle.papaya_tables.specs.declared.setting.Setting.{Setting}
@@ -32,7 +33,7 @@ use Rattle.papaya_alone.specs.Counted.{HasAdded, counted_for, counted_at}
 use Rattle.papaya_alone.specs.Counting.{IsCounted}
 use Rattle.papaya_alone.specs.Endings.{RunsEnd}
 use Rattle.papaya_callers.specs.Kept.{IsMaking}
-use Rattle.papaya_callers.specs.Pairs.{Given, HandsBack}
+use Rattle.papaya_callers.specs.Pairs.{Given, HandsBack, RemovesNone}
 use Rattle.papaya_callers.specs.Sights.{Sight, seen_by}
 use Rattle.papaya_callers.specs.Together.{CallOnKey, OnKey, CameAbout, no_blocks, no_sight, in_slot, IsBegun, begun_at, AnswersOnce, IsReclaimed, RepliesTaken}
 use Rattle.papaya_whole.specs.Owner.{AtRest, IsAlone}
@@ -83,14 +84,17 @@ module _ {K V Q : Type 0} (same : K → K → Bool) (hash : K → ℕ) (asks : Q
     -- what the call has changed since the map stood in some way, and that it has kept all other pairs
     pub runs : (m0 : Mem (Node K V)) (c0 : Chart K) (blocks0 : Blocks) → Rule same (spot_of hash) (is_incremental setting.mode) c0
         → HasRun same hash setting u.keys m0 c0 blocks0 u.change w.memory c blocks → HasRun same hash setting u.keys m0 c0 blocks0 change2 w2.memory c2 blocks2
-    -- each pair that could be looked at is there still, with its value
-    pub sees : (o : ℕ) → o < c.stored → blocks.pair_known o ≡ true → (o < c2.stored) × (blocks2.pair_known o ≡ true) × (value_at w2.memory (blocks2.pair o) ≡ value_at w.memory (blocks.pair o))
     -- the shards of the counter say so much more as it has counted: what its answer tells, and no more where it is refused
     pub counts : (m0 : Mem (Node K V)) → HasAdded setting m0 (counted_at u.call.stands) w.memory → HasAdded setting m0 (counted_at p2.stands) w2.memory
     pub answered : (answer : KeyAnswer) → progress ≡ called.Done answer → counted_at p2.stands ≡ counted_for answer
     pub refused : (fault : Fault) → progress ≡ called.Refused fault → (m0 : Mem (Node K V)) → HasAdded setting m0 (counted_at u.call.stands) w.memory → HasAdded setting m0 0 w2.memory
     -- what it hands back is the pair that it was begun with
     pub hands : (value : Node K V) → progress ≡ called.Unstored value → HandsBack u.pair value
+    -- it is refused the removal of what is not there where it was told to remove that
+    pub removes : (fault : Fault) → progress ≡ called.Refused fault → fault ≡ RemoveNothing → RemovesNone u.pair
+    -- the pairs that could be looked at can be still, in the same blocks, with the same values
+    pub looks : (o : ℕ) → o < c.stored → blocks.pair_known o ≡ true
+        → (blocks2.pair_known o ≡ true) × (blocks2.pair o ≡ blocks.pair o) × (value_at w2.memory (blocks.pair o) ≡ value_at w.memory (blocks.pair o))
 
 module _ {K Q : Type 0} (V : Type 0) (same : K → K → Bool) (hash : K → ℕ) (asks : Q → K → Bool) (setting : Setting) (slot : ℕ → ℕ) where
   -- A map that has no table yet rests, where no row is under way, and the slot is within a section.

@@ -16,9 +16,9 @@ ghost use Rattle.papaya_whole.specs.WholeRooms.{RoomsBeginAlone, RoomsGoOnAlone,
 
 /// A map that has no table yet rests. Where the owner of a map's memory rests, each call on one key may begin, of one that asks, too, and is alone. It may take each of its steps, those of the
 /// collector's rows among them, in either mode, and none of them answers that it has to wait. It is alone after each, or it asks, and is alone again whatever
-/// it is told, or it has ended: then the owner rests. Each run of its steps comes to an end, or to a question. Where the shards of the counter said how many pairs
-/// the map had as the call began, they say so at its end. Each pair that could be looked at can be looked at still after a step, with its value (`sees`
-/// of each step).
+/// it is told, or it has ended: then the owner rests. The pairs that could be looked at can be still, in the same blocks, with the same values, and the removal of what is
+/// not there is refused where that was told. Each run of its steps comes to an end, or to a question. Where the shards of the counter said how many pairs
+/// the map had as the call began, they say so at its end.
 pub fn calls_run_whole<K, V, Q>()
     ensures starts { (same : K → K → Bool) (hash : K → ℕ) (asks : Q → K → Bool) (setting : Setting) (slot : ℕ → ℕ) → MapBeginsAtRest V same hash asks setting slot }
     ensures begins { (same : K → K → Bool) (hash : K → ℕ) (asks : Q → K → Bool) (setting : Setting) (slot : ℕ → ℕ) → CallsBeginAlone V same hash asks setting slot }

@@ -37,7 +37,7 @@ use Rattle.papaya_owned.proofs.Owned.HandsBack.{HasPair, KeepsPair, IsOver, pair
 use Rattle.papaya_owned.proofs.Owned.Keys.{Under, Course, leading, under_back, under_step, on_under}
 
 -- it tells how it has ended
-abbrev TellsEnd : {T : Type 0} → Called T → Type 0
+abbrev pub TellsEnd : {T : Type 0} → Called T → Type 0
 TellsEnd (called.Done answer) = Unit {0}
 TellsEnd (called.Refused fault) = Unit {0}
 TellsEnd _ = ⊥
@@ -47,7 +47,7 @@ tells_end T (ends.Answered answer) = tt
 tells_end T (ends.Refused fault) = tt
 
 module _ {K V Q : Type 0} (asks : Q → K → Bool) (same : K → K → Bool) (hash : K → ℕ) (p : KeyCall K V Q) (m m2 : Mem (Node K V)) (e : KeyCall K V Q × Called (Node K V)) where
-  over_tells : (stands : Calling) → IsOver stands → Steps Took value_at m (plan_at asks same hash p stands) m2 e → TellsEnd e.1
+  pub over_tells : (stands : Calling) → IsOver stands → Steps Took value_at m (plan_at asks same hash p stands) m2 e → TellsEnd e.1
   over_tells (at.Over end) over s = subst (λ (x : KeyCall K V Q × Called (Node K V)). TellsEnd x.1) (sym s.1) (tells_end (Node K V) end)
   over_tells at.Makes over s = absurd over
   over_tells (at.Looks lookup) over s = absurd over

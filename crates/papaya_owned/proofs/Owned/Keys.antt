@@ -1,12 +1,13 @@
 -- A call on one key of one owner's map, run to its end.
 use Rattle.std.specs.Prelude.{◌≡◌, ℕ, ◌<◌, Bool, true, Option, Some, Result, Ok, Err}
 use Rattle.std.specs.Int.{IsPowerOfTwo}
-use Rattle.std.proofs.Common.{refl, sym, ◌∙◌, ap, subst}
+use Rattle.std.proofs.Common.{refl, sym, ◌∙◌, ap, subst, arith}
 use denote.Ref.{Bor}
 use Rattle.seize_words.specs.Mem.{Mem, Can, Took, value_at}
 use Rattle.seize_words.specs.Op.{Op, Out}
 use Rattle.seize_words.specs.Plan.{Plan, Then, Turn, Do, Now, Seeing, Sure, May, MaySee, Steps, plan_as, then_as}
 use Rattle.seize_words.specs.declared.fault.Fault.{Fault}
+use Rattle.seize_words.specs.declared.fault.Fault.TheVariants.{RemoveNothing}
 use Rattle.seize.specs.World.{World}
 use Rattle.seize.specs.declared.progress.Progress.{Progress}
 use Rattle.seize.specs.declared.progress.Progress.TheVariants as progress
@@ -18,7 +19,9 @@ use Rattle.papaya_raw.specs.Call.{call_plan}
 use Rattle.papaya_raw.specs.declared.machines.answer.Called.{Called}
 use Rattle.papaya_raw.specs.declared.machines.answer.Called.TheVariants as called
 use Rattle.papaya_raw.specs.declared.machines.answer.KeyAnswer.{KeyAnswer}
+use Rattle.papaya_raw.specs.declared.machines.asking.Asking.{Asking}
 use Rattle.papaya_raw.specs.declared.machines.call.KeyCall.{KeyCall}
+use Rattle.papaya_raw.specs.declared.machines.call.Calling.TheVariants as points
 use Rattle.papaya_rule.specs.Chart.{Chart}
 use Rattle.papaya_rule.specs.Maps.{spot_of}
 use Rattle.papaya_rule.specs.Rule.{Rule}
@@ -27,7 +30,7 @@ use Rattle.papaya_points.specs.FactsCalls.{Change, Unchanged}
 use Rattle.papaya_points.specs.Steps.{AreLawful}
 use Rattle.papaya_alone.specs.Counted.{HasAdded, counted_at, counted_for}
 use Rattle.papaya_alone.specs.Endings.{RunsEnd, runs_end}
-use Rattle.papaya_callers.specs.Pairs.{Given, kind_of}
+use Rattle.papaya_callers.specs.Pairs.{Given, RemovesNone, kind_of}
 use Rattle.papaya_late.specs.Kinds.{IsFit, ComesFit, FaultFits, TellsFit}
 use Rattle.papaya_late.proofs.KindsKept.Laws.{calls_keep_their_kind}
 use Rattle.papaya_callers.specs.Sights.{Sight}
@@ -73,9 +76,10 @@ module _ {K V Q S : Type 0} (same : K → K → Bool) (asks : Q → K → Bool) 
   abbrev pub OfKind : KeyCall K V Q → Type 0
   OfKind p = IsFit (kind_of given).present (kind_of given).absent (kind_of given).takes p
 
-  -- what the map had can be looked at still
-  abbrev pub HasOlds : Mem (Node K V) → Chart K → Blocks → Type 0
-  HasOlds m c blocks = (o : ℕ) → c0.current o ≡ true → (o < c.stored) × (blocks.pair_known o ≡ true) × (value_at m (blocks.pair o) ≡ value_at m0 (blocks0.pair o))
+  -- what could be looked at as the map rested can be still, in the same blocks, with the same values
+  abbrev pub StillLooked : Mem (Node K V) → Blocks → Type 0
+  StillLooked m blocks =
+      (o : ℕ) → o < c0.stored → blocks0.pair_known o ≡ true → (blocks.pair_known o ≡ true) × (blocks.pair o ≡ blocks0.pair o) × (value_at m (blocks0.pair o) ≡ value_at m0 (blocks0.pair o))
 
   -- it is under way, and alone, since the map rested
   pub record Course (p : KeyCall K V Q) (m : Mem (Node K V)) : Type 0 where
@@ -88,8 +92,8 @@ module _ {K V Q S : Type 0} (same : K → K → Bool) (asks : Q → K → Bool) 
     pub memory : w.memory ≡ m
     pub runs : HasRun same hash setting keys m0 c0 blocks0 change w.memory c blocks
     pub counts : HasAdded setting m0 (counted_at p.stands) w.memory
-    pub olds : HasOlds w.memory c blocks
     pub fit : OfKind p
+    pub looks : StillLooked w.memory blocks
 
   -- it has answered, and the map rests
   pub record Answered (m : Mem (Node K V)) (answer : KeyAnswer) : Type 0 where
@@ -104,10 +108,10 @@ module _ {K V Q S : Type 0} (same : K → K → Bool) (asks : Q → K → Bool) 
     pub seen : Blocks
     pub seen_map : IsMapIn same hash (in_slot setting setting.slot) w c seen
     pub sees : (o : ℕ) → o < c.stored → seen.pair_known o ≡ true → seen.pair o ≡ blocks.pair o
+    pub looks : StillLooked w.memory blocks
     pub answers : AnswersOnce V same hash asks setting slot_of w c seen 0 (going change call) change answer
     pub runs : HasRun same hash setting keys m0 c0 blocks0 change w.memory c blocks
     pub counts : HasAdded setting m0 (counted_for answer) w.memory
-    pub olds : HasOlds w.memory c blocks
 
   -- it was refused, and has changed nothing
   pub record IsRefused (m : Mem (Node K V)) : Type 0 where
@@ -120,12 +124,17 @@ module _ {K V Q S : Type 0} (same : K → K → Bool) (asks : Q → K → Bool) 
     pub runs : HasRun same hash setting keys m0 c0 blocks0 Unchanged w.memory c blocks
     pub counts : HasAdded setting m0 0 w.memory
 
+  -- for what it may be refused: the removal of what is not there, where it was told to remove that
+  abbrev pub RefusalFits : Fault → Type 0
+  RefusalFits fault = FaultFits (kind_of given).present (kind_of given).absent (kind_of given).takes fault × (fault ≡ RemoveNothing → RemovesNone given)
+
   -- where a step leads, by what the call tells
   abbrev pub CourseTo : KeyCall K V Q → Mem (Node K V) → Called (Node K V) → Type 0
   CourseTo p m called.Waits = ⊥
-  CourseTo p m (called.Asks asked) = Course p m × TellsFit (kind_of given).present (kind_of given).absent (kind_of given).takes {T = Node K V} (called.Asks asked)
+  CourseTo p m (called.Asks asked) =
+      Course p m × TellsFit (kind_of given).present (kind_of given).absent (kind_of given).takes {T = Node K V} (called.Asks asked) × (asks_at : Asking) × (p.stands ≡ points.Asks asks_at)
   CourseTo p m (called.Done answer) = Answered m answer
-  CourseTo p m (called.Refused fault) = IsRefused m × FaultFits (kind_of given).present (kind_of given).absent (kind_of given).takes fault
+  CourseTo p m (called.Refused fault) = IsRefused m × RefusalFits fault
   CourseTo p m _ = Course p m
 
   module _ (p : KeyCall K V Q) (m : Mem (Node K V)) (at : Course p m) where
@@ -146,8 +155,11 @@ module _ {K V Q S : Type 0} (same : K → K → Bool) (asks : Q → K → Bool) 
         → ComesFit (kind_of given).present (kind_of given).absent (kind_of given).takes (p2, told)
     fits m2 p2 told s = calls_keep_their_kind asks same hash (kind_of given).present (kind_of given).absent (kind_of given).takes p at.fit m m2 (p2, told) s
 
-    olds_then : (m2 : Mem (Node K V)) (p2 : KeyCall K V Q) (told : Called (Node K V)) → (l : Leading m2 p2 told) → HasOlds l.w2.memory l.c2 l.blocks2
-    olds_then m2 p2 told l o was = let old = at.olds o was in let s = l.sees o old.0 old.1 in (s.0, s.1, s.2 ∙ old.2)
+    looks_on : (m2 : Mem (Node K V)) (p2 : KeyCall K V Q) (told : Called (Node K V)) → (l : Leading m2 p2 told) → StillLooked l.w2.memory l.blocks2
+    looks_on m2 p2 told l o low known =
+        let now = at.looks o low known in
+        let next = l.looks o (let more = at.runs.keeps.stored in omega (arith, low, more)) now.0 in
+        (next.0, next.1 ∙ now.1, ap (value_at l.w2.memory) (sym now.1) ∙ next.2 ∙ ap (value_at at.w.memory) now.1 ∙ now.2)
 
     course_of : (m2 : Mem (Node K V)) (p2 : KeyCall K V Q) (told : Called (Node K V)) → (l : Leading m2 p2 told) → IsAlone same hash asks setting slot_of l.w2 l.c2 l.blocks2 l.sights2 (OnKeyOf (going l.change2 p2)) → OfKind p2 → Course p2 m2
     course_of m2 p2 told l alone fit = record {
@@ -160,8 +172,8 @@ module _ {K V Q S : Type 0} (same : K → K → Bool) (asks : Q → K → Bool) 
       memory = l.memory;
       runs = l.runs m0 c0 blocks0 rule0 at.runs;
       counts = l.counts m0 at.counts;
-      olds = olds_then m2 p2 told l;
       fit = fit;
+      looks = looks_on m2 p2 told l;
     }
 
     course_by : (m2 : Mem (Node K V)) (p2 : KeyCall K V Q) (told : Called (Node K V)) → Leading m2 p2 told → ComesFit (kind_of given).present (kind_of given).absent (kind_of given).takes (p2, told) → CourseTo p2 m2 told
@@ -169,7 +181,7 @@ module _ {K V Q S : Type 0} (same : K → K → Bool) (asks : Q → K → Bool) 
     course_by m2 p2 called.Waits l f = l.leads
     course_by m2 p2 (called.Gave value) l f = course_of m2 p2 (called.Gave value) l l.leads.0 f.0
     course_by m2 p2 (called.Unstored value) l f = course_of m2 p2 (called.Unstored value) l l.leads f.0
-    course_by m2 p2 (called.Asks asked) l f = (course_of m2 p2 (called.Asks asked) l l.leads.0 f.0, f.1)
+    course_by m2 p2 (called.Asks asked) l f = (course_of m2 p2 (called.Asks asked) l l.leads.0 f.0, f.1, l.leads.1, l.leads.2)
     course_by m2 p2 (called.Done answer) l f = record {
       w = l.w2;
       c = l.c2;
@@ -182,10 +194,10 @@ module _ {K V Q S : Type 0} (same : K → K → Bool) (asks : Q → K → Bool) 
       seen = l.leads.1;
       seen_map = l.leads.2;
       sees = l.leads.3;
+      looks = looks_on m2 p2 (called.Done answer) l;
       answers = l.leads.4;
       runs = l.runs m0 c0 blocks0 rule0 at.runs;
       counts = subst (λ x. HasAdded setting m0 x l.w2.memory) (l.answered answer refl) (l.counts m0 at.counts);
-      olds = olds_then m2 p2 (called.Done answer) l;
     }
     course_by m2 p2 (called.Refused fault) l f = (
       record {
@@ -198,7 +210,7 @@ module _ {K V Q S : Type 0} (same : K → K → Bool) (asks : Q → K → Bool) 
         runs = subst (λ x. HasRun same hash setting keys m0 c0 blocks0 x l.w2.memory l.c2 l.blocks2) l.leads.1 (l.runs m0 c0 blocks0 rule0 at.runs);
         counts = l.refused fault refl m0 at.counts;
       },
-      f.1,
+      (f.1, l.removes fault refl),
     )
 
     pub course_step : (m2 : Mem (Node K V)) (p2 : KeyCall K V Q) (told : Called (Node K V)) → Steps Took value_at m (call_plan asks same hash p) m2 (p2, told) → CourseTo p2 m2 told
@@ -216,20 +228,27 @@ module _ {K V Q S : Type 0} (same : K → K → Bool) (asks : Q → K → Bool) 
     pub is : x ≡ it p unstored
     pub course : Course p m
 
+  -- it has come to a question
+  pub record AsksAt (x : OnKey K V Q S) (m : Mem (Node K V)) (asked : Option ℕ) : Type 0 where
+    pub under : Under x m
+    pub fit : TellsFit (kind_of given).present (kind_of given).absent (kind_of given).takes {T = Node K V} (called.Asks asked)
+    pub asks_at : Asking
+    pub stands : under.p.stands ≡ points.Asks asks_at
+
   -- where a step of that machine leads, by what it tells
   abbrev pub Next : OnKey K V Q S → Mem (Node K V) → Progress Stop → Type 0
   Next x m progress.Goes = Under x m
   Next x m progress.Waits = ⊥
   Next x m (progress.Done (stop.Answered answer)) = Answered m answer
-  Next x m (progress.Done (stop.Asks asked)) = TellsFit (kind_of given).present (kind_of given).absent (kind_of given).takes {T = Node K V} (called.Asks asked)
-  Next x m (progress.Refused fault) = IsRefused m × FaultFits (kind_of given).present (kind_of given).absent (kind_of given).takes fault
+  Next x m (progress.Done (stop.Asks asked)) = AsksAt x m asked
+  Next x m (progress.Refused fault) = IsRefused m × RefusalFits fault
 
   next_by : (p : KeyCall K V Q) (o : Option (Node K V)) (m : Mem (Node K V)) (told : Called (Node K V)) → CourseTo p m told → Next (on_key_settled (it p o) told).0 m (on_key_settled (it p o) told).1
   next_by p o m called.Goes c = record { p = p; unstored = o; is = refl; course = c }
   next_by p o m called.Waits c = absurd c
   next_by p o m (called.Gave value) c = record { p = p; unstored = o; is = refl; course = c }
   next_by p o m (called.Unstored value) c = record { p = p; unstored = Some value; is = refl; course = c }
-  next_by p o m (called.Asks asked) c = c.1
+  next_by p o m (called.Asks asked) c = record { under = record { p = p; unstored = o; is = refl; course = c.0 }; fit = c.1; asks_at = c.2; stands = c.3 }
   next_by p o m (called.Done answer) c = c
   next_by p o m (called.Refused fault) c = c
 
@@ -280,18 +299,23 @@ module _ {K V Q S : Type 0} (same : K → K → Bool) (asks : Q → K → Bool) 
   under_ends x m u = ends_from (u.p, m) (course_ends u.p m u.course) x u refl
 
   -- what it comes to
+  abbrev pub StopsAt : OnKey K V Q S → Mem (Node K V) → Result Stop Fault → Type 0
+  StopsAt x m (Ok (stop.Answered answer)) = Answered m answer
+  StopsAt x m (Ok (stop.Asks asked)) = AsksAt x m asked
+  StopsAt x m (Err fault) = IsRefused m × RefusalFits fault
+
   abbrev pub ComesTo : Mem (Node K V) → Result Stop Fault → Type 0
   ComesTo m (Ok (stop.Answered answer)) = Answered m answer
   ComesTo m (Ok (stop.Asks asked)) = TellsFit (kind_of given).present (kind_of given).absent (kind_of given).takes {T = Node K V} (called.Asks asked)
   ComesTo m (Err fault) = IsRefused m × FaultFits (kind_of given).present (kind_of given).absent (kind_of given).takes fault
 
-  stopped : (x2 : OnKey K V Q S) (m2 : Mem (Node K V)) (told : Progress Stop) (result : Result Stop Fault) → Next x2 m2 told → Tells told result → ComesTo m2 result
-  stopped x2 m2 (progress.Done a) (Ok b) next tells = subst (λ z. ComesTo m2 (Ok z)) (sym tells) (done a next)
+  stopped : (x2 : OnKey K V Q S) (m2 : Mem (Node K V)) (told : Progress Stop) (result : Result Stop Fault) → Next x2 m2 told → Tells told result → StopsAt x2 m2 result
+  stopped x2 m2 (progress.Done a) (Ok b) next tells = subst (λ z. StopsAt x2 m2 (Ok z)) (sym tells) (done a next)
     where
-      done : (a : Stop) → Next x2 m2 (progress.Done a) → ComesTo m2 (Ok a)
+      done : (a : Stop) → Next x2 m2 (progress.Done a) → StopsAt x2 m2 (Ok a)
       done (stop.Answered answer) next = next
       done (stop.Asks asked) next = next
-  stopped x2 m2 (progress.Refused f) (Err g) next tells = subst (λ z. ComesTo m2 (Err z)) (sym tells) next
+  stopped x2 m2 (progress.Refused f) (Err g) next tells = subst (λ z. StopsAt x2 m2 (Err z)) (sym tells) next
   stopped x2 m2 (progress.Refused f) (Ok b) next tells = absurd tells
   stopped x2 m2 (progress.Done a) (Err g) next tells = absurd tells
   stopped x2 m2 progress.Goes (Ok b) next tells = absurd tells
@@ -304,6 +328,14 @@ module _ {K V Q S : Type 0} (same : K → K → Bool) (asks : Q → K → Bool) 
   on_under x2 m2 (progress.Done a) on next = absurd on
   on_under x2 m2 (progress.Refused f) on next = absurd on
 
+  pub stops_at : (x : OnKey K V Q S) (m : Mem (Node K V)) (x2 : OnKey K V Q S) (m2 : Mem (Node K V)) (result : Result Stop Fault) → RunsTo the_plan x m x2 m2 result → Under x m → StopsAt x2 m2 result
+  stops_at x m x2 m2 result (stops _ _ _ _ told _ s tells) u = stopped x2 m2 told result (under_step x m u m2 (x2, told) s) tells
+  stops_at x m x2 m2 result (goes _ _ x1 m1 told on s _ _ _ runs) u = stops_at x1 m1 x2 m2 result runs (on_under x1 m1 told on (under_step x m u m1 (x1, told) s))
+
+  comes_by : (x2 : OnKey K V Q S) (m2 : Mem (Node K V)) (result : Result Stop Fault) → StopsAt x2 m2 result → ComesTo m2 result
+  comes_by x2 m2 (Ok (stop.Answered answer)) s = s
+  comes_by x2 m2 (Ok (stop.Asks asked)) s = s.fit
+  comes_by x2 m2 (Err fault) s = (s.0, s.1.0)
+
   pub comes_to : (x : OnKey K V Q S) (m : Mem (Node K V)) (x2 : OnKey K V Q S) (m2 : Mem (Node K V)) (result : Result Stop Fault) → RunsTo the_plan x m x2 m2 result → Under x m → ComesTo m2 result
-  comes_to x m x2 m2 result (stops _ _ _ _ told _ s tells) u = stopped x2 m2 told result (under_step x m u m2 (x2, told) s) tells
-  comes_to x m x2 m2 result (goes _ _ x1 m1 told on s _ _ _ runs) u = comes_to x1 m1 x2 m2 result runs (on_under x1 m1 told on (under_step x m u m1 (x1, told) s))
+  comes_to x m x2 m2 result runs u = comes_by x2 m2 result (stops_at x m x2 m2 result runs u)

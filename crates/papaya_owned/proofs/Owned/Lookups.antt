@@ -46,7 +46,7 @@ module _ {K V : Type 0} where
 module _ {K V : Type 0} (same : K → K → Bool) (hash : K → ℕ) (lawful : AreLawful same hash) (setting : Setting) (w : World (Node K V)) (c : Chart K) (blocks : Blocks)
     (map : IsMapIn same hash setting w c blocks) (keys : K → Bool) where
   -- where the map has no pair of these keys, the list has none
-  none_below : (n : ℕ) (xs : List (K × V)) → ContentsBelow w.memory c blocks n xs → IsAbsent same hash true c keys → found_by keys xs ≡ None
+  pub none_below : (n : ℕ) (xs : List (K × V)) → ContentsBelow w.memory c blocks n xs → IsAbsent same hash true c keys → found_by keys xs ≡ None
   none_below zero xs is none = ap (found_by keys) is
   none_below (suc n) xs below none = elim (decided (c.current n)) as (λ _. found_by keys xs ≡ None) [
     | inl e ↦

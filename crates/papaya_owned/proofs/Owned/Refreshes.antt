@@ -54,7 +54,7 @@ use Rattle.papaya_owned.specs.Machines.{refreshes_plan, refreshes_after, refresh
 use Rattle.papaya_owned.specs.Owned.{Holds}
 use Rattle.papaya_owned.specs.declared.machines.Refreshes.{Refreshes}
 use Rattle.papaya_owned.proofs.Owned.Blocks.{pair_same}
-use Rattle.papaya_owned.proofs.Owned.Calls.{together_as}
+use Rattle.papaya_owned.proofs.Owned.Rests.{together_as}
 use Rattle.papaya_owned.proofs.Owned.Keys.{may_turned}
 
 -- a step of a leaving keeps its slot and what becomes of it, and ends where it is over

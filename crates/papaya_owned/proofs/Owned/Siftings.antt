@@ -25,7 +25,7 @@ use Rattle.papaya_owned.specs.Sweeping.{over_pairs_plan}
 use Rattle.papaya_owned.specs.declared.sweeping.OverPairs.{OverPairs}
 use Rattle.papaya_owned.specs.declared.sweeping.Pause.{Pause}
 use Rattle.papaya_owned.specs.declared.sweeping.Pause.TheVariants as pause
-use Rattle.papaya_owned.proofs.Owned.Answered.{answered_by, same_answers, pairs_answered, pairs_kept}
+use Rattle.papaya_owned.proofs.Owned.Questions.{answered_by, same_answers, pairs_answered, pairs_kept}
 use Rattle.papaya_owned.proofs.Owned.Retains.{Question, UnderIt, AsksIt, numbered, question, retained, retains_not_walks, said_of, told, not_yet, unasked}
 use Rattle.papaya_owned.proofs.Owned.Sweeps.{Said, nothing, ComesTo, begins_under, under_ends, comes_to, refused_holds}
 

@@ -148,27 +148,22 @@ module _ {K V Q : Type 0} (same : K → K → Bool) (hash : K → ℕ) (asks : Q
                 of_root = of_root_then (together2.stand 0 (OnKey after) has2);
               }
 
-        -- what could be looked at is there still
-        abbrev all : IsMapIn same hash setting w c blocks
-        all = a.together.ground.map
-
-        sees_still : (o : ℕ) → o < c.stored → blocks.pair_known o ≡ true
-            → (o < lone.c2.stored) × (stepped.blocks2.pair_known o ≡ true) × (value_at lone.w2.memory (stepped.blocks2.pair o) ≡ value_at w.memory (blocks.pair o))
-        sees_still o low known =
-            let is = (all.map.shows.pairs o low known).2 in
-            let more = (moved_lasts same hash here lawful.lawful w c lone.c2 seen map lone.moved).stored in (
-              omega (arith, low, more),
-              below o c.stored (blocks.pair_known o) (lone.blocks2.pair_known o) low ∙ known,
-              ap (value_at lone.w2.memory) (below o c.stored (blocks.pair o) (lone.blocks2.pair o) low) ∙ ap (λ (x : Mem (Node K V)). value_at x (blocks.pair o)) lone.memory
-                  ∙ lone.frame.values (blocks.pair o) _ is (λ making. subst IsOut making.0 (all.pairs_out o low known)) ∙ sym is,
-            )
-
-        -- what it has looked at is what all look at
-        pair_seen : (o : ℕ) → o < lone.c2.stored → lone.blocks2.pair_known o ≡ true → lone.blocks2.pair o ≡ stepped.blocks2.pair o
-        pair_seen o made known = elim (cases_lt o c.stored) as (λ _. lone.blocks2.pair o ≡ stepped.blocks2.pair o) [
+        -- what it has looked at has the blocks that it has for all
+        pair_seen : (o : ℕ) → lone.blocks2.pair_known o ≡ true → lone.blocks2.pair o ≡ stepped.blocks2.pair o
+        pair_seen o known = elim (cases_lt o c.stored) as (λ _. lone.blocks2.pair o ≡ stepped.blocks2.pair o) [
           | inl low ↦ (lone.blocks_same.pairs o low (lone.blocks_same.pairs_back o low known)).0 ∙ sym (below o c.stored (blocks.pair o) (lone.blocks2.pair o) low)
           | inr high ↦ sym (above o c.stored (blocks.pair o) (lone.blocks2.pair o) high)
         ]
+
+        whole : IsMapIn same hash setting w c blocks
+        whole = a.together.ground.map
+
+        -- and its value
+        value_same : (o : ℕ) → o < c.stored → blocks.pair_known o ≡ true → value_at lone.w2.memory (blocks.pair o) ≡ value_at w.memory (blocks.pair o)
+        value_same o low known =
+            let is = (whole.map.shows.pairs o low known).2 in
+            ap (λ (m : Mem (Node K V)). value_at m (blocks.pair o)) lone.memory
+            ∙ lone.frame.values (blocks.pair o) _ is (λ making. subst IsOut making.0 (whole.pairs_out o low known)) ∙ sym is
 
         -- where it has ended, the owner rests
         at_rest : RestsAlone (is_incremental setting.mode) 0 lone.c2 → next_of after progress ≡ None → AtRest {Q = Q} same hash asks setting slot lone.w2 lone.c2 stepped.blocks2 stepped.sights2
@@ -201,9 +196,14 @@ module _ {K V Q : Type 0} (same : K → K → Bool) (hash : K → ℕ) (asks : Q
           change2 = lone.told.0.change2;
           memory = lone.memory;
           leads = by progress refl lone.told.0.facts (lone.told.1 a.lone);
-          sees = sees_still;
           counts = λ m0 had. subst (HasAdded setting m0 (counted_at p2.stands)) (sym lone.memory) (counting m0 had).0;
           hands = stepped.hands;
+          removes = λ fault is nothing. ((stepped.refuses fault is).2 nothing).0;
+          looks = λ o low known. (
+            below o c.stored (blocks.pair_known o) (lone.blocks2.pair_known o) low ∙ known,
+            below o c.stored (blocks.pair o) (lone.blocks2.pair o) low,
+            value_same o low known,
+          );
           answered = λ answer is. answered_counted answer p2.stands (subst (CallFactsAfter same hash asks 0 here u.keys lone.w2 lone.c2 lone.blocks2 lone.told.0.change2 p2) is lone.told.0.facts).0;
           refused = λ fault is m0 had. subst (HasAdded setting m0 0) (sym lone.memory) ((counting m0 had).1 fault is);
           runs = λ m0 c0 blocks0 rule0. run_on same hash setting u.keys m0 c0 blocks0 w.memory lone.w2.memory c lone.c2 blocks stepped.blocks2 u.change lone.told.0.change2
@@ -221,5 +221,5 @@ module _ {K V Q : Type 0} (same : K → K → Bool) (hash : K → ℕ) (asks : Q
             by (called.Gave value) is facts alone = absurd facts
             by (called.Unstored value) is facts alone = still_alone facts alone.0 (ap (next_of after) is)
             by (called.Asks asked) is facts alone = (still_alone facts alone.0 (ap (next_of after) is), alone.1, alone.2)
-            by (called.Done answer) is facts alone = (at_rest alone (ap (next_of after) is), lone.blocks2, lone.map, pair_seen, stepped.answers answer is)
+            by (called.Done answer) is facts alone = (at_rest alone (ap (next_of after) is), lone.blocks2, lone.map, (λ o low known. pair_seen o known), stepped.answers answer is)
             by (called.Refused fault) is facts alone = (at_rest alone (ap (next_of after) is), facts.1)
