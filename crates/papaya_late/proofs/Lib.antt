@@ -9,3 +9,4 @@ pub mod Values
 pub mod Rooms
 pub mod KindsKept
 pub mod Swept
+pub mod Plans

@@ -36,7 +36,7 @@ use Rattle.papaya_points.specs.Told.{HasAnswered, IsBeside, IsRowOfCall, MovedBe
 use Rattle.papaya_late.proofs.Known.Steps.{lasts_went}
 use Rattle.papaya_callers.specs.Sights.{Sight, seen_by}
 use Rattle.papaya_callers.specs.Together.{OnKey, CallOnKey, UnderWay, in_slot, Stands, Together, StepTold, Fresh, Late, StepsTogether}
-use Rattle.papaya_callers.proofs.Plans.{written, there}
+use Rattle.papaya_late.proofs.Plans.{written, there}
 
 module _ {K V Q : Type 0} where
   -- It answers that it has found the pair of this word, as it is to, and removes it in that step.

@@ -17,7 +17,7 @@ use Rattle.papaya_finishes.specs.Maps.{Standing, MapsTogether}
 use Rattle.papaya_callers.specs.Sights.{Sight}
 use Rattle.papaya_callers.specs.Together.{UnderWay, HandsOver, Together}
 use Rattle.papaya_finishes.proofs.Beside.Maps.OtherSteps.{known_owner}
-use Rattle.papaya_callers.proofs.Plans.{written, there}
+use Rattle.papaya_late.proofs.Plans.{written, there}
 
 module _ {K V Q : Type 0} (same : K → K → Bool) (hash : K → ℕ) (asks : Q → K → Bool) (setting : Setting) (slot : ℕ → ℕ)
     (w : World (Node K V)) (c : Chart K) (blocks : Blocks) (sights : ℕ → Sight) (calls : ℕ → Option (UnderWay K V Q)) (s : Together V same hash asks setting slot w c blocks sights calls) where

@@ -39,7 +39,7 @@ use Rattle.papaya_rule.proofs.Moves.Promised.{moves_keep}
 use Rattle.papaya_rule.proofs.Moves.RuleBegins.{rule_begins}
 use Rattle.papaya_late.specs.Kinds.{ComesFit}
 use Rattle.papaya_points.specs.Steps.{AreLawful}
-use Rattle.papaya_callers.proofs.Plans.{forgets_its_pair, stores_nothing, lowers, lowers_the_root, gives_up, aborts_a_promoted}
+use Rattle.papaya_late.proofs.Plans.{forgets_its_pair, stores_nothing, lowers, lowers_the_root, gives_up, aborts_a_promoted}
 
 -- all keys have one hash
 abbrev pub hash : ℕ → ℕ
