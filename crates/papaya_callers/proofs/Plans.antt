@@ -1,7 +1,5 @@
 -- Wrong plans of the map's machines: the laws refuse what their steps leave, wherever a map stands.
 pub mod FewBlocks
-pub mod Aborts
-pub mod Untold
 use Rattle.std.specs.Prelude.{◌≡◌, ℕ, suc, ◌*◌, ◌<◌, ◌≤◌, Bool, true, cond, Some, IsSome, if◌then◌else◌}
 use Rattle.std.proofs.Common.{refl, ap, sym, subst, ◌∙◌, arith, inl, inr}
 use Rattle.std.proofs.lemmas.Bool.{ne_eqb}
