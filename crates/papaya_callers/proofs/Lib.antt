@@ -4,6 +4,5 @@ mod Since
 pub mod Asked
 mod Once
 pub mod Together
-pub mod Plans
 pub mod MapBegins
 pub mod Claims

@@ -107,3 +107,10 @@ module _ {K Q : Type 0} (V : Type 0) (same : K → K → Bool) (hash : K → ℕ
       → (w : World (Node K V)) (c : Chart K) (blocks : Blocks) (sights : ℕ → Sight) (calls : ℕ → Option (UnderWay K V Q)) → Together V same hash asks setting slot w c blocks sights calls
       → (i : ℕ) (o : CallOverAll) → calls i ≡ Some (OverAll o)
       → TakesTold hash c (seen_by blocks (sights (slot i))) o (λ told. Together V same hash asks setting slot w c blocks sights (with_at calls i (Some (OverAll told))))
+
+  -- The promise of what is given up: a walk that is ready may be, at any moment. All others stand together, and its caller has no row under way.
+  abbrev pub WalksStopTogether : Type 0
+  WalksStopTogether =
+      (w : World (Node K V)) (c : Chart K) (blocks : Blocks) (sights : ℕ → Sight) (calls : ℕ → Option (UnderWay K V Q)) → Together V same hash asks setting slot w c blocks sights calls
+      → (i : ℕ) (o : CallOverAll) → calls i ≡ Some (OverAll o) → o.sweep.stands ≡ at.Ready
+      → Together V same hash asks setting slot w c blocks sights (with_at calls i None) × (w.row i ≡ Rests)

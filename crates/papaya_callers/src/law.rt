@@ -1,6 +1,6 @@
 //! What is promised of the calls of many callers on one map.
 ghost use Rattle.std.specs.Prelude.{ℕ, Bool};
-ghost use Rattle.papaya_callers.specs.Sweeps.{SweepsBeginTogether, SweepsStandTogether, SweepsToldTogether, SweepRowsStandTogether};
+ghost use Rattle.papaya_callers.specs.Sweeps.{SweepsBeginTogether, SweepsStandTogether, SweepsToldTogether, SweepRowsStandTogether, WalksStopTogether};
 ghost use Rattle.papaya_callers.specs.Together.{MapBeginsTogether, BeginsTogether, CallsStandTogether, RowsStandTogether, GuardsStandTogether, RepliesStandTogether, RoomsBeginTogether, RoomsStandTogether, RoomRowsStandTogether, CountingsBeginTogether, CountingsStandTogether};
 ghost use Rattle.papaya_tables.specs.declared.setting.Setting.{Setting};
 
@@ -50,10 +50,12 @@ pub fn countings_stand_together<K, V, Q>()
 /// It makes one move at a time at most, and removes no pair that the map has not: a walk removes none, and a retaining just the pair that it was told last
 /// not to keep. What it shows, or asks about, the map had at a moment since it began. At its end each pair that the map had at every moment since it came
 /// to its table was shown by a walk, or told to be kept by a retaining, and a clearing leaves none; each was shown once at most, and so told to be kept.
-/// All stand together after each step, with what each knows. What a row gives back was in a block that no open section held.
+/// All stand together after each step, with what each knows. What a row gives back was in a block that no open section held. A walk that is ready may be
+/// given up at any moment.
 pub fn sweeps_stand_together<K, V, Q>()
     ensures begins { (same : K → K → Bool) (hash : K → ℕ) (asks : Q → K → Bool) (setting : Setting) (slot : ℕ → ℕ) → SweepsBeginTogether V same hash asks setting slot }
     ensures steps { (same : K → K → Bool) (hash : K → ℕ) (asks : Q → K → Bool) (setting : Setting) (slot : ℕ → ℕ) → SweepsStandTogether V same hash asks setting slot }
     ensures told { (same : K → K → Bool) (hash : K → ℕ) (asks : Q → K → Bool) (setting : Setting) (slot : ℕ → ℕ) → SweepsToldTogether V same hash asks setting slot }
     ensures rows { (same : K → K → Bool) (hash : K → ℕ) (asks : Q → K → Bool) (setting : Setting) (slot : ℕ → ℕ) → SweepRowsStandTogether V same hash asks setting slot }
+    ensures stops { (same : K → K → Bool) (hash : K → ℕ) (asks : Q → K → Bool) (setting : Setting) (slot : ℕ → ℕ) → WalksStopTogether V same hash asks setting slot }
 {}

@@ -17,6 +17,7 @@ pub mod Places
 pub mod Replies
 pub mod RowsGo
 pub mod Steps
+pub mod Stops
 pub mod Taken
 pub mod Uses
 pub mod Vacated

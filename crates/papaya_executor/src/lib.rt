@@ -9,6 +9,7 @@ pub mod on_slots;
 pub mod replying;
 pub mod row;
 pub mod stepping;
+pub mod stopping;
 mod taking;
 pub mod telling;
 pub mod vacating;

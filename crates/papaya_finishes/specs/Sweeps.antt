@@ -8,6 +8,7 @@ use Rattle.papaya_tables.specs.declared.node.Node.{Node}
 use Rattle.papaya_sweeps.specs.Sweep.{sweep_plan}
 use Rattle.papaya_sweeps.specs.declared.sweep.Purpose.{Purpose}
 use Rattle.papaya_sweeps.specs.declared.sweep.Sweep.{Sweep}
+use Rattle.papaya_sweeps.specs.declared.sweep.Sweeping.TheVariants as at
 use Rattle.papaya_sweeps.specs.declared.sweep.Swept.{Swept}
 use Rattle.papaya_late.specs.ToldSweeps.{IsRowOfSweep}
 use Rattle.papaya_callers.specs.Claims.{AreFew}
@@ -77,3 +78,12 @@ module _ {K Q : Type 0} (V : Type 0) (same : K → K → Bool) (asks : Q → K �
       → May Can Took value_at w.memory (sweep_plan s.hash o.sweep)
       × ((m2 : Mem (Node K V)) (p2 : Sweep) (end : Swept (Node K V)) → Steps Took value_at w.memory (sweep_plan s.hash o.sweep) m2 (p2, end)
       → SweepRowsAmong w maps calls makers enders m s i o m2 p2 end)
+
+  -- The promise of what is given up: a walk that is ready may be.
+  abbrev pub WalksStopAmong : Type 0
+  WalksStopAmong =
+      (w : World (Node K V)) (maps : ℕ → Option (Standing K)) (calls : ℕ → ℕ → Option (UnderWay K V Q))
+      (makers : ℕ → Option (Beginning K)) (enders : ℕ → Option (Finishing K V))
+      → EndingsTogether V same asks batch_size roots slot w maps calls makers enders
+      → (m : ℕ) (s : Standing K) → maps m ≡ Some s → (i : ℕ) (o : CallOverAll) → calls m i ≡ Some (OverAll o) → o.sweep.stands ≡ at.Ready
+      → EndingsTogether V same asks batch_size roots slot w maps (with_call calls m i None) makers enders × (w.row i ≡ Rests)

@@ -10,7 +10,7 @@ ghost use Rattle.papaya_finishes.specs.Countings.{CountingsBeginAmong, Countings
 ghost use Rattle.papaya_finishes.specs.Endings.{Finishing, NoEndingsBegin, EndingsBegin, EndingsStand, CallsBeginAmong, CallsStandAmong, RepliesStandAmong, RowsStandAmong, GuardsStandAmong, MakingsBeginAmong, MakingsStandAmong};
 ghost use Rattle.papaya_finishes.specs.Machines.{MachinesStandAmong, MachinesToldAmong};
 ghost use Rattle.papaya_finishes.specs.Rooms.{RoomsBeginAmong, RoomsStandAmong, RoomRowsStandAmong};
-ghost use Rattle.papaya_finishes.specs.Sweeps.{SweepsBeginAmong, SweepsStandAmong, SweepsToldAmong, SweepRowsStandAmong};
+ghost use Rattle.papaya_finishes.specs.Sweeps.{SweepsBeginAmong, SweepsStandAmong, SweepsToldAmong, SweepRowsStandAmong, WalksStopAmong};
 
 /// Maps end meanwhile. Any number of callers that have no call and make no map end maps of the same collector, each one at most, on which nobody has
 /// a call, and take their steps in any order among those of calls, rows and makings. From the first moment on the map does not stand, and its pairs
@@ -65,6 +65,7 @@ pub fn sweeps_stand_among<K, V, Q>()
     ensures steps { (same : K → K → Bool) (asks : Q → K → Bool) (batch_size : ℕ) (roots : ℕ) (slot : ℕ → ℕ) → SweepsStandAmong V same asks batch_size roots slot }
     ensures told { (same : K → K → Bool) (asks : Q → K → Bool) (batch_size : ℕ) (roots : ℕ) (slot : ℕ → ℕ) → SweepsToldAmong V same asks batch_size roots slot }
     ensures rows { (same : K → K → Bool) (asks : Q → K → Bool) (batch_size : ℕ) (roots : ℕ) (slot : ℕ → ℕ) → SweepRowsStandAmong V same asks batch_size roots slot }
+    ensures stops { (same : K → K → Bool) (asks : Q → K → Bool) (batch_size : ℕ) (roots : ℕ) (slot : ℕ → ℕ) → WalksStopAmong V same asks batch_size roots slot }
 {}
 
 /// One law for all kinds. Whichever caller takes the next step of the machine that it has under way on a map, be that a call on one key, a reservation, a

@@ -1,5 +1,5 @@
 -- A sweep among the calls on its map is asked for the next pair, or told whether to keep a pair: all stand together.
-use Rattle.std.specs.Prelude.{◌≡◌, ℕ, Bool, true, false, nat_lt, List, ◌∷◌, Option, Some, cond, if◌then◌else◌}
+use Rattle.std.specs.Prelude.{◌≡◌, ℕ, Bool, true, false, nat_lt, List, ◌∷◌, Option, Some, None, cond, if◌then◌else◌}
 use Rattle.std.proofs.Common.{◌∙◌, ap, refl, sym, subst, inl, inr}
 use Rattle.seize.specs.World.{World, Rests, with_at}
 use Rattle.seize_rule.proofs.Rows.Leaving.{with_same}
@@ -16,18 +16,18 @@ use Rattle.papaya_rule.specs.InWorld.{IsMapIn}
 use Rattle.papaya_points.specs.Steps.{AreLawful}
 use Rattle.papaya_late.specs.Covers.{NamesPair, CoversAt}
 use Rattle.papaya_late.specs.CoversSweeps.{DoneReplied}
-use Rattle.papaya_late.specs.FactsSweeps.{SweepFacts}
+use Rattle.papaya_late.specs.FactsSweeps.{CopiesPairs, SweepFacts}
 use Rattle.papaya_late.specs.ToldSweeps.{IsRowOfSweep}
 use Rattle.papaya_late.proofs.Swept.Covers.Shows.{since_began, names_one}
 use Rattle.papaya_late.proofs.Swept.Laws.{sweeps_are_told, sweeps_are_told_on}
 use Rattle.papaya_late.proofs.Swept.Sweeps.Stands.{IsQuiet, quiet_further}
 use Rattle.papaya_callers.specs.OverAll.{Verdict, verdict, CallOverAll, gone_on, told_of, SweepClaims, TriesTold}
 use Rattle.papaya_callers.specs.Sights.{Sight, seen_by}
-use Rattle.papaya_callers.specs.Sweeps.{ShowsPair, TakesTold, SweepsToldTogether}
+use Rattle.papaya_callers.specs.Sweeps.{ShowsPair, TakesTold, SweepsToldTogether, WalksStopTogether}
 use Rattle.papaya_callers.specs.Together.{UnderWay, OverAll, HasCall, in_slot, KnowsSweep, Stands, Together}
 use Rattle.papaya_callers.proofs.Sights.Seen.{map_seen}
-use Rattle.papaya_callers.proofs.Together.Few.{few_with, quiet_claims_none}
-use Rattle.papaya_callers.proofs.Together.Fits.{map_in_slot, fits_some, fits_of, stands_by}
+use Rattle.papaya_callers.proofs.Together.Few.{few_with, few_without, quiet_claims_none}
+use Rattle.papaya_callers.proofs.Together.Fits.{map_in_slot, fits_some, fits_none, fits_of, stands_by}
 
 -- where it is quiet it is about to remove nothing
 pub quiet_tries : {K : Type 0} (hash : K → ℕ) (c : Chart K) (blocks : Blocks) (told : Option Verdict) (purpose : Purpose) (stage : Sweeping) → IsQuiet stage → TriesTold hash c blocks told purpose stage
@@ -148,3 +148,20 @@ module _ {K V Q : Type 0} (same : K → K → Bool) (hash : K → ℕ) (asks : Q
 
   pub sweeps_told_together : SweepsToldTogether V same hash asks setting slot
   sweeps_told_together lawful w c blocks sights calls s i o has = by lawful w c blocks sights calls s i o has (s.stand i (OverAll o) has)
+
+  -- a walk that is ready copies nothing, and is within no row
+  pub walks_stop_together : WalksStopTogether V same hash asks setting slot
+  walks_stop_together w c blocks sights calls s i o has ready = by (s.stand i (OverAll o) has)
+    where
+      its_call : HasCall calls i
+      its_call none = cc (has, none)
+
+      by : Stands V same hash asks setting slot w c (seen_by blocks (sights (slot i))) i (OverAll o) → Together V same hash asks setting slot w c blocks sights (with_at calls i None) × (w.row i ≡ Rests)
+      by (inl (rests, k)) = (
+        stands_by same hash asks setting slot w c blocks sights calls i None s.ground
+            (fits_none same hash asks setting slot w c blocks (sights (slot i)) i (k.facts.idle (λ copies. subst CopiesPairs ready copies)))
+            (λ j other. fits_of same hash asks setting slot w c blocks sights calls s j)
+            (λ blocking. few_without calls i c (s.few blocking) its_call) s.onto (λ none. rests),
+        rests,
+      )
+      by (inr (here, row, k)) = absurd (subst IsRowOfSweep ready row)

@@ -1,9 +1,10 @@
 -- Walks, clearings and retainings among calls, makings and ends of maps.
-use Rattle.std.specs.Prelude.{Option, Some}
+use Rattle.std.specs.Prelude.{Option, Some, None}
 use Rattle.std.proofs.Common.{◌≡◌, ℕ, Bool, ap, sym, ◌∙◌}
 use Rattle.seize.specs.World.{World, with_at}
 use Rattle.papaya_tables.specs.declared.node.Node.{Node}
-use Rattle.papaya_callers.specs.OverAll.{CallOverAll, come_to}
+use Rattle.papaya_sweeps.specs.SweepPoints.{after_next}
+use Rattle.papaya_callers.specs.OverAll.{CallOverAll, come_to, gone_on, told_of}
 use Rattle.papaya_callers.specs.Together.{UnderWay, OverAll, next_over_all, Together}
 use Rattle.papaya_finishes.specs.Makings.{Beginning}
 use Rattle.papaya_finishes.specs.Maps.{Standing, with_call}
@@ -15,9 +16,9 @@ use Rattle.papaya_finishes.proofs.Beside.Maps.Rows.{row_all_together}
 use Rattle.papaya_finishes.proofs.Beside.Maps.Steps.{all_together, no_other, others_stand}
 use Rattle.papaya_callers.proofs.Together.SweepStepped.{sweep_rows_stand_together}
 use Rattle.papaya_callers.proofs.Together.Sweeps.{sweeps_begin_together, sweeps_stand_together}
-use Rattle.papaya_callers.proofs.Together.SweepsTold.{sweeps_told_together}
+use Rattle.papaya_callers.proofs.Together.SweepsTold.{sweeps_told_together, walks_stop_together}
 use Rattle.papaya_finishes.specs.Endings.{Finishing, EndingsTogether}
-use Rattle.papaya_finishes.specs.Sweeps.{SweepsBeginAmong, SweepsStandAmong, SweepsToldAmong, SweepRowsStandAmong}
+use Rattle.papaya_finishes.specs.Sweeps.{SweepsBeginAmong, SweepsStandAmong, SweepsToldAmong, SweepRowsStandAmong, WalksStopAmong}
 use Rattle.papaya_finishes.proofs.Among.Beside.{endings_same}
 use Rattle.papaya_finishes.proofs.Among.Calls.{no_ender, ender_alone, endings_with_call, call_spares}
 use Rattle.papaya_finishes.proofs.Among.Rows as rows
@@ -59,22 +60,27 @@ module _ {K Q : Type 0} (V : Type 0) (same : K → K → Bool) (asks : Q → K �
   -- nothing has changed but its sweep
   with_it : (w : World (Node K V)) (maps : ℕ → Option (Standing K)) (calls : ℕ → ℕ → Option (UnderWay K V Q)) (makers : ℕ → Option (Beginning K)) (enders : ℕ → Option (Finishing K V))
       (all : EndingsTogether V same asks batch_size roots slot w maps calls makers enders) (m : ℕ) (s : Standing K) (here : maps m ≡ Some s) (i : ℕ) (o : CallOverAll) (has : calls m i ≡ Some (OverAll o))
-      (told : CallOverAll) → Together V same s.hash asks s.setting slot w s.chart s.blocks s.sights (with_at (calls m) i (Some (OverAll told)))
-      → EndingsTogether V same asks batch_size roots slot w maps (with_call calls m i (Some (OverAll told))) makers enders
-  with_it w maps calls makers enders all m s here i o has told stand =
-      endings_with_call V same asks batch_size roots slot w maps calls makers enders all m i _ (no_ender V same asks batch_size roots slot w maps calls makers enders all m i (OverAll o) has)
-      (makings_with_call V same asks batch_size roots slot w maps calls makers all.makings m i _ (no_maker V same asks batch_size roots slot w maps calls makers all.makings m i (OverAll o) has)
-      (maps_with_call V same asks batch_size slot w maps calls all.makings.standing m s here i _ (no_other V same asks batch_size slot w maps calls all.makings.standing m s here i (OverAll o) has) stand))
+      (next : Option (UnderWay K V Q)) → Together V same s.hash asks s.setting slot w s.chart s.blocks s.sights (with_at (calls m) i next)
+      → EndingsTogether V same asks batch_size roots slot w maps (with_call calls m i next) makers enders
+  with_it w maps calls makers enders all m s here i o has next stand =
+      endings_with_call V same asks batch_size roots slot w maps calls makers enders all m i next (no_ender V same asks batch_size roots slot w maps calls makers enders all m i (OverAll o) has)
+      (makings_with_call V same asks batch_size roots slot w maps calls makers all.makings m i next (no_maker V same asks batch_size roots slot w maps calls makers all.makings m i (OverAll o) has)
+      (maps_with_call V same asks batch_size slot w maps calls all.makings.standing m s here i next (no_other V same asks batch_size slot w maps calls all.makings.standing m s here i (OverAll o) has) stand))
 
   pub sweeps_told_among : SweepsToldAmong V same asks batch_size roots slot
   sweeps_told_among w maps calls makers enders all m s here i o has =
       let standing = all.makings.standing in
       let taken = sweeps_told_together same s.hash asks s.setting slot (standing.fit m s here).0 w s.chart s.blocks s.sights (calls m) (standing.each m s here) i o has in
       record {
-        next = with_it w maps calls makers enders all m s here i o has _ taken.next;
+        next = with_it w maps calls makers enders all m s here i o has (Some (OverAll (gone_on o (after_next o.sweep)))) taken.next;
         asks_about = taken.asks_about;
-        replied = λ word n is named keeps. with_it w maps calls makers enders all m s here i o has _ (taken.replied word n is named keeps);
+        replied = λ word n is named keeps. with_it w maps calls makers enders all m s here i o has (Some (OverAll (told_of o n keeps))) (taken.replied word n is named keeps);
       }
+
+  pub walks_stop_among : WalksStopAmong V same asks batch_size roots slot
+  walks_stop_among w maps calls makers enders all m s here i o has ready =
+      let stops = walks_stop_together same s.hash asks s.setting slot w s.chart s.blocks s.sights (calls m) (all.makings.standing.each m s here) i o has ready in
+      (with_it w maps calls makers enders all m s here i o has None stops.0, stops.1)
 
   pub sweep_rows_stand_among : SweepRowsStandAmong V same asks batch_size roots slot
   sweep_rows_stand_among w maps calls makers enders all m s here i o has is_row =

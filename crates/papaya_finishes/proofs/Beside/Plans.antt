@@ -1,2 +1,4 @@
 -- Wrong plans, tried on a map among others.
+mod Aborts
 mod OnePair
+mod Untold

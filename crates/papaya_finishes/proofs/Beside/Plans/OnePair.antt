@@ -34,8 +34,8 @@ use Rattle.papaya_callers.specs.Asked.{Asked, IsWordOf}
 use Rattle.papaya_callers.specs.Kind.{computes}
 use Rattle.papaya_callers.specs.Pairs.{Given, IsTold, and_told}
 use Rattle.papaya_callers.specs.Together.{told_about, OnKey, CallOnKey, UnderWay}
-use Rattle.papaya_callers.proofs.Plans.Aborts.{removes_all_the_same, removes_though_told_to_abort, denies_its_pair}
-use Rattle.papaya_callers.proofs.Plans.Untold.{tells_at_once, removes_and_tells, keeps_what_it_is_to_replace, removes_what_it_is_to_leave}
+use Rattle.papaya_finishes.proofs.Beside.Plans.Aborts.{removes_all_the_same, removes_though_told_to_abort, denies_its_pair}
+use Rattle.papaya_finishes.proofs.Beside.Plans.Untold.{tells_at_once, removes_and_tells, keeps_what_it_is_to_replace, removes_what_it_is_to_leave}
 use Rattle.papaya_late.proofs.Plans.FewBlocks.{hash, lawful, setting, with_move, chart, Stands, moved, each, stands, memory, length_fits, both, new}
 use Rattle.papaya_callers.proofs.Together.At.{at_same}
 
