@@ -1,4 +1,5 @@
 pub mod Operations
+pub mod Contents
 pub mod Alike
 pub mod Lists
 pub mod Nowhere

@@ -34,7 +34,7 @@ use Rattle.papaya_follows.specs.Maps.{ShowsMap}
 use Rattle.papaya_follows.specs.Shows.{Shows}
 use Rattle.papaya_follows.specs.Steps.{HandTheirs, TakesNone, Did, IsOfNoRow, RowsAreShown}
 use Rattle.papaya_follows.proofs.Alike.{alike_same}
-use Rattle.papaya_follows.proofs.Handed.{hands_shown, hands_many}
+use Rattle.papaya_follows.proofs.Handed.{hands_shown, hands_same}
 use Rattle.papaya_follows.proofs.Onward.{tables_same, pairs_same, blocks_same, blocks_part, map_on}
 use Rattle.papaya_follows.proofs.Operations.{StaysThere, LeavesBy, Operated, operated, operated_leaves}
 use Rattle.papaya_follows.proofs.Rows.{HandsOn, IsStill, KeepsBlock, RowLeaves, one_step_leaves, row_written}
@@ -46,7 +46,7 @@ module _ {K V : Type 0} (caller map : ℕ) (m : Moment K V) (known : Known) (w w
   its = Call caller map
 
   -- each block has its role still
-  row_role : (b : ℕ) → StaysThere w.memory w2.memory b → (r : Role) → HasRole w (length m.stored) b r → HasRole w2 (length m.stored) b r
+  row_role : (b : ℕ) → StaysThere w.memory w2.memory b → (r : Role) → HasRole w m.stored b r → HasRole w2 m.stored b r
   row_role b stays = of
     where
       keeps : (value : Node K V) → value_at w.memory b ≡ Some value → KeepsBlock w w2 b value
@@ -56,11 +56,11 @@ module _ {K V : Type 0} (caller map : ℕ) (m : Moment K V) (known : Known) (w w
           by (inl gone) = absurd (let there = (stays.there value is).1 in cc (gone, there))
           by (inr kept) = kept
 
-      of : (r : Role) → HasRole w (length m.stored) b r → HasRole w2 (length m.stored) b r
+      of : (r : Role) → HasRole w m.stored b r → HasRole w2 m.stored b r
       of role.Free has = stays.gone has
       of (role.OwnPair i) has = (has.0, (keeps has.0 has.1).is, has.2)
       of (role.OwnTable turn shape) has = (has.0, (keeps _ has.1).is)
-      of (role.Pair n) has = (has.0, has.1, has.2, has.3, (keeps _ has.4).is, (keeps _ has.4).linked has.5)
+      of (role.Pair n) has = (has.0, has.1, has.2, (keeps _ has.3).is, (keeps _ has.3).linked has.4)
       of (role.Table t len) has = (has.0, (keeps _ has.1).is, (keeps _ has.1).linked has.2)
       of (role.Counter number) has = (keeps _ has).is
 
@@ -68,9 +68,9 @@ module _ {K V : Type 0} (caller map : ℕ) (m : Moment K V) (known : Known) (w w
     pub hands : HandsOn (effects_of its known told)
     pub roles : (known_after its told known).roles ≡ known.roles
     pub as_many : (known_after its told known).stored ≡ known.stored
-    pub has : (b : ℕ) → HasRole w2 (length m.stored) b (known.roles b)
+    pub has : (b : ℕ) → HasRole w2 m.stored b (known.roles b)
 
-  all_have : ((b : ℕ) → StaysThere w.memory w2.memory b) → (b : ℕ) → HasRole w2 (length m.stored) b (known.roles b)
+  all_have : ((b : ℕ) → StaysThere w.memory w2.memory b) → (b : ℕ) → HasRole w2 m.stored b (known.roles b)
   all_have stays b = row_role b (stays b) (known.roles b) (shown.roles b)
 
   roomed_hands : (q : Bool) → HandsOn (if q then [] else Asked ABucket ∷ [])
@@ -80,7 +80,7 @@ module _ {K V : Type 0} (caller map : ℕ) (m : Moment K V) (known : Known) (w w
   pub row_done : (told : Changed) → LeavesBy w.memory w2.memory told → TakesNone told → RowDone told
   row_done changed.Nothing left none = record { hands = IsStill [] tt; roles = refl; as_many = refl; has = all_have left }
   row_done (changed.Wrote at old new) left none =
-      let done = row_written caller map (length m.stored) known w w2 shown.roles leaves left.2 at old new left.0 left.1 in
+      let done = row_written caller map m.stored known w w2 shown.roles leaves left.2 at old new left.0 left.1 in
       record {
         hands = done.0;
         roles = ap (λ (k : Known). k.roles) done.1;
@@ -122,8 +122,8 @@ module _ {K V S : Type 0} (same : K → K → Bool) (hash : K → ℕ) (m : Mome
   done : RowDone i map m known w w2 shown.blocks (one_step_leaves standing.setting i w w2 each.ground.came happened) told
   done = row_done i map m known w w2 shown.blocks (one_step_leaves standing.setting i w w2 each.ground.came happened) told left none
 
-  many : length v.stored ≡ length m.stored
-  many = hands_many caller map m effects done.hands
+  same_stored : v.stored ≡ m.stored
+  same_stored = hands_same caller map m effects done.hands
 
   module _ (w3 : World (Node K V)) (maps2 : ℕ → Option (Standing K)) (w_is : w3 ≡ w2) (maps_same : (n : ℕ) → IsSameMap (s.maps n) (maps2 n)) where
     map_then : (n : ℕ) (o : Option (Standing K)) → s.maps n ≡ o → IsSameMap o (maps2 n) → (st : Standing K) → maps2 n ≡ Some st → ShowsMap n (shown.number n) st v after
@@ -138,9 +138,9 @@ module _ {K V S : Type 0} (same : K → K → Bool) (hash : K → ℕ) (m : Mome
     pub row_shown : (rest : Scene K V) → Shows v after (record rest { world = w3; maps = maps2 })
     row_shown rest = record {
       blocks = subst (λ (x : World (Node K V)). ShowsBlocks v after x) (sym w_is) (record {
-        roles = λ b. subst (λ (n : ℕ). HasRole w2 n b (after.roles b)) (sym many) (subst (λ (f : ℕ → Role). HasRole w2 (length m.stored) b (f b)) (sym done.roles) (done.has b));
+        roles = λ b. subst (λ (xs : List (K × V)). HasRole w2 xs b (after.roles b)) (sym same_stored) (subst (λ (f : ℕ → Role). HasRole w2 m.stored b (f b)) (sym done.roles) (done.has b));
         once = λ b d n is is2. shown.blocks.once b d n (ap (λ (f : ℕ → Role). f b) (sym done.roles) ∙ is) (ap (λ (f : ℕ → Role). f d) (sym done.roles) ∙ is2);
-        stored = done.as_many ∙ shown.blocks.stored ∙ sym many;
+        stored = done.as_many ∙ shown.blocks.stored ∙ sym (ap length same_stored);
       });
       number = shown.number;
       maps = λ n st is. map_then n (s.maps n) refl (maps_same n) st is;

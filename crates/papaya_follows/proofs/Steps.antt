@@ -109,7 +109,7 @@ module _ {K V S : Type 0} (same : K → K → Bool) (hash : K → ℕ) (m : Mome
     is_map = map_seen same standing.hash setting w standing.chart standing.blocks sight (map_in_slot same standing.hash standing.setting w standing.chart standing.blocks (slot_of i) each.ground.map) is_sight
 
     module _ (Told : World (Node K V) → Chart K → Blocks → Type 0) (had : Went same standing.hash setting i w standing.chart (seen_by standing.blocks sight) m2 Told)
-        (blocks2 : Blocks) (grown : IsGrown standing.chart standing.blocks had.blocks2 blocks2) (sights2 : ℕ → Sight) (stores : StoreTheirs caller map effects m) where
+        (blocks2 : Blocks) (grown : IsGrown standing.chart standing.blocks had.blocks2 blocks2) (sights2 : ℕ → Sight) (stores : StoreTheirs w.memory told caller map effects m) where
       abbrev None2 : World (Node K V) → Chart K → Blocks → Type 0
       None2 w2 c2 blocks2 = Unit {0}
 
@@ -181,9 +181,9 @@ module _ {K V S : Type 0} (same : K → K → Bool) (hash : K → ℕ) (m : Mome
       keeps_names (Entry b field) x y e = tt
       keeps_names (Word b field) x y e = λ t l known is. (λ next. e, λ place l is. ap block_in e)
 
-      quiet : IsQuiet same standing.hash setting i w standing.chart (seen_by standing.blocks sight) m2 (λ w2 c2 blocks2. Unit {0}) stayed is_map map (length m.stored) known
+      quiet : IsQuiet same standing.hash setting i w standing.chart (seen_by standing.blocks sight) m2 (λ w2 c2 blocks2. Unit {0}) stayed is_map map m.stored known
           shown.blocks.roles shown.blocks.once (λ t l seen. is_shown.tables.roles t l (is_sight.tables t l seen)) effects after
-      quiet = quiet_told same standing.hash setting i w standing.chart (seen_by standing.blocks sight) m2 (λ w2 c2 blocks2. Unit {0}) stayed is_map map (length m.stored) known
+      quiet = quiet_told same standing.hash setting i w standing.chart (seen_by standing.blocks sight) m2 (λ w2 c2 blocks2. Unit {0}) stayed is_map map m.stored known
           shown.blocks.roles shown.blocks.once (λ t l seen. is_shown.tables.roles t l (is_sight.tables t l seen)) told left (λ at x y e. keeps_names at x y (same_word at x y e))
 
       module _ (w2 : World (Node K V)) (maps2 : ℕ → Option (Standing K)) (w_is : w2 ≡ w) (maps_same : (n : ℕ) → IsSameMap (s.maps n) (maps2 n)) where
@@ -202,7 +202,7 @@ module _ {K V S : Type 0} (same : K → K → Bool) (hash : K → ℕ) (m : Mome
               still_find map (Some caller) effects m quiet.still,
               record {
                 blocks = subst (λ (x : World (Node K V)). ShowsBlocks v after x) (sym w_is) (record {
-                  roles = λ b. subst (λ (n : ℕ). HasRole w n b (after.roles b)) (sym as_many) (quiet.roles b);
+                  roles = λ b. subst (λ (xs : List (K × V)). HasRole w xs b (after.roles b)) (sym same_so.stored) (quiet.roles b);
                   once = quiet.once;
                   stored = quiet.stored ∙ shown.blocks.stored ∙ sym as_many;
                 });
