@@ -35,6 +35,7 @@ use Rattle.papaya_follows.specs.Maps.{ShowsMap}
 use Rattle.papaya_follows.specs.Shows.{Shows}
 use Rattle.papaya_follows.specs.Steps.{HandTheirs, TakesNone, Did, IsOfNoRow, RowsAreShown}
 use Rattle.papaya_follows.proofs.Alike.{alike_same}
+use Rattle.papaya_follows.proofs.Called.{called_on}
 use Rattle.papaya_follows.proofs.Calls.{calls_on}
 use Rattle.papaya_follows.proofs.Handed.{hands_shown, hands_same}
 use Rattle.papaya_follows.proofs.Onward.{tables_same, pairs_same, blocks_same, blocks_part, map_on}
@@ -96,7 +97,7 @@ module _ {K V : Type 0} (caller map : ℕ) (m : Moment K V) (known : Known) (w w
       let same = roomed_as_many its known bucket had in record { hands = roomed_hands (nat_lt bucket known.buckets); roles = same.0; as_many = same.1; has = all_have left }
 
 module _ {K V S : Type 0} (same : K → K → Bool) (hash : K → ℕ) (m : Moment K V) (known : Known) (s : Scene K V) (old new : Executor K V S) (at : IsAt same hash old s)
-    (name : ℕ → List ℕ) (shown : Shows name m known s)
+    (name : ℕ → List ℕ) (shown : Shows same name m known s)
     (map i : ℕ) (standing : Standing K) (there : s.maps map ≡ Some standing) (caller : List ℕ)
     (made : Operated s.world.memory new.memory.memory new.memory.changed) (none : TakesNone new.memory.changed)
     (hands : HandTheirs caller map (effects_of (Call i map) known new.memory.changed) m)
@@ -138,7 +139,7 @@ module _ {K V S : Type 0} (same : K → K → Bool) (hash : K → ℕ) (m : Mome
         (map_on n (shown.number n) now now v v known after (blocks_same before.chart blocks) (λ b lasting. ap (λ (f : ℕ → Role). f b) done.roles) refl (tables_same before.chart) (pairs_same before.chart)
         (alike_same n v v (record { place = refl; born = refl; maps = refl; tables = refl; stored = refl })) with_known)
 
-    pub row_shown : (rest : Scene K V) → ShowsCalls name v rest.calls → Shows name v after (record rest { world = w3; maps = maps2 })
+    pub row_shown : (rest : Scene K V) → ShowsCalls same name v rest.calls → Shows same name v after (record rest { world = w3; maps = maps2 })
     row_shown rest calls = record {
       blocks = subst (λ (x : World (Node K V)). ShowsBlocks v after x) (sym w_is) (record {
         roles = λ b. subst (λ (xs : List (K × V)). HasRole w2 xs b (after.roles b)) (sym same_stored) (subst (λ (f : ℕ → Role). HasRole w2 m.stored b (f b)) (sym done.roles) (done.has b));
@@ -163,11 +164,12 @@ module _ (K V S : Type 0) (same : K → K → Bool) (hash : K → ℕ) where
       made = subst (λ (x : Mem (Node K V)). Operated x new.memory.memory new.memory.changed) (sym at.memory)
           (operated old.memory.memory new.memory.memory new.memory.changed (machine_plan same same hash (machine_of u)) (to.1, told) (may_step same hash old s at map i u here) to.3)
 
-      calls : ShowsCalls name (with_effects (Some (name i)) (Some map) (effects_of (Call i map) known new.memory.changed) m) (with_call s.calls map i to.4.next)
-      calls = calls_on name (name i) map (effects_of (Call i map) known new.memory.changed) m s.calls map i u here to.4.next shown.calls
+      calls : ShowsCalls same name (with_effects (Some (name i)) (Some map) (effects_of (Call i map) known new.memory.changed) m) (with_call s.calls map i to.4.next)
+      calls = calls_on same name (name i) map (effects_of (Call i map) known new.memory.changed) m s.calls map i u here to.4.next
+          (called_on same old.batch_size old.roots s.world s.maps s.calls s.makers s.enders map to.0 i new.memory.memory to.4.w2 to.4.maps2 to.4.next u to.1 told to.4.did) shown.calls
 
       Goal : Type 0
-      Goal = Shows name (with_effects (Some (name i)) (Some map) (effects_of (Call i map) known new.memory.changed) m) (known_after (Call i map) new.memory.changed known)
+      Goal = Shows same name (with_effects (Some (name i)) (Some map) (effects_of (Call i map) known new.memory.changed) m) (known_after (Call i map) new.memory.changed known)
           (scene_after same hash s old new map i to.0 u to.1 told to.4)
 
       by : (x : UnderWay K V K)

@@ -47,6 +47,7 @@ use Rattle.papaya_follows.specs.Maps.{ShowsMap}
 use Rattle.papaya_follows.specs.Shows.{Shows}
 use Rattle.papaya_follows.specs.Steps.{StoreTheirs, Did, IsOfNoRow, CallsAreShown}
 use Rattle.papaya_follows.proofs.Alike.{alike_same, still_all}
+use Rattle.papaya_follows.proofs.Called.{called_on}
 use Rattle.papaya_follows.proofs.Calls.{calls_on}
 use Rattle.papaya_follows.proofs.Finds.{still_find}
 use Rattle.papaya_follows.proofs.Kept.{NoMore}
@@ -61,7 +62,7 @@ pub one_of : {X : Type 0} (x y : X) → ◌≡◌ {A = Option X} (Some x) (Some 
 one_of x y e = cc e
 
 module _ {K V S : Type 0} (same : K → K → Bool) (hash : K → ℕ) (m : Moment K V) (known : Known) (s : Scene K V) (old new : Executor K V S) (at : IsAt same hash old s)
-    (name : ℕ → List ℕ) (shown : Shows name m known s)
+    (name : ℕ → List ℕ) (shown : Shows same name m known s)
     (map i : ℕ) (standing : Standing K) (there : s.maps map ≡ Some standing) (caller : List ℕ)
     (made : Operated s.world.memory new.memory.memory new.memory.changed) where
   abbrev m2 : Mem (Node K V)
@@ -156,7 +157,7 @@ module _ {K V S : Type 0} (same : K → K → Bool) (hash : K → ℕ) (m : Mome
               (map_on n (shown.number n) st st m v known after (blocks_same st.chart st.blocks) lead.keeps refl (tables_same st.chart) (pairs_same st.chart) (lead.others n ne) (shown.maps n st was))
         ]
 
-        pub moved_shown : (rest : Scene K V) → ShowsCalls name v rest.calls → AtEachEffect (FindsMap map) (Some caller) (Some map) effects m × Shows name v after (record rest { world = w2; maps = maps2 })
+        pub moved_shown : (rest : Scene K V) → ShowsCalls same name v rest.calls → AtEachEffect (FindsMap map) (Some caller) (Some map) effects m × Shows same name v after (record rest { world = w2; maps = maps2 })
         moved_shown rest calls = (
           lead.finds,
           record {
@@ -199,7 +200,7 @@ module _ {K V S : Type 0} (same : K → K → Bool) (hash : K → ℕ) (m : Mome
             subst (λ (x : Standing K). ShowsMap n (shown.number n) x v after) (one_of now st (sym here ∙ is))
             (map_on n (shown.number n) before now m v known after (blocks_part before.chart before.blocks blocks part) quiet.keeps refl (tables_same before.chart) (pairs_same before.chart) alike (shown.maps n before e))
 
-        pub stayed_shown : (rest : Scene K V) → ShowsCalls name v rest.calls → AtEachEffect (FindsMap map) (Some caller) (Some map) effects m × Shows name v after (record rest { world = w2; maps = maps2 })
+        pub stayed_shown : (rest : Scene K V) → ShowsCalls same name v rest.calls → AtEachEffect (FindsMap map) (Some caller) (Some map) effects m × Shows same name v after (record rest { world = w2; maps = maps2 })
         stayed_shown rest calls =
             let same_so = still_all (Some caller) map effects m quiet.still in
             let as_many = ap length same_so.stored in (
@@ -230,12 +231,13 @@ module _ (K V S : Type 0) (same : K → K → Bool) (hash : K → ℕ) where
       made = subst (λ (x : Mem (Node K V)). Operated x new.memory.memory new.memory.changed) (sym at.memory)
           (operated old.memory.memory new.memory.memory new.memory.changed (machine_plan same same hash (machine_of u)) (to.1, told) (may_step same hash old s at map i u here) to.3)
 
-      calls : ShowsCalls name (with_effects (Some (name i)) (Some map) (effects_of (Call i map) known new.memory.changed) m) (with_call s.calls map i to.4.next)
-      calls = calls_on name (name i) map (effects_of (Call i map) known new.memory.changed) m s.calls map i u here to.4.next shown.calls
+      calls : ShowsCalls same name (with_effects (Some (name i)) (Some map) (effects_of (Call i map) known new.memory.changed) m) (with_call s.calls map i to.4.next)
+      calls = calls_on same name (name i) map (effects_of (Call i map) known new.memory.changed) m s.calls map i u here to.4.next
+          (called_on same old.batch_size old.roots s.world s.maps s.calls s.makers s.enders map to.0 i new.memory.memory to.4.w2 to.4.maps2 to.4.next u to.1 told to.4.did) shown.calls
 
       Goal : Type 0
       Goal = AtEachEffect (FindsMap map) (Some (name i)) (Some map) (effects_of (Call i map) known new.memory.changed) m
-          × Shows name (with_effects (Some (name i)) (Some map) (effects_of (Call i map) known new.memory.changed) m) (known_after (Call i map) new.memory.changed known)
+          × Shows same name (with_effects (Some (name i)) (Some map) (effects_of (Call i map) known new.memory.changed) m) (known_after (Call i map) new.memory.changed known)
           (scene_after same hash s old new map i to.0 u to.1 told to.4)
 
       inside : IsInside (s.world.uses (slot_of i))
