@@ -4,7 +4,7 @@ use Rattle.std.proofs.Common.{refl, arith}
 use Rattle.papaya_follows.specs.Beginning.{RunsBegin}
 
 pub runs_begin : (K V : Type 0) → RunsBegin K V
-runs_begin K V roots = record {
+runs_begin K V same roots name = record {
   blocks = record {
     roles = λ b. (grind arith);
     once = λ b d n is is2. absurd (cc is);
@@ -12,4 +12,5 @@ runs_begin K V roots = record {
   };
   number = λ map n. 0;
   maps = λ map standing is. absurd (cc is);
+  calls = λ map i u is. absurd (cc is);
 }

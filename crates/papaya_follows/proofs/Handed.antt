@@ -176,9 +176,9 @@ module _ {K V : Type 0} (caller : List ℕ) (acted of : ℕ) (number : ℕ → �
   hands_shown effects (Puts n t) hands = alike_shown (led (Deferred n t ∷ [])) (deferred_alike (Some caller) acted m of n t hands.0)
   hands_shown effects (Retires x) hands = thing_retired x hands
 
--- and as many pairs were stored
+-- and the same pairs were stored
 module _ {K V : Type 0} (caller : List ℕ) (acted : ℕ) (m : Moment K V) where
-  pub hands_many : (effects : List Effect) → HandsOn effects → length (with_effects (Some caller) (Some acted) effects m).stored ≡ length m.stored
-  hands_many effects (IsStill still all) = ap length (still_all (Some caller) acted still m all).stored
-  hands_many effects (Puts n t) = ap length (hands_stored (acting (Some caller) m) n t (ATable t) m.stored).0
-  hands_many effects (Retires x) = ap length (hands_stored (acting (Some caller) m) 0 (record { map = 0; turn = 0 }) x m.stored).1
+  pub hands_same : (effects : List Effect) → HandsOn effects → (with_effects (Some caller) (Some acted) effects m).stored ≡ m.stored
+  hands_same effects (IsStill still all) = (still_all (Some caller) acted still m all).stored
+  hands_same effects (Puts n t) = (hands_stored (acting (Some caller) m) n t (ATable t) m.stored).0
+  hands_same effects (Retires x) = (hands_stored (acting (Some caller) m) 0 (record { map = 0; turn = 0 }) x m.stored).1

@@ -1,5 +1,5 @@
 -- What a step of a call leaves of the roles of blocks, wherever it is none of a row.
-use Rattle.std.specs.Prelude.{◌≡◌, ◌≢◌, ℕ, zero, suc, ◌<◌, ◌≤◌, Bool, true, Option, Some, None}
+use Rattle.std.specs.Prelude.{◌≡◌, ◌≢◌, ℕ, zero, suc, ◌<◌, ◌≤◌, Bool, true, List, Option, Some, None}
 use Rattle.std.proofs.Common.{refl, ap, sym, subst, ◌∙◌, arith, inl, inr}
 use Rattle.seize_words.specs.Mem.{Mem, value_at}
 use Rattle.seize.specs.World.{World, Hand, NoBlock, Making, InUse, Parting, Cutting, Handed, LeftTo}
@@ -16,6 +16,7 @@ use Rattle.papaya_rule.proofs.World.WentTold.{went_as}
 use Rattle.papaya_effects.specs.declared.role.Role.{Role}
 use Rattle.papaya_effects.specs.declared.role.Role.TheVariants as role
 use Rattle.papaya_follows.specs.Blocks.{WasLinked, HasRole}
+use Rattle.papaya_follows.proofs.Contents.{Lasts}
 use Rattle.papaya_follows.proofs.Operations.{StaysThere}
 
 -- what is out was linked
@@ -84,14 +85,14 @@ module _ {K V : Type 0} (same : K → K → Bool) (hash : K → ℕ) (setting : 
   stays_of b value after is is2 = subst (λ (o : Option (Node K V)). StaysTable (Some value) o) is2 (subst (λ (o : Option (Node K V)). StaysTable o (value_at m2 b)) is (went.frame.tables b))
 
   -- a block that stays there has its role still
-  pub role_kept : (stored more : ℕ) → stored ≤ more → (b : ℕ) → StaysThere w.memory m2 b → (r : Role) → HasRole w stored b r → HasRole went.w2 more b r
-  role_kept stored more le b stays role.Free none = ap (λ (m : Mem (Node K V)). value_at m b) went.memory ∙ stays.gone none
-  role_kept stored more le b stays (role.OwnPair i) own =
+  pub role_kept : (stored more : List (K × V)) → Lasts stored more → (b : ℕ) → StaysThere w.memory m2 b → (r : Role) → HasRole w stored b r → HasRole went.w2 more b r
+  role_kept stored more lasts b stays role.Free none = ap (λ (m : Mem (Node K V)). value_at m b) went.memory ∙ stays.gone none
+  role_kept stored more lasts b stays (role.OwnPair i) own =
       let now = stays.there own.0 own.1 in (now.0, ap (λ (m : Mem (Node K V)). value_at m b) went.memory ∙ now.1, stays_none own.0 now.0 own.2 (stays_of b own.0 now.0 own.1 now.1))
-  role_kept stored more le b stays (role.OwnTable turn shape) own =
+  role_kept stored more lasts b stays (role.OwnTable turn shape) own =
       let now = stays.there _ own.1 in
       (own.0, ap (λ (m : Mem (Node K V)). value_at m b) went.memory ∙ now.1 ∙ ap Some (stays_table shape.len shape.limit turn now.0 own.0 (stays_of b _ now.0 own.1 now.1)))
-  role_kept stored more le b stays (role.Pair n) own =
-      (own.0, (let l = own.1 in omega (arith, l, le)), own.2, own.3, value_on b _ own.4 (not_own b own.5), linked_on b _ own.4 own.5)
-  role_kept stored more le b stays (role.Table t len) own = (own.0, value_on b _ own.1 (not_own b own.2), linked_on b _ own.1 own.2)
-  role_kept stored more le b stays (role.Counter map) own = value_on b _ own (λ mine. mine.1 own)
+  role_kept stored more lasts b stays (role.Pair n) own =
+      (own.0, own.1, lasts n (own.0, own.1) own.2, value_on b _ own.3 (not_own b own.4), linked_on b _ own.3 own.4)
+  role_kept stored more lasts b stays (role.Table t len) own = (own.0, value_on b _ own.1 (not_own b own.2), linked_on b _ own.1 own.2)
+  role_kept stored more lasts b stays (role.Counter map) own = value_on b _ own (λ mine. mine.1 own)

@@ -55,7 +55,7 @@ module _ {K V : Type 0} (same : K → K → Bool) (slot caller map : ℕ) (name 
   tables_seen t l seen = shown.tables.roles t l (is_sight.tables t l seen)
 
   abbrev Quiet : List Effect → Known → Type 0
-  Quiet = IsQuiet same s.hash (in_slot s.setting slot) caller w s.chart (seen_by s.blocks sight) m2 Told went is_map map (length m.stored) known shown_blocks.roles shown_blocks.once tables_seen
+  Quiet = IsQuiet same s.hash (in_slot s.setting slot) caller w s.chart (seen_by s.blocks sight) m2 Told went is_map map m.stored known shown_blocks.roles shown_blocks.once tables_seen
 
   -- where nothing has moved
   pub leads_quiet : (effects : List Effect) (after : Known) → Quiet effects after → StaysTables s.chart went.c2 → StaysPairs s.chart went.c2 → LeadsOn effects after
@@ -69,7 +69,7 @@ module _ {K V : Type 0} (same : K → K → Bool) (slot caller map : ℕ) (name 
         others = λ other ne. alike_same other m (led effects) alike;
         keeps = quiet.keeps;
         blocks = record {
-          roles = λ b. subst (λ (n : ℕ). HasRole went.w2 n b (after.roles b)) (sym as_many) (quiet.roles b);
+          roles = λ b. subst (λ (xs : List (K × V)). HasRole went.w2 xs b (after.roles b)) (sym alike.stored) (quiet.roles b);
           once = quiet.once;
           stored = quiet.stored ∙ shown_blocks.stored ∙ sym as_many;
         };

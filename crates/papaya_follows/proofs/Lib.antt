@@ -1,5 +1,8 @@
 pub mod Operations
+pub mod Contents
 pub mod Alike
+pub mod Calls
+pub mod Called
 pub mod Lists
 pub mod Nowhere
 pub mod Onward

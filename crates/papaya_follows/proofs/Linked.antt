@@ -34,6 +34,7 @@ use Rattle.papaya_follows.specs.Blocks.{WasLinked, HasRole, ShowsBlocks}
 use Rattle.papaya_follows.specs.Finds.{MayBeRoot}
 use Rattle.papaya_follows.specs.Maps.{table_of, shape_at, tables_to, ShowsThere, ShowsTables, ShowsMap}
 use Rattle.papaya_follows.proofs.Alike.{put_here, put_elsewhere, linked_other, promoted_other}
+use Rattle.papaya_follows.proofs.Contents.{lasts_same}
 use Rattle.papaya_follows.proofs.Finds.{tables_many}
 use Rattle.papaya_follows.proofs.Kept.{role_kept}
 use Rattle.papaya_follows.proofs.Leads.{LeadsOn, after_step}
@@ -96,8 +97,9 @@ module _ {K V : Type 0} (same : K → K → Bool) (slot caller map : ℕ) (name 
   stays : (b : ℕ) → StaysThere w.memory m2 b
   stays b = record { gone = λ none. values b ∙ none; there = λ value is. (value, values b ∙ is) }
 
-  kept : (more : ℕ) → length m.stored ≤ more → (b : ℕ) → HasRole went.w2 more b (known.roles b)
-  kept more le b = role_kept same s.hash (in_slot s.setting slot) caller w s.chart (seen_by s.blocks sight) m2 Told went is_map (length m.stored) more le b (stays b) (known.roles b) (shown_blocks.roles b)
+  kept : (more : List (K × V)) → more ≡ m.stored → (b : ℕ) → HasRole went.w2 more b (known.roles b)
+  kept more same_so b =
+      role_kept same s.hash (in_slot s.setting slot) caller w s.chart (seen_by s.blocks sight) m2 Told went is_map m.stored more (lasts_same m.stored more same_so) b (stays b) (known.roles b) (shown_blocks.roles b)
 
   module _ (len limit : ℕ) (some : 0 < len) (past : went.c2.past ≡ suc c.past) (first : went.c2.first ≡ c.first) (len_is : went.c2.len c.past ≡ len) (limit_is : went.c2.limit c.past ≡ limit)
       (lens : (t : ℕ) → t < c.past → (went.c2.len t ≡ c.len t) × (went.c2.limit t ≡ c.limit t)) (b : ℕ) (its_block : b ≡ went.blocks2.table c.past) where
@@ -119,7 +121,7 @@ module _ {K V : Type 0} (same : K → K → Bool) (slot caller map : ℕ) (name 
     shape = record { len = len; limit = limit }
 
     pub was_own : known.roles b ≡ role.OwnTable c.past shape
-    was_own = own_table w (length m.stored) known shown_blocks.roles b caller len limit c.past some (ap w.hand its_block ∙ went.links.tables c.past (omega arith) last)
+    was_own = own_table w m.stored known shown_blocks.roles b caller len limit c.past some (ap w.hand its_block ∙ went.links.tables c.past (omega arith) last)
         (sym (values b) ∙ ap (λ (n : Mem (Node K V)). value_at n b) (sym went.memory) ∙ holds_then)
 
     is_linked : WasLinked (went.w2.hand b)
@@ -131,15 +133,15 @@ module _ {K V : Type 0} (same : K → K → Bool) (slot caller map : ℕ) (name 
     keeps : KeepsRoles known (with_role b its_role known)
     keeps x lasting = put_elsewhere b its_role known.roles x (λ e. subst IsLasting (ap known.roles e ∙ was_own) lasting)
 
-    blocks_linked : (v : Moment K V) → length v.stored ≡ length m.stored → ShowsBlocks v (with_role b its_role known) went.w2
-    blocks_linked v many = record {
-      roles = λ x. elim (cases_eq x b) as (λ _. HasRole went.w2 (length v.stored) x (put b its_role known.roles x)) [
-        | inl e ↦ subst (λ (r : Role). HasRole went.w2 (length v.stored) x r) (sym (put_here b its_role known.roles x e))
-            (subst (λ (y : ℕ). HasRole went.w2 (length v.stored) y its_role) (sym e) (limit, holds_then, is_linked))
-        | inr ne ↦ subst (λ (r : Role). HasRole went.w2 (length v.stored) x r) (sym (put_elsewhere b its_role known.roles x ne)) (kept (length v.stored) (omega (arith, many)) x)
+    blocks_linked : (v : Moment K V) → v.stored ≡ m.stored → ShowsBlocks v (with_role b its_role known) went.w2
+    blocks_linked v same_so = record {
+      roles = λ x. elim (cases_eq x b) as (λ _. HasRole went.w2 v.stored x (put b its_role known.roles x)) [
+        | inl e ↦ subst (λ (r : Role). HasRole went.w2 v.stored x r) (sym (put_here b its_role known.roles x e))
+            (subst (λ (y : ℕ). HasRole went.w2 v.stored y its_role) (sym e) (limit, holds_then, is_linked))
+        | inr ne ↦ subst (λ (r : Role). HasRole went.w2 v.stored x r) (sym (put_elsewhere b its_role known.roles x ne)) (kept v.stored same_so x)
       ];
       once = once_put known.roles b its_role (λ n e. cc e) shown_blocks.once;
-      stored = shown_blocks.stored ∙ sym many;
+      stored = shown_blocks.stored ∙ sym (ap length same_so);
     }
 
     abbrev v : Moment K V
@@ -197,7 +199,7 @@ module _ {K V : Type 0} (same : K → K → Bool) (slot caller map : ℕ) (name 
           };
           others = λ other ne. linked_other name map other ne m c.past shape (omega (arith, many));
           keeps = keeps;
-          blocks = blocks_linked v many;
+          blocks = blocks_linked v (none_stored (acting name m) (table_of map c.past) shape m.stored).0;
         }
 
   module _ (t : ℕ) (ahead : c.first < t) (may : MayBeRoot map m (table_of map t)) (past : went.c2.past ≡ c.past) (first : went.c2.first ≡ t) (lens : (u : ℕ) → u < c.past → (went.c2.len u ≡ c.len u) × (went.c2.limit u ≡ c.limit u)) where
@@ -231,5 +233,5 @@ module _ {K V : Type 0} (same : K → K → Bool) (slot caller map : ℕ) (name 
           };
           others = λ other ne. promoted_other name map other ne m t (omega (arith, many));
           keeps = λ b lasting. refl;
-          blocks = record { roles = λ b. kept (length u.stored) (omega (arith, many)) b; once = shown_blocks.once; stored = shown_blocks.stored ∙ sym many };
+          blocks = record { roles = λ b. kept u.stored (none_stored (acting name m) (table_of map t) (record { len = 0; limit = 0 }) m.stored).1 b; once = shown_blocks.once; stored = shown_blocks.stored ∙ sym many };
         }

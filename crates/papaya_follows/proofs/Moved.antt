@@ -45,7 +45,7 @@ use Rattle.papaya_effects.specs.declared.role.Role.TheVariants as role
 use Rattle.papaya_follows.specs.Blocks.{ShowsBlocks}
 use Rattle.papaya_follows.specs.Finds.{MayBeRoot}
 use Rattle.papaya_follows.specs.Maps.{table_of, ShowsMap}
-use Rattle.papaya_follows.specs.Steps.{HasPair}
+use Rattle.papaya_follows.specs.Steps.{named_now, HasPair}
 use Rattle.papaya_follows.proofs.Finds.{may_stand, may_be_root}
 use Rattle.papaya_follows.proofs.Leads.{LeadsOn, tables_seen, leads_quiet}
 use Rattle.papaya_follows.proofs.Linked.{leads_linked, leads_promoted, was_own as own_before}
@@ -79,11 +79,11 @@ module _ {K V : Type 0} (same : K → K → Bool) (slot caller map : ℕ) (name 
   Leads = LeadsOn same slot caller map name number s lawful w sight is_sight is_map m2 Told went blocks2 grown sights2 m known shown shown_blocks
 
   -- each pair that is stored is one that the call has to store
-  abbrev pub StoreTheirs : List Effect → Type 0
-  StoreTheirs effects = AtEachEffect (λ v f. HasPair (acting name v) f) name (Some map) effects m
+  abbrev pub StoreTheirs : Changed → List Effect → Type 0
+  StoreTheirs told effects = AtEachEffect (λ v f. HasPair w.memory (named_now told) (acting name v) f) name (Some map) effects m
 
   abbrev Quiet : List Effect → Known → Type 0
-  Quiet = IsStill same s.hash setting caller w s.chart seen_blocks m2 Told went is_map map (length m.stored) known shown_blocks.roles shown_blocks.once
+  Quiet = IsStill same s.hash setting caller w s.chart seen_blocks m2 Told went is_map map m.stored known shown_blocks.roles shown_blocks.once
       (tables_seen same slot caller map name number s lawful w sight is_sight is_map m2 Told went blocks2 grown sights2 m known shown shown_blocks)
 
   quiet_leads : (effects : List Effect) (after : Known) → Quiet effects after → StaysTables s.chart went.c2 → StaysPairs s.chart went.c2 → Leads effects after
@@ -94,7 +94,7 @@ module _ {K V : Type 0} (same : K → K → Bool) (slot caller map : ℕ) (name 
   table_role t l made = shown.tables.roles t made (is_sight.tables t made (is_sight.linked t l made))
 
   free : known.roles 0 ≡ role.Free
-  free = nothing_free w (length m.stored) known shown_blocks.roles
+  free = nothing_free w m.stored known shown_blocks.roles
 
   -- the block that the word of a pair names
   pair_named : (d : Chart K) (blocks : Blocks) (n : ℕ) (phase : Phase) (borrowed : Bool) → block_in (place_word s.hash d blocks (Holds n phase borrowed)) ≡ blocks.pair n
@@ -106,16 +106,16 @@ module _ {K V : Type 0} (same : K → K → Bool) (slot caller map : ℕ) (name 
   pair_role t i n phase borrowed made seen held =
       let l = (is_map.map.rule.common.keyed t i n phase borrowed held).0 in (l, shown.pairs.roles n l (is_sight.pairs n l (is_sight.named t i n phase borrowed made seen held)))
 
-  module _ (told : Changed) (left : LeavesBy w.memory m2 told) (stores : StoreTheirs (effects_of its known told)) where
+  module _ (told : Changed) (left : LeavesBy w.memory m2 told) (stores : StoreTheirs told (effects_of its known told)) where
     abbrev pub Comes : Type 0
     Comes = Leads (effects_of its known told) (known_after its told known)
 
     -- by what is told
-    as_said : (at : At) (old new : ℕ) → told ≡ changed.Wrote at old new → (effects : List Effect) (after : Known) → Says its known at old new effects after → (StoreTheirs effects → Leads effects after) → Comes
+    as_said : (at : At) (old new : ℕ) → told ≡ changed.Wrote at old new → (effects : List Effect) (after : Known) → Says its known at old new effects after → (StoreTheirs (changed.Wrote at old new) effects → Leads effects after) → Comes
     as_said at old new e effects after says lead =
-        subst (λ (t : Changed). StoreTheirs (effects_of its known t) → Leads (effects_of its known t) (known_after its t known)) (sym e)
+        subst (λ (t : Changed). StoreTheirs t (effects_of its known t) → Leads (effects_of its known t) (known_after its t known)) (sym e)
         (λ st. subst (λ (x : List Effect). Leads x (known_after its (changed.Wrote at old new) known)) (sym says.0)
-        (subst (Leads effects) (sym says.1) (lead (subst StoreTheirs says.0 st)))) stores
+        (subst (Leads effects) (sym says.1) (lead (subst (StoreTheirs (changed.Wrote at old new)) says.0 st)))) stores
 
     values : (at : At) (old new : ℕ) → told ≡ changed.Wrote at old new → (b : ℕ) → value_at m2 b ≡ value_at w.memory b
     values at old new e = (subst (LeavesBy w.memory m2) e left).2
@@ -126,7 +126,7 @@ module _ {K V : Type 0} (same : K → K → Bool) (slot caller map : ℕ) (name 
     still_leads : ((at : At) (old new : ℕ) → told ≡ changed.Wrote at old new → KeepsNames setting c seen_blocks at old new) → StaysTables c went.c2 → StaysPairs c went.c2 → Comes
     still_leads quiet tables pairs =
         quiet_leads (effects_of its known told) (known_after its told known)
-        (quiet_told same s.hash setting caller w s.chart seen_blocks m2 Told went is_map map (length m.stored) known shown_blocks.roles shown_blocks.once
+        (quiet_told same s.hash setting caller w s.chart seen_blocks m2 Told went is_map map m.stored known shown_blocks.roles shown_blocks.once
         (tables_seen same slot caller map name number s lawful w sight is_sight is_map m2 Told went blocks2 grown sights2 m known shown shown_blocks) told left quiet) tables pairs
 
     module _ (seen : Seen (Node K V)) (as_told : (at : At) (old new : ℕ) → seen ≡ Wrote at old new → told ≡ changed.Wrote at old new)
@@ -161,7 +161,7 @@ module _ {K V : Type 0} (same : K → K → Bool) (slot caller map : ℕ) (name 
           (place_says its known (s.blocks.table t) (table_of map t) (c.len t) (shown.tables.roles t made (is_sight.tables t made known_table)) 0 new (λ z. omega (arith, z, names, some))
           role.Free (role.Pair (number n)) free (ap known.roles names ∙ is_pair) i within)
           (λ st. quiet_leads (Copied (number n) spot ∷ []) known
-          (as_before same s.hash setting caller w s.chart seen_blocks m2 Told went is_map map (length m.stored) known shown_blocks.roles shown_blocks.once
+          (as_before same s.hash setting caller w s.chart seen_blocks m2 Told went is_map map m.stored known shown_blocks.roles shown_blocks.once
           (tables_seen same slot caller map name number s lawful w sight is_sight is_map m2 Told went blocks2 grown sights2 m known shown shown_blocks)
           (Copied (number n) spot ∷ []) (refl, tt) known refl refl (stays (place_at seen_blocks t i) 0 new e)) tables pairs)
 

@@ -3,6 +3,9 @@ use Rattle.std.specs.Prelude.{◌≡◌, ◌≢◌, ℕ, suc, ◌+◌, ◌<◌, 
 use Rattle.std.proofs.Common.{refl, ap, sym, subst, ◌∙◌, arith, inl, inr}
 use Rattle.std.proofs.lemmas.Bool.{eq-eqb, cases_eq, cases_lt}
 use Rattle.std.proofs.lemmas.List.{length-append}
+use Rattle.seize_words.specs.Mem.{Mem, value_at}
+use Rattle.papaya_tables.specs.declared.node.Node.{Node}
+use Rattle.papaya_tables.specs.declared.node.Node.TheVariants as node
 use Rattle.papaya_schedules.specs.declared.effect.Effect.TheVariants.{Stored}
 use Rattle.papaya_schedules.specs.declared.effect.Spot.{Spot}
 use Rattle.papaya_schedules.specs.declared.effect.Table.{Table}
@@ -20,10 +23,17 @@ use Rattle.papaya_follows.specs.Steps.{HasPair}
 use Rattle.papaya_follows.proofs.Alike.{put_here, put_elsewhere}
 use Rattle.papaya_follows.proofs.Onward.{IsLasting, KeepsRoles, StaysBlocks}
 
--- one pair more was stored
-pub stored_one : {K V : Type 0} (o : Option (UnderWay K V)) (n : ℕ) (s : Spot) (stored : List (K × V)) → HasPair o (Stored n s) → length (stored_by o (Stored n s) stored) ≡ length stored + 1
-stored_one None n s stored has = absurd has
-stored_one (Some c) n s stored has = ap (λ ps. length (stored ++ ps)) has.1 ∙ length-append stored (has.0 ∷ [])
+-- one pair more was stored, which a block holds
+abbrev pub StoresOne : {K V : Type 0} → Mem (Node K V) → ℕ → List (K × V) → List (K × V) → Type 0
+StoresOne {K} {V} memory b before after = (k : K) × (v : V) × (after ≡ before ++ (k, v) ∷ []) × (value_at memory b ≡ Some (node.Pair k v))
+
+pub stored_one : {K V : Type 0} (memory : Mem (Node K V)) (b : ℕ) (o : Option (UnderWay K V)) (n : ℕ) (s : Spot) (stored : List (K × V)) → HasPair memory b o (Stored n s)
+    → StoresOne memory b stored (stored_by o (Stored n s) stored)
+stored_one memory b None n s stored has = absurd has
+stored_one memory b (Some c) n s stored has = (has.0, has.1, ap (λ ps. stored ++ ps) has.2, has.3)
+
+pub one_more_stored : {K V : Type 0} (memory : Mem (Node K V)) (b : ℕ) (before after : List (K × V)) → StoresOne memory b before after → length after ≡ length before + 1
+one_more_stored memory b before after one = ap length one.2 ∙ length-append before ((one.0, one.1) ∷ [])
 
 module _ {K V : Type 0} (map : ℕ) (number : ℕ → ℕ) (s s2 : Standing K) (m v : Moment K V) (known known2 : Known)
     (blocks : StaysBlocks s.chart s.blocks s2.blocks) (keeps : KeepsRoles known known2) (shown : ShowsPairs map number s m known) where

@@ -58,7 +58,7 @@ place_of_field len field e = (grind (arith, e), grind (arith, e))
 
 module _ {K V : Type 0} (same : K → K → Bool) (hash : K → ℕ) (setting : Setting) (caller : ℕ) (w : World (Node K V)) (c : Chart K) (blocks : Blocks)
     (m2 : Mem (Node K V)) (Told : World (Node K V) → Chart K → Blocks → Type 0) (went : Went same hash setting caller w c blocks m2 Told) (is_map : IsMapIn same hash setting w c blocks)
-    (map stored : ℕ) (known : Known) (roles : (b : ℕ) → HasRole w stored b (known.roles b))
+    (map : ℕ) (stored : List (K × V)) (known : Known) (roles : (b : ℕ) → HasRole w stored b (known.roles b))
     (tables : (t : ℕ) → t < c.past → blocks.table_known t ≡ true → known.roles (blocks.table t) ≡ role.Table (table_of map t) (c.len t)) where
   abbrev acting : Acting
   acting = Call caller map
@@ -181,7 +181,7 @@ module _ {K V : Type 0} (same : K → K → Bool) (hash : K → ℕ) (setting : 
     entry_does role.Free has = none_retires (names_same old new)
     entry_does (role.OwnPair i) has = none_retires (names_same old new)
     entry_does (role.OwnTable turn shape) has = none_retires (names_same old new)
-    entry_does (role.Pair n) has = same_retires (role.Pair n) has.5
+    entry_does (role.Pair n) has = same_retires (role.Pair n) has.4
     entry_does (role.Table t len) has = same_retires (role.Table t len) has.2
     entry_does (role.Counter of) has = none_retires (names_same old new)
 

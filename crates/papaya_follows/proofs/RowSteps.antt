@@ -18,7 +18,7 @@ use Rattle.papaya_teller.specs.declared.changed.Changed.{Changed}
 use Rattle.papaya_teller.specs.declared.changed.Changed.TheVariants as changed
 use Rattle.papaya_callers.specs.Together.{UnderWay, OnKey, ForRoom, Counting, OverAll, CameAbout, IsOneStep, Together}
 use Rattle.papaya_finishes.specs.Machines.{machine_of, MachineStepsAmong}
-use Rattle.papaya_finishes.specs.Maps.{Standing, IsSameMap}
+use Rattle.papaya_finishes.specs.Maps.{Standing, IsSameMap, with_call}
 use Rattle.papaya_effects.specs.Effects.{effects_of, known_after}
 use Rattle.papaya_effects.specs.Known.{Known}
 use Rattle.papaya_effects.specs.declared.acting.Acting.{Acting}
@@ -30,11 +30,14 @@ use Rattle.papaya_executor.specs.Stepping.{StepsFrom, StepLeads, scene_after}
 use Rattle.papaya_executor.specs.declared.executor.Executor.{Executor}
 use Rattle.papaya_executor.proofs.Steps.{may_step}
 use Rattle.papaya_follows.specs.Blocks.{HasRole, ShowsBlocks}
+use Rattle.papaya_follows.specs.Calls.{ShowsCalls}
 use Rattle.papaya_follows.specs.Maps.{ShowsMap}
 use Rattle.papaya_follows.specs.Shows.{Shows}
 use Rattle.papaya_follows.specs.Steps.{HandTheirs, TakesNone, Did, IsOfNoRow, RowsAreShown}
 use Rattle.papaya_follows.proofs.Alike.{alike_same}
-use Rattle.papaya_follows.proofs.Handed.{hands_shown, hands_many}
+use Rattle.papaya_follows.proofs.Called.{called_on}
+use Rattle.papaya_follows.proofs.Calls.{calls_on}
+use Rattle.papaya_follows.proofs.Handed.{hands_shown, hands_same}
 use Rattle.papaya_follows.proofs.Onward.{tables_same, pairs_same, blocks_same, blocks_part, map_on}
 use Rattle.papaya_follows.proofs.Operations.{StaysThere, LeavesBy, Operated, operated, operated_leaves}
 use Rattle.papaya_follows.proofs.Rows.{HandsOn, IsStill, KeepsBlock, RowLeaves, one_step_leaves, row_written}
@@ -46,7 +49,7 @@ module _ {K V : Type 0} (caller map : ℕ) (m : Moment K V) (known : Known) (w w
   its = Call caller map
 
   -- each block has its role still
-  row_role : (b : ℕ) → StaysThere w.memory w2.memory b → (r : Role) → HasRole w (length m.stored) b r → HasRole w2 (length m.stored) b r
+  row_role : (b : ℕ) → StaysThere w.memory w2.memory b → (r : Role) → HasRole w m.stored b r → HasRole w2 m.stored b r
   row_role b stays = of
     where
       keeps : (value : Node K V) → value_at w.memory b ≡ Some value → KeepsBlock w w2 b value
@@ -56,11 +59,11 @@ module _ {K V : Type 0} (caller map : ℕ) (m : Moment K V) (known : Known) (w w
           by (inl gone) = absurd (let there = (stays.there value is).1 in cc (gone, there))
           by (inr kept) = kept
 
-      of : (r : Role) → HasRole w (length m.stored) b r → HasRole w2 (length m.stored) b r
+      of : (r : Role) → HasRole w m.stored b r → HasRole w2 m.stored b r
       of role.Free has = stays.gone has
       of (role.OwnPair i) has = (has.0, (keeps has.0 has.1).is, has.2)
       of (role.OwnTable turn shape) has = (has.0, (keeps _ has.1).is)
-      of (role.Pair n) has = (has.0, has.1, has.2, has.3, (keeps _ has.4).is, (keeps _ has.4).linked has.5)
+      of (role.Pair n) has = (has.0, has.1, has.2, (keeps _ has.3).is, (keeps _ has.3).linked has.4)
       of (role.Table t len) has = (has.0, (keeps _ has.1).is, (keeps _ has.1).linked has.2)
       of (role.Counter number) has = (keeps _ has).is
 
@@ -68,9 +71,9 @@ module _ {K V : Type 0} (caller map : ℕ) (m : Moment K V) (known : Known) (w w
     pub hands : HandsOn (effects_of its known told)
     pub roles : (known_after its told known).roles ≡ known.roles
     pub as_many : (known_after its told known).stored ≡ known.stored
-    pub has : (b : ℕ) → HasRole w2 (length m.stored) b (known.roles b)
+    pub has : (b : ℕ) → HasRole w2 m.stored b (known.roles b)
 
-  all_have : ((b : ℕ) → StaysThere w.memory w2.memory b) → (b : ℕ) → HasRole w2 (length m.stored) b (known.roles b)
+  all_have : ((b : ℕ) → StaysThere w.memory w2.memory b) → (b : ℕ) → HasRole w2 m.stored b (known.roles b)
   all_have stays b = row_role b (stays b) (known.roles b) (shown.roles b)
 
   roomed_hands : (q : Bool) → HandsOn (if q then [] else Asked ABucket ∷ [])
@@ -80,7 +83,7 @@ module _ {K V : Type 0} (caller map : ℕ) (m : Moment K V) (known : Known) (w w
   pub row_done : (told : Changed) → LeavesBy w.memory w2.memory told → TakesNone told → RowDone told
   row_done changed.Nothing left none = record { hands = IsStill [] tt; roles = refl; as_many = refl; has = all_have left }
   row_done (changed.Wrote at old new) left none =
-      let done = row_written caller map (length m.stored) known w w2 shown.roles leaves left.2 at old new left.0 left.1 in
+      let done = row_written caller map m.stored known w w2 shown.roles leaves left.2 at old new left.0 left.1 in
       record {
         hands = done.0;
         roles = ap (λ (k : Known). k.roles) done.1;
@@ -93,7 +96,8 @@ module _ {K V : Type 0} (caller map : ℕ) (m : Moment K V) (known : Known) (w w
   row_done (changed.Roomed bucket had) left none =
       let same = roomed_as_many its known bucket had in record { hands = roomed_hands (nat_lt bucket known.buckets); roles = same.0; as_many = same.1; has = all_have left }
 
-module _ {K V S : Type 0} (same : K → K → Bool) (hash : K → ℕ) (m : Moment K V) (known : Known) (s : Scene K V) (old new : Executor K V S) (at : IsAt same hash old s) (shown : Shows m known s)
+module _ {K V S : Type 0} (same : K → K → Bool) (hash : K → ℕ) (m : Moment K V) (known : Known) (s : Scene K V) (old new : Executor K V S) (at : IsAt same hash old s)
+    (name : ℕ → List ℕ) (shown : Shows same name m known s)
     (map i : ℕ) (standing : Standing K) (there : s.maps map ≡ Some standing) (caller : List ℕ)
     (made : Operated s.world.memory new.memory.memory new.memory.changed) (none : TakesNone new.memory.changed)
     (hands : HandTheirs caller map (effects_of (Call i map) known new.memory.changed) m)
@@ -122,8 +126,8 @@ module _ {K V S : Type 0} (same : K → K → Bool) (hash : K → ℕ) (m : Mome
   done : RowDone i map m known w w2 shown.blocks (one_step_leaves standing.setting i w w2 each.ground.came happened) told
   done = row_done i map m known w w2 shown.blocks (one_step_leaves standing.setting i w w2 each.ground.came happened) told left none
 
-  many : length v.stored ≡ length m.stored
-  many = hands_many caller map m effects done.hands
+  same_stored : v.stored ≡ m.stored
+  same_stored = hands_same caller map m effects done.hands
 
   module _ (w3 : World (Node K V)) (maps2 : ℕ → Option (Standing K)) (w_is : w3 ≡ w2) (maps_same : (n : ℕ) → IsSameMap (s.maps n) (maps2 n)) where
     map_then : (n : ℕ) (o : Option (Standing K)) → s.maps n ≡ o → IsSameMap o (maps2 n) → (st : Standing K) → maps2 n ≡ Some st → ShowsMap n (shown.number n) st v after
@@ -135,20 +139,21 @@ module _ {K V S : Type 0} (same : K → K → Bool) (hash : K → ℕ) (m : Mome
         (map_on n (shown.number n) now now v v known after (blocks_same before.chart blocks) (λ b lasting. ap (λ (f : ℕ → Role). f b) done.roles) refl (tables_same before.chart) (pairs_same before.chart)
         (alike_same n v v (record { place = refl; born = refl; maps = refl; tables = refl; stored = refl })) with_known)
 
-    pub row_shown : (rest : Scene K V) → Shows v after (record rest { world = w3; maps = maps2 })
-    row_shown rest = record {
+    pub row_shown : (rest : Scene K V) → ShowsCalls same name v rest.calls → Shows same name v after (record rest { world = w3; maps = maps2 })
+    row_shown rest calls = record {
       blocks = subst (λ (x : World (Node K V)). ShowsBlocks v after x) (sym w_is) (record {
-        roles = λ b. subst (λ (n : ℕ). HasRole w2 n b (after.roles b)) (sym many) (subst (λ (f : ℕ → Role). HasRole w2 (length m.stored) b (f b)) (sym done.roles) (done.has b));
+        roles = λ b. subst (λ (xs : List (K × V)). HasRole w2 xs b (after.roles b)) (sym same_stored) (subst (λ (f : ℕ → Role). HasRole w2 m.stored b (f b)) (sym done.roles) (done.has b));
         once = λ b d n is is2. shown.blocks.once b d n (ap (λ (f : ℕ → Role). f b) (sym done.roles) ∙ is) (ap (λ (f : ℕ → Role). f d) (sym done.roles) ∙ is2);
-        stored = done.as_many ∙ shown.blocks.stored ∙ sym many;
+        stored = done.as_many ∙ shown.blocks.stored ∙ sym (ap length same_stored);
       });
       number = shown.number;
       maps = λ n st is. map_then n (s.maps n) refl (maps_same n) st is;
+      calls = calls;
     }
 
 module _ (K V S : Type 0) (same : K → K → Bool) (hash : K → ℕ) where
   pub rows_are_shown : RowsAreShown K V S same hash
-  rows_are_shown m known s old new at shown map i u here told leads not_own caller none hands = by u to.4.did not_own
+  rows_are_shown name m known s old new at shown map i u here told leads not_own none hands = by u to.4.did not_own
     where
       to : (standing : Standing K) × (machine : Machine K V K) × (s.maps map ≡ Some standing) × StepsFrom same hash (machine_of u) old new machine told
           × (did : MachineStepsAmong V same same old.batch_size old.roots slot_of s.world s.maps s.calls s.makers s.enders map standing i new.memory.memory u machine told)
@@ -159,8 +164,12 @@ module _ (K V S : Type 0) (same : K → K → Bool) (hash : K → ℕ) where
       made = subst (λ (x : Mem (Node K V)). Operated x new.memory.memory new.memory.changed) (sym at.memory)
           (operated old.memory.memory new.memory.memory new.memory.changed (machine_plan same same hash (machine_of u)) (to.1, told) (may_step same hash old s at map i u here) to.3)
 
+      calls : ShowsCalls same name (with_effects (Some (name i)) (Some map) (effects_of (Call i map) known new.memory.changed) m) (with_call s.calls map i to.4.next)
+      calls = calls_on same name (name i) map (effects_of (Call i map) known new.memory.changed) m s.calls map i u here to.4.next
+          (called_on same old.batch_size old.roots s.world s.maps s.calls s.makers s.enders map to.0 i new.memory.memory to.4.w2 to.4.maps2 to.4.next u to.1 told to.4.did) shown.calls
+
       Goal : Type 0
-      Goal = Shows (with_effects (Some caller) (Some map) (effects_of (Call i map) known new.memory.changed) m) (known_after (Call i map) new.memory.changed known)
+      Goal = Shows same name (with_effects (Some (name i)) (Some map) (effects_of (Call i map) known new.memory.changed) m) (known_after (Call i map) new.memory.changed known)
           (scene_after same hash s old new map i to.0 u to.1 told to.4)
 
       by : (x : UnderWay K V K)
@@ -168,14 +177,14 @@ module _ (K V S : Type 0) (same : K → K → Bool) (hash : K → ℕ) where
           → (IsOfNoRow same old.batch_size old.roots s.world s.maps s.calls s.makers s.enders map to.0 i new.memory.memory to.4.w2 to.4.maps2 to.4.next x to.1 told did → ⊥) → Goal
       by (OnKey x) (p2, end, machine_is, told_is, inl step) other = absurd (other tt)
       by (OnKey x) (p2, end, machine_is, told_is, inr (row, stayed)) other =
-          row_shown same hash m known s old new at shown map i to.0 to.2 caller made none hands row.step.w2 row.step.memory row.step.happened to.4.w2 to.4.maps2 stayed.0 stayed.1
-          (scene_after same hash s old new map i to.0 u to.1 told to.4)
+          row_shown same hash m known s old new at name shown map i to.0 to.2 (name i) made none hands row.step.w2 row.step.memory row.step.happened to.4.w2 to.4.maps2 stayed.0 stayed.1
+          (scene_after same hash s old new map i to.0 u to.1 told to.4) calls
       by (ForRoom x) (p2, end, machine_is, told_is, inl step) other = absurd (other tt)
       by (ForRoom x) (p2, end, machine_is, told_is, inr (row, stayed)) other =
-          row_shown same hash m known s old new at shown map i to.0 to.2 caller made none hands row.step.w2 row.step.memory row.step.happened to.4.w2 to.4.maps2 stayed.0 stayed.1
-          (scene_after same hash s old new map i to.0 u to.1 told to.4)
+          row_shown same hash m known s old new at name shown map i to.0 to.2 (name i) made none hands row.step.w2 row.step.memory row.step.happened to.4.w2 to.4.maps2 stayed.0 stayed.1
+          (scene_after same hash s old new map i to.0 u to.1 told to.4) calls
       by (Counting x) did other = absurd (other tt)
       by (OverAll x) (p2, end, machine_is, told_is, inl step) other = absurd (other tt)
       by (OverAll x) (p2, end, machine_is, told_is, inr (row, stayed)) other =
-          row_shown same hash m known s old new at shown map i to.0 to.2 caller made none hands row.step.w2 row.step.memory row.step.happened to.4.w2 to.4.maps2 stayed.0 stayed.1
-          (scene_after same hash s old new map i to.0 u to.1 told to.4)
+          row_shown same hash m known s old new at name shown map i to.0 to.2 (name i) made none hands row.step.w2 row.step.memory row.step.happened to.4.w2 to.4.maps2 stayed.0 stayed.1
+          (scene_after same hash s old new map i to.0 u to.1 told to.4) calls

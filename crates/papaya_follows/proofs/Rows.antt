@@ -124,7 +124,7 @@ pub data HandsOn : List Effect → Type 0 where
 abbrev pub DoneSo : Known → List Effect → Known → Type 0
 DoneSo known effects after = HandsOn effects × (after ≡ known)
 
-module _ {K V : Type 0} (caller map stored : ℕ) (known : Known) (w w2 : World (Node K V)) (roles : (b : ℕ) → HasRole w stored b (known.roles b)) (leaves : RowLeaves w w2)
+module _ {K V : Type 0} (caller map : ℕ) (stored : List (K × V)) (known : Known) (w w2 : World (Node K V)) (roles : (b : ℕ) → HasRole w stored b (known.roles b)) (leaves : RowLeaves w w2)
     (values : (b : ℕ) → value_at w2.memory b ≡ value_at w.memory b) where
   abbrev its : Acting
   its = Call caller map

@@ -31,7 +31,7 @@ use Rattle.papaya_callers.proofs.Sights.Seen.{map_seen}
 use Rattle.papaya_callers.proofs.Together.At.{at_other, at_same}
 use Rattle.papaya_callers.proofs.Together.Fits.{map_in_slot}
 use Rattle.papaya_finishes.specs.Machines.{machine_of, MachineStepsAmong}
-use Rattle.papaya_finishes.specs.Maps.{Standing, IsSameMap}
+use Rattle.papaya_finishes.specs.Maps.{Standing, IsSameMap, with_call}
 use Rattle.papaya_effects.specs.Effects.{effects_of, known_after}
 use Rattle.papaya_effects.specs.Known.{Known}
 use Rattle.papaya_effects.specs.declared.acting.Acting.{Acting}
@@ -41,11 +41,14 @@ use Rattle.papaya_executor.specs.Stepping.{StepsFrom, StepLeads, scene_after}
 use Rattle.papaya_executor.specs.declared.executor.Executor.{Executor}
 use Rattle.papaya_executor.proofs.Steps.{may_step}
 use Rattle.papaya_follows.specs.Blocks.{HasRole, ShowsBlocks}
+use Rattle.papaya_follows.specs.Calls.{ShowsCalls}
 use Rattle.papaya_follows.specs.Finds.{FindsMap}
 use Rattle.papaya_follows.specs.Maps.{ShowsMap}
 use Rattle.papaya_follows.specs.Shows.{Shows}
 use Rattle.papaya_follows.specs.Steps.{StoreTheirs, Did, IsOfNoRow, CallsAreShown}
 use Rattle.papaya_follows.proofs.Alike.{alike_same, still_all}
+use Rattle.papaya_follows.proofs.Called.{called_on}
+use Rattle.papaya_follows.proofs.Calls.{calls_on}
 use Rattle.papaya_follows.proofs.Finds.{still_find}
 use Rattle.papaya_follows.proofs.Kept.{NoMore}
 use Rattle.papaya_follows.proofs.Leads.{LeadsOn}
@@ -58,7 +61,8 @@ use Rattle.papaya_follows.proofs.Told.{IsQuiet, quiet_told}
 pub one_of : {X : Type 0} (x y : X) → ◌≡◌ {A = Option X} (Some x) (Some y) → x ≡ y
 one_of x y e = cc e
 
-module _ {K V S : Type 0} (same : K → K → Bool) (hash : K → ℕ) (m : Moment K V) (known : Known) (s : Scene K V) (old new : Executor K V S) (at : IsAt same hash old s) (shown : Shows m known s)
+module _ {K V S : Type 0} (same : K → K → Bool) (hash : K → ℕ) (m : Moment K V) (known : Known) (s : Scene K V) (old new : Executor K V S) (at : IsAt same hash old s)
+    (name : ℕ → List ℕ) (shown : Shows same name m known s)
     (map i : ℕ) (standing : Standing K) (there : s.maps map ≡ Some standing) (caller : List ℕ)
     (made : Operated s.world.memory new.memory.memory new.memory.changed) where
   abbrev m2 : Mem (Node K V)
@@ -109,7 +113,7 @@ module _ {K V S : Type 0} (same : K → K → Bool) (hash : K → ℕ) (m : Mome
     is_map = map_seen same standing.hash setting w standing.chart standing.blocks sight (map_in_slot same standing.hash standing.setting w standing.chart standing.blocks (slot_of i) each.ground.map) is_sight
 
     module _ (Told : World (Node K V) → Chart K → Blocks → Type 0) (had : Went same standing.hash setting i w standing.chart (seen_by standing.blocks sight) m2 Told)
-        (blocks2 : Blocks) (grown : IsGrown standing.chart standing.blocks had.blocks2 blocks2) (sights2 : ℕ → Sight) (stores : StoreTheirs caller map effects m) where
+        (blocks2 : Blocks) (grown : IsGrown standing.chart standing.blocks had.blocks2 blocks2) (sights2 : ℕ → Sight) (stores : StoreTheirs w.memory told caller map effects m) where
       abbrev None2 : World (Node K V) → Chart K → Blocks → Type 0
       None2 w2 c2 blocks2 = Unit {0}
 
@@ -153,13 +157,14 @@ module _ {K V S : Type 0} (same : K → K → Bool) (hash : K → ℕ) (m : Mome
               (map_on n (shown.number n) st st m v known after (blocks_same st.chart st.blocks) lead.keeps refl (tables_same st.chart) (pairs_same st.chart) (lead.others n ne) (shown.maps n st was))
         ]
 
-        pub moved_shown : (rest : Scene K V) → AtEachEffect (FindsMap map) (Some caller) (Some map) effects m × Shows v after (record rest { world = w2; maps = maps2 })
-        moved_shown rest = (
+        pub moved_shown : (rest : Scene K V) → ShowsCalls same name v rest.calls → AtEachEffect (FindsMap map) (Some caller) (Some map) effects m × Shows same name v after (record rest { world = w2; maps = maps2 })
+        moved_shown rest calls = (
           lead.finds,
           record {
             blocks = subst (λ (x : World (Node K V)). ShowsBlocks v after x) (sym w_is) lead.blocks;
             number = with_at shown.number map lead.number_then;
             maps = map_then;
+            calls = calls;
           },
         )
 
@@ -181,9 +186,9 @@ module _ {K V S : Type 0} (same : K → K → Bool) (hash : K → ℕ) (m : Mome
       keeps_names (Entry b field) x y e = tt
       keeps_names (Word b field) x y e = λ t l known is. (λ next. e, λ place l is. ap block_in e)
 
-      quiet : IsQuiet same standing.hash setting i w standing.chart (seen_by standing.blocks sight) m2 (λ w2 c2 blocks2. Unit {0}) stayed is_map map (length m.stored) known
+      quiet : IsQuiet same standing.hash setting i w standing.chart (seen_by standing.blocks sight) m2 (λ w2 c2 blocks2. Unit {0}) stayed is_map map m.stored known
           shown.blocks.roles shown.blocks.once (λ t l seen. is_shown.tables.roles t l (is_sight.tables t l seen)) effects after
-      quiet = quiet_told same standing.hash setting i w standing.chart (seen_by standing.blocks sight) m2 (λ w2 c2 blocks2. Unit {0}) stayed is_map map (length m.stored) known
+      quiet = quiet_told same standing.hash setting i w standing.chart (seen_by standing.blocks sight) m2 (λ w2 c2 blocks2. Unit {0}) stayed is_map map m.stored known
           shown.blocks.roles shown.blocks.once (λ t l seen. is_shown.tables.roles t l (is_sight.tables t l seen)) told left (λ at x y e. keeps_names at x y (same_word at x y e))
 
       module _ (w2 : World (Node K V)) (maps2 : ℕ → Option (Standing K)) (w_is : w2 ≡ w) (maps_same : (n : ℕ) → IsSameMap (s.maps n) (maps2 n)) where
@@ -195,25 +200,26 @@ module _ {K V S : Type 0} (same : K → K → Bool) (hash : K → ℕ) (m : Mome
             subst (λ (x : Standing K). ShowsMap n (shown.number n) x v after) (one_of now st (sym here ∙ is))
             (map_on n (shown.number n) before now m v known after (blocks_part before.chart before.blocks blocks part) quiet.keeps refl (tables_same before.chart) (pairs_same before.chart) alike (shown.maps n before e))
 
-        pub stayed_shown : (rest : Scene K V) → AtEachEffect (FindsMap map) (Some caller) (Some map) effects m × Shows v after (record rest { world = w2; maps = maps2 })
-        stayed_shown rest =
+        pub stayed_shown : (rest : Scene K V) → ShowsCalls same name v rest.calls → AtEachEffect (FindsMap map) (Some caller) (Some map) effects m × Shows same name v after (record rest { world = w2; maps = maps2 })
+        stayed_shown rest calls =
             let same_so = still_all (Some caller) map effects m quiet.still in
             let as_many = ap length same_so.stored in (
               still_find map (Some caller) effects m quiet.still,
               record {
                 blocks = subst (λ (x : World (Node K V)). ShowsBlocks v after x) (sym w_is) (record {
-                  roles = λ b. subst (λ (n : ℕ). HasRole w n b (after.roles b)) (sym as_many) (quiet.roles b);
+                  roles = λ b. subst (λ (xs : List (K × V)). HasRole w xs b (after.roles b)) (sym same_so.stored) (quiet.roles b);
                   once = quiet.once;
                   stored = quiet.stored ∙ shown.blocks.stored ∙ sym as_many;
                 });
                 number = shown.number;
                 maps = λ n st is. same_map n (s.maps n) refl (maps_same n) st is;
+                calls = calls;
               },
             )
 
 module _ (K V S : Type 0) (same : K → K → Bool) (hash : K → ℕ) where
   pub calls_are_shown : CallsAreShown K V S same hash
-  calls_are_shown m known s old new at shown map i u here told leads own caller stores =
+  calls_are_shown name m known s old new at shown map i u here told leads own stores =
       by u here to.4.did own
     where
       to : (standing : Standing K) × (machine : Machine K V K) × (s.maps map ≡ Some standing) × StepsFrom same hash (machine_of u) old new machine told
@@ -225,9 +231,13 @@ module _ (K V S : Type 0) (same : K → K → Bool) (hash : K → ℕ) where
       made = subst (λ (x : Mem (Node K V)). Operated x new.memory.memory new.memory.changed) (sym at.memory)
           (operated old.memory.memory new.memory.memory new.memory.changed (machine_plan same same hash (machine_of u)) (to.1, told) (may_step same hash old s at map i u here) to.3)
 
+      calls : ShowsCalls same name (with_effects (Some (name i)) (Some map) (effects_of (Call i map) known new.memory.changed) m) (with_call s.calls map i to.4.next)
+      calls = calls_on same name (name i) map (effects_of (Call i map) known new.memory.changed) m s.calls map i u here to.4.next
+          (called_on same old.batch_size old.roots s.world s.maps s.calls s.makers s.enders map to.0 i new.memory.memory to.4.w2 to.4.maps2 to.4.next u to.1 told to.4.did) shown.calls
+
       Goal : Type 0
-      Goal = AtEachEffect (FindsMap map) (Some caller) (Some map) (effects_of (Call i map) known new.memory.changed) m
-          × Shows (with_effects (Some caller) (Some map) (effects_of (Call i map) known new.memory.changed) m) (known_after (Call i map) new.memory.changed known)
+      Goal = AtEachEffect (FindsMap map) (Some (name i)) (Some map) (effects_of (Call i map) known new.memory.changed) m
+          × Shows same name (with_effects (Some (name i)) (Some map) (effects_of (Call i map) known new.memory.changed) m) (known_after (Call i map) new.memory.changed known)
           (scene_after same hash s old new map i to.0 u to.1 told to.4)
 
       inside : IsInside (s.world.uses (slot_of i))
@@ -237,17 +247,17 @@ module _ (K V S : Type 0) (same : K → K → Bool) (hash : K → ℕ) where
           → (did : Did same old.batch_size old.roots s.world s.maps s.calls s.makers s.enders map to.0 i new.memory.memory to.4.w2 to.4.maps2 to.4.next x to.1 told)
           → IsOfNoRow same old.batch_size old.roots s.world s.maps s.calls s.makers s.enders map to.0 i new.memory.memory to.4.w2 to.4.maps2 to.4.next x to.1 told did → Goal
       by (OnKey x) has (p2, end, machine_is, told_is, inl (step, moved)) own =
-          moved_shown same hash m known s old new at shown map i to.0 to.2 caller made inside _ step.step.went step.step.blocks2 step.step.grown step.step.sights2 stores to.4.w2 to.4.maps2 moved.0 moved.1
-          (scene_after same hash s old new map i to.0 u to.1 told to.4)
+          moved_shown same hash m known s old new at name shown map i to.0 to.2 (name i) made inside _ step.step.went step.step.blocks2 step.step.grown step.step.sights2 stores to.4.w2 to.4.maps2 moved.0 moved.1
+          (scene_after same hash s old new map i to.0 u to.1 told to.4) calls
       by (OnKey x) has (p2, end, machine_is, told_is, inr row) own = absurd own
       by (ForRoom x) has (p2, end, machine_is, told_is, inl (step, moved)) own =
-          moved_shown same hash m known s old new at shown map i to.0 to.2 caller made inside _ step.step.went step.step.blocks2 step.step.grown step.step.sights2 stores to.4.w2 to.4.maps2 moved.0 moved.1
-          (scene_after same hash s old new map i to.0 u to.1 told to.4)
+          moved_shown same hash m known s old new at name shown map i to.0 to.2 (name i) made inside _ step.step.went step.step.blocks2 step.step.grown step.step.sights2 stores to.4.w2 to.4.maps2 moved.0 moved.1
+          (scene_after same hash s old new map i to.0 u to.1 told to.4) calls
       by (ForRoom x) has (p2, end, machine_is, told_is, inr row) own = absurd own
       by (Counting x) has (p2, end, machine_is, told_is, still, stayed) own =
-          stayed_shown same hash m known s old new at shown map i to.0 to.2 caller made inside still to.4.w2 to.4.maps2 stayed.0 stayed.1
-          (scene_after same hash s old new map i to.0 u to.1 told to.4)
+          stayed_shown same hash m known s old new at name shown map i to.0 to.2 (name i) made inside still to.4.w2 to.4.maps2 stayed.0 stayed.1
+          (scene_after same hash s old new map i to.0 u to.1 told to.4) calls
       by (OverAll x) has (p2, end, machine_is, told_is, inl (step, moved)) own =
-          moved_shown same hash m known s old new at shown map i to.0 to.2 caller made inside _ step.step.went step.step.blocks2 step.step.grown step.step.sights2 stores to.4.w2 to.4.maps2 moved.0 moved.1
-          (scene_after same hash s old new map i to.0 u to.1 told to.4)
+          moved_shown same hash m known s old new at name shown map i to.0 to.2 (name i) made inside _ step.step.went step.step.blocks2 step.step.grown step.step.sights2 stores to.4.w2 to.4.maps2 moved.0 moved.1
+          (scene_after same hash s old new map i to.0 u to.1 told to.4) calls
       by (OverAll x) has (p2, end, machine_is, told_is, inr row) own = absurd own

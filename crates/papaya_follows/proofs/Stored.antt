@@ -10,6 +10,7 @@ use Rattle.papaya_tables.specs.declared.marks.TheConstants.{TOMBSTONE}
 use Rattle.papaya_tables.specs.declared.node.Node.{Node}
 use Rattle.papaya_tables.specs.declared.node.Node.TheVariants as node
 use Rattle.papaya_tables.specs.declared.setting.Setting.{Setting}
+use Rattle.papaya_runs.specs.Log.{pair_at}
 use Rattle.papaya_schedules.specs.declared.effect.Effect.{Effect}
 use Rattle.papaya_schedules.specs.declared.effect.Effect.TheVariants.{Stored, Replaced, Removed}
 use Rattle.papaya_schedules.specs.declared.effect.Spot.{Spot}
@@ -43,11 +44,12 @@ use Rattle.papaya_follows.specs.Finds.{MayStandAt}
 use Rattle.papaya_follows.specs.Maps.{table_of, ShowsPairs, ShowsMap}
 use Rattle.papaya_follows.specs.Steps.{HasPair}
 use Rattle.papaya_follows.proofs.Alike.{AlikePairs, IsAlike, alike_then, put_here, put_elsewhere, stored_other, replaced_other, removed_other}
+use Rattle.papaya_follows.proofs.Contents.{Lasts, lasts_same, lasts_more, pair_within, pair_next}
 use Rattle.papaya_follows.proofs.Kept.{was_out, role_kept}
 use Rattle.papaya_follows.proofs.Leads.{LeadsOn, after_step}
 use Rattle.papaya_follows.proofs.Onward.{IsLasting, KeepsRoles, StaysTables, StaysBlocks, blocks_grown, blocks_same, pairs_on, there_on, tables_on, counter_on}
 use Rattle.papaya_follows.proofs.Operations.{StaysThere, LeavesBy}
-use Rattle.papaya_follows.proofs.Pairs.{stored_one, goes_out, comes_in}
+use Rattle.papaya_follows.proofs.Pairs.{StoresOne, stored_one, one_more_stored, goes_out, comes_in}
 use Rattle.papaya_follows.proofs.Told.{ArePairsOnce}
 use Rattle.papaya_follows.proofs.Writes.{Says, nothing_free, own_pair, place_says}
 
@@ -128,8 +130,9 @@ module _ {K V : Type 0} (same : K → K → Bool) (slot caller map : ℕ) (name 
   stays : (b : ℕ) → StaysThere w.memory m2 b
   stays b = record { gone = λ none. values b ∙ none; there = λ value is. (value, values b ∙ is) }
 
-  kept : (more : ℕ) → length m.stored ≤ more → (b : ℕ) → HasRole went.w2 more b (known.roles b)
-  kept more le b = role_kept same s.hash (in_slot s.setting slot) caller w s.chart (seen_by s.blocks sight) m2 Told went is_map (length m.stored) more le b (stays b) (known.roles b) (shown_blocks.roles b)
+  kept : (more : List (K × V)) → Lasts m.stored more → (b : ℕ) → HasRole went.w2 more b (known.roles b)
+  kept more lasts b =
+      role_kept same s.hash (in_slot s.setting slot) caller w s.chart (seen_by s.blocks sight) m2 Told went is_map m.stored more lasts b (stays b) (known.roles b) (shown_blocks.roles b)
 
   -- the pair that was stored, in its block
   module _ (one_more : went.c2.stored ≡ suc c.stored) (current : went.c2.current c.stored ≡ true) (b : ℕ) (its_block : b ≡ went.blocks2.pair c.stored) where
@@ -150,7 +153,7 @@ module _ {K V : Type 0} (same : K → K → Bool) (slot caller map : ℕ) (name 
     holds_before = (holds_then.0, holds_then.1, sym (values b) ∙ ap (λ (n : Mem (Node K V)). value_at n b) (sym went.memory) ∙ holds_then.2)
 
     pub was_own : (i : ℕ) × (known.roles b ≡ role.OwnPair i)
-    was_own = own_pair w (length m.stored) known shown_blocks.roles b caller holds_before.0 holds_before.1
+    was_own = own_pair w m.stored known shown_blocks.roles b caller holds_before.0 holds_before.1
         (ap w.hand its_block ∙ went.links.pairs c.stored (omega arith) last) holds_before.2
 
     is_linked : WasLinked (went.w2.hand b)
@@ -166,21 +169,27 @@ module _ {K V : Type 0} (same : K → K → Bool) (slot caller map : ℕ) (name 
     abbrev roles_then : ℕ → Role
     roles_then = put b (role.Pair (known.stored + 1)) known.roles
 
-    pub blocks_stored : (v : Moment K V) → length v.stored ≡ length m.stored + 1 → ShowsBlocks v (with_pair b known) went.w2
-    blocks_stored v many = record {
-      roles = λ x. elim (cases_eq x b) as (λ _. HasRole went.w2 (length v.stored) x (roles_then x)) [
-        | inl e ↦ subst (λ (r : Role). HasRole went.w2 (length v.stored) x r) (sym (put_here b (role.Pair (known.stored + 1)) known.roles x e))
-            (subst (λ (y : ℕ). HasRole went.w2 (length v.stored) y (role.Pair (known.stored + 1))) (sym e)
-            (omega arith, (let n = shown_blocks.stored in omega (arith, n, many)), holds_then.0, holds_then.1, holds_then.2, is_linked))
-        | inr ne ↦ subst (λ (r : Role). HasRole went.w2 (length v.stored) x r) (sym (put_elsewhere b (role.Pair (known.stored + 1)) known.roles x ne)) (kept (length v.stored) (omega (arith, many)) x)
+    pub blocks_stored : (v : Moment K V) → StoresOne w.memory b m.stored v.stored → ShowsBlocks v (with_pair b known) went.w2
+    blocks_stored v one = record {
+      roles = λ x. elim (cases_eq x b) as (λ _. HasRole went.w2 v.stored x (roles_then x)) [
+        | inl e ↦ subst (λ (r : Role). HasRole went.w2 v.stored x r) (sym (put_here b (role.Pair (known.stored + 1)) known.roles x e))
+            (subst (λ (y : ℕ). HasRole went.w2 v.stored y (role.Pair (known.stored + 1))) (sym e)
+            (one.0, one.1, numbered, ap (λ (n : Mem (Node K V)). value_at n b) went.memory ∙ values b ∙ one.3, is_linked))
+        | inr ne ↦ subst (λ (r : Role). HasRole went.w2 v.stored x r) (sym (put_elsewhere b (role.Pair (known.stored + 1)) known.roles x ne)) (kept v.stored lasting x)
       ];
       once = once_then;
-      stored = ap (λ (n : ℕ). n + 1) shown_blocks.stored ∙ sym many;
+      stored = ap (λ (n : ℕ). n + 1) shown_blocks.stored ∙ sym (one_more_stored w.memory b m.stored v.stored one);
     }
       where
+        numbered : pair_at v.stored (known.stored + 1) ≡ Some (one.0, one.1)
+        numbered = ap (λ (xs : List (K × V)). pair_at xs (known.stored + 1)) one.2 ∙ pair_next m.stored (one.0, one.1) (known.stored + 1) (ap (λ (n : ℕ). n + 1) shown_blocks.stored)
+
+        lasting : Lasts m.stored v.stored
+        lasting n p is = ap (λ (xs : List (K × V)). pair_at xs n) one.2 ∙ lasts_more m.stored ((one.0, one.1) ∷ []) n p is
+
         -- no block was this pair before
         none_before : (x : ℕ) → known.roles x ≡ role.Pair (known.stored + 1) → ⊥
-        none_before x e = let le = (subst (HasRole w (length m.stored) x) e (shown_blocks.roles x)).1 in let n = shown_blocks.stored in omega (arith, le, n)
+        none_before x e = let was = subst (HasRole w m.stored x) e (shown_blocks.roles x) in let le = pair_within m.stored (known.stored + 1) (was.0, was.1) was.2 in let n = shown_blocks.stored in omega (arith, le, n)
 
         number_of : (x n : ℕ) → x ≡ b → roles_then x ≡ role.Pair n → n ≡ known.stored + 1
         number_of x n e is = let it : role.Pair n ≡ role.Pair (known.stored + 1) = sym is ∙ put_here b (role.Pair (known.stored + 1)) known.roles x e in cc it
@@ -203,11 +212,12 @@ module _ {K V : Type 0} (same : K → K → Bool) (slot caller map : ℕ) (name 
     -- no table has come with it
     module _ (tables : StaysTables s.chart went.c2) (spot : Spot) (may : MayStandAt map m spot) where
       -- at a place where none was
-      pub leads_stored : HasPair (acting name m) (Stored (known.stored + 1) spot) → ((n : ℕ) → n < c.stored → went.c2.current n ≡ c.current n) → Leads (Stored (known.stored + 1) spot ∷ []) (with_pair b known)
+      pub leads_stored : HasPair w.memory b (acting name m) (Stored (known.stored + 1) spot) → ((n : ℕ) → n < c.stored → went.c2.current n ≡ c.current n) → Leads (Stored (known.stored + 1) spot ∷ []) (with_pair b known)
       leads_stored has others =
           let n = shown_blocks.stored in
           let v = with_effect name (Some map) (Stored (known.stored + 1) spot) m in
-          let many = stored_one (acting name m) (known.stored + 1) spot m.stored has in
+          let one = stored_one w.memory b (acting name m) (known.stored + 1) spot m.stored has in
+          let many : length v.stored ≡ length m.stored + 1 = one_more_stored w.memory b m.stored v.stored one in
           let next : known.stored + 1 ≡ length m.stored + 1 = omega (arith, n) in
           record {
             finds = ((next, may), tt);
@@ -220,7 +230,7 @@ module _ {K V : Type 0} (same : K → K → Bool) (slot caller map : ℕ) (name 
             };
             others = λ other ne. stored_other name map other ne m (known.stored + 1) spot next (omega (arith, many));
             keeps = keeps_stored;
-            blocks = blocks_stored v many;
+            blocks = blocks_stored v one;
           }
 
   -- a pair leaves the map
@@ -260,7 +270,7 @@ module _ {K V : Type 0} (same : K → K → Bool) (slot caller map : ℕ) (name 
           others = λ other ne. removed_other name map other ne m its was_there (omega (arith, many));
           keeps = λ b lasting. refl;
           blocks = record {
-            roles = λ b. kept (length v.stored) (omega (arith, many)) b;
+            roles = λ b. kept v.stored (lasts_same m.stored v.stored (stored_no_more (acting name m) its m.stored).1) b;
             once = shown_blocks.once;
             stored = shown_blocks.stored ∙ sym many;
           };
@@ -272,13 +282,14 @@ module _ {K V : Type 0} (same : K → K → Bool) (slot caller map : ℕ) (name 
       abbrev out : Moment K V
       out = with_effect name (Some map) (Replaced its) m
 
-      pub leads_replaced : HasPair (acting name out) (Stored (known.stored + 1) spot) → Leads (Replaced its ∷ Stored (known.stored + 1) spot ∷ []) (with_pair b known)
+      pub leads_replaced : HasPair w.memory b (acting name out) (Stored (known.stored + 1) spot) → Leads (Replaced its ∷ Stored (known.stored + 1) spot ∷ []) (with_pair b known)
       leads_replaced has =
           let n = shown_blocks.stored in
           let v = with_effect name (Some map) (Stored (known.stored + 1) spot) out in
           let none_more : length out.stored ≡ length m.stored = ap length (stored_no_more (acting name m) its m.stored).0 in
-          let many = stored_one (acting name out) (known.stored + 1) spot out.stored has in
-          let as_many : length v.stored ≡ length m.stored + 1 = omega (arith, many, none_more) in
+          let one = stored_one w.memory b (acting name out) (known.stored + 1) spot out.stored has in
+          let many : length v.stored ≡ length out.stored + 1 = one_more_stored w.memory b out.stored v.stored one in
+          let none_left : out.stored ≡ m.stored = (stored_no_more (acting name m) its m.stored).0 in
           let next : known.stored + 1 ≡ length out.stored + 1 = omega (arith, n, none_more) in
           let keeps = keeps_stored one_more fresh b its_block in
           record {
@@ -294,5 +305,5 @@ module _ {K V : Type 0} (same : K → K → Bool) (slot caller map : ℕ) (name 
             others = λ other ne. alike_then other m out v (replaced_other name map other ne m its was_there (omega (arith, none_more)))
                 (stored_other name map other ne out (known.stored + 1) spot next (omega (arith, many)));
             keeps = keeps;
-            blocks = blocks_stored one_more fresh b its_block v as_many;
+            blocks = blocks_stored one_more fresh b its_block v (one.0, one.1, one.2 ∙ ap (λ (xs : List (K × V)). xs ++ (one.0, one.1) ∷ []) none_left, one.3);
           }

@@ -68,7 +68,7 @@ roomed_as_many acting known bucket false = (refl, refl)
 
 module _ {K V : Type 0} (same : K → K → Bool) (hash : K → ℕ) (setting : Setting) (caller : ℕ) (w : World (Node K V)) (c : Chart K) (blocks : Blocks)
     (m2 : Mem (Node K V)) (Told : World (Node K V) → Chart K → Blocks → Type 0) (went : Went same hash setting caller w c blocks m2 Told) (is_map : IsMapIn same hash setting w c blocks)
-    (map count : ℕ) (known : Known) (had : (b : ℕ) → HasRole w count b (known.roles b)) (single : ArePairsOnce known.roles)
+    (map : ℕ) (count : List (K × V)) (known : Known) (had : (b : ℕ) → HasRole w count b (known.roles b)) (single : ArePairsOnce known.roles)
     (tables : (t : ℕ) → t < c.past → blocks.table_known t ≡ true → known.roles (blocks.table t) ≡ role.Table (table_of map t) (c.len t)) where
   abbrev pub its : Acting
   its = Call caller map
@@ -82,7 +82,7 @@ module _ {K V : Type 0} (same : K → K → Bool) (hash : K → ℕ) (setting : 
     pub stored : after.stored ≡ known.stored
 
   kept : (b : ℕ) → StaysThere w.memory m2 b → (r : Role) → HasRole w count b r → HasRole went.w2 count b r
-  kept b stays r has = role_kept same hash setting caller w c blocks m2 Told went is_map count count (omega arith) b stays r has
+  kept b stays r has = role_kept same hash setting caller w c blocks m2 Told went is_map count count (λ n p is. is) b stays r has
 
   -- what was linked or is a counter is not there to be made, or taken away
   lasts : (b : ℕ) (r : Role) → HasRole w count b r → IsLasting r → (value_at w.memory b ≡ None → ⊥) × (value_at m2 b ≡ None → ⊥)
@@ -90,8 +90,8 @@ module _ {K V : Type 0} (same : K → K → Bool) (hash : K → ℕ) (setting : 
   lasts b (role.OwnPair i) has last = absurd last
   lasts b (role.OwnTable turn shape) has last = absurd last
   lasts b (role.Pair n) has last = (
-    λ none. (let some = has.4 in cc (some, none)),
-    λ none. (let some = went.frame.values b _ has.4 (not_own same hash setting caller w c blocks m2 Told went is_map b has.5) in cc (some, none)),
+    λ none. (let some = has.3 in cc (some, none)),
+    λ none. (let some = went.frame.values b _ has.3 (not_own same hash setting caller w c blocks m2 Told went is_map b has.4) in cc (some, none)),
   )
   lasts b (role.Table t len) has last = (
     λ none. (let some = has.1 in cc (some, none)),

@@ -92,7 +92,7 @@ root_says acting known r old new apart was is was_is is_is = (
 )
 
 -- what a new block is, and none, by their roles
-module _ {K V : Type 0} (w : World (Node K V)) (stored : ℕ) (known : Known) (roles : (b : ℕ) → HasRole w stored b (known.roles b)) where
+module _ {K V : Type 0} (w : World (Node K V)) (stored : List (K × V)) (known : Known) (roles : (b : ℕ) → HasRole w stored b (known.roles b)) where
   -- there is no block 0
   pub nothing_free : known.roles 0 ≡ role.Free
   nothing_free = by (known.roles 0) refl (roles 0)
@@ -104,7 +104,7 @@ module _ {K V : Type 0} (w : World (Node K V)) (stored : ℕ) (known : Known) (r
       by role.Free e has = e
       by (role.OwnPair i) e has = absurd (let some = has.1 in cc (some, none))
       by (role.OwnTable turn shape) e has = absurd (let some = has.1 in cc (some, none))
-      by (role.Pair n) e has = absurd (let some = has.4 in cc (some, none))
+      by (role.Pair n) e has = absurd (let some = has.3 in cc (some, none))
       by (role.Table t len) e has = absurd (let some = has.1 in cc (some, none))
       by (role.Counter of) e has = absurd (cc (has, none))
 
@@ -116,7 +116,7 @@ module _ {K V : Type 0} (w : World (Node K V)) (stored : ℕ) (known : Known) (r
       by role.Free e has = absurd (cc (has, is))
       by (role.OwnPair i) e has = (i, e)
       by (role.OwnTable turn shape) e has = absurd (let there = has.1 in cc (there, is))
-      by (role.Pair n) e has = absurd (subst WasLinked made has.5)
+      by (role.Pair n) e has = absurd (subst WasLinked made has.4)
       by (role.Table t len) e has = absurd (subst WasLinked made has.2)
       by (role.Counter of) e has = absurd (cc (has, is))
 
@@ -138,6 +138,6 @@ module _ {K V : Type 0} (w : World (Node K V)) (stored : ℕ) (known : Known) (r
       by role.Free e has = absurd (cc (has, is))
       by (role.OwnPair i) e has = absurd (let it : has.0 ≡ node.Table len limit turn = (let there = has.1 in cc (there, is)) in let list = table_list K V len limit turn some in let none = sym (ap deferred_word it) ∙ has.2 in cc (list, none))
       by (role.OwnTable t shape) e has = e ∙ shape_is t shape has.1
-      by (role.Pair n) e has = absurd (subst WasLinked made has.5)
+      by (role.Pair n) e has = absurd (subst WasLinked made has.4)
       by (role.Table t length) e has = absurd (subst WasLinked made has.2)
       by (role.Counter of) e has = absurd (cc (has, is))

@@ -1,5 +1,5 @@
 -- How a run begins: nothing is noted, and the scene has no map and no caller.
-use Rattle.std.specs.Prelude.{ℕ}
+use Rattle.std.specs.Prelude.{ℕ, Bool, List}
 use Rattle.papaya_schedules.specs.Moment.{start}
 use Rattle.papaya_effects.specs.Known.{nothing_known}
 use Rattle.papaya_executor.specs.IsAt.{at_first}
@@ -7,4 +7,4 @@ use Rattle.papaya_follows.specs.Shows.{Shows}
 
 -- The promise: the moment before all events shows the first scene.
 abbrev pub RunsBegin : Type 0 → Type 0 → Type 0
-RunsBegin K V = (roots : ℕ) → Shows {K = K} {V = V} start nothing_known (at_first roots)
+RunsBegin K V = (same : K → K → Bool) (roots : ℕ) (name : ℕ → List ℕ) → Shows {K = K} {V = V} same name start nothing_known (at_first roots)

@@ -1,10 +1,11 @@
 -- What the blocks of the executor's memory are at a moment of a run, by what is noted of them.
-use Rattle.std.specs.Prelude.{◌≡◌, ◌≢◌, ℕ, ◌<◌, ◌≤◌, length, Some, None}
+use Rattle.std.specs.Prelude.{◌≡◌, ◌≢◌, ℕ, List, length, Some, None}
 use Rattle.seize_words.specs.Mem.{value_at}
 use Rattle.seize.specs.World.{World, Hand, NoBlock, Making}
 use Rattle.papaya_tables.specs.Nodes.{deferred_word}
 use Rattle.papaya_tables.specs.declared.node.Node.{Node}
 use Rattle.papaya_tables.specs.declared.node.Node.TheVariants as node
+use Rattle.papaya_runs.specs.Log.{pair_at}
 use Rattle.papaya_schedules.specs.Moment.{Moment}
 use Rattle.papaya_effects.specs.Known.{Known}
 use Rattle.papaya_effects.specs.declared.role.Role.{Role}
@@ -16,18 +17,18 @@ WasLinked NoBlock = ⊥
 WasLinked (Making i) = ⊥
 WasLinked _ = Unit {0}
 
-module _ {K V : Type 0} (w : World (Node K V)) (stored : ℕ) where
-  -- A block has this role. A caller's own one for a pair holds one, or none while the pair is out.
+module _ {K V : Type 0} (w : World (Node K V)) (stored : List (K × V)) where
+  -- A block has this role: that of a pair holds what was stored under its number. A caller's own one for a pair holds one, or none while the pair is out.
   abbrev pub HasRole : ℕ → Role → Type 0
   HasRole b role.Free = value_at w.memory b ≡ None
   HasRole b (role.OwnPair caller) = (value : Node K V) × (value_at w.memory b ≡ Some value) × (deferred_word value ≡ None)
   HasRole b (role.OwnTable turn shape) = (shape.len ≢ 0) × (value_at w.memory b ≡ Some (node.Table shape.len shape.limit turn))
-  HasRole b (role.Pair n) = (0 < n) × (n ≤ stored) × (k : K) × (v : V) × (value_at w.memory b ≡ Some (node.Pair k v)) × WasLinked (w.hand b)
+  HasRole b (role.Pair n) = (k : K) × (v : V) × (pair_at stored n ≡ Some (k, v)) × (value_at w.memory b ≡ Some (node.Pair k v)) × WasLinked (w.hand b)
   HasRole b (role.Table t len) = (limit : ℕ) × (value_at w.memory b ≡ Some (node.Table len limit t.turn)) × WasLinked (w.hand b)
   HasRole b (role.Counter map) = value_at w.memory b ≡ Some node.Shards
 
 -- each block has the role that is noted, no pair has two, and as many pairs were stored as are noted
 pub record ShowsBlocks {K V : Type 0} (m : Moment K V) (known : Known) (w : World (Node K V)) : Type 0 where
-  pub roles : (b : ℕ) → HasRole w (length m.stored) b (known.roles b)
+  pub roles : (b : ℕ) → HasRole w m.stored b (known.roles b)
   pub once : (b d n : ℕ) → known.roles b ≡ role.Pair n → known.roles d ≡ role.Pair n → b ≡ d
   pub stored : known.stored ≡ length m.stored

@@ -1,5 +1,6 @@
 pub mod Blocks
 pub mod Maps
+pub mod Calls
 pub mod Shows
 pub mod Finds
 pub mod Steps

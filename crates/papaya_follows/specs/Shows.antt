@@ -1,14 +1,17 @@
 -- How a moment of a run, with what is noted of the memory, shows a scene of the executor.
-use Rattle.std.specs.Prelude.{◌≡◌, ℕ, Some}
+use Rattle.std.specs.Prelude.{◌≡◌, ℕ, Bool, List, Some}
 use Rattle.papaya_schedules.specs.Moment.{Moment}
 use Rattle.papaya_finishes.specs.Maps.{Standing}
 use Rattle.papaya_effects.specs.Known.{Known}
 use Rattle.papaya_executor.specs.IsAt.{Scene}
 use Rattle.papaya_follows.specs.Blocks.{ShowsBlocks}
+use Rattle.papaya_follows.specs.Calls.{ShowsCalls}
 use Rattle.papaya_follows.specs.Maps.{ShowsMap}
 
--- The blocks have the roles that are noted, and each map that stands is shown. The pairs of a map have numbers of the run by the order in which they were stored there.
-pub record Shows {K V : Type 0} (m : Moment K V) (known : Known) (s : Scene K V) : Type 0 where
+-- The blocks have the roles that are noted, each map that stands is shown, and so are the calls under way, by the names of their callers. The pairs of a map
+-- have numbers of the run by the order in which they were stored there.
+pub record Shows {K V : Type 0} (same : K → K → Bool) (name : ℕ → List ℕ) (m : Moment K V) (known : Known) (s : Scene K V) : Type 0 where
   pub blocks : ShowsBlocks m known s.world
   pub number : ℕ → ℕ → ℕ  -- by map
   pub maps : (map : ℕ) (standing : Standing K) → s.maps map ≡ Some standing → ShowsMap map (number map) standing m known
+  pub calls : ShowsCalls same name m s.calls

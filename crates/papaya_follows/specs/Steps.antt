@@ -1,9 +1,11 @@
 -- Where a step of a call leads: the moment after its effects, and what is noted then, show the scene after it.
 use Rattle.std.specs.Prelude.{◌≡◌, ℕ, ◌<◌, Bool, false, List, [], ◌∷◌, Option, Some, None, ◌⊎◌}
 use Rattle.std.proofs.Common.{inl, inr}
-use Rattle.seize_words.specs.Mem.{Mem}
+use Rattle.seize_words.specs.Mem.{Mem, value_at}
+use Rattle.seize_words.specs.Word.{block_in}
 use Rattle.seize.specs.World.{World}
 use Rattle.papaya_tables.specs.declared.node.Node.{Node}
+use Rattle.papaya_tables.specs.declared.node.Node.TheVariants as node
 use Rattle.papaya_raw.specs.declared.machines.machine.Machine.{Machine}
 use Rattle.papaya_raw.specs.declared.machines.progress.Progress.{Progress}
 use Rattle.papaya_schedules.specs.declared.effect.Effect.{Effect}
@@ -29,16 +31,21 @@ use Rattle.papaya_executor.specs.declared.executor.Executor.{Executor}
 use Rattle.papaya_follows.specs.Finds.{FindsMap}
 use Rattle.papaya_follows.specs.Shows.{Shows}
 
+-- the block that a word names which was written
+abbrev pub named_now : Changed → ℕ
+named_now (changed.Wrote at old new) = block_in new
+named_now _ = 0
+
 module _ {K V : Type 0} where
-  -- what is stored the call has to store
-  abbrev pub HasPair : Option (CallThere K V) → Effect → Type 0
-  HasPair (Some c) (Stored n s) = (pair : K × V) × (new_pair c.call c n ≡ pair ∷ [])
-  HasPair None (Stored n s) = ⊥
-  HasPair _ _ = Unit {0}
+  -- what is stored the call has to store: it is the pair that this block holds
+  abbrev pub HasPair : Mem (Node K V) → ℕ → Option (CallThere K V) → Effect → Type 0
+  HasPair memory b (Some c) (Stored n s) = (k : K) × (v : V) × (new_pair c.call c n ≡ (k, v) ∷ []) × (value_at memory b ≡ Some (node.Pair k v))
+  HasPair memory b None (Stored n s) = ⊥
+  HasPair memory b _ _ = Unit {0}
 
   -- each pair that these effects of a call store is one that it has to store
-  abbrev pub StoreTheirs : List ℕ → ℕ → List Effect → Moment K V → Type 0
-  StoreTheirs caller map effects m = AtEachEffect (λ v f. HasPair (acting (Some caller) v) f) (Some caller) (Some map) effects m
+  abbrev pub StoreTheirs : Mem (Node K V) → Changed → List ℕ → ℕ → List Effect → Moment K V → Type 0
+  StoreTheirs memory told caller map effects m = AtEachEffect (λ v f. HasPair memory (named_now told) (acting (Some caller) v) f) (Some caller) (Some map) effects m
 
   -- what is handed over has left its map: a pair, or a table that the root has passed
   abbrev pub HasLeft : Moment K V → Effect → Type 0
@@ -78,22 +85,22 @@ module _ (K V S : Type 0) (same : K → K → Bool) (hash : K → ℕ) where
   -- must, and lead to a moment that shows the scene after it, with what is known after it.
   abbrev pub CallsAreShown : Type 0
   CallsAreShown =
-      (m : Moment K V) (known : Known) (s : Scene K V) (old new : Executor K V S) → IsAt same hash old s → Shows m known s
+      (name : ℕ → List ℕ) (m : Moment K V) (known : Known) (s : Scene K V) (old new : Executor K V S) → IsAt same hash old s → Shows same name m known s
       → (map i : ℕ) (u : UnderWay K V K) (here : s.calls map i ≡ Some u) (told : Progress (Node K V)) (leads : StepLeads same hash i told s old new)
       → (let to = leads map u here in
       IsOfNoRow same old.batch_size old.roots s.world s.maps s.calls s.makers s.enders map to.0 i new.memory.memory to.4.w2 to.4.maps2 to.4.next u to.1 told to.4.did
-      → (caller : List ℕ) → StoreTheirs caller map (effects_of (Call i map) known new.memory.changed) m
-      → AtEachEffect (FindsMap map) (Some caller) (Some map) (effects_of (Call i map) known new.memory.changed) m
-      × Shows (with_effects (Some caller) (Some map) (effects_of (Call i map) known new.memory.changed) m) (known_after (Call i map) new.memory.changed known)
+      → StoreTheirs s.world.memory new.memory.changed (name i) map (effects_of (Call i map) known new.memory.changed) m
+      → AtEachEffect (FindsMap map) (Some (name i)) (Some map) (effects_of (Call i map) known new.memory.changed) m
+      × Shows same name (with_effects (Some (name i)) (Some map) (effects_of (Call i map) known new.memory.changed) m) (known_after (Call i map) new.memory.changed known)
       (scene_after same hash s old new map i to.0 u to.1 told to.4))
 
   -- The promise, of a step of a row within a call: where it takes no block away, and hands over what has left its map alone, it is the same.
   abbrev pub RowsAreShown : Type 0
   RowsAreShown =
-      (m : Moment K V) (known : Known) (s : Scene K V) (old new : Executor K V S) → IsAt same hash old s → Shows m known s
+      (name : ℕ → List ℕ) (m : Moment K V) (known : Known) (s : Scene K V) (old new : Executor K V S) → IsAt same hash old s → Shows same name m known s
       → (map i : ℕ) (u : UnderWay K V K) (here : s.calls map i ≡ Some u) (told : Progress (Node K V)) (leads : StepLeads same hash i told s old new)
       → (let to = leads map u here in
       (IsOfNoRow same old.batch_size old.roots s.world s.maps s.calls s.makers s.enders map to.0 i new.memory.memory to.4.w2 to.4.maps2 to.4.next u to.1 told to.4.did → ⊥)
-      → (caller : List ℕ) → TakesNone new.memory.changed → HandTheirs caller map (effects_of (Call i map) known new.memory.changed) m
-      → Shows (with_effects (Some caller) (Some map) (effects_of (Call i map) known new.memory.changed) m) (known_after (Call i map) new.memory.changed known)
+      → TakesNone new.memory.changed → HandTheirs (name i) map (effects_of (Call i map) known new.memory.changed) m
+      → Shows same name (with_effects (Some (name i)) (Some map) (effects_of (Call i map) known new.memory.changed) m) (known_after (Call i map) new.memory.changed known)
       (scene_after same hash s old new map i to.0 u to.1 told to.4))
