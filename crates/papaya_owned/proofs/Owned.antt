@@ -16,5 +16,4 @@ pub mod Rests
 pub mod Retains
 pub mod Rooms
 pub mod Siftings
-pub mod Sifts
 pub mod Sweeps
