@@ -1,5 +1,6 @@
 //! Removals of the pair of a key, which is asked for by whatever is equivalent to it. Each is run to its end by the one owner.
-ghost use Rattle.std.specs.Prelude.{◌≡◌, ℕ, Bool, List, Option, None, Some};
+ghost use Rattle.std.specs.Prelude.{◌≡◌, List, None, if◌then◌else◌};
+ghost use Rattle.papaya_raw.specs.declared.machines.asking.Reply.TheVariants as replies;
 ghost use Rattle.papaya_callers.specs.Kind.{removes};
 ghost use Rattle.papaya_owned.specs.Asking.{EndsAs};
 ghost use Rattle.papaya_owned.specs.Closures.{TestsAs, Removing};
@@ -41,6 +42,13 @@ pub fn remove<K: Eq + Hash + Drop, V: Drop, Q: Equivalent<K>, S: BuildHasher>(
     run(&mut machine, memory)
 }
 
+/// A choice, as a reply.
+fn chosen<V>(yes: bool) -> Reply<V>
+    ensures { result ≡ (if yes then replies.Yes else replies.No) }
+{
+    if yes { Reply::Yes } else { Reply::No }
+}
+
 /// Removes the pair of a key, if a test of it answers yes. The test is called where the key is there, and else not at all.
 pub fn remove_if<K: Eq + Hash + Drop, V: Drop, Q: Equivalent<K>, S: BuildHasher, F: FnOnce(&K, &V) -> bool>(
     memory: &mut Plain<Node<K, V>>,
@@ -69,7 +77,8 @@ pub fn remove_if<K: Eq + Hash + Drop, V: Drop, Q: Equivalent<K>, S: BuildHasher,
         Ok(Stop::Answered(answer)) => Ok(answer),
         Ok(Stop::Asks(Some(word))) => {
             let (key, value) = pair_at(memory, word);
-            let reply = if test(key, value) { Reply::Yes } else { Reply::No };
+            let yes = test(key, value);
+            let reply = chosen(yes);
             finish(memory, setting, &mut machine, reply)
         }
         Ok(Stop::Asks(None)) => unreachable!(),

@@ -1,5 +1,5 @@
 -- What a call comes to, by what it was told, in other words.
-use Rattle.std.specs.Prelude.{◌≡◌, ◌≢◌, ℕ, Bool, List, Option, Some, None, Result, Ok, Err, ◌⊎◌}
+use Rattle.std.specs.Prelude.{◌≡◌, ◌≢◌, ℕ, Bool, true, false, List, Option, Some, None, ◌⊎◌, if◌then◌else◌}
 use Rattle.std.proofs.Common.{refl, sym, ◌∙◌, ap, subst, inl, inr}
 use denote.Ref.{Bor}
 use Rattle.seize_words.specs.Mem.{Mem}
@@ -12,8 +12,10 @@ use Rattle.papaya_raw.specs.declared.machines.answer.Missing.TheVariants as miss
 use Rattle.papaya_raw.specs.declared.machines.answer.There.TheVariants as there
 use Rattle.papaya_raw.specs.declared.machines.asking.Reply.{Reply}
 use Rattle.papaya_raw.specs.declared.machines.asking.Reply.TheVariants as reply
+use Rattle.papaya_raw.specs.declared.machines.asking.Takes.TheVariants as takes
 use Rattle.papaya_callers.specs.Kind.{Kind}
-use Rattle.papaya_owned.specs.Asking.{meant, AnswersAs, RefusedAs, Unasked, ToldThis}
+use Rattle.papaya_owned.specs.Asking.{meant, IsTaken, AnswersAs, RefusedAs, Unasked, ToldThis}
+use Rattle.papaya_owned.specs.Closures.{Removing}
 use Rattle.papaya_owned.specs.Owned.{NamesAPair, IsWordOf, found_by}
 
 module _ {K V : Type 0} (same : K → K → Bool) (hash : K → ℕ) (setting : Setting) (m : Mem (Node K V)) (keys : K → Bool) (xs : List (K × V)) (its : Option K)
@@ -53,3 +55,13 @@ module _ {K V : Type 0} (Meant : Option (K × V) → Reply V → Type 0) where
 -- a pair stands in the block of a word that it asks about
 pub word_names : {K V : Type 0} (keys : K → Bool) (m : Mem (Node K V)) (xs : List (K × V)) (word : ℕ) → IsWordOf keys m xs (Some word) → NamesAPair m word
 word_names keys m xs word is = (is.0, is.1, is.2)
+
+-- a choice, as a reply
+module _ {V : Type 0} where
+  pub chosen_taken : (word : ℕ) (yes : Bool) (said : Reply V) → said ≡ (if yes then reply.Yes else reply.No) → IsTaken takes.Choices (Some word) said
+  chosen_taken word true said e = subst (IsTaken takes.Choices (Some word)) (sym e) tt
+  chosen_taken word false said e = subst (IsTaken takes.Choices (Some word)) (sym e) tt
+
+  pub chosen_means : {K : Type 0} (Tests : K × V → Bool → Type 0) (x : K × V) (yes : Bool) (said : Reply V) → said ≡ (if yes then reply.Yes else reply.No) → Tests x yes → Removing Tests (Some x) (meant said)
+  chosen_means Tests x true said e is = subst (λ (r : Reply V). Removing Tests (Some x) (meant r)) (sym e) is
+  chosen_means Tests x false said e is = subst (λ (r : Reply V). Removing Tests (Some x) (meant r)) (sym e) is
