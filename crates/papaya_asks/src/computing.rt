@@ -45,7 +45,13 @@ fn shown_at<K, V>(memory: &Plain<Node<K, V>>, word: Option<u64>) -> Option<(&K, 
 
 /// Stores a value for a key, removes its pair, or leaves it, as a computing says. That is called with the pair that is there, or with none. Where it says that the
 /// pair is to be removed that is not there, the call is refused.
-pub fn compute<K: Eq + Hash + Drop, V: Drop, S: BuildHasher, T: Drop, F: FnOnce(Option<(&K, &V)>) -> Operation<V, T>>(
+pub fn compute<
+    K: Eq + Hash + Drop,
+    V: Drop,
+    S: BuildHasher,
+    T: Drop,
+    F: FnOnce(Option<(&K, &V)>) -> Operation<V, T>,
+>(
     memory: &mut Plain<Node<K, V>>,
     setting: Setting,
     hasher: &S,
@@ -66,7 +72,12 @@ pub fn compute<K: Eq + Hash + Drop, V: Drop, S: BuildHasher, T: Drop, F: FnOnce(
     };
     match start(memory, setting, &mut machine) {
         Ok(Stop::Asks(asked)) => match compute(shown_at(memory, asked)) {
-            Operation::Insert(value) => match replied(memory, setting, &mut machine, Reply::Insert(value)) {
+            Operation::Insert(value) => match replied(
+                memory,
+                setting,
+                &mut machine,
+                Reply::Insert(value),
+            ) {
                 Ok(answer) => Ok(Computed::Changed(answer)),
                 Err(refused) => Err(refused),
             },

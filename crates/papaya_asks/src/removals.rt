@@ -48,7 +48,13 @@ fn chosen<V>(yes: bool) -> Reply<V>
 }
 
 /// Removes the pair of a key, if a test of it answers yes. The test is called where the key is there, and else not at all.
-pub fn remove_if<K: Eq + Hash + Drop, V: Drop, Q: Equivalent<K>, S: BuildHasher, F: FnOnce(&K, &V) -> bool>(
+pub fn remove_if<
+    K: Eq + Hash + Drop,
+    V: Drop,
+    Q: Equivalent<K>,
+    S: BuildHasher,
+    F: FnOnce(&K, &V) -> bool,
+>(
     memory: &mut Plain<Node<K, V>>,
     setting: Setting,
     hasher: &S,

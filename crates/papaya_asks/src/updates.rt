@@ -72,7 +72,13 @@ pub fn update<K: Eq + Hash + Drop, V: Drop, S: BuildHasher, F: FnOnce(&V) -> V>(
 }
 
 /// Replaces the value of a key by one that is made of it, if the key is there, and else stores one that is begun. The closure that is called is the one of the two.
-pub fn update_or_insert_with<K: Eq + Hash + Drop, V: Drop, S: BuildHasher, B: FnOnce() -> V, F: FnOnce(&V) -> V>(
+pub fn update_or_insert_with<
+    K: Eq + Hash + Drop,
+    V: Drop,
+    S: BuildHasher,
+    B: FnOnce() -> V,
+    F: FnOnce(&V) -> V,
+>(
     memory: &mut Plain<Node<K, V>>,
     setting: Setting,
     hasher: &S,

@@ -31,7 +31,6 @@ module _ {K V Q : Type 0} (same : K → K → Bool) (hash : K → ℕ) (asks : Q
   BeginsWith keys (Begun kind pair) call = Unit {0}
   BeginsWith keys (IsTold kind its asked) call = asked ≡ [] → BeginsSo kind its keys call
 
-
   begins_with : (keys : K → Bool) (given : Given K V) (call : KeyCall K V Q) → IsBegun V same hash asks setting slot 0 keys given call → BeginsWith keys given call
   begins_with _ _ _ (Gets q code fits class) = tt
   begins_with _ _ _ (Removes q code fits class) = tt

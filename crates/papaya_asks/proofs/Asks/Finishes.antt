@@ -266,7 +266,7 @@ module _ {K V Q S : Type 0} (asks : Q → K → Bool) (same : K → K → Bool) 
       let here = ap (λ (y : OnKey K V Q S). y.call.stands) s2.under.is ∙ s2.stands in
       let for2 = subst (AsksFor again) here c2.2 in
       let none = asks_no_more its m2 z.call asked said again s2.asks_at for2
-          (subst (UndisturbedAt its (known_by asked said) (value_by said) (seeks_by asked said) m2 z.call) here c2.1.point) in
+      (subst (UndisturbedAt its (known_by asked said) (value_by said) (seeks_by asked said) m2 z.call) here c2.1.point) in
       apart again none.1.0 none.1.1 (asks_so same asks hashes x.hasher setting p.before xs h keys given2 facts.one z m2 again s2 for2) asked none.0 started.2
     where
       apart : (again : Option ℕ) (word : ℕ) → again ≡ Some word → IsWordOf keys m2 xs again → (asked : Option ℕ) → asked ≡ None → IsWordOf keys m xs asked → ⊥

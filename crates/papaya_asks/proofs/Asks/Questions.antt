@@ -78,9 +78,9 @@ module _ {K V Q S : Type 0} (same : K → K → Bool) (asks : Q → K → Bool) 
         by.none_so same asks hashes b setting m0 xs h keys given one course.w course.c course.blocks seen course.alone.together.ground.map run (so answers.Absent has)
     is_word (Some word) has =
         let x =
-            by.met_so same asks hashes b setting m0 xs h keys given one course.w course.c course.blocks seen course.alone.together.ground.map run setting.root
-            (own.map same hash asks setting slot_of h.lawful course.w course.c course.blocks course.sights (going {Q = Q} {S = S} same asks hashes b setting h.lawful h.initial h.world.memory h.chart h.blocks h.rests.together.ground.map.map.rule keys given course.change p) course.alone).map.shows
-            (λ o low known. refl) word (so (answers.Found word) has) in
+        by.met_so same asks hashes b setting m0 xs h keys given one course.w course.c course.blocks seen course.alone.together.ground.map run setting.root
+        (own.map same hash asks setting slot_of h.lawful course.w course.c course.blocks course.sights (going {Q = Q} {S = S} same asks hashes b setting h.lawful h.initial h.world.memory h.chart h.blocks h.rests.together.ground.map.map.rule keys given course.change p) course.alone).map.shows
+        (λ o low known. refl) word (so (answers.Found word) has) in
         (x.0.0, x.0.1, subst (λ (y : Mem (Node K V)). value_at y (block_in word) ≡ Some (node.Pair x.0.0 x.0.1)) course.memory x.2, x.1)
 
   -- what it asks is so

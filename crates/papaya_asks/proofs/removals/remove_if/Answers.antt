@@ -12,9 +12,16 @@ use Rattle.papaya_owned.proofs.Owned.Lawful.{is_class}
 use Rattle.papaya_asks.proofs.removals.remove_if.Goals as goal
 
 pub start-requires-clause-begun : goal.start-requires-clause-begun
-start-requires-clause-begun g c = let r = c.requires.holds in (r.0, removes_if, None, (g.Q.Equivalent.equivalent c.args.asked.now), r.1, (removes_if_so g.K.PartialEq.eq ((hashed_by g.S.Hasher.Hasher.finish g.S.Hasher.Hasher.write g.S.BuildHasher.build_hasher g.K.Hash.hash_input) c.args.hasher.now) (λ x key. g.Q.Equivalent.equivalent x.asked.now key) c.args.setting _ _ c.hash_of-hash.type_inv (subst (λ x. IsClass g.K.PartialEq.eq ((hashed_by g.S.Hasher.Hasher.finish g.S.Hasher.Hasher.write g.S.BuildHasher.build_hasher g.K.Hash.hash_input) c.args.hasher.now) (g.Q.Equivalent.equivalent c.args.asked.now) x) (sym c.hash_of-hash.ensures)
-    (is_class g.K.PartialEq.eq g.S.Hasher.Hasher.finish g.S.Hasher.Hasher.write g.S.BuildHasher.build_hasher g.K.Hash.hash_input c.args.hasher.now g.Q.Equivalent.equivalent g.Q.Hash.hash_input
-    g.met.Q.Equivalent.respects_hash g.met.Q.Equivalent.respects_eq c.args.asked.now)) _ c.remove_if-call.ensures))
+start-requires-clause-begun g c = let r = c.requires.holds in (
+  r.0,
+  removes_if,
+  None,
+  (g.Q.Equivalent.equivalent c.args.asked.now),
+  r.1,
+  (removes_if_so g.K.PartialEq.eq ((hashed_by g.S.Hasher.Hasher.finish g.S.Hasher.Hasher.write g.S.BuildHasher.build_hasher g.K.Hash.hash_input) c.args.hasher.now) (λ x key. g.Q.Equivalent.equivalent x.asked.now key) c.args.setting _ _ c.hash_of-hash.type_inv (subst (λ x. IsClass g.K.PartialEq.eq ((hashed_by g.S.Hasher.Hasher.finish g.S.Hasher.Hasher.write g.S.BuildHasher.build_hasher g.K.Hash.hash_input) c.args.hasher.now) (g.Q.Equivalent.equivalent c.args.asked.now) x) (sym c.hash_of-hash.ensures)
+      (is_class g.K.PartialEq.eq g.S.Hasher.Hasher.finish g.S.Hasher.Hasher.write g.S.BuildHasher.build_hasher g.K.Hash.hash_input c.args.hasher.now g.Q.Equivalent.equivalent g.Q.Hash.hash_input
+      g.met.Q.Equivalent.respects_hash g.met.Q.Equivalent.respects_eq c.args.asked.now)) _ c.remove_if-call.ensures),
+)
 
 pub pair_at-requires : goal.pair_at-requires
 pair_at-requires g c =
