@@ -1,5 +1,4 @@
 -- Lemmas on what one owner runs to its end.
-pub mod Asks
 pub mod Lookups
 pub mod Owned
 pub mod Runs

@@ -1,5 +1,3 @@
-pub mod Asking
-pub mod Closures
 pub mod Ending
 pub mod Looking
 pub mod Machines

@@ -1,0 +1,90 @@
+-- What a call asks, for one owner: about the pair of its keys that the map has, or about none where it has none.
+use Rattle.std.specs.Prelude.{◌≡◌, ℕ, Bool, true, List, Option, Some, None}
+use Rattle.std.proofs.Common.{refl, sym, ap, subst}
+use denote.Ref.{Bor}
+use Rattle.seize_words.specs.Mem.{Mem, value_at}
+use Rattle.seize_words.specs.Word.{block_in}
+use Rattle.papaya_tables.specs.declared.node.Node.{Node}
+use Rattle.papaya_tables.specs.declared.node.Node.TheVariants as node
+use Rattle.papaya_tables.specs.declared.setting.Setting.{Setting}
+use Rattle.papaya_raw.specs.declared.machines.answer.KeyAnswer.{KeyAnswer}
+use Rattle.papaya_raw.specs.declared.machines.answer.KeyAnswer.TheVariants as answers
+use Rattle.papaya_raw.specs.declared.machines.asking.Asking.{Asking}
+use Rattle.papaya_raw.specs.declared.machines.asking.Asking.TheVariants as asking
+use Rattle.papaya_raw.specs.declared.machines.call.KeyCall.{KeyCall}
+use Rattle.papaya_raw.specs.declared.machines.call.Calling.{Calling}
+use Rattle.papaya_raw.specs.declared.machines.call.Calling.TheVariants as at
+use Rattle.papaya_rule.specs.Words.{Blocks}
+use Rattle.papaya_points.specs.FactsCalls.{Unchanged, Seeks}
+use Rattle.papaya_points.specs.Told.{HasAnswered, IsRowOfCall}
+use Rattle.papaya_callers.specs.Pairs.{Given}
+use Rattle.papaya_callers.specs.Since.{SoSince}
+use Rattle.papaya_callers.specs.Together.{in_slot}
+use Rattle.papaya_whole.specs.Contents.{HasRun}
+use Rattle.papaya_whole.proofs.Keys.Own as own
+use Rattle.papaya_owned.specs.Owned.{Holds, IsWordOf, found_by}
+use Rattle.papaya_owned.specs.declared.machines.OnKey.{OnKey}
+use Rattle.papaya_owned.proofs.Owned.Answered as by
+use Rattle.papaya_owned.proofs.Owned.Keys.{AsksAt, Course, going}
+use Rattle.papaya_asks.proofs.Asks.Undisturbed.{AsksFor}
+
+-- as an answer
+abbrev pub as_answer : Option ℕ → KeyAnswer
+as_answer None = answers.Absent
+as_answer (Some word) = answers.Found word
+
+pub has_answered : (asked : Option ℕ) (a : Asking) → AsksFor asked (at.Asks a) → HasAnswered (as_answer asked) (at.Asks a)
+has_answered None (asking.Absent gap) h = refl
+has_answered None (asking.Present word) h = absurd h
+has_answered None (asking.Fills word) h = absurd h
+has_answered None (asking.GivesUp word) h = absurd h
+has_answered (Some word) (asking.Absent gap) h = absurd h
+has_answered (Some word) (asking.Present other) h = ap answers.Found (sym h)
+has_answered (Some word) (asking.Fills other) h = absurd h
+has_answered (Some word) (asking.GivesUp other) h = absurd h
+
+module _ {K V Q S : Type 0} (same : K → K → Bool) (asks : Q → K → Bool) (hashes : S → K → ℕ) (b : Bor S) (setting : Setting) (m0 : Mem (Node K V)) (xs : List (K × V)) (h : Holds same (hashes b.now) setting m0 xs)
+    (keys : K → Bool) (given : Given K V) (one : (i j : K) → keys i ≡ true → keys j ≡ same i j) where
+  abbrev hash : K → ℕ
+  hash = hashes b.now
+
+  abbrev slot_of : ℕ → ℕ
+  slot_of i = setting.slot
+
+  abbrev CourseIt : KeyCall K V Q → Mem (Node K V) → Type 0
+  CourseIt = Course {Q = Q} {S = S} same asks hashes b setting h.lawful h.initial h.world.memory h.chart h.blocks h.rests.together.ground.map.map.rule keys given
+
+  module _ (p : KeyCall K V Q) (m : Mem (Node K V)) (course : CourseIt p m) (a : Asking) (stands : p.stands ≡ at.Asks a) where
+    no_row : IsRowOfCall p.stands → ⊥
+    no_row row = subst IsRowOfCall stands row
+
+    known : own.KnowsHere same hash asks setting slot_of h.lawful course.w course.c course.blocks course.sights (going {Q = Q} {S = S} same asks hashes b setting h.lawful h.initial h.world.memory h.chart h.blocks h.rests.together.ground.map.map.rule keys given course.change p) course.alone no_row
+    known = own.knows_here same hash asks setting slot_of h.lawful course.w course.c course.blocks course.sights (going {Q = Q} {S = S} same asks hashes b setting h.lawful h.initial h.world.memory h.chart h.blocks h.rests.together.ground.map.map.rule keys given course.change p) course.alone no_row
+
+    abbrev seen : Blocks
+    seen = own.seen same hash asks setting slot_of h.lawful course.w course.c course.blocks course.sights (going {Q = Q} {S = S} same asks hashes b setting h.lawful h.initial h.world.memory h.chart h.blocks h.rests.together.ground.map.map.rule keys given course.change p) course.alone
+
+    unchanged : course.change ≡ Unchanged
+    unchanged = known.2.unchanged (subst (Seeks same hash asks course.w 0 (in_slot setting (slot_of 0)) course.c seen keys course.change) (sym stands) tt)
+
+    run : HasRun same hash setting keys h.world.memory h.chart h.blocks Unchanged course.w.memory course.c course.blocks
+    run = subst (λ x. HasRun same hash setting keys h.world.memory h.chart h.blocks x course.w.memory course.c course.blocks) unchanged course.runs
+
+    so : (answer : KeyAnswer) → HasAnswered answer (at.Asks a) → SoSince hash course.c seen keys h.chart.now answer
+    so answer has = known.1.since.answered unchanged answer (subst (HasAnswered answer) (sym stands) has)
+
+    is_word : (asked : Option ℕ) → HasAnswered (as_answer asked) (at.Asks a) → IsWordOf keys m xs asked
+    is_word None has =
+        by.none_so same asks hashes b setting m0 xs h keys given one course.w course.c course.blocks seen course.alone.together.ground.map run (so answers.Absent has)
+    is_word (Some word) has =
+        let x =
+        by.met_so same asks hashes b setting m0 xs h keys given one course.w course.c course.blocks seen course.alone.together.ground.map run setting.root
+        (own.map same hash asks setting slot_of h.lawful course.w course.c course.blocks course.sights (going {Q = Q} {S = S} same asks hashes b setting h.lawful h.initial h.world.memory h.chart h.blocks h.rests.together.ground.map.map.rule keys given course.change p) course.alone).map.shows
+        (λ o low known. refl) word (so (answers.Found word) has) in
+        (x.0.0, x.0.1, subst (λ (y : Mem (Node K V)). value_at y (block_in word) ≡ Some (node.Pair x.0.0 x.0.1)) course.memory x.2, x.1)
+
+  -- what it asks is so
+  pub asks_so : (x : OnKey K V Q S) (m : Mem (Node K V)) (asked : Option ℕ)
+      → (it : AsksAt {Q = Q} same asks hashes b setting h.lawful h.initial h.world.memory h.chart h.blocks h.rests.together.ground.map.map.rule keys given x m asked)
+      → AsksFor asked (at.Asks it.asks_at) → IsWordOf keys m xs asked
+  asks_so x m asked it for = is_word it.under.p m it.under.course it.asks_at it.stands asked (has_answered asked it.asks_at for)

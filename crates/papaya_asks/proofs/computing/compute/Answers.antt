@@ -1,0 +1,97 @@
+-- It begins, and comes to what it was told.
+use Rattle.std.specs.Fn.{FnOnceReturns, FnOnceReturnsAt}
+use Rattle.std.specs.Prelude.{Some, None}
+use Rattle.std.proofs.Common.{◌≡◌, refl, inl, subst}
+use Rattle.papaya_raw.specs.declared.machines.asking.Reply.TheVariants as reply
+use Rattle.papaya_callers.specs.Kind.{computes}
+use Rattle.papaya_asks.specs.Closures.{ComesTo, ComputesAs, Computing, UpdatingOrStoring, Storing}
+use Rattle.papaya_owned.specs.Owned.{hashed_by, found_by}
+use Rattle.papaya_asks.proofs.Asks.Begins.{computes_so}
+use Rattle.papaya_asks.proofs.Asks.Calls.{word_names}
+use Rattle.papaya_asks.proofs.Asks.Comes.{comes_answered, comes_asking, comes_refused, comes_told, comes_with, never_answers, aborted_holds, aborted_refused}
+use Rattle.papaya_asks.proofs.computing.compute.Goals as goal
+
+pub start-requires-clause-begun : goal.start-requires-clause-begun
+start-requires-clause-begun g c = let r = c.requires.holds in (r.0, computes, Some c.args.key, g.K.PartialEq.eq c.args.key, r.1, (computes_so g.K.PartialEq.eq ((hashed_by g.S.Hasher.Hasher.finish g.S.Hasher.Hasher.write g.S.BuildHasher.build_hasher g.K.Hash.hash_input) c.args.hasher.now) c.args.setting c.args.key _ c.hash_of-hash.ensures _ c.compute-call.ensures))
+
+pub shown_at-requires : goal.shown_at-requires
+shown_at-requires g c =
+    let r = c.requires.holds in
+    let h = c.start.ensures r.0 computes (Some c.args.key) (g.K.PartialEq.eq c.args.key) r.1 (computes_so g.K.PartialEq.eq ((hashed_by g.S.Hasher.Hasher.finish g.S.Hasher.Hasher.write g.S.BuildHasher.build_hasher g.K.Hash.hash_input) c.args.hasher.now) c.args.setting c.args.key _ c.hash_of-hash.ensures _ c.compute-call.ensures) in
+    (g.K.PartialEq.eq c.args.key, r.0, (comes_asking g.K.PartialEq.eq g.K.PartialEq.eq (hashed_by g.S.Hasher.Hasher.finish g.S.Hasher.Hasher.write g.S.BuildHasher.build_hasher g.K.Hash.hash_input) c.args.hasher c.args.setting computes (Some c.args.key) (g.K.PartialEq.eq c.args.key) r.0 c.start.new.machine c.start.new.memory c.start.result h _ _ c.in-Ok-Asks.asked c.in-Ok-Asks.is c.in-Ok-Asks.field-0-is refl).2)
+
+pub replied-requires : goal.replied-requires
+replied-requires g c =
+    let r = c.requires.holds in
+    let h = c.start.ensures r.0 computes (Some c.args.key) (g.K.PartialEq.eq c.args.key) r.1 (computes_so g.K.PartialEq.eq ((hashed_by g.S.Hasher.Hasher.finish g.S.Hasher.Hasher.write g.S.BuildHasher.build_hasher g.K.Hash.hash_input) c.args.hasher.now) c.args.setting c.args.key _ c.hash_of-hash.ensures _ c.compute-call.ensures) in
+    (r.0, computes, c.args.key, c.in-Ok-Asks.asked, (comes_asking g.K.PartialEq.eq g.K.PartialEq.eq (hashed_by g.S.Hasher.Hasher.finish g.S.Hasher.Hasher.write g.S.BuildHasher.build_hasher g.K.Hash.hash_input) c.args.hasher c.args.setting computes (Some c.args.key) (g.K.PartialEq.eq c.args.key) r.0 c.start.new.machine c.start.new.memory c.start.result h _ _ c.in-Ok-Asks.asked c.in-Ok-Asks.is c.in-Ok-Asks.field-0-is refl).0, tt)
+
+pub returns-in-Ok : goal.returns-in-Ok
+returns-in-Ok g c = λ xs has.
+    let h = c.start.ensures xs computes (Some c.args.key) (g.K.PartialEq.eq c.args.key) has (computes_so g.K.PartialEq.eq ((hashed_by g.S.Hasher.Hasher.finish g.S.Hasher.Hasher.write g.S.BuildHasher.build_hasher g.K.Hash.hash_input) c.args.hasher.now) c.args.setting c.args.key _ c.hash_of-hash.ensures _ c.compute-call.ensures) in
+    let a = comes_asking g.K.PartialEq.eq g.K.PartialEq.eq (hashed_by g.S.Hasher.Hasher.finish g.S.Hasher.Hasher.write g.S.BuildHasher.build_hasher g.K.Hash.hash_input) c.args.hasher c.args.setting computes (Some c.args.key) (g.K.PartialEq.eq c.args.key) xs c.start.new.machine c.start.new.memory c.start.result h _ _ c.in-Ok-Asks.asked c.in-Ok-Asks.is c.in-Ok-Asks.field-0-is refl in
+    subst (ComesTo g.K.PartialEq.eq ((hashed_by g.S.Hasher.Hasher.finish g.S.Hasher.Hasher.write g.S.BuildHasher.build_hasher g.K.Hash.hash_input) c.args.hasher.now) c.args.setting c.replied.new.memory c.args.key xs (Computing (ComputesAs g.F.FnOnce c.args.compute))) c.in-Ok.is (comes_told g.K.PartialEq.eq (hashed_by g.S.Hasher.Hasher.finish g.S.Hasher.Hasher.write g.S.BuildHasher.build_hasher g.K.Hash.hash_input) c.args.hasher c.start.new.machine.hasher a.1 c.args.setting xs c.replied.new.memory (Computing (ComputesAs g.F.FnOnce c.args.compute)) (reply.Insert c.in-Insert.value) (found_by (g.K.PartialEq.eq c.args.key) xs)
+    (c.shown_at.result, subst (λ o. g.F.FnOnce.post c.args.compute (c.shown_at.result, tt) o) c.in-Insert.is c.compute.ensures, c.shown_at.ensures (g.K.PartialEq.eq c.args.key) xs a.2) c.args.key refl c.replied.result (c.replied.ensures xs computes c.args.key c.in-Ok-Asks.asked a.0 tt))
+
+pub returns-in-Insert : goal.returns-in-Insert
+returns-in-Insert g c = λ xs has.
+    let h = c.start.ensures xs computes (Some c.args.key) (g.K.PartialEq.eq c.args.key) has (computes_so g.K.PartialEq.eq ((hashed_by g.S.Hasher.Hasher.finish g.S.Hasher.Hasher.write g.S.BuildHasher.build_hasher g.K.Hash.hash_input) c.args.hasher.now) c.args.setting c.args.key _ c.hash_of-hash.ensures _ c.compute-call.ensures) in
+    let a = comes_asking g.K.PartialEq.eq g.K.PartialEq.eq (hashed_by g.S.Hasher.Hasher.finish g.S.Hasher.Hasher.write g.S.BuildHasher.build_hasher g.K.Hash.hash_input) c.args.hasher c.args.setting computes (Some c.args.key) (g.K.PartialEq.eq c.args.key) xs c.start.new.machine c.start.new.memory c.start.result h _ _ c.in-Ok-Asks.asked c.in-Ok-Asks.is c.in-Ok-Asks.field-0-is refl in
+    subst (ComesTo g.K.PartialEq.eq ((hashed_by g.S.Hasher.Hasher.finish g.S.Hasher.Hasher.write g.S.BuildHasher.build_hasher g.K.Hash.hash_input) c.args.hasher.now) c.args.setting c.replied.new.memory c.args.key xs (Computing (ComputesAs g.F.FnOnce c.args.compute))) c.in-Err-replied.is (comes_told g.K.PartialEq.eq (hashed_by g.S.Hasher.Hasher.finish g.S.Hasher.Hasher.write g.S.BuildHasher.build_hasher g.K.Hash.hash_input) c.args.hasher c.start.new.machine.hasher a.1 c.args.setting xs c.replied.new.memory (Computing (ComputesAs g.F.FnOnce c.args.compute)) (reply.Insert c.in-Insert.value) (found_by (g.K.PartialEq.eq c.args.key) xs)
+    (c.shown_at.result, subst (λ o. g.F.FnOnce.post c.args.compute (c.shown_at.result, tt) o) c.in-Insert.is c.compute.ensures, c.shown_at.ensures (g.K.PartialEq.eq c.args.key) xs a.2) c.args.key refl c.replied.result (c.replied.ensures xs computes c.args.key c.in-Ok-Asks.asked a.0 tt))
+
+pub replied-requires-in-Remove : goal.replied-requires-in-Remove
+replied-requires-in-Remove g c =
+    let r = c.requires.holds in
+    let h = c.start.ensures r.0 computes (Some c.args.key) (g.K.PartialEq.eq c.args.key) r.1 (computes_so g.K.PartialEq.eq ((hashed_by g.S.Hasher.Hasher.finish g.S.Hasher.Hasher.write g.S.BuildHasher.build_hasher g.K.Hash.hash_input) c.args.hasher.now) c.args.setting c.args.key _ c.hash_of-hash.ensures _ c.compute-call.ensures) in
+    (r.0, computes, c.args.key, c.in-Ok-Asks.asked, (comes_asking g.K.PartialEq.eq g.K.PartialEq.eq (hashed_by g.S.Hasher.Hasher.finish g.S.Hasher.Hasher.write g.S.BuildHasher.build_hasher g.K.Hash.hash_input) c.args.hasher c.args.setting computes (Some c.args.key) (g.K.PartialEq.eq c.args.key) r.0 c.start.new.machine c.start.new.memory c.start.result h _ _ c.in-Ok-Asks.asked c.in-Ok-Asks.is c.in-Ok-Asks.field-0-is refl).0, tt)
+
+pub returns-in-Ok-replied : goal.returns-in-Ok-replied
+returns-in-Ok-replied g c = λ xs has.
+    let h = c.start.ensures xs computes (Some c.args.key) (g.K.PartialEq.eq c.args.key) has (computes_so g.K.PartialEq.eq ((hashed_by g.S.Hasher.Hasher.finish g.S.Hasher.Hasher.write g.S.BuildHasher.build_hasher g.K.Hash.hash_input) c.args.hasher.now) c.args.setting c.args.key _ c.hash_of-hash.ensures _ c.compute-call.ensures) in
+    let a = comes_asking g.K.PartialEq.eq g.K.PartialEq.eq (hashed_by g.S.Hasher.Hasher.finish g.S.Hasher.Hasher.write g.S.BuildHasher.build_hasher g.K.Hash.hash_input) c.args.hasher c.args.setting computes (Some c.args.key) (g.K.PartialEq.eq c.args.key) xs c.start.new.machine c.start.new.memory c.start.result h _ _ c.in-Ok-Asks.asked c.in-Ok-Asks.is c.in-Ok-Asks.field-0-is refl in
+    subst (ComesTo g.K.PartialEq.eq ((hashed_by g.S.Hasher.Hasher.finish g.S.Hasher.Hasher.write g.S.BuildHasher.build_hasher g.K.Hash.hash_input) c.args.hasher.now) c.args.setting c.replied-in-Remove.new.memory c.args.key xs (Computing (ComputesAs g.F.FnOnce c.args.compute))) c.in-Ok-replied.is (comes_told g.K.PartialEq.eq (hashed_by g.S.Hasher.Hasher.finish g.S.Hasher.Hasher.write g.S.BuildHasher.build_hasher g.K.Hash.hash_input) c.args.hasher c.start.new.machine.hasher a.1 c.args.setting xs c.replied-in-Remove.new.memory (Computing (ComputesAs g.F.FnOnce c.args.compute)) reply.Remove (found_by (g.K.PartialEq.eq c.args.key) xs)
+    (c.shown_at.result, subst (λ o. g.F.FnOnce.post c.args.compute (c.shown_at.result, tt) o) c.in-Remove.is c.compute.ensures, c.shown_at.ensures (g.K.PartialEq.eq c.args.key) xs a.2) c.args.key refl c.replied-in-Remove.result (c.replied-in-Remove.ensures xs computes c.args.key c.in-Ok-Asks.asked a.0 tt))
+
+pub returns-in-Remove : goal.returns-in-Remove
+returns-in-Remove g c = λ xs has.
+    let h = c.start.ensures xs computes (Some c.args.key) (g.K.PartialEq.eq c.args.key) has (computes_so g.K.PartialEq.eq ((hashed_by g.S.Hasher.Hasher.finish g.S.Hasher.Hasher.write g.S.BuildHasher.build_hasher g.K.Hash.hash_input) c.args.hasher.now) c.args.setting c.args.key _ c.hash_of-hash.ensures _ c.compute-call.ensures) in
+    let a = comes_asking g.K.PartialEq.eq g.K.PartialEq.eq (hashed_by g.S.Hasher.Hasher.finish g.S.Hasher.Hasher.write g.S.BuildHasher.build_hasher g.K.Hash.hash_input) c.args.hasher c.args.setting computes (Some c.args.key) (g.K.PartialEq.eq c.args.key) xs c.start.new.machine c.start.new.memory c.start.result h _ _ c.in-Ok-Asks.asked c.in-Ok-Asks.is c.in-Ok-Asks.field-0-is refl in
+    subst (ComesTo g.K.PartialEq.eq ((hashed_by g.S.Hasher.Hasher.finish g.S.Hasher.Hasher.write g.S.BuildHasher.build_hasher g.K.Hash.hash_input) c.args.hasher.now) c.args.setting c.replied-in-Remove.new.memory c.args.key xs (Computing (ComputesAs g.F.FnOnce c.args.compute))) c.in-Err-replied-2.is (comes_told g.K.PartialEq.eq (hashed_by g.S.Hasher.Hasher.finish g.S.Hasher.Hasher.write g.S.BuildHasher.build_hasher g.K.Hash.hash_input) c.args.hasher c.start.new.machine.hasher a.1 c.args.setting xs c.replied-in-Remove.new.memory (Computing (ComputesAs g.F.FnOnce c.args.compute)) reply.Remove (found_by (g.K.PartialEq.eq c.args.key) xs)
+    (c.shown_at.result, subst (λ o. g.F.FnOnce.post c.args.compute (c.shown_at.result, tt) o) c.in-Remove.is c.compute.ensures, c.shown_at.ensures (g.K.PartialEq.eq c.args.key) xs a.2) c.args.key refl c.replied-in-Remove.result (c.replied-in-Remove.ensures xs computes c.args.key c.in-Ok-Asks.asked a.0 tt))
+
+pub replied-requires-in-Abort : goal.replied-requires-in-Abort
+replied-requires-in-Abort g c =
+    let r = c.requires.holds in
+    let h = c.start.ensures r.0 computes (Some c.args.key) (g.K.PartialEq.eq c.args.key) r.1 (computes_so g.K.PartialEq.eq ((hashed_by g.S.Hasher.Hasher.finish g.S.Hasher.Hasher.write g.S.BuildHasher.build_hasher g.K.Hash.hash_input) c.args.hasher.now) c.args.setting c.args.key _ c.hash_of-hash.ensures _ c.compute-call.ensures) in
+    (r.0, computes, c.args.key, c.in-Ok-Asks.asked, (comes_asking g.K.PartialEq.eq g.K.PartialEq.eq (hashed_by g.S.Hasher.Hasher.finish g.S.Hasher.Hasher.write g.S.BuildHasher.build_hasher g.K.Hash.hash_input) c.args.hasher c.args.setting computes (Some c.args.key) (g.K.PartialEq.eq c.args.key) r.0 c.start.new.machine c.start.new.memory c.start.result h _ _ c.in-Ok-Asks.asked c.in-Ok-Asks.is c.in-Ok-Asks.field-0-is refl).0, tt)
+
+pub returns-in-Ok-replied-2 : goal.returns-in-Ok-replied-2
+returns-in-Ok-replied-2 g c = λ xs has.
+    let h = c.start.ensures xs computes (Some c.args.key) (g.K.PartialEq.eq c.args.key) has (computes_so g.K.PartialEq.eq ((hashed_by g.S.Hasher.Hasher.finish g.S.Hasher.Hasher.write g.S.BuildHasher.build_hasher g.K.Hash.hash_input) c.args.hasher.now) c.args.setting c.args.key _ c.hash_of-hash.ensures _ c.compute-call.ensures) in
+    let a = comes_asking g.K.PartialEq.eq g.K.PartialEq.eq (hashed_by g.S.Hasher.Hasher.finish g.S.Hasher.Hasher.write g.S.BuildHasher.build_hasher g.K.Hash.hash_input) c.args.hasher c.args.setting computes (Some c.args.key) (g.K.PartialEq.eq c.args.key) xs c.start.new.machine c.start.new.memory c.start.result h _ _ c.in-Ok-Asks.asked c.in-Ok-Asks.is c.in-Ok-Asks.field-0-is refl in
+    ((c.shown_at.result, subst (λ o. g.F.FnOnce.post c.args.compute (c.shown_at.result, tt) o) c.in-Abort.is c.compute.ensures, c.shown_at.ensures (g.K.PartialEq.eq c.args.key) xs a.2), aborted_holds g.K.PartialEq.eq (hashed_by g.S.Hasher.Hasher.finish g.S.Hasher.Hasher.write g.S.BuildHasher.build_hasher g.K.Hash.hash_input) c.args.hasher c.start.new.machine.hasher a.1 c.args.setting xs c.replied-in-Abort.new.memory c.args.key c.replied-in-Abort.result (c.replied-in-Abort.ensures xs computes c.args.key c.in-Ok-Asks.asked a.0 tt) _ c.in-Ok-replied-2.is)
+
+pub returns-in-Ok-Asks : goal.returns-in-Ok-Asks
+returns-in-Ok-Asks g c = λ xs has.
+    let h = c.start.ensures xs computes (Some c.args.key) (g.K.PartialEq.eq c.args.key) has (computes_so g.K.PartialEq.eq ((hashed_by g.S.Hasher.Hasher.finish g.S.Hasher.Hasher.write g.S.BuildHasher.build_hasher g.K.Hash.hash_input) c.args.hasher.now) c.args.setting c.args.key _ c.hash_of-hash.ensures _ c.compute-call.ensures) in
+    let a = comes_asking g.K.PartialEq.eq g.K.PartialEq.eq (hashed_by g.S.Hasher.Hasher.finish g.S.Hasher.Hasher.write g.S.BuildHasher.build_hasher g.K.Hash.hash_input) c.args.hasher c.args.setting computes (Some c.args.key) (g.K.PartialEq.eq c.args.key) xs c.start.new.machine c.start.new.memory c.start.result h _ _ c.in-Ok-Asks.asked c.in-Ok-Asks.is c.in-Ok-Asks.field-0-is refl in
+    aborted_refused g.K.PartialEq.eq (hashed_by g.S.Hasher.Hasher.finish g.S.Hasher.Hasher.write g.S.BuildHasher.build_hasher g.K.Hash.hash_input) c.args.hasher c.start.new.machine.hasher a.1 c.args.setting xs c.replied-in-Abort.new.memory c.args.key c.replied-in-Abort.result (c.replied-in-Abort.ensures xs computes c.args.key c.in-Ok-Asks.asked a.0 tt) _ c.in-Err-replied-3.is (Computing (ComputesAs g.F.FnOnce c.args.compute))
+
+pub unreachable-requires : goal.unreachable-requires
+unreachable-requires g c =
+    let r = c.requires.holds in
+    let h = c.start.ensures r.0 computes (Some c.args.key) (g.K.PartialEq.eq c.args.key) r.1 (computes_so g.K.PartialEq.eq ((hashed_by g.S.Hasher.Hasher.finish g.S.Hasher.Hasher.write g.S.BuildHasher.build_hasher g.K.Hash.hash_input) c.args.hasher.now) c.args.setting c.args.key _ c.hash_of-hash.ensures _ c.compute-call.ensures) in
+    never_answers g.K.PartialEq.eq ((hashed_by g.S.Hasher.Hasher.finish g.S.Hasher.Hasher.write g.S.BuildHasher.build_hasher g.K.Hash.hash_input) c.args.hasher.now) c.args.setting c.start.new.memory (g.K.PartialEq.eq c.args.key) r.0 (Some c.args.key) _
+    (comes_answered g.K.PartialEq.eq g.K.PartialEq.eq (hashed_by g.S.Hasher.Hasher.finish g.S.Hasher.Hasher.write g.S.BuildHasher.build_hasher g.K.Hash.hash_input) c.args.hasher c.args.setting computes (Some c.args.key) (g.K.PartialEq.eq c.args.key) r.0 c.start.new.machine c.start.new.memory c.start.result h (λ about said. ⊥) (λ e. e refl) (λ y e. e refl) _ _ c.in-Ok-Answered.is c.in-Ok-Answered.field-0-is)
+
+pub key_of-key-requires : goal.key_of-key-requires
+key_of-key-requires g c =
+    let r = c.requires.holds in
+    let h = c.start.ensures r.0 computes (Some c.args.key) (g.K.PartialEq.eq c.args.key) r.1 (computes_so g.K.PartialEq.eq ((hashed_by g.S.Hasher.Hasher.finish g.S.Hasher.Hasher.write g.S.BuildHasher.build_hasher g.K.Hash.hash_input) c.args.hasher.now) c.args.setting c.args.key _ c.hash_of-hash.ensures _ c.compute-call.ensures) in
+    (c.args.key, (comes_refused g.K.PartialEq.eq g.K.PartialEq.eq (hashed_by g.S.Hasher.Hasher.finish g.S.Hasher.Hasher.write g.S.BuildHasher.build_hasher g.K.Hash.hash_input) c.args.hasher c.args.setting computes (Some c.args.key) (g.K.PartialEq.eq c.args.key) r.0 c.start.new.machine c.start.new.memory c.start.result h _ c.in-Err.is).2 c.args.key refl)
+
+pub returns : goal.returns
+returns g c = λ xs has.
+    let h = c.start.ensures xs computes (Some c.args.key) (g.K.PartialEq.eq c.args.key) has (computes_so g.K.PartialEq.eq ((hashed_by g.S.Hasher.Hasher.finish g.S.Hasher.Hasher.write g.S.BuildHasher.build_hasher g.K.Hash.hash_input) c.args.hasher.now) c.args.setting c.args.key _ c.hash_of-hash.ensures _ c.compute-call.ensures) in
+    let r = comes_refused g.K.PartialEq.eq g.K.PartialEq.eq (hashed_by g.S.Hasher.Hasher.finish g.S.Hasher.Hasher.write g.S.BuildHasher.build_hasher g.K.Hash.hash_input) c.args.hasher c.args.setting computes (Some c.args.key) (g.K.PartialEq.eq c.args.key) xs c.start.new.machine c.start.new.memory c.start.result h _ c.in-Err.is in ((inl r.0, r.1), c.key_of-key.ensures c.args.key (r.2 c.args.key refl))

@@ -1,0 +1,99 @@
+//! A call on a key that computes what is to be done with it, run to its end by the one owner.
+ghost use Rattle.std.specs.Prelude.{◌≡◌, ℕ, Bool, List, Option, None, Some, option_map};
+ghost use Rattle.papaya_asks.specs.Closures.{ComputesAs, ComputesTo};
+ghost use Rattle.papaya_owned.specs.Owned.{Holds, IsWordOf, found_by, hashed_by};
+
+use crate::asking::{key_of, start};
+use crate::refused::RefusedKey;
+use crate::updates::replied;
+use papaya_owned::{OnKey, Stop, pair_at};
+use papaya_raw::machines::{KeyAnswer, KeyCall, Reply};
+use papaya_tables::{Hashes, Node, Setting};
+use seize_words::Plain;
+use std::hash::{BuildHasher, Hash};
+
+/// What a computing gives, by the pair that is there, or where there is none.
+#[derive(Drop)]
+pub enum Operation<V, T> {
+    /// This value is to be stored.
+    Insert(V),
+    /// The pair is to be removed.
+    Remove,
+    /// Nothing is to change.
+    Abort(T),
+}
+
+/// What a computing has come to.
+#[derive(Drop)]
+pub enum Computed<T> {
+    /// A pair was stored, replaced or removed, as this answer says.
+    Changed(KeyAnswer),
+    /// Nothing has changed.
+    Aborted(T),
+}
+
+/// The pair of a word, if there is one.
+fn shown_at<K, V>(memory: &Plain<Node<K, V>>, word: Option<u64>) -> Option<(&K, &V)>
+    requires { (keys : K → Bool) × (xs : List (K × V)) × IsWordOf keys memory.now xs word }
+    ensures { (keys : K → Bool) (xs : List (K × V)) → IsWordOf keys memory.now xs word → option_map (λ x. (x.0.now, x.1.now)) result ≡ found_by keys xs }
+{
+    match word {
+        Some(word) => Some(pair_at(memory, word)),
+        None => None,
+    }
+}
+
+/// Stores a value for a key, removes its pair, or leaves it, as a computing says. That is called with the pair that is there, or with none. Where it says that the
+/// pair is to be removed that is not there, the call is refused.
+pub fn compute<
+    K: Eq + Hash + Drop,
+    V: Drop,
+    S: BuildHasher,
+    T: Drop,
+    F: FnOnce(Option<(&K, &V)>) -> Operation<V, T>,
+>(
+    memory: &mut Plain<Node<K, V>>,
+    setting: Setting,
+    hasher: &S,
+    key: K,
+    compute: F,
+) -> Result<Computed<T>, RefusedKey<K>>
+    requires callable { F.IsAlwaysCallable compute }
+    requires holds { (xs : List (K × V)) × Holds K.eq (hashed_by S.Hasher.finish S.Hasher.write S.build_hasher K.hash_input hasher.now) setting memory.old xs }
+    ensures { (xs : List (K × V)) → Holds K.eq (hashed_by S.Hasher.finish S.Hasher.write S.build_hasher K.hash_input hasher.now) setting memory.old xs
+        → ComputesTo K.eq (hashed_by S.Hasher.finish S.Hasher.write S.build_hasher K.hash_input hasher.now) setting memory.new key xs (ComputesAs F.FnOnce compute) result }
+{
+    let hash = hasher.hash_of(&key);
+    let call = KeyCall::compute(setting, hash, key);
+    let mut machine: OnKey<'_, K, V, K, S> = OnKey {
+        call,
+        hasher,
+        unstored: None,
+    };
+    match start(memory, setting, &mut machine) {
+        Ok(Stop::Asks(asked)) => match compute(shown_at(memory, asked)) {
+            Operation::Insert(value) => match replied(
+                memory,
+                setting,
+                &mut machine,
+                Reply::Insert(value),
+            ) {
+                Ok(answer) => Ok(Computed::Changed(answer)),
+                Err(refused) => Err(refused),
+            },
+            Operation::Remove => match replied(memory, setting, &mut machine, Reply::Remove) {
+                Ok(answer) => Ok(Computed::Changed(answer)),
+                Err(refused) => Err(refused),
+            },
+            Operation::Abort(end) => match replied(memory, setting, &mut machine, Reply::Abort) {
+                Ok(_) => Ok(Computed::Aborted(end)),
+                Err(refused) => Err(refused),
+            },
+        },
+        Ok(Stop::Answered(_)) => unreachable!(),
+        Err(fault) => {
+            let key = key_of(&mut machine);
+            Err(RefusedKey { fault, key })
+        }
+    }
+}

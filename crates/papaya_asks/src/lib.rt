@@ -1,0 +1,14 @@
+//! Calls on a key that go by closures, and removals by whatever stands for a key, run to their ends by the one owner of a memory.
+#![tactic(auto)]
+
+mod asking;
+mod computing;
+mod lent;
+mod refused;
+mod removals;
+mod updates;
+
+pub use computing::{Computed, Operation, compute};
+pub use refused::{RefusedKey, RefusedPair};
+pub use removals::{remove, remove_if};
+pub use updates::{insert_with, update, update_or_insert, update_or_insert_with};

@@ -1,0 +1,91 @@
+//! Removals of the pair of a key, which is asked for by whatever is equivalent to it. Each is run to its end by the one owner.
+ghost use Rattle.std.specs.Prelude.{◌≡◌, List, None, if◌then◌else◌};
+ghost use Rattle.papaya_raw.specs.declared.machines.asking.Reply.TheVariants as replies;
+ghost use Rattle.papaya_callers.specs.Kind.{removes};
+ghost use Rattle.papaya_asks.specs.Asking.{EndsAs};
+ghost use Rattle.papaya_asks.specs.Closures.{TestsAs, Removing};
+ghost use Rattle.papaya_owned.specs.Owned.{Holds, EndsBy, hashed_by};
+
+use crate::asking::{finish, start};
+use crate::lent::Lent;
+use papaya_owned::{OnKey, Stop, pair_at, run};
+use papaya_raw::machines::{KeyAnswer, KeyCall, Reply};
+use papaya_tables::{Equivalent, Hashes, Node, Setting};
+use seize_words::{Fault, Plain};
+use std::hash::{BuildHasher, Hash};
+use std::marker::PhantomData;
+
+/// Removes the pair of a key.
+pub fn remove<K: Eq + Hash + Drop, V: Drop, Q: Equivalent<K>, S: BuildHasher>(
+    memory: &mut Plain<Node<K, V>>,
+    setting: Setting,
+    hasher: &S,
+    asked: &Q,
+) -> Result<Stop, Fault>
+    requires { (xs : List (K × V)) × Holds K.eq (hashed_by S.Hasher.finish S.Hasher.write S.build_hasher K.hash_input hasher.now) setting memory.old xs }
+    ensures { (xs : List (K × V)) → Holds K.eq (hashed_by S.Hasher.finish S.Hasher.write S.build_hasher K.hash_input hasher.now) setting memory.old xs
+        → EndsBy K.eq (hashed_by S.Hasher.finish S.Hasher.write S.build_hasher K.hash_input hasher.now) setting memory.new removes None (Q.Equivalent.equivalent asked.now) xs result }
+{
+    let hash = hasher.hash_of(asked);
+    let lent = Lent {
+        asked,
+        keys: PhantomData,
+    };
+    let call = KeyCall::remove(setting, hash, lent);
+    let mut machine: OnKey<'_, K, V, Lent<'_, K, Q>, S> = OnKey {
+        call,
+        hasher,
+        unstored: None,
+    };
+    run(&mut machine, memory)
+}
+
+/// A choice, as a reply.
+fn chosen<V>(yes: bool) -> Reply<V>
+    ensures { result ≡ (if yes then replies.Yes else replies.No) }
+{
+    if yes { Reply::Yes } else { Reply::No }
+}
+
+/// Removes the pair of a key, if a test of it answers yes. The test is called where the key is there, and else not at all.
+pub fn remove_if<
+    K: Eq + Hash + Drop,
+    V: Drop,
+    Q: Equivalent<K>,
+    S: BuildHasher,
+    F: FnOnce(&K, &V) -> bool,
+>(
+    memory: &mut Plain<Node<K, V>>,
+    setting: Setting,
+    hasher: &S,
+    asked: &Q,
+    test: F,
+) -> Result<KeyAnswer, Fault>
+    requires callable { F.IsAlwaysCallable test }
+    requires holds { (xs : List (K × V)) × Holds K.eq (hashed_by S.Hasher.finish S.Hasher.write S.build_hasher K.hash_input hasher.now) setting memory.old xs }
+    ensures { (xs : List (K × V)) → Holds K.eq (hashed_by S.Hasher.finish S.Hasher.write S.build_hasher K.hash_input hasher.now) setting memory.old xs
+        → EndsAs K.eq (hashed_by S.Hasher.finish S.Hasher.write S.build_hasher K.hash_input hasher.now) setting memory.new (Q.Equivalent.equivalent asked.now) xs None (Removing (TestsAs F.FnOnce test)) result }
+{
+    let hash = hasher.hash_of(asked);
+    let lent = Lent {
+        asked,
+        keys: PhantomData,
+    };
+    let call = KeyCall::remove_if(setting, hash, lent);
+    let mut machine: OnKey<'_, K, V, Lent<'_, K, Q>, S> = OnKey {
+        call,
+        hasher,
+        unstored: None,
+    };
+    match start(memory, setting, &mut machine) {
+        Ok(Stop::Answered(answer)) => Ok(answer),
+        Ok(Stop::Asks(Some(word))) => {
+            let (key, value) = pair_at(memory, word);
+            let yes = test(key, value);
+            let reply = chosen(yes);
+            finish(memory, setting, &mut machine, reply)
+        }
+        Ok(Stop::Asks(None)) => unreachable!(),
+        Err(fault) => Err(fault),
+    }
+}

@@ -1,0 +1,216 @@
+//! Calls on a key that update the value that is there, or store one where there is none, by closures. Each is run to its end by the one owner.
+ghost use Rattle.std.specs.Prelude.{◌≡◌, ℕ, Bool, List, Option, None, Some, IfOk, IfErr, Ok, Err};
+ghost use Rattle.std.specs.Fn.{FnOnceReturns, FnOnceReturnsAt};
+ghost use Rattle.papaya_callers.specs.Kind.{Kind};
+ghost use Rattle.papaya_asks.specs.Asking.{IsTaken, Pauses, ToldThis};
+ghost use Rattle.papaya_asks.specs.Closures.{ComesTo, ComesToWith, Updating, UpdatingOrStoring, Storing};
+ghost use Rattle.papaya_owned.specs.Owned.{Holds, hashed_by};
+ghost use Rattle.papaya_raw.specs.declared.machines.asking.Reply.TheVariants as replies;
+ghost use Rattle.papaya_raw.specs.declared.machines.asking.Takes.TheVariants as takes;
+
+use crate::asking::{finish, key_of, pair_of, start};
+use crate::refused::{RefusedKey, RefusedPair};
+use papaya_owned::{OnKey, Stop, pair_at};
+use papaya_raw::machines::{KeyAnswer, KeyCall, Reply};
+use papaya_tables::{Hashes, Node, Setting};
+use seize_words::{Fault, Plain};
+use std::hash::{BuildHasher, Hash};
+
+/// Tells a call what it has asked, and runs it to its end.
+pub(crate) fn replied<K: Eq + Hash + Drop, V: Drop, S: Hashes<K>>(
+    memory: &mut Plain<Node<K, V>>,
+    setting: Setting,
+    machine: &mut OnKey<'_, K, V, K, S>,
+    reply: Reply<V>,
+) -> Result<KeyAnswer, RefusedKey<K>>
+    requires { (xs : List (K × V)) × (kind : Kind) × (key : K) × (asked : Option ℕ)
+        × Pauses K.eq K.eq S.hash setting kind (Some key) (K.eq key) xs machine.old memory.old asked × IsTaken kind.takes asked reply }
+    ensures { (xs : List (K × V)) (kind : Kind) (key : K) (asked : Option ℕ) → Pauses K.eq K.eq S.hash setting kind (Some key) (K.eq key) xs machine.old memory.old asked → IsTaken kind.takes asked reply
+        → ComesTo K.eq (S.hash machine.old.hasher.now) setting memory.new key xs (ToldThis (K.eq key) xs reply) result }
+{
+    match finish(memory, setting, machine, reply) {
+        Ok(answer) => Ok(answer),
+        Err(fault) => {
+            let key = key_of(machine);
+            Err(RefusedKey { fault, key })
+        }
+    }
+}
+
+/// Replaces the value of a key by one that is made of it, if the key is there. The closure is called where it is, and else not at all.
+pub fn update<K: Eq + Hash + Drop, V: Drop, S: BuildHasher, F: FnOnce(&V) -> V>(
+    memory: &mut Plain<Node<K, V>>,
+    setting: Setting,
+    hasher: &S,
+    key: K,
+    make: F,
+) -> Result<KeyAnswer, RefusedKey<K>>
+    requires callable { F.IsAlwaysCallable make }
+    requires holds { (xs : List (K × V)) × Holds K.eq (hashed_by S.Hasher.finish S.Hasher.write S.build_hasher K.hash_input hasher.now) setting memory.old xs }
+    ensures { (xs : List (K × V)) → Holds K.eq (hashed_by S.Hasher.finish S.Hasher.write S.build_hasher K.hash_input hasher.now) setting memory.old xs
+        → ComesTo K.eq (hashed_by S.Hasher.finish S.Hasher.write S.build_hasher K.hash_input hasher.now) setting memory.new key xs (Updating (FnOnceReturnsAt F.FnOnce make)) result }
+{
+    let hash = hasher.hash_of(&key);
+    let call = KeyCall::update(setting, hash, key);
+    let mut machine: OnKey<'_, K, V, K, S> = OnKey {
+        call,
+        hasher,
+        unstored: None,
+    };
+    match start(memory, setting, &mut machine) {
+        Ok(Stop::Answered(answer)) => Ok(answer),
+        Ok(Stop::Asks(Some(word))) => {
+            let value = make(pair_at(memory, word).1);
+            replied(memory, setting, &mut machine, Reply::Insert(value))
+        }
+        Ok(Stop::Asks(None)) => unreachable!(),
+        Err(fault) => {
+            let key = key_of(&mut machine);
+            Err(RefusedKey { fault, key })
+        }
+    }
+}
+
+/// Replaces the value of a key by one that is made of it, if the key is there, and else stores one that is begun. The closure that is called is the one of the two.
+pub fn update_or_insert_with<
+    K: Eq + Hash + Drop,
+    V: Drop,
+    S: BuildHasher,
+    B: FnOnce() -> V,
+    F: FnOnce(&V) -> V,
+>(
+    memory: &mut Plain<Node<K, V>>,
+    setting: Setting,
+    hasher: &S,
+    key: K,
+    begin: B,
+    make: F,
+) -> Result<KeyAnswer, RefusedKey<K>>
+    requires begins { B.IsAlwaysCallable begin }
+    requires makes { F.IsAlwaysCallable make }
+    requires holds { (xs : List (K × V)) × Holds K.eq (hashed_by S.Hasher.finish S.Hasher.write S.build_hasher K.hash_input hasher.now) setting memory.old xs }
+    ensures { (xs : List (K × V)) → Holds K.eq (hashed_by S.Hasher.finish S.Hasher.write S.build_hasher K.hash_input hasher.now) setting memory.old xs
+        → ComesTo K.eq (hashed_by S.Hasher.finish S.Hasher.write S.build_hasher K.hash_input hasher.now) setting memory.new key xs
+        (UpdatingOrStoring (FnOnceReturnsAt F.FnOnce make) (λ value. FnOnceReturns B.FnOnce begin tt value)) result }
+{
+    let hash = hasher.hash_of(&key);
+    let call = KeyCall::update_or_insert_with(setting, hash, key);
+    let mut machine: OnKey<'_, K, V, K, S> = OnKey {
+        call,
+        hasher,
+        unstored: None,
+    };
+    match start(memory, setting, &mut machine) {
+        Ok(Stop::Answered(answer)) => Ok(answer),
+        Ok(Stop::Asks(Some(word))) => {
+            let value = make(pair_at(memory, word).1);
+            replied(memory, setting, &mut machine, Reply::Insert(value))
+        }
+        Ok(Stop::Asks(None)) => {
+            let value = begin();
+            replied(memory, setting, &mut machine, Reply::Insert(value))
+        }
+        Err(fault) => {
+            let key = key_of(&mut machine);
+            Err(RefusedKey { fault, key })
+        }
+    }
+}
+
+/// Replaces the value of a key by one that is made of it, if the key is there, and else stores this one. The closure is called where the key is there, and else
+/// not at all. This value comes back where the call is refused.
+pub fn update_or_insert<K: Eq + Hash + Drop, V: Drop, S: BuildHasher, F: FnOnce(&V) -> V>(
+    memory: &mut Plain<Node<K, V>>,
+    setting: Setting,
+    hasher: &S,
+    key: K,
+    value: V,
+    make: F,
+) -> Result<KeyAnswer, RefusedPair<K, V>>
+    requires callable { F.IsAlwaysCallable make }
+    requires holds { (xs : List (K × V)) × Holds K.eq (hashed_by S.Hasher.finish S.Hasher.write S.build_hasher K.hash_input hasher.now) setting memory.old xs }
+    ensures { (xs : List (K × V)) → Holds K.eq (hashed_by S.Hasher.finish S.Hasher.write S.build_hasher K.hash_input hasher.now) setting memory.old xs
+        → ComesToWith K.eq (hashed_by S.Hasher.finish S.Hasher.write S.build_hasher K.hash_input hasher.now) setting memory.new key xs value
+        (UpdatingOrStoring (FnOnceReturnsAt F.FnOnce make) (λ new. new ≡ value)) result }
+{
+    let hash = hasher.hash_of(&key);
+    let call = KeyCall::update_or_insert_with(setting, hash, key);
+    let mut machine: OnKey<'_, K, V, K, S> = OnKey {
+        call,
+        hasher,
+        unstored: None,
+    };
+    match start(memory, setting, &mut machine) {
+        Ok(Stop::Answered(answer)) => Ok(answer),
+        Ok(Stop::Asks(Some(word))) => {
+            let new = make(pair_at(memory, word).1);
+            match replied(memory, setting, &mut machine, Reply::Insert(new)) {
+                Ok(answer) => Ok(answer),
+                Err(refused) => Err(RefusedPair {
+                    fault: refused.fault,
+                    key: refused.key,
+                    value,
+                }),
+            }
+        }
+        Ok(Stop::Asks(None)) => stored(memory, setting, &mut machine, value),
+        Err(fault) => {
+            let key = key_of(&mut machine);
+            Err(RefusedPair { fault, key, value })
+        }
+    }
+}
+
+/// Tells a call to store a value where its key is missing, and runs it to its end.
+fn stored<K: Eq + Hash + Drop, V: Drop, S: Hashes<K>>(
+    memory: &mut Plain<Node<K, V>>,
+    setting: Setting,
+    machine: &mut OnKey<'_, K, V, K, S>,
+    value: V,
+) -> Result<KeyAnswer, RefusedPair<K, V>>
+    requires { (xs : List (K × V)) × (kind : Kind) × (key : K) × Pauses K.eq K.eq S.hash setting kind (Some key) (K.eq key) xs machine.old memory.old None × (kind.takes ≡ takes.Values) }
+    ensures { (xs : List (K × V)) (kind : Kind) (key : K) → Pauses K.eq K.eq S.hash setting kind (Some key) (K.eq key) xs machine.old memory.old None → kind.takes ≡ takes.Values
+        → ComesToWith K.eq (S.hash machine.old.hasher.now) setting memory.new key xs value (ToldThis (K.eq key) xs (replies.Insert value)) result }
+{
+    match finish(memory, setting, machine, Reply::Insert(value)) {
+        Ok(answer) => Ok(answer),
+        Err(fault) => {
+            let (key, value) = pair_of(machine);
+            Err(RefusedPair { fault, key, value })
+        }
+    }
+}
+
+/// Stores a value that is begun, if its key is not there yet. The closure is called where it is not, and else not at all.
+pub fn insert_with<K: Eq + Hash + Drop, V: Drop, S: BuildHasher, B: FnOnce() -> V>(
+    memory: &mut Plain<Node<K, V>>,
+    setting: Setting,
+    hasher: &S,
+    key: K,
+    begin: B,
+) -> Result<KeyAnswer, RefusedKey<K>>
+    requires callable { B.IsAlwaysCallable begin }
+    requires holds { (xs : List (K × V)) × Holds K.eq (hashed_by S.Hasher.finish S.Hasher.write S.build_hasher K.hash_input hasher.now) setting memory.old xs }
+    ensures { (xs : List (K × V)) → Holds K.eq (hashed_by S.Hasher.finish S.Hasher.write S.build_hasher K.hash_input hasher.now) setting memory.old xs
+        → ComesTo K.eq (hashed_by S.Hasher.finish S.Hasher.write S.build_hasher K.hash_input hasher.now) setting memory.new key xs (Storing (λ value. FnOnceReturns B.FnOnce begin tt value)) result }
+{
+    let hash = hasher.hash_of(&key);
+    let call = KeyCall::try_insert_with(setting, hash, key);
+    let mut machine: OnKey<'_, K, V, K, S> = OnKey {
+        call,
+        hasher,
+        unstored: None,
+    };
+    match start(memory, setting, &mut machine) {
+        Ok(Stop::Answered(answer)) => Ok(answer),
+        Ok(Stop::Asks(Some(_))) => unreachable!(),
+        Ok(Stop::Asks(None)) => {
+            let value = begin();
+            replied(memory, setting, &mut machine, Reply::Insert(value))
+        }
+        Err(fault) => {
+            let key = key_of(&mut machine);
+            Err(RefusedKey { fault, key })
+        }
+    }
+}
