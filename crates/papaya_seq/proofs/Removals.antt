@@ -27,7 +27,7 @@ use Rattle.papaya_owned.specs.declared.machines.Refreshes.{Refreshes}
 use Rattle.papaya_owned.specs.declared.machines.Stop.{Stop}
 use Rattle.papaya_owned.specs.declared.machines.Stop.TheVariants as stop
 use Rattle.papaya_raw.specs.declared.machines.answer.KeyAnswer.TheVariants as answers
-use Rattle.papaya_seq.specs.Maps.{has_removed}
+use Rattle.papaya_seq.specs.Calls.{has_removed}
 use Rattle.papaya_owned.proofs.Owned.Calls.{UnderIt, begins_under, ends_by}
 use Rattle.papaya_owned.proofs.Owned.Keys.{under_ends, comes_to}
 use Rattle.papaya_owned.proofs.Owned.Refreshes.{refreshing_ends, refreshed, begins_refreshing}

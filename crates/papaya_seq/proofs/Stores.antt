@@ -24,7 +24,7 @@ use Rattle.papaya_owned.proofs.Owned.Calls.{UnderIt, begins_under, ends_by}
 use Rattle.papaya_owned.proofs.Owned.ComesBack.{comes_back}
 use Rattle.papaya_owned.proofs.Owned.HandsBack.{HasPair}
 use Rattle.papaya_owned.proofs.Owned.Keys.{under_ends, comes_to}
-use Rattle.papaya_seq.specs.Maps.{StoresPair, has_found, has_replaced}
+use Rattle.papaya_seq.specs.Calls.{StoresPair, has_found, has_replaced}
 use Rattle.papaya_seq.proofs.Removals.{left_none}
 
 module _ {K V S : Type 0} (same : K → K → Bool) (hashes : S → K → ℕ) (b : Bor S) (setting : Setting) (m : Mem (Node K V)) (xs : List (K × V)) (h : Holds same (hashes b.now) setting m xs) (key : K) (value : V) where

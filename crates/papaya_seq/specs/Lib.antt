@@ -1,2 +1,4 @@
+pub mod Calls
 pub mod Keeping
 pub mod Maps
+pub mod Orders

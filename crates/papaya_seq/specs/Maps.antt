@@ -1,35 +1,7 @@
--- A map of one owner, and its pairs as a list.
-use Rattle.std.specs.Prelude.{◌≡◌, ℕ, Bool, true, false, List, ◌⊎◌}
-use Rattle.papaya_tables.specs.declared.setting.Setting.{Setting}
-use Rattle.papaya_raw.specs.CallPoints.{inserting, trying_to_insert}
-use Rattle.papaya_raw.specs.declared.machines.call.KeyCall.{KeyCall}
-use Rattle.papaya_callers.specs.Kind.{Kind, inserts, tries_to_insert}
-use Rattle.papaya_raw.specs.declared.machines.answer.KeyAnswer.TheVariants as answers
-use Rattle.papaya_owned.specs.Owned.{Holds}
-use Rattle.papaya_owned.specs.declared.machines.Stop.{Stop}
-use Rattle.papaya_owned.specs.declared.machines.Stop.TheVariants as stop
-use Rattle.papaya_seq.specs.declared.map.HashMap.{HashMap}
+-- A map for one owner, as its callers see it.
+use Rattle.std.specs.Prelude.{List}
 
--- The map has these pairs, in the order in which they were stored. Keys are compared so, and a hasher hashes them so.
-abbrev pub HasPairs : {K V S : Type 0} → (K → K → Bool) → (S → K → ℕ) → HashMap K V S → List (K × V) → Type 0
-HasPairs same hashes map xs = Holds same (hashes map.hasher) map.setting map.memory xs
-
--- a call on one key has removed a pair
-abbrev pub has_removed : Stop → Bool
-has_removed (stop.Answered (answers.Removed word)) = true
-has_removed _ = false
-
--- a call on one key has replaced a pair
-abbrev pub has_replaced : Stop → Bool
-has_replaced (stop.Answered (answers.Replaced old new)) = true
-has_replaced _ = false
-
--- a call on one key has found a pair, and left it
-abbrev pub has_found : Stop → Bool
-has_found (stop.Answered (answers.Found word)) = true
-has_found _ = false
-
--- A call of this kind was begun that may store this pair, also in the place of another one, or only where there is none.
-abbrev pub StoresPair : {K V Q : Type 0} → (K → ℕ) → Setting → K → V → Kind → KeyCall K V Q → Type 0
-StoresPair hash setting key value kind call =
-    ((kind ≡ inserts) × (call ≡ inserting setting (hash key) key value)) ⊎ ((kind ≡ tries_to_insert) × (call ≡ trying_to_insert setting (hash key) key value))
+-- The value of a map: its pairs, and its hasher. Pairs in another order are the same map: no call tells of the order but a walk.
+pub record Map (K V S : Type 0) : Type 0 where
+  pub pairs : List (K × V)
+  pub hasher : S

@@ -1,9 +1,10 @@
 //! Removals from a map for one owner. Each change begins with a refresh.
 ghost use Rattle.std.specs.Prelude.{◌≡◌, List, None, is_some, IfErr, IfOk, OnOk, OnErr};
+ghost use Rattle.std.specs.List.Sorted.{IsPermutation};
 ghost use Rattle.papaya_callers.specs.Kind.{removes};
 ghost use Rattle.papaya_late.specs.Faults.{IsRoom};
-ghost use Rattle.papaya_seq.specs.Maps.{HasPairs, has_removed};
 ghost use Rattle.papaya_owned.specs.Owned.{Holds, EndsBy, found_by, hashed_by, left_by};
+ghost use Rattle.papaya_seq.specs.Calls.{has_removed};
 
 use crate::map::HashMap;
 use papaya_owned::{OnKey, Refreshes, Stop, run};
@@ -56,22 +57,43 @@ fn removed(stop: Stop) -> bool
     matches!(stop, Stop::Answered(KeyAnswer::Removed(_)))
 }
 
+/// Removes the pair of a key, after a refresh, and answers whether there was one.
+fn remove<K: Eq + Hash + Drop, V: Drop, S: BuildHasher>(
+    memory: &mut Plain<Node<K, V>>,
+    setting: Setting,
+    hasher: &S,
+    key: K,
+) -> Result<bool, Fault>
+    requires { (xs : List (K × V)) × Holds K.eq (hashed_by S.Hasher.finish S.Hasher.write S.build_hasher K.hash_input hasher.now) setting memory.old xs }
+    ensures some { (xs : List (K × V)) → Holds K.eq (hashed_by S.Hasher.finish S.Hasher.write S.build_hasher K.hash_input hasher.now) setting memory.old xs → IfOk result (λ was. was ≡ is_some (found_by (K.eq key) xs)) }
+    ensures removed { (xs : List (K × V)) → Holds K.eq (hashed_by S.Hasher.finish S.Hasher.write S.build_hasher K.hash_input hasher.now) setting memory.old xs
+        → OnOk result (Holds K.eq (hashed_by S.Hasher.finish S.Hasher.write S.build_hasher K.hash_input hasher.now) setting memory.new (left_by (K.eq key) xs)) }
+    ensures refused { (xs : List (K × V)) → Holds K.eq (hashed_by S.Hasher.finish S.Hasher.write S.build_hasher K.hash_input hasher.now) setting memory.old xs
+        → OnErr result (Holds K.eq (hashed_by S.Hasher.finish S.Hasher.write S.build_hasher K.hash_input hasher.now) setting memory.new xs) }
+    ensures fault { IfErr result IsRoom }
+{
+    refresh(memory, setting, hasher);
+    match take(memory, setting, hasher, key) {
+        Ok(stop) => Ok(removed(stop)),
+        Err(fault) => Err(fault),
+    }
+}
+
 impl<K: Eq + Hash + Drop, V: Drop, S: BuildHasher> HashMap<K, V, S> {
     /// Removes the pair of a key, and answers whether there was one. The faults are `Fault::Capacity` and
     /// `Fault::Memory`; then no pair has changed.
     pub fn remove(&mut self, key: K) -> Result<bool, Fault>
-        requires { (xs : List (K × V)) × HasPairs K.eq (hashed_by S.Hasher.finish S.Hasher.write S.build_hasher K.hash_input) self.old xs }
-        ensures some { (xs : List (K × V)) → HasPairs K.eq (hashed_by S.Hasher.finish S.Hasher.write S.build_hasher K.hash_input) self.old xs → IfOk result (λ was. was ≡ is_some (found_by (K.eq key) xs)) }
-        ensures removed { (xs : List (K × V)) → HasPairs K.eq (hashed_by S.Hasher.finish S.Hasher.write S.build_hasher K.hash_input) self.old xs
-            → OnOk result (HasPairs K.eq (hashed_by S.Hasher.finish S.Hasher.write S.build_hasher K.hash_input) self.new (left_by (K.eq key) xs)) }
-        ensures refused { (xs : List (K × V)) → HasPairs K.eq (hashed_by S.Hasher.finish S.Hasher.write S.build_hasher K.hash_input) self.old xs
-            → OnErr result (HasPairs K.eq (hashed_by S.Hasher.finish S.Hasher.write S.build_hasher K.hash_input) self.new xs) }
+        ensures some { IfOk result (λ was. was ≡ is_some (found_by (K.eq key) self.old.pairs)) }
+        ensures removed { OnOk result (IsPermutation self.new.pairs (left_by (K.eq key) self.old.pairs)) }
+        ensures refused { OnErr result (IsPermutation self.new.pairs self.old.pairs) }
         ensures fault { IfErr result IsRoom }
+        ensures hasher { self.new.hasher ≡ self.old.hasher }
     {
-        refresh(&mut self.memory, self.setting, &self.hasher);
-        match take(&mut self.memory, self.setting, &self.hasher, key) {
-            Ok(stop) => Ok(removed(stop)),
-            Err(fault) => Err(fault),
-        }
+        remove(
+            &mut self.resting.memory,
+            self.resting.setting,
+            &self.hasher,
+            key,
+        )
     }
 }

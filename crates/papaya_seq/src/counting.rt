@@ -1,28 +1,44 @@
 //! How many pairs a map for one owner has.
 ghost use Rattle.std.specs.Prelude.{◌≡◌, ◌==◌, List, length};
-ghost use Rattle.papaya_owned.specs.Owned.{hashed_by};
-ghost use Rattle.papaya_seq.specs.Maps.{HasPairs};
+ghost use Rattle.std.specs.List.{IsDistinct};
+ghost use Rattle.std.specs.Map.{keys_of};
+ghost use Rattle.papaya_owned.specs.Owned.{Holds, hashed_by};
 
 use crate::map::HashMap;
-use papaya_tables::Counter;
-use seize_words::{At, Look};
+use papaya_tables::{Counter, Node, Setting};
+use seize_words::{At, Look, Plain};
 use std::hash::{BuildHasher, Hash};
 
+/// How many pairs a map in this memory has.
+pub(crate) fn count<K: Eq + Hash, V, S: BuildHasher>(
+    memory: &Plain<Node<K, V>>,
+    setting: Setting,
+    _hasher: &S,
+) -> u64
+    requires { (xs : List (K × V)) × Holds K.eq (hashed_by S.Hasher.finish S.Hasher.write S.build_hasher K.hash_input _hasher.now) setting memory.now xs }
+    ensures { (xs : List (K × V)) → Holds K.eq (hashed_by S.Hasher.finish S.Hasher.write S.build_hasher K.hash_input _hasher.now) setting memory.now xs → result ≡ length xs }
+{
+    let mut look = memory.look();
+    let total = look.load(At::Word(setting.counter, 0));
+    Counter::read(total)
+}
+
 impl<K: Eq + Hash, V, S: BuildHasher> HashMap<K, V, S> {
-    /// How many pairs it has.
+    /// How many pairs it has. No two of them have equal keys.
     pub fn len(&self) -> u64
-        requires { (xs : List (K × V)) × HasPairs K.eq (hashed_by S.Hasher.finish S.Hasher.write S.build_hasher K.hash_input) self.now xs }
-        ensures { (xs : List (K × V)) → HasPairs K.eq (hashed_by S.Hasher.finish S.Hasher.write S.build_hasher K.hash_input) self.now xs → result ≡ length xs }
+        ensures len { result ≡ length self.now.pairs }
+        ensures apart { IsDistinct K.eq (keys_of self.now.pairs) }
     {
-        let mut look = self.memory.look();
-        let total = look.load(At::Word(self.setting.counter, 0));
-        Counter::read(total)
+        count(
+            &self.resting.memory,
+            self.resting.setting,
+            &self.hasher,
+        )
     }
 
     /// Whether it has no pair.
     pub fn is_empty(&self) -> bool
-        requires { (xs : List (K × V)) × HasPairs K.eq (hashed_by S.Hasher.finish S.Hasher.write S.build_hasher K.hash_input) self.now xs }
-        ensures { (xs : List (K × V)) → HasPairs K.eq (hashed_by S.Hasher.finish S.Hasher.write S.build_hasher K.hash_input) self.now xs → result ≡ (length xs == 0) }
+        ensures { result ≡ (length self.now.pairs == 0) }
     {
         self.len() == 0
     }

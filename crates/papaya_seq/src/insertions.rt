@@ -1,10 +1,11 @@
 //! Insertions into a map for one owner. Each begins with a refresh.
 ghost use Rattle.std.specs.Prelude.{◌≡◌, true, false, List, [], ◌∷◌, ◌++◌, None, Some, is_some, IsTrue, IfOk, IfErr, OnOk, OnErr};
+ghost use Rattle.std.specs.List.Sorted.{IsPermutation};
 ghost use Rattle.papaya_callers.specs.Kind.{Kind};
 ghost use Rattle.papaya_late.specs.Faults.{IsRoom};
 ghost use Rattle.papaya_tables.specs.declared.node.Node.TheVariants as node;
 ghost use Rattle.papaya_owned.specs.Owned.{Holds, EndsBy, ComesBack, found_by, hashed_by, left_by};
-ghost use Rattle.papaya_seq.specs.Maps.{HasPairs, StoresPair, has_found, has_replaced};
+ghost use Rattle.papaya_seq.specs.Calls.{StoresPair, has_found, has_replaced};
 
 use crate::changes::refresh;
 use crate::map::HashMap;
@@ -80,48 +81,97 @@ fn tried<K: Drop, V: Drop>(stop: Stop, back: Option<Node<K, V>>) -> Result<(), V
     }
 }
 
+/// Stores a pair, after a refresh, also in the place of another one of its key, and answers whether there was one.
+fn insert<K: Eq + Hash + Drop, V: Drop, S: BuildHasher>(
+    memory: &mut Plain<Node<K, V>>,
+    setting: Setting,
+    hasher: &S,
+    key: K,
+    value: V,
+) -> Result<bool, Refused<K, V>>
+    requires { (xs : List (K × V)) × Holds K.eq (hashed_by S.Hasher.finish S.Hasher.write S.build_hasher K.hash_input hasher.now) setting memory.old xs }
+    ensures some { (xs : List (K × V)) → Holds K.eq (hashed_by S.Hasher.finish S.Hasher.write S.build_hasher K.hash_input hasher.now) setting memory.old xs → IfOk result (λ was. was ≡ is_some (found_by (K.eq key) xs)) }
+    ensures stored { (xs : List (K × V)) → Holds K.eq (hashed_by S.Hasher.finish S.Hasher.write S.build_hasher K.hash_input hasher.now) setting memory.old xs
+        → OnOk result (Holds K.eq (hashed_by S.Hasher.finish S.Hasher.write S.build_hasher K.hash_input hasher.now) setting memory.new (left_by (K.eq key) xs ++ ((key, value) ∷ []))) }
+    ensures refused { (xs : List (K × V)) → Holds K.eq (hashed_by S.Hasher.finish S.Hasher.write S.build_hasher K.hash_input hasher.now) setting memory.old xs
+        → OnErr result (Holds K.eq (hashed_by S.Hasher.finish S.Hasher.write S.build_hasher K.hash_input hasher.now) setting memory.new xs) }
+    ensures back { IfErr result (λ r. (r.key ≡ key) × (r.value ≡ value)) }
+    ensures fault { IfErr result (λ r. IsRoom r.fault) }
+{
+    refresh(memory, setting, hasher);
+    let hash = hasher.hash_of(&key);
+    let call = KeyCall::insert(setting, hash, key, value);
+    match store(memory, setting, hasher, call) {
+        (Ok(stop), _) => Ok(replaced(stop)),
+        (Err(fault), back) => Err(refused(fault, back)),
+    }
+}
+
+/// Stores a pair, after a refresh, if its key is not there yet. Where it is there, the value is handed back.
+fn try_insert<K: Eq + Hash + Drop, V: Drop, S: BuildHasher>(
+    memory: &mut Plain<Node<K, V>>,
+    setting: Setting,
+    hasher: &S,
+    key: K,
+    value: V,
+) -> Result<Result<(), V>, Refused<K, V>>
+    requires { (xs : List (K × V)) × Holds K.eq (hashed_by S.Hasher.finish S.Hasher.write S.build_hasher K.hash_input hasher.now) setting memory.old xs }
+    ensures stored { (xs : List (K × V)) → Holds K.eq (hashed_by S.Hasher.finish S.Hasher.write S.build_hasher K.hash_input hasher.now) setting memory.old xs
+        → IfOk result (λ tried. OnOk tried ((found_by (K.eq key) xs ≡ None) × Holds K.eq (hashed_by S.Hasher.finish S.Hasher.write S.build_hasher K.hash_input hasher.now) setting memory.new (xs ++ ((key, value) ∷ [])))) }
+    ensures found { (xs : List (K × V)) → Holds K.eq (hashed_by S.Hasher.finish S.Hasher.write S.build_hasher K.hash_input hasher.now) setting memory.old xs
+        → IfOk result (λ tried. OnErr tried (IsTrue (is_some (found_by (K.eq key) xs)) × Holds K.eq (hashed_by S.Hasher.finish S.Hasher.write S.build_hasher K.hash_input hasher.now) setting memory.new xs)) }
+    ensures kept { IfOk result (λ tried. IfErr tried (λ back. back ≡ value)) }
+    ensures refused { (xs : List (K × V)) → Holds K.eq (hashed_by S.Hasher.finish S.Hasher.write S.build_hasher K.hash_input hasher.now) setting memory.old xs
+        → OnErr result (Holds K.eq (hashed_by S.Hasher.finish S.Hasher.write S.build_hasher K.hash_input hasher.now) setting memory.new xs) }
+    ensures back { IfErr result (λ r. (r.key ≡ key) × (r.value ≡ value)) }
+    ensures fault { IfErr result (λ r. IsRoom r.fault) }
+{
+    refresh(memory, setting, hasher);
+    let hash = hasher.hash_of(&key);
+    let call = KeyCall::try_insert(setting, hash, key, value);
+    match store(memory, setting, hasher, call) {
+        (Ok(stop), back) => Ok(tried(stop, back)),
+        (Err(fault), back) => Err(refused(fault, back)),
+    }
+}
+
 impl<K: Eq + Hash + Drop, V: Drop, S: BuildHasher> HashMap<K, V, S> {
     /// Stores a pair, also in the place of another one of its key, and answers whether there was one. The faults are `Fault::Capacity` and
     /// `Fault::Memory`; then no pair has changed.
     pub fn insert(&mut self, key: K, value: V) -> Result<bool, Refused<K, V>>
-        requires { (xs : List (K × V)) × HasPairs K.eq (hashed_by S.Hasher.finish S.Hasher.write S.build_hasher K.hash_input) self.old xs }
-        ensures some { (xs : List (K × V)) → HasPairs K.eq (hashed_by S.Hasher.finish S.Hasher.write S.build_hasher K.hash_input) self.old xs → IfOk result (λ was. was ≡ is_some (found_by (K.eq key) xs)) }
-        ensures stored { (xs : List (K × V)) → HasPairs K.eq (hashed_by S.Hasher.finish S.Hasher.write S.build_hasher K.hash_input) self.old xs
-            → OnOk result (HasPairs K.eq (hashed_by S.Hasher.finish S.Hasher.write S.build_hasher K.hash_input) self.new (left_by (K.eq key) xs ++ ((key, value) ∷ []))) }
-        ensures refused { (xs : List (K × V)) → HasPairs K.eq (hashed_by S.Hasher.finish S.Hasher.write S.build_hasher K.hash_input) self.old xs
-            → OnErr result (HasPairs K.eq (hashed_by S.Hasher.finish S.Hasher.write S.build_hasher K.hash_input) self.new xs) }
-        ensures back { (xs : List (K × V)) → HasPairs K.eq (hashed_by S.Hasher.finish S.Hasher.write S.build_hasher K.hash_input) self.old xs → IfErr result (λ r. (r.key ≡ key) × (r.value ≡ value)) }
+        ensures some { IfOk result (λ was. was ≡ is_some (found_by (K.eq key) self.old.pairs)) }
+        ensures stored { OnOk result (IsPermutation self.new.pairs (left_by (K.eq key) self.old.pairs ++ ((key, value) ∷ []))) }
+        ensures refused { OnErr result (IsPermutation self.new.pairs self.old.pairs) }
+        ensures back { IfErr result (λ r. (r.key ≡ key) × (r.value ≡ value)) }
         ensures fault { IfErr result (λ r. IsRoom r.fault) }
+        ensures hasher { self.new.hasher ≡ self.old.hasher }
     {
-        refresh(&mut self.memory, self.setting, &self.hasher);
-        let hash = self.hasher.hash_of(&key);
-        let call = KeyCall::insert(self.setting, hash, key, value);
-        match store(&mut self.memory, self.setting, &self.hasher, call) {
-            (Ok(stop), _) => Ok(replaced(stop)),
-            (Err(fault), back) => Err(refused(fault, back)),
-        }
+        insert(
+            &mut self.resting.memory,
+            self.resting.setting,
+            &self.hasher,
+            key,
+            value,
+        )
     }
 
     /// Stores a pair, if its key is not there yet. Where it is there, no pair has changed, and the value that was not stored is handed back. The
     /// faults are `Fault::Capacity` and `Fault::Memory`; then no pair has changed, either.
     pub fn try_insert(&mut self, key: K, value: V) -> Result<Result<(), V>, Refused<K, V>>
-        requires { (xs : List (K × V)) × HasPairs K.eq (hashed_by S.Hasher.finish S.Hasher.write S.build_hasher K.hash_input) self.old xs }
-        ensures stored { (xs : List (K × V)) → HasPairs K.eq (hashed_by S.Hasher.finish S.Hasher.write S.build_hasher K.hash_input) self.old xs
-            → IfOk result (λ tried. OnOk tried ((found_by (K.eq key) xs ≡ None) × HasPairs K.eq (hashed_by S.Hasher.finish S.Hasher.write S.build_hasher K.hash_input) self.new (xs ++ ((key, value) ∷ [])))) }
-        ensures found { (xs : List (K × V)) → HasPairs K.eq (hashed_by S.Hasher.finish S.Hasher.write S.build_hasher K.hash_input) self.old xs
-            → IfOk result (λ tried. OnErr tried (IsTrue (is_some (found_by (K.eq key) xs)) × HasPairs K.eq (hashed_by S.Hasher.finish S.Hasher.write S.build_hasher K.hash_input) self.new xs)) }
-        ensures kept { (xs : List (K × V)) → HasPairs K.eq (hashed_by S.Hasher.finish S.Hasher.write S.build_hasher K.hash_input) self.old xs → IfOk result (λ tried. IfErr tried (λ back. back ≡ value)) }
-        ensures refused { (xs : List (K × V)) → HasPairs K.eq (hashed_by S.Hasher.finish S.Hasher.write S.build_hasher K.hash_input) self.old xs
-            → OnErr result (HasPairs K.eq (hashed_by S.Hasher.finish S.Hasher.write S.build_hasher K.hash_input) self.new xs) }
-        ensures back { (xs : List (K × V)) → HasPairs K.eq (hashed_by S.Hasher.finish S.Hasher.write S.build_hasher K.hash_input) self.old xs → IfErr result (λ r. (r.key ≡ key) × (r.value ≡ value)) }
+        ensures stored { IfOk result (λ tried. OnOk tried ((found_by (K.eq key) self.old.pairs ≡ None) × IsPermutation self.new.pairs (self.old.pairs ++ ((key, value) ∷ [])))) }
+        ensures found { IfOk result (λ tried. OnErr tried (IsTrue (is_some (found_by (K.eq key) self.old.pairs)) × IsPermutation self.new.pairs self.old.pairs)) }
+        ensures kept { IfOk result (λ tried. IfErr tried (λ back. back ≡ value)) }
+        ensures refused { OnErr result (IsPermutation self.new.pairs self.old.pairs) }
+        ensures back { IfErr result (λ r. (r.key ≡ key) × (r.value ≡ value)) }
         ensures fault { IfErr result (λ r. IsRoom r.fault) }
+        ensures hasher { self.new.hasher ≡ self.old.hasher }
     {
-        refresh(&mut self.memory, self.setting, &self.hasher);
-        let hash = self.hasher.hash_of(&key);
-        let call = KeyCall::try_insert(self.setting, hash, key, value);
-        match store(&mut self.memory, self.setting, &self.hasher, call) {
-            (Ok(stop), back) => Ok(tried(stop, back)),
-            (Err(fault), back) => Err(refused(fault, back)),
-        }
+        try_insert(
+            &mut self.resting.memory,
+            self.resting.setting,
+            &self.hasher,
+            key,
+            value,
+        )
     }
 }

@@ -4,6 +4,7 @@
 mod changes;
 mod counting;
 mod insertions;
+pub mod law;
 mod lookups;
 mod making;
 mod map;

@@ -1,16 +1,16 @@
 //! Lookups in a map for one owner. They read words and values, and take no memory.
 ghost use Rattle.std.specs.Prelude.{◌≡◌, List, Some, is_some, option_map};
+ghost use Rattle.std.specs.List.Sorted.{IsPermutation};
 ghost use Rattle.std.specs.Option.{option_copied};
 ghost use Rattle.seize_words.specs.Mem.{value_at};
 ghost use Rattle.seize_words.specs.Word.{block_in};
 ghost use Rattle.papaya_tables.specs.declared.node.Node.TheVariants as node;
-ghost use Rattle.papaya_owned.specs.Owned.{IsWordOf, NamesAPair, found_by, hashed_by};
-ghost use Rattle.papaya_seq.specs.Maps.{HasPairs};
+ghost use Rattle.papaya_owned.specs.Owned.{Holds, IsWordOf, NamesAPair, found_by, hashed_by};
 
 use crate::map::HashMap;
 use papaya_owned::find;
 use papaya_raw::machines::Lookup;
-use papaya_tables::{Equivalent, Hashes, Node};
+use papaya_tables::{Equivalent, Hashes, Node, Setting};
 use seize_words::{Link, Look, Plain};
 use std::hash::{BuildHasher, Hash};
 
@@ -25,44 +25,56 @@ pub(crate) fn pair_at<K, V>(memory: &Plain<Node<K, V>>, word: u64) -> (&K, &V)
     }
 }
 
-impl<K: Eq + Hash, V, S: BuildHasher> HashMap<K, V, S> {
-    /// The word of the pair that this asks for.
-    fn word_of<Q: Equivalent<K>>(&self, asked: &Q) -> Option<u64>
-        requires { (xs : List (K × V)) × HasPairs K.eq (hashed_by S.Hasher.finish S.Hasher.write S.build_hasher K.hash_input) self.now xs }
-        ensures { (xs : List (K × V)) → HasPairs K.eq (hashed_by S.Hasher.finish S.Hasher.write S.build_hasher K.hash_input) self.now xs → IsWordOf (Q.Equivalent.equivalent asked.now) self.now.memory xs result }
-    {
-        let hash = self.hasher.hash_of(asked);
-        let lookup = Lookup::new(self.setting.root, self.setting.mode, hash);
-        find(&self.memory, lookup, asked)
-    }
+/// The word of the pair that this asks for, in a map in this memory.
+fn word_of<K: Eq + Hash, V, S: BuildHasher, Q: Equivalent<K>>(
+    memory: &Plain<Node<K, V>>,
+    setting: Setting,
+    hasher: &S,
+    asked: &Q,
+) -> Option<u64>
+    requires { (xs : List (K × V)) × Holds K.eq (hashed_by S.Hasher.finish S.Hasher.write S.build_hasher K.hash_input hasher.now) setting memory.now xs }
+    ensures { (xs : List (K × V)) → Holds K.eq (hashed_by S.Hasher.finish S.Hasher.write S.build_hasher K.hash_input hasher.now) setting memory.now xs → IsWordOf (Q.Equivalent.equivalent asked.now) memory.now xs result }
+{
+    let hash = hasher.hash_of(asked);
+    let lookup = Lookup::new(setting.root, setting.mode, hash);
+    find(memory, lookup, asked)
+}
 
+impl<K: Eq + Hash, V, S: BuildHasher> HashMap<K, V, S> {
     /// The value of a key, if the key is in the map.
     pub fn get<Q: Equivalent<K>>(&self, asked: &Q) -> Option<&V>
-        requires { (xs : List (K × V)) × HasPairs K.eq (hashed_by S.Hasher.finish S.Hasher.write S.build_hasher K.hash_input) self.now xs }
-        ensures { (xs : List (K × V)) → HasPairs K.eq (hashed_by S.Hasher.finish S.Hasher.write S.build_hasher K.hash_input) self.now xs → option_copied result ≡ option_map (λ x. x.1) (found_by (Q.Equivalent.equivalent asked.now) xs) }
+        ensures value { option_copied result ≡ option_map (λ x. x.1) (found_by (Q.Equivalent.equivalent asked.now) self.now.pairs) }
+        ensures in_any_order { (xs : List (K × V)) → IsPermutation self.now.pairs xs → option_copied result ≡ option_map (λ x. x.1) (found_by (Q.Equivalent.equivalent asked.now) xs) }
     {
-        match self.word_of(asked) {
-            Some(word) => Some(pair_at(&self.memory, word).1),
+        let memory = &self.resting.memory;
+        match word_of(memory, self.resting.setting, &self.hasher, asked) {
+            Some(word) => Some(pair_at(memory, word).1),
             None => None,
         }
     }
 
     /// The stored key and its value, if the key is in the map.
     pub fn get_key_value<Q: Equivalent<K>>(&self, asked: &Q) -> Option<(&K, &V)>
-        requires { (xs : List (K × V)) × HasPairs K.eq (hashed_by S.Hasher.finish S.Hasher.write S.build_hasher K.hash_input) self.now xs }
-        ensures { (xs : List (K × V)) → HasPairs K.eq (hashed_by S.Hasher.finish S.Hasher.write S.build_hasher K.hash_input) self.now xs → option_map (λ x. (x.0.now, x.1.now)) result ≡ found_by (Q.Equivalent.equivalent asked.now) xs }
+        ensures pair { option_map (λ x. (x.0.now, x.1.now)) result ≡ found_by (Q.Equivalent.equivalent asked.now) self.now.pairs }
+        ensures in_any_order { (xs : List (K × V)) → IsPermutation self.now.pairs xs → option_map (λ x. (x.0.now, x.1.now)) result ≡ found_by (Q.Equivalent.equivalent asked.now) xs }
     {
-        match self.word_of(asked) {
-            Some(word) => Some(pair_at(&self.memory, word)),
+        let memory = &self.resting.memory;
+        match word_of(memory, self.resting.setting, &self.hasher, asked) {
+            Some(word) => Some(pair_at(memory, word)),
             None => None,
         }
     }
 
     /// Whether the key is in the map.
     pub fn contains_key<Q: Equivalent<K>>(&self, asked: &Q) -> bool
-        requires { (xs : List (K × V)) × HasPairs K.eq (hashed_by S.Hasher.finish S.Hasher.write S.build_hasher K.hash_input) self.now xs }
-        ensures { (xs : List (K × V)) → HasPairs K.eq (hashed_by S.Hasher.finish S.Hasher.write S.build_hasher K.hash_input) self.now xs → result ≡ is_some (found_by (Q.Equivalent.equivalent asked.now) xs) }
+        ensures { result ≡ is_some (found_by (Q.Equivalent.equivalent asked.now) self.now.pairs) }
     {
-        self.word_of(asked).is_some()
+        word_of(
+            &self.resting.memory,
+            self.resting.setting,
+            &self.hasher,
+            asked,
+        )
+        .is_some()
     }
 }

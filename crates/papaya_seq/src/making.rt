@@ -8,9 +8,8 @@ ghost use Rattle.seize_alone.specs.Alone.{History, IsHistory};
 ghost use Rattle.papaya_tables.specs.Lengths.{IsTableLen};
 ghost use Rattle.papaya_tables.specs.Nodes.{deferred_word};
 ghost use Rattle.papaya_owned.specs.Owned.{Holds, hashed_by};
-ghost use Rattle.papaya_seq.specs.Maps.{HasPairs};
 
-use crate::map::HashMap;
+use crate::map::{HashMap, Resting};
 use papaya_owned::run;
 use papaya_raw::machines::NewMap;
 use papaya_tables::{Node, ResizeMode, Setting, entries_for};
@@ -64,14 +63,14 @@ fn begin<K: Eq + Hash + Drop, V: Drop, S: BuildHasher>(
 impl<K: Eq + Hash + Drop, V: Drop, S: BuildHasher + Default + Drop> HashMap<K, V, S> {
     /// A map with no pair. The only fault is `Fault::Memory`.
     pub fn new(alloc: Global) -> Result<Self, Fault>
-        ensures { IfOk result (λ map. HasPairs K.eq (hashed_by S.Hasher.finish S.Hasher.write S.build_hasher K.hash_input) map []) }
+        ensures { IfOk result (λ map. map.pairs ≡ []) }
     {
         HashMap::with_hasher(alloc, S::default())
     }
 
     /// A map with no pair, and with room for so many. The faults are `Fault::Capacity`, where that is too many, and `Fault::Memory`.
     pub fn with_capacity(alloc: Global, capacity: u64) -> Result<Self, Fault>
-        ensures { IfOk result (λ map. HasPairs K.eq (hashed_by S.Hasher.finish S.Hasher.write S.build_hasher K.hash_input) map []) }
+        ensures { IfOk result (λ map. map.pairs ≡ []) }
     {
         HashMap::with_capacity_and_hasher(alloc, capacity, S::default())
     }
@@ -80,7 +79,8 @@ impl<K: Eq + Hash + Drop, V: Drop, S: BuildHasher + Default + Drop> HashMap<K, V
 impl<K: Eq + Hash + Drop, V: Drop, S: BuildHasher + Drop> HashMap<K, V, S> {
     /// A map with no pair, and with this hasher. The only fault is `Fault::Memory`.
     pub fn with_hasher(alloc: Global, hasher: S) -> Result<Self, Fault>
-        ensures { IfOk result (λ map. HasPairs K.eq (hashed_by S.Hasher.finish S.Hasher.write S.build_hasher K.hash_input) map []) }
+        ensures pairs { IfOk result (λ map. map.pairs ≡ []) }
+        ensures hasher { IfOk result (λ map. map.hasher ≡ hasher) }
     {
         HashMap::with_capacity_and_hasher(alloc, 0, hasher)
     }
@@ -88,15 +88,15 @@ impl<K: Eq + Hash + Drop, V: Drop, S: BuildHasher + Drop> HashMap<K, V, S> {
     /// A map with no pair, with room for so many, and with this hasher. The faults are `Fault::Capacity`, where that is too many, and
     /// `Fault::Memory`.
     pub fn with_capacity_and_hasher(alloc: Global, capacity: u64, hasher: S) -> Result<Self, Fault>
-        ensures { IfOk result (λ map. HasPairs K.eq (hashed_by S.Hasher.finish S.Hasher.write S.build_hasher K.hash_input) map []) }
+        ensures pairs { IfOk result (λ map. map.pairs ≡ []) }
+        ensures hasher { IfOk result (λ map. map.hasher ≡ hasher) }
     {
         let places = places_for(capacity)?;
         let mut memory = Plain::new(alloc, 1)?;
         let slot = register(&mut memory, true)?;
         let setting = begin(&mut memory, slot, places, &hasher)?;
         Ok(HashMap {
-            memory,
-            setting,
+            resting: Resting { memory, setting },
             hasher,
         })
     }

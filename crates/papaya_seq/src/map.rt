@@ -1,15 +1,40 @@
 //! A hash map for one owner.
+ghost use Rattle.papaya_shown.specs.Chain.{CountsTables, counts_tables_prop, root_link};
 
 use papaya_tables::{Node, Setting};
 use seize_words::Plain;
+use std::hash::{BuildHasher, Hash};
+use std::marker::Model;
+
+/// The memory of a map between its calls, with its setting. Only proofs read how many tables it has.
+#[derive(Drop)]
+pub(crate) struct Resting<K, V> {
+    pub(crate) memory: Plain<Node<K, V>>,
+    pub(crate) setting: Setting,
+    pub(crate) ghost tables: { CountsTables memory (root_link memory setting) } by { counts_tables_prop memory (root_link memory setting) },
+}
 
 /// A hash map for one owner.
 ///
 /// It has its memory and its collector for itself. Each change begins with a refresh of its one section: what changes before it took out of
 /// the map is given back then, and no earlier.
+///
+/// A contract sees its pairs and its hasher. The pairs are in the order in which a walk shows them; a change may put them in any other order.
 #[derive(Drop)]
-pub struct HashMap<K, V, S> {
-    pub(crate) memory: Plain<Node<K, V>>,
-    pub(crate) setting: Setting,
+pub struct HashMap<K: Eq + Hash, V, S: BuildHasher> {
+    pub(crate) resting: Resting<K, V>,
     pub(crate) hasher: S,
+}
+
+impl<K: Eq + Hash, V, S: BuildHasher> Model for HashMap<K, V, S> {
+    ghost use Rattle.std.specs.Prelude.{List};
+    ghost use Rattle.papaya_shown.specs.Chain.{pairs_from_root};
+    ghost use Rattle.papaya_owned.specs.Owned.{Holds, hashed_by};
+    ghost use Rattle.papaya_seq.specs.Maps.{Map};
+
+    ghost Value = { Map K V S };
+
+    ghost view = { λ m. record { pairs = pairs_from_root m.resting.memory m.resting.setting m.resting.tables.0; hasher = m.hasher } };
+
+    ghost invariant = { λ m. (xs : List (K × V)) × Holds K.eq (hashed_by S.Hasher.finish S.Hasher.write S.build_hasher K.hash_input m.hasher) m.resting.setting m.resting.memory xs };
 }

@@ -2,12 +2,13 @@
 ghost use Rattle.std.specs.Prelude.{◌≡◌};
 
 use crate::map::HashMap;
+use std::hash::{BuildHasher, Hash};
 
-impl<K, V, S> HashMap<K, V, S> {
+impl<K: Eq + Hash, V, S: BuildHasher> HashMap<K, V, S> {
     /// From now on so many requests for memory are met, and each later one is refused.
     pub fn refuse_after(&mut self, requests: u64)
         ensures { self.new ≡ self.old }
     {
-        self.memory.refuse_after(requests);
+        self.resting.memory.refuse_after(requests);
     }
 }

@@ -1,8 +1,4 @@
 //! Calls on a map from numbers to numbers, and what they answer.
-ghost use Rattle.std.specs.Prelude.{◌==◌};
-ghost use Rattle.std.specs.Hash as fed;
-ghost use Rattle.papaya_owned.specs.Owned.{hashed_by};
-ghost use Rattle.papaya_seq_tests.specs.Numbers.{HasSome};
 
 use papaya_seq::{Fault, HashMap};
 use std::hash::BuildHasher;
@@ -48,8 +44,6 @@ pub(crate) enum Answer {
 }
 
 fn inserted<S: BuildHasher>(map: &mut HashMap<u64, u64, S>, key: u64, value: u64) -> Answer
-    requires { HasSome (hashed_by S.Hasher.finish S.Hasher.write S.build_hasher fed.u64) map.old }
-    ensures { HasSome (hashed_by S.Hasher.finish S.Hasher.write S.build_hasher fed.u64) map.new }
 {
     match map.insert(key, value) {
         Ok(was) => Answer::Was(was),
@@ -58,8 +52,6 @@ fn inserted<S: BuildHasher>(map: &mut HashMap<u64, u64, S>, key: u64, value: u64
 }
 
 fn tried<S: BuildHasher>(map: &mut HashMap<u64, u64, S>, key: u64, value: u64) -> Answer
-    requires { HasSome (hashed_by S.Hasher.finish S.Hasher.write S.build_hasher fed.u64) map.old }
-    ensures { HasSome (hashed_by S.Hasher.finish S.Hasher.write S.build_hasher fed.u64) map.new }
 {
     match map.try_insert(key, value) {
         Ok(Ok(())) => Answer::Stored,
@@ -69,8 +61,6 @@ fn tried<S: BuildHasher>(map: &mut HashMap<u64, u64, S>, key: u64, value: u64) -
 }
 
 fn removed<S: BuildHasher>(map: &mut HashMap<u64, u64, S>, key: u64) -> Answer
-    requires { HasSome (hashed_by S.Hasher.finish S.Hasher.write S.build_hasher fed.u64) map.old }
-    ensures { HasSome (hashed_by S.Hasher.finish S.Hasher.write S.build_hasher fed.u64) map.new }
 {
     match map.remove(key) {
         Ok(was) => Answer::Was(was),
@@ -88,8 +78,6 @@ fn copied(found: Option<(&u64, &u64)>) -> Option<(u64, u64)> {
 
 /// Makes a call.
 pub(crate) fn called<S: BuildHasher>(map: &mut HashMap<u64, u64, S>, call: Call) -> Answer
-    requires { HasSome (hashed_by S.Hasher.finish S.Hasher.write S.build_hasher fed.u64) map.old }
-    ensures { HasSome (hashed_by S.Hasher.finish S.Hasher.write S.build_hasher fed.u64) map.new }
 {
     match call {
         Call::Insert(key, value) => inserted(map, key, value),
@@ -107,8 +95,6 @@ pub(crate) fn answers<S: BuildHasher>(
     map: &mut HashMap<u64, u64, S>,
     rows: &[(Call, Answer)],
 ) -> bool
-    requires { HasSome (hashed_by S.Hasher.finish S.Hasher.write S.build_hasher fed.u64) map.old }
-    ensures { HasSome (hashed_by S.Hasher.finish S.Hasher.write S.build_hasher fed.u64) map.new }
 {
     for (call, expected) in rows {
         if called(map, *call) != *expected {

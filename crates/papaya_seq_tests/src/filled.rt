@@ -1,7 +1,4 @@
 //! Maps with many pairs, whose keys have one hash, or hashes that differ.
-ghost use Rattle.std.specs.Hash as fed;
-ghost use Rattle.papaya_owned.specs.Owned.{hashed_by};
-ghost use Rattle.papaya_seq_tests.specs.Numbers.{HasSome};
 
 use crate::calls::Answer::{Count, Value, Was};
 use crate::calls::Call::{Get, Insert, Len};
@@ -13,8 +10,6 @@ use std::hash::BuildHasher;
 
 /// Stores ten times the key for each of so many keys, from 0 on. Whether each was missing.
 pub(crate) fn fills<S: BuildHasher>(map: &mut HashMap<u64, u64, S>, keys: u64) -> bool
-    requires { HasSome (hashed_by S.Hasher.finish S.Hasher.write S.build_hasher fed.u64) map.old }
-    ensures { HasSome (hashed_by S.Hasher.finish S.Hasher.write S.build_hasher fed.u64) map.new }
 {
     for key in 0..keys {
         if called(map, Insert(key, key.wrapping_mul(10))) != Was(false) {
@@ -26,8 +21,6 @@ pub(crate) fn fills<S: BuildHasher>(map: &mut HashMap<u64, u64, S>, keys: u64) -
 
 /// Whether each of so many keys, from 0 on, has ten times the key, and there are no further ones.
 pub(crate) fn is_filled<S: BuildHasher>(map: &mut HashMap<u64, u64, S>, keys: u64) -> bool
-    requires { HasSome (hashed_by S.Hasher.finish S.Hasher.write S.build_hasher fed.u64) map.old }
-    ensures { HasSome (hashed_by S.Hasher.finish S.Hasher.write S.build_hasher fed.u64) map.new }
 {
     for key in 0..keys {
         if called(map, Get(key)) != Value(Some(key.wrapping_mul(10))) {

@@ -6,6 +6,8 @@ mod calls;
 #[cfg(test)]
 mod filled;
 #[cfg(test)]
+mod found_again;
+#[cfg(test)]
 mod makers;
 #[cfg(test)]
 mod refused;

@@ -1,7 +1,4 @@
 //! Calls that are refused memory at one request after another, and are made again.
-ghost use Rattle.std.specs.Hash as fed;
-ghost use Rattle.papaya_owned.specs.Owned.{hashed_by};
-ghost use Rattle.papaya_seq_tests.specs.Numbers.{HasSome};
 
 use crate::calls::Answer::{Back, Refused, Stored, Was};
 use crate::calls::Call::{Insert, Remove, TryInsert};
@@ -82,8 +79,6 @@ const ROWS: [Row; 8] = [
 
 /// Whether the call is refused at each of its requests, with the pairs as before.
 fn is_refused<S: BuildHasher>(map: &mut HashMap<u64, u64, S>, row: Row) -> bool
-    requires { HasSome (hashed_by S.Hasher.finish S.Hasher.write S.build_hasher fed.u64) map.old }
-    ensures { HasSome (hashed_by S.Hasher.finish S.Hasher.write S.build_hasher fed.u64) map.new }
 {
     let (_, keys, call, requests, refused, _) = row;
     for met in 0..requests {

@@ -1,7 +1,4 @@
 //! Pairs are walked over, sifted and cleared.
-ghost use Rattle.std.specs.Hash as fed;
-ghost use Rattle.papaya_owned.specs.Owned.{hashed_by};
-ghost use Rattle.papaya_seq_tests.specs.Numbers.{HasSome};
 
 use crate::filled::fills;
 use papaya_runs::key_hash::KeyHash;
@@ -11,7 +8,6 @@ use std::hash::BuildHasher;
 
 /// The sum of the keys that a walk shows, and that of the values.
 fn sums<S: BuildHasher>(map: &HashMap<u64, u64, S>) -> (u64, u64)
-    requires { HasSome (hashed_by S.Hasher.finish S.Hasher.write S.build_hasher fed.u64) map.now }
 {
     let mut keys: u64 = 0;
     let mut values: u64 = 0;
@@ -24,8 +20,6 @@ fn sums<S: BuildHasher>(map: &HashMap<u64, u64, S>) -> (u64, u64)
 
 /// Keeps the pairs with even keys, and tells whether that was done.
 fn keeps_even<S: BuildHasher>(map: &mut HashMap<u64, u64, S>) -> bool
-    requires { HasSome (hashed_by S.Hasher.finish S.Hasher.write S.build_hasher fed.u64) map.old }
-    ensures { HasSome (hashed_by S.Hasher.finish S.Hasher.write S.build_hasher fed.u64) map.new }
 {
     match map.retain(|key, _| *key % 2 == 0) {
         Ok(()) => true,
@@ -35,8 +29,6 @@ fn keeps_even<S: BuildHasher>(map: &mut HashMap<u64, u64, S>) -> bool
 
 /// Removes all pairs, and tells whether that was done.
 fn empties<S: BuildHasher>(map: &mut HashMap<u64, u64, S>) -> bool
-    requires { HasSome (hashed_by S.Hasher.finish S.Hasher.write S.build_hasher fed.u64) map.old }
-    ensures { HasSome (hashed_by S.Hasher.finish S.Hasher.write S.build_hasher fed.u64) map.new }
 {
     match map.clear() {
         Ok(()) => true,

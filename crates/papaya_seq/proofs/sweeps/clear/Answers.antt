@@ -1,5 +1,5 @@
 -- By what the clearing comes to, after the refresh.
-use Rattle.papaya_seq.proofs.map.HashMap.clear.Goals as goal
+use Rattle.papaya_seq.proofs.sweeps.clear.Goals as goal
 
 pub returns-clause-done : goal.returns-clause-done
 returns-clause-done g c = λ xs has. c.empty.ensures.done xs (c.refresh.ensures xs has)

@@ -1,7 +1,15 @@
 -- A word was found where there is a pair.
-use Rattle.std.proofs.Common.{◌∙◌}
+use Rattle.std.specs.Prelude.{is_some}
+use Rattle.std.proofs.Common.{◌∙◌, ap, sym}
 use Rattle.papaya_seq.proofs.Looks.{some_found}
+use Rattle.papaya_seq.proofs.Shows.{seen_first}
 use Rattle.papaya_seq.proofs.map.HashMap.contains_key.Goals as goal
 
+pub word_of-requires : goal.word_of-requires
+word_of-requires g c = c.self.invariant
+
 pub returns : goal.returns
-returns g c = λ xs has. c.is_some.ensures ∙ some_found (g.Q.Equivalent.equivalent c.args.asked.now) c.args.self.now.memory xs _ (c.word_of.ensures xs has)
+returns g c =
+    let held = c.self.invariant in
+    c.is_some.ensures ∙ some_found (g.Q.Equivalent.equivalent c.args.asked.now) c.self.inside.resting.memory held.0 _ (c.word_of.ensures held.0 held.1)
+    ∙ sym (ap is_some (seen_first _ _ _ _ held.0 held.1 c.self.inside.resting.tables _ _ c.self.view_is (g.Q.Equivalent.equivalent c.args.asked.now) (λ x y. g.met.Q.Equivalent.respects_eq c.args.asked.now x y)))

@@ -1,15 +1,17 @@
--- The words of its memory show its pairs.
-use Rattle.std.proofs.Common.{subst, sym}
-use Rattle.std.specs.List.Sorted.{IsPermutation}
-use Rattle.papaya_shown.specs.Coming.{pairs_to_come}
-use Rattle.papaya_owned.proofs.Walks.{holds_stands, holds_moves_none, holds_pairs}
-use Rattle.papaya_owned.specs.Owned.{hashed_by}
+-- Its words show just these pairs.
+use Rattle.std.proofs.Common.{◌∙◌, ap}
+use Rattle.papaya_owned.proofs.Walks.{holds_stands}
+use Rattle.papaya_seq.proofs.Shows.{seen_apart}
+use Rattle.papaya_seq.specs.Maps.{Map}
 use Rattle.papaya_seq.proofs.map.HashMap.iter.Goals as goal
 
 pub pairs_of-requires : goal.pairs_of-requires
-pairs_of-requires g c = let r = c.requires in (_, _, r.1.chart, r.1.blocks, holds_stands _ _ _ _ r.0 r.1)
+pairs_of-requires g c = let held = c.self.invariant in (_, _, held.1.chart, held.1.blocks, holds_stands _ _ _ _ held.0 held.1)
 
 pub returns-clause-pairs : goal.returns-clause-pairs
-returns-clause-pairs g c = λ xs has.
-    subst (λ l. IsPermutation (pairs_to_come c.pairs_of.result) l) (sym (holds_pairs _ _ _ _ xs has))
-    (c.pairs_of.ensures.pairs _ _ has.chart has.blocks (holds_stands _ _ _ _ xs has) has.incremental (holds_moves_none _ _ _ _ xs has has.incremental))
+returns-clause-pairs g c =
+    let tables = c.self.inside.resting.tables in
+    c.pairs_of.ensures.all tables.0 tables.1 ∙ ap (λ (x : Map g.row.K.Denot g.row.V.Denot g.row.S.Denot). x.pairs) c.self.view_is
+
+pub returns-clause-apart : goal.returns-clause-apart
+returns-clause-apart g c = let held = c.self.invariant in seen_apart _ _ _ _ held.0 held.1 c.self.inside.resting.tables _ _ c.self.view_is

@@ -1,0 +1,25 @@
+-- The laws of pairs in another order.
+use Rattle.papaya_seq.specs.Orders.{FoundInAnyOrder, LeftInAnyOrder, ApartInAnyOrder, PutIsFound, OthersStay, ApartAreWrittenApart}
+use Rattle.std.proofs.Common.{◌∙◌}
+use Rattle.papaya_seq.proofs.Orders as orders
+use Rattle.papaya_owned.specs.Owned.{left_by}
+
+module _ (K V : Type 0) where
+  pub found_in_any_order : FoundInAnyOrder K V
+  found_in_any_order same classes keys class xs ys apart order = orders.found_same same classes keys class xs ys apart order
+
+  pub left_in_any_order : LeftInAnyOrder K V
+  left_in_any_order keys xs ys order = orders.left_same keys xs ys order
+
+  pub apart_in_any_order : ApartInAnyOrder K V
+  apart_in_any_order same classes xs ys apart order = orders.apart_same same classes xs ys apart order
+
+  pub put_is_found : PutIsFound K V
+  put_is_found keys xs = (orders.none_found keys xs, λ x its. orders.put_found keys xs x its)
+
+  pub others_stay : OthersStay K V
+  others_stay keys others apart xs =
+      (orders.others_found keys others apart xs, λ x its. orders.others_found_behind keys others apart (left_by keys xs) x its ∙ orders.others_found keys others apart xs)
+
+pub written_apart : (K V L : Type 0) → ApartAreWrittenApart K V L
+written_apart K V L same written tells xs apart = orders.written_apart same written tells xs apart

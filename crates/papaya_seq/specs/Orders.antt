@@ -1,0 +1,50 @@
+-- Pairs in another order: what is found among them, and what is left without some.
+use Rattle.std.specs.Prelude.{◌≡◌, ◌≢◌, Bool, true, false, List, [], ◌∷◌, ◌++◌, Some, None}
+use Rattle.std.specs.Cmp.{IsEquivalence}
+use Rattle.std.specs.List.{All, IsDistinct}
+use Rattle.std.specs.List.Sorted.{IsPermutation}
+use Rattle.std.specs.Map.{keys_of}
+use Rattle.papaya_owned.specs.Owned.{found_by, left_by}
+
+-- the keys that pass are one class, or there are none
+abbrev pub IsOneClass : {K : Type 0} → (K → K → Bool) → (K → Bool) → Type 0
+IsOneClass {K} same keys = (x y : K) → keys x ≡ true → keys y ≡ same x y
+
+module _ (K V : Type 0) where
+  -- where no two keys are equal, the same pair of a class is found in any order
+  abbrev pub FoundInAnyOrder : Type 0
+  FoundInAnyOrder =
+      (same : K → K → Bool) → IsEquivalence same → (keys : K → Bool) → IsOneClass same keys → (xs ys : List (K × V)) → IsDistinct same (keys_of xs) → IsPermutation xs ys
+      → found_by keys ys ≡ found_by keys xs
+
+  -- without the pairs of some keys the same ones are left in any order
+  abbrev pub LeftInAnyOrder : Type 0
+  LeftInAnyOrder = (keys : K → Bool) (xs ys : List (K × V)) → IsPermutation xs ys → IsPermutation (left_by keys xs) (left_by keys ys)
+
+  -- keys of which no two are equal are so in any order
+  abbrev pub ApartInAnyOrder : Type 0
+  ApartInAnyOrder =
+      (same : K → K → Bool) → IsEquivalence same → (xs ys : List (K × V)) → IsDistinct same (keys_of xs) → IsPermutation xs ys → IsDistinct same (keys_of ys)
+
+  -- a pair that was put in the place of those of some keys, its own among them, is found by them, and none of them is found where none was put
+  abbrev pub PutIsFound : Type 0
+  PutIsFound =
+      (keys : K → Bool) (xs : List (K × V))
+      → (found_by keys (left_by keys xs) ≡ None) × ((x : K × V) → keys x.0 ≡ true → found_by keys (left_by keys xs ++ (x ∷ [])) ≡ Some x)
+
+  -- by other keys the same is found as before
+  abbrev pub OthersStay : Type 0
+  OthersStay =
+      (keys others : K → Bool) → ((k : K) → keys k ≡ true → others k ≡ false) → (xs : List (K × V))
+      → (found_by others (left_by keys xs) ≡ found_by others xs) × ((x : K × V) → keys x.0 ≡ true → found_by others (left_by keys xs ++ (x ∷ [])) ≡ found_by others xs)
+
+-- no two pairs have keys of which the same is written
+abbrev pub AreWrittenApart : {K V L : Type 0} → (K → L) → List (K × V) → Type 0
+AreWrittenApart written [] = Unit {0}
+AreWrittenApart written (x ∷ xs) = All (λ y. written y.0 ≢ written x.0) xs × AreWrittenApart written xs
+
+-- Where the same is written of equal keys alone, it differs from pair to pair where no two keys are equal.
+abbrev pub ApartAreWrittenApart : Type 0 → Type 0 → Type 0 → Type 0
+ApartAreWrittenApart K V L =
+    (same : K → K → Bool) (written : K → L) → ((x y : K) → written y ≡ written x → same x y ≡ true) → (xs : List (K × V)) → IsDistinct same (keys_of xs)
+    → AreWrittenApart written xs
