@@ -11,6 +11,7 @@ mod Told
 pub mod Counted
 pub mod Sums
 mod Room
+pub mod AtRoot
 mod Values
 pub mod Retires
 pub mod Between

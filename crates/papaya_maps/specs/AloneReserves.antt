@@ -42,6 +42,26 @@ abbrev pub SumsUp : {T : Type 0} → Setting → Mem T → Reserving → Type 0
 SumsUp setting m (at.Sums table sum) = count_ahead setting m sum.stands ≡ count_in (shards_sum m setting.counter (suc setting.mask) % 2 ^ 64)
 SumsUp setting m _ = Unit {0}
 
+-- In incremental mode, the table that a reservation looks at is the root, and the one that it copies into is the root, or behind it.
+abbrev pub LooksAtRoot : {K : Type 0} → Chart K → Reserving → Type 0
+LooksAtRoot c (at.Makes making) = c.past ≡ 0
+LooksAtRoot c (at.Sums table sum) = table.turn ≡ c.first
+LooksAtRoot c (at.Follows table need) = table.turn ≡ c.first
+LooksAtRoot c (at.Grows table making) = table.turn ≡ c.first
+LooksAtRoot c (at.Copies copier) = c.first ≤ copier.target.turn
+LooksAtRoot c at.Over = ⊥
+LooksAtRoot c _ = Unit {0}
+
+-- the root has as many places as so many further pairs need, beside those that the shards of the counter say
+abbrev pub RootHasPlaces : {K T : Type 0} → Setting → Mem T → Chart K → ℕ → Type 0
+RootHasPlaces setting m c additional = (needed additional (count_in (shards_sum m setting.counter (suc setting.mask) % 2 ^ 64)) ≤ c.len c.first) × (c.first < c.past)
+
+-- Where a step of a reservation leads that keeps to the root and counts what the shards say: it does so still, or has ended where the root has the places.
+abbrev pub KeepsToRoot : {K T : Type 0} → Setting → Mem T → Chart K → Reserve × Outcome T Unit → Type 0
+KeepsToRoot setting m c (p, outcome.Done end) = RootHasPlaces setting m c p.additional
+KeepsToRoot setting m c (p, outcome.Refused fault) = Unit {0}
+KeepsToRoot setting m c (p, _) = LooksAtRoot c p.stands × SumsUp setting m p.stands
+
 module _ {K : Type 0} (setting : Setting) (c : Chart K) where
   -- the tables from this one on, up to the root, are still to be retired; in incremental mode it is one
   abbrev pub AreLeft : ℕ → Type 0

@@ -1,4 +1,5 @@
 -- The map of one owner, and its pairs.
+pub mod Answered
 pub mod Blocks
 pub mod Calls
 pub mod Clears
@@ -11,5 +12,7 @@ pub mod Making
 pub mod Places
 pub mod Refreshes
 pub mod Retains
+pub mod Rooms
+pub mod Siftings
 pub mod Sifts
 pub mod Sweeps

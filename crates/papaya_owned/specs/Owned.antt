@@ -74,9 +74,9 @@ module _ {K V : Type 0} (same : K → K → Bool) (hash : K → ℕ) (setting : 
   AnswersBy (answers.Stored word) =
       (found_by keys xs ≡ None) × (j : K) × (v : V) × (pair ≡ Some (node.Pair j v)) × (value_at m (block_in word) ≡ Some (node.Pair j v)) × Holds same hash setting m (xs ++ ((j, v) ∷ []))
   AnswersBy (answers.Replaced old new) =
-      (x : K × V) × (found_by keys xs ≡ Some x) × NamesAPair m old × (j : K) × (v : V) × (pair ≡ Some (node.Pair j v)) × (value_at m (block_in new) ≡ Some (node.Pair j v))
+      (x : K × V) × (found_by keys xs ≡ Some x) × (value_at m (block_in old) ≡ Some (node.Pair x.0 x.1)) × (j : K) × (v : V) × (pair ≡ Some (node.Pair j v)) × (value_at m (block_in new) ≡ Some (node.Pair j v))
       × Holds same hash setting m (left_by keys xs ++ ((j, v) ∷ []))
-  AnswersBy (answers.Removed word) = (x : K × V) × (found_by keys xs ≡ Some x) × NamesAPair m word × Holds same hash setting m (left_by keys xs)
+  AnswersBy (answers.Removed word) = (x : K × V) × (found_by keys xs ≡ Some x) × (value_at m (block_in word) ≡ Some (node.Pair x.0 x.1)) × Holds same hash setting m (left_by keys xs)
 
   abbrev pub EndsBy : Result Stop Fault → Type 0
   EndsBy (Ok (stop.Answered answer)) = Fits kind.present kind.absent kind.takes answer × AnswersBy answer

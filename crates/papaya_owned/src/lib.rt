@@ -5,10 +5,16 @@ mod looking;
 mod machines;
 mod most;
 mod most_looks;
+mod pairs;
+mod rooms;
 mod running;
 mod sweeping;
+mod sweeps;
 
 pub use looking::find;
 pub use machines::{ForRoom, OnKey, Refreshes, Stop};
+pub use pairs::pair_at;
+pub use rooms::make_room;
 pub use running::run;
 pub use sweeping::{OverPairs, Pause};
+pub use sweeps::{empty, sift};

@@ -1,5 +1,5 @@
 -- What is promised of whole calls for one owner: where each begins, where each of its steps leads, and that its steps come to an end.
-use Rattle.std.specs.Prelude.{◌≡◌, ℕ, ◌≤◌, Bool, Some, true}
+use Rattle.std.specs.Prelude.{◌≡◌, ℕ, ◌<◌, ◌≤◌, Bool, Some, true}
 use Rattle.std.specs.Int.{IsPowerOfTwo}
 use Rattle.seize_words.specs.Mem.{Mem, Can, Took, value_at, word_at}
 use Rattle.seize_words.specs.Plan.{May, Steps}
@@ -68,7 +68,7 @@ module _ {K V Q : Type 0} (same : K → K → Bool) (hash : K → ℕ) (asks : Q
   Leads w w2 c2 blocks2 sights2 u (called.Asks asked) = IsAlone same hash asks setting slot w2 c2 blocks2 sights2 (OnKey u) × (asks_at : Asking) × (u.call.stands ≡ at.Asks asks_at)
   Leads w w2 c2 blocks2 sights2 u (called.Done answer) =
       AtRest {K = K} {V = V} {Q = Q} same hash asks setting slot w2 c2 blocks2 sights2 × (seen : Blocks) × IsMapIn same hash (in_slot setting (slot 0)) w2 c2 seen
-      × ((o : ℕ) → c2.current o ≡ true → seen.pair o ≡ blocks2.pair o) × AnswersOnce V same hash asks setting slot w2 c2 seen 0 u u.change answer
+      × ((o : ℕ) → o < c2.stored → seen.pair_known o ≡ true → seen.pair o ≡ blocks2.pair o) × AnswersOnce V same hash asks setting slot w2 c2 seen 0 u u.change answer
   Leads w w2 c2 blocks2 sights2 u (called.Refused fault) = AtRest {K = K} {V = V} {Q = Q} same hash asks setting slot w2 c2 blocks2 sights2 × (u.change ≡ Unchanged)
 
   -- where a step leads, be it one of a row of the collector
@@ -83,6 +83,8 @@ module _ {K V Q : Type 0} (same : K → K → Bool) (hash : K → ℕ) (asks : Q
     -- what the call has changed since the map stood in some way, and that it has kept all other pairs
     pub runs : (m0 : Mem (Node K V)) (c0 : Chart K) (blocks0 : Blocks) → Rule same (spot_of hash) (is_incremental setting.mode) c0
         → HasRun same hash setting u.keys m0 c0 blocks0 u.change w.memory c blocks → HasRun same hash setting u.keys m0 c0 blocks0 change2 w2.memory c2 blocks2
+    -- each pair that could be looked at is there still, with its value
+    pub sees : (o : ℕ) → o < c.stored → blocks.pair_known o ≡ true → (o < c2.stored) × (blocks2.pair_known o ≡ true) × (value_at w2.memory (blocks2.pair o) ≡ value_at w.memory (blocks.pair o))
     -- the shards of the counter say so much more as it has counted: what its answer tells, and no more where it is refused
     pub counts : (m0 : Mem (Node K V)) → HasAdded setting m0 (counted_at u.call.stands) w.memory → HasAdded setting m0 (counted_at p2.stands) w2.memory
     pub answered : (answer : KeyAnswer) → progress ≡ called.Done answer → counted_at p2.stands ≡ counted_for answer

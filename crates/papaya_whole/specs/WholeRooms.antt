@@ -1,5 +1,5 @@
 -- What is promised of whole reservations and countings for one owner.
-use Rattle.std.specs.Prelude.{◌≡◌, ℕ, Bool, List, length}
+use Rattle.std.specs.Prelude.{◌≡◌, ℕ, Bool, true, List, length}
 use Rattle.std.specs.Int.{IsPowerOfTwo}
 use Rattle.seize_words.specs.Mem.{Mem, Can, Took, value_at}
 use Rattle.seize_words.specs.Plan.{May, Steps}
@@ -25,6 +25,7 @@ use Rattle.papaya_alone.specs.Counting.{IsCounted, count_ahead}
 use Rattle.papaya_rule.specs.InWorld.{IsMapIn}
 use Rattle.papaya_whole.specs.Contents.{AreContents, HasRun}
 use Rattle.papaya_points.specs.Steps.{AreLawful}
+use Rattle.papaya_maps.specs.AloneReserves.{SumsUp, LooksAtRoot, KeepsToRoot}
 use Rattle.papaya_maps.specs.EndingsReserves.{ComesToAnEnd}
 use Rattle.papaya_callers.specs.Rooms.{CallForRoom}
 use Rattle.papaya_callers.specs.Sights.{Sight}
@@ -57,6 +58,8 @@ module _ {K V Q : Type 0} (same : K → K → Bool) (hash : K → ℕ) (asks : Q
         → HasRun same hash setting keys m0 c0 blocks0 Unchanged w.memory c blocks → HasRun same hash setting keys m0 c0 blocks0 Unchanged w2.memory c2 blocks2
     -- the shards of the counter say what they did
     pub counts : (m0 : Mem (Node K V)) (more : ℕ) → HasAdded setting m0 more w.memory → HasAdded setting m0 more w2.memory
+    -- in incremental mode, it keeps to the root, and at its end that has the places for the pairs that the shards say, and for the further ones
+    pub places : is_incremental setting.mode ≡ true → LooksAtRoot c r.reserve.stands → SumsUp setting w.memory r.reserve.stands → KeepsToRoot setting w2.memory c2 (p2, end)
 
   -- After a step of a counting, it is alone still, or has ended, and the owner rests.
   abbrev pub CountLeads : World (Node K V) → Chart K → Blocks → (ℕ → Sight) → Sum → Progress ℕ → Type 0

@@ -17,7 +17,8 @@ ghost use Rattle.papaya_whole.specs.WholeRooms.{RoomsBeginAlone, RoomsGoOnAlone,
 /// A map that has no table yet rests. Where the owner of a map's memory rests, each call on one key may begin, of one that asks, too, and is alone. It may take each of its steps, those of the
 /// collector's rows among them, in either mode, and none of them answers that it has to wait. It is alone after each, or it asks, and is alone again whatever
 /// it is told, or it has ended: then the owner rests. Each run of its steps comes to an end, or to a question. Where the shards of the counter said how many pairs
-/// the map had as the call began, they say so at its end.
+/// the map had as the call began, they say so at its end. Each pair that could be looked at can be looked at still after a step, with its value (`sees`
+/// of each step).
 pub fn calls_run_whole<K, V, Q>()
     ensures starts { (same : K → K → Bool) (hash : K → ℕ) (asks : Q → K → Bool) (setting : Setting) (slot : ℕ → ℕ) → MapBeginsAtRest V same hash asks setting slot }
     ensures begins { (same : K → K → Bool) (hash : K → ℕ) (asks : Q → K → Bool) (setting : Setting) (slot : ℕ → ℕ) → CallsBeginAlone V same hash asks setting slot }
@@ -30,7 +31,9 @@ pub fn calls_run_whole<K, V, Q>()
 {}
 
 /// So it is with a reservation: it begins where the owner rests, may take each of its steps, those of the collector's rows among them, and none of them has
-/// to wait. No pair of the map changes by it, nor what the shards of the counter say. Each run of its steps comes to an end, and then the owner rests.
+/// to wait. No pair of the map changes by it, nor what the shards of the counter say. Each run of its steps comes to an end, and then the owner rests. In
+/// incremental mode it looks at the root alone, and copies into the root or a table behind it; at its end the root has the places for as many pairs as the
+/// shards say and the further ones (`places` of each step).
 pub fn reservations_run_whole<K, V, Q>()
     ensures begins { (same : K → K → Bool) (hash : K → ℕ) (asks : Q → K → Bool) (setting : Setting) (slot : ℕ → ℕ) → RoomsBeginAlone V same hash asks setting slot }
     ensures steps { (same : K → K → Bool) (hash : K → ℕ) (asks : Q → K → Bool) (setting : Setting) (slot : ℕ → ℕ) → RoomsGoOnAlone V same hash asks setting slot }

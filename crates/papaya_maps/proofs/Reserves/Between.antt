@@ -52,7 +52,7 @@ use Rattle.papaya_points.proofs.Values.Making.{IsLinkedNow}
 use Rattle.papaya_maps.proofs.Reserves.Values.{MadeByReserveAfter, reserve_leaves}
 use Rattle.papaya_alone.proofs.Shards.PairsChanged.{counted_kept, few_pairs_there}
 use Rattle.papaya_maps.proofs.Reserves.Counted.{reserve_counts_none}
-use Rattle.papaya_maps.proofs.Reserves.Room.{HasPlaces, SumsTo, room_for, sums_on}
+use Rattle.papaya_maps.proofs.Reserves.Room.{HasPlaces, SumsTo, room_for, counts_root, sums_on}
 use Rattle.papaya_alone.proofs.Shards.Sums.{added_same}
 
 module _ {K V : Type 0} (same : K → K → Bool) (hash : K → ℕ) (setting : Setting) (roots : ℕ) (are : AreLawful same hash) (initial_is : IsPowerOfTwo setting.initial)
@@ -136,7 +136,9 @@ module _ {K V : Type 0} (same : K → K → Bool) (hash : K → ℕ) (setting : 
     added2 = added_same m m2 setting mem0 0 now.added (reserve_counts_none same hash (at_rest deferred_word m h) setting c blocks now.map p now.facts none between_may m2 (p2, end) steps)
 
     sums2 : SumsTo same hash setting (at_rest deferred_word m h) c blocks now.map t p now.facts m2 (p2, end) (p2, end)
-    sums2 = sums_on same hash setting (at_rest deferred_word m h) c blocks now.map t p now.facts m2 (p2, end) now.alone now.sums steps
+    sums2 =
+        sums_on same hash setting (at_rest deferred_word m h) c blocks now.map t p now.facts m2 (p2, end)
+        (counts_root same hash setting (at_rest deferred_word m h) c blocks now.map t p now.facts m2 (p2, end) p.stands now.alone) now.sums steps
 
     next : ReserveFacts same hash went.w2 0 setting went.c2 went.blocks2 p2 → ReservingAlone setting went.c2 went.blocks2 p2.additional p2.stands t
         → IsComing mem0 m2 (IsLinkedSince c0 went.c2 went.blocks2) (IsMadeByReserve p2.stands) → SumsUp setting m2 p2.stands

@@ -172,10 +172,21 @@ module _ {K V : Type 0} (same : K → K → Bool) (hash : K → ℕ) (setting : 
         let told = told_sum setting w.memory (counter_of same hash setting w c blocks map) sum point.1 m2 b.0 b.1 in
         subst SumsTo (sym b.2) (summed_on told.0 b.0 told.1 (sum_ahead setting w.memory sum point.1.0 point.1.1 m2 b.0 b.1))
 
-  pub sums_on : ReservingAlone setting c blocks p.additional p.stands t → SumsUp setting w.memory p.stands → Steps Took value_at w.memory (reserve_plan hash p) m2 end → SumsTo end
-  sums_on alone had s = by p.stands refl f.point alone had s
+  -- it counts for the root
+  abbrev pub CountsRoot : Reserving → Type 0
+  CountsRoot (at.Sums table sum) = (table.turn ≡ c.first) × (t ≡ c.first)
+  CountsRoot at.Over = ⊥
+  CountsRoot _ = Unit {0}
+
+  pub counts_root : (stage : Reserving) → ReservingAlone setting c blocks p.additional stage t → CountsRoot stage
+  counts_root (at.Sums table sum) alone = alone
+  counts_root at.Over alone = alone
+  counts_root _ alone = tt
+
+  pub sums_on : CountsRoot p.stands → SumsUp setting w.memory p.stands → Steps Took value_at w.memory (reserve_plan hash p) m2 end → SumsTo end
+  sums_on root had s = by p.stands refl f.point root had s
     where
-      by : (stage : Reserving) → p.stands ≡ stage → ReservingFacts same hash w 0 setting c blocks stage → ReservingAlone setting c blocks p.additional stage t → SumsUp setting w.memory stage
+      by : (stage : Reserving) → p.stands ≡ stage → ReservingFacts same hash w 0 setting c blocks stage → CountsRoot stage → SumsUp setting w.memory stage
           → Steps Took value_at w.memory (plan_at hash p stage) m2 end → SumsTo end
       by at.Reads is point alone had s = begins at.Reads (on_root K V p (subst BeginsAt (sym is) tt)) s
       by (at.Makes making) is point alone had s = begins (at.Makes making) (always_plan_as Begins (made p) (begins_made K V p) (new_table_plan making)) s

@@ -195,7 +195,7 @@ module _ {K V : Type 0} (same : K → K → Bool) (hash : K → ℕ) (caller : �
         (λ next behind told2. copies_begin table next (from ∙ sym first) (turn ∙ sym first) told2) end d.3 told
 
   -- the root is copied
-  copied_ends : (e : Copier × Outcome (Node K V) Table) → ReserveAfter w2 caller setting c2 blocks2 same hash (copied p e)
+  pub copied_ends : (e : Copier × Outcome (Node K V) Table) → ReserveAfter w2 caller setting c2 blocks2 same hash (copied p e)
       → (table : Table) → e.1 ≡ outcome.Done table → cond (is_incremental setting.mode) (table.turn ≤ c2.first) (table.turn ≡ c2.first)
   copied_ends (q, outcome.Goes) told table is = absurd (cc is)
   copied_ends (q, outcome.Waits) told table is = absurd (cc is)

@@ -17,7 +17,8 @@ use Rattle.papaya_raw.specs.declared.machines.call.KeyCall.{KeyCall}
 use Rattle.papaya_rule.specs.Chart.{Chart, Phase, Holds as HoldsPair, Still}
 use Rattle.papaya_rule.specs.Words.{Blocks, place_word}
 use Rattle.papaya_rule.specs.InWorld.{IsMapIn}
-use Rattle.papaya_points.specs.FactsCalls.{Change, Unchanged, Stored, Replaced, Removed, Tells}
+use Rattle.papaya_rule.proofs.World.Hands.{current_known}
+use Rattle.papaya_points.specs.FactsCalls.{Change, Unchanged, Stored, Replaced, Removed, Changes, Tells}
 use Rattle.papaya_alone.specs.Counted.{HasAdded, counted_at}
 use Rattle.papaya_callers.specs.Pairs.{Begun}
 use Rattle.papaya_callers.specs.Kind.{Kind}
@@ -25,14 +26,14 @@ use Rattle.papaya_callers.specs.Sights.{Sight}
 use Rattle.papaya_callers.specs.Together.{Together, IsBegun, in_slot}
 use Rattle.papaya_callers.proofs.Asked.By.{block_of_word}
 use Rattle.papaya_whole.specs.AtEnd.{AnswersSo}
-use Rattle.papaya_whole.specs.Contents.{AreContents, pair_for, without}
+use Rattle.papaya_whole.specs.Contents.{AreContents, ContentsThen, HasPairFor, pair_for, without}
 use Rattle.papaya_whole.specs.Owner.{AtRest}
 use Rattle.papaya_whole.proofs.Contents.AtEnd.{answers_tell_the_pairs}
 use Rattle.papaya_whole.proofs.Contents.Follow.{contents_follow}
 use Rattle.papaya_whole.proofs.Contents.Runs.{runs_begin}
 use Rattle.papaya_whole.proofs.Keys.AtEnds.{counts_at_end, counts_where_unchanged}
 use Rattle.papaya_whole.proofs.Keys.Begins.{calls_begin_alone}
-use Rattle.papaya_owned.specs.Owned.{Holds, AnswersBy, EndsBy, NamesAPair, found_by, left_by}
+use Rattle.papaya_owned.specs.Owned.{Holds, AnswersBy, EndsBy, found_by, left_by}
 use Rattle.papaya_owned.specs.declared.machines.OnKey.{OnKey}
 use Rattle.papaya_owned.specs.declared.machines.Stop.{Stop}
 use Rattle.papaya_owned.specs.declared.machines.Stop.TheVariants as stop
@@ -91,6 +92,7 @@ module _ {K V S : Type 0} (same : K → K → Bool) (hashes : S → K → ℕ) (
       memory = h.memory;
       runs = runs_begin V same hash setting (same k) h.world.memory h.chart h.blocks h.rests.together.ground.moments;
       counts = subst (λ x. HasAdded setting h.world.memory x h.world.memory) (sym none) (nothing_added _);
+      olds = λ o was. let known = current_known same hash setting h.world h.chart h.blocks map0.map.rule map0.map.shows o was in (known.0, known.1, refl);
       fit = fit;
     };
   }
@@ -138,9 +140,12 @@ module _ {K V S : Type 0} (same : K → K → Bool) (hashes : S → K → ℕ) (
       are = are;
     }
 
+    sees_current : (o : ℕ) → a.c.current o ≡ true → a.seen.pair o ≡ a.blocks.pair o
+    sees_current o is = let known = current_known same hash (in_slot setting setting.slot) a.w a.c a.seen a.seen_map.map.rule a.seen_map.map.shows o is in a.sees o known.0 known.1
+
     told : (ys : List (K × V)) × AreContents a.w.memory a.c a.blocks ys × AnswersSo same hash h.world.memory h.blocks a.w.memory a.c a.seen (Begun kind pair) k xs ys answer
     told =
-        answers_tell_the_pairs same hash same setting slot_of h.lawful h.world h.chart h.blocks map0 a.w a.c a.blocks a.seen a.rests.together.ground.map a.sees
+        answers_tell_the_pairs same hash same setting slot_of h.lawful h.world h.chart h.blocks map0 a.w a.c a.blocks a.seen a.rests.together.ground.map sees_current
         (record { keys = same k; pair = Begun kind pair; began = h.chart.now; change = a.change; call = a.call }) refl k (λ j. refl) a.runs answer a.answers xs h.are
 
     -- the block of a word
@@ -152,22 +157,36 @@ module _ {K V S : Type 0} (same : K → K → Bool) (hashes : S → K → ℕ) (
     at_word word n phase borrowed is j v there =
         subst (λ (x : Mem (Node K V)). value_at x (block_in word) ≡ Some (node.Pair j v)) a.memory (ap (value_at a.w.memory) (block_is word n phase borrowed is) ∙ there)
 
-    -- a pair that was taken out can be looked at
-    names_old : (word o : ℕ) (borrowed : Bool) → word ≡ place_word hash a.c a.seen (HoldsPair o Still borrowed) → (o < a.c.stored) × (a.seen.pair_known o ≡ true) → NamesAPair m word
-    names_old word o borrowed is known =
-        let p = a.seen_map.map.shows.pairs o known.0 known.1 in (p.0, p.1, at_word word o Still borrowed is p.0 p.1 p.2)
+    -- the pair of the class that the list had is in the block of this word still
+    abbrev HadIt : ℕ → Type 0
+    HadIt word = (x : K × V) × (pair_for same k xs ≡ Some x) × (value_at m (block_in word) ≡ Some (node.Pair x.0 x.1))
 
-    old_by : (change : Change) (old new : ℕ) → Tells {V = V} same hash same a.w 0 (in_slot setting setting.slot) a.c a.seen (same k) a.change change (answers.Replaced old new) → NamesAPair m old
-    old_by (Replaced o n) old new t = names_old old o t.2 t.3 t.0
-    old_by Unchanged old new t = absurd t
-    old_by (Stored n) old new t = absurd t
-    old_by (Removed o) old new t = absurd t
+    abbrev ChangesIt : Change → Type 0
+    ChangesIt change = Changes same hash (is_incremental setting.mode) (same k) h.chart a.c change
 
-    gone_by : (change : Change) (word : ℕ) → Tells {V = V} same hash same a.w 0 (in_slot setting setting.slot) a.c a.seen (same k) a.change change (answers.Removed word) → NamesAPair m word
-    gone_by (Removed o) word t = names_old word o t.1 t.2 t.0
-    gone_by Unchanged word t = absurd t
-    gone_by (Stored n) word t = absurd t
-    gone_by (Replaced o n) word t = absurd t
+    abbrev FollowsIt : Change → Type 0
+    FollowsIt change = ContentsThen same h.world.memory h.blocks a.w.memory a.c a.blocks k xs change
+
+    follows : FollowsIt a.change
+    follows = contents_follow V same hash h.lawful setting h.world a.w h.chart a.c h.blocks a.blocks map0 a.rests.together.ground.map (same k) k (λ j. refl) a.change a.runs xs h.are
+
+    names_old : (word o : ℕ) (borrowed : Bool) → word ≡ place_word hash a.c a.seen (HoldsPair o Still borrowed) → (o < a.c.stored) × (a.seen.pair_known o ≡ true) → h.chart.current o ≡ true
+        → HasPairFor same h.world.memory h.blocks k xs o → HadIt word
+    names_old word o borrowed is known was p =
+        ((p.0, p.1), p.3, at_word word o Still borrowed is p.0 p.1 (ap (value_at a.w.memory) (a.sees o known.0 known.1) ∙ (a.olds o was).2 ∙ p.2))
+
+    old_by : (change : Change) (old new : ℕ) → Tells {V = V} same hash same a.w 0 (in_slot setting setting.slot) a.c a.seen (same k) a.change change (answers.Replaced old new) → ChangesIt change → FollowsIt change
+        → HadIt old
+    old_by (Replaced o n) old new t made then = names_old old o t.2 t.3 t.0 made.1.0 then.0
+    old_by Unchanged old new t made then = absurd t
+    old_by (Stored n) old new t made then = absurd t
+    old_by (Removed o) old new t made then = absurd t
+
+    gone_by : (change : Change) (word : ℕ) → Tells {V = V} same hash same a.w 0 (in_slot setting setting.slot) a.c a.seen (same k) a.change change (answers.Removed word) → ChangesIt change → FollowsIt change → HadIt word
+    gone_by (Removed o) word t made then = names_old word o t.1 t.2 t.0 made.0.0 then.0
+    gone_by Unchanged word t made then = absurd t
+    gone_by (Stored n) word t made then = absurd t
+    gone_by (Replaced o n) word t made then = absurd t
 
   found : found_by (same k) xs ≡ pair_for same k xs
   found = found_is same k (same k) (λ j. refl) xs
@@ -175,16 +194,16 @@ module _ {K V S : Type 0} (same : K → K → Bool) (hashes : S → K → ℕ) (
   left : left_by (same k) xs ≡ without same k xs
   left = left_is same k (same k) (λ j. refl) xs
 
-  old_of : (m : Mem (Node K V)) (old new : ℕ) → AnsweredIt m (answers.Replaced old new) → NamesAPair m old
-  old_of m old new a = elim a.answers.1 as (λ _. NamesAPair m old) [
+  old_of : (m : Mem (Node K V)) (old new : ℕ) → (a : AnsweredIt m (answers.Replaced old new)) → HadIt m (answers.Replaced old new) a old
+  old_of m old new a = elim a.answers.1 as (λ _. HadIt m (answers.Replaced old new) a old) [
     | inl so ↦ absurd so.1.3
-    | inr did ↦ old_by m (answers.Replaced old new) a a.change old new did.1
+    | inr did ↦ old_by m (answers.Replaced old new) a a.change old new did.1 a.runs.changed.changes (follows m (answers.Replaced old new) a)
   ]
 
-  gone_of : (m : Mem (Node K V)) (word : ℕ) → AnsweredIt m (answers.Removed word) → NamesAPair m word
-  gone_of m word a = elim a.answers.1 as (λ _. NamesAPair m word) [
+  gone_of : (m : Mem (Node K V)) (word : ℕ) → (a : AnsweredIt m (answers.Removed word)) → HadIt m (answers.Removed word) a word
+  gone_of m word a = elim a.answers.1 as (λ _. HadIt m (answers.Removed word) a word) [
     | inl so ↦ absurd so.1.3
-    | inr did ↦ gone_by m (answers.Removed word) a a.change word did.1
+    | inr did ↦ gone_by m (answers.Removed word) a a.change word did.1 a.runs.changed.changes (follows m (answers.Removed word) a)
   ]
 
   abbrev HoldsIt : Mem (Node K V) → List (K × V) → Type 0
@@ -199,10 +218,10 @@ module _ {K V S : Type 0} (same : K → K → Bool) (hashes : S → K → ℕ) (
       let t = told m (answers.Stored word) a in let s = t.2 in let i = s.5 in
       (found ∙ s.0, s.2, s.3, sym s.6.2 ∙ i.3, at_word m (answers.Stored word) a word s.1 i.0 i.1 i.2 s.2 s.3 i.3, subst (HoldsIt m) s.4 (holds_at m (answers.Stored word) a t.0 t.1))
   answered_by m (answers.Replaced old new) a =
-      let t = told m (answers.Replaced old new) a in let s = t.2 in let i = s.6 in let p = s.1 in (
-        (p.0, p.1),
-        found ∙ p.3,
-        old_of m old new a,
+      let t = told m (answers.Replaced old new) a in let s = t.2 in let i = s.6 in let p = old_of m old new a in (
+        p.0,
+        found ∙ p.1,
+        p.2,
         s.3,
         s.4,
         sym s.8.2 ∙ i.3,
@@ -210,8 +229,8 @@ module _ {K V S : Type 0} (same : K → K → Bool) (hashes : S → K → ℕ) (
         subst (HoldsIt m) (s.5 ∙ ap (λ z. z ++ ((s.3, s.4) ∷ [])) (sym left)) (holds_at m (answers.Replaced old new) a t.0 t.1),
       )
   answered_by m (answers.Removed word) a =
-      let t = told m (answers.Removed word) a in let s = t.2 in let p = s.1 in
-      ((p.0, p.1), found ∙ p.3, gone_of m word a, subst (HoldsIt m) (s.2 ∙ sym left) (holds_at m (answers.Removed word) a t.0 t.1))
+      let t = told m (answers.Removed word) a in let s = t.2 in let p = gone_of m word a in
+      (p.0, found ∙ p.1, p.2, subst (HoldsIt m) (s.2 ∙ sym left) (holds_at m (answers.Removed word) a t.0 t.1))
 
   -- what it comes to
   pub ends_by : (m : Mem (Node K V)) (result : Result Stop Fault)

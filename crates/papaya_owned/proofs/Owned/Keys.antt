@@ -1,7 +1,7 @@
 -- A call on one key of one owner's map, run to its end.
-use Rattle.std.specs.Prelude.{◌≡◌, ℕ, Bool, true, Option, Some, Result, Ok, Err}
+use Rattle.std.specs.Prelude.{◌≡◌, ℕ, ◌<◌, Bool, true, Option, Some, Result, Ok, Err}
 use Rattle.std.specs.Int.{IsPowerOfTwo}
-use Rattle.std.proofs.Common.{refl, sym, ap, subst}
+use Rattle.std.proofs.Common.{refl, sym, ◌∙◌, ap, subst}
 use denote.Ref.{Bor}
 use Rattle.seize_words.specs.Mem.{Mem, Can, Took, value_at}
 use Rattle.seize_words.specs.Op.{Op, Out}
@@ -73,6 +73,10 @@ module _ {K V Q S : Type 0} (same : K → K → Bool) (asks : Q → K → Bool) 
   abbrev pub OfKind : KeyCall K V Q → Type 0
   OfKind p = IsFit (kind_of given).present (kind_of given).absent (kind_of given).takes p
 
+  -- what the map had can be looked at still
+  abbrev pub HasOlds : Mem (Node K V) → Chart K → Blocks → Type 0
+  HasOlds m c blocks = (o : ℕ) → c0.current o ≡ true → (o < c.stored) × (blocks.pair_known o ≡ true) × (value_at m (blocks.pair o) ≡ value_at m0 (blocks0.pair o))
+
   -- it is under way, and alone, since the map rested
   pub record Course (p : KeyCall K V Q) (m : Mem (Node K V)) : Type 0 where
     pub w : World (Node K V)
@@ -84,6 +88,7 @@ module _ {K V Q S : Type 0} (same : K → K → Bool) (asks : Q → K → Bool) 
     pub memory : w.memory ≡ m
     pub runs : HasRun same hash setting keys m0 c0 blocks0 change w.memory c blocks
     pub counts : HasAdded setting m0 (counted_at p.stands) w.memory
+    pub olds : HasOlds w.memory c blocks
     pub fit : OfKind p
 
   -- it has answered, and the map rests
@@ -98,10 +103,11 @@ module _ {K V Q S : Type 0} (same : K → K → Bool) (asks : Q → K → Bool) 
     pub memory : w.memory ≡ m
     pub seen : Blocks
     pub seen_map : IsMapIn same hash (in_slot setting setting.slot) w c seen
-    pub sees : (o : ℕ) → c.current o ≡ true → seen.pair o ≡ blocks.pair o
+    pub sees : (o : ℕ) → o < c.stored → seen.pair_known o ≡ true → seen.pair o ≡ blocks.pair o
     pub answers : AnswersOnce V same hash asks setting slot_of w c seen 0 (going change call) change answer
     pub runs : HasRun same hash setting keys m0 c0 blocks0 change w.memory c blocks
     pub counts : HasAdded setting m0 (counted_for answer) w.memory
+    pub olds : HasOlds w.memory c blocks
 
   -- it was refused, and has changed nothing
   pub record IsRefused (m : Mem (Node K V)) : Type 0 where
@@ -140,6 +146,9 @@ module _ {K V Q S : Type 0} (same : K → K → Bool) (asks : Q → K → Bool) 
         → ComesFit (kind_of given).present (kind_of given).absent (kind_of given).takes (p2, told)
     fits m2 p2 told s = calls_keep_their_kind asks same hash (kind_of given).present (kind_of given).absent (kind_of given).takes p at.fit m m2 (p2, told) s
 
+    olds_then : (m2 : Mem (Node K V)) (p2 : KeyCall K V Q) (told : Called (Node K V)) → (l : Leading m2 p2 told) → HasOlds l.w2.memory l.c2 l.blocks2
+    olds_then m2 p2 told l o was = let old = at.olds o was in let s = l.sees o old.0 old.1 in (s.0, s.1, s.2 ∙ old.2)
+
     course_of : (m2 : Mem (Node K V)) (p2 : KeyCall K V Q) (told : Called (Node K V)) → (l : Leading m2 p2 told) → IsAlone same hash asks setting slot_of l.w2 l.c2 l.blocks2 l.sights2 (OnKeyOf (going l.change2 p2)) → OfKind p2 → Course p2 m2
     course_of m2 p2 told l alone fit = record {
       w = l.w2;
@@ -151,6 +160,7 @@ module _ {K V Q S : Type 0} (same : K → K → Bool) (asks : Q → K → Bool) 
       memory = l.memory;
       runs = l.runs m0 c0 blocks0 rule0 at.runs;
       counts = l.counts m0 at.counts;
+      olds = olds_then m2 p2 told l;
       fit = fit;
     }
 
@@ -175,6 +185,7 @@ module _ {K V Q S : Type 0} (same : K → K → Bool) (asks : Q → K → Bool) 
       answers = l.leads.4;
       runs = l.runs m0 c0 blocks0 rule0 at.runs;
       counts = subst (λ x. HasAdded setting m0 x l.w2.memory) (l.answered answer refl) (l.counts m0 at.counts);
+      olds = olds_then m2 p2 (called.Done answer) l;
     }
     course_by m2 p2 (called.Refused fault) l f = (
       record {

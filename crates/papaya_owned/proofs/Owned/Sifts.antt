@@ -92,7 +92,7 @@ module _ {K V S : Type 0} (same : K → K → Bool) (hashes : S → K → ℕ) (
 
     -- Told, it is under way again, and has one less to ask about.
     pub asking_left : 0 < left
-    asking_left = let l = a.left_is in let f = asked_about.fewer true in omega (arith, l, f)
+    asking_left = let l = a.left_is in let f = asked_about.fewer in omega (arith, l, f)
 
     kept_then : (keeps : Bool) → ((test : K → V → Bool) → obeys test → keeps ≡ test asked_about.key asked_about.value) → KeptSo (said_of same hashes b setting m0 xs h a.said asked_about.number keeps)
     kept_then keeps by test so =
@@ -105,6 +105,6 @@ module _ {K V S : Type 0} (same : K → K → Bool) (hashes : S → K → ℕ) (
       said = said_of same hashes b setting m0 xs h a.said asked_about.number keeps;
       under = subst (λ (y : Sweep). UnderIt same hashes b setting m0 xs h (said_of same hashes b setting m0 xs h a.said asked_about.number keeps) (record x { sweep = y }) m) (sym is)
           (told same hashes b setting m0 xs h a.said x m word a.asks keeps);
-      left_is = let l = a.left_is in let f = asked_about.fewer keeps in omega (arith, l, f, less_is);
+      left_is = let l = a.left_is in let f = asked_about.fewer in omega (arith, l, f, less_is);
       kept = kept_then keeps by;
     }

@@ -25,19 +25,19 @@ times_here n xs = let e : cond (eqb n n) 1 0 ≡ 1 = ap {B = ℕ} (λ (x : Bool)
 pub times_other : (n i : ℕ) (xs : List ℕ) → i ≢ n → times i (n ∷ xs) ≡ times i xs
 times_other n i xs other = let e : cond (eqb i n) 1 0 ≡ 0 = ap {B = ℕ} (λ (x : Bool). cond x 1 0) (ne_eqb i n other) in omega (arith, e)
 
+-- what is done once a pair is told of
+module _ (n : ℕ) (done : List ℕ) (fresh : times n done ≡ 0) where
+  pub done_here : (b : Bool) → is_done (cond b (n ∷ done) done) n ≡ b
+  done_here true = lt-ltb 0 (times n (n ∷ done)) (let e = times_here n done in omega (arith, e))
+  done_here false = ap (nat_lt 0) fresh
+
+  pub done_other : (b : Bool) (i : ℕ) → i ≢ n → is_done (cond b (n ∷ done) done) i ≡ is_done done i
+  done_other true i other = ap (nat_lt 0) (times_other n i done other)
+  done_other false i other = refl
+
 module _ {K V : Type 0} (test : K → V → Bool) (m0 : Mem (Node K V)) (blocks0 : Blocks) where
   pub kept_begins : KeptBegins test m0 blocks0
   kept_begins done n k v l block = absurd (omega (arith, l))
-
-  -- what is done once a pair is told of
-  module _ (n : ℕ) (done : List ℕ) (fresh : times n done ≡ 0) where
-    done_here : (b : Bool) → is_done (cond b (n ∷ done) done) n ≡ b
-    done_here true = lt-ltb 0 (times n (n ∷ done)) (let e = times_here n done in omega (arith, e))
-    done_here false = ap (nat_lt 0) fresh
-
-    done_other : (b : Bool) (i : ℕ) → i ≢ n → is_done (cond b (n ∷ done) done) i ≡ is_done done i
-    done_other true i other = ap (nat_lt 0) (times_other n i done other)
-    done_other false i other = refl
 
   pub kept_told : KeptTold test m0 blocks0
   kept_told asked done kept n first fresh k v block i j x l its = elim (cases_eq i n) as (λ _. is_done (cond (test k v) (n ∷ done) done) i ≡ test j x) [

@@ -1,7 +1,7 @@
 -- A step of a call that is alone, none of a row of the collector: it does not wait, and the call is alone still, or it asks, or the owner rests.
-use Rattle.std.specs.Prelude.{◌≡◌, ℕ, Bool, Option, Some, None}
+use Rattle.std.specs.Prelude.{◌≡◌, ℕ, ◌<◌, Bool, Option, Some, None}
 use Rattle.std.specs.Int.{IsPowerOfTwo}
-use Rattle.std.proofs.Common.{inl, inr, refl, ap, sym, subst, ◌∙◌, true}
+use Rattle.std.proofs.Common.{inl, inr, refl, ap, sym, subst, ◌∙◌, true, arith}
 use Rattle.std.proofs.lemmas.Bool.{cases_eq, cases_lt}
 use Rattle.seize_words.specs.Mem.{Mem, Can, Took, value_at}
 use Rattle.seize_words.specs.Plan.{May, Steps}
@@ -17,7 +17,7 @@ use Rattle.papaya_raw.specs.declared.machines.answer.Called.TheVariants as calle
 use Rattle.papaya_raw.specs.declared.machines.call.KeyCall.{KeyCall}
 use Rattle.papaya_rule.specs.Chart.{Chart}
 use Rattle.papaya_rule.specs.Words.{Blocks}
-use Rattle.papaya_rule.specs.InWorld.{IsMapIn, Went}
+use Rattle.papaya_rule.specs.InWorld.{IsMapIn, IsOut, Went}
 use Rattle.papaya_rule.proofs.World.WentTold.{went_as}
 use Rattle.papaya_points.specs.FactsCalls.{CallFacts}
 use Rattle.papaya_points.specs.Steps.{AreLawful}
@@ -39,7 +39,6 @@ use Rattle.papaya_whole.specs.Whole.{then_so, Leads, StepLeads}
 use Rattle.papaya_points.proofs.MovedLasts.{moved_lasts}
 use Rattle.papaya_alone.proofs.Calls.Changes.{changed_on}
 use Rattle.papaya_callers.proofs.Sights.Sources.{below, above}
-use Rattle.papaya_rule.proofs.World.Hands.{current_known}
 use Rattle.papaya_whole.proofs.Contents.Runs.{were_told, went_keeps, run_on, still_on}
 use Rattle.seize_words.specs.declared.fault.Fault.{Fault}
 use Rattle.papaya_alone.specs.Counted.{HasAdded, counted_at}
@@ -149,12 +148,25 @@ module _ {K V Q : Type 0} (same : K → K → Bool) (hash : K → ℕ) (asks : Q
                 of_root = of_root_then (together2.stand 0 (OnKey after) has2);
               }
 
-        -- what it has looked at are the pairs of the map
-        pair_seen : (o : ℕ) → lone.c2.current o ≡ true → lone.blocks2.pair o ≡ stepped.blocks2.pair o
-        pair_seen o is = elim (cases_lt o c.stored) as (λ _. lone.blocks2.pair o ≡ stepped.blocks2.pair o) [
-          | inl low ↦
-              (let known = current_known same hash here lone.w2 lone.c2 lone.blocks2 lone.map.map.rule lone.map.map.shows o is in
-              (lone.blocks_same.pairs o low (lone.blocks_same.pairs_back o low known.1)).0 ∙ sym (below o c.stored (blocks.pair o) (lone.blocks2.pair o) low))
+        -- what could be looked at is there still
+        abbrev all : IsMapIn same hash setting w c blocks
+        all = a.together.ground.map
+
+        sees_still : (o : ℕ) → o < c.stored → blocks.pair_known o ≡ true
+            → (o < lone.c2.stored) × (stepped.blocks2.pair_known o ≡ true) × (value_at lone.w2.memory (stepped.blocks2.pair o) ≡ value_at w.memory (blocks.pair o))
+        sees_still o low known =
+            let is = (all.map.shows.pairs o low known).2 in
+            let more = (moved_lasts same hash here lawful.lawful w c lone.c2 seen map lone.moved).stored in (
+              omega (arith, low, more),
+              below o c.stored (blocks.pair_known o) (lone.blocks2.pair_known o) low ∙ known,
+              ap (value_at lone.w2.memory) (below o c.stored (blocks.pair o) (lone.blocks2.pair o) low) ∙ ap (λ (x : Mem (Node K V)). value_at x (blocks.pair o)) lone.memory
+                  ∙ lone.frame.values (blocks.pair o) _ is (λ making. subst IsOut making.0 (all.pairs_out o low known)) ∙ sym is,
+            )
+
+        -- what it has looked at is what all look at
+        pair_seen : (o : ℕ) → o < lone.c2.stored → lone.blocks2.pair_known o ≡ true → lone.blocks2.pair o ≡ stepped.blocks2.pair o
+        pair_seen o made known = elim (cases_lt o c.stored) as (λ _. lone.blocks2.pair o ≡ stepped.blocks2.pair o) [
+          | inl low ↦ (lone.blocks_same.pairs o low (lone.blocks_same.pairs_back o low known)).0 ∙ sym (below o c.stored (blocks.pair o) (lone.blocks2.pair o) low)
           | inr high ↦ sym (above o c.stored (blocks.pair o) (lone.blocks2.pair o) high)
         ]
 
@@ -189,6 +201,7 @@ module _ {K V Q : Type 0} (same : K → K → Bool) (hash : K → ℕ) (asks : Q
           change2 = lone.told.0.change2;
           memory = lone.memory;
           leads = by progress refl lone.told.0.facts (lone.told.1 a.lone);
+          sees = sees_still;
           counts = λ m0 had. subst (HasAdded setting m0 (counted_at p2.stands)) (sym lone.memory) (counting m0 had).0;
           hands = stepped.hands;
           answered = λ answer is. answered_counted answer p2.stands (subst (CallFactsAfter same hash asks 0 here u.keys lone.w2 lone.c2 lone.blocks2 lone.told.0.change2 p2) is lone.told.0.facts).0;

@@ -1,6 +1,6 @@
 -- What a step of a row is to the reservation that it is within, and that it is of the root's table once the row is over.
 use Rattle.std.specs.Prelude.{◌==◌, if◌then◌else◌}
-use Rattle.std.proofs.Common.{◌≡◌, ℕ, Bool, true, false, refl, ap, sym, subst, ◌∙◌}
+use Rattle.std.proofs.Common.{◌≡◌, ℕ, ◌≤◌, Bool, true, false, refl, arith, ap, sym, subst, ◌∙◌}
 use Rattle.seize_words.specs.Mem.{Mem, Took, value_at}
 use Rattle.seize_words.specs.Plan.{Steps, plan_as}
 use Rattle.seize.specs.declared.rows.settle.Settle.{Settle}
@@ -32,6 +32,7 @@ use Rattle.papaya_points.specs.Told.{IsRowOfCopier}
 use Rattle.papaya_late.specs.FactsReserves.{ReservingFacts}
 use Rattle.papaya_late.specs.LateReserves.{LateReserving}
 use Rattle.papaya_late.specs.ToldReserves.{IsRowOfReserve}
+use Rattle.papaya_maps.specs.AloneReserves.{LooksAtRoot, SumsUp}
 use Rattle.papaya_maps.specs.FactsAloneReserves.{CopierAlone, ReservesAlone}
 use Rattle.papaya_callers.specs.Rows.{row_of_copier, past_copying}
 use Rattle.papaya_callers.specs.Rooms.{row_of_room, past_room, room_once_over}
@@ -65,6 +66,30 @@ at_room_row P by (at.Refused fault) row = absurd row
 
 pub no_room_row_rests : (x : Reserving) → IsRowOfReserve x → Rests ≡ row_of_room x → ⊥
 no_room_row_rests = at_room_row (λ x. Rests ≡ row_of_room x → ⊥) (λ p row. copier_row p.stands row)
+
+-- A row leaves the table that is copied into as it is, and counts nothing.
+module _ {K : Type 0} (c : Chart K) where
+  pub still_looks : (x y : Reserving) → IsRowOfReserve x → IsRowOfReserve y → ((first : ℕ) → RoomTargetIs first x → RoomTargetIs first y) → LooksAtRoot c x → LooksAtRoot c y
+  still_looks x y row after = at_room_row (λ z. ((first : ℕ) → RoomTargetIs first z → RoomTargetIs first y) → LooksAtRoot c z → LooksAtRoot c y)
+      (λ p at_row. at_room_row (λ z. ((first : ℕ) → p.target.turn ≡ first → RoomTargetIs first z) → c.first ≤ p.target.turn → LooksAtRoot c z)
+      (λ q at_row2 target near. let e = target p.target.turn refl in omega (arith, near, e)) y after) x row
+
+  past_near : (p : Copier) (stands : Copying) → IsRowOfCopier stands → c.first ≤ p.target.turn → c.first ≤ (past_copying p stands).target.turn
+  past_near p = at_retirement (λ z. c.first ≤ p.target.turn → c.first ≤ (past_copying p z).target.turn) (λ settle rest. by rest (rest == 0))
+    where
+      by : (rest : ℕ) (b : Bool) → c.first ≤ p.target.turn → c.first ≤ (if b then copiers.standing p copies.Over else copiers.standing p (copies.Succeeds rest)).target.turn
+      by rest true near = near
+      by rest false near = near
+
+  pub over_looks : (x : Reserving) → IsRowOfReserve x → LooksAtRoot c x → LooksAtRoot c (past_room x)
+  over_looks = at_room_row (λ z. LooksAtRoot c z → LooksAtRoot c (past_room z)) (λ p row near. past_near p p.stands row near)
+
+module _ {T : Type 0} (setting : Setting) (m : Mem T) where
+  pub row_sums : (x : Reserving) → IsRowOfReserve x → SumsUp setting m x
+  row_sums = at_room_row (λ z. SumsUp setting m z) (λ p row. tt)
+
+  pub over_sums : (x : Reserving) → IsRowOfReserve x → SumsUp setting m (past_room x)
+  over_sums = at_room_row (λ z. SumsUp setting m (past_room z)) (λ p row. tt)
 
 module _ {K V : Type 0} (hash : K → ℕ) (p : Reserve) (m m2 : Mem (Node K V)) where
   -- it is within the row still

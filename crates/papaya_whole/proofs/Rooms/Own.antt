@@ -1,7 +1,7 @@
 -- A step of a reservation that is alone, none of a row of the collector: it does not wait, and the reservation is alone still, or the owner rests.
 use Rattle.std.specs.Prelude.{◌≡◌, ℕ, suc, ◌⊎◌, Bool, Option, Some, None}
 use Rattle.std.specs.Int.{IsPowerOfTwo}
-use Rattle.std.proofs.Common.{inl, inr, refl, ap, sym, ◌∙◌}
+use Rattle.std.proofs.Common.{inl, inr, refl, ap, sym, subst, ◌∙◌}
 use Rattle.std.proofs.lemmas.Bool.{cases_eq}
 use Rattle.seize_words.specs.Mem.{Mem, Can, Took, value_at}
 use Rattle.seize_words.specs.Plan.{May, Steps}
@@ -30,6 +30,7 @@ use Rattle.papaya_late.proofs.Rooms.Reserves.On.{ReserveWent}
 use Rattle.papaya_late.proofs.Rooms.Reserves.Points.{went_reserve}
 use Rattle.papaya_alone.specs.FactsAloneCalls.{RestsAlone}
 use Rattle.papaya_maps.specs.FactsAloneReserves.{IsLoneReserve, LeadsReserve}
+use Rattle.papaya_maps.proofs.Reserves.AtRoot.{keeps_to_root}
 use Rattle.papaya_maps.proofs.Reserves.Beside.{reserve_leads}
 use Rattle.papaya_falls.specs.Reserves.{number_of_reserve}
 use Rattle.papaya_falls.proofs.Laws.{reserves_fall}
@@ -217,6 +218,10 @@ module _ {K V Q : Type 0} (same : K → K → Bool) (hash : K → ℕ) (asks : Q
           same_pairs = went.told.1;
           leads = by end refl went.told.2 leads_lone;
           counts = λ m0 more had. added_same w.memory went.w2.memory setting m0 more had had_shards;
+          places = λ incremental root sums.
+              keeps_to_root same hash here incremental w went.w2 c went.c2 seen went.blocks2 map went.map (moved_lasts same hash here lawful.lawful w c went.c2 seen map went.moved) went.blocks_same went.moved
+              r.reserve knows_here.2 none (p2, end) went.told.2
+              (subst (λ (m : Mem (Node K V)). Steps Took value_at w.memory (reserve_plan hash r.reserve) m (p2, end)) (sym went.memory) steps) root sums;
           runs = λ keys m0 c0 blocks0 rule0. run_on same hash setting keys m0 c0 blocks0 w.memory went.w2.memory c went.c2 blocks stepped.blocks2 Unchanged Unchanged
               (λ changed. changed_on same hash setting keys c0 c went.c2 rule0 map.map.rule went.map.map.rule went.moved
               (moved_lasts same hash here lawful.lawful w c went.c2 seen map went.moved) Unchanged Unchanged changed (inl (refl, went.told.1)))

@@ -25,6 +25,7 @@ use Rattle.papaya_points.specs.Steps.{AreLawful}
 use Rattle.papaya_late.specs.FactsReserves.{ReserveFacts}
 use Rattle.papaya_late.specs.LateReserves.{LateReserveFacts}
 use Rattle.papaya_late.specs.ToldReserves.{IsRowOfReserve}
+use Rattle.papaya_maps.specs.AloneReserves.{LooksAtRoot, SumsUp, KeepsToRoot}
 use Rattle.papaya_maps.specs.EndingsReserves.{HasMore}
 use Rattle.papaya_maps.specs.FactsAloneReserves.{IsLoneReserve, ReservesAlone}
 use Rattle.papaya_falls.specs.Reserves.{number_of_reserve}
@@ -44,7 +45,7 @@ use Rattle.papaya_whole.proofs.Contents.Runs.{row_keeps, run_on}
 use Rattle.papaya_whole.specs.Owner.{IsFirst, IsOfRoot, IsAlone}
 use Rattle.papaya_whole.specs.WholeRooms.{room_so, RoomLeads, RoomStepLeads}
 use Rattle.papaya_whole.proofs.Keys.Falls.{row_left, lower_more, lower_last}
-use Rattle.papaya_whole.proofs.Rooms.Account.{room_told_by, RoomTargetIs, no_room_row_rests, StillRoom, RoomAccount, RoomSettling, RoomOver, room_account, room_target_at, room_target_past, room_never_late_at, room_never_late_past}
+use Rattle.papaya_whole.proofs.Rooms.Account.{room_told_by, RoomTargetIs, no_room_row_rests, still_looks, over_looks, row_sums, over_sums, StillRoom, RoomAccount, RoomSettling, RoomOver, room_account, room_target_at, room_target_past, room_never_late_at, room_never_late_past}
 use Rattle.papaya_whole.proofs.Rows.Settles.{never_waits, settling_lowers}
 
 -- the numbers of a reservation, and then what its row has left
@@ -221,6 +222,27 @@ module _ {K V Q : Type 0} (same : K → K → Bool) (hash : K → ℕ) (asks : Q
       | inr h ↦ absurd (no_room_row_rests r.reserve.stands is_row (sym h.3.0 ∙ now.row_is))
     ]
 
+    -- and keeps to the root
+    abbrev RootSo : Reserve × Outcome (Node K V) Unit → Type 0
+    RootSo = KeepsToRoot setting led.w2.memory c
+
+    told_so : (q : Reserve) → LooksAtRoot c q.stands → SumsUp setting led.w2.memory q.stands → (o : Settled (Node K V)) → RootSo (q, room_told_by o)
+    told_so q root sums settled.Goes = (root, sums)
+    told_so q root sums settled.Waits = (root, sums)
+    told_so q root sums (settled.Gave value) = (root, sums)
+    told_so q root sums settled.Done = (root, sums)
+
+    pub root_by : LooksAtRoot c r.reserve.stands → (x : Reserve × Outcome (Node K V) Unit) → x ≡ (p2, end) → RoomAccount hash r.reserve now.v.memory m2 x → RootSo (p2, end)
+    root_by root e is (RoomSettling x y o _ row st going tells row2 s) =
+        subst RootSo is
+        (subst (λ (t : Outcome (Node K V) Unit). RootSo (e.0, t)) (sym tells)
+        (told_so e.0 (still_looks c r.reserve.stands e.0.stands is_row s.is_row s.target root) (row_sums setting led.w2.memory e.0.stands s.is_row) o))
+    root_by root e is (RoomOver _ tells none past alone) =
+        subst RootSo is
+        (subst (λ (t : Outcome (Node K V) Unit). RootSo (e.0, t)) (sym tells)
+        (subst (λ (q : Reserve). LooksAtRoot c q.stands × SumsUp setting led.w2.memory q.stands) (sym past)
+        (over_looks c r.reserve.stands is_row root, over_sums setting led.w2.memory r.reserve.stands is_row)))
+
     abbrev pub row_leads : RoomStepLeads {Q = Q} same hash asks setting slot w c blocks r m2 p2 end
     row_leads = record {
       w2 = led.w2;
@@ -230,6 +252,7 @@ module _ {K V Q : Type 0} (same : K → K → Bool) (hash : K → ℕ) (asks : Q
       memory = led.memory;
       same_pairs = refl;
       counts = row_counts;
+      places = λ incremental root sums. root_by root (p2, end) refl (room_account hash r.reserve now.v.memory m2 is_row (p2, end) steps_now);
       runs = λ keys m0 c0 blocks0 rule0. run_on same hash setting keys m0 c0 blocks0 w.memory led.w2.memory c c blocks blocks Unchanged Unchanged (λ h. h) row_kept (λ h. h);
       leads = by_account (p2, end) refl (room_account hash r.reserve now.v.memory m2 is_row (p2, end) steps_now);
     }

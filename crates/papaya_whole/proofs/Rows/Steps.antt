@@ -1,5 +1,5 @@
 -- A step of a row within a call that is alone: it does not wait, and the call is alone still, or the owner rests.
-use Rattle.std.specs.Prelude.{◌≡◌, ◌≢◌, ℕ, Bool, Option, Some, None}
+use Rattle.std.specs.Prelude.{◌≡◌, ◌≢◌, ℕ, ◌<◌, Bool, Option, Some, None}
 use Rattle.std.proofs.Common.{true, inl, inr, refl, ap, sym, subst, ◌∙◌}
 use Rattle.std.proofs.lemmas.Bool.{cases_eq}
 use Rattle.seize_words.specs.Mem.{Mem, Can, Took, value_at}
@@ -13,6 +13,7 @@ use Rattle.seize.specs.declared.rows.settle.Settled.TheVariants as settled
 use Rattle.seize.specs.Defer.{defer_plan}
 use Rattle.seize.specs.Settle.{settle_plan}
 use Rattle.seize.specs.World.{World, Rests, Settles, Defers, IsInside, with_at}
+use Rattle.seize_alone.proofs.Histories.NotTaken.{IsKept, IsHeld, kept_value}
 use Rattle.seize_alone.proofs.Histories.Uses.{inside_kept}
 use Rattle.seize_ends.proofs.Settling.Most.{is_going}
 use Rattle.seize_rule.proofs.Rows.Others.{steps_others}
@@ -32,9 +33,11 @@ use Rattle.papaya_points.specs.Steps.{AreLawful}
 use Rattle.papaya_points.specs.Told.{IsRowOfCall}
 use Rattle.papaya_alone.specs.FactsAloneCalls.{TablesAlone, StandsAlone, IsLone}
 use Rattle.papaya_late.specs.LateCalls.{LateCallFacts}
+use Rattle.papaya_callers.specs.Kept.{IsKeptBy}
 use Rattle.papaya_callers.specs.Rows.{past_row, once_over}
 use Rattle.papaya_callers.specs.Sights.{Sight, seen_by}
 use Rattle.papaya_callers.specs.Together.{UnderWay, CallOnKey, OnKey, HasCall, next_of, in_slot, Stands}
+use Rattle.papaya_callers.proofs.Rows.Keep.{kept_block}
 use Rattle.papaya_callers.proofs.Together.At.{at_other, at_same}
 use Rattle.papaya_callers.proofs.Sights.Seen.{map_seen}
 use Rattle.papaya_callers.proofs.Together.Came.{came_reached}
@@ -210,13 +213,28 @@ module _ {K V Q : Type 0} (same : K → K → Bool) (hash : K → ℕ) (asks : Q
     by_account end is (Ends answer _ tells none same_count tables) =
         let e = ap (λ (e : KeyCall K V Q × Called (Node K V)). e.0) is in
         let done = sym (ap (λ (e : KeyCall K V Q × Called (Node K V)). e.1) is) ∙ tells in
-        as_told (called.Done answer) done (ended (ap (next_of after) done) (subst (λ (q : KeyCall K V Q). IsRowOfCall q.stands → ⊥) e none) tables, seen, map_then, (λ o is. refl), led.answers answer done)
+        as_told (called.Done answer) done (ended (ap (next_of after) done) (subst (λ (q : KeyCall K V Q). IsRowOfCall q.stands → ⊥) e none) tables, seen, map_then, (λ o made known. refl), led.answers answer done)
 
     -- a row keeps the pairs of the map
     pub row_kept : KeepsPairs w.memory c blocks led.w2.memory c blocks
     row_kept =
         subst (λ (m : Mem (Node K V)). KeepsPairs m c blocks led.w2.memory c blocks) now.memory
         (row_keeps same hash lawful setting now.v c blocks now.together.ground.map now.together.ground.came 0 led.w2 led.happened)
+
+    -- and what could be looked at
+    taken_none : (o : ℕ) → IsKeptBy now.v (blocks.pair o) → IsKept (blocks.pair o) now.v
+    taken_none o (inl kept) = kept_block now.v (blocks.pair o) kept
+    taken_none o (inr (t, in_it, h)) = IsHeld t h
+
+    pub row_sees : (o : ℕ) → o < c.stored → blocks.pair_known o ≡ true
+        → (o < c.stored) × (blocks.pair_known o ≡ true) × (value_at led.w2.memory (blocks.pair o) ≡ value_at w.memory (blocks.pair o))
+    row_sees o low known = (
+      low,
+      known,
+      kept_value deferred_word setting.batch_size now.v (came_reached setting.batch_size now.v now.together.ground.came) 0 led.w2 led.happened (blocks.pair o)
+          (taken_none o (now.together.ground.kept.pairs o low known))
+      ∙ ap (λ (x : Mem (Node K V)). value_at x (blocks.pair o)) now.memory,
+    )
 
     -- and the call has counted by it what it had
     count_past : (x : Calling) → counted_at (past_row x) ≡ counted_at x
@@ -284,6 +302,7 @@ module _ {K V Q : Type 0} (same : K → K → Bool) (hash : K → ℕ) (asks : Q
       change2 = u.change;
       memory = led.memory;
       runs = λ m0 c0 blocks0 rule0. run_on same hash setting u.keys m0 c0 blocks0 w.memory led.w2.memory c c blocks blocks u.change u.change (λ h. h) row_kept (λ h. h);
+      sees = row_sees;
       counts = row_counts;
       answered = row_answered;
       refused = row_refused;

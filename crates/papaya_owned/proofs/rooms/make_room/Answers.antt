@@ -1,0 +1,9 @@
+-- It comes to its end, and what it comes to.
+use Rattle.papaya_owned.proofs.Owned.Rooms.{making_room_ends, making_room_by}
+use Rattle.papaya_owned.proofs.rooms.make_room.Goals as goal
+
+pub run-requires : goal.run-requires
+run-requires g c = let r = c.requires in making_room_ends {S = g.row.S.Denot} _ _ c.args.hasher c.args.setting _ r.0 r.1 _ _ c.new-reserve.ensures
+
+pub returns : goal.returns
+returns g c = λ xs has. making_room_by {S = g.row.S.Denot} _ _ c.args.hasher c.args.setting _ xs has _ _ c.new-reserve.ensures _ _ _ c.run.ensures

@@ -1,0 +1,27 @@
+-- Room for further pairs in the map of one owner.
+use Rattle.std.specs.Prelude.{◌≡◌, ℕ, ◌≤◌, Bool, List, length, Result, Ok, Err, Some}
+use Rattle.seize_words.specs.Mem.{Mem, value_at, word_at}
+use Rattle.seize_words.specs.Word.{block_in}
+use Rattle.seize_words.specs.declared.at.At.TheVariants.{Root}
+use Rattle.seize_words.specs.declared.fault.Fault.{Fault}
+use Rattle.papaya_tables.specs.declared.node.Node.{Node}
+use Rattle.papaya_tables.specs.declared.node.Node.TheVariants as node
+use Rattle.papaya_tables.specs.declared.setting.Setting.{Setting}
+use Rattle.papaya_reserves.specs.Reserve.{needed}
+use Rattle.papaya_late.specs.Faults.{IsRoom}
+use Rattle.papaya_owned.specs.Owned.{Holds}
+
+-- The table of the root has as many places as so many further pairs need, beside so many that are there.
+pub record HasRoomFor {K V : Type 0} (setting : Setting) (m : Mem (Node K V)) (additional count : ℕ) : Type 0 where
+  pub root : ℕ
+  pub root_is : word_at m (Root setting.root) ≡ Some root
+  pub len : ℕ
+  pub limit : ℕ
+  pub turn : ℕ
+  pub table : value_at m (block_in root) ≡ Some (node.Table len limit turn)
+  pub places : needed additional count ≤ len
+
+-- What a reservation has come to: no pair has changed, and there is room; or it was refused for want of it.
+abbrev pub RoomBy : {K V : Type 0} → (K → K → Bool) → (K → ℕ) → Setting → ℕ → Mem (Node K V) → List (K × V) → Result Unit Fault → Type 0
+RoomBy same hash setting additional m xs (Ok done) = Holds same hash setting m xs × HasRoomFor setting m additional (length xs)
+RoomBy same hash setting additional m xs (Err fault) = Holds same hash setting m xs × IsRoom fault

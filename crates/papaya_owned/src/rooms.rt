@@ -1,0 +1,27 @@
+//! Room for further pairs in one owner's map: a reservation, run to its end.
+ghost use Rattle.std.specs.Prelude.{List};
+ghost use Rattle.papaya_owned.specs.Owned.{Holds};
+ghost use Rattle.papaya_owned.specs.Rooms.{RoomBy};
+
+use crate::machines::ForRoom;
+use crate::running::run;
+use papaya_raw::machines::Reserve;
+use papaya_tables::{Hashes, Node, Setting};
+use seize_words::{Fault, Plain};
+use std::hash::Hash;
+
+/// Makes room for so many further pairs: the table of the root has as many places as they need, beside the pairs that are there. No pair changes.
+/// The faults are `Fault::Capacity`, where that is too many, and `Fault::Memory`.
+pub fn make_room<K: Eq + Hash + Drop, V: Drop, S: Hashes<K>>(
+    memory: &mut Plain<Node<K, V>>,
+    setting: Setting,
+    hasher: &S,
+    additional: u64,
+) -> Result<(), Fault>
+    requires { (xs : List (K × V)) × Holds K.eq (S.hash hasher.now) setting memory.old xs }
+    ensures { (xs : List (K × V)) → Holds K.eq (S.hash hasher.now) setting memory.old xs → RoomBy K.eq (S.hash hasher.now) setting additional memory.new xs result }
+{
+    let reserve = Reserve::new(setting, additional);
+    let mut machine = ForRoom { reserve, hasher };
+    run(&mut machine, memory)
+}
