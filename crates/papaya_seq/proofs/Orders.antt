@@ -4,13 +4,16 @@ use Rattle.std.specs.Cmp.{IsEquivalence}
 use Rattle.std.specs.List.{All, AllByRecursion, IsDistinct, swap}
 use Rattle.std.specs.List.Sorted.{IsPermutation}
 use Rattle.std.specs.Map.{keys_of}
-use Rattle.std.proofs.Common.{◌≡◌, ◌≢◌, ℕ, zero, suc, ◌<◌, Bool, true, false, cond, List, [], ◌∷◌, ◌++◌, length, get_or, set, filter, Some, None, refl, ap, sym, subst, ◌∙◌, arith}
+use Rattle.std.proofs.Common.{◌≡◌, ◌≢◌, ℕ, zero, suc, ◌<◌, Bool, true, false, cond, List, [], ◌∷◌, ◌++◌, map, length, get_or, set, filter, Some, None, refl, ap, sym, subst, ◌∙◌, arith}
 use Rattle.std.proofs.lemmas.Bool.{true≢false}
 use Rattle.std.proofs.lemmas.List.Elements.{All-nil, All-cons}
 use Rattle.std.proofs.lemmas.List.Sorted.{IsPermutation-refl, IsPermutation-trans, IsPermutation-cons, IsPermutation-append_left, IsPermutation-append_comm, IsPermutation-keeps, IsPermutation-map, length_permutation}
 use Rattle.std.proofs.lemmas.Map.Keys.{IsDistinct-head, IsDistinct-tail, IsDistinct-IsPermutation}
+use denote.Ref.{Bor}
+use Rattle.std.specs.Fn.{Mut}
 use Rattle.papaya_whole.specs.Contents.{HasOneEach, pair_for}
 use Rattle.papaya_owned.specs.Owned.{found_by, left_by}
+use Rattle.papaya_owned.specs.Retaining.{KeepsOf}
 use Rattle.papaya_owned.proofs.Owned.Lookups.{found_append}
 use Rattle.papaya_seq.specs.Orders.{IsOneClass, AreWrittenApart}
 
@@ -71,6 +74,46 @@ module _ {X : Type 0} (test : X → Bool) where
   kept_in_any_order =
       in_any_order (λ xs ys. IsPermutation (filter test xs) (filter test ys)) (λ xs. IsPermutation-refl (filter test xs)) kept_under kept_turned
       (λ xs ys zs. IsPermutation-trans (filter test xs) (filter test ys) (filter test zs))
+
+-- what stands beside each goes with it
+module _ {X Y : Type 0} (of : Y → X) where
+  abbrev Lifts : List X → List X → Type 0
+  Lifts xs ys = (us : List Y) → map of us ≡ xs → (vs : List Y) × (map of vs ≡ ys) × IsPermutation us vs
+
+  lifts_under : (x : X) (xs ys : List X) → Lifts xs ys → Lifts (x ∷ xs) (x ∷ ys)
+  lifts_under x xs ys so [] is = absurd (cc is)
+  lifts_under x xs ys so (u ∷ us) is = let e : map of us ≡ xs = cc is in let first : of u ≡ x = cc is in let vs = so us e in (u ∷ vs.0, cc (first, vs.1), IsPermutation-cons u us vs.0 vs.2)
+
+  lifts_turned : (x y : X) (xs : List X) → Lifts (x ∷ y ∷ xs) (y ∷ x ∷ xs)
+  lifts_turned x y xs [] is = absurd (cc is)
+  lifts_turned x y xs (u ∷ []) is = absurd (cc is)
+  lifts_turned x y xs (u ∷ v ∷ us) is =
+      let e : map of us ≡ xs = cc is in let first : of u ≡ x = cc is in let second : of v ≡ y = cc is in (v ∷ u ∷ us, cc (first, second, e), two_turned u v us)
+
+  pub lifts : (xs ys : List X) → IsPermutation xs ys → Lifts xs ys
+  lifts =
+      in_any_order Lifts (λ xs us is. (us, is, IsPermutation-refl us)) lifts_under lifts_turned
+      (λ xs ys zs p q us is. let vs = p us is in let ws = q vs.0 vs.1 in (ws.0, ws.1, IsPermutation-trans us vs.0 ws.0 vs.2 ws.2))
+
+-- a closure that keeps some of the pairs keeps the same ones in another order
+module _ {F K V : Type 0} (g : Mut F (Bor K × (Bor V × Unit {0})) Bool) (f : F) where
+  pub keeps_same : (xs ys kept : List (K × V)) → IsPermutation xs ys → KeepsOf g f xs kept → (left : List (K × V)) × KeepsOf g f ys left × IsPermutation kept left
+  keeps_same xs ys kept order k =
+      let along = lifts (λ (y : (K × V) × Bool). y.0) xs ys order k.answered k.all in
+      let left = map (λ (y : (K × V) × Bool). y.0) (filter (λ y. y.1) along.0) in (
+        left,
+        record {
+          answered = along.0;
+          all = along.1;
+          asked = k.asked;
+          each_once = IsPermutation-trans k.asked k.answered along.0 k.each_once along.2;
+          last = k.last;
+          along = k.along;
+          kept_are = refl;
+        },
+        subst (λ zs. IsPermutation zs left) (sym k.kept_are)
+            (IsPermutation-map (λ y. y.0) (filter (λ y. y.1) k.answered) (filter (λ y. y.1) along.0) (kept_in_any_order (λ y. y.1) k.answered along.0 along.2)),
+      )
 
 module _ {K V : Type 0} (keys : K → Bool) where
   -- those that are left are those that pass

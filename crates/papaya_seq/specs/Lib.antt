@@ -1,4 +1,3 @@
 pub mod Calls
-pub mod Keeping
 pub mod Maps
 pub mod Orders

@@ -29,11 +29,7 @@ impl<K: Eq + Hash, V, S: BuildHasher> HashMap<K, V, S> {
         ensures len { result ≡ length self.now.pairs }
         ensures apart { IsDistinct K.eq (keys_of self.now.pairs) }
     {
-        count(
-            &self.resting.memory,
-            self.resting.setting,
-            &self.hasher,
-        )
+        count(&self.resting.memory, self.resting.setting, &self.hasher)
     }
 
     /// Whether it has no pair.

@@ -1,29 +1,15 @@
 //! Lookups in a map for one owner. They read words and values, and take no memory.
-ghost use Rattle.std.specs.Prelude.{◌≡◌, List, Some, is_some, option_map};
+ghost use Rattle.std.specs.Prelude.{◌≡◌, List, is_some, option_map};
 ghost use Rattle.std.specs.List.Sorted.{IsPermutation};
 ghost use Rattle.std.specs.Option.{option_copied};
-ghost use Rattle.seize_words.specs.Mem.{value_at};
-ghost use Rattle.seize_words.specs.Word.{block_in};
-ghost use Rattle.papaya_tables.specs.declared.node.Node.TheVariants as node;
-ghost use Rattle.papaya_owned.specs.Owned.{Holds, IsWordOf, NamesAPair, found_by, hashed_by};
+ghost use Rattle.papaya_owned.specs.Owned.{Holds, IsWordOf, found_by, hashed_by};
 
 use crate::map::HashMap;
-use papaya_owned::find;
+use papaya_owned::{find, pair_at};
 use papaya_raw::machines::Lookup;
 use papaya_tables::{Equivalent, Hashes, Node, Setting};
-use seize_words::{Link, Look, Plain};
+use seize_words::Plain;
 use std::hash::{BuildHasher, Hash};
-
-/// The pair of a word.
-pub(crate) fn pair_at<K, V>(memory: &Plain<Node<K, V>>, word: u64) -> (&K, &V)
-    requires { NamesAPair memory.now word }
-    ensures { (k : K) (v : V) → value_at memory.now (block_in word) ≡ Some (node.Pair k v) → (result.0.now ≡ k) × (result.1.now ≡ v) }
-{
-    match memory.value(Link::block_of(word)) {
-        Node::Pair(key, value) => (key, value),
-        Node::Table { .. } | Node::Shards => unreachable!(),
-    }
-}
 
 /// The word of the pair that this asks for, in a map in this memory.
 fn word_of<K: Eq + Hash, V, S: BuildHasher, Q: Equivalent<K>>(
@@ -67,7 +53,8 @@ impl<K: Eq + Hash, V, S: BuildHasher> HashMap<K, V, S> {
 
     /// Whether the key is in the map.
     pub fn contains_key<Q: Equivalent<K>>(&self, asked: &Q) -> bool
-        ensures { result ≡ is_some (found_by (Q.Equivalent.equivalent asked.now) self.now.pairs) }
+        ensures there { result ≡ is_some (found_by (Q.Equivalent.equivalent asked.now) self.now.pairs) }
+        ensures in_any_order { (xs : List (K × V)) → IsPermutation self.now.pairs xs → result ≡ is_some (found_by (Q.Equivalent.equivalent asked.now) xs) }
     {
         word_of(
             &self.resting.memory,

@@ -28,13 +28,12 @@ pub struct HashMap<K: Eq + Hash, V, S: BuildHasher> {
 
 impl<K: Eq + Hash, V, S: BuildHasher> Model for HashMap<K, V, S> {
     ghost use Rattle.std.specs.Prelude.{List};
-    ghost use Rattle.papaya_shown.specs.Chain.{pairs_from_root};
     ghost use Rattle.papaya_owned.specs.Owned.{Holds, hashed_by};
-    ghost use Rattle.papaya_seq.specs.Maps.{Map};
+    ghost use Rattle.papaya_seq.specs.Maps.{Map, pairs_shown};
 
     ghost Value = { Map K V S };
 
-    ghost view = { λ m. record { pairs = pairs_from_root m.resting.memory m.resting.setting m.resting.tables.0; hasher = m.hasher } };
+    ghost view = { λ m. record { pairs = pairs_shown m.resting.memory m.resting.setting m.resting.tables; hasher = m.hasher } };
 
     ghost invariant = { λ m. (xs : List (K × V)) × Holds K.eq (hashed_by S.Hasher.finish S.Hasher.write S.build_hasher K.hash_input m.hasher) m.resting.setting m.resting.memory xs };
 }

@@ -2,4 +2,7 @@
 use Rattle.papaya_seq.proofs.sweeps.retain.Goals as goal
 
 pub returns-clause-done : goal.returns-clause-done
-returns-clause-done g c = λ xs has test so. c.sift.ensures.done xs (c.refresh.ensures xs has) test so
+returns-clause-done g c = λ xs has. c.sift.ensures.done xs (c.refresh.ensures xs has)
+
+pub returns-clause-refused : goal.returns-clause-refused
+returns-clause-refused g c = λ xs has. c.sift.ensures.refused xs (c.refresh.ensures xs has)

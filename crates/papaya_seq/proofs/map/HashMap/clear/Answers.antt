@@ -1,7 +1,5 @@
 -- By what the clearing comes to.
-use Rattle.std.proofs.lemmas.Result.{on_ok_weaker, on_err_weaker}
-use Rattle.papaya_seq.proofs.Orders.{none_left}
-use Rattle.papaya_seq.proofs.Shows.{counts, either_rests, seen_held, shown, shown_as}
+use Rattle.papaya_seq.proofs.Shows.{counts, either_rests, seen_held, shows_none, shows_refused}
 use Rattle.papaya_seq.proofs.map.HashMap.clear.Goals as goal
 
 pub clear-requires : goal.clear-requires
@@ -9,18 +7,21 @@ clear-requires g c = c.self.invariant
 
 pub invariant_of-self-inside : goal.invariant_of-self-inside
 invariant_of-self-inside g c =
-    let held = c.self.invariant in let rests = either_rests _ _ _ _ c.clear.result _ _ (c.clear.ensures.done held.0 held.1) (c.clear.ensures.refused held.0 held.1) in
+    let held = c.self.invariant in
+    let rests = either_rests _ _ _ _ c.clear.result _ _ (c.clear.ensures.done held.0 held.1) (c.clear.ensures.refused held.0 held.1) in
     record { tables = counts _ _ _ _ rests.0 rests.1 }
 
 pub invariant_of-self : goal.invariant_of-self
 invariant_of-self g c =
-    let held = c.self.invariant in either_rests _ _ _ _ c.clear.result _ _ (c.clear.ensures.done held.0 held.1) (c.clear.ensures.refused held.0 held.1)
+    let held = c.self.invariant in
+    either_rests _ _ _ _ c.clear.result _ _ (c.clear.ensures.done held.0 held.1) (c.clear.ensures.refused held.0 held.1)
 
 pub returns-clause-done : goal.returns-clause-done
 returns-clause-done g c =
-    let held = c.self.invariant in on_ok_weaker c.clear.result (λ h. none_left _ (shown _ _ _ _ _ h _)) (c.clear.ensures.done held.0 held.1)
+    let held = c.self.invariant in
+    shows_none _ _ _ _ _ c.clear.result (c.clear.ensures.done held.0 held.1)
 
 pub returns-clause-refused : goal.returns-clause-refused
 returns-clause-refused g c =
     let held = c.self.invariant in
-    on_err_weaker c.clear.result (λ h. shown_as _ _ _ _ _ h _ _ (seen_held _ _ _ _ held.0 held.1 c.self.inside.resting.tables _ _ c.self.view_is)) (c.clear.ensures.refused held.0 held.1)
+    shows_refused _ _ _ _ _ c.clear.result held.0 _ (seen_held _ _ _ _ held.0 held.1 c.self.inside.resting.tables _ _ c.self.view_is) (c.clear.ensures.refused held.0 held.1)

@@ -1,5 +1,5 @@
 -- It reads the pair of the word that was found.
-use Rattle.std.specs.Prelude.{Some, None}
+use Rattle.std.specs.Prelude.{Some}
 use Rattle.std.proofs.Common.{◌∙◌, ap, sym}
 use Rattle.papaya_seq.proofs.Shows.{seen_found, seen_first}
 use Rattle.papaya_seq.proofs.map.HashMap.get_key_value.Goals as goal

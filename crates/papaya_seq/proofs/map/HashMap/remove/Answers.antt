@@ -1,10 +1,6 @@
 -- By what the removal comes to in the order in which its pairs were stored.
-use Rattle.std.specs.Prelude.{is_some}
-use Rattle.std.proofs.Common.{◌≡◌, ◌∙◌, ap, sym}
-use Rattle.std.proofs.lemmas.Result.{IfOk-weaker, on_ok_weaker, on_err_weaker}
-use Rattle.papaya_owned.specs.Owned.{found_by}
 use Rattle.papaya_seq.proofs.Orders.{left_same}
-use Rattle.papaya_seq.proofs.Shows.{counts, either_rests, seen_first, seen_held, shown_as}
+use Rattle.papaya_seq.proofs.Shows.{counts, either_rests, seen_first, seen_held, shows_done, shows_refused, told_same}
 use Rattle.papaya_seq.proofs.map.HashMap.remove.Goals as goal
 
 pub remove-requires : goal.remove-requires
@@ -12,25 +8,26 @@ remove-requires g c = c.self.invariant
 
 pub invariant_of-self-inside : goal.invariant_of-self-inside
 invariant_of-self-inside g c =
-    let held = c.self.invariant in let rests = either_rests _ _ _ _ c.remove.result _ _ (c.remove.ensures.removed held.0 held.1) (c.remove.ensures.refused held.0 held.1) in
+    let held = c.self.invariant in
+    let rests = either_rests _ _ _ _ c.remove.result _ _ (c.remove.ensures.removed held.0 held.1) (c.remove.ensures.refused held.0 held.1) in
     record { tables = counts _ _ _ _ rests.0 rests.1 }
 
 pub invariant_of-self : goal.invariant_of-self
 invariant_of-self g c =
-    let held = c.self.invariant in either_rests _ _ _ _ c.remove.result _ _ (c.remove.ensures.removed held.0 held.1) (c.remove.ensures.refused held.0 held.1)
+    let held = c.self.invariant in
+    either_rests _ _ _ _ c.remove.result _ _ (c.remove.ensures.removed held.0 held.1) (c.remove.ensures.refused held.0 held.1)
 
 pub returns-clause-some : goal.returns-clause-some
 returns-clause-some g c =
-    let held = c.self.invariant in let keys = g.K.PartialEq.eq c.args.key in
-    IfOk-weaker c.remove.result (λ was. was ≡ is_some (found_by keys held.0)) (λ was. was ≡ is_some (found_by keys c.args.self.now.pairs))
-    (λ was is. is ∙ sym (ap is_some (seen_first _ _ _ _ held.0 held.1 c.self.inside.resting.tables _ _ c.self.view_is (g.K.PartialEq.eq c.args.key) (g.met.K.Eq.laws.congr c.args.key)))) (c.remove.ensures.some held.0 held.1)
+    let held = c.self.invariant in
+    told_same (g.K.PartialEq.eq c.args.key) held.0 _ (seen_first _ _ _ _ held.0 held.1 c.self.inside.resting.tables _ _ c.self.view_is (g.K.PartialEq.eq c.args.key) (g.met.K.Eq.laws.congr c.args.key)) c.remove.result (c.remove.ensures.some held.0 held.1)
 
 pub returns-clause-removed : goal.returns-clause-removed
 returns-clause-removed g c =
     let held = c.self.invariant in
-    on_ok_weaker c.remove.result (λ h. shown_as _ _ _ _ _ h _ _ (left_same (g.K.PartialEq.eq c.args.key) _ _ (seen_held _ _ _ _ held.0 held.1 c.self.inside.resting.tables _ _ c.self.view_is))) (c.remove.ensures.removed held.0 held.1)
+    shows_done _ _ _ _ _ c.remove.result _ _ (left_same (g.K.PartialEq.eq c.args.key) held.0 _ (seen_held _ _ _ _ held.0 held.1 c.self.inside.resting.tables _ _ c.self.view_is)) (c.remove.ensures.removed held.0 held.1)
 
 pub returns-clause-refused : goal.returns-clause-refused
 returns-clause-refused g c =
     let held = c.self.invariant in
-    on_err_weaker c.remove.result (λ h. shown_as _ _ _ _ _ h _ _ (seen_held _ _ _ _ held.0 held.1 c.self.inside.resting.tables _ _ c.self.view_is)) (c.remove.ensures.refused held.0 held.1)
+    shows_refused _ _ _ _ _ c.remove.result held.0 _ (seen_held _ _ _ _ held.0 held.1 c.self.inside.resting.tables _ _ c.self.view_is) (c.remove.ensures.refused held.0 held.1)

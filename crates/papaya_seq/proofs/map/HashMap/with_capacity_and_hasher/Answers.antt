@@ -2,6 +2,8 @@
 use Rattle.seize_alone.specs.Alone.{nothing_yet, registered}
 use Rattle.std.proofs.Common.{true}
 use Rattle.papaya_seq.proofs.Makes.{nothing_happened, taken_inside}
+use Rattle.papaya_seq.proofs.Orders.{none_left}
+use Rattle.papaya_seq.proofs.Shows.{counts, shown}
 use Rattle.papaya_seq.proofs.map.HashMap.with_capacity_and_hasher.Goals as goal
 
 pub register-requires : goal.register-requires
@@ -11,3 +13,10 @@ pub begin-requires-clause-history : goal.begin-requires-clause-history
 begin-requires-clause-history g c =
     let t = c.in_ok-slot.ensures.told 32 1 nothing_yet (nothing_happened {K = g.row.K.Denot} {V = g.row.V.Denot} c.in_ok-memory.memory c.in_ok-memory.ensures) in
     (registered true c.in_ok-slot.slot nothing_yet, t.1, taken_inside c.in_ok-slot.slot)
+
+-- it has no pair
+pub invariant_of-result : goal.invariant_of-result
+invariant_of-result g c = record { tables = counts _ _ _ _ _ c.in_ok-setting.ensures }
+
+pub returns-clause-pairs : goal.returns-clause-pairs
+returns-clause-pairs g c = none_left _ (shown _ _ _ _ _ c.in_ok-setting.ensures _)
