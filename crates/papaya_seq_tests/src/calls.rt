@@ -43,16 +43,14 @@ pub(crate) enum Answer {
     Faulty(Fault),
 }
 
-fn inserted<S: BuildHasher>(map: &mut HashMap<u64, u64, S>, key: u64, value: u64) -> Answer
-{
+fn inserted<S: BuildHasher>(map: &mut HashMap<u64, u64, S>, key: u64, value: u64) -> Answer {
     match map.insert(key, value) {
         Ok(was) => Answer::Was(was),
         Err(refused) => Answer::Refused(refused.fault, refused.key, refused.value),
     }
 }
 
-fn tried<S: BuildHasher>(map: &mut HashMap<u64, u64, S>, key: u64, value: u64) -> Answer
-{
+fn tried<S: BuildHasher>(map: &mut HashMap<u64, u64, S>, key: u64, value: u64) -> Answer {
     match map.try_insert(key, value) {
         Ok(Ok(())) => Answer::Stored,
         Ok(Err(back)) => Answer::Back(back),
@@ -60,8 +58,7 @@ fn tried<S: BuildHasher>(map: &mut HashMap<u64, u64, S>, key: u64, value: u64) -
     }
 }
 
-fn removed<S: BuildHasher>(map: &mut HashMap<u64, u64, S>, key: u64) -> Answer
-{
+fn removed<S: BuildHasher>(map: &mut HashMap<u64, u64, S>, key: u64) -> Answer {
     match map.remove(key) {
         Ok(was) => Answer::Was(was),
         Err(fault) => Answer::Faulty(fault),
@@ -77,8 +74,7 @@ fn copied(found: Option<(&u64, &u64)>) -> Option<(u64, u64)> {
 }
 
 /// Makes a call.
-pub(crate) fn called<S: BuildHasher>(map: &mut HashMap<u64, u64, S>, call: Call) -> Answer
-{
+pub(crate) fn called<S: BuildHasher>(map: &mut HashMap<u64, u64, S>, call: Call) -> Answer {
     match call {
         Call::Insert(key, value) => inserted(map, key, value),
         Call::TryInsert(key, value) => tried(map, key, value),
@@ -94,8 +90,7 @@ pub(crate) fn called<S: BuildHasher>(map: &mut HashMap<u64, u64, S>, call: Call)
 pub(crate) fn answers<S: BuildHasher>(
     map: &mut HashMap<u64, u64, S>,
     rows: &[(Call, Answer)],
-) -> bool
-{
+) -> bool {
     for (call, expected) in rows {
         if called(map, *call) != *expected {
             return false;

@@ -9,8 +9,7 @@ use std::alloc::Global;
 use std::hash::BuildHasher;
 
 /// Stores ten times the key for each of so many keys, from 0 on. Whether each was missing.
-pub(crate) fn fills<S: BuildHasher>(map: &mut HashMap<u64, u64, S>, keys: u64) -> bool
-{
+pub(crate) fn fills<S: BuildHasher>(map: &mut HashMap<u64, u64, S>, keys: u64) -> bool {
     for key in 0..keys {
         if called(map, Insert(key, key.wrapping_mul(10))) != Was(false) {
             return false;
@@ -20,8 +19,7 @@ pub(crate) fn fills<S: BuildHasher>(map: &mut HashMap<u64, u64, S>, keys: u64) -
 }
 
 /// Whether each of so many keys, from 0 on, has ten times the key, and there are no further ones.
-pub(crate) fn is_filled<S: BuildHasher>(map: &mut HashMap<u64, u64, S>, keys: u64) -> bool
-{
+pub(crate) fn is_filled<S: BuildHasher>(map: &mut HashMap<u64, u64, S>, keys: u64) -> bool {
     for key in 0..keys {
         if called(map, Get(key)) != Value(Some(key.wrapping_mul(10))) {
             return false;

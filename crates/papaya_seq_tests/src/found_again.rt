@@ -1,5 +1,5 @@
 //! What follows from the contract of a map for who uses one: what was stored is found again, whatever the map was before.
-ghost use Rattle.std.specs.Prelude.{◌≡◌, Some, None, IfOk, ◌==◌, false, is_some};
+ghost use Rattle.std.specs.Prelude.{◌≡◌, false, is_some, IfOk, Some};
 ghost use Rattle.papaya_owned.specs.Owned.{found_by};
 
 use papaya_runs::key_hash::KeyHash;
@@ -28,8 +28,7 @@ fn beside<K: Eq + Hash + Drop, V: Drop, S: BuildHasher>(
     value: V,
     other: &K,
 ) -> Result<bool, Fault>
-    requires { K.eq key other.now ≡ false }
-    ensures { IfOk result (λ there. there ≡ is_some (found_by (K.eq other.now) map.old.pairs)) }
+    ensures { K.eq key other.now ≡ false → IfOk result (λ there. there ≡ is_some (found_by (K.eq other.now) map.old.pairs)) }
 {
     match map.insert(key, value) {
         Ok(_) => Ok(map.contains_key(other)),

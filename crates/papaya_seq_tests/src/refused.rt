@@ -78,8 +78,7 @@ const ROWS: [Row; 8] = [
 ];
 
 /// Whether the call is refused at each of its requests, with the pairs as before.
-fn is_refused<S: BuildHasher>(map: &mut HashMap<u64, u64, S>, row: Row) -> bool
-{
+fn is_refused<S: BuildHasher>(map: &mut HashMap<u64, u64, S>, row: Row) -> bool {
     let (_, keys, call, requests, refused, _) = row;
     for met in 0..requests {
         map.refuse_after(met);

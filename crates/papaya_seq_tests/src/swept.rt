@@ -7,8 +7,7 @@ use std::alloc::Global;
 use std::hash::BuildHasher;
 
 /// The sum of the keys that a walk shows, and that of the values.
-fn sums<S: BuildHasher>(map: &HashMap<u64, u64, S>) -> (u64, u64)
-{
+fn sums<S: BuildHasher>(map: &HashMap<u64, u64, S>) -> (u64, u64) {
     let mut keys: u64 = 0;
     let mut values: u64 = 0;
     for (key, value) in map.iter() {
@@ -19,8 +18,7 @@ fn sums<S: BuildHasher>(map: &HashMap<u64, u64, S>) -> (u64, u64)
 }
 
 /// Keeps the pairs with even keys, and tells whether that was done.
-fn keeps_even<S: BuildHasher>(map: &mut HashMap<u64, u64, S>) -> bool
-{
+fn keeps_even<S: BuildHasher>(map: &mut HashMap<u64, u64, S>) -> bool {
     match map.retain(|key, _| *key % 2 == 0) {
         Ok(()) => true,
         Err(_) => false,
@@ -28,8 +26,7 @@ fn keeps_even<S: BuildHasher>(map: &mut HashMap<u64, u64, S>) -> bool
 }
 
 /// Removes all pairs, and tells whether that was done.
-fn empties<S: BuildHasher>(map: &mut HashMap<u64, u64, S>) -> bool
-{
+fn empties<S: BuildHasher>(map: &mut HashMap<u64, u64, S>) -> bool {
     match map.clear() {
         Ok(()) => true,
         Err(_) => false,
