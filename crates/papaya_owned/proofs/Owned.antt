@@ -14,5 +14,4 @@ pub mod Refreshes
 pub mod Retains
 pub mod Rooms
 pub mod Siftings
-pub mod Sifts
 pub mod Sweeps

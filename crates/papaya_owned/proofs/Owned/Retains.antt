@@ -1,6 +1,6 @@
 -- A retaining of one owner's map: what it asks about, how it goes on once it is told, that it asks about fewer and fewer pairs, and what it leaves.
-use Rattle.std.specs.Prelude.{◌≡◌, ◌≢◌, ℕ, zero, suc, ◌+◌, ◌<◌, ◌≤◌, Bool, true, false, cond, nat_lt, not, List, [], ◌∷◌, ◌++◌, length, filter, Contains, IsPermutation, Some}
-use Rattle.std.proofs.Common.{refl, sym, ◌∙◌, ap, subst, arith, inl, inr}
+use Rattle.std.specs.Prelude.{◌≡◌, ◌≢◌, ℕ, zero, suc, ◌+◌, ◌<◌, ◌≤◌, Bool, true, false, cond, nat_lt, not, List, [], ◌∷◌, ◌++◌, length, Contains, IsPermutation, Some}
+use Rattle.std.proofs.Common.{sym, ◌∙◌, ap, subst, arith, inl, inr}
 use Rattle.std.proofs.lemmas.Bool.{cases_eq, lt-ltb}
 use Rattle.std.proofs.lemmas.List.{append-nil}
 use Rattle.std.proofs.lemmas.List.Elements.{filter-append}
@@ -20,11 +20,10 @@ use Rattle.papaya_rule.specs.Words.{Blocks}
 use Rattle.papaya_late.specs.Covers.{times}
 use Rattle.papaya_alone.specs.Counting.{pairs_in}
 use Rattle.papaya_callers.specs.OverAll.{CallOverAll, told_of}
-use Rattle.papaya_whole.specs.KeptBy.{KeptBy}
 use Rattle.papaya_whole.specs.SweptPairs.{AreNumbered, NumberedBelow, pairs_of, those, is_done, left_by}
 use Rattle.papaya_whole.specs.WholeSweeps.{NamesNew, IsTold}
 use Rattle.papaya_whole.proofs.Contents.Below.{decided}
-use Rattle.papaya_whole.proofs.Contents.KeptBy.{times_here, times_other, kept_at_end}
+use Rattle.papaya_whole.proofs.Contents.KeptBy.{times_here, times_other}
 use Rattle.papaya_whole.proofs.Contents.Numbered.{NumberedLast, numbered_last, numbered_before, numbers_are, numbers_go}
 use Rattle.papaya_whole.proofs.Contents.Swept.{shown, asks_once, sweeps_leave}
 use Rattle.papaya_whole.proofs.Sweeps.Counting.{telling_counts_nothing, telling_keeps_the_purpose}
@@ -249,12 +248,3 @@ module _ {K V S : Type 0} (same : K → K → Bool) (hashes : S → K → ℕ) (
             (subst (λ (l : List ℕ). AreNumbered e.w.memory e.c e.blocks (those (is_done l) numbered.0)) e.done_is
             (subst (λ (p : Purpose). AreNumbered e.w.memory e.c e.blocks (left_by p o.done numbered.0)) e.purpose_is leaves.0))),
       )
-
-  -- Done, it has left the pairs that pass a test, where it was told to keep just those.
-  pub retained_holds : (test : K → V → Bool) (said : Said) (o : CallOverAll) (m : Mem (Node K V)) → DoneIt said o m → KeptBy test h.world.memory h.blocks said.asked said.done
-      → Holds same hash setting m (filter (λ x. test x.0 x.1) xs)
-  retained_holds test said o m d kept =
-      let e = d.ended in
-      holds_at same hashes b setting m0 xs h Retains retains_not_walks said o m e (filter (λ x. test x.0 x.1) xs)
-      (kept_at_end test h.world.memory h.blocks (is_incremental setting.mode) e.w.memory h.chart e.c e.blocks said.asked o e.runs d.came d.over
-      (goes_over_one same hashes b setting m0 xs h Retains retains_not_walks o.sweep.purpose) e.purpose_is (subst (KeptBy test h.world.memory h.blocks said.asked) (sym e.done_is) kept) xs h.are)

@@ -1,5 +1,5 @@
 -- A reservation of one owner's map, run to its end: the map has the same pairs, and room for further ones.
-use Rattle.std.specs.Prelude.{◌≡◌, ℕ, suc, ◌+◌, ◌-◌, ◌*◌, ◌/◌, ◌%◌, ◌^◌, ◌<◌, ◌≤◌, Bool, true, false, cond, eqb, List, length, Some, Result, Ok, Err}
+use Rattle.std.specs.Prelude.{◌≡◌, ℕ, suc, ◌+◌, ◌-◌, ◌*◌, ◌%◌, ◌^◌, ◌≤◌, Bool, false, cond, List, length, Some, Result, Ok, Err}
 use Rattle.std.proofs.Common.{refl, sym, ◌∙◌, ap, subst, arith}
 use Rattle.std.proofs.lemmas.Bool.{ne_eqb}
 use denote.Ref.{Bor}
@@ -29,7 +29,7 @@ use Rattle.papaya_alone.specs.Counting.{IsCounted, shards_sum}
 use Rattle.papaya_alone.specs.Endings.{RunsEnd, runs_end}
 use Rattle.papaya_late.specs.Faults.{IsRoom, RoomInReserving, RefusesRoom}
 use Rattle.papaya_late.proofs.KindsKept.Laws.{reserves_refuse_room, reserves_ask_on}
-use Rattle.papaya_maps.specs.AloneReserves.{LooksAtRoot, SumsUp, RootHasPlaces, KeepsToRoot}
+use Rattle.papaya_maps.specs.AloneReserves.{LooksAtRoot, SumsUp, RootHasPlaces}
 use Rattle.papaya_maps.specs.EndingsReserves.{HasMore, StepsOn}
 use Rattle.papaya_callers.specs.Sights.{Sight}
 use Rattle.papaya_callers.specs.Together.{ForRoom as ForRoomOf, in_slot}
