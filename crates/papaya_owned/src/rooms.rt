@@ -11,7 +11,7 @@ use seize_words::{Fault, Plain};
 use std::hash::Hash;
 
 /// Makes room for so many further pairs: the table of the root has as many places as they need, beside the pairs that are there. No pair changes.
-/// The faults are `Fault::Capacity`, where that is too many, and `Fault::Memory`.
+/// The faults are `Fault::Capacity`, where that is too many, or the map has had too many tables, and `Fault::Memory`.
 pub fn make_room<K: Eq + Hash + Drop, V: Drop, S: Hashes<K>>(
     memory: &mut Plain<Node<K, V>>,
     setting: Setting,

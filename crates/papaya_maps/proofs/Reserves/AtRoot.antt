@@ -1,7 +1,7 @@
 -- Each own step of a reservation that is alone, in incremental mode: it keeps to the root, and at its end that has the places.
 use Rattle.std.proofs.Common.{◌≡◌, ℕ, ◌/◌, ◌<◌, ◌≤◌, Bool, true, cond, refl, arith, ap, sym, subst, ◌∙◌}
 use Rattle.seize_words.specs.declared.at.At.TheVariants.{Word}
-use Rattle.seize_words.specs.Mem.{Mem, value_at, Took}
+use Rattle.seize_words.specs.Mem.{value_at, Took}
 use Rattle.seize_words.specs.Plan.{Steps}
 use Rattle.seize_words.proofs.OneOwner.Operations.{stored, loaded}
 use Rattle.seize_rule.proofs.Rows.Leaving.{steps_back}
@@ -33,7 +33,7 @@ use Rattle.papaya_rule.specs.InWorld.{Moved, SameBlocks, IsMapIn}
 use Rattle.papaya_points.specs.Told.{IsRowOfCopier}
 use Rattle.papaya_late.specs.FactsReserves.{CopiesWhole, ReservingFacts, ReserveFacts}
 use Rattle.papaya_late.specs.ToldReserves.{ReserveAfter, IsRowOfReserve}
-use Rattle.papaya_maps.specs.AloneReserves.{RetiresFrom, IsNear, ReservingAlone, LooksAtRoot, SumsUp, RootHasPlaces, KeepsToRoot}
+use Rattle.papaya_maps.specs.AloneReserves.{RetiresFrom, IsNear, ReservingAlone, LooksAtRoot, SumsUp, KeepsToRoot}
 use Rattle.papaya_maps.proofs.Reserves.Knows.{knows_tables, copier_setting}
 use Rattle.papaya_maps.proofs.Reserves.Left.{CopiesTo, all_retired, first_kept}
 use Rattle.papaya_maps.proofs.Reserves.LeftOn.{KnowsTables, copies_on_at}

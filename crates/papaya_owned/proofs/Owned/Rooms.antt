@@ -330,7 +330,6 @@ module _ {K V S : Type 0} (same : K → K → Bool) (hashes : S → K → ℕ) (
         all_of : (s : ℕ) → s ≡ 0 + (s - 0)
         all_of s = omega arith
 
-
     room_then : RootHasPlaces setting e.w.memory e.c additional → HasRoomFor setting m additional (length xs)
     room_then places = record {
       root = e.blocks.table e.c.first * 2048;

@@ -233,7 +233,7 @@ module _ {K V Q : Type 0} (same : K → K → Bool) (hash : K → ℕ) (asks : Q
       known,
       kept_value deferred_word setting.batch_size now.v (came_reached setting.batch_size now.v now.together.ground.came) 0 led.w2 led.happened (blocks.pair o)
           (taken_none o (now.together.ground.kept.pairs o low known))
-      ∙ ap (λ (x : Mem (Node K V)). value_at x (blocks.pair o)) now.memory,
+          ∙ ap (λ (x : Mem (Node K V)). value_at x (blocks.pair o)) now.memory,
     )
 
     -- and the call has counted by it what it had
