@@ -8,6 +8,8 @@ mod filled;
 #[cfg(test)]
 mod found_again;
 #[cfg(test)]
+mod held;
+#[cfg(test)]
 mod makers;
 #[cfg(test)]
 mod refused;
