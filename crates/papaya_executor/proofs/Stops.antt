@@ -14,8 +14,8 @@ use Rattle.papaya_finishes.specs.Machines.{machine_of}
 use Rattle.papaya_finishes.specs.Maps.{Standing, with_call}
 use Rattle.papaya_finishes.proofs.Among.Sweeps.{walks_stop_among}
 use Rattle.papaya_executor.specs.declared.executor.Executor.{Executor}
-use Rattle.papaya_executor.specs.IsAt.{Scene, IsAt, ChangesAt, place_of, slot_of, worker_with, worker_at}
-use Rattle.papaya_executor.specs.Replying.{StopLeads, unless_stopped}
+use Rattle.papaya_executor.specs.IsAt.{Scene, IsAt, ChangesAt, place_of, slot_of, worker_with}
+use Rattle.papaya_executor.specs.Replying.{unless_stopped}
 use Rattle.papaya_executor.proofs.Changed.{worker_is, standing_is, is_at_on}
 
 -- a stage that is ready is that one
