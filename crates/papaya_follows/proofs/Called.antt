@@ -27,7 +27,7 @@ use Rattle.papaya_follows.specs.Calls.{IsCalled}
 use Rattle.papaya_follows.specs.Steps.{Did}
 
 module _ {K V : Type 0} where
-  some_is : (x y : UnderWay K V K) → ◌≡◌ {A = Option (UnderWay K V K)} (Some x) (Some y) → y ≡ x
+  pub some_is : (x y : UnderWay K V K) → ◌≡◌ {A = Option (UnderWay K V K)} (Some x) (Some y) → y ≡ x
   some_is x y e = cc e
 
   -- what goes on is the call
@@ -65,7 +65,7 @@ module _ {K V : Type 0} where
 
   module _ (same : K → K → Bool) where
     -- of one kind, and on the same keys
-    key_called : (u v : CallOnKey K V K) → v.keys ≡ u.keys → (its : Call K V) → IsCalled same (OnKey u) its → IsCalled same (OnKey v) its
+    pub key_called : (u v : CallOnKey K V K) → v.keys ≡ u.keys → (its : Call K V) → IsCalled same (OnKey u) its → IsCalled same (OnKey v) its
     key_called u v keys (call.On one) is = keys ∙ is
     key_called u v keys (call.Reserve additional) is = absurd is
     key_called u v keys call.Clear is = absurd is
@@ -89,7 +89,7 @@ module _ {K V : Type 0} where
     counting_called a b call.Len is = tt
     counting_called a b call.Walk is = absurd is
 
-    sweep_called : (o p : CallOverAll) (its : Call K V) → IsCalled same (OverAll o) its → IsCalled same (OverAll p) its
+    pub sweep_called : (o p : CallOverAll) (its : Call K V) → IsCalled same (OverAll o) its → IsCalled same (OverAll p) its
     sweep_called o p (call.On one) is = absurd is
     sweep_called o p (call.Reserve additional) is = absurd is
     sweep_called o p call.Clear is = tt
@@ -97,7 +97,7 @@ module _ {K V : Type 0} where
     sweep_called o p call.Len is = absurd is
     sweep_called o p call.Walk is = tt
 
-    called_as : (x y : UnderWay K V K) (its : Call K V) → x ≡ y → IsCalled same y its → IsCalled same x its
+    pub called_as : (x y : UnderWay K V K) (its : Call K V) → x ≡ y → IsCalled same y its → IsCalled same x its
     called_as x y its e is = subst (λ (z : UnderWay K V K). IsCalled same z its) (sym e) is
 
     key_on : (u v : CallOnKey K V K) → v.keys ≡ u.keys → (end : Called (Node K V)) (next : Option (UnderWay K V K)) → next ≡ next_of v end → (x : UnderWay K V K) → next ≡ Some x

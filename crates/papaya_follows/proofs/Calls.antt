@@ -50,10 +50,10 @@ module _ {K V : Type 0} where
   changed_same m (effect.Taken t) c = (refl, refl, refl)
 
   module _ (change : CallThere K V → CallThere K V) (same : (c : CallThere K V) → IsOfSame c (change c)) (own : List ℕ) where
-    abbrev changed : CallThere K V → CallThere K V
+    abbrev pub changed : CallThere K V → CallThere K V
     changed c = if is_same c.caller own then change c else c
 
-    of_same : (c : CallThere K V) → IsOfSame c (changed c)
+    pub of_same : (c : CallThere K V) → IsOfSame c (changed c)
     of_same c = by (is_same c.caller own)
       where
         by : (q : Bool) → IsOfSame c (if q then change c else c)
@@ -61,7 +61,7 @@ module _ {K V : Type 0} where
         by false = (refl, refl, refl)
 
     -- each call is found by the name by which it was
-    found : (name : List ℕ) (cs : List (CallThere K V)) (c : CallThere K V) → find (λ x. is_same x.caller name) cs ≡ Some c → find (λ x. is_same x.caller name) (map changed cs) ≡ Some (changed c)
+    pub found : (name : List ℕ) (cs : List (CallThere K V)) (c : CallThere K V) → find (λ x. is_same x.caller name) cs ≡ Some c → find (λ x. is_same x.caller name) (map changed cs) ≡ Some (changed c)
     found name [] c is = absurd (cc is)
     found name (x ∷ cs) c is = by (is_same x.caller name) refl (λ later. found name cs c later)
       where
@@ -95,7 +95,7 @@ module _ {K V : Type 0} where
     CalledOn u x = (its : Call K V) → IsCalled same u its → IsCalled same x its
 
     -- a call that is under way after a step was so before
-    was_there : (calls : ℕ → ℕ → Option (UnderWay K V K)) (of i : ℕ) (u : UnderWay K V K) → calls of i ≡ Some u → (next : Option (UnderWay K V K))
+    pub was_there : (calls : ℕ → ℕ → Option (UnderWay K V K)) (of i : ℕ) (u : UnderWay K V K) → calls of i ≡ Some u → (next : Option (UnderWay K V K))
         → ((x : UnderWay K V K) → next ≡ Some x → CalledOn u x) → (n j : ℕ) (x : UnderWay K V K) → with_call calls of i next n j ≡ Some x → (y : UnderWay K V K) × (calls n j ≡ Some y) × CalledOn y x
     was_there calls of i u here next on n j x is = by (cases_eq n of) (cases_eq j i)
       where

@@ -17,6 +17,7 @@ pub mod Stored
 pub mod Linked
 pub mod Moved
 pub mod Steps
+pub mod Calling
 pub mod Beginning
 pub mod Rows
 pub mod Handed
