@@ -1,5 +1,4 @@
 -- A run begins so.
-use Rattle.std.specs.Prelude.{ℕ}
 use Rattle.std.proofs.Common.{refl, arith}
 use Rattle.papaya_follows.specs.Beginning.{RunsBegin}
 

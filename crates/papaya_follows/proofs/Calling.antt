@@ -1,5 +1,5 @@
 -- Where a call begins, is told a reply, or has come to an outcome, nothing else has changed.
-use Rattle.std.specs.Prelude.{◌≡◌, ◌≢◌, ℕ, ◌+◌, ◌==◌, Bool, true, false, cond, not, ◌&&◌, List, [], ◌∷◌, length, filter, find, map, Option, Some, None, if◌then◌else◌, ◌⊎◌}
+use Rattle.std.specs.Prelude.{◌≡◌, ◌≢◌, ℕ, ◌+◌, ◌==◌, Bool, true, false, cond, not, ◌&&◌, List, [], ◌∷◌, length, filter, find, map, Option, Some, if◌then◌else◌, ◌⊎◌}
 use Rattle.std.proofs.Common.{refl, ap, sym, subst, ◌∙◌, arith, inl, inr}
 use Rattle.std.proofs.lemmas.Bool.{eq-eqb, cases_eq}
 use Rattle.seize.specs.World.{with_at}
@@ -23,7 +23,7 @@ use Rattle.papaya_effects.specs.Known.{Known}
 use Rattle.papaya_executor.specs.IsAt.{Scene, slot_of}
 use Rattle.papaya_follows.specs.Blocks.{HasRole}
 use Rattle.papaya_follows.specs.Calls.{IsCalled, ShowsCalls}
-use Rattle.papaya_follows.specs.Calling.{NoneNamed, told, come_to, CallsBegin, CallsAreTold, CallsComeTo}
+use Rattle.papaya_follows.specs.Calling.{told, come_to, CallsBegin, CallsAreTold, CallsComeTo}
 use Rattle.papaya_follows.specs.Shows.{Shows}
 use Rattle.papaya_follows.proofs.Alike.{AreSame, alike_same}
 use Rattle.papaya_follows.proofs.Called.{some_is, called_as, key_called, sweep_called}

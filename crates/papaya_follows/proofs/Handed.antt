@@ -1,7 +1,7 @@
 -- What is handed over has left its map: each map is shown as before.
-use Rattle.std.specs.Prelude.{◌≡◌, ◌≢◌, ℕ, zero, suc, ◌+◌, ◌<◌, ◌≤◌, ◌==◌, ◌&&◌, Bool, true, false, List, [], ◌∷◌, ◌++◌, length, filter, find, map, Option, Some, None, if◌then◌else◌}
+use Rattle.std.specs.Prelude.{◌≡◌, ℕ, zero, suc, ◌<◌, ◌≤◌, ◌==◌, Bool, true, false, List, [], ◌∷◌, ◌++◌, length, filter, find, map, Option, Some, None, if◌then◌else◌}
 use Rattle.std.proofs.Common.{refl, ap, sym, subst, ◌∙◌, arith, inl, inr}
-use Rattle.std.proofs.lemmas.Bool.{ne_eqb, eq-eqb, cases_eq}
+use Rattle.std.proofs.lemmas.Bool.{cases_eq}
 use Rattle.papaya_schedules.specs.declared.effect.Effect.{Effect}
 use Rattle.papaya_schedules.specs.declared.effect.Effect.TheVariants.{Deferred, Retired}
 use Rattle.papaya_schedules.specs.declared.effect.Table.{Table}
@@ -10,18 +10,18 @@ use Rattle.papaya_schedules.specs.declared.effect.Thing.TheVariants.{APair, ATab
 use Rattle.papaya_schedules.specs.Entry.{acting}
 use Rattle.papaya_schedules.specs.Effects.{at_stage, stored_by, with_effect, with_effects}
 use Rattle.papaya_schedules.specs.Lists.{put}
-use Rattle.papaya_schedules.specs.Moment.{Place, Unborn, InMap, Out, Handed, Behind, Left, GivenBack, IsLinked, IsRetired, MapThere, Stage, TableThere, UnderWay, Moment}
+use Rattle.papaya_schedules.specs.Moment.{Place, Unborn, InMap, Out, Handed, Behind, Left, GivenBack, IsLinked, IsRetired, Stage, TableThere, UnderWay, Moment}
 use Rattle.papaya_schedules.specs.Things.{same_table}
-use Rattle.papaya_schedules.specs.Views.{is_in_map, is_in_a_map, first_or, first_of, tables_of}
+use Rattle.papaya_schedules.specs.Views.{is_in_map, is_in_a_map, first_or, first_of}
 use Rattle.papaya_rule.specs.Chart.{Chart}
 use Rattle.papaya_rule.specs.Words.{Blocks}
 use Rattle.papaya_callers.specs.Sights.{Sight}
 use Rattle.papaya_finishes.specs.Maps.{Standing}
 use Rattle.papaya_effects.specs.Known.{Known}
 use Rattle.papaya_follows.specs.Maps.{table_of, shape_at, tables_to, ShowsMap}
-use Rattle.papaya_follows.specs.Steps.{HasLeft, HandTheirs}
-use Rattle.papaya_follows.proofs.Alike.{AlikePairs, IsAlike, alike_same, still_all, put_here, put_elsewhere}
-use Rattle.papaya_follows.proofs.Onward.{StaysBlocks, KeepsRoles, tables_same, pairs_same, pairs_on, there_on, counter_on, map_on}
+use Rattle.papaya_follows.specs.Steps.{HandTheirs}
+use Rattle.papaya_follows.proofs.Alike.{IsAlike, alike_same, still_all, put_here, put_elsewhere}
+use Rattle.papaya_follows.proofs.Onward.{StaysBlocks, tables_same, pairs_same, pairs_on, map_on}
 use Rattle.papaya_follows.proofs.Rows.{HandsOn, IsStill, Puts, Retires}
 
 -- what is in no map is in none of a number

@@ -1,5 +1,5 @@
 -- What a step of a call leaves of the roles of blocks, wherever it is none of a row.
-use Rattle.std.specs.Prelude.{◌≡◌, ◌≢◌, ℕ, zero, suc, ◌<◌, ◌≤◌, Bool, true, List, Option, Some, None}
+use Rattle.std.specs.Prelude.{◌≡◌, ◌≢◌, ℕ, zero, suc, Bool, List, Option, Some, None}
 use Rattle.std.proofs.Common.{refl, ap, sym, subst, ◌∙◌, arith, inl, inr}
 use Rattle.seize_words.specs.Mem.{Mem, value_at}
 use Rattle.seize.specs.World.{World, Hand, NoBlock, Making, InUse, Parting, Cutting, Handed, LeftTo}
@@ -10,7 +10,7 @@ use Rattle.papaya_tables.specs.declared.setting.Setting.{Setting}
 use Rattle.papaya_tables.proofs.Lists.{table_list}
 use Rattle.papaya_rule.specs.Chart.{Chart}
 use Rattle.papaya_rule.specs.Words.{Blocks}
-use Rattle.papaya_rule.specs.InWorld.{IsOut, IsOwnBlock, IsKnownBlock, IsIts, StaysTable, IsMapIn, Moved, SameBlocks, Went}
+use Rattle.papaya_rule.specs.InWorld.{IsOut, IsOwnBlock, IsIts, StaysTable, IsMapIn, Went}
 use Rattle.papaya_rule.proofs.World.BesideKept.{steps_spare_others}
 use Rattle.papaya_rule.proofs.World.WentTold.{went_as}
 use Rattle.papaya_effects.specs.declared.role.Role.{Role}

@@ -1,15 +1,13 @@
 -- A table was linked behind the last one, or has become the root.
-use Rattle.std.specs.Prelude.{◌≡◌, ◌≢◌, ℕ, zero, suc, ◌+◌, ◌*◌, ◌/◌, ◌<◌, ◌≤◌, ◌^◌, ◌==◌, Bool, true, false, cond, eqb, List, [], ◌∷◌, ◌++◌, length, filter, find, map, Option, Some, None, if◌then◌else◌}
+use Rattle.std.specs.Prelude.{◌≡◌, ℕ, zero, suc, ◌<◌, ◌≤◌, ◌==◌, Bool, true, false, cond, List, [], ◌∷◌, ◌++◌, length, filter, find, map, Option, Some, None, if◌then◌else◌}
 use Rattle.std.proofs.Common.{refl, ap, sym, subst, ◌∙◌, arith, inl, inr}
-use Rattle.std.proofs.lemmas.Bool.{ne_eqb, eq-eqb, cases_eq, cases_lt}
+use Rattle.std.proofs.lemmas.Bool.{eq-eqb, cases_eq}
 use Rattle.std.proofs.lemmas.List.Elements.{filter-append}
 use Rattle.seize_words.specs.Mem.{Mem, value_at}
-use Rattle.seize.specs.World.{World, Making}
+use Rattle.seize.specs.World.{World}
 use Rattle.papaya_runs.specs.declared.outcome.TableShape.{TableShape}
-use Rattle.papaya_tables.specs.Chunks.{is_incremental}
 use Rattle.papaya_tables.specs.declared.node.Node.{Node}
 use Rattle.papaya_tables.specs.declared.node.Node.TheVariants as node
-use Rattle.papaya_tables.specs.declared.setting.Setting.{Setting}
 use Rattle.papaya_schedules.specs.declared.effect.Effect.{Effect}
 use Rattle.papaya_schedules.specs.declared.effect.Effect.TheVariants.{Linked, Promoted}
 use Rattle.papaya_schedules.specs.declared.effect.Table.{Table}
@@ -17,11 +15,9 @@ use Rattle.papaya_schedules.specs.Entry.{acting}
 use Rattle.papaya_schedules.specs.Effects.{promoted, stored_by, with_effect}
 use Rattle.papaya_schedules.specs.Lists.{put}
 use Rattle.papaya_schedules.specs.Moment.{IsLinked, Stage, MapThere, TableThere, UnderWay, Moment}
-use Rattle.papaya_schedules.specs.Views.{map_at, tables_of}
+use Rattle.papaya_schedules.specs.Views.{tables_of}
 use Rattle.papaya_rule.specs.Chart.{Chart}
-use Rattle.papaya_rule.specs.Moves.{Move, Links, Promotes, Allowed, after}
 use Rattle.papaya_rule.specs.Words.{Blocks}
-use Rattle.papaya_rule.specs.Maps.{spot_of}
 use Rattle.papaya_rule.specs.InWorld.{IsMapIn, Went}
 use Rattle.papaya_points.specs.Steps.{AreLawful}
 use Rattle.papaya_callers.specs.Sights.{Sight, seen_by, IsGrown, IsSight}
@@ -32,7 +28,7 @@ use Rattle.papaya_effects.specs.declared.role.Role.{Role}
 use Rattle.papaya_effects.specs.declared.role.Role.TheVariants as role
 use Rattle.papaya_follows.specs.Blocks.{WasLinked, HasRole, ShowsBlocks}
 use Rattle.papaya_follows.specs.Finds.{MayBeRoot}
-use Rattle.papaya_follows.specs.Maps.{table_of, shape_at, tables_to, ShowsThere, ShowsTables, ShowsMap}
+use Rattle.papaya_follows.specs.Maps.{table_of, shape_at, tables_to, ShowsMap}
 use Rattle.papaya_follows.proofs.Alike.{put_here, put_elsewhere, linked_other, promoted_other}
 use Rattle.papaya_follows.proofs.Contents.{lasts_same}
 use Rattle.papaya_follows.proofs.Finds.{tables_many}
@@ -40,7 +36,7 @@ use Rattle.papaya_follows.proofs.Kept.{role_kept}
 use Rattle.papaya_follows.proofs.Leads.{LeadsOn, after_step}
 use Rattle.papaya_follows.proofs.Onward.{IsLasting, KeepsRoles, StaysPairs, StaysBlocks, blocks_grown, pairs_on, counter_on, tables_as_long}
 use Rattle.papaya_follows.proofs.Operations.{StaysThere}
-use Rattle.papaya_follows.proofs.Told.{ArePairsOnce, once_put}
+use Rattle.papaya_follows.proofs.Told.{once_put}
 use Rattle.papaya_follows.proofs.Writes.{own_table}
 
 -- neither stores a pair

@@ -1,10 +1,10 @@
 -- Where a step of a call leads that is none of a row, by the change of its map's tables that its operation tells.
-use Rattle.std.specs.Prelude.{◌≡◌, ◌≢◌, ℕ, zero, suc, ◌+◌, ◌*◌, ◌/◌, ◌<◌, ◌≤◌, ◌^◌, ◌==◌, Bool, true, false, cond, eqb, List, [], ◌∷◌, ◌++◌, length, Option, Some, None, if◌then◌else◌, ◌⊎◌}
+use Rattle.std.specs.Prelude.{◌≡◌, ◌≢◌, ℕ, zero, suc, ◌+◌, ◌*◌, ◌<◌, ◌≤◌, Bool, true, false, cond, List, [], ◌∷◌, Option, Some}
 use Rattle.std.proofs.Common.{refl, ap, sym, subst, ◌∙◌, arith, inl, inr}
-use Rattle.std.proofs.lemmas.Bool.{ne_eqb, eq-eqb, cases_eq, cases_lt}
+use Rattle.std.proofs.lemmas.Bool.{ne_eqb, eq-eqb, cases_eq}
 use Rattle.seize_words.specs.declared.at.At.{At}
-use Rattle.seize_words.specs.declared.at.At.TheVariants.{Root, Word}
-use Rattle.seize_words.specs.Mem.{Mem, value_at, word_at}
+use Rattle.seize_words.specs.declared.at.At.TheVariants.{Root}
+use Rattle.seize_words.specs.Mem.{Mem, value_at}
 use Rattle.seize_words.specs.Word.{block_in}
 use Rattle.seize.specs.World.{World}
 use Rattle.papaya_runs.specs.declared.outcome.TableShape.{TableShape}
@@ -12,12 +12,12 @@ use Rattle.papaya_tables.specs.Chunks.{is_incremental}
 use Rattle.papaya_tables.specs.declared.marks.TheConstants.{TOMBSTONE}
 use Rattle.papaya_tables.specs.declared.node.Node.{Node}
 use Rattle.papaya_tables.specs.declared.setting.Setting.{Setting}
-use Rattle.papaya_tables.specs.declared.table_words.TheConstants.{NEXT, PLACES}
+use Rattle.papaya_tables.specs.declared.table_words.TheConstants.{PLACES}
 use Rattle.papaya_schedules.specs.declared.effect.Effect.{Effect}
 use Rattle.papaya_schedules.specs.declared.effect.Effect.TheVariants.{Copied, Stored, Replaced, Removed, Linked, Promoted}
 use Rattle.papaya_schedules.specs.declared.effect.Spot.{Spot}
 use Rattle.papaya_schedules.specs.Entry.{acting}
-use Rattle.papaya_schedules.specs.Effects.{AtEachEffect, with_effect}
+use Rattle.papaya_schedules.specs.Effects.{AtEachEffect}
 use Rattle.papaya_schedules.specs.Moment.{Moment}
 use Rattle.papaya_teller.specs.declared.changed.Changed.{Changed}
 use Rattle.papaya_teller.specs.declared.changed.Changed.TheVariants as changed
@@ -28,7 +28,6 @@ use Rattle.papaya_rule.specs.Moves.{Move, Links, Stores, Replaces, Removes, Mark
 use Rattle.papaya_rule.specs.Words.{Blocks, byte_of, place_word}
 use Rattle.papaya_rule.specs.Maps.{spot_of}
 use Rattle.papaya_rule.specs.InWorld.{IsMapIn, Moved, Went}
-use Rattle.papaya_rule.specs.Lasts.{IsBy}
 use Rattle.papaya_rule.proofs.Moves.Writes.{put_in_here}
 use Rattle.papaya_rule.proofs.Laws.{words_name_pairs, bytes_are_few}
 use Rattle.papaya_rule.proofs.Words.TablesSeen.{block_of_link}
@@ -40,7 +39,6 @@ use Rattle.papaya_effects.specs.Effects.{spot_at, effects_of, known_after}
 use Rattle.papaya_effects.specs.Known.{Known, with_pair, with_role}
 use Rattle.papaya_effects.specs.declared.acting.Acting.{Acting}
 use Rattle.papaya_effects.specs.declared.acting.Acting.TheVariants.{Call}
-use Rattle.papaya_effects.specs.declared.role.Role.{Role}
 use Rattle.papaya_effects.specs.declared.role.Role.TheVariants as role
 use Rattle.papaya_follows.specs.Blocks.{ShowsBlocks}
 use Rattle.papaya_follows.specs.Finds.{MayBeRoot}
@@ -51,7 +49,7 @@ use Rattle.papaya_follows.proofs.Leads.{LeadsOn, tables_seen, leads_quiet}
 use Rattle.papaya_follows.proofs.Linked.{leads_linked, leads_promoted, was_own as own_before}
 use Rattle.papaya_follows.proofs.Onward.{StaysTables, StaysPairs, tables_same, pairs_same}
 use Rattle.papaya_follows.proofs.Operations.{StaysThere, LeavesBy}
-use Rattle.papaya_follows.proofs.Stored.{in_root, comes_next, comes_last, inside, still_home, still_current, was_own, some_number, leads_stored, leads_removed, leads_replaced}
+use Rattle.papaya_follows.proofs.Stored.{in_root, comes_next, comes_last, inside, still_home, still_current, was_own, leads_stored, leads_removed, leads_replaced}
 use Rattle.papaya_follows.proofs.Told.{IsQuiet as IsStill, as_before, quiet_told}
 use Rattle.papaya_follows.proofs.Writes.{Says, nothing_free, place_says, next_says, root_says}
 

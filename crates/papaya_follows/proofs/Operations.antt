@@ -1,6 +1,6 @@
 -- What one operation leaves of the values of blocks, by what is told of it.
-use Rattle.std.specs.Prelude.{◌≡◌, ◌≢◌, ℕ, ◌+◌, ◌^◌, ◌%◌, ◌==◌, Bool, bit_or, Option, Some, None, Ok, Err, IsSome, if◌then◌else◌, ◌⊎◌}
-use Rattle.std.proofs.Common.{refl, ap, sym, subst, ◌∙◌, arith, inl, inr}
+use Rattle.std.specs.Prelude.{◌≡◌, ◌≢◌, ℕ, Option, Some, None, Ok, Err, IsSome, if◌then◌else◌, ◌⊎◌}
+use Rattle.std.proofs.Common.{refl, ap, sym, subst, ◌∙◌, inl, inr}
 use Rattle.std.proofs.lemmas.Bool.{ne_eqb, eq-eqb, cases_eq}
 use Rattle.seize_words.specs.declared.at.At.{At}
 use Rattle.seize_words.specs.Mem.{Mem, block_of, value_in, value_at, word_at, with_word, fresh, Can, Took}
@@ -9,7 +9,7 @@ use Rattle.seize_words.specs.Plan.{Plan, Turn, Do, May}
 use Rattle.seize_words.proofs.OneOwner.AfterWrites.{value_at-with_word, value_at-with_value, block_of-with_block, block_of-made}
 use Rattle.seize_rule.proofs.Words.Named.{block_there}
 use Rattle.papaya_tables.specs.declared.node.Node.{Node}
-use Rattle.papaya_tells.specs.Seen.{Seen, Unseen, Wrote, MadeOne, HadNoRoom, TookAway, NewValue, word_or, seen_of}
+use Rattle.papaya_tells.specs.Seen.{Seen, Unseen, Wrote, MadeOne, HadNoRoom, TookAway, NewValue, seen_of}
 use Rattle.papaya_tells.proofs.Kept.{seen_kept}
 use Rattle.papaya_teller.specs.Changed.{kind_of}
 use Rattle.papaya_teller.specs.Tells.{told_of, StepsTold}

@@ -1,17 +1,16 @@
 -- A step of a call that is none of a row, of whichever kind the call is: the moment after its effects shows the scene after it.
-use Rattle.std.specs.Prelude.{◌≡◌, ◌≢◌, ℕ, Bool, List, Option, Some, None, length, ◌⊎◌}
-use Rattle.std.proofs.Common.{refl, ap, sym, subst, ◌∙◌, arith, inl, inr}
+use Rattle.std.specs.Prelude.{◌≡◌, ℕ, Bool, List, Option, Some, None, length}
+use Rattle.std.proofs.Common.{refl, ap, sym, subst, ◌∙◌, inl, inr}
 use Rattle.std.proofs.lemmas.Bool.{cases_eq}
 use Rattle.seize_words.specs.declared.at.At.{At}
 use Rattle.seize_words.specs.declared.at.At.TheVariants.{Root, Used, Slot, Entry, Word}
-use Rattle.seize_words.specs.Mem.{Mem, value_at, word_at}
+use Rattle.seize_words.specs.Mem.{Mem, word_at}
 use Rattle.seize_words.specs.Word.{block_in}
 use Rattle.seize.specs.World.{World, IsInside, with_at}
 use Rattle.papaya_tables.specs.declared.node.Node.{Node}
 use Rattle.papaya_tables.specs.declared.setting.Setting.{Setting}
 use Rattle.papaya_raw.specs.Machine.{machine_plan}
 use Rattle.papaya_raw.specs.declared.machines.machine.Machine.{Machine}
-use Rattle.papaya_raw.specs.declared.machines.progress.Progress.{Progress}
 use Rattle.papaya_schedules.specs.declared.effect.Effect.{Effect}
 use Rattle.papaya_schedules.specs.Effects.{AtEachEffect, with_effects}
 use Rattle.papaya_schedules.specs.Moment.{Moment}
@@ -37,7 +36,7 @@ use Rattle.papaya_effects.specs.Known.{Known}
 use Rattle.papaya_effects.specs.declared.acting.Acting.{Acting}
 use Rattle.papaya_effects.specs.declared.acting.Acting.TheVariants.{Call}
 use Rattle.papaya_executor.specs.IsAt.{Scene, IsAt, slot_of}
-use Rattle.papaya_executor.specs.Stepping.{StepsFrom, StepLeads, scene_after}
+use Rattle.papaya_executor.specs.Stepping.{StepsFrom, scene_after}
 use Rattle.papaya_executor.specs.declared.executor.Executor.{Executor}
 use Rattle.papaya_executor.proofs.Steps.{may_step}
 use Rattle.papaya_follows.specs.Blocks.{HasRole, ShowsBlocks}
@@ -50,12 +49,11 @@ use Rattle.papaya_follows.proofs.Alike.{alike_same, still_all}
 use Rattle.papaya_follows.proofs.Called.{called_on}
 use Rattle.papaya_follows.proofs.Calls.{calls_on}
 use Rattle.papaya_follows.proofs.Finds.{still_find}
-use Rattle.papaya_follows.proofs.Kept.{NoMore}
 use Rattle.papaya_follows.proofs.Leads.{LeadsOn}
 use Rattle.papaya_follows.proofs.Moved.{by_moved}
 use Rattle.papaya_follows.proofs.Nowhere.{went_nowhere}
-use Rattle.papaya_follows.proofs.Onward.{KeepsRoles, tables_same, pairs_same, blocks_same, blocks_part, map_on}
-use Rattle.papaya_follows.proofs.Operations.{LeavesBy, MadeOperation, Operated, operated, operated_leaves, seen_write, told_write}
+use Rattle.papaya_follows.proofs.Onward.{tables_same, pairs_same, blocks_same, blocks_part, map_on}
+use Rattle.papaya_follows.proofs.Operations.{LeavesBy, Operated, operated, operated_leaves, seen_write, told_write}
 use Rattle.papaya_follows.proofs.Told.{IsQuiet, quiet_told}
 
 pub one_of : {X : Type 0} (x y : X) → ◌≡◌ {A = Option X} (Some x) (Some y) → x ≡ y

@@ -1,57 +1,46 @@
 -- A pair was stored, or took the place of another one, or was removed.
-use Rattle.std.specs.Prelude.{◌≡◌, ◌≢◌, ℕ, zero, suc, ◌+◌, ◌*◌, ◌/◌, ◌<◌, ◌≤◌, ◌^◌, ◌==◌, Bool, true, false, cond, eqb, List, [], ◌∷◌, ◌++◌, length, Option, Some, None, if◌then◌else◌, ◌⊎◌}
+use Rattle.std.specs.Prelude.{◌≡◌, ◌≢◌, ℕ, suc, ◌+◌, ◌<◌, ◌≤◌, Bool, true, false, cond, eqb, List, [], ◌∷◌, ◌++◌, length, Option, Some, None, ◌⊎◌}
 use Rattle.std.proofs.Common.{refl, ap, sym, subst, ◌∙◌, arith, inl, inr}
 use Rattle.std.proofs.lemmas.Bool.{ne_eqb, eq-eqb, cases_eq, cases_lt}
 use Rattle.seize_words.specs.Mem.{Mem, value_at}
-use Rattle.seize_words.specs.Word.{block_in}
-use Rattle.seize.specs.World.{World, Making}
-use Rattle.papaya_tables.specs.Chunks.{is_incremental}
-use Rattle.papaya_tables.specs.declared.marks.TheConstants.{TOMBSTONE}
+use Rattle.seize.specs.World.{World}
 use Rattle.papaya_tables.specs.declared.node.Node.{Node}
 use Rattle.papaya_tables.specs.declared.node.Node.TheVariants as node
-use Rattle.papaya_tables.specs.declared.setting.Setting.{Setting}
 use Rattle.papaya_runs.specs.Log.{pair_at}
 use Rattle.papaya_schedules.specs.declared.effect.Effect.{Effect}
 use Rattle.papaya_schedules.specs.declared.effect.Effect.TheVariants.{Stored, Replaced, Removed}
 use Rattle.papaya_schedules.specs.declared.effect.Spot.{Spot}
 use Rattle.papaya_schedules.specs.Entry.{acting}
-use Rattle.papaya_schedules.specs.Effects.{stored_by, with_effect, with_effects}
+use Rattle.papaya_schedules.specs.Effects.{stored_by, with_effect}
 use Rattle.papaya_schedules.specs.Lists.{put}
 use Rattle.papaya_schedules.specs.Moment.{Place, Unborn, InMap, Out, Handed, Behind, Left, GivenBack, UnderWay, Moment}
 use Rattle.papaya_schedules.specs.Views.{is_in_map}
-use Rattle.papaya_teller.specs.declared.changed.Changed.{Changed}
-use Rattle.papaya_teller.specs.declared.changed.Changed.TheVariants as changed
-use Rattle.papaya_tells.specs.Tells.{place_at}
-use Rattle.papaya_rule.specs.Chart.{Phase, Still, Empty, Holds, Chart, is_settled}
-use Rattle.papaya_rule.specs.Chart as chart
+use Rattle.papaya_rule.specs.Chart.{Still, Holds, Chart, is_settled}
 use Rattle.papaya_rule.specs.Rule.{Rule}
-use Rattle.papaya_rule.specs.Moves.{Move, Stores, Replaces, Removes, Promotes, MayChange, Allowed, after, without}
-use Rattle.papaya_rule.specs.Words.{Blocks, byte_of, place_word}
-use Rattle.papaya_rule.specs.Maps.{spot_of}
+use Rattle.papaya_rule.specs.Moves.{Promotes, MayChange, Allowed}
+use Rattle.papaya_rule.specs.Words.{Blocks}
 use Rattle.papaya_rule.specs.InWorld.{IsMapIn, Went}
-use Rattle.papaya_rule.proofs.Laws.{current_is_known, words_name_pairs, bytes_are_few}
+use Rattle.papaya_rule.proofs.Laws.{current_is_known}
 use Rattle.papaya_points.specs.Steps.{AreLawful}
 use Rattle.papaya_callers.specs.Sights.{Sight, seen_by, IsGrown, IsSight}
 use Rattle.papaya_callers.specs.Together.{in_slot}
 use Rattle.papaya_finishes.specs.Maps.{Standing}
-use Rattle.papaya_effects.specs.Effects.{spot_at, effects_of, known_after}
 use Rattle.papaya_effects.specs.Known.{Known, with_pair}
-use Rattle.papaya_effects.specs.declared.acting.Acting.TheVariants.{Call}
 use Rattle.papaya_effects.specs.declared.role.Role.{Role}
 use Rattle.papaya_effects.specs.declared.role.Role.TheVariants as role
 use Rattle.papaya_follows.specs.Blocks.{WasLinked, HasRole, ShowsBlocks}
 use Rattle.papaya_follows.specs.Finds.{MayStandAt}
-use Rattle.papaya_follows.specs.Maps.{table_of, ShowsPairs, ShowsMap}
+use Rattle.papaya_follows.specs.Maps.{ShowsPairs, ShowsMap}
 use Rattle.papaya_follows.specs.Steps.{HasPair}
-use Rattle.papaya_follows.proofs.Alike.{AlikePairs, IsAlike, alike_then, put_here, put_elsewhere, stored_other, replaced_other, removed_other}
+use Rattle.papaya_follows.proofs.Alike.{alike_then, put_here, put_elsewhere, stored_other, replaced_other, removed_other}
 use Rattle.papaya_follows.proofs.Contents.{Lasts, lasts_same, lasts_more, pair_within, pair_next}
-use Rattle.papaya_follows.proofs.Kept.{was_out, role_kept}
+use Rattle.papaya_follows.proofs.Kept.{role_kept}
 use Rattle.papaya_follows.proofs.Leads.{LeadsOn, after_step}
-use Rattle.papaya_follows.proofs.Onward.{IsLasting, KeepsRoles, StaysTables, StaysBlocks, blocks_grown, blocks_same, pairs_on, there_on, tables_on, counter_on}
-use Rattle.papaya_follows.proofs.Operations.{StaysThere, LeavesBy}
+use Rattle.papaya_follows.proofs.Onward.{IsLasting, KeepsRoles, StaysTables, StaysBlocks, blocks_grown, blocks_same, there_on, tables_on, counter_on}
+use Rattle.papaya_follows.proofs.Operations.{StaysThere}
 use Rattle.papaya_follows.proofs.Pairs.{StoresOne, stored_one, one_more_stored, goes_out, comes_in}
 use Rattle.papaya_follows.proofs.Told.{ArePairsOnce}
-use Rattle.papaya_follows.proofs.Writes.{Says, nothing_free, own_pair, place_says}
+use Rattle.papaya_follows.proofs.Writes.{own_pair}
 
 -- a step of a call on one key stores no pair but with one effect
 stored_no_more : {K V : Type 0} (o : Option (UnderWay K V)) (n : ℕ) (stored : List (K × V)) → (stored_by o (Replaced n) stored ≡ stored) × (stored_by o (Removed n) stored ≡ stored)

@@ -1,5 +1,5 @@
 -- What a step of a call does, and leaves of the roles of blocks, where it moves no pair and no table.
-use Rattle.std.specs.Prelude.{◌≡◌, ◌≢◌, ℕ, zero, suc, ◌+◌, ◌<◌, ◌≤◌, ◌==◌, nat_le, nat_lt, Bool, true, false, List, [], ◌∷◌, Option, Some, None, IsSome, if◌then◌else◌}
+use Rattle.std.specs.Prelude.{◌≡◌, ◌≢◌, ℕ, zero, suc, ◌+◌, ◌<◌, nat_le, nat_lt, Bool, true, false, List, [], ◌∷◌, Some, None, if◌then◌else◌}
 use Rattle.std.proofs.Common.{refl, ap, sym, subst, ◌∙◌, arith, inl, inr}
 use Rattle.std.proofs.lemmas.Bool.{ne_eqb, cases_eq}
 use Rattle.seize_words.specs.declared.at.At.{At}
@@ -20,14 +20,14 @@ use Rattle.papaya_teller.specs.declared.changed.Kind.TheVariants as kind
 use Rattle.papaya_tells.specs.Tells.{KeepsNames}
 use Rattle.papaya_rule.specs.Chart.{Chart}
 use Rattle.papaya_rule.specs.Words.{Blocks}
-use Rattle.papaya_rule.specs.InWorld.{IsOwnBlock, IsMapIn, Went}
+use Rattle.papaya_rule.specs.InWorld.{IsMapIn, Went}
 use Rattle.papaya_effects.specs.Effects.{made_role, made_by, taken_by, effects_of, known_after}
-use Rattle.papaya_effects.specs.Known.{Known, with_role, with_bucket}
+use Rattle.papaya_effects.specs.Known.{Known, with_role}
 use Rattle.papaya_effects.specs.declared.acting.Acting.{Acting}
 use Rattle.papaya_effects.specs.declared.acting.Acting.TheVariants.{Call}
 use Rattle.papaya_effects.specs.declared.role.Role.{Role}
 use Rattle.papaya_effects.specs.declared.role.Role.TheVariants as role
-use Rattle.papaya_follows.specs.Blocks.{WasLinked, HasRole}
+use Rattle.papaya_follows.specs.Blocks.{HasRole}
 use Rattle.papaya_follows.specs.Maps.{table_of}
 use Rattle.papaya_follows.proofs.Alike.{AllStill, put_here, put_elsewhere}
 use Rattle.papaya_follows.proofs.Kept.{role_kept, not_own}
