@@ -19,7 +19,7 @@ use denote.Ref.{Bor}
 use Rattle.std.specs.Fn.{Mut}
 use Rattle.papaya_owned.specs.Owned.{Holds, found_by, left_by}
 use Rattle.papaya_owned.specs.Retaining.{AnswersByTest, KeepsOf}
-use Rattle.papaya_owned.proofs.Owned.Answered.{keeps_by_test}
+use Rattle.papaya_owned.proofs.Owned.Questions.{keeps_by_test}
 use Rattle.papaya_owned.proofs.Walks.{holds_stands, holds_moves_none, holds_pairs}
 use Rattle.papaya_seq.specs.Maps.{Map, pairs_shown}
 use Rattle.papaya_seq.specs.Orders.{IsOneClass}
