@@ -1,3 +1,4 @@
 pub mod Calls
+pub mod Json
 pub mod Maps
 pub mod Orders

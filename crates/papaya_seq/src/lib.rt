@@ -4,6 +4,7 @@
 mod changes;
 mod counting;
 mod insertions;
+mod json;
 pub mod law;
 mod lookups;
 mod making;

@@ -1,0 +1,34 @@
+-- What a JSON value says of a map that is read of it: each member stands for a pair, or there is a first one that does not.
+use Rattle.std.specs.Prelude.{◌≡◌, ℕ, List, None, ◌⊎◌}
+use Rattle.seize_words.specs.declared.fault.Fault.{Fault}
+use Rattle.serde_json.specs.Data.{Data, Members, no_members, member, object}
+use Rattle.serde_json.specs.Find.{as_object}
+use Rattle.papaya_forms.specs.Forms.{IsNone}
+use Rattle.papaya_forms.specs.declared.fault.JsonFault.{JsonFault}
+use Rattle.papaya_forms.specs.declared.fault.JsonFault.TheVariants.{NotAnObject, BadKey, BadElement, Refused}
+use Rattle.papaya_late.specs.Faults.{IsRoom}
+
+-- a call of the map was refused, for want of memory, or as a table would have been too long
+abbrev pub IsRefusal : JsonFault → Type 0
+IsRefusal why = (fault : Fault) × (why ≡ Refused fault) × IsRoom fault
+
+-- What keys and values are in range, and what each is written as.
+module _ {K V : Type 0} (key_in : K → Type 0) (text : K → List ℕ) (value_in : V → Type 0) (value : V → Data) where
+  -- a member with this name and this value stands for this pair
+  abbrev pub IsPairOf : List ℕ → Data → K × V → Type 0
+  IsPairOf name d x = (key_in x.0 × (text x.0 ≡ name)) × (value_in x.1 × (value x.1 ≡ d))
+
+  -- It stands for none, for this: no key is written as its name; or a key is, and no value is written as its value.
+  abbrev pub IsNoPair : JsonFault → List ℕ → Data → Type 0
+  IsNoPair why name d =
+      ((why ≡ BadKey) × IsNone key_in text name)
+      ⊎ ((why ≡ BadElement) × ((key : K) × key_in key × (text key ≡ name)) × IsNone value_in value d)
+
+  -- The first member that stands for no pair stands for none for this: all before it do.
+  abbrev pub FirstFault : JsonFault → Members → Type 0
+  FirstFault why no_members = ⊥
+  FirstFault why (member name d ms) = IsNoPair why name d ⊎ (((x : K × V) × IsPairOf name d x) × FirstFault why ms)
+
+  -- Why a value was not read as a map: it is no object; or it is one, and this is its first fault, or a call of the map was refused.
+  abbrev pub IsUnread : JsonFault → Data → Type 0
+  IsUnread why d = ((why ≡ NotAnObject) × (as_object d ≡ None)) ⊎ ((ms : Members) × (d ≡ object ms) × (FirstFault why ms ⊎ IsRefusal why))
