@@ -1,5 +1,5 @@
 -- The laws of pairs in another order.
-use Rattle.papaya_seq.specs.Orders.{FoundInAnyOrder, LeftInAnyOrder, ApartInAnyOrder, PutIsFound, OthersStay, ApartAreWrittenApart}
+use Rattle.papaya_seq.specs.Orders.{FoundInAnyOrder, LeftInAnyOrder, ApartInAnyOrder, PutIsFound, OthersStay}
 use Rattle.std.proofs.Common.{◌∙◌}
 use Rattle.papaya_seq.proofs.Orders as orders
 use Rattle.papaya_owned.specs.Owned.{left_by}
@@ -20,6 +20,3 @@ module _ (K V : Type 0) where
   pub others_stay : OthersStay K V
   others_stay keys others apart xs =
       (orders.others_found keys others apart xs, λ x its. orders.others_found_behind keys others apart (left_by keys xs) x its ∙ orders.others_found keys others apart xs)
-
-pub written_apart : (K V L : Type 0) → ApartAreWrittenApart K V L
-written_apart K V L same written tells xs apart = orders.written_apart same written tells xs apart

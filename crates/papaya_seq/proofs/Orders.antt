@@ -15,7 +15,7 @@ use Rattle.papaya_whole.specs.Contents.{HasOneEach, pair_for}
 use Rattle.papaya_owned.specs.Owned.{found_by, left_by}
 use Rattle.papaya_owned.specs.Retaining.{KeepsOf}
 use Rattle.papaya_owned.proofs.Owned.Lookups.{found_append}
-use Rattle.papaya_seq.specs.Orders.{IsOneClass, AreWrittenApart}
+use Rattle.papaya_seq.specs.Orders.{IsOneClass}
 
 -- What holds of each list and itself, and where the first two change places, and goes under one more and on from list to list, holds of a list in any order.
 module _ {X : Type 0} (So : List X → List X → Type 0) (itself : (xs : List X) → So xs xs) (under : (x : X) (xs ys : List X) → So xs ys → So (x ∷ xs) (x ∷ ys))
@@ -200,12 +200,3 @@ module _ {K V : Type 0} (same : K → K → Bool) where
       found_same xs ys apart order =
           (in_any_order FindsSame (λ zs. (IsPermutation-refl zs, λ a. refl)) finds_under finds_turned
           (λ us vs ws p q. (IsPermutation-trans us vs ws p.0 q.0, λ a. q.1 (apart_same us vs a p.0) ∙ p.1 a)) xs ys order).1 apart
-
-  module _ {L : Type 0} (written : K → L) (tells : (x y : K) → written y ≡ written x → same x y ≡ true) where
-    pub written_apart : (xs : List (K × V)) → IsDistinct same (keys_of xs) → AreWrittenApart written xs
-    written_apart [] apart = tt
-    written_apart (x ∷ xs) apart = (from xs (IsDistinct-head same x.0 (keys_of xs) apart), written_apart xs (IsDistinct-tail same x.0 (keys_of xs) apart))
-      where
-        from : (ys : List (K × V)) → AllByRecursion (λ k. same x.0 k ≡ false) (keys_of ys) → All (λ y. written y.0 ≢ written x.0) ys
-        from [] others = All-nil (λ y. written y.0 ≢ written x.0)
-        from (y ∷ ys) others = All-cons (λ y. written y.0 ≢ written x.0) y ys (λ e. true≢false (sym (tells x.0 y.0 e) ∙ others.0)) (from ys others.1)

@@ -37,14 +37,3 @@ module _ (K V : Type 0) where
   OthersStay =
       (keys others : K → Bool) → ((k : K) → keys k ≡ true → others k ≡ false) → (xs : List (K × V))
       → (found_by others (left_by keys xs) ≡ found_by others xs) × ((x : K × V) → keys x.0 ≡ true → found_by others (left_by keys xs ++ (x ∷ [])) ≡ found_by others xs)
-
--- no two pairs have keys of which the same is written
-abbrev pub AreWrittenApart : {K V L : Type 0} → (K → L) → List (K × V) → Type 0
-AreWrittenApart written [] = Unit {0}
-AreWrittenApart written (x ∷ xs) = All (λ y. written y.0 ≢ written x.0) xs × AreWrittenApart written xs
-
--- Where the same is written of equal keys alone, it differs from pair to pair where no two keys are equal.
-abbrev pub ApartAreWrittenApart : Type 0 → Type 0 → Type 0 → Type 0
-ApartAreWrittenApart K V L =
-    (same : K → K → Bool) (written : K → L) → ((x y : K) → written y ≡ written x → same x y ≡ true) → (xs : List (K × V)) → IsDistinct same (keys_of xs)
-    → AreWrittenApart written xs

@@ -1,5 +1,5 @@
 //! What is promised of pairs that are listed in another order, as those of a map are after a change.
-ghost use Rattle.papaya_seq.specs.Orders.{FoundInAnyOrder, LeftInAnyOrder, ApartInAnyOrder, PutIsFound, OthersStay, ApartAreWrittenApart};
+ghost use Rattle.papaya_seq.specs.Orders.{FoundInAnyOrder, LeftInAnyOrder, ApartInAnyOrder, PutIsFound, OthersStay};
 
 /// Where no two keys are equal, the pair of a key is the same one in any order. So is what is left without it, but for the order, and no two
 /// keys are equal there.
@@ -14,9 +14,4 @@ pub fn order_makes_no_difference<K, V>()
 pub fn changes_are_found<K, V>()
     ensures put { PutIsFound K V }
     ensures others { OthersStay K V }
-{}
-
-/// Where the same is written of equal keys alone, no two pairs have the same written of their keys, where no two keys are equal.
-pub fn keys_are_written_apart<K, V, L>()
-    ensures { ApartAreWrittenApart K V L }
 {}
