@@ -1,8 +1,12 @@
 -- Lemmas on maps for one owner.
+mod Equals
 mod Looks
 mod Makes
 pub mod Orders
+mod Puts
 mod Removals
+mod Sets
 mod Shows
 mod Stores
+mod Walked
 pub mod Laws
