@@ -2,3 +2,7 @@ pub mod Calls
 pub mod Json
 pub mod Maps
 pub mod Orders
+pub mod Equals
+pub mod Puts
+pub mod Sets
+pub mod Walks

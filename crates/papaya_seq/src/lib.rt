@@ -2,7 +2,12 @@
 #![tactic(auto)]
 
 mod changes;
+mod clones;
+mod columns;
 mod counting;
+mod equal;
+mod extending;
+mod formatting;
 mod insertions;
 mod json;
 pub mod law;
@@ -11,11 +16,14 @@ mod making;
 mod map;
 mod refused;
 mod requests;
+mod set;
 mod sweeps;
 mod walks;
 
+pub use columns::{Keys, Values};
 pub use map::HashMap;
 pub use papaya_shown::Pairs;
 pub use papaya_tables::Equivalent;
 pub use refused::Refused;
 pub use seize_words::Fault;
+pub use set::{HashSet, RefusedKey};

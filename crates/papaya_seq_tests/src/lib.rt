@@ -4,6 +4,8 @@
 #[cfg(test)]
 mod calls;
 #[cfg(test)]
+mod collected;
+#[cfg(test)]
 mod filled;
 #[cfg(test)]
 mod found_again;
@@ -15,5 +17,7 @@ mod makers;
 mod refused;
 #[cfg(test)]
 mod rows;
+#[cfg(test)]
+mod sets;
 #[cfg(test)]
 mod swept;

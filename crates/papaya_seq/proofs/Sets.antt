@@ -1,0 +1,91 @@
+-- Elements of a set, which are the keys of a map with no values.
+use Rattle.std.specs.Prelude.{if◌then◌else◌}
+use Rattle.std.specs.List.{AllZip}
+use Rattle.std.specs.List.Sorted.{IsPermutation}
+use Rattle.std.specs.Map.{keys_of}
+use Rattle.std.proofs.Common.{◌≡◌, Bool, true, false, cond, not, List, [], ◌∷◌, ◌++◌, find, filter, Option, Some, is_some, is_none, option_map, refl, ap, sym, subst, ◌∙◌}
+use Rattle.std.proofs.lemmas.List.{map-append}
+use Rattle.std.proofs.lemmas.List.Sorted.{IsPermutation-trans, IsPermutation-append_left, IsPermutation-map}
+use Rattle.papaya_owned.specs.Owned.{found_by, left_by}
+use Rattle.papaya_seq.specs.Puts.{IsCloneOf, PutsClones, put, put_all}
+use Rattle.papaya_seq.specs.Sets.{PutsElementClones, left_in, put_in, put_all_in}
+use Rattle.papaya_seq.proofs.Orders.{kept_in_any_order}
+
+-- what was not there is new
+pub new_so : {X : Type 0} (was : Bool) (o : Option X) → was ≡ is_some o → not was ≡ is_none o
+new_so was o is = ap not is
+
+module _ {K V : Type 0} where
+  pub keys_found : (test : K → Bool) (xs : List (K × V)) → find test (keys_of xs) ≡ option_map (λ x. x.0) (found_by test xs)
+  keys_found test [] = refl
+  keys_found test (x ∷ xs) = by (test x.0) (keys_found test xs)
+    where
+      by : (b : Bool) → find test (keys_of xs) ≡ option_map (λ (x : K × V). x.0) (found_by test xs) → cond b (Some x.0) (find test (keys_of xs)) ≡ option_map (λ (x : K × V). x.0) (cond b (Some x) (found_by test xs))
+      by true so = refl
+      by false so = so
+
+  pub keys_are_found : (test : K → Bool) (xs : List (K × V)) → is_some (find test (keys_of xs)) ≡ is_some (found_by test xs)
+  keys_are_found test [] = refl
+  keys_are_found test (x ∷ xs) = by (test x.0) (keys_are_found test xs)
+    where
+      by : (b : Bool) → is_some (find test (keys_of xs)) ≡ is_some (found_by test xs) → is_some (cond b (Some x.0) (find test (keys_of xs))) ≡ is_some (cond b (Some x) (found_by test xs))
+      by true so = refl
+      by false so = so
+
+  pub keys_left : (test : K → Bool) (xs : List (K × V)) → keys_of (left_by test xs) ≡ left_in test (keys_of xs)
+  keys_left test [] = refl
+  keys_left test (x ∷ xs) = by (test x.0) (keys_left test xs)
+    where
+      by : (b : Bool) → keys_of (left_by test xs) ≡ left_in test (keys_of xs)
+          → keys_of (if b then left_by test xs else x ∷ left_by test xs) ≡ cond (not b) (x.0 ∷ left_in test (keys_of xs)) (left_in test (keys_of xs))
+      by true so = so
+      by false so = ap (λ l. x.0 ∷ l) so
+
+  pub keys_put : (same : K → K → Bool) (xs : List (K × V)) (x : K × V) → keys_of (put same xs x) ≡ put_in same (keys_of xs) x.0
+  keys_put same xs x = map-append (λ (y : K × V). y.0) (left_by (same x.0) xs) (x ∷ []) ∙ ap (λ l. l ++ (x.0 ∷ [])) (keys_left (same x.0) xs)
+
+  pub keys_put_all : (same : K → K → Bool) (ys xs : List (K × V)) → keys_of (put_all same xs ys) ≡ put_all_in same (keys_of xs) (keys_of ys)
+  keys_put_all same [] xs = refl
+  keys_put_all same (y ∷ ys) xs = keys_put_all same ys (put same xs y) ∙ ap (λ l. put_all_in same l (keys_of ys)) (keys_put same xs y)
+
+  pub keys_in_order : (xs ys : List (K × V)) → IsPermutation xs ys → IsPermutation (keys_of xs) (keys_of ys)
+  keys_in_order xs ys order = IsPermutation-map (λ x. x.0) xs ys order
+
+  keys_kept : (test : K → Bool) (xs : List (K × V)) → keys_of (filter (λ x. test x.0) xs) ≡ filter test (keys_of xs)
+  keys_kept test [] = refl
+  keys_kept test (x ∷ xs) = by (test x.0) (keys_kept test xs)
+    where
+      by : (b : Bool) → keys_of (filter (λ x. test x.0) xs) ≡ filter test (keys_of xs)
+          → keys_of (cond b (x ∷ filter (λ x. test x.0) xs) (filter (λ x. test x.0) xs)) ≡ cond b (x.0 ∷ filter test (keys_of xs)) (filter test (keys_of xs))
+      by true so = ap (λ l. x.0 ∷ l) so
+      by false so = so
+
+  pub kept_in_order : (test : K → Bool) (xs ys : List (K × V)) → IsPermutation xs (filter (λ x. test x.0) ys) → IsPermutation (keys_of xs) (filter test (keys_of ys))
+  kept_in_order test xs ys order = subst (IsPermutation (keys_of xs)) (keys_kept test ys) (keys_in_order xs (filter (λ x. test x.0) ys) order)
+
+  keys_cloned : (key_clone : K → K → Type 0) (value_clone : V → V → Type 0) (xs ys : List (K × V)) → AllZip (IsCloneOf key_clone value_clone) xs ys → AllZip key_clone (keys_of xs) (keys_of ys)
+  keys_cloned key_clone value_clone [] [] so = tt
+  keys_cloned key_clone value_clone [] (y ∷ ys) so = absurd so
+  keys_cloned key_clone value_clone (x ∷ xs) [] so = absurd so
+  keys_cloned key_clone value_clone (x ∷ xs) (y ∷ ys) so = (so.0.0, keys_cloned key_clone value_clone xs ys so.1)
+
+  pub key_clones : (same : K → K → Bool) (key_clone : K → K → Type 0) (value_clone : V → V → Type 0) (originals new : List (K × V)) → PutsClones same key_clone value_clone originals new
+      → PutsElementClones same key_clone (keys_of originals) (keys_of new)
+  key_clones same key_clone value_clone originals new so =
+      (keys_of so.0, keys_cloned key_clone value_clone originals so.0 so.1, subst (IsPermutation (keys_of new)) (keys_put_all same so.0 []) (keys_in_order new (put_all same [] so.0) so.2))
+
+module _ {K : Type 0} (same : K → K → Bool) where
+  put_in_last : (xs ys : List K) (y : K) → put_all_in same xs (ys ++ (y ∷ [])) ≡ put_in same (put_all_in same xs ys) y
+  put_in_last xs [] y = refl
+  put_in_last xs (z ∷ ys) y = put_in_last (put_in same xs z) ys y
+
+  put_in_any_order : (xs ys : List K) (y : K) → IsPermutation xs ys → IsPermutation (put_in same xs y) (put_in same ys y)
+  put_in_any_order xs ys y order =
+      IsPermutation-append_left (y ∷ []) (left_in (same y) xs) (left_in (same y) ys) (kept_in_any_order (λ x. not (same y x)) xs ys order)
+
+  -- one more was put
+  pub puts_in_more : (old given new newer : List K) (x : K) → IsPermutation new (put_all_in same old given) → IsPermutation newer (put_in same new x)
+      → IsPermutation newer (put_all_in same old (given ++ (x ∷ [])))
+  puts_in_more old given new newer x so more =
+      subst (IsPermutation newer) (sym (put_in_last old given x))
+      (IsPermutation-trans newer (put_in same new x) (put_in same (put_all_in same old given) x) more (put_in_any_order new (put_all_in same old given) x so))

@@ -1,0 +1,43 @@
+-- By the map's keys.
+use Rattle.std.specs.Prelude.{◌≡◌, find, is_none, is_some, IfOk, OnOk, OnErr}
+use Rattle.std.specs.List.Sorted.{IsPermutation}
+use Rattle.std.specs.Map.{keys_of}
+use Rattle.std.proofs.Common.{◌∙◌, ap, sym, subst}
+use Rattle.papaya_seq.specs.Puts.{put}
+use Rattle.papaya_seq.specs.Sets.{Set, put_in}
+use Rattle.papaya_seq.proofs.Sets.{keys_are_found, keys_in_order, keys_put, new_so}
+use Rattle.papaya_seq.proofs.set.HashSet.insert.Goals.{in-Ok, in-Err}
+use Rattle.papaya_seq.proofs.set.HashSet.insert.Goals as goal
+
+pub returns-clause-fresh : goal.returns-clause-fresh
+returns-clause-fresh g c =
+    let test = g.K.PartialEq.eq c.args.element in
+    let old = c.self.inside.map.pairs in
+    elim c.match-insert.branch [
+      | in-Ok w ↦
+          subst (λ r. IfOk r (λ new. new ≡ is_none (find test c.args.self.now.elements))) (sym w.result-is)
+          (new_so w.in-Ok.was (find test c.args.self.now.elements)
+          (w.in-Ok.ensures.some ∙ sym (keys_are_found test old) ∙ ap (λ (x : Set g.row.K.Denot g.row.S.Denot). is_some (find test x.elements)) c.self.view_is))
+      | in-Err w ↦ subst (λ r. IfOk r (λ new. new ≡ is_none (find test c.args.self.now.elements))) (sym w.result-is) tt
+    ]
+
+pub returns-clause-stored : goal.returns-clause-stored
+returns-clause-stored g c =
+    let old = c.self.inside.map.pairs in let new = c.insert.new.self.pairs in
+    elim c.match-insert.branch [
+      | in-Ok w ↦
+          subst (λ r. OnOk r (IsPermutation (keys_of new) (put_in g.K.PartialEq.eq c.args.self.now.elements c.args.element))) (sym w.result-is)
+          (subst (λ (x : Set g.row.K.Denot g.row.S.Denot). IsPermutation (keys_of new) (put_in g.K.PartialEq.eq x.elements c.args.element)) c.self.view_is
+          (subst (IsPermutation (keys_of new)) (keys_put g.K.PartialEq.eq old (c.args.element, tt)) (keys_in_order new (put g.K.PartialEq.eq old (c.args.element, tt)) w.in-Ok.ensures.stored)))
+      | in-Err w ↦ subst (λ r. OnOk r (IsPermutation (keys_of new) (put_in g.K.PartialEq.eq c.args.self.now.elements c.args.element))) (sym w.result-is) tt
+    ]
+
+pub returns-clause-refused : goal.returns-clause-refused
+returns-clause-refused g c =
+    let old = c.self.inside.map.pairs in let new = c.insert.new.self.pairs in
+    elim c.match-insert.branch [
+      | in-Ok w ↦ subst (λ r. OnErr r (IsPermutation (keys_of new) c.args.self.now.elements)) (sym w.result-is) tt
+      | in-Err w ↦
+          subst (λ r. OnErr r (IsPermutation (keys_of new) c.args.self.now.elements)) (sym w.result-is)
+          (subst (λ (x : Set g.row.K.Denot g.row.S.Denot). IsPermutation (keys_of new) x.elements) c.self.view_is (keys_in_order new old w.in-Err.ensures.refused))
+    ]

@@ -1,0 +1,26 @@
+-- The map asks the closure about the keys alone.
+use denote.Param.Always.{always_mut, mut_by, mut_next}
+use Rattle.std.specs.Prelude.{filter}
+use Rattle.std.specs.List.Sorted.{IsPermutation}
+use Rattle.std.specs.Map.{keys_of}
+use Rattle.std.proofs.Common.{of_calls, refl, subst}
+use Rattle.std.proofs.lemmas.Result.{on_ok_weaker, on_err_weaker}
+use Rattle.papaya_seq.specs.Sets.{Set}
+use Rattle.papaya_seq.proofs.Sets.{kept_in_order, keys_in_order}
+use Rattle.papaya_seq.proofs.set.HashSet.retain.Goals as goal
+
+pub retain-requires : goal.retain-requires
+retain-requires g c = record { callable = mut_by _ (λ s. always_mut g.F.FnMut s.0) (λ s a i. i) (λ s a r t i e. mut_next g.F.FnMut s.0 (a.0, tt) r t.0 t.0 (search of_calls) refl i) _ c.requires.callable }
+
+pub returns-clause-by_test : goal.returns-clause-by_test
+returns-clause-by_test g c = λ test so.
+    let new = c.retain.new.self.pairs in
+    on_ok_weaker c.retain.result
+    (λ order. subst (λ (x : Set g.row.K.Denot g.row.S.Denot). IsPermutation (keys_of new) (filter test x.elements)) c.self.view_is (kept_in_order test new c.self.inside.map.pairs order))
+    (c.retain.ensures.by_test (λ k v. test k) (λ f p q r next e. so f.0 p r next.0 (search of_calls)))
+
+pub returns-clause-refused : goal.returns-clause-refused
+returns-clause-refused g c =
+    let new = c.retain.new.self.pairs in
+    on_err_weaker c.retain.result
+    (λ order. subst (λ (x : Set g.row.K.Denot g.row.S.Denot). IsPermutation (keys_of new) x.elements) c.self.view_is (keys_in_order new c.self.inside.map.pairs order)) c.retain.ensures.refused

@@ -1,0 +1,41 @@
+-- A set for one owner, as its callers see it, and elements that are put into it one after another.
+use denote.Ref.{Bor}
+use Rattle.std.specs.Prelude.{◌≡◌, Bool, List, [], ◌∷◌, ◌++◌, Option, Result, MatchResult, filter, not}
+use Rattle.std.specs.Fn.{Called, Mut}
+use Rattle.std.specs.Iterator.{Drains, Yields}
+use Rattle.std.specs.List.{AllZip}
+use Rattle.std.specs.List.Sorted.{IsPermutation}
+use Rattle.papaya_seq.specs.declared.set.refused.RefusedKey.{RefusedKey}
+
+-- The value of a set: its elements, and its hasher. Which order the elements are in, a walk tells alone.
+pub record Set (K S : Type 0) : Type 0 where
+  pub elements : List K
+  pub hasher : S
+
+-- all elements but those that pass
+abbrev pub left_in : {K : Type 0} → (K → Bool) → List K → List K
+left_in test xs = filter (λ x. not (test x)) xs
+
+module _ {K : Type 0} (same : K → K → Bool) where
+  -- the elements, once this one was put in the place of the one that equals it
+  abbrev pub put_in : List K → K → List K
+  put_in xs x = left_in (same x) xs ++ (x ∷ [])
+
+  -- the elements, once these were put one after another
+  abbrev pub put_all_in : List K → List K → List K
+  put_all_in xs [] = xs
+  put_all_in xs (y ∷ ys) = put_all_in (put_in xs y) ys
+
+  -- What an iterator gives is put one after another: all that it gives, or what came before the element that was refused and is handed back.
+  abbrev pub PutsElements : {I T : Type 0} → (I → T → Type 0) → (T → Option K → T → Type 0) → I → List K → List K → Result (Unit {0}) (RefusedKey K) → Type 0
+  PutsElements {I} {T} becomes steps items old new result =
+      (it : T) × (given : List K) × becomes items it × IsPermutation new (put_all_in old given)
+      × MatchResult result (λ _. Drains steps it given) (λ refused. (rest : T) × Yields steps it (given ++ (refused.key ∷ [])) rest)
+
+  -- Clones of these elements are put one after another, and nothing else.
+  abbrev pub PutsElementClones : (K → K → Type 0) → List K → List K → Type 0
+  PutsElementClones is_clone originals new = (clones : List K) × AllZip is_clone originals clones × IsPermutation new (put_all_in [] clones)
+
+-- whatever it has answered before, a closure answers by this test
+abbrev pub AnswersByTestOf : {F K : Type 0} → Mut F (Bor K × Unit {0}) Bool → (K → Bool) → Type 0
+AnswersByTestOf {F} {K} g test = (f : F) (p : Bor K) (r : Bool) (next : F) → Called g f (p, tt) r next → r ≡ test p.now

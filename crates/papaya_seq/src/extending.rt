@@ -1,0 +1,49 @@
+//! What an iterator gives is put into a map for one owner.
+ghost use Rattle.std.specs.Prelude.{◌≡◌, List, [], IfOk, IfErr};
+ghost use Rattle.std.specs.Iterator.{Drains, IsFiniteIterable};
+ghost use Rattle.std.specs.List.Sorted.{IsPermutation};
+ghost use Rattle.papaya_late.specs.Faults.{IsRoom};
+ghost use Rattle.papaya_seq.specs.Puts.{PutsItems, put_all};
+
+use crate::map::HashMap;
+use crate::refused::Refused;
+use seize_words::Fault;
+use std::alloc::Global;
+use std::hash::{BuildHasher, Hash};
+
+impl<K: Eq + Hash + Drop, V: Drop, S: BuildHasher> HashMap<K, V, S> {
+    /// Stores what an iterator gives, one pair after another, each also in the place of another one of its key. Where a pair is refused, it is
+    /// handed back, those that came before stay, and no further one is asked for. The faults are `Fault::Capacity` and `Fault::Memory`.
+    pub fn extend<I: IntoIterator<Item = (K, V)>>(&mut self, items: I) -> Result<(), Refused<K, V>>
+        requires { IsFiniteIterable I.into_iter_gives I.IntoIter.can_next I.IntoIter.remaining items }
+        ensures put { PutsItems K.eq I.into_iter_gives I.IntoIter.next_gives items self.old.pairs self.new.pairs result }
+        ensures fault { IfErr result (λ r. IsRoom r.fault) }
+        ensures hasher { self.new.hasher ≡ self.old.hasher }
+    {
+        for (key, value) in items {
+            match self.insert(key, value) {
+                Ok(_) => {}
+                Err(refused) => return Err(refused),
+            }
+        }
+        Ok(())
+    }
+}
+
+impl<K: Eq + Hash + Drop, V: Drop, S: BuildHasher + Default + Drop> HashMap<K, V, S> {
+    /// A map with what an iterator gives, the last pair of each key. The faults are `Fault::Capacity` and `Fault::Memory`; then there is no map.
+    pub fn try_collect<I: IntoIterator<Item = (K, V)>>(
+        alloc: Global,
+        items: I,
+    ) -> Result<Self, Fault>
+        requires { IsFiniteIterable I.into_iter_gives I.IntoIter.can_next I.IntoIter.remaining items }
+        ensures { IfOk result (λ map. (it : I.IntoIter) × (given : List (K × V)) × I.into_iter_gives items it × Drains I.IntoIter.next_gives it given × IsPermutation map.pairs (put_all K.eq [] given)) }
+    {
+        let rest = items.into_iter();
+        let mut map = HashMap::new(alloc)?;
+        match map.extend(rest) {
+            Ok(()) => Ok(map),
+            Err(refused) => Err(refused.fault),
+        }
+    }
+}

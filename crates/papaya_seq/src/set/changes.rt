@@ -1,0 +1,41 @@
+//! An element is put into a set for one owner, or removed from it.
+ghost use Rattle.std.specs.Prelude.{◌≡◌, is_none, is_some, find, IfOk, IfErr, OnOk, OnErr};
+ghost use Rattle.std.specs.List.Sorted.{IsPermutation};
+ghost use Rattle.papaya_late.specs.Faults.{IsRoom};
+ghost use Rattle.papaya_seq.specs.Sets.{left_in, put_in};
+
+use super::{HashSet, RefusedKey};
+use seize_words::Fault;
+use std::hash::{BuildHasher, Hash};
+
+impl<K: Eq + Hash + Drop, S: BuildHasher> HashSet<K, S> {
+    /// Stores an element, also in the place of one that equals it, and answers whether there was none. The faults are `Fault::Capacity` and
+    /// `Fault::Memory`; then no element has changed.
+    pub fn insert(&mut self, element: K) -> Result<bool, RefusedKey<K>>
+        ensures fresh { IfOk result (λ new. new ≡ is_none (find (K.eq element) self.old.elements)) }
+        ensures stored { OnOk result (IsPermutation self.new.elements (put_in K.eq self.old.elements element)) }
+        ensures refused { OnErr result (IsPermutation self.new.elements self.old.elements) }
+        ensures back { IfErr result (λ r. r.key ≡ element) }
+        ensures fault { IfErr result (λ r. IsRoom r.fault) }
+        ensures hasher { self.new.hasher ≡ self.old.hasher }
+    {
+        match self.map.insert(element, ()) {
+            Ok(was) => Ok(!was),
+            Err(refused) => Err(RefusedKey {
+                fault: refused.fault,
+                key: refused.key,
+            }),
+        }
+    }
+
+    /// Removes an element, and answers whether it was there. The faults are `Fault::Capacity` and `Fault::Memory`; then no element has changed.
+    pub fn remove(&mut self, element: K) -> Result<bool, Fault>
+        ensures some { IfOk result (λ was. was ≡ is_some (find (K.eq element) self.old.elements)) }
+        ensures removed { OnOk result (IsPermutation self.new.elements (left_in (K.eq element) self.old.elements)) }
+        ensures refused { OnErr result (IsPermutation self.new.elements self.old.elements) }
+        ensures fault { IfErr result IsRoom }
+        ensures hasher { self.new.hasher ≡ self.old.hasher }
+    {
+        self.map.remove(element)
+    }
+}

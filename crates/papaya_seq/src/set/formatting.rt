@@ -1,0 +1,15 @@
+//! How a set for one owner is written for who debugs.
+
+use super::HashSet;
+use std::fmt::{Debug, Formatter, Result, Write};
+use std::hash::{BuildHasher, Hash};
+
+impl<K: Eq + Hash + Debug, S: BuildHasher> Debug for HashSet<K, S> {
+    fn fmt<W: Write>(&self, f: &mut Formatter<W>) -> Result {
+        let mut out = f.debug_set();
+        for element in self.iter() {
+            out.entry(element);
+        }
+        out.finish()
+    }
+}

@@ -1,0 +1,54 @@
+//! What a set for one owner has. Nothing here takes memory, or completes a resize.
+ghost use Rattle.std.specs.Prelude.{◌≡◌, ◌==◌, length, is_some, find};
+ghost use Rattle.std.specs.List.{IsDistinct};
+ghost use Rattle.std.specs.Option.{option_copied};
+ghost use Rattle.papaya_shown.specs.Coming.{can_go_on};
+ghost use Rattle.papaya_seq.specs.Walks.{keys_to_come};
+
+use super::HashSet;
+use crate::columns::Keys;
+use papaya_tables::Equivalent;
+use std::hash::{BuildHasher, Hash};
+
+impl<K: Eq + Hash, S: BuildHasher> HashSet<K, S> {
+    /// How many elements it has. No two of them are equal.
+    pub fn len(&self) -> u64
+        ensures len { result ≡ length self.now.elements }
+        ensures apart { IsDistinct K.eq self.now.elements }
+    {
+        self.map.len()
+    }
+
+    /// Whether it has no element.
+    pub fn is_empty(&self) -> bool
+        ensures { result ≡ (length self.now.elements == 0) }
+    {
+        self.map.is_empty()
+    }
+
+    /// Whether the element is in the set.
+    pub fn contains<Q: Equivalent<K>>(&self, asked: &Q) -> bool
+        ensures { result ≡ is_some (find (Q.Equivalent.equivalent asked.now) self.now.elements) }
+    {
+        self.map.contains_key(asked)
+    }
+
+    /// The stored element, if it is in the set.
+    pub fn get<Q: Equivalent<K>>(&self, asked: &Q) -> Option<&K>
+        ensures { option_copied result ≡ find (Q.Equivalent.equivalent asked.now) self.now.elements }
+    {
+        match self.map.get_key_value(asked) {
+            Some((element, _)) => Some(element),
+            None => None,
+        }
+    }
+
+    /// The elements, each once. In which order is not said, but no two are equal.
+    pub fn iter(&self) -> Keys<'_, K, ()>
+        ensures can { can_go_on result.pairs }
+        ensures elements { keys_to_come result ≡ self.now.elements }
+        ensures apart { IsDistinct K.eq self.now.elements }
+    {
+        self.map.keys()
+    }
+}

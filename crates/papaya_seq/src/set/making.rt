@@ -1,0 +1,44 @@
+//! How a set for one owner is made.
+ghost use Rattle.std.specs.Prelude.{◌≡◌, [], IfOk};
+
+use super::HashSet;
+use crate::map::HashMap;
+use seize_words::Fault;
+use std::alloc::Global;
+use std::hash::{BuildHasher, Hash};
+
+impl<K: Eq + Hash + Drop, S: BuildHasher + Default + Drop> HashSet<K, S> {
+    /// A set with no element. The only fault is `Fault::Memory`.
+    pub fn new(alloc: Global) -> Result<Self, Fault>
+        ensures { IfOk result (λ set. set.elements ≡ []) }
+    {
+        HashSet::with_hasher(alloc, S::default())
+    }
+
+    /// A set with no element, and with room for so many. The faults are `Fault::Capacity`, where that is too many, and `Fault::Memory`.
+    pub fn with_capacity(alloc: Global, capacity: u64) -> Result<Self, Fault>
+        ensures { IfOk result (λ set. set.elements ≡ []) }
+    {
+        HashSet::with_capacity_and_hasher(alloc, capacity, S::default())
+    }
+}
+
+impl<K: Eq + Hash + Drop, S: BuildHasher + Drop> HashSet<K, S> {
+    /// A set with no element, and with this hasher. The only fault is `Fault::Memory`.
+    pub fn with_hasher(alloc: Global, hasher: S) -> Result<Self, Fault>
+        ensures elements { IfOk result (λ set. set.elements ≡ []) }
+        ensures hasher { IfOk result (λ set. set.hasher ≡ hasher) }
+    {
+        HashSet::with_capacity_and_hasher(alloc, 0, hasher)
+    }
+
+    /// A set with no element, with room for so many, and with this hasher. The faults are `Fault::Capacity`, where that is too many, and
+    /// `Fault::Memory`.
+    pub fn with_capacity_and_hasher(alloc: Global, capacity: u64, hasher: S) -> Result<Self, Fault>
+        ensures elements { IfOk result (λ set. set.elements ≡ []) }
+        ensures hasher { IfOk result (λ set. set.hasher ≡ hasher) }
+    {
+        let map = HashMap::with_capacity_and_hasher(alloc, capacity, hasher)?;
+        Ok(HashSet { map })
+    }
+}

@@ -1,0 +1,31 @@
+//! What goes over all elements of a set for one owner, and removes them.
+ghost use Rattle.std.specs.Prelude.{◌≡◌, Bool, [], OnOk, OnErr, filter};
+ghost use Rattle.std.specs.List.Sorted.{IsPermutation};
+ghost use Rattle.papaya_seq.specs.Sets.{AnswersByTestOf};
+
+use super::HashSet;
+use seize_words::Fault;
+use std::hash::{BuildHasher, Hash};
+
+impl<K: Eq + Hash + Drop, S: BuildHasher> HashSet<K, S> {
+    /// Removes all elements. The faults are `Fault::Capacity` and `Fault::Memory`, where a growth that was under way could not be seen through;
+    /// then no element has changed.
+    pub fn clear(&mut self) -> Result<(), Fault>
+        ensures done { OnOk result (self.new.elements ≡ []) }
+        ensures refused { OnErr result (IsPermutation self.new.elements self.old.elements) }
+        ensures hasher { self.new.hasher ≡ self.old.hasher }
+    {
+        self.map.clear()
+    }
+
+    /// Keeps just the elements for which the closure answers `true`. It is called with each once, in which order is not said. The faults are
+    /// `Fault::Capacity` and `Fault::Memory`, where a growth that was under way could not be seen through; then no element has changed.
+    pub fn retain<F: FnMut(&K) -> bool>(&mut self, mut keep: F) -> Result<(), Fault>
+        requires callable { F.IsAlwaysCallable keep }
+        ensures by_test { (test : K → Bool) → AnswersByTestOf F.FnMut test → OnOk result (IsPermutation self.new.elements (filter test self.old.elements)) }
+        ensures refused { OnErr result (IsPermutation self.new.elements self.old.elements) }
+        ensures hasher { self.new.hasher ≡ self.old.hasher }
+    {
+        self.map.retain(move |element, _| keep(element))
+    }
+}
