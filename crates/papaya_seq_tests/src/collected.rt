@@ -52,10 +52,12 @@ fn has(alloc: Global, map: &Numbers, pairs: &[(u64, u64)]) -> Result<bool, Fault
     }
     beside.sort()?;
     let all = walked(alloc, map)?;
-    Ok(map.len() == pairs.len() as u64
-        && all.as_slice() == pairs
-        && keys == expected
-        && values == beside)
+    Ok(
+        map.len() == pairs.len() as u64
+            && all.as_slice() == pairs
+            && keys == expected
+            && values == beside,
+    )
 }
 
 /// Whether a map that was made of these pairs in each way is the same one.

@@ -57,10 +57,11 @@ fn is_made(alloc: Global, given: &[u64], elements: &[u64]) -> Result<bool, Fault
     }
     let same = collected == cloned && again == collected && extended == again;
     let room: Numbers = HashSet::with_capacity(alloc, 20)?;
-    Ok(same
-        && (room == again) == again.is_empty()
-        && walked(alloc, &collected)?.as_slice() == elements
-        && walked(alloc, &again)?.as_slice() == elements)
+    Ok(
+        same && (room == again) == again.is_empty()
+            && walked(alloc, &collected)?.as_slice() == elements
+            && walked(alloc, &again)?.as_slice() == elements,
+    )
 }
 
 #[test]
