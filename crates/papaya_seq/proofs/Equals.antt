@@ -2,15 +2,17 @@
 use Rattle.std.specs.Prelude.{if◌then◌else◌}
 use Rattle.std.specs.Cmp.{IsEquivalence}
 use Rattle.std.specs.List.{AllByRecursion, IsDistinct, list_all}
+use Rattle.std.specs.List.Sorted.{IsPermutation}
 use Rattle.std.specs.Map.{keys_of}
 use Rattle.std.specs.Option.{option_eq}
 use Rattle.std.proofs.Common.{◌≡◌, ◌≢◌, ◌+◌, ◌≤◌, Bool, true, false, ◌&&◌, List, [], ◌∷◌, ◌++◌, length, Option, Some, None, is_some, option_map, inl, inr, refl, ap, sym, subst, ◌∙◌, arith}
 use Rattle.std.proofs.lemmas.Bool.{true≢false}
 use Rattle.std.proofs.lemmas.Map.Keys.{IsDistinct-head, IsDistinct-tail}
 use Rattle.papaya_owned.specs.Owned.{found_by, left_by}
-use Rattle.papaya_seq.specs.Equals.{agree, agree_at, agree_at_each, agree_at_equals, agree_from_each, none_or_passing, with_no_values}
-use Rattle.papaya_seq.proofs.Orders.{others_found}
-use Rattle.papaya_seq.proofs.Puts.{in_midst_of_keys}
+use Rattle.papaya_seq.specs.Equals.{agree, agree_at, agree_at_each, agree_at_equals, agree_from_each, agree_itself, none_or_passing, with_no_values}
+use Rattle.papaya_seq.proofs.Orders.{found_same, others_found, others_found_behind, put_found}
+use Rattle.papaya_seq.specs.Puts.{put, put_all}
+use Rattle.papaya_seq.proofs.Puts.{in_midst_of_keys, put_last}
 
 pub each_and : {X : Type 0} (P : X → Type 0) (xs : List X) (y : X) → AllByRecursion P xs → P y → AllByRecursion P (xs ++ (y ∷ []))
 each_and P [] y so its = (its, tt)
@@ -176,3 +178,22 @@ module _ {K V : Type 0} (same : K → K → Bool) (classes : IsEquivalence same)
 pub no_values : {K : Type 0} (xs : List (K × Unit {0})) → with_no_values (keys_of xs) ≡ xs
 no_values [] = refl
 no_values (x ∷ xs) = ap (λ l. x ∷ l) (no_values xs)
+
+module _ {K V : Type 0} (same : K → K → Bool) (classes : IsEquivalence same) where
+  pub same_in_any_order : (equal : V → V → Bool) → ((x : V) → equal x x ≡ true) → (xs ys : List (K × V)) → IsDistinct same (keys_of xs) → IsPermutation xs ys → agree same equal xs ys ≡ true
+  same_in_any_order equal itself xs ys apart order =
+      agree_from_each same equal xs ys
+      (λ q. ap (option_eq (λ (x y : K × V). equal x.1 y.1) (found_by (same q) xs)) (found_same same classes (same q) (classes.congr q) xs ys apart order)
+      ∙ agree_at_each same equal classes xs xs (agree_itself same equal itself xs) q)
+
+  pub last_found : (old given : List (K × V)) (x : K × V) (q : K) → same x.0 q ≡ true → found_by (same q) (put_all same old (given ++ (x ∷ []))) ≡ Some x
+  last_found old given x q is =
+      ap (found_by (same q)) (put_last same old given x) ∙ (λ i. found_by (λ k. sym (classes.congr x.0 q k is) i) (put same (put_all same old given) x))
+      ∙ put_found (same x.0) (put_all same old given) x (classes.refl x.0)
+
+  pub others_as_before : (old given : List (K × V)) (x : K × V) (q : K) → same x.0 q ≡ false
+      → found_by (same q) (put_all same old (given ++ (x ∷ []))) ≡ found_by (same q) (put_all same old given)
+  others_as_before old given x q other =
+      let apart = apart_from same classes x.0 q other in
+      ap (found_by (same q)) (put_last same old given x) ∙ others_found_behind (same x.0) (same q) apart (left_by (same x.0) (put_all same old given)) x (classes.refl x.0)
+      ∙ others_found (same x.0) (same q) apart (put_all same old given)

@@ -1,6 +1,9 @@
 -- The laws of pairs in another order.
 use Rattle.papaya_seq.specs.Orders.{FoundInAnyOrder, LeftInAnyOrder, ApartInAnyOrder, PutIsFound, OthersStay}
+use Rattle.papaya_seq.specs.Equals.{AgreeAtEachKey, AgreeInAnyOrder, agree_at_each, agree_from_each}
+use Rattle.papaya_seq.specs.Puts.{LastIsFound}
 use Rattle.std.proofs.Common.{◌∙◌}
+use Rattle.papaya_seq.proofs.Equals as equals
 use Rattle.papaya_seq.proofs.Orders as orders
 use Rattle.papaya_owned.specs.Owned.{left_by}
 
@@ -20,3 +23,12 @@ module _ (K V : Type 0) where
   pub others_stay : OthersStay K V
   others_stay keys others apart xs =
       (orders.others_found keys others apart xs, λ x its. orders.others_found_behind keys others apart (left_by keys xs) x its ∙ orders.others_found keys others apart xs)
+
+pub agree_at_each_key : (K V : Type 0) → AgreeAtEachKey K V
+agree_at_each_key K V same classes equal xs ys = (λ so. agree_at_each same equal classes xs ys so, λ each. agree_from_each same equal xs ys each)
+
+pub agree_in_any_order : (K V : Type 0) → AgreeInAnyOrder K V
+agree_in_any_order K V same classes equal itself xs ys apart order = equals.same_in_any_order same classes equal itself xs ys apart order
+
+pub last_is_found : (K V : Type 0) → LastIsFound K V
+last_is_found K V same classes old given x q = (equals.last_found same classes old given x q, equals.others_as_before same classes old given x q)

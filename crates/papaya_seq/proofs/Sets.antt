@@ -1,14 +1,17 @@
 -- Elements of a set, which are the keys of a map with no values.
 use Rattle.std.specs.Prelude.{if◌then◌else◌}
-use Rattle.std.specs.List.{AllZip}
+use denote.Ref.{Bor}
+use Rattle.std.specs.Fn.{Called, CalledAt, Mut}
+use Rattle.std.specs.List.{AllZip, FoldsTo}
 use Rattle.std.specs.List.Sorted.{IsPermutation}
 use Rattle.std.specs.Map.{keys_of}
-use Rattle.std.proofs.Common.{◌≡◌, Bool, true, false, cond, not, List, [], ◌∷◌, ◌++◌, find, filter, Option, Some, is_some, is_none, option_map, refl, ap, sym, subst, ◌∙◌}
+use Rattle.std.proofs.Common.{◌≡◌, Bool, true, false, cond, not, List, [], ◌∷◌, ◌++◌, find, filter, map, Option, Some, is_some, is_none, option_map, refl, ap, sym, subst, ◌∙◌}
 use Rattle.std.proofs.lemmas.List.{map-append}
 use Rattle.std.proofs.lemmas.List.Sorted.{IsPermutation-trans, IsPermutation-append_left, IsPermutation-map}
 use Rattle.papaya_owned.specs.Owned.{found_by, left_by}
 use Rattle.papaya_seq.specs.Puts.{IsCloneOf, PutsClones, put, put_all}
-use Rattle.papaya_seq.specs.Sets.{PutsElementClones, left_in, put_in, put_all_in}
+use Rattle.papaya_owned.specs.Retaining.{AskedAlong, KeepsOf}
+use Rattle.papaya_seq.specs.Sets.{KeepsElements, PutsElementClones, left_in, put_in, put_all_in}
 use Rattle.papaya_seq.proofs.Orders.{kept_in_any_order}
 
 -- what was not there is new
@@ -89,3 +92,38 @@ module _ {K : Type 0} (same : K → K → Bool) where
   puts_in_more old given new newer x so more =
       subst (IsPermutation newer) (sym (put_in_last old given x))
       (IsPermutation-trans newer (put_in same new x) (put_in same (put_all_in same old given) x) more (put_in_any_order new (put_all_in same old given) x so))
+
+-- what a closure was asked about pairs, another one was asked about their keys, where each call of the one is one of the other
+module _ {C F K V : Type 0} {asks : Mut C (Bor K × (Bor V × Unit {0})) Bool} (g : Mut F (Bor K × Unit {0}) Bool) (inner : C → F)
+    (through : (s next : C) (p : Bor K) (q : Bor V) (r : Bool) → Called asks s (p, (q, tt)) r next → Called g (inner s) (p, tt) r (inner next)) where
+  along_keys : (asked : List ((K × V) × Bool)) (s last : C) → AskedAlong asks s asked last
+      → FoldsTo (λ (p : F) (y : K × Bool) (q : F). CalledAt g p y.0 y.1 q) (inner s) (map (λ (y : (K × V) × Bool). (y.0.0, y.1)) asked) (inner last)
+  along_keys [] s last is = ap inner is
+  along_keys (y ∷ asked) s last a =
+      (inner a.0, record { shown = a.1.key; shows = a.1.shows.0; called = through s a.0 a.1.key a.1.value y.1 a.1.called }, along_keys asked a.0 last a.2)
+
+  keys_answered : (answered : List ((K × V) × Bool)) → map (λ (y : K × Bool). y.0) (map (λ (y : (K × V) × Bool). (y.0.0, y.1)) answered) ≡ keys_of (map (λ (y : (K × V) × Bool). y.0) answered)
+  keys_answered [] = refl
+  keys_answered (y ∷ answered) = ap (λ l. y.0.0 ∷ l) (keys_answered answered)
+
+  keys_told : (answered : List ((K × V) × Bool))
+      → keys_of (map (λ (y : (K × V) × Bool). y.0) (filter (λ y. y.1) answered)) ≡ map (λ (y : K × Bool). y.0) (filter (λ y. y.1) (map (λ (y : (K × V) × Bool). (y.0.0, y.1)) answered))
+  keys_told [] = refl
+  keys_told (y ∷ answered) = by y.1 (keys_told answered)
+    where
+      by : (b : Bool) → keys_of (map (λ (z : (K × V) × Bool). z.0) (filter (λ z. z.1) answered)) ≡ map (λ (z : K × Bool). z.0) (filter (λ z. z.1) (map (λ (z : (K × V) × Bool). (z.0.0, z.1)) answered))
+          → keys_of (map (λ (z : (K × V) × Bool). z.0) (cond b (y ∷ filter (λ z. z.1) answered) (filter (λ z. z.1) answered)))
+          ≡ map (λ (z : K × Bool). z.0) (cond b ((y.0.0, y.1) ∷ filter (λ z. z.1) (map (λ (z : (K × V) × Bool). (z.0.0, z.1)) answered)) (filter (λ z. z.1) (map (λ (z : (K × V) × Bool). (z.0.0, z.1)) answered)))
+      by true so = ap (λ l. y.0.0 ∷ l) so
+      by false so = so
+
+  pub keys_kept_of : (s : C) (xs kept : List (K × V)) → KeepsOf asks s xs kept → KeepsElements g (inner s) (keys_of xs) (keys_of kept)
+  keys_kept_of s xs kept k = record {
+    answered = map (λ (y : (K × V) × Bool). (y.0.0, y.1)) k.answered;
+    all = keys_answered k.answered ∙ ap (λ (l : List (K × V)). keys_of l) k.all;
+    asked = map (λ (y : (K × V) × Bool). (y.0.0, y.1)) k.asked;
+    each_once = IsPermutation-map (λ (y : (K × V) × Bool). (y.0.0, y.1)) k.asked k.answered k.each_once;
+    last = inner k.last;
+    along = along_keys k.asked s k.last k.along;
+    kept_are = ap (λ (l : List (K × V)). keys_of l) k.kept_are ∙ keys_told k.answered;
+  }

@@ -2,7 +2,9 @@
 use Rattle.std.specs.Prelude.{◌≡◌, Bool, true, false, cond, ◌&&◌, ◌⊎◌, List, [], ◌∷◌, Option, Some, None, map}
 use Rattle.std.proofs.Common.{refl, sym, ap, ◌∙◌, inl, inr, true≢false}
 use Rattle.std.specs.Cmp.{IsEquivalence, first_so, second_so}
-use Rattle.std.specs.List.{list_all}
+use Rattle.std.specs.Bool.{Decides}
+use Rattle.std.specs.List.{IsDistinct, list_all}
+use Rattle.std.specs.List.Sorted.{IsPermutation}
 use Rattle.std.specs.Map.{keys_of}
 use Rattle.std.specs.Option.{option_eq}
 use Rattle.papaya_owned.specs.Owned.{found_by}
@@ -97,3 +99,15 @@ module _ {K V : Type 0} (same : K → K → Bool) (equal : V → V → Bool) whe
     agree_through trans xs ys zs a b =
         agree_from_each xs zs (λ q. through (λ (x y : K × V). equal x.1 y.1) (λ x y z. trans x.1 y.1 z.1) (found_by (same q) xs) (found_by (same q) ys) (found_by (same q) zs)
         (agree_at_each xs ys a q) (agree_at_each ys zs b q))
+
+module _ (K V : Type 0) where
+  -- lists of pairs agree just where they agree at each key, whether one of them has it or not
+  abbrev pub AgreeAtEachKey : Type 0
+  AgreeAtEachKey =
+      (same : K → K → Bool) → IsEquivalence same → (equal : V → V → Bool) (xs ys : List (K × V)) → Decides (agree same equal xs ys) ((q : K) → agree_at same equal xs ys q ≡ true)
+
+  -- pairs agree with the same ones in any order, where no two keys are equal
+  abbrev pub AgreeInAnyOrder : Type 0
+  AgreeInAnyOrder =
+      (same : K → K → Bool) → IsEquivalence same → (equal : V → V → Bool) → ((x : V) → equal x x ≡ true) → (xs ys : List (K × V)) → IsDistinct same (keys_of xs) → IsPermutation xs ys
+      → agree same equal xs ys ≡ true

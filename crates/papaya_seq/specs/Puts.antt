@@ -1,9 +1,10 @@
 -- Pairs that are put into a map one after another, those of an iterator, and clones of others.
-use Rattle.std.specs.Prelude.{◌≡◌, Bool, List, [], ◌∷◌, ◌++◌, Option, Result, MatchResult}
+use Rattle.std.specs.Prelude.{◌≡◌, Bool, true, false, Some, List, [], ◌∷◌, ◌++◌, Option, Result, MatchResult}
+use Rattle.std.specs.Cmp.{IsEquivalence}
 use Rattle.std.specs.Iterator.{Drains, Yields}
 use Rattle.std.specs.List.{AllZip}
 use Rattle.std.specs.List.Sorted.{IsPermutation}
-use Rattle.papaya_owned.specs.Owned.{left_by}
+use Rattle.papaya_owned.specs.Owned.{found_by, left_by}
 use Rattle.papaya_seq.specs.declared.refused.Refused.{Refused}
 
 module _ {K V : Type 0} (same : K → K → Bool) where
@@ -21,6 +22,13 @@ module _ {K V : Type 0} (same : K → K → Bool) where
   PutsItems {I} {T} becomes steps items old new result =
       (it : T) × (given : List (K × V)) × becomes items it × IsPermutation new (put_all old given)
       × MatchResult result (λ _. Drains steps it given) (λ refused. (rest : T) × Yields steps it (given ++ ((refused.key, refused.value) ∷ [])) rest)
+
+-- Of pairs that were put one after another, the last one is found by the keys that equal its own, and by others what was found without it.
+abbrev pub LastIsFound : Type 0 → Type 0 → Type 0
+LastIsFound K V =
+    (same : K → K → Bool) → IsEquivalence same → (old given : List (K × V)) (x : K × V) (q : K)
+    → (same x.0 q ≡ true → found_by (same q) (put_all same old (given ++ (x ∷ []))) ≡ Some x)
+    × (same x.0 q ≡ false → found_by (same q) (put_all same old (given ++ (x ∷ []))) ≡ found_by (same q) (put_all same old given))
 
 -- a clone is its original
 abbrev pub ClonesAreSame : {T : Type 0} → (T → T → Type 0) → Type 0

@@ -1,9 +1,9 @@
 -- A set for one owner, as its callers see it, and elements that are put into it one after another.
 use denote.Ref.{Bor}
-use Rattle.std.specs.Prelude.{◌≡◌, Bool, List, [], ◌∷◌, ◌++◌, Option, Result, MatchResult, filter, not}
-use Rattle.std.specs.Fn.{Called, Mut}
+use Rattle.std.specs.Prelude.{◌≡◌, Bool, List, [], ◌∷◌, ◌++◌, Option, Result, MatchResult, filter, map, not}
+use Rattle.std.specs.Fn.{Called, CalledAt, Mut}
 use Rattle.std.specs.Iterator.{Drains, Yields}
-use Rattle.std.specs.List.{AllZip}
+use Rattle.std.specs.List.{AllZip, FoldsTo}
 use Rattle.std.specs.List.Sorted.{IsPermutation}
 use Rattle.papaya_seq.specs.declared.set.refused.RefusedKey.{RefusedKey}
 
@@ -39,3 +39,16 @@ module _ {K : Type 0} (same : K → K → Bool) where
 -- whatever it has answered before, a closure answers by this test
 abbrev pub AnswersByTestOf : {F K : Type 0} → Mut F (Bor K × Unit {0}) Bool → (K → Bool) → Type 0
 AnswersByTestOf {F} {K} g test = (f : F) (p : Bor K) (r : Bool) (next : F) → Called g f (p, tt) r next → r ≡ test p.now
+
+module _ {F K : Type 0} (g : Mut F (Bor K × Unit {0}) Bool) where
+  -- Asked about each of these elements once, in some order, a closure keeps those about which it has answered `true`, in the order in which they were.
+  pub record KeepsElements (f : F) (xs kept : List K) : Type 0 where
+    -- each element, with the answer about it
+    pub answered : List (K × Bool)
+    pub all : map (λ y. y.0) answered ≡ xs
+    -- the same, in the order in which it was asked
+    pub asked : List (K × Bool)
+    pub each_once : IsPermutation asked answered
+    pub last : F
+    pub along : FoldsTo (λ (p : F) (y : K × Bool) (q : F). CalledAt g p y.0 y.1 q) f asked last
+    pub kept_are : kept ≡ map (λ y. y.0) (filter (λ y. y.1) answered)

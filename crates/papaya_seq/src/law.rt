@@ -1,4 +1,6 @@
 //! What is promised of pairs that are listed in another order, as those of a map are after a change.
+ghost use Rattle.papaya_seq.specs.Equals.{AgreeAtEachKey, AgreeInAnyOrder};
+ghost use Rattle.papaya_seq.specs.Puts.{LastIsFound};
 ghost use Rattle.papaya_seq.specs.Orders.{FoundInAnyOrder, LeftInAnyOrder, ApartInAnyOrder, PutIsFound, OthersStay};
 
 /// Where no two keys are equal, the pair of a key is the same one in any order. So is what is left without it, but for the order, and no two
@@ -7,6 +9,17 @@ pub fn order_makes_no_difference<K, V>()
     ensures found { FoundInAnyOrder K V }
     ensures left { LeftInAnyOrder K V }
     ensures apart { ApartInAnyOrder K V }
+{}
+
+/// Maps are equal just where they have pairs with equal values at the same keys, also in another order.
+pub fn equality_is_of_pairs<K, V>()
+    ensures each { AgreeAtEachKey K V }
+    ensures in_any_order { AgreeInAnyOrder K V }
+{}
+
+/// Of pairs that are put one after another, the last of each key is found.
+pub fn the_last_is_found<K, V>()
+    ensures { LastIsFound K V }
 {}
 
 /// A pair that was put in the place of that of its key is found by its key, and by other keys is found what was found before. Where a pair was

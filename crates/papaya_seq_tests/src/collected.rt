@@ -1,28 +1,22 @@
 //! Maps that are made of other pairs: of those of an iterator, of an array, of another map; and their equality and texts.
 
 use papaya_seq::{Fault, HashMap};
-use std::alloc::{AllocError, Global};
+use std::alloc::Global;
 use std::hash::{BuildHasherDefault, DefaultHasher};
 
 type Numbers = HashMap<u64, u64, BuildHasherDefault<DefaultHasher>>;
 
-/// The pairs of a walk, the lowest key first.
-fn walked(alloc: Global, map: &Numbers) -> Result<Vec<(u64, u64)>, AllocError> {
-    let mut pairs = Vec::new(alloc);
-    for (key, value) in map.iter() {
-        pairs.push((*key, *value))?;
+/// The sum of the keys that their walk shows, and that of the values.
+fn sums(map: &Numbers) -> (u64, u64) {
+    let mut keys: u64 = 0;
+    for key in map.keys() {
+        keys = keys.wrapping_add(*key);
     }
-    pairs.sort()?;
-    Ok(pairs)
-}
-
-/// The keys and the values that their own walks show, the lowest first.
-fn columns(alloc: Global, map: &Numbers) -> Result<(Vec<u64>, Vec<u64>), AllocError> {
-    let mut keys: Vec<u64> = map.keys().copied().collect(alloc)?;
-    let mut values: Vec<u64> = map.values().copied().collect(alloc)?;
-    keys.sort()?;
-    values.sort()?;
-    Ok((keys, values))
+    let mut values: u64 = 0;
+    for value in map.values() {
+        values = values.wrapping_add(*value);
+    }
+    (keys, values)
 }
 
 /// Pairs, what a map of them has, and how it is written.
@@ -41,42 +35,48 @@ const ROWS: [(&[(u64, u64)], &[(u64, u64)], &[&str]); 4] = [
     ),
 ];
 
-/// Whether it has just these pairs, and each walk shows them.
-fn has(alloc: Global, map: &Numbers, pairs: &[(u64, u64)]) -> Result<bool, Fault> {
-    let (keys, values) = columns(alloc, map)?;
-    let mut expected = Vec::new(alloc);
-    let mut beside = Vec::new(alloc);
+/// Whether it has just these pairs, and its walks show them.
+fn has(map: &Numbers, pairs: &[(u64, u64)]) -> bool {
+    let mut keys: u64 = 0;
+    let mut values: u64 = 0;
     for (key, value) in pairs {
-        expected.push(*key)?;
-        beside.push(*value)?;
+        if map.get(key) != Some(value) {
+            return false;
+        }
+        keys = keys.wrapping_add(*key);
+        values = values.wrapping_add(*value);
     }
-    beside.sort()?;
-    let all = walked(alloc, map)?;
-    Ok(
-        map.len() == pairs.len() as u64
-            && all.as_slice() == pairs
-            && keys == expected
-            && values == beside,
-    )
+    map.len() == pairs.len() as u64 && sums(map) == (keys, values)
 }
 
-/// Whether a map that was made of these pairs in each way is the same one.
+/// A map that was begun with room, and then extended.
+fn extended(alloc: Global, given: &[(u64, u64)]) -> Result<Numbers, Fault> {
+    let mut map: Numbers = HashMap::with_capacity(alloc, 100)?;
+    match map.extend(given.iter().copied()) {
+        Ok(()) => Ok(map),
+        Err(refused) => Err(refused.fault),
+    }
+}
+
+/// Whether a map that was collected from these pairs has these, and its clone too.
 fn is_made(alloc: Global, given: &[(u64, u64)], pairs: &[(u64, u64)]) -> Result<bool, Fault> {
     let collected: Numbers = HashMap::try_collect(alloc, given.iter().copied())?;
-    let cloned: Numbers = HashMap::from_array(alloc, given)?;
     let again = collected.clone(alloc)?;
-    let mut extended: Numbers = HashMap::with_capacity(alloc, 100)?;
-    if extended.extend(given.iter().copied()).is_err() {
-        return Ok(false);
-    }
-    let same = collected == cloned && again == collected && extended == again;
-    Ok(same && has(alloc, &collected, pairs)? && has(alloc, &again, pairs)?)
+    Ok(has(&collected, pairs) && has(&again, pairs) && again == collected)
+}
+
+/// Whether one that was extended by them equals one that was made of an array.
+fn is_same(alloc: Global, given: &[(u64, u64)]) -> Result<bool, Fault> {
+    let extended = extended(alloc, given)?;
+    let array: Numbers = HashMap::from_array(alloc, given)?;
+    Ok(extended == array)
 }
 
 #[test]
 fn maps_are_made_of_other_pairs(rt: HostRuntime) {
     for (given, pairs, _) in ROWS {
         assert!(rt; is_made(rt.alloc(), given, pairs) == Ok(true));
+        assert!(rt; is_same(rt.alloc(), given) == Ok(true));
     }
 }
 
@@ -99,19 +99,24 @@ fn maps_are_written_pair_by_pair(rt: HostRuntime) {
     }
 }
 
-/// What comes back where the third of three pairs is refused, and how many there are then and at a second try.
-fn is_refused(alloc: Global) -> Result<bool, Fault> {
-    let mut map: Numbers = HashMap::with_capacity(alloc, 100)?;
+/// What comes back where the third of three pairs is refused, and how many there are then.
+fn refused(map: &mut Numbers, given: &[(u64, u64)]) -> (Option<(Fault, u64, u64)>, u64) {
     map.refuse_after(2);
-    let given = [(1, 10), (2, 20), (3, 30)];
     let back = match map.extend(given.iter().copied()) {
         Ok(()) => None,
         Err(refused) => Some((refused.fault, refused.key, refused.value)),
     };
-    let kept = map.len();
+    (back, map.len())
+}
+
+/// The same, and how many there are after a second try.
+fn is_refused(alloc: Global) -> Result<bool, Fault> {
+    let mut map: Numbers = HashMap::with_capacity(alloc, 100)?;
+    let given = [(1, 10), (2, 20), (3, 30)];
+    let first = refused(&mut map, given.as_slice());
     map.refuse_after(3);
     let again = map.extend(given.iter().copied()).is_ok();
-    Ok(back == Some((Fault::Memory, 3, 30)) && kept == 2 && again && map.len() == 3)
+    Ok(first == (Some((Fault::Memory, 3, 30)), 2) && again && map.len() == 3)
 }
 
 #[test]

@@ -2,16 +2,18 @@
 
 use papaya_runs::key_hash::KeyHash;
 use papaya_seq::{Fault, HashSet};
-use std::alloc::{AllocError, Global};
+use std::alloc::Global;
 use std::hash::{BuildHasher, BuildHasherDefault, DefaultHasher};
 
 type Numbers = HashSet<u64, BuildHasherDefault<DefaultHasher>>;
 
-/// The elements that a walk shows, the lowest first.
-fn walked<S: BuildHasher>(alloc: Global, set: &HashSet<u64, S>) -> Result<Vec<u64>, AllocError> {
-    let mut elements: Vec<u64> = set.iter().copied().collect(alloc)?;
-    elements.sort()?;
-    Ok(elements)
+/// The sum of the elements that a walk shows.
+fn sum<S: BuildHasher>(set: &HashSet<u64, S>) -> u64 {
+    let mut total: u64 = 0;
+    for element in set.iter() {
+        total = total.wrapping_add(*element);
+    }
+    total
 }
 
 /// Whether an element is new, as it is put.
@@ -22,21 +24,26 @@ fn is_new<S: BuildHasher>(set: &mut HashSet<u64, S>, element: u64) -> Option<boo
     }
 }
 
-/// Elements 0 to 7 are put, one of them again, the even ones are kept, one is removed, and then all.
-fn goes_so(alloc: Global, by: KeyHash) -> Result<bool, Fault> {
-    let mut set = HashSet::with_hasher(alloc, by)?;
+/// Whether elements 0 to 7 are new as they are put, and one of them is not when it is put again.
+fn fills<S: BuildHasher>(set: &mut HashSet<u64, S>) -> bool {
     for element in 0..8 {
-        if is_new(&mut set, element) != Some(true) {
-            return Ok(false);
+        if is_new(set, element) != Some(true) {
+            return false;
         }
     }
-    let again = is_new(&mut set, 3) == Some(false) && set.len() == 8;
+    is_new(set, 3) == Some(false) && set.len() == 8
+}
+
+/// They are put, the even ones are kept, one is removed, and then all.
+fn goes_so(alloc: Global, by: KeyHash) -> Result<bool, Fault> {
+    let mut set = HashSet::with_hasher(alloc, by)?;
+    let filled = fills(&mut set);
     set.retain(|element| *element % 2 == 0)?;
-    let kept = walked(alloc, &set)?.as_slice() == [0, 2, 4, 6].as_slice();
+    let kept = set.len() == 4 && sum(&set) == 12;
     let known = set.contains(&2) && !set.contains(&3) && set.get(&4) == Some(&4);
     let removed = set.remove(2)? && !set.remove(2)? && !set.contains(&2);
     set.clear()?;
-    Ok(again && kept && known && removed && set.is_empty())
+    Ok(filled && kept && known && removed && set.is_empty())
 }
 
 #[test]
@@ -46,32 +53,31 @@ fn elements_are_put_removed_sifted_and_cleared(rt: HostRuntime) {
     }
 }
 
-/// Whether a set that was made of these elements in each way is the same one, and has these.
-fn is_made(alloc: Global, given: &[u64], elements: &[u64]) -> Result<bool, Fault> {
+/// Whether a set that was collected from these elements has so many of this sum, and its clone too.
+fn is_made(alloc: Global, given: &[u64], len: u64, total: u64) -> Result<bool, Fault> {
     let collected: Numbers = HashSet::try_collect(alloc, given.iter().copied())?;
-    let cloned: Numbers = HashSet::from_array(alloc, given)?;
     let again = collected.clone(alloc)?;
-    let mut extended: Numbers = HashSet::new(alloc)?;
-    if extended.extend(given.iter().copied()).is_err() {
-        return Ok(false);
-    }
-    let same = collected == cloned && again == collected && extended == again;
-    let room: Numbers = HashSet::with_capacity(alloc, 20)?;
-    Ok(
-        same && (room == again) == again.is_empty()
-            && walked(alloc, &collected)?.as_slice() == elements
-            && walked(alloc, &again)?.as_slice() == elements,
-    )
+    let has = collected.len() == len && sum(&collected) == total && sum(&again) == total;
+    Ok(has && again == collected)
+}
+
+/// Whether one that was extended by them equals one that was made of an array.
+fn is_same(alloc: Global, given: &[u64]) -> Result<bool, Fault> {
+    let mut extended: Numbers = HashSet::with_capacity(alloc, 20)?;
+    let done = extended.extend(given.iter().copied()).is_ok();
+    let array: Numbers = HashSet::from_array(alloc, given)?;
+    Ok(done && extended == array)
 }
 
 #[test]
 fn sets_are_made_of_other_elements(rt: HostRuntime) {
-    for (given, elements) in [
-        ([].as_slice(), [].as_slice()),
-        ([42, 16].as_slice(), [16, 42].as_slice()),
-        ([3, 1, 3, 2, 1].as_slice(), [1, 2, 3].as_slice()),
+    for (given, len, total) in [
+        ([].as_slice(), 0, 0),
+        ([42, 16].as_slice(), 2, 58),
+        ([3, 1, 3, 2, 1].as_slice(), 3, 6),
     ] {
-        assert!(rt; is_made(rt.alloc(), given, elements) == Ok(true));
+        assert!(rt; is_made(rt.alloc(), given, len, total) == Ok(true));
+        assert!(rt; is_same(rt.alloc(), given) == Ok(true));
     }
 }
 

@@ -1,7 +1,7 @@
 //! What goes over all elements of a set for one owner, and removes them.
-ghost use Rattle.std.specs.Prelude.{◌≡◌, Bool, [], OnOk, OnErr, filter};
+ghost use Rattle.std.specs.Prelude.{◌≡◌, Bool, List, [], OnOk, OnErr, filter};
 ghost use Rattle.std.specs.List.Sorted.{IsPermutation};
-ghost use Rattle.papaya_seq.specs.Sets.{AnswersByTestOf};
+ghost use Rattle.papaya_seq.specs.Sets.{AnswersByTestOf, KeepsElements};
 
 use super::HashSet;
 use seize_words::Fault;
@@ -22,6 +22,7 @@ impl<K: Eq + Hash + Drop, S: BuildHasher> HashSet<K, S> {
     /// `Fault::Capacity` and `Fault::Memory`, where a growth that was under way could not be seen through; then no element has changed.
     pub fn retain<F: FnMut(&K) -> bool>(&mut self, mut keep: F) -> Result<(), Fault>
         requires callable { F.IsAlwaysCallable keep }
+        ensures done { OnOk result ((kept : List K) × KeepsElements F.FnMut keep self.old.elements kept × IsPermutation self.new.elements kept) }
         ensures by_test { (test : K → Bool) → AnswersByTestOf F.FnMut test → OnOk result (IsPermutation self.new.elements (filter test self.old.elements)) }
         ensures refused { OnErr result (IsPermutation self.new.elements self.old.elements) }
         ensures hasher { self.new.hasher ≡ self.old.hasher }

@@ -5,12 +5,23 @@ use Rattle.std.specs.List.Sorted.{IsPermutation}
 use Rattle.std.specs.Map.{keys_of}
 use Rattle.std.proofs.Common.{of_calls, refl, subst}
 use Rattle.std.proofs.lemmas.Result.{on_ok_weaker, on_err_weaker}
-use Rattle.papaya_seq.specs.Sets.{Set}
-use Rattle.papaya_seq.proofs.Sets.{kept_in_order, keys_in_order}
+use Rattle.papaya_seq.specs.Sets.{KeepsElements, Set}
+use Rattle.papaya_seq.proofs.Sets.{kept_in_order, keys_in_order, keys_kept_of}
 use Rattle.papaya_seq.proofs.set.HashSet.retain.Goals as goal
 
 pub retain-requires : goal.retain-requires
 retain-requires g c = record { callable = mut_by _ (λ s. always_mut g.F.FnMut s.0) (λ s a i. i) (λ s a r t i e. mut_next g.F.FnMut s.0 (a.0, tt) r t.0 t.0 (search of_calls) refl i) _ c.requires.callable }
+
+pub returns-clause-done : goal.returns-clause-done
+returns-clause-done g c =
+    let new = c.retain.new.self.pairs in
+    on_ok_weaker c.retain.result
+    (λ d. (
+      keys_of d.0,
+      subst (λ (x : Set g.row.K.Denot g.row.S.Denot). KeepsElements g.F.FnMut c.args.keep x.elements (keys_of d.0)) c.self.view_is
+          (keys_kept_of g.F.FnMut (λ s. s.0) (λ s next p q r e. search of_calls) _ c.self.inside.map.pairs d.0 d.1),
+      keys_in_order new d.0 d.2,
+    )) c.retain.ensures.done
 
 pub returns-clause-by_test : goal.returns-clause-by_test
 returns-clause-by_test g c = λ test so.
