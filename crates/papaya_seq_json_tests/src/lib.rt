@@ -1,0 +1,5 @@
+//! Tests of JSON of the map for one owner.
+#![tactic(auto)]
+
+#[cfg(test)]
+mod maps;
