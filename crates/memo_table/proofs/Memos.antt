@@ -2,22 +2,22 @@
 use Rattle.std.specs.Prelude.{if◌then◌else◌, IfSome, nat_eq}
 use Rattle.std.specs.List.Sorted.{IsPermutation}
 use Rattle.std.specs.Option.{option_map}
-use Rattle.std.proofs.Common.{◌≡◌, ℕ, ◌%◌, ◌^◌, Bool, true, false, List, [], ◌∷◌, ◌++◌, Some, refl, sym, ap, ◌∙◌}
+use Rattle.std.proofs.Common.{◌≡◌, ℕ, ◌%◌, ◌^◌, Bool, true, false, List, [], ◌∷◌, ◌++◌, Option, Some, refl, sym, ap, ◌∙◌}
 use Rattle.std.proofs.lemmas.Bool.{eqb-true}
 use Rattle.std.proofs.lemmas.List.Elements.{All-nil, All-cons, All-head, All-tail, All-append}
 use Rattle.std.proofs.lemmas.List.Sorted.{All-permutation, IsPermutation-sym}
 use Rattle.papaya_owned.specs.Owned.{found_by, left_by}
 use Rattle.memo_table.specs.Fibonacci.{fibonacci, IsRight, AreRight}
 
--- what is found of a place is the number there
-pub found_right : (n : ℕ) (xs : List (ℕ × ℕ)) → AreRight xs → IfSome (option_map (λ x. x.1) (found_by (nat_eq n) xs)) (λ number. number ≡ fibonacci n % 2 ^ 64)
+-- what is found, if anything, is the number at this place
+abbrev pub IsNumber : ℕ → Option (ℕ × ℕ) → Type 0
+IsNumber n found = IfSome (option_map (λ x. x.1) found) (λ number. number ≡ fibonacci n % 2 ^ 64)
+
+pub found_right : (n : ℕ) (xs : List (ℕ × ℕ)) → AreRight xs → IsNumber n (found_by (nat_eq n) xs)
 found_right n [] right = tt
 found_right n (x ∷ xs) right = by (nat_eq n x.0) refl (found_right n xs (All-tail IsRight x xs right))
   where
-    Right : ℕ → Type 0
-    Right number = number ≡ fibonacci n % 2 ^ 64
-
-    by : (b : Bool) → nat_eq n x.0 ≡ b → IfSome (option_map (λ x. x.1) (found_by (nat_eq n) xs)) Right → IfSome (option_map (λ x. x.1) (if b then Some x else found_by (nat_eq n) xs)) Right
+    by : (b : Bool) → nat_eq n x.0 ≡ b → IsNumber n (found_by (nat_eq n) xs) → IsNumber n (if b then Some x else found_by (nat_eq n) xs)
     by true same rest = All-head IsRight x xs right ∙ ap (λ place. fibonacci place % 2 ^ 64) (sym (eqb-true n x.0 same))
     by false differs rest = rest
 

@@ -34,7 +34,7 @@ fn keep(memo: &mut Memo, n: u64, number: u64) -> Result<(), Fault>
     }
 }
 
-/// The number at this place. It is known from then on, as are those before it. The faults are those of the map.
+/// The number at this place, which is kept. The faults are those of the map; what was kept stays right after one, too.
 fn fibonacci(memo: &mut Memo, n: u64) -> Result<u64, Fault>
     requires { AreRight memo.old.pairs }
     ensures number { IfOk result (λ number. number ≡ fibonacci n % 2 ^ 64) }
