@@ -1,0 +1,2 @@
+-- Lemmas on a memo of the Fibonacci sequence.
+mod Memos

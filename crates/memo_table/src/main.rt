@@ -1,0 +1,73 @@
+//! Prints numbers of the Fibonacci sequence, modulo 2^64, for the places that are read: a map keeps each number that is known.
+#![tactic(auto)]
+
+ghost use Rattle.std.specs.Prelude.{◌≡◌, ◌%◌, ◌^◌, IfOk, IfSome};
+ghost use Rattle.memo_table.specs.Fibonacci.{fibonacci, AreRight};
+
+use anyhow::{Result, bail};
+use papaya_seq::{Fault, HashMap};
+use std::hash::{BuildHasherDefault, FoldHasher};
+
+/// The last place that is computed: each place below one that is not known yet takes a call inside that of the next.
+const LAST: u64 = 1000;
+
+/// The numbers that are known, by their places, and the hasher of std's maps.
+type Memo = HashMap<u64, u64, BuildHasherDefault<FoldHasher>>;
+
+/// The number at this place, if it is known.
+fn known(memo: &Memo, n: u64) -> Option<u64>
+    requires { AreRight memo.now.pairs }
+    ensures { IfSome result (λ number. number ≡ fibonacci n % 2 ^ 64) }
+{
+    memo.get(&n).copied()
+}
+
+/// Keeps the number at this place.
+fn keep(memo: &mut Memo, n: u64, number: u64) -> Result<(), Fault>
+    requires memo { AreRight memo.old.pairs }
+    requires number { number ≡ fibonacci n % 2 ^ 64 }
+    ensures { AreRight memo.new.pairs }
+{
+    match memo.insert(n, number) {
+        Ok(_) => Ok(()),
+        Err(refused) => Err(refused.fault),
+    }
+}
+
+/// The number at this place, which is kept. The faults are those of the map; what was kept stays right after one, too.
+fn fibonacci(memo: &mut Memo, n: u64) -> Result<u64, Fault>
+    requires { AreRight memo.old.pairs }
+    ensures number { IfOk result (λ number. number ≡ fibonacci n % 2 ^ 64) }
+    ensures memo { AreRight memo.new.pairs }
+{
+    if let Some(number) = known(memo, n) {
+        return Ok(number);
+    }
+    let number = if n < 2 {
+        n
+    } else {
+        let before = fibonacci(memo, n - 1)?;
+        before.wrapping_add(fibonacci(memo, n - 2)?)
+    };
+    keep(memo, n, number)?;
+    Ok(number)
+}
+
+fn main(rt: HostRuntime) -> Result<()> {
+    let mut memo = match Memo::new(rt.alloc()) {
+        Ok(memo) => memo,
+        Err(fault) => bail!("{}", fault.name()),
+    };
+    for line in rt.lines(rt.alloc()) {
+        let n = line?.as_str().parse::<u64>()?;
+        if n > LAST {
+            bail!("{n} is past {LAST}");
+        }
+        match fibonacci(&mut memo, n) {
+            Ok(number) => println!(rt; "{n}: {number}")?,
+            Err(fault) => bail!("{}", fault.name()),
+        }
+    }
+    println!(rt; "{} known", memo.len())?;
+    Ok(())
+}
