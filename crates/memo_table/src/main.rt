@@ -4,9 +4,9 @@
 ghost use Rattle.std.specs.Prelude.{◌≡◌, ◌%◌, ◌^◌, IfOk, IfSome};
 ghost use Rattle.memo_table.specs.Fibonacci.{fibonacci, AreRight};
 
-use anyhow::{Result, bail};
 use papaya_seq::{Fault, HashMap};
 use std::hash::{BuildHasherDefault, FoldHasher};
+use std::io;
 
 /// The last place that is computed: each place below one that is not known yet takes a call inside that of the next.
 const LAST: u64 = 1000;
@@ -53,19 +53,26 @@ fn fibonacci(memo: &mut Memo, n: u64) -> Result<u64, Fault>
     Ok(number)
 }
 
-fn main(rt: HostRuntime) -> Result<()> {
+/// The place in a line, if there is one that is computed.
+fn place(line: &str) -> Option<u64> {
+    match line.parse::<u64>() {
+        Ok(n) if n <= LAST => Some(n),
+        _ => None,
+    }
+}
+
+fn main(rt: HostRuntime) -> io::Result<()> {
     let mut memo = match Memo::new(rt.alloc()) {
         Ok(memo) => memo,
-        Err(fault) => bail!("{}", fault.name()),
+        Err(fault) => return Err(io::Error::other(fault.name())),
     };
     for line in rt.lines(rt.alloc()) {
-        let n = line?.as_str().parse::<u64>()?;
-        if n > LAST {
-            bail!("{n} is past {LAST}");
-        }
+        let Some(n) = place(line?.as_str()) else {
+            return Err(io::Error::other("a line has a number of at most 1000"));
+        };
         match fibonacci(&mut memo, n) {
             Ok(number) => println!(rt; "{n}: {number}")?,
-            Err(fault) => bail!("{}", fault.name()),
+            Err(fault) => return Err(io::Error::other(fault.name())),
         }
     }
     println!(rt; "{} known", memo.len())?;

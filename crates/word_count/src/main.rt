@@ -7,11 +7,11 @@ ghost use Rattle.std.specs.Str.{bytes_eq};
 ghost use Rattle.papaya_owned.specs.Owned.{found_by, left_by};
 ghost use Rattle.word_count.specs.Counts.{count_of};
 
-use anyhow::{Result, bail};
 use papaya_forms::{Text, TextRef};
 use papaya_seq::{Fault, HashMap};
 use std::alloc::Global;
 use std::hash::{BuildHasherDefault, FoldHasher};
+use std::io;
 
 /// How often each word came, and the hasher of std's maps.
 type Counts = HashMap<Text, u64, BuildHasherDefault<FoldHasher>>;
@@ -39,19 +39,19 @@ fn count(counts: &mut Counts, alloc: Global, word: &str) -> Result<bool, Fault>
     }
 }
 
-fn main(rt: HostRuntime) -> Result<()> {
+fn main(rt: HostRuntime) -> io::Result<()> {
     let alloc = rt.alloc();
     let mut words = Vec::new(alloc);
     let mut counts = match Counts::new(alloc) {
         Ok(counts) => counts,
-        Err(fault) => bail!("{}", fault.name()),
+        Err(fault) => return Err(io::Error::other(fault.name())),
     };
     for line in rt.lines(alloc) {
         for word in line?.as_str().split_whitespace() {
             match count(&mut counts, alloc, word) {
                 Ok(true) => words.push(String::from_str(alloc, word)?)?,
                 Ok(false) => {}
-                Err(fault) => bail!("{}", fault.name()),
+                Err(fault) => return Err(io::Error::other(fault.name())),
             }
         }
     }
