@@ -12,7 +12,6 @@ pub mod Linked
 pub mod MovesKnown
 pub mod NewBlocks
 pub mod OthersSpared
-pub mod PlansWithin
 pub mod RootSpared
 pub mod TakenOut
 pub mod WentIncremental

@@ -10,6 +10,11 @@ module _ {T A B : Type 0} (f : A → B) where
   see_as shown (Seeing block rest) may = (may.0, λ value is. see_as shown (rest value) (may.1 value is))
   see_as shown (Sure fact rest) may = (may.0, see_as shown rest may.1)
 
+  as_see : (shown : ℕ → Option T) (rest : Then T A) → MaySee shown rest → MaySee shown (then_as f rest)
+  as_see shown (Now end) may = tt
+  as_see shown (Seeing block rest) may = (may.0, λ value is. as_see shown (rest value) (may.1 value is))
+  as_see shown (Sure fact rest) may = (may.0, as_see shown rest may.1)
+
   ends_as : (shown : ℕ → Option T) (rest : Then T A) (end : A) → Ends shown rest end → Ends shown (then_as f rest) (f end)
   ends_as shown (Now r) end ends = ap f ends
   ends_as shown (Seeing block rest) end ends = (ends.0, ends.1, ends_as shown (rest ends.0) end ends.2)
@@ -20,6 +25,11 @@ module _ {T A B : Type 0} (f : A → B) where
     pub may_as : (m : M) (plan : Plan T A) → May can took shown m (plan_as f plan) → May can took shown m plan
     may_as m (Turn rest) may = see_as (shown m) rest may
     may_as m (Do op rest) may = (may.0, λ out n t. see_as (shown n) (rest out) (may.1 out n t))
+
+    -- and where the inner one may, the outer one may
+    pub as_may : (m : M) (plan : Plan T A) → May can took shown m plan → May can took shown m (plan_as f plan)
+    as_may m (Turn rest) may = as_see (shown m) rest may
+    as_may m (Do op rest) may = (may.0, λ out n t. as_see (shown n) (rest out) (may.1 out n t))
 
     -- where the inner step was taken, the outer one was, with its outcome turned
     pub steps_as : (m n : M) (plan : Plan T A) (end : A) → Steps took shown m plan n end → Steps took shown m (plan_as f plan) n (f end)

@@ -4,6 +4,7 @@ use Rattle.std.proofs.Common.{◌≡◌, ℕ, ◌*◌, ◌<◌, ◌^◌, Bool, t
 use Rattle.seize_words.specs.declared.at.At.TheVariants.{Word}
 use Rattle.seize_words.specs.Mem.{Mem, Can, Took, value_at}
 use Rattle.seize_words.specs.Plan.{May, Steps}
+use Rattle.seize_words.proofs.Plans.{as_may}
 use Rattle.seize.specs.declared.progress.Progress.{Progress}
 use Rattle.seize.specs.declared.progress.Progress.TheVariants as progress
 use Rattle.seize.specs.declared.rows.defer.Defer.{Defer}
@@ -33,7 +34,6 @@ use Rattle.papaya_rule.specs.Words.{Blocks}
 use Rattle.papaya_rule.specs.Maps.{spot_of}
 use Rattle.papaya_points.specs.FactsDisposes.{DisposingFacts}
 use Rattle.papaya_points.specs.FactsCalls.{Change, IsCopying, Tells, CallingFacts}
-use Rattle.papaya_rule.proofs.World.PlansWithin.{as_may}
 use Rattle.papaya_alone.specs.Handed.{all_handed, word_out, IsDecided, DisposesOf}
 use Rattle.papaya_alone.specs.Alone.{IsDeferring, IsBetween, DefersPair, ComesTo}
 use Rattle.papaya_alone.specs.FactsAloneCalls.{StandsAlone, IsLone}

@@ -4,6 +4,7 @@ use Rattle.std.proofs.Common.{◌≡◌, ◌≢◌, ℕ, zero, suc, ◌*◌, ◌
 use Rattle.std.proofs.lemmas.Bool.{eq-eqb}
 use Rattle.seize_words.specs.Mem.{Mem, Can, Took, value_at}
 use Rattle.seize_words.specs.Plan.{May, Steps}
+use Rattle.seize_words.proofs.Plans.{as_may}
 use Rattle.seize.specs.declared.rows.settle.Settle.{Settle}
 use Rattle.seize.specs.declared.rows.settle.Settled.{Settled}
 use Rattle.seize.specs.declared.rows.settle.Settled.TheVariants as settled
@@ -38,7 +39,6 @@ use Rattle.papaya_points.specs.FactsCalls.{Unchanged, CallingFacts, CallFacts}
 use Rattle.papaya_points.specs.Told.{HasAnswered}
 use Rattle.papaya_points.specs.Unlinked.{has_unlinked}
 use Rattle.papaya_points.proofs.Calls.CallsWithin.{its_last}
-use Rattle.papaya_rule.proofs.World.PlansWithin.{as_may}
 use Rattle.papaya_alone.specs.Counted.{HasAdded, counted_at}
 use Rattle.papaya_alone.specs.Handed.{IsNextOf, IsNext, HasHandedTables, DisposesOf}
 use Rattle.papaya_points.specs.Made.{IsMadeByCall, IsMadeByCopier}

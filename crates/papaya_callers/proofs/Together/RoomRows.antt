@@ -3,6 +3,7 @@ use Rattle.std.specs.Prelude.{◌≡◌, ℕ, Bool, Option, Some, None}
 use Rattle.std.proofs.Common.{ap, sym, subst, ◌∙◌, inl, inr, refl}
 use Rattle.seize_words.specs.Mem.{Mem, Can, Took, value_at}
 use Rattle.seize_words.specs.Plan.{May, Steps, plan_as}
+use Rattle.seize_words.proofs.Plans.{as_may}
 use Rattle.seize.specs.declared.rows.settle.Settle.{Settle}
 use Rattle.seize.specs.declared.rows.settle.Settled.{Settled}
 use Rattle.seize.specs.declared.rows.settle.Settled.TheVariants as settled
@@ -26,7 +27,6 @@ use Rattle.papaya_rule.specs.Chart.{Chart}
 use Rattle.papaya_rule.specs.Words.{Blocks}
 use Rattle.papaya_points.specs.Told.{IsRowOfCopier}
 use Rattle.papaya_points.specs.Steps.{AreLawful}
-use Rattle.papaya_rule.proofs.World.PlansWithin.{as_may}
 use Rattle.papaya_callers.specs.Rows.{row_of_copier, past_copying}
 use Rattle.papaya_callers.specs.Sights.{Sight, seen_by}
 use Rattle.papaya_callers.proofs.Together.Few.{room_row_claims_none, few_with, retired_claims_none}

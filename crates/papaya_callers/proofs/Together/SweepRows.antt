@@ -3,6 +3,7 @@ use Rattle.std.specs.Prelude.{◌≡◌, ◌+◌, ◌%◌, ◌^◌, ◌&&◌, �
 use Rattle.std.proofs.Common.{sym, subst, inl, inr, refl}
 use Rattle.seize_words.specs.Mem.{Mem, Can, Took, value_at}
 use Rattle.seize_words.specs.Plan.{May, Steps, plan_as}
+use Rattle.seize_words.proofs.Plans.{as_may}
 use Rattle.seize.specs.declared.progress.Progress.{Progress}
 use Rattle.seize.specs.declared.progress.Progress.TheVariants as progress
 use Rattle.seize.specs.declared.rows.defer.Defer.{Defer}
@@ -38,7 +39,6 @@ use Rattle.papaya_sweeps.specs.declared.sweep.Swept.TheVariants as swept
 use Rattle.papaya_rule.specs.Chart.{Chart}
 use Rattle.papaya_rule.specs.Words.{Blocks}
 use Rattle.papaya_rule.specs.InWorld.{IsMapIn}
-use Rattle.papaya_rule.proofs.World.PlansWithin.{as_may}
 use Rattle.papaya_points.specs.Told.{IsRowOf, IsRowOfCopier}
 use Rattle.papaya_points.specs.Steps.{AreLawful}
 use Rattle.papaya_late.specs.Covers.{Came}

@@ -4,6 +4,7 @@ use Rattle.std.proofs.Common.{List, refl, sym, subst, ap, ◌∙◌, inl, inr, a
 use Rattle.seize_words.specs.Mem.{Mem, Can, Took, value_at}
 use Rattle.seize_words.specs.declared.fault.Fault.{Fault}
 use Rattle.seize_words.specs.Plan.{Plan, May, Steps, plan_as}
+use Rattle.seize_words.proofs.Plans.{as_may}
 use Rattle.seize_rule.proofs.Rows.Leaving.{steps_back}
 use Rattle.seize_rule.proofs.Rows.Others.{begins_others, steps_others}
 use Rattle.seize.specs.World.{World, Row, Rests, Event, Runs, with_at}
@@ -46,7 +47,6 @@ use Rattle.papaya_raw.specs.declared.machines.progress.Progress.{Progress}
 use Rattle.papaya_rule.specs.Chart.{Chart}
 use Rattle.papaya_rule.specs.InWorld.{AllUsers}
 use Rattle.papaya_rule.specs.Moments.{Remembers}
-use Rattle.papaya_rule.proofs.World.PlansWithin.{as_may}
 use Rattle.papaya_points.specs.Told.{IsRowOf, IsRowOfCopier, IsRowOfCall}
 use Rattle.papaya_late.specs.ToldReserves.{IsRowOfReserve}
 use Rattle.papaya_late.specs.ToldSweeps.{IsRowOfSweep}

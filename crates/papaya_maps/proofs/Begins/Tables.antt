@@ -11,6 +11,7 @@ use Rattle.seize_words.specs.Mem.{Mem, block_of, value_in, word_in, value_at, wo
 use Rattle.seize_words.specs.Plan.{Now, May, Steps, plan_as}
 use Rattle.seize_words.proofs.OneOwner.AfterWrites.{block_of-made}
 use Rattle.seize_words.proofs.OneOwner.Operations.{may_make, made as make_made, may_take, taken}
+use Rattle.seize_words.proofs.Plans.{as_may}
 use Rattle.seize_rule.proofs.Rows.Leaving.{steps_back}
 use Rattle.seize.specs.Law.{Dropped}
 use Rattle.seize.specs.World.{World, Hand, NoBlock, Making, Makes, Drops, Runs, with_hand, with_effect, made_by}
@@ -39,7 +40,6 @@ use Rattle.papaya_points.specs.Told.{NewTableTold, LinksLast}
 use Rattle.papaya_rule.proofs.World.CounterSpared.{spares_counter}
 use Rattle.papaya_rule.proofs.World.Hands.{at_cases}
 use Rattle.papaya_points.proofs.Making.OwnTables.{zero_at}
-use Rattle.papaya_rule.proofs.World.PlansWithin.{as_may}
 use Rattle.papaya_points.proofs.Making.NewTable.{links_current, only_links, may_new_table, went_new_table_lowers}
 use Rattle.papaya_rule.proofs.World.WentStill.{spares_made, spares_taken}
 use Rattle.papaya_rule.proofs.Words.WritesWords.{is_some_of}

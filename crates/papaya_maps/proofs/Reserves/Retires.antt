@@ -4,6 +4,7 @@ use Rattle.std.proofs.Common.{◌≡◌, ◌≢◌, ℕ, suc, ◌*◌, ◌<◌, 
 use Rattle.std.proofs.lemmas.Bool.{cases_lt, eq-eqb, ne_eqb}
 use Rattle.seize_words.specs.Mem.{Mem, Can, Took, value_at}
 use Rattle.seize_words.specs.Plan.{May, Steps}
+use Rattle.seize_words.proofs.Plans.{as_may}
 use Rattle.seize.specs.declared.rows.settle.Settle.{Settle}
 use Rattle.seize.specs.declared.rows.settle.Settled.{Settled}
 use Rattle.seize.specs.declared.rows.settle.Settled.TheVariants as settled
@@ -35,7 +36,6 @@ use Rattle.papaya_rule.specs.Maps.{spot_of}
 use Rattle.papaya_points.specs.FactsCopies.{CopyingFacts, CopierFacts}
 use Rattle.papaya_points.specs.FactsCopiesBlocking.{HasUnlinkedFrom, CopyingFactsBlocking, CopierFactsBlocking}
 use Rattle.papaya_points.specs.FactsAloneBlocking.{AloneBlocking}
-use Rattle.papaya_rule.proofs.World.PlansWithin.{as_may}
 use Rattle.papaya_alone.specs.FactsAlone.{AloneAt}
 use Rattle.papaya_maps.specs.FactsAloneReserves.{CopierAlone, ReservesAlone, IsLoneReserve}
 use Rattle.papaya_late.specs.FactsReserves.{IsEnding, CopiesWhole, ReservingFacts}

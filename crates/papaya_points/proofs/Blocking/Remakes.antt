@@ -4,6 +4,7 @@ use Rattle.std.proofs.Common.{◌≡◌, ℕ, suc, ◌<◌, Bool, false, cond, e
 use Rattle.seize_words.specs.declared.at.At.TheVariants.{Word}
 use Rattle.seize_words.specs.Mem.{Mem, Can, Took, value_at}
 use Rattle.seize_words.specs.Plan.{May, Steps}
+use Rattle.seize_words.proofs.Plans.{as_may}
 use Rattle.seize.specs.World.{World}
 use Rattle.seize.specs.declared.progress.Progress.{Progress}
 use Rattle.seize.specs.declared.progress.Progress.TheVariants as progress
@@ -34,7 +35,6 @@ use Rattle.papaya_points.proofs.Steps.AloneCharts.{aborted_linked, uncounted_lin
 use Rattle.papaya_points.specs.Measures.{OthersIdle}
 use Rattle.papaya_points.proofs.Copiers.CopierLinked.{IsLonger, longer_chart, table_longer}
 use Rattle.papaya_points.proofs.Copiers.CopierWent.{CopierTells, CopierCame}
-use Rattle.papaya_rule.proofs.World.PlansWithin.{as_may}
 use Rattle.papaya_points.proofs.Making.NewTable.{may_new_table, went_new_table_lowers}
 use Rattle.papaya_rule.proofs.Moves.Writes.{put_elsewhere}
 

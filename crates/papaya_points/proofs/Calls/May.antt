@@ -3,6 +3,7 @@ use Rattle.std.specs.Prelude.{◌≡◌, ℕ, Bool, Option, Some}
 use Rattle.std.proofs.Common.{sym, subst}
 use Rattle.seize_words.specs.Mem.{Mem, value_at, Can, Took}
 use Rattle.seize_words.specs.Plan.{May}
+use Rattle.seize_words.proofs.Plans.{as_may}
 use Rattle.papaya_raw.specs.Call.{looked, looks, looks_for, first_made, firsts, next_made, allocs, disposed, disposes, helped, helps, copied, copies}
 use Rattle.papaya_resize.specs.Copier.{copier_plan}
 use Rattle.papaya_resize.specs.Dispose.{dispose_plan}
@@ -16,7 +17,6 @@ use Rattle.papaya_resize.specs.declared.copier.Copier.{Copier}
 use Rattle.papaya_resize.specs.declared.dispose.Dispose.{Dispose}
 use Rattle.papaya_resize.specs.declared.lookup.Lookup.{Lookup}
 use Rattle.papaya_resize.specs.declared.new_table.NewTable.{NewTable}
-use Rattle.papaya_rule.proofs.World.PlansWithin.{as_may}
 
 module _ {K V Q : Type 0} (m : Mem (Node K V)) (p : KeyCall K V Q) where
   pub may_looks : (asks : Q → K → Bool) (l : Lookup) (q : Q) → p.asked ≡ Some q → May Can Took value_at m (lookup_plan (asks q) l) → May Can Took value_at m (looks asks p l)

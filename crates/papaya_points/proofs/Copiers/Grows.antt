@@ -7,6 +7,7 @@ use Rattle.seize_words.specs.declared.at.At.TheVariants.{Word}
 use Rattle.seize_words.specs.declared.fault.Fault.{Fault}
 use Rattle.seize_words.specs.Mem.{Mem, value_at, Can, Took}
 use Rattle.seize_words.specs.Plan.{May, Steps}
+use Rattle.seize_words.proofs.Plans.{as_may}
 use Rattle.seize.specs.World.{World}
 use Rattle.seize.specs.declared.progress.Progress.{Progress}
 use Rattle.seize.specs.declared.progress.Progress.TheVariants as progress
@@ -36,7 +37,6 @@ use Rattle.papaya_points.specs.ToldMoves.{MovedPlain}
 use Rattle.papaya_points.proofs.Copiers.CopiersWrote.{CopierPlain}
 use Rattle.papaya_points.proofs.Copiers.CopierLinked.{IsLonger, longer_chart, works_longer, looks_longer}
 use Rattle.papaya_points.proofs.Copiers.CopierTries.{works_standing, facts_probing}
-use Rattle.papaya_rule.proofs.World.PlansWithin.{as_may}
 use Rattle.papaya_rule.proofs.Moves.Writes.{put_elsewhere}
 use Rattle.papaya_points.proofs.Making.NewTable.{Lowers, only_links, may_new_table, went_new_table_lowers}
 use Rattle.papaya_rule.proofs.World.WentTold.{went_as}

@@ -8,6 +8,7 @@ use Rattle.seize_words.specs.Plan.{Now, May, Steps, plan_as}
 use Rattle.seize_words.specs.declared.at.At.{At}
 use Rattle.seize_words.specs.declared.at.At.TheVariants.{Root, Word}
 use Rattle.seize_words.proofs.OneOwner.Operations.{may_store, stored, may_make, made as make_made}
+use Rattle.seize_words.proofs.Plans.{as_may}
 use Rattle.seize_rule.proofs.Rows.Leaving.{steps_back}
 use Rattle.seize.specs.World.{World, IsOwn}
 use Rattle.seize.specs.declared.progress.Progress.{Progress}
@@ -46,7 +47,6 @@ use Rattle.papaya_rule.proofs.World.WentWrote.{counter_of, went_after, wrote_in}
 use Rattle.papaya_rule.proofs.World.WentMade.{world_made, went_made}
 use Rattle.papaya_points.proofs.Making.OwnTables.{own_made, own_marked}
 use Rattle.papaya_points.proofs.Making.Planned.{counted_facts}
-use Rattle.papaya_rule.proofs.World.PlansWithin.{as_may}
 use Rattle.papaya_points.proofs.Making.Sum.{may_sum, told_sum}
 use Rattle.papaya_rule.proofs.Words.WritesWords.{is_some_of}
 

@@ -6,7 +6,7 @@ use Rattle.seize_words.specs.declared.at.At.TheVariants as name
 use Rattle.seize_words.specs.Mem.{Mem, Can, Took, value_at, word_at}
 use Rattle.seize_words.specs.Plan.{Ends, May, Steps}
 use Rattle.seize_words.proofs.OneOwner.Operations.{may_load, loaded}
-use Rattle.seize_words.proofs.Plans.{see_if}
+use Rattle.seize_words.proofs.Plans.{see_if, as_may}
 use Rattle.seize.specs.declared.states.TheConstants.{BATCH, LAST_SLOT}
 use Rattle.seize.specs.declared.progress.Progress.{Progress}
 use Rattle.seize.specs.declared.rows.enter.Unregister.{Unregister}
@@ -35,7 +35,6 @@ use Rattle.seize_waiting.proofs.Flushes.{flushed_frame}
 use Rattle.seize_acts.proofs.Reclaimed.Flushed.{batch_zero}
 use Rattle.papaya_tables.specs.Nodes.{deferred_word, was_left}
 use Rattle.papaya_tables.specs.declared.node.Node.{Node}
-use Rattle.papaya_rule.proofs.World.PlansWithin.{as_may}
 use Rattle.papaya_callers.specs.Together.{CameAbout}
 use Rattle.papaya_callers.proofs.Together.Came.{came_reached, came_on, came_next}
 use Rattle.papaya_reclaims.specs.Slots.{AllRest, HasNoBatch, Flushing, Freeing, Within}

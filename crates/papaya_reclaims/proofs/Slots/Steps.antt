@@ -7,7 +7,7 @@ use Rattle.seize_words.specs.Mem.{Mem, Can, Took, value_at, word_at}
 use Rattle.seize_words.specs.Plan.{Ends, May, Steps}
 use Rattle.seize_words.proofs.OneOwner.AfterWrites.{word_at-with_word}
 use Rattle.seize_words.proofs.OneOwner.Operations.{may_load, may_store, loaded, stored}
-use Rattle.seize_words.proofs.Plans.{see_if}
+use Rattle.seize_words.proofs.Plans.{see_if, as_may}
 use Rattle.seize.specs.declared.states.TheConstants.{HEAD, NEVER, FREE, IDLE, ACTIVE, LAST_SLOT}
 use Rattle.seize.specs.declared.rows.leave.Leave.{Leave}
 use Rattle.seize.specs.declared.rows.settle.Settled.{Settled}
@@ -31,7 +31,6 @@ use Rattle.seize_sets.proofs.Slots.Retaken.{retaken, retaken_idle}
 use Rattle.seize_sets.proofs.Turns.Heads.{word_says, outside_by, inside_by}
 use Rattle.papaya_tables.specs.Nodes.{deferred_word, was_left}
 use Rattle.papaya_tables.specs.declared.node.Node.{Node}
-use Rattle.papaya_rule.proofs.World.PlansWithin.{as_may}
 use Rattle.papaya_callers.specs.Together.{CameAbout}
 use Rattle.papaya_callers.proofs.Together.Came.{came_reached, came_on, came_next}
 use Rattle.papaya_reclaims.specs.Slots.{AreItsRows, Settling, Within, SlotsTold}

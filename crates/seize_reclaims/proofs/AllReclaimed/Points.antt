@@ -4,8 +4,9 @@ use Rattle.std.proofs.Common.{◌≡◌, ℕ, zero, suc, ◌+◌, ◌<◌, Bool,
 use Rattle.std.proofs.lemmas.List.{append-nil, append_assoc, map-append}
 use Rattle.seize_words.specs.declared.at.At.TheVariants as name
 use Rattle.seize_words.specs.Mem.{Mem, Can, Took, value_at, word_at}
-use Rattle.seize_words.specs.Plan.{Plan, Then, Turn, Do, Now, Seeing, Sure, May, MaySee, then_as, plan_as}
+use Rattle.seize_words.specs.Plan.{May, MaySee}
 use Rattle.seize_words.proofs.OneOwner.Operations.{may_load, may_store}
+use Rattle.seize_words.proofs.Plans.{as_may}
 use Rattle.seize.specs.declared.states.TheConstants.{HEAD, BATCH, NEVER, FREE, IDLE, ACTIVE, LAST_SLOT}
 use Rattle.seize.specs.declared.progress.Progress.{Progress}
 use Rattle.seize.specs.declared.rows.enter.Unregister.{Unregister}
@@ -38,18 +39,6 @@ use Rattle.seize_reclaims.proofs.Roots.Cleared.{clear_begins, clear_may, IsFirst
 use Rattle.seize_alone.proofs.Whole.Begins.{leave_begins, flush_begins}
 use Rattle.seize_alone.proofs.Whole.Enter.{unregister_may}
 use Rattle.seize_alone.proofs.Whole.Steps.{call_may}
-
--- a step may be taken as one of a machine around it
-
-module _ {T A B : Type 0} (f : A → B) where
-  see_around : (shown : ℕ → Option T) (rest : Then T A) → MaySee shown rest → MaySee shown (then_as f rest)
-  see_around shown (Now end) may = tt
-  see_around shown (Seeing block rest) may = (may.0, λ value is. see_around shown (rest value) (may.1 value is))
-  see_around shown (Sure fact rest) may = (may.0, see_around shown rest may.1)
-
-  may_around : (m : Mem T) (plan : Plan T A) → May Can Took value_at m plan → May Can Took value_at m (plan_as f plan)
-  may_around m (Turn rest) may = see_around (value_at m) rest may
-  may_around m (Do op rest) may = (may.0, λ out n t. see_around (value_at n) (rest out) (may.1 out n t))
 
 -- the values of blocks, as they were before some others were reclaimed
 module _ {T : Type 0} (m m1 : Mem T) (h h1 : History) (back : List ℕ) (only : OnlyReclaims m h m1 h1 back) where
@@ -255,7 +244,7 @@ module _ {T : Type 0} (defers : T → Option ℕ) (left_over : T → Bool) (batc
           may_store m2 (λ out. to (next_head c s)) (name.Slot s HEAD) IDLE
           (subst (λ (k : Mem T). IsSome (word_at k (name.Slot s HEAD))) (sym x.row.0) (subst (λ (o : Option ℕ). IsSome o) (sym x.here.3) refl)) tt
       may_slots (at.Leaves s leave) x =
-          may_around (within (λ l. standing c (at.Leaves s l)) (next_head c s)) m2 (leave_plan defers leave)
+          as_may (within (λ l. standing c (at.Leaves s l)) (next_head c s)) Can Took value_at m2 (leave_plan defers leave)
           (call_may defers batch_size roots x.m1 x.h1 (Leave' s) (Leaves leave) m2 x.more x.row)
       may_slots (at.Batches s) x =
           let f = x.here.1 in
@@ -266,10 +255,10 @@ module _ {T : Type 0} (defers : T → Option ℕ) (left_over : T → Bool) (batc
           (word_here x.m1 x.h1 x.so_far.now s BATCH (f.idle s lt) (omega (arith, lt, le)) (omega arith)))
           (λ w e. see_batch (value_at m2) c s (w == 0))
       may_slots (at.Flushes s settle) x =
-          may_around (within (λ d. standing c (at.Flushes s d)) (next_batch (record c { again = true }) s)) m2 (settle_plan defers settle)
+          as_may (within (λ d. standing c (at.Flushes s d)) (next_batch (record c { again = true }) s)) Can Took value_at m2 (settle_plan defers settle)
           (call_may defers batch_size roots x.m1 x.h1 (Flush s) (Settles settle) m2 x.more x.row)
       may_slots (at.Frees s) x =
-          may_around {B = ReclaimAll × Settled T} (λ (end : Unregister × Progress Unit). (next_free c s, Goes)) m2 (unregister_plan (record { slot = s }))
+          as_may {B = ReclaimAll × Settled T} (λ (end : Unregister × Progress Unit). (next_free c s, Goes)) Can Took value_at m2 (unregister_plan (record { slot = s }))
           (subst (λ (k : Mem T). May Can Took value_at k (unregister_plan {T = T} (record { slot = s }))) (sym x.row.0)
           (unregister_may defers batch_size roots x.m1 x.h1 x.so_far.now s (x.here.1.idle s (omega arith) x.here.0)))
       may_slots (at.Roots root) x = absurd x.row

@@ -4,8 +4,9 @@ use Rattle.std.proofs.Common.{◌≡◌, ℕ, ◌+◌, Bool, true, false, cond, 
 use Rattle.std.proofs.lemmas.Bool.{eqb-false}
 use Rattle.seize_words.specs.declared.at.At.TheVariants as name
 use Rattle.seize_words.specs.Mem.{Mem, value_at, word_at, with_word, Can, Took}
-use Rattle.seize_words.specs.Plan.{Plan, Then, Turn, Do, Now, Seeing, Sure, Steps, Ends, May, MaySee, then_as, plan_as}
+use Rattle.seize_words.specs.Plan.{Now, Steps, Ends, May}
 use Rattle.seize_words.proofs.OneOwner.Operations.{stored, swapped, may_swap, may_store}
+use Rattle.seize_words.proofs.Plans.{as_may}
 use Rattle.seize.specs.declared.states.TheConstants.{HEAD, FREE, ACTIVE, LAST_SLOT}
 use Rattle.seize.specs.declared.rows.settle.Settle.{Settle}
 use Rattle.seize.specs.declared.rows.settle.Settling.{Settling}
@@ -49,17 +50,6 @@ counted_settled c = by c.frees
     by : (t : Bool) → IsSettled (if t then standing c leaving.Frees else standing c leaving.Over).stands
     by true = tt
     by false = tt
-
--- a step may be taken, whatever its outcome is turned into
-module _ {T A B : Type 0} (f : A → B) where
-  sees_as : (shown : ℕ → Option T) (rest : Then T A) → MaySee shown rest → MaySee shown (then_as f rest)
-  sees_as shown (Now r) h = tt
-  sees_as shown (Seeing block rest) h = (h.0, λ value e. sees_as shown (rest value) (h.1 value e))
-  sees_as shown (Sure fact rest) h = (h.0, sees_as shown rest h.1)
-
-  may_as : (mem : Mem T) (plan : Plan T A) → May Can Took value_at mem plan → May Can Took value_at mem (plan_as f plan)
-  may_as mem (Turn rest) h = sees_as (value_at mem) rest h
-  may_as mem (Do op rest) h = (h.0, λ out m2 t. sees_as (value_at m2) (rest out) (h.1 out m2 t))
 
 module _ {T : Type 0} {size : ℕ} (defers : T → Option ℕ) (n : ℕ) (last : n ≡ LAST_SLOT + 1) (w : World T) (good : Good defers n size w) (i : ℕ) (c : Leave) (is : w.row i ≡ Leaves c) where
   fits : FitsLeave n i (view defers w.memory) good.state good.extra c.slot c.becomes c.frees c.stands
@@ -189,7 +179,7 @@ module _ {T : Type 0} {size : ℕ} (defers : T → Option ℕ) (n : ℕ) (last :
       may_swap w.memory (list_taken c) (name.Slot c.slot HEAD) c.becomes (slot_there 0 (fits_at leaving.Swaps at).on)
       (λ v e. see_if (value_at (with_word w.memory (name.Slot c.slot HEAD) c.becomes)) (nat_lt ACTIVE v) _ _ tt tt)
   may_point (leaving.Settles settle) at =
-      may_as (settled c) w.memory (plans.settle_plan defers settle)
+      as_may (settled c) Can Took value_at w.memory (plans.settle_plan defers settle)
       (may_at defers n i w.memory good.state good.extra settle good.inv good.shows (words_good defers n w good) settle.stands (fits_at (leaving.Settles settle) at).settles)
   may_point leaving.Frees at =
       let r = (fits_at leaving.Frees at).on in

@@ -6,6 +6,7 @@ use Rattle.seize_words.specs.declared.at.At.{At}
 use Rattle.seize_words.specs.declared.at.At.TheVariants.{Root, Used, Entry, Word}
 use Rattle.seize_words.specs.Mem.{Mem, value_at, word_at, Can, Took}
 use Rattle.seize_words.specs.Plan.{May, Steps, plan_as}
+use Rattle.seize_words.proofs.Plans.{as_may}
 use Rattle.seize_rule.proofs.Rows.Leaving.{steps_back}
 use Rattle.seize.specs.Law.{Place, Nowhere, Standing, With, where_is, owner_of}
 use Rattle.seize.specs.World.{World, Row, Making, Runs, IsOnto}
@@ -35,7 +36,6 @@ use Rattle.papaya_rule.specs.Words.{Blocks}
 use Rattle.papaya_rule.proofs.History.History.{history_begins}
 use Rattle.papaya_rule.proofs.World.BesideKept.{steps_spare_others}
 use Rattle.papaya_rule.proofs.World.CounterSpared.{spares_counter}
-use Rattle.papaya_rule.proofs.World.PlansWithin.{as_may}
 use Rattle.papaya_rule.proofs.World.WentTold.{went_as}
 use Rattle.papaya_points.specs.FactsTables.{MakingFacts as TableFacts, NewTableFacts}
 use Rattle.papaya_points.specs.Told.{NewTableTold, LinksLast}

@@ -4,6 +4,7 @@ use Rattle.std.specs.Int.{IsPowerOfTwo}
 use Rattle.std.proofs.Common.{inl, inr, sym, subst}
 use Rattle.seize_words.specs.Mem.{Mem, value_at, Can, Took}
 use Rattle.seize_words.specs.Plan.{May, Steps}
+use Rattle.seize_words.proofs.Plans.{as_may}
 use Rattle.seize_rule.proofs.Rows.Leaving.{steps_back}
 use Rattle.seize.specs.World.{World}
 use Rattle.papaya_tables.specs.Chunks.{is_incremental}
@@ -21,7 +22,6 @@ use Rattle.papaya_rule.specs.Chart.{Chart}
 use Rattle.papaya_rule.specs.Words.{Blocks}
 use Rattle.papaya_rule.specs.Moments.{Moments}
 use Rattle.papaya_rule.specs.InWorld.{IsMapIn, SparesPairs}
-use Rattle.papaya_rule.proofs.World.PlansWithin.{as_may}
 use Rattle.papaya_rule.proofs.World.WentTold.{went_as}
 use Rattle.papaya_points.specs.FactsCopies.{CopierFacts}
 use Rattle.papaya_points.specs.FactsCopiesBlocking.{CopierFactsBlocking}

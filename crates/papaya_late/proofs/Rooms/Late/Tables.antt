@@ -6,6 +6,7 @@ use Rattle.seize_words.specs.declared.at.At.TheVariants.{Word}
 use Rattle.seize_words.specs.Mem.{Mem, value_at, Can, Took}
 use Rattle.seize_words.specs.Plan.{May, Steps}
 use Rattle.seize_words.proofs.OneOwner.Operations.{loaded}
+use Rattle.seize_words.proofs.Plans.{as_may}
 use Rattle.seize_rule.proofs.Rows.Leaving.{steps_back}
 use Rattle.seize.specs.World.{World}
 use Rattle.seize.specs.declared.progress.Progress.{Progress}
@@ -33,7 +34,6 @@ use Rattle.papaya_rule.specs.InWorld.{IsMapIn, SparesPairs}
 use Rattle.papaya_rule.proofs.Keys.TriesLast.{table_lasts}
 use Rattle.papaya_rule.proofs.Words.LinksRead.{link_ends}
 use Rattle.papaya_rule.proofs.Words.LinksSeen.{next_leads}
-use Rattle.papaya_rule.proofs.World.PlansWithin.{as_may}
 use Rattle.papaya_rule.proofs.World.WentTold.{went_as}
 use Rattle.papaya_rule.proofs.World.WentWrote.{counter_of}
 use Rattle.papaya_points.specs.FactsCopiesBlocking.{HasNoShares}

@@ -4,6 +4,7 @@ use Rattle.std.specs.Int.{IsPowerOfTwo}
 use Rattle.std.proofs.Common.{refl, sym, subst, ◌∙◌}
 use Rattle.seize_words.specs.Mem.{Mem, value_at, Can, Took}
 use Rattle.seize_words.specs.Plan.{May, Steps}
+use Rattle.seize_words.proofs.Plans.{as_may}
 use Rattle.seize_rule.proofs.Rows.Leaving.{steps_back}
 use Rattle.seize.specs.World.{World}
 use Rattle.papaya_tables.specs.Chunks.{is_incremental}
@@ -31,7 +32,6 @@ use Rattle.papaya_points.specs.Told.{IsRowOfCopier, CopierTold, CopierToldBlocki
 use Rattle.papaya_points.proofs.MovedLasts.{moved_lasts, idle_in}
 use Rattle.papaya_rule.proofs.World.WentTold.{went_as}
 use Rattle.papaya_points.proofs.Copiers.CopiersWhole.{whole_stays}
-use Rattle.papaya_rule.proofs.World.PlansWithin.{as_may}
 use Rattle.papaya_points.proofs.Copiers.CopierWent.{CopierTells}
 use Rattle.papaya_points.proofs.Copiers.Points.{may_copier, went_copier_moved}
 use Rattle.papaya_points.proofs.Blocking.Points.{may_copier_blocking, went_copier_blocking_alone}

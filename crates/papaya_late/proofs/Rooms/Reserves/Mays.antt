@@ -6,6 +6,7 @@ use Rattle.seize_words.specs.declared.at.At.TheVariants.{Root, Word}
 use Rattle.seize_words.specs.Mem.{value_at, word_at, Can, Took}
 use Rattle.seize_words.specs.Plan.{May}
 use Rattle.seize_words.proofs.OneOwner.Operations.{may_load}
+use Rattle.seize_words.proofs.Plans.{as_may}
 use Rattle.seize.specs.World.{World}
 use Rattle.papaya_resize.specs.NewTable.{first_table, table_reserved, new_table_plan}
 use Rattle.papaya_resize.specs.Sum.{sum_plan}
@@ -29,7 +30,6 @@ use Rattle.papaya_rule.proofs.Words.LinksRead.{see_link}
 use Rattle.papaya_rule.proofs.Words.LinksSeen.{root_leads, next_leads}
 use Rattle.papaya_rule.proofs.Words.TablesSeen.{next_there}
 use Rattle.papaya_rule.proofs.Words.WritesWords.{is_some_of}
-use Rattle.papaya_rule.proofs.World.PlansWithin.{as_may}
 use Rattle.papaya_rule.proofs.World.WentWrote.{counter_of}
 use Rattle.papaya_points.specs.FactsTables.{SumFacts, NewTableFacts}
 use Rattle.papaya_points.proofs.Making.NewTable.{may_new_table}

@@ -5,6 +5,7 @@ use Rattle.seize_words.specs.declared.at.At.TheVariants.{Word}
 use Rattle.seize_words.specs.Mem.{Mem, value_at, word_at, with_word, Can, Took}
 use Rattle.seize_words.specs.Plan.{Now, May, Steps}
 use Rattle.seize_words.proofs.OneOwner.Operations.{may_exchange, exchanged, may_add, added}
+use Rattle.seize_words.proofs.Plans.{as_may}
 use Rattle.seize_rule.proofs.Rows.Leaving.{steps_back}
 use Rattle.seize.specs.World.{World}
 use Rattle.seize.specs.declared.rows.settle.Settled.{Settled}
@@ -30,7 +31,6 @@ use Rattle.papaya_rule.specs.Words.{Blocks}
 use Rattle.papaya_rule.specs.Maps.{spot_of}
 use Rattle.papaya_rule.specs.InWorld.{IsMapIn, SameBlocks}
 use Rattle.papaya_rule.proofs.Words.TablesSeen.{place_stands}
-use Rattle.papaya_rule.proofs.World.PlansWithin.{as_may}
 use Rattle.papaya_rule.proofs.World.WentStill.{went_still}
 use Rattle.papaya_rule.proofs.World.WentTold.{went_as}
 use Rattle.papaya_points.specs.FactsDisposes.{DisposeFacts}
