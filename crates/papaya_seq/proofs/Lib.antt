@@ -1,4 +1,5 @@
 -- Lemmas on maps for one owner.
+mod Done
 mod Equals
 mod Looks
 mod Makes
@@ -6,6 +7,7 @@ mod Members
 pub mod Orders
 mod Puts
 mod Removals
+mod Reservations
 mod Sets
 mod Shows
 mod Stores

@@ -1,7 +1,6 @@
 -- Changes of a map for one owner.
-use Rattle.std.specs.Prelude.{◌≡◌, ℕ, ◌^◌, ◌<◌, Bool, true, false, List, [], ◌∷◌, Some, None, Result, Ok, is_some, if◌then◌else◌}
+use Rattle.std.specs.Prelude.{◌≡◌, ℕ, Bool, true, false, List, [], ◌∷◌, Some, None, Result, Ok, is_some, if◌then◌else◌}
 use Rattle.std.proofs.Common.{refl, sym, ap, subst, inl, inr}
-use denote.Ref.{Bor}
 use Rattle.seize_words.specs.Mem.{Mem}
 use Rattle.seize_words.specs.declared.fault.Fault.{Fault}
 use Rattle.seize.specs.Leave.{leaving}
@@ -10,26 +9,18 @@ use Rattle.seize.specs.declared.states.TheConstants.{ACTIVE}
 use Rattle.papaya_tables.specs.Nodes.{deferred_word}
 use Rattle.papaya_tables.specs.declared.node.Node.{Node}
 use Rattle.papaya_tables.specs.declared.setting.Setting.{Setting}
-use Rattle.papaya_raw.specs.CallPoints.{removing}
-use Rattle.papaya_raw.specs.declared.machines.call.KeyCall.{KeyCall}
-use Rattle.papaya_rule.specs.Maps.{IsClass}
 use Rattle.papaya_callers.specs.Kind.{Kind, removes}
 use Rattle.papaya_late.specs.Faults.{IsRoom}
 use Rattle.papaya_late.specs.Kinds.{FaultFits}
 use Rattle.papaya_raw.specs.declared.machines.asking.Takes.TheVariants as replies
-use Rattle.papaya_callers.specs.Pairs.{Begun}
-use Rattle.papaya_callers.specs.Together.{Removes}
 use Rattle.papaya_owned.specs.Ending.{Ends, RunsTo}
-use Rattle.papaya_owned.specs.Machines.{on_key_plan, refreshes_plan}
+use Rattle.papaya_owned.specs.Machines.{refreshes_plan}
 use Rattle.papaya_owned.specs.Owned.{Holds, EndsBy, found_by, left_by}
-use Rattle.papaya_owned.specs.declared.machines.OnKey.{OnKey}
 use Rattle.papaya_owned.specs.declared.machines.Refreshes.{Refreshes}
 use Rattle.papaya_owned.specs.declared.machines.Stop.{Stop}
 use Rattle.papaya_owned.specs.declared.machines.Stop.TheVariants as stop
 use Rattle.papaya_raw.specs.declared.machines.answer.KeyAnswer.TheVariants as answers
 use Rattle.papaya_seq.specs.Calls.{has_removed}
-use Rattle.papaya_owned.proofs.Owned.Calls.{UnderIt, begins_under, ends_by}
-use Rattle.papaya_owned.proofs.Owned.Keys.{under_ends, comes_to}
 use Rattle.papaya_owned.proofs.Owned.Refreshes.{refreshing_ends, refreshed, begins_refreshing}
 
 module _ {K V : Type 0} (same : K → K → Bool) (hash : K → ℕ) (setting : Setting) (m : Mem (Node K V)) (xs : List (K × V)) (h : Holds same hash setting m xs) (leave : Leave)
@@ -43,23 +34,6 @@ module _ {K V : Type 0} (same : K → K → Bool) (hash : K → ℕ) (setting : 
   refresh_holds x m2 result runs =
       refreshed same hash setting m xs h (record { leave = leaving setting.slot setting.batch_size ACTIVE false }) m x m2 result
       (subst (λ (y : Leave). RunsTo (refreshes_plan (deferred_word {K = K} {V = V})) (record { leave = y }) m x m2 result) is runs) (begins_refreshing same hash setting m xs h)
-
-module _ {K V S : Type 0} (same : K → K → Bool) (hashes : S → K → ℕ) (b : Bor S) (setting : Setting) (m : Mem (Node K V)) (xs : List (K × V)) (h : Holds same (hashes b.now) setting m xs) (key : K) (code : ℕ)
-    (class : IsClass same (hashes b.now) (same key) code) (fits : code < 2 ^ 64) (call : KeyCall K V K) (is : call ≡ removing setting code key) where
-  under : UnderIt same hashes b setting m xs h key removes None (record { call = call; hasher = b; unstored = None }) m
-  under =
-      subst (λ (c : KeyCall K V K). UnderIt same hashes b setting m xs h key removes None (record { call = c; hasher = b; unstored = None }) m) (sym is)
-      (begins_under same hashes b setting m xs h key removes None (removing setting code key) (Removes key code fits class) refl
-      (refl, refl, record { takes_is = refl; removes = λ e. absurd (cc e); choices = λ e. absurd (cc e) }, (λ e. absurd (cc e)), (λ present absent. cc present)))
-
-  pub removal_ends : Ends (on_key_plan {Q = K} same same hashes) (record { call = call; hasher = b; unstored = None }) m
-  removal_ends = under_ends same same hashes b setting h.lawful h.initial h.world.memory h.chart h.blocks h.rests.together.ground.map.map.rule (same key) (Begun removes None) _ m under
-
-  pub removal_by : (x : OnKey K V K S) (m2 : Mem (Node K V)) (result : Result Stop Fault) → RunsTo (on_key_plan {Q = K} same same hashes) (record { call = call; hasher = b; unstored = None }) m x m2 result
-      → EndsBy same (hashes b.now) setting m2 removes None (same key) xs result
-  removal_by x m2 result runs =
-      ends_by same hashes b setting m xs h key removes None m2 result
-      (comes_to same same hashes b setting h.lawful h.initial h.world.memory h.chart h.blocks h.rests.together.ground.map.map.rule (same key) (Begun removes None) _ m x m2 result runs under)
 
 -- where there is none of these keys, none is taken out
 module _ {K V : Type 0} (keys : K → Bool) where

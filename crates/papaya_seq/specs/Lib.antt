@@ -1,3 +1,4 @@
+pub mod Asking
 pub mod Calls
 pub mod Json
 pub mod Maps

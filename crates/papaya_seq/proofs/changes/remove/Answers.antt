@@ -8,13 +8,13 @@ use Rattle.papaya_seq.proofs.changes.remove.Goals as goal
 pub returns-in-Ok-clause-some : goal.returns-in-Ok-clause-some
 returns-in-Ok-clause-some g c = λ xs has.
     c.removed.ensures
-    ∙ (removes_by g.K.PartialEq.eq (hashed_by g.S.Hasher.Hasher.finish g.S.Hasher.Hasher.write g.S.BuildHasher.build_hasher g.K.Hash.hash_input c.args.hasher.now) c.args.setting c.take.new.memory
-    (g.K.PartialEq.eq c.args.key) xs c.in-Ok.stop (c.in-Ok.ensures xs (c.refresh.ensures xs has))).0
+    ∙ (removes_by g.K.PartialEq.eq (hashed_by g.S.Hasher.Hasher.finish g.S.Hasher.Hasher.write g.S.BuildHasher.build_hasher g.K.Hash.hash_input c.args.hasher.now) c.args.setting c.remove.new.memory
+    (g.Q.Equivalent.equivalent c.args.asked.now) xs c.in-Ok.stop (c.in-Ok.ensures xs (c.refresh.ensures xs has))).0
 
 pub returns-in-Ok-clause-removed : goal.returns-in-Ok-clause-removed
 returns-in-Ok-clause-removed g c = λ xs has.
-    (removes_by g.K.PartialEq.eq (hashed_by g.S.Hasher.Hasher.finish g.S.Hasher.Hasher.write g.S.BuildHasher.build_hasher g.K.Hash.hash_input c.args.hasher.now) c.args.setting c.take.new.memory
-    (g.K.PartialEq.eq c.args.key) xs c.in-Ok.stop (c.in-Ok.ensures xs (c.refresh.ensures xs has))).1
+    (removes_by g.K.PartialEq.eq (hashed_by g.S.Hasher.Hasher.finish g.S.Hasher.Hasher.write g.S.BuildHasher.build_hasher g.K.Hash.hash_input c.args.hasher.now) c.args.setting c.remove.new.memory
+    (g.Q.Equivalent.equivalent c.args.asked.now) xs c.in-Ok.stop (c.in-Ok.ensures xs (c.refresh.ensures xs has))).1
 
 pub returns-in-Err-clause-refused : goal.returns-in-Err-clause-refused
 returns-in-Err-clause-refused g c = λ xs has. (c.in-Err.ensures xs (c.refresh.ensures xs has)).1
