@@ -1,5 +1,3 @@
-pub mod Asking
-pub mod Calls
 pub mod Json
 pub mod Maps
 pub mod Orders

@@ -1,108 +1,15 @@
 //! Calls on a map for one owner that update a value, or store one, by closures. Each begins with a refresh.
-ghost use Rattle.std.specs.Prelude.{◌≡◌, List, Some, IfOk, IfErr, OnErr};
+ghost use Rattle.std.specs.Prelude.{◌≡◌, Some, IfOk, IfErr, OnErr};
 ghost use Rattle.std.specs.Fn.{FnOnceReturns, FnOnceReturnsAt};
 ghost use Rattle.std.specs.List.Sorted.{IsPermutation};
 ghost use Rattle.papaya_asks.specs.Closures.{Updating, UpdatingOrStoring, Storing};
 ghost use Rattle.papaya_late.specs.Faults.{IsRoom};
-ghost use Rattle.papaya_owned.specs.Owned.{Holds, hashed_by};
-ghost use Rattle.papaya_seq.specs.Asking.{HasDone, ComesToIt};
+ghost use Rattle.papaya_resting.specs.Asking.{HasDone};
 
-use crate::change::{Change, changed, ended};
-use crate::changes::refresh;
 use crate::map::HashMap;
-use crate::refused::Refused;
-use papaya_asks::RefusedKey;
-use papaya_tables::{Node, Setting};
-use seize_words::Plain;
+use papaya_asks::{Refused, RefusedKey};
+use papaya_resting::Change;
 use std::hash::{BuildHasher, Hash};
-
-/// Replaces the value of a key by one that is made of it, after a refresh, if the key is there.
-fn update<K: Eq + Hash + Drop, V: Drop, S: BuildHasher, F: FnOnce(&V) -> V>(
-    memory: &mut Plain<Node<K, V>>,
-    setting: Setting,
-    hasher: &S,
-    key: K,
-    make: F,
-) -> Result<Change, RefusedKey<K>>
-    requires callable { F.IsAlwaysCallable make }
-    requires holds { (xs : List (K × V)) × Holds K.eq (hashed_by S.Hasher.finish S.Hasher.write S.build_hasher K.hash_input hasher.now) setting memory.old xs }
-    ensures comes { (xs : List (K × V)) → Holds K.eq (hashed_by S.Hasher.finish S.Hasher.write S.build_hasher K.hash_input hasher.now) setting memory.old xs
-        → ComesToIt (K.eq key) (Some key) (Updating (FnOnceReturnsAt F.FnOnce make)) xs (Holds K.eq (hashed_by S.Hasher.finish S.Hasher.write S.build_hasher K.hash_input hasher.now) setting memory.new) (λ r. r.fault) result }
-    ensures back { IfErr result (λ r. r.key ≡ key) }
-{
-    refresh(memory, setting, hasher);
-    ended(papaya_asks::update(memory, setting, hasher, key, make))
-}
-
-/// Replaces the value of a key by one that is made of it, after a refresh, if the key is there, and else stores one that is begun.
-fn update_or_insert_with<
-    K: Eq + Hash + Drop,
-    V: Drop,
-    S: BuildHasher,
-    B: FnOnce() -> V,
-    F: FnOnce(&V) -> V,
->(
-    memory: &mut Plain<Node<K, V>>,
-    setting: Setting,
-    hasher: &S,
-    key: K,
-    begin: B,
-    make: F,
-) -> Result<Change, RefusedKey<K>>
-    requires begins { B.IsAlwaysCallable begin }
-    requires makes { F.IsAlwaysCallable make }
-    requires holds { (xs : List (K × V)) × Holds K.eq (hashed_by S.Hasher.finish S.Hasher.write S.build_hasher K.hash_input hasher.now) setting memory.old xs }
-    ensures comes { (xs : List (K × V)) → Holds K.eq (hashed_by S.Hasher.finish S.Hasher.write S.build_hasher K.hash_input hasher.now) setting memory.old xs
-        → ComesToIt (K.eq key) (Some key) (UpdatingOrStoring (FnOnceReturnsAt F.FnOnce make) (λ value. FnOnceReturns B.FnOnce begin tt value)) xs (Holds K.eq (hashed_by S.Hasher.finish S.Hasher.write S.build_hasher K.hash_input hasher.now) setting memory.new) (λ r. r.fault) result }
-    ensures back { IfErr result (λ r. r.key ≡ key) }
-{
-    refresh(memory, setting, hasher);
-    ended(papaya_asks::update_or_insert_with(memory, setting, hasher, key, begin, make))
-}
-
-/// Stores a value that is begun, after a refresh, if its key is not there yet.
-fn try_insert_with<K: Eq + Hash + Drop, V: Drop, S: BuildHasher, B: FnOnce() -> V>(
-    memory: &mut Plain<Node<K, V>>,
-    setting: Setting,
-    hasher: &S,
-    key: K,
-    begin: B,
-) -> Result<Change, RefusedKey<K>>
-    requires callable { B.IsAlwaysCallable begin }
-    requires holds { (xs : List (K × V)) × Holds K.eq (hashed_by S.Hasher.finish S.Hasher.write S.build_hasher K.hash_input hasher.now) setting memory.old xs }
-    ensures comes { (xs : List (K × V)) → Holds K.eq (hashed_by S.Hasher.finish S.Hasher.write S.build_hasher K.hash_input hasher.now) setting memory.old xs
-        → ComesToIt (K.eq key) (Some key) (Storing (λ value. FnOnceReturns B.FnOnce begin tt value)) xs (Holds K.eq (hashed_by S.Hasher.finish S.Hasher.write S.build_hasher K.hash_input hasher.now) setting memory.new) (λ r. r.fault) result }
-    ensures back { IfErr result (λ r. r.key ≡ key) }
-{
-    refresh(memory, setting, hasher);
-    ended(papaya_asks::insert_with(memory, setting, hasher, key, begin))
-}
-
-/// Replaces the value of a key by one that is made of it, after a refresh, if the key is there, and else stores this one.
-fn update_or_insert<K: Eq + Hash + Drop, V: Drop, S: BuildHasher, F: FnOnce(&V) -> V>(
-    memory: &mut Plain<Node<K, V>>,
-    setting: Setting,
-    hasher: &S,
-    key: K,
-    value: V,
-    make: F,
-) -> Result<Change, Refused<K, V>>
-    requires callable { F.IsAlwaysCallable make }
-    requires holds { (xs : List (K × V)) × Holds K.eq (hashed_by S.Hasher.finish S.Hasher.write S.build_hasher K.hash_input hasher.now) setting memory.old xs }
-    ensures comes { (xs : List (K × V)) → Holds K.eq (hashed_by S.Hasher.finish S.Hasher.write S.build_hasher K.hash_input hasher.now) setting memory.old xs
-        → ComesToIt (K.eq key) (Some key) (UpdatingOrStoring (FnOnceReturnsAt F.FnOnce make) (λ new. new ≡ value)) xs (Holds K.eq (hashed_by S.Hasher.finish S.Hasher.write S.build_hasher K.hash_input hasher.now) setting memory.new) (λ r. r.fault) result }
-    ensures back { IfErr result (λ r. (r.key ≡ key) × (r.value ≡ value)) }
-{
-    refresh(memory, setting, hasher);
-    match papaya_asks::update_or_insert(memory, setting, hasher, key, value, make) {
-        Ok(answer) => Ok(changed(answer)),
-        Err(refused) => Err(Refused {
-            fault: refused.fault,
-            key: refused.key,
-            value: refused.value,
-        }),
-    }
-}
 
 impl<K: Eq + Hash + Drop, V: Drop, S: BuildHasher> HashMap<K, V, S> {
     /// Replaces the value of a key by one that is made of it, if the key is there. The closure is called where it is, and else not at all. It answers
@@ -115,7 +22,7 @@ impl<K: Eq + Hash + Drop, V: Drop, S: BuildHasher> HashMap<K, V, S> {
         ensures back { IfErr result (λ r. r.key ≡ key) }
         ensures hasher { self.new.hasher ≡ self.old.hasher }
     {
-        update(
+        papaya_resting::update(
             &mut self.resting.memory,
             self.resting.setting,
             &self.hasher,
@@ -140,7 +47,7 @@ impl<K: Eq + Hash + Drop, V: Drop, S: BuildHasher> HashMap<K, V, S> {
         ensures back { IfErr result (λ r. r.key ≡ key) }
         ensures hasher { self.new.hasher ≡ self.old.hasher }
     {
-        update_or_insert_with(
+        papaya_resting::update_or_insert_with(
             &mut self.resting.memory,
             self.resting.setting,
             &self.hasher,
@@ -164,7 +71,7 @@ impl<K: Eq + Hash + Drop, V: Drop, S: BuildHasher> HashMap<K, V, S> {
         ensures back { IfErr result (λ r. r.key ≡ key) }
         ensures hasher { self.new.hasher ≡ self.old.hasher }
     {
-        try_insert_with(
+        papaya_resting::try_insert_with(
             &mut self.resting.memory,
             self.resting.setting,
             &self.hasher,
@@ -189,7 +96,7 @@ impl<K: Eq + Hash + Drop, V: Drop, S: BuildHasher> HashMap<K, V, S> {
         ensures back { IfErr result (λ r. (r.key ≡ key) × (r.value ≡ value)) }
         ensures hasher { self.new.hasher ≡ self.old.hasher }
     {
-        update_or_insert(
+        papaya_resting::update_or_insert(
             &mut self.resting.memory,
             self.resting.setting,
             &self.hasher,

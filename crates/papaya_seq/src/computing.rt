@@ -1,41 +1,13 @@
 //! A call on a map for one owner that computes what is to be done with a key. It begins with a refresh.
-ghost use Rattle.std.specs.Prelude.{◌≡◌, List, Some, IfOk, IfErr, OnErr};
+ghost use Rattle.std.specs.Prelude.{◌≡◌, Some, IfOk, IfErr, OnErr};
 ghost use Rattle.std.specs.List.Sorted.{IsPermutation};
 ghost use Rattle.papaya_asks.specs.Closures.{Computing, ComputesAs};
-ghost use Rattle.papaya_owned.specs.Owned.{Holds, hashed_by};
-ghost use Rattle.papaya_seq.specs.Asking.{HasComputed, ComputesToIt, IsRefusedFor};
+ghost use Rattle.papaya_resting.specs.Asking.{HasComputed, IsRefusedFor};
 
-use crate::change::{Compute, computed};
-use crate::changes::refresh;
 use crate::map::HashMap;
 use papaya_asks::{Operation, RefusedKey};
-use papaya_tables::{Node, Setting};
-use seize_words::Plain;
+use papaya_resting::Compute;
 use std::hash::{BuildHasher, Hash};
-
-/// Stores a value for a key, removes its pair, or leaves it, after a refresh, as a computing says.
-fn compute<
-    K: Eq + Hash + Drop,
-    V: Drop,
-    S: BuildHasher,
-    T: Drop,
-    F: FnOnce(Option<(&K, &V)>) -> Operation<V, T>,
->(
-    memory: &mut Plain<Node<K, V>>,
-    setting: Setting,
-    hasher: &S,
-    key: K,
-    decide: F,
-) -> Result<Compute<T>, RefusedKey<K>>
-    requires callable { F.IsAlwaysCallable decide }
-    requires holds { (xs : List (K × V)) × Holds K.eq (hashed_by S.Hasher.finish S.Hasher.write S.build_hasher K.hash_input hasher.now) setting memory.old xs }
-    ensures comes { (xs : List (K × V)) → Holds K.eq (hashed_by S.Hasher.finish S.Hasher.write S.build_hasher K.hash_input hasher.now) setting memory.old xs
-        → ComputesToIt (K.eq key) (Some key) (ComputesAs F.FnOnce decide) xs (Holds K.eq (hashed_by S.Hasher.finish S.Hasher.write S.build_hasher K.hash_input hasher.now) setting memory.new) (λ r. r.fault) result }
-    ensures back { IfErr result (λ r. r.key ≡ key) }
-{
-    refresh(memory, setting, hasher);
-    computed(papaya_asks::compute(memory, setting, hasher, key, decide))
-}
 
 impl<K: Eq + Hash + Drop, V: Drop, S: BuildHasher> HashMap<K, V, S> {
     /// Stores a value for a key, removes its pair, or leaves it, as a computing says, which is called with the pair that is there, or with none. The faults are
@@ -53,7 +25,7 @@ impl<K: Eq + Hash + Drop, V: Drop, S: BuildHasher> HashMap<K, V, S> {
         ensures back { IfErr result (λ r. r.key ≡ key) }
         ensures hasher { self.new.hasher ≡ self.old.hasher }
     {
-        compute(
+        papaya_resting::compute(
             &mut self.resting.memory,
             self.resting.setting,
             &self.hasher,

@@ -2,7 +2,6 @@
 #![tactic(auto)]
 
 mod asking;
-mod change;
 mod changes;
 mod clones;
 mod columns;
@@ -17,7 +16,6 @@ pub mod law;
 mod lookups;
 mod making;
 mod map;
-mod refused;
 mod requests;
 mod rooms;
 mod set;
@@ -25,12 +23,11 @@ mod sweeps;
 mod testing;
 mod walks;
 
-pub use change::{Change, Compute};
 pub use columns::{Keys, Values};
 pub use map::HashMap;
-pub use papaya_asks::{Operation, RefusedKey};
+pub use papaya_asks::{Operation, Refused, RefusedKey};
+pub use papaya_resting::{Change, Compute};
 pub use papaya_shown::Pairs;
 pub use papaya_tables::Equivalent;
-pub use refused::Refused;
 pub use seize_words::Fault;
 pub use set::HashSet;

@@ -2,7 +2,7 @@
 use Rattle.std.specs.Prelude.{◌≡◌, Some}
 use Rattle.std.specs.Fn.{FnOnceReturnsAt}
 use Rattle.papaya_asks.specs.Closures.{UpdatingOrStoring}
-use Rattle.papaya_seq.specs.declared.refused.Refused.{Refused}
+use Rattle.papaya_asks.specs.declared.refused.Refused.{Refused}
 use Rattle.papaya_owned.specs.Owned.{hashed_by}
 use Rattle.papaya_seq.proofs.Done.{comes_rests, room_alone, shows_changed, shows_unchanged}
 use Rattle.papaya_seq.proofs.Shows.{counts, seen_first, seen_held}
