@@ -30,7 +30,10 @@ pub fn update<K: Eq + Hash + Drop, V: Drop, S: BuildHasher, F: FnOnce(&V) -> V>(
     ensures back { IfErr result (λ r. r.key ≡ key) }
 {
     refresh(memory, setting, hasher);
-    ended(papaya_asks::update(memory, setting, hasher, key, make), last)
+    ended(
+        papaya_asks::update(memory, setting, hasher, key, make),
+        last,
+    )
 }
 
 /// Replaces the value of a key by one that is made of it, after a refresh, if the key is there, and else stores one that is begun.
@@ -57,7 +60,10 @@ pub fn update_or_insert_with<
     ensures back { IfErr result (λ r. r.key ≡ key) }
 {
     refresh(memory, setting, hasher);
-    ended(papaya_asks::update_or_insert_with(memory, setting, hasher, key, begin, make), last)
+    ended(
+        papaya_asks::update_or_insert_with(memory, setting, hasher, key, begin, make),
+        last,
+    )
 }
 
 /// Stores a value that is begun, after a refresh, if its key is not there yet.
@@ -76,7 +82,10 @@ pub fn try_insert_with<K: Eq + Hash + Drop, V: Drop, S: BuildHasher, B: FnOnce()
     ensures back { IfErr result (λ r. r.key ≡ key) }
 {
     refresh(memory, setting, hasher);
-    ended(papaya_asks::insert_with(memory, setting, hasher, key, begin), last)
+    ended(
+        papaya_asks::insert_with(memory, setting, hasher, key, begin),
+        last,
+    )
 }
 
 /// Replaces the value of a key by one that is made of it, after a refresh, if the key is there, and else stores this one.
@@ -96,5 +105,8 @@ pub fn update_or_insert<K: Eq + Hash + Drop, V: Drop, S: BuildHasher, F: FnOnce(
     ensures back { IfErr result (λ r. (r.key ≡ key) × (r.value ≡ value)) }
 {
     refresh(memory, setting, hasher);
-    ended(papaya_asks::update_or_insert(memory, setting, hasher, key, value, make), last)
+    ended(
+        papaya_asks::update_or_insert(memory, setting, hasher, key, value, make),
+        last,
+    )
 }

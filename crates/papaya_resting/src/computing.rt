@@ -35,5 +35,8 @@ pub fn compute<
     ensures back { IfErr result (λ r. r.key ≡ key) }
 {
     refresh(memory, setting, hasher);
-    computed(papaya_asks::compute(memory, setting, hasher, key, decide), last)
+    computed(
+        papaya_asks::compute(memory, setting, hasher, key, decide),
+        last,
+    )
 }

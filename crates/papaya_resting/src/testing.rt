@@ -33,5 +33,8 @@ pub fn remove_if<
         → ComesToIt (Q.Equivalent.equivalent asked.now) None (Removing (TestsAs F.FnOnce test)) xs (RestsWith K.eq (hashed_by S.Hasher.finish S.Hasher.write S.build_hasher K.hash_input hasher.now) setting memory.new last.new) (λ fault. fault) result }
 {
     refresh(memory, setting, hasher);
-    ended(papaya_asks::remove_if(memory, setting, hasher, asked, test), last)
+    ended(
+        papaya_asks::remove_if(memory, setting, hasher, asked, test),
+        last,
+    )
 }

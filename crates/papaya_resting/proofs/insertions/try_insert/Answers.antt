@@ -26,8 +26,8 @@ refused-requires g c =
 pub returns-in-Err-default-clause-refused : goal.returns-in-Err-default-clause-refused
 returns-in-Err-default-clause-refused g c = λ xs has. record {
   holds = (refused_so g.K.PartialEq.eq (hashed_by g.S.Hasher.Hasher.finish g.S.Hasher.Hasher.write g.S.BuildHasher.build_hasher g.K.Hash.hash_input c.args.hasher.now) c.args.setting c.store.new.memory (g.K.PartialEq.eq c.args.key)
-    xs c.args.key c.args.value tries_to_insert c.store.result.0 (c.store.ensures.ends xs tries_to_insert c.args.key c.args.value (c.refresh.ensures xs has)
-    (tries_this (hashed_by g.S.Hasher.Hasher.finish g.S.Hasher.Hasher.write g.S.BuildHasher.build_hasher g.K.Hash.hash_input c.args.hasher.now) c.args.setting c.args.key c.args.value _ _ c.hash_of-hash.ensures c.try_insert-call.ensures)) c.in-Err-default.fault c.in-Err-default.is-0).1;
+      xs c.args.key c.args.value tries_to_insert c.store.result.0 (c.store.ensures.ends xs tries_to_insert c.args.key c.args.value (c.refresh.ensures xs has)
+      (tries_this (hashed_by g.S.Hasher.Hasher.finish g.S.Hasher.Hasher.write g.S.BuildHasher.build_hasher g.K.Hash.hash_input c.args.hasher.now) c.args.setting c.args.key c.args.value _ _ c.hash_of-hash.ensures c.try_insert-call.ensures)) c.in-Err-default.fault c.in-Err-default.is-0).1;
   taken_is = tt;
   met_is = tt;
 }
