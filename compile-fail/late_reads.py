@@ -31,9 +31,15 @@ LENT = [
     ("iter", "map: &mut Map", "map.iter().next()", "lent.is_some_and(|pair| *pair.1 == 2)"),
     ("keys", "map: &mut Map", "map.keys().next()", "lent.is_some_and(|key| *key == 1)"),
     ("values", "map: &mut Map", "map.values().next()", "lent.is_some_and(|value| *value == 2)"),
+    ("taken", "map: &mut Map", "map.taken()", "lent.is_some_and(|pair| *pair.1 == 2)"),
+    ("met", "map: &mut Map", "map.met()", "lent.is_some_and(|pair| *pair.1 == 2)"),
+    ("remove", "map: &mut Map", "map.remove(&1)", "lent.is_ok_and(|value| value.is_some_and(|value| *value == 2))"),
+    ("remove_entry", "map: &mut Map", "map.remove_entry(&1)", "lent.is_ok_and(|pair| pair.is_some_and(|pair| *pair.1 == 2))"),
     ("get_of_a_set", "map: &mut Set", "map.get(&1)", "lent.is_some_and(|element| *element == 1)"),
 ]
 CHANGE = "let _ = map.clear();"
+# a change while the map is lent, or while a change has lent it
+REFUSALS = {"borrow-e0502", "borrow-e0499"}
 MAIN = """
 fn main(rt: HostRuntime) -> io::Result<()> {
     if let (Ok(mut map), Ok(mut set)) = (Map::new(rt.alloc()), Set::new(rt.alloc())) {
@@ -77,10 +83,10 @@ def main():
     text, early, late = program()
     said = compiled(text)
     errors = re.findall(r"^src/main\.rt:(\d+):\d+: error\[([\w-]+)\]", said, re.M)
-    refused = {int(line) for line, code in errors if code == "borrow-e0502"}
+    refused = {int(line) for line, code in errors if code in REFUSALS}
     wrong = [f"{name} compiles" for name, line in late.items() if line not in refused]
     wrong += [f"{name} is refused" for name, line in early.items() if line in refused]
-    wrong += [f"line {line}: {code}" for line, code in errors if int(line) not in {*early.values(), *late.values()} or code != "borrow-e0502"]
+    wrong += [f"line {line}: {code}" for line, code in errors if int(line) not in {*early.values(), *late.values()} or code not in REFUSALS]
     if wrong or not errors:
         print(said)
         sys.exit(f"late reads: {'; '.join(wrong) or 'nothing was refused'}")

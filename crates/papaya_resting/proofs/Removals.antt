@@ -21,6 +21,8 @@ use Rattle.papaya_owned.specs.declared.machines.Stop.{Stop}
 use Rattle.papaya_owned.specs.declared.machines.Stop.TheVariants as stop
 use Rattle.papaya_raw.specs.declared.machines.answer.KeyAnswer.TheVariants as answers
 use Rattle.papaya_resting.specs.Calls.{has_removed}
+use Rattle.papaya_resting.specs.Lasts.{IsPairOf, RestsWith, words_of_stop}
+use Rattle.papaya_resting.specs.declared.last.Last.{Last}
 use Rattle.papaya_owned.proofs.Owned.Refreshes.{refreshing_ends, refreshed, begins_refreshing}
 
 module _ {K V : Type 0} (same : K → K → Bool) (hash : K → ℕ) (setting : Setting) (m : Mem (Node K V)) (xs : List (K × V)) (h : Holds same hash setting m xs) (leave : Leave)
@@ -46,15 +48,26 @@ module _ {K V : Type 0} (keys : K → Bool) where
       by false none more = ap (λ zs. y ∷ zs) (more none)
 
 module _ {K V : Type 0} (same : K → K → Bool) (hash : K → ℕ) (setting : Setting) (m : Mem (Node K V)) (keys : K → Bool) (xs : List (K × V)) where
-  -- what a removal comes to
-  pub removes_by : (s : Stop) → EndsBy same hash setting m removes None keys xs (Ok s) → (has_removed s ≡ is_some (found_by keys xs)) × Holds same hash setting m (left_by keys xs)
-  removes_by (stop.Answered (answers.Removed word)) e = (sym (ap is_some e.1.1), e.1.3)
-  removes_by (stop.Answered answers.Absent) e = (sym (ap is_some e.1.0), subst (Holds same hash setting m) (sym (left_none keys xs e.1.0)) e.1.1)
+  -- what a removal comes to, with the words that its end tells
+  removes_by : (s : Stop) → EndsBy same hash setting m removes None keys xs (Ok s)
+      → (has_removed s ≡ is_some (found_by keys xs)) × RestsWith same hash setting m (words_of_stop s) (left_by keys xs) (found_by keys xs) None
+  removes_by (stop.Answered (answers.Removed word)) e =
+      (sym (ap is_some e.1.1), record { holds = e.1.3; taken_is = subst (IsPairOf m (Some word)) (sym e.1.1) e.1.2; met_is = tt })
+  removes_by (stop.Answered answers.Absent) e = (
+    sym (ap is_some e.1.0),
+    record { holds = subst (Holds same hash setting m) (sym (left_none keys xs e.1.0)) e.1.1; taken_is = subst (IsPairOf m None) (sym e.1.0) tt; met_is = tt },
+  )
   removes_by (stop.Answered (answers.Found word)) e = absurd (elim e.0 as (λ _. ⊥) [ inl p ↦ cc p | inr p ↦ cc p.0 ])
   removes_by (stop.Answered (answers.Stored word)) e = absurd (elim e.0 as (λ _. ⊥) [ inl p ↦ cc p | inr p ↦ cc p ])
   removes_by (stop.Answered (answers.Replaced old new)) e = absurd (elim e.0 as (λ _. ⊥) [ inl p ↦ cc p | inr p ↦ cc p.0 ])
   removes_by (stop.Asks None) e = absurd (cc e)
   removes_by (stop.Asks (Some word)) e = absurd (cc e)
+
+  pub removed_so : (s : Stop) → EndsBy same hash setting m removes None keys xs (Ok s) → (last : Last) → last ≡ words_of_stop s
+      → (has_removed s ≡ is_some (found_by keys xs)) × RestsWith same hash setting m last (left_by keys xs) (found_by keys xs) None
+  removed_so s e last is =
+      let by = removes_by s e in
+      (by.0, subst (λ (words : Last). RestsWith same hash setting m words (left_by keys xs) (found_by keys xs) None) (sym is) by.1)
 
 -- a call that is told nothing is refused for room
 pub room_of : (kind : Kind) (fault : Fault) → kind.takes ≡ replies.Nothing → FaultFits kind.present kind.absent kind.takes fault → IsRoom fault

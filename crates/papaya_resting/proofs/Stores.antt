@@ -2,7 +2,8 @@
 use Rattle.std.specs.Prelude.{◌≡◌, ℕ, Bool, true, List, [], ◌∷◌, ◌++◌, Option, Some, None, Result, Ok, Err, is_some, IsTrue, IfErr, OnErr, false}
 use Rattle.std.proofs.Common.{refl, sym, ◌∙◌, ap, subst, inl, inr}
 use denote.Ref.{Bor}
-use Rattle.seize_words.specs.Mem.{Mem}
+use Rattle.seize_words.specs.Mem.{Mem, value_at}
+use Rattle.seize_words.specs.Word.{block_in}
 use Rattle.seize_words.specs.declared.fault.Fault.{Fault}
 use Rattle.papaya_tables.specs.declared.node.Node.{Node}
 use Rattle.papaya_tables.specs.declared.node.Node.TheVariants as node
@@ -16,7 +17,7 @@ use Rattle.papaya_callers.specs.Together.{Inserts, TriesToInsert}
 use Rattle.papaya_late.specs.Kinds.{FaultFits}
 use Rattle.papaya_owned.specs.Ending.{Ends, RunsTo}
 use Rattle.papaya_owned.specs.Machines.{on_key_plan}
-use Rattle.papaya_owned.specs.Owned.{Holds, EndsBy, ComesBack, found_by, left_by}
+use Rattle.papaya_owned.specs.Owned.{Holds, EndsBy, ComesBack, IsPairAt, found_by, left_by}
 use Rattle.papaya_owned.specs.declared.machines.OnKey.{OnKey}
 use Rattle.papaya_owned.specs.declared.machines.Stop.{Stop}
 use Rattle.papaya_owned.specs.declared.machines.Stop.TheVariants as stop
@@ -25,6 +26,8 @@ use Rattle.papaya_owned.proofs.Owned.ComesBack.{comes_back}
 use Rattle.papaya_owned.proofs.Owned.HandsBack.{HasPair}
 use Rattle.papaya_owned.proofs.Owned.Keys.{under_ends, comes_to}
 use Rattle.papaya_resting.specs.Calls.{StoresPair, has_found, has_replaced}
+use Rattle.papaya_resting.specs.Lasts.{IsPairOf, RestsWith, words_of_stop}
+use Rattle.papaya_resting.specs.declared.last.Last.{Last}
 use Rattle.papaya_resting.proofs.Removals.{left_none}
 
 module _ {K V S : Type 0} (same : K → K → Bool) (hashes : S → K → ℕ) (b : Bor S) (setting : Setting) (m : Mem (Node K V)) (xs : List (K × V)) (h : Holds same (hashes b.now) setting m xs) (key : K) (value : V) where
@@ -78,28 +81,58 @@ module _ {K V : Type 0} (same : K → K → Bool) (hash : K → ℕ) (setting : 
       one : (j : K) (v : V) → given ≡ Some (node.Pair j v) → ◌≡◌ {A = K × V} (j, v) (key, value)
       one j v e = cc e
 
-  -- what an insertion comes to
-  inserts_by : (s : Stop) → EndsBy same hash setting m inserts given keys xs (Ok s)
-      → (has_replaced s ≡ is_some (found_by keys xs)) × Holds same hash setting m (left_by keys xs ++ ((key, value) ∷ []))
+  -- and stands in the block of its word
+  stands_as_given : (word : ℕ) (j : K) (v : V) → given ≡ Some (node.Pair j v) → value_at m (block_in word) ≡ Some (node.Pair j v) → IsPairAt m word (key, value)
+  stands_as_given word j v e there = there ∙ sym e
+
+  -- what an insertion comes to, with the words that its end tells
+  Inserted : Last → Stop → Type 0
+  Inserted last s =
+      (has_replaced s ≡ is_some (found_by keys xs)) × RestsWith same hash setting m last (left_by keys xs ++ ((key, value) ∷ [])) (found_by keys xs) (Some (key, value))
+
+  inserts_by : (s : Stop) → EndsBy same hash setting m inserts given keys xs (Ok s) → Inserted (words_of_stop s) s
+  unfolding Inserted
   inserts_by (stop.Answered (answers.Stored word)) e =
-      let a = e.1 in
-      (sym (ap is_some a.0), subst (λ ys. Holds same hash setting m (ys ++ ((key, value) ∷ []))) (sym (left_none keys xs a.0)) (as_given xs a.1 a.2 a.3 a.5))
-  inserts_by (stop.Answered (answers.Replaced old new)) e = let a = e.1 in (sym (ap is_some a.1), as_given (left_by keys xs) a.3 a.4 a.5 a.7)
+      let a = e.1 in (
+        sym (ap is_some a.0),
+        record {
+          holds = subst (λ ys. Holds same hash setting m (ys ++ ((key, value) ∷ []))) (sym (left_none keys xs a.0)) (as_given xs a.1 a.2 a.3 a.5);
+          taken_is = subst (IsPairOf m None) (sym a.0) tt;
+          met_is = stands_as_given word a.1 a.2 a.3 a.4;
+        },
+      )
+  inserts_by (stop.Answered (answers.Replaced old new)) e =
+      let a = e.1 in (
+        sym (ap is_some a.1),
+        record {
+          holds = as_given (left_by keys xs) a.3 a.4 a.5 a.7;
+          taken_is = subst (IsPairOf m (Some old)) (sym a.1) a.2;
+          met_is = stands_as_given new a.3 a.4 a.5 a.6;
+        },
+      )
   inserts_by (stop.Answered answers.Absent) e = absurd (elim e.0 as (λ _. ⊥) [ inl p ↦ cc p | inr p ↦ cc p.0 ])
   inserts_by (stop.Answered (answers.Found word)) e = absurd (elim e.0 as (λ _. ⊥) [ inl p ↦ cc p | inr p ↦ cc p.0 ])
   inserts_by (stop.Answered (answers.Removed word)) e = absurd (elim e.0 as (λ _. ⊥) [ inl p ↦ cc p | inr p ↦ cc p.0 ])
   inserts_by (stop.Asks None) e = absurd (cc e)
   inserts_by (stop.Asks (Some word)) e = absurd (cc e)
 
-  -- what an insertion comes to that replaces none
-  Tried : Stop → Type 0
-  Tried s = (has_found s ≡ false → (found_by keys xs ≡ None) × Holds same hash setting m (xs ++ ((key, value) ∷ [])))
-      × (has_found s ≡ true → IsTrue (is_some (found_by keys xs)) × Holds same hash setting m xs)
+  -- what an insertion comes to that replaces none, likewise
+  Tried : Last → Stop → Type 0
+  Tried last s = (has_found s ≡ false → (found_by keys xs ≡ None) × RestsWith same hash setting m last (xs ++ ((key, value) ∷ [])) None (Some (key, value)))
+      × (has_found s ≡ true → IsTrue (is_some (found_by keys xs)) × RestsWith same hash setting m last xs None (found_by keys xs))
 
-  tries_by : (s : Stop) → EndsBy same hash setting m tries_to_insert given keys xs (Ok s) → Tried s
+  tries_by : (s : Stop) → EndsBy same hash setting m tries_to_insert given keys xs (Ok s) → Tried (words_of_stop s) s
   unfolding Tried
-  tries_by (stop.Answered (answers.Stored word)) e = let a = e.1 in ((λ no_pair. (a.0, as_given xs a.1 a.2 a.3 a.5)), (λ one. absurd (cc one)))
-  tries_by (stop.Answered (answers.Found word)) e = let a = e.1 in ((λ no_pair. absurd (cc no_pair)), (λ one. (subst (λ o. IsTrue (is_some o)) (sym a.2) refl, a.4)))
+  tries_by (stop.Answered (answers.Stored word)) e =
+      let a = e.1 in (
+        (λ no_pair. (a.0, record { holds = as_given xs a.1 a.2 a.3 a.5; taken_is = tt; met_is = stands_as_given word a.1 a.2 a.3 a.4 })),
+        (λ one. absurd (cc one)),
+      )
+  tries_by (stop.Answered (answers.Found word)) e =
+      let a = e.1 in (
+        (λ no_pair. absurd (cc no_pair)),
+        (λ one. (subst (λ o. IsTrue (is_some o)) (sym a.2) refl, record { holds = a.4; taken_is = tt; met_is = subst (IsPairOf m (Some word)) (sym a.2) a.3 })),
+      )
   tries_by (stop.Answered (answers.Replaced old new)) e = absurd (elim e.0 as (λ _. ⊥) [ inl p ↦ cc p | inr p ↦ cc p.0 ])
   tries_by (stop.Answered answers.Absent) e = absurd (elim e.0 as (λ _. ⊥) [ inl p ↦ cc p | inr p ↦ cc p.0 ])
   tries_by (stop.Answered (answers.Removed word)) e = absurd (elim e.0 as (λ _. ⊥) [ inl p ↦ cc p | inr p ↦ cc p.0 ])
@@ -107,15 +140,16 @@ module _ {K V : Type 0} (same : K → K → Bool) (hash : K → ℕ) (setting : 
   tries_by (stop.Asks (Some word)) e = absurd (cc e)
 
   -- by the result of its run
-  pub tried_so : (result : Result Stop Fault) → EndsBy same hash setting m tries_to_insert given keys xs result → (s : Stop) → result ≡ Ok s
-      → (has_found s ≡ false → (found_by keys xs ≡ None) × Holds same hash setting m (xs ++ ((key, value) ∷ [])))
-      × (has_found s ≡ true → IsTrue (is_some (found_by keys xs)) × Holds same hash setting m xs)
+  pub tried_so : (result : Result Stop Fault) → EndsBy same hash setting m tries_to_insert given keys xs result → (s : Stop) → result ≡ Ok s → (last : Last) → last ≡ words_of_stop s
+      → (has_found s ≡ false → (found_by keys xs ≡ None) × RestsWith same hash setting m last (xs ++ ((key, value) ∷ [])) None (Some (key, value)))
+      × (has_found s ≡ true → IsTrue (is_some (found_by keys xs)) × RestsWith same hash setting m last xs None (found_by keys xs))
   unfolding Tried
-  tried_so result e s is = tries_by s (subst (EndsBy same hash setting m tries_to_insert given keys xs) is e)
+  tried_so result e s is last words = subst (λ (l : Last). Tried l s) (sym words) (tries_by s (subst (EndsBy same hash setting m tries_to_insert given keys xs) is e))
 
-  pub stored_so : (result : Result Stop Fault) → EndsBy same hash setting m inserts given keys xs result → (s : Stop) → result ≡ Ok s
-      → (has_replaced s ≡ is_some (found_by keys xs)) × Holds same hash setting m (left_by keys xs ++ ((key, value) ∷ []))
-  stored_so result e s is = inserts_by s (subst (EndsBy same hash setting m inserts given keys xs) is e)
+  pub stored_so : (result : Result Stop Fault) → EndsBy same hash setting m inserts given keys xs result → (s : Stop) → result ≡ Ok s → (last : Last) → last ≡ words_of_stop s
+      → (has_replaced s ≡ is_some (found_by keys xs)) × RestsWith same hash setting m last (left_by keys xs ++ ((key, value) ∷ [])) (found_by keys xs) (Some (key, value))
+  unfolding Inserted
+  stored_so result e s is last words = subst (λ (l : Last). Inserted l s) (sym words) (inserts_by s (subst (EndsBy same hash setting m inserts given keys xs) is e))
 
   pub refused_so : (kind : Kind) (result : Result Stop Fault) → EndsBy same hash setting m kind given keys xs result → (fault : Fault) → result ≡ Err fault
       → FaultFits kind.present kind.absent kind.takes fault × Holds same hash setting m xs

@@ -45,27 +45,27 @@ abbrev pub IsRefusedFor : {K V : Type 0} → (K → Bool) → (Option (K × V) �
 IsRefusedFor keys Told xs fault = IsRoom fault ⊎ ((fault ≡ RemoveNothing) × (found_by keys xs ≡ None) × Told None reply.Remove)
 
 -- The map had these pairs, and a call with this key, if with one, was told so of the pair of these keys, or of none.
-module _ {K V : Type 0} (keys : K → Bool) (its : Option K) (Told : Option (K × V) → Reply V → Type 0) (xs : List (K × V)) (After : List (K × V) → Type 0) where
-  -- what it has done, and what the map has after it
+module _ {K V : Type 0} (keys : K → Bool) (its : Option K) (Told : Option (K × V) → Reply V → Type 0) (xs : List (K × V)) (After : List (K × V) → Option (K × V) → Option (K × V) → Type 0) where
+  -- what it has done, and what the map has after it, which pair was taken out of it, if one was, and which was met at the key or put there, if one was
   abbrev pub HasDone : Change → Type 0
-  HasDone change.Missing = (found_by keys xs ≡ None) × Told None reply.Abort × After xs
-  HasDone change.Kept = (x : K × V) × (found_by keys xs ≡ Some x) × Told (Some x) reply.Abort × After xs
-  HasDone change.Stored = (k : K) × (v : V) × (found_by keys xs ≡ None) × (its ≡ Some k) × Told None (reply.Insert v) × After (xs ++ ((k, v) ∷ []))
+  HasDone change.Missing = (found_by keys xs ≡ None) × Told None reply.Abort × After xs None None
+  HasDone change.Kept = (x : K × V) × (found_by keys xs ≡ Some x) × Told (Some x) reply.Abort × After xs None (Some x)
+  HasDone change.Stored = (k : K) × (v : V) × (found_by keys xs ≡ None) × (its ≡ Some k) × Told None (reply.Insert v) × After (xs ++ ((k, v) ∷ [])) None (Some (k, v))
   HasDone change.Replaced =
-      (x : K × V) × (k : K) × (v : V) × (found_by keys xs ≡ Some x) × (its ≡ Some k) × Told (Some x) (reply.Insert v) × After (left_by keys xs ++ ((k, v) ∷ []))
-  HasDone change.Removed = (x : K × V) × (found_by keys xs ≡ Some x) × Told (Some x) reply.Remove × After (left_by keys xs)
+      (x : K × V) × (k : K) × (v : V) × (found_by keys xs ≡ Some x) × (its ≡ Some k) × Told (Some x) (reply.Insert v) × After (left_by keys xs ++ ((k, v) ∷ [])) (Some x) (Some (k, v))
+  HasDone change.Removed = (x : K × V) × (found_by keys xs ≡ Some x) × Told (Some x) reply.Remove × After (left_by keys xs) (Some x) None
 
   -- what it has come to
   abbrev pub ComesToIt : {E : Type 0} → (E → Fault) → Result Change E → Type 0
   ComesToIt fault_of (Ok done) = HasDone done
-  ComesToIt fault_of (Err e) = IsRefusedFor keys Told xs (fault_of e) × After xs
+  ComesToIt fault_of (Err e) = IsRefusedFor keys Told xs (fault_of e) × After xs None None
 
 -- so of a computing, which gives these operations
-module _ {K V T : Type 0} (keys : K → Bool) (its : Option K) (Gives : Option (K × V) → Operation V T → Type 0) (xs : List (K × V)) (After : List (K × V) → Type 0) where
+module _ {K V T : Type 0} (keys : K → Bool) (its : Option K) (Gives : Option (K × V) → Operation V T → Type 0) (xs : List (K × V)) (After : List (K × V) → Option (K × V) → Option (K × V) → Type 0) where
   abbrev pub HasComputed : Compute T → Type 0
   HasComputed (compute.Changed done) = HasDone keys its (Computing Gives) xs After done
-  HasComputed (compute.Aborted end) = Gives (found_by keys xs) (operation.Abort end) × After xs
+  HasComputed (compute.Aborted end) = Gives (found_by keys xs) (operation.Abort end) × After xs None None
 
   abbrev pub ComputesToIt : {E : Type 0} → (E → Fault) → Result (Compute T) E → Type 0
   ComputesToIt fault_of (Ok done) = HasComputed done
-  ComputesToIt fault_of (Err e) = IsRefusedFor keys (Computing Gives) xs (fault_of e) × After xs
+  ComputesToIt fault_of (Err e) = IsRefusedFor keys (Computing Gives) xs (fault_of e) × After xs None None

@@ -1,2 +1,3 @@
 pub mod Asking
 pub mod Calls
+pub mod Lasts

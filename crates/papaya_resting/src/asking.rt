@@ -4,9 +4,11 @@ ghost use Rattle.std.specs.Fn.{FnOnceReturns, FnOnceReturnsAt};
 ghost use Rattle.papaya_asks.specs.Closures.{Updating, UpdatingOrStoring, Storing};
 ghost use Rattle.papaya_owned.specs.Owned.{Holds, hashed_by};
 ghost use Rattle.papaya_resting.specs.Asking.{ComesToIt};
+ghost use Rattle.papaya_resting.specs.Lasts.{RestsWith};
 
 use crate::change::{Change, ended};
 use crate::changes::refresh;
+use crate::last::Last;
 use papaya_asks::{Refused, RefusedKey};
 use papaya_tables::{Node, Setting};
 use seize_words::Plain;
@@ -17,17 +19,21 @@ pub fn update<K: Eq + Hash + Drop, V: Drop, S: BuildHasher, F: FnOnce(&V) -> V>(
     memory: &mut Plain<Node<K, V>>,
     setting: Setting,
     hasher: &S,
+    last: &mut Last,
     key: K,
     make: F,
 ) -> Result<Change, RefusedKey<K>>
     requires callable { F.IsAlwaysCallable make }
     requires holds { (xs : List (K × V)) × Holds K.eq (hashed_by S.Hasher.finish S.Hasher.write S.build_hasher K.hash_input hasher.now) setting memory.old xs }
     ensures comes { (xs : List (K × V)) → Holds K.eq (hashed_by S.Hasher.finish S.Hasher.write S.build_hasher K.hash_input hasher.now) setting memory.old xs
-        → ComesToIt (K.eq key) (Some key) (Updating (FnOnceReturnsAt F.FnOnce make)) xs (Holds K.eq (hashed_by S.Hasher.finish S.Hasher.write S.build_hasher K.hash_input hasher.now) setting memory.new) (λ r. r.fault) result }
+        → ComesToIt (K.eq key) (Some key) (Updating (FnOnceReturnsAt F.FnOnce make)) xs (RestsWith K.eq (hashed_by S.Hasher.finish S.Hasher.write S.build_hasher K.hash_input hasher.now) setting memory.new last.new) (λ r. r.fault) result }
     ensures back { IfErr result (λ r. r.key ≡ key) }
 {
     refresh(memory, setting, hasher);
-    ended(papaya_asks::update(memory, setting, hasher, key, make))
+    ended(
+        papaya_asks::update(memory, setting, hasher, key, make),
+        last,
+    )
 }
 
 /// Replaces the value of a key by one that is made of it, after a refresh, if the key is there, and else stores one that is begun.
@@ -41,6 +47,7 @@ pub fn update_or_insert_with<
     memory: &mut Plain<Node<K, V>>,
     setting: Setting,
     hasher: &S,
+    last: &mut Last,
     key: K,
     begin: B,
     make: F,
@@ -49,11 +56,14 @@ pub fn update_or_insert_with<
     requires makes { F.IsAlwaysCallable make }
     requires holds { (xs : List (K × V)) × Holds K.eq (hashed_by S.Hasher.finish S.Hasher.write S.build_hasher K.hash_input hasher.now) setting memory.old xs }
     ensures comes { (xs : List (K × V)) → Holds K.eq (hashed_by S.Hasher.finish S.Hasher.write S.build_hasher K.hash_input hasher.now) setting memory.old xs
-        → ComesToIt (K.eq key) (Some key) (UpdatingOrStoring (FnOnceReturnsAt F.FnOnce make) (λ value. FnOnceReturns B.FnOnce begin tt value)) xs (Holds K.eq (hashed_by S.Hasher.finish S.Hasher.write S.build_hasher K.hash_input hasher.now) setting memory.new) (λ r. r.fault) result }
+        → ComesToIt (K.eq key) (Some key) (UpdatingOrStoring (FnOnceReturnsAt F.FnOnce make) (λ value. FnOnceReturns B.FnOnce begin tt value)) xs (RestsWith K.eq (hashed_by S.Hasher.finish S.Hasher.write S.build_hasher K.hash_input hasher.now) setting memory.new last.new) (λ r. r.fault) result }
     ensures back { IfErr result (λ r. r.key ≡ key) }
 {
     refresh(memory, setting, hasher);
-    ended(papaya_asks::update_or_insert_with(memory, setting, hasher, key, begin, make))
+    ended(
+        papaya_asks::update_or_insert_with(memory, setting, hasher, key, begin, make),
+        last,
+    )
 }
 
 /// Stores a value that is begun, after a refresh, if its key is not there yet.
@@ -61,17 +71,21 @@ pub fn try_insert_with<K: Eq + Hash + Drop, V: Drop, S: BuildHasher, B: FnOnce()
     memory: &mut Plain<Node<K, V>>,
     setting: Setting,
     hasher: &S,
+    last: &mut Last,
     key: K,
     begin: B,
 ) -> Result<Change, RefusedKey<K>>
     requires callable { B.IsAlwaysCallable begin }
     requires holds { (xs : List (K × V)) × Holds K.eq (hashed_by S.Hasher.finish S.Hasher.write S.build_hasher K.hash_input hasher.now) setting memory.old xs }
     ensures comes { (xs : List (K × V)) → Holds K.eq (hashed_by S.Hasher.finish S.Hasher.write S.build_hasher K.hash_input hasher.now) setting memory.old xs
-        → ComesToIt (K.eq key) (Some key) (Storing (λ value. FnOnceReturns B.FnOnce begin tt value)) xs (Holds K.eq (hashed_by S.Hasher.finish S.Hasher.write S.build_hasher K.hash_input hasher.now) setting memory.new) (λ r. r.fault) result }
+        → ComesToIt (K.eq key) (Some key) (Storing (λ value. FnOnceReturns B.FnOnce begin tt value)) xs (RestsWith K.eq (hashed_by S.Hasher.finish S.Hasher.write S.build_hasher K.hash_input hasher.now) setting memory.new last.new) (λ r. r.fault) result }
     ensures back { IfErr result (λ r. r.key ≡ key) }
 {
     refresh(memory, setting, hasher);
-    ended(papaya_asks::insert_with(memory, setting, hasher, key, begin))
+    ended(
+        papaya_asks::insert_with(memory, setting, hasher, key, begin),
+        last,
+    )
 }
 
 /// Replaces the value of a key by one that is made of it, after a refresh, if the key is there, and else stores this one.
@@ -79,6 +93,7 @@ pub fn update_or_insert<K: Eq + Hash + Drop, V: Drop, S: BuildHasher, F: FnOnce(
     memory: &mut Plain<Node<K, V>>,
     setting: Setting,
     hasher: &S,
+    last: &mut Last,
     key: K,
     value: V,
     make: F,
@@ -86,9 +101,12 @@ pub fn update_or_insert<K: Eq + Hash + Drop, V: Drop, S: BuildHasher, F: FnOnce(
     requires callable { F.IsAlwaysCallable make }
     requires holds { (xs : List (K × V)) × Holds K.eq (hashed_by S.Hasher.finish S.Hasher.write S.build_hasher K.hash_input hasher.now) setting memory.old xs }
     ensures comes { (xs : List (K × V)) → Holds K.eq (hashed_by S.Hasher.finish S.Hasher.write S.build_hasher K.hash_input hasher.now) setting memory.old xs
-        → ComesToIt (K.eq key) (Some key) (UpdatingOrStoring (FnOnceReturnsAt F.FnOnce make) (λ new. new ≡ value)) xs (Holds K.eq (hashed_by S.Hasher.finish S.Hasher.write S.build_hasher K.hash_input hasher.now) setting memory.new) (λ r. r.fault) result }
+        → ComesToIt (K.eq key) (Some key) (UpdatingOrStoring (FnOnceReturnsAt F.FnOnce make) (λ new. new ≡ value)) xs (RestsWith K.eq (hashed_by S.Hasher.finish S.Hasher.write S.build_hasher K.hash_input hasher.now) setting memory.new last.new) (λ r. r.fault) result }
     ensures back { IfErr result (λ r. (r.key ≡ key) × (r.value ≡ value)) }
 {
     refresh(memory, setting, hasher);
-    ended(papaya_asks::update_or_insert(memory, setting, hasher, key, value, make))
+    ended(
+        papaya_asks::update_or_insert(memory, setting, hasher, key, value, make),
+        last,
+    )
 }

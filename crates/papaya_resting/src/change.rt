@@ -1,7 +1,9 @@
 //! What calls on a key have done.
 ghost use Rattle.std.specs.Prelude.{◌≡◌};
 ghost use Rattle.papaya_resting.specs.Asking.{changed_by, ended_by, computing_ended_by};
+ghost use Rattle.papaya_resting.specs.Lasts.{words_of_end, words_of_computing};
 
+use crate::last::{Last, told};
 use papaya_asks::{Computed, RefusedKey};
 use papaya_raw::machines::KeyAnswer;
 
@@ -42,25 +44,43 @@ pub(crate) fn changed(answer: KeyAnswer) -> Change
     }
 }
 
-/// What was done, or why nothing was.
-pub(crate) fn ended<E>(ended: Result<KeyAnswer, E>) -> Result<Change, E>
-    ensures { result ≡ ended_by ended }
+/// What was done, or why nothing was. The words of the pairs are kept.
+pub(crate) fn ended<E>(ended: Result<KeyAnswer, E>, last: &mut Last) -> Result<Change, E>
+    ensures done { result ≡ ended_by ended }
+    ensures words { last.new ≡ words_of_end ended }
 {
     match ended {
-        Ok(answer) => Ok(changed(answer)),
-        Err(refused) => Err(refused),
+        Ok(answer) => {
+            *last = told(answer);
+            Ok(changed(answer))
+        }
+        Err(refused) => {
+            *last = Last::NONE;
+            Err(refused)
+        }
     }
 }
 
-/// What a computing has come to, or why it was refused.
+/// What a computing has come to, or why it was refused. The words of the pairs are kept.
 pub(crate) fn computed<K, T>(
     ended: Result<Computed<T>, RefusedKey<K>>,
+    last: &mut Last,
 ) -> Result<Compute<T>, RefusedKey<K>>
-    ensures { result ≡ computing_ended_by ended }
+    ensures done { result ≡ computing_ended_by ended }
+    ensures words { last.new ≡ words_of_computing ended }
 {
     match ended {
-        Ok(Computed::Changed(answer)) => Ok(Compute::Changed(changed(answer))),
-        Ok(Computed::Aborted(end)) => Ok(Compute::Aborted(end)),
-        Err(refused) => Err(refused),
+        Ok(Computed::Changed(answer)) => {
+            *last = told(answer);
+            Ok(Compute::Changed(changed(answer)))
+        }
+        Ok(Computed::Aborted(end)) => {
+            *last = Last::NONE;
+            Ok(Compute::Aborted(end))
+        }
+        Err(refused) => {
+            *last = Last::NONE;
+            Err(refused)
+        }
     }
 }

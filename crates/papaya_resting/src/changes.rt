@@ -1,9 +1,11 @@
 //! Refreshes of the owner's section, and removals. Each change begins with a refresh.
-ghost use Rattle.std.specs.Prelude.{◌≡◌, List, is_some, IfErr, IfOk, OnOk, OnErr};
+ghost use Rattle.std.specs.Prelude.{◌≡◌, List, None, is_some, IfErr, IfOk, OnOk, OnErr};
 ghost use Rattle.papaya_late.specs.Faults.{IsRoom};
 ghost use Rattle.papaya_owned.specs.Owned.{Holds, found_by, hashed_by, left_by};
 ghost use Rattle.papaya_resting.specs.Calls.{has_removed};
+ghost use Rattle.papaya_resting.specs.Lasts.{RestsWith};
 
+use crate::last::{Last, told_at};
 use papaya_owned::{Refreshes, Stop, run};
 use papaya_raw::machines::KeyAnswer;
 use papaya_tables::{Equivalent, Node, Setting};
@@ -33,24 +35,29 @@ fn removed(stop: Stop) -> bool
     matches!(stop, Stop::Answered(KeyAnswer::Removed(_)))
 }
 
-/// Removes the pair of a key, after a refresh, and answers whether there was one.
+/// Removes the pair of a key, after a refresh, and answers whether there was one. Where there was, it can be looked at still.
 pub fn remove<K: Eq + Hash + Drop, V: Drop, Q: Equivalent<K>, S: BuildHasher>(
     memory: &mut Plain<Node<K, V>>,
     setting: Setting,
     hasher: &S,
+    last: &mut Last,
     asked: &Q,
 ) -> Result<bool, Fault>
     requires { (xs : List (K × V)) × Holds K.eq (hashed_by S.Hasher.finish S.Hasher.write S.build_hasher K.hash_input hasher.now) setting memory.old xs }
     ensures some { (xs : List (K × V)) → Holds K.eq (hashed_by S.Hasher.finish S.Hasher.write S.build_hasher K.hash_input hasher.now) setting memory.old xs → IfOk result (λ was. was ≡ is_some (found_by (Q.Equivalent.equivalent asked.now) xs)) }
     ensures removed { (xs : List (K × V)) → Holds K.eq (hashed_by S.Hasher.finish S.Hasher.write S.build_hasher K.hash_input hasher.now) setting memory.old xs
-        → OnOk result (Holds K.eq (hashed_by S.Hasher.finish S.Hasher.write S.build_hasher K.hash_input hasher.now) setting memory.new (left_by (Q.Equivalent.equivalent asked.now) xs)) }
+        → OnOk result (RestsWith K.eq (hashed_by S.Hasher.finish S.Hasher.write S.build_hasher K.hash_input hasher.now) setting memory.new last.new (left_by (Q.Equivalent.equivalent asked.now) xs) (found_by (Q.Equivalent.equivalent asked.now) xs) None) }
     ensures refused { (xs : List (K × V)) → Holds K.eq (hashed_by S.Hasher.finish S.Hasher.write S.build_hasher K.hash_input hasher.now) setting memory.old xs
-        → OnErr result (Holds K.eq (hashed_by S.Hasher.finish S.Hasher.write S.build_hasher K.hash_input hasher.now) setting memory.new xs) }
+        → OnErr result (RestsWith K.eq (hashed_by S.Hasher.finish S.Hasher.write S.build_hasher K.hash_input hasher.now) setting memory.new last.new xs None None) }
     ensures fault { IfErr result IsRoom }
 {
     refresh(memory, setting, hasher);
+    *last = Last::NONE;
     match papaya_asks::remove(memory, setting, hasher, asked) {
-        Ok(stop) => Ok(removed(stop)),
+        Ok(stop) => {
+            *last = told_at(stop);
+            Ok(removed(stop))
+        }
         Err(fault) => Err(fault),
     }
 }

@@ -3,9 +3,11 @@ ghost use Rattle.std.specs.Prelude.{◌≡◌, List, Some, IfErr};
 ghost use Rattle.papaya_asks.specs.Closures.{ComputesAs};
 ghost use Rattle.papaya_owned.specs.Owned.{Holds, hashed_by};
 ghost use Rattle.papaya_resting.specs.Asking.{ComputesToIt};
+ghost use Rattle.papaya_resting.specs.Lasts.{RestsWith};
 
 use crate::change::{Compute, computed};
 use crate::changes::refresh;
+use crate::last::Last;
 use papaya_asks::{Operation, RefusedKey};
 use papaya_tables::{Node, Setting};
 use seize_words::Plain;
@@ -22,15 +24,19 @@ pub fn compute<
     memory: &mut Plain<Node<K, V>>,
     setting: Setting,
     hasher: &S,
+    last: &mut Last,
     key: K,
     decide: F,
 ) -> Result<Compute<T>, RefusedKey<K>>
     requires callable { F.IsAlwaysCallable decide }
     requires holds { (xs : List (K × V)) × Holds K.eq (hashed_by S.Hasher.finish S.Hasher.write S.build_hasher K.hash_input hasher.now) setting memory.old xs }
     ensures comes { (xs : List (K × V)) → Holds K.eq (hashed_by S.Hasher.finish S.Hasher.write S.build_hasher K.hash_input hasher.now) setting memory.old xs
-        → ComputesToIt (K.eq key) (Some key) (ComputesAs F.FnOnce decide) xs (Holds K.eq (hashed_by S.Hasher.finish S.Hasher.write S.build_hasher K.hash_input hasher.now) setting memory.new) (λ r. r.fault) result }
+        → ComputesToIt (K.eq key) (Some key) (ComputesAs F.FnOnce decide) xs (RestsWith K.eq (hashed_by S.Hasher.finish S.Hasher.write S.build_hasher K.hash_input hasher.now) setting memory.new last.new) (λ r. r.fault) result }
     ensures back { IfErr result (λ r. r.key ≡ key) }
 {
     refresh(memory, setting, hasher);
-    computed(papaya_asks::compute(memory, setting, hasher, key, decide))
+    computed(
+        papaya_asks::compute(memory, setting, hasher, key, decide),
+        last,
+    )
 }

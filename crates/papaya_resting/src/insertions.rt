@@ -5,8 +5,10 @@ ghost use Rattle.papaya_late.specs.Faults.{IsRoom};
 ghost use Rattle.papaya_tables.specs.declared.node.Node.TheVariants as node;
 ghost use Rattle.papaya_owned.specs.Owned.{Holds, EndsBy, ComesBack, found_by, hashed_by, left_by};
 ghost use Rattle.papaya_resting.specs.Calls.{StoresPair, has_found, has_replaced};
+ghost use Rattle.papaya_resting.specs.Lasts.{RestsWith};
 
 use crate::changes::refresh;
+use crate::last::{Last, told_at};
 use papaya_asks::Refused;
 use papaya_owned::{OnKey, Stop, run};
 use papaya_raw::machines::{KeyAnswer, KeyCall};
@@ -84,23 +86,28 @@ pub fn insert<K: Eq + Hash + Drop, V: Drop, S: BuildHasher>(
     memory: &mut Plain<Node<K, V>>,
     setting: Setting,
     hasher: &S,
+    last: &mut Last,
     key: K,
     value: V,
 ) -> Result<bool, Refused<K, V>>
     requires { (xs : List (K × V)) × Holds K.eq (hashed_by S.Hasher.finish S.Hasher.write S.build_hasher K.hash_input hasher.now) setting memory.old xs }
     ensures some { (xs : List (K × V)) → Holds K.eq (hashed_by S.Hasher.finish S.Hasher.write S.build_hasher K.hash_input hasher.now) setting memory.old xs → IfOk result (λ was. was ≡ is_some (found_by (K.eq key) xs)) }
     ensures stored { (xs : List (K × V)) → Holds K.eq (hashed_by S.Hasher.finish S.Hasher.write S.build_hasher K.hash_input hasher.now) setting memory.old xs
-        → OnOk result (Holds K.eq (hashed_by S.Hasher.finish S.Hasher.write S.build_hasher K.hash_input hasher.now) setting memory.new (left_by (K.eq key) xs ++ ((key, value) ∷ []))) }
+        → OnOk result (RestsWith K.eq (hashed_by S.Hasher.finish S.Hasher.write S.build_hasher K.hash_input hasher.now) setting memory.new last.new (left_by (K.eq key) xs ++ ((key, value) ∷ [])) (found_by (K.eq key) xs) (Some (key, value))) }
     ensures refused { (xs : List (K × V)) → Holds K.eq (hashed_by S.Hasher.finish S.Hasher.write S.build_hasher K.hash_input hasher.now) setting memory.old xs
-        → OnErr result (Holds K.eq (hashed_by S.Hasher.finish S.Hasher.write S.build_hasher K.hash_input hasher.now) setting memory.new xs) }
+        → OnErr result (RestsWith K.eq (hashed_by S.Hasher.finish S.Hasher.write S.build_hasher K.hash_input hasher.now) setting memory.new last.new xs None None) }
     ensures back { IfErr result (λ r. (r.key ≡ key) × (r.value ≡ value)) }
     ensures fault { IfErr result (λ r. IsRoom r.fault) }
 {
     refresh(memory, setting, hasher);
+    *last = Last::NONE;
     let hash = hasher.hash_of(&key);
     let call = KeyCall::insert(setting, hash, key, value);
     match store(memory, setting, hasher, call) {
-        (Ok(stop), _) => Ok(replaced(stop)),
+        (Ok(stop), _) => {
+            *last = told_at(stop);
+            Ok(replaced(stop))
+        }
         (Err(fault), back) => Err(refused(fault, back)),
     }
 }
@@ -110,25 +117,30 @@ pub fn try_insert<K: Eq + Hash + Drop, V: Drop, S: BuildHasher>(
     memory: &mut Plain<Node<K, V>>,
     setting: Setting,
     hasher: &S,
+    last: &mut Last,
     key: K,
     value: V,
 ) -> Result<Result<(), V>, Refused<K, V>>
     requires { (xs : List (K × V)) × Holds K.eq (hashed_by S.Hasher.finish S.Hasher.write S.build_hasher K.hash_input hasher.now) setting memory.old xs }
     ensures stored { (xs : List (K × V)) → Holds K.eq (hashed_by S.Hasher.finish S.Hasher.write S.build_hasher K.hash_input hasher.now) setting memory.old xs
-        → IfOk result (λ tried. OnOk tried ((found_by (K.eq key) xs ≡ None) × Holds K.eq (hashed_by S.Hasher.finish S.Hasher.write S.build_hasher K.hash_input hasher.now) setting memory.new (xs ++ ((key, value) ∷ [])))) }
+        → IfOk result (λ tried. OnOk tried ((found_by (K.eq key) xs ≡ None) × RestsWith K.eq (hashed_by S.Hasher.finish S.Hasher.write S.build_hasher K.hash_input hasher.now) setting memory.new last.new (xs ++ ((key, value) ∷ [])) None (Some (key, value)))) }
     ensures found { (xs : List (K × V)) → Holds K.eq (hashed_by S.Hasher.finish S.Hasher.write S.build_hasher K.hash_input hasher.now) setting memory.old xs
-        → IfOk result (λ tried. OnErr tried (IsTrue (is_some (found_by (K.eq key) xs)) × Holds K.eq (hashed_by S.Hasher.finish S.Hasher.write S.build_hasher K.hash_input hasher.now) setting memory.new xs)) }
+        → IfOk result (λ tried. OnErr tried (IsTrue (is_some (found_by (K.eq key) xs)) × RestsWith K.eq (hashed_by S.Hasher.finish S.Hasher.write S.build_hasher K.hash_input hasher.now) setting memory.new last.new xs None (found_by (K.eq key) xs))) }
     ensures kept { IfOk result (λ tried. IfErr tried (λ back. back ≡ value)) }
     ensures refused { (xs : List (K × V)) → Holds K.eq (hashed_by S.Hasher.finish S.Hasher.write S.build_hasher K.hash_input hasher.now) setting memory.old xs
-        → OnErr result (Holds K.eq (hashed_by S.Hasher.finish S.Hasher.write S.build_hasher K.hash_input hasher.now) setting memory.new xs) }
+        → OnErr result (RestsWith K.eq (hashed_by S.Hasher.finish S.Hasher.write S.build_hasher K.hash_input hasher.now) setting memory.new last.new xs None None) }
     ensures back { IfErr result (λ r. (r.key ≡ key) × (r.value ≡ value)) }
     ensures fault { IfErr result (λ r. IsRoom r.fault) }
 {
     refresh(memory, setting, hasher);
+    *last = Last::NONE;
     let hash = hasher.hash_of(&key);
     let call = KeyCall::try_insert(setting, hash, key, value);
     match store(memory, setting, hasher, call) {
-        (Ok(stop), back) => Ok(tried(stop, back)),
+        (Ok(stop), back) => {
+            *last = told_at(stop);
+            Ok(tried(stop, back))
+        }
         (Err(fault), back) => Err(refused(fault, back)),
     }
 }

@@ -3,9 +3,11 @@ ghost use Rattle.std.specs.Prelude.{List, None};
 ghost use Rattle.papaya_asks.specs.Closures.{Removing, TestsAs};
 ghost use Rattle.papaya_owned.specs.Owned.{Holds, hashed_by};
 ghost use Rattle.papaya_resting.specs.Asking.{ComesToIt};
+ghost use Rattle.papaya_resting.specs.Lasts.{RestsWith};
 
 use crate::change::{Change, ended};
 use crate::changes::refresh;
+use crate::last::Last;
 use papaya_tables::{Equivalent, Node, Setting};
 use seize_words::{Fault, Plain};
 use std::hash::{BuildHasher, Hash};
@@ -21,14 +23,18 @@ pub fn remove_if<
     memory: &mut Plain<Node<K, V>>,
     setting: Setting,
     hasher: &S,
+    last: &mut Last,
     asked: &Q,
     test: F,
 ) -> Result<Change, Fault>
     requires callable { F.IsAlwaysCallable test }
     requires holds { (xs : List (K × V)) × Holds K.eq (hashed_by S.Hasher.finish S.Hasher.write S.build_hasher K.hash_input hasher.now) setting memory.old xs }
     ensures { (xs : List (K × V)) → Holds K.eq (hashed_by S.Hasher.finish S.Hasher.write S.build_hasher K.hash_input hasher.now) setting memory.old xs
-        → ComesToIt (Q.Equivalent.equivalent asked.now) None (Removing (TestsAs F.FnOnce test)) xs (Holds K.eq (hashed_by S.Hasher.finish S.Hasher.write S.build_hasher K.hash_input hasher.now) setting memory.new) (λ fault. fault) result }
+        → ComesToIt (Q.Equivalent.equivalent asked.now) None (Removing (TestsAs F.FnOnce test)) xs (RestsWith K.eq (hashed_by S.Hasher.finish S.Hasher.write S.build_hasher K.hash_input hasher.now) setting memory.new last.new) (λ fault. fault) result }
 {
     refresh(memory, setting, hasher);
-    ended(papaya_asks::remove_if(memory, setting, hasher, asked, test))
+    ended(
+        papaya_asks::remove_if(memory, setting, hasher, asked, test),
+        last,
+    )
 }

@@ -1,6 +1,7 @@
 -- Lemmas on maps for one owner.
 mod Done
 mod Equals
+mod Kept
 mod Members
 pub mod Orders
 mod Puts

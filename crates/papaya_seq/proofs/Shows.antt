@@ -3,7 +3,7 @@ use Rattle.std.specs.Prelude.{is_some, IsTrue, IfOk, OnOk, OnErr, None}
 use Rattle.std.specs.List.{IsDistinct}
 use Rattle.std.specs.List.Sorted.{IsPermutation}
 use Rattle.std.specs.Map.{keys_of}
-use Rattle.std.proofs.Common.{◌≡◌, ℕ, Bool, List, [], ◌++◌, Some, Result, Ok, Err, length, filter, ap, sym, subst, ◌∙◌}
+use Rattle.std.proofs.Common.{◌≡◌, ℕ, Bool, List, [], ◌++◌, Option, Some, Result, Ok, Err, length, filter, ap, sym, subst, ◌∙◌}
 use Rattle.std.proofs.lemmas.List.Sorted.{IsPermutation-refl, IsPermutation-sym, IsPermutation-trans, IsPermutation-append_left, length_permutation}
 use Rattle.seize_words.specs.declared.at.At.TheVariants.{Root}
 use Rattle.seize_words.specs.Mem.{Mem, word_at}
@@ -21,6 +21,8 @@ use Rattle.papaya_owned.specs.Owned.{Holds, found_by, left_by}
 use Rattle.papaya_owned.specs.Retaining.{AnswersByTest, KeepsOf}
 use Rattle.papaya_owned.proofs.Owned.Questions.{keeps_by_test}
 use Rattle.papaya_owned.proofs.Walks.{holds_stands, holds_moves_none, holds_pairs}
+use Rattle.papaya_resting.specs.Lasts.{pair_in}
+use Rattle.papaya_resting.specs.declared.last.Last.{Last}
 use Rattle.papaya_seq.specs.Maps.{Map, pairs_shown}
 use Rattle.papaya_seq.specs.Orders.{IsOneClass}
 use Rattle.papaya_seq.proofs.Orders.{apart_each, apart_same, found_same, keeps_same, kept_in_any_order, left_same, none_left}
@@ -58,7 +60,7 @@ module _ {K V : Type 0} (same : K → K → Bool) (hash : K → ℕ) (setting : 
     shown_as ys order = IsPermutation-trans pairs xs ys shown order
 
     -- as a caller sees it
-    module _ {S : Type 0} (hasher : S) (map : Map K V S) (is : ◌≡◌ {A = Map K V S} (record { pairs = pairs; hasher = hasher }) map) where
+    module _ {S : Type 0} (hasher : S) (taken met : Option (K × V)) (map : Map K V S) (is : ◌≡◌ {A = Map K V S} (record { pairs = pairs; hasher = hasher; taken = taken; met = met }) map) where
       its_pairs : pairs ≡ map.pairs
       its_pairs = ap (λ (x : Map K V S). x.pairs) is
 
@@ -162,20 +164,17 @@ told_same keys xs zs is (Ok was) so = so ∙ sym (ap is_some is)
 told_same keys xs zs is (Err e) none = tt
 
 -- the same memory shows the same pairs
-module _ {K V S : Type 0} (setting : Setting) (m : Mem (Node K V)) (hasher : S) (tables : CountsTables m (root_link m setting)) where
-  AsBefore : Mem (Node K V) → Type 0
-  AsBefore w =
-      (counted : CountsTables w (root_link w setting))
-      → ◌≡◌ {A = Map K V S} (record { pairs = pairs_shown w setting counted; hasher = hasher }) (record { pairs = pairs_shown m setting tables; hasher = hasher })
+module _ {K V S : Type 0} (setting : Setting) (m : Mem (Node K V)) (hasher : S) (last : Last) (tables : CountsTables m (root_link m setting)) where
+  abbrev map_in : (w : Mem (Node K V)) → CountsTables w (root_link w setting) → Map K V S
+  map_in w counted = record { pairs = pairs_shown w setting counted; hasher = hasher; taken = pair_in w last.taken; met = pair_in w last.met }
 
-  abbrev its_map : CountsTables m (root_link m setting) → Map K V S
-  its_map counted = record { pairs = pairs_shown m setting counted; hasher = hasher }
+  AsBefore : Mem (Node K V) → Type 0
+  AsBefore w = (counted : CountsTables w (root_link w setting)) → map_in w counted ≡ map_in m tables
 
   in_it : AsBefore m
   unfolding AsBefore
-  in_it counted = ap its_map (counts_tables_prop m (root_link m setting) counted tables)
+  in_it counted = ap (map_in m) (counts_tables_prop m (root_link m setting) counted tables)
 
-  pub as_before : (w : Mem (Node K V)) → w ≡ m → (counted : CountsTables w (root_link w setting))
-      → ◌≡◌ {A = Map K V S} (record { pairs = pairs_shown w setting counted; hasher = hasher }) (record { pairs = pairs_shown m setting tables; hasher = hasher })
+  pub as_before : (w : Mem (Node K V)) → w ≡ m → (counted : CountsTables w (root_link w setting)) → map_in w counted ≡ map_in m tables
   unfolding AsBefore
   as_before w is = subst AsBefore (sym is) in_it

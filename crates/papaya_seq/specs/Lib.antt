@@ -5,3 +5,4 @@ pub mod Equals
 pub mod Puts
 pub mod Sets
 pub mod Walks
+pub mod Lent

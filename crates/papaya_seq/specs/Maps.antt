@@ -1,14 +1,28 @@
 -- A map for one owner, as its callers see it.
-use Rattle.std.specs.Prelude.{List}
+use Rattle.std.specs.Prelude.{◌≡◌, List, Option}
+use Rattle.std.specs.List.Sorted.{IsPermutation}
 use Rattle.seize_words.specs.Mem.{Mem}
 use Rattle.papaya_tables.specs.declared.node.Node.{Node}
 use Rattle.papaya_tables.specs.declared.setting.Setting.{Setting}
 use Rattle.papaya_shown.specs.Chain.{CountsTables, pairs_from_root, root_link}
 
--- The value of a map: its pairs, and its hasher. Which order the pairs are in, a walk tells alone.
+-- The value of a map: its pairs, its hasher, and two pairs that can be looked at until the next change. Which order the pairs are in, a walk tells alone.
 pub record Map (K V S : Type 0) : Type 0 where
   pub pairs : List (K × V)
   pub hasher : S
+  -- the pair that the last change took out, where it removed or replaced one
+  pub taken : Option (K × V)
+  -- the pair that the last change found at its key and left, or else put there
+  pub met : Option (K × V)
+
+module _ {K V S : Type 0} (map : Map K V S) where
+  -- the last change took this pair out of the map, or none, and met this one at its key or put it there, or none
+  abbrev pub LastTook : Option (K × V) → Option (K × V) → Type 0
+  LastTook taken met = (map.taken ≡ taken) × (map.met ≡ met)
+
+  -- the map has these pairs, in whatever order, and the last change was so
+  abbrev pub HasNow : List (K × V) → Option (K × V) → Option (K × V) → Type 0
+  HasNow pairs taken met = IsPermutation map.pairs pairs × LastTook taken met
 
 -- the pairs that the words of its memory show, table by table from its root on, where they are so many tables
 unfoldable pub pairs_shown : {K V : Type 0} (m : Mem (Node K V)) (setting : Setting) → CountsTables m (root_link m setting) → List (K × V)

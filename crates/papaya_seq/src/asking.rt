@@ -1,10 +1,10 @@
 //! Calls on a map for one owner that update a value, or store one, by closures. Each begins with a refresh.
-ghost use Rattle.std.specs.Prelude.{◌≡◌, Some, IfOk, IfErr, OnErr};
+ghost use Rattle.std.specs.Prelude.{◌≡◌, None, Some, IfOk, IfErr, OnErr};
 ghost use Rattle.std.specs.Fn.{FnOnceReturns, FnOnceReturnsAt};
-ghost use Rattle.std.specs.List.Sorted.{IsPermutation};
 ghost use Rattle.papaya_asks.specs.Closures.{Updating, UpdatingOrStoring, Storing};
 ghost use Rattle.papaya_late.specs.Faults.{IsRoom};
 ghost use Rattle.papaya_resting.specs.Asking.{HasDone};
+ghost use Rattle.papaya_seq.specs.Maps.{HasNow};
 
 use crate::map::HashMap;
 use papaya_asks::{Refused, RefusedKey};
@@ -16,8 +16,8 @@ impl<K: Eq + Hash + Drop, V: Drop, S: BuildHasher> HashMap<K, V, S> {
     /// `Replaced` or `Missing`. The faults are `Fault::Capacity` and `Fault::Memory`; then no pair has changed, and the key comes back.
     pub fn update<F: FnOnce(&V) -> V>(&mut self, key: K, make: F) -> Result<Change, RefusedKey<K>>
         requires callable { F.IsAlwaysCallable make }
-        ensures done { IfOk result (λ done. HasDone (K.eq key) (Some key) (Updating (FnOnceReturnsAt F.FnOnce make)) self.old.pairs (IsPermutation self.new.pairs) done) }
-        ensures refused { OnErr result (IsPermutation self.new.pairs self.old.pairs) }
+        ensures done { IfOk result (λ done. HasDone (K.eq key) (Some key) (Updating (FnOnceReturnsAt F.FnOnce make)) self.old.pairs (HasNow self.new) done) }
+        ensures refused { OnErr result (HasNow self.new self.old.pairs None None) }
         ensures fault { IfErr result (λ r. IsRoom r.fault) }
         ensures back { IfErr result (λ r. r.key ≡ key) }
         ensures hasher { self.new.hasher ≡ self.old.hasher }
@@ -26,6 +26,7 @@ impl<K: Eq + Hash + Drop, V: Drop, S: BuildHasher> HashMap<K, V, S> {
             &mut self.resting.memory,
             self.resting.setting,
             &self.hasher,
+            &mut self.resting.last,
             key,
             make,
         )
@@ -41,8 +42,8 @@ impl<K: Eq + Hash + Drop, V: Drop, S: BuildHasher> HashMap<K, V, S> {
     ) -> Result<Change, RefusedKey<K>>
         requires begins { B.IsAlwaysCallable begin }
         requires makes { F.IsAlwaysCallable make }
-        ensures done { IfOk result (λ done. HasDone (K.eq key) (Some key) (UpdatingOrStoring (FnOnceReturnsAt F.FnOnce make) (λ value. FnOnceReturns B.FnOnce begin tt value)) self.old.pairs (IsPermutation self.new.pairs) done) }
-        ensures refused { OnErr result (IsPermutation self.new.pairs self.old.pairs) }
+        ensures done { IfOk result (λ done. HasDone (K.eq key) (Some key) (UpdatingOrStoring (FnOnceReturnsAt F.FnOnce make) (λ value. FnOnceReturns B.FnOnce begin tt value)) self.old.pairs (HasNow self.new) done) }
+        ensures refused { OnErr result (HasNow self.new self.old.pairs None None) }
         ensures fault { IfErr result (λ r. IsRoom r.fault) }
         ensures back { IfErr result (λ r. r.key ≡ key) }
         ensures hasher { self.new.hasher ≡ self.old.hasher }
@@ -51,6 +52,7 @@ impl<K: Eq + Hash + Drop, V: Drop, S: BuildHasher> HashMap<K, V, S> {
             &mut self.resting.memory,
             self.resting.setting,
             &self.hasher,
+            &mut self.resting.last,
             key,
             begin,
             make,
@@ -65,8 +67,8 @@ impl<K: Eq + Hash + Drop, V: Drop, S: BuildHasher> HashMap<K, V, S> {
         begin: B,
     ) -> Result<Change, RefusedKey<K>>
         requires callable { B.IsAlwaysCallable begin }
-        ensures done { IfOk result (λ done. HasDone (K.eq key) (Some key) (Storing (λ value. FnOnceReturns B.FnOnce begin tt value)) self.old.pairs (IsPermutation self.new.pairs) done) }
-        ensures refused { OnErr result (IsPermutation self.new.pairs self.old.pairs) }
+        ensures done { IfOk result (λ done. HasDone (K.eq key) (Some key) (Storing (λ value. FnOnceReturns B.FnOnce begin tt value)) self.old.pairs (HasNow self.new) done) }
+        ensures refused { OnErr result (HasNow self.new self.old.pairs None None) }
         ensures fault { IfErr result (λ r. IsRoom r.fault) }
         ensures back { IfErr result (λ r. r.key ≡ key) }
         ensures hasher { self.new.hasher ≡ self.old.hasher }
@@ -75,6 +77,7 @@ impl<K: Eq + Hash + Drop, V: Drop, S: BuildHasher> HashMap<K, V, S> {
             &mut self.resting.memory,
             self.resting.setting,
             &self.hasher,
+            &mut self.resting.last,
             key,
             begin,
         )
@@ -90,8 +93,8 @@ impl<K: Eq + Hash + Drop, V: Drop, S: BuildHasher> HashMap<K, V, S> {
         make: F,
     ) -> Result<Change, Refused<K, V>>
         requires callable { F.IsAlwaysCallable make }
-        ensures done { IfOk result (λ done. HasDone (K.eq key) (Some key) (UpdatingOrStoring (FnOnceReturnsAt F.FnOnce make) (λ new. new ≡ value)) self.old.pairs (IsPermutation self.new.pairs) done) }
-        ensures refused { OnErr result (IsPermutation self.new.pairs self.old.pairs) }
+        ensures done { IfOk result (λ done. HasDone (K.eq key) (Some key) (UpdatingOrStoring (FnOnceReturnsAt F.FnOnce make) (λ new. new ≡ value)) self.old.pairs (HasNow self.new) done) }
+        ensures refused { OnErr result (HasNow self.new self.old.pairs None None) }
         ensures fault { IfErr result (λ r. IsRoom r.fault) }
         ensures back { IfErr result (λ r. (r.key ≡ key) × (r.value ≡ value)) }
         ensures hasher { self.new.hasher ≡ self.old.hasher }
@@ -100,6 +103,7 @@ impl<K: Eq + Hash + Drop, V: Drop, S: BuildHasher> HashMap<K, V, S> {
             &mut self.resting.memory,
             self.resting.setting,
             &self.hasher,
+            &mut self.resting.last,
             key,
             value,
             make,

@@ -1,8 +1,8 @@
 //! A call on a map for one owner that computes what is to be done with a key. It begins with a refresh.
-ghost use Rattle.std.specs.Prelude.{◌≡◌, Some, IfOk, IfErr, OnErr};
-ghost use Rattle.std.specs.List.Sorted.{IsPermutation};
+ghost use Rattle.std.specs.Prelude.{◌≡◌, None, Some, IfOk, IfErr, OnErr};
 ghost use Rattle.papaya_asks.specs.Closures.{Computing, ComputesAs};
 ghost use Rattle.papaya_resting.specs.Asking.{HasComputed, IsRefusedFor};
+ghost use Rattle.papaya_seq.specs.Maps.{HasNow};
 
 use crate::map::HashMap;
 use papaya_asks::{Operation, RefusedKey};
@@ -19,8 +19,8 @@ impl<K: Eq + Hash + Drop, V: Drop, S: BuildHasher> HashMap<K, V, S> {
         decide: F,
     ) -> Result<Compute<T>, RefusedKey<K>>
         requires callable { F.IsAlwaysCallable decide }
-        ensures done { IfOk result (λ done. HasComputed (K.eq key) (Some key) (ComputesAs F.FnOnce decide) self.old.pairs (IsPermutation self.new.pairs) done) }
-        ensures refused { OnErr result (IsPermutation self.new.pairs self.old.pairs) }
+        ensures done { IfOk result (λ done. HasComputed (K.eq key) (Some key) (ComputesAs F.FnOnce decide) self.old.pairs (HasNow self.new) done) }
+        ensures refused { OnErr result (HasNow self.new self.old.pairs None None) }
         ensures fault { IfErr result (λ r. IsRefusedFor (K.eq key) (Computing (ComputesAs F.FnOnce decide)) self.old.pairs r.fault) }
         ensures back { IfErr result (λ r. r.key ≡ key) }
         ensures hasher { self.new.hasher ≡ self.old.hasher }
@@ -29,6 +29,7 @@ impl<K: Eq + Hash + Drop, V: Drop, S: BuildHasher> HashMap<K, V, S> {
             &mut self.resting.memory,
             self.resting.setting,
             &self.hasher,
+            &mut self.resting.last,
             key,
             decide,
         )

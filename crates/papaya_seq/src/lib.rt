@@ -12,6 +12,7 @@ mod extending;
 mod formatting;
 mod insertions;
 mod json;
+mod last;
 pub mod law;
 mod lookups;
 mod making;

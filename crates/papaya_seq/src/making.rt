@@ -2,6 +2,7 @@
 ghost use Rattle.std.specs.Prelude.{◌≡◌, [], IfOk};
 
 use crate::map::{HashMap, Resting};
+use papaya_resting::Last;
 use seize_alone::register;
 use seize_words::{Fault, Plain};
 use std::alloc::Global;
@@ -43,7 +44,11 @@ impl<K: Eq + Hash + Drop, V: Drop, S: BuildHasher + Drop> HashMap<K, V, S> {
         let slot = register(&mut memory, true)?;
         let setting = papaya_resting::begin(&mut memory, slot, places, &hasher)?;
         Ok(HashMap {
-            resting: Resting { memory, setting },
+            resting: Resting {
+                memory,
+                setting,
+                last: Last::NONE,
+            },
             hasher,
         })
     }

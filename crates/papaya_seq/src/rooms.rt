@@ -1,9 +1,11 @@
 //! Room for further pairs in a map for one owner. It begins with a refresh, as a change does.
-ghost use Rattle.std.specs.Prelude.{◌≡◌, IfErr};
+ghost use Rattle.std.specs.Prelude.{◌≡◌, None, IfErr};
 ghost use Rattle.std.specs.List.Sorted.{IsPermutation};
 ghost use Rattle.papaya_late.specs.Faults.{IsRoom};
+ghost use Rattle.papaya_seq.specs.Maps.{LastTook};
 
 use crate::map::HashMap;
+use papaya_resting::Last;
 use seize_words::Fault;
 use std::hash::{BuildHasher, Hash};
 
@@ -13,8 +15,10 @@ impl<K: Eq + Hash + Drop, V: Drop, S: BuildHasher> HashMap<K, V, S> {
     pub fn reserve(&mut self, additional: u64) -> Result<(), Fault>
         ensures pairs { IsPermutation self.new.pairs self.old.pairs }
         ensures fault { IfErr result IsRoom }
+        ensures last { LastTook self.new None None }
         ensures hasher { self.new.hasher ≡ self.old.hasher }
     {
+        self.resting.last = Last::NONE;
         papaya_resting::reserve(
             &mut self.resting.memory,
             self.resting.setting,

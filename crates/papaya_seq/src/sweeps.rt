@@ -1,9 +1,11 @@
 //! What goes over all pairs of a map for one owner, and removes them. Each change begins with a refresh.
-ghost use Rattle.std.specs.Prelude.{◌≡◌, Bool, List, [], OnOk, OnErr, filter};
+ghost use Rattle.std.specs.Prelude.{◌≡◌, None, Bool, List, [], OnOk, OnErr, filter};
 ghost use Rattle.std.specs.List.Sorted.{IsPermutation};
 ghost use Rattle.papaya_owned.specs.Retaining.{AnswersByTest, KeepsOf};
+ghost use Rattle.papaya_seq.specs.Maps.{LastTook};
 
 use crate::map::HashMap;
+use papaya_resting::Last;
 use seize_words::Fault;
 use std::hash::{BuildHasher, Hash};
 
@@ -13,8 +15,10 @@ impl<K: Eq + Hash + Drop, V: Drop, S: BuildHasher> HashMap<K, V, S> {
     pub fn clear(&mut self) -> Result<(), Fault>
         ensures done { OnOk result (self.new.pairs ≡ []) }
         ensures refused { OnErr result (IsPermutation self.new.pairs self.old.pairs) }
+        ensures last { LastTook self.new None None }
         ensures hasher { self.new.hasher ≡ self.old.hasher }
     {
+        self.resting.last = Last::NONE;
         papaya_resting::clear(&mut self.resting.memory, self.resting.setting, &self.hasher)
     }
 
@@ -25,8 +29,10 @@ impl<K: Eq + Hash + Drop, V: Drop, S: BuildHasher> HashMap<K, V, S> {
         ensures done { OnOk result ((kept : List (K × V)) × KeepsOf F.FnMut keep self.old.pairs kept × IsPermutation self.new.pairs kept) }
         ensures by_test { (test : K → V → Bool) → AnswersByTest F.FnMut test → OnOk result (IsPermutation self.new.pairs (filter (λ x. test x.0 x.1) self.old.pairs)) }
         ensures refused { OnErr result (IsPermutation self.new.pairs self.old.pairs) }
+        ensures last { LastTook self.new None None }
         ensures hasher { self.new.hasher ≡ self.old.hasher }
     {
+        self.resting.last = Last::NONE;
         papaya_resting::retain(
             &mut self.resting.memory,
             self.resting.setting,

@@ -1,9 +1,9 @@
 //! Removals from a map for one owner that a test decides. Each begins with a refresh.
 ghost use Rattle.std.specs.Prelude.{◌≡◌, None, IfOk, IfErr, OnErr};
-ghost use Rattle.std.specs.List.Sorted.{IsPermutation};
 ghost use Rattle.papaya_asks.specs.Closures.{Removing, TestsAs};
 ghost use Rattle.papaya_late.specs.Faults.{IsRoom};
 ghost use Rattle.papaya_resting.specs.Asking.{HasDone};
+ghost use Rattle.papaya_seq.specs.Maps.{HasNow};
 
 use crate::map::HashMap;
 use papaya_resting::Change;
@@ -20,8 +20,8 @@ impl<K: Eq + Hash + Drop, V: Drop, S: BuildHasher> HashMap<K, V, S> {
         test: F,
     ) -> Result<Change, Fault>
         requires callable { F.IsAlwaysCallable test }
-        ensures done { IfOk result (λ done. HasDone (Q.Equivalent.equivalent asked.now) None (Removing (TestsAs F.FnOnce test)) self.old.pairs (IsPermutation self.new.pairs) done) }
-        ensures refused { OnErr result (IsPermutation self.new.pairs self.old.pairs) }
+        ensures done { IfOk result (λ done. HasDone (Q.Equivalent.equivalent asked.now) None (Removing (TestsAs F.FnOnce test)) self.old.pairs (HasNow self.new) done) }
+        ensures refused { OnErr result (HasNow self.new self.old.pairs None None) }
         ensures fault { IfErr result IsRoom }
         ensures hasher { self.new.hasher ≡ self.old.hasher }
     {
@@ -29,6 +29,7 @@ impl<K: Eq + Hash + Drop, V: Drop, S: BuildHasher> HashMap<K, V, S> {
             &mut self.resting.memory,
             self.resting.setting,
             &self.hasher,
+            &mut self.resting.last,
             asked,
             test,
         )

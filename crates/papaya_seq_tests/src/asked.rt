@@ -8,7 +8,7 @@ use std::hash::BuildHasher;
 
 /// A call.
 #[derive(Clone, Copy)]
-enum Call {
+pub(crate) enum Call {
     /// Adds ten to the value of a key.
     Update(u64),
     /// Adds ten to the value of a key, or stores this one.
@@ -124,6 +124,11 @@ fn called<S: BuildHasher>(map: &mut HashMap<u64, u64, S>, call: Call) -> Did {
         Call::Put(key, _) | Call::Take(key) | Call::Abort(key) => computed(map, key, call),
         Call::Reserve(additional) => reserved(map, additional),
     }
+}
+
+/// Makes a call, whatever it does.
+pub(crate) fn closes<S: BuildHasher>(map: &mut HashMap<u64, u64, S>, call: Call) {
+    let _ = called(map, call);
 }
 
 /// A call, what it does, a key, and its value then.

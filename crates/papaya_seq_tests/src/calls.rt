@@ -60,13 +60,13 @@ fn tried<S: BuildHasher>(map: &mut HashMap<u64, u64, S>, key: u64, value: u64) -
 
 fn removed<S: BuildHasher>(map: &mut HashMap<u64, u64, S>, key: u64) -> Answer {
     match map.remove(&key) {
-        Ok(was) => Answer::Was(was),
+        Ok(was) => Answer::Was(was.is_some()),
         Err(fault) => Answer::Faulty(fault),
     }
 }
 
 /// A pair that was found.
-fn copied(found: Option<(&u64, &u64)>) -> Option<(u64, u64)> {
+pub(crate) fn copied(found: Option<(&u64, &u64)>) -> Option<(u64, u64)> {
     match found {
         Some((key, value)) => Some((*key, *value)),
         None => None,

@@ -14,6 +14,8 @@ mod found_again;
 #[cfg(test)]
 mod held;
 #[cfg(test)]
+mod lent;
+#[cfg(test)]
 mod makers;
 #[cfg(test)]
 mod refused;

@@ -38,7 +38,7 @@ impl<K: Eq + Hash + Drop, S: BuildHasher> HashSet<K, S> {
         ensures fault { IfErr result IsRoom }
         ensures hasher { self.new.hasher ≡ self.old.hasher }
     {
-        self.map.remove(asked)
+        self.map.take(asked)
     }
 
     /// Makes room for so many further elements beside those that it has. No element changes, only their order may. The faults are

@@ -23,10 +23,13 @@ refused-requires g c =
     )
 
 pub returns-in-Err-default-clause-refused : goal.returns-in-Err-default-clause-refused
-returns-in-Err-default-clause-refused g c = λ xs has.
-    (refused_so g.K.PartialEq.eq (hashed_by g.S.Hasher.Hasher.finish g.S.Hasher.Hasher.write g.S.BuildHasher.build_hasher g.K.Hash.hash_input c.args.hasher.now) c.args.setting c.store.new.memory (g.K.PartialEq.eq c.args.key)
-    xs c.args.key c.args.value inserts c.store.result.0 (c.store.ensures.ends xs inserts c.args.key c.args.value (c.refresh.ensures xs has)
-    (inserts_this (hashed_by g.S.Hasher.Hasher.finish g.S.Hasher.Hasher.write g.S.BuildHasher.build_hasher g.K.Hash.hash_input c.args.hasher.now) c.args.setting c.args.key c.args.value _ _ c.hash_of-hash.ensures c.insert-call.ensures)) c.in-Err-default.fault c.in-Err-default.is-0).1
+returns-in-Err-default-clause-refused g c = λ xs has. record {
+  holds = (refused_so g.K.PartialEq.eq (hashed_by g.S.Hasher.Hasher.finish g.S.Hasher.Hasher.write g.S.BuildHasher.build_hasher g.K.Hash.hash_input c.args.hasher.now) c.args.setting c.store.new.memory (g.K.PartialEq.eq c.args.key)
+      xs c.args.key c.args.value inserts c.store.result.0 (c.store.ensures.ends xs inserts c.args.key c.args.value (c.refresh.ensures xs has)
+      (inserts_this (hashed_by g.S.Hasher.Hasher.finish g.S.Hasher.Hasher.write g.S.BuildHasher.build_hasher g.K.Hash.hash_input c.args.hasher.now) c.args.setting c.args.key c.args.value _ _ c.hash_of-hash.ensures c.insert-call.ensures)) c.in-Err-default.fault c.in-Err-default.is-0).1;
+  taken_is = tt;
+  met_is = tt;
+}
 
 pub returns-in-Err-default-clause-fault : goal.returns-in-Err-default-clause-fault
 returns-in-Err-default-clause-fault g c =
@@ -49,10 +52,10 @@ returns-in-Ok-default-clause-some g c = λ xs has.
     c.replaced.ensures
     ∙ (stored_so g.K.PartialEq.eq (hashed_by g.S.Hasher.Hasher.finish g.S.Hasher.Hasher.write g.S.BuildHasher.build_hasher g.K.Hash.hash_input c.args.hasher.now) c.args.setting c.store.new.memory (g.K.PartialEq.eq c.args.key)
     xs c.args.key c.args.value c.store.result.0 (c.store.ensures.ends xs inserts c.args.key c.args.value (c.refresh.ensures xs has)
-    (inserts_this (hashed_by g.S.Hasher.Hasher.finish g.S.Hasher.Hasher.write g.S.BuildHasher.build_hasher g.K.Hash.hash_input c.args.hasher.now) c.args.setting c.args.key c.args.value _ _ c.hash_of-hash.ensures c.insert-call.ensures)) c.in-Ok-default.stop c.in-Ok-default.is-0).0
+    (inserts_this (hashed_by g.S.Hasher.Hasher.finish g.S.Hasher.Hasher.write g.S.BuildHasher.build_hasher g.K.Hash.hash_input c.args.hasher.now) c.args.setting c.args.key c.args.value _ _ c.hash_of-hash.ensures c.insert-call.ensures)) c.in-Ok-default.stop c.in-Ok-default.is-0 _ c.told_at.ensures).0
 
 pub returns-in-Ok-default-clause-stored : goal.returns-in-Ok-default-clause-stored
 returns-in-Ok-default-clause-stored g c = λ xs has.
     (stored_so g.K.PartialEq.eq (hashed_by g.S.Hasher.Hasher.finish g.S.Hasher.Hasher.write g.S.BuildHasher.build_hasher g.K.Hash.hash_input c.args.hasher.now) c.args.setting c.store.new.memory (g.K.PartialEq.eq c.args.key)
     xs c.args.key c.args.value c.store.result.0 (c.store.ensures.ends xs inserts c.args.key c.args.value (c.refresh.ensures xs has)
-    (inserts_this (hashed_by g.S.Hasher.Hasher.finish g.S.Hasher.Hasher.write g.S.BuildHasher.build_hasher g.K.Hash.hash_input c.args.hasher.now) c.args.setting c.args.key c.args.value _ _ c.hash_of-hash.ensures c.insert-call.ensures)) c.in-Ok-default.stop c.in-Ok-default.is-0).1
+    (inserts_this (hashed_by g.S.Hasher.Hasher.finish g.S.Hasher.Hasher.write g.S.BuildHasher.build_hasher g.K.Hash.hash_input c.args.hasher.now) c.args.setting c.args.key c.args.value _ _ c.hash_of-hash.ensures c.insert-call.ensures)) c.in-Ok-default.stop c.in-Ok-default.is-0 _ c.told_at.ensures).1

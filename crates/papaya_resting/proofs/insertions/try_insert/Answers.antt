@@ -24,10 +24,13 @@ refused-requires g c =
     )
 
 pub returns-in-Err-default-clause-refused : goal.returns-in-Err-default-clause-refused
-returns-in-Err-default-clause-refused g c = λ xs has.
-    (refused_so g.K.PartialEq.eq (hashed_by g.S.Hasher.Hasher.finish g.S.Hasher.Hasher.write g.S.BuildHasher.build_hasher g.K.Hash.hash_input c.args.hasher.now) c.args.setting c.store.new.memory (g.K.PartialEq.eq c.args.key)
-    xs c.args.key c.args.value tries_to_insert c.store.result.0 (c.store.ensures.ends xs tries_to_insert c.args.key c.args.value (c.refresh.ensures xs has)
-    (tries_this (hashed_by g.S.Hasher.Hasher.finish g.S.Hasher.Hasher.write g.S.BuildHasher.build_hasher g.K.Hash.hash_input c.args.hasher.now) c.args.setting c.args.key c.args.value _ _ c.hash_of-hash.ensures c.try_insert-call.ensures)) c.in-Err-default.fault c.in-Err-default.is-0).1
+returns-in-Err-default-clause-refused g c = λ xs has. record {
+  holds = (refused_so g.K.PartialEq.eq (hashed_by g.S.Hasher.Hasher.finish g.S.Hasher.Hasher.write g.S.BuildHasher.build_hasher g.K.Hash.hash_input c.args.hasher.now) c.args.setting c.store.new.memory (g.K.PartialEq.eq c.args.key)
+      xs c.args.key c.args.value tries_to_insert c.store.result.0 (c.store.ensures.ends xs tries_to_insert c.args.key c.args.value (c.refresh.ensures xs has)
+      (tries_this (hashed_by g.S.Hasher.Hasher.finish g.S.Hasher.Hasher.write g.S.BuildHasher.build_hasher g.K.Hash.hash_input c.args.hasher.now) c.args.setting c.args.key c.args.value _ _ c.hash_of-hash.ensures c.try_insert-call.ensures)) c.in-Err-default.fault c.in-Err-default.is-0).1;
+  taken_is = tt;
+  met_is = tt;
+}
 
 pub returns-in-Err-default-clause-fault : goal.returns-in-Err-default-clause-fault
 returns-in-Err-default-clause-fault g c =
@@ -58,13 +61,13 @@ pub returns-in-Ok-default-clause-stored : goal.returns-in-Ok-default-clause-stor
 returns-in-Ok-default-clause-stored g c = λ xs has.
     on_ok_weaker c.tried.result ((tried_so g.K.PartialEq.eq (hashed_by g.S.Hasher.Hasher.finish g.S.Hasher.Hasher.write g.S.BuildHasher.build_hasher g.K.Hash.hash_input c.args.hasher.now) c.args.setting c.store.new.memory (g.K.PartialEq.eq c.args.key)
     xs c.args.key c.args.value c.store.result.0 (c.store.ensures.ends xs tries_to_insert c.args.key c.args.value (c.refresh.ensures xs has)
-    (tries_this (hashed_by g.S.Hasher.Hasher.finish g.S.Hasher.Hasher.write g.S.BuildHasher.build_hasher g.K.Hash.hash_input c.args.hasher.now) c.args.setting c.args.key c.args.value _ _ c.hash_of-hash.ensures c.try_insert-call.ensures)) c.in-Ok-default.stop c.in-Ok-default.is-0).0) c.tried.ensures.stored
+    (tries_this (hashed_by g.S.Hasher.Hasher.finish g.S.Hasher.Hasher.write g.S.BuildHasher.build_hasher g.K.Hash.hash_input c.args.hasher.now) c.args.setting c.args.key c.args.value _ _ c.hash_of-hash.ensures c.try_insert-call.ensures)) c.in-Ok-default.stop c.in-Ok-default.is-0 _ c.told_at.ensures).0) c.tried.ensures.stored
 
 pub returns-in-Ok-default-clause-found : goal.returns-in-Ok-default-clause-found
 returns-in-Ok-default-clause-found g c = λ xs has.
     on_err_weaker c.tried.result ((tried_so g.K.PartialEq.eq (hashed_by g.S.Hasher.Hasher.finish g.S.Hasher.Hasher.write g.S.BuildHasher.build_hasher g.K.Hash.hash_input c.args.hasher.now) c.args.setting c.store.new.memory (g.K.PartialEq.eq c.args.key)
     xs c.args.key c.args.value c.store.result.0 (c.store.ensures.ends xs tries_to_insert c.args.key c.args.value (c.refresh.ensures xs has)
-    (tries_this (hashed_by g.S.Hasher.Hasher.finish g.S.Hasher.Hasher.write g.S.BuildHasher.build_hasher g.K.Hash.hash_input c.args.hasher.now) c.args.setting c.args.key c.args.value _ _ c.hash_of-hash.ensures c.try_insert-call.ensures)) c.in-Ok-default.stop c.in-Ok-default.is-0).1) c.tried.ensures.found
+    (tries_this (hashed_by g.S.Hasher.Hasher.finish g.S.Hasher.Hasher.write g.S.BuildHasher.build_hasher g.K.Hash.hash_input c.args.hasher.now) c.args.setting c.args.key c.args.value _ _ c.hash_of-hash.ensures c.try_insert-call.ensures)) c.in-Ok-default.stop c.in-Ok-default.is-0 _ c.told_at.ensures).1) c.tried.ensures.found
 
 pub returns-in-Ok-default-clause-kept : goal.returns-in-Ok-default-clause-kept
 returns-in-Ok-default-clause-kept g c =

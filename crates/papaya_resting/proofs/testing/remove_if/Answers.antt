@@ -8,4 +8,4 @@ use Rattle.papaya_resting.proofs.testing.remove_if.Goals as goal
 pub returns : goal.returns
 returns g c = λ xs has.
     ends_as g.K.PartialEq.eq (hashed_by g.S.Hasher.Hasher.finish g.S.Hasher.Hasher.write g.S.BuildHasher.build_hasher g.K.Hash.hash_input c.args.hasher.now) c.args.setting c.remove_if.new.memory (g.Q.Equivalent.equivalent c.args.asked.now) None xs
-    (Removing (TestsAs g.F.FnOnce c.args.test)) c.remove_if.result (c.remove_if.ensures xs (c.refresh.ensures xs has)) c.ended.result c.ended.ensures
+    (Removing (TestsAs g.F.FnOnce c.args.test)) c.remove_if.result (c.remove_if.ensures xs (c.refresh.ensures xs has)) c.ended.new.last c.ended.ensures.words c.ended.result c.ended.ensures.done

@@ -1,4 +1,5 @@
 -- By what the clearing comes to.
+use Rattle.papaya_resting.proofs.Lasts.{none_in, none_named}
 use Rattle.papaya_seq.proofs.Shows.{counts, either_rests, seen_held, shows_none, shows_refused}
 use Rattle.papaya_seq.proofs.map.HashMap.clear.Goals as goal
 
@@ -9,7 +10,7 @@ pub invariant_of-self-inside : goal.invariant_of-self-inside
 invariant_of-self-inside g c =
     let held = c.self.invariant in
     let rests = either_rests _ _ _ _ c.clear.result _ _ (c.clear.ensures.done held.0 held.1) (c.clear.ensures.refused held.0 held.1) in
-    record { tables = counts _ _ _ _ rests.0 rests.1 }
+    record { tables = counts _ _ _ _ rests.0 rests.1; takes = none_named _; meets = none_named _ }
 
 pub invariant_of-self : goal.invariant_of-self
 invariant_of-self g c =
@@ -24,4 +25,7 @@ returns-clause-done g c =
 pub returns-clause-refused : goal.returns-clause-refused
 returns-clause-refused g c =
     let held = c.self.invariant in
-    shows_refused _ _ _ _ _ c.clear.result held.0 _ (seen_held _ _ _ _ held.0 held.1 c.self.inside.resting.tables _ _ c.self.view_is) (c.clear.ensures.refused held.0 held.1)
+    shows_refused _ _ _ _ _ c.clear.result held.0 _ (seen_held _ _ _ _ held.0 held.1 c.self.inside.resting.tables _ _ _ _ c.self.view_is) (c.clear.ensures.refused held.0 held.1)
+
+pub returns-clause-last : goal.returns-clause-last
+returns-clause-last g c = (none_in _, none_in _)

@@ -15,4 +15,4 @@ returns-clause-pairs g c =
     ∙ ap (λ (x : Map g.row.K.Denot g.row.V.Denot g.row.S.Denot). x.pairs) c.self.view_is
 
 pub returns-clause-apart : goal.returns-clause-apart
-returns-clause-apart g c = let held = c.self.invariant in seen_apart _ _ _ _ held.0 held.1 c.self.inside.resting.tables _ _ c.self.view_is
+returns-clause-apart g c = let held = c.self.invariant in seen_apart _ _ _ _ held.0 held.1 c.self.inside.resting.tables _ _ _ _ c.self.view_is

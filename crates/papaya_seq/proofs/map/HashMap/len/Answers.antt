@@ -9,6 +9,6 @@ count-requires g c = c.self.invariant
 pub returns : goal.returns
 returns g c =
     let held = c.self.invariant in record {
-      len = c.count.ensures held.0 held.1 ∙ seen_as_many _ _ _ _ held.0 held.1 c.self.inside.resting.tables _ _ c.self.view_is;
-      apart = seen_apart _ _ _ _ held.0 held.1 c.self.inside.resting.tables _ _ c.self.view_is;
+      len = c.count.ensures held.0 held.1 ∙ seen_as_many _ _ _ _ held.0 held.1 c.self.inside.resting.tables _ _ _ _ c.self.view_is;
+      apart = seen_apart _ _ _ _ held.0 held.1 c.self.inside.resting.tables _ _ _ _ c.self.view_is;
     }

@@ -1,33 +1,17 @@
--- By what the removal comes to in the order in which its pairs were stored.
-use Rattle.papaya_seq.proofs.Orders.{left_same}
-use Rattle.papaya_seq.proofs.Shows.{counts, either_rests, seen_first, seen_held, shows_done, shows_refused, told_same}
+-- By what the removal took out, which is lent.
+use Rattle.std.specs.Prelude.{option_map}
+use Rattle.std.proofs.Common.{◌∙◌, ap, refl}
 use Rattle.papaya_seq.proofs.map.HashMap.remove.Goals as goal
 
-pub remove-requires : goal.remove-requires
-remove-requires g c = c.self.invariant
+pub returns-in-Some : goal.returns-in-Some
+returns-in-Some g c =
+    let e = c.in-Ok.ensures in
+    ((refl, λ _. tt, (e.removed, e.last), e.hasher), record { after = tt; value = ap (option_map (λ x. x.1)) (c.in-Some.ensures ∙ e.last.0); fault = tt })
 
-pub invariant_of-self-inside : goal.invariant_of-self-inside
-invariant_of-self-inside g c =
-    let held = c.self.invariant in
-    let rests = either_rests _ _ _ _ c.remove.result _ _ (c.remove.ensures.removed held.0 held.1) (c.remove.ensures.refused held.0 held.1) in
-    record { tables = counts _ _ _ _ rests.0 rests.1 }
+pub returns-in-None : goal.returns-in-None
+returns-in-None g c =
+    let e = c.in-Ok.ensures in
+    ((refl, λ _. tt, (e.removed, e.last), e.hasher), record { after = tt; value = ap (option_map (λ x. x.1)) (c.in-None.ensures ∙ e.last.0); fault = tt })
 
-pub invariant_of-self : goal.invariant_of-self
-invariant_of-self g c =
-    let held = c.self.invariant in
-    either_rests _ _ _ _ c.remove.result _ _ (c.remove.ensures.removed held.0 held.1) (c.remove.ensures.refused held.0 held.1)
-
-pub returns-clause-some : goal.returns-clause-some
-returns-clause-some g c =
-    let held = c.self.invariant in
-    told_same (g.Q.Equivalent.equivalent c.args.asked.now) held.0 _ (seen_first _ _ _ _ held.0 held.1 c.self.inside.resting.tables _ _ c.self.view_is (g.Q.Equivalent.equivalent c.args.asked.now) (λ x y. g.met.Q.Equivalent.respects_eq c.args.asked.now x y)) c.remove.result (c.remove.ensures.some held.0 held.1)
-
-pub returns-clause-removed : goal.returns-clause-removed
-returns-clause-removed g c =
-    let held = c.self.invariant in
-    shows_done _ _ _ _ _ c.remove.result _ _ (left_same (g.Q.Equivalent.equivalent c.args.asked.now) held.0 _ (seen_held _ _ _ _ held.0 held.1 c.self.inside.resting.tables _ _ c.self.view_is)) (c.remove.ensures.removed held.0 held.1)
-
-pub returns-clause-refused : goal.returns-clause-refused
-returns-clause-refused g c =
-    let held = c.self.invariant in
-    shows_refused _ _ _ _ _ c.remove.result held.0 _ (seen_held _ _ _ _ held.0 held.1 c.self.inside.resting.tables _ _ c.self.view_is) (c.remove.ensures.refused held.0 held.1)
+pub returns-in-Err : goal.returns-in-Err
+returns-in-Err g c = let e = c.in-Err.ensures in ((refl, λ _. tt, (e.refused, e.last), e.hasher), record { after = tt; value = tt; fault = e.fault })

@@ -1,4 +1,5 @@
 -- No pair has changed.
+use Rattle.papaya_resting.proofs.Lasts.{none_in, none_named}
 use Rattle.papaya_seq.proofs.Shows.{counts, seen_held, shown_as}
 use Rattle.papaya_seq.proofs.map.HashMap.reserve.Goals as goal
 
@@ -6,7 +7,7 @@ pub reserve-requires : goal.reserve-requires
 reserve-requires g c = c.self.invariant
 
 pub invariant_of-self-inside : goal.invariant_of-self-inside
-invariant_of-self-inside g c = let held = c.self.invariant in record { tables = counts _ _ _ _ held.0 (c.reserve.ensures.holds held.0 held.1) }
+invariant_of-self-inside g c = let held = c.self.invariant in record { tables = counts _ _ _ _ held.0 (c.reserve.ensures.holds held.0 held.1); takes = none_named _; meets = none_named _ }
 
 pub invariant_of-self : goal.invariant_of-self
 invariant_of-self g c = let held = c.self.invariant in (held.0, c.reserve.ensures.holds held.0 held.1)
@@ -14,4 +15,7 @@ invariant_of-self g c = let held = c.self.invariant in (held.0, c.reserve.ensure
 pub returns-clause-pairs : goal.returns-clause-pairs
 returns-clause-pairs g c =
     let held = c.self.invariant in
-    shown_as _ _ _ _ held.0 (c.reserve.ensures.holds held.0 held.1) _ _ (seen_held _ _ _ _ held.0 held.1 c.self.inside.resting.tables _ _ c.self.view_is)
+    shown_as _ _ _ _ held.0 (c.reserve.ensures.holds held.0 held.1) _ _ (seen_held _ _ _ _ held.0 held.1 c.self.inside.resting.tables _ _ _ _ c.self.view_is)
+
+pub returns-clause-last : goal.returns-clause-last
+returns-clause-last g c = (none_in _, none_in _)

@@ -2,6 +2,7 @@
 use Rattle.seize_alone.specs.Alone.{nothing_yet, registered}
 use Rattle.std.proofs.Common.{true}
 use Rattle.papaya_resting.proofs.Makes.{nothing_happened, taken_inside}
+use Rattle.papaya_resting.proofs.Lasts.{none_named}
 use Rattle.papaya_seq.proofs.Orders.{none_left}
 use Rattle.papaya_seq.proofs.Shows.{counts, shown}
 use Rattle.papaya_seq.proofs.map.HashMap.with_capacity_and_hasher.Goals as goal
@@ -16,7 +17,7 @@ begin-requires-clause-history g c =
 
 -- it has no pair
 pub invariant_of-result : goal.invariant_of-result
-invariant_of-result g c = record { tables = counts _ _ _ _ _ c.in_ok-setting.ensures }
+invariant_of-result g c = record { tables = counts _ _ _ _ _ c.in_ok-setting.ensures; takes = none_named _; meets = none_named _ }
 
 pub returns-clause-pairs : goal.returns-clause-pairs
 returns-clause-pairs g c = none_left _ (shown _ _ _ _ _ c.in_ok-setting.ensures _)

@@ -12,19 +12,19 @@ use Rattle.papaya_seq.proofs.set.HashSet.remove.Goals as goal
 pub returns-clause-some : goal.returns-clause-some
 returns-clause-some g c =
     let test = g.Q.Equivalent.equivalent c.args.asked.now in
-    IfOk-weaker c.remove.result _ _
-    (λ was so. so ∙ sym (keys_are_found test c.self.inside.map.pairs) ∙ ap (λ (x : Set g.row.K.Denot g.row.S.Denot). is_some (find test x.elements)) c.self.view_is) c.remove.ensures.some
+    IfOk-weaker c.take.result _ _
+    (λ was so. so ∙ sym (keys_are_found test c.self.inside.map.pairs) ∙ ap (λ (x : Set g.row.K.Denot g.row.S.Denot). is_some (find test x.elements)) c.self.view_is) c.take.ensures.some
 
 pub returns-clause-removed : goal.returns-clause-removed
 returns-clause-removed g c =
-    let test = g.Q.Equivalent.equivalent c.args.asked.now in let old = c.self.inside.map.pairs in let new = c.remove.new.self.pairs in
-    on_ok_weaker c.remove.result
+    let test = g.Q.Equivalent.equivalent c.args.asked.now in let old = c.self.inside.map.pairs in let new = c.take.new.self.pairs in
+    on_ok_weaker c.take.result
     (λ order.
     subst (λ (x : Set g.row.K.Denot g.row.S.Denot). IsPermutation (keys_of new) (left_in test x.elements)) c.self.view_is
-    (subst (IsPermutation (keys_of new)) (keys_left test old) (keys_in_order new (left_by test old) order))) c.remove.ensures.removed
+    (subst (IsPermutation (keys_of new)) (keys_left test old) (keys_in_order new (left_by test old) order))) c.take.ensures.removed
 
 pub returns-clause-refused : goal.returns-clause-refused
 returns-clause-refused g c =
-    let new = c.remove.new.self.pairs in
-    on_err_weaker c.remove.result
-    (λ order. subst (λ (x : Set g.row.K.Denot g.row.S.Denot). IsPermutation (keys_of new) x.elements) c.self.view_is (keys_in_order new c.self.inside.map.pairs order)) c.remove.ensures.refused
+    let new = c.take.new.self.pairs in
+    on_err_weaker c.take.result
+    (λ order. subst (λ (x : Set g.row.K.Denot g.row.S.Denot). IsPermutation (keys_of new) x.elements) c.self.view_is (keys_in_order new c.self.inside.map.pairs order)) c.take.ensures.refused
