@@ -1,5 +1,6 @@
 -- Lemmas on maps for one owner.
 mod Done
+pub mod Each
 mod Equals
 mod Members
 pub mod Orders

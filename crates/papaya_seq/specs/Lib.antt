@@ -5,3 +5,5 @@ pub mod Equals
 pub mod Puts
 pub mod Sets
 pub mod Walks
+pub mod Pairs
+pub mod Each
