@@ -80,19 +80,17 @@ module _ {K : Type 0} (in_range : K → Type 0) (value : K → Data) (same : K �
         }
       where
         still : (w : Value) (y : K) → Contains old y → value y ≡ view w → (b : Bool) → same x y ≡ b → (z : K) × Contains new z × (value z ≡ view w)
-        still w y c is true equals =
-            (
-              x,
-              Contains-permutation (others same x old ++ (x ∷ [])) new x (IsPermutation-sym new (others same x old ++ (x ∷ [])) order) (Contains-push (others same x old) x),
-              (tells x y its.0 (All-contains in_range old y so.ranged c)).0 equals ∙ is,
-            )
-        still w y c is false differs =
-            (
-              y,
-              Contains-permutation (others same x old ++ (x ∷ [])) new y (IsPermutation-sym new (others same x old ++ (x ∷ [])) order)
-                  (Contains-append_left (others same x old) (x ∷ []) y (kept_there (λ z. not (same x z)) old y c (ap not differs))),
-              is,
-            )
+        still w y c is true equals = (
+          x,
+          Contains-permutation (others same x old ++ (x ∷ [])) new x (IsPermutation-sym new (others same x old ++ (x ∷ [])) order) (Contains-push (others same x old) x),
+          (tells x y its.0 (All-contains in_range old y so.ranged c)).0 equals ∙ is,
+        )
+        still w y c is false differs = (
+          y,
+          Contains-permutation (others same x old ++ (x ∷ [])) new y (IsPermutation-sym new (others same x old ++ (x ∷ [])) order)
+              (Contains-append_left (others same x old) (x ∷ []) y (kept_there (λ z. not (same x z)) old y c (ap not differs))),
+          is,
+        )
 
     pub goes_on : (items : List Value) (i : ℕ) (v : Value) (old new : List K) → i < length items → v ≡ get_or items i v → AreRead (take i items) old
         → (x : K) × IsElementOf in_range value (view v) x × IsPermutation new (others same x old ++ (x ∷ [])) → AreRead (take (i + 1) items) new
@@ -105,8 +103,10 @@ module _ {K : Type 0} (in_range : K → Type 0) (value : K → Data) (same : K �
   bad_behind why [] i v below is all none = absurd (omega (arith, below))
   bad_behind why (w ∷ items) zero v below is all none = inl (subst (IsNoElement in_range value why) (ap view is) none)
   bad_behind why (w ∷ items) (suc i) v below is all none =
-      inr (All-head (λ u. (x : K) × IsElementOf in_range value (view u) x) w (take i items) all,
-      bad_behind why items i v (omega (arith, below)) is (All-tail (λ u. (x : K) × IsElementOf in_range value (view u) x) w (take i items) all) none)
+      inr (
+        All-head (λ u. (x : K) × IsElementOf in_range value (view u) x) w (take i items) all,
+        bad_behind why items i v (omega (arith, below)) is (All-tail (λ u. (x : K) × IsElementOf in_range value (view u) x) w (take i items) all) none,
+      )
 
   pub bad_at : (why : JsonFault) (items : List Value) (i : ℕ) (v : Value) (xs : List K) → i < length items → v ≡ get_or items i v → AreRead (take i items) xs
       → IsNoElement in_range value why (view v) → FirstBad in_range value why (items_view items)

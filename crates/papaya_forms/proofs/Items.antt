@@ -103,11 +103,10 @@ module _ {K : Type 0} (value : K → Data) where
   below_texts : (a : Entry) → IsTextOf a → (es : List Entry) → All IsTextOf es → AllByRecursion (λ k. string_cmp a.0 k ≡ Less) (keys_of es)
       → AllByRecursion (λ t. slice_cmp nat_cmp (compact_text (view a.1)) t ≡ Less) (map compact_text (data_of es))
   below_texts a is [] all below = tt
-  below_texts a is (e ∷ es) all below =
-      (
-        sym (ap (λ t. slice_cmp nat_cmp t (string_bytes e.0)) is.0 ∙ ap (slice_cmp nat_cmp (compact_text (view a.1))) (All-head IsTextOf e es all).0) ∙ below.0,
-        below_texts a is es (All-tail IsTextOf e es all) below.1,
-      )
+  below_texts a is (e ∷ es) all below = (
+    sym (ap (λ t. slice_cmp nat_cmp t (string_bytes e.0)) is.0 ∙ ap (slice_cmp nat_cmp (compact_text (view a.1))) (All-head IsTextOf e es all).0) ∙ below.0,
+    below_texts a is es (All-tail IsTextOf e es all) below.1,
+  )
 
   texts_in_order : (es : List Entry) → All IsTextOf es → IsStrictlySortedBy string_cmp (keys_of es) → IsStrictlySortedBy (slice_cmp nat_cmp) (map compact_text (data_of es))
   unfolding IsStrictlySortedBy
