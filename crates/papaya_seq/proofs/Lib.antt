@@ -5,6 +5,7 @@ mod Equals
 mod Members
 pub mod Orders
 mod Puts
+pub mod ReadBack
 mod Sets
 mod Shows
 mod Walked

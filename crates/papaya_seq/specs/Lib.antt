@@ -7,3 +7,4 @@ pub mod Sets
 pub mod Walks
 pub mod Pairs
 pub mod Each
+pub mod ReadBack

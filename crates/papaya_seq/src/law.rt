@@ -2,6 +2,7 @@
 ghost use Rattle.papaya_seq.specs.Each.{FoundIsSo, FoundPasses, LeftAreSo, OrderedAreSo, PutAreSo, PutsAreSo, ValueIsSo};
 ghost use Rattle.papaya_seq.specs.Equals.{AgreeAtEachKey, AgreeInAnyOrder};
 ghost use Rattle.papaya_seq.specs.Puts.{LastIsFound};
+ghost use Rattle.papaya_seq.specs.ReadBack.{OneArrayOneSet};
 ghost use Rattle.papaya_seq.specs.Orders.{FoundInAnyOrder, LeftInAnyOrder, ApartInAnyOrder, PutIsFound, OthersStay};
 
 /// Where no two keys are equal, the pair of a key is the same one in any order. So is what is left without it, but for the order, and no two
@@ -40,4 +41,9 @@ pub fn what_holds_of_each_pair<K, V>()
     ensures order { OrderedAreSo K V }
     ensures put { PutAreSo K V }
     ensures puts { PutsAreSo K V }
+{}
+
+/// Sets that one array has are equal: what is read of the array that a set was written as equals that set.
+pub fn sets_are_read_back<K>()
+    ensures { OneArrayOneSet K }
 {}

@@ -1,10 +1,11 @@
 //! Sets are written as JSON, and read of it.
+ghost use Rattle.std.specs.Prelude.{IfOk, IsTrue};
 
 use papaya_forms::{JsonFault, JsonForm, Text, TextRef};
 use papaya_seq::HashSet;
 use serde_json::Value;
 use std::alloc::Global;
-use std::hash::{BuildHasherDefault, DefaultHasher, Hash};
+use std::hash::{BuildHasher, BuildHasherDefault, DefaultHasher, Hash};
 use std::test::Fail;
 
 type Set<K> = HashSet<K, BuildHasherDefault<DefaultHasher>>;
@@ -50,9 +51,24 @@ const ROWS: [(Kind, &str, Result<&str, JsonFault>); 17] = [
     (Kind::Truths, "[true,null]", Err(JsonFault::BadElement)),
 ];
 
+/// Whether a set is read back of what it is written as. That it is follows from the clauses, for each type of elements.
+fn comes_back<K: JsonForm + Hash + Drop, S: BuildHasher + Default + Drop>(
+    alloc: Global,
+    set: &HashSet<K, S>,
+) -> Result<bool, JsonFault>
+    ensures { IfOk result IsTrue }
+{
+    let written = set.to_value(alloc)?;
+    let read: HashSet<K, S> = HashSet::from_value(alloc, &written)?;
+    Ok(read == *set)
+}
+
 /// The text of what is written of the set that this is read as.
 fn written<K: JsonForm + Hash + Drop>(alloc: Global, value: &Value) -> Result<String, JsonFault> {
     let set: Set<K> = HashSet::from_value(alloc, value)?;
+    if !comes_back(alloc, &set)? {
+        return Err(JsonFault::BadElement);
+    }
     Ok(set.to_value(alloc)?.to_string(alloc)?)
 }
 

@@ -33,7 +33,8 @@ impl<K: Eq + Hash + Drop, S: BuildHasher + Default + Drop> Gathers<K> for HashSe
 impl<K: JsonForm + Hash, S: BuildHasher> HashSet<K, S> {
     /// The array that has the set's elements, each once, in the order of the bytes of their compact texts.
     pub fn to_value(&self, alloc: Global) -> Result<Value, AllocError>
-        ensures { IfOk result (λ written. IsArrayOf K.JsonForm.json_value self.now.elements (view written)) }
+        ensures array { IfOk result (λ written. IsArrayOf K.JsonForm.json_value self.now.elements (view written)) }
+        ensures in_range { IfOk result (λ _. All K.JsonForm.in_range self.now.elements) }
     {
         array_of(alloc, self.iter())
     }
