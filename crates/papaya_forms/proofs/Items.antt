@@ -37,40 +37,41 @@ module _ (e : Entry) (is : IsTextOf e) where
   -- each value still stands beside its text
   texts_on : (es : List Entry) → All IsTextOf es → All IsTextOf (insert_entry string_cmp es e.0 e.1)
   texts_on [] all = All-cons IsTextOf e [] is (All-nil IsTextOf)
-  texts_on (f ∷ es) all = by (string_cmp e.0 f.0) refl
+  texts_on (f ∷ es) all = by (string_cmp e.0 f.0) refl (texts_on es (All-tail IsTextOf f es all))
     where
-      by : (o : Ordering) → string_cmp e.0 f.0 ≡ o → All IsTextOf (match_ordering o ((e.0, e.1) ∷ f ∷ es) ((f.0, e.1) ∷ es) (f ∷ insert_entry string_cmp es e.0 e.1))
-      by Less at = All-cons IsTextOf e (f ∷ es) is all
-      by Equal at =
+      by : (o : Ordering) → string_cmp e.0 f.0 ≡ o → All IsTextOf (insert_entry string_cmp es e.0 e.1)
+          → All IsTextOf (match_ordering o ((e.0, e.1) ∷ f ∷ es) ((f.0, e.1) ∷ es) (f ∷ insert_entry string_cmp es e.0 e.1))
+      by Less at behind = All-cons IsTextOf e (f ∷ es) is all
+      by Equal at behind =
           let same : string_bytes e.0 ≡ string_bytes f.0 = same_bytes (string_bytes e.0) (string_bytes f.0) at in
           All-cons IsTextOf (f.0, e.1) es (sym same ∙ is.0, ap read (sym same) ∙ is.1) (All-tail IsTextOf f es all)
-      by Greater at = All-cons IsTextOf f (insert_entry string_cmp es e.0 e.1) (All-head IsTextOf f es all) (texts_on es (All-tail IsTextOf f es all))
+      by Greater at behind = All-cons IsTextOf f (insert_entry string_cmp es e.0 e.1) (All-head IsTextOf f es all) behind
 
   -- it is there
   is_put : (es : List Entry) → Contains (data_of (insert_entry string_cmp es e.0 e.1)) (view e.1)
   is_put [] = first_is (view e.1) []
-  is_put (f ∷ es) = by (string_cmp e.0 f.0)
+  is_put (f ∷ es) = by (string_cmp e.0 f.0) (is_put es)
     where
-      by : (o : Ordering) → Contains (data_of (match_ordering o ((e.0, e.1) ∷ f ∷ es) ((f.0, e.1) ∷ es) (f ∷ insert_entry string_cmp es e.0 e.1))) (view e.1)
-      by Less = first_is (view e.1) (data_of (f ∷ es))
-      by Equal = first_is (view e.1) (data_of es)
-      by Greater = later_is (view f.1) (view e.1) (data_of (insert_entry string_cmp es e.0 e.1)) (is_put es)
+      by : (o : Ordering) → Contains (data_of (insert_entry string_cmp es e.0 e.1)) (view e.1)
+          → Contains (data_of (match_ordering o ((e.0, e.1) ∷ f ∷ es) ((f.0, e.1) ∷ es) (f ∷ insert_entry string_cmp es e.0 e.1))) (view e.1)
+      by Less behind = first_is (view e.1) (data_of (f ∷ es))
+      by Equal behind = first_is (view e.1) (data_of es)
+      by Greater behind = later_is (view f.1) (view e.1) (data_of (insert_entry string_cmp es e.0 e.1)) behind
 
   -- and so is what was there
   others_stay : (es : List Entry) → All IsTextOf es → (d : Data) → Contains (data_of es) d → Contains (data_of (insert_entry string_cmp es e.0 e.1)) d
   others_stay [] all d (k, l, at) = absurd (omega (arith, l))
-  others_stay (f ∷ es) all d there = by (string_cmp e.0 f.0) refl there
+  others_stay (f ∷ es) all d there = by (string_cmp e.0 f.0) refl there (others_stay es (All-tail IsTextOf f es all) d)
     where
-      by : (o : Ordering) → string_cmp e.0 f.0 ≡ o → Contains (data_of (f ∷ es)) d
+      by : (o : Ordering) → string_cmp e.0 f.0 ≡ o → Contains (data_of (f ∷ es)) d → (Contains (data_of es) d → Contains (data_of (insert_entry string_cmp es e.0 e.1)) d)
           → Contains (data_of (match_ordering o ((e.0, e.1) ∷ f ∷ es) ((f.0, e.1) ∷ es) (f ∷ insert_entry string_cmp es e.0 e.1))) d
-      by Less at found = later_is (view e.1) d (data_of (f ∷ es)) found
-      by Equal at (zero, l, here) =
+      by Less at found behind = later_is (view e.1) d (data_of (f ∷ es)) found
+      by Equal at (zero, l, here) behind =
           let same : view e.1 ≡ view f.1 = one_value e f is (All-head IsTextOf f es all) (same_bytes (string_bytes e.0) (string_bytes f.0) at) in
           subst (Contains (view e.1 ∷ data_of es)) (same ∙ here) (first_is (view e.1) (data_of es))
-      by Equal at (suc k, l, here) = later_is (view e.1) d (data_of es) (k, omega (arith, l), here)
-      by Greater at (zero, l, here) = subst (Contains (view f.1 ∷ data_of (insert_entry string_cmp es e.0 e.1))) here (first_is (view f.1) (data_of (insert_entry string_cmp es e.0 e.1)))
-      by Greater at (suc k, l, here) =
-          later_is (view f.1) d (data_of (insert_entry string_cmp es e.0 e.1)) (others_stay es (All-tail IsTextOf f es all) d (k, omega (arith, l), here))
+      by Equal at (suc k, l, here) behind = later_is (view e.1) d (data_of es) (k, omega (arith, l), here)
+      by Greater at (zero, l, here) behind = subst (Contains (view f.1 ∷ data_of (insert_entry string_cmp es e.0 e.1))) here (first_is (view f.1) (data_of (insert_entry string_cmp es e.0 e.1)))
+      by Greater at (suc k, l, here) behind = later_is (view f.1) d (data_of (insert_entry string_cmp es e.0 e.1)) (behind (k, omega (arith, l), here))
 
 module _ {K : Type 0} (value : K → Data) where
   -- the values so far are those of these elements

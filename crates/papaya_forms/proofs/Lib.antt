@@ -1,5 +1,5 @@
 pub mod PlainTexts
 pub mod Members
 pub mod Items
-pub mod Elements
-pub mod Arrays
+pub mod Readings
+pub mod OneArray

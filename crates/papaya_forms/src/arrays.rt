@@ -1,6 +1,6 @@
 //! Elements are written as the items of a JSON array.
 ghost use Rattle.std.specs.Prelude.{◌≡◌, List, map, string_cmp, IfOk, OnOk};
-ghost use Rattle.std.specs.BTreeMap.{IsOrdered};
+ghost use Rattle.std.specs.BTreeMap.{IsOrdered, values};
 ghost use Rattle.std.specs.Borrow.{Bor};
 ghost use Rattle.std.specs.Iterator.{IsFinite, Drains};
 ghost use Rattle.std.specs.List.{All};
@@ -28,6 +28,13 @@ fn put_item<K: JsonForm>(
     Ok(())
 }
 
+/// The values, in the order of their texts.
+fn in_order(alloc: Global, items: Map<String, Value>) -> Result<Vec<Value>, AllocError>
+    ensures { IfOk result (λ listed. listed.items ≡ values items) }
+{
+    items.into_values().collect(alloc)
+}
+
 /// The array that these elements are written as: each once, in the order of the bytes of their compact texts.
 pub fn array_of<'a, K: JsonForm + 'a, I: Iterator<Item = &'a K>>(
     alloc: Global,
@@ -42,6 +49,6 @@ pub fn array_of<'a, K: JsonForm + 'a, I: Iterator<Item = &'a K>>(
     for element in elements {
         put_item(alloc, &mut items, element)?;
     }
-    let listed: Vec<Value> = items.into_values().collect(alloc)?;
+    let listed = in_order(alloc, items)?;
     Ok(Value::Array(listed))
 }

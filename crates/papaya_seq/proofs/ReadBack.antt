@@ -7,7 +7,7 @@ use Rattle.std.proofs.Common.{◌≡◌, ℕ, zero, suc, Bool, true, false, List
 use Rattle.std.proofs.lemmas.List.Elements.{All-contains}
 use Rattle.serde_json.specs.Data.{Data}
 use Rattle.papaya_forms.specs.ArrayLaws.{HaveSameValues}
-use Rattle.papaya_forms.proofs.Arrays.{arrays_tell}
+use Rattle.papaya_forms.proofs.OneArray.{arrays_tell}
 use Rattle.papaya_forms.proofs.Members.{first_is, later_is}
 use Rattle.papaya_owned.specs.Owned.{found_by}
 use Rattle.papaya_seq.specs.Equals.{agree_from_each, with_no_values}

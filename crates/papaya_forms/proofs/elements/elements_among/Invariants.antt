@@ -1,5 +1,5 @@
 use Rattle.std.specs.Prelude.{take}
-use Rattle.papaya_forms.proofs.Elements.{AreRead}
+use Rattle.papaya_forms.proofs.Readings.{AreRead}
 use Rattle.papaya_forms.proofs.elements.elements_among.Given as goal
 
 -- so many items are read

@@ -1,5 +1,5 @@
 -- Elements that are read of the items of an array, one after another.
-use Rattle.std.specs.Prelude.{◌<◌, IsTrue, ◌↔◌}
+use Rattle.std.specs.Prelude.{◌+◌, ◌<◌, ◌≤◌, ◌⊎◌, IsTrue, ◌↔◌}
 use Rattle.std.specs.Cmp.{IsEquivalence}
 use Rattle.std.specs.List.{All, Contains, IsDistinct, list_any}
 use Rattle.std.specs.List.Sorted.{IsPermutation}
@@ -12,7 +12,7 @@ use Rattle.std.proofs.lemmas.Map.Keys.{IsDistinct-IsPermutation, IsDistinct-from
 use Rattle.serde_json.specs.Data.{Data, array}
 use Rattle.serde_json.specs.View.{view, items_view}
 use Rattle.serde_json.specs.declared.value.Value.{Value}
-use Rattle.papaya_forms.specs.Arrays.{FirstBad, HasElements, IsElementOf, IsNoElement}
+use Rattle.papaya_forms.specs.Arrays.{FirstBad, HasElements, IsElementOf, IsNoElement, IsRefused}
 use Rattle.papaya_forms.specs.declared.fault.JsonFault.{JsonFault}
 use Rattle.papaya_forms.proofs.Members.{first_is, later_is}
 
@@ -108,12 +108,17 @@ module _ {K : Type 0} (in_range : K → Type 0) (value : K → Data) (same : K �
         bad_behind why items i v (omega (arith, below)) is (All-tail (λ u. (x : K) × IsElementOf in_range value (view u) x) w (take i items) all) none,
       )
 
-  pub bad_at : (why : JsonFault) (items : List Value) (i : ℕ) (v : Value) (xs : List K) → i < length items → v ≡ get_or items i v → AreRead (take i items) xs
+  bad_at : (why : JsonFault) (items : List Value) (i : ℕ) (v : Value) (xs : List K) → i < length items → v ≡ get_or items i v → AreRead (take i items) xs
       → IsNoElement in_range value why (view v) → FirstBad in_range value why (items_view items)
   bad_at why items i v xs below is so none =
       bad_behind why items i v below is
       (All-weaker (λ w. (x : K) × Contains xs x × (value x ≡ view w)) (λ w. (x : K) × IsElementOf in_range value (view w) x)
       (λ w one. (one.0, (All-contains in_range xs one.0 so.ranged one.1, one.2))) (take i items) so.only) none
+
+  pub fault_at : (why : JsonFault) (items : List Value) (i : ℕ) (v : Value) (xs : List K) → i < length items → v ≡ get_or items i v → AreRead (take i items) xs
+      → IsNoElement in_range value why (view v) ⊎ IsRefused why → FirstBad in_range value why (items_view items) ⊎ IsRefused why
+  fault_at why items i v xs below is so (inl none) = inl (bad_at why items i v xs below is so none)
+  fault_at why items i v xs below is so (inr refused) = inr refused
 
   -- where no item is left
   module _ (items : List Value) (i : ℕ) (xs : List K) (past : length items ≤ i) (so : AreRead (take i items) xs) where
