@@ -5,7 +5,7 @@ use Rattle.std.specs.List.{All, AllByRecursion, Contains}
 use Rattle.std.specs.List.Sorted.{IsStrictlySortedBy}
 use Rattle.std.specs.Map.{keys_of, values_of}
 use Rattle.std.specs.Ordering.{is_eq, match_ordering}
-use Rattle.std.proofs.Common.{◌≡◌, ℕ, zero, suc, List, [], ◌∷◌, ◌++◌, map, Option, Some, Ordering, Less, Equal, Greater, inl, inr, Vec, Global, nat_cmp, string_bytes, string_cmp, refl, ap, sym, subst, ◌∙◌, arith}
+use Rattle.std.proofs.Common.{◌≡◌, ℕ, zero, suc, List, [], ◌∷◌, ◌++◌, map, Ordering, Less, Equal, Greater, Vec, Global, nat_cmp, string_bytes, string_cmp, refl, ap, sym, subst, ◌∙◌, arith}
 use Rattle.std.proofs.lemmas.List.Elements.{All-cons, All-nil, All-head, All-map, All-tail, All-push, All-weaker, Contains-append_left, Contains-push}
 use Rattle.std.proofs.lemmas.Map.Text.{is_eq-slice_cmp}
 use Rattle.std.proofs.lemmas.Map.Views.{All-values-insert_entry}
@@ -17,7 +17,7 @@ use Rattle.serde_json.specs.View.{view, items_of}
 use Rattle.serde_json.specs.Written.{compact_text}
 use Rattle.serde_json.specs.declared.value.Value.{Value, Array}
 use Rattle.serde_json.proofs.Views.{Entry, view-Array}
-use Rattle.papaya_forms.specs.Arrays.{HasElements, IsArrayOf}
+use Rattle.papaya_forms.specs.Arrays.{IsArrayOf}
 use Rattle.papaya_forms.specs.Texts.{IsTextOf, PutsValue}
 use Rattle.papaya_forms.proofs.Members.{first_is, later_is}
 

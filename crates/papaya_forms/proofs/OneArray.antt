@@ -1,7 +1,7 @@
 -- Arrays of the same elements.
 use Rattle.std.specs.Cmp.Lexicographic.{slice_cmp}
 use Rattle.std.specs.List.{All, AllByRecursion, Contains}
-use Rattle.std.specs.List.Sorted.{IsPermutation, IsStrictlySortedBy}
+use Rattle.std.specs.List.Sorted.{IsStrictlySortedBy}
 use Rattle.std.specs.Ordering.{ordering_reverse}
 use Rattle.std.proofs.Common.{◌≡◌, ℕ, zero, suc, List, [], ◌∷◌, map, Less, nat_cmp, refl, ap, sym, subst, ◌∙◌, arith}
 use Rattle.std.proofs.lemmas.Cmp.{nat_list_cmp_total, tied_itself}
@@ -10,8 +10,8 @@ use Rattle.std.proofs.lemmas.List.Sorted.{All-permutation, Contains-permutation}
 use Rattle.serde_json.specs.Data.{Data, Items, no_items, item, array}
 use Rattle.serde_json.specs.View.{items_of}
 use Rattle.serde_json.specs.Written.{compact_text}
-use Rattle.papaya_forms.specs.Arrays.{HasElements, IsArrayOf}
-use Rattle.papaya_forms.specs.ArrayLaws.{ArraysAreOne, ArraysHaveNoOrder, ArraysTell, HaveSameValues}
+use Rattle.papaya_forms.specs.Arrays.{HasElements}
+use Rattle.papaya_forms.specs.ArrayLaws.{ArraysAreOne, ArraysHaveNoOrder, ArraysTell}
 use Rattle.papaya_forms.proofs.Members.{first_is, later_is}
 
 -- this text stands before that of each of these
