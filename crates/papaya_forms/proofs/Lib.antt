@@ -1,2 +1,5 @@
 pub mod PlainTexts
 pub mod Members
+pub mod Items
+pub mod Readings
+pub mod OneArray

@@ -11,6 +11,13 @@ use Rattle.serde_json.specs.Find.{get_member}
 use Rattle.serde_json.proofs.Views.{get_member-put, get_member-put_other}
 use Rattle.papaya_forms.specs.Objects.{members_with, AreApart, ObjectsHaveTheirPairs, ObjectsHaveNoOrder}
 
+-- it is one of the list
+pub first_is : {X : Type 0} (x : X) (xs : List X) → Contains (x ∷ xs) x
+first_is x xs = (0, omega arith, refl)
+
+pub later_is : {X : Type 0} (x y : X) (xs : List X) → Contains xs y → Contains (x ∷ xs) y
+later_is x y xs (k, l, is) = (suc k, omega (arith, l), is)
+
 module _ {K V X : Type 0} (text : K → List ℕ) (value : V → Data) (pair : X → K × V) where
   -- one pair more
   pub one_more : (ms : Members) (xs : List X) (x : X)
@@ -32,13 +39,6 @@ module _ {K V : Type 0} (text : K → List ℕ) (value : V → Data) where
       All-cons (λ y. get_member (text y.0) (members_with text value (put (text x.0) (value x.1) ms) xs) ≡ Some (value y.1)) x xs
       (kept xs (put (text x.0) (value x.1) ms) (text x.0) (value x.1) apart.0 (get_member-put (text x.0) (value x.1) ms))
       (each xs (put (text x.0) (value x.1) ms) apart.1)
-
-  -- it is one of the list
-  first_is : (x : K × V) (xs : List (K × V)) → Contains (x ∷ xs) x
-  first_is x xs = (0, omega arith, refl)
-
-  later_is : (x y : K × V) (xs : List (K × V)) → Contains xs y → Contains (x ∷ xs) y
-  later_is x y xs (k, l, is) = (suc k, omega (arith, l), is)
 
   abbrev IsOne : List (K × V) → List ℕ → Type 0
   IsOne xs name = (x : K × V) × Contains xs x × (text x.0 ≡ name)

@@ -1,6 +1,7 @@
 //! How keys and values look in JSON.
-ghost use Rattle.std.specs.Prelude.{◌≡◌, ◌↔◌, ℕ, List, Bool, IfOk, IfErr, IsTrue, false, string_bytes};
-ghost use Rattle.serde_json.specs.Data.{Data};
+ghost use Rattle.std.specs.Prelude.{◌≡◌, ◌≤◌, ◌↔◌, ℕ, List, Bool, IfOk, IfErr, IsTrue, false, string_bytes};
+ghost use Rattle.serde_json.specs.Data.{Data, depth};
+ghost use Rattle.serde_json.specs.Read.{max_depth};
 ghost use Rattle.serde_json.specs.View.{view};
 ghost use Rattle.serde_json.specs.Written.{has_float};
 ghost use Rattle.papaya_forms.specs.Forms.{Reads};
@@ -51,4 +52,7 @@ pub trait JsonForm: Eq {
 
     // Its value is no float, so just one text is its compact one.
     ghost has_no_float: { (x : Self) → has_float (json_value x) ≡ false };
+
+    // It nests no deeper than what is read back, so no other value has its compact text.
+    ghost is_read_back: { (x : Self) → depth (json_value x) ≤ max_depth };
 }

@@ -1,8 +1,11 @@
 //! Keys that are texts, and how keys and values look in JSON.
 #![tactic(auto)]
 
+mod arrays;
 mod decimals;
+mod elements;
 mod fault;
+mod gathers;
 mod json_form;
 pub mod law;
 mod objects;
@@ -11,7 +14,10 @@ mod text;
 mod truth;
 mod unsigned;
 
+pub use arrays::array_of;
+pub use elements::elements_of;
 pub use fault::JsonFault;
+pub use gathers::Gathers;
 pub use json_form::JsonForm;
 pub use objects::object_of;
 pub use text::{Text, TextRef};

@@ -51,6 +51,8 @@ impl JsonForm for i8 {
 
     ghost has_no_float = { signed_has_no_float };
 
+    ghost is_read_back = { λ _. omega arith };
+
     fn to_key_text(&self, alloc: Global) -> Result<String, AllocError> {
         let number = *self;
         number.to_string(alloc)
@@ -83,6 +85,8 @@ impl JsonForm for i16 {
     ghost json_value_tells = { λ x y _ _. signed_values_tell x y };
 
     ghost has_no_float = { signed_has_no_float };
+
+    ghost is_read_back = { λ _. omega arith };
 
     fn to_key_text(&self, alloc: Global) -> Result<String, AllocError> {
         let number = *self;
@@ -117,6 +121,8 @@ impl JsonForm for i32 {
 
     ghost has_no_float = { signed_has_no_float };
 
+    ghost is_read_back = { λ _. omega arith };
+
     fn to_key_text(&self, alloc: Global) -> Result<String, AllocError> {
         let number = *self;
         number.to_string(alloc)
@@ -149,6 +155,8 @@ impl JsonForm for i64 {
     ghost json_value_tells = { λ x y _ _. signed_values_tell x y };
 
     ghost has_no_float = { signed_has_no_float };
+
+    ghost is_read_back = { λ _. omega arith };
 
     fn to_key_text(&self, alloc: Global) -> Result<String, AllocError> {
         let number = *self;

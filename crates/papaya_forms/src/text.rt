@@ -7,7 +7,7 @@ ghost use Rattle.std.specs.Fmt.{debug_str};
 ghost use Rattle.std.specs.Hash as fed;
 ghost use Rattle.std.specs.Cmp.{partial_equiv_from_equiv};
 ghost use Rattle.std.specs.Cmp.Lexicographic.{nat_list_eq_equiv};
-ghost use Rattle.std.proofs.Common.{rules};
+ghost use Rattle.std.proofs.Common.{arith, rules};
 ghost use Rattle.std.proofs.lemmas.Slice.Eq.{bytes_eq-Decides};
 
 use crate::fault::JsonFault;
@@ -183,6 +183,8 @@ impl JsonForm for Text {
     ghost json_value_tells = { λ x y _ _. text_values_tell x y };
 
     ghost has_no_float = { λ _. refl };
+
+    ghost is_read_back = { λ _. omega arith };
 
     fn to_key_text(&self, alloc: Global) -> Result<String, AllocError> {
         String::from_str(alloc, self.as_str())

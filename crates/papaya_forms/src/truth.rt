@@ -1,5 +1,6 @@
 //! How truth values look in JSON.
 ghost use Rattle.std.specs.Prelude.{⊤, false, refl};
+ghost use Rattle.std.proofs.Common.{arith};
 ghost use Rattle.serde_json.specs.Data.{boolean};
 ghost use Rattle.papaya_forms.specs.Forms.{bool_text};
 ghost use Rattle.papaya_forms.specs.Tells.{bool_texts_tell, bool_values_tell};
@@ -23,6 +24,8 @@ impl JsonForm for bool {
     ghost json_value_tells = { λ x y _ _. bool_values_tell x y };
 
     ghost has_no_float = { λ _. refl };
+
+    ghost is_read_back = { λ _. omega arith };
 
     fn to_key_text(&self, alloc: Global) -> Result<String, AllocError> {
         String::from_str(alloc, if *self { "true" } else { "false" })

@@ -48,6 +48,8 @@ impl JsonForm for u8 {
 
     ghost has_no_float = { λ _. refl };
 
+    ghost is_read_back = { λ _. omega arith };
+
     fn to_key_text(&self, alloc: Global) -> Result<String, AllocError> {
         let number = *self;
         number.to_string(alloc)
@@ -80,6 +82,8 @@ impl JsonForm for u16 {
     ghost json_value_tells = { λ x y _ _. unsigned_values_tell x y };
 
     ghost has_no_float = { λ _. refl };
+
+    ghost is_read_back = { λ _. omega arith };
 
     fn to_key_text(&self, alloc: Global) -> Result<String, AllocError> {
         let number = *self;
@@ -114,6 +118,8 @@ impl JsonForm for u32 {
 
     ghost has_no_float = { λ _. refl };
 
+    ghost is_read_back = { λ _. omega arith };
+
     fn to_key_text(&self, alloc: Global) -> Result<String, AllocError> {
         let number = *self;
         number.to_string(alloc)
@@ -146,6 +152,8 @@ impl JsonForm for u64 {
     ghost json_value_tells = { λ x y _ _. unsigned_values_tell x y };
 
     ghost has_no_float = { λ _. refl };
+
+    ghost is_read_back = { λ _. omega arith };
 
     fn to_key_text(&self, alloc: Global) -> Result<String, AllocError> {
         let number = *self;

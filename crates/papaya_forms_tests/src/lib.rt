@@ -2,7 +2,10 @@
 #![tactic(auto)]
 
 #[cfg(test)]
+mod arrays;
+#[cfg(test)]
 mod forms;
+mod listed;
 #[cfg(test)]
 mod objects;
 #[cfg(test)]

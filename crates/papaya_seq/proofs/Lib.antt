@@ -1,10 +1,12 @@
 -- Lemmas on maps for one owner.
 mod Done
+pub mod Each
 mod Equals
 mod Kept
 mod Members
 pub mod Orders
 mod Puts
+pub mod ReadBack
 mod Sets
 mod Shows
 mod Walked

@@ -6,3 +6,6 @@ pub mod Puts
 pub mod Sets
 pub mod Walks
 pub mod Lent
+pub mod Pairs
+pub mod Each
+pub mod ReadBack

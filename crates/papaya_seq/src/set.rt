@@ -5,6 +5,7 @@ mod clones;
 mod equal;
 mod extending;
 mod formatting;
+mod json;
 mod lookups;
 mod making;
 mod sweeps;

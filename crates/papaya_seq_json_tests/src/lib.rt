@@ -1,5 +1,7 @@
-//! Tests of JSON of the map for one owner.
+//! Tests of JSON of the map and the set for one owner.
 #![tactic(auto)]
 
 #[cfg(test)]
 mod maps;
+#[cfg(test)]
+mod sets;

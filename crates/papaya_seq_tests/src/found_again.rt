@@ -1,6 +1,6 @@
 //! What follows from the contract of a map for who uses one: what was stored is found again, whatever the map was before.
 ghost use Rattle.std.specs.Prelude.{◌≡◌, false, is_some, IfOk, Some};
-ghost use Rattle.papaya_owned.specs.Owned.{found_by};
+ghost use Rattle.papaya_seq.specs.Pairs.{found_by};
 
 use papaya_runs::key_hash::KeyHash;
 use papaya_seq::{Fault, HashMap};

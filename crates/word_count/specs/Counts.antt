@@ -2,7 +2,7 @@
 use Rattle.std.specs.Prelude.{ℕ, List}
 use Rattle.std.specs.Option.{option_map, unwrap_or}
 use Rattle.std.specs.Str.{bytes_eq}
-use Rattle.papaya_owned.specs.Owned.{found_by}
+use Rattle.papaya_seq.specs.Pairs.{found_by}
 
 -- the count of this word among the pairs, and 0 if it has none
 abbrev pub count_of : List ℕ → List (List ℕ × ℕ) → ℕ

@@ -4,7 +4,7 @@
 ghost use Rattle.std.specs.Prelude.{◌≡◌, ◌+◌, [], ◌∷◌, ◌++◌, is_some, not, IfOk, OnOk, OnErr};
 ghost use Rattle.std.specs.List.Sorted.{IsPermutation};
 ghost use Rattle.std.specs.Str.{bytes_eq};
-ghost use Rattle.papaya_owned.specs.Owned.{found_by, left_by};
+ghost use Rattle.papaya_seq.specs.Pairs.{found_by, left_by};
 ghost use Rattle.word_count.specs.Counts.{count_of};
 
 use papaya_forms::{Text, TextRef};

@@ -1,0 +1,22 @@
+//! What elements that are read are put into.
+ghost use Rattle.std.specs.Prelude.{◌≡◌, ◌∷◌, ◌++◌, ◌⊎◌, List, [], filter, not, IfOk, IfErr, OnOk};
+ghost use Rattle.std.specs.List.Sorted.{IsPermutation};
+ghost use Rattle.seize_words.specs.declared.fault.Fault.TheVariants.{Memory, Capacity};
+
+use seize_words::Fault;
+use std::alloc::{AllocError, Global};
+
+/// A collection in which an element counts once, however often it is put in.
+pub trait Gathers<K: Eq> {
+    // The elements that it has.
+    ghost elements: { Self → List K };
+
+    /// One with no element.
+    fn none(alloc: Global) -> Result<Self, AllocError>
+        ensures { IfOk result (λ made. elements made ≡ []) };
+
+    /// Puts an element, in the place of one that equals it, if there is one.
+    fn put(&mut self, element: K) -> Result<(), Fault>
+        ensures put { OnOk result (IsPermutation (elements self.new) (filter (λ y. not (K.eq element y)) (elements self.old) ++ (element ∷ []))) }
+        ensures fault { IfErr result (λ fault. (fault ≡ Memory) ⊎ (fault ≡ Capacity)) };
+}
