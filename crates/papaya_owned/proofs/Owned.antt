@@ -12,6 +12,7 @@ pub mod Making
 pub mod Places
 pub mod Questions
 pub mod Refreshes
+pub mod Refusals
 pub mod Rests
 pub mod Retains
 pub mod Rooms
