@@ -17,4 +17,5 @@ pub mod Rests
 pub mod Retains
 pub mod Rooms
 pub mod Siftings
+pub mod Standing
 pub mod Sweeps

@@ -1,6 +1,7 @@
 //! What goes over all pairs of a map for one owner, and removes them. Each change begins with a refresh.
-ghost use Rattle.std.specs.Prelude.{◌≡◌, Bool, List, [], OnOk, OnErr, filter};
+ghost use Rattle.std.specs.Prelude.{◌≡◌, Bool, List, [], IfErr, OnOk, OnErr, filter};
 ghost use Rattle.std.specs.List.Sorted.{IsPermutation};
+ghost use Rattle.papaya_late.specs.Faults.{IsRoom};
 ghost use Rattle.papaya_owned.specs.Retaining.{AnswersByTest, KeepsOf};
 
 use crate::map::HashMap;
@@ -13,6 +14,7 @@ impl<K: Eq + Hash + Drop, V: Drop, S: BuildHasher> HashMap<K, V, S> {
     pub fn clear(&mut self) -> Result<(), Fault>
         ensures done { OnOk result (self.new.pairs ≡ []) }
         ensures refused { OnErr result (IsPermutation self.new.pairs self.old.pairs) }
+        ensures fault { IfErr result IsRoom }
         ensures hasher { self.new.hasher ≡ self.old.hasher }
     {
         papaya_resting::clear(&mut self.resting.memory, self.resting.setting, &self.hasher)
@@ -25,6 +27,7 @@ impl<K: Eq + Hash + Drop, V: Drop, S: BuildHasher> HashMap<K, V, S> {
         ensures done { OnOk result ((kept : List (K × V)) × KeepsOf F.FnMut keep self.old.pairs kept × IsPermutation self.new.pairs kept) }
         ensures by_test { (test : K → V → Bool) → AnswersByTest F.FnMut test → OnOk result (IsPermutation self.new.pairs (filter (λ x. test x.0 x.1) self.old.pairs)) }
         ensures refused { OnErr result (IsPermutation self.new.pairs self.old.pairs) }
+        ensures fault { IfErr result IsRoom }
         ensures hasher { self.new.hasher ≡ self.old.hasher }
     {
         papaya_resting::retain(

@@ -41,7 +41,7 @@ use Rattle.papaya_finishes.proofs.Beside.Maps.Comes.{no_maps_begin}
 use Rattle.papaya_maps.specs.AloneBegins.{IsOpening, OpensTo}
 use Rattle.papaya_maps.specs.FaultsBegins.{NeedsMemoryAlone, NeedsOn}
 use Rattle.papaya_maps.specs.MeasuresBegins.{new_map_left}
-use Rattle.papaya_maps.proofs.Laws.{maps_may_begin, maps_go_on, beginnings_come_nearer, only_memory_is_refused}
+use Rattle.papaya_maps.proofs.Laws.{maps_may_begin, maps_go_on, beginnings_come_nearer, free_roots_are_enough, only_memory_is_refused}
 use Rattle.papaya_whole.specs.Contents.{ContentsBelow}
 use Rattle.papaya_whole.specs.Owner.{AtRest}
 use Rattle.papaya_owned.specs.Ending.{GoesOn, Tells, Ends, all_end, RunsTo, stops, goes}
@@ -152,7 +152,7 @@ module _ {K V : Type 0} (same : K → K → Bool) (hash : K → ℕ) (lawful : A
   refused_so n m progress.Goes (Err f) needs tells = absurd tells
   refused_so n m progress.Waits (Err f) needs tells = absurd tells
 
-  pub runs_refused : (n : NewMap) (m : Mem (Node K V)) (n2 : NewMap) (m2 : Mem (Node K V)) (result : Result Setting Fault) → RunsTo (new_map_plan {K = K} {V = V}) n m n2 m2 result → Opens n m
+  runs_refused : (n : NewMap) (m : Mem (Node K V)) (n2 : NewMap) (m2 : Mem (Node K V)) (result : Result Setting Fault) → RunsTo (new_map_plan {K = K} {V = V}) n m n2 m2 result → Opens n m
       → NeedsMemoryAlone m n n.stands → IfErr result (λ fault. fault ≡ Memory)
   runs_refused n m n2 m2 result (stops _ _ _ _ told _ s tells) o needs = refused_so n2 m2 told result (only_memory_is_refused K V m m2 n (n2, told) needs s).1 tells
   runs_refused n m n2 m2 result (goes _ _ n1 m1 told on s _ _ _ runs) o needs =
@@ -258,3 +258,7 @@ module _ {K V : Type 0} (same : K → K → Bool) (hash : K → ℕ) (lawful : A
       history = h0;
       opening = maps_may_begin V same hash setting 1 places m0 h0 had (omega arith) roots_there table;
     }
+
+    pub first_refused : max places 8 ≤ 2 ^ 48 → (n2 : NewMap) (m2 : Mem (Node K V)) (result : Result Setting Fault) → RunsTo (new_map_plan {K = K} {V = V}) (opening setting 1 places) m0 n2 m2 result
+        → IfErr result (λ fault. fault ≡ Memory)
+    first_refused few n2 m2 result runs = runs_refused (opening setting 1 places) m0 n2 m2 result runs opens_first (free_roots_are_enough K V setting 1 places m0 used few)
