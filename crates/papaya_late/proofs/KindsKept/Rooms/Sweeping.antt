@@ -42,7 +42,7 @@ if_room true x y p q = p
 if_room false x y p q = q
 
 further_room : (c : Sweep) → RoomInSweeping (further c).stands
-further_room c = if_room (nat_lt (past c).place c.table.len) at.Words (at_end (past c)) tt (if_room (removes c.purpose && c.met) at.Follows at.Over tt tt)
+further_room c = if_room (nat_lt (past c).place c.table.len) at.Words (at_end c) tt (if_room (removes c.purpose && c.met) at.Follows at.Over tt tt)
 
 next_room : (c : Sweep) → RoomInSweeping c.stands → (stands : Sweeping) → RoomInSweeping (next_at stands c).stands
 next_room c room at.Ready = if_room (nat_lt c.place c.table.len) at.Words at.Over tt tt
