@@ -30,11 +30,11 @@ tells_room (progress.Done pause) (Err f) tells room = absurd tells
 tells_room progress.Goes (Err f) tells room = absurd tells
 tells_room progress.Waits (Err f) tells room = absurd tells
 
-module _ {K V S : Type 0} (hashes : S → K → ℕ) where
-  -- where it stands is so, and what it tells
-  abbrev IsSo : OverPairs S × Progress Pause → Type 0
-  IsSo end = RoomInSweeping end.0.sweep.stands × TellsRoom end.1
+-- where it stands is so, and what it tells
+abbrev IsSo : {S : Type 0} → OverPairs S × Progress Pause → Type 0
+IsSo end = RoomInSweeping end.0.sweep.stands × TellsRoom end.1
 
+module _ {K V S : Type 0} (hashes : S → K → ℕ) where
   settled_so : (x : OverPairs S) (told : Swept (Node K V)) → RoomInSweeping x.sweep.stands → SweepRefusesRoom told → IsSo (over_pairs_settled x told)
   settled_so x (swept.Refused fault) here room = (here, room)
   settled_so x _ here room = (here, tt)

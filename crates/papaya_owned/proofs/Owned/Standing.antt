@@ -42,14 +42,11 @@ module _ {K : Type 0} (c : Chart K) (f : ℕ → ℕ) where
 
   pub none_there : (b n : ℕ) → ((o : ℕ) → o < n → c.current o ≡ true → b ≢ f o) → times b (blocks_below n) ≡ 0
   none_there b zero apart = refl
-  none_there b (suc n) apart = by (c.current n) refl
+  none_there b (suc n) apart = by (c.current n) refl (none_there b n (λ o l. apart o (omega (arith, l))))
     where
-      before : times b (blocks_below n) ≡ 0
-      before = none_there b n (λ o l. apart o (omega (arith, l)))
-
-      by : (x : Bool) → c.current n ≡ x → times b (cond x (blocks_below n ++ (f n ∷ [])) (blocks_below n)) ≡ 0
-      by true is = let k = times-append b (blocks_below n) (f n ∷ []) in let o = times_other b (f n) [] (apart n (omega arith) is) in omega (arith, k, o, before)
-      by false is = before
+      by : (x : Bool) → c.current n ≡ x → times b (blocks_below n) ≡ 0 → times b (cond x (blocks_below n ++ (f n ∷ [])) (blocks_below n)) ≡ 0
+      by true is before = let k = times-append b (blocks_below n) (f n ∷ []) in let o = times_other b (f n) [] (apart n (omega arith) is) in omega (arith, k, o, before)
+      by false is before = before
 
   -- those pairs stand there, by other numbers of the same blocks
   module _ {V : Type 0} (m : Mem (Node K V)) (blocks : Blocks) (sees : (o : ℕ) → c.current o ≡ true → f o ≡ blocks.pair o)
