@@ -2,6 +2,7 @@
 use Rattle.std.specs.Prelude.{◌≡◌, ◌≢◌, ℕ, Bool, List, [], ◌∷◌, ◌++◌, Result, Ok, Err, Option, Some, None, ◌⊎◌}
 use denote.Ref.{Bor}
 use Rattle.seize_words.specs.Mem.{Mem}
+use Rattle.seize_words.specs.Word.{block_in}
 use Rattle.seize_words.specs.declared.fault.Fault.{Fault}
 use Rattle.seize_words.specs.declared.fault.Fault.TheVariants.{RemoveNothing}
 use Rattle.papaya_tables.specs.declared.node.Node.{Node}
@@ -16,6 +17,7 @@ use Rattle.papaya_raw.specs.declared.machines.asking.Reply.TheVariants as reply
 use Rattle.papaya_raw.specs.declared.machines.asking.Takes.{Takes}
 use Rattle.papaya_raw.specs.declared.machines.asking.Takes.TheVariants as takes
 use Rattle.papaya_raw.specs.declared.machines.asking.Told.TheVariants as tells
+use Rattle.papaya_raw.specs.CallAsks.{replied}
 use Rattle.papaya_raw.specs.declared.machines.call.KeyCall.{KeyCall}
 use Rattle.papaya_callers.specs.Kind.{Kind}
 use Rattle.papaya_callers.specs.Pairs.{IsTold}
@@ -24,6 +26,7 @@ use Rattle.papaya_late.specs.Faults.{IsRoom}
 use Rattle.papaya_owned.specs.Ending.{RunsTo}
 use Rattle.papaya_owned.specs.Machines.{on_key_plan}
 use Rattle.papaya_owned.specs.Owned.{Holds, IsPairAt, IsWordOf, found_by, left_by}
+use Rattle.papaya_owned.specs.Standing.{Waits}
 use Rattle.papaya_owned.specs.declared.machines.OnKey.{OnKey}
 use Rattle.papaya_owned.specs.declared.machines.Stop.{Stop}
 use Rattle.papaya_owned.specs.declared.machines.Stop.TheVariants as stop
@@ -45,7 +48,7 @@ IsTaken takes.Choices (Some word) reply.No = Unit {0}
 IsTaken _ asked told = ⊥
 
 -- Where the map had these pairs, and a call with this key, if with one, was told so of the pair of these keys that the map had, or of none: what the map has now,
--- by its answer, and which pairs are in the blocks of its words. Where it does not ask, it goes by what is known before.
+-- by its answer, and which pairs are in the blocks of its words: one that was replaced or removed waits there, apart from those of the map. Where it does not ask, it goes by what is known before.
 module _ {K V : Type 0} (same : K → K → Bool) (hash : K → ℕ) (setting : Setting) (m : Mem (Node K V)) (keys : K → Bool) (xs : List (K × V)) (its : Option K) (Told : Option (K × V) → Reply V → Type 0) where
   abbrev pub AnswersAs : KeyAnswer → Type 0
   AnswersAs answers.Absent = Told None reply.Abort × (found_by keys xs ≡ None) × Holds same hash setting m xs
@@ -54,8 +57,9 @@ module _ {K V : Type 0} (same : K → K → Bool) (hash : K → ℕ) (setting : 
       (k : K) × (v : V) × (its ≡ Some k) × Told None (reply.Insert v) × (found_by keys xs ≡ None) × IsPairAt m word (k, v) × Holds same hash setting m (xs ++ ((k, v) ∷ []))
   AnswersAs (answers.Replaced old new) =
       (x : K × V) × (k : K) × (v : V) × (its ≡ Some k) × Told (Some x) (reply.Insert v) × (found_by keys xs ≡ Some x) × IsPairAt m old x × IsPairAt m new (k, v)
-      × Holds same hash setting m (left_by keys xs ++ ((k, v) ∷ []))
-  AnswersAs (answers.Removed word) = (x : K × V) × Told (Some x) reply.Remove × (found_by keys xs ≡ Some x) × IsPairAt m word x × Holds same hash setting m (left_by keys xs)
+      × Holds same hash setting m (left_by keys xs ++ ((k, v) ∷ [])) × Waits m (block_in old) x (left_by keys xs ++ ((k, v) ∷ []))
+  AnswersAs (answers.Removed word) =
+      (x : K × V) × Told (Some x) reply.Remove × (found_by keys xs ≡ Some x) × IsPairAt m word x × Holds same hash setting m (left_by keys xs) × Waits m (block_in word) x (left_by keys xs)
 
   -- It is refused for room, or the removal of what is not there, which it was told. No pair has changed.
   abbrev pub RefusedAs : Fault → Type 0
@@ -64,6 +68,13 @@ module _ {K V : Type 0} (same : K → K → Bool) (hash : K → ℕ) (setting : 
   abbrev pub EndsAs : Result KeyAnswer Fault → Type 0
   EndsAs (Ok answer) = AnswersAs answer
   EndsAs (Err fault) = RefusedAs fault
+
+-- For what a call may be refused once it was told this, of a pair or of none: for room where it is to store a value, and the removal of what is not there;
+-- else it is not refused.
+abbrev pub MayRefuse : {V : Type 0} → Option ℕ → Reply V → Fault → Type 0
+MayRefuse asked (reply.Insert value) fault = IsRoom fault
+MayRefuse None reply.Remove fault = fault ≡ RemoveNothing
+MayRefuse asked told fault = ⊥
 
 -- A call of this kind, with this key, if with one, was begun where the map had these pairs, and has come to this question.
 pub record Pauses {K V Q S : Type 0} (asks : Q → K → Bool) (same : K → K → Bool) (hashes : S → K → ℕ) (setting : Setting) (kind : Kind) (its : Option K) (keys : K → Bool) (xs : List (K × V))
@@ -104,3 +115,10 @@ abbrev pub StartsAs : {K V Q S : Type 0} → (Q → K → Bool) → (K → K →
 StartsAs asks same hashes setting kind its keys xs b x m (Ok (stop.Answered answer)) = AnswersAs same (hashes b.now) setting m keys xs its (Unasked kind) answer
 StartsAs asks same hashes setting kind its keys xs b x m (Ok (stop.Asks asked)) = Pauses asks same hashes setting kind its keys xs x m asked × (x.hasher ≡ b) × IsWordOf keys m xs asked × AsksOf kind asked
 StartsAs {K} asks same hashes setting kind its keys xs b x m (Err fault) = IsRoom fault × Holds same (hashes b.now) setting m xs × ((k : K) → its ≡ Some k → HasKeyBack x k)
+
+-- Where a call has come to a question, and is told what it takes, it is refused for this alone.
+abbrev pub ToldCallsRefuse : (K V Q S : Type 0) → Type 0
+ToldCallsRefuse K V Q S =
+    (asks : Q → K → Bool) (same : K → K → Bool) (hashes : S → K → ℕ) (setting : Setting) (kind : Kind) (its : Option K) (keys : K → Bool) (xs : List (K × V)) (x : OnKey K V Q S) (m : Mem (Node K V))
+    (asked : Option ℕ) → Pauses asks same hashes setting kind its keys xs x m asked → (told : Reply V) → IsTaken kind.takes asked told
+    → (z : OnKey K V Q S) (m2 : Mem (Node K V)) (fault : Fault) → RunsTo (on_key_plan asks same hashes) (record x { call = (replied x.call told).0 }) m z m2 (Err fault) → MayRefuse asked told fault

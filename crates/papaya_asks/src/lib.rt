@@ -3,6 +3,7 @@
 
 mod asking;
 mod computing;
+pub mod law;
 mod lent;
 mod refused;
 mod removals;

@@ -1,5 +1,5 @@
 -- For what a call of the map can be refused: memory, or the length of a table. So it is at each point of the machines that has a fault to tell.
-use Rattle.std.specs.Prelude.{◌≡◌, ℕ, ◌⊎◌}
+use Rattle.std.specs.Prelude.{◌≡◌, ℕ, Bool, ◌⊎◌}
 use Rattle.seize_words.specs.declared.fault.Fault.{Fault}
 use Rattle.seize_words.specs.declared.fault.Fault.TheVariants.{Memory, Capacity}
 use Rattle.seize_words.specs.Mem.{Mem, value_at, Took}
@@ -15,6 +15,13 @@ use Rattle.papaya_resize.specs.declared.new_table.Making.{Making}
 use Rattle.papaya_resize.specs.declared.new_table.Making.TheVariants as makes
 use Rattle.papaya_reserves.specs.declared.reserve.Reserving.{Reserving}
 use Rattle.papaya_reserves.specs.declared.reserve.Reserving.TheVariants as reserves
+use Rattle.papaya_sweeps.specs.Sweep.{sweep_plan}
+use Rattle.papaya_sweeps.specs.SweepPoints.{after_next, after_reply}
+use Rattle.papaya_sweeps.specs.declared.sweep.Sweep.{Sweep}
+use Rattle.papaya_sweeps.specs.declared.sweep.Sweeping.{Sweeping}
+use Rattle.papaya_sweeps.specs.declared.sweep.Sweeping.TheVariants as sweeps
+use Rattle.papaya_sweeps.specs.declared.sweep.Swept.{Swept}
+use Rattle.papaya_sweeps.specs.declared.sweep.Swept.TheVariants as swept
 
 abbrev pub IsRoom : Fault → Type 0
 IsRoom fault = (fault ≡ Memory) ⊎ (fault ≡ Capacity)
@@ -39,10 +46,19 @@ RoomInReserving (reserves.Copies copier) = RoomInCopying copier.stands
 RoomInReserving (reserves.Refused fault) = IsRoom fault
 RoomInReserving _ = Unit {0}
 
+abbrev pub RoomInSweeping : Sweeping → Type 0
+RoomInSweeping (sweeps.Copies copier) = RoomInCopying copier.stands
+RoomInSweeping (sweeps.Refused fault) = IsRoom fault
+RoomInSweeping _ = Unit {0}
+
 -- an outcome that is a refusal is one for this
 abbrev pub RefusesRoom : {T R : Type 0} → Outcome T R → Type 0
 RefusesRoom (outcome.Refused fault) = IsRoom fault
 RefusesRoom _ = Unit {0}
+
+abbrev pub SweepRefusesRoom : {T : Type 0} → Swept T → Type 0
+SweepRefusesRoom (swept.Refused fault) = IsRoom fault
+SweepRefusesRoom _ = Unit {0}
 
 module _ (K V : Type 0) where
   -- at each of its steps a reservation is refused for this alone
@@ -56,3 +72,14 @@ module _ (K V : Type 0) where
   ReservesAskOn =
       (hash : K → ℕ) (p : Reserve) (m m2 : Mem (Node K V)) (end : Reserve × Outcome (Node K V) Unit)
       → Steps Took value_at m (reserve_plan hash p) m2 end → end.0.additional ≡ p.additional
+
+  -- at each of its steps a sweep is refused for this alone
+  abbrev pub SweepsRefuseRoom : Type 0
+  SweepsRefuseRoom =
+      (hash : K → ℕ) (p : Sweep) → RoomInSweeping p.stands → (m m2 : Mem (Node K V)) (end : Sweep × Swept (Node K V))
+      → Steps Took value_at m (sweep_plan hash p) m2 end → RoomInSweeping end.0.stands × SweepRefusesRoom end.1
+
+-- and so it is once it was asked for the next pair of a walk, or told whether to keep one
+abbrev pub ToldSweepsRefuseRoom : Type 0
+ToldSweepsRefuseRoom =
+    (p : Sweep) → RoomInSweeping p.stands → RoomInSweeping (after_next p).stands × ((keeps : Bool) → RoomInSweeping (after_reply p keeps).stands)

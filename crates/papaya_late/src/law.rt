@@ -1,6 +1,6 @@
 //! What is promised of reservations and sweeps, of calls by their kind, and of calls in tables that the root has left, while others step.
 ghost use Rattle.std.specs.Prelude.{ℕ, Bool};
-ghost use Rattle.papaya_late.specs.Faults.{ReservesRefuseRoom, ReservesAskOn};
+ghost use Rattle.papaya_late.specs.Faults.{ReservesRefuseRoom, ReservesAskOn, SweepsRefuseRoom, ToldSweepsRefuseRoom};
 ghost use Rattle.papaya_late.specs.Kinds.{KindsBegin, AskingKindsBegin, CallsKeepTheirKind, RepliesKeepTheKind, LookupsLeaveTheMemory};
 ghost use Rattle.papaya_late.specs.LateLasts.{CallsKnowOn};
 ghost use Rattle.papaya_late.specs.LateSteps.{LateLookupsTell, LateCopiersKeepTheMap, LateCallsKeepTheMap, LateRepliesAreTaken};
@@ -69,6 +69,12 @@ pub fn calls_keep_their_kind<K, V, Q>()
 pub fn reservations_ask_for_room<K, V>()
     ensures refused { ReservesRefuseRoom K V }
     ensures asks { ReservesAskOn K V }
+{}
+
+/// A sweep is refused memory and capacity alone, at each of its steps, whatever it was asked for and told between them.
+pub fn sweeps_are_refused_for_room<K, V>()
+    ensures refused { SweepsRefuseRoom K V }
+    ensures told { ToldSweepsRefuseRoom }
 {}
 
 /// Where a map stands in the collector's world, a sweep that knows what its program point is to know may take its step, if that is none of a row of the

@@ -12,8 +12,10 @@ pub mod Making
 pub mod Places
 pub mod Questions
 pub mod Refreshes
+pub mod Refusals
 pub mod Rests
 pub mod Retains
 pub mod Rooms
 pub mod Siftings
+pub mod Standing
 pub mod Sweeps

@@ -4,5 +4,6 @@ pub mod Machines
 pub mod Owned
 pub mod Retaining
 pub mod Rooms
+pub mod Standing
 pub mod Sweeping
 pub mod Within

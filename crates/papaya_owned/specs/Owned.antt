@@ -20,6 +20,7 @@ use Rattle.papaya_callers.specs.Sights.{Sight}
 use Rattle.papaya_late.specs.Kinds.{Fits, FaultFits, TellsFit}
 use Rattle.papaya_whole.specs.Contents.{AreContents}
 use Rattle.papaya_whole.specs.Owner.{AtRest}
+use Rattle.papaya_owned.specs.Standing.{Standing, Waits}
 use Rattle.papaya_owned.specs.declared.machines.Stop.{Stop}
 use Rattle.papaya_owned.specs.declared.machines.Stop.TheVariants as stop
 use Rattle.seize_words.specs.declared.fault.Fault.{Fault}
@@ -71,7 +72,7 @@ NamesAPair {K} {V} m word = (k : K) × (v : V) × (value_at m (block_in word) �
 
 module _ {K V : Type 0} (same : K → K → Bool) (hash : K → ℕ) (setting : Setting) (m : Mem (Node K V)) (kind : Kind) (pair : Option (Node K V)) (keys : K → Bool) (xs : List (K × V)) where
   -- What a call that was begun with this pair, if with one, has come to, by its answer: the pairs that the map had, and has. In the block of a word that it tells
-  -- is the pair that was found, stored, replaced or removed.
+  -- is the pair that was found, stored, replaced or removed. One that was replaced or removed waits there, apart from those of the map.
   abbrev pub AnswersBy : KeyAnswer → Type 0
   AnswersBy answers.Absent = (found_by keys xs ≡ None) × Holds same hash setting m xs
   AnswersBy (answers.Found word) =
@@ -80,8 +81,9 @@ module _ {K V : Type 0} (same : K → K → Bool) (hash : K → ℕ) (setting : 
       (found_by keys xs ≡ None) × (j : K) × (v : V) × (pair ≡ Some (node.Pair j v)) × (value_at m (block_in word) ≡ Some (node.Pair j v)) × Holds same hash setting m (xs ++ ((j, v) ∷ []))
   AnswersBy (answers.Replaced old new) =
       (x : K × V) × (found_by keys xs ≡ Some x) × IsPairAt m old x × (j : K) × (v : V) × (pair ≡ Some (node.Pair j v)) × (value_at m (block_in new) ≡ Some (node.Pair j v))
-      × Holds same hash setting m (left_by keys xs ++ ((j, v) ∷ []))
-  AnswersBy (answers.Removed word) = (x : K × V) × (found_by keys xs ≡ Some x) × IsPairAt m word x × Holds same hash setting m (left_by keys xs)
+      × Holds same hash setting m (left_by keys xs ++ ((j, v) ∷ [])) × Waits m (block_in old) x (left_by keys xs ++ ((j, v) ∷ []))
+  AnswersBy (answers.Removed word) =
+      (x : K × V) × (found_by keys xs ≡ Some x) × IsPairAt m word x × Holds same hash setting m (left_by keys xs) × Waits m (block_in word) x (left_by keys xs)
 
   abbrev pub EndsBy : Result Stop Fault → Type 0
   EndsBy (Ok (stop.Answered answer)) = Fits kind.present kind.absent kind.takes answer × AnswersBy answer
@@ -98,3 +100,8 @@ PutsIt _ = ⊥
 abbrev pub ComesBack : {N : Type 0} → Option N → Result Stop Fault → Option N → Type 0
 ComesBack pair (Ok (stop.Answered answer)) back = PutsIt answer ⊎ (back ≡ pair)
 ComesBack pair _ back = back ≡ pair
+
+-- Between two changes each pair of the map stands in a block of its own.
+abbrev pub PairsStand : Type 0 → Type 0 → Type 0
+PairsStand K V =
+    (same : K → K → Bool) (hash : K → ℕ) (setting : Setting) (m : Mem (Node K V)) (xs : List (K × V)) → Holds same hash setting m xs → (blocks : List ℕ) × Standing m blocks xs

@@ -1,15 +1,25 @@
--- Room for further pairs in the map of one owner.
-use Rattle.std.specs.Prelude.{◌≡◌, ℕ, ◌≤◌, Bool, List, length, Result, Ok, Err, Some}
+-- Room for pairs in the map of one owner.
+use Rattle.std.specs.Prelude.{◌≡◌, ℕ, ◌<◌, ◌≤◌, ◌^◌, ◌⊎◌, Bool, List, length, Result, Ok, Err, Some}
 use Rattle.seize_words.specs.Mem.{Mem, value_at, word_at}
 use Rattle.seize_words.specs.Word.{block_in}
 use Rattle.seize_words.specs.declared.at.At.TheVariants.{Root}
 use Rattle.seize_words.specs.declared.fault.Fault.{Fault}
+use Rattle.seize_words.specs.declared.fault.Fault.TheVariants.{Capacity, Memory}
+use Rattle.papaya_tables.specs.Lengths.{places_for}
 use Rattle.papaya_tables.specs.declared.node.Node.{Node}
 use Rattle.papaya_tables.specs.declared.node.Node.TheVariants as node
 use Rattle.papaya_tables.specs.declared.setting.Setting.{Setting}
 use Rattle.papaya_reserves.specs.Reserve.{needed}
 use Rattle.papaya_late.specs.Faults.{IsRoom}
 use Rattle.papaya_owned.specs.Owned.{Holds}
+
+-- for so many pairs no table is long enough
+abbrev pub AreTooMany : ℕ → Type 0
+AreTooMany pairs = 2 ^ 48 < places_for pairs
+
+-- Why there is no map with room for so many pairs: they are too many; or they are not, and memory was refused.
+abbrev pub IsUnmade : ℕ → Fault → Type 0
+IsUnmade pairs fault = ((fault ≡ Capacity) × AreTooMany pairs) ⊎ ((fault ≡ Memory) × (AreTooMany pairs → ⊥))
 
 -- The table of the root has as many places as so many further pairs need, beside so many that are there.
 pub record HasRoomFor {K V : Type 0} (setting : Setting) (m : Mem (Node K V)) (additional count : ℕ) : Type 0 where

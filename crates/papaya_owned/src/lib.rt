@@ -1,6 +1,7 @@
 //! Machines that the one owner of a memory runs to their ends, and what a map's calls come to then.
 #![tactic(auto)]
 
+pub mod law;
 mod looking;
 mod machines;
 mod most;

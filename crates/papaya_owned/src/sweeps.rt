@@ -1,5 +1,6 @@
 //! Sweeps that remove pairs from one owner's map, run to their ends.
-ghost use Rattle.std.specs.Prelude.{◌≡◌, List, [], OnOk, OnErr, length};
+ghost use Rattle.std.specs.Prelude.{◌≡◌, List, [], IfErr, OnOk, OnErr, length};
+ghost use Rattle.papaya_late.specs.Faults.{IsRoom};
 ghost use Rattle.papaya_owned.specs.Owned.{Holds};
 ghost use Rattle.papaya_owned.specs.Retaining.{KeepsOf};
 
@@ -11,7 +12,8 @@ use papaya_tables::{Hashes, Node, Setting};
 use seize_words::{Fault, Plain};
 use std::hash::Hash;
 
-/// Removes all pairs. Where it is refused, no pair has changed.
+/// Removes all pairs. The faults are `Fault::Capacity` and `Fault::Memory`, where a growth that was under way could not be seen through; then
+/// no pair has changed.
 pub fn empty<K: Eq + Hash + Drop, V: Drop, S: Hashes<K>>(
     memory: &mut Plain<Node<K, V>>,
     setting: Setting,
@@ -20,6 +22,7 @@ pub fn empty<K: Eq + Hash + Drop, V: Drop, S: Hashes<K>>(
     requires { (xs : List (K × V)) × Holds K.eq (S.hash hasher.now) setting memory.old xs }
     ensures done { (xs : List (K × V)) → Holds K.eq (S.hash hasher.now) setting memory.old xs → OnOk result (Holds K.eq (S.hash hasher.now) setting memory.new []) }
     ensures refused { (xs : List (K × V)) → Holds K.eq (S.hash hasher.now) setting memory.old xs → OnErr result (Holds K.eq (S.hash hasher.now) setting memory.new xs) }
+    ensures fault { IfErr result IsRoom }
 {
     let sweep = Sweep::clear(setting);
     let mut machine = OverPairs { sweep, hasher };
@@ -30,7 +33,7 @@ pub fn empty<K: Eq + Hash + Drop, V: Drop, S: Hashes<K>>(
 }
 
 /// Keeps just the pairs about which the closure answers `true`. It is asked about each of the map's pairs once, of which there are so many.
-/// Where it is refused, no pair has changed.
+/// The faults are `Fault::Capacity` and `Fault::Memory`, where a growth that was under way could not be seen through; then no pair has changed.
 pub fn sift<K: Eq + Hash + Drop, V: Drop, S: Hashes<K>, F: FnMut(&K, &V) -> bool>(
     memory: &mut Plain<Node<K, V>>,
     setting: Setting,
@@ -44,6 +47,7 @@ pub fn sift<K: Eq + Hash + Drop, V: Drop, S: Hashes<K>, F: FnMut(&K, &V) -> bool
     ensures done { (xs : List (K × V)) → Holds K.eq (S.hash hasher.now) setting memory.old xs
         → OnOk result ((kept : List (K × V)) × KeepsOf F.FnMut keep xs kept × Holds K.eq (S.hash hasher.now) setting memory.new kept) }
     ensures refused { (xs : List (K × V)) → Holds K.eq (S.hash hasher.now) setting memory.old xs → OnErr result (Holds K.eq (S.hash hasher.now) setting memory.new xs) }
+    ensures fault { IfErr result IsRoom }
 {
     let sweep = Sweep::retain(setting);
     let mut machine = OverPairs { sweep, hasher };

@@ -1,15 +1,18 @@
 -- A map is made.
-use Rattle.std.specs.Prelude.{◌≡◌, ℕ, max, Bool, true, [], ◌∷◌, Some, Result, Ok, Err, IfOk}
+use Rattle.std.specs.Prelude.{◌≡◌, ℕ, ◌<◌, ◌^◌, max, nat_le, if◌then◌else◌, Bool, true, false, [], ◌∷◌, Some, Result, Ok, Err, IfOk, IfErr}
 use Rattle.std.specs.Int.{IsPowerOfTwo}
-use Rattle.std.proofs.Common.{refl, sym, subst, arith}
+use Rattle.std.proofs.Common.{refl, sym, ◌∙◌, subst, arith}
+use Rattle.std.proofs.lemmas.Bool.{leb-true, leb-false}
 use Rattle.seize_words.specs.Mem.{Mem, word_at}
 use Rattle.seize_words.specs.declared.at.At.TheVariants.{Root, Used}
 use Rattle.seize_words.specs.declared.fault.Fault.{Fault}
+use Rattle.seize_words.specs.declared.fault.Fault.TheVariants as fault
 use Rattle.seize.specs.World.{IsInside, Inside, Vacant}
-use Rattle.seize_alone.specs.Alone.{History, IsHistory, nothing_yet, registered}
+use Rattle.seize.specs.Sequence.{new_slot}
+use Rattle.seize_alone.specs.Alone.{History, IsHistory, IsRefusal, nothing_yet, registered}
 use Rattle.seize_alone.proofs.Laws.{histories_begin}
 use Rattle.seize_rule.proofs.Rows.Others.{with_here}
-use Rattle.papaya_tables.specs.Lengths.{IsTableLen}
+use Rattle.papaya_tables.specs.Lengths.{IsTableLen, if_few}
 use Rattle.papaya_tables.specs.Nodes.{deferred_word}
 use Rattle.papaya_tables.specs.declared.node.Node.{Node}
 use Rattle.papaya_tables.specs.declared.resize_mode.ResizeMode.TheVariants.{Incremental}
@@ -19,7 +22,7 @@ use Rattle.papaya_resize.specs.declared.new_map.NewMap.{NewMap}
 use Rattle.papaya_points.specs.Steps.{AreLawful}
 use Rattle.papaya_owned.specs.Ending.{Ends, RunsTo}
 use Rattle.papaya_owned.specs.Owned.{Holds}
-use Rattle.papaya_owned.proofs.Owned.Making.{Opens, Made, opens_first, opens_end, runs_made}
+use Rattle.papaya_owned.proofs.Owned.Making.{Opens, Made, opens_first, opens_end, runs_made, first_refused}
 
 module _ {K V : Type 0} (same : K → K → Bool) (hash : K → ℕ) (lawful : AreLawful same hash) (slot places initial : ℕ) (is : initial ≡ max places 1) (power : IsPowerOfTwo (max places 1))
     (table : IsTableLen (max places 8)) (m : Mem (Node K V)) (h : History) (had : IsHistory deferred_word 32 1 m h) (inside : IsInside (h.uses slot)) (root : word_at m (Root 0) ≡ Some 0)
@@ -47,9 +50,39 @@ module _ {K V : Type 0} (same : K → K → Bool) (hash : K → ℕ) (lawful : A
       (runs_made same hash lawful setting power_of (omega arith) places m h refl (omega arith) refl (opening setting 1 places) m n2 m2 result
       (subst (λ (x : NewMap). RunsTo (new_map_plan {K = K} {V = V}) x m n2 m2 result) e runs) first)
 
+  pub begins_refused : (n : NewMap) → n ≡ opening setting 1 places → (n2 : NewMap) (m2 : Mem (Node K V)) (result : Result Setting Fault) → RunsTo (new_map_plan {K = K} {V = V}) n m n2 m2 result
+      → IfErr result (λ why. why ≡ fault.Memory)
+  begins_refused n e n2 m2 result runs =
+      first_refused same hash lawful setting power_of (omega arith) places m h had inside root used (λ few. table) table.most n2 m2 result
+      (subst (λ (x : NewMap). RunsTo (new_map_plan {K = K} {V = V}) x m n2 m2 result) e runs)
+
+-- a number is told just where so many places are not too many for a table
+pub few_told : (places number told : ℕ) → Ok told ≡ if_few places number → 2 ^ 48 < places → ⊥
+few_told places number told is many = by (nat_le places (2 ^ 48)) refl is
+  where
+    by : (b : Bool) → nat_le places (2 ^ 48) ≡ b → ◌≡◌ {A = Result ℕ Fault} (Ok told) (if b then Ok number else Err fault.Capacity) → ⊥
+    by true few is = let l = leb-true places (2 ^ 48) few in omega (arith, l, many)
+    by false few is = absurd (cc is)
+
+pub many_told : (places number : ℕ) (why : Fault) → Err why ≡ if_few places number → (why ≡ fault.Capacity) × (2 ^ 48 < places)
+many_told places number why is = by (nat_le places (2 ^ 48)) refl is
+  where
+    by : (b : Bool) → nat_le places (2 ^ 48) ≡ b → ◌≡◌ {A = Result ℕ Fault} (Err why) (if b then Ok number else Err fault.Capacity) → (why ≡ fault.Capacity) × (2 ^ 48 < places)
+    by true few is = absurd (cc is)
+    by false few is = (cc is, leb-false places (2 ^ 48) few)
+
 -- nothing has happened, and then the slot was taken
 pub nothing_happened : {K V : Type 0} (m : Mem (Node K V)) → m ≡ record { roots = 0 ∷ []; used = 0 ∷ []; slots = []; blocks = []; choices = [] } → IsHistory deferred_word 32 1 m nothing_yet
 nothing_happened {K} {V} m e = subst (λ (x : Mem (Node K V)). IsHistory deferred_word 32 1 x nothing_yet) (sym e) (histories_begin (deferred_word {K = K} {V = V}) 32 1)
 
 pub taken_inside : (slot : ℕ) → IsInside ((registered true slot nothing_yet).uses slot)
 taken_inside slot = subst IsInside (sym (with_here (λ s. Vacant) slot (Inside 0))) tt
+
+-- where nothing has happened, no slot is refused but for want of memory
+first_slot : new_slot nothing_yet.uses ≡ Some 0
+first_slot = refl
+
+pub slot_refused : {T : Type 0} (m : Mem T) (why : Fault) → IsRefusal m nothing_yet.uses why → why ≡ fault.Memory
+slot_refused m fault.Memory is = refl
+slot_refused m fault.SlotsUsedUp is = absurd (cc (sym is ∙ first_slot))
+slot_refused m _ is = absurd is

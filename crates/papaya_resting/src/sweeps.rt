@@ -1,5 +1,6 @@
 //! What goes over all pairs, and removes them, each after a refresh.
-ghost use Rattle.std.specs.Prelude.{List, [], OnOk, OnErr};
+ghost use Rattle.std.specs.Prelude.{List, [], IfErr, OnOk, OnErr};
+ghost use Rattle.papaya_late.specs.Faults.{IsRoom};
 ghost use Rattle.papaya_owned.specs.Owned.{Holds, hashed_by};
 ghost use Rattle.papaya_owned.specs.Retaining.{KeepsOf};
 
@@ -10,7 +11,7 @@ use papaya_tables::{Node, Setting};
 use seize_words::{Fault, Plain};
 use std::hash::{BuildHasher, Hash};
 
-/// Removes all pairs, after a refresh.
+/// Removes all pairs, after a refresh. The faults are `Fault::Capacity` and `Fault::Memory`.
 pub fn clear<K: Eq + Hash + Drop, V: Drop, S: BuildHasher>(
     memory: &mut Plain<Node<K, V>>,
     setting: Setting,
@@ -21,12 +22,13 @@ pub fn clear<K: Eq + Hash + Drop, V: Drop, S: BuildHasher>(
         → OnOk result (Holds K.eq (hashed_by S.Hasher.finish S.Hasher.write S.build_hasher K.hash_input hasher.now) setting memory.new []) }
     ensures refused { (xs : List (K × V)) → Holds K.eq (hashed_by S.Hasher.finish S.Hasher.write S.build_hasher K.hash_input hasher.now) setting memory.old xs
         → OnErr result (Holds K.eq (hashed_by S.Hasher.finish S.Hasher.write S.build_hasher K.hash_input hasher.now) setting memory.new xs) }
+    ensures fault { IfErr result IsRoom }
 {
     refresh(memory, setting, hasher);
     empty(memory, setting, hasher)
 }
 
-/// Keeps just the pairs for which the closure answers `true`, after a refresh.
+/// Keeps just the pairs for which the closure answers `true`, after a refresh. The faults are `Fault::Capacity` and `Fault::Memory`.
 pub fn retain<K: Eq + Hash + Drop, V: Drop, S: BuildHasher, F: FnMut(&K, &V) -> bool>(
     memory: &mut Plain<Node<K, V>>,
     setting: Setting,
@@ -39,6 +41,7 @@ pub fn retain<K: Eq + Hash + Drop, V: Drop, S: BuildHasher, F: FnMut(&K, &V) -> 
         → OnOk result ((kept : List (K × V)) × KeepsOf F.FnMut keep xs kept × Holds K.eq (hashed_by S.Hasher.finish S.Hasher.write S.build_hasher K.hash_input hasher.now) setting memory.new kept) }
     ensures refused { (xs : List (K × V)) → Holds K.eq (hashed_by S.Hasher.finish S.Hasher.write S.build_hasher K.hash_input hasher.now) setting memory.old xs
         → OnErr result (Holds K.eq (hashed_by S.Hasher.finish S.Hasher.write S.build_hasher K.hash_input hasher.now) setting memory.new xs) }
+    ensures fault { IfErr result IsRoom }
 {
     refresh(memory, setting, hasher);
     let pairs = count(memory, setting, hasher);

@@ -33,6 +33,7 @@ impl<K: Eq + Hash + Clone, V: Clone, S: BuildHasher + Clone> HashMap<K, V, S> {
     pub fn clone(&self, alloc: Global) -> Result<Self, Fault>
         ensures clones { IfOk result (λ map. PutsClones K.eq K.is_clone V.is_clone self.now.pairs map.pairs) }
         ensures same { ClonesAreSame K.is_clone → ClonesAreSame V.is_clone → IfOk result (λ map. IsPermutation map.pairs self.now.pairs) }
+        ensures fault { IfErr result IsRoom }
         ensures hasher { IfOk result (λ map. S.is_clone self.now.hasher map.hasher) }
     {
         let hasher = self.hasher.clone()?;
@@ -49,6 +50,7 @@ impl<K: Eq + Hash + Clone, V: Clone, S: BuildHasher + Default + Drop> HashMap<K,
     pub fn from_array(alloc: Global, items: &[(K, V)]) -> Result<Self, Fault>
         ensures clones { IfOk result (λ map. PutsClones K.eq K.is_clone V.is_clone items.now map.pairs) }
         ensures same { ClonesAreSame K.is_clone → ClonesAreSame V.is_clone → IfOk result (λ map. IsPermutation map.pairs (put_all K.eq [] items.now)) }
+        ensures fault { IfErr result IsRoom }
     {
         let mut map = HashMap::new(alloc)?;
         for item in items {

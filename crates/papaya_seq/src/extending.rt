@@ -37,7 +37,8 @@ impl<K: Eq + Hash + Drop, V: Drop, S: BuildHasher + Default + Drop> HashMap<K, V
         items: I,
     ) -> Result<Self, Fault>
         requires { IsFiniteIterable I.into_iter_gives I.IntoIter.can_next I.IntoIter.remaining items }
-        ensures { IfOk result (λ map. (it : I.IntoIter) × (given : List (K × V)) × I.into_iter_gives items it × Drains I.IntoIter.next_gives it given × IsPermutation map.pairs (put_all K.eq [] given)) }
+        ensures collected { IfOk result (λ map. (it : I.IntoIter) × (given : List (K × V)) × I.into_iter_gives items it × Drains I.IntoIter.next_gives it given × IsPermutation map.pairs (put_all K.eq [] given)) }
+        ensures fault { IfErr result IsRoom }
     {
         let rest = items.into_iter();
         let mut map = HashMap::new(alloc)?;

@@ -10,7 +10,6 @@ ghost use Rattle.papaya_seq.specs.Json.{FirstFault, IsNoPair, IsPairOf, IsRefusa
 
 use crate::map::HashMap;
 use papaya_forms::{JsonFault, JsonForm, object_of};
-use seize_words::Fault;
 use serde_json::Value;
 use serde_json::value::Map;
 use std::alloc::{AllocError, Global};
@@ -57,9 +56,9 @@ fn map_of<K: JsonForm + Hash + Drop, V: JsonForm + Drop, S: BuildHasher + Defaul
     ensures in_range { IfOk result (λ map. All (λ x. K.JsonForm.in_range x.0 × V.JsonForm.in_range x.1) map.pairs) }
     ensures fault { IfErr result (λ why. FirstFault K.JsonForm.in_range K.JsonForm.key_text V.JsonForm.in_range V.JsonForm.json_value why (members_view members.now.entries) ⊎ IsRefusal why) }
 {
-    // A map with no pair is refused for want of memory alone.
-    let Ok(mut map) = HashMap::new(alloc) else {
-        return Err(JsonFault::Refused(Fault::Memory));
+    let mut map = match HashMap::new(alloc) {
+        Ok(map) => map,
+        Err(fault) => return Err(JsonFault::Refused(fault)),
     };
     for (name, value) in members.iter() {
         store_member(alloc, &mut map, name.as_str(), value)?;

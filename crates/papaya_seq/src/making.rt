@@ -1,5 +1,7 @@
 //! How a map for one owner is made.
-ghost use Rattle.std.specs.Prelude.{◌≡◌, [], IfOk};
+ghost use Rattle.std.specs.Prelude.{◌≡◌, [], IfOk, IfErr, OnOk};
+ghost use Rattle.seize_words.specs.declared.fault.Fault.TheVariants.{Memory};
+ghost use Rattle.papaya_owned.specs.Rooms.{AreTooMany, IsUnmade};
 
 use crate::map::{HashMap, Resting};
 use papaya_resting::Last;
@@ -11,14 +13,17 @@ use std::hash::{BuildHasher, Hash};
 impl<K: Eq + Hash + Drop, V: Drop, S: BuildHasher + Default + Drop> HashMap<K, V, S> {
     /// A map with no pair. The only fault is `Fault::Memory`.
     pub fn new(alloc: Global) -> Result<Self, Fault>
-        ensures { IfOk result (λ map. map.pairs ≡ []) }
+        ensures pairs { IfOk result (λ map. map.pairs ≡ []) }
+        ensures fault { IfErr result (λ fault. fault ≡ Memory) }
     {
         HashMap::with_hasher(alloc, S::default())
     }
 
-    /// A map with no pair, and with room for so many. The faults are `Fault::Capacity`, where that is too many, and `Fault::Memory`.
+    /// A map with no pair, and with room for so many. The faults are `Fault::Capacity`, just where that is too many, and `Fault::Memory`.
     pub fn with_capacity(alloc: Global, capacity: u64) -> Result<Self, Fault>
-        ensures { IfOk result (λ map. map.pairs ≡ []) }
+        ensures pairs { IfOk result (λ map. map.pairs ≡ []) }
+        ensures few { OnOk result (AreTooMany capacity → ⊥) }
+        ensures fault { IfErr result (IsUnmade capacity) }
     {
         HashMap::with_capacity_and_hasher(alloc, capacity, S::default())
     }
@@ -28,15 +33,18 @@ impl<K: Eq + Hash + Drop, V: Drop, S: BuildHasher + Drop> HashMap<K, V, S> {
     /// A map with no pair, and with this hasher. The only fault is `Fault::Memory`.
     pub fn with_hasher(alloc: Global, hasher: S) -> Result<Self, Fault>
         ensures pairs { IfOk result (λ map. map.pairs ≡ []) }
+        ensures fault { IfErr result (λ fault. fault ≡ Memory) }
         ensures hasher { IfOk result (λ map. map.hasher ≡ hasher) }
     {
         HashMap::with_capacity_and_hasher(alloc, 0, hasher)
     }
 
-    /// A map with no pair, with room for so many, and with this hasher. The faults are `Fault::Capacity`, where that is too many, and
-    /// `Fault::Memory`.
+    /// A map with no pair, with room for so many, and with this hasher. The faults are `Fault::Capacity`, just where that is too many,
+    /// and `Fault::Memory`.
     pub fn with_capacity_and_hasher(alloc: Global, capacity: u64, hasher: S) -> Result<Self, Fault>
         ensures pairs { IfOk result (λ map. map.pairs ≡ []) }
+        ensures few { OnOk result (AreTooMany capacity → ⊥) }
+        ensures fault { IfErr result (IsUnmade capacity) }
         ensures hasher { IfOk result (λ map. map.hasher ≡ hasher) }
     {
         let places = papaya_resting::places_for(capacity)?;

@@ -1,6 +1,7 @@
 //! What goes over all pairs of a map for one owner, and removes them. Each change begins with a refresh.
-ghost use Rattle.std.specs.Prelude.{◌≡◌, None, Bool, List, [], OnOk, OnErr, filter};
+ghost use Rattle.std.specs.Prelude.{◌≡◌, None, Bool, List, [], IfErr, OnOk, OnErr, filter};
 ghost use Rattle.std.specs.List.Sorted.{IsPermutation};
+ghost use Rattle.papaya_late.specs.Faults.{IsRoom};
 ghost use Rattle.papaya_owned.specs.Retaining.{AnswersByTest, KeepsOf};
 ghost use Rattle.papaya_seq.specs.Maps.{LastTook};
 
@@ -16,6 +17,7 @@ impl<K: Eq + Hash + Drop, V: Drop, S: BuildHasher> HashMap<K, V, S> {
         ensures done { OnOk result (self.new.pairs ≡ []) }
         ensures refused { OnErr result (IsPermutation self.new.pairs self.old.pairs) }
         ensures last { LastTook self.new None None }
+        ensures fault { IfErr result IsRoom }
         ensures hasher { self.new.hasher ≡ self.old.hasher }
     {
         self.resting.last = Last::NONE;
@@ -30,6 +32,7 @@ impl<K: Eq + Hash + Drop, V: Drop, S: BuildHasher> HashMap<K, V, S> {
         ensures by_test { (test : K → V → Bool) → AnswersByTest F.FnMut test → OnOk result (IsPermutation self.new.pairs (filter (λ x. test x.0 x.1) self.old.pairs)) }
         ensures refused { OnErr result (IsPermutation self.new.pairs self.old.pairs) }
         ensures last { LastTook self.new None None }
+        ensures fault { IfErr result IsRoom }
         ensures hasher { self.new.hasher ≡ self.old.hasher }
     {
         self.resting.last = Last::NONE;

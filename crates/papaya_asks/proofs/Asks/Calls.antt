@@ -24,8 +24,8 @@ module _ {K V : Type 0} (same : K → K → Bool) (hash : K → ℕ) (setting : 
   answers_as answers.Absent a = (turn None reply.Abort a.0, a.1, a.2)
   answers_as (answers.Found word) a = (a.0, turn (Some a.0) reply.Abort a.1, a.2, a.3, a.4)
   answers_as (answers.Stored word) a = (a.0, a.1, a.2, turn None (reply.Insert a.1) a.3, a.4, a.5, a.6)
-  answers_as (answers.Replaced old new) a = (a.0, a.1, a.2, a.3, turn (Some a.0) (reply.Insert a.2) a.4, a.5, a.6, a.7, a.8)
-  answers_as (answers.Removed word) a = (a.0, turn (Some a.0) reply.Remove a.1, a.2, a.3, a.4)
+  answers_as (answers.Replaced old new) a = (a.0, a.1, a.2, a.3, turn (Some a.0) (reply.Insert a.2) a.4, a.5, a.6, a.7, a.8, a.9)
+  answers_as (answers.Removed word) a = (a.0, turn (Some a.0) reply.Remove a.1, a.2, a.3, a.4, a.5)
 
   pub refused_as : (fault : Fault) → RefusedAs same hash setting m keys xs its Told fault → RefusedAs same hash setting m keys xs its Meant fault
   refused_as fault (inl room, holds) = (inl room, holds)

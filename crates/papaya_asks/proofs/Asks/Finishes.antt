@@ -144,22 +144,22 @@ module _ {K V Q S : Type 0} (asks : Q → K → Bool) (same : K → K → Bool) 
   started : StartsAs asks same hashes setting kind its keys xs x.hasher x m (Ok (stop.Asks asked))
   started = start_so asks same hashes setting kind its keys xs x.hasher p.before h p.call p.begun x m (Ok (stop.Asks asked)) p.runs
 
-  s : AskedIt asks same hashes setting kind its keys xs x.hasher p.before h p.call p.begun x m asked
+  pub s : AskedIt asks same hashes setting kind its keys xs x.hasher p.before h p.call p.begun x m asked
   s = stopped asks same hashes setting kind its keys xs x.hasher p.before h p.call p.begun x m (Ok (stop.Asks asked)) p.runs
 
-  c : HasAsked its None None true m x asked
+  pub c : HasAsked its None None true m x asked
   c = come asks same hashes setting kind its keys xs x.hasher p.before h p.call p.begun x m (Ok (stop.Asks asked)) p.runs
 
-  for : AsksFor asked (at.Asks s.asks_at)
+  pub for : AsksFor asked (at.Asks s.asks_at)
   for = asks_for asks same hashes setting kind its keys xs x.hasher p.before h p.call p.begun x m asked s c
 
   abbrev q : KeyCall K V Q
   q = s.under.p
 
-  call_is : x.call ≡ q
+  pub call_is : x.call ≡ q
   call_is = ap (λ (y : OnKey K V Q S). y.call) s.under.is
 
-  takes_is : q.replies.takes ≡ kind.takes
+  pub takes_is : q.replies.takes ≡ kind.takes
   takes_is = s.under.course.fit.2.takes_is
 
   abbrev going_on : CallOnKey K V Q
@@ -205,10 +205,10 @@ module _ {K V Q S : Type 0} (asks : Q → K → Bool) (same : K → K → Bool) 
   pub told_ends : Ends (on_key_plan asks same hashes) told_call m
   told_ends = under_ends same asks hashes x.hasher setting h.lawful h.initial h.world.memory h.chart h.blocks h.rests.together.ground.map.map.rule keys given2 told_call m under2
 
-  stands_is : x.call.stands ≡ at.Asks s.asks_at
+  pub stands_is : x.call.stands ≡ at.Asks s.asks_at
   stands_is = ap (λ (z : KeyCall K V Q). z.stands) call_is ∙ s.stands
 
-  undisturbed2 : Undisturbed its (known_by asked said) (value_by said) (seeks_by asked said) m (replied x.call said).0
+  pub undisturbed2 : Undisturbed its (known_by asked said) (value_by said) (seeks_by asked said) m (replied x.call said).0
   undisturbed2 =
       replied_undisturbed its m x.call c.1 kind.takes (ap (λ (z : KeyCall K V Q). z.replies.takes) call_is ∙ takes_is) facts.has_key said asked taken s.asks_at stands_is for
       (some_word kind asked s.asks_at for (subst (FitsAt kind.present kind.absent kind.takes) s.stands s.under.course.fit.4))
@@ -227,8 +227,8 @@ module _ {K V Q S : Type 0} (asks : Q → K → Bool) (same : K → K → Bool) 
   as_some y some present n m2 answers.Absent a = absurd (let e = a.0 in cc (e, some))
   as_some y some present n m2 (answers.Found word) a = (a.0, (sym a.1, told.leaves_pair said n a.3 kind.present kind.takes present a.4), a.1, a.2, a.5)
   as_some y some present n m2 (answers.Stored word) a = absurd (let e = a.0 in cc (e, some))
-  as_some y some present n m2 (answers.Replaced old new) a = (a.0, a.3, a.4, a.6.0, (sym a.1, told.stores_pair said n a.5 a.4 a.6.1), a.1, a.2, a.7, a.8)
-  as_some y some present n m2 (answers.Removed word) a = (a.0, (sym a.1, told.removes_pair said n a.3 a.4), a.1, a.2, a.5)
+  as_some y some present n m2 (answers.Replaced old new) a = (a.0, a.3, a.4, a.6.0, (sym a.1, told.stores_pair said n a.5 a.4 a.6.1), a.1, a.2, a.7, a.8, a.9)
+  as_some y some present n m2 (answers.Removed word) a = (a.0, (sym a.1, told.removes_pair said n a.3 a.4), a.1, a.2, a.5, a.6)
 
   refused_none : found_by keys xs ≡ None → (fault : Fault) → FaultFits kind.present kind.absent kind.takes fault → (fault ≡ RemoveNothing → last_told None (told.only said None) ≡ Some reply.Remove)
       → IsRoom fault ⊎ ((fault ≡ RemoveNothing) × ToldThis keys xs said None reply.Remove × (found_by keys xs ≡ None))

@@ -1,11 +1,12 @@
 -- What the laws promise, clause by clause, as far as crates above cite it in proofs.
-use Rattle.papaya_late.specs.Faults.{ReservesRefuseRoom, ReservesAskOn}
+use Rattle.papaya_late.specs.Faults.{ReservesRefuseRoom, ReservesAskOn, SweepsRefuseRoom, ToldSweepsRefuseRoom}
 use Rattle.papaya_late.specs.Kinds.{CallsKeepTheirKind, RepliesKeepTheKind, LookupsLeaveTheMemory}
 use Rattle.papaya_late.proofs.KindsKept.Calls.Asked.{replies_kept}
 use Rattle.papaya_late.proofs.KindsKept.Calls.Kept.{kinds_kept}
 use Rattle.papaya_late.proofs.KindsKept.Calls.Lookups.{lookup_leaves}
 use Rattle.papaya_late.proofs.KindsKept.Rooms.Asks.{reserve_asks}
 use Rattle.papaya_late.proofs.KindsKept.Rooms.Reserving.{reserve_rooms}
+use Rattle.papaya_late.proofs.KindsKept.Rooms.Sweeping.{sweep_rooms, told_rooms}
 
 pub lookups_leave_the_memory : {K V Q : Type 0} → LookupsLeaveTheMemory K V Q
 lookups_leave_the_memory = lookup_leaves
@@ -21,3 +22,9 @@ reserves_refuse_room {K} {V} hash p room m m2 end s = reserve_rooms K V hash p r
 
 pub reserves_ask_on : {K V : Type 0} → ReservesAskOn K V
 reserves_ask_on {K} {V} hash p m m2 end s = reserve_asks K V hash p m m2 end s
+
+pub sweeps_refuse_room : {K V : Type 0} → SweepsRefuseRoom K V
+sweeps_refuse_room {K} {V} hash p room m m2 end s = sweep_rooms K V hash p room m m2 end s
+
+pub told_sweeps_refuse_room : ToldSweepsRefuseRoom
+told_sweeps_refuse_room = told_rooms

@@ -1,5 +1,5 @@
 -- What a whole call on one key has come to, whatever it was begun with, from the list of pairs to the list of pairs.
-use Rattle.std.specs.Prelude.{◌≡◌, ℕ, ◌+◌, ◌%◌, ◌^◌, ◌<◌, ◌⊎◌, Bool, true, List, [], ◌∷◌, ◌++◌, Option, Some, None}
+use Rattle.std.specs.Prelude.{◌≡◌, ◌≢◌, ℕ, ◌+◌, ◌%◌, ◌^◌, ◌<◌, ◌⊎◌, Bool, true, false, List, [], ◌∷◌, ◌++◌, Option, Some, None}
 use Rattle.std.proofs.Common.{refl, sym, ◌∙◌, ap, subst, arith, inl, inr}
 use denote.Ref.{Bor}
 use Rattle.seize_words.specs.Mem.{Mem, value_at}
@@ -12,9 +12,10 @@ use Rattle.papaya_raw.specs.declared.machines.answer.KeyAnswer.{KeyAnswer}
 use Rattle.papaya_raw.specs.declared.machines.answer.KeyAnswer.TheVariants as answers
 use Rattle.papaya_raw.specs.declared.machines.asking.Reply.TheVariants as reply
 use Rattle.papaya_raw.specs.declared.machines.call.KeyCall.{KeyCall}
-use Rattle.papaya_rule.specs.Chart.{Chart, Phase, Holds as HoldsPair, Still}
+use Rattle.papaya_rule.specs.Chart.{Chart, Phase, Holds as HoldsPair, Still, put}
 use Rattle.papaya_rule.specs.Words.{Blocks, Shows, place_word}
 use Rattle.papaya_rule.specs.InWorld.{IsMapIn}
+use Rattle.papaya_rule.proofs.Moves.Writes.{put_here, put_elsewhere}
 use Rattle.papaya_rule.proofs.World.Hands.{current_known}
 use Rattle.papaya_points.specs.FactsCalls.{Change, Unchanged, Stored, Replaced, Removed, Tells}
 use Rattle.papaya_alone.specs.Alone.{HasChanged}
@@ -35,10 +36,12 @@ use Rattle.papaya_whole.proofs.Contents.Runs.{runs_begin}
 use Rattle.papaya_whole.proofs.Keys.AtEnds.{counts_at_end, counts_where_unchanged}
 use Rattle.papaya_whole.proofs.Keys.Begins.{calls_begin_alone}
 use Rattle.papaya_owned.specs.Owned.{Holds, IsPairAt, found_by, left_by}
+use Rattle.papaya_owned.specs.Standing.{Standing, Waits}
 use Rattle.papaya_owned.specs.declared.machines.OnKey.{OnKey}
 use Rattle.papaya_owned.proofs.Owned.Keys.{Under, OfKind, Answered, IsRefused}
 use Rattle.papaya_owned.proofs.Owned.Lookups.{found_is, left_is, none_below}
 use Rattle.papaya_owned.proofs.Owned.Rests.{rests_as}
+use Rattle.papaya_owned.proofs.Owned.Standing.{blocks_below, none_there, standing_below}
 
 -- what it has stored, removed or left, by what it was begun with, or was told
 module _ {K V : Type 0} where
@@ -138,8 +141,9 @@ module _ {K V Q S : Type 0} (same : K → K → Bool) (asks : Q → K → Bool) 
         (found_by keys xs ≡ None) × (j : K) × (v : V) × PutsBy given None j v × IsPairAt m word (j, v) × Holds same hash setting m (xs ++ ((j, v) ∷ []))
     AnswersTo (answers.Replaced old new) =
         (x : K × V) × (found_by keys xs ≡ Some x) × IsPairAt m old x × (j : K) × (v : V) × (o : ℕ) × PutsBy given (Some o) j v × IsPairAt m new (j, v)
-        × Holds same hash setting m (left_by keys xs ++ ((j, v) ∷ []))
-    AnswersTo (answers.Removed word) = (x : K × V) × (found_by keys xs ≡ Some x) × IsPairAt m word x × (o : ℕ) × TakesBy given o × Holds same hash setting m (left_by keys xs)
+        × Holds same hash setting m (left_by keys xs ++ ((j, v) ∷ [])) × Waits m (block_in old) x (left_by keys xs ++ ((j, v) ∷ []))
+    AnswersTo (answers.Removed word) =
+        (x : K × V) × (found_by keys xs ≡ Some x) × IsPairAt m word x × (o : ℕ) × TakesBy given o × Holds same hash setting m (left_by keys xs) × Waits m (block_in word) x (left_by keys xs)
 
   module _ (one : (i j : K) → keys i ≡ true → keys j ≡ same i j) where
     -- the pair of the keys that the map has, in the list
@@ -254,6 +258,70 @@ module _ {K V Q S : Type 0} (same : K → K → Bool) (asks : Q → K → Bool) 
       was_removed (Stored n) changed word t = absurd t
       was_removed (Replaced o n) changed word t = absurd t
 
+      -- the pair with this number is out of the map, and stands in the block of this word
+      record IsOut (word : ℕ) : Type 0 where
+        pub number : ℕ
+        pub gone : a.c.current number ≡ false
+        pub low : number < a.c.stored
+        pub known : a.seen.pair_known number ≡ true
+        pub block : block_in word ≡ a.seen.pair number
+
+      block_so : (word o : ℕ) (borrowed : Bool) → word ≡ place_word hash a.c a.seen (HoldsPair o Still borrowed) → block_in word ≡ a.seen.pair o
+      block_so word o borrowed is = block_of_word hash h.lawful.fits a.w.memory a.c a.seen None [] setting.root a.seen_map.map.shows word o Still borrowed is
+
+      out_replaced : (change : Change) → HasChanged same hash setting keys h.chart a.c change → (old new : ℕ) → TellsIt change (answers.Replaced old new) → IsOut old
+      out_replaced (Replaced o n) changed old new t = record {
+        number = o;
+        gone = ap (λ (f : ℕ → Bool). f o) changed.changes.2 ∙ put_elsewhere (put h.chart.current o false) n true o apart ∙ put_here h.chart.current o false;
+        low = t.0.0;
+        known = t.0.1;
+        block = block_so old o t.2 t.3;
+      }
+        where
+          apart : o ≢ n
+          apart e =
+              let first = current_known same hash setting h.world h.chart h.blocks map0.map.rule map0.map.shows o changed.changes.1.0 in
+              let low = first.0 in let is = changed.changes.0 in omega (arith, low, is, e)
+      out_replaced Unchanged changed old new t = absurd t
+      out_replaced (Stored n) changed old new t = absurd t
+      out_replaced (Removed o) changed old new t = absurd t
+
+      out_removed : (change : Change) → HasChanged same hash setting keys h.chart a.c change → (word : ℕ) → TellsIt change (answers.Removed word) → IsOut word
+      out_removed (Removed o) changed word t = record {
+        number = o;
+        gone = ap (λ (f : ℕ → Bool). f o) changed.changes.1 ∙ put_here h.chart.current o false;
+        low = t.0.0;
+        known = t.0.1;
+        block = block_so word o t.1 t.2;
+      }
+      out_removed Unchanged changed word t = absurd t
+      out_removed (Stored n) changed word t = absurd t
+      out_removed (Replaced o n) changed word t = absurd t
+
+      -- so it waits, apart from those of the map
+      apart_then : (n o : ℕ) → n < a.c.stored → a.seen.pair_known n ≡ true → a.c.current o ≡ true → a.seen.pair n ≡ a.seen.pair o → n ≡ o
+      apart_then n o low known now alike =
+          let k = current_known same hash setting a.w a.c a.seen a.seen_map.map.rule a.seen_map.map.shows o now in
+          a.seen_map.map.shows.pairs_apart n o low k.0 known k.1 alike
+
+      both_apart : (n o : ℕ) → a.c.current n ≡ true → a.c.current o ≡ true → a.seen.pair n ≡ a.seen.pair o → n ≡ o
+      both_apart n o now now2 alike =
+          let k = current_known same hash setting a.w a.c a.seen a.seen_map.map.rule a.seen_map.map.shows n now in apart_then n o k.0 k.1 now2 alike
+
+      waits_so : (word : ℕ) → IsOut word → (x : K × V) → IsPairAt m word x → (ys : List (K × V)) → AreContents a.w.memory a.c a.blocks ys → Waits m (block_in word) x ys
+      waits_so word out x there ys are = (
+        blocks_below a.c a.seen.pair a.c.stored,
+        (
+          there,
+          none_there a.c a.seen.pair (block_in word) a.c.stored (λ o low now alike. gone_not o now (apart_then out.number o out.low out.known now (sym out.block ∙ alike))),
+          subst (λ (y : Mem (Node K V)). Standing y (blocks_below a.c a.seen.pair a.c.stored) ys) a.memory
+              (standing_below a.c a.seen.pair a.w.memory a.blocks sees_current both_apart a.c.stored ys are),
+        ),
+      )
+        where
+          gone_not : (o : ℕ) → a.c.current o ≡ true → out.number ≡ o → ⊥
+          gone_not o now is = let e : true ≡ false = sym now ∙ sym (ap a.c.current is) ∙ out.gone in cc e
+
       never_absent : (change : Change) → TellsIt change answers.Absent → ⊥
       never_absent Unchanged t = t
       never_absent (Stored n) t = t
@@ -348,6 +416,8 @@ module _ {K V Q S : Type 0} (same : K → K → Bool) (asks : Q → K → Bool) 
               at_word named m (answers.Replaced old new) a new s.2 i.0 i.1 i.2 s.3 s.4 i.3,
               subst HoldsIt (s.5 ∙ ap (λ z. z ++ ((s.3, s.4) ∷ [])) (sym (left named m (answers.Replaced old new) a it.3 it.4)))
                   (holds_at named m (answers.Replaced old new) a t.0 t.1),
+              subst (Waits m (block_in old) it.0) (s.5 ∙ ap (λ z. z ++ ((s.3, s.4) ∷ [])) (sym (left named m (answers.Replaced old new) a it.3 it.4)))
+                  (waits_so named m (answers.Replaced old new) a old (out_replaced named m (answers.Replaced old new) a a.change a.runs.changed old new did.1) it.0 it.2 t.0 t.1),
             ))
       ]
       answered_it (answers.Removed word) a = elim a.answers.1 as (λ _. AnswersTo m (answers.Removed word)) [
@@ -361,5 +431,7 @@ module _ {K V Q S : Type 0} (same : K → K → Bool) (asks : Q → K → Bool) 
               s.0,
               takes named m (answers.Removed word) a given s.0 s.4,
               subst HoldsIt (s.2 ∙ sym (left named m (answers.Removed word) a it.3 it.4)) (holds_at named m (answers.Removed word) a t.0 t.1),
+              subst (Waits m (block_in word) it.0) (s.2 ∙ sym (left named m (answers.Removed word) a it.3 it.4))
+                  (waits_so named m (answers.Removed word) a word (out_removed named m (answers.Removed word) a a.change a.runs.changed word did.1) it.0 it.2 t.0 t.1),
             ))
       ]

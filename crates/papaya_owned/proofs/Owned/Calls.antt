@@ -29,8 +29,8 @@ module _ {K V Q S : Type 0} (same : K → K → Bool) (asks : Q → K → Bool) 
   by_answer m answers.Absent a = (a.0, a.2)
   by_answer m (answers.Found word) a = (a.0.0, a.0.1, a.1, a.2, a.5)
   by_answer m (answers.Stored word) a = a
-  by_answer m (answers.Replaced old new) a = (a.0, a.1, a.2, a.3, a.4, a.6, a.7, a.8)
-  by_answer m (answers.Removed word) a = (a.0, a.1, a.2, a.5)
+  by_answer m (answers.Replaced old new) a = (a.0, a.1, a.2, a.3, a.4, a.6, a.7, a.8, a.9)
+  by_answer m (answers.Removed word) a = (a.0, a.1, a.2, a.5, a.6)
 
   -- what it comes to
   pub ends_by_keys : (m : Mem (Node K V)) (result : Result Stop Fault)

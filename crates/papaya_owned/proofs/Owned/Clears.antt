@@ -9,12 +9,14 @@ use Rattle.papaya_tables.specs.declared.setting.Setting.{Setting}
 use Rattle.papaya_sweeps.specs.SweepPoints.{sweeping}
 use Rattle.papaya_sweeps.specs.declared.sweep.Purpose.TheVariants.{Walks, Clears}
 use Rattle.papaya_sweeps.specs.declared.sweep.Sweep.{Sweep}
+use Rattle.papaya_late.specs.Faults.{IsRoom, RoomInSweeping}
 use Rattle.papaya_owned.specs.Ending.{Ends, RunsTo}
 use Rattle.papaya_owned.specs.Owned.{Holds}
 use Rattle.papaya_owned.specs.Sweeping.{ClearedBy, over_pairs_plan}
 use Rattle.papaya_owned.specs.declared.sweeping.OverPairs.{OverPairs}
 use Rattle.papaya_owned.specs.declared.sweeping.Pause.{Pause}
 use Rattle.papaya_owned.specs.declared.sweeping.Pause.TheVariants as pause
+use Rattle.papaya_owned.proofs.Owned.Refusals.{runs_room}
 use Rattle.papaya_owned.proofs.Owned.Sweeps.{nothing, ComesTo, Under, begins_under, under_ends, comes_to, refused_holds, cleared_holds, never_asks}
 
 clears_not_walks : Clears ≡ Walks → ⊥
@@ -52,3 +54,7 @@ module _ {K V S : Type 0} (same : K → K → Bool) (hashes : S → K → ℕ) (
 
   pub clearing_refused : (x : OverPairs S) (m : Mem (Node K V)) (fault : Fault) → RunsTo (over_pairs_plan {V = V} hashes) (record { sweep = p; hasher = b }) m0 x m (Err fault) → Holds same (hashes b.now) setting m xs
   clearing_refused x m fault runs = clearing_by x m (Err fault) runs
+
+  -- and it is for room
+  pub clearing_faults : (x : OverPairs S) (m : Mem (Node K V)) (fault : Fault) → RunsTo (over_pairs_plan {V = V} hashes) (record { sweep = p; hasher = b }) m0 x m (Err fault) → IsRoom fault
+  clearing_faults x m fault runs = (runs_room hashes (record { sweep = p; hasher = b }) m0 x m (Err fault) runs (subst (λ (y : Sweep). RoomInSweeping y.stands) (sym is) tt)).1

@@ -1,11 +1,12 @@
 -- The map of one owner is made: then it rests, with no pair.
-use Rattle.std.specs.Prelude.{◌≡◌, ℕ, zero, suc, ◌+◌, ◌^◌, ◌<◌, ◌≤◌, max, Bool, true, false, List, [], ◌∷◌, ◌++◌, Option, Some, None, Result, Ok, Err}
+use Rattle.std.specs.Prelude.{◌≡◌, ℕ, zero, suc, ◌+◌, ◌^◌, ◌<◌, ◌≤◌, max, Bool, true, false, List, [], ◌∷◌, ◌++◌, Option, Some, None, Result, Ok, Err, IfErr}
 use Rattle.std.specs.Int.{IsPowerOfTwo}
 use Rattle.std.proofs.Common.{refl, sym, ◌∙◌, ap, subst, arith, inl, inr, ⊎_elim}
 use Rattle.seize_words.specs.Mem.{Mem, Can, Took, value_at, word_at}
 use Rattle.seize_words.specs.Plan.{May, Steps}
 use Rattle.seize_words.specs.declared.at.At.TheVariants.{Root, Used}
 use Rattle.seize_words.specs.declared.fault.Fault.{Fault}
+use Rattle.seize_words.specs.declared.fault.Fault.TheVariants.{Memory}
 use Rattle.seize.specs.Sequence.{Turn, Whole, Between, TakesTurns, RunsOn}
 use Rattle.seize.specs.WaitingSets.{Change}
 use Rattle.seize.specs.World.{World, Event, Begin, Step, Runs, Rests, IsInside, at_start}
@@ -38,8 +39,9 @@ use Rattle.papaya_finishes.specs.Maps.{Standing}
 use Rattle.papaya_finishes.proofs.Beside.Makings.Promised.{no_makings_begin, makings_begin, makings_stand}
 use Rattle.papaya_finishes.proofs.Beside.Maps.Comes.{no_maps_begin}
 use Rattle.papaya_maps.specs.AloneBegins.{IsOpening, OpensTo}
+use Rattle.papaya_maps.specs.FaultsBegins.{NeedsMemoryAlone, NeedsOn}
 use Rattle.papaya_maps.specs.MeasuresBegins.{new_map_left}
-use Rattle.papaya_maps.proofs.Laws.{maps_may_begin, maps_go_on, beginnings_come_nearer}
+use Rattle.papaya_maps.proofs.Laws.{maps_may_begin, maps_go_on, beginnings_come_nearer, free_roots_are_enough, only_memory_is_refused}
 use Rattle.papaya_whole.specs.Contents.{ContentsBelow}
 use Rattle.papaya_whole.specs.Owner.{AtRest}
 use Rattle.papaya_owned.specs.Ending.{GoesOn, Tells, Ends, all_end, RunsTo, stops, goes}
@@ -135,6 +137,26 @@ module _ {K V : Type 0} (same : K → K → Bool) (hash : K → ℕ) (lawful : A
   -- it comes to its end
   pub opens_end : (n : NewMap) (m : Mem (Node K V)) → Opens n m → Ends (new_map_plan {K = K} {V = V}) n m
   opens_end n m o = ends_below (suc (new_map_left n)) n m o (omega arith)
+
+  -- where it needs memory alone, it goes on so, and is refused for want of memory
+  needs_on : (n n2 : NewMap) (m m2 : Mem (Node K V)) → Opens n m → (told : Progress Setting) → GoesOn told → Steps Took value_at m (new_map_plan n) m2 (n2, told) → NeedsOn m2 (n2, told) → NeedsMemoryAlone m2 n2 n2.stands
+  needs_on n n2 m m2 o progress.Goes on s needs = needs
+  needs_on n n2 m m2 o progress.Waits on s needs = absurd (opens_to n m o m2 n2 progress.Waits s)
+  needs_on n n2 m m2 o (progress.Done begun) on s needs = absurd on
+  needs_on n n2 m m2 o (progress.Refused fault) on s needs = absurd on
+
+  refused_so : (n : NewMap) (m : Mem (Node K V)) (told : Progress Setting) (result : Result Setting Fault) → NeedsOn m (n, told) → Tells told result → IfErr result (λ fault. fault ≡ Memory)
+  refused_so n m told (Ok begun) needs tells = tt
+  refused_so n m (progress.Refused fault) (Err f) needs tells = tells ∙ needs
+  refused_so n m (progress.Done begun) (Err f) needs tells = absurd tells
+  refused_so n m progress.Goes (Err f) needs tells = absurd tells
+  refused_so n m progress.Waits (Err f) needs tells = absurd tells
+
+  runs_refused : (n : NewMap) (m : Mem (Node K V)) (n2 : NewMap) (m2 : Mem (Node K V)) (result : Result Setting Fault) → RunsTo (new_map_plan {K = K} {V = V}) n m n2 m2 result → Opens n m
+      → NeedsMemoryAlone m n n.stands → IfErr result (λ fault. fault ≡ Memory)
+  runs_refused n m n2 m2 result (stops _ _ _ _ told _ s tells) o needs = refused_so n2 m2 told result (only_memory_is_refused K V m m2 n (n2, told) needs s).1 tells
+  runs_refused n m n2 m2 result (goes _ _ n1 m1 told on s _ _ _ runs) o needs =
+      runs_refused n1 m1 n2 m2 result runs (opens_on n m o m1 n1 told on s).0 (needs_on n n1 m m1 o told on s (only_memory_is_refused K V m m1 n (n1, told) needs s).1)
 
   -- what it comes to
   module _ (one : setting.mask ≡ 0) (size : setting.batch_size < 2 ^ 64) (incremental : is_incremental setting.mode ≡ true) where
@@ -236,3 +258,7 @@ module _ {K V : Type 0} (same : K → K → Bool) (hash : K → ℕ) (lawful : A
       history = h0;
       opening = maps_may_begin V same hash setting 1 places m0 h0 had (omega arith) roots_there table;
     }
+
+    pub first_refused : max places 8 ≤ 2 ^ 48 → (n2 : NewMap) (m2 : Mem (Node K V)) (result : Result Setting Fault) → RunsTo (new_map_plan {K = K} {V = V}) (opening setting 1 places) m0 n2 m2 result
+        → IfErr result (λ fault. fault ≡ Memory)
+    first_refused few n2 m2 result runs = runs_refused (opening setting 1 places) m0 n2 m2 result runs opens_first (free_roots_are_enough K V setting 1 places m0 used few)

@@ -15,6 +15,8 @@ use Rattle.papaya_sweeps.specs.SweepPoints.{sweeping, after_reply}
 use Rattle.papaya_sweeps.specs.declared.sweep.Purpose.TheVariants.{Retains}
 use Rattle.papaya_sweeps.specs.declared.sweep.Sweep.{Sweep}
 use Rattle.papaya_late.specs.Covers.{times}
+use Rattle.papaya_late.specs.Faults.{IsRoom, RoomInSweeping}
+use Rattle.papaya_late.proofs.KindsKept.Laws.{told_sweeps_refuse_room}
 use Rattle.papaya_whole.specs.SweptPairs.{pairs_of, those, is_done}
 use Rattle.papaya_whole.proofs.Contents.KeptBy.{done_here, done_other, times_here}
 use Rattle.papaya_whole.proofs.Contents.Numbered.{all_those}
@@ -26,6 +28,7 @@ use Rattle.papaya_owned.specs.declared.sweeping.OverPairs.{OverPairs}
 use Rattle.papaya_owned.specs.declared.sweeping.Pause.{Pause}
 use Rattle.papaya_owned.specs.declared.sweeping.Pause.TheVariants as pause
 use Rattle.papaya_owned.proofs.Owned.Questions.{answered_by, same_answers, pairs_answered, pairs_kept}
+use Rattle.papaya_owned.proofs.Owned.Refusals.{runs_room}
 use Rattle.papaya_owned.proofs.Owned.Retains.{Question, UnderIt, AsksIt, numbered, question, retained, retains_not_walks, said_of, told, not_yet, unasked}
 use Rattle.papaya_owned.proofs.Owned.Sweeps.{Said, nothing, ComesTo, begins_under, under_ends, comes_to, refused_holds}
 
@@ -105,6 +108,7 @@ module _ {F K V S : Type 0} (g : Mut F (Bor K × (Bor V × Unit {0})) Bool) (f0 
     pub under : UnderIt same hashes b setting m0 xs h said x m
     pub left_is : left ≡ unasked said.asked ns
     pub heard : Heard said f
+    pub room : RoomInSweeping x.sweep.stands
 
   -- it asks about the pair of this word
   pub record Asking (x : OverPairs S) (m : Mem (Node K V)) (left word : ℕ) (f : F) : Type 0 where
@@ -112,6 +116,7 @@ module _ {F K V S : Type 0} (g : Mut F (Bor K × (Bor V × Unit {0})) Bool) (f0 
     pub asks : AsksIt same hashes b setting m0 xs h said x m word
     pub left_is : left ≡ unasked said.asked ns
     pub heard : Heard said f
+    pub room : RoomInSweeping x.sweep.stands
 
   all_left : length xs ≡ unasked [] ns
   all_left =
@@ -125,6 +130,7 @@ module _ {F K V S : Type 0} (g : Mut F (Bor K × (Bor V × Unit {0})) Bool) (f0 
         (begins_under same hashes b setting m0 xs h Retains retains_not_walks);
     left_is = all ∙ all_left;
     heard = heard_begins;
+    room = subst (λ (y : Sweep). RoomInSweeping y.stands) (sym is) tt;
   }
 
   module _ (x : OverPairs S) (m : Mem (Node K V)) (left : ℕ) (f : F) (s : Sifting x m left f) where
@@ -139,7 +145,13 @@ module _ {F K V S : Type 0} (g : Mut F (Bor K × (Bor V × Unit {0})) Bool) (f0 
     ran x2 m2 end known is runs = came x2 m2 (Ok known) (subst (λ (e : Pause). RunsTo (over_pairs_plan {V = V} hashes) x m x2 m2 (Ok e)) is runs)
 
     pub sifting_asks : (x2 : OverPairs S) (m2 : Mem (Node K V)) (word : ℕ) (end : Pause) → end ≡ pause.Asks word → RunsTo (over_pairs_plan {V = V} hashes) x m x2 m2 (Ok end) → Asking x2 m2 left word f
-    sifting_asks x2 m2 word end is runs = record { said = s.said; asks = ran x2 m2 end (pause.Asks word) is runs; left_is = s.left_is; heard = s.heard }
+    sifting_asks x2 m2 word end is runs = record {
+      said = s.said;
+      asks = ran x2 m2 end (pause.Asks word) is runs;
+      left_is = s.left_is;
+      heard = s.heard;
+      room = (runs_room hashes x m x2 m2 (Ok end) runs s.room).0;
+    }
 
     pub sifting_done : (x2 : OverPairs S) (m2 : Mem (Node K V)) (end : Pause) → end ≡ pause.Ended → RunsTo (over_pairs_plan {V = V} hashes) x m x2 m2 (Ok end)
         → (kept : List (K × V)) × KeepsOf g f0 xs kept × Holds same (hashes b.now) setting m2 kept
@@ -156,6 +168,9 @@ module _ {F K V S : Type 0} (g : Mut F (Bor K × (Bor V × Unit {0})) Bool) (f0 
 
     pub sifting_refused : (x2 : OverPairs S) (m2 : Mem (Node K V)) (fault : Fault) → RunsTo (over_pairs_plan {V = V} hashes) x m x2 m2 (Err fault) → Holds same (hashes b.now) setting m2 xs
     sifting_refused x2 m2 fault runs = let r = came x2 m2 (Err fault) runs in refused_holds same hashes b setting m0 xs h Retains retains_not_walks s.said r.0 m2 r.1
+
+    pub sifting_faults : (x2 : OverPairs S) (m2 : Mem (Node K V)) (fault : Fault) → RunsTo (over_pairs_plan {V = V} hashes) x m x2 m2 (Err fault) → IsRoom fault
+    sifting_faults x2 m2 fault runs = (runs_room hashes x m x2 m2 (Err fault) runs s.room).1
 
   module _ (x : OverPairs S) (m : Mem (Node K V)) (left word : ℕ) (f : F) (a : Asking x m left word f) where
     abbrev pub asked_about : Question same hashes b setting m0 xs h a.said m word
@@ -176,4 +191,5 @@ module _ {F K V S : Type 0} (g : Mut F (Bor K × (Bor V × Unit {0})) Bool) (f0 
           (told same hashes b setting m0 xs h a.said x m word a.asks keeps);
       left_is = let l = a.left_is in let fewer = asked_about.fewer in omega (arith, l, fewer, less_is);
       heard = heard_then a.said f a.heard m word asked_about keeps f2 asked;
+      room = subst (λ (y : Sweep). RoomInSweeping y.stands) (sym is) ((told_sweeps_refuse_room x.sweep a.room).1 keeps);
     }

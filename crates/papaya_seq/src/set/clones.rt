@@ -32,6 +32,7 @@ impl<K: Eq + Hash + Clone, S: BuildHasher + Clone> HashSet<K, S> {
     pub fn clone(&self, alloc: Global) -> Result<Self, Fault>
         ensures clones { IfOk result (λ set. PutsElementClones K.eq K.is_clone self.now.elements set.elements) }
         ensures same { ClonesAreSame K.is_clone → IfOk result (λ set. IsPermutation set.elements self.now.elements) }
+        ensures fault { IfErr result IsRoom }
         ensures hasher { IfOk result (λ set. S.is_clone self.now.hasher set.hasher) }
     {
         let map = self.map.clone(alloc)?;
@@ -45,6 +46,7 @@ impl<K: Eq + Hash + Clone, S: BuildHasher + Default + Drop> HashSet<K, S> {
     pub fn from_array(alloc: Global, items: &[K]) -> Result<Self, Fault>
         ensures clones { IfOk result (λ set. PutsElementClones K.eq K.is_clone items.now set.elements) }
         ensures same { ClonesAreSame K.is_clone → IfOk result (λ set. IsPermutation set.elements (put_all_in K.eq [] items.now)) }
+        ensures fault { IfErr result IsRoom }
     {
         let mut set = HashSet::new(alloc)?;
         for item in items {

@@ -35,7 +35,8 @@ impl<K: Eq + Hash + Drop, S: BuildHasher + Default + Drop> HashSet<K, S> {
     /// set.
     pub fn try_collect<I: IntoIterator<Item = K>>(alloc: Global, items: I) -> Result<Self, Fault>
         requires { IsFiniteIterable I.into_iter_gives I.IntoIter.can_next I.IntoIter.remaining items }
-        ensures { IfOk result (λ set. (it : I.IntoIter) × (given : List K) × I.into_iter_gives items it × Drains I.IntoIter.next_gives it given × IsPermutation set.elements (put_all_in K.eq [] given)) }
+        ensures collected { IfOk result (λ set. (it : I.IntoIter) × (given : List K) × I.into_iter_gives items it × Drains I.IntoIter.next_gives it given × IsPermutation set.elements (put_all_in K.eq [] given)) }
+        ensures fault { IfErr result IsRoom }
     {
         let rest = items.into_iter();
         let mut set = HashSet::new(alloc)?;

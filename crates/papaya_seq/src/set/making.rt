@@ -1,5 +1,7 @@
 //! How a set for one owner is made.
-ghost use Rattle.std.specs.Prelude.{◌≡◌, [], IfOk};
+ghost use Rattle.std.specs.Prelude.{◌≡◌, [], IfOk, IfErr, OnOk};
+ghost use Rattle.seize_words.specs.declared.fault.Fault.TheVariants.{Memory};
+ghost use Rattle.papaya_owned.specs.Rooms.{AreTooMany, IsUnmade};
 
 use super::HashSet;
 use crate::map::HashMap;
@@ -10,14 +12,17 @@ use std::hash::{BuildHasher, Hash};
 impl<K: Eq + Hash + Drop, S: BuildHasher + Default + Drop> HashSet<K, S> {
     /// A set with no element. The only fault is `Fault::Memory`.
     pub fn new(alloc: Global) -> Result<Self, Fault>
-        ensures { IfOk result (λ set. set.elements ≡ []) }
+        ensures elements { IfOk result (λ set. set.elements ≡ []) }
+        ensures fault { IfErr result (λ fault. fault ≡ Memory) }
     {
         HashSet::with_hasher(alloc, S::default())
     }
 
-    /// A set with no element, and with room for so many. The faults are `Fault::Capacity`, where that is too many, and `Fault::Memory`.
+    /// A set with no element, and with room for so many. The faults are `Fault::Capacity`, just where that is too many, and `Fault::Memory`.
     pub fn with_capacity(alloc: Global, capacity: u64) -> Result<Self, Fault>
-        ensures { IfOk result (λ set. set.elements ≡ []) }
+        ensures elements { IfOk result (λ set. set.elements ≡ []) }
+        ensures few { OnOk result (AreTooMany capacity → ⊥) }
+        ensures fault { IfErr result (IsUnmade capacity) }
     {
         HashSet::with_capacity_and_hasher(alloc, capacity, S::default())
     }
@@ -27,15 +32,18 @@ impl<K: Eq + Hash + Drop, S: BuildHasher + Drop> HashSet<K, S> {
     /// A set with no element, and with this hasher. The only fault is `Fault::Memory`.
     pub fn with_hasher(alloc: Global, hasher: S) -> Result<Self, Fault>
         ensures elements { IfOk result (λ set. set.elements ≡ []) }
+        ensures fault { IfErr result (λ fault. fault ≡ Memory) }
         ensures hasher { IfOk result (λ set. set.hasher ≡ hasher) }
     {
         HashSet::with_capacity_and_hasher(alloc, 0, hasher)
     }
 
-    /// A set with no element, with room for so many, and with this hasher. The faults are `Fault::Capacity`, where that is too many, and
-    /// `Fault::Memory`.
+    /// A set with no element, with room for so many, and with this hasher. The faults are `Fault::Capacity`, just where that is too many,
+    /// and `Fault::Memory`.
     pub fn with_capacity_and_hasher(alloc: Global, capacity: u64, hasher: S) -> Result<Self, Fault>
         ensures elements { IfOk result (λ set. set.elements ≡ []) }
+        ensures few { OnOk result (AreTooMany capacity → ⊥) }
+        ensures fault { IfErr result (IsUnmade capacity) }
         ensures hasher { IfOk result (λ set. set.hasher ≡ hasher) }
     {
         let map = HashMap::with_capacity_and_hasher(alloc, capacity, hasher)?;

@@ -35,7 +35,7 @@ abbrev pub ReservesRoom : {T : Type 0} → Reserve × Outcome T Unit → Type 0
 ReservesRoom (p, told) = RoomInReserving p.stands × RefusesRoom told
 
 -- a copying that begins
-copying_room : (setting : Setting) (source target : Table) → RoomInCopying (copying_all setting source target).stands
+pub copying_room : (setting : Setting) (source target : Table) → RoomInCopying (copying_all setting source target).stands
 copying_room setting source target = by (is_incremental setting.mode)
   where
     by : (b : Bool) → RoomInCopying (if b then record (resting setting true source target copies.Marks) { end = source.len } else resting setting true source target copies.Asks).stands

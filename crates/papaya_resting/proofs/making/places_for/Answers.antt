@@ -1,5 +1,6 @@
 -- Both lengths fit a table.
 use Rattle.papaya_owned.proofs.Owned.Places.{first_table, no_table_yet}
+use Rattle.papaya_resting.proofs.Makes.{few_told, many_told}
 use Rattle.papaya_resting.proofs.making.places_for.Goals as goal
 
 pub returns-then-capacity-eq0-clause-table : goal.returns-then-capacity-eq0-clause-table
@@ -7,3 +8,12 @@ returns-then-capacity-eq0-clause-table c = no_table_yet
 
 pub returns-else-capacity-eq0-clause-table : goal.returns-else-capacity-eq0-clause-table
 returns-else-capacity-eq0-clause-table c = let e = c.in_ok-entries.ensures.in_words in first_table c.in_ok-entries.entries e.0.0 e.1
+
+pub returns-then-capacity-eq0-clause-few : goal.returns-then-capacity-eq0-clause-few
+returns-then-capacity-eq0-clause-few c = few_told _ _ _ c.in_ok-entries.ensures.formula
+
+pub returns-else-capacity-eq0-clause-few : goal.returns-else-capacity-eq0-clause-few
+returns-else-capacity-eq0-clause-few c = few_told _ _ _ c.in_ok-entries.ensures.formula
+
+pub returns-in_err-entries-clause-fault : goal.returns-in_err-entries-clause-fault
+returns-in_err-entries-clause-fault c = many_told _ _ _ c.in_err-entries.ensures.formula

@@ -8,7 +8,7 @@ use Rattle.papaya_seq.proofs.json.map_of.Goals as goal
 pub loop-name-init : goal.loop-name-init
 loop-name-init g c =
     none_yet g.K.JsonForm.in_range g.K.JsonForm.key_text g.V.JsonForm.in_range g.V.JsonForm.json_value g.K.PartialEq.eq g.met.K.JsonForm.key_text_tells _ _ _
-    (c.into_iter-name-iterator.ensures.into_iter_gives ∙ c.iter-name-items.ensures.rest) c.in-Ok.ensures
+    (c.into_iter-name-iterator.ensures.into_iter_gives ∙ c.iter-name-items.ensures.rest) c.in-Ok.ensures.pairs
 
 pub loop-name-preserved : goal.loop-name-preserved
 loop-name-preserved g c =
