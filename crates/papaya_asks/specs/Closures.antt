@@ -15,7 +15,7 @@ use Rattle.papaya_asks.specs.declared.computing.Computed.TheVariants as computed
 use Rattle.papaya_asks.specs.declared.computing.Operation.{Operation}
 use Rattle.papaya_asks.specs.declared.computing.Operation.TheVariants as operation
 use Rattle.papaya_asks.specs.declared.refused.RefusedKey.{RefusedKey}
-use Rattle.papaya_asks.specs.declared.refused.RefusedPair.{RefusedPair}
+use Rattle.papaya_asks.specs.declared.refused.Refused.{Refused}
 
 -- a test may answer so of a pair
 abbrev pub TestsAs : {F K V : Type 0} → Once F (Bor K × (Bor V × Unit {0})) Bool → F → K × V → Bool → Type 0
@@ -64,7 +64,7 @@ module _ {K V : Type 0} (same : K → K → Bool) (hash : K → ℕ) (setting : 
   ComesTo Told (Err r) = RefusedAs same hash setting m (same key) xs (Some key) Told r.fault × (r.key ≡ key)
 
   -- and the value, where it was given one, too
-  abbrev pub ComesToWith : V → (Option (K × V) → Reply V → Type 0) → Result KeyAnswer (RefusedPair K V) → Type 0
+  abbrev pub ComesToWith : V → (Option (K × V) → Reply V → Type 0) → Result KeyAnswer (Refused K V) → Type 0
   ComesToWith value Told (Ok answer) = AnswersAs same hash setting m (same key) xs (Some key) Told answer
   ComesToWith value Told (Err r) = RefusedAs same hash setting m (same key) xs (Some key) Told r.fault × (r.key ≡ key) × (r.value ≡ value)
 

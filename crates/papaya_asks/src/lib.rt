@@ -9,6 +9,6 @@ mod removals;
 mod updates;
 
 pub use computing::{Computed, Operation, compute};
-pub use refused::{RefusedKey, RefusedPair};
+pub use refused::{Refused, RefusedKey};
 pub use removals::{remove, remove_if};
 pub use updates::{insert_with, update, update_or_insert, update_or_insert_with};

@@ -13,7 +13,7 @@ pub struct RefusedKey<K> {
 
 /// A call was refused, and no pair of the map has changed: the key and the value that it was given.
 #[derive(Drop)]
-pub struct RefusedPair<K, V> {
+pub struct Refused<K, V> {
     /// Why.
     pub fault: Fault,
     /// The key.

@@ -9,7 +9,7 @@ ghost use Rattle.papaya_raw.specs.declared.machines.asking.Reply.TheVariants as 
 ghost use Rattle.papaya_raw.specs.declared.machines.asking.Takes.TheVariants as takes;
 
 use crate::asking::{finish, key_of, pair_of, start};
-use crate::refused::{RefusedKey, RefusedPair};
+use crate::refused::{Refused, RefusedKey};
 use papaya_owned::{OnKey, Stop, pair_at};
 use papaya_raw::machines::{KeyAnswer, KeyCall, Reply};
 use papaya_tables::{Hashes, Node, Setting};
@@ -126,7 +126,7 @@ pub fn update_or_insert<K: Eq + Hash + Drop, V: Drop, S: BuildHasher, F: FnOnce(
     key: K,
     value: V,
     make: F,
-) -> Result<KeyAnswer, RefusedPair<K, V>>
+) -> Result<KeyAnswer, Refused<K, V>>
     requires callable { F.IsAlwaysCallable make }
     requires holds { (xs : List (K × V)) × Holds K.eq (hashed_by S.Hasher.finish S.Hasher.write S.build_hasher K.hash_input hasher.now) setting memory.old xs }
     ensures { (xs : List (K × V)) → Holds K.eq (hashed_by S.Hasher.finish S.Hasher.write S.build_hasher K.hash_input hasher.now) setting memory.old xs
@@ -146,7 +146,7 @@ pub fn update_or_insert<K: Eq + Hash + Drop, V: Drop, S: BuildHasher, F: FnOnce(
             let new = make(pair_at(memory, word).1);
             match replied(memory, setting, &mut machine, Reply::Insert(new)) {
                 Ok(answer) => Ok(answer),
-                Err(refused) => Err(RefusedPair {
+                Err(refused) => Err(Refused {
                     fault: refused.fault,
                     key: refused.key,
                     value,
@@ -156,7 +156,7 @@ pub fn update_or_insert<K: Eq + Hash + Drop, V: Drop, S: BuildHasher, F: FnOnce(
         Ok(Stop::Asks(None)) => stored(memory, setting, &mut machine, value),
         Err(fault) => {
             let key = key_of(&mut machine);
-            Err(RefusedPair { fault, key, value })
+            Err(Refused { fault, key, value })
         }
     }
 }
@@ -167,7 +167,7 @@ fn stored<K: Eq + Hash + Drop, V: Drop, S: Hashes<K>>(
     setting: Setting,
     machine: &mut OnKey<'_, K, V, K, S>,
     value: V,
-) -> Result<KeyAnswer, RefusedPair<K, V>>
+) -> Result<KeyAnswer, Refused<K, V>>
     requires { (xs : List (K × V)) × (kind : Kind) × (key : K) × Pauses K.eq K.eq S.hash setting kind (Some key) (K.eq key) xs machine.old memory.old None × (kind.takes ≡ takes.Values) }
     ensures { (xs : List (K × V)) (kind : Kind) (key : K) → Pauses K.eq K.eq S.hash setting kind (Some key) (K.eq key) xs machine.old memory.old None → kind.takes ≡ takes.Values
         → ComesToWith K.eq (S.hash machine.old.hasher.now) setting memory.new key xs value (ToldThis (K.eq key) xs (replies.Insert value)) result }
@@ -176,7 +176,7 @@ fn stored<K: Eq + Hash + Drop, V: Drop, S: Hashes<K>>(
         Ok(answer) => Ok(answer),
         Err(fault) => {
             let (key, value) = pair_of(machine);
-            Err(RefusedPair { fault, key, value })
+            Err(Refused { fault, key, value })
         }
     }
 }

@@ -1,4 +1,3 @@
-pub mod Calls
 pub mod Json
 pub mod Maps
 pub mod Orders

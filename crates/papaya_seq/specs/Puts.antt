@@ -5,7 +5,7 @@ use Rattle.std.specs.Iterator.{Drains, Yields}
 use Rattle.std.specs.List.{AllZip}
 use Rattle.std.specs.List.Sorted.{IsPermutation}
 use Rattle.papaya_owned.specs.Owned.{found_by, left_by}
-use Rattle.papaya_seq.specs.declared.refused.Refused.{Refused}
+use Rattle.papaya_asks.specs.declared.refused.Refused.{Refused}
 
 module _ {K V : Type 0} (same : K → K → Bool) where
   -- the pairs, once this one was put in the place of that of its key

@@ -5,7 +5,7 @@ use Rattle.std.specs.Fn.{Called, CalledAt, Mut}
 use Rattle.std.specs.Iterator.{Drains, Yields}
 use Rattle.std.specs.List.{AllZip, FoldsTo}
 use Rattle.std.specs.List.Sorted.{IsPermutation}
-use Rattle.papaya_seq.specs.declared.set.refused.RefusedKey.{RefusedKey}
+use Rattle.papaya_asks.specs.declared.refused.RefusedKey.{RefusedKey}
 
 -- The value of a set: its elements, and its hasher. Which order the elements are in, a walk tells alone.
 pub record Set (K S : Type 0) : Type 0 where

@@ -1,99 +1,29 @@
 //! Removals from a map for one owner. Each change begins with a refresh.
-ghost use Rattle.std.specs.Prelude.{◌≡◌, List, None, is_some, IfErr, IfOk, OnOk, OnErr};
+ghost use Rattle.std.specs.Prelude.{◌≡◌, is_some, IfErr, IfOk, OnOk, OnErr};
 ghost use Rattle.std.specs.List.Sorted.{IsPermutation};
-ghost use Rattle.papaya_callers.specs.Kind.{removes};
 ghost use Rattle.papaya_late.specs.Faults.{IsRoom};
-ghost use Rattle.papaya_owned.specs.Owned.{Holds, EndsBy, found_by, hashed_by, left_by};
-ghost use Rattle.papaya_seq.specs.Calls.{has_removed};
+ghost use Rattle.papaya_owned.specs.Owned.{found_by, left_by};
 
 use crate::map::HashMap;
-use papaya_owned::{OnKey, Refreshes, Stop, run};
-use papaya_raw::machines::{KeyAnswer, KeyCall};
-use papaya_tables::{Hashes, Node, Setting};
-use seize::rows::Leave;
-use seize_words::{Fault, Plain};
+use papaya_tables::Equivalent;
+use seize_words::Fault;
 use std::hash::{BuildHasher, Hash};
-
-/// Ends the owner's section, and begins the next one: what is out of the map is given back.
-pub(crate) fn refresh<K: Eq + Hash + Drop, V: Drop, S: BuildHasher>(
-    memory: &mut Plain<Node<K, V>>,
-    setting: Setting,
-    _hasher: &S,
-)
-    requires { (xs : List (K × V)) × Holds K.eq (hashed_by S.Hasher.finish S.Hasher.write S.build_hasher K.hash_input _hasher.now) setting memory.old xs }
-    ensures { (xs : List (K × V)) → Holds K.eq (hashed_by S.Hasher.finish S.Hasher.write S.build_hasher K.hash_input _hasher.now) setting memory.old xs
-        → Holds K.eq (hashed_by S.Hasher.finish S.Hasher.write S.build_hasher K.hash_input _hasher.now) setting memory.new xs }
-{
-    let leave = Leave::refresh(setting.slot, setting.batch_size);
-    let mut machine = Refreshes { leave };
-    let _ = run(&mut machine, memory);
-}
-
-/// Runs a removal to its end.
-fn take<K: Eq + Hash + Drop, V: Drop, S: BuildHasher>(
-    memory: &mut Plain<Node<K, V>>,
-    setting: Setting,
-    hasher: &S,
-    key: K,
-) -> Result<Stop, Fault>
-    requires { (xs : List (K × V)) × Holds K.eq (hashed_by S.Hasher.finish S.Hasher.write S.build_hasher K.hash_input hasher.now) setting memory.old xs }
-    ensures { (xs : List (K × V)) → Holds K.eq (hashed_by S.Hasher.finish S.Hasher.write S.build_hasher K.hash_input hasher.now) setting memory.old xs
-        → EndsBy K.eq (hashed_by S.Hasher.finish S.Hasher.write S.build_hasher K.hash_input hasher.now) setting memory.new removes None (K.eq key) xs result }
-{
-    let hash = hasher.hash_of(&key);
-    let call = KeyCall::remove(setting, hash, key);
-    let mut machine: OnKey<'_, K, V, K, S> = OnKey {
-        call,
-        hasher,
-        unstored: None,
-    };
-    run(&mut machine, memory)
-}
-
-/// Whether a removal has removed a pair.
-fn removed(stop: Stop) -> bool
-    ensures { result ≡ has_removed stop }
-{
-    matches!(stop, Stop::Answered(KeyAnswer::Removed(_)))
-}
-
-/// Removes the pair of a key, after a refresh, and answers whether there was one.
-fn remove<K: Eq + Hash + Drop, V: Drop, S: BuildHasher>(
-    memory: &mut Plain<Node<K, V>>,
-    setting: Setting,
-    hasher: &S,
-    key: K,
-) -> Result<bool, Fault>
-    requires { (xs : List (K × V)) × Holds K.eq (hashed_by S.Hasher.finish S.Hasher.write S.build_hasher K.hash_input hasher.now) setting memory.old xs }
-    ensures some { (xs : List (K × V)) → Holds K.eq (hashed_by S.Hasher.finish S.Hasher.write S.build_hasher K.hash_input hasher.now) setting memory.old xs → IfOk result (λ was. was ≡ is_some (found_by (K.eq key) xs)) }
-    ensures removed { (xs : List (K × V)) → Holds K.eq (hashed_by S.Hasher.finish S.Hasher.write S.build_hasher K.hash_input hasher.now) setting memory.old xs
-        → OnOk result (Holds K.eq (hashed_by S.Hasher.finish S.Hasher.write S.build_hasher K.hash_input hasher.now) setting memory.new (left_by (K.eq key) xs)) }
-    ensures refused { (xs : List (K × V)) → Holds K.eq (hashed_by S.Hasher.finish S.Hasher.write S.build_hasher K.hash_input hasher.now) setting memory.old xs
-        → OnErr result (Holds K.eq (hashed_by S.Hasher.finish S.Hasher.write S.build_hasher K.hash_input hasher.now) setting memory.new xs) }
-    ensures fault { IfErr result IsRoom }
-{
-    refresh(memory, setting, hasher);
-    match take(memory, setting, hasher, key) {
-        Ok(stop) => Ok(removed(stop)),
-        Err(fault) => Err(fault),
-    }
-}
 
 impl<K: Eq + Hash + Drop, V: Drop, S: BuildHasher> HashMap<K, V, S> {
     /// Removes the pair of a key, and answers whether there was one. The faults are `Fault::Capacity` and
     /// `Fault::Memory`; then no pair has changed.
-    pub fn remove(&mut self, key: K) -> Result<bool, Fault>
-        ensures some { IfOk result (λ was. was ≡ is_some (found_by (K.eq key) self.old.pairs)) }
-        ensures removed { OnOk result (IsPermutation self.new.pairs (left_by (K.eq key) self.old.pairs)) }
+    pub fn remove<Q: Equivalent<K>>(&mut self, asked: &Q) -> Result<bool, Fault>
+        ensures some { IfOk result (λ was. was ≡ is_some (found_by (Q.Equivalent.equivalent asked.now) self.old.pairs)) }
+        ensures removed { OnOk result (IsPermutation self.new.pairs (left_by (Q.Equivalent.equivalent asked.now) self.old.pairs)) }
         ensures refused { OnErr result (IsPermutation self.new.pairs self.old.pairs) }
         ensures fault { IfErr result IsRoom }
         ensures hasher { self.new.hasher ≡ self.old.hasher }
     {
-        remove(
+        papaya_resting::remove(
             &mut self.resting.memory,
             self.resting.setting,
             &self.hasher,
-            key,
+            asked,
         )
     }
 }

@@ -6,7 +6,7 @@ ghost use Rattle.papaya_late.specs.Faults.{IsRoom};
 ghost use Rattle.papaya_seq.specs.Puts.{PutsItems, put_all};
 
 use crate::map::HashMap;
-use crate::refused::Refused;
+use papaya_asks::Refused;
 use seize_words::Fault;
 use std::alloc::Global;
 use std::hash::{BuildHasher, Hash};

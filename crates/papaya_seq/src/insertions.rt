@@ -1,139 +1,13 @@
 //! Insertions into a map for one owner. Each begins with a refresh.
-ghost use Rattle.std.specs.Prelude.{◌≡◌, true, false, List, [], ◌∷◌, ◌++◌, None, Some, is_some, IsTrue, IfOk, IfErr, OnOk, OnErr};
+ghost use Rattle.std.specs.Prelude.{◌≡◌, [], ◌∷◌, ◌++◌, None, is_some, IsTrue, IfOk, IfErr, OnOk, OnErr};
 ghost use Rattle.std.specs.List.Sorted.{IsPermutation};
-ghost use Rattle.papaya_callers.specs.Kind.{Kind};
 ghost use Rattle.papaya_late.specs.Faults.{IsRoom};
-ghost use Rattle.papaya_tables.specs.declared.node.Node.TheVariants as node;
-ghost use Rattle.papaya_owned.specs.Owned.{Holds, EndsBy, ComesBack, found_by, hashed_by, left_by};
-ghost use Rattle.papaya_seq.specs.Calls.{StoresPair, has_found, has_replaced};
+ghost use Rattle.papaya_owned.specs.Owned.{found_by, left_by};
 
-use crate::changes::refresh;
 use crate::map::HashMap;
-use crate::refused::Refused;
-use papaya_owned::{OnKey, Stop, run};
-use papaya_raw::machines::{KeyAnswer, KeyCall};
-use papaya_tables::{Hashes, Node, Setting};
-use seize_words::{Fault, Plain};
+use papaya_asks::Refused;
+use seize_words::Fault;
 use std::hash::{BuildHasher, Hash};
-
-/// Runs a call that may store a pair to its end, and answers that pair, too, where it was not stored.
-fn store<K: Eq + Hash + Drop, V: Drop, S: BuildHasher>(
-    memory: &mut Plain<Node<K, V>>,
-    setting: Setting,
-    hasher: &S,
-    call: KeyCall<K, V, K>,
-) -> (Result<Stop, Fault>, Option<Node<K, V>>)
-    requires map { (xs : List (K × V)) × Holds K.eq (hashed_by S.Hasher.finish S.Hasher.write S.build_hasher K.hash_input hasher.now) setting memory.old xs }
-    requires call { (kind : Kind) × (key : K) × (value : V) × StoresPair (hashed_by S.Hasher.finish S.Hasher.write S.build_hasher K.hash_input hasher.now) setting key value kind call }
-    ensures ends { (xs : List (K × V)) (kind : Kind) (key : K) (value : V) → Holds K.eq (hashed_by S.Hasher.finish S.Hasher.write S.build_hasher K.hash_input hasher.now) setting memory.old xs
-        → StoresPair (hashed_by S.Hasher.finish S.Hasher.write S.build_hasher K.hash_input hasher.now) setting key value kind call
-        → EndsBy K.eq (hashed_by S.Hasher.finish S.Hasher.write S.build_hasher K.hash_input hasher.now) setting memory.new kind (Some (node.Pair key value)) (K.eq key) xs result.0 }
-    ensures back { (xs : List (K × V)) (kind : Kind) (key : K) (value : V) → Holds K.eq (hashed_by S.Hasher.finish S.Hasher.write S.build_hasher K.hash_input hasher.now) setting memory.old xs
-        → StoresPair (hashed_by S.Hasher.finish S.Hasher.write S.build_hasher K.hash_input hasher.now) setting key value kind call → ComesBack (Some (node.Pair key value)) result.0 result.1 }
-{
-    let mut machine: OnKey<'_, K, V, K, S> = OnKey {
-        call,
-        hasher,
-        unstored: None,
-    };
-    let end = run(&mut machine, memory);
-    (end, machine.unstored)
-}
-
-/// Whether a call has replaced a pair.
-fn replaced(stop: Stop) -> bool
-    ensures { result ≡ has_replaced stop }
-{
-    matches!(stop, Stop::Answered(KeyAnswer::Replaced { .. }))
-}
-
-/// The key and the value of the pair of a call, which came back.
-fn pair_of<K: Drop, V: Drop>(back: Option<Node<K, V>>) -> (K, V)
-    requires { (key : K) × (value : V) × (back ≡ Some (node.Pair key value)) }
-    ensures { back ≡ Some (node.Pair result.0 result.1) }
-{
-    match back {
-        Some(Node::Pair(key, value)) => (key, value),
-        Some(Node::Table { .. } | Node::Shards) | None => unreachable!(),
-    }
-}
-
-/// A call was refused, and its pair came back.
-fn refused<K: Drop, V: Drop>(fault: Fault, back: Option<Node<K, V>>) -> Refused<K, V>
-    requires { (key : K) × (value : V) × (back ≡ Some (node.Pair key value)) }
-    ensures fault { result.fault ≡ fault }
-    ensures pair { back ≡ Some (node.Pair result.key result.value) }
-{
-    let (key, value) = pair_of(back);
-    Refused { fault, key, value }
-}
-
-/// What a call comes to that stores its pair only where there is none: where it has found one, its own value comes back.
-fn tried<K: Drop, V: Drop>(stop: Stop, back: Option<Node<K, V>>) -> Result<(), V>
-    requires { IsTrue (has_found stop) → (key : K) × (value : V) × (back ≡ Some (node.Pair key value)) }
-    ensures stored { OnOk result (has_found stop ≡ false) }
-    ensures found { OnErr result (has_found stop ≡ true) }
-    ensures back { IfErr result (λ value. (key : K) × (back ≡ Some (node.Pair key value))) }
-{
-    match stop {
-        Stop::Answered(KeyAnswer::Found(_)) => Err(pair_of(back).1),
-        Stop::Answered(_) | Stop::Asks(_) => Ok(()),
-    }
-}
-
-/// Stores a pair, after a refresh, also in the place of another one of its key, and answers whether there was one.
-fn insert<K: Eq + Hash + Drop, V: Drop, S: BuildHasher>(
-    memory: &mut Plain<Node<K, V>>,
-    setting: Setting,
-    hasher: &S,
-    key: K,
-    value: V,
-) -> Result<bool, Refused<K, V>>
-    requires { (xs : List (K × V)) × Holds K.eq (hashed_by S.Hasher.finish S.Hasher.write S.build_hasher K.hash_input hasher.now) setting memory.old xs }
-    ensures some { (xs : List (K × V)) → Holds K.eq (hashed_by S.Hasher.finish S.Hasher.write S.build_hasher K.hash_input hasher.now) setting memory.old xs → IfOk result (λ was. was ≡ is_some (found_by (K.eq key) xs)) }
-    ensures stored { (xs : List (K × V)) → Holds K.eq (hashed_by S.Hasher.finish S.Hasher.write S.build_hasher K.hash_input hasher.now) setting memory.old xs
-        → OnOk result (Holds K.eq (hashed_by S.Hasher.finish S.Hasher.write S.build_hasher K.hash_input hasher.now) setting memory.new (left_by (K.eq key) xs ++ ((key, value) ∷ []))) }
-    ensures refused { (xs : List (K × V)) → Holds K.eq (hashed_by S.Hasher.finish S.Hasher.write S.build_hasher K.hash_input hasher.now) setting memory.old xs
-        → OnErr result (Holds K.eq (hashed_by S.Hasher.finish S.Hasher.write S.build_hasher K.hash_input hasher.now) setting memory.new xs) }
-    ensures back { IfErr result (λ r. (r.key ≡ key) × (r.value ≡ value)) }
-    ensures fault { IfErr result (λ r. IsRoom r.fault) }
-{
-    refresh(memory, setting, hasher);
-    let hash = hasher.hash_of(&key);
-    let call = KeyCall::insert(setting, hash, key, value);
-    match store(memory, setting, hasher, call) {
-        (Ok(stop), _) => Ok(replaced(stop)),
-        (Err(fault), back) => Err(refused(fault, back)),
-    }
-}
-
-/// Stores a pair, after a refresh, if its key is not there yet. Where it is there, the value is handed back.
-fn try_insert<K: Eq + Hash + Drop, V: Drop, S: BuildHasher>(
-    memory: &mut Plain<Node<K, V>>,
-    setting: Setting,
-    hasher: &S,
-    key: K,
-    value: V,
-) -> Result<Result<(), V>, Refused<K, V>>
-    requires { (xs : List (K × V)) × Holds K.eq (hashed_by S.Hasher.finish S.Hasher.write S.build_hasher K.hash_input hasher.now) setting memory.old xs }
-    ensures stored { (xs : List (K × V)) → Holds K.eq (hashed_by S.Hasher.finish S.Hasher.write S.build_hasher K.hash_input hasher.now) setting memory.old xs
-        → IfOk result (λ tried. OnOk tried ((found_by (K.eq key) xs ≡ None) × Holds K.eq (hashed_by S.Hasher.finish S.Hasher.write S.build_hasher K.hash_input hasher.now) setting memory.new (xs ++ ((key, value) ∷ [])))) }
-    ensures found { (xs : List (K × V)) → Holds K.eq (hashed_by S.Hasher.finish S.Hasher.write S.build_hasher K.hash_input hasher.now) setting memory.old xs
-        → IfOk result (λ tried. OnErr tried (IsTrue (is_some (found_by (K.eq key) xs)) × Holds K.eq (hashed_by S.Hasher.finish S.Hasher.write S.build_hasher K.hash_input hasher.now) setting memory.new xs)) }
-    ensures kept { IfOk result (λ tried. IfErr tried (λ back. back ≡ value)) }
-    ensures refused { (xs : List (K × V)) → Holds K.eq (hashed_by S.Hasher.finish S.Hasher.write S.build_hasher K.hash_input hasher.now) setting memory.old xs
-        → OnErr result (Holds K.eq (hashed_by S.Hasher.finish S.Hasher.write S.build_hasher K.hash_input hasher.now) setting memory.new xs) }
-    ensures back { IfErr result (λ r. (r.key ≡ key) × (r.value ≡ value)) }
-    ensures fault { IfErr result (λ r. IsRoom r.fault) }
-{
-    refresh(memory, setting, hasher);
-    let hash = hasher.hash_of(&key);
-    let call = KeyCall::try_insert(setting, hash, key, value);
-    match store(memory, setting, hasher, call) {
-        (Ok(stop), back) => Ok(tried(stop, back)),
-        (Err(fault), back) => Err(refused(fault, back)),
-    }
-}
 
 impl<K: Eq + Hash + Drop, V: Drop, S: BuildHasher> HashMap<K, V, S> {
     /// Stores a pair, also in the place of another one of its key, and answers whether there was one. The faults are `Fault::Capacity` and
@@ -146,7 +20,7 @@ impl<K: Eq + Hash + Drop, V: Drop, S: BuildHasher> HashMap<K, V, S> {
         ensures fault { IfErr result (λ r. IsRoom r.fault) }
         ensures hasher { self.new.hasher ≡ self.old.hasher }
     {
-        insert(
+        papaya_resting::insert(
             &mut self.resting.memory,
             self.resting.setting,
             &self.hasher,
@@ -166,7 +40,7 @@ impl<K: Eq + Hash + Drop, V: Drop, S: BuildHasher> HashMap<K, V, S> {
         ensures fault { IfErr result (λ r. IsRoom r.fault) }
         ensures hasher { self.new.hasher ≡ self.old.hasher }
     {
-        try_insert(
+        papaya_resting::try_insert(
             &mut self.resting.memory,
             self.resting.setting,
             &self.hasher,

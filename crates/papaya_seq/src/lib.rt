@@ -1,9 +1,11 @@
 //! A hash map for one owner: its calls run the map's machines to the end, over a memory and a collector of its own.
 #![tactic(auto)]
 
+mod asking;
 mod changes;
 mod clones;
 mod columns;
+mod computing;
 mod counting;
 mod equal;
 mod extending;
@@ -14,16 +16,18 @@ pub mod law;
 mod lookups;
 mod making;
 mod map;
-mod refused;
 mod requests;
+mod rooms;
 mod set;
 mod sweeps;
+mod testing;
 mod walks;
 
 pub use columns::{Keys, Values};
 pub use map::HashMap;
+pub use papaya_asks::{Operation, Refused, RefusedKey};
+pub use papaya_resting::{Change, Compute};
 pub use papaya_shown::Pairs;
 pub use papaya_tables::Equivalent;
-pub use refused::Refused;
 pub use seize_words::Fault;
-pub use set::{HashSet, RefusedKey};
+pub use set::HashSet;

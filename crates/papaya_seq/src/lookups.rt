@@ -2,29 +2,12 @@
 ghost use Rattle.std.specs.Prelude.{◌≡◌, List, is_some, option_map};
 ghost use Rattle.std.specs.List.Sorted.{IsPermutation};
 ghost use Rattle.std.specs.Option.{option_copied};
-ghost use Rattle.papaya_owned.specs.Owned.{Holds, IsWordOf, found_by, hashed_by};
+ghost use Rattle.papaya_owned.specs.Owned.{found_by};
 
 use crate::map::HashMap;
-use papaya_owned::{find, pair_at};
-use papaya_raw::machines::Lookup;
-use papaya_tables::{Equivalent, Hashes, Node, Setting};
-use seize_words::Plain;
+use papaya_owned::pair_at;
+use papaya_tables::Equivalent;
 use std::hash::{BuildHasher, Hash};
-
-/// The word of the pair that this asks for, in a map in this memory.
-fn word_of<K: Eq + Hash, V, S: BuildHasher, Q: Equivalent<K>>(
-    memory: &Plain<Node<K, V>>,
-    setting: Setting,
-    hasher: &S,
-    asked: &Q,
-) -> Option<u64>
-    requires { (xs : List (K × V)) × Holds K.eq (hashed_by S.Hasher.finish S.Hasher.write S.build_hasher K.hash_input hasher.now) setting memory.now xs }
-    ensures { (xs : List (K × V)) → Holds K.eq (hashed_by S.Hasher.finish S.Hasher.write S.build_hasher K.hash_input hasher.now) setting memory.now xs → IsWordOf (Q.Equivalent.equivalent asked.now) memory.now xs result }
-{
-    let hash = hasher.hash_of(asked);
-    let lookup = Lookup::new(setting.root, setting.mode, hash);
-    find(memory, lookup, asked)
-}
 
 impl<K: Eq + Hash, V, S: BuildHasher> HashMap<K, V, S> {
     /// The value of a key, if the key is in the map.
@@ -33,7 +16,7 @@ impl<K: Eq + Hash, V, S: BuildHasher> HashMap<K, V, S> {
         ensures in_any_order { (xs : List (K × V)) → IsPermutation self.now.pairs xs → option_copied result ≡ option_map (λ x. x.1) (found_by (Q.Equivalent.equivalent asked.now) xs) }
     {
         let memory = &self.resting.memory;
-        match word_of(memory, self.resting.setting, &self.hasher, asked) {
+        match papaya_resting::word_of(memory, self.resting.setting, &self.hasher, asked) {
             Some(word) => Some(pair_at(memory, word).1),
             None => None,
         }
@@ -45,7 +28,7 @@ impl<K: Eq + Hash, V, S: BuildHasher> HashMap<K, V, S> {
         ensures in_any_order { (xs : List (K × V)) → IsPermutation self.now.pairs xs → option_map (λ x. (x.0.now, x.1.now)) result ≡ found_by (Q.Equivalent.equivalent asked.now) xs }
     {
         let memory = &self.resting.memory;
-        match word_of(memory, self.resting.setting, &self.hasher, asked) {
+        match papaya_resting::word_of(memory, self.resting.setting, &self.hasher, asked) {
             Some(word) => Some(pair_at(memory, word)),
             None => None,
         }
@@ -56,7 +39,7 @@ impl<K: Eq + Hash, V, S: BuildHasher> HashMap<K, V, S> {
         ensures there { result ≡ is_some (found_by (Q.Equivalent.equivalent asked.now) self.now.pairs) }
         ensures in_any_order { (xs : List (K × V)) → IsPermutation self.now.pairs xs → result ≡ is_some (found_by (Q.Equivalent.equivalent asked.now) xs) }
     {
-        word_of(
+        papaya_resting::word_of(
             &self.resting.memory,
             self.resting.setting,
             &self.hasher,

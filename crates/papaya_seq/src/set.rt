@@ -7,11 +7,9 @@ mod extending;
 mod formatting;
 mod lookups;
 mod making;
-mod refused;
 mod sweeps;
 
 use crate::map::HashMap;
-pub use refused::RefusedKey;
 use std::hash::{BuildHasher, Hash};
 use std::marker::Model;
 

@@ -1,51 +1,11 @@
 //! What goes over all pairs of a map for one owner, and removes them. Each change begins with a refresh.
 ghost use Rattle.std.specs.Prelude.{◌≡◌, Bool, List, [], OnOk, OnErr, filter};
 ghost use Rattle.std.specs.List.Sorted.{IsPermutation};
-ghost use Rattle.papaya_owned.specs.Owned.{Holds, hashed_by};
 ghost use Rattle.papaya_owned.specs.Retaining.{AnswersByTest, KeepsOf};
 
-use crate::changes::refresh;
-use crate::counting::count;
 use crate::map::HashMap;
-use papaya_owned::{empty, sift};
-use papaya_tables::{Node, Setting};
-use seize_words::{Fault, Plain};
+use seize_words::Fault;
 use std::hash::{BuildHasher, Hash};
-
-/// Removes all pairs, after a refresh.
-fn clear<K: Eq + Hash + Drop, V: Drop, S: BuildHasher>(
-    memory: &mut Plain<Node<K, V>>,
-    setting: Setting,
-    hasher: &S,
-) -> Result<(), Fault>
-    requires { (xs : List (K × V)) × Holds K.eq (hashed_by S.Hasher.finish S.Hasher.write S.build_hasher K.hash_input hasher.now) setting memory.old xs }
-    ensures done { (xs : List (K × V)) → Holds K.eq (hashed_by S.Hasher.finish S.Hasher.write S.build_hasher K.hash_input hasher.now) setting memory.old xs
-        → OnOk result (Holds K.eq (hashed_by S.Hasher.finish S.Hasher.write S.build_hasher K.hash_input hasher.now) setting memory.new []) }
-    ensures refused { (xs : List (K × V)) → Holds K.eq (hashed_by S.Hasher.finish S.Hasher.write S.build_hasher K.hash_input hasher.now) setting memory.old xs
-        → OnErr result (Holds K.eq (hashed_by S.Hasher.finish S.Hasher.write S.build_hasher K.hash_input hasher.now) setting memory.new xs) }
-{
-    refresh(memory, setting, hasher);
-    empty(memory, setting, hasher)
-}
-
-/// Keeps just the pairs for which the closure answers `true`, after a refresh.
-fn retain<K: Eq + Hash + Drop, V: Drop, S: BuildHasher, F: FnMut(&K, &V) -> bool>(
-    memory: &mut Plain<Node<K, V>>,
-    setting: Setting,
-    hasher: &S,
-    keep: F,
-) -> Result<(), Fault>
-    requires callable { F.IsAlwaysCallable keep }
-    requires holds { (xs : List (K × V)) × Holds K.eq (hashed_by S.Hasher.finish S.Hasher.write S.build_hasher K.hash_input hasher.now) setting memory.old xs }
-    ensures done { (xs : List (K × V)) → Holds K.eq (hashed_by S.Hasher.finish S.Hasher.write S.build_hasher K.hash_input hasher.now) setting memory.old xs
-        → OnOk result ((kept : List (K × V)) × KeepsOf F.FnMut keep xs kept × Holds K.eq (hashed_by S.Hasher.finish S.Hasher.write S.build_hasher K.hash_input hasher.now) setting memory.new kept) }
-    ensures refused { (xs : List (K × V)) → Holds K.eq (hashed_by S.Hasher.finish S.Hasher.write S.build_hasher K.hash_input hasher.now) setting memory.old xs
-        → OnErr result (Holds K.eq (hashed_by S.Hasher.finish S.Hasher.write S.build_hasher K.hash_input hasher.now) setting memory.new xs) }
-{
-    refresh(memory, setting, hasher);
-    let pairs = count(memory, setting, hasher);
-    sift(memory, setting, hasher, pairs, keep)
-}
 
 impl<K: Eq + Hash + Drop, V: Drop, S: BuildHasher> HashMap<K, V, S> {
     /// Removes all pairs. The faults are `Fault::Capacity` and `Fault::Memory`, where a growth that was under way could not be seen through; then
@@ -55,7 +15,7 @@ impl<K: Eq + Hash + Drop, V: Drop, S: BuildHasher> HashMap<K, V, S> {
         ensures refused { OnErr result (IsPermutation self.new.pairs self.old.pairs) }
         ensures hasher { self.new.hasher ≡ self.old.hasher }
     {
-        clear(&mut self.resting.memory, self.resting.setting, &self.hasher)
+        papaya_resting::clear(&mut self.resting.memory, self.resting.setting, &self.hasher)
     }
 
     /// Keeps just the pairs for which the closure answers `true`. It is called with each pair once, in which order is not said. The faults are
@@ -67,7 +27,7 @@ impl<K: Eq + Hash + Drop, V: Drop, S: BuildHasher> HashMap<K, V, S> {
         ensures refused { OnErr result (IsPermutation self.new.pairs self.old.pairs) }
         ensures hasher { self.new.hasher ≡ self.old.hasher }
     {
-        retain(
+        papaya_resting::retain(
             &mut self.resting.memory,
             self.resting.setting,
             &self.hasher,

@@ -59,7 +59,7 @@ fn tried<S: BuildHasher>(map: &mut HashMap<u64, u64, S>, key: u64, value: u64) -
 }
 
 fn removed<S: BuildHasher>(map: &mut HashMap<u64, u64, S>, key: u64) -> Answer {
-    match map.remove(key) {
+    match map.remove(&key) {
         Ok(was) => Answer::Was(was),
         Err(fault) => Answer::Faulty(fault),
     }

@@ -41,7 +41,7 @@ fn goes_so(alloc: Global, by: KeyHash) -> Result<bool, Fault> {
     set.retain(|element| *element % 2 == 0)?;
     let kept = set.len() == 4 && sum(&set) == 12;
     let known = set.contains(&2) && !set.contains(&3) && set.get(&4) == Some(&4);
-    let removed = set.remove(2)? && !set.remove(2)? && !set.contains(&2);
+    let removed = set.remove(&2)? && !set.remove(&2)? && !set.contains(&2);
     set.clear()?;
     Ok(filled && kept && known && removed && set.is_empty())
 }

@@ -21,7 +21,7 @@ use Rattle.papaya_owned.specs.declared.machines.OnKey.{OnKey}
 use Rattle.papaya_owned.specs.declared.machines.Stop.{Stop}
 use Rattle.papaya_owned.specs.declared.machines.Stop.TheVariants as stop
 use Rattle.papaya_asks.specs.declared.refused.RefusedKey.{RefusedKey}
-use Rattle.papaya_asks.specs.declared.refused.RefusedPair.{RefusedPair}
+use Rattle.papaya_asks.specs.declared.refused.Refused.{Refused}
 use Rattle.papaya_asks.proofs.Asks.Calls.{answers_as, refused_as, unasked_as, told_as}
 
 module _ {K V Q S : Type 0} (asks : Q → K → Bool) (same : K → K → Bool) (hashes : S → K → ℕ) (b : Bor S) (setting : Setting) (kind : Kind) (its : Option K) (keys : K → Bool) (xs : List (K × V)) (x : OnKey K V Q S)
@@ -63,11 +63,11 @@ module _ {K V S : Type 0} (same : K → K → Bool) (hashes : S → K → ℕ) (
         by (Ok answer) a = answers_as same (hashes b.now) setting m (same key) xs (Some key) (ToldThis (same key) xs said) Meant (told_as Meant (same key) xs said about found is) answer a
         by (Err r) e = (refused_as same (hashes b.now) setting m (same key) xs (Some key) (ToldThis (same key) xs said) Meant (told_as Meant (same key) xs said about found is) r.fault e.0, e.1)
 
-    pub comes_with : (value : V) (result : Result KeyAnswer (RefusedPair K V)) → ComesToWith same (hashes c.now) setting m key xs value (ToldThis (same key) xs said) result
+    pub comes_with : (value : V) (result : Result KeyAnswer (Refused K V)) → ComesToWith same (hashes c.now) setting m key xs value (ToldThis (same key) xs said) result
         → ComesToWith same (hashes b.now) setting m key xs value Meant result
     comes_with value result e = by result (subst (λ (z : Bor S). ComesToWith same (hashes z.now) setting m key xs value (ToldThis (same key) xs said) result) lent e)
       where
-        by : (result : Result KeyAnswer (RefusedPair K V)) → ComesToWith same (hashes b.now) setting m key xs value (ToldThis (same key) xs said) result → ComesToWith same (hashes b.now) setting m key xs value Meant result
+        by : (result : Result KeyAnswer (Refused K V)) → ComesToWith same (hashes b.now) setting m key xs value (ToldThis (same key) xs said) result → ComesToWith same (hashes b.now) setting m key xs value Meant result
         by (Ok answer) a = answers_as same (hashes b.now) setting m (same key) xs (Some key) (ToldThis (same key) xs said) Meant (told_as Meant (same key) xs said about found is) answer a
         by (Err r) e = (refused_as same (hashes b.now) setting m (same key) xs (Some key) (ToldThis (same key) xs said) Meant (told_as Meant (same key) xs said about found is) r.fault e.0, e.1, e.2)
 

@@ -4,7 +4,9 @@ ghost use Rattle.std.specs.List.Sorted.{IsPermutation};
 ghost use Rattle.papaya_late.specs.Faults.{IsRoom};
 ghost use Rattle.papaya_seq.specs.Sets.{left_in, put_in};
 
-use super::{HashSet, RefusedKey};
+use super::HashSet;
+use papaya_asks::RefusedKey;
+use papaya_tables::Equivalent;
 use seize_words::Fault;
 use std::hash::{BuildHasher, Hash};
 
@@ -28,14 +30,14 @@ impl<K: Eq + Hash + Drop, S: BuildHasher> HashSet<K, S> {
         }
     }
 
-    /// Removes an element, and answers whether it was there. The faults are `Fault::Capacity` and `Fault::Memory`; then no element has changed.
-    pub fn remove(&mut self, element: K) -> Result<bool, Fault>
-        ensures some { IfOk result (λ was. was ≡ is_some (find (K.eq element) self.old.elements)) }
-        ensures removed { OnOk result (IsPermutation self.new.elements (left_in (K.eq element) self.old.elements)) }
+    /// Removes the element that this asks for, and answers whether it was there. The faults are `Fault::Capacity` and `Fault::Memory`; then no element has changed.
+    pub fn remove<Q: Equivalent<K>>(&mut self, asked: &Q) -> Result<bool, Fault>
+        ensures some { IfOk result (λ was. was ≡ is_some (find (Q.Equivalent.equivalent asked.now) self.old.elements)) }
+        ensures removed { OnOk result (IsPermutation self.new.elements (left_in (Q.Equivalent.equivalent asked.now) self.old.elements)) }
         ensures refused { OnErr result (IsPermutation self.new.elements self.old.elements) }
         ensures fault { IfErr result IsRoom }
         ensures hasher { self.new.hasher ≡ self.old.hasher }
     {
-        self.map.remove(element)
+        self.map.remove(asked)
     }
 }

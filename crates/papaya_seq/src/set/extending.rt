@@ -5,7 +5,8 @@ ghost use Rattle.std.specs.List.Sorted.{IsPermutation};
 ghost use Rattle.papaya_late.specs.Faults.{IsRoom};
 ghost use Rattle.papaya_seq.specs.Sets.{PutsElements, put_all_in};
 
-use super::{HashSet, RefusedKey};
+use super::HashSet;
+use papaya_asks::RefusedKey;
 use seize_words::Fault;
 use std::alloc::Global;
 use std::hash::{BuildHasher, Hash};

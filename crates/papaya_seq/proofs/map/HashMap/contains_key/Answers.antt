@@ -1,7 +1,7 @@
 -- A word was found where there is a pair.
 use Rattle.std.specs.Prelude.{is_some}
 use Rattle.std.proofs.Common.{◌∙◌, ap, sym}
-use Rattle.papaya_seq.proofs.Looks.{some_found}
+use Rattle.papaya_resting.proofs.Looks.{some_found}
 use Rattle.papaya_seq.proofs.Shows.{seen_found, seen_first}
 use Rattle.papaya_seq.proofs.map.HashMap.contains_key.Goals as goal
 

@@ -20,12 +20,12 @@ invariant_of-self g c =
 pub returns-clause-some : goal.returns-clause-some
 returns-clause-some g c =
     let held = c.self.invariant in
-    told_same (g.K.PartialEq.eq c.args.key) held.0 _ (seen_first _ _ _ _ held.0 held.1 c.self.inside.resting.tables _ _ c.self.view_is (g.K.PartialEq.eq c.args.key) (g.met.K.Eq.laws.congr c.args.key)) c.remove.result (c.remove.ensures.some held.0 held.1)
+    told_same (g.Q.Equivalent.equivalent c.args.asked.now) held.0 _ (seen_first _ _ _ _ held.0 held.1 c.self.inside.resting.tables _ _ c.self.view_is (g.Q.Equivalent.equivalent c.args.asked.now) (λ x y. g.met.Q.Equivalent.respects_eq c.args.asked.now x y)) c.remove.result (c.remove.ensures.some held.0 held.1)
 
 pub returns-clause-removed : goal.returns-clause-removed
 returns-clause-removed g c =
     let held = c.self.invariant in
-    shows_done _ _ _ _ _ c.remove.result _ _ (left_same (g.K.PartialEq.eq c.args.key) held.0 _ (seen_held _ _ _ _ held.0 held.1 c.self.inside.resting.tables _ _ c.self.view_is)) (c.remove.ensures.removed held.0 held.1)
+    shows_done _ _ _ _ _ c.remove.result _ _ (left_same (g.Q.Equivalent.equivalent c.args.asked.now) held.0 _ (seen_held _ _ _ _ held.0 held.1 c.self.inside.resting.tables _ _ c.self.view_is)) (c.remove.ensures.removed held.0 held.1)
 
 pub returns-clause-refused : goal.returns-clause-refused
 returns-clause-refused g c =

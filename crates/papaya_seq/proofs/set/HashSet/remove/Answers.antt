@@ -11,13 +11,13 @@ use Rattle.papaya_seq.proofs.set.HashSet.remove.Goals as goal
 
 pub returns-clause-some : goal.returns-clause-some
 returns-clause-some g c =
-    let test = g.K.PartialEq.eq c.args.element in
+    let test = g.Q.Equivalent.equivalent c.args.asked.now in
     IfOk-weaker c.remove.result _ _
     (λ was so. so ∙ sym (keys_are_found test c.self.inside.map.pairs) ∙ ap (λ (x : Set g.row.K.Denot g.row.S.Denot). is_some (find test x.elements)) c.self.view_is) c.remove.ensures.some
 
 pub returns-clause-removed : goal.returns-clause-removed
 returns-clause-removed g c =
-    let test = g.K.PartialEq.eq c.args.element in let old = c.self.inside.map.pairs in let new = c.remove.new.self.pairs in
+    let test = g.Q.Equivalent.equivalent c.args.asked.now in let old = c.self.inside.map.pairs in let new = c.remove.new.self.pairs in
     on_ok_weaker c.remove.result
     (λ order.
     subst (λ (x : Set g.row.K.Denot g.row.S.Denot). IsPermutation (keys_of new) (left_in test x.elements)) c.self.view_is

@@ -1,0 +1,7 @@
+-- Lemmas on the memory of a map for one owner, between its calls.
+mod Done
+pub mod Looks
+pub mod Makes
+mod Removals
+mod Reservations
+mod Stores

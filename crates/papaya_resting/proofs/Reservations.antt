@@ -1,0 +1,22 @@
+-- What a reservation has come to.
+use Rattle.std.specs.Prelude.{ℕ, Bool, List, length, Result, Ok, Err, IfErr, OnOk}
+use Rattle.seize_words.specs.Mem.{Mem}
+use Rattle.seize_words.specs.declared.fault.Fault.{Fault}
+use Rattle.papaya_tables.specs.declared.node.Node.{Node}
+use Rattle.papaya_tables.specs.declared.setting.Setting.{Setting}
+use Rattle.papaya_late.specs.Faults.{IsRoom}
+use Rattle.papaya_owned.specs.Owned.{Holds}
+use Rattle.papaya_owned.specs.Rooms.{HasRoomFor, RoomBy}
+
+module _ {K V : Type 0} (same : K → K → Bool) (hash : K → ℕ) (setting : Setting) (additional : ℕ) (m : Mem (Node K V)) (xs : List (K × V)) where
+  pub room_holds : (r : Result (Unit {0}) Fault) → RoomBy same hash setting additional m xs r → Holds same hash setting m xs
+  room_holds (Ok done) so = so.0
+  room_holds (Err fault) so = so.0
+
+  pub room_there : (r : Result (Unit {0}) Fault) → RoomBy same hash setting additional m xs r → OnOk r (HasRoomFor setting m additional (length xs))
+  room_there (Ok done) so = so.1
+  room_there (Err fault) so = tt
+
+  pub room_fault : (r : Result (Unit {0}) Fault) → RoomBy same hash setting additional m xs r → IfErr r IsRoom
+  room_fault (Ok done) so = tt
+  room_fault (Err fault) so = so.1

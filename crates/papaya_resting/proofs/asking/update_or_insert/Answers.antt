@@ -1,0 +1,19 @@
+-- By what the call comes to, after the refresh.
+use Rattle.std.specs.Prelude.{◌≡◌}
+use Rattle.std.specs.Fn.{FnOnceReturnsAt}
+use Rattle.papaya_asks.specs.Closures.{UpdatingOrStoring}
+use Rattle.papaya_owned.specs.Owned.{hashed_by}
+use Rattle.papaya_resting.proofs.Done.{with_as, pair_comes_back}
+use Rattle.papaya_resting.proofs.asking.update_or_insert.Goals as goal
+
+pub returns-clause-comes : goal.returns-clause-comes
+returns-clause-comes g c = λ xs has.
+    with_as g.K.PartialEq.eq (hashed_by g.S.Hasher.Hasher.finish g.S.Hasher.Hasher.write g.S.BuildHasher.build_hasher g.K.Hash.hash_input c.args.hasher.now) c.args.setting c.update_or_insert.new.memory c.args.key xs
+    (UpdatingOrStoring (FnOnceReturnsAt g.F.FnOnce c.args.make) (λ new. new ≡ c.args.value)) c.args.value c.update_or_insert.result (c.update_or_insert.ensures xs (c.refresh.ensures xs has)) c.ended.result c.ended.ensures
+
+pub returns-clause-back : goal.returns-clause-back
+returns-clause-back g c =
+    let r = c.requires in
+    pair_comes_back g.K.PartialEq.eq (hashed_by g.S.Hasher.Hasher.finish g.S.Hasher.Hasher.write g.S.BuildHasher.build_hasher g.K.Hash.hash_input c.args.hasher.now) c.args.setting c.update_or_insert.new.memory c.args.key r.holds.0
+    (UpdatingOrStoring (FnOnceReturnsAt g.F.FnOnce c.args.make) (λ new. new ≡ c.args.value)) c.args.value c.update_or_insert.result (c.update_or_insert.ensures r.holds.0 (c.refresh.ensures r.holds.0 r.holds.1)) c.ended.result
+    c.ended.ensures

@@ -1,0 +1,17 @@
+-- By what the call comes to, after the refresh.
+use Rattle.std.specs.Fn.{FnOnceReturns, FnOnceReturnsAt}
+use Rattle.papaya_asks.specs.Closures.{UpdatingOrStoring}
+use Rattle.papaya_owned.specs.Owned.{hashed_by}
+use Rattle.papaya_resting.proofs.Done.{comes_as, key_comes_back}
+use Rattle.papaya_resting.proofs.asking.update_or_insert_with.Goals as goal
+
+pub returns-clause-comes : goal.returns-clause-comes
+returns-clause-comes g c = λ xs has.
+    comes_as g.K.PartialEq.eq (hashed_by g.S.Hasher.Hasher.finish g.S.Hasher.Hasher.write g.S.BuildHasher.build_hasher g.K.Hash.hash_input c.args.hasher.now) c.args.setting c.update_or_insert_with.new.memory c.args.key xs
+    (UpdatingOrStoring (FnOnceReturnsAt g.F.FnOnce c.args.make) (λ value. FnOnceReturns g.B.FnOnce c.args.begin tt value)) c.update_or_insert_with.result (c.update_or_insert_with.ensures xs (c.refresh.ensures xs has)) c.ended.result c.ended.ensures
+
+pub returns-clause-back : goal.returns-clause-back
+returns-clause-back g c =
+    let r = c.requires in
+    key_comes_back g.K.PartialEq.eq (hashed_by g.S.Hasher.Hasher.finish g.S.Hasher.Hasher.write g.S.BuildHasher.build_hasher g.K.Hash.hash_input c.args.hasher.now) c.args.setting c.update_or_insert_with.new.memory c.args.key r.holds.0
+    (UpdatingOrStoring (FnOnceReturnsAt g.F.FnOnce c.args.make) (λ value. FnOnceReturns g.B.FnOnce c.args.begin tt value)) c.update_or_insert_with.result (c.update_or_insert_with.ensures r.holds.0 (c.refresh.ensures r.holds.0 r.holds.1)) c.ended.result c.ended.ensures

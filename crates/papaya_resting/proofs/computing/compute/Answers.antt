@@ -1,0 +1,16 @@
+-- By what the call comes to, after the refresh.
+use Rattle.papaya_asks.specs.Closures.{ComputesAs}
+use Rattle.papaya_owned.specs.Owned.{hashed_by}
+use Rattle.papaya_resting.proofs.Done.{computes_as, key_of_computing}
+use Rattle.papaya_resting.proofs.computing.compute.Goals as goal
+
+pub returns-clause-comes : goal.returns-clause-comes
+returns-clause-comes g c = λ xs has.
+    computes_as g.K.PartialEq.eq (hashed_by g.S.Hasher.Hasher.finish g.S.Hasher.Hasher.write g.S.BuildHasher.build_hasher g.K.Hash.hash_input c.args.hasher.now) c.args.setting c.compute.new.memory c.args.key xs
+    (ComputesAs g.F.FnOnce c.args.decide) c.compute.result (c.compute.ensures xs (c.refresh.ensures xs has)) c.computed.result c.computed.ensures
+
+pub returns-clause-back : goal.returns-clause-back
+returns-clause-back g c =
+    let r = c.requires in
+    key_of_computing g.K.PartialEq.eq (hashed_by g.S.Hasher.Hasher.finish g.S.Hasher.Hasher.write g.S.BuildHasher.build_hasher g.K.Hash.hash_input c.args.hasher.now) c.args.setting c.compute.new.memory c.args.key r.holds.0
+    (ComputesAs g.F.FnOnce c.args.decide) c.compute.result (c.compute.ensures r.holds.0 (c.refresh.ensures r.holds.0 r.holds.1)) c.computed.result c.computed.ensures

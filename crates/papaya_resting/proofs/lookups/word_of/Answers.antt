@@ -1,0 +1,28 @@
+-- It looks in the map, for keys of one class.
+use Rattle.std.proofs.Common.{◌∙◌, ap}
+use Rattle.papaya_resize.specs.Lookup.{looking}
+use Rattle.papaya_owned.specs.Owned.{hashed_by}
+use Rattle.papaya_owned.proofs.Owned.Lawful.{is_class}
+use Rattle.papaya_resting.proofs.Looks.{look_ready, look_found}
+use Rattle.papaya_resting.proofs.lookups.word_of.Goals as goal
+
+pub find-requires : goal.find-requires
+find-requires g c =
+    let r = c.requires in (
+      hashed_by g.S.Hasher.Hasher.finish g.S.Hasher.Hasher.write g.S.BuildHasher.build_hasher g.K.Hash.hash_input c.args.hasher.now,
+      r.1.chart,
+      r.1.blocks,
+      look_ready _ _ _ _ r.0 r.1 _ _
+          (is_class g.K.PartialEq.eq g.S.Hasher.Hasher.finish g.S.Hasher.Hasher.write g.S.BuildHasher.build_hasher g.K.Hash.hash_input c.args.hasher.now g.Q.Equivalent.equivalent g.Q.Hash.hash_input
+          g.met.Q.Equivalent.respects_hash g.met.Q.Equivalent.respects_eq c.args.asked.now) _ (c.new-lookup.ensures ∙ ap (λ x. looking c.args.setting.root c.args.setting.mode x) c.hash_of-hash.ensures),
+    )
+
+pub returns : goal.returns
+returns g c = λ xs has.
+    look_found _ _ _ _ xs has _ _
+    (is_class g.K.PartialEq.eq g.S.Hasher.Hasher.finish g.S.Hasher.Hasher.write g.S.BuildHasher.build_hasher g.K.Hash.hash_input c.args.hasher.now g.Q.Equivalent.equivalent g.Q.Hash.hash_input
+    g.met.Q.Equivalent.respects_hash g.met.Q.Equivalent.respects_eq c.args.asked.now) _ (c.new-lookup.ensures ∙ ap (λ x. looking c.args.setting.root c.args.setting.mode x) c.hash_of-hash.ensures)
+    _ (c.find.ensures _ has.chart has.blocks
+    (look_ready _ _ _ _ xs has _ _
+    (is_class g.K.PartialEq.eq g.S.Hasher.Hasher.finish g.S.Hasher.Hasher.write g.S.BuildHasher.build_hasher g.K.Hash.hash_input c.args.hasher.now g.Q.Equivalent.equivalent g.Q.Hash.hash_input
+    g.met.Q.Equivalent.respects_hash g.met.Q.Equivalent.respects_eq c.args.asked.now) _ (c.new-lookup.ensures ∙ ap (λ x. looking c.args.setting.root c.args.setting.mode x) c.hash_of-hash.ensures)))

@@ -1,0 +1,11 @@
+-- By what the call comes to, after the refresh.
+use Rattle.std.specs.Prelude.{None}
+use Rattle.papaya_asks.specs.Closures.{Removing, TestsAs}
+use Rattle.papaya_owned.specs.Owned.{hashed_by}
+use Rattle.papaya_resting.proofs.Done.{ends_as}
+use Rattle.papaya_resting.proofs.testing.remove_if.Goals as goal
+
+pub returns : goal.returns
+returns g c = λ xs has.
+    ends_as g.K.PartialEq.eq (hashed_by g.S.Hasher.Hasher.finish g.S.Hasher.Hasher.write g.S.BuildHasher.build_hasher g.K.Hash.hash_input c.args.hasher.now) c.args.setting c.remove_if.new.memory (g.Q.Equivalent.equivalent c.args.asked.now) None xs
+    (Removing (TestsAs g.F.FnOnce c.args.test)) c.remove_if.result (c.remove_if.ensures xs (c.refresh.ensures xs has)) c.ended.result c.ended.ensures

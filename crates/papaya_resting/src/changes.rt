@@ -1,0 +1,56 @@
+//! Refreshes of the owner's section, and removals. Each change begins with a refresh.
+ghost use Rattle.std.specs.Prelude.{◌≡◌, List, is_some, IfErr, IfOk, OnOk, OnErr};
+ghost use Rattle.papaya_late.specs.Faults.{IsRoom};
+ghost use Rattle.papaya_owned.specs.Owned.{Holds, found_by, hashed_by, left_by};
+ghost use Rattle.papaya_resting.specs.Calls.{has_removed};
+
+use papaya_owned::{Refreshes, Stop, run};
+use papaya_raw::machines::KeyAnswer;
+use papaya_tables::{Equivalent, Node, Setting};
+use seize::rows::Leave;
+use seize_words::{Fault, Plain};
+use std::hash::{BuildHasher, Hash};
+
+/// Ends the owner's section, and begins the next one: what is out of the map is given back.
+pub fn refresh<K: Eq + Hash + Drop, V: Drop, S: BuildHasher>(
+    memory: &mut Plain<Node<K, V>>,
+    setting: Setting,
+    _hasher: &S,
+)
+    requires { (xs : List (K × V)) × Holds K.eq (hashed_by S.Hasher.finish S.Hasher.write S.build_hasher K.hash_input _hasher.now) setting memory.old xs }
+    ensures { (xs : List (K × V)) → Holds K.eq (hashed_by S.Hasher.finish S.Hasher.write S.build_hasher K.hash_input _hasher.now) setting memory.old xs
+        → Holds K.eq (hashed_by S.Hasher.finish S.Hasher.write S.build_hasher K.hash_input _hasher.now) setting memory.new xs }
+{
+    let leave = Leave::refresh(setting.slot, setting.batch_size);
+    let mut machine = Refreshes { leave };
+    let _ = run(&mut machine, memory);
+}
+
+/// Whether a removal has removed a pair.
+fn removed(stop: Stop) -> bool
+    ensures { result ≡ has_removed stop }
+{
+    matches!(stop, Stop::Answered(KeyAnswer::Removed(_)))
+}
+
+/// Removes the pair of a key, after a refresh, and answers whether there was one.
+pub fn remove<K: Eq + Hash + Drop, V: Drop, Q: Equivalent<K>, S: BuildHasher>(
+    memory: &mut Plain<Node<K, V>>,
+    setting: Setting,
+    hasher: &S,
+    asked: &Q,
+) -> Result<bool, Fault>
+    requires { (xs : List (K × V)) × Holds K.eq (hashed_by S.Hasher.finish S.Hasher.write S.build_hasher K.hash_input hasher.now) setting memory.old xs }
+    ensures some { (xs : List (K × V)) → Holds K.eq (hashed_by S.Hasher.finish S.Hasher.write S.build_hasher K.hash_input hasher.now) setting memory.old xs → IfOk result (λ was. was ≡ is_some (found_by (Q.Equivalent.equivalent asked.now) xs)) }
+    ensures removed { (xs : List (K × V)) → Holds K.eq (hashed_by S.Hasher.finish S.Hasher.write S.build_hasher K.hash_input hasher.now) setting memory.old xs
+        → OnOk result (Holds K.eq (hashed_by S.Hasher.finish S.Hasher.write S.build_hasher K.hash_input hasher.now) setting memory.new (left_by (Q.Equivalent.equivalent asked.now) xs)) }
+    ensures refused { (xs : List (K × V)) → Holds K.eq (hashed_by S.Hasher.finish S.Hasher.write S.build_hasher K.hash_input hasher.now) setting memory.old xs
+        → OnErr result (Holds K.eq (hashed_by S.Hasher.finish S.Hasher.write S.build_hasher K.hash_input hasher.now) setting memory.new xs) }
+    ensures fault { IfErr result IsRoom }
+{
+    refresh(memory, setting, hasher);
+    match papaya_asks::remove(memory, setting, hasher, asked) {
+        Ok(stop) => Ok(removed(stop)),
+        Err(fault) => Err(fault),
+    }
+}

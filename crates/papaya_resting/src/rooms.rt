@@ -1,0 +1,29 @@
+//! Room for further pairs, after a refresh.
+ghost use Rattle.std.specs.Prelude.{List, length, IfErr, OnOk};
+ghost use Rattle.papaya_late.specs.Faults.{IsRoom};
+ghost use Rattle.papaya_owned.specs.Owned.{Holds, hashed_by};
+ghost use Rattle.papaya_owned.specs.Rooms.{HasRoomFor};
+
+use crate::changes::refresh;
+use papaya_owned::make_room;
+use papaya_tables::{Node, Setting};
+use seize_words::{Fault, Plain};
+use std::hash::{BuildHasher, Hash};
+
+/// Makes room for so many further pairs, after a refresh.
+pub fn reserve<K: Eq + Hash + Drop, V: Drop, S: BuildHasher>(
+    memory: &mut Plain<Node<K, V>>,
+    setting: Setting,
+    hasher: &S,
+    additional: u64,
+) -> Result<(), Fault>
+    requires { (xs : List (K × V)) × Holds K.eq (hashed_by S.Hasher.finish S.Hasher.write S.build_hasher K.hash_input hasher.now) setting memory.old xs }
+    ensures holds { (xs : List (K × V)) → Holds K.eq (hashed_by S.Hasher.finish S.Hasher.write S.build_hasher K.hash_input hasher.now) setting memory.old xs
+        → Holds K.eq (hashed_by S.Hasher.finish S.Hasher.write S.build_hasher K.hash_input hasher.now) setting memory.new xs }
+    ensures room { (xs : List (K × V)) → Holds K.eq (hashed_by S.Hasher.finish S.Hasher.write S.build_hasher K.hash_input hasher.now) setting memory.old xs
+        → OnOk result (HasRoomFor setting memory.new additional (length xs)) }
+    ensures fault { IfErr result IsRoom }
+{
+    refresh(memory, setting, hasher);
+    make_room(memory, setting, hasher, additional)
+}

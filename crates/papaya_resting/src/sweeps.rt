@@ -1,0 +1,46 @@
+//! What goes over all pairs, and removes them, each after a refresh.
+ghost use Rattle.std.specs.Prelude.{List, [], OnOk, OnErr};
+ghost use Rattle.papaya_owned.specs.Owned.{Holds, hashed_by};
+ghost use Rattle.papaya_owned.specs.Retaining.{KeepsOf};
+
+use crate::changes::refresh;
+use crate::counting::count;
+use papaya_owned::{empty, sift};
+use papaya_tables::{Node, Setting};
+use seize_words::{Fault, Plain};
+use std::hash::{BuildHasher, Hash};
+
+/// Removes all pairs, after a refresh.
+pub fn clear<K: Eq + Hash + Drop, V: Drop, S: BuildHasher>(
+    memory: &mut Plain<Node<K, V>>,
+    setting: Setting,
+    hasher: &S,
+) -> Result<(), Fault>
+    requires { (xs : List (K × V)) × Holds K.eq (hashed_by S.Hasher.finish S.Hasher.write S.build_hasher K.hash_input hasher.now) setting memory.old xs }
+    ensures done { (xs : List (K × V)) → Holds K.eq (hashed_by S.Hasher.finish S.Hasher.write S.build_hasher K.hash_input hasher.now) setting memory.old xs
+        → OnOk result (Holds K.eq (hashed_by S.Hasher.finish S.Hasher.write S.build_hasher K.hash_input hasher.now) setting memory.new []) }
+    ensures refused { (xs : List (K × V)) → Holds K.eq (hashed_by S.Hasher.finish S.Hasher.write S.build_hasher K.hash_input hasher.now) setting memory.old xs
+        → OnErr result (Holds K.eq (hashed_by S.Hasher.finish S.Hasher.write S.build_hasher K.hash_input hasher.now) setting memory.new xs) }
+{
+    refresh(memory, setting, hasher);
+    empty(memory, setting, hasher)
+}
+
+/// Keeps just the pairs for which the closure answers `true`, after a refresh.
+pub fn retain<K: Eq + Hash + Drop, V: Drop, S: BuildHasher, F: FnMut(&K, &V) -> bool>(
+    memory: &mut Plain<Node<K, V>>,
+    setting: Setting,
+    hasher: &S,
+    keep: F,
+) -> Result<(), Fault>
+    requires callable { F.IsAlwaysCallable keep }
+    requires holds { (xs : List (K × V)) × Holds K.eq (hashed_by S.Hasher.finish S.Hasher.write S.build_hasher K.hash_input hasher.now) setting memory.old xs }
+    ensures done { (xs : List (K × V)) → Holds K.eq (hashed_by S.Hasher.finish S.Hasher.write S.build_hasher K.hash_input hasher.now) setting memory.old xs
+        → OnOk result ((kept : List (K × V)) × KeepsOf F.FnMut keep xs kept × Holds K.eq (hashed_by S.Hasher.finish S.Hasher.write S.build_hasher K.hash_input hasher.now) setting memory.new kept) }
+    ensures refused { (xs : List (K × V)) → Holds K.eq (hashed_by S.Hasher.finish S.Hasher.write S.build_hasher K.hash_input hasher.now) setting memory.old xs
+        → OnErr result (Holds K.eq (hashed_by S.Hasher.finish S.Hasher.write S.build_hasher K.hash_input hasher.now) setting memory.new xs) }
+{
+    refresh(memory, setting, hasher);
+    let pairs = count(memory, setting, hasher);
+    sift(memory, setting, hasher, pairs, keep)
+}

@@ -1,0 +1,34 @@
+//! Removals that a test decides, each after a refresh.
+ghost use Rattle.std.specs.Prelude.{List, None};
+ghost use Rattle.papaya_asks.specs.Closures.{Removing, TestsAs};
+ghost use Rattle.papaya_owned.specs.Owned.{Holds, hashed_by};
+ghost use Rattle.papaya_resting.specs.Asking.{ComesToIt};
+
+use crate::change::{Change, ended};
+use crate::changes::refresh;
+use papaya_tables::{Equivalent, Node, Setting};
+use seize_words::{Fault, Plain};
+use std::hash::{BuildHasher, Hash};
+
+/// Removes the pair of a key, after a refresh, if a test of it answers yes.
+pub fn remove_if<
+    K: Eq + Hash + Drop,
+    V: Drop,
+    S: BuildHasher,
+    Q: Equivalent<K>,
+    F: FnOnce(&K, &V) -> bool,
+>(
+    memory: &mut Plain<Node<K, V>>,
+    setting: Setting,
+    hasher: &S,
+    asked: &Q,
+    test: F,
+) -> Result<Change, Fault>
+    requires callable { F.IsAlwaysCallable test }
+    requires holds { (xs : List (K × V)) × Holds K.eq (hashed_by S.Hasher.finish S.Hasher.write S.build_hasher K.hash_input hasher.now) setting memory.old xs }
+    ensures { (xs : List (K × V)) → Holds K.eq (hashed_by S.Hasher.finish S.Hasher.write S.build_hasher K.hash_input hasher.now) setting memory.old xs
+        → ComesToIt (Q.Equivalent.equivalent asked.now) None (Removing (TestsAs F.FnOnce test)) xs (Holds K.eq (hashed_by S.Hasher.finish S.Hasher.write S.build_hasher K.hash_input hasher.now) setting memory.new) (λ fault. fault) result }
+{
+    refresh(memory, setting, hasher);
+    ended(papaya_asks::remove_if(memory, setting, hasher, asked, test))
+}
