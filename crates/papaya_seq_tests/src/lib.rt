@@ -16,6 +16,8 @@ mod held;
 #[cfg(test)]
 mod makers;
 #[cfg(test)]
+mod one_hash;
+#[cfg(test)]
 mod refused;
 #[cfg(test)]
 mod rows;
