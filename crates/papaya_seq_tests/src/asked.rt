@@ -199,19 +199,29 @@ const IN_NEED: [(Call, Did, u64, Option<u64>, Option<u64>); 6] = [
     (Call::Reserve(1000), Did::HasRoom, 3, Some(30), Some(30)),
 ];
 
-/// Whether a call is refused where its first request is, with the value as before, and then does so.
-fn needs(alloc: Global, row: (Call, Did, u64, Option<u64>, Option<u64>)) -> Result<bool, Fault> {
+/// Whether a call that is refused at one request after another leaves the value of a key as it was, and then does so.
+fn goes_on<S: BuildHasher>(
+    map: &mut HashMap<u64, u64, S>,
+    row: (Call, Did, u64, Option<u64>, Option<u64>),
+) -> bool {
     let (call, expected, key, before, after) = row;
-    let mut map = HashMap::with_capacity_and_hasher(alloc, 6, KeyHash::Key)?;
-    if !fills(&mut map, 8) {
-        return Ok(false);
+    for met in 0..8 {
+        map.refuse_after(met);
+        let did = called(map, call);
+        if did != Did::Refused(Fault::Memory) {
+            return met > 0 && did == expected && map.get(&key).copied() == after;
+        }
+        if map.get(&key).copied() != before || map.len() != 8 {
+            return false;
+        }
     }
-    map.refuse_after(0);
-    let refused = called(&mut map, call) == Did::Refused(Fault::Memory);
-    let same = map.get(&key).copied() == before;
-    map.refuse_after(u64::MAX);
-    let done = called(&mut map, call) == expected;
-    Ok(refused && same && done && map.get(&key).copied() == after)
+    false
+}
+
+/// Whether it does so in a map of eight pairs whose table has no place left.
+fn needs(alloc: Global, row: (Call, Did, u64, Option<u64>, Option<u64>)) -> Result<bool, Fault> {
+    let mut map = HashMap::with_capacity_and_hasher(alloc, 6, KeyHash::Key)?;
+    Ok(fills(&mut map, 8) && goes_on(&mut map, row))
 }
 
 #[test]

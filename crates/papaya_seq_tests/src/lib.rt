@@ -18,6 +18,8 @@ mod lent;
 #[cfg(test)]
 mod makers;
 #[cfg(test)]
+mod one_hash;
+#[cfg(test)]
 mod refused;
 #[cfg(test)]
 mod rows;
