@@ -4,7 +4,7 @@
 ghost use Rattle.std.specs.Prelude.{◌≡◌, IfOk, OnErr, Some, option_map};
 ghost use Rattle.std.specs.List.Sorted.{IsPermutation};
 ghost use Rattle.std.specs.Str.{bytes_eq};
-ghost use Rattle.papaya_owned.specs.Owned.{found_by};
+ghost use Rattle.papaya_seq.specs.Pairs.{found_by};
 
 use papaya_forms::{Text, TextRef};
 use papaya_seq::{Fault, HashMap};
@@ -70,7 +70,11 @@ fn main(rt: HostRuntime) -> io::Result<()> {
     let text = numbers.to_value(alloc)?.to_string(alloc)?;
     println!(rt; "{text}")?;
     let again = read_back(alloc, text.as_str())?;
-    let same = if again == numbers { "the same" } else { "others" };
+    let same = if again == numbers {
+        "the same"
+    } else {
+        "others"
+    };
     println!(rt; "{} words, {same} read back", again.len())?;
     Ok(())
 }
