@@ -46,7 +46,7 @@ use Rattle.papaya_owned.specs.Machines.{on_key_after, on_key_plan}
 use Rattle.papaya_owned.specs.Owned.{found_by}
 use Rattle.papaya_owned.specs.declared.machines.OnKey.{OnKey}
 use Rattle.papaya_owned.specs.declared.machines.Stop.{Stop}
-use Rattle.papaya_asks.proofs.Asks.Finishes.{c, for, s, call_is, stands_is, takes_is, told_so, undisturbed2}
+use Rattle.papaya_asks.proofs.Asks.Finishes.{c, for as asked_for, s, call_is, stands_is, takes_is, told_so, undisturbed2}
 use Rattle.papaya_asks.proofs.Asks.Replied.{known_by, value_by, seeks_by}
 use Rattle.papaya_asks.proofs.Asks.Steps.{stays_undisturbed}
 use Rattle.papaya_asks.proofs.Asks.Undisturbed.{AsksFor, WordIs, StaysSo, Undisturbed, UndisturbedAt}
@@ -106,6 +106,14 @@ module _ {K V Q : Type 0} where
       on_point its (at.Over (ends.Answered answer)) point yet s = subst AnswersOn (sym s.1) tt
       on_point its _ point yet s = absurd yet
 
+-- a fault that is told at once
+tells_it : (fault : Fault) (told : Progress Stop) (result : Result Stop Fault) → told ≡ progress.Refused fault → Tells told result → IfErr result (λ f. f ≡ fault)
+tells_it fault told result is tells = by result (subst (λ (t : Progress Stop). Tells t result) is tells)
+  where
+    by : (result : Result Stop Fault) → Tells (progress.Refused fault) result → IfErr result (λ f. f ≡ fault)
+    by (Ok end) tells = tt
+    by (Err f) tells = tells
+
 module _ {K V Q S : Type 0} (asks : Q → K → Bool) (same : K → K → Bool) (hashes : S → K → ℕ) where
   abbrev the_plan : OnKey K V Q S → Plan (Node K V) (OnKey K V Q S × Progress Stop)
   the_plan = on_key_plan asks same hashes
@@ -160,13 +168,6 @@ module _ {K V Q S : Type 0} (asks : Q → K → Bool) (same : K → K → Bool) 
 
   -- One that is over tells its fault at once.
   module _ (fault : Fault) where
-    tells_it : (told : Progress Stop) (result : Result Stop Fault) → told ≡ progress.Refused fault → Tells told result → IfErr result (λ f. f ≡ fault)
-    tells_it told result is tells = by result (subst (λ (t : Progress Stop). Tells t result) is tells)
-      where
-        by : (result : Result Stop Fault) → Tells (progress.Refused fault) result → IfErr result (λ f. f ≡ fault)
-        by (Ok end) tells = tt
-        by (Err f) tells = tells
-
     told_is : (x : OnKey K V Q S) (m m2 : Mem (Node K V)) (end : OnKey K V Q S × Progress Stop) → x.call.stands ≡ at.Over (ends.Refused fault) → Steps Took value_at m (the_plan x) m2 end → end.1 ≡ progress.Refused fault
     told_is x m m2 end over_now s =
         let k = step_of x m m2 end s in
@@ -175,7 +176,7 @@ module _ {K V Q S : Type 0} (asks : Q → K → Bool) (same : K → K → Bool) 
 
     tells_fault : (x : OnKey K V Q S) (m : Mem (Node K V)) (x2 : OnKey K V Q S) (m2 : Mem (Node K V)) (result : Result Stop Fault) → RunsTo the_plan x m x2 m2 result → x.call.stands ≡ at.Over (ends.Refused fault)
         → IfErr result (λ f. f ≡ fault)
-    tells_fault x m x2 m2 result (stops _ _ _ _ told _ s tells) over_now = tells_it told result (told_is x m m2 (x2, told) over_now s) tells
+    tells_fault x m x2 m2 result (stops _ _ _ _ told _ s tells) over_now = tells_it fault told result (told_is x m m2 (x2, told) over_now s) tells
     tells_fault x m x2 m2 result (goes _ _ x1 m1 told on s _ _ _ runs) over_now = absurd (subst (GoesOn {A = Stop}) (told_is x m m1 (x1, told) over_now s) on)
 
 -- where it stands once it was told
@@ -202,7 +203,10 @@ module _ {K V Q : Type 0} (p : KeyCall K V Q) (none : p.own ≡ 0) where
   absent_at kinds (reply.Insert value) gap taken = tt
   absent_at takes.Changes reply.Remove gap taken = ends_at (ends.Refused RemoveNothing)
   absent_at takes.Changes reply.Abort gap taken = answers_at answers.Absent
-  absent_at _ _ gap taken = absurd taken
+  absent_at takes.Changes _ gap taken = absurd taken
+  absent_at takes.Values _ gap taken = absurd taken
+  absent_at takes.Choices _ gap taken = absurd taken
+  absent_at takes.Nothing _ gap taken = absurd taken
 
   present_at : (kinds : Takes) (told : Reply V) (w word : ℕ) → IsTaken kinds (Some w) told → StandsTold (Some w) told (present_told kinds p word told).0.stands
   present_at kinds (reply.Insert value) w word taken = tt
@@ -210,7 +214,10 @@ module _ {K V Q : Type 0} (p : KeyCall K V Q) (none : p.own ≡ 0) where
   present_at takes.Changes reply.Abort w word taken = answers_at (answers.Found word)
   present_at takes.Choices reply.Yes w word taken = buries_at p none word
   present_at takes.Choices reply.No w word taken = answers_at (answers.Found word)
-  present_at _ _ w word taken = absurd taken
+  present_at takes.Changes _ w word taken = absurd taken
+  present_at takes.Choices _ w word taken = absurd taken
+  present_at takes.Values _ w word taken = absurd taken
+  present_at takes.Nothing _ w word taken = absurd taken
 
   asked_at : (asked : Option ℕ) (told : Reply V) (kinds : Takes) → p.replies.takes ≡ kinds → IsTaken kinds asked told → (a : Asking) → AsksFor asked (at.Asks a) → StandsTold asked told (told_at (at.Asks a) p told).0.stands
   asked_at None told kinds is taken (asking.Absent gap) for = subst (λ (t : Takes). StandsTold None told (absent_told t p gap told).0.stands) (sym is) (absent_at kinds told gap taken)
@@ -261,7 +268,7 @@ module _ {K V Q S : Type 0} (asks : Q → K → Bool) (same : K → K → Bool) 
     here = stands_is asks same hashes setting kind its keys xs x m asked p said taken
 
     asks_it : AsksFor asked (at.Asks (s asks same hashes setting kind its keys xs x m asked p said taken).asks_at)
-    asks_it = for asks same hashes setting kind its keys xs x m asked p said taken
+    asks_it = asked_for asks same hashes setting kind its keys xs x m asked p said taken
 
     own_none : x.call.own ≡ 0
     own_none =

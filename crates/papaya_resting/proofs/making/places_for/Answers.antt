@@ -1,4 +1,5 @@
 -- Both lengths fit a table.
+use Rattle.std.proofs.lemmas.Result.{err_from_is_err_and}
 use Rattle.papaya_owned.proofs.Owned.Places.{first_table, no_table_yet}
 use Rattle.papaya_resting.proofs.Makes.{few_told, many_told}
 use Rattle.papaya_resting.proofs.making.places_for.Goals as goal
@@ -16,4 +17,5 @@ pub returns-else-capacity-eq0-clause-few : goal.returns-else-capacity-eq0-clause
 returns-else-capacity-eq0-clause-few c = few_told _ _ _ c.in_ok-entries.ensures.formula
 
 pub returns-in_err-entries-clause-fault : goal.returns-in_err-entries-clause-fault
-returns-in_err-entries-clause-fault c = many_told _ _ _ c.in_err-entries.ensures.formula
+returns-in_err-entries-clause-fault c =
+    let p = err_from_is_err_and c.from_residual.result c.from_residual.ensures.1 in rw (p.1, p.2) (many_told _ _ _ c.in_err-entries.ensures.formula)
