@@ -1,6 +1,7 @@
 -- What calls on a key that go by closures have done, as their callers see it.
 use Rattle.std.specs.Prelude.{◌≡◌, ℕ, Bool, List, ◌++◌, ◌∷◌, [], Result, Ok, Err, Option, Some, None, IfOk, IfErr, OnErr}
 use Rattle.std.specs.List.Sorted.{IsPermutation}
+use Rattle.std.proofs.lemmas.List.Sorted.{IsPermutation-append_left}
 use Rattle.std.proofs.Common.{sym, ◌∙◌, subst, inl, inr}
 use Rattle.seize_words.specs.Mem.{Mem}
 use Rattle.seize_words.specs.declared.fault.Fault.{Fault}
@@ -58,8 +59,7 @@ module _ {K V : Type 0} (same : K → K → Bool) (hash : K → ℕ) (setting : 
     shows_with : (ys ws : List (K × V)) (taken met : Option (K × V)) → With ys taken met → IsPermutation ys ws → shows ws taken met
     shows_with ys ws taken met r order = (
       shown_as same hash setting m ys r.holds tables ws order,
-      taken_shown same hash setting m last ys taken met r,
-      met_shown same hash setting m last ys taken met r,
+      (taken_shown same hash setting m last ys taken met r, met_shown same hash setting m last ys taken met r),
     )
 
     module _ (Told : Option (K × V) → Reply V → Type 0) where
