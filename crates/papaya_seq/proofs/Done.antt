@@ -59,8 +59,7 @@ module _ {K V : Type 0} (same : K → K → Bool) (hash : K → ℕ) (setting : 
     shows_with : (ys ws : List (K × V)) (taken met : Option (K × V)) → With ys taken met → IsPermutation ys ws → shows ws taken met
     shows_with ys ws taken met r order = (
       shown_as same hash setting m ys r.holds tables ws order,
-      taken_shown same hash setting m last ys taken met r,
-      met_shown same hash setting m last ys taken met r,
+      (taken_shown same hash setting m last ys taken met r, met_shown same hash setting m last ys taken met r),
     )
 
     module _ (Told : Option (K × V) → Reply V → Type 0) where

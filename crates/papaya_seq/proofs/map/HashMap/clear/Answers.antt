@@ -7,7 +7,10 @@ pub clear-requires : goal.clear-requires
 clear-requires g c = c.self.invariant
 
 pub invariant_of-self-inside : goal.invariant_of-self-inside
-invariant_of-self-inside g c =
+invariant_of-self-inside g c = record { tables = c.self.inside.resting.tables; takes = none_named _; meets = none_named _ }
+
+pub invariant_of-self-inside-2 : goal.invariant_of-self-inside-2
+invariant_of-self-inside-2 g c =
     let held = c.self.invariant in
     let rests = either_rests _ _ _ _ c.clear.result _ _ (c.clear.ensures.done held.0 held.1) (c.clear.ensures.refused held.0 held.1) in
     record { tables = counts _ _ _ _ rests.0 rests.1; takes = none_named _; meets = none_named _ }

@@ -7,7 +7,10 @@ pub reserve-requires : goal.reserve-requires
 reserve-requires g c = c.self.invariant
 
 pub invariant_of-self-inside : goal.invariant_of-self-inside
-invariant_of-self-inside g c = let held = c.self.invariant in record { tables = counts _ _ _ _ held.0 (c.reserve.ensures.holds held.0 held.1); takes = none_named _; meets = none_named _ }
+invariant_of-self-inside g c = record { tables = c.self.inside.resting.tables; takes = none_named _; meets = none_named _ }
+
+pub invariant_of-self-inside-2 : goal.invariant_of-self-inside-2
+invariant_of-self-inside-2 g c = let held = c.self.invariant in record { tables = counts _ _ _ _ held.0 (c.reserve.ensures.holds held.0 held.1); takes = none_named _; meets = none_named _ }
 
 pub invariant_of-self : goal.invariant_of-self
 invariant_of-self g c = let held = c.self.invariant in (held.0, c.reserve.ensures.holds held.0 held.1)

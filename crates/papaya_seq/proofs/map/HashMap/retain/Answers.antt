@@ -8,7 +8,10 @@ pub retain-requires-clause-holds : goal.retain-requires-clause-holds
 retain-requires-clause-holds g c = c.self.invariant
 
 pub invariant_of-self-inside : goal.invariant_of-self-inside
-invariant_of-self-inside g c =
+invariant_of-self-inside g c = record { tables = c.self.inside.resting.tables; takes = none_named _; meets = none_named _ }
+
+pub invariant_of-self-inside-2 : goal.invariant_of-self-inside-2
+invariant_of-self-inside-2 g c =
     let held = c.self.invariant in
     let rests = some_rest _ _ _ _ (KeepsOf g.F.FnMut c.args.keep held.0) c.retain.result _ (c.retain.ensures.done held.0 held.1) (c.retain.ensures.refused held.0 held.1) in
     record { tables = counts _ _ _ _ rests.0 rests.1; takes = none_named _; meets = none_named _ }
