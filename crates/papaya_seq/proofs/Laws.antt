@@ -2,10 +2,12 @@
 use Rattle.papaya_seq.specs.Orders.{FoundInAnyOrder, LeftInAnyOrder, ApartInAnyOrder, PutIsFound, OthersStay}
 use Rattle.papaya_seq.specs.Equals.{AgreeAtEachKey, AgreeInAnyOrder, agree_at_each, agree_from_each}
 use Rattle.papaya_seq.specs.Puts.{LastIsFound}
-use Rattle.std.proofs.Common.{◌∙◌}
+use Rattle.papaya_seq.specs.Each.{FoundPasses}
+use Rattle.std.specs.Prelude.{◌≡◌, if◌then◌else◌, Bool, true, false, [], ◌∷◌, Some, IfSome}
+use Rattle.std.proofs.Common.{◌∙◌, refl}
 use Rattle.papaya_seq.proofs.Equals as equals
 use Rattle.papaya_seq.proofs.Orders as orders
-use Rattle.papaya_owned.specs.Owned.{left_by}
+use Rattle.papaya_owned.specs.Owned.{found_by, left_by}
 
 module _ (K V : Type 0) where
   pub found_in_any_order : FoundInAnyOrder K V
@@ -23,6 +25,14 @@ module _ (K V : Type 0) where
   pub others_stay : OthersStay K V
   others_stay keys others apart xs =
       (orders.others_found keys others apart xs, λ x its. orders.others_found_behind keys others apart (left_by keys xs) x its ∙ orders.others_found keys others apart xs)
+
+  pub found_passes : FoundPasses K V
+  found_passes keys [] = tt
+  found_passes keys (x ∷ xs) = by (keys x.0) refl (found_passes keys xs)
+    where
+      by : (b : Bool) → keys x.0 ≡ b → IfSome (found_by keys xs) (λ y. keys y.0 ≡ true) → IfSome (if b then Some x else found_by keys xs) (λ y. keys y.0 ≡ true)
+      by true passes rest = passes
+      by false fails rest = rest
 
 pub agree_at_each_key : (K V : Type 0) → AgreeAtEachKey K V
 agree_at_each_key K V same classes equal xs ys = (λ so. agree_at_each same equal classes xs ys so, λ each. agree_from_each same equal xs ys each)

@@ -1,6 +1,5 @@
 -- Lemmas on maps for one owner.
 mod Done
-pub mod Each
 mod Equals
 mod Kept
 mod Members

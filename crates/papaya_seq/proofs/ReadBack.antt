@@ -1,5 +1,5 @@
 -- Sets that one array has.
-use Rattle.std.specs.Prelude.{◌↔◌, IsTrue, if◌then◌else◌}
+use Rattle.std.specs.Prelude.{if◌then◌else◌}
 use Rattle.std.specs.Cmp.{IsEquivalence}
 use Rattle.std.specs.List.{All, Contains}
 use Rattle.std.specs.Option.{option_eq}
@@ -22,8 +22,8 @@ alike false false to from = refl
 -- where nothing is asked of two that are there
 both_there : {X : Type 0} (p q : Option X) → is_some p ≡ is_some q → option_eq (λ (x y : X). true) p q ≡ true
 both_there None None same = refl
-both_there None (Some y) same = sym same
-both_there (Some x) None same = same
+both_there None (Some y) same = same
+both_there (Some x) None same = sym same
 both_there (Some x) (Some y) same = refl
 
 module _ {K : Type 0} (same : K → K → Bool) (q : K) where
@@ -38,25 +38,25 @@ module _ {K : Type 0} (same : K → K → Bool) (q : K) where
 
   found_one : (xs : List K) → is_some (found_by (same q) (with_no_values xs)) ≡ true → (x : K) × Contains xs x × (same q x ≡ true)
   found_one [] there = absurd (true≢false (sym there))
-  found_one (y ∷ xs) there = by (same q y) refl there
+  found_one (y ∷ xs) there = by (same q y) refl there (found_one xs)
     where
-      by : (b : Bool) → same q y ≡ b → is_some (if b then Some (y, tt {0}) else found_by (same q) (with_no_values xs)) ≡ true → (x : K) × Contains (y ∷ xs) x × (same q x ≡ true)
-      by true equals found = (y, first_is y xs, equals)
-      by false differs found = let one = found_one xs found in (one.0, later_is y one.0 xs one.1, one.2)
+      by : (b : Bool) → same q y ≡ b → is_some (if b then Some (y, tt {0}) else found_by (same q) (with_no_values xs)) ≡ true
+          → (is_some (found_by (same q) (with_no_values xs)) ≡ true → (x : K) × Contains xs x × (same q x ≡ true)) → (x : K) × Contains (y ∷ xs) x × (same q x ≡ true)
+      by true equals found behind = (y, first_is y xs, equals)
+      by false differs found behind = let one = behind found in (one.0, later_is y one.0 xs one.1, one.2)
 
-module _ {K : Type 0} (same : K → K → Bool) (classes : IsEquivalence same) (in_range : K → Type 0) (value : K → Data)
-    (tells : (x y : K) → in_range x → in_range y → IsTrue (same x y) ↔ (value x ≡ value y)) where
-  found_too : (xs ys : List K) → All in_range xs → All in_range ys → All (λ x. (y : K) × Contains ys y × (value x ≡ value y)) xs → (q : K)
+module _ {K : Type 0} (same : K → K → Bool) (classes : IsEquivalence same) (value : K → Data) where
+  found_too : (xs ys : List K) → ((x y : K) → Contains xs x → Contains ys y → value x ≡ value y → same x y ≡ true) → All (λ x. (y : K) × Contains ys y × (value x ≡ value y)) xs → (q : K)
       → is_some (found_by (same q) (with_no_values xs)) ≡ true → is_some (found_by (same q) (with_no_values ys)) ≡ true
-  found_too xs ys ranged_xs ranged_ys among q there =
+  found_too xs ys tells among q there =
       let x = found_one same q xs there in
       let y = All-contains (λ z. (w : K) × Contains ys w × (value z ≡ value w)) xs x.0 among x.1 in
-      let equals : same x.0 y.0 ≡ true = (tells x.0 y.0 (All-contains in_range xs x.0 ranged_xs x.1) (All-contains in_range ys y.0 ranged_ys y.1)).1 y.2 in
-      is_found same q ys y.0 y.1 (classes.congr q x.0 y.0 x.2 ∙ equals)
+      is_found same q ys y.0 y.1 (classes.congr q x.0 y.0 x.2 ∙ tells x.0 y.0 x.1 y.1 y.2)
 
 pub one_array_one_set : (K : Type 0) → OneArrayOneSet K
-one_array_one_set K same classes in_range value tells xs ys ranged_xs ranged_ys d has had =
+one_array_one_set K same classes value xs ys tells d has had =
     let told : HaveSameValues value xs ys = arrays_tell K value xs ys d has had in
     agree_from_each same (λ _ _. true) (with_no_values xs) (with_no_values ys)
     (λ q. both_there (found_by (same q) (with_no_values xs)) (found_by (same q) (with_no_values ys))
-    (alike _ _ (found_too same classes in_range value tells xs ys ranged_xs ranged_ys told.0 q) (found_too same classes in_range value tells ys xs ranged_ys ranged_xs told.1 q)))
+    (alike _ _ (found_too same classes value xs ys (λ x y inx iny e. (tells x y inx iny).1 e) told.0 q)
+    (found_too same classes value ys xs (λ y x iny inx e. classes.symm y x ∙ (tells x y inx iny).1 (sym e)) told.1 q)))

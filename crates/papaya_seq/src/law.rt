@@ -1,5 +1,5 @@
-//! What is promised of pairs that are listed in another order, as those of a map are after a change, and of what holds of each of them.
-ghost use Rattle.papaya_seq.specs.Each.{FoundIsSo, FoundPasses, LeftAreSo, OrderedAreSo, PutAreSo, PutsAreSo, ValueIsSo};
+//! What is promised of pairs that are listed in another order, as those of a map are after a change, of a pair that is found, and of sets that are read.
+ghost use Rattle.papaya_seq.specs.Each.{FoundPasses};
 ghost use Rattle.papaya_seq.specs.Equals.{AgreeAtEachKey, AgreeInAnyOrder};
 ghost use Rattle.papaya_seq.specs.Puts.{LastIsFound};
 ghost use Rattle.papaya_seq.specs.ReadBack.{OneArrayOneSet};
@@ -31,16 +31,9 @@ pub fn changes_are_found<K, V>()
     ensures others { OthersStay K V }
 {}
 
-/// The pair that is found has a key that passes. What holds of every pair holds of the one that is found, of those that are left, in any order, and of all once
-/// one more of which it holds was put. So a fact about each pair of a map is kept by each of its calls.
-pub fn what_holds_of_each_pair<K, V>()
-    ensures passes { FoundPasses K V }
-    ensures found { FoundIsSo K V }
-    ensures value { ValueIsSo K V }
-    ensures left { LeftAreSo K V }
-    ensures order { OrderedAreSo K V }
-    ensures put { PutAreSo K V }
-    ensures puts { PutsAreSo K V }
+/// The pair that is found has a key that passes the test. What holds of every pair is kept by each call: the lemmas of `specs/Each` say so of any property.
+pub fn what_is_found_passes<K, V>()
+    ensures { FoundPasses K V }
 {}
 
 /// Sets that one array has are equal: what is read of the array that a set was written as equals that set.
