@@ -5,4 +5,5 @@ pub mod Owned
 pub mod Retaining
 pub mod Rooms
 pub mod Sweeping
+pub mod Tries
 pub mod Within
