@@ -1,9 +1,10 @@
 -- One try of a lookup is a step of it, and what follows from that along the tries at a table.
 use Rattle.std.specs.Prelude.{◌≡◌, ◌≤◌, ◌<◌, ◌-◌, ◌⊎◌, ℕ, suc, Bool, true, false, List, [], ◌∷◌, Option, Some, None, IsSome, nat_lt, if◌then◌else◌}
 use Rattle.std.proofs.Common.{refl, sym, ◌∙◌, ap, subst, arith, inl, inr, ⊎_elim}
+use Rattle.std.proofs.lemmas.Bool.{false≢true, cases_lt}
 use Rattle.seize_words.specs.Mem.{Mem, Can, Took, value_at, word_at}
 use Rattle.seize_words.specs.Op.{Found}
-use Rattle.seize_words.specs.Plan.{Then, Now, Seeing, May, MaySee, Steps, Ends as Comes}
+use Rattle.seize_words.specs.Plan.{Plan, Then, Now, Seeing, May, MaySee, Steps, Ends as Comes}
 use Rattle.seize_words.specs.Word.{block_in}
 use Rattle.seize_words.specs.declared.at.At.{At}
 use Rattle.seize.specs.declared.progress.Progress.{Progress}
@@ -26,7 +27,8 @@ use Rattle.papaya_rule.specs.Words.{Blocks}
 use Rattle.papaya_points.specs.Measures.{IsBelow}
 use Rattle.papaya_owned.specs.Looking.{LooksIn, Finds, at_try, at_next}
 use Rattle.papaya_owned.specs.Tries.{Nearer, TriesTo, tried_beyond}
-use Rattle.papaya_owned.specs.Within.{within}
+use Rattle.papaya_owned.specs.Ending.{GoesOn}
+use Rattle.papaya_owned.specs.Within.{IsLeast, within}
 use Rattle.papaya_owned.specs.declared.tries.Tried.TheVariants as tried
 use Rattle.papaya_owned.proofs.Lookups.Ends.{looks_tell, looks_on, not_done, below_here}
 use Rattle.papaya_owned.proofs.Runs.Steps.{within_on}
@@ -154,3 +156,27 @@ module _ {K V : Type 0} (keys : K → Bool) (m : Mem (Node K V)) (l : Lookup) (t
           → Nearer (λ k x. within (lookup_plan keys) k x m) n l (if b then tried.GoesBeyond trial.table else tried.Ends None)
       by true is = nearer_then (at_next l trial.table) is
       by false is = tt
+
+abbrev asked_plan : {K V Q : Type 0} → (Q → K → Bool) → Q → Lookup → Plan (Node K V) (Lookup × Progress (Option ℕ))
+asked_plan asks q = lookup_plan (asks q)
+
+-- the same bound of the same lookup
+same_within : {K V Q : Type 0} (asks : Q → K → Bool) (n : ℕ) (m m0 : Mem (Node K V)) (l l0 : Lookup) (q q0 : Q) → m0 ≡ m → l0 ≡ l → q0 ≡ q
+    → within (asked_plan asks q0) n l0 m0 ≡ within (asked_plan asks q) n l m
+same_within asks n m m0 l l0 q q0 em el eq =
+    subst (λ y. within (asked_plan asks q0) n l0 m0 ≡ within (asked_plan asks y) n l m) eq
+    (subst (λ y. within (asked_plan asks q0) n l0 m0 ≡ within (asked_plan asks q0) n y m) el
+    (ap (λ y. within (asked_plan asks q0) n l0 y) em))
+
+-- the least bound is lower after a step and the tries behind it
+pub lower_behind : {K V Q : Type 0} (asks : Q → K → Bool) (n : ℕ) (m m0 : Mem (Node K V)) (l l0 : Lookup) (q q0 : Q) → m0 ≡ m → l0 ≡ l → q0 ≡ q → IsLeast (λ k. within (asked_plan asks q0) k l0 m0) n
+    → (l2 : Lookup) (told : Progress (Option ℕ)) → GoesOn told → Steps Took value_at m (lookup_plan (asks q) l) m (l2, told)
+    → (l3 : Lookup) → ((i : ℕ) → within (asked_plan asks q) i l2 m ≡ true → (j : ℕ) × (j ≤ i) × (within (asked_plan asks q) j l3 m ≡ true))
+    → (k : ℕ) (m4 : Mem (Node K V)) (l4 : Lookup) (q4 : Q) → m4 ≡ m → l4 ≡ l3 → q4 ≡ q → IsLeast (λ j. within (asked_plan asks q4) j l4 m4) k → k < n
+lower_behind asks n m m0 l l0 q q0 em el eq least l2 told on s l3 near k m4 l4 q4 em4 el4 eq4 least4 =
+    let is = sym (same_within asks n m m0 l l0 q q0 em el eq) ∙ least.0 in
+    let o = within_on (asked_plan asks q) n l m is l2 m told on s in
+    let p = near o.0 o.2 in
+    let is4 = same_within asks p.0 m m4 l3 l4 q q4 em4 el4 eq4 ∙ p.2 in
+    let first = o.1 in let second = p.1 in
+    ⊎_elim (λ (below : p.0 < k). absurd (false≢true (sym (least4.1 p.0 below) ∙ is4))) (λ (le : k ≤ p.0). let r : k < n = omega (arith, le, first, second) in r) (cases_lt p.0 k)
