@@ -1,6 +1,6 @@
 -- One try of a lookup is a step of it, and what follows from that along the tries at a table.
-use Rattle.std.specs.Prelude.{◌≡◌, ◌≤◌, ◌<◌, ◌-◌, ◌⊎◌, ℕ, suc, Bool, true, false, List, [], ◌∷◌, Option, Some, None, IsSome, nat_lt, if◌then◌else◌}
-use Rattle.std.proofs.Common.{refl, sym, ◌∙◌, ap, subst, arith, inl, inr, ⊎_elim}
+use Rattle.std.specs.Prelude.{◌≡◌, ◌≤◌, ◌<◌, ◌-◌, ◌⊎◌, ℕ, suc, Bool, true, false, [], ◌∷◌, Option, Some, None, IsSome, nat_lt, if◌then◌else◌}
+use Rattle.std.proofs.Common.{refl, sym, ◌∙◌, ap, subst, arith, inl, ⊎_elim}
 use Rattle.std.proofs.lemmas.Bool.{false≢true, cases_lt}
 use Rattle.seize_words.specs.Mem.{Mem, Can, Took, value_at, word_at}
 use Rattle.seize_words.specs.Op.{Found}
@@ -61,16 +61,22 @@ module _ {K V : Type 0} (keys : K → Bool) (m : Mem (Node K V)) (l : Lookup) (t
   -- it names a pair, which was looked at
   pub try_names : (f : Finding) (same : Bool) (v : Node K V) → may_name l.hash w ≡ true → value_at m (block_in w) ≡ Some v → same ≡ names_pair keys v → f ≡ finding l.mode Looks w same
       → Steps Took value_at m (lookup_plan keys (at_try l trial)) m (told_of (at_try l trial) trial w f)
-  try_names f same v named is by so =
-      (Found w, (found, refl), comes_then (value_at m) (may_name l.hash w) seeing passing (told_of (at_try l trial) trial w f) named
-      (v, is, ap (told_of (at_try l trial) trial w) (so ∙ ap (finding l.mode Looks w) by)))
+  try_names f same v named is by so = (
+    Found w,
+    (found, refl),
+    comes_then (value_at m) (may_name l.hash w) seeing passing (told_of (at_try l trial) trial w f) named
+        (v, is, ap (told_of (at_try l trial) trial w) (so ∙ ap (finding l.mode Looks w) by)),
+  )
 
   -- it names none that it may be
   pub try_passes : (f : Finding) (same : Bool) → may_name l.hash w ≡ false → same ≡ false → f ≡ finding l.mode Looks w same
       → Steps Took value_at m (lookup_plan keys (at_try l trial)) m (told_of (at_try l trial) trial w f)
-  try_passes f same other by so =
-      (Found w, (found, refl), comes_else (value_at m) (may_name l.hash w) seeing passing (told_of (at_try l trial) trial w f) other
-      (ap (told_of (at_try l trial) trial w) (so ∙ ap (finding l.mode Looks w) by)))
+  try_passes f same other by so = (
+    Found w,
+    (found, refl),
+    comes_else (value_at m) (may_name l.hash w) seeing passing (told_of (at_try l trial) trial w f) other
+        (ap (told_of (at_try l trial) trial w) (so ∙ ap (finding l.mode Looks w) by)),
+  )
 
 abbrev is_none : Option Trial → Type 0
 is_none None = Unit {0}

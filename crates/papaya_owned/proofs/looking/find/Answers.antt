@@ -1,5 +1,4 @@
 -- Its steps over the memory that is lent are those over the memory. The tries at a table are steps, too.
-use Rattle.std.specs.Prelude.{◌≡◌, true}
 use Rattle.std.proofs.Common.{subst}
 use Rattle.papaya_resize.specs.Lookup.{lookup_plan}
 use Rattle.papaya_owned.specs.Looking.{at_next}
@@ -25,10 +24,14 @@ returns-in-Done g c = λ hash chart blocks looks.
 
 pub tries-requires : goal.tries-requires
 tries-requires g c =
-    let r = c.requires in let i = c.loop-found.invariant in
-    (r.0, r.1, r.2, c.args.lookup,
-    (looks_on g.K.PartialEq.eq r.0 _ _ r.1 r.2 _ _ _ (i.looks r.0 r.1 r.2 r.3) _ (not_done _ c.in-Goes.is)
-    (steps_lent (g.Q.Equivalent.equivalent c.args.asked.now) c.loop-found.look c.loop-found.lookup _ i.look _ _ c.step.ensures).1).0)
+    let r = c.requires in let i = c.loop-found.invariant in (
+      r.0,
+      r.1,
+      r.2,
+      c.args.lookup,
+      (looks_on g.K.PartialEq.eq r.0 _ _ r.1 r.2 _ _ _ (i.looks r.0 r.1 r.2 r.3) _ (not_done _ c.in-Goes.is)
+          (steps_lent (g.Q.Equivalent.equivalent c.args.asked.now) c.loop-found.look c.loop-found.lookup _ i.look _ _ c.step.ensures).1).0,
+    )
 
 pub returns-in-Ends : goal.returns-in-Ends
 returns-in-Ends g c = λ hash chart blocks looks.

@@ -1,6 +1,5 @@
 -- Each try is a step of the lookup, which goes on from there.
 use Rattle.std.proofs.Common.{sym, ◌∙◌, ap, subst, arith}
-use Rattle.std.specs.Prelude.{◌≡◌, true}
 use Rattle.papaya_resize.specs.Lookup.{lookup_plan}
 use Rattle.papaya_owned.specs.Looking.{LooksIn, at_try, at_next}
 use Rattle.papaya_owned.specs.Tries.{Nearer, TriesTo}

@@ -17,7 +17,7 @@ returns g c =
     let keys = g.Q.Equivalent.equivalent c.args.asked.now in
     let found = found_at _ _ c.look.ensures _ _ c.at.ensures _ c.load-word.ensures.0 in
     elim c.if-may_be.branch [
-      then-may_be w ↦
+      | then-may_be w ↦
           try_names keys c.args.memory.now c.args.lookup.now c.args.trial c.load-word.result found c.seen.result c.if-may_be.same w.value.result.now (sym c.may_be.ensures ∙ w.if-may_be.true)
           (subst (λ b. value_at c.args.memory.now b ≡ Some w.value.result.now) w.block_of.ensures w.value.ensures) (w.same-is ∙ w.asks_for-same.ensures) c.seen.ensures
       | else-may_be w ↦
