@@ -1,2 +1,3 @@
 -- Lookups that one owner runs.
 pub mod Ends
+pub mod Tries

@@ -6,4 +6,5 @@ pub mod Retaining
 pub mod Rooms
 pub mod Standing
 pub mod Sweeping
+pub mod Tries
 pub mod Within

@@ -2,7 +2,10 @@
 use Rattle.std.specs.Prelude.{ℕ, Bool, Option}
 use Rattle.seize_words.specs.Mem.{Mem}
 use Rattle.papaya_tables.specs.declared.node.Node.{Node}
+use Rattle.papaya_tables.specs.declared.table.Table.{Table}
+use Rattle.papaya_tables.specs.declared.trial.Trial.{Trial}
 use Rattle.papaya_resize.specs.declared.lookup.Lookup.{Lookup}
+use Rattle.papaya_resize.specs.declared.lookup.Looking.TheVariants as at
 use Rattle.papaya_rule.specs.Chart.{Chart}
 use Rattle.papaya_rule.specs.Words.{Blocks}
 use Rattle.papaya_rule.specs.Maps.{IsClass, IsMap}
@@ -20,3 +23,11 @@ module _ {K V : Type 0} (same : K → K → Bool) (hash : K → ℕ) (keys : K �
 -- What a lookup answers is so: this is the word of the pair that the map has of these keys, or it has none of them.
 abbrev pub Finds : {K : Type 0} → (K → K → Bool) → (K → ℕ) → (K → Bool) → Chart K → Blocks → Lookup → Option ℕ → Type 0
 Finds same hash keys c blocks l found = Answers same hash l.mode l.root keys l.hash c blocks found
+
+-- the lookup is at this try
+abbrev pub at_try : Lookup → Trial → Lookup
+at_try l trial = record l { stands = at.Probes trial }
+
+-- it goes on to the table after this one
+abbrev pub at_next : Lookup → Table → Lookup
+at_next l table = record l { stands = at.Nexts table }

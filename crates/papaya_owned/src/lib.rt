@@ -10,6 +10,7 @@ mod rooms;
 mod running;
 mod sweeping;
 mod sweeps;
+mod tries;
 
 pub use looking::{find, pair_at};
 pub use machines::{ForRoom, OnKey, Refreshes, Stop};

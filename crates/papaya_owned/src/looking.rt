@@ -11,7 +11,8 @@ ghost use Rattle.papaya_rule.specs.Chart.{Chart};
 ghost use Rattle.papaya_rule.specs.Words.{Blocks};
 
 use crate::most_looks::MostLooks;
-use papaya_raw::machines::Lookup;
+use crate::tries::{Tried, tries};
+use papaya_raw::machines::{Looking, Lookup};
 use papaya_tables::{Equivalent, Node};
 use seize::Progress;
 use seize_words::{Link, Look, Plain};
@@ -55,7 +56,14 @@ pub fn find<K: Eq + Hash, V, Q: Equivalent<K>>(
             Progress::Goes | Progress::Waits | Progress::Refused(_) => {}
             Progress::Done(found) => return found,
         }
-        left = most(memory, &lookup, asked);
+        match tries(memory, &lookup, asked) {
+            Tried::Ends(found) => return found,
+            Tried::GoesBeyond(table) => {
+                lookup.stands = Looking::Nexts { table };
+                left = most(memory, &lookup, asked);
+            }
+            Tried::Stays => left = most(memory, &lookup, asked),
+        }
     }
 }
 

@@ -87,7 +87,7 @@ module _ {K V : Type 0} (same : K → K → Bool) (hash : K → ℕ) (keys : K �
   stands_here code (at.Nexts table) f = (f.1, f.2)
   stands_here code (at.Over found) f = absurd f
 
-  below_here : (l : Lookup) → LooksHere l → (end : Lookup × Progress (Option ℕ)) → Steps Took value_at m (lookup_plan keys l) m end → end.1 ≡ progress.Goes → IsBelow (number_of_lookup c end.0) (number_of_lookup c l)
+  pub below_here : (l : Lookup) → LooksHere l → (end : Lookup × Progress (Option ℕ)) → Steps Took value_at m (lookup_plan keys l) m end → end.1 ≡ progress.Goes → IsBelow (number_of_lookup c end.0) (number_of_lookup c l)
   below_here l h end s =
       (looked_on same hash (setting_of begun.mode begun.root) m c blocks m c blocks (onward l h) l keys
       (subst (λ (code : ℕ). LookingStands (setting_of begun.mode begun.root) m c blocks code l.stands) (sym h.facts.hash_is) (stands_here begun.hash l.stands h.facts.point)) end s).1

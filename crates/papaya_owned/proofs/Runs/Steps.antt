@@ -178,6 +178,13 @@ module _ {T X A : Type 0} (plan : X → Plan T (X × Progress A)) where
   pub ends_on : (x : X) (m : Mem T) → Ends plan x m → (m2 : Mem T) (x2 : X) (told : Progress A) → GoesOn told → Steps Took value_at m (plan x) m2 (x2, told) → Ends plan x2 m2
   ends_on x m (all_end _ _ may next) = next
 
+  -- a step leaves a lower number
+  pub within_on : (n : ℕ) (x : X) (m : Mem T) → within plan n x m ≡ true → (x2 : X) (m2 : Mem T) (told : Progress A) → GoesOn told → Steps Took value_at m (plan x) m2 (x2, told)
+      → (k : ℕ) × (k < n) × (within plan k x2 m2 ≡ true)
+  within_on zero x m e x2 m2 told on s = absurd (false≢true e)
+  within_on (suc n) x m e x2 m2 told on s =
+      (n, omega arith, goes_so told (within plan n x2 m2) on (steps_so m (plan x) (λ m2 end. if_goes end.1 (within plan n end.0 m2)) e m2 (x2, told) s))
+
   -- it is lower after each step
   lower : (n : ℕ) (x : X) (m : Mem T) → within plan n x m ≡ true → (k : ℕ) (x2 : X) (m2 : Mem T) → IsLeast (λ j. within plan j x2 m2) k
       → (told : Progress A) → GoesOn told → Steps Took value_at m (plan x) m2 (x2, told) → k < n

@@ -1,0 +1,27 @@
+-- What the tries of a lookup at one table come to.
+use Rattle.std.specs.Prelude.{◌≡◌, ◌≤◌, ℕ, Bool, true, None, if◌then◌else◌}
+use Rattle.seize_words.specs.Mem.{Mem}
+use Rattle.papaya_tables.specs.Chunks.{is_incremental}
+use Rattle.papaya_tables.specs.declared.node.Node.{Node}
+use Rattle.papaya_tables.specs.declared.table.Table.{Table}
+use Rattle.papaya_resize.specs.declared.lookup.Lookup.{Lookup}
+use Rattle.papaya_rule.specs.Chart.{Chart}
+use Rattle.papaya_rule.specs.Words.{Blocks}
+use Rattle.papaya_owned.specs.Looking.{LooksIn, Finds, at_next}
+use Rattle.papaya_owned.specs.declared.tries.Tried.{Tried}
+use Rattle.papaya_owned.specs.declared.tries.Tried.TheVariants as tried
+
+-- all tries at a table are made
+abbrev pub tried_beyond : Lookup → Table → Tried
+tried_beyond l table = if is_incremental l.mode then tried.GoesBeyond table else tried.Ends None
+
+-- the lookup ends with an answer that is so, or it knows what it is to know where it goes on
+abbrev pub TriesTo : {K V : Type 0} → (K → K → Bool) → (K → ℕ) → (K → Bool) → Mem (Node K V) → Chart K → Blocks → Lookup → Lookup → Tried → Type 0
+TriesTo same hash keys m c blocks begun l (tried.Ends found) = Finds same hash keys c blocks begun found
+TriesTo same hash keys m c blocks begun l (tried.GoesBeyond table) = LooksIn same hash keys m c blocks begun (at_next l table)
+TriesTo same hash keys m c blocks begun l tried.Stays = Unit {0}
+
+-- where it goes on to the next table, it is so there for a number no greater than this one
+abbrev pub Nearer : (ℕ → Lookup → Bool) → ℕ → Lookup → Tried → Type 0
+Nearer so n l (tried.GoesBeyond table) = (k : ℕ) × (k ≤ n) × (so k (at_next l table) ≡ true)
+Nearer so n l _ = Unit {0}
