@@ -1,0 +1,5 @@
+pub mod Asked
+pub mod Shows
+pub mod Steps
+pub mod Calling
+pub mod Beginning
