@@ -11,3 +11,7 @@ pub mod Calling
 pub mod Beginning
 pub mod Takes
 pub mod Told
+pub mod Handing
+pub mod HandTheirs
+pub mod HandsOn
+pub mod Spares

@@ -21,6 +21,8 @@ use Rattle.papaya_follows.proofs.Steps.{WentTo, went_to, made_so, is_inside, Did
 use Rattle.papaya_hands.specs.Asked.{ShowsAsked}
 use Rattle.papaya_hands.specs.Steps.{CallsStoreTheirs}
 use Rattle.papaya_hands.proofs.AskedOn.{asked_on}
+use Rattle.papaya_hands.proofs.HandsOn.{hands_on}
+use Rattle.papaya_hands.proofs.Spares.{pairs_spared, tables_spared}
 use Rattle.papaya_hands.proofs.Stores.{key_gives, room_gives, sweep_gives}
 
 -- no two pairs of a map have one number
@@ -77,4 +79,10 @@ pub calls_store_theirs : (K V S : Type 0) (same : K → K → Bool) (hash : K �
 calls_store_theirs K V S same hash name m known s old new at all map i u here told leads own =
     let stores = stores_theirs same hash name m known s old new at all.shown map i u here told leads all.asked own in
     let step = step_shown same hash name m known s old new at all.shown map i u here told leads own stores in
-    (stores, step.0, record { shown = step.1.shows; asked = asked_on same hash name m known s old new at all.shown map i u here told leads all.asked step.1 })
+    let to = went_to same hash name m known s old new at all.shown map i u here told leads in
+    (stores, step.0, record {
+      shown = step.1.shows;
+      asked = asked_on same hash name m known s old new at all.shown map i u here told leads all.asked step.1;
+      hands = hands_on same hash name m known s all.shown all.hands _ _ _ step.1 new to.5 (pairs_spared same hash name m known s old new at all.shown map i u here told leads all.hands own)
+          (tables_spared same hash name m known s old new at all.shown map i u here told leads all.hands own);
+    })

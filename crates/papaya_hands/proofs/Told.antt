@@ -43,6 +43,7 @@ use Rattle.papaya_hands.specs.Asked.{as_told, given_by, KnowsFirst, IsSameQuesti
 use Rattle.papaya_hands.specs.Calling.{CallsTake}
 use Rattle.papaya_hands.proofs.Asking.{which}
 use Rattle.papaya_hands.proofs.Calling.{caller_is, asked_as}
+use Rattle.papaya_hands.proofs.HandsOn.{hands_with}
 use Rattle.papaya_hands.proofs.Takes.{asked_leaves, and_given, not_begun, not_first}
 
 module _ {K V S : Type 0} (same : K → K → Bool) (hash : K → ℕ) (name : ℕ → List ℕ) (m : Moment K V) (known : Known) (s : Scene K V) (e : Executor K V S) (at_e : IsAt same hash e s)
@@ -210,4 +211,5 @@ calls_take K V S same hash name m known s e at_e all map i u here c c_is questio
       asked = subst (λ (f : ℕ → ℕ → ℕ). ShowsAsked name f (told (name i) is_told m) known (record s { calls = with_in s.calls map i (Some next) })) (sym b.1)
           (told_asked same hash name m known s e at_e all.shown all.asked map i standing there c c_is question c_asks is_told u next here
           (own_told same hash name m known s e at_e all.shown all.asked map i standing there c c_is question c_asks is_told u next here machine taken goes));
+      hands = hands_with m known s (told (name i) is_told m).calls (with_in s.calls map i (Some next)) all.hands;
     }

@@ -1,4 +1,5 @@
 pub mod Asked
+pub mod Hands
 pub mod Shows
 pub mod Steps
 pub mod Calling

@@ -29,13 +29,14 @@ module _ (K V S : Type 0) (same : K → K → Bool) (hash : K → ℕ) where
       × ShowsAll same name (with_effects (Some (name i)) (Some map) (effects_of (Call i map) known new.memory.changed) m) (known_after (Call i map) new.memory.changed known)
       (scene_after same hash s old new map i to.0 u to.1 told to.4))
 
-  -- The promise, of a step of a row within a call: where it takes no block away, and hands over what has left its map alone, it is the same.
-  abbrev pub RowsKeepTheirs : Type 0
-  RowsKeepTheirs =
+  -- The promise, of a step of a row within a call: it hands over nothing but what has left its map; and where it takes no block away, it is the same.
+  abbrev pub RowsHandTheirs : Type 0
+  RowsHandTheirs =
       (name : ℕ → List ℕ) (m : Moment K V) (known : Known) (s : Scene K V) (old new : Executor K V S) → IsAt same hash old s → ShowsAll same name m known s
       → (map i : ℕ) (u : UnderWay K V K) (here : s.calls map i ≡ Some u) (told : Progress (Node K V)) (leads : StepLeads same hash i told s old new)
       → (let to = leads map u here in
       (IsOfNoRow same old.batch_size old.roots s.world s.maps s.calls s.makers s.enders map to.0 i new.memory.memory to.4.w2 to.4.maps2 to.4.next u to.1 told to.4.did → ⊥)
-      → TakesNone new.memory.changed → HandTheirs (name i) map (effects_of (Call i map) known new.memory.changed) m
+      → HandTheirs (name i) map (effects_of (Call i map) known new.memory.changed) m
+      × (TakesNone new.memory.changed
       → ShowsAll same name (with_effects (Some (name i)) (Some map) (effects_of (Call i map) known new.memory.changed) m) (known_after (Call i map) new.memory.changed known)
-      (scene_after same hash s old new map i to.0 u to.1 told to.4))
+      (scene_after same hash s old new map i to.0 u to.1 told to.4)))
