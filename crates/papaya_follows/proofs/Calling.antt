@@ -62,16 +62,19 @@ module _ {K V : Type 0} where
   -- nothing but the calls has changed: pairs have the numbers that they had
   calls_only : (same : K → K → Bool) (name : ℕ → List ℕ) (m m2 : Moment K V) (known : Known) (s : Scene K V) → AreSame m m2 → (calls2 : ℕ → ℕ → Option (UnderWay K V K)) → ShowsCalls same name m2 calls2
       → (shown : Shows same name m known s) → (after : Shows same name m2 known (record s { calls = calls2 })) × (after.number ≡ shown.number)
-  calls_only same name m m2 known s alike calls2 there shown = (record {
-    blocks = record {
-      roles = λ b. subst (λ (xs : List (K × V)). HasRole s.world xs b (known.roles b)) (sym alike.stored) (shown.blocks.roles b);
-      once = shown.blocks.once;
-      stored = shown.blocks.stored ∙ sym (ap length alike.stored);
-    };
-    number = shown.number;
-    maps = λ n st is. map_on n (shown.number n) st st m m2 known known (blocks_same st.chart st.blocks) (λ b lasting. refl) refl (tables_same st.chart) (pairs_same st.chart) (alike_same n m m2 alike) (shown.maps n st is);
-    calls = there;
-  }, refl)
+  calls_only same name m m2 known s alike calls2 there shown = (
+    record {
+      blocks = record {
+        roles = λ b. subst (λ (xs : List (K × V)). HasRole s.world xs b (known.roles b)) (sym alike.stored) (shown.blocks.roles b);
+        once = shown.blocks.once;
+        stored = shown.blocks.stored ∙ sym (ap length alike.stored);
+      };
+      number = shown.number;
+      maps = λ n st is. map_on n (shown.number n) st st m m2 known known (blocks_same st.chart st.blocks) (λ b lasting. refl) refl (tables_same st.chart) (pairs_same st.chart) (alike_same n m m2 alike) (shown.maps n st is);
+      calls = there;
+    },
+    refl,
+  )
 
   begins_calls : (same : K → K → Bool) (name : ℕ → List ℕ) (m : Moment K V) (calls : ℕ → ℕ → Option (UnderWay K V K)) → ShowsCalls same name m calls → (of i : ℕ) (u : UnderWay K V K) (call : Call K V) (guard : List ℕ)
       → ((n j : ℕ) (x : UnderWay K V K) → calls n j ≡ Some x → is_same (name i) (name j) ≡ false) → IsCalled same u call

@@ -134,7 +134,7 @@ module _ {K V : Type 0} (same : K → K → Bool) (slot caller map : ℕ) (name 
     still_leads : ((at : At) (old new : ℕ) → told ≡ changed.Wrote at old new → KeepsNames setting c seen_blocks at old new) → StaysTables c went.c2 → StaysPairs c went.c2 → Comes
     still_leads quiet tables pairs =
         let still = quiet_told same s.hash setting caller w s.chart seen_blocks m2 Told went is_map map m.stored known shown_blocks.roles shown_blocks.once
-            (tables_seen same slot caller map name number s lawful w sight is_sight is_map m2 Told went blocks2 grown sights2 m known shown shown_blocks) told left quiet in
+        (tables_seen same slot caller map name number s lawful w sight is_sight is_map m2 Told went blocks2 grown sights2 m known shown shown_blocks) told left quiet in
         (λ gives. stores_none w.memory (named_now told) name (Some map) (effects_of its known told) m still.still, λ st. quiet_leads (effects_of its known told) (known_after its told known) still tables pairs)
 
     module _ (seen : Seen (Node K V)) (as_told : (at : At) (old new : ℕ) → seen ≡ Wrote at old new → told ≡ changed.Wrote at old new)
@@ -304,8 +304,14 @@ module _ {K V : Type 0} (same : K → K → Bool) (slot caller map : ℕ) (name 
         replaced is wrote =
             as_said (place_at seen_blocks t i) held_word new told_so (Replaced (number n) ∷ Stored (known.stored + 1) spot ∷ []) (with_pair (block_in new) known)
             (place_says its known (s.blocks.table t) (table_of map t) (c.len t) (table_role t home within.0) held_word new apart (role.Pair (number n)) (role.OwnPair own.0) was_pair own.1 i within.1)
-            (λ gives. (tt, (subst (λ (b : ℕ). HasToStore w.memory b (acting name (with_effect name (Some map) (Replaced (number n)) m)) (known.stored + 1)) (sym names)
-            (gives.replaced one_more fresh n its_pair.0 current gone (values (place_at seen_blocks t i) held_word new told_so) (known.stored + 1)), tt)))
+            (λ gives. (
+              tt,
+              (
+                subst (λ (b : ℕ). HasToStore w.memory b (acting name (with_effect name (Some map) (Replaced (number n)) m)) (known.stored + 1)) (sym names)
+                    (gives.replaced one_more fresh n its_pair.0 current gone (values (place_at seen_blocks t i) held_word new told_so) (known.stored + 1)),
+                tt,
+              ),
+            ))
             (λ st. leads_replaced same slot caller map name number s lawful w sight is_sight is_map m2 Told went blocks2 grown sights2 m known shown shown_blocks (values (place_at seen_blocks t i) held_word new told_so)
             n its_pair.0 current one_more fresh (block_in new) names tables spot (may_stand map number s m known shown t i home within.0 within.1 root)
             others st.1.0)
@@ -349,8 +355,11 @@ module _ {K V : Type 0} (same : K → K → Bool) (slot caller map : ℕ) (name 
       stored t i k j home made within root i_is empty is wrote =
           as_said (place_at seen_blocks t i) 0 new told_so (Stored (known.stored + 1) spot ∷ []) (with_pair (block_in new) known)
           (place_says its known (s.blocks.table t) (table_of map t) (c.len t) (table_role t home made) 0 new apart role.Free (role.OwnPair own.0) free own.1 i within)
-          (λ gives. (subst (λ (b : ℕ). HasToStore w.memory b (acting name m) (known.stored + 1)) (sym names)
-          (gives.stored one_more fresh others (values (place_at seen_blocks t i) 0 new told_so) (known.stored + 1)), tt))
+          (λ gives. (
+            subst (λ (b : ℕ). HasToStore w.memory b (acting name m) (known.stored + 1)) (sym names)
+                (gives.stored one_more fresh others (values (place_at seen_blocks t i) 0 new told_so) (known.stored + 1)),
+            tt,
+          ))
           (λ st. leads_stored same slot caller map name number s lawful w sight is_sight is_map m2 Told went blocks2 grown sights2 m known shown shown_blocks (values (place_at seen_blocks t i) 0 new told_so)
           one_more fresh (block_in new) names tables spot (may_stand map number s m known shown t i home made within root) st.0 others)
         where

@@ -224,9 +224,12 @@ module _ {K V S : Type 0} (same : K → K → Bool) (hash : K → ℕ) (m : Mome
           stood_then : (n : ℕ) (st : Standing K) → s.maps n ≡ Some st → (after : Standing K) × (maps2 n ≡ Some after) × StoodOn st after
           stood_then n st is = elim (cases_eq n map) as (λ _. (after : Standing K) × (maps2 n ≡ Some after) × StoodOn st after) [
             | inl e ↦
-                let its_standing : standing ≡ st = one_of standing st (sym there ∙ ap s.maps (sym e) ∙ is) in
-                (moved_on, ap maps2 e ∙ map_is, subst (λ (x : Standing K). StoodOn x moved_on) its_standing
-                (record { setting = refl; stored = lasts.stored; past = lasts.past; first = lasts.first; tables = λ t l. (grown.tables t l).0 }))
+                let its_standing : standing ≡ st = one_of standing st (sym there ∙ ap s.maps (sym e) ∙ is) in (
+                  moved_on,
+                  ap maps2 e ∙ map_is,
+                  subst (λ (x : Standing K). StoodOn x moved_on) its_standing
+                      (record { setting = refl; stored = lasts.stored; past = lasts.past; first = lasts.first; tables = λ t l. (grown.tables t l).0 }),
+                )
             | inr ne ↦ (st, other_is n ne ∙ is, record { setting = refl; stored = omega arith; past = omega arith; first = omega arith; tables = λ t l. refl })
           ]
 

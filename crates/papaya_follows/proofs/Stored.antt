@@ -160,9 +160,9 @@ module _ {K V : Type 0} (same : K → K → Bool) (slot caller map : ℕ) (name 
         → (known.roles x ≡ put b (role.Pair (known.stored + 1)) known.roles x) ⊎ IsNew map c went.c2 went.blocks2 known x (put b (role.Pair (known.stored + 1)) known.roles x)
     back_stored x of = elim (cases_eq x b)
         as (λ _. (known.roles x ≡ put b (role.Pair (known.stored + 1)) known.roles x) ⊎ IsNew map c went.c2 went.blocks2 known x (put b (role.Pair (known.stored + 1)) known.roles x)) [
-      | inl e ↦ inr (subst (IsNew map c went.c2 went.blocks2 known x) (sym (put_here b (role.Pair (known.stored + 1)) known.roles x e)) refl)
-      | inr ne ↦ inl (sym (put_elsewhere b (role.Pair (known.stored + 1)) known.roles x ne))
-    ]
+          | inl e ↦ inr (subst (IsNew map c went.c2 went.blocks2 known x) (sym (put_here b (role.Pair (known.stored + 1)) known.roles x e)) refl)
+          | inr ne ↦ inl (sym (put_elsewhere b (role.Pair (known.stored + 1)) known.roles x ne))
+        ]
 
     abbrev roles_then : ℕ → Role
     roles_then = put b (role.Pair (known.stored + 1)) known.roles

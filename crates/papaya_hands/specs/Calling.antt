@@ -1,8 +1,7 @@
 -- Calls between their steps, with what they were told: where one begins, is told a reply, or has come to an outcome.
-use Rattle.std.specs.Prelude.{◌≡◌, ℕ, Bool, true, List, [], Option, Some, Result, Ok}
+use Rattle.std.specs.Prelude.{◌≡◌, ℕ, Bool, true, List, [], Option, Some, Ok}
 use Rattle.papaya_runs.specs.Same.{is_same}
 use Rattle.papaya_raw.specs.Machine.{machine_replied}
-use Rattle.papaya_raw.specs.declared.machines.asking.Reply.{Reply as MachineReply}
 use Rattle.papaya_schedules.specs.declared.call.Call.{Call}
 use Rattle.papaya_schedules.specs.declared.call.Call.TheVariants.{On}
 use Rattle.papaya_schedules.specs.declared.call.Reply.{Reply}

@@ -1,5 +1,5 @@
 -- Where a step of a call leads: the moment after its effects shows the scene after it, and what its calls were told, with no condition on what it stores.
-use Rattle.std.specs.Prelude.{◌≡◌, ℕ, Bool, List, Option, Some}
+use Rattle.std.specs.Prelude.{◌≡◌, ℕ, Bool, List, Some}
 use Rattle.papaya_tables.specs.declared.node.Node.{Node}
 use Rattle.papaya_raw.specs.declared.machines.progress.Progress.{Progress}
 use Rattle.papaya_schedules.specs.Effects.{with_effects, AtEachEffect}
