@@ -6,6 +6,7 @@ pub mod Replacing
 pub mod Asking
 pub mod AskedOn
 pub mod Steps
+pub mod Taking
 pub mod RowSteps
 pub mod Calling
 pub mod Beginning

@@ -17,17 +17,19 @@ use Rattle.papaya_executor.specs.Stepping.{StepLeads}
 use Rattle.papaya_executor.specs.declared.executor.Executor.{Executor}
 use Rattle.papaya_follows.specs.Blocks.{HasRole}
 use Rattle.papaya_follows.specs.Shows.{Shows}
-use Rattle.papaya_follows.specs.Steps.{HandTheirs}
+use Rattle.papaya_follows.specs.Steps.{HandTheirs, TakesNone}
 use Rattle.papaya_follows.proofs.Onward.{IsLasting}
 use Rattle.papaya_follows.proofs.Operations.{LeavesBy, operated_leaves}
 use Rattle.papaya_follows.proofs.RowSteps.{row_step_shown}
 use Rattle.papaya_follows.proofs.Steps.{WentTo, went_to, made_so, DidSo, OfNoRow, LeadsThere}
 use Rattle.papaya_hands.specs.Hands.{IsInUse, ShowsHands}
 use Rattle.papaya_hands.specs.Steps.{RowsHandTheirs}
+use Rattle.papaya_hands.specs.Taking.{IsToTake}
 use Rattle.papaya_hands.proofs.AskedOn.{asked_on}
 use Rattle.papaya_hands.proofs.HandTheirs.{hands_out, all_left, used_on}
 use Rattle.papaya_hands.proofs.HandsOn.{used_as, hands_on}
 use Rattle.papaya_hands.proofs.Spares.{handing}
+use Rattle.papaya_hands.proofs.Taking.{takes_none}
 
 module _ {K V S : Type 0} (same : K → K → Bool) (hash : K → ℕ) (name : ℕ → List ℕ) (m : Moment K V) (known : Known) (s : Scene K V) (old new : Executor K V S) (at : IsAt same hash old s)
     (shown : Shows same name m known s) (map i : ℕ) (u : UnderWay K V K) (here : s.calls map i ≡ Some u) (told : Progress (Node K V)) (leads : StepLeads same hash i told s old new)
@@ -57,14 +59,21 @@ module _ {K V S : Type 0} (same : K → K → Bool) (hash : K → ℕ) (name : �
       by (OverAll x) (p2, end, machine_is, told_is, inl step) other = absurd (other tt)
       by (OverAll x) (p2, end, machine_is, told_is, inr (row, stayed)) other = (row.step.w2, (row.step.memory, row.step.happened, stayed.0))
 
+  its_left : (other : NoRow u to.4.did → ⊥) → LeavesBy s.world.memory (row_step other).0.memory new.memory.changed
+  its_left other =
+      subst (λ (n : Mem (Node K V)). LeavesBy s.world.memory n new.memory.changed) (sym (row_step other).1.0)
+      (operated_leaves s.world.memory new.memory.memory new.memory.changed (made_so same hash name m known s old new at shown map i u here told leads))
+
+  -- it takes no block away, unless its row is to take one
+  pub takes_theirs : (NoRow u to.4.did → ⊥) → (IsToTake (s.world.row i) → ⊥) → TakesNone new.memory.changed
+  takes_theirs other never = let row = row_step other in takes_none to.0.setting i s.world row.0 each.ground.came never row.1.1 new.memory.changed (its_left other)
+
   -- what it hands over has left its map
   pub hands_theirs : (NoRow u to.4.did → ⊥) → HandTheirs (name i) map (effects_of (acts.Call i map) known new.memory.changed) m
   hands_theirs other =
       let row = row_step other in
       all_left (name i) i map m known s hands row.0
-      (hands_out to.0.setting i s.world row.0 each.ground.came (handing same to.0 s.world (s.calls map) each i u here) row.1.1) new.memory.changed
-      (subst (λ (n : Mem (Node K V)). LeavesBy s.world.memory n new.memory.changed) (sym row.1.0)
-      (operated_leaves s.world.memory new.memory.memory new.memory.changed (made_so same hash name m known s old new at shown map i u here told leads)))
+      (hands_out to.0.setting i s.world row.0 each.ground.came (handing same to.0 s.world (s.calls map) each i u here) row.1.1) new.memory.changed (its_left other)
 
   module _ (other : NoRow u to.4.did → ⊥) (on : LeadsThere same hash name m known s old new at shown map i u here told leads) where
     -- a block that was linked, and is there, is in use where it was
@@ -86,13 +95,16 @@ pub rows_hand_theirs : (K V S : Type 0) (same : K → K → Bool) (hash : K → 
 rows_hand_theirs K V S same hash name m known s old new at all map i u here told leads other =
     let theirs = hands_theirs same hash name m known s old new at all.shown map i u here told leads all.hands other in (
       theirs,
-      λ none.
+      λ never.
+          let none = takes_theirs same hash name m known s old new at all.shown map i u here told leads all.hands other never in
           let on = row_step_shown same hash name m known s old new at all.shown map i u here told leads other none theirs in
-          let to = went_to same hash name m known s old new at all.shown map i u here told leads in
-          record {
-            shown = on.shows;
-            asked = asked_on same hash name m known s old new at all.shown map i u here told leads all.asked on;
-            hands = hands_on same hash name m known s all.shown all.hands _ _ _ on new to.5 (pairs_then same hash name m known s old new at all.shown map i u here told leads all.hands other on)
-                (tables_then same hash name m known s old new at all.shown map i u here told leads all.hands other on);
-          },
+          let to = went_to same hash name m known s old new at all.shown map i u here told leads in (
+            none,
+            record {
+              shown = on.shows;
+              asked = asked_on same hash name m known s old new at all.shown map i u here told leads all.asked on;
+              hands = hands_on same hash name m known s all.shown all.hands _ _ _ on new to.5 (pairs_then same hash name m known s old new at all.shown map i u here told leads all.hands other on)
+                  (tables_then same hash name m known s old new at all.shown map i u here told leads all.hands other on);
+            },
+          ),
     )
