@@ -48,7 +48,7 @@ stored_no_more None n stored = (refl, refl)
 stored_no_more (Some c) n stored = (refl, refl)
 
 -- a pair that is in the map of a number is there
-in_map_true : (a : ℕ) (p : Place) → is_in_map a p ≡ true → p ≡ InMap a
+pub in_map_true : (a : ℕ) (p : Place) → is_in_map a p ≡ true → p ≡ InMap a
 in_map_true a (InMap b) e = ap InMap (grind (arith, e))
 in_map_true a Unborn e = absurd (cc e)
 in_map_true a Out e = absurd (cc e)
