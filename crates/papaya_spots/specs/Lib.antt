@@ -1,0 +1,4 @@
+pub mod Spots
+pub mod Unreclaimed
+pub mod Placed
+pub mod Steps

@@ -1,0 +1,19 @@
+//! What is promised of a moment of a run, by the scene of the executor that it shows: where the pairs of maps lie, and which blocks are not reclaimed.
+ghost use Rattle.std.specs.Prelude.{ℕ, Bool};
+ghost use Rattle.papaya_spots.specs.Steps.{PlacesBegin, BlocksBegin, CallsLeavePlaces, CallsKeepPlaces, CallsKeepBlocks};
+
+/// The pairs of each map that stands lie, at a moment of a run, where the tables of the map name them: each in the last table that does, in incremental
+/// mode, and in the root, in blocking mode, with its newest copy where the table behind the root has it. Nothing lies anywhere at first, and each step of a
+/// call leads on from there, whether it is one of a row of the collector or none.
+pub fn moments_show_places<K, V, S>()
+    ensures begins { PlacesBegin K V }
+    ensures calls { (same : K → K → Bool) (hash : K → ℕ) → CallsKeepPlaces K V S same hash }
+    ensures left { CallsLeavePlaces K V }
+{}
+
+/// The blocks of pairs and tables of maps are those of the pairs that were stored, and the tables that were linked, and that no moment calls reclaimed. So it
+/// is at first, and each step of a call leads on from there, where a row of the collector takes no block away.
+pub fn blocks_are_unreclaimed<K, V, S>()
+    ensures begins { BlocksBegin K V }
+    ensures calls { (same : K → K → Bool) (hash : K → ℕ) → CallsKeepBlocks K V S same hash }
+{}
