@@ -9,7 +9,8 @@ use Rattle.papaya_tables.specs.Chunks.{is_incremental}
 use Rattle.papaya_tables.specs.declared.node.Node.{Node}
 use Rattle.papaya_tables.specs.declared.table_words.TheConstants.{PLACES}
 use Rattle.papaya_schedules.specs.declared.effect.Effect.{Effect}
-use Rattle.papaya_schedules.specs.declared.effect.Effect.TheVariants.{Stored, Replaced, Copied}
+use Rattle.papaya_schedules.specs.declared.effect.Effect.TheVariants.{Asked, Stored, Replaced, Copied}
+use Rattle.papaya_schedules.specs.declared.effect.Growth.TheVariants.{ABucket}
 use Rattle.papaya_schedules.specs.declared.effect.Spot.{Spot}
 use Rattle.papaya_schedules.specs.Lists.{numbers_from}
 use Rattle.papaya_schedules.specs.Lives.{has_pair_at, MayCopy}
@@ -18,6 +19,7 @@ use Rattle.papaya_schedules.specs.Moment.{Place, InMap, GivenBack, Stage, TableT
 use Rattle.papaya_schedules.specs.Things.{same_table, same_spot}
 use Rattle.papaya_schedules.specs.Views.{is_in_map, is_there, is_linked, first_of, tables_of, is_stage, is_place}
 use Rattle.papaya_teller.specs.declared.changed.Changed.{Changed}
+use Rattle.papaya_teller.specs.declared.changed.Changed.TheVariants as changed
 use Rattle.papaya_rule.specs.Chart.{Phase, Still, Copying, Empty, Holds, Chart}
 use Rattle.papaya_rule.specs.Moments.{Moments}
 use Rattle.papaya_rule.specs.Rule.{Rule}
@@ -40,7 +42,7 @@ use Rattle.papaya_follows.specs.Maps.{table_of, shape_at, tables_to, ShowsMap}
 use Rattle.papaya_follows.proofs.Alike.{AllCalm}
 use Rattle.papaya_follows.proofs.Finds.{first_is, chunks_are, same_one, among, may_stand}
 use Rattle.papaya_follows.proofs.Operations.{LeavesBy}
-use Rattle.papaya_follows.proofs.Rows.{HandsOn, IsStill, Puts as PutsBehind, Retires}
+use Rattle.papaya_follows.proofs.Rows.{HandsOn, IsStill, Puts as PutsBehind, Retires, RowLeaves, row_written}
 use Rattle.papaya_follows.proofs.Stored.{in_map_true, still_current}
 use Rattle.papaya_spots.specs.Placed.{FindPlaces}
 use Rattle.papaya_spots.specs.Spots.{ThePair, named_by, spot_in, LiesAt, ShowsSpots}
@@ -289,3 +291,18 @@ module _ {K V : Type 0} (same : K → K → Bool) (slot caller map : ℕ) (name 
       by : (moved : Moved same s.hash s.setting.mode caller c went.c2) → DidMoved same slot caller map name number s lawful w sight is_sight is_map m2 Told went blocks2 grown sights2 m known shown shown_blocks told left moved → Finds
       by (inl still) calm = calm_finds map m effects calm.calm
       by (inr made) did = by_move made.0 made.1 did
+
+-- a row finds nothing there
+module _ {K V : Type 0} (caller map : ℕ) (m : Moment K V) (known : Known) (w w2 : World (Node K V)) (shown : ShowsBlocks m known w) (leaves : RowLeaves w w2) where
+  pub row_finds : (told : Changed) → LeavesBy w.memory w2.memory told → FindPlaces map m (effects_of (Call caller map) known told)
+  row_finds changed.Nothing left = tt
+  row_finds (changed.Wrote at old new) left =
+      hands_find map m (effects_of (Call caller map) known (changed.Wrote at old new)) (row_written caller map m.stored known w w2 shown.roles leaves left.2 at old new left.0 left.1).0
+  row_finds (changed.Made k b) left = absurd (let gone = leaves.none b left.0 in let there = left.3 in cc (gone, there))
+  row_finds (changed.Unmade k) left = tt
+  row_finds (changed.Took b) left = taken_finds caller map m (known.roles b)
+  row_finds (changed.Roomed bucket had) left = roomed (nat_lt bucket known.buckets)
+    where
+      roomed : (q : Bool) → FindPlaces map m (if q then [] else Asked ABucket ∷ [])
+      roomed true = tt
+      roomed false = tt

@@ -150,10 +150,10 @@ module _ {K V : Type 0} (caller map : ℕ) (name : Option (List ℕ)) (m : Momen
 
   -- and where they are handed over
   hands_hold : (effects : List Effect) → HandsOn effects → HaveBlocks known effects → AsUnreclaimed m (with_effects name (Some map) effects m)
-  hands_hold effects (IsStill still all) blocks = as_same m (with_effects name (Some map) still m) (still_all name map still m (calm_still still all))
-  hands_hold effects (PutsBehind n t) blocks = let it = blocks.0 in moved_unreclaimed m (with_effects name (Some map) (Deferred n t ∷ []) m) n Behind refl refl (h.pairs it.0 n it.1) refl
-  hands_hold effects (Retires (APair n)) blocks = let it = blocks.0 in moved_unreclaimed m (with_effects name (Some map) (Retired (APair n) ∷ []) m) n Handed refl refl (h.pairs it.0 n it.1) refl
-  hands_hold effects (Retires (ATable t)) blocks = let it = blocks.0 in retired_unreclaimed m (with_effects name (Some map) (Retired (ATable t) ∷ []) m) t refl refl (h.tables it.0 it.1 t it.2)
+  hands_hold _ (IsStill still all) blocks = as_same m (with_effects name (Some map) still m) (still_all name map still m (calm_still still all))
+  hands_hold _ (PutsBehind n t) blocks = let it = blocks.0 in moved_unreclaimed m (with_effects name (Some map) (Deferred n t ∷ []) m) n Behind refl refl (h.pairs it.0 n it.1) refl
+  hands_hold _ (Retires (APair n)) blocks = let it = blocks.0 in moved_unreclaimed m (with_effects name (Some map) (Retired (APair n) ∷ []) m) n Handed refl refl (h.pairs it.0 n it.1) refl
+  hands_hold _ (Retires (ATable t)) blocks = let it = blocks.0 in retired_unreclaimed m (with_effects name (Some map) (Retired (ATable t) ∷ []) m) t refl refl (h.tables it.0 it.1 t it.2)
 
   module _ (w w2 : World (Node K V)) (shown : ShowsBlocks m known w) (leaves : RowLeaves w w2) where
     abbrev its : Acting

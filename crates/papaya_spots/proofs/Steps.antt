@@ -51,6 +51,7 @@ use Rattle.papaya_follows.proofs.Nowhere.{went_nowhere}
 use Rattle.papaya_follows.proofs.Operations.{LeavesBy, Operated, operated, operated_leaves, seen_write, told_write}
 use Rattle.papaya_follows.proofs.Rows.{one_step_leaves}
 use Rattle.papaya_follows.proofs.Steps.{one_of}
+use Rattle.papaya_spots.specs.Placed.{FindPlaces, CallsFindPlaces}
 use Rattle.papaya_spots.specs.Spots.{spot_in, ShowsSpots, ShowsPlaces}
 use Rattle.papaya_spots.specs.Steps.{CallsKeepPlaces, CallsKeepBlocks}
 use Rattle.papaya_spots.specs.Unreclaimed.{ShowsUnreclaimed}
@@ -58,6 +59,7 @@ use Rattle.papaya_spots.proofs.Calm.{IsOfMap, IsCalm, calm_done}
 use Rattle.papaya_spots.proofs.Done.{DidMoved, did_moved}
 use Rattle.papaya_spots.proofs.Effects.{calm_aside}
 use Rattle.papaya_spots.proofs.Elsewhere.{Leaves, moved_leaves, other_lies, stored_grows}
+use Rattle.papaya_spots.proofs.Finding.{calm_finds, moved_finds, row_finds}
 use Rattle.papaya_spots.proofs.Holding.{moved_holds, calm_holds, row_holds}
 use Rattle.papaya_spots.proofs.Own.{own_lies}
 use Rattle.papaya_spots.proofs.Rows.{row_aside}
@@ -163,6 +165,10 @@ module _ {K V S : Type 0} (same : K → K → Bool) (hash : K → ℕ) (m : Mome
       pub moved_blocks : ShowsUnreclaimed m known → ShowsUnreclaimed v known2
       moved_blocks h = moved_holds same (slot_of i) i map (Some caller) (shown.number map) standing lawful w sight is_sight is_map m2 (λ w2 c2 blocks2. Unit {0}) went blocks2 grown sights2 m known is_shown shown.blocks told left h did
 
+      pub moved_finds_places : ShowsPlaces m known s.maps → ShowsUnreclaimed m known → FindPlaces map m effects
+      moved_finds_places lying held = moved_finds same (slot_of i) i map (Some caller) (shown.number map) standing lawful w sight is_sight is_map m2 (λ w2 c2 blocks2. Unit {0}) went blocks2 grown sights2 m known is_shown shown.blocks
+          (together map standing there).ground.moments (lying.each map standing there) held (current_there map standing there) told left did
+
       -- where pairs lie
       module _ (lying : ShowsPlaces m known s.maps) where
         own : ShowsSpots moved_on v known2
@@ -191,6 +197,11 @@ module _ {K V S : Type 0} (same : K → K → Bool) (hash : K → ℕ) (m : Mome
         (subst (λ (n : Mem (Node K V)). LeavesBy w.memory n told) (sym memory) left) in
         places_stay (Some caller) (Some map) effects m known known2 s.maps maps2 aside.0 aside.1 maps_same lying
 
+    pub row_finds_places : (w2 : World (Node K V)) → w2.memory ≡ m2 → IsOneStep standing.setting i w w2 → FindPlaces map m effects
+    row_finds_places w2 memory happened =
+        row_finds i map m known w w2 shown.blocks (one_step_leaves standing.setting i w w2 (together map standing there).ground.came happened) told
+        (subst (λ (n : Mem (Node K V)). LeavesBy w.memory n told) (sym memory) left)
+
     pub row_blocks : (w2 : World (Node K V)) → w2.memory ≡ m2 → IsOneStep standing.setting i w w2 → TakesNone told → ShowsUnreclaimed m known → ShowsUnreclaimed v known2
     row_blocks w2 memory happened none h =
         row_holds i map (Some caller) m known h w w2 shown.blocks (one_step_leaves standing.setting i w w2 (together map standing there).ground.came happened) told
@@ -214,17 +225,17 @@ module _ {K V S : Type 0} (same : K → K → Bool) (hash : K → ℕ) (m : Mome
       keeps_names (Entry b field) x y e = tt
       keeps_names (Word b field) x y e = λ t l known is. (λ next. e, λ place l is. ap block_in e)
 
-      calm : IsCalm known effects known2
-      calm = calm_done same standing.hash setting i w standing.chart (seen_by standing.blocks sight) m2 (λ w2 c2 blocks2. Unit {0}) stayed is_map map m.stored known
+      pub stayed_calm : IsCalm known effects known2
+      stayed_calm = calm_done same standing.hash setting i w standing.chart (seen_by standing.blocks sight) m2 (λ w2 c2 blocks2. Unit {0}) stayed is_map map m.stored known
           shown.blocks.roles shown.blocks.once (λ t l seen. is_shown.tables.roles t l (is_sight.tables t l seen)) told left (λ at x y e. keeps_names at x y (same_word at x y e))
 
       pub stayed_places : (lying : ShowsPlaces m known s.maps) (maps2 : ℕ → Option (Standing K)) → ((n : ℕ) → IsSameMap (s.maps n) (maps2 n)) → ShowsPlaces v known2 maps2
       stayed_places lying maps2 maps_same =
-          places_stay (Some caller) (Some map) effects m known known2 s.maps maps2 (calm_aside effects calm.calm)
-          (λ b k is. sym (calm.back b (subst IsOfMap (sym is) tt)) ∙ is) maps_same lying
+          places_stay (Some caller) (Some map) effects m known known2 s.maps maps2 (calm_aside effects stayed_calm.calm)
+          (λ b k is. sym (stayed_calm.back b (subst IsOfMap (sym is) tt)) ∙ is) maps_same lying
 
       pub stayed_blocks : ShowsUnreclaimed m known → ShowsUnreclaimed v known2
-      stayed_blocks h = calm_holds i map (Some caller) m known h effects known2 calm
+      stayed_blocks h = calm_holds i map (Some caller) m known h effects known2 stayed_calm
 
 module _ (K V S : Type 0) (same : K → K → Bool) (hash : K → ℕ) where
   pub calls_keep_places : CallsKeepPlaces K V S same hash
@@ -255,8 +266,8 @@ module _ (K V S : Type 0) (same : K → K → Bool) (hash : K → ℕ) where
           moved_places same hash m known s old new at name shown map i to.0 to.2 (name i) made inside _ step.step.went step.step.blocks2 step.step.grown step.step.sights2 lying to.4.maps2 moved.1
       by (ForRoom x) has (p2, end, machine_is, told_is, inr (row, stayed)) =
           row_places same hash m known s old new at name shown map i to.0 to.2 (name i) made inside lying row.step.w2 row.step.memory row.step.happened to.4.maps2 stayed.1
-      by (Counting x) has (p2, end, machine_is, told_is, still, stayed) =
-          stayed_places same hash m known s old new at name shown map i to.0 to.2 (name i) made inside still lying to.4.maps2 stayed.1
+      by (Counting x) has (p2, end, machine_is, told_is, still, was) =
+          stayed_places same hash m known s old new at name shown map i to.0 to.2 (name i) made inside still lying to.4.maps2 was.1
       by (OverAll x) has (p2, end, machine_is, told_is, inl (step, moved)) =
           moved_places same hash m known s old new at name shown map i to.0 to.2 (name i) made inside _ step.step.went step.step.blocks2 step.step.grown step.step.sights2 lying to.4.maps2 moved.1
       by (OverAll x) has (p2, end, machine_is, told_is, inr (row, stayed)) =
@@ -285,15 +296,51 @@ module _ (K V S : Type 0) (same : K → K → Bool) (hash : K → ℕ) where
           → ((IsOfNoRow same old.batch_size old.roots s.world s.maps s.calls s.makers s.enders map to.0 i new.memory.memory to.4.w2 to.4.maps2 to.4.next x to.1 told did → ⊥) → TakesNone new.memory.changed) → Goal
       by (OnKey x) has (p2, end, machine_is, told_is, inl (step, moved)) none =
           moved_blocks same hash m known s old new at name shown map i to.0 to.2 (name i) made inside _ step.step.went step.step.blocks2 step.step.grown step.step.sights2 held
-      by (OnKey x) has (p2, end, machine_is, told_is, inr (row, stayed)) none =
+      by (OnKey x) has (p2, end, machine_is, told_is, inr (row, was)) none =
           row_blocks same hash m known s old new at name shown map i to.0 to.2 (name i) made inside row.step.w2 row.step.memory row.step.happened (none (λ no. no)) held
       by (ForRoom x) has (p2, end, machine_is, told_is, inl (step, moved)) none =
           moved_blocks same hash m known s old new at name shown map i to.0 to.2 (name i) made inside _ step.step.went step.step.blocks2 step.step.grown step.step.sights2 held
-      by (ForRoom x) has (p2, end, machine_is, told_is, inr (row, stayed)) none =
+      by (ForRoom x) has (p2, end, machine_is, told_is, inr (row, was)) none =
           row_blocks same hash m known s old new at name shown map i to.0 to.2 (name i) made inside row.step.w2 row.step.memory row.step.happened (none (λ no. no)) held
-      by (Counting x) has (p2, end, machine_is, told_is, still, stayed) none =
+      by (Counting x) has (p2, end, machine_is, told_is, still, was) none =
           stayed_blocks same hash m known s old new at name shown map i to.0 to.2 (name i) made inside still held
       by (OverAll x) has (p2, end, machine_is, told_is, inl (step, moved)) none =
           moved_blocks same hash m known s old new at name shown map i to.0 to.2 (name i) made inside _ step.step.went step.step.blocks2 step.step.grown step.step.sights2 held
-      by (OverAll x) has (p2, end, machine_is, told_is, inr (row, stayed)) none =
+      by (OverAll x) has (p2, end, machine_is, told_is, inr (row, was)) none =
           row_blocks same hash m known s old new at name shown map i to.0 to.2 (name i) made inside row.step.w2 row.step.memory row.step.happened (none (λ no. no)) held
+
+  pub calls_find_places : CallsFindPlaces K V S same hash
+  calls_find_places name m known s old new at shown lying held map i u here told leads = by u here to.4.did
+    where
+      to : (standing : Standing K) × (machine : Machine K V K) × (s.maps map ≡ Some standing) × StepsFrom same hash (machine_of u) old new machine told
+          × (did : MachineStepsAmong V same same old.batch_size old.roots slot_of s.world s.maps s.calls s.makers s.enders map standing i new.memory.memory u machine told)
+          × IsAt same hash new (scene_after same hash s old new map i standing u machine told did)
+      to = leads map u here
+
+      made : Operated s.world.memory new.memory.memory new.memory.changed
+      made = subst (λ (x : Mem (Node K V)). Operated x new.memory.memory new.memory.changed) (sym at.memory)
+          (operated old.memory.memory new.memory.memory new.memory.changed (machine_plan same same hash (machine_of u)) (to.1, told) (may_step same hash old s at map i u here) to.3)
+
+      Goal : Type 0
+      Goal = FindPlaces map m (effects_of (Call i map) known new.memory.changed)
+
+      inside : IsInside (s.world.uses (slot_of i))
+      inside = (at.together.makings.standing.each map to.0 to.2).inside i u here
+
+      by : (x : UnderWay K V K) → s.calls map i ≡ Some x
+          → (did : Did same old.batch_size old.roots s.world s.maps s.calls s.makers s.enders map to.0 i new.memory.memory to.4.w2 to.4.maps2 to.4.next x to.1 told) → Goal
+      by (OnKey x) has (p2, end, machine_is, told_is, inl (step, moved)) =
+          moved_finds_places same hash m known s old new at name shown map i to.0 to.2 (name i) made inside _ step.step.went step.step.blocks2 step.step.grown step.step.sights2 lying held
+      by (OnKey x) has (p2, end, machine_is, told_is, inr (row, stayed)) =
+          row_finds_places same hash m known s old new at name shown map i to.0 to.2 (name i) made inside row.step.w2 row.step.memory row.step.happened
+      by (ForRoom x) has (p2, end, machine_is, told_is, inl (step, moved)) =
+          moved_finds_places same hash m known s old new at name shown map i to.0 to.2 (name i) made inside _ step.step.went step.step.blocks2 step.step.grown step.step.sights2 lying held
+      by (ForRoom x) has (p2, end, machine_is, told_is, inr (row, stayed)) =
+          row_finds_places same hash m known s old new at name shown map i to.0 to.2 (name i) made inside row.step.w2 row.step.memory row.step.happened
+      by (Counting x) has (p2, end, machine_is, told_is, still, was) =
+          calm_finds map m (effects_of (Call i map) known new.memory.changed)
+          (stayed_calm same hash m known s old new at name shown map i to.0 to.2 (name i) made inside still).calm
+      by (OverAll x) has (p2, end, machine_is, told_is, inl (step, moved)) =
+          moved_finds_places same hash m known s old new at name shown map i to.0 to.2 (name i) made inside _ step.step.went step.step.blocks2 step.step.grown step.step.sights2 lying held
+      by (OverAll x) has (p2, end, machine_is, told_is, inr (row, stayed)) =
+          row_finds_places same hash m known s old new at name shown map i to.0 to.2 (name i) made inside row.step.w2 row.step.memory row.step.happened
