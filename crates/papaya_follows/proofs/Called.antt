@@ -31,7 +31,7 @@ module _ {K V : Type 0} where
   some_is x y e = cc e
 
   -- what goes on is the call
-  key_goes_on : (u : CallOnKey K V K) (end : Called (Node K V)) (x : UnderWay K V K) → next_of u end ≡ Some x → x ≡ OnKey u
+  pub key_goes_on : (u : CallOnKey K V K) (end : Called (Node K V)) (x : UnderWay K V K) → next_of u end ≡ Some x → x ≡ OnKey u
   key_goes_on u called.Goes x e = some_is (OnKey u) x e
   key_goes_on u called.Waits x e = some_is (OnKey u) x e
   key_goes_on u (called.Gave value) x e = some_is (OnKey u) x e
@@ -40,20 +40,20 @@ module _ {K V : Type 0} where
   key_goes_on u (called.Done answer) x e = absurd (cc e)
   key_goes_on u (called.Refused fault) x e = absurd (cc e)
 
-  room_goes_on : (r : CallForRoom) (end : Outcome (Node K V) Unit) (x : UnderWay K V K) → next_for_room r end ≡ Some x → x ≡ ForRoom r
+  pub room_goes_on : (r : CallForRoom) (end : Outcome (Node K V) Unit) (x : UnderWay K V K) → next_for_room r end ≡ Some x → x ≡ ForRoom r
   room_goes_on r outcome.Goes x e = some_is (ForRoom r) x e
   room_goes_on r outcome.Waits x e = some_is (ForRoom r) x e
   room_goes_on r (outcome.Gave value) x e = some_is (ForRoom r) x e
   room_goes_on r (outcome.Done answer) x e = absurd (cc e)
   room_goes_on r (outcome.Refused fault) x e = absurd (cc e)
 
-  counting_goes_on : (sum : Sum) (end : Counted ℕ) (x : UnderWay K V K) → next_of_counting sum end ≡ Some x → x ≡ Counting sum
+  pub counting_goes_on : (sum : Sum) (end : Counted ℕ) (x : UnderWay K V K) → next_of_counting sum end ≡ Some x → x ≡ Counting sum
   counting_goes_on sum counted.Goes x e = some_is (Counting sum) x e
   counting_goes_on sum counted.Waits x e = some_is (Counting sum) x e
   counting_goes_on sum (counted.Done count) x e = absurd (cc e)
   counting_goes_on sum (counted.Refused fault) x e = absurd (cc e)
 
-  sweep_goes_on : (o : CallOverAll) (end : Swept (Node K V)) (x : UnderWay K V K) → next_over_all o end ≡ Some x → x ≡ OverAll o
+  pub sweep_goes_on : (o : CallOverAll) (end : Swept (Node K V)) (x : UnderWay K V K) → next_over_all o end ≡ Some x → x ≡ OverAll o
   sweep_goes_on o swept.Goes x e = some_is (OverAll o) x e
   sweep_goes_on o swept.Waits x e = some_is (OverAll o) x e
   sweep_goes_on o (swept.Gave value) x e = some_is (OverAll o) x e

@@ -23,7 +23,7 @@ use Rattle.papaya_effects.specs.Known.{Known}
 use Rattle.papaya_executor.specs.IsAt.{Scene, slot_of}
 use Rattle.papaya_follows.specs.Blocks.{HasRole}
 use Rattle.papaya_follows.specs.Calls.{IsCalled, ShowsCalls}
-use Rattle.papaya_follows.specs.Calling.{told, come_to, CallsBegin, CallsAreTold, CallsComeTo}
+use Rattle.papaya_follows.specs.Calling.{NoneNamed, told, come_to, CallsBegin, CallsAreTold, CallsComeTo}
 use Rattle.papaya_follows.specs.Shows.{Shows}
 use Rattle.papaya_follows.proofs.Alike.{AreSame, alike_same}
 use Rattle.papaya_follows.proofs.Called.{some_is, called_as, key_called, sweep_called}
@@ -32,7 +32,7 @@ use Rattle.papaya_follows.proofs.Onward.{tables_same, pairs_same, blocks_same, m
 
 -- names
 
-is_same_refl : (l : List ℕ) → is_same l l ≡ true
+pub is_same_refl : (l : List ℕ) → is_same l l ≡ true
 is_same_refl [] = refl
 is_same_refl (a ∷ l) = ap (λ q. q && is_same l l) (eq-eqb a a refl) ∙ is_same_refl l
 
@@ -43,7 +43,7 @@ both false q e = absurd (cc e)
 number_is : (a b : ℕ) → (a == b) ≡ true → a ≡ b
 number_is a b e = grind (arith, e)
 
-is_same_is : (a b : List ℕ) → is_same a b ≡ true → a ≡ b
+pub is_same_is : (a b : List ℕ) → is_same a b ≡ true → a ≡ b
 is_same_is [] [] e = refl
 is_same_is [] (b ∷ ys) e = absurd (cc e)
 is_same_is (a ∷ xs) [] e = absurd (cc e)
@@ -51,7 +51,7 @@ is_same_is (a ∷ xs) (b ∷ ys) e =
     let two = both (a == b) (is_same xs ys) e in ap (λ x. x ∷ xs) (number_is a b two.0) ∙ ap (λ l. b ∷ l) (is_same_is xs ys two.1)
 
 -- other names are other names either way
-apart_back : (a b : List ℕ) → is_same a b ≡ false → is_same b a ≡ false
+pub apart_back : (a b : List ℕ) → is_same a b ≡ false → is_same b a ≡ false
 apart_back a b e = by (is_same b a) refl
   where
     by : (q : Bool) → is_same b a ≡ q → is_same b a ≡ false
@@ -59,19 +59,22 @@ apart_back a b e = by (is_same b a) refl
     by false f = f
 
 module _ {K V : Type 0} where
-  -- nothing but the calls has changed
+  -- nothing but the calls has changed: pairs have the numbers that they had
   calls_only : (same : K → K → Bool) (name : ℕ → List ℕ) (m m2 : Moment K V) (known : Known) (s : Scene K V) → AreSame m m2 → (calls2 : ℕ → ℕ → Option (UnderWay K V K)) → ShowsCalls same name m2 calls2
-      → Shows same name m known s → Shows same name m2 known (record s { calls = calls2 })
-  calls_only same name m m2 known s alike calls2 there shown = record {
-    blocks = record {
-      roles = λ b. subst (λ (xs : List (K × V)). HasRole s.world xs b (known.roles b)) (sym alike.stored) (shown.blocks.roles b);
-      once = shown.blocks.once;
-      stored = shown.blocks.stored ∙ sym (ap length alike.stored);
-    };
-    number = shown.number;
-    maps = λ n st is. map_on n (shown.number n) st st m m2 known known (blocks_same st.chart st.blocks) (λ b lasting. refl) refl (tables_same st.chart) (pairs_same st.chart) (alike_same n m m2 alike) (shown.maps n st is);
-    calls = there;
-  }
+      → (shown : Shows same name m known s) → (after : Shows same name m2 known (record s { calls = calls2 })) × (after.number ≡ shown.number)
+  calls_only same name m m2 known s alike calls2 there shown = (
+    record {
+      blocks = record {
+        roles = λ b. subst (λ (xs : List (K × V)). HasRole s.world xs b (known.roles b)) (sym alike.stored) (shown.blocks.roles b);
+        once = shown.blocks.once;
+        stored = shown.blocks.stored ∙ sym (ap length alike.stored);
+      };
+      number = shown.number;
+      maps = λ n st is. map_on n (shown.number n) st st m m2 known known (blocks_same st.chart st.blocks) (λ b lasting. refl) refl (tables_same st.chart) (pairs_same st.chart) (alike_same n m m2 alike) (shown.maps n st is);
+      calls = there;
+    },
+    refl,
+  )
 
   begins_calls : (same : K → K → Bool) (name : ℕ → List ℕ) (m : Moment K V) (calls : ℕ → ℕ → Option (UnderWay K V K)) → ShowsCalls same name m calls → (of i : ℕ) (u : UnderWay K V K) (call : Call K V) (guard : List ℕ)
       → ((n j : ℕ) (x : UnderWay K V K) → calls n j ≡ Some x → is_same (name i) (name j) ≡ false) → IsCalled same u call
@@ -103,7 +106,7 @@ module _ {K V : Type 0} where
       by (inr ne) f = before (ap (λ (g : ℕ → Option (UnderWay K V K)). g j) (sym (at_other calls of (with_at (calls of) i (Some u)) n ne)) ∙ is)
 
   -- a call that is told something, or has come to something, is the same one
-  replied_same : (reply : Reply V) (c : CallThere K V) (stands : Stands) → IsOfSame c (replied reply c stands)
+  pub replied_same : (reply : Reply V) (c : CallThere K V) (stands : Stands) → IsOfSame c (replied reply c stands)
   replied_same reply c Going = (refl, refl, refl)
   replied_same reply c (Asking q) = (refl, refl, refl)
   replied_same reply c Told = (refl, refl, refl)
@@ -162,7 +165,7 @@ module _ {K V : Type 0} where
         let there = shown n j before.0 before.1 in (there.0, there.1, there.2, before.2 there.0.call there.3)
 
   module _ (test keep : CallThere K V → Bool) where
-    found_passes : (cs : List (CallThere K V)) (c : CallThere K V) → find test cs ≡ Some c → test c ≡ true
+    pub found_passes : (cs : List (CallThere K V)) (c : CallThere K V) → find test cs ≡ Some c → test c ≡ true
     found_passes [] c is = absurd (cc is)
     found_passes (x ∷ cs) c is = by (test x) refl (λ later. found_passes cs c later)
       where
@@ -172,7 +175,7 @@ module _ {K V : Type 0} where
         by false e rest = rest (ap (λ z. cond z (Some x) (find test cs)) (sym e) ∙ is)
 
     -- what is kept is found still
-    found_kept : (cs : List (CallThere K V)) (c : CallThere K V) → find test cs ≡ Some c → keep c ≡ true → find test (filter keep cs) ≡ Some c
+    pub found_kept : (cs : List (CallThere K V)) (c : CallThere K V) → find test cs ≡ Some c → keep c ≡ true → find test (filter keep cs) ≡ Some c
     found_kept [] c is kept = absurd (cc is)
     found_kept (x ∷ cs) c is kept = by (test x) refl (keep x) refl (λ later. found_kept cs c later kept)
       where
@@ -195,28 +198,46 @@ module _ {K V : Type 0} where
       let kept : not (is_same there.0.caller own) ≡ true = ap (λ (l : List ℕ). not (is_same l own)) is_its ∙ ap not (apart_back own (name j) (apart n j x is)) in
       (there.0, found_kept (λ c. is_same c.caller (name j)) (λ c. not (is_same c.caller own)) m.calls there.0 there.1 kept, there.2, there.3)
 
-module _ (K V : Type 0) (same : K → K → Bool) where
-  pub calls_begin : CallsBegin K V same
-  calls_begin name m known s shown of i u call guard apart called =
+-- a call has come to this, by so many steps
+abbrev pub come : {K V : Type 0} → Outcome V → ℕ → CallThere K V → CallThere K V
+come o steps c = comes_to o (record c { steps = c.steps + steps })
+
+pub come_of_same : {K V : Type 0} (o : Outcome V) (steps : ℕ) (c : CallThere K V) → IsOfSame c (come o steps c)
+come_of_same o steps c = come_same o (record c { steps = c.steps + steps })
+
+module _ {K V : Type 0} (same : K → K → Bool) (name : ℕ → List ℕ) (m : Moment K V) (known : Known) (s : Scene K V) (shown : Shows same name m known s) where
+  -- the moment shows the scene with other calls, with the numbers of its pairs
+  abbrev pub ShowsWith : Moment K V → (ℕ → ℕ → Option (UnderWay K V K)) → Type 0
+  ShowsWith m2 calls2 = (after : Shows same name m2 known (record s { calls = calls2 })) × (after.number ≡ shown.number)
+
+  pub begins_with : (of i : ℕ) (u : UnderWay K V K) (call : Call K V) (guard : List ℕ) → NoneNamed name (name i) s → IsCalled same u call
+      → ShowsWith (with_call (name i) guard call (Some of) m) (with_in s.calls of i (Some u))
+  begins_with of i u call guard apart called =
       calls_only same name m (with_call (name i) guard call (Some of) m) known s (record { place = refl; born = refl; maps = refl; tables = refl; stored = refl }) (with_in s.calls of i (Some u))
       (begins_calls same name m s.calls shown.calls of i u call guard apart called) shown
 
-  pub calls_are_told : CallsAreTold K V same
-  calls_are_told name m known s shown of i u here batch_size roots standing reply next goes is_told =
+  pub told_with : (of i : ℕ) (u : UnderWay K V K) → s.calls of i ≡ Some u → (batch_size roots : ℕ) (standing : Standing K) (reply : MachineReply V) (next : UnderWay K V K)
+      → ToldOfKind V same same batch_size roots slot_of standing i u reply next → (is_told : Reply V) → ShowsWith (told (name i) is_told m) (with_in s.calls of i (Some next))
+  told_with of i u here batch_size roots standing reply next goes is_told =
       calls_only same name m (told (name i) is_told m) known s (record { place = refl; born = refl; maps = refl; tables = refl; stored = refl }) (with_in s.calls of i (Some next))
       (next_calls same name (told (name i) is_told m) s.calls of i u here next (told_called same batch_size roots standing i u reply next goes)
       (changed_calls same (λ c. replied is_told c c.stands) (λ c. replied_same is_told c c.stands) (name i) name m s.calls shown.calls)) shown
 
-  pub calls_come_to : CallsComeTo K V same
-  calls_come_to name m known s shown own o steps ended =
+  pub come_with : (own : List ℕ) (o : Outcome V) (steps : ℕ) → (ends_call o ≡ true → NoneNamed name own s) → ShowsWith (come_to own o steps m) s.calls
+  come_with own o steps ended =
       calls_only same name m (come_to own o steps m) known s (record { place = refl; born = refl; maps = refl; tables = refl; stored = refl }) s.calls (by (ends_call o) refl) shown
     where
-      on : CallThere K V → CallThere K V
-      on c = comes_to o (record c { steps = c.steps + steps })
-
-      on_same : (c : CallThere K V) → IsOfSame c (on c)
-      on_same c = come_same o (record c { steps = c.steps + steps })
-
-      by : (q : Bool) → ends_call o ≡ q → ShowsCalls same name (record m { calls = if q then without_call own m.calls else map (λ c. if is_same c.caller own then on c else c) m.calls }) s.calls
+      by : (q : Bool) → ends_call o ≡ q → ShowsCalls same name (record m { calls = if q then without_call own m.calls else map (λ c. if is_same c.caller own then come o steps c else c) m.calls }) s.calls
       by true e = kept_calls same own name m s.calls (ended e) shown.calls
-      by false e = changed_calls same on on_same own name m s.calls shown.calls
+      by false e = changed_calls same (come o steps) (come_of_same o steps) own name m s.calls shown.calls
+
+module _ (K V : Type 0) (same : K → K → Bool) where
+  pub calls_begin : CallsBegin K V same
+  calls_begin name m known s shown of i u call guard apart called = (begins_with same name m known s shown of i u call guard apart called).0
+
+  pub calls_are_told : CallsAreTold K V same
+  calls_are_told name m known s shown of i u here batch_size roots standing reply next goes is_told =
+      (told_with same name m known s shown of i u here batch_size roots standing reply next goes is_told).0
+
+  pub calls_come_to : CallsComeTo K V same
+  calls_come_to name m known s shown own o steps ended = (come_with same name m known s shown own o steps ended).0

@@ -21,7 +21,7 @@ module _ {K V : Type 0} where
   abbrev pub IsOfSame : CallThere K V → CallThere K V → Type 0
   IsOfSame c d = (d.caller ≡ c.caller) × (d.map ≡ c.map) × (d.call ≡ c.call)
 
-  due_same : (its : Call K V) (c : CallThere K V) (old : Option ℕ) (new : ℕ) → IsOfSame c (due_for its c old new)
+  pub due_same : (its : Call K V) (c : CallThere K V) (old : Option ℕ) (new : ℕ) → IsOfSame c (due_for its c old new)
   due_same (call.On one) c old new = (refl, refl, refl)
   due_same (call.Reserve n) c old new = (refl, refl, refl)
   due_same call.Clear c old new = (refl, refl, refl)
@@ -30,7 +30,7 @@ module _ {K V : Type 0} where
   due_same call.Walk c old new = (refl, refl, refl)
 
   -- an effect makes it no other one
-  changed_same : (m : Moment K V) (f : Effect) (c : CallThere K V) → IsOfSame c (call_by m f c)
+  pub changed_same : (m : Moment K V) (f : Effect) (c : CallThere K V) → IsOfSame c (call_by m f c)
   changed_same m (effect.Asked growth) c = (refl, refl, refl)
   changed_same m effect.PairMade c = (refl, refl, refl)
   changed_same m effect.PairGivenUp c = (refl, refl, refl)

@@ -10,9 +10,9 @@ use Rattle.papaya_schedules.specs.declared.effect.Thing.TheVariants.{APair, ATab
 use Rattle.papaya_schedules.specs.Entry.{acting}
 use Rattle.papaya_schedules.specs.Effects.{at_stage, stored_by, with_effect, with_effects}
 use Rattle.papaya_schedules.specs.Lists.{put}
-use Rattle.papaya_schedules.specs.Moment.{Place, Unborn, InMap, Out, Handed, Behind, Left, GivenBack, IsLinked, IsRetired, Stage, TableThere, UnderWay, Moment}
+use Rattle.papaya_schedules.specs.Moment.{Place, Unborn, InMap, Out, Handed, Behind, Left, GivenBack, IsLinked, IsRetired, Stage, MapThere, TableThere, UnderWay, Moment}
 use Rattle.papaya_schedules.specs.Things.{same_table}
-use Rattle.papaya_schedules.specs.Views.{is_in_map, is_in_a_map, first_or, first_of}
+use Rattle.papaya_schedules.specs.Views.{is_in_map, is_in_a_map, map_at}
 use Rattle.papaya_rule.specs.Chart.{Chart}
 use Rattle.papaya_rule.specs.Words.{Blocks}
 use Rattle.papaya_callers.specs.Sights.{Sight}
@@ -20,7 +20,7 @@ use Rattle.papaya_finishes.specs.Maps.{Standing}
 use Rattle.papaya_effects.specs.Known.{Known}
 use Rattle.papaya_follows.specs.Maps.{table_of, shape_at, tables_to, ShowsMap}
 use Rattle.papaya_follows.specs.Steps.{HandTheirs}
-use Rattle.papaya_follows.proofs.Alike.{IsAlike, alike_same, calm_still, still_all, put_here, put_elsewhere}
+use Rattle.papaya_follows.proofs.Alike.{AlikePairs, IsAlike, alike_same, calm_still, still_all, put_here, put_elsewhere}
 use Rattle.papaya_follows.proofs.Onward.{StaysBlocks, tables_same, pairs_same, pairs_on, map_on}
 use Rattle.papaya_follows.proofs.Rows.{HandsOn, IsStill, Puts, Retires}
 
@@ -135,21 +135,19 @@ module _ {K V : Type 0} (caller : List ℕ) (acted of : ℕ) (number : ℕ → �
   alike_shown v alike = map_on of number s s2 m v known known blocks (λ b lasting. refl) refl (tables_same s.chart) (pairs_same s.chart) alike shown
 
   -- a table that the root has passed
-  module _ (t : Table) (passed : t.turn < first_of t.map m) where
+  module _ (t : Table) (passed : (there : MapThere) → map_at t.map m ≡ Some there → t.turn < there.first) where
     abbrev v : Moment K V
     v = with_effect (Some caller) (Some acted) (Retired (ATable t)) m
 
     many : length v.stored ≡ length m.stored
     many = ap length (hands_stored (acting (Some caller) m) 0 t (ATable t) m.stored).1
 
-    first_is : first_of of m ≡ s.chart.first
-    first_is = ap first_or shown.there.is ∙ shown.there.first
-
     still_linked : (u : ℕ) → s.chart.first ≤ u → u < s.chart.past → stage_then t of s.chart shown.tables.stage u ≡ IsLinked
     still_linked u l made = by (same_table (table_of of u) t) refl
       where
         by : (q : Bool) → same_table (table_of of u) t ≡ q → (if q then IsRetired else shown.tables.stage u) ≡ IsLinked
-        by true e = absurd (let k = same_is of u t e in let here : t.turn < first_of of m = subst (λ (x : ℕ). t.turn < first_of x m) (sym k.0) passed in let turn = k.1 in omega (arith, here, first_is, l, turn))
+        by true e = absurd (let k = same_is of u t e in let here = passed shown.there.there (subst (λ (x : ℕ). map_at x m ≡ Some shown.there.there) k.0 shown.there.is) in
+            let first = shown.there.first in let turn = k.1 in omega (arith, here, first, l, turn))
         by false e = shown.tables.linked u l made
 
     table_retired : ShowsMap of number s2 v known
@@ -182,3 +180,19 @@ module _ {K V : Type 0} (caller : List ℕ) (acted : ℕ) (m : Moment K V) where
   hands_same effects (IsStill still all) = (still_all (Some caller) acted still m (calm_still still all)).stored
   hands_same effects (Puts n t) = (hands_stored (acting (Some caller) m) n t (ATable t) m.stored).0
   hands_same effects (Retires x) = (hands_stored (acting (Some caller) m) 0 (record { map = 0; turn = 0 }) x m.stored).1
+
+  thing_alike : (of : ℕ) (x : Thing) → HandTheirs caller acted (Retired x ∷ []) m
+      → AlikePairs of m (with_effects (Some caller) (Some acted) (Retired x ∷ []) m) × (map_at of (with_effects (Some caller) (Some acted) (Retired x ∷ []) m) ≡ map_at of m)
+  thing_alike of (APair n) hands = let a = retired_alike (Some caller) acted m of n hands.0 in (a.pairs, a.tables.there)
+  thing_alike of (ATable t) hands = (
+    record { place = λ k l. refl; all = λ k at. at; born = λ k l. refl; stored = (let many = ap length (hands_stored (acting (Some caller) m) 0 t (ATable t) m.stored).1 in omega (arith, many)) },
+    refl,
+  )
+
+  -- the pairs of a map are those that they were, and so is its root
+  pub hands_alike : (of : ℕ) (effects : List Effect) → HandsOn effects → HandTheirs caller acted effects m
+      → AlikePairs of m (with_effects (Some caller) (Some acted) effects m) × (map_at of (with_effects (Some caller) (Some acted) effects m) ≡ map_at of m)
+  hands_alike of effects (IsStill still all) hands =
+      let a = alike_same of m (with_effects (Some caller) (Some acted) still m) (still_all (Some caller) acted still m (calm_still still all)) in (a.pairs, a.tables.there)
+  hands_alike of effects (Puts n t) hands = let a = deferred_alike (Some caller) acted m of n t hands.0 in (a.pairs, a.tables.there)
+  hands_alike of effects (Retires x) hands = thing_alike of x hands

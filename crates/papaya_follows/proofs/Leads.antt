@@ -1,6 +1,6 @@
 -- Where a step of a call leads that is none of a row: its map, and all blocks, are shown at the moment after its effects, and other maps have not changed.
-use Rattle.std.specs.Prelude.{◌≡◌, ◌≢◌, ℕ, ◌<◌, Bool, true, List, length, Option, Some}
-use Rattle.std.proofs.Common.{refl, ap, sym, subst, ◌∙◌}
+use Rattle.std.specs.Prelude.{◌≡◌, ◌≢◌, ℕ, suc, ◌+◌, ◌<◌, Bool, true, List, length, Option, Some, ◌⊎◌}
+use Rattle.std.proofs.Common.{refl, ap, sym, subst, ◌∙◌, inl}
 use Rattle.seize_words.specs.Mem.{Mem}
 use Rattle.seize.specs.World.{World}
 use Rattle.papaya_tables.specs.declared.node.Node.{Node}
@@ -15,14 +15,21 @@ use Rattle.papaya_callers.specs.Sights.{Sight, seen_by, IsGrown, IsSight}
 use Rattle.papaya_callers.specs.Together.{in_slot}
 use Rattle.papaya_finishes.specs.Maps.{Standing}
 use Rattle.papaya_effects.specs.Known.{Known}
+use Rattle.papaya_effects.specs.declared.role.Role.{Role}
 use Rattle.papaya_effects.specs.declared.role.Role.TheVariants as role
 use Rattle.papaya_follows.specs.Blocks.{HasRole, ShowsBlocks}
 use Rattle.papaya_follows.specs.Finds.{FindsMap}
 use Rattle.papaya_follows.specs.Maps.{table_of, ShowsMap}
 use Rattle.papaya_follows.proofs.Alike.{IsAlike, alike_same, still_all}
 use Rattle.papaya_follows.proofs.Finds.{still_find}
-use Rattle.papaya_follows.proofs.Onward.{KeepsRoles, StaysTables, StaysPairs, blocks_grown, map_on}
+use Rattle.papaya_follows.proofs.Onward.{IsOfMap, KeepsRoles, StaysTables, StaysPairs, blocks_grown, map_on}
 use Rattle.papaya_follows.proofs.Told.{IsQuiet}
+
+-- what a block may come to be by a step of a call on a map: the pair that is stored next, or the table that is linked next
+abbrev pub IsNew : {K : Type 0} → ℕ → Chart K → Chart K → Blocks → Known → ℕ → Role → Type 0
+IsNew map c c2 blocks known b (role.Pair n) = n ≡ known.stored + 1
+IsNew map c c2 blocks known b (role.Table t len) = (t ≡ table_of map c.past) × (b ≡ blocks.table c.past) × (c2.past ≡ suc c.past)
+IsNew map c c2 blocks known b _ = ⊥
 
 module _ {K V : Type 0} (same : K → K → Bool) (slot caller map : ℕ) (name : Option (List ℕ)) (number : ℕ → ℕ) (s : Standing K) (lawful : AreLawful same s.hash)
     (w : World (Node K V)) (sight : Sight) (is_sight : IsSight s.chart s.blocks sight) (is_map : IsMapIn same s.hash (in_slot s.setting slot) w s.chart (seen_by s.blocks sight))
@@ -39,9 +46,11 @@ module _ {K V : Type 0} (same : K → K → Bool) (slot caller map : ℕ) (name 
   pub record LeadsOn (effects : List Effect) (after : Known) : Type 0 where
     pub finds : AtEachEffect (FindsMap map) name (Some map) effects m
     pub number_then : ℕ → ℕ
+    pub numbers : (n : ℕ) → n < s.chart.stored → number_then n ≡ number n
     pub own : ShowsMap map number_then after_step (led effects) after
     pub others : (other : ℕ) → other ≢ map → IsAlike other m (led effects)
     pub keeps : KeepsRoles known after
+    pub back : (b : ℕ) → IsOfMap (after.roles b) → (known.roles b ≡ after.roles b) ⊎ IsNew map s.chart went.c2 went.blocks2 known b (after.roles b)
     pub blocks : ShowsBlocks (led effects) after went.w2
 
   -- tables that the caller looks at have their roles
@@ -59,9 +68,11 @@ module _ {K V : Type 0} (same : K → K → Bool) (slot caller map : ℕ) (name 
       record {
         finds = still_find map name effects m quiet.still;
         number_then = number;
+        numbers = λ n l. refl;
         own = map_on map number s after_step m (led effects) known after (blocks_grown s.chart s.blocks went.blocks2 blocks2 grown) quiet.keeps refl tables pairs (alike_same map m (led effects) alike) shown;
         others = λ other ne. alike_same other m (led effects) alike;
         keeps = quiet.keeps;
+        back = λ b of. inl (quiet.back b of);
         blocks = record {
           roles = λ b. subst (λ (xs : List (K × V)). HasRole went.w2 xs b (after.roles b)) (sym alike.stored) (quiet.roles b);
           once = quiet.once;

@@ -7,6 +7,7 @@ pub mod Lists
 pub mod Nowhere
 pub mod Onward
 pub mod Finds
+pub mod Gives
 pub mod Kept
 pub mod Quiet
 pub mod Told
@@ -15,6 +16,7 @@ pub mod Pairs
 pub mod Leads
 pub mod Stored
 pub mod Linked
+pub mod Going
 pub mod Moved
 pub mod Steps
 pub mod Calling

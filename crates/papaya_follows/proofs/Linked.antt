@@ -1,5 +1,5 @@
 -- A table was linked behind the last one, or has become the root.
-use Rattle.std.specs.Prelude.{◌≡◌, ℕ, zero, suc, ◌<◌, ◌≤◌, ◌==◌, Bool, true, false, cond, List, [], ◌∷◌, ◌++◌, length, filter, find, map, Option, Some, None, if◌then◌else◌}
+use Rattle.std.specs.Prelude.{◌≡◌, ℕ, zero, suc, ◌<◌, ◌≤◌, ◌==◌, Bool, true, false, cond, List, [], ◌∷◌, ◌++◌, length, filter, find, map, Option, Some, None, if◌then◌else◌, ◌⊎◌}
 use Rattle.std.proofs.Common.{refl, ap, sym, subst, ◌∙◌, arith, inl, inr}
 use Rattle.std.proofs.lemmas.Bool.{eq-eqb, cases_eq}
 use Rattle.std.proofs.lemmas.List.Elements.{filter-append}
@@ -33,7 +33,7 @@ use Rattle.papaya_follows.proofs.Alike.{put_here, put_elsewhere, linked_other, p
 use Rattle.papaya_follows.proofs.Contents.{lasts_same}
 use Rattle.papaya_follows.proofs.Finds.{tables_many}
 use Rattle.papaya_follows.proofs.Kept.{role_kept}
-use Rattle.papaya_follows.proofs.Leads.{LeadsOn, after_step}
+use Rattle.papaya_follows.proofs.Leads.{IsNew, LeadsOn, after_step}
 use Rattle.papaya_follows.proofs.Onward.{IsLasting, KeepsRoles, StaysPairs, StaysBlocks, blocks_grown, pairs_on, counter_on, tables_as_long}
 use Rattle.papaya_follows.proofs.Operations.{StaysThere}
 use Rattle.papaya_follows.proofs.Told.{once_put}
@@ -178,6 +178,7 @@ module _ {K V : Type 0} (same : K → K → Bool) (slot caller map : ℕ) (name 
         record {
           finds = ((refl, tables_many map number s m known shown), tt);
           number_then = number;
+          numbers = λ n l. refl;
           own = record {
             there = record { there = shown.there.there; is = shown.there.is; root = shown.there.root; mode = shown.there.mode; first = shown.there.first ∙ sym first };
             pairs = pairs_on map number s s2 m v known (with_role b its_role known) blocks_on keeps pairs
@@ -195,6 +196,10 @@ module _ {K V : Type 0} (same : K → K → Bool) (slot caller map : ℕ) (name 
           };
           others = λ other ne. linked_other name map other ne m c.past shape (omega (arith, many));
           keeps = keeps;
+          back = λ x of. elim (cases_eq x b) as (λ _. (known.roles x ≡ put b its_role known.roles x) ⊎ IsNew map c went.c2 went.blocks2 known x (put b its_role known.roles x)) [
+            | inl e ↦ inr (subst (IsNew map c went.c2 went.blocks2 known x) (sym (put_here b its_role known.roles x e)) (refl, e ∙ its_block, past))
+            | inr ne ↦ inl (sym (put_elsewhere b its_role known.roles x ne))
+          ];
           blocks = blocks_linked v (none_stored (acting name m) (table_of map c.past) shape m.stored).0;
         }
 
@@ -208,6 +213,7 @@ module _ {K V : Type 0} (same : K → K → Bool) (slot caller map : ℕ) (name 
         record {
           finds = ((refl, may), tt);
           number_then = number;
+          numbers = λ n l. refl;
           own = record {
             there = record {
               there = record shown.there.there { first = t };
@@ -229,5 +235,6 @@ module _ {K V : Type 0} (same : K → K → Bool) (slot caller map : ℕ) (name 
           };
           others = λ other ne. promoted_other name map other ne m t (omega (arith, many));
           keeps = λ b lasting. refl;
+          back = λ b of. inl refl;
           blocks = record { roles = λ b. kept u.stored (none_stored (acting name m) (table_of map t) (record { len = 0; limit = 0 }) m.stored).1 b; once = shown_blocks.once; stored = shown_blocks.stored ∙ sym many };
         }

@@ -1,5 +1,5 @@
 -- Where a step of a call leads that is none of a row, by the change of its map's tables that its operation tells.
-use Rattle.std.specs.Prelude.{◌≡◌, ◌≢◌, ℕ, zero, suc, ◌+◌, ◌*◌, ◌<◌, ◌≤◌, Bool, true, false, cond, List, [], ◌∷◌, Option, Some}
+use Rattle.std.specs.Prelude.{◌≡◌, ◌≢◌, ℕ, zero, suc, ◌+◌, ◌*◌, ◌<◌, ◌≤◌, Bool, true, false, cond, eqb, List, [], ◌∷◌, Option, Some}
 use Rattle.std.proofs.Common.{refl, ap, sym, subst, ◌∙◌, arith, inl, inr}
 use Rattle.std.proofs.lemmas.Bool.{ne_eqb, eq-eqb, cases_eq}
 use Rattle.seize_words.specs.declared.at.At.{At}
@@ -17,7 +17,7 @@ use Rattle.papaya_schedules.specs.declared.effect.Effect.{Effect}
 use Rattle.papaya_schedules.specs.declared.effect.Effect.TheVariants.{Copied, Stored, Replaced, Removed, Linked, Promoted}
 use Rattle.papaya_schedules.specs.declared.effect.Spot.{Spot}
 use Rattle.papaya_schedules.specs.Entry.{acting}
-use Rattle.papaya_schedules.specs.Effects.{AtEachEffect}
+use Rattle.papaya_schedules.specs.Effects.{with_effect, AtEachEffect}
 use Rattle.papaya_schedules.specs.Moment.{Moment}
 use Rattle.papaya_teller.specs.declared.changed.Changed.{Changed}
 use Rattle.papaya_teller.specs.declared.changed.Changed.TheVariants as changed
@@ -43,8 +43,9 @@ use Rattle.papaya_effects.specs.declared.role.Role.TheVariants as role
 use Rattle.papaya_follows.specs.Blocks.{ShowsBlocks}
 use Rattle.papaya_follows.specs.Finds.{MayBeRoot}
 use Rattle.papaya_follows.specs.Maps.{table_of, ShowsMap}
-use Rattle.papaya_follows.specs.Steps.{named_now, HasPair}
+use Rattle.papaya_follows.specs.Steps.{named_now, HasToStore, HasPair}
 use Rattle.papaya_follows.proofs.Finds.{may_stand, may_be_root}
+use Rattle.papaya_follows.proofs.Gives.{Gives, stores_none}
 use Rattle.papaya_follows.proofs.Leads.{LeadsOn, tables_seen, leads_quiet}
 use Rattle.papaya_follows.proofs.Linked.{leads_linked, leads_promoted, was_own as own_before}
 use Rattle.papaya_follows.proofs.Onward.{StaysTables, StaysPairs, tables_same, pairs_same}
@@ -104,16 +105,25 @@ module _ {K V : Type 0} (same : K → K → Bool) (slot caller map : ℕ) (name 
   pair_role t i n phase borrowed made seen held =
       let l = (is_map.map.rule.common.keyed t i n phase borrowed held).0 in (l, shown.pairs.roles n l (is_sight.pairs n l (is_sight.named t i n phase borrowed made seen held)))
 
-  module _ (told : Changed) (left : LeavesBy w.memory m2 told) (stores : StoreTheirs told (effects_of its known told)) where
+  -- what it has to store, by what it has changed
+  abbrev pub GivesIts : Type 0
+  GivesIts = Gives map name number s.chart went.c2 (went.blocks2.pair s.chart.stored) m w.memory m2
+
+  module _ (told : Changed) (left : LeavesBy w.memory m2 told) where
+    -- It stores what it has to; and where it does, it leads there.
+    abbrev pub ComesBy : Changed → List Effect → Known → Type 0
+    ComesBy by effects after = (GivesIts → StoreTheirs by effects) × (StoreTheirs by effects → Leads effects after)
+
     abbrev pub Comes : Type 0
-    Comes = Leads (effects_of its known told) (known_after its told known)
+    Comes = ComesBy told (effects_of its known told) (known_after its told known)
 
     -- by what is told
-    as_said : (at : At) (old new : ℕ) → told ≡ changed.Wrote at old new → (effects : List Effect) (after : Known) → Says its known at old new effects after → (StoreTheirs (changed.Wrote at old new) effects → Leads effects after) → Comes
-    as_said at old new e effects after says lead =
-        subst (λ (t : Changed). StoreTheirs t (effects_of its known t) → Leads (effects_of its known t) (known_after its t known)) (sym e)
-        (λ st. subst (λ (x : List Effect). Leads x (known_after its (changed.Wrote at old new) known)) (sym says.0)
-        (subst (Leads effects) (sym says.1) (lead (subst (StoreTheirs (changed.Wrote at old new)) says.0 st)))) stores
+    as_said : (at : At) (old new : ℕ) → told ≡ changed.Wrote at old new → (effects : List Effect) (after : Known) → Says its known at old new effects after
+        → (GivesIts → StoreTheirs (changed.Wrote at old new) effects) → (StoreTheirs (changed.Wrote at old new) effects → Leads effects after) → Comes
+    as_said at old new e effects after says gives lead =
+        subst (λ (t : Changed). ComesBy t (effects_of its known t) (known_after its t known)) (sym e)
+        (subst (λ (x : List Effect). ComesBy (changed.Wrote at old new) x (known_after its (changed.Wrote at old new) known)) (sym says.0)
+        (subst (λ (x : Known). ComesBy (changed.Wrote at old new) effects x) (sym says.1) (gives, lead)))
 
     values : (at : At) (old new : ℕ) → told ≡ changed.Wrote at old new → (b : ℕ) → value_at m2 b ≡ value_at w.memory b
     values at old new e = (subst (LeavesBy w.memory m2) e left).2
@@ -123,9 +133,9 @@ module _ {K V : Type 0} (same : K → K → Bool) (slot caller map : ℕ) (name 
 
     still_leads : ((at : At) (old new : ℕ) → told ≡ changed.Wrote at old new → KeepsNames setting c seen_blocks at old new) → StaysTables c went.c2 → StaysPairs c went.c2 → Comes
     still_leads quiet tables pairs =
-        quiet_leads (effects_of its known told) (known_after its told known)
-        (quiet_told same s.hash setting caller w s.chart seen_blocks m2 Told went is_map map m.stored known shown_blocks.roles shown_blocks.once
-        (tables_seen same slot caller map name number s lawful w sight is_sight is_map m2 Told went blocks2 grown sights2 m known shown shown_blocks) told left quiet) tables pairs
+        let still = quiet_told same s.hash setting caller w s.chart seen_blocks m2 Told went is_map map m.stored known shown_blocks.roles shown_blocks.once
+        (tables_seen same slot caller map name number s lawful w sight is_sight is_map m2 Told went blocks2 grown sights2 m known shown shown_blocks) told left quiet in
+        (λ gives. stores_none w.memory (named_now told) name (Some map) (effects_of its known told) m still.still, λ st. quiet_leads (effects_of its known told) (known_after its told known) still tables pairs)
 
     module _ (seen : Seen (Node K V)) (as_told : (at : At) (old new : ℕ) → seen ≡ Wrote at old new → told ≡ changed.Wrote at old new)
         (as_seen : (at : At) (old new : ℕ) → told ≡ changed.Wrote at old new → seen ≡ Wrote at old new) where
@@ -157,7 +167,7 @@ module _ {K V : Type 0} (same : K → K → Bool) (slot caller map : ℕ) (name 
           let spot = spot_at (table_of map t) (i + PLACES) in
           as_said (place_at seen_blocks t i) 0 new e (Copied (number n) spot ∷ []) known
           (place_says its known (s.blocks.table t) (table_of map t) (c.len t) (shown.tables.roles t made (is_sight.tables t made known_table)) 0 new (λ z. omega (arith, z, names, some))
-          role.Free (role.Pair (number n)) free (ap known.roles names ∙ is_pair) i within)
+          role.Free (role.Pair (number n)) free (ap known.roles names ∙ is_pair) i within) (λ gives. (tt, tt))
           (λ st. quiet_leads (Copied (number n) spot ∷ []) known
           (as_before same s.hash setting caller w s.chart seen_blocks m2 Told went is_map map m.stored known shown_blocks.roles shown_blocks.once
           (tables_seen same slot caller map name number s lawful w sight is_sight is_map m2 Told went blocks2 grown sights2 m known shown shown_blocks)
@@ -227,7 +237,7 @@ module _ {K V : Type 0} (same : K → K → Bool) (slot caller map : ℕ) (name 
 
           by : (p : ℕ) → c.past ≡ p → Comes
           by p e = as_said at_now 0 new told_so (Linked (table_of map c.past) shape ∷ []) (with_role (block_in new) (role.Table (table_of map c.past) len) known)
-              (subst (λ (x : ℕ). Told_at (last_link setting seen_blocks x)) (sym e) (says p e)) (λ st. leads)
+              (subst (λ (x : ℕ). Told_at (last_link setting seen_blocks x)) (sym e) (says p e)) (λ gives. (tt, tt)) (λ st. leads)
 
       -- the root comes to a table behind it
       promoted : (t : ℕ) → c.first < t → t < c.past → MayBeRoot map m (table_of map t) → went.c2 ≡ after (spot_of s.hash) incremental (Promotes t) c
@@ -236,7 +246,7 @@ module _ {K V : Type 0} (same : K → K → Bool) (slot caller map : ℕ) (name 
           as_said (Root setting.root) old new told_so (Promoted (table_of map t) ∷ []) known
           (root_says its known setting.root old new apart (role.Table (table_of map c.first) (c.len c.first)) (role.Table (table_of map t) (c.len t))
           (ap known.roles (block_of_link (s.blocks.table c.first)) ∙ table_role c.first (omega arith) (omega (arith, ahead, made)))
-          (ap known.roles (block_of_link (s.blocks.table t)) ∙ table_role t (omega (arith, ahead)) made))
+          (ap known.roles (block_of_link (s.blocks.table t)) ∙ table_role t (omega (arith, ahead)) made)) (λ gives. (tt, tt))
           (λ st. leads_promoted same slot caller map name number s lawful w sight is_sight is_map m2 Told went blocks2 grown sights2 m known shown shown_blocks (values (Root setting.root) old new told_so)
           (record { stored = ap (λ (x : Chart K). x.stored) is; current = λ n l. ap (λ (x : Chart K). x.current n) is })
           t ahead may (ap (λ (x : Chart K). x.past) is) (ap (λ (x : Chart K). x.first) is) (λ u l. (ap (λ (x : Chart K). x.len u) is, ap (λ (x : Chart K). x.limit u) is)))
@@ -278,6 +288,7 @@ module _ {K V : Type 0} (same : K → K → Bool) (slot caller map : ℕ) (name 
         removed is wrote =
             as_said (place_at seen_blocks t i) held_word TOMBSTONE told_so (Removed (number n) ∷ []) known
             (place_says its known (s.blocks.table t) (table_of map t) (c.len t) (table_role t home within.0) held_word TOMBSTONE (λ e. apart e) (role.Pair (number n)) role.Free was_pair free i within.1)
+            (λ gives. (tt, tt))
             (λ st. leads_removed same slot caller map name number s lawful w sight is_sight is_map m2 Told went blocks2 grown sights2 m known shown shown_blocks (values (place_at seen_blocks t i) held_word TOMBSTONE told_so)
             n its_pair.0 current (ap (λ (x : Chart K). x.stored) is)
             (record { past = ap (λ (x : Chart K). x.past) is; first = ap (λ (x : Chart K). x.first) is; lens = λ u l. (ap (λ (x : Chart K). x.len u) is, ap (λ (x : Chart K). x.limit u) is) })
@@ -293,11 +304,26 @@ module _ {K V : Type 0} (same : K → K → Bool) (slot caller map : ℕ) (name 
         replaced is wrote =
             as_said (place_at seen_blocks t i) held_word new told_so (Replaced (number n) ∷ Stored (known.stored + 1) spot ∷ []) (with_pair (block_in new) known)
             (place_says its known (s.blocks.table t) (table_of map t) (c.len t) (table_role t home within.0) held_word new apart (role.Pair (number n)) (role.OwnPair own.0) was_pair own.1 i within.1)
+            (λ gives. (
+              tt,
+              (
+                subst (λ (b : ℕ). HasToStore w.memory b (acting name (with_effect name (Some map) (Replaced (number n)) m)) (known.stored + 1)) (sym names)
+                    (gives.replaced one_more fresh n its_pair.0 current gone (values (place_at seen_blocks t i) held_word new told_so) (known.stored + 1)),
+                tt,
+              ),
+            ))
             (λ st. leads_replaced same slot caller map name number s lawful w sight is_sight is_map m2 Told went blocks2 grown sights2 m known shown shown_blocks (values (place_at seen_blocks t i) held_word new told_so)
             n its_pair.0 current one_more fresh (block_in new) names tables spot (may_stand map number s m known shown t i home within.0 within.1 root)
-            (λ o l. ap (λ (x : Chart K). x.current o) is ∙ ap (λ (q : Bool). cond q true (without (spot_of s.hash) incremental (c.place t i) c.current o)) (ne_eqb o c.stored (λ e. omega (arith, l, e)))
-            ∙ ap (λ p. without (spot_of s.hash) incremental p c.current o) held) st.1.0)
+            others st.1.0)
           where
+            others : (o : ℕ) → o < c.stored → went.c2.current o ≡ cond (eqb o n) false (c.current o)
+            others o l = ap (λ (x : Chart K). x.current o) is
+                ∙ ap (λ (q : Bool). cond q true (without (spot_of s.hash) incremental (c.place t i) c.current o)) (ne_eqb o c.stored (λ e. omega (arith, l, e)))
+                ∙ ap (λ p. without (spot_of s.hash) incremental p c.current o) held
+
+            gone : went.c2.current n ≡ false
+            gone = others n its_pair.0 ∙ ap (λ (q : Bool). cond q false (c.current n)) (eq-eqb n n refl)
+
             new : ℕ
             new = new_word s.hash setting c seen_blocks went.c2 went.blocks2
 
@@ -329,11 +355,19 @@ module _ {K V : Type 0} (same : K → K → Bool) (slot caller map : ℕ) (name 
       stored t i k j home made within root i_is empty is wrote =
           as_said (place_at seen_blocks t i) 0 new told_so (Stored (known.stored + 1) spot ∷ []) (with_pair (block_in new) known)
           (place_says its known (s.blocks.table t) (table_of map t) (c.len t) (table_role t home made) 0 new apart role.Free (role.OwnPair own.0) free own.1 i within)
+          (λ gives. (
+            subst (λ (b : ℕ). HasToStore w.memory b (acting name m) (known.stored + 1)) (sym names)
+                (gives.stored one_more fresh others (values (place_at seen_blocks t i) 0 new told_so) (known.stored + 1)),
+            tt,
+          ))
           (λ st. leads_stored same slot caller map name number s lawful w sight is_sight is_map m2 Told went blocks2 grown sights2 m known shown shown_blocks (values (place_at seen_blocks t i) 0 new told_so)
-          one_more fresh (block_in new) names tables spot (may_stand map number s m known shown t i home made within root) st.0
-          (λ o l. ap (λ (x : Chart K). x.current o) is ∙ ap (λ (q : Bool). cond q true (without (spot_of s.hash) incremental (c.place t (spot_of s.hash (c.len t) k j)) c.current o)) (ne_eqb o c.stored (λ e. omega (arith, l, e)))
-          ∙ ap (λ p. without (spot_of s.hash) incremental p c.current o) (ap (c.place t) (sym i_is) ∙ empty)))
+          one_more fresh (block_in new) names tables spot (may_stand map number s m known shown t i home made within root) st.0 others)
         where
+          others : (o : ℕ) → o < c.stored → went.c2.current o ≡ c.current o
+          others o l = ap (λ (x : Chart K). x.current o) is
+              ∙ ap (λ (q : Bool). cond q true (without (spot_of s.hash) incremental (c.place t (spot_of s.hash (c.len t) k j)) c.current o)) (ne_eqb o c.stored (λ e. omega (arith, l, e)))
+              ∙ ap (λ p. without (spot_of s.hash) incremental p c.current o) (ap (c.place t) (sym i_is) ∙ empty)
+
           new : ℕ
           new = new_word s.hash setting c seen_blocks went.c2 went.blocks2
 

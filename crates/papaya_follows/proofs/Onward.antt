@@ -20,6 +20,12 @@ IsLasting (role.Table t len) = Unit {0}
 IsLasting (role.Counter map) = Unit {0}
 IsLasting _ = ⊥
 
+-- a pair, or a table, of a map
+abbrev pub IsOfMap : Role → Type 0
+IsOfMap (role.Pair n) = Unit {0}
+IsOfMap (role.Table t len) = Unit {0}
+IsOfMap _ = ⊥
+
 -- such blocks are what they were
 abbrev pub KeepsRoles : Known → Known → Type 0
 KeepsRoles known known2 = (b : ℕ) → IsLasting (known.roles b) → known2.roles b ≡ known.roles b

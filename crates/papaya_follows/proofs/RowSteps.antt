@@ -4,8 +4,8 @@ use Rattle.std.proofs.Common.{refl, ap, sym, subst, ◌∙◌, inl, inr}
 use Rattle.seize_words.specs.Mem.{Mem, value_at}
 use Rattle.seize.specs.World.{World}
 use Rattle.papaya_tables.specs.declared.node.Node.{Node}
-use Rattle.papaya_raw.specs.Machine.{machine_plan}
 use Rattle.papaya_raw.specs.declared.machines.machine.Machine.{Machine}
+use Rattle.papaya_raw.specs.declared.machines.progress.Progress.{Progress}
 use Rattle.papaya_schedules.specs.declared.effect.Effect.{Effect}
 use Rattle.papaya_schedules.specs.declared.effect.Effect.TheVariants.{Asked}
 use Rattle.papaya_schedules.specs.declared.effect.Growth.TheVariants.{ABlock, ABucket}
@@ -15,7 +15,7 @@ use Rattle.papaya_teller.specs.declared.changed.Changed.{Changed}
 use Rattle.papaya_teller.specs.declared.changed.Changed.TheVariants as changed
 use Rattle.papaya_callers.specs.Together.{UnderWay, OnKey, ForRoom, Counting, OverAll, IsOneStep, Together}
 use Rattle.papaya_finishes.specs.Machines.{machine_of, MachineStepsAmong}
-use Rattle.papaya_finishes.specs.Maps.{Standing, IsSameMap, with_call}
+use Rattle.papaya_finishes.specs.Maps.{Standing, IsSameMap}
 use Rattle.papaya_effects.specs.Effects.{effects_of, known_after}
 use Rattle.papaya_effects.specs.Known.{Known}
 use Rattle.papaya_effects.specs.declared.acting.Acting.{Acting}
@@ -23,22 +23,20 @@ use Rattle.papaya_effects.specs.declared.acting.Acting.TheVariants.{Call}
 use Rattle.papaya_effects.specs.declared.role.Role.{Role}
 use Rattle.papaya_effects.specs.declared.role.Role.TheVariants as role
 use Rattle.papaya_executor.specs.IsAt.{Scene, IsAt, slot_of}
-use Rattle.papaya_executor.specs.Stepping.{StepsFrom, scene_after}
+use Rattle.papaya_executor.specs.Stepping.{StepsFrom, StepLeads, scene_after}
 use Rattle.papaya_executor.specs.declared.executor.Executor.{Executor}
-use Rattle.papaya_executor.proofs.Steps.{may_step}
 use Rattle.papaya_follows.specs.Blocks.{HasRole, ShowsBlocks}
 use Rattle.papaya_follows.specs.Calls.{ShowsCalls}
 use Rattle.papaya_follows.specs.Maps.{ShowsMap}
 use Rattle.papaya_follows.specs.Shows.{Shows}
-use Rattle.papaya_follows.specs.Steps.{HandTheirs, TakesNone, Did, IsOfNoRow, RowsAreShown}
+use Rattle.papaya_follows.specs.Steps.{HandTheirs, TakesNone, RowsAreShown}
 use Rattle.papaya_follows.proofs.Alike.{alike_same}
-use Rattle.papaya_follows.proofs.Called.{called_on}
-use Rattle.papaya_follows.proofs.Calls.{calls_on}
-use Rattle.papaya_follows.proofs.Handed.{hands_shown, hands_same}
+use Rattle.papaya_follows.proofs.Going.{ShowsOn}
+use Rattle.papaya_follows.proofs.Handed.{hands_shown, hands_same, hands_alike}
 use Rattle.papaya_follows.proofs.Onward.{tables_same, pairs_same, blocks_same, blocks_part, map_on}
-use Rattle.papaya_follows.proofs.Operations.{StaysThere, LeavesBy, Operated, operated, operated_leaves}
+use Rattle.papaya_follows.proofs.Operations.{StaysThere, LeavesBy, Operated, operated_leaves}
 use Rattle.papaya_follows.proofs.Rows.{HandsOn, IsStill, KeepsBlock, RowLeaves, one_step_leaves, row_written}
-use Rattle.papaya_follows.proofs.Steps.{one_of}
+use Rattle.papaya_follows.proofs.Steps.{one_of, same_stood, same_gone, WentTo, went_to, made_so, calls_then, LeadsThere, DidSo, OfNoRow}
 use Rattle.papaya_follows.proofs.Told.{roomed_as_many}
 
 module _ {K V : Type 0} (caller map : ℕ) (m : Moment K V) (known : Known) (w w2 : World (Node K V)) (shown : ShowsBlocks m known w) (leaves : RowLeaves w w2) where
@@ -136,52 +134,56 @@ module _ {K V S : Type 0} (same : K → K → Bool) (hash : K → ℕ) (m : Mome
         (map_on n (shown.number n) now now v v known after (blocks_same before.chart blocks) (λ b lasting. ap (λ (f : ℕ → Role). f b) done.roles) refl (tables_same before.chart) (pairs_same before.chart)
         (alike_same n v v (record { place = refl; born = refl; maps = refl; tables = refl; stored = refl })) with_known)
 
-    pub row_shown : (rest : Scene K V) → ShowsCalls same name v rest.calls → Shows same name v after (record rest { world = w3; maps = maps2 })
-    row_shown rest calls = record {
-      blocks = subst (λ (x : World (Node K V)). ShowsBlocks v after x) (sym w_is) (record {
-        roles = λ b. subst (λ (xs : List (K × V)). HasRole w2 xs b (after.roles b)) (sym same_stored) (subst (λ (f : ℕ → Role). HasRole w2 m.stored b (f b)) (sym done.roles) (done.has b));
-        once = λ b d n is is2. shown.blocks.once b d n (ap (λ (f : ℕ → Role). f b) (sym done.roles) ∙ is) (ap (λ (f : ℕ → Role). f d) (sym done.roles) ∙ is2);
-        stored = done.as_many ∙ shown.blocks.stored ∙ sym (ap length same_stored);
-      });
-      number = shown.number;
-      maps = λ n st is. map_then n (s.maps n) refl (maps_same n) st is;
-      calls = calls;
-    }
+    module _ (rest : Scene K V) (calls : ShowsCalls same name v rest.calls) where
+      pub row_shown : ShowsOn same name m known s shown v after (record rest { world = w3; maps = maps2 })
+      row_shown = record {
+        shows = record {
+          blocks = subst (λ (x : World (Node K V)). ShowsBlocks v after x) (sym w_is) (record {
+            roles = λ b. subst (λ (xs : List (K × V)). HasRole w2 xs b (after.roles b)) (sym same_stored) (subst (λ (f : ℕ → Role). HasRole w2 m.stored b (f b)) (sym done.roles) (done.has b));
+            once = λ b d n is is2. shown.blocks.once b d n (ap (λ (f : ℕ → Role). f b) (sym done.roles) ∙ is) (ap (λ (f : ℕ → Role). f d) (sym done.roles) ∙ is2);
+            stored = done.as_many ∙ shown.blocks.stored ∙ sym (ap length same_stored);
+          });
+          number = shown.number;
+          maps = λ n st is. map_then n (s.maps n) refl (maps_same n) st is;
+          calls = calls;
+        };
+        numbers = λ n st is o l. refl;
+        keeps = λ b lasting. ap (λ (f : ℕ → Role). f b) done.roles;
+        back = λ b of. inl (ap (λ (f : ℕ → Role). f b) (sym done.roles));
+        stood = λ n st is. same_stood (s.maps n) (maps2 n) st is (maps_same n);
+        none = λ n gone. (let alike = hands_alike caller map m n effects done.hands hands in (same_gone (s.maps n) (maps2 n) gone (maps_same n), alike.0, alike.1));
+      }
 
-module _ (K V S : Type 0) (same : K → K → Bool) (hash : K → ℕ) where
-  pub rows_are_shown : RowsAreShown K V S same hash
-  rows_are_shown name m known s old new at shown map i u here told leads not_own none hands = by u to.4.did not_own
+-- so it is for whichever kind of call
+module _ {K V S : Type 0} (same : K → K → Bool) (hash : K → ℕ) (name : ℕ → List ℕ) (m : Moment K V) (known : Known) (s : Scene K V) (old new : Executor K V S) (at : IsAt same hash old s)
+    (shown : Shows same name m known s) (map i : ℕ) (u : UnderWay K V K) (here : s.calls map i ≡ Some u) (told : Progress (Node K V)) (leads : StepLeads same hash i told s old new) where
+  abbrev to : WentTo same hash name m known s old new at shown map i u here told leads
+  to = went_to same hash name m known s old new at shown map i u here told leads
+
+  abbrev Led : Type 0
+  Led = LeadsThere same hash name m known s old new at shown map i u here told leads
+
+  abbrev NoRow : (x : UnderWay K V K) → DidSo same hash name m known s old new at shown map i u here told leads x → Type 0
+  NoRow = OfNoRow same hash name m known s old new at shown map i u here told leads
+
+  pub row_step_shown : (NoRow u to.4.did → ⊥) → TakesNone new.memory.changed → HandTheirs (name i) map (effects_of (Call i map) known new.memory.changed) m → Led
+  row_step_shown other none hands = by u to.4.did other
     where
-      to : (standing : Standing K) × (machine : Machine K V K) × (s.maps map ≡ Some standing) × StepsFrom same hash (machine_of u) old new machine told
-          × (did : MachineStepsAmong V same same old.batch_size old.roots slot_of s.world s.maps s.calls s.makers s.enders map standing i new.memory.memory u machine told)
-          × IsAt same hash new (scene_after same hash s old new map i standing u machine told did)
-      to = leads map u here
-
-      made : Operated s.world.memory new.memory.memory new.memory.changed
-      made = subst (λ (x : Mem (Node K V)). Operated x new.memory.memory new.memory.changed) (sym at.memory)
-          (operated old.memory.memory new.memory.memory new.memory.changed (machine_plan same same hash (machine_of u)) (to.1, told) (may_step same hash old s at map i u here) to.3)
-
-      calls : ShowsCalls same name (with_effects (Some (name i)) (Some map) (effects_of (Call i map) known new.memory.changed) m) (with_call s.calls map i to.4.next)
-      calls = calls_on same name (name i) map (effects_of (Call i map) known new.memory.changed) m s.calls map i u here to.4.next
-          (called_on same old.batch_size old.roots s.world s.maps s.calls s.makers s.enders map to.0 i new.memory.memory to.4.w2 to.4.maps2 to.4.next u to.1 told to.4.did) shown.calls
-
-      Goal : Type 0
-      Goal = Shows same name (with_effects (Some (name i)) (Some map) (effects_of (Call i map) known new.memory.changed) m) (known_after (Call i map) new.memory.changed known)
-          (scene_after same hash s old new map i to.0 u to.1 told to.4)
-
-      by : (x : UnderWay K V K)
-          → (did : Did same old.batch_size old.roots s.world s.maps s.calls s.makers s.enders map to.0 i new.memory.memory to.4.w2 to.4.maps2 to.4.next x to.1 told)
-          → (IsOfNoRow same old.batch_size old.roots s.world s.maps s.calls s.makers s.enders map to.0 i new.memory.memory to.4.w2 to.4.maps2 to.4.next x to.1 told did → ⊥) → Goal
+      by : (x : UnderWay K V K) → (did : DidSo same hash name m known s old new at shown map i u here told leads x) → (NoRow x did → ⊥) → Led
       by (OnKey x) (p2, end, machine_is, told_is, inl step) other = absurd (other tt)
       by (OnKey x) (p2, end, machine_is, told_is, inr (row, stayed)) other =
-          row_shown same hash m known s old new at name shown map i to.0 to.2 (name i) made none hands row.step.w2 row.step.memory row.step.happened to.4.w2 to.4.maps2 stayed.0 stayed.1
-          (scene_after same hash s old new map i to.0 u to.1 told to.4) calls
+          row_shown same hash m known s old new at name shown map i to.0 to.2 (name i) (made_so same hash name m known s old new at shown map i u here told leads) none hands row.step.w2 row.step.memory row.step.happened
+          to.4.w2 to.4.maps2 stayed.0 stayed.1 (scene_after same hash s old new map i to.0 u to.1 told to.4) (calls_then same hash name m known s old new at shown map i u here told leads)
       by (ForRoom x) (p2, end, machine_is, told_is, inl step) other = absurd (other tt)
       by (ForRoom x) (p2, end, machine_is, told_is, inr (row, stayed)) other =
-          row_shown same hash m known s old new at name shown map i to.0 to.2 (name i) made none hands row.step.w2 row.step.memory row.step.happened to.4.w2 to.4.maps2 stayed.0 stayed.1
-          (scene_after same hash s old new map i to.0 u to.1 told to.4) calls
+          row_shown same hash m known s old new at name shown map i to.0 to.2 (name i) (made_so same hash name m known s old new at shown map i u here told leads) none hands row.step.w2 row.step.memory row.step.happened
+          to.4.w2 to.4.maps2 stayed.0 stayed.1 (scene_after same hash s old new map i to.0 u to.1 told to.4) (calls_then same hash name m known s old new at shown map i u here told leads)
       by (Counting x) did other = absurd (other tt)
       by (OverAll x) (p2, end, machine_is, told_is, inl step) other = absurd (other tt)
       by (OverAll x) (p2, end, machine_is, told_is, inr (row, stayed)) other =
-          row_shown same hash m known s old new at name shown map i to.0 to.2 (name i) made none hands row.step.w2 row.step.memory row.step.happened to.4.w2 to.4.maps2 stayed.0 stayed.1
-          (scene_after same hash s old new map i to.0 u to.1 told to.4) calls
+          row_shown same hash m known s old new at name shown map i to.0 to.2 (name i) (made_so same hash name m known s old new at shown map i u here told leads) none hands row.step.w2 row.step.memory row.step.happened
+          to.4.w2 to.4.maps2 stayed.0 stayed.1 (scene_after same hash s old new map i to.0 u to.1 told to.4) (calls_then same hash name m known s old new at shown map i u here told leads)
+
+pub rows_are_shown : (K V S : Type 0) (same : K → K → Bool) (hash : K → ℕ) → RowsAreShown K V S same hash
+rows_are_shown K V S same hash name m known s old new at shown map i u here told leads not_own none hands =
+    (row_step_shown same hash name m known s old new at shown map i u here told leads not_own none hands).shows

@@ -35,8 +35,8 @@ use Rattle.papaya_follows.specs.Steps.{HasPair}
 use Rattle.papaya_follows.proofs.Alike.{alike_then, put_here, put_elsewhere, stored_other, replaced_other, removed_other}
 use Rattle.papaya_follows.proofs.Contents.{Lasts, lasts_same, lasts_more, pair_within, pair_next}
 use Rattle.papaya_follows.proofs.Kept.{role_kept}
-use Rattle.papaya_follows.proofs.Leads.{LeadsOn, after_step}
-use Rattle.papaya_follows.proofs.Onward.{IsLasting, KeepsRoles, StaysTables, StaysBlocks, blocks_grown, blocks_same, there_on, tables_on, counter_on}
+use Rattle.papaya_follows.proofs.Leads.{IsNew, LeadsOn, after_step}
+use Rattle.papaya_follows.proofs.Onward.{IsLasting, IsOfMap, KeepsRoles, StaysTables, StaysBlocks, blocks_grown, blocks_same, there_on, tables_on, counter_on}
 use Rattle.papaya_follows.proofs.Operations.{StaysThere}
 use Rattle.papaya_follows.proofs.Pairs.{StoresOne, stored_one, one_more_stored, goes_out, comes_in}
 use Rattle.papaya_follows.proofs.Told.{ArePairsOnce}
@@ -155,6 +155,15 @@ module _ {K V : Type 0} (same : K → K → Bool) (slot caller map : ℕ) (name 
     pub keeps_stored : KeepsRoles known (with_pair b known)
     keeps_stored x lasting = put_elsewhere b (role.Pair (known.stored + 1)) known.roles x (λ e. subst IsLasting (ap known.roles e ∙ was_own.1) lasting)
 
+    -- and is the pair that is stored next
+    back_stored : (x : ℕ) → IsOfMap (put b (role.Pair (known.stored + 1)) known.roles x)
+        → (known.roles x ≡ put b (role.Pair (known.stored + 1)) known.roles x) ⊎ IsNew map c went.c2 went.blocks2 known x (put b (role.Pair (known.stored + 1)) known.roles x)
+    back_stored x of = elim (cases_eq x b)
+        as (λ _. (known.roles x ≡ put b (role.Pair (known.stored + 1)) known.roles x) ⊎ IsNew map c went.c2 went.blocks2 known x (put b (role.Pair (known.stored + 1)) known.roles x)) [
+          | inl e ↦ inr (subst (IsNew map c went.c2 went.blocks2 known x) (sym (put_here b (role.Pair (known.stored + 1)) known.roles x e)) refl)
+          | inr ne ↦ inl (sym (put_elsewhere b (role.Pair (known.stored + 1)) known.roles x ne))
+        ]
+
     abbrev roles_then : ℕ → Role
     roles_then = put b (role.Pair (known.stored + 1)) known.roles
 
@@ -211,6 +220,7 @@ module _ {K V : Type 0} (same : K → K → Bool) (slot caller map : ℕ) (name 
           record {
             finds = ((next, may), tt);
             number_then = put c.stored (known.stored + 1) number;
+            numbers = λ o l. put_elsewhere c.stored (known.stored + 1) number o (λ e. omega (arith, l, e));
             own = record {
               there = there_on map number s s2 m v known (with_pair b known) blocks_on keeps_stored refl tables (record { there = refl; tables = refl }) shown.there;
               pairs = comes_in map number s s2 m v known (with_pair b known) blocks_on keeps_stored shown.pairs (known.stored + 1) spot.turn next refl refl many one_more current others its_role;
@@ -219,6 +229,7 @@ module _ {K V : Type 0} (same : K → K → Bool) (slot caller map : ℕ) (name 
             };
             others = λ other ne. stored_other name map other ne m (known.stored + 1) spot next (omega (arith, many));
             keeps = keeps_stored;
+            back = back_stored;
             blocks = blocks_stored v one;
           }
 
@@ -248,6 +259,7 @@ module _ {K V : Type 0} (same : K → K → Bool) (slot caller map : ℕ) (name 
         record {
           finds = (was_there, tt);
           number_then = number;
+          numbers = λ o l. refl;
           own = record {
             there = there_on map number s s2 m v known known blocks_on (λ b lasting. refl) refl tables (record { there = refl; tables = refl }) shown.there;
             pairs = goes_out map number s s2 m v known known blocks_on (λ b lasting. refl) shown.pairs p there refl refl many stored
@@ -258,6 +270,7 @@ module _ {K V : Type 0} (same : K → K → Bool) (slot caller map : ℕ) (name 
           };
           others = λ other ne. removed_other name map other ne m its was_there (omega (arith, many));
           keeps = λ b lasting. refl;
+          back = λ b of. inl refl;
           blocks = record {
             roles = λ b. kept v.stored (lasts_same m.stored v.stored (stored_no_more (acting name m) its m.stored).1) b;
             once = shown_blocks.once;
@@ -284,6 +297,7 @@ module _ {K V : Type 0} (same : K → K → Bool) (slot caller map : ℕ) (name 
           record {
             finds = (was_there, ((next, may), tt));
             number_then = put c.stored (known.stored + 1) number;
+            numbers = λ o l. put_elsewhere c.stored (known.stored + 1) number o (λ e. omega (arith, l, e));
             own = record {
               there = there_on map number s s2 m v known (with_pair b known) blocks_on keeps refl tables (record { there = refl; tables = refl }) shown.there;
               pairs = comes_in map number without_it s2 out v known (with_pair b known) (record { tables = blocks_on.tables; pairs = blocks_on.pairs }) keeps (left_pairs out refl refl none_more)
@@ -294,5 +308,6 @@ module _ {K V : Type 0} (same : K → K → Bool) (slot caller map : ℕ) (name 
             others = λ other ne. alike_then other m out v (replaced_other name map other ne m its was_there (omega (arith, none_more)))
                 (stored_other name map other ne out (known.stored + 1) spot next (omega (arith, many)));
             keeps = keeps;
+            back = back_stored one_more fresh b its_block;
             blocks = blocks_stored one_more fresh b its_block v (one.0, one.1, one.2 ∙ ap (λ (xs : List (K × V)). xs ++ (one.0, one.1) ∷ []) none_left, one.3);
           }

@@ -31,7 +31,7 @@ use Rattle.papaya_follows.specs.Blocks.{HasRole}
 use Rattle.papaya_follows.specs.Maps.{table_of}
 use Rattle.papaya_follows.proofs.Alike.{AllStill, calm_still, put_here, put_elsewhere}
 use Rattle.papaya_follows.proofs.Kept.{role_kept, not_own}
-use Rattle.papaya_follows.proofs.Onward.{IsLasting, KeepsRoles}
+use Rattle.papaya_follows.proofs.Onward.{IsLasting, IsOfMap, KeepsRoles}
 use Rattle.papaya_follows.proofs.Operations.{StaysThere, LeavesBy}
 use Rattle.papaya_follows.proofs.Quiet.{written_still}
 
@@ -50,6 +50,11 @@ made_no_pair : (acting : Acting) (k : Kind) (n : ℕ) → made_role acting k ≡
 made_no_pair acting kind.Pair n e = cc e
 made_no_pair acting (kind.Table len limit turn) n e = cc e
 made_no_pair acting kind.Shards n e = cc e
+
+made_not_of : (acting : Acting) (k : Kind) → IsOfMap (made_role acting k) → ⊥
+made_not_of acting kind.Pair of = of
+made_not_of acting (kind.Table len limit turn) of = of
+made_not_of acting kind.Shards of = of
 
 made_still : (acting : Acting) (k : Kind) → AllStill (Asked ABlock ∷ made_by acting k)
 made_still acting kind.Pair = (refl, (refl, tt))
@@ -73,10 +78,11 @@ module _ {K V : Type 0} (same : K → K → Bool) (hash : K → ℕ) (setting : 
   abbrev pub its : Acting
   its = Call caller map
 
-  -- nothing has moved: each block has its role, and those that were linked have the same
+  -- nothing has moved: each block has its role, and those that were linked have the same, and no others
   pub record IsQuiet (effects : List Effect) (after : Known) : Type 0 where
     pub still : AllStill effects
     pub keeps : KeepsRoles known after
+    pub back : (b : ℕ) → IsOfMap (after.roles b) → known.roles b ≡ after.roles b
     pub roles : (b : ℕ) → HasRole went.w2 count b (after.roles b)
     pub once : ArePairsOnce after.roles
     pub stored : after.stored ≡ known.stored
@@ -103,16 +109,21 @@ module _ {K V : Type 0} (same : K → K → Bool) (hash : K → ℕ) (setting : 
   as_before effects still after same_roles as_many stays = record {
     still = still;
     keeps = λ b last. ap (λ (f : ℕ → Role). f b) same_roles;
+    back = λ b of. ap (λ (f : ℕ → Role). f b) (sym same_roles);
     roles = λ b. subst (λ (f : ℕ → Role). HasRole went.w2 count b (f b)) (sym same_roles) (kept b (stays b) (known.roles b) (had b));
     once = subst ArePairsOnce (sym same_roles) single;
     stored = as_many;
   }
 
   one_put : (effects : List Effect) → AllStill effects → (x : ℕ) (r : Role) → (IsLasting (known.roles x) → ⊥) → HasRole went.w2 count x r → ((n : ℕ) → r ≡ role.Pair n → ⊥)
-      → ((b : ℕ) → b ≢ x → StaysThere w.memory m2 b) → IsQuiet effects (with_role x r known)
-  one_put effects still x r none has no_pair stays = record {
+      → (IsOfMap r → ⊥) → ((b : ℕ) → b ≢ x → StaysThere w.memory m2 b) → IsQuiet effects (with_role x r known)
+  one_put effects still x r none has no_pair not_of stays = record {
     still = still;
     keeps = λ b last. put_elsewhere x r known.roles b (λ e. none (subst (λ (y : ℕ). IsLasting (known.roles y)) e last));
+    back = λ b of. elim (cases_eq b x) as (λ _. known.roles b ≡ put x r known.roles b) [
+      | inl e ↦ absurd (not_of (subst IsOfMap (put_here x r known.roles b e) of))
+      | inr ne ↦ sym (put_elsewhere x r known.roles b ne)
+    ];
     roles = λ b. elim (cases_eq b x) as (λ _. HasRole went.w2 count b (put x r known.roles b)) [
       | inl e ↦ subst (λ (q : Role). HasRole went.w2 count b q) (sym (put_here x r known.roles b e)) (subst (λ (y : ℕ). HasRole went.w2 count y r) (sym e) has)
       | inr ne ↦ subst (λ (q : Role). HasRole went.w2 count b q) (sym (put_elsewhere x r known.roles b ne)) (kept b (stays b ne) (known.roles b) (had b))
@@ -153,10 +164,10 @@ module _ {K V : Type 0} (same : K → K → Bool) (hash : K → ℕ) (setting : 
       (λ b. record { gone = λ none. left.2 b ∙ none; there = λ value is. (value, left.2 b ∙ is) })
   quiet_told (changed.Made k b) left quiet =
       one_put (effects_of its known (changed.Made k b)) (made_still its k) b (made_role its k) (λ last. (lasts b (known.roles b) (had b) last).0 left.0)
-      (subst (λ (x : Kind). HasRole went.w2 count b (made_role its x)) left.2 (made_has b left.1 left.3)) (made_no_pair its k) left.4
+      (subst (λ (x : Kind). HasRole went.w2 count b (made_role its x)) left.2 (made_has b left.1 left.3)) (made_no_pair its k) (made_not_of its k) left.4
   quiet_told (changed.Unmade k) left quiet = as_before (effects_of its known (changed.Unmade k)) (refl, tt) known refl refl left
   quiet_told (changed.Took b) left quiet =
-      one_put (taken_by its (known.roles b)) (taken_still b (known.roles b) none) b role.Free none (ap (λ (m : Mem (Node K V)). value_at m b) went.memory ∙ left.1) (λ n e. cc e) left.2
+      one_put (taken_by its (known.roles b)) (taken_still b (known.roles b) none) b role.Free none (ap (λ (m : Mem (Node K V)). value_at m b) went.memory ∙ left.1) (λ n e. cc e) (λ of. of) left.2
     where
       none : IsLasting (known.roles b) → ⊥
       none last = (lasts b (known.roles b) (had b) last).1 left.1

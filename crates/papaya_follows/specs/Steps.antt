@@ -13,8 +13,8 @@ use Rattle.papaya_schedules.specs.declared.effect.Effect.TheVariants.{Stored, De
 use Rattle.papaya_schedules.specs.declared.effect.Thing.TheVariants.{APair, ATable}
 use Rattle.papaya_schedules.specs.Entry.{acting}
 use Rattle.papaya_schedules.specs.Effects.{new_pair, with_effects, AtEachEffect}
-use Rattle.papaya_schedules.specs.Moment.{UnderWay as CallThere, Moment}
-use Rattle.papaya_schedules.specs.Views.{is_in_a_map, first_of}
+use Rattle.papaya_schedules.specs.Moment.{UnderWay as CallThere, MapThere, Moment}
+use Rattle.papaya_schedules.specs.Views.{is_in_a_map, map_at}
 use Rattle.papaya_teller.specs.declared.changed.Changed.{Changed}
 use Rattle.papaya_teller.specs.declared.changed.Changed.TheVariants as changed
 use Rattle.papaya_effects.specs.Effects.{effects_of, known_after}
@@ -37,21 +37,25 @@ named_now (changed.Wrote at old new) = block_in new
 named_now _ = 0
 
 module _ {K V : Type 0} where
-  -- what is stored the call has to store: it is the pair that this block holds
+  -- the pair that this block holds the call has to store, as the one of this number
+  abbrev pub HasToStore : Mem (Node K V) → ℕ → Option (CallThere K V) → ℕ → Type 0
+  HasToStore memory b (Some c) n = (k : K) × (v : V) × (new_pair c.call c n ≡ (k, v) ∷ []) × (value_at memory b ≡ Some (node.Pair k v))
+  HasToStore memory b None n = ⊥
+
+  -- what is stored the call has to store
   abbrev pub HasPair : Mem (Node K V) → ℕ → Option (CallThere K V) → Effect → Type 0
-  HasPair memory b (Some c) (Stored n s) = (k : K) × (v : V) × (new_pair c.call c n ≡ (k, v) ∷ []) × (value_at memory b ≡ Some (node.Pair k v))
-  HasPair memory b None (Stored n s) = ⊥
-  HasPair memory b _ _ = Unit {0}
+  HasPair memory b o (Stored n s) = HasToStore memory b o n
+  HasPair memory b o _ = Unit {0}
 
   -- each pair that these effects of a call store is one that it has to store
   abbrev pub StoreTheirs : Mem (Node K V) → Changed → List ℕ → ℕ → List Effect → Moment K V → Type 0
   StoreTheirs memory told caller map effects m = AtEachEffect (λ v f. HasPair memory (named_now told) (acting (Some caller) v) f) (Some caller) (Some map) effects m
 
-  -- what is handed over has left its map: a pair, or a table that the root has passed
+  -- what is handed over has left its map: a pair, or a table that the root has passed, if the map is there still
   abbrev pub HasLeft : Moment K V → Effect → Type 0
   HasLeft m (Deferred n t) = is_in_a_map (m.place n) ≡ false
   HasLeft m (Retired (APair n)) = is_in_a_map (m.place n) ≡ false
-  HasLeft m (Retired (ATable t)) = t.turn < first_of t.map m
+  HasLeft m (Retired (ATable t)) = (there : MapThere) → map_at t.map m ≡ Some there → t.turn < there.first
   HasLeft m _ = Unit {0}
 
   abbrev pub HandTheirs : List ℕ → ℕ → List Effect → Moment K V → Type 0

@@ -28,22 +28,10 @@ use Rattle.papaya_effects.specs.declared.role.Role.TheVariants as role
 use Rattle.papaya_follows.specs.Blocks.{HasRole}
 use Rattle.papaya_follows.specs.Maps.{table_of}
 use Rattle.papaya_follows.proofs.Alike.{AllCalm, put_here, put_elsewhere}
-use Rattle.papaya_follows.proofs.Onward.{IsLasting, KeepsRoles}
+use Rattle.papaya_follows.proofs.Onward.{IsLasting, IsOfMap, KeepsRoles}
 use Rattle.papaya_follows.proofs.Operations.{LeavesBy}
 use Rattle.papaya_follows.proofs.Quiet.{written_still}
-use Rattle.papaya_follows.proofs.Told.{ArePairsOnce, quiet_told, roomed_as_many}
-
--- a block is a pair, or a table, of a map
-abbrev pub IsOfMap : Role → Type 0
-IsOfMap (role.Pair n) = Unit {0}
-IsOfMap (role.Table t len) = Unit {0}
-IsOfMap _ = ⊥
-
--- what is made is none yet
-made_none : (acting : Acting) (k : Kind) → IsOfMap (made_role acting k) → ⊥
-made_none acting kind.Pair of = of
-made_none acting (kind.Table len limit turn) of = of
-made_none acting kind.Shards of = of
+use Rattle.papaya_follows.proofs.Told.{ArePairsOnce, IsQuiet, quiet_told}
 
 made_calm : (acting : Acting) (k : Kind) → AllCalm (Asked ABlock ∷ made_by acting k)
 made_calm acting kind.Pair = (refl, (refl, tt))
@@ -71,11 +59,11 @@ module _ {K V : Type 0} (same : K → K → Bool) (hash : K → ℕ) (setting : 
   abbrev its : Acting
   its = Call caller map
 
-  abbrev Calm : Changed → Type 0
-  Calm t = IsCalm known (effects_of its known t) (known_after its t known)
+  still : IsQuiet same hash setting caller w c blocks m2 Told went is_map map count known had single tables (effects_of its known told) (known_after its told known)
+  still = quiet_told same hash setting caller w c blocks m2 Told went is_map map count known had single tables told left quiet
 
-  kept_by : (t : Changed) → told ≡ t → KeepsRoles known (known_after its t known)
-  kept_by t e = subst (λ (x : Changed). KeepsRoles known (known_after its x known)) e (quiet_told same hash setting caller w c blocks m2 Told went is_map map count known had single tables told left quiet).keeps
+  abbrev Calm : Changed → Type 0
+  Calm t = AllCalm (effects_of its known t)
 
   roomed_calm : (q : Bool) → AllCalm (if q then [] else Asked ABucket ∷ [])
   roomed_calm true = tt
@@ -90,23 +78,16 @@ module _ {K V : Type 0} (same : K → K → Bool) (hash : K → ℕ) (setting : 
   taken_calm (role.Counter of) none = tt
 
   calm_of : (t : Changed) → told ≡ t → Calm t
-  calm_of changed.Nothing e = record { calm = tt; keeps = kept_by changed.Nothing e; back = λ b of. refl }
+  calm_of changed.Nothing e = tt
   calm_of (changed.Wrote at old new) e =
       let words = subst (LeavesBy w.memory m2) e left in
-      let done = written_still same hash setting caller w c blocks m2 Told went is_map map count known had tables at old new words.0 words.1 (quiet at old new e) in
-      record { calm = done.0; keeps = kept_by (changed.Wrote at old new) e; back = λ b of. ap (λ (k : Known). k.roles b) done.1 }
-  calm_of (changed.Made k b) e = record { calm = made_calm its k; keeps = kept_by (changed.Made k b) e; back = put_back known.roles b (made_role its k) (made_none its k) }
-  calm_of (changed.Unmade k) e = record { calm = (refl, tt); keeps = kept_by (changed.Unmade k) e; back = λ b of. refl }
-  calm_of (changed.Took b) e = record {
-    calm = taken_calm (known.roles b) (λ last. (let one : role.Free ≡ known.roles b = sym (put_here b role.Free known.roles b refl) ∙ kept_by (changed.Took b) e b last in subst IsLasting (sym one) last));
-    keeps = kept_by (changed.Took b) e;
-    back = put_back known.roles b role.Free (λ of. of);
-  }
-  calm_of (changed.Roomed bucket had2) e = record {
-    calm = roomed_calm (nat_lt bucket known.buckets);
-    keeps = kept_by (changed.Roomed bucket had2) e;
-    back = λ b of. ap (λ (f : ℕ → Role). f b) (roomed_as_many its known bucket had2).0;
-  }
+      (written_still same hash setting caller w c blocks m2 Told went is_map map count known had tables at old new words.0 words.1 (quiet at old new e)).0
+  calm_of (changed.Made k b) e = made_calm its k
+  calm_of (changed.Unmade k) e = (refl, tt)
+  calm_of (changed.Took b) e =
+      let keeps = subst (λ (x : Changed). KeepsRoles known (known_after its x known)) e still.keeps in
+      taken_calm (known.roles b) (λ last. (let one : role.Free ≡ known.roles b = sym (put_here b role.Free known.roles b refl) ∙ keeps b last in subst IsLasting (sym one) last))
+  calm_of (changed.Roomed bucket had2) e = roomed_calm (nat_lt bucket known.buckets)
 
-  pub calm_done : Calm told
-  calm_done = calm_of told refl
+  pub calm_done : IsCalm known (effects_of its known told) (known_after its told known)
+  calm_done = record { calm = calm_of told refl; keeps = still.keeps; back = λ b of. sym (still.back b of) }

@@ -17,10 +17,11 @@ use Rattle.papaya_effects.specs.declared.acting.Acting.TheVariants.{Call}
 use Rattle.papaya_effects.specs.declared.role.Role.{Role}
 use Rattle.papaya_effects.specs.declared.role.Role.TheVariants as role
 use Rattle.papaya_follows.specs.Blocks.{ShowsBlocks}
+use Rattle.papaya_follows.proofs.Onward.{IsOfMap}
 use Rattle.papaya_follows.proofs.Operations.{LeavesBy}
 use Rattle.papaya_follows.proofs.Rows.{HandsOn, IsStill, Puts, Retires, RowLeaves, row_written}
 use Rattle.papaya_follows.proofs.Told.{roomed_as_many}
-use Rattle.papaya_spots.proofs.Calm.{IsOfMap, put_back}
+use Rattle.papaya_spots.proofs.Calm.{put_back}
 use Rattle.papaya_spots.proofs.Effects.{AllAside, calm_aside}
 use Rattle.papaya_spots.proofs.Stays.{WerePairs}
 

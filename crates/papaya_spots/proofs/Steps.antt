@@ -48,6 +48,7 @@ use Rattle.papaya_follows.specs.Maps.{ShowsMap}
 use Rattle.papaya_follows.specs.Shows.{Shows}
 use Rattle.papaya_follows.specs.Steps.{TakesNone, Did, IsOfNoRow}
 use Rattle.papaya_follows.proofs.Nowhere.{went_nowhere}
+use Rattle.papaya_follows.proofs.Onward.{IsOfMap}
 use Rattle.papaya_follows.proofs.Operations.{LeavesBy, Operated, operated, operated_leaves, seen_write, told_write}
 use Rattle.papaya_follows.proofs.Rows.{one_step_leaves}
 use Rattle.papaya_follows.proofs.Steps.{one_of}
@@ -55,7 +56,7 @@ use Rattle.papaya_spots.specs.Placed.{FindPlaces, CallsFindPlaces}
 use Rattle.papaya_spots.specs.Spots.{spot_in, ShowsSpots, ShowsPlaces}
 use Rattle.papaya_spots.specs.Steps.{CallsKeepPlaces, CallsKeepBlocks}
 use Rattle.papaya_spots.specs.Unreclaimed.{ShowsUnreclaimed}
-use Rattle.papaya_spots.proofs.Calm.{IsOfMap, IsCalm, calm_done}
+use Rattle.papaya_spots.proofs.Calm.{IsCalm, calm_done}
 use Rattle.papaya_spots.proofs.Done.{DidMoved, did_moved}
 use Rattle.papaya_spots.proofs.Effects.{calm_aside}
 use Rattle.papaya_spots.proofs.Elsewhere.{Leaves, moved_leaves, other_lies, stored_grows}

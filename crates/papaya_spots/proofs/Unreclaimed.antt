@@ -15,9 +15,8 @@ use Rattle.papaya_effects.specs.Known.{Known, with_pair, with_role}
 use Rattle.papaya_effects.specs.declared.role.Role.{Role}
 use Rattle.papaya_effects.specs.declared.role.Role.TheVariants as role
 use Rattle.papaya_follows.proofs.Alike.{put_here, put_elsewhere}
-use Rattle.papaya_follows.proofs.Onward.{IsLasting, KeepsRoles}
+use Rattle.papaya_follows.proofs.Onward.{IsLasting, IsOfMap, KeepsRoles}
 use Rattle.papaya_spots.specs.Unreclaimed.{is_unreclaimed, ShowsUnreclaimed}
-use Rattle.papaya_spots.proofs.Calm.{IsOfMap}
 
 -- blocks of maps are those that they were
 abbrev pub WereOfMaps : Known → Known → Type 0

@@ -1,0 +1,141 @@
+-- What a step of a call on one key that has changed its map has stored: the pair that the call was begun with, or was told to store.
+use Rattle.std.specs.Prelude.{◌≡◌, ◌≢◌, ℕ, ◌<◌, ◌≤◌, Bool, true, false, Option, Some, None, ◌⊎◌}
+use Rattle.std.proofs.Common.{refl, ap, sym, subst, ◌∙◌, arith, inl, inr}
+use Rattle.seize_words.specs.Mem.{Mem}
+use Rattle.seize_words.specs.declared.fault.Fault.{Fault}
+use Rattle.seize.specs.World.{World, with_at}
+use Rattle.papaya_tables.specs.declared.node.Node.{Node}
+use Rattle.papaya_tables.specs.declared.setting.Setting.{Setting}
+use Rattle.papaya_raw.specs.declared.machines.answer.Called.{Called}
+use Rattle.papaya_raw.specs.declared.machines.answer.Called.TheVariants as called
+use Rattle.papaya_raw.specs.declared.machines.answer.KeyAnswer.{KeyAnswer}
+use Rattle.papaya_raw.specs.declared.machines.answer.KeyAnswer.TheVariants as answers
+use Rattle.papaya_raw.specs.declared.machines.call.KeyCall.{KeyCall}
+use Rattle.papaya_raw.specs.declared.machines.call.Calling.{Calling}
+use Rattle.papaya_raw.specs.declared.machines.call.Calling.TheVariants as at
+use Rattle.papaya_late.specs.Kinds as kinds
+use Rattle.papaya_rule.specs.Chart.{Chart}
+use Rattle.papaya_rule.specs.Words.{Blocks}
+use Rattle.papaya_points.specs.FactsCalls.{Change, Unchanged, Stored, Replaced, Removed, Seeks, CallingFacts, CallFacts, Tells}
+use Rattle.papaya_callers.specs.Kind.{Kind}
+use Rattle.papaya_callers.specs.Pairs.{Given, Begun, IsTold, kind_of, IsOfKind, StoresGiven, KeepsGiven}
+use Rattle.papaya_callers.specs.Rows.{once_over}
+use Rattle.papaya_callers.specs.Sights.{Sight, seen_by}
+use Rattle.papaya_callers.specs.Together.{CallOnKey, UnderWay, OnKey, in_slot, Knows, Stands, next_of, change_told, AnswersOnce, RefusesOnce, StepsTogether}
+use Rattle.papaya_callers.proofs.Together.At.{at_same}
+use Rattle.papaya_hands.proofs.Puts.{MayDo}
+
+module _ {K V Q : Type 0} (same : K → K → Bool) (hash : K → ℕ) (asks : Q → K → Bool) (setting : Setting) (slot : ℕ → ℕ) (i : ℕ) (u : CallOnKey K V Q) where
+  abbrev change : Change
+  change = u.change
+
+  -- it has changed nothing, or stored what it was begun with, or was told to, as a call of its kind may; the pair is in this block
+  abbrev pub HasDone : World (Node K V) → Chart K → ℕ → ℕ → Type 0
+  HasDone w c n b =
+      (change ≡ Unchanged)
+      ⊎ ((blocks : Blocks) × (blocks.pair n ≡ b) × MayDo (kind_of u.pair) change × StoresGiven hash w.memory c blocks u.pair change)
+
+  tells_kind : (w : World (Node K V)) (c : Chart K) (seen : Blocks) (kind : Kind) (x : Change) (answer : KeyAnswer) → kinds.Fits kind.present kind.absent kind.takes answer
+      → Tells same hash asks w i (in_slot setting (slot i)) c seen u.keys change x answer → MayDo kind x
+  tells_kind w c seen kind Unchanged answer fits tells = tt
+  tells_kind w c seen kind (Removed n) answer fits tells = tt
+  tells_kind w c seen kind (Stored n) (answers.Stored word) fits tells = fits
+  tells_kind w c seen kind (Stored n) (answers.Found word) fits tells = absurd tells
+  tells_kind w c seen kind (Stored n) answers.Absent fits tells = absurd tells
+  tells_kind w c seen kind (Stored n) (answers.Replaced old new) fits tells = absurd tells
+  tells_kind w c seen kind (Stored n) (answers.Removed word) fits tells = absurd tells
+  tells_kind w c seen kind (Replaced o n) (answers.Replaced old new) fits tells = fits
+  tells_kind w c seen kind (Replaced o n) (answers.Stored word) fits tells = absurd tells
+  tells_kind w c seen kind (Replaced o n) (answers.Found word) fits tells = absurd tells
+  tells_kind w c seen kind (Replaced o n) answers.Absent fits tells = absurd tells
+  tells_kind w c seen kind (Replaced o n) (answers.Removed word) fits tells = absurd tells
+
+  counts_kind : (kind : Kind) (removed n : ℕ) → kinds.FitsCount kind.present kind.absent kind.takes removed → removed ≡ 0 → change ≡ Stored n → MayDo kind change
+  counts_kind kind removed n fits none is = subst (MayDo kind) (sym is) (fits.0 none)
+
+  removed_kind : (kind : Kind) (n : ℕ) → change ≡ Removed n → MayDo kind change
+  removed_kind kind n is = subst (MayDo kind) (sym is) tt
+
+  module _ (w : World (Node K V)) (c : Chart K) (seen : Blocks) (p : KeyCall K V Q) where
+    abbrev pub Held : Type 0
+    Held = (change ≡ Unchanged) ⊎ (MayDo (kind_of u.pair) change × StoresGiven hash w.memory c seen u.pair change)
+
+    -- where it goes on, it stands past its change, and keeps what it has stored
+    at_counts : (given : Given K V) (removed : ℕ) → CallingFacts same hash asks w i (in_slot setting (slot i)) c seen u.keys change p (at.Counts removed)
+        → KeepsGiven hash w.memory c seen u.keys given change p (at.Counts removed) → MayDo (kind_of given) change × StoresGiven hash w.memory c seen given change
+    at_counts (Begun kind pair) removed (inl stored) keeps = (counts_kind kind removed stored.1 keeps.2.4 stored.0 stored.2, keeps.1)
+    at_counts (Begun kind pair) removed (inr gone) keeps = (removed_kind kind gone.0 gone.3, keeps.1)
+    at_counts (IsTold kind its asked) removed (inl stored) keeps = (counts_kind kind removed stored.1 keeps.2.4 stored.0 stored.2, keeps.0)
+    at_counts (IsTold kind its asked) removed (inr gone) keeps = (removed_kind kind gone.0 gone.3, keeps.0)
+
+    held_at : (stands : Calling) → (Seeks same hash asks w i (in_slot setting (slot i)) c seen u.keys change stands → change ≡ Unchanged) → CallingFacts same hash asks w i (in_slot setting (slot i)) c seen u.keys change p stands
+        → KeepsGiven hash w.memory c seen u.keys u.pair change p stands → Held
+    held_at at.Makes seeks point keeps = inl (seeks tt)
+    held_at (at.Looks lookup) seeks point keeps = inl (seeks tt)
+    held_at at.Roots seeks point keeps = inl (seeks tt)
+    held_at at.Probes seeks point keeps = inl (seeks tt)
+    held_at (at.Tries word new) seeks point keeps = inl (seeks tt)
+    held_at at.Nexts seeks point keeps = inl (seeks tt)
+    held_at (at.Firsts making) seeks point keeps = inl (seeks tt)
+    held_at (at.Allocs making) seeks point keeps = inl (seeks tt)
+    held_at (at.Helps copier goal) seeks point keeps = inl (seeks tt)
+    held_at (at.Copies copier) seeks point keeps = inl (seeks tt)
+    held_at (at.Asks asking) seeks point keeps = inl (seeks tt)
+    held_at (at.Drops end) seeks point keeps = inl (seeks tt)
+    held_at (at.Over end) seeks point keeps = inl point
+    held_at (at.Counts removed) seeks point keeps = inr (at_counts u.pair removed point keeps)
+    held_at (at.Disposes dispose answer) seeks point keeps = inr (by u.pair keeps)
+      where
+        by : (given : Given K V) → KeepsGiven hash w.memory c seen u.keys given change p (at.Disposes dispose answer) → MayDo (kind_of given) change × StoresGiven hash w.memory c seen given change
+        by (Begun kind pair) keeps = (tells_kind w c seen kind change answer keeps.2.4 point.1, keeps.1)
+        by (IsTold kind its asked) keeps = (tells_kind w c seen kind change answer keeps.2.4 point.1, keeps.0)
+
+    pub held : Knows V same hash asks setting slot w c seen i u p → Held
+    held knows = elim (knows.facts) as (λ _. Held) [
+      | inl facts ↦ held_at p.stands facts.unchanged facts.point knows.pair
+      | inr late ↦ inl late.0
+    ]
+
+module _ {K V Q : Type 0} (same : K → K → Bool) (hash : K → ℕ) (asks : Q → K → Bool) (setting : Setting) (slot : ℕ → ℕ) (w : World (Node K V)) (c : Chart K) (blocks : Blocks)
+    (sights : ℕ → Sight) (calls : ℕ → Option (UnderWay K V Q)) (i : ℕ) (u : CallOnKey K V Q) (m2 : Mem (Node K V)) (p2 : KeyCall K V Q) where
+  abbrev Step : Called (Node K V) → Type 0
+  Step progress = StepsTogether V same hash asks setting slot w c blocks sights calls i u m2 p2 progress
+
+  -- the call after its step
+  abbrev pub stepped : (progress : Called (Node K V)) → Step progress → CallOnKey K V Q
+  stepped progress step = record { keys = u.keys; pair = u.pair; began = u.began; change = change_told V same hash asks setting slot step.went.told; call = p2 }
+
+  abbrev pub HasDoneSo : (progress : Called (Node K V)) → Step progress → Type 0
+  HasDoneSo progress step = HasDone same hash asks setting slot i (stepped progress step) step.went.w2 step.went.c2 c.stored (step.went.blocks2.pair c.stored)
+
+  module _ (progress : Called (Node K V)) (step : Step progress) where
+    abbrev seen : Blocks
+    seen = seen_by step.blocks2 (step.sights2 (slot i))
+
+    from_held : Held same hash asks setting slot i (stepped progress step) step.went.w2 step.went.c2 seen p2 → HasDoneSo progress step
+    from_held (inl none) = inl none
+    from_held (inr has) = inr (seen, (step.grown.new_pairs c.stored (omega arith)).0, has.0, has.1)
+
+    pub here : with_at calls i (Some (OnKey (stepped progress step))) i ≡ Some (OnKey (stepped progress step))
+    here = at_same calls i (Some (OnKey (stepped progress step))) i refl
+
+    goes_on : Stands V same hash asks setting slot step.went.w2 step.went.c2 seen i (OnKey (stepped progress step)) → HasDoneSo progress step
+    goes_on stands = elim stands as (λ _. HasDoneSo progress step) [
+      | inl k ↦ from_held (held same hash asks setting slot i (stepped progress step) step.went.w2 step.went.c2 seen p2 k.1)
+      | inr k ↦ from_held (held same hash asks setting slot i (stepped progress step) step.went.w2 step.went.c2 seen (once_over p2) k.2)
+    ]
+
+    answered : (answer : KeyAnswer) → AnswersOnce V same hash asks setting slot step.went.w2 step.went.c2 step.went.blocks2 i u (stepped progress step).change answer → HasDoneSo progress step
+    answered answer (fits, inl none) = inl none.0
+    answered answer (fits, inr has) =
+        inr (step.went.blocks2, refl, tells_kind same hash asks setting slot i (stepped progress step) step.went.w2 step.went.c2 step.went.blocks2 (kind_of u.pair) (stepped progress step).change answer fits has.1, has.2)
+
+  -- so it is after each step that is none of a row
+  pub done : (progress : Called (Node K V)) (step : Step progress) → HasDoneSo progress step
+  done called.Goes step = goes_on called.Goes step (step.together.stand i _ (here called.Goes step))
+  done called.Waits step = goes_on called.Waits step (step.together.stand i _ (here called.Waits step))
+  done (called.Gave value) step = goes_on (called.Gave value) step (step.together.stand i _ (here (called.Gave value) step))
+  done (called.Unstored value) step = goes_on (called.Unstored value) step (step.together.stand i _ (here (called.Unstored value) step))
+  done (called.Asks about) step = goes_on (called.Asks about) step (step.together.stand i _ (here (called.Asks about) step))
+  done (called.Done answer) step = answered (called.Done answer) step answer (step.answers answer refl)
+  done (called.Refused fault) step = inl (step.refuses fault refl).0

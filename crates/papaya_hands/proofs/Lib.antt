@@ -1,0 +1,17 @@
+pub mod Replies
+pub mod Puts
+pub mod Done
+pub mod Stores
+pub mod Replacing
+pub mod Asking
+pub mod AskedOn
+pub mod Steps
+pub mod RowSteps
+pub mod Calling
+pub mod Beginning
+pub mod Takes
+pub mod Told
+pub mod Handing
+pub mod HandTheirs
+pub mod HandsOn
+pub mod Spares

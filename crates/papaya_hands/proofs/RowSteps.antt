@@ -1,0 +1,99 @@
+-- A step of a row within a call: it hands over what has left its map, and calls were told, and blocks are in hands, as the moment says then.
+use Rattle.std.specs.Prelude.{◌≡◌, ℕ, Bool, List, Option, Some, None}
+use Rattle.std.proofs.Common.{refl, ap, sym, subst, ◌∙◌, inl, inr}
+use Rattle.seize_words.specs.Mem.{Mem, value_at}
+use Rattle.seize.specs.World.{World}
+use Rattle.papaya_tables.specs.declared.node.Node.{Node}
+use Rattle.papaya_raw.specs.declared.machines.progress.Progress.{Progress}
+use Rattle.papaya_schedules.specs.declared.effect.Table.{Table}
+use Rattle.papaya_schedules.specs.Moment.{InMap, Moment}
+use Rattle.papaya_callers.specs.Together.{UnderWay, OnKey, ForRoom, Counting, OverAll, IsOneStep, Together}
+use Rattle.papaya_effects.specs.Effects.{effects_of}
+use Rattle.papaya_effects.specs.Known.{Known}
+use Rattle.papaya_effects.specs.declared.acting.Acting.TheVariants as acts
+use Rattle.papaya_effects.specs.declared.role.Role.{Role}
+use Rattle.papaya_effects.specs.declared.role.Role.TheVariants as role
+use Rattle.papaya_executor.specs.IsAt.{Scene, IsAt, slot_of}
+use Rattle.papaya_executor.specs.Stepping.{StepLeads}
+use Rattle.papaya_executor.specs.declared.executor.Executor.{Executor}
+use Rattle.papaya_follows.specs.Blocks.{HasRole}
+use Rattle.papaya_follows.specs.Shows.{Shows}
+use Rattle.papaya_follows.specs.Steps.{HandTheirs, TakesNone}
+use Rattle.papaya_follows.proofs.Onward.{IsLasting}
+use Rattle.papaya_follows.proofs.Operations.{LeavesBy, operated_leaves}
+use Rattle.papaya_follows.proofs.RowSteps.{row_step_shown}
+use Rattle.papaya_follows.proofs.Steps.{WentTo, went_to, made_so, DidSo, OfNoRow, LeadsThere}
+use Rattle.papaya_hands.specs.Hands.{IsInUse, ShowsHands}
+use Rattle.papaya_hands.specs.Steps.{RowsHandTheirs}
+use Rattle.papaya_hands.proofs.AskedOn.{asked_on}
+use Rattle.papaya_hands.proofs.HandTheirs.{hands_out, all_left, used_on}
+use Rattle.papaya_hands.proofs.HandsOn.{used_as, hands_on}
+use Rattle.papaya_hands.proofs.Spares.{handing}
+
+module _ {K V S : Type 0} (same : K → K → Bool) (hash : K → ℕ) (name : ℕ → List ℕ) (m : Moment K V) (known : Known) (s : Scene K V) (old new : Executor K V S) (at : IsAt same hash old s)
+    (shown : Shows same name m known s) (map i : ℕ) (u : UnderWay K V K) (here : s.calls map i ≡ Some u) (told : Progress (Node K V)) (leads : StepLeads same hash i told s old new)
+    (hands : ShowsHands m known s) where
+  abbrev to : WentTo same hash name m known s old new at shown map i u here told leads
+  to = went_to same hash name m known s old new at shown map i u here told leads
+
+  each : Together V same to.0.hash same to.0.setting slot_of s.world to.0.chart to.0.blocks to.0.sights (s.calls map)
+  each = at.together.makings.standing.each map to.0 to.2
+
+  -- the step of the row, and the world that it has led to
+  abbrev IsRowStep : World (Node K V) → Type 0
+  IsRowStep w2 = (w2.memory ≡ new.memory.memory) × IsOneStep to.0.setting i s.world w2 × (to.4.w2 ≡ w2)
+
+  abbrev NoRow : (x : UnderWay K V K) → DidSo same hash name m known s old new at shown map i u here told leads x → Type 0
+  NoRow = OfNoRow same hash name m known s old new at shown map i u here told leads
+
+  row_step : (NoRow u to.4.did → ⊥) → (w2 : World (Node K V)) × IsRowStep w2
+  row_step other = by u to.4.did other
+    where
+      by : (x : UnderWay K V K) → (did : DidSo same hash name m known s old new at shown map i u here told leads x) → (NoRow x did → ⊥) → (w2 : World (Node K V)) × IsRowStep w2
+      by (OnKey x) (p2, end, machine_is, told_is, inl step) other = absurd (other tt)
+      by (OnKey x) (p2, end, machine_is, told_is, inr (row, stayed)) other = (row.step.w2, (row.step.memory, row.step.happened, stayed.0))
+      by (ForRoom x) (p2, end, machine_is, told_is, inl step) other = absurd (other tt)
+      by (ForRoom x) (p2, end, machine_is, told_is, inr (row, stayed)) other = (row.step.w2, (row.step.memory, row.step.happened, stayed.0))
+      by (Counting x) did other = absurd (other tt)
+      by (OverAll x) (p2, end, machine_is, told_is, inl step) other = absurd (other tt)
+      by (OverAll x) (p2, end, machine_is, told_is, inr (row, stayed)) other = (row.step.w2, (row.step.memory, row.step.happened, stayed.0))
+
+  -- what it hands over has left its map
+  pub hands_theirs : (NoRow u to.4.did → ⊥) → HandTheirs (name i) map (effects_of (acts.Call i map) known new.memory.changed) m
+  hands_theirs other =
+      let row = row_step other in
+      all_left (name i) i map m known s hands row.0
+      (hands_out to.0.setting i s.world row.0 each.ground.came (handing same to.0 s.world (s.calls map) each i u here) row.1.1) new.memory.changed
+      (subst (λ (n : Mem (Node K V)). LeavesBy s.world.memory n new.memory.changed) (sym row.1.0)
+      (operated_leaves s.world.memory new.memory.memory new.memory.changed (made_so same hash name m known s old new at shown map i u here told leads)))
+
+  module _ (other : NoRow u to.4.did → ⊥) (on : LeadsThere same hash name m known s old new at shown map i u here told leads) where
+    -- a block that was linked, and is there, is in use where it was
+    used_then : (b : ℕ) → ((value_at to.4.w2.memory b ≡ None) → ⊥) → IsInUse (s.world.hand b) → IsInUse (to.4.w2.hand b)
+    used_then b there used =
+        let row = row_step other in
+        used_as (row.0.hand b) (to.4.w2.hand b) (ap (λ (w : World (Node K V)). w.hand b) row.1.2)
+        (used_on to.0.setting i s.world row.0 each.ground.came b (λ gone. there (ap (λ (w : World (Node K V)). value_at w.memory b) row.1.2 ∙ gone)) row.1.1 used)
+
+    pub pairs_then : (b n of : ℕ) → known.roles b ≡ role.Pair n → m.place n ≡ InMap of → s.maps of ≡ None → IsInUse (s.world.hand b) → IsInUse (to.4.w2.hand b)
+    pairs_then b n of is there gone =
+        let its = subst (HasRole to.4.w2 _ b) (on.keeps b (subst IsLasting (sym is) tt) ∙ is) (on.shows.blocks.roles b) in used_then b (λ none. let some = its.3 in cc (some, none))
+
+    pub tables_then : (b len : ℕ) (t : Table) → known.roles b ≡ role.Table t len → s.maps t.map ≡ None → IsInUse (s.world.hand b) → IsInUse (to.4.w2.hand b)
+    tables_then b len t is gone =
+        let its = subst (HasRole to.4.w2 _ b) (on.keeps b (subst IsLasting (sym is) tt) ∙ is) (on.shows.blocks.roles b) in used_then b (λ none. let some = its.1 in cc (some, none))
+
+pub rows_hand_theirs : (K V S : Type 0) (same : K → K → Bool) (hash : K → ℕ) → RowsHandTheirs K V S same hash
+rows_hand_theirs K V S same hash name m known s old new at all map i u here told leads other =
+    let theirs = hands_theirs same hash name m known s old new at all.shown map i u here told leads all.hands other in (
+      theirs,
+      λ none.
+          let on = row_step_shown same hash name m known s old new at all.shown map i u here told leads other none theirs in
+          let to = went_to same hash name m known s old new at all.shown map i u here told leads in
+          record {
+            shown = on.shows;
+            asked = asked_on same hash name m known s old new at all.shown map i u here told leads all.asked on;
+            hands = hands_on same hash name m known s all.shown all.hands _ _ _ on new to.5 (pairs_then same hash name m known s old new at all.shown map i u here told leads all.hands other on)
+                (tables_then same hash name m known s old new at all.shown map i u here told leads all.hands other on);
+          },
+    )

@@ -1,0 +1,10 @@
+-- How a run begins: no call was told anything.
+use Rattle.std.specs.Prelude.{ℕ, Bool, List}
+use Rattle.papaya_schedules.specs.Moment.{start}
+use Rattle.papaya_effects.specs.Known.{nothing_known}
+use Rattle.papaya_executor.specs.IsAt.{at_first}
+use Rattle.papaya_hands.specs.Shows.{ShowsAll}
+
+-- The promise: the moment before all events shows the first scene.
+abbrev pub RunsBeginSo : Type 0 → Type 0 → Type 0
+RunsBeginSo K V = (same : K → K → Bool) (roots : ℕ) (name : ℕ → List ℕ) → ShowsAll {K = K} {V = V} same name start nothing_known (at_first roots)

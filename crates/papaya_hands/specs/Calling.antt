@@ -1,0 +1,63 @@
+-- Calls between their steps, with what they were told: where one begins, is told a reply, or has come to an outcome.
+use Rattle.std.specs.Prelude.{◌≡◌, ℕ, Bool, true, List, [], Option, Some, Result, Ok}
+use Rattle.papaya_runs.specs.Same.{is_same}
+use Rattle.papaya_raw.specs.Machine.{machine_replied}
+use Rattle.papaya_raw.specs.declared.machines.asking.Reply.{Reply as MachineReply}
+use Rattle.papaya_schedules.specs.declared.call.Call.{Call}
+use Rattle.papaya_schedules.specs.declared.call.Call.TheVariants.{On}
+use Rattle.papaya_schedules.specs.declared.call.Reply.{Reply}
+use Rattle.papaya_schedules.specs.declared.outcome.Outcome.{Outcome}
+use Rattle.papaya_schedules.specs.declared.outcome.Outcome.TheVariants.{Asks}
+use Rattle.papaya_schedules.specs.Beginning.{with_call}
+use Rattle.papaya_schedules.specs.Entry.{ends_call}
+use Rattle.papaya_schedules.specs.Moment.{Asking, UnderWay as CallThere, Moment}
+use Rattle.papaya_schedules.specs.Views.{call_of}
+use Rattle.papaya_callers.specs.Together.{UnderWay, OnKey}
+use Rattle.papaya_finishes.specs.Machines.{machine_of, ToldOfKind}
+use Rattle.papaya_finishes.specs.Maps.{Standing}
+use Rattle.papaya_effects.specs.Known.{Known}
+use Rattle.papaya_executor.specs.IsAt.{Scene, IsAt, slot_of}
+use Rattle.papaya_executor.specs.Replying.{scene_with}
+use Rattle.papaya_executor.specs.declared.executor.Executor.{Executor}
+use Rattle.papaya_follows.specs.Calls.{IsCalled}
+use Rattle.papaya_follows.specs.Calling.{NoneNamed, told, come_to}
+use Rattle.papaya_hands.specs.Asked.{as_told, given_by, AsksThere}
+use Rattle.papaya_hands.specs.Shows.{ShowsAll}
+
+module _ {K V : Type 0} where
+  -- a call on one key begins with what was called, and was told nothing
+  abbrev pub IsBegunFor : UnderWay K V K → Call K V → Type 0
+  IsBegunFor (OnKey u) (On one) = u.pair ≡ given_by one []
+  IsBegunFor _ _ = Unit {0}
+
+  -- a call on one key asks just what it is said to ask
+  abbrev pub AsksJust : Known → UnderWay K V K → Outcome V → Type 0
+  AsksJust known (OnKey u) (Asks question) = AsksThere known u.call.stands question
+  AsksJust known _ _ = Unit {0}
+
+module _ (K V : Type 0) (same : K → K → Bool) where
+  -- The promises: a call begins by a name that no call under way has,
+  abbrev pub CallsBeginFor : Type 0
+  CallsBeginFor =
+      (name : ℕ → List ℕ) (m : Moment K V) (known : Known) (s : Scene K V) → ShowsAll same name m known s
+      → (map i : ℕ) (u : UnderWay K V K) (call : Call K V) (guard : List ℕ) → NoneNamed name (name i) s → IsCalled same u call → IsBegunFor u call
+      → ShowsAll same name (with_call (name i) guard call (Some map) m) known (scene_with map i u s)
+
+  -- it comes to an outcome: where it asks, it asks just that, and where it has ended, no call under way has its name any more.
+  abbrev pub CallsComeToSo : Type 0
+  CallsComeToSo =
+      (name : ℕ → List ℕ) (m : Moment K V) (known : Known) (s : Scene K V) → ShowsAll same name m known s
+      → (own : List ℕ) (outcome : Outcome V) (steps : ℕ) → (ends_call outcome ≡ true → NoneNamed name own s)
+      → ((map i : ℕ) (u : UnderWay K V K) → s.calls map i ≡ Some u → is_same (name i) own ≡ true → AsksJust known u outcome)
+      → ShowsAll same name (come_to own outcome steps m) known s
+
+module _ (K V S : Type 0) (same : K → K → Bool) (hash : K → ℕ) where
+  -- and one that asks takes what it is told.
+  abbrev pub CallsTake : Type 0
+  CallsTake =
+      (name : ℕ → List ℕ) (m : Moment K V) (known : Known) (s : Scene K V) (e : Executor K V S) → IsAt same hash e s → ShowsAll same name m known s
+      → (map i : ℕ) (u : UnderWay K V K) → s.calls map i ≡ Some u → (c : CallThere K V) → call_of (name i) m ≡ Some c → (question : Option ℕ) → c.stands ≡ Asking question
+      → (standing : Standing K) → s.maps map ≡ Some standing → (is_told : Reply V) (next : UnderWay K V K)
+      → machine_of next ≡ (machine_replied (machine_of u) (as_told is_told)).0 → (machine_replied (machine_of u) (as_told is_told)).1 ≡ Ok tt
+      → ToldOfKind V same same e.batch_size e.roots slot_of standing i u (as_told is_told) next
+      → ShowsAll same name (told (name i) is_told m) known (scene_with map i next s)
