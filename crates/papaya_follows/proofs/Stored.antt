@@ -43,7 +43,7 @@ use Rattle.papaya_follows.proofs.Told.{ArePairsOnce}
 use Rattle.papaya_follows.proofs.Writes.{own_pair}
 
 -- a step of a call on one key stores no pair but with one effect
-stored_no_more : {K V : Type 0} (o : Option (UnderWay K V)) (n : ℕ) (stored : List (K × V)) → (stored_by o (Replaced n) stored ≡ stored) × (stored_by o (Removed n) stored ≡ stored)
+pub stored_no_more : {K V : Type 0} (o : Option (UnderWay K V)) (n : ℕ) (stored : List (K × V)) → (stored_by o (Replaced n) stored ≡ stored) × (stored_by o (Removed n) stored ≡ stored)
 stored_no_more None n stored = (refl, refl)
 stored_no_more (Some c) n stored = (refl, refl)
 

@@ -15,5 +15,7 @@ pub mod Unreclaimed
 pub mod Holding
 pub mod Placed
 pub mod Finding
+pub mod Deferred
+pub mod Numbers
 pub mod Begins
 pub mod Steps

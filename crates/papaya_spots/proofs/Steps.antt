@@ -11,9 +11,10 @@ use Rattle.papaya_tables.specs.declared.node.Node.{Node}
 use Rattle.papaya_tables.specs.declared.setting.Setting.{Setting}
 use Rattle.papaya_raw.specs.Machine.{machine_plan}
 use Rattle.papaya_raw.specs.declared.machines.machine.Machine.{Machine}
+use Rattle.papaya_raw.specs.declared.machines.progress.Progress.{Progress}
 use Rattle.papaya_schedules.specs.declared.effect.Effect.{Effect}
 use Rattle.papaya_schedules.specs.declared.effect.Spot.{Spot}
-use Rattle.papaya_schedules.specs.Effects.{with_effects}
+use Rattle.papaya_schedules.specs.Effects.{with_effects, AtEachEffect}
 use Rattle.papaya_schedules.specs.Moment.{Place, Unborn, InMap, Out, Handed, Behind, Left, GivenBack, Moment}
 use Rattle.papaya_schedules.specs.Views.{is_in_map}
 use Rattle.papaya_teller.specs.declared.changed.Changed.{Changed}
@@ -41,7 +42,7 @@ use Rattle.papaya_effects.specs.declared.acting.Acting.TheVariants.{Call}
 use Rattle.papaya_effects.specs.declared.role.Role.{Role}
 use Rattle.papaya_effects.specs.declared.role.Role.TheVariants as role
 use Rattle.papaya_executor.specs.IsAt.{Scene, IsAt, slot_of}
-use Rattle.papaya_executor.specs.Stepping.{StepsFrom, scene_after}
+use Rattle.papaya_executor.specs.Stepping.{StepsFrom, StepLeads, scene_after}
 use Rattle.papaya_executor.specs.declared.executor.Executor.{Executor}
 use Rattle.papaya_executor.proofs.Steps.{may_step}
 use Rattle.papaya_follows.specs.Maps.{ShowsMap}
@@ -52,16 +53,19 @@ use Rattle.papaya_follows.proofs.Onward.{IsOfMap}
 use Rattle.papaya_follows.proofs.Operations.{LeavesBy, Operated, operated, operated_leaves, seen_write, told_write}
 use Rattle.papaya_follows.proofs.Rows.{one_step_leaves}
 use Rattle.papaya_follows.proofs.Steps.{one_of}
+use Rattle.papaya_spots.specs.Deferred.{FindsNumbers, CallsLeaveOutside}
 use Rattle.papaya_spots.specs.Placed.{FindPlaces, CallsFindPlaces}
 use Rattle.papaya_spots.specs.Spots.{spot_in, ShowsSpots, ShowsPlaces}
 use Rattle.papaya_spots.specs.Steps.{CallsKeepPlaces, CallsKeepBlocks}
 use Rattle.papaya_spots.specs.Unreclaimed.{ShowsUnreclaimed}
 use Rattle.papaya_spots.proofs.Calm.{IsCalm, calm_done}
+use Rattle.papaya_spots.proofs.Deferred.{effects_leave_outside}
 use Rattle.papaya_spots.proofs.Done.{DidMoved, did_moved}
 use Rattle.papaya_spots.proofs.Effects.{calm_aside}
 use Rattle.papaya_spots.proofs.Elsewhere.{Leaves, moved_leaves, other_lies, stored_grows}
 use Rattle.papaya_spots.proofs.Finding.{calm_finds, moved_finds, row_finds}
 use Rattle.papaya_spots.proofs.Holding.{moved_holds, calm_holds, row_holds}
+use Rattle.papaya_spots.proofs.Numbers.{calm_numbers, moved_numbers, row_numbers}
 use Rattle.papaya_spots.proofs.Own.{own_lies}
 use Rattle.papaya_spots.proofs.Rows.{row_aside}
 use Rattle.papaya_spots.proofs.Stays.{places_stay}
@@ -170,6 +174,9 @@ module _ {K V S : Type 0} (same : K → K → Bool) (hash : K → ℕ) (m : Mome
       moved_finds_places lying held = moved_finds same (slot_of i) i map (Some caller) (shown.number map) standing lawful w sight is_sight is_map m2 (λ w2 c2 blocks2. Unit {0}) went blocks2 grown sights2 m known is_shown shown.blocks
           (together map standing there).ground.moments (lying.each map standing there) held (current_there map standing there) told left did
 
+      pub moved_outside : AtEachEffect FindsNumbers (Some caller) (Some map) effects m
+      moved_outside = moved_numbers same (slot_of i) i map (Some caller) (shown.number map) standing lawful w sight is_sight is_map m2 (λ w2 c2 blocks2. Unit {0}) went blocks2 grown sights2 m known is_shown shown.blocks told left did
+
       -- where pairs lie
       module _ (lying : ShowsPlaces m known s.maps) where
         own : ShowsSpots moved_on v known2
@@ -201,6 +208,11 @@ module _ {K V S : Type 0} (same : K → K → Bool) (hash : K → ℕ) (m : Mome
     pub row_finds_places : (w2 : World (Node K V)) → w2.memory ≡ m2 → IsOneStep standing.setting i w w2 → FindPlaces map m effects
     row_finds_places w2 memory happened =
         row_finds i map m known w w2 shown.blocks (one_step_leaves standing.setting i w w2 (together map standing there).ground.came happened) told
+        (subst (λ (n : Mem (Node K V)). LeavesBy w.memory n told) (sym memory) left)
+
+    pub row_outside : (w2 : World (Node K V)) → w2.memory ≡ m2 → IsOneStep standing.setting i w w2 → AtEachEffect FindsNumbers (Some caller) (Some map) effects m
+    row_outside w2 memory happened =
+        row_numbers i map (Some caller) m known w w2 shown.blocks (one_step_leaves standing.setting i w w2 (together map standing there).ground.came happened) told
         (subst (λ (n : Mem (Node K V)). LeavesBy w.memory n told) (sym memory) left)
 
     pub row_blocks : (w2 : World (Node K V)) → w2.memory ≡ m2 → IsOneStep standing.setting i w w2 → TakesNone told → ShowsUnreclaimed m known → ShowsUnreclaimed v known2
@@ -238,110 +250,92 @@ module _ {K V S : Type 0} (same : K → K → Bool) (hash : K → ℕ) (m : Mome
       pub stayed_blocks : ShowsUnreclaimed m known → ShowsUnreclaimed v known2
       stayed_blocks h = calm_holds i map (Some caller) m known h effects known2 stayed_calm
 
+-- A step of a call, whichever kind that is of: it has moved its map's tables, or was one of a row, or has left the memory as it was.
+module _ {K V S : Type 0} (same : K → K → Bool) (hash : K → ℕ) (name : ℕ → List ℕ) (m : Moment K V) (known : Known) (s : Scene K V) (old new : Executor K V S) (at : IsAt same hash old s)
+    (shown : Shows same name m known s) (map i : ℕ) (u : UnderWay K V K) (here : s.calls map i ≡ Some u) (told : Progress (Node K V)) (leads : StepLeads same hash i told s old new) where
+  abbrev To : Type 0
+  To =
+      (standing : Standing K) × (machine : Machine K V K) × (s.maps map ≡ Some standing) × StepsFrom same hash (machine_of u) old new machine told
+      × (did : MachineStepsAmong V same same old.batch_size old.roots slot_of s.world s.maps s.calls s.makers s.enders map standing i new.memory.memory u machine told)
+      × IsAt same hash new (scene_after same hash s old new map i standing u machine told did)
+
+  abbrev to : To
+  to = leads map u here
+
+  made : Operated s.world.memory new.memory.memory new.memory.changed
+  made = subst (λ (x : Mem (Node K V)). Operated x new.memory.memory new.memory.changed) (sym at.memory)
+      (operated old.memory.memory new.memory.memory new.memory.changed (machine_plan same same hash (machine_of u)) (to.1, told) (may_step same hash old s at map i u here) to.3)
+
+  inside : IsInside (s.world.uses (slot_of i))
+  inside = (at.together.makings.standing.each map to.0 to.2).inside i u here
+
+  abbrev DidSo : UnderWay K V K → Type 0
+  DidSo x = Did same old.batch_size old.roots s.world s.maps s.calls s.makers s.enders map to.0 i new.memory.memory to.4.w2 to.4.maps2 to.4.next x to.1 told
+
+  abbrev NoRow : (x : UnderWay K V K) → DidSo x → Type 0
+  NoRow x did = IsOfNoRow same old.batch_size old.roots s.world s.maps s.calls s.makers s.enders map to.0 i new.memory.memory to.4.w2 to.4.maps2 to.4.next x to.1 told did
+
+  -- the maps are those that they were, but for what may be looked at
+  abbrev Stayed : Type 0
+  Stayed = (n : ℕ) → IsSameMap (s.maps n) (to.4.maps2 n)
+
+  module _ (Goal : Type 0)
+      (moved : (Told : World (Node K V) → Chart K → Blocks → Type 0) (had : Went same to.0.hash (in_slot to.0.setting (slot_of i)) i s.world to.0.chart (seen_by to.0.blocks (to.0.sights (slot_of i))) new.memory.memory Told)
+      (blocks2 : Blocks) (grown : IsGrown to.0.chart to.0.blocks had.blocks2 blocks2) (sights2 : ℕ → Sight)
+      → to.4.maps2 ≡ with_at s.maps map (Some (record to.0 { chart = had.c2; blocks = blocks2; sights = sights2 })) → Goal)
+      (row : (w2 : World (Node K V)) → w2.memory ≡ new.memory.memory → IsOneStep to.0.setting i s.world w2 → Stayed → (NoRow u to.4.did → ⊥) → Goal)
+      (still : new.memory.memory ≡ s.world.memory → Stayed → Goal) where
+    by_kind : Goal
+    by_kind = by u to.4.did row
+      where
+        by : (x : UnderWay K V K) (did : DidSo x) → ((w2 : World (Node K V)) → w2.memory ≡ new.memory.memory → IsOneStep to.0.setting i s.world w2 → Stayed → (NoRow x did → ⊥) → Goal) → Goal
+        by (OnKey x) (p2, end, machine_is, told_is, inl (step, has)) row = moved _ step.step.went step.step.blocks2 step.step.grown step.step.sights2 has.1
+        by (OnKey x) (p2, end, machine_is, told_is, inr (step, has)) row = row step.step.w2 step.step.memory step.step.happened has.1 (λ no. no)
+        by (ForRoom x) (p2, end, machine_is, told_is, inl (step, has)) row = moved _ step.step.went step.step.blocks2 step.step.grown step.step.sights2 has.1
+        by (ForRoom x) (p2, end, machine_is, told_is, inr (step, has)) row = row step.step.w2 step.step.memory step.step.happened has.1 (λ no. no)
+        by (Counting x) (p2, end, machine_is, told_is, same_memory, has) row = still same_memory has.1
+        by (OverAll x) (p2, end, machine_is, told_is, inl (step, has)) row = moved _ step.step.went step.step.blocks2 step.step.grown step.step.sights2 has.1
+        by (OverAll x) (p2, end, machine_is, told_is, inr (step, has)) row = row step.step.w2 step.step.memory step.step.happened has.1 (λ no. no)
+
+  -- where pairs lie then
+  keeps_places : ShowsPlaces m known s.maps → ShowsPlaces (with_effects (Some (name i)) (Some map) (effects_of (Call i map) known new.memory.changed) m) (known_after (Call i map) new.memory.changed known) to.4.maps2
+  keeps_places lying = by_kind _
+      (λ Told had blocks2 grown sights2 are. moved_places same hash m known s old new at name shown map i to.0 to.2 (name i) made inside Told had blocks2 grown sights2 lying to.4.maps2 are)
+      (λ w2 memory happened stayed no. row_places same hash m known s old new at name shown map i to.0 to.2 (name i) made inside lying w2 memory happened to.4.maps2 stayed)
+      (λ same_memory stayed. stayed_places same hash m known s old new at name shown map i to.0 to.2 (name i) made inside same_memory lying to.4.maps2 stayed)
+
+  -- which blocks are unreclaimed
+  keeps_blocks : ((NoRow u to.4.did → ⊥) → TakesNone new.memory.changed) → ShowsUnreclaimed m known
+      → ShowsUnreclaimed (with_effects (Some (name i)) (Some map) (effects_of (Call i map) known new.memory.changed) m) (known_after (Call i map) new.memory.changed known)
+  keeps_blocks none held = by_kind _
+      (λ Told had blocks2 grown sights2 are. moved_blocks same hash m known s old new at name shown map i to.0 to.2 (name i) made inside Told had blocks2 grown sights2 held)
+      (λ w2 memory happened stayed no. row_blocks same hash m known s old new at name shown map i to.0 to.2 (name i) made inside w2 memory happened (none no) held)
+      (λ same_memory stayed. stayed_blocks same hash m known s old new at name shown map i to.0 to.2 (name i) made inside same_memory held)
+
+  -- what it finds of places
+  finds_places : ShowsPlaces m known s.maps → ShowsUnreclaimed m known → FindPlaces map m (effects_of (Call i map) known new.memory.changed)
+  finds_places lying held = by_kind _
+      (λ Told had blocks2 grown sights2 are. moved_finds_places same hash m known s old new at name shown map i to.0 to.2 (name i) made inside Told had blocks2 grown sights2 lying held)
+      (λ w2 memory happened stayed no. row_finds_places same hash m known s old new at name shown map i to.0 to.2 (name i) made inside w2 memory happened)
+      (λ same_memory stayed. calm_finds map m (effects_of (Call i map) known new.memory.changed) (stayed_calm same hash m known s old new at name shown map i to.0 to.2 (name i) made inside same_memory).calm)
+
+  -- and of numbers
+  finds_numbers : AtEachEffect FindsNumbers (Some (name i)) (Some map) (effects_of (Call i map) known new.memory.changed) m
+  finds_numbers = by_kind _
+      (λ Told had blocks2 grown sights2 are. moved_outside same hash m known s old new at name shown map i to.0 to.2 (name i) made inside Told had blocks2 grown sights2)
+      (λ w2 memory happened stayed no. row_outside same hash m known s old new at name shown map i to.0 to.2 (name i) made inside w2 memory happened)
+      (λ same_memory stayed. calm_numbers (Some (name i)) (Some map) (effects_of (Call i map) known new.memory.changed) m (stayed_calm same hash m known s old new at name shown map i to.0 to.2 (name i) made inside same_memory).calm)
+
 module _ (K V S : Type 0) (same : K → K → Bool) (hash : K → ℕ) where
   pub calls_keep_places : CallsKeepPlaces K V S same hash
-  calls_keep_places name m known s old new at shown lying map i u here told leads = by u here to.4.did
-    where
-      to : (standing : Standing K) × (machine : Machine K V K) × (s.maps map ≡ Some standing) × StepsFrom same hash (machine_of u) old new machine told
-          × (did : MachineStepsAmong V same same old.batch_size old.roots slot_of s.world s.maps s.calls s.makers s.enders map standing i new.memory.memory u machine told)
-          × IsAt same hash new (scene_after same hash s old new map i standing u machine told did)
-      to = leads map u here
-
-      made : Operated s.world.memory new.memory.memory new.memory.changed
-      made = subst (λ (x : Mem (Node K V)). Operated x new.memory.memory new.memory.changed) (sym at.memory)
-          (operated old.memory.memory new.memory.memory new.memory.changed (machine_plan same same hash (machine_of u)) (to.1, told) (may_step same hash old s at map i u here) to.3)
-
-      Goal : Type 0
-      Goal = ShowsPlaces (with_effects (Some (name i)) (Some map) (effects_of (Call i map) known new.memory.changed) m) (known_after (Call i map) new.memory.changed known) to.4.maps2
-
-      inside : IsInside (s.world.uses (slot_of i))
-      inside = (at.together.makings.standing.each map to.0 to.2).inside i u here
-
-      by : (x : UnderWay K V K) → s.calls map i ≡ Some x
-          → (did : Did same old.batch_size old.roots s.world s.maps s.calls s.makers s.enders map to.0 i new.memory.memory to.4.w2 to.4.maps2 to.4.next x to.1 told) → Goal
-      by (OnKey x) has (p2, end, machine_is, told_is, inl (step, moved)) =
-          moved_places same hash m known s old new at name shown map i to.0 to.2 (name i) made inside _ step.step.went step.step.blocks2 step.step.grown step.step.sights2 lying to.4.maps2 moved.1
-      by (OnKey x) has (p2, end, machine_is, told_is, inr (row, stayed)) =
-          row_places same hash m known s old new at name shown map i to.0 to.2 (name i) made inside lying row.step.w2 row.step.memory row.step.happened to.4.maps2 stayed.1
-      by (ForRoom x) has (p2, end, machine_is, told_is, inl (step, moved)) =
-          moved_places same hash m known s old new at name shown map i to.0 to.2 (name i) made inside _ step.step.went step.step.blocks2 step.step.grown step.step.sights2 lying to.4.maps2 moved.1
-      by (ForRoom x) has (p2, end, machine_is, told_is, inr (row, stayed)) =
-          row_places same hash m known s old new at name shown map i to.0 to.2 (name i) made inside lying row.step.w2 row.step.memory row.step.happened to.4.maps2 stayed.1
-      by (Counting x) has (p2, end, machine_is, told_is, still, was) =
-          stayed_places same hash m known s old new at name shown map i to.0 to.2 (name i) made inside still lying to.4.maps2 was.1
-      by (OverAll x) has (p2, end, machine_is, told_is, inl (step, moved)) =
-          moved_places same hash m known s old new at name shown map i to.0 to.2 (name i) made inside _ step.step.went step.step.blocks2 step.step.grown step.step.sights2 lying to.4.maps2 moved.1
-      by (OverAll x) has (p2, end, machine_is, told_is, inr (row, stayed)) =
-          row_places same hash m known s old new at name shown map i to.0 to.2 (name i) made inside lying row.step.w2 row.step.memory row.step.happened to.4.maps2 stayed.1
+  calls_keep_places name m known s old new at shown lying map i u here told leads = keeps_places same hash name m known s old new at shown map i u here told leads lying
 
   pub calls_keep_blocks : CallsKeepBlocks K V S same hash
-  calls_keep_blocks name m known s old new at shown held map i u here told leads none = by u here to.4.did none
-    where
-      to : (standing : Standing K) × (machine : Machine K V K) × (s.maps map ≡ Some standing) × StepsFrom same hash (machine_of u) old new machine told
-          × (did : MachineStepsAmong V same same old.batch_size old.roots slot_of s.world s.maps s.calls s.makers s.enders map standing i new.memory.memory u machine told)
-          × IsAt same hash new (scene_after same hash s old new map i standing u machine told did)
-      to = leads map u here
-
-      made : Operated s.world.memory new.memory.memory new.memory.changed
-      made = subst (λ (x : Mem (Node K V)). Operated x new.memory.memory new.memory.changed) (sym at.memory)
-          (operated old.memory.memory new.memory.memory new.memory.changed (machine_plan same same hash (machine_of u)) (to.1, told) (may_step same hash old s at map i u here) to.3)
-
-      Goal : Type 0
-      Goal = ShowsUnreclaimed (with_effects (Some (name i)) (Some map) (effects_of (Call i map) known new.memory.changed) m) (known_after (Call i map) new.memory.changed known)
-
-      inside : IsInside (s.world.uses (slot_of i))
-      inside = (at.together.makings.standing.each map to.0 to.2).inside i u here
-
-      by : (x : UnderWay K V K) → s.calls map i ≡ Some x
-          → (did : Did same old.batch_size old.roots s.world s.maps s.calls s.makers s.enders map to.0 i new.memory.memory to.4.w2 to.4.maps2 to.4.next x to.1 told)
-          → ((IsOfNoRow same old.batch_size old.roots s.world s.maps s.calls s.makers s.enders map to.0 i new.memory.memory to.4.w2 to.4.maps2 to.4.next x to.1 told did → ⊥) → TakesNone new.memory.changed) → Goal
-      by (OnKey x) has (p2, end, machine_is, told_is, inl (step, moved)) none =
-          moved_blocks same hash m known s old new at name shown map i to.0 to.2 (name i) made inside _ step.step.went step.step.blocks2 step.step.grown step.step.sights2 held
-      by (OnKey x) has (p2, end, machine_is, told_is, inr (row, was)) none =
-          row_blocks same hash m known s old new at name shown map i to.0 to.2 (name i) made inside row.step.w2 row.step.memory row.step.happened (none (λ no. no)) held
-      by (ForRoom x) has (p2, end, machine_is, told_is, inl (step, moved)) none =
-          moved_blocks same hash m known s old new at name shown map i to.0 to.2 (name i) made inside _ step.step.went step.step.blocks2 step.step.grown step.step.sights2 held
-      by (ForRoom x) has (p2, end, machine_is, told_is, inr (row, was)) none =
-          row_blocks same hash m known s old new at name shown map i to.0 to.2 (name i) made inside row.step.w2 row.step.memory row.step.happened (none (λ no. no)) held
-      by (Counting x) has (p2, end, machine_is, told_is, still, was) none =
-          stayed_blocks same hash m known s old new at name shown map i to.0 to.2 (name i) made inside still held
-      by (OverAll x) has (p2, end, machine_is, told_is, inl (step, moved)) none =
-          moved_blocks same hash m known s old new at name shown map i to.0 to.2 (name i) made inside _ step.step.went step.step.blocks2 step.step.grown step.step.sights2 held
-      by (OverAll x) has (p2, end, machine_is, told_is, inr (row, was)) none =
-          row_blocks same hash m known s old new at name shown map i to.0 to.2 (name i) made inside row.step.w2 row.step.memory row.step.happened (none (λ no. no)) held
+  calls_keep_blocks name m known s old new at shown held map i u here told leads none = keeps_blocks same hash name m known s old new at shown map i u here told leads none held
 
   pub calls_find_places : CallsFindPlaces K V S same hash
-  calls_find_places name m known s old new at shown lying held map i u here told leads = by u here to.4.did
-    where
-      to : (standing : Standing K) × (machine : Machine K V K) × (s.maps map ≡ Some standing) × StepsFrom same hash (machine_of u) old new machine told
-          × (did : MachineStepsAmong V same same old.batch_size old.roots slot_of s.world s.maps s.calls s.makers s.enders map standing i new.memory.memory u machine told)
-          × IsAt same hash new (scene_after same hash s old new map i standing u machine told did)
-      to = leads map u here
+  calls_find_places name m known s old new at shown lying held map i u here told leads = finds_places same hash name m known s old new at shown map i u here told leads lying held
 
-      made : Operated s.world.memory new.memory.memory new.memory.changed
-      made = subst (λ (x : Mem (Node K V)). Operated x new.memory.memory new.memory.changed) (sym at.memory)
-          (operated old.memory.memory new.memory.memory new.memory.changed (machine_plan same same hash (machine_of u)) (to.1, told) (may_step same hash old s at map i u here) to.3)
-
-      Goal : Type 0
-      Goal = FindPlaces map m (effects_of (Call i map) known new.memory.changed)
-
-      inside : IsInside (s.world.uses (slot_of i))
-      inside = (at.together.makings.standing.each map to.0 to.2).inside i u here
-
-      by : (x : UnderWay K V K) → s.calls map i ≡ Some x
-          → (did : Did same old.batch_size old.roots s.world s.maps s.calls s.makers s.enders map to.0 i new.memory.memory to.4.w2 to.4.maps2 to.4.next x to.1 told) → Goal
-      by (OnKey x) has (p2, end, machine_is, told_is, inl (step, moved)) =
-          moved_finds_places same hash m known s old new at name shown map i to.0 to.2 (name i) made inside _ step.step.went step.step.blocks2 step.step.grown step.step.sights2 lying held
-      by (OnKey x) has (p2, end, machine_is, told_is, inr (row, stayed)) =
-          row_finds_places same hash m known s old new at name shown map i to.0 to.2 (name i) made inside row.step.w2 row.step.memory row.step.happened
-      by (ForRoom x) has (p2, end, machine_is, told_is, inl (step, moved)) =
-          moved_finds_places same hash m known s old new at name shown map i to.0 to.2 (name i) made inside _ step.step.went step.step.blocks2 step.step.grown step.step.sights2 lying held
-      by (ForRoom x) has (p2, end, machine_is, told_is, inr (row, stayed)) =
-          row_finds_places same hash m known s old new at name shown map i to.0 to.2 (name i) made inside row.step.w2 row.step.memory row.step.happened
-      by (Counting x) has (p2, end, machine_is, told_is, still, was) =
-          calm_finds map m (effects_of (Call i map) known new.memory.changed)
-          (stayed_calm same hash m known s old new at name shown map i to.0 to.2 (name i) made inside still).calm
-      by (OverAll x) has (p2, end, machine_is, told_is, inl (step, moved)) =
-          moved_finds_places same hash m known s old new at name shown map i to.0 to.2 (name i) made inside _ step.step.went step.step.blocks2 step.step.grown step.step.sights2 lying held
-      by (OverAll x) has (p2, end, machine_is, told_is, inr (row, stayed)) =
-          row_finds_places same hash m known s old new at name shown map i to.0 to.2 (name i) made inside row.step.w2 row.step.memory row.step.happened
+  pub calls_leave_outside : CallsLeaveOutside K V S same hash
+  calls_leave_outside name m known s old new at shown outside map i u here told leads =
+      effects_leave_outside K V (Some (name i)) (Some map) (effects_of (Call i map) known new.memory.changed) m (finds_numbers same hash name m known s old new at shown map i u here told leads) outside

@@ -1,5 +1,6 @@
-//! What is promised of a moment of a run, by the scene of the executor that it shows: where the pairs of maps lie, and which blocks are not reclaimed.
+//! What is promised of a moment of a run, by the scene that it shows: where pairs of maps lie, which blocks are not reclaimed, and what waits behind tables.
 ghost use Rattle.std.specs.Prelude.{ℕ, Bool};
+ghost use Rattle.papaya_spots.specs.Deferred.{EffectsLeaveOutside, EachWaitsOutside, CallsLeaveOutside};
 ghost use Rattle.papaya_spots.specs.Placed.{PlacesNamePairs, CallsFindPlaces};
 ghost use Rattle.papaya_spots.specs.Steps.{PlacesBegin, BlocksBegin, CallsLeavePlaces, CallsKeepPlaces, CallsKeepBlocks};
 
@@ -20,4 +21,11 @@ pub fn moments_show_places<K, V, S>()
 pub fn blocks_are_unreclaimed<K, V, S>()
     ensures begins { BlocksBegin K V }
     ensures calls { (same : K → K → Bool) (hash : K → ℕ) → CallsKeepBlocks K V S same hash }
+{}
+
+/// What waits behind a table is in no map: so it is after any effects that find numbers as they must, behind each table, and after each step of a call.
+pub fn pairs_wait_outside<K, V, S>()
+    ensures effects { EffectsLeaveOutside K V }
+    ensures each { EachWaitsOutside K V }
+    ensures calls { (same : K → K → Bool) (hash : K → ℕ) → CallsLeaveOutside K V S same hash }
 {}
