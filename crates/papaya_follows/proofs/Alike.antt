@@ -29,6 +29,23 @@ abbrev pub AllStill : List Effect → Type 0
 AllStill [] = Unit {0}
 AllStill (f ∷ effects) = (is_still f ≡ true) × AllStill effects
 
+-- nor does it copy one
+abbrev pub is_calm : Effect → Bool
+is_calm (Copied n s) = false
+is_calm f = is_still f
+
+abbrev pub AllCalm : List Effect → Type 0
+AllCalm [] = Unit {0}
+AllCalm (f ∷ effects) = (is_calm f ≡ true) × AllCalm effects
+
+calm_is_still : (f : Effect) → is_calm f ≡ true → is_still f ≡ true
+calm_is_still (Copied n s) e = absurd (cc e)
+calm_is_still f e = e
+
+pub calm_still : (effects : List Effect) → AllCalm effects → AllStill effects
+calm_still [] all = tt
+calm_still (f ∷ effects) all = (calm_is_still f all.0, calm_still effects all.1)
+
 -- a place that was put
 pub put_here : {X : Type 0} (k : ℕ) (x : X) (f : ℕ → X) (n : ℕ) → n ≡ k → put k x f n ≡ x
 put_here k x f n e = ap (λ q. if q then x else f n) (eq-eqb n k e)

@@ -81,16 +81,16 @@ module _ {K V : Type 0} (map : ℕ) (number : ℕ → ℕ) (s : Standing K) (m :
   pub tables_many : c.past ≡ length (tables_of map m)
   tables_many = sym (ap length shown.tables.listed ∙ many_tables map c shown.tables.stage c.past)
 
-  first_is : first_of map m ≡ c.first
+  pub first_is : first_of map m ≡ c.first
   first_is = ap first_or shown.there.is ∙ shown.there.first
 
-  chunks_are : grows_in_chunks (map_at map m) ≡ is_incremental s.setting.mode
+  pub chunks_are : grows_in_chunks (map_at map m) ≡ is_incremental s.setting.mode
   chunks_are = ap grows_in_chunks shown.there.is ∙ ap is_incremental shown.there.mode
 
-  same_one : (t : ℕ) → same_table (table_of map t) (table_of map t) ≡ true
+  pub same_one : (t : ℕ) → same_table (table_of map t) (table_of map t) ≡ true
   same_one t = ap (λ (q : Bool). q && (t == t)) (eq-eqb map map refl) ∙ eq-eqb t t refl
 
-  among : (p : TableThere → Bool) (t : ℕ) → t < c.past → p (table_there map c shown.tables.stage t) ≡ true → list_any p m.tables ≡ true
+  pub among : (p : TableThere → Bool) (t : ℕ) → t < c.past → p (table_there map c shown.tables.stage t) ≡ true → list_any p m.tables ≡ true
   among p t made e =
       any_filtered p (λ u. u.table.map == map) m.tables (ap (list_any p) shown.tables.listed ∙ any_table map c shown.tables.stage p t c.past made e)
 

@@ -20,7 +20,7 @@ use Rattle.papaya_finishes.specs.Maps.{Standing}
 use Rattle.papaya_effects.specs.Known.{Known}
 use Rattle.papaya_follows.specs.Maps.{table_of, shape_at, tables_to, ShowsMap}
 use Rattle.papaya_follows.specs.Steps.{HandTheirs}
-use Rattle.papaya_follows.proofs.Alike.{AlikePairs, IsAlike, alike_same, still_all, put_here, put_elsewhere}
+use Rattle.papaya_follows.proofs.Alike.{AlikePairs, IsAlike, alike_same, calm_still, still_all, put_here, put_elsewhere}
 use Rattle.papaya_follows.proofs.Onward.{StaysBlocks, tables_same, pairs_same, pairs_on, map_on}
 use Rattle.papaya_follows.proofs.Rows.{HandsOn, IsStill, Puts, Retires}
 
@@ -170,14 +170,14 @@ module _ {K V : Type 0} (caller : List ℕ) (acted of : ℕ) (number : ℕ → �
 
   -- each map is shown
   pub hands_shown : (effects : List Effect) → HandsOn effects → HandTheirs caller acted effects m → ShowsMap of number s2 (led effects) known
-  hands_shown effects (IsStill still all) hands = alike_shown (led still) (alike_same of m (led still) (still_all (Some caller) acted still m all))
+  hands_shown effects (IsStill still all) hands = alike_shown (led still) (alike_same of m (led still) (still_all (Some caller) acted still m (calm_still still all)))
   hands_shown effects (Puts n t) hands = alike_shown (led (Deferred n t ∷ [])) (deferred_alike (Some caller) acted m of n t hands.0)
   hands_shown effects (Retires x) hands = thing_retired x hands
 
 -- and the same pairs were stored
 module _ {K V : Type 0} (caller : List ℕ) (acted : ℕ) (m : Moment K V) where
   pub hands_same : (effects : List Effect) → HandsOn effects → (with_effects (Some caller) (Some acted) effects m).stored ≡ m.stored
-  hands_same effects (IsStill still all) = (still_all (Some caller) acted still m all).stored
+  hands_same effects (IsStill still all) = (still_all (Some caller) acted still m (calm_still still all)).stored
   hands_same effects (Puts n t) = (hands_stored (acting (Some caller) m) n t (ATable t) m.stored).0
   hands_same effects (Retires x) = (hands_stored (acting (Some caller) m) 0 (record { map = 0; turn = 0 }) x m.stored).1
 
@@ -193,6 +193,6 @@ module _ {K V : Type 0} (caller : List ℕ) (acted : ℕ) (m : Moment K V) where
   pub hands_alike : (of : ℕ) (effects : List Effect) → HandsOn effects → HandTheirs caller acted effects m
       → AlikePairs of m (with_effects (Some caller) (Some acted) effects m) × (map_at of (with_effects (Some caller) (Some acted) effects m) ≡ map_at of m)
   hands_alike of effects (IsStill still all) hands =
-      let a = alike_same of m (with_effects (Some caller) (Some acted) still m) (still_all (Some caller) acted still m all) in (a.pairs, a.tables.there)
+      let a = alike_same of m (with_effects (Some caller) (Some acted) still m) (still_all (Some caller) acted still m (calm_still still all)) in (a.pairs, a.tables.there)
   hands_alike of effects (Puts n t) hands = let a = deferred_alike (Some caller) acted m of n t hands.0 in (a.pairs, a.tables.there)
   hands_alike of effects (Retires x) hands = thing_alike of x hands

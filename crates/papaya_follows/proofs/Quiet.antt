@@ -27,12 +27,12 @@ use Rattle.papaya_effects.specs.declared.role.Role.{Role}
 use Rattle.papaya_effects.specs.declared.role.Role.TheVariants as role
 use Rattle.papaya_follows.specs.Blocks.{WasLinked, HasRole}
 use Rattle.papaya_follows.specs.Maps.{table_of}
-use Rattle.papaya_follows.proofs.Alike.{AllStill}
+use Rattle.papaya_follows.proofs.Alike.{AllCalm}
 use Rattle.papaya_follows.proofs.Lists.{HasList, events_list}
 
--- what is done moves nothing, and as much is known
+-- what is done moves and copies nothing, and as much is known
 abbrev pub DoneStill : Known → List Effect → Known → Type 0
-DoneStill known effects after = AllStill effects × (after ≡ known)
+DoneStill known effects after = AllCalm effects × (after ≡ known)
 
 -- a word that is the same names the same
 pub same_name : (old new : ℕ) → new ≡ old → names_same old new ≡ true
@@ -128,7 +128,7 @@ module _ {K V : Type 0} (same : K → K → Bool) (hash : K → ℕ) (setting : 
     nothing_does : (t : Table) (len : ℕ) → field ≢ NEXT → field ≢ DEFERRED → is_place len field ≡ false → (q : Bool) → Does (role.Table t len) q
     nothing_does t len next list none true = (tt, refl)
     nothing_does t len next list none false = (
-      subst AllStill (sym (in_table_nothing acting t len field known.stored before after next list none)) tt,
+      subst AllCalm (sym (in_table_nothing acting t len field known.stored before after next list none)) tt,
       in_table_on_nothing acting len field (block_in new) after known next none,
     )
 
@@ -167,12 +167,12 @@ module _ {K V : Type 0} (same : K → K → Bool) (hash : K → ℕ) (setting : 
 
   module _ (b field old new : ℕ) (was : word_at w.memory (Entry b field) ≡ Some old) (is : word_at m2 (Entry b field) ≡ Some new) where
     abbrev Retires : Role → Bool → Type 0
-    Retires r q = AllStill (if q then [] else batched acting field r)
+    Retires r q = AllCalm (if q then [] else batched acting field r)
 
     same_retires : (r : Role) → WasLinked (w.hand b) → Retires r (names_same old new)
     same_retires r linked = subst (Retires r) (sym (same_name old new (untouched (Entry b field) old new was is (linked_not_made b linked caller)))) tt
 
-    none_retires : (q : Bool) → AllStill (if q then [] else [])
+    none_retires : (q : Bool) → AllCalm (if q then [] else [])
     none_retires true = tt
     none_retires false = tt
 

@@ -35,7 +35,7 @@ use Rattle.papaya_effects.specs.declared.acting.Acting.TheVariants.{Call}
 use Rattle.papaya_effects.specs.declared.role.Role.{Role}
 use Rattle.papaya_effects.specs.declared.role.Role.TheVariants as role
 use Rattle.papaya_follows.specs.Blocks.{WasLinked, HasRole}
-use Rattle.papaya_follows.proofs.Alike.{AllStill}
+use Rattle.papaya_follows.proofs.Alike.{AllCalm}
 use Rattle.papaya_follows.proofs.Quiet.{same_name}
 
 module _ {K V : Type 0} where
@@ -117,7 +117,7 @@ module _ {K V : Type 0} where
 
 -- what such a step may do: nothing that moves a pair or a table, or it hands one of them over
 pub data HandsOn : List Effect → Type 0 where
-  IsStill : (effects : List Effect) → AllStill effects → HandsOn effects
+  IsStill : (effects : List Effect) → AllCalm effects → HandsOn effects
   Puts : (n : ℕ) (t : Table) → HandsOn (effect.Deferred n t ∷ [])
   Retires : (x : Thing) → HandsOn (effect.Retired x ∷ [])
 

@@ -43,12 +43,12 @@ use Rattle.papaya_follows.proofs.Told.{ArePairsOnce}
 use Rattle.papaya_follows.proofs.Writes.{own_pair}
 
 -- a step of a call on one key stores no pair but with one effect
-stored_no_more : {K V : Type 0} (o : Option (UnderWay K V)) (n : ℕ) (stored : List (K × V)) → (stored_by o (Replaced n) stored ≡ stored) × (stored_by o (Removed n) stored ≡ stored)
+pub stored_no_more : {K V : Type 0} (o : Option (UnderWay K V)) (n : ℕ) (stored : List (K × V)) → (stored_by o (Replaced n) stored ≡ stored) × (stored_by o (Removed n) stored ≡ stored)
 stored_no_more None n stored = (refl, refl)
 stored_no_more (Some c) n stored = (refl, refl)
 
 -- a pair that is in the map of a number is there
-in_map_true : (a : ℕ) (p : Place) → is_in_map a p ≡ true → p ≡ InMap a
+pub in_map_true : (a : ℕ) (p : Place) → is_in_map a p ≡ true → p ≡ InMap a
 in_map_true a (InMap b) e = ap InMap (grind (arith, e))
 in_map_true a Unborn e = absurd (cc e)
 in_map_true a Out e = absurd (cc e)

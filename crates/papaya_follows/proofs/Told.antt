@@ -29,7 +29,7 @@ use Rattle.papaya_effects.specs.declared.role.Role.{Role}
 use Rattle.papaya_effects.specs.declared.role.Role.TheVariants as role
 use Rattle.papaya_follows.specs.Blocks.{HasRole}
 use Rattle.papaya_follows.specs.Maps.{table_of}
-use Rattle.papaya_follows.proofs.Alike.{AllStill, put_here, put_elsewhere}
+use Rattle.papaya_follows.proofs.Alike.{AllStill, calm_still, put_here, put_elsewhere}
 use Rattle.papaya_follows.proofs.Kept.{role_kept, not_own}
 use Rattle.papaya_follows.proofs.Onward.{IsLasting, IsOfMap, KeepsRoles}
 use Rattle.papaya_follows.proofs.Operations.{StaysThere, LeavesBy}
@@ -160,7 +160,7 @@ module _ {K V : Type 0} (same : K → K → Bool) (hash : K → ℕ) (setting : 
   quiet_told changed.Nothing left quiet = as_before [] tt known refl refl left
   quiet_told (changed.Wrote at old new) left quiet =
       let done = written_still same hash setting caller w c blocks m2 Told went is_map map count known had tables at old new left.0 left.1 (quiet at old new refl) in
-      as_before (effects_of its known (changed.Wrote at old new)) done.0 (known_after its (changed.Wrote at old new) known) (ap (λ (k : Known). k.roles) done.1) (ap (λ (k : Known). k.stored) done.1)
+      as_before (effects_of its known (changed.Wrote at old new)) (calm_still (effects_of its known (changed.Wrote at old new)) done.0) (known_after its (changed.Wrote at old new) known) (ap (λ (k : Known). k.roles) done.1) (ap (λ (k : Known). k.stored) done.1)
       (λ b. record { gone = λ none. left.2 b ∙ none; there = λ value is. (value, left.2 b ∙ is) })
   quiet_told (changed.Made k b) left quiet =
       one_put (effects_of its known (changed.Made k b)) (made_still its k) b (made_role its k) (λ last. (lasts b (known.roles b) (had b) last).0 left.0)

@@ -1,0 +1,48 @@
+-- What was put behind tables is in no map, whatever happens to it.
+use Rattle.std.specs.Prelude.{◌≡◌, ℕ, ◌+◌, ◌≤◌, Bool, true, false, List, length, map, Option, Some}
+use Rattle.papaya_raw.specs.declared.machines.progress.Progress.{Progress}
+use Rattle.papaya_tables.specs.declared.node.Node.{Node}
+use Rattle.papaya_schedules.specs.declared.effect.Effect.{Effect}
+use Rattle.papaya_schedules.specs.declared.effect.Effect.TheVariants.{Stored, Deferred}
+use Rattle.papaya_schedules.specs.declared.effect.Table.{Table}
+use Rattle.papaya_schedules.specs.Effects.{with_effects, AtEachEffect}
+use Rattle.papaya_schedules.specs.Lists.{is_among}
+use Rattle.papaya_schedules.specs.Moment.{Moment}
+use Rattle.papaya_schedules.specs.Views.{is_in_a_map, behind}
+use Rattle.papaya_callers.specs.Together.{UnderWay}
+use Rattle.papaya_effects.specs.Effects.{effects_of}
+use Rattle.papaya_effects.specs.Known.{Known}
+use Rattle.papaya_effects.specs.declared.acting.Acting.TheVariants.{Call}
+use Rattle.papaya_executor.specs.IsAt.{Scene, IsAt}
+use Rattle.papaya_executor.specs.Stepping.{StepLeads}
+use Rattle.papaya_executor.specs.declared.executor.Executor.{Executor}
+use Rattle.papaya_follows.specs.Shows.{Shows}
+
+module _ {K V : Type 0} where
+  -- each pair that waits behind some table was stored, and is in no map
+  abbrev pub WaitOutside : Moment K V → Type 0
+  WaitOutside m = (n : ℕ) → is_among n (map (λ d. d.pair) m.deferred) ≡ true → (n ≤ length m.stored) × (is_in_a_map (m.place n) ≡ false)
+
+  -- a pair that is stored gets the next number, and one that is put behind a table was stored
+  abbrev pub FindsNumbers : Moment K V → Effect → Type 0
+  FindsNumbers m (Stored n s) = n ≡ length m.stored + 1
+  FindsNumbers m (Deferred n t) = n ≤ length m.stored
+  FindsNumbers m _ = Unit {0}
+
+-- The promise of any effects, whoever makes them: what waits behind a table stays outside of maps.
+abbrev pub EffectsLeaveOutside : Type 0 → Type 0 → Type 0
+EffectsLeaveOutside K V =
+    (caller : Option (List ℕ)) (acted : Option ℕ) (effects : List Effect) (m : Moment K V) → AtEachEffect FindsNumbers caller acted effects m → WaitOutside m
+    → WaitOutside (with_effects caller acted effects m)
+
+-- So it does behind each table by itself.
+abbrev pub EachWaitsOutside : Type 0 → Type 0 → Type 0
+EachWaitsOutside K V = (m : Moment K V) → WaitOutside m → (t : Table) (n : ℕ) → is_among n (behind t m.deferred) ≡ true → is_in_a_map (m.place n) ≡ false
+
+module _ (K V S : Type 0) (same : K → K → Bool) (hash : K → ℕ) where
+  -- The promise of a step of a call.
+  abbrev pub CallsLeaveOutside : Type 0
+  CallsLeaveOutside =
+      (name : ℕ → List ℕ) (m : Moment K V) (known : Known) (s : Scene K V) (old new : Executor K V S) → IsAt same hash old s → Shows same name m known s → WaitOutside m
+      → (map i : ℕ) (u : UnderWay K V K) → s.calls map i ≡ Some u → (told : Progress (Node K V)) → StepLeads same hash i told s old new
+      → WaitOutside (with_effects (Some (name i)) (Some map) (effects_of (Call i map) known new.memory.changed) m)

@@ -1,0 +1,5 @@
+pub mod Spots
+pub mod Unreclaimed
+pub mod Deferred
+pub mod Placed
+pub mod Steps

@@ -1,0 +1,62 @@
+-- What the words of tables say of where pairs lie, and what effects find there.
+use Rattle.std.specs.Prelude.{◌≡◌, ℕ, ◌+◌, ◌<◌, Bool, true, false, List, [], ◌∷◌, Option, Some}
+use Rattle.seize_words.specs.Mem.{Mem, word_at}
+use Rattle.seize_words.specs.Word.{block_in}
+use Rattle.seize_words.specs.declared.at.At.TheVariants.{Word}
+use Rattle.papaya_tables.specs.declared.node.Node.{Node}
+use Rattle.papaya_tables.specs.declared.table_words.TheConstants.{PLACES}
+use Rattle.papaya_raw.specs.declared.machines.progress.Progress.{Progress}
+use Rattle.papaya_schedules.specs.declared.effect.Effect.{Effect}
+use Rattle.papaya_schedules.specs.declared.effect.Effect.TheVariants.{Stored, Replaced, Copied}
+use Rattle.papaya_schedules.specs.Lives.{has_pair_at, MayCopy}
+use Rattle.papaya_schedules.specs.Moment.{InMap, Moment}
+use Rattle.papaya_schedules.specs.Things.{same_spot}
+use Rattle.papaya_schedules.specs.Views.{map_at, grows_in_chunks}
+use Rattle.papaya_callers.specs.Together.{UnderWay}
+use Rattle.papaya_finishes.specs.Maps.{Standing}
+use Rattle.papaya_effects.specs.Effects.{effects_of}
+use Rattle.papaya_effects.specs.Known.{Known}
+use Rattle.papaya_effects.specs.declared.acting.Acting.TheVariants.{Call}
+use Rattle.papaya_effects.specs.declared.role.Role.TheVariants as role
+use Rattle.papaya_executor.specs.IsAt.{Scene, IsAt}
+use Rattle.papaya_executor.specs.Stepping.{StepLeads}
+use Rattle.papaya_executor.specs.declared.executor.Executor.{Executor}
+use Rattle.papaya_follows.specs.Maps.{table_of}
+use Rattle.papaya_follows.specs.Shows.{Shows}
+use Rattle.papaya_spots.specs.Spots.{ShowsPlaces}
+use Rattle.papaya_spots.specs.Unreclaimed.{ShowsUnreclaimed}
+
+module _ {K V : Type 0} (memory : Mem (Node K V)) (m : Moment K V) (known : Known) where
+  -- the word of the place at which the pair is said to lie, in the block of its table, names the pair's block
+  pub record IsNamedThere (map k : ℕ) : Type 0 where
+    pub pair : ℕ
+    pub is_pair : known.roles pair ≡ role.Pair k
+    pub table : ℕ
+    pub len : ℕ
+    pub is_table : known.roles table ≡ role.Table (table_of map (m.spot k).turn) len
+    pub within : (m.spot k).place < len
+    pub word : ℕ
+    pub there : word_at memory (Word table ((m.spot k).place + PLACES)) ≡ Some word
+    pub names : block_in word ≡ pair
+
+module _ {K V : Type 0} (map : ℕ) (m : Moment K V) where
+  -- A pair is copied to a table that comes after the one in which it lies. One that is stored takes a place where no pair of the map lies, or that of the
+  -- pair that it replaces.
+  abbrev pub FindPlaces : List Effect → Type 0
+  FindPlaces (Copied n s ∷ []) = MayCopy (grows_in_chunks (map_at map m)) map m n s
+  FindPlaces (Stored n s ∷ []) = has_pair_at map s m ≡ false
+  FindPlaces (Replaced p ∷ Stored n s ∷ []) = same_spot (m.spot p) s ≡ true
+  FindPlaces _ = Unit {0}
+
+module _ (K V S : Type 0) (same : K → K → Bool) (hash : K → ℕ) where
+  -- The promise: a pair of a map lies where the word of its place names it.
+  abbrev pub PlacesNamePairs : Type 0
+  PlacesNamePairs =
+      (name : ℕ → List ℕ) (m : Moment K V) (known : Known) (s : Scene K V) (e : Executor K V S) → IsAt same hash e s → Shows same name m known s → ShowsPlaces m known s.maps
+      → (map : ℕ) (standing : Standing K) → s.maps map ≡ Some standing → (k : ℕ) → m.place k ≡ InMap map → IsNamedThere e.memory.memory m known map k
+
+  -- And a step of a call finds where it stores or copies a pair, or replaces one, what it must.
+  abbrev pub CallsFindPlaces : Type 0
+  CallsFindPlaces =
+      (name : ℕ → List ℕ) (m : Moment K V) (known : Known) (s : Scene K V) (old new : Executor K V S) → IsAt same hash old s → Shows same name m known s → ShowsPlaces m known s.maps → ShowsUnreclaimed m known
+      → (map i : ℕ) (u : UnderWay K V K) → s.calls map i ≡ Some u → (told : Progress (Node K V)) → StepLeads same hash i told s old new → FindPlaces map m (effects_of (Call i map) known new.memory.changed)

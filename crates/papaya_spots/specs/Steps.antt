@@ -1,0 +1,50 @@
+-- How steps lead on from where the pairs of maps lie.
+use Rattle.std.specs.Prelude.{◌≡◌, ℕ, Bool, List, Option, Some}
+use Rattle.papaya_tables.specs.declared.node.Node.{Node}
+use Rattle.papaya_raw.specs.declared.machines.progress.Progress.{Progress}
+use Rattle.papaya_schedules.specs.Effects.{with_effects}
+use Rattle.papaya_schedules.specs.Moment.{UnderWay as CallThere, Moment, start}
+use Rattle.papaya_callers.specs.Together.{UnderWay}
+use Rattle.papaya_finishes.specs.Maps.{Standing}
+use Rattle.papaya_effects.specs.Effects.{effects_of, known_after}
+use Rattle.papaya_effects.specs.Known.{Known, nothing_known}
+use Rattle.papaya_effects.specs.declared.acting.Acting.TheVariants.{Call}
+use Rattle.papaya_executor.specs.IsAt.{Scene, IsAt, at_first}
+use Rattle.papaya_executor.specs.Stepping.{StepLeads, scene_after}
+use Rattle.papaya_executor.specs.declared.executor.Executor.{Executor}
+use Rattle.papaya_follows.specs.Shows.{Shows}
+use Rattle.papaya_follows.specs.Steps.{TakesNone, IsOfNoRow}
+use Rattle.papaya_spots.specs.Spots.{ShowsPlaces}
+use Rattle.papaya_spots.specs.Unreclaimed.{ShowsUnreclaimed}
+
+-- no pair lies anywhere as a run begins
+abbrev pub PlacesBegin : Type 0 → Type 0 → Type 0
+PlacesBegin K V = (roots : ℕ) → ShowsPlaces {K = K} {V = V} start nothing_known (at_first {V = V} roots).maps
+
+-- and no block is a pair's or a table's
+abbrev pub BlocksBegin : Type 0 → Type 0 → Type 0
+BlocksBegin K V = ShowsUnreclaimed {K = K} {V = V} start nothing_known
+
+-- Where nothing has changed but calls, pairs lie where they lay, and the same blocks are unreclaimed.
+abbrev pub CallsLeavePlaces : Type 0 → Type 0 → Type 0
+CallsLeavePlaces K V =
+    (m : Moment K V) (known : Known) (maps : ℕ → Option (Standing K)) → ShowsPlaces m known maps → ShowsUnreclaimed m known
+    → (calls : List (CallThere K V)) → ShowsPlaces (record m { calls = calls }) known maps × ShowsUnreclaimed (record m { calls = calls }) known
+
+module _ (K V S : Type 0) (same : K → K → Bool) (hash : K → ℕ) where
+  -- The promise: a step of a call, whether of a row or not, leads to a moment at which pairs lie where the tables have them then.
+  abbrev pub CallsKeepPlaces : Type 0
+  CallsKeepPlaces =
+      (name : ℕ → List ℕ) (m : Moment K V) (known : Known) (s : Scene K V) (old new : Executor K V S) → IsAt same hash old s → Shows same name m known s → ShowsPlaces m known s.maps
+      → (map i : ℕ) (u : UnderWay K V K) (here : s.calls map i ≡ Some u) (told : Progress (Node K V)) (leads : StepLeads same hash i told s old new)
+      → (let to = leads map u here in
+      ShowsPlaces (with_effects (Some (name i)) (Some map) (effects_of (Call i map) known new.memory.changed) m) (known_after (Call i map) new.memory.changed known) to.4.maps2)
+
+  -- And where a row takes no block away, the same blocks are unreclaimed then as are pairs and tables of maps.
+  abbrev pub CallsKeepBlocks : Type 0
+  CallsKeepBlocks =
+      (name : ℕ → List ℕ) (m : Moment K V) (known : Known) (s : Scene K V) (old new : Executor K V S) → IsAt same hash old s → Shows same name m known s → ShowsUnreclaimed m known
+      → (map i : ℕ) (u : UnderWay K V K) (here : s.calls map i ≡ Some u) (told : Progress (Node K V)) (leads : StepLeads same hash i told s old new)
+      → (let to = leads map u here in
+      ((IsOfNoRow same old.batch_size old.roots s.world s.maps s.calls s.makers s.enders map to.0 i new.memory.memory to.4.w2 to.4.maps2 to.4.next u to.1 told to.4.did → ⊥) → TakesNone new.memory.changed)
+      → ShowsUnreclaimed (with_effects (Some (name i)) (Some map) (effects_of (Call i map) known new.memory.changed) m) (known_after (Call i map) new.memory.changed known))

@@ -1,0 +1,31 @@
+//! What is promised of a moment of a run, by the scene that it shows: where pairs of maps lie, which blocks are not reclaimed, and what waits behind tables.
+ghost use Rattle.std.specs.Prelude.{ℕ, Bool};
+ghost use Rattle.papaya_spots.specs.Deferred.{EffectsLeaveOutside, EachWaitsOutside, CallsLeaveOutside};
+ghost use Rattle.papaya_spots.specs.Placed.{PlacesNamePairs, CallsFindPlaces};
+ghost use Rattle.papaya_spots.specs.Steps.{PlacesBegin, BlocksBegin, CallsLeavePlaces, CallsKeepPlaces, CallsKeepBlocks};
+
+/// The pairs of each map that stands lie, at a moment of a run, where the tables of the map name them: each in the last table that does, in incremental
+/// mode, and in the root, in blocking mode, with its newest copy where the table behind the root has it. Nothing lies anywhere at first, and each step of a
+/// call leads on from there, whether it is one of a row of the collector or none. The word of the place where a pair lies names the pair's block. A step
+/// copies a pair past the table in which it lies, and stores one where none of the map lies, or where that lies which it replaces.
+pub fn moments_show_places<K, V, S>()
+    ensures begins { PlacesBegin K V }
+    ensures calls { (same : K → K → Bool) (hash : K → ℕ) → CallsKeepPlaces K V S same hash }
+    ensures left { CallsLeavePlaces K V }
+    ensures names { (same : K → K → Bool) (hash : K → ℕ) → PlacesNamePairs K V S same hash }
+    ensures finds { (same : K → K → Bool) (hash : K → ℕ) → CallsFindPlaces K V S same hash }
+{}
+
+/// The blocks of pairs and tables of maps are those of the pairs that were stored, and the tables that were linked, and that no moment calls reclaimed. So it
+/// is at first, and each step of a call leads on from there, where a row of the collector takes no block away.
+pub fn blocks_are_unreclaimed<K, V, S>()
+    ensures begins { BlocksBegin K V }
+    ensures calls { (same : K → K → Bool) (hash : K → ℕ) → CallsKeepBlocks K V S same hash }
+{}
+
+/// What waits behind a table is in no map: so it is after any effects that find numbers as they must, behind each table, and after each step of a call.
+pub fn pairs_wait_outside<K, V, S>()
+    ensures effects { EffectsLeaveOutside K V }
+    ensures each { EachWaitsOutside K V }
+    ensures calls { (same : K → K → Bool) (hash : K → ℕ) → CallsLeaveOutside K V S same hash }
+{}
