@@ -1,0 +1,17 @@
+pub mod Stays
+pub mod Quiet
+pub mod Outside
+pub mod Scenes
+pub mod Leads
+pub mod RowPlans
+pub mod Rows
+pub mod RowBegins
+pub mod Walks
+pub mod EndBegins
+pub mod EndWords
+pub mod Ends
+pub mod Users
+pub mod NewMap
+pub mod MakeBegins
+pub mod MakingPlans
+pub mod Makes

@@ -1,0 +1,5 @@
+pub mod Gone
+pub mod Rows
+pub mod Walks
+pub mod Endings
+pub mod Makings
