@@ -1,14 +1,11 @@
 -- Where the end of a map begins, and where it is over, the other maps are shown as before.
-use Rattle.std.specs.Prelude.{◌≡◌, ◌≢◌, ℕ, ◌==◌, Bool, true, false, not, cond, List, [], ◌∷◌, filter, find, Option, Some, None, if◌then◌else◌, ◌⊎◌}
+use Rattle.std.specs.Prelude.{◌≡◌, ◌==◌, Bool, true, false, not, cond, List, [], ◌∷◌, filter, find, Some, None, if◌then◌else◌}
 use Rattle.std.proofs.Common.{refl, ap, sym, subst, ◌∙◌, inl, inr}
 use Rattle.std.proofs.lemmas.Bool.{cases_eq}
 use Rattle.papaya_runs.specs.Same.{is_same}
-use Rattle.papaya_schedules.specs.Moment.{MapThere, Moment}
 use Rattle.papaya_callers.proofs.Together.At.{at_other, at_same}
-use Rattle.papaya_finishes.specs.Maps.{Standing}
 use Rattle.papaya_follows.specs.Maps.{ShowsMap}
-use Rattle.papaya_follows.proofs.Onward.{tables_same, pairs_same, blocks_same, map_on}
-use Rattle.papaya_others.specs.Endings.{without_map, EndingsBeginShown, EndingsAreOver}
+use Rattle.papaya_others.specs.Endings.{EndingsBeginShown, EndingsAreOver}
 
 module _ {X : Type 0} (test keep : X → Bool) where
   -- what is found and kept is found still

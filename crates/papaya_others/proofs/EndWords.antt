@@ -1,15 +1,13 @@
 -- What the root of a map that ends names once it was written: a pair that waits, or nothing.
-use Rattle.std.specs.Prelude.{◌≡◌, ◌≢◌, ℕ, ◌+◌, ◌*◌, ◌/◌, ◌<◌, ◌==◌, Bool, true, false, List, [], ◌∷◌, Some, None, if◌then◌else◌, ◌⊎◌}
+use Rattle.std.specs.Prelude.{◌≡◌, ℕ, ◌<◌, ◌==◌, Bool, List, [], ◌∷◌, Some, if◌then◌else◌, ◌⊎◌}
 use Rattle.std.proofs.Common.{refl, ap, sym, subst, ◌∙◌, arith, inl, inr}
-use Rattle.std.proofs.lemmas.Bool.{eq-eqb, cases_eq}
-use Rattle.seize_words.specs.declared.at.At.TheVariants.{Root, Used}
-use Rattle.seize_words.specs.Mem.{Mem, value_at, word_at}
+use Rattle.std.proofs.lemmas.Bool.{eq-eqb}
+use Rattle.seize_words.specs.declared.at.At.TheVariants.{Root}
+use Rattle.seize_words.specs.Mem.{Mem, word_at}
 use Rattle.seize_words.specs.Word.{block_in}
 use Rattle.seize.specs.World.{World, times}
 use Rattle.seize.specs.declared.rows.settle.Settled.{Settled}
-use Rattle.seize.specs.declared.rows.settle.Settled.TheVariants as settled
 use Rattle.papaya_tables.specs.declared.node.Node.{Node}
-use Rattle.papaya_tables.specs.declared.node.Node.TheVariants as node
 use Rattle.papaya_tables.specs.declared.setting.Setting.{Setting}
 use Rattle.papaya_raw.specs.EndMap as end_map
 use Rattle.papaya_raw.specs.declared.machines.end_map.EndMap.{EndMap}
@@ -58,5 +56,5 @@ module _ {K V : Type 0} (e : EndMap) (m m2 : Mem (Node K V)) (told : Changed) (e
   pub frees_no_root : e.stands ≡ at.Frees → (r old new : ℕ) → told ≡ changed.Wrote (Root r) old new → ⊥
   frees_no_root stands r old new is =
       let there : StepsTold K V (EndMap × Settled (Node K V)) m changed.Nothing (end_map.plan_at e at.Frees) m2 told end =
-          subst (λ (p : Ending). StepsTold K V (EndMap × Settled (Node K V)) m changed.Nothing (end_map.plan_at e p) m2 told end) stands steps in
+      subst (λ (p : Ending). StepsTold K V (EndMap × Settled (Node K V)) m changed.Nothing (end_map.plan_at e p) m2 told end) stands steps in
       let wrote = there.1.1 in (cc (is, wrote))

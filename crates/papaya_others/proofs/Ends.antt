@@ -1,13 +1,12 @@
 -- A step of the end of a map: the moment after its effects shows the scene after it.
-use Rattle.std.specs.Prelude.{◌≡◌, ◌≢◌, ℕ, zero, suc, ◌<◌, ◌≤◌, ◌==◌, nat_lt, Bool, true, false, List, [], ◌∷◌, ◌++◌, Option, Some, None, if◌then◌else◌, ◌⊎◌}
+use Rattle.std.specs.Prelude.{◌≡◌, ◌≢◌, ℕ, zero, suc, ◌<◌, ◌≤◌, nat_lt, Bool, true, false, List, [], ◌∷◌, ◌++◌, Option, Some, None, if◌then◌else◌, ◌⊎◌}
 use Rattle.std.proofs.Common.{refl, ap, sym, subst, ◌∙◌, arith, inl, inr}
 use Rattle.std.proofs.lemmas.Bool.{cases_eq}
-use Rattle.seize_words.specs.declared.at.At.{At}
 use Rattle.seize_words.specs.declared.at.At.TheVariants.{Root, Used, Slot, Entry, Word}
 use Rattle.seize_words.specs.Mem.{Mem, Can, Took, value_at, word_at}
 use Rattle.seize_words.specs.Plan.{May}
 use Rattle.seize_words.specs.Word.{block_in}
-use Rattle.seize.specs.World.{World, Hand, LeftTo, times, with_at}
+use Rattle.seize.specs.World.{World, Hand, times, with_at}
 use Rattle.seize.specs.declared.rows.settle.Settled.{Settled}
 use Rattle.seize.specs.declared.rows.settle.Settled.TheVariants as settled
 use Rattle.papaya_tables.specs.declared.node.Node.{Node}
@@ -16,7 +15,7 @@ use Rattle.papaya_raw.specs.declared.machines.end_map.EndMap.{EndMap}
 use Rattle.papaya_raw.specs.declared.machines.end_map.Ending.{Ending}
 use Rattle.papaya_raw.specs.declared.machines.end_map.Ending.TheVariants as ending
 use Rattle.papaya_schedules.specs.declared.effect.Effect.{Effect}
-use Rattle.papaya_schedules.specs.declared.effect.Effect.TheVariants.{Asked, PairGivenUp, TableGivenUp, Counted, Ended, Taken}
+use Rattle.papaya_schedules.specs.declared.effect.Effect.TheVariants.{Asked, PairGivenUp, TableGivenUp, Ended, Taken}
 use Rattle.papaya_schedules.specs.declared.effect.Growth.TheVariants.{ABlock}
 use Rattle.papaya_schedules.specs.declared.effect.Table.{Table}
 use Rattle.papaya_schedules.specs.Effects.{with_effects, AtEachEffect}
@@ -29,8 +28,8 @@ use Rattle.papaya_rule.specs.Words.{root_word}
 use Rattle.papaya_callers.proofs.Together.At.{at_same}
 use Rattle.papaya_finishes.specs.Endings.{Finishing, FinishingFacts, StepsOfEnding, waiting_by}
 use Rattle.papaya_finishes.specs.FactsEnds.{taken_by as taken_of, left_by, EndingFacts}
-use Rattle.papaya_finishes.specs.Maps.{Standing, IsSameMap}
-use Rattle.papaya_effects.specs.Effects.{names_same, named, written_by, written_on, led_to, linked_on, in_block, in_block_on, taken_by, effects_of, known_after}
+use Rattle.papaya_finishes.specs.Maps.{Standing}
+use Rattle.papaya_effects.specs.Effects.{names_same, named, written_by, written_on, led_to, linked_on, taken_by, effects_of, known_after}
 use Rattle.papaya_effects.specs.Known.{Known, with_role}
 use Rattle.papaya_effects.specs.declared.acting.Acting.{Acting}
 use Rattle.papaya_effects.specs.declared.acting.Acting.TheVariants as acts
@@ -194,10 +193,10 @@ module _ {K V S : Type 0} (same : K → K → Bool) (hash : K → ℕ) (name : �
         own (inr names) before_is after_is = root_says its known (block_in after) (names_same before after) (named known before) (named known after) (no_table after names)
         own (inl leads) before_is after_is =
             same_so (
-              let led = root_leads f.hash f.setting f.chart f.blocks w.memory f.machine.stands facts.facts.root
-                  (λ frees. frees_no_root f.machine old.memory.memory new.memory.memory told (end, said) steps frees r before after is)
-                  (λ over. subst (λ (p : Ending). EndingFacts f.setting f.chart f.blocks facts.lists false i f.hash w f.machine facts.past f.back p) over facts.facts.point) in
-              cc (led, leads, before_is, after_is)
+            let led = root_leads f.hash f.setting f.chart f.blocks w.memory f.machine.stands facts.facts.root
+            (λ frees. frees_no_root f.machine old.memory.memory new.memory.memory told (end, said) steps frees r before after is)
+            (λ over. subst (λ (p : Ending). EndingFacts f.setting f.chart f.blocks facts.lists false i f.hash w f.machine facts.past f.back p) over facts.facts.point) in
+            cc (led, leads, before_is, after_is)
             )
 
     -- the scene after it

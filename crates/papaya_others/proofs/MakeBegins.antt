@@ -1,7 +1,6 @@
 -- Where the making of a map begins, and where its map is there by its number, all is shown as before.
-use Rattle.std.specs.Prelude.{◌≡◌, ℕ, ◌==◌, Bool, true, false, cond, List, [], ◌∷◌, ◌++◌, find, Some}
+use Rattle.std.specs.Prelude.{◌≡◌, ◌==◌, Bool, true, false, cond, List, [], ◌∷◌, ◌++◌, find, Some}
 use Rattle.std.proofs.Common.{ap, sym, ◌∙◌, refl}
-use Rattle.papaya_schedules.specs.Moment.{MapThere}
 use Rattle.papaya_others.specs.Makings.{MakingsBeginShown, MapsAreThere}
 
 -- what is found is found first where more follows

@@ -1,5 +1,5 @@
 -- A step of the making of a map: the moment after its effects shows the scene after it, and by the last one the map.
-use Rattle.std.specs.Prelude.{◌≡◌, ◌≢◌, ℕ, zero, suc, ◌*◌, ◌/◌, ◌<◌, ◌≤◌, ◌==◌, Bool, true, false, cond, eqb, max, List, [], ◌∷◌, ◌++◌, length, filter, Option, Some, None, IsSome, if◌then◌else◌, ◌⊎◌}
+use Rattle.std.specs.Prelude.{◌≡◌, ◌≢◌, ℕ, zero, suc, ◌*◌, ◌<◌, ◌≤◌, ◌==◌, Bool, true, cond, eqb, max, List, [], ◌∷◌, ◌++◌, length, filter, Option, Some, None, IsSome, if◌then◌else◌}
 use Rattle.std.proofs.Common.{refl, ap, sym, subst, ◌∙◌, arith, inl, inr, append-nil}
 use Rattle.std.proofs.lemmas.Bool.{ne_eqb, eq-eqb, cases_eq}
 use Rattle.std.proofs.lemmas.List.Elements.{filter-append}
@@ -8,7 +8,7 @@ use Rattle.seize_words.specs.declared.at.At.TheVariants.{Root, Used, Slot, Entry
 use Rattle.seize_words.specs.declared.fault.Fault.{Fault}
 use Rattle.seize_words.specs.Mem.{Mem, value_at, word_at}
 use Rattle.seize_words.specs.Word.{block_in}
-use Rattle.seize.specs.World.{World, Hand, InUse, Making as MadeBy, with_at}
+use Rattle.seize.specs.World.{World, Hand, Making as MadeBy, with_at}
 use Rattle.seize.specs.declared.progress.Progress.{Progress}
 use Rattle.seize.specs.declared.progress.Progress.TheVariants as progress
 use Rattle.papaya_tables.specs.Chunks.{is_incremental}
@@ -24,13 +24,13 @@ use Rattle.papaya_resize.specs.declared.new_map.Opening.{Opening}
 use Rattle.papaya_resize.specs.declared.new_map.Opening.TheVariants as opening
 use Rattle.papaya_runs.specs.declared.outcome.TableShape.{TableShape}
 use Rattle.papaya_schedules.specs.declared.effect.Effect.{Effect}
-use Rattle.papaya_schedules.specs.declared.effect.Effect.TheVariants.{Asked, PairMade, PairGivenUp, TableMade, TableGivenUp, Linked}
+use Rattle.papaya_schedules.specs.declared.effect.Effect.TheVariants.{Asked, PairGivenUp, TableGivenUp, Linked}
 use Rattle.papaya_schedules.specs.declared.effect.Growth.TheVariants.{ABlock}
 use Rattle.papaya_schedules.specs.declared.effect.Table.{Table}
-use Rattle.papaya_schedules.specs.Effects.{with_effect, with_effects}
+use Rattle.papaya_schedules.specs.Effects.{with_effects}
 use Rattle.papaya_schedules.specs.Lists.{put}
 use Rattle.papaya_schedules.specs.Moment.{IsLinked, TableThere, Moment}
-use Rattle.papaya_schedules.specs.Views.{map_at, tables_of}
+use Rattle.papaya_schedules.specs.Views.{tables_of}
 use Rattle.papaya_teller.specs.Changed.{kind_of}
 use Rattle.papaya_teller.specs.declared.changed.Changed.{Changed}
 use Rattle.papaya_teller.specs.declared.changed.Changed.TheVariants as changed
@@ -48,7 +48,7 @@ use Rattle.papaya_callers.proofs.Together.At.{at_other, at_same}
 use Rattle.papaya_finishes.specs.Endings.{MakingStepsAmong}
 use Rattle.papaya_finishes.specs.Makings.{Beginning, MakingFacts, OpeningFacts, HasTaken, HasMade, IsMade, IsNewChart, KeepsIts}
 use Rattle.papaya_finishes.specs.Maps.{Standing}
-use Rattle.papaya_effects.specs.Effects.{names_same, named, written_by, written_on, made_by, made_role, taken_by, effects_of, known_after}
+use Rattle.papaya_effects.specs.Effects.{names_same, named, made_by, made_role, taken_by, effects_of, known_after}
 use Rattle.papaya_effects.specs.Known.{Known, with_role}
 use Rattle.papaya_effects.specs.declared.acting.Acting.{Acting}
 use Rattle.papaya_effects.specs.declared.acting.Acting.TheVariants as acts
@@ -68,10 +68,10 @@ use Rattle.papaya_follows.proofs.Operations.{LeavesBy, operated, operated_leaves
 use Rattle.papaya_follows.proofs.Steps.{one_of}
 use Rattle.papaya_follows.proofs.Writes.{Says, root_says, nothing_free, own_table}
 use Rattle.papaya_others.specs.Makings.{IsNew, WasNew, NotesCounter, making_after, MakingsAreShown}
-use Rattle.papaya_others.proofs.Leads.{DoesNothing, word_says, calls_then, quiet, nothing, made, gone_quiet}
+use Rattle.papaya_others.proofs.Leads.{DoesNothing, word_says, calls_then, nothing, made, gone_quiet}
 use Rattle.papaya_others.proofs.MakingPlans.{KeepsValues, TellsMaking, DoneBy, making_tells, making_keeps, has_root, making_done}
 use Rattle.papaya_others.proofs.NewMap.{no_tables_shown, one_table_shown, new_shown}
-use Rattle.papaya_others.proofs.Quiet.{all_quiet, calls_none, stored_none}
+use Rattle.papaya_others.proofs.Quiet.{all_quiet, stored_none}
 use Rattle.papaya_others.proofs.Scenes.{one_put}
 use Rattle.papaya_others.proofs.Stays.{StaysBlock, same_maps}
 use Rattle.papaya_others.proofs.Users.{events_stay}
@@ -351,7 +351,7 @@ module _ {K V S : Type 0} (same : K → K → Bool) (hash : K → ℕ) (name : �
       its_block =
           let leads = subst (λ (x : ℕ). word_at w2.memory (Root x) ≡ Some (root_word st.hash st.chart st.blocks)) root_is its_map.map.shows.root_there in
           let to : root_word st.hash st.chart st.blocks ≡ st.blocks.table 0 * 2048 =
-              ap (λ (p : ℕ). cond (eqb p 0) 0 (st.blocks.table st.chart.first * 2048)) past_is ∙ ap (λ (f : ℕ). st.blocks.table f * 2048) first_is in
+          ap (λ (p : ℕ). cond (eqb p 0) 0 (st.blocks.table st.chart.first * 2048)) past_is ∙ ap (λ (f : ℕ). st.blocks.table f * 2048) first_is in
           let now = root_after r before after is in
           let word_is : after ≡ root_word st.hash st.chart st.blocks = cc (leads, now) in
           ap block_in (word_is ∙ to) ∙ block_of_link (st.blocks.table 0)

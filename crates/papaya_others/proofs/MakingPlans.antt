@@ -1,13 +1,13 @@
 -- What a step of the making of a map does by one operation, and by which its map stands.
-use Rattle.std.specs.Prelude.{◌≡◌, ◌≢◌, ℕ, ◌+◌, ◌-◌, ◌%◌, ◌^◌, ◌<◌, ◌==◌, nat_lt, Bool, true, false, Option, Some, None, Ok, Err, IsSome, if◌then◌else◌, ◌⊎◌}
-use Rattle.std.proofs.Common.{refl, ap, sym, subst, ◌∙◌, arith, inl, inr}
+use Rattle.std.specs.Prelude.{◌≡◌, ◌≢◌, ℕ, ◌+◌, ◌-◌, ◌%◌, ◌^◌, ◌<◌, ◌==◌, nat_lt, Bool, true, false, Some, None, Ok, Err, if◌then◌else◌}
+use Rattle.std.proofs.Common.{refl, ap, sym, subst, ◌∙◌, arith}
 use Rattle.std.proofs.lemmas.Bool.{ne_eqb}
 use Rattle.seize_words.specs.declared.at.At.{At}
 use Rattle.seize_words.specs.declared.at.At.TheVariants.{Root, Used, Word}
 use Rattle.seize_words.specs.declared.fault.Fault.{Fault}
-use Rattle.seize_words.specs.Mem.{Mem, value_in, value_at, word_at, with_word, fresh, block_of, Can, Took}
-use Rattle.seize_words.specs.Op.{Op, Out, Load, Store, Swap, Add, Or, Exchange, Make, Take, Rewrite, Room, Found, Stored, Exchanged, Made, Taken, Roomed}
-use Rattle.seize_words.specs.Plan.{Plan, Turn, Do, Then, May, Ends, plan_as, then_as}
+use Rattle.seize_words.specs.Mem.{Mem, value_in, value_at, word_at, fresh, block_of, Can, Took}
+use Rattle.seize_words.specs.Op.{Op, Out, Load, Store, Swap, Add, Or, Exchange, Make, Take, Rewrite, Room, Exchanged, Made}
+use Rattle.seize_words.specs.Plan.{Plan, Turn, Do, May, Ends, plan_as, then_as}
 use Rattle.seize_words.specs.Word.{block_in}
 use Rattle.seize_words.proofs.OneOwner.AfterWrites.{value_at-with_word, block_of-with_block, block_of-made}
 use Rattle.seize_rule.proofs.Words.Named.{block_there}

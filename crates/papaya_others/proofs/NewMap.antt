@@ -1,10 +1,9 @@
 -- A map that stands as a new one, without a pair, and with one table at most, is shown.
-use Rattle.std.specs.Prelude.{◌≡◌, ℕ, zero, suc, ◌<◌, ◌≤◌, ◌==◌, true, List, [], ◌∷◌, find, Some, ◌⊎◌}
-use Rattle.std.proofs.Common.{refl, ap, sym, subst, ◌∙◌, arith, inl, inr}
+use Rattle.std.specs.Prelude.{◌≡◌, ℕ, ◌==◌, [], ◌∷◌, find}
+use Rattle.std.proofs.Common.{refl, ap, sym, subst, ◌∙◌, arith}
 use Rattle.papaya_tables.specs.declared.setting.Setting.{Setting}
-use Rattle.papaya_runs.specs.declared.outcome.TableShape.{TableShape}
-use Rattle.papaya_schedules.specs.Moment.{Place, InMap, Stage, IsLinked, TableThere, Moment}
-use Rattle.papaya_schedules.specs.Views.{map_at, tables_of}
+use Rattle.papaya_schedules.specs.Moment.{Place, Stage, IsLinked, Moment}
+use Rattle.papaya_schedules.specs.Views.{tables_of}
 use Rattle.papaya_finishes.specs.Maps.{Standing}
 use Rattle.papaya_effects.specs.Known.{Known}
 use Rattle.papaya_effects.specs.declared.role.Role.TheVariants as role

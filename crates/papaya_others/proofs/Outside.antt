@@ -1,13 +1,13 @@
 -- What happens to pairs outside of a map, and to tables that its root has passed, is nothing to the map.
-use Rattle.std.specs.Prelude.{◌≡◌, ◌≢◌, ℕ, zero, suc, ◌<◌, ◌≤◌, ◌==◌, Bool, true, false, List, [], ◌∷◌, ◌++◌, length, filter, find, map, if◌then◌else◌, ◌⊎◌}
-use Rattle.std.proofs.Common.{refl, ap, sym, subst, ◌∙◌, arith, inl, inr}
+use Rattle.std.specs.Prelude.{◌≡◌, ℕ, zero, suc, ◌<◌, ◌≤◌, ◌==◌, Bool, true, false, List, [], ◌∷◌, ◌++◌, length, filter, find, map, if◌then◌else◌, ◌⊎◌}
+use Rattle.std.proofs.Common.{refl, ap, sym, ◌∙◌, arith, inl, inr}
 use Rattle.std.proofs.lemmas.Bool.{eq-eqb, cases_eq}
 use Rattle.papaya_schedules.specs.declared.effect.Table.{Table}
 use Rattle.papaya_schedules.specs.Effects.{all_at, at_stage}
 use Rattle.papaya_schedules.specs.Lists.{put, is_among}
-use Rattle.papaya_schedules.specs.Moment.{Place, InMap, IsLinked, Stage, TableThere, Moment}
+use Rattle.papaya_schedules.specs.Moment.{Place, InMap, Stage, TableThere, Moment}
 use Rattle.papaya_schedules.specs.Things.{same_table}
-use Rattle.papaya_schedules.specs.Views.{is_in_map, is_in_a_map, map_at, tables_of, behind}
+use Rattle.papaya_schedules.specs.Views.{is_in_map, is_in_a_map, behind}
 use Rattle.papaya_rule.specs.Chart.{Chart}
 use Rattle.papaya_finishes.specs.Maps.{Standing}
 use Rattle.papaya_effects.specs.Known.{Known}

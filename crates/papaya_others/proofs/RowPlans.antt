@@ -1,14 +1,12 @@
 -- What a row on a slot does by one operation: it writes words of slots and of entries, makes room for slots, or takes a block away.
-use Rattle.std.specs.Prelude.{◌≡◌, ℕ, Option, Some, None, Ok, Err}
+use Rattle.std.specs.Prelude.{ℕ, Option, Ok}
 use Rattle.std.proofs.Common.{sym, subst}
 use Rattle.seize_words.specs.declared.at.At.{At}
 use Rattle.seize_words.specs.declared.at.At.TheVariants.{Slot, Entry}
-use Rattle.seize_words.specs.Mem.{Mem, value_at}
+use Rattle.seize_words.specs.Mem.{Mem}
 use Rattle.seize_words.specs.Op.{Op, Out, Load, Store, Swap, Add, Or, Exchange, Make, Take, Rewrite, Room, Found, Exchanged, Roomed}
 use Rattle.seize_words.specs.Plan.{Plan, Turn, Do, plan_as}
 use Rattle.seize.specs.World.{MayStep}
-use Rattle.seize.specs.declared.rows.enter.Enter.{Enter}
-use Rattle.seize.specs.declared.rows.enter.Unregister.{Unregister}
 use Rattle.seize.specs.declared.rows.leave.Leave.{Leave}
 use Rattle.seize.specs.declared.rows.leave.Leaving.{Leaving}
 use Rattle.seize.specs.declared.rows.leave.Leaving.TheVariants as leaving

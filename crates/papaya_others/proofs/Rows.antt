@@ -1,10 +1,10 @@
 -- A step of a row on a slot: the moment after its effects shows the scene after it, also where it reclaims a pair or a table.
-use Rattle.std.specs.Prelude.{◌≡◌, ◌≢◌, ℕ, zero, suc, ◌<◌, ◌≤◌, nat_lt, Bool, true, false, List, [], ◌∷◌, Option, Some, None, if◌then◌else◌}
+use Rattle.std.specs.Prelude.{◌≡◌, ◌≢◌, ℕ, zero, suc, ◌<◌, ◌≤◌, nat_lt, Bool, true, false, List, [], ◌∷◌, Option, Some, None}
 use Rattle.std.proofs.Common.{refl, ap, sym, subst, ◌∙◌, arith}
 use Rattle.seize_words.specs.declared.at.At.TheVariants.{Root, Used, Slot, Entry, Word}
 use Rattle.seize_words.specs.Mem.{Mem, value_at}
 use Rattle.seize.specs.Sequence.{taken_in}
-use Rattle.seize.specs.World.{World, Hand, Step, MayStep, Happens, Steps', times}
+use Rattle.seize.specs.World.{World, Hand, Step, Steps', times}
 use Rattle.seize_rule.proofs.Rows.Effects.{hand_kept}
 use Rattle.seize_alone.proofs.Spared.Rows.{RowStepped}
 use Rattle.seize_alone.proofs.Histories.NotTaken.{did, taken_gone}
@@ -12,8 +12,7 @@ use Rattle.seize_alone.proofs.Histories.Reached.{Reached}
 use Rattle.papaya_tables.specs.Nodes.{deferred_word}
 use Rattle.papaya_tables.specs.declared.node.Node.{Node}
 use Rattle.papaya_schedules.specs.declared.effect.Effect.{Effect}
-use Rattle.papaya_schedules.specs.declared.effect.Effect.TheVariants.{Asked, PairGivenUp, TableGivenUp, Reclaimed}
-use Rattle.papaya_schedules.specs.declared.effect.Growth.TheVariants.{ABucket}
+use Rattle.papaya_schedules.specs.declared.effect.Effect.TheVariants.{PairGivenUp, TableGivenUp, Reclaimed}
 use Rattle.papaya_schedules.specs.declared.effect.Table.{Table}
 use Rattle.papaya_schedules.specs.declared.effect.Thing.TheVariants.{APair, ATable}
 use Rattle.papaya_schedules.specs.Effects.{with_effects, AtEachEffect}
@@ -30,8 +29,8 @@ use Rattle.papaya_effects.specs.Known.{Known, with_role}
 use Rattle.papaya_effects.specs.declared.acting.Acting.TheVariants.{Row}
 use Rattle.papaya_effects.specs.declared.role.Role.{Role}
 use Rattle.papaya_effects.specs.declared.role.Role.TheVariants as role
-use Rattle.papaya_executor.specs.IsAt.{Scene, IsAt, slot_of, work_of, row_of}
-use Rattle.papaya_executor.specs.OnSlots.{RowSteps, HappensAt, RowLeads}
+use Rattle.papaya_executor.specs.IsAt.{Scene, IsAt, slot_of, work_of}
+use Rattle.papaya_executor.specs.OnSlots.{RowSteps, HappensAt}
 use Rattle.papaya_executor.specs.declared.executor.Executor.{Executor}
 use Rattle.papaya_executor.specs.declared.row.RowTold.{RowTold}
 use Rattle.papaya_executor.specs.declared.row.SlotRow.{SlotRow}
@@ -132,11 +131,11 @@ module _ {K V S : Type 0} (same : K → K → Bool) (hash : K → ℕ) (name : �
         by false f = f
         by true f =
             absurd (
-              let parts = same_parts (table_of n u) t f in
-              let turn_is = parts.1 in
-              let there = (shown.maps n before e).there in
-              let less = is there.there (ap (λ (x : ℕ). map_at x m) (sym parts.0) ∙ there.is) in
-              let first = there.first in omega (arith, less, first, from, turn_is)
+            let parts = same_parts (table_of n u) t f in
+            let turn_is = parts.1 in
+            let there = (shown.maps n before e).there in
+            let less = is there.there (ap (λ (x : ℕ). map_at x m) (sym parts.0) ∙ there.is) in
+            let first = there.first in omega (arith, less, first, from, turn_is)
             )
 
     taken : (r : Role) → known.roles b ≡ r → AtEachEffect HasPassed None None (taken_by Row r) m → Goal (taken_by Row r) free

@@ -1,13 +1,13 @@
 -- Scenes whose maps stand as they did, but for what may be looked at: what a moment shows of them where a block is another one.
 use Rattle.std.specs.Prelude.{◌≡◌, ◌≢◌, ℕ, ◌<◌, ◌≤◌, ◌==◌, Bool, true, false, List, filter, find, map, Option, Some, None}
-use Rattle.std.proofs.Common.{refl, ap, sym, subst, ◌∙◌, arith}
+use Rattle.std.proofs.Common.{refl, ap, sym, subst, ◌∙◌}
 use Rattle.seize_words.specs.Mem.{value_at}
 use Rattle.seize.specs.World.{World}
 use Rattle.papaya_tables.specs.declared.node.Node.{Node}
 use Rattle.papaya_schedules.specs.declared.effect.Table.{Table}
 use Rattle.papaya_schedules.specs.Effects.{all_at, at_stage}
 use Rattle.papaya_schedules.specs.Lists.{put}
-use Rattle.papaya_schedules.specs.Moment.{Place, InMap, GivenBack, Stage, Moment}
+use Rattle.papaya_schedules.specs.Moment.{Place, GivenBack, Stage, Moment}
 use Rattle.papaya_schedules.specs.Things.{same_table}
 use Rattle.papaya_schedules.specs.Views.{is_in_map, behind}
 use Rattle.papaya_rule.specs.InWorld.{IsMapIn}
@@ -26,7 +26,7 @@ use Rattle.papaya_follows.specs.Shows.{Shows}
 use Rattle.papaya_follows.proofs.Alike.{AreSame, IsAlike, alike_same, put_elsewhere}
 use Rattle.papaya_follows.proofs.Onward.{IsLasting, tables_same, pairs_same, blocks_same, blocks_part, map_on}
 use Rattle.papaya_follows.proofs.Steps.{one_of}
-use Rattle.papaya_others.specs.Gone.{WaitOutside, IsPassed}
+use Rattle.papaya_others.specs.Gone.{WaitOutside}
 use Rattle.papaya_others.proofs.Outside.{in_map_of, pairs_outside, put_outside, all_outside, table_staged}
 use Rattle.papaya_others.proofs.Stays.{StaysBlock, blocks_stay, blocks_but}
 
@@ -136,17 +136,17 @@ module _ {K V : Type 0} (same : K → K → Bool) (name : ℕ → List ℕ) (m :
           by false at = at
           by true at =
               absurd (
-                let shows = (shown.maps n before e).pairs in
-                let old = stood n before e in
-                let new = stand n (seen_so before blocks sights) here in
-                let it = shows.all k (in_map_of n (m.place k) at) in
-                let current : before.chart.current it.0 ≡ true = sym (shows.here it.0 it.1) ∙ ap (λ (y : ℕ). is_in_map n (m.place y)) (sym it.2) ∙ at in
-                let seen = current_known same before.hash before.setting s.world before.chart before.blocks old.map.rule old.map.shows it.0 current in
-                let seen_then = current_known same before.hash before.setting w2 before.chart blocks new.map.rule new.map.shows it.0 current in
-                let its_role : known.roles (before.blocks.pair it.0) ≡ role.Pair k = shows.roles it.0 it.1 seen.1 ∙ ap role.Pair (sym it.2) in
-                let its_block : x ≡ before.blocks.pair it.0 = shown.blocks.once x (before.blocks.pair it.0) k was its_role in
-                let there = new.map.shows.pairs it.0 it.1 seen_then.1 in
-                let value = ap (value_at w2.memory) (its_block ∙ sym (part.pairs it.0)) ∙ there.2 in cc (value, gone)
+              let shows = (shown.maps n before e).pairs in
+              let old = stood n before e in
+              let new = stand n (seen_so before blocks sights) here in
+              let it = shows.all k (in_map_of n (m.place k) at) in
+              let current : before.chart.current it.0 ≡ true = sym (shows.here it.0 it.1) ∙ ap (λ (y : ℕ). is_in_map n (m.place y)) (sym it.2) ∙ at in
+              let seen = current_known same before.hash before.setting s.world before.chart before.blocks old.map.rule old.map.shows it.0 current in
+              let seen_then = current_known same before.hash before.setting w2 before.chart blocks new.map.rule new.map.shows it.0 current in
+              let its_role : known.roles (before.blocks.pair it.0) ≡ role.Pair k = shows.roles it.0 it.1 seen.1 ∙ ap role.Pair (sym it.2) in
+              let its_block : x ≡ before.blocks.pair it.0 = shown.blocks.once x (before.blocks.pair it.0) k was its_role in
+              let there = new.map.shows.pairs it.0 it.1 seen_then.1 in
+              let value = ap (value_at w2.memory) (its_block ∙ sym (part.pairs it.0)) ∙ there.2 in cc (value, gone)
               )
 
       pub pair_gone : v.place ≡ put k GivenBack m.place → v.born ≡ m.born → v.maps ≡ m.maps → v.tables ≡ m.tables → Goal

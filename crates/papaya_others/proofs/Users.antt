@@ -2,7 +2,7 @@
 use Rattle.std.specs.Prelude.{◌≡◌, ◌≢◌, ℕ, List, [], ◌∷◌, Option, None, Ok, Err, IsSome}
 use Rattle.std.proofs.Common.{refl, ap, sym, subst, ◌∙◌}
 use Rattle.seize_words.specs.Mem.{Mem, value_in, value_at, Took}
-use Rattle.seize_words.specs.Op.{Op, Out, Make, Found, Stored, Exchanged, Made, Taken, Roomed}
+use Rattle.seize_words.specs.Op.{Out, Make, Made}
 use Rattle.seize_rule.proofs.World.Values.{own_op_value, taken_value, made_value, rewritten_value}
 use Rattle.seize.specs.Sequence.{IsUsers}
 use Rattle.seize.specs.World.{World, NoBlock, Making, InUse, Parting, Cutting, Event, Begin, Step, Makes, Drops, Links, Parts, Unlinks, Rewrites, Operates, Ends, LeavesOver, Relinks, Clears, Chooses, Happens, Runs, made_by}
