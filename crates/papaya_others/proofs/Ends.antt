@@ -1,7 +1,7 @@
 -- A step of the end of a map: the moment after its effects shows the scene after it.
-use Rattle.std.specs.Prelude.{◌≡◌, ◌≢◌, ℕ, zero, suc, ◌<◌, ◌≤◌, nat_lt, Bool, true, false, List, [], ◌∷◌, ◌++◌, Option, Some, None, if◌then◌else◌, ◌⊎◌}
+use Rattle.std.specs.Prelude.{◌≡◌, ◌≢◌, ℕ, zero, suc, ◌<◌, ◌≤◌, nat_lt, Bool, true, false, List, [], ◌∷◌, ◌++◌, Option, Some, None, if◌then◌else◌, ◌⊎◌, ◌==◌, IsSome}
 use Rattle.std.proofs.Common.{refl, ap, sym, subst, ◌∙◌, arith, inl, inr}
-use Rattle.std.proofs.lemmas.Bool.{cases_eq}
+use Rattle.std.proofs.lemmas.Bool.{eq-eqb, cases_eq}
 use Rattle.seize_words.specs.declared.at.At.TheVariants.{Root, Used, Slot, Entry, Word}
 use Rattle.seize_words.specs.Mem.{Mem, Can, Took, value_at, word_at}
 use Rattle.seize_words.specs.Plan.{May}
@@ -43,12 +43,13 @@ use Rattle.papaya_follows.specs.Blocks.{WasLinked, HasRole}
 use Rattle.papaya_follows.specs.Calls.{ShowsCalls}
 use Rattle.papaya_follows.specs.Maps.{table_of}
 use Rattle.papaya_follows.specs.Shows.{Shows}
+use Rattle.papaya_follows.specs.Steps.{TakesNone}
 use Rattle.papaya_follows.proofs.Alike.{AllStill}
 use Rattle.papaya_follows.proofs.Operations.{StaysThere, LeavesBy, operated, operated_leaves}
 use Rattle.papaya_follows.proofs.Quiet.{same_name}
 use Rattle.papaya_follows.proofs.Told.{roomed_as_many}
 use Rattle.papaya_follows.proofs.Writes.{nothing_free}
-use Rattle.papaya_others.specs.Endings.{ending_after, EndingsAreShown}
+use Rattle.papaya_others.specs.Endings.{ending_after, TellsNext, EndingsAreShown}
 use Rattle.papaya_others.specs.Gone.{EndsWith}
 use Rattle.papaya_others.proofs.EndWords.{NamesPair, root_leads, root_or_none, root_waits, frees_no_root}
 use Rattle.papaya_others.proofs.Leads.{same_parts, roomed_still, either_still, DoesNothing, word_says, calls_then, quiet, nothing, gone_quiet}
@@ -286,7 +287,49 @@ module _ {K V S : Type 0} (same : K → K → Bool) (hash : K → ℕ) (name : �
       leads (subst (λ (x : Settled (Node K V)). EndingComesTo same hash s new i f end w2 did.deed x) (sym e) comes) (record s { world = w2; enders = with_at s.enders i None }) shown.calls
       (λ n st is. (comes.2.together.makings.standing.each n st is).ground.map) told refl left may
 
+  -- what is told is what was taken
+  none_taken : (x : Changed) → LeavesBy w.memory w2.memory x → taken_of did.deed ≡ [] → TakesNone x
+  none_taken changed.Nothing l none = tt
+  none_taken (changed.Wrote a before after) l none = tt
+  none_taken (changed.Made kind b) l none = tt
+  none_taken (changed.Unmade kind) l none = tt
+  none_taken (changed.Took b) l none =
+      let kept = did.spares.values b (ap (times b) none) in
+      let some : IsSome {T = Node K V} None = subst (λ (o : Option (Node K V)). IsSome o) (sym kept ∙ l.1) l.0 in cc some
+  none_taken (changed.Roomed bucket had) l none = tt
+
+  one_taken : (x : Changed) → LeavesBy w.memory w2.memory x → (b : ℕ) (value : Node K V) → value_at w.memory b ≡ Some value → value_at w2.memory b ≡ None → x ≡ changed.Took b
+  one_taken changed.Nothing l b value is gone = absurd (let there = ((l b).there value is).1 in cc (there, gone))
+  one_taken (changed.Wrote a before after) l b value is gone = absurd (let kept = l.2 b in cc (kept, is, gone))
+  one_taken (changed.Made kind x) l b value is gone = elim (cases_eq b x) as (λ _. changed.Made kind x ≡ changed.Took b) [
+    | inl e ↦ absurd (let none = ap (value_at w.memory) e ∙ l.0 in cc (none, is))
+    | inr ne ↦ absurd (let there = ((l.4 b ne).there value is).1 in cc (there, gone))
+  ]
+  one_taken (changed.Unmade kind) l b value is gone = absurd (let there = ((l b).there value is).1 in cc (there, gone))
+  one_taken (changed.Took x) l b value is gone = elim (cases_eq b x) as (λ _. changed.Took x ≡ changed.Took b) [
+    | inl e ↦ ap changed.Took (sym e)
+    | inr ne ↦ absurd (let there = ((l.2 b ne).there value is).1 in cc (there, gone))
+  ]
+  one_taken (changed.Roomed bucket had) l b value is gone = absurd (let there = ((l b).there value is).1 in cc (there, gone))
+
+  -- the one that is reclaimed next
+  next_gone : (b : ℕ) → taken_of did.deed ≡ b ∷ [] → value_at w2.memory b ≡ None
+  next_gone b is =
+      let one : ◌≡◌ {A = ℕ} (if b == b then 1 else 0) 1 = ap (λ (q : Bool). if q then 1 else 0) (eq-eqb b b refl) in
+      let count : times b (taken_of did.deed) ≡ times b (b ∷ []) = ap (times b) is in
+      did.spares.gone b (omega (arith, one, count))
+
+  tells_next : (t : Settled (Node K V)) (comes : EndingComesTo same hash s new i f end w2 did.deed t) → TellsNext same hash s new i f end w2 did.deed t comes told
+  tells_next settled.Goes comes = none_taken told left comes.0
+  tells_next settled.Waits comes = comes
+  tells_next (settled.Gave value) comes = one_taken told left comes.0 value comes.1 (next_gone comes.0 comes.2)
+  tells_next settled.Done comes = none_taken told left comes.0
+
 module _ (K V S : Type 0) (same : K → K → Bool) (hash : K → ℕ) where
   pub endings_are_shown : EndingsAreShown K V S same hash
-  endings_are_shown name m known s old new at shown i told leads_to f here map not_there may =
-      let to = leads_to f here in ending_shown same hash name m known s old new at shown i f here to.0 told to.1 to.2 map not_there told refl to.3 may
+  endings_are_shown name m known s old new at shown i said leads_to f here map not_there may =
+      let to = leads_to f here in
+      (
+        tells_next same hash name m known s old new at shown i f here to.0 said to.1 to.2 map not_there said to.3,
+        ending_shown same hash name m known s old new at shown i f here to.0 said to.1 to.2 map not_there said refl to.3 may,
+      )

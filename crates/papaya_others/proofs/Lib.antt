@@ -3,6 +3,7 @@ pub mod Quiet
 pub mod Outside
 pub mod Scenes
 pub mod Leads
+pub mod Retired
 pub mod RowPlans
 pub mod Rows
 pub mod RowBegins

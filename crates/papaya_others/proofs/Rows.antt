@@ -43,10 +43,11 @@ use Rattle.papaya_follows.specs.Shows.{Shows}
 use Rattle.papaya_follows.proofs.Alike.{AllStill}
 use Rattle.papaya_follows.proofs.Operations.{StaysThere, LeavesBy, operated_leaves}
 use Rattle.papaya_follows.proofs.Told.{roomed_as_many}
-use Rattle.papaya_others.specs.Gone.{IsPassed, HasPassed}
+use Rattle.papaya_others.specs.Gone.{WasRetired}
 use Rattle.papaya_others.specs.Rows.{scene_then, RowsOnSlotsAreShown}
 use Rattle.papaya_others.proofs.Leads.{same_parts, roomed_still, either_still, calls_then, quiet, gone_quiet}
 use Rattle.papaya_others.proofs.RowPlans.{TellsRow, row_tells, row_operated}
+use Rattle.papaya_others.proofs.Retired.{retired_apart}
 use Rattle.papaya_others.proofs.Scenes.{pair_gone, table_gone}
 use Rattle.papaya_others.proofs.Stays.{StaysBlock, same_there}
 
@@ -124,21 +125,7 @@ module _ {K V S : Type 0} (same : K → K → Bool) (hash : K → ℕ) (name : �
     none_moved : (effects : List Effect) → AllStill effects → Goal effects free
     none_moved effects none = gone_quiet same name m known s shown w2 happened.2 happened.3 None rest shown.calls stood stand effects none b gone others
 
-    passed : (t : Table) → IsPassed m t → (n : ℕ) (before : Standing K) → s.maps n ≡ Some before → (u : ℕ) → before.chart.first ≤ u → u < before.chart.past → same_table (table_of n u) t ≡ false
-    passed t is n before e u from made = by (same_table (table_of n u) t) refl
-      where
-        by : (q : Bool) → same_table (table_of n u) t ≡ q → same_table (table_of n u) t ≡ false
-        by false f = f
-        by true f =
-            absurd (
-            let parts = same_parts (table_of n u) t f in
-            let turn_is = parts.1 in
-            let there = (shown.maps n before e).there in
-            let less = is there.there (ap (λ (x : ℕ). map_at x m) (sym parts.0) ∙ there.is) in
-            let first = there.first in omega (arith, less, first, from, turn_is)
-            )
-
-    taken : (r : Role) → known.roles b ≡ r → AtEachEffect HasPassed None None (taken_by Row r) m → Goal (taken_by Row r) free
+    taken : (r : Role) → known.roles b ≡ r → AtEachEffect WasRetired None None (taken_by Row r) m → Goal (taken_by Row r) free
     taken role.Free e may = none_moved [] tt
     taken (role.OwnPair caller) e may = none_moved (PairGivenUp ∷ []) (refl, tt)
     taken (role.OwnTable turn shape) e may = none_moved (TableGivenUp (record { map = 0; turn = turn }) ∷ []) (refl, tt)
@@ -148,9 +135,9 @@ module _ {K V S : Type 0} (same : K → K → Bool) (hash : K → ℕ) (name : �
         (calls (Reclaimed (APair k) ∷ [])) k e refl refl refl refl
     taken (role.Table t len) e may =
         table_gone same name m known s shown w2 happened.2 happened.3 stood stand b gone others free refl refl rest (with_effects None None (Reclaimed (ATable t) ∷ []) m) refl
-        (calls (Reclaimed (ATable t) ∷ [])) IsReclaimed t Handed (passed t may.0.0) may.0.1 (λ n. refl) refl refl refl refl
+        (calls (Reclaimed (ATable t) ∷ [])) IsReclaimed t Handed (λ n before at. retired_apart n (shown.number n) before m known (shown.maps n before at) t may.0.0) may.0.1 (λ n. refl) refl refl refl refl
 
-  leads : (told : Changed) → TellsRow told → LeavesBy w.memory w2.memory told → AtEachEffect HasPassed None None (effects_of Row known told) m → Goal (effects_of Row known told) (known_after Row told known)
+  leads : (told : Changed) → TellsRow told → LeavesBy w.memory w2.memory told → AtEachEffect WasRetired None None (effects_of Row known told) m → Goal (effects_of Row known told) (known_after Row told known)
   leads changed.Nothing is left may = still [] known tt refl refl left
   leads (changed.Wrote (Slot t field) old new) is left may = still [] known tt refl refl (same_there w.memory w2.memory left.2)
   leads (changed.Wrote (Entry b field) old new) is left may = still _ known (either_still (names_same old new)) refl refl (same_there w.memory w2.memory left.2)
@@ -163,7 +150,7 @@ module _ {K V S : Type 0} (same : K → K → Bool) (hash : K → ℕ) (name : �
   leads (changed.Roomed bucket had) is left may =
       let alike = roomed_as_many Row known bucket had in still (effects_of Row known (changed.Roomed bucket had)) _ (roomed_still (nat_lt bucket known.buckets)) alike.0 alike.1 left
 
-  pub row_shown : AtEachEffect HasPassed None None (effects_of Row known told) m → Goal (effects_of Row known told) (known_after Row told known)
+  pub row_shown : AtEachEffect WasRetired None None (effects_of Row known told) m → Goal (effects_of Row known told) (known_after Row told known)
   row_shown may = leads told (row_tells old.memory.memory new.memory.memory told end row steps) left may
 
 module _ (K V S : Type 0) (same : K → K → Bool) (hash : K → ℕ) where

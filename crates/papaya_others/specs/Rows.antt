@@ -16,7 +16,7 @@ use Rattle.papaya_executor.specs.declared.row.SlotCall.{SlotCall}
 use Rattle.papaya_executor.specs.declared.row.SlotRow.{SlotRow}
 use Rattle.papaya_executor.specs.declared.worker.Work.TheVariants.{OnSlot}
 use Rattle.papaya_follows.specs.Shows.{Shows}
-use Rattle.papaya_others.specs.Gone.{HasPassed}
+use Rattle.papaya_others.specs.Gone.{WasRetired}
 
 -- the scene once this has happened
 abbrev pub scene_then : {K V S : Type 0} (same : K → K → Bool) (hash : K → ℕ) (event : Event (Node K V)) (s : Scene K V) (old new : Executor K V S) → HappensAt same hash event s old new → Scene K V
@@ -30,11 +30,11 @@ module _ (K V S : Type 0) (same : K → K → Bool) (hash : K → ℕ) where
       → (called : SlotCall) (i : ℕ) (may : MayBegin old (slot_of i) called) (leads : RowBegins same hash called i s old new)
       → Shows same name m known (scene_then same hash (Begin i (request_of (slot_of i) called)) s old new (leads may).3)
 
-  -- and a step of it, which may reclaim a pair or a table, leads on: a table that it reclaims was passed by the root of its map.
+  -- and a step of it, which may reclaim a pair or a table, leads on: a table that it reclaims was retired, and what waits behind that is in no map.
   abbrev pub RowsOnSlotsAreShown : Type 0
   RowsOnSlotsAreShown =
       (name : ℕ → List ℕ) (m : Moment K V) (known : Known) (s : Scene K V) (old new : Executor K V S) → IsAt same hash old s → Shows same name m known s
       → (i : ℕ) (told : RowTold (Node K V)) (leads : RowLeads same hash i told s old new) (row : SlotRow) (here : work_of old i ≡ Some (OnSlot row))
-      → AtEachEffect HasPassed None None (effects_of Row known new.memory.changed) m
+      → AtEachEffect WasRetired None None (effects_of Row known new.memory.changed) m
       → Shows same name (with_effects None None (effects_of Row known new.memory.changed) m) (known_after Row new.memory.changed known)
       (scene_then same hash (Step i) s old new (leads row here).4)
