@@ -258,19 +258,19 @@ module _ {K V S : Type 0} (same : K → K → Bool) (hash : K → ℕ) (name : �
           word_stays b field before after _ (values b ∙ has.1) was now
 
       leads : (x : Changed) → told ≡ x → LeavesBy w.memory w2.memory x → AtEachEffect (λ v effect. EndsWith v map effect) None (Some map) (effects_of its known x) m → Goal (effects_of its known x) (known_after its x known)
-      leads changed.Nothing is left may = still [] known tt refl refl left
-      leads (changed.Wrote (Root r) before after) is left may = nothing_done _ _ (root_quiet r before after is left.0 left.1) (same_there w.memory w2.memory left.2)
-      leads (changed.Wrote (Used r) before after) is left may = still [] known tt refl refl (same_there w.memory w2.memory left.2)
-      leads (changed.Wrote (Slot t field) before after) is left may = still [] known tt refl refl (same_there w.memory w2.memory left.2)
-      leads (changed.Wrote (Entry b field) before after) is left may = still _ known (either_still (names_same before after)) refl refl (same_there w.memory w2.memory left.2)
-      leads (changed.Wrote (Word b field) before after) is left may =
+      leads changed.Nothing is l may = still [] known tt refl refl l
+      leads (changed.Wrote (Root r) before after) is l may = nothing_done _ _ (root_quiet r before after is l.0 l.1) (same_there w.memory w2.memory l.2)
+      leads (changed.Wrote (Used r) before after) is l may = still [] known tt refl refl (same_there w.memory w2.memory l.2)
+      leads (changed.Wrote (Slot t field) before after) is l may = still [] known tt refl refl (same_there w.memory w2.memory l.2)
+      leads (changed.Wrote (Entry b field) before after) is l may = still _ known (either_still (names_same before after)) refl refl (same_there w.memory w2.memory l.2)
+      leads (changed.Wrote (Word b field) before after) is l may =
           nothing_done _ _ (word_says its known field (block_in after) (known.roles b) (names_same before after) (named known before) (named known after)
-          (table_words b field before after left.0 left.1 left.2)) (same_there w.memory w2.memory left.2)
-      leads (changed.Made kind b) is left may = absurd (not_made b left.1 left.0 left.3)
-      leads (changed.Unmade kind) is left may = still (Asked ABlock ∷ []) known (refl, tt) refl refl left
-      leads (changed.Took b) is left may = taken b left.1 left.2 (known.roles b) refl may
-      leads (changed.Roomed bucket had) is left may =
-          let alike = roomed_as_many its known bucket had in still (effects_of its known (changed.Roomed bucket had)) _ (roomed_still (nat_lt bucket known.buckets)) alike.0 alike.1 left
+          (table_words b field before after l.0 l.1 l.2)) (same_there w.memory w2.memory l.2)
+      leads (changed.Made kind b) is l may = absurd (not_made b l.1 l.0 l.3)
+      leads (changed.Unmade kind) is l may = still (Asked ABlock ∷ []) known (refl, tt) refl refl l
+      leads (changed.Took b) is l may = taken b l.1 l.2 (known.roles b) refl may
+      leads (changed.Roomed bucket had) is l may =
+          let alike = roomed_as_many its known bucket had in still (effects_of its known (changed.Roomed bucket had)) _ (roomed_still (nat_lt bucket known.buckets)) alike.0 alike.1 l
 
   -- so it is by what it says
   ending_shown : (t : Settled (Node K V)) → said ≡ t → (comes : EndingComesTo same hash s new i f end w2 did.deed t)

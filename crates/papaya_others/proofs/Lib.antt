@@ -16,3 +16,6 @@ pub mod NewMap
 pub mod MakeBegins
 pub mod MakingPlans
 pub mod Makes
+pub mod MakingGoes
+pub mod Noted
+pub mod Counters

@@ -82,7 +82,7 @@ not_pair its kind.Pair n e = cc e
 not_pair its (kind.Table len limit turn) n e = cc e
 not_pair its kind.Shards n e = cc e
 
-still_made : (its : Acting) (k : Kind) → AllStill (Asked ABlock ∷ made_by its k)
+pub still_made : (its : Acting) (k : Kind) → AllStill (Asked ABlock ∷ made_by its k)
 still_made its kind.Pair = (refl, (refl, tt))
 still_made its (kind.Table len limit turn) = (refl, (refl, tt))
 still_made its kind.Shards = (refl, tt)
@@ -121,13 +121,13 @@ module _ {K V S : Type 0} (same : K → K → Bool) (hash : K → ℕ) (name : �
   abbrev its : Acting
   its = acts.Making b.map
 
-  facts : MakingFacts w same old.batch_size old.roots i b
+  pub facts : MakingFacts w same old.batch_size old.roots i b
   facts = at.together.makings.facts i b here
 
   not_there : s.maps b.map ≡ None
   not_there = at.together.makings.coming i b here
 
-  tells : TellsMaking w i b.machine.setting.root told
+  pub tells : TellsMaking w i b.machine.setting.root told
   tells = making_tells w i old.roots b.machine old.memory.memory new.memory.memory told (end, said) facts.point steps
 
   in_world : (P : Mem (Node K V) → Mem (Node K V) → Type 0) → P old.memory.memory new.memory.memory → P w.memory w2.memory
@@ -137,7 +137,7 @@ module _ {K V S : Type 0} (same : K → K → Bool) (hash : K → ℕ) (name : �
   values = in_world (λ n n2. KeepsValues n n2 told)
       (making_keeps w i old.roots b.machine old.memory.memory new.memory.memory told (end, said) facts.point (may_make same hash old s at i b here) steps)
 
-  left : LeavesBy w.memory w2.memory told
+  pub left : LeavesBy w.memory w2.memory told
   left = in_world (λ n n2. LeavesBy n n2 told)
       (operated_leaves old.memory.memory new.memory.memory told (operated old.memory.memory new.memory.memory told (new_map_plan b.machine) (end, said) (may_make same hash old s at i b here) steps))
 
@@ -145,14 +145,14 @@ module _ {K V S : Type 0} (same : K → K → Bool) (hash : K → ℕ) (name : �
   stood n before e = (at.together.makings.standing.each n before e).ground.map
 
   -- a block that is as it was was linked still
-  linked_stays : (x : ℕ) (value : Node K V) → value_at w.memory x ≡ Some value → WasLinked (w.hand x) → (value_at w2.memory x ≡ value_at w.memory x) × WasLinked (w2.hand x)
+  pub linked_stays : (x : ℕ) (value : Node K V) → value_at w.memory x ≡ Some value → WasLinked (w.hand x) → (value_at w2.memory x ≡ value_at w.memory x) × WasLinked (w2.hand x)
   linked_stays x value is linked = events_stay deferred_word x old.batch_size did.step.events w w2 did.step.users did.step.runs (record { some = subst (λ (o : Option (Node K V)). IsSome o) (sym is) refl; linked = linked })
 
   stays : (x : ℕ) → value_at w2.memory x ≡ value_at w.memory x → StaysBlock w w2 x
   stays x e = record { value = e; linked = λ value is linked. (linked_stays x value is linked).1 }
 
   -- a block that it has made is no table of a map
-  no_table_word : (x : ℕ) (q : Bool) → w.hand x ≡ MadeBy i → (t : Table) (len : ℕ) → known.roles x ≡ role.Table t len → q ≡ true
+  pub no_table_word : (x : ℕ) (q : Bool) → w.hand x ≡ MadeBy i → (t : Table) (len : ℕ) → known.roles x ≡ role.Table t len → q ≡ true
   no_table_word x q made t len e = absurd (let has : HasRole w m.stored x (role.Table t len) = subst (λ (r : Role). HasRole w m.stored x r) e (shown.blocks.roles x) in subst WasLinked made has.2)
 
   -- where it leads beside the map that it makes
@@ -183,33 +183,33 @@ module _ {K V S : Type 0} (same : K → K → Bool) (hash : K → ℕ) (name : �
       still effects after does kept = nothing same name m known s shown w2 s.maps (λ n. same_maps (s.maps n)) of rest calls effects after does (λ x. stays x (kept x))
 
       leads : (x : Changed) → told ≡ x → TellsMaking w i b.machine.setting.root x → LeavesBy w.memory w2.memory x → KeepsValues w.memory w2.memory x → Goal (effects_of its known x) (known_after its x known)
-      leads changed.Nothing is so left kept = still [] known (tt, refl) kept
-      leads (changed.Wrote (Root r) before after) is so left kept = rooted r before after is
-      leads (changed.Wrote (Used r) before after) is so left kept = still [] known (tt, refl) kept
-      leads (changed.Wrote (Slot t field) before after) is so left kept = absurd so
-      leads (changed.Wrote (Entry x field) before after) is so left kept = absurd so
-      leads (changed.Wrote (Word x field) before after) is so left kept =
+      leads changed.Nothing is so l kept = still [] known (tt, refl) kept
+      leads (changed.Wrote (Root r) before after) is so l kept = rooted r before after is
+      leads (changed.Wrote (Used r) before after) is so l kept = still [] known (tt, refl) kept
+      leads (changed.Wrote (Slot t field) before after) is so l kept = absurd so
+      leads (changed.Wrote (Entry x field) before after) is so l kept = absurd so
+      leads (changed.Wrote (Word x field) before after) is so l kept =
           still _ _ (word_says its known field (block_in after) (known.roles x) (names_same before after) (named known before) (named known after) (no_table_word x (names_same before after) so)) kept
-      leads (changed.Made k x) is so left kept =
+      leads (changed.Made k x) is so l kept =
           made same name m known s shown w2 s.maps (λ n. same_maps (s.maps n)) of rest calls (Asked ABlock ∷ made_by its k) (still_made its k) x (made_role its k)
-          (λ last. lasting_there w m.stored x (known.roles x) (shown.blocks.roles x) last left.0)
-          (subst (λ (it : Kind). HasRole w2 m.stored x (made_role its it)) left.2 (made_has w2 m.stored its x left.1 left.3)) (not_pair its k) (λ y ne. stays y (kept y ne))
-      leads (changed.Unmade k) is so left kept = still (Asked ABlock ∷ []) known ((refl, tt), refl) kept
-      leads (changed.Took x) is so left kept = taken x left.1 kept (known.roles x) refl
-      leads (changed.Roomed bucket had) is so left kept = absurd so
+          (λ last. lasting_there w m.stored x (known.roles x) (shown.blocks.roles x) last l.0)
+          (subst (λ (it : Kind). HasRole w2 m.stored x (made_role its it)) l.2 (made_has w2 m.stored its x l.1 l.3)) (not_pair its k) (λ y ne. stays y (kept y ne))
+      leads (changed.Unmade k) is so l kept = still (Asked ABlock ∷ []) known ((refl, tt), refl) kept
+      leads (changed.Took x) is so l kept = taken x l.1 kept (known.roles x) refl
+      leads (changed.Roomed bucket had) is so l kept = absurd so
 
       pub making_leads : Goal (effects_of its known told) (known_after its told known)
       making_leads = leads told refl tells left values
 
   -- a root that it has taken leads nowhere as long as it goes on
   taken_root : (u : World (Node K V)) (roots : ℕ) (n : NewMap) (p : Opening) → OpeningFacts u roots i n p → HasTaken p → word_at u.memory (Root n.setting.root) ≡ Some 0
-  taken_root u roots n opening.Takes facts taken = absurd taken
-  taken_root u roots n opening.Shards facts taken = facts.1
-  taken_root u roots n (opening.Tables making) facts taken = facts.0.1
-  taken_root u roots n (opening.Unmakes fault) facts taken = facts.0.1
-  taken_root u roots n (opening.Frees fault) facts taken = facts.1
-  taken_root u roots n opening.Over facts taken = absurd taken
-  taken_root u roots n (opening.Refused fault) facts taken = absurd taken
+  taken_root u roots n opening.Takes k taken = absurd taken
+  taken_root u roots n opening.Shards k taken = k.1
+  taken_root u roots n (opening.Tables making) k taken = k.0.1
+  taken_root u roots n (opening.Unmakes fault) k taken = k.0.1
+  taken_root u roots n (opening.Frees fault) k taken = k.1
+  taken_root u roots n opening.Over k taken = absurd taken
+  taken_root u roots n (opening.Refused fault) k taken = absurd taken
 
   keeps : (t : Progress Setting) → said ≡ t → KeepsIts V same same old.batch_size old.roots slot_of w w2 b.machine (end, t)
   keeps t e = subst (λ (x : Progress Setting). KeepsIts V same same old.batch_size old.roots slot_of w w2 b.machine (end, x)) e did.step.keeps
@@ -234,7 +234,7 @@ module _ {K V S : Type 0} (same : K → K → Bool) (hash : K → ℕ) (name : �
         let zero_is : after ≡ 0 = (let there = root_after in cc (there, none)) in
         let link = wrote.3 in let block = wrote.4.link in let some = wrote.4.number.0 in omega (arith, zero_is, link, block, some)
 
-    not_going : said ≡ progress.Goes → IsAt same hash new (record s { world = w2; makers = with_at s.makers i (Some (record b { machine = end })) }) → ⊥
+    pub not_going : said ≡ progress.Goes → IsAt same hash new (record s { world = w2; makers = with_at s.makers i (Some (record b { machine = end })) }) → ⊥
     not_going e there =
         let going = (keeps progress.Goes e).0 taken_then in
         let after_it = there.together.makings.facts i (record b { machine = end }) (at_same s.makers i (Some (record b { machine = end })) i refl) in

@@ -1,13 +1,14 @@
 -- What a step of the making of a map does by one operation, and by which its map stands.
-use Rattle.std.specs.Prelude.{◌≡◌, ◌≢◌, ℕ, ◌+◌, ◌-◌, ◌%◌, ◌^◌, ◌<◌, ◌==◌, nat_lt, Bool, true, false, Some, None, Ok, Err, if◌then◌else◌}
-use Rattle.std.proofs.Common.{refl, ap, sym, subst, ◌∙◌, arith}
+use Rattle.std.specs.Prelude.{◌≡◌, ◌≢◌, ℕ, ◌+◌, ◌-◌, ◌%◌, ◌^◌, ◌<◌, ◌==◌, nat_lt, Bool, true, false, Some, None, Ok, Err, if◌then◌else◌, ◌⊎◌}
+use Rattle.std.proofs.Common.{refl, ap, sym, subst, ◌∙◌, arith, inl, inr}
 use Rattle.std.proofs.lemmas.Bool.{ne_eqb}
 use Rattle.seize_words.specs.declared.at.At.{At}
 use Rattle.seize_words.specs.declared.at.At.TheVariants.{Root, Used, Word}
 use Rattle.seize_words.specs.declared.fault.Fault.{Fault}
+use Rattle.seize_words.specs.declared.fault.Fault.TheVariants.{RootsUsedUp}
 use Rattle.seize_words.specs.Mem.{Mem, value_in, value_at, word_at, fresh, block_of, Can, Took}
 use Rattle.seize_words.specs.Op.{Op, Out, Load, Store, Swap, Add, Or, Exchange, Make, Take, Rewrite, Room, Exchanged, Made}
-use Rattle.seize_words.specs.Plan.{Plan, Turn, Do, May, Ends, plan_as, then_as}
+use Rattle.seize_words.specs.Plan.{Plan, Turn, Do, Then, Now, Seeing, Sure, May, Ends, plan_as, then_as}
 use Rattle.seize_words.specs.Word.{block_in}
 use Rattle.seize_words.proofs.OneOwner.AfterWrites.{value_at-with_word, block_of-with_block, block_of-made}
 use Rattle.seize_rule.proofs.Words.Named.{block_there}
@@ -254,3 +255,62 @@ module _ {K V : Type 0} (w : World (Node K V)) (i roots : ℕ) (n : NewMap) wher
 
       pub making_done : OpeningFacts w roots i n n.stands → Told (new_map.new_map_plan n) (opening, progress.Done setting) → DoneBy setting told
       making_done facts steps = making_done_at n.stands refl facts steps
+
+    -- Where it goes on with a counter, it had that one, or has made it now.
+    abbrev pub CounterFrom : NewMap → Type 0
+    CounterFrom end = (HasMade n.stands × (end.setting ≡ n.setting)) ⊎ (told ≡ changed.Made kind.Shards end.setting.counter)
+
+    -- an outcome that is turned into another one
+    as_outcome : {A B : Type 0} (f : A → B) (rest : Then (Node K V) A) (end : B) → Ends (value_at m2) (then_as f rest) end → (r : A) × (end ≡ f r)
+    as_outcome f (Now r) end e = (r, e)
+    as_outcome f (Seeing block rest) end e = as_outcome f (rest e.0) end e.2
+    as_outcome f (Sure fact rest) end e = as_outcome f rest end e
+
+    told_as : {A B : Type 0} (f : A → B) (plan : Plan (Node K V) A) (end : B) → StepsTold K V B m changed.Nothing (plan_as f plan) m2 told end → (r : A) × (end ≡ f r)
+    told_as f (Turn rest) end s = as_outcome f rest end s.1
+    told_as f (Do op rest) end s = as_outcome f (rest s.0) end s.2
+
+    opened_setting : (r : NewTable × Progress Table) → (new_map.opened n r).0.setting ≡ n.setting
+    opened_setting (making, progress.Goes) = refl
+    opened_setting (making, progress.Waits) = refl
+    opened_setting (making, progress.Done table) = refl
+    opened_setting (making, progress.Refused fault) = refl
+
+    module _ (end : NewMap) (said : Progress Setting) (has : HasMade end.stands) where
+      -- it has none where it came to
+      none_there : (x : NewMap) (y : Progress Setting) → ◌≡◌ {A = NewMap × Progress Setting} (end, said) (x, y) → (HasMade x.stands → ⊥) → CounterFrom end
+      none_there x y e none = absurd (none (subst (λ (z : NewMap). HasMade z.stands) (ap (λ (z : NewMap × Progress Setting). z.0) e) has))
+
+      takes_none : n.stands ≡ at.Takes → (out : Out (Node K V)) → Ends (value_at m2) (new_map.taken n out) (end, said) → CounterFrom end
+      takes_none is (Exchanged (Ok free)) e = none_there _ _ e (λ h. h)
+      takes_none is (Exchanged (Err used)) e = by (nat_lt n.setting.root (n.roots - 1)) e
+        where
+          by : (q : Bool) → ◌≡◌ {A = NewMap × Progress Setting} (end, said) (if q then (record n { setting = new_map.at_root n.setting (n.setting.root + 1) }, progress.Goes) else new_map.refused n RootsUsedUp) → CounterFrom end
+          by true f = none_there _ _ f (λ h. subst HasMade is h)
+          by false f = none_there _ _ f (λ h. h)
+      takes_none is _ e = none_there _ _ e (λ h. subst HasMade is h)
+
+      shards_made : n.stands ≡ at.Shards → (out : Out (Node K V)) → told ≡ told_of (Make node.Shards ((n.setting.mask + 1) % 2 ^ 64)) out (seen_of m (Make node.Shards ((n.setting.mask + 1) % 2 ^ 64)) out)
+          → Ends (value_at m2) (new_map.made n out) (end, said) → CounterFrom end
+      shards_made is (Made (Ok x)) so e = by (n.len == 0) e
+        where
+          by : (q : Bool) → ◌≡◌ {A = NewMap × Progress Setting} (end, said) (if q then new_map.done (record n { setting = new_map.with_counter n.setting x })
+              else new_map.goes (record n { setting = new_map.with_counter n.setting x }) (at.Tables (new_table.first_table (new_map.with_counter n.setting x) n.len))) → CounterFrom end
+          by true f = none_there _ _ f (λ h. h)
+          by false f = inr (so ∙ ap (changed.Made kind.Shards) (sym (ap (λ (z : NewMap × Progress Setting). z.0.setting.counter) f)))
+      shards_made is (Made (Err back)) so e = none_there _ _ e (λ h. h)
+      shards_made is _ so e = none_there _ _ e (λ h. subst HasMade is h)
+
+      counter_at : (p : Opening) → n.stands ≡ p → OpeningFacts w roots i n p → Told (new_map.plan_at n p) (end, said) → CounterFrom end
+      counter_at at.Takes is facts s = takes_none is s.0 s.2
+      counter_at at.Shards is facts s = shards_made is s.0 s.1.1 s.2
+      counter_at (at.Tables making) is facts s =
+          let it = told_as (new_map.opened n) (new_table.new_table_plan making) (end, said) s in
+          inl (subst HasMade (sym is) tt, ap (λ (z : NewMap × Progress Setting). z.0.setting) it.1 ∙ opened_setting it.0)
+      counter_at (at.Unmakes fault) is facts s = none_there _ _ s.2 (λ h. h)
+      counter_at (at.Frees fault) is facts s = none_there _ _ s.2 (λ h. h)
+      counter_at at.Over is facts s = absurd facts
+      counter_at (at.Refused fault) is facts s = absurd facts
+
+      pub counter_from : OpeningFacts w roots i n n.stands → Told (new_map.new_map_plan n) (end, said) → CounterFrom end
+      counter_from facts steps = counter_at n.stands refl facts steps

@@ -138,17 +138,17 @@ module _ {K V S : Type 0} (same : K → K → Bool) (hash : K → ℕ) (name : �
         (calls (Reclaimed (ATable t) ∷ [])) IsReclaimed t Handed (λ n before at. retired_apart n (shown.number n) before m known (shown.maps n before at) t may.0.0) may.0.1 (λ n. refl) refl refl refl refl
 
   leads : (told : Changed) → TellsRow told → LeavesBy w.memory w2.memory told → AtEachEffect WasRetired None None (effects_of Row known told) m → Goal (effects_of Row known told) (known_after Row told known)
-  leads changed.Nothing is left may = still [] known tt refl refl left
-  leads (changed.Wrote (Slot t field) old new) is left may = still [] known tt refl refl (same_there w.memory w2.memory left.2)
-  leads (changed.Wrote (Entry b field) old new) is left may = still _ known (either_still (names_same old new)) refl refl (same_there w.memory w2.memory left.2)
-  leads (changed.Wrote (Root r) old new) is left may = absurd is
-  leads (changed.Wrote (Used r) old new) is left may = absurd is
-  leads (changed.Wrote (Word b field) old new) is left may = absurd is
-  leads (changed.Made kind b) is left may = absurd is
-  leads (changed.Unmade kind) is left may = absurd is
-  leads (changed.Took b) is left may = taken b left.1 left.2 (known.roles b) refl may
-  leads (changed.Roomed bucket had) is left may =
-      let alike = roomed_as_many Row known bucket had in still (effects_of Row known (changed.Roomed bucket had)) _ (roomed_still (nat_lt bucket known.buckets)) alike.0 alike.1 left
+  leads changed.Nothing is l may = still [] known tt refl refl l
+  leads (changed.Wrote (Slot t field) old new) is l may = still [] known tt refl refl (same_there w.memory w2.memory l.2)
+  leads (changed.Wrote (Entry b field) old new) is l may = still _ known (either_still (names_same old new)) refl refl (same_there w.memory w2.memory l.2)
+  leads (changed.Wrote (Root r) old new) is l may = absurd is
+  leads (changed.Wrote (Used r) old new) is l may = absurd is
+  leads (changed.Wrote (Word b field) old new) is l may = absurd is
+  leads (changed.Made kind b) is l may = absurd is
+  leads (changed.Unmade kind) is l may = absurd is
+  leads (changed.Took b) is l may = taken b l.1 l.2 (known.roles b) refl may
+  leads (changed.Roomed bucket had) is l may =
+      let alike = roomed_as_many Row known bucket had in still (effects_of Row known (changed.Roomed bucket had)) _ (roomed_still (nat_lt bucket known.buckets)) alike.0 alike.1 l
 
   pub row_shown : AtEachEffect WasRetired None None (effects_of Row known told) m → Goal (effects_of Row known told) (known_after Row told known)
   row_shown may = leads told (row_tells old.memory.memory new.memory.memory told end row steps) left may

@@ -3,3 +3,4 @@ pub mod Rows
 pub mod Walks
 pub mod Endings
 pub mod Makings
+pub mod Counters

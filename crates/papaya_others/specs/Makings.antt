@@ -71,3 +71,10 @@ module _ (K V S : Type 0) (same : K → K → Bool) (hash : K → ℕ) where
       → (let to = leads b here in
       Shows same name (with_effects None of (effects_of (Making b.map) known new.memory.changed) m) (known_after (Making b.map) new.memory.changed known)
       (making_after same hash s old new i b to.0 to.2.step.w2 told to.3))
+
+  -- The promise: while a making goes on, its map stays as new.
+  abbrev pub NewMapsStay : Type 0
+  NewMapsStay =
+      (name : ℕ → List ℕ) (m : Moment K V) (known : Known) (s : Scene K V) (old new : Executor K V S) → IsAt same hash old s → Shows same name m known s
+      → (i : ℕ) → MakingLeads same hash i progress.Goes s old new → (b : Beginning K) → s.makers i ≡ Some b → (of : Option ℕ) (setting : Setting)
+      → IsNew b.map setting m → IsNew b.map setting (with_effects None of (effects_of (Making b.map) known new.memory.changed) m)
