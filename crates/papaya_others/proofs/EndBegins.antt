@@ -26,33 +26,39 @@ module _ {X : Type 0} (test keep : X → Bool) where
 module _ (K V : Type 0) (same : K → K → Bool) where
   pub endings_begin_shown : EndingsBeginShown K V same
   endings_begin_shown name m known s shown map i standing = record {
-    blocks = record { roles = shown.blocks.roles; once = shown.blocks.once; stored = shown.blocks.stored };
-    number = shown.number;
-    maps = λ n st is. elim (cases_eq n map) as (λ _. ShowsMap n (shown.number n) st m known) [
-      | inl e ↦ absurd (let none = at_same s.maps map None n e in cc (none, is))
-      | inr ne ↦ shown.maps n st (sym (at_other s.maps map None n ne) ∙ is)
-    ];
-    calls = shown.calls;
+    shows = record {
+      blocks = record { roles = shown.blocks.roles; once = shown.blocks.once; stored = shown.blocks.stored };
+      number = shown.number;
+      maps = λ n st is. elim (cases_eq n map) as (λ _. ShowsMap n (shown.number n) st m known) [
+        | inl e ↦ absurd (let none = at_same s.maps map None n e in cc (none, is))
+        | inr ne ↦ shown.maps n st (sym (at_other s.maps map None n ne) ∙ is)
+      ];
+      calls = shown.calls;
+    };
+    numbers = λ n st e. refl;
   }
 
   pub endings_are_over : EndingsAreOver K V same
   endings_are_over name m known s shown own remains others = record {
-    blocks = record { roles = shown.blocks.roles; once = shown.blocks.once; stored = shown.blocks.stored };
-    number = shown.number;
-    maps = λ n st is.
-        let it = shown.maps n st is in
-        let there = it.there.there in
-        record {
-          there = record {
-            there = there;
-            is = found_still (λ f. f.number == n) (λ f. not (is_same f.name own)) m.maps there it.there.is (ap not (others n st there is it.there.is));
-            root = it.there.root;
-            mode = it.there.mode;
-            first = it.there.first;
+    shows = record {
+      blocks = record { roles = shown.blocks.roles; once = shown.blocks.once; stored = shown.blocks.stored };
+      number = shown.number;
+      maps = λ n st is.
+          let it = shown.maps n st is in
+          let there = it.there.there in
+          record {
+            there = record {
+              there = there;
+              is = found_still (λ f. f.number == n) (λ f. not (is_same f.name own)) m.maps there it.there.is (ap not (others n st there is it.there.is));
+              root = it.there.root;
+              mode = it.there.mode;
+              first = it.there.first;
+            };
+            pairs = record { roles = it.pairs.roles; numbered = it.pairs.numbered; rising = it.pairs.rising; born = it.pairs.born; here = it.pairs.here; all = it.pairs.all };
+            tables = record { roles = it.tables.roles; stage = it.tables.stage; listed = it.tables.listed; linked = it.tables.linked };
+            counter = it.counter;
           };
-          pairs = record { roles = it.pairs.roles; numbered = it.pairs.numbered; rising = it.pairs.rising; born = it.pairs.born; here = it.pairs.here; all = it.pairs.all };
-          tables = record { roles = it.tables.roles; stage = it.tables.stage; listed = it.tables.listed; linked = it.tables.linked };
-          counter = it.counter;
-        };
-    calls = shown.calls;
+      calls = shown.calls;
+    };
+    numbers = λ n st e. refl;
   }

@@ -49,6 +49,7 @@ use Rattle.papaya_follows.proofs.Operations.{StaysThere, LeavesBy, operated, ope
 use Rattle.papaya_follows.proofs.Quiet.{same_name}
 use Rattle.papaya_follows.proofs.Told.{roomed_as_many}
 use Rattle.papaya_follows.proofs.Writes.{nothing_free}
+use Rattle.papaya_others.specs.After.{ShowsAfter}
 use Rattle.papaya_others.specs.Endings.{ending_after, TellsNext, EndingsAreShown}
 use Rattle.papaya_others.specs.Gone.{EndsWith}
 use Rattle.papaya_others.proofs.EndWords.{NamesPair, root_leads, root_or_none, root_waits, frees_no_root}
@@ -203,7 +204,7 @@ module _ {K V S : Type 0} (same : K → K → Bool) (hash : K → ℕ) (name : �
     -- the scene after it
     module _ (rest : Scene K V) (calls : ShowsCalls same name m rest.calls) (stand : (n : ℕ) (st : Standing K) → s.maps n ≡ Some st → IsMapIn same st.hash st.setting w2 st.chart st.blocks) where
       abbrev Goal : List Effect → Known → Type 0
-      Goal effects after = Shows same name (with_effects None (Some map) effects m) after (record rest { world = w2; maps = s.maps })
+      Goal effects after = ShowsAfter same name m known s shown (with_effects None (Some map) effects m) after (record rest { world = w2; maps = s.maps })
 
       still : (effects : List Effect) (after : Known) → AllStill effects → after.roles ≡ known.roles → after.stored ≡ known.stored → ((b : ℕ) → StaysThere w.memory w2.memory b) → Goal effects after
       still effects after none roles as_many there = quiet same name m known s shown w2 s.maps (λ n. same_maps (s.maps n)) (Some map) rest calls effects after none roles as_many (λ b. stays b (there b))
@@ -275,7 +276,7 @@ module _ {K V S : Type 0} (same : K → K → Bool) (hash : K → ℕ) (name : �
   -- so it is by what it says
   ending_shown : (t : Settled (Node K V)) → said ≡ t → (comes : EndingComesTo same hash s new i f end w2 did.deed t)
       → AtEachEffect (λ v effect. EndsWith v map effect) None (Some map) (effects_of its known told) m
-      → Shows same name (with_effects None (Some map) (effects_of its known told) m) (known_after its told known) (ending_after same hash s new i f end w2 did.deed t comes)
+      → ShowsAfter same name m known s shown (with_effects None (Some map) (effects_of its known told) m) (known_after its told known) (ending_after same hash s new i f end w2 did.deed t comes)
   ending_shown settled.Goes e comes may =
       leads (subst (λ (x : Settled (Node K V)). EndingComesTo same hash s new i f end w2 did.deed x) (sym e) comes) (ending_goes same hash s new i f end w2 did.deed f.back) shown.calls
       (λ n st is. (comes.1.together.makings.standing.each n st is).ground.map) told refl left may

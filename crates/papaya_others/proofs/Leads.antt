@@ -24,6 +24,7 @@ use Rattle.papaya_follows.specs.Calls.{ShowsCalls}
 use Rattle.papaya_follows.specs.Shows.{Shows}
 use Rattle.papaya_follows.proofs.Alike.{AllStill, alike_same}
 use Rattle.papaya_follows.proofs.Onward.{IsLasting}
+use Rattle.papaya_others.specs.After.{ShowsAfter}
 use Rattle.papaya_others.proofs.Quiet.{calls_none, stored_none, all_quiet, calls_shown}
 use Rattle.papaya_others.proofs.Scenes.{all_stay, one_put, still_gone}
 use Rattle.papaya_others.proofs.Stays.{StaysBlock}
@@ -61,7 +62,7 @@ module _ {K V : Type 0} (same : K → K → Bool) (name : ℕ → List ℕ) (m :
     (w2 : World (Node K V)) (maps2 : ℕ → Option (Standing K)) (maps_same : (n : ℕ) → IsSameMap (s.maps n) (maps2 n)) (of : Option ℕ) (rest : Scene K V) (calls : ShowsCalls same name m rest.calls) where
   -- the moment after these effects shows the scene, by what is known then
   abbrev pub LedTo : List Effect → Known → Type 0
-  LedTo effects after = Shows same name (with_effects None of effects m) after (record rest { world = w2; maps = maps2 })
+  LedTo effects after = ShowsAfter same name m known s shown (with_effects None of effects m) after (record rest { world = w2; maps = maps2 })
 
   pub calls_then : (effects : List Effect) → ShowsCalls same name (with_effects None of effects m) rest.calls
   calls_then effects = calls_shown same name m (with_effects None of effects m) rest.calls (calls_none of effects m) calls

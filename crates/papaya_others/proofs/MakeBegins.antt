@@ -16,25 +16,31 @@ found_before test (y ∷ xs) ys x is = by (test y) refl (λ later. found_before 
 
 module _ (K V : Type 0) (same : K → K → Bool) where
   pub makings_begin_shown : MakingsBeginShown K V same
-  makings_begin_shown name m known s shown i b = record { blocks = shown.blocks; number = shown.number; maps = shown.maps; calls = shown.calls }
+  makings_begin_shown name m known s shown i b = record {
+    shows = record { blocks = shown.blocks; number = shown.number; maps = shown.maps; calls = shown.calls };
+    numbers = λ n st e. refl;
+  }
 
   pub maps_are_there : MapsAreThere K V same
   maps_are_there name m known s shown there = record {
-    blocks = record { roles = shown.blocks.roles; once = shown.blocks.once; stored = shown.blocks.stored };
-    number = shown.number;
-    maps = λ n st is.
-        let it = shown.maps n st is in
-        record {
-          there = record {
-            there = it.there.there;
-            is = found_before (λ f. f.number == n) m.maps (there ∷ []) it.there.there it.there.is;
-            root = it.there.root;
-            mode = it.there.mode;
-            first = it.there.first;
+    shows = record {
+      blocks = record { roles = shown.blocks.roles; once = shown.blocks.once; stored = shown.blocks.stored };
+      number = shown.number;
+      maps = λ n st is.
+          let it = shown.maps n st is in
+          record {
+            there = record {
+              there = it.there.there;
+              is = found_before (λ f. f.number == n) m.maps (there ∷ []) it.there.there it.there.is;
+              root = it.there.root;
+              mode = it.there.mode;
+              first = it.there.first;
+            };
+            pairs = record { roles = it.pairs.roles; numbered = it.pairs.numbered; rising = it.pairs.rising; born = it.pairs.born; here = it.pairs.here; all = it.pairs.all };
+            tables = record { roles = it.tables.roles; stage = it.tables.stage; listed = it.tables.listed; linked = it.tables.linked };
+            counter = it.counter;
           };
-          pairs = record { roles = it.pairs.roles; numbered = it.pairs.numbered; rising = it.pairs.rising; born = it.pairs.born; here = it.pairs.here; all = it.pairs.all };
-          tables = record { roles = it.tables.roles; stage = it.tables.stage; listed = it.tables.listed; linked = it.tables.linked };
-          counter = it.counter;
-        };
-    calls = shown.calls;
+      calls = shown.calls;
+    };
+    numbers = λ n st e. refl;
   }

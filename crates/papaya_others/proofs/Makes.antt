@@ -67,6 +67,7 @@ use Rattle.papaya_follows.proofs.Onward.{IsLasting}
 use Rattle.papaya_follows.proofs.Operations.{LeavesBy, operated, operated_leaves}
 use Rattle.papaya_follows.proofs.Steps.{one_of}
 use Rattle.papaya_follows.proofs.Writes.{Says, root_says, nothing_free, own_table}
+use Rattle.papaya_others.specs.After.{ShowsAfter}
 use Rattle.papaya_others.specs.Makings.{IsNew, WasNew, NotesCounter, making_after, MakingsAreShown}
 use Rattle.papaya_others.proofs.Leads.{DoesNothing, word_says, calls_then, nothing, made, gone_quiet}
 use Rattle.papaya_others.proofs.MakingPlans.{KeepsValues, TellsMaking, DoneBy, making_tells, making_keeps, has_root, making_done}
@@ -158,7 +159,7 @@ module _ {K V S : Type 0} (same : K → K → Bool) (hash : K → ℕ) (name : �
   -- where it leads beside the map that it makes
   module _ (rest : Scene K V) (calls : ShowsCalls same name m rest.calls) (stand : (n : ℕ) (st : Standing K) → s.maps n ≡ Some st → IsMapIn same st.hash st.setting w2 st.chart st.blocks) where
     abbrev pub Goal : List Effect → Known → Type 0
-    Goal effects after = Shows same name (with_effects None of effects m) after (record rest { world = w2; maps = s.maps })
+    Goal effects after = ShowsAfter same name m known s shown (with_effects None of effects m) after (record rest { world = w2; maps = s.maps })
 
     -- a block was taken away that was not linked
     taken : (x : ℕ) → value_at w2.memory x ≡ None → ((y : ℕ) → y ≢ x → value_at w2.memory y ≡ value_at w.memory y) → (r : Role) → known.roles x ≡ r → Goal (taken_by its r) (with_role x role.Free known)
@@ -451,28 +452,31 @@ module _ {K V S : Type 0} (same : K → K → Bool) (hash : K → ℕ) (name : �
     done_so (changed.Roomed bucket had) is by_it = absurd by_it
 
     -- so all is shown
-    pub map_stands : Shows same name (with_effects None of (effects_of its known told) m) (known_after its told known) rest
+    pub map_stands : ShowsAfter same name m known s shown (with_effects None of (effects_of its known told) m) (known_after its told known) rest
     map_stands = by (done_so told refl done_by)
       where
-        by : Both (effects_of its known told) (known_after its told known) → Shows same name (with_effects None of (effects_of its known told) m) (known_after its told known) rest
+        by : Both (effects_of its known told) (known_after its told known) → ShowsAfter same name m known s shown (with_effects None of (effects_of its known told) m) (known_after its told known) rest
         by (beside, of_map) = record {
-          blocks = beside.blocks;
-          number = with_at beside.number b.map (λ n. 0);
-          maps = λ n x is. elim (cases_eq n b.map) as (λ _. ShowsMap n (with_at beside.number b.map (λ n. 0) n) x (with_effects None of (effects_of its known told) m) (known_after its told known)) [
-            | inl e ↦
-                let it_is : st ≡ x = one_of st x (sym (at_same s.maps b.map (Some st) n e) ∙ is) in
-                subst (λ (f : ℕ → ℕ). ShowsMap n f x (with_effects None of (effects_of its known told) m) (known_after its told known)) (sym (at_same beside.number b.map (λ n. 0) n e))
-                (subst (λ (y : ℕ). ShowsMap y (λ n. 0) x (with_effects None of (effects_of its known told) m) (known_after its told known)) (sym e)
-                (subst (λ (y : Standing K). ShowsMap b.map (λ n. 0) y (with_effects None of (effects_of its known told) m) (known_after its told known)) it_is of_map))
-            | inr ne ↦
-                subst (λ (f : ℕ → ℕ). ShowsMap n f x (with_effects None of (effects_of its known told) m) (known_after its told known)) (sym (at_other beside.number b.map (λ n. 0) n ne))
-                (beside.maps n x (sym (at_other s.maps b.map (Some st) n ne) ∙ is))
-          ];
-          calls = beside.calls;
+          shows = record {
+            blocks = beside.shows.blocks;
+            number = with_at beside.shows.number b.map (λ n. 0);
+            maps = λ n x is. elim (cases_eq n b.map) as (λ _. ShowsMap n (with_at beside.shows.number b.map (λ n. 0) n) x (with_effects None of (effects_of its known told) m) (known_after its told known)) [
+              | inl e ↦
+                  let it_is : st ≡ x = one_of st x (sym (at_same s.maps b.map (Some st) n e) ∙ is) in
+                  subst (λ (f : ℕ → ℕ). ShowsMap n f x (with_effects None of (effects_of its known told) m) (known_after its told known)) (sym (at_same beside.shows.number b.map (λ n. 0) n e))
+                  (subst (λ (y : ℕ). ShowsMap y (λ n. 0) x (with_effects None of (effects_of its known told) m) (known_after its told known)) (sym e)
+                  (subst (λ (y : Standing K). ShowsMap b.map (λ n. 0) y (with_effects None of (effects_of its known told) m) (known_after its told known)) it_is of_map))
+              | inr ne ↦
+                  subst (λ (f : ℕ → ℕ). ShowsMap n f x (with_effects None of (effects_of its known told) m) (known_after its told known)) (sym (at_other beside.shows.number b.map (λ n. 0) n ne))
+                  (beside.shows.maps n x (sym (at_other s.maps b.map (Some st) n ne) ∙ is))
+            ];
+            calls = beside.shows.calls;
+          };
+          numbers = λ n x e. at_other beside.shows.number b.map (λ n. 0) n (λ same_number. (let none = ap s.maps same_number ∙ not_there in cc (none, e))) ∙ beside.numbers n x e;
         }
 
   making_shown : (t : Progress Setting) → said ≡ t → (comes : MakingComesTo same hash s old new i b end w2 t) → NotesCounter known b → WasNew b.map t m
-      → Shows same name (with_effects None of (effects_of its known told) m) (known_after its told known) (making_after same hash s old new i b end w2 t comes)
+      → ShowsAfter same name m known s shown (with_effects None of (effects_of its known told) m) (known_after its told known) (making_after same hash s old new i b end w2 t comes)
   making_shown progress.Goes e comes notes was_new =
       making_leads (record s { world = w2; makers = with_at s.makers i (Some (record b { machine = end })) }) shown.calls (λ n st is. (comes.together.makings.standing.each n st is).ground.map)
       (λ r before after is. absurd (not_going r before after is e comes))

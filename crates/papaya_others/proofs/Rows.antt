@@ -43,6 +43,7 @@ use Rattle.papaya_follows.specs.Shows.{Shows}
 use Rattle.papaya_follows.proofs.Alike.{AllStill}
 use Rattle.papaya_follows.proofs.Operations.{StaysThere, LeavesBy, operated_leaves}
 use Rattle.papaya_follows.proofs.Told.{roomed_as_many}
+use Rattle.papaya_others.specs.After.{ShowsAfter}
 use Rattle.papaya_others.specs.Gone.{WasRetired}
 use Rattle.papaya_others.specs.Rows.{scene_then, RowsOnSlotsAreShown}
 use Rattle.papaya_others.proofs.Leads.{same_parts, roomed_still, either_still, calls_then, quiet, gone_quiet}
@@ -106,7 +107,7 @@ module _ {K V S : Type 0} (same : K → K → Bool) (hash : K → ℕ) (name : �
 
   -- where these are the effects
   abbrev Goal : List Effect → Known → Type 0
-  Goal effects after = Shows same name (with_effects None None effects m) after rest
+  Goal effects after = ShowsAfter same name m known s shown (with_effects None None effects m) after rest
 
   still : (effects : List Effect) (after : Known) → AllStill effects → after.roles ≡ known.roles → after.stored ≡ known.stored → ((b : ℕ) → StaysThere w.memory w2.memory b) → Goal effects after
   still effects after none roles as_many there = quiet same name m known s shown w2 happened.2 happened.3 None rest shown.calls effects after none roles as_many (λ b. stays b (there b))

@@ -26,6 +26,7 @@ use Rattle.papaya_follows.specs.Shows.{Shows}
 use Rattle.papaya_follows.proofs.Alike.{AreSame, IsAlike, alike_same, put_elsewhere}
 use Rattle.papaya_follows.proofs.Onward.{IsLasting, tables_same, pairs_same, blocks_same, blocks_part, map_on}
 use Rattle.papaya_follows.proofs.Steps.{one_of}
+use Rattle.papaya_others.specs.After.{ShowsAfter}
 use Rattle.papaya_others.specs.Gone.{WaitOutside}
 use Rattle.papaya_others.proofs.Outside.{in_map_of, pairs_outside, put_outside, all_outside, table_staged}
 use Rattle.papaya_others.proofs.Stays.{StaysBlock, blocks_stay, blocks_but}
@@ -80,28 +81,34 @@ module _ {K V : Type 0} (same : K → K → Bool) (name : ℕ → List ℕ) (m :
 
   -- all blocks are as they were
   pub all_stay : (v : Moment K V) (after : Known) → AreSame m v → after.roles ≡ known.roles → after.stored ≡ known.stored → ((b : ℕ) → StaysBlock s.world w2 b)
-      → (rest : Scene K V) → ShowsCalls same name v rest.calls → Shows same name v after (record rest { world = w2; maps = maps2 })
+      → (rest : Scene K V) → ShowsCalls same name v rest.calls → ShowsAfter same name m known s shown v after (record rest { world = w2; maps = maps2 })
   all_stay v after alike roles as_many stays rest calls = record {
-    blocks = blocks_stay m v known after s.world w2 shown.blocks alike.stored as_many roles stays;
-    number = shown.number;
-    maps = maps_then v after (λ n before e blocks sights part here. map_on n (shown.number n) before (seen_so before blocks sights) m v known after
-        (blocks_part before.chart before.blocks blocks part) (λ b lasting. ap (λ (f : ℕ → Role). f b) roles) refl (tables_same before.chart) (pairs_same before.chart)
-        (alike_same n m v alike) (shown.maps n before e));
-    calls = calls;
+    shows = record {
+      blocks = blocks_stay m v known after s.world w2 shown.blocks alike.stored as_many roles stays;
+      number = shown.number;
+      maps = maps_then v after (λ n before e blocks sights part here. map_on n (shown.number n) before (seen_so before blocks sights) m v known after
+          (blocks_part before.chart before.blocks blocks part) (λ b lasting. ap (λ (f : ℕ → Role). f b) roles) refl (tables_same before.chart) (pairs_same before.chart)
+          (alike_same n m v alike) (shown.maps n before e));
+      calls = calls;
+    };
+    numbers = λ n st e. refl;
   }
 
   -- one, which was none of a map's, is this from now on
   pub one_put : (v : Moment K V) (after : Known) → v.stored ≡ m.stored → ((n : ℕ) (before : Standing K) → s.maps n ≡ Some before → IsAlike n m v) → (x : ℕ) (r : Role) → after.roles ≡ put x r known.roles → after.stored ≡ known.stored → (IsLasting (known.roles x) → ⊥)
       → HasRole w2 m.stored x r → ((n : ℕ) → r ≡ role.Pair n → ⊥) → ((b : ℕ) → b ≢ x → StaysBlock s.world w2 b)
-      → (rest : Scene K V) → ShowsCalls same name v rest.calls → Shows same name v after (record rest { world = w2; maps = maps2 })
+      → (rest : Scene K V) → ShowsCalls same name v rest.calls → ShowsAfter same name m known s shown v after (record rest { world = w2; maps = maps2 })
   one_put v after stored alike x r roles as_many none its no_pair stays rest calls = record {
-    blocks = blocks_but m v known after s.world w2 shown.blocks stored as_many x r roles its no_pair stays;
-    number = shown.number;
-    maps = maps_then v after (λ n before e blocks sights part here. map_on n (shown.number n) before (seen_so before blocks sights) m v known after
-        (blocks_part before.chart before.blocks blocks part)
-        (λ b lasting. ap (λ (f : ℕ → Role). f b) roles ∙ put_elsewhere x r known.roles b (λ at. none (subst (λ (y : ℕ). IsLasting (known.roles y)) at lasting)))
-        refl (tables_same before.chart) (pairs_same before.chart) (alike n before e) (shown.maps n before e));
-    calls = calls;
+    shows = record {
+      blocks = blocks_but m v known after s.world w2 shown.blocks stored as_many x r roles its no_pair stays;
+      number = shown.number;
+      maps = maps_then v after (λ n before e blocks sights part here. map_on n (shown.number n) before (seen_so before blocks sights) m v known after
+          (blocks_part before.chart before.blocks blocks part)
+          (λ b lasting. ap (λ (f : ℕ → Role). f b) roles ∙ put_elsewhere x r known.roles b (λ at. none (subst (λ (y : ℕ). IsLasting (known.roles y)) at lasting)))
+          refl (tables_same before.chart) (pairs_same before.chart) (alike n before e) (shown.maps n before e));
+      calls = calls;
+    };
+    numbers = λ n st e. refl;
   }
 
   -- A block is gone, and all others are as they were. The maps stood before, and stand in the memory without it.
@@ -110,20 +117,23 @@ module _ {K V : Type 0} (same : K → K → Bool) (name : ℕ → List ℕ) (m :
       (x : ℕ) (gone : value_at w2.memory x ≡ None) (stays : (b : ℕ) → b ≢ x → StaysBlock s.world w2 b) (after : Known) (roles : after.roles ≡ put x role.Free known.roles) (as_many : after.stored ≡ known.stored)
       (rest : Scene K V) (v : Moment K V) (stored : v.stored ≡ m.stored) (calls : ShowsCalls same name v rest.calls) where
     abbrev Goal : Type 0
-    Goal = Shows same name v after (record rest { world = w2; maps = maps2 })
+    Goal = ShowsAfter same name m known s shown v after (record rest { world = w2; maps = maps2 })
 
     -- where each map is shown at that moment, by what was known
     gone_so : ((n : ℕ) (before : Standing K) (blocks : Blocks) (sights : ℕ → Sight) → s.maps n ≡ Some before → IsPartOf before.chart blocks before.blocks → maps2 n ≡ Some (seen_so before blocks sights)
         → ShowsMap n (shown.number n) before v known) → Goal
     gone_so each = record {
-      blocks = blocks_but m v known after s.world w2 shown.blocks stored as_many x role.Free roles gone (λ n e. cc e) stays;
-      number = shown.number;
-      maps = maps_then v after (λ n before e blocks sights part here.
-          let now = seen_so before blocks sights in
-          without_block same n (shown.number n) now v known after w2 x roles gone (stand n now here)
-          (map_on n (shown.number n) before now v v known known (blocks_part before.chart before.blocks blocks part) (λ b lasting. refl) refl (tables_same before.chart) (pairs_same before.chart)
-          (alike_same n v v (record { place = refl; born = refl; maps = refl; tables = refl; stored = refl })) (each n before blocks sights e part here)));
-      calls = calls;
+      shows = record {
+          blocks = blocks_but m v known after s.world w2 shown.blocks stored as_many x role.Free roles gone (λ n e. cc e) stays;
+          number = shown.number;
+          maps = maps_then v after (λ n before e blocks sights part here.
+              let now = seen_so before blocks sights in
+              without_block same n (shown.number n) now v known after w2 x roles gone (stand n now here)
+              (map_on n (shown.number n) before now v v known known (blocks_part before.chart before.blocks blocks part) (λ b lasting. refl) refl (tables_same before.chart) (pairs_same before.chart)
+              (alike_same n v v (record { place = refl; born = refl; maps = refl; tables = refl; stored = refl })) (each n before blocks sights e part here)));
+          calls = calls;
+        };
+      numbers = λ n st e. refl;
     }
 
     -- a pair that it was is in no map that stands

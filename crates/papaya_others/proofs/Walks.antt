@@ -14,9 +14,12 @@ use Rattle.papaya_executor.specs.Replying.{unless_stopped}
 use Rattle.papaya_follows.specs.Calling.{NoneNamed}
 use Rattle.papaya_follows.specs.Calls.{ShowsCalls}
 use Rattle.papaya_follows.specs.Shows.{Shows}
+use Rattle.papaya_follows.proofs.Alike.{alike_same}
 use Rattle.papaya_follows.proofs.Called.{some_is, called_as, sweep_called}
 use Rattle.papaya_follows.proofs.Calling.{calls_come_to}
 use Rattle.papaya_follows.proofs.Calls.{CalledOn, was_there}
+use Rattle.papaya_follows.proofs.Onward.{tables_same, pairs_same, blocks_same, map_on}
+use Rattle.papaya_others.specs.After.{ShowsAfter}
 use Rattle.papaya_others.specs.Walks.{given_up, WalksGoOn, WalksAreGivenUp}
 
 module _ {K V : Type 0} (same : K → K → Bool) where
@@ -27,9 +30,9 @@ module _ {K V : Type 0} (same : K → K → Bool) where
       let before = was_there same calls map i u here next on n j x is in
       let there = shown n j before.0 before.1 in (there.0, there.1, there.2, before.2 there.0.call there.3)
 
-  with_calls : (name : ℕ → List ℕ) (m : Moment K V) (known : Known) (s : Scene K V) (calls : ℕ → ℕ → Option (UnderWay K V K)) → ShowsCalls same name m calls → Shows same name m known s
-      → Shows same name m known (record s { calls = calls })
-  with_calls name m known s calls there shown = record { blocks = shown.blocks; number = shown.number; maps = shown.maps; calls = there }
+  with_calls : (name : ℕ → List ℕ) (m : Moment K V) (known : Known) (s : Scene K V) (calls : ℕ → ℕ → Option (UnderWay K V K)) → ShowsCalls same name m calls → (shown : Shows same name m known s)
+      → ShowsAfter same name m known s shown m known (record s { calls = calls })
+  with_calls name m known s calls there shown = record { shows = record { blocks = shown.blocks; number = shown.number; maps = shown.maps; calls = there }; numbers = λ n st e. refl }
 
   -- a machine of a walk is that of one call over the map
   walk_on : (u next : UnderWay K V K) → (machine_asked (machine_of u)).1 ≡ true → machine_of next ≡ (machine_asked (machine_of u)).0 → CalledOn same u next
@@ -56,11 +59,21 @@ module _ (K V S : Type 0) (same : K → K → Bool) (hash : K → ℕ) where
       same_call x e its called = called_as same x u its (some_is u x e) called
 
       by : (q : Bool) → (let after = record s { calls = with_call s.calls map i (unless_stopped q u) } in
-          (q ≡ true → NoneNamed name (name i) after) → Shows same name (given_up (name i) q m) known after)
+          (q ≡ true → NoneNamed name (name i) after) → ShowsAfter same name m known s shown (given_up (name i) q m) known after)
       by true none =
           let without = record s { calls = with_call s.calls map i None } in
-          calls_come_to K V same name m known without
-          (with_calls same name m known s (with_call s.calls map i None) (fewer_calls same name m s.calls map i u here None (λ x e. absurd (cc e)) shown.calls) shown)
-          (name i) (Refused Memory) 0 (λ ends. none refl)
+          let before = with_calls same name m known s (with_call s.calls map i None) (fewer_calls same name m s.calls map i u here None (λ x e. absurd (cc e)) shown.calls) shown in
+          let over = calls_come_to K V same name m known without before.shows (name i) (Refused Memory) 0 (λ ends. none refl) in
+          record {
+            shows = record {
+              blocks = record { roles = shown.blocks.roles; once = shown.blocks.once; stored = shown.blocks.stored };
+              number = shown.number;
+              maps = λ n st is.
+                  map_on n (shown.number n) st st m (given_up (name i) true m) known known (blocks_same st.chart st.blocks) (λ b lasting. refl) refl (tables_same st.chart) (pairs_same st.chart)
+                  (alike_same n m (given_up (name i) true m) (record { place = refl; born = refl; maps = refl; tables = refl; stored = refl })) (shown.maps n st is);
+              calls = over.calls;
+            };
+            numbers = λ n st e. refl;
+          }
       by false none =
           with_calls same name m known s (with_call s.calls map i (Some u)) (fewer_calls same name m s.calls map i u here (Some u) same_call shown.calls) shown

@@ -22,6 +22,7 @@ use Rattle.papaya_executor.specs.IsAt.{Scene, IsAt}
 use Rattle.papaya_executor.specs.declared.executor.Executor.{Executor}
 use Rattle.papaya_follows.specs.Shows.{Shows}
 use Rattle.papaya_follows.specs.Steps.{TakesNone}
+use Rattle.papaya_others.specs.After.{ShowsAfter}
 use Rattle.papaya_others.specs.Gone.{EndsWith}
 
 module _ {K V S : Type 0} (same : K → K → Bool) (hash : K → ℕ) (s : Scene K V) (new : Executor K V S) (i : ℕ) (f : Finishing K V) (ending : EndMap) (w2 : World (Node K V)) (deed : Deed) where
@@ -47,25 +48,25 @@ module _ (K V : Type 0) (same : K → K → Bool) where
   -- The promises: where the end of a map begins, all else is shown as before,
   abbrev pub EndingsBeginShown : Type 0
   EndingsBeginShown =
-      (name : ℕ → List ℕ) (m : Moment K V) (known : Known) (s : Scene K V) → Shows same name m known s
-      → (map i : ℕ) (standing : Standing K) → Shows same name m known (ending_begun map i standing s)
+      (name : ℕ → List ℕ) (m : Moment K V) (known : Known) (s : Scene K V) → (shown : Shows same name m known s)
+      → (map i : ℕ) (standing : Standing K) → ShowsAfter same name m known s shown m known (ending_begun map i standing s)
 
   -- and where it is over, the map is there no more, and no map that stands has its name.
   abbrev pub EndingsAreOver : Type 0
   EndingsAreOver =
-      (name : ℕ → List ℕ) (m : Moment K V) (known : Known) (s : Scene K V) → Shows same name m known s
+      (name : ℕ → List ℕ) (m : Moment K V) (known : Known) (s : Scene K V) → (shown : Shows same name m known s)
       → (own : List ℕ) (remains : List Remains) → ((map : ℕ) (standing : Standing K) (there : MapThere) → s.maps map ≡ Some standing → map_at map m ≡ Some there → is_same there.name own ≡ false)
-      → Shows same name (without_map own remains m) known s
+      → ShowsAfter same name m known s shown (without_map own remains m) known s
 
 module _ (K V S : Type 0) (same : K → K → Bool) (hash : K → ℕ) where
   -- The promise, of a step of an end: the number that it is told by is that of no map that stands, and a table that ends with the map is one of it. Pairs and
   -- tables end in the order in which their blocks are reclaimed.
   abbrev pub EndingsAreShown : Type 0
   EndingsAreShown =
-      (name : ℕ → List ℕ) (m : Moment K V) (known : Known) (s : Scene K V) (old new : Executor K V S) → IsAt same hash old s → Shows same name m known s
+      (name : ℕ → List ℕ) (m : Moment K V) (known : Known) (s : Scene K V) (old new : Executor K V S) → IsAt same hash old s → (shown : Shows same name m known s)
       → (i : ℕ) (told : Settled (Node K V)) (leads : EndingLeads same hash i told s old new) (f : Finishing K V) (here : s.enders i ≡ Some f) (map : ℕ) → s.maps map ≡ None
       → AtEachEffect (λ v effect. EndsWith v map effect) None (Some map) (effects_of (Ending map) known new.memory.changed) m
       → (let to = leads f here in
       TellsNext same hash s new i f to.0 to.2.w2 to.2.deed told to.3 new.memory.changed
-      × Shows same name (with_effects None (Some map) (effects_of (Ending map) known new.memory.changed) m) (known_after (Ending map) new.memory.changed known)
+      × ShowsAfter same name m known s shown (with_effects None (Some map) (effects_of (Ending map) known new.memory.changed) m) (known_after (Ending map) new.memory.changed known)
       (ending_after same hash s new i f to.0 to.2.w2 to.2.deed told to.3))

@@ -1,3 +1,4 @@
+pub mod After
 pub mod Gone
 pub mod Rows
 pub mod Walks

@@ -19,6 +19,7 @@ use Rattle.papaya_executor.specs.IsAt.{Scene, IsAt}
 use Rattle.papaya_executor.specs.Making.{MakingLeads, MakingComesTo}
 use Rattle.papaya_executor.specs.declared.executor.Executor.{Executor}
 use Rattle.papaya_follows.specs.Shows.{Shows}
+use Rattle.papaya_others.specs.After.{ShowsAfter}
 
 -- the map of this number is there with this setting, and has neither a pair nor a table yet
 pub record IsNew {K V : Type 0} (map : ℕ) (setting : Setting) (m : Moment K V) : Type 0 where
@@ -51,25 +52,25 @@ module _ (K V : Type 0) (same : K → K → Bool) where
   -- The promises: where a making begins, all is shown as before,
   abbrev pub MakingsBeginShown : Type 0
   MakingsBeginShown =
-      (name : ℕ → List ℕ) (m : Moment K V) (known : Known) (s : Scene K V) → Shows same name m known s
-      → (i : ℕ) (b : Beginning K) → Shows same name m known (record s { makers = with_at s.makers i (Some b) })
+      (name : ℕ → List ℕ) (m : Moment K V) (known : Known) (s : Scene K V) → (shown : Shows same name m known s)
+      → (i : ℕ) (b : Beginning K) → ShowsAfter same name m known s shown m known (record s { makers = with_at s.makers i (Some b) })
 
   -- and so it is where the map is there by its number.
   abbrev pub MapsAreThere : Type 0
   MapsAreThere =
-      (name : ℕ → List ℕ) (m : Moment K V) (known : Known) (s : Scene K V) → Shows same name m known s
-      → (there : MapThere) → Shows same name (with_map there m) known s
+      (name : ℕ → List ℕ) (m : Moment K V) (known : Known) (s : Scene K V) → (shown : Shows same name m known s)
+      → (there : MapThere) → ShowsAfter same name m known s shown (with_map there m) known s
 
 module _ (K V S : Type 0) (same : K → K → Bool) (hash : K → ℕ) where
   -- The promise, of a step of a making, on whichever map its effects are told, if on any: by the last one its map is shown, where it was there as a new one,
   -- and its counter was noted.
   abbrev pub MakingsAreShown : Type 0
   MakingsAreShown =
-      (name : ℕ → List ℕ) (m : Moment K V) (known : Known) (s : Scene K V) (old new : Executor K V S) → IsAt same hash old s → Shows same name m known s
+      (name : ℕ → List ℕ) (m : Moment K V) (known : Known) (s : Scene K V) (old new : Executor K V S) → IsAt same hash old s → (shown : Shows same name m known s)
       → (i : ℕ) (told : Progress Setting) (leads : MakingLeads same hash i told s old new) (b : Beginning K) (here : s.makers i ≡ Some b) (of : Option ℕ)
       → NotesCounter known b → WasNew b.map told m
       → (let to = leads b here in
-      Shows same name (with_effects None of (effects_of (Making b.map) known new.memory.changed) m) (known_after (Making b.map) new.memory.changed known)
+      ShowsAfter same name m known s shown (with_effects None of (effects_of (Making b.map) known new.memory.changed) m) (known_after (Making b.map) new.memory.changed known)
       (making_after same hash s old new i b to.0 to.2.step.w2 told to.3))
 
   -- The promise: while a making goes on, its map stays as new.

@@ -16,6 +16,7 @@ use Rattle.papaya_executor.specs.declared.row.SlotCall.{SlotCall}
 use Rattle.papaya_executor.specs.declared.row.SlotRow.{SlotRow}
 use Rattle.papaya_executor.specs.declared.worker.Work.TheVariants.{OnSlot}
 use Rattle.papaya_follows.specs.Shows.{Shows}
+use Rattle.papaya_others.specs.After.{ShowsAfter}
 use Rattle.papaya_others.specs.Gone.{WasRetired}
 
 -- the scene once this has happened
@@ -26,15 +27,15 @@ module _ (K V S : Type 0) (same : K → K → Bool) (hash : K → ℕ) where
   -- The promises: a row that begins on a slot changes nothing that is shown,
   abbrev pub RowsBeginShown : Type 0
   RowsBeginShown =
-      (name : ℕ → List ℕ) (m : Moment K V) (known : Known) (s : Scene K V) (old new : Executor K V S) → IsAt same hash old s → Shows same name m known s
+      (name : ℕ → List ℕ) (m : Moment K V) (known : Known) (s : Scene K V) (old new : Executor K V S) → IsAt same hash old s → (shown : Shows same name m known s)
       → (called : SlotCall) (i : ℕ) (may : MayBegin old (slot_of i) called) (leads : RowBegins same hash called i s old new)
-      → Shows same name m known (scene_then same hash (Begin i (request_of (slot_of i) called)) s old new (leads may).3)
+      → ShowsAfter same name m known s shown m known (scene_then same hash (Begin i (request_of (slot_of i) called)) s old new (leads may).3)
 
   -- and a step of it, which may reclaim a pair or a table, leads on: a table that it reclaims was retired, and what waits behind that is in no map.
   abbrev pub RowsOnSlotsAreShown : Type 0
   RowsOnSlotsAreShown =
-      (name : ℕ → List ℕ) (m : Moment K V) (known : Known) (s : Scene K V) (old new : Executor K V S) → IsAt same hash old s → Shows same name m known s
+      (name : ℕ → List ℕ) (m : Moment K V) (known : Known) (s : Scene K V) (old new : Executor K V S) → IsAt same hash old s → (shown : Shows same name m known s)
       → (i : ℕ) (told : RowTold (Node K V)) (leads : RowLeads same hash i told s old new) (row : SlotRow) (here : work_of old i ≡ Some (OnSlot row))
       → AtEachEffect WasRetired None None (effects_of Row known new.memory.changed) m
-      → Shows same name (with_effects None None (effects_of Row known new.memory.changed) m) (known_after Row new.memory.changed known)
+      → ShowsAfter same name m known s shown (with_effects None None (effects_of Row known new.memory.changed) m) (known_after Row new.memory.changed known)
       (scene_then same hash (Step i) s old new (leads row here).4)
