@@ -12,7 +12,7 @@ use Rattle.papaya_executor.specs.IsAt.{Scene, at_first}
 use Rattle.papaya_acts.specs.Acts.{Act, Wanted, BeginsCall, StepsCall, BeginsMaking, StepsMaking, BeginsRow}
 use Rattle.papaya_acts.specs.Leads.{IsFree, MayBe, making_begun, making_steps}
 
-module _ {K V : Type 0} (same : K → K → Bool) (hash : K → ℕ) (batch_size : ℕ) (slot : ℕ → ℕ) where
+module _ {K : Type 0} (V : Type 0) (same : K → K → Bool) (hash : K → ℕ) (batch_size : ℕ) (slot : ℕ → ℕ) where
   abbrev First : Act K V → Type 0
   First act = MayBe same hash batch_size 1 slot act (at_first 1)
 
