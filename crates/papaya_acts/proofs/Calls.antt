@@ -1,9 +1,9 @@
 -- A call that begins, takes a step, is told something, is asked for a pair, or is given up: all stand together then.
-use Rattle.std.specs.Prelude.{◌≡◌, ℕ, Bool, true, false, [], Option, Some, None}
+use Rattle.std.specs.Prelude.{◌≡◌, ℕ, Bool, true, false, [], Some, None}
 use Rattle.std.specs.Option.{is_none}
 use Rattle.std.proofs.Common.{refl, sym, ap, subst, ◌∙◌}
-use Rattle.seize.specs.World.{Rests, with_at}
-use Rattle.seize_acts.specs.Answers.{Grant, then_on, stepped}
+use Rattle.seize.specs.World.{with_at}
+use Rattle.seize_acts.specs.Answers.{Grant, then_on}
 use Rattle.seize_acts.proofs.Answers.{some, same_some, was_stepped}
 use Rattle.seize_acts.proofs.Begun.{rests_is}
 use Rattle.seize_rule.proofs.Rows.Leaving.{with_same}
@@ -37,7 +37,7 @@ use Rattle.papaya_finishes.proofs.Among.Sweeps.{sweeps_begin_among, walks_stop_a
 use Rattle.papaya_executor.specs.IsAt.{Scene}
 use Rattle.papaya_executor.specs.Replying.{scene_with, unless_stopped}
 use Rattle.papaya_acts.specs.Acts.{Wanted, Get, Remove, Insert, TryToInsert, Compute, Update, UpdateOrInsert, TryToInsertWith, RemoveIf, MakeRoom, Count, GoOver, Answer, Nothing, OfCall, OfReply, OfAsking, BeginsCall, StepsCall, TellsCall, AsksCall, StopsCall, its, begun}
-use Rattle.papaya_acts.specs.Leads.{MayBe, AllStand, Led, CallCame, call_at, call_steps}
+use Rattle.papaya_acts.specs.Leads.{MayBe, AllStand, Led, call_at, call_steps}
 use Rattle.papaya_acts.proofs.Tests.{none_is, some_is, inside_is, its_class}
 
 -- a stage that is ready is that one

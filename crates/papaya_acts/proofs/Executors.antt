@@ -1,6 +1,6 @@
 -- What an executor does, it does by acts.
-use Rattle.std.specs.Prelude.{◌≡◌, ℕ, Bool, Option, Some, None, Result}
-use Rattle.std.proofs.Common.{refl, sym, ap, subst, ◌∙◌}
+use Rattle.std.specs.Prelude.{◌≡◌, ℕ, Bool, Some}
+use Rattle.std.proofs.Common.{refl, sym, ap, subst}
 use Rattle.seize_words.specs.Mem.{Mem, Can, Took, value_at}
 use Rattle.seize_words.specs.Plan.{Plan, May, Steps}
 use Rattle.seize.specs.World.{MayStep}
@@ -17,8 +17,7 @@ use Rattle.papaya_tables.specs.declared.setting.Setting.{Setting}
 use Rattle.papaya_resize.specs.NewMap.{new_map_plan}
 use Rattle.papaya_resize.specs.declared.new_map.NewMap.{NewMap}
 use Rattle.papaya_raw.specs.EndMap.{end_map_plan}
-use Rattle.papaya_raw.specs.Machine.{machine_plan, machine_replied, machine_asked}
-use Rattle.papaya_raw.specs.declared.machines.asking.Reply.{Reply}
+use Rattle.papaya_raw.specs.Machine.{machine_plan}
 use Rattle.papaya_raw.specs.declared.machines.end_map.EndMap.{EndMap}
 use Rattle.papaya_raw.specs.declared.machines.machine.Machine.{Machine}
 use Rattle.papaya_raw.specs.declared.machines.progress.Progress.{Progress as CallProgress}
@@ -36,7 +35,7 @@ use Rattle.papaya_executor.specs.Making.{MakingLeads, MakingComesTo}
 use Rattle.papaya_executor.specs.Replying.{unless_stopped}
 use Rattle.papaya_executor.specs.Stepping.{StepLeads}
 use Rattle.papaya_executor.proofs.Forgotten.{as_step}
-use Rattle.papaya_acts.specs.Acts.{Nothing, OfCall, OfReply, OfAsking, OfMaking, OfEnding, StepsCall, StepsMaking, StepsEnding}
+use Rattle.papaya_acts.specs.Acts.{OfCall, OfReply, OfAsking, OfMaking, OfEnding, StepsCall, StepsMaking, StepsEnding}
 use Rattle.papaya_acts.specs.Executors.{IsAct, CallsAreActs, OthersAreActs, ExecutorsAct}
 use Rattle.papaya_acts.specs.Leads.{MakingCame, EndingCame}
 use Rattle.papaya_acts.specs.Lists.{AllMayStep}

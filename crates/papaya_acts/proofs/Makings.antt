@@ -1,15 +1,14 @@
 -- A making or an end of a map that begins, or takes a step: all stand together then.
-use Rattle.std.specs.Prelude.{◌≡◌, ◌≢◌, ℕ, ◌+◌, ◌<◌, ◌≤◌, ◌^◌, Bool, false, [], ◌∷◌, ◌++◌, max, Option, Some, None}
-use Rattle.std.specs.Option.{is_none}
+use Rattle.std.specs.Prelude.{◌≡◌, ℕ, ◌≤◌, ◌^◌, Bool, [], ◌∷◌, ◌++◌, max, Some, None}
 use Rattle.std.specs.Int.{IsPowerOfTwo}
 use Rattle.std.proofs.Common.{refl}
-use Rattle.seize.specs.World.{Ends, with_at, with_effect}
+use Rattle.seize.specs.World.{with_at, with_effect}
 use Rattle.seize.specs.Law.{Ended}
 use Rattle.seize.specs.declared.progress.Progress.{Progress}
 use Rattle.seize.specs.declared.progress.Progress.TheVariants as progress
 use Rattle.seize.specs.declared.rows.settle.Settled.{Settled}
 use Rattle.seize.specs.declared.rows.settle.Settled.TheVariants as settled
-use Rattle.seize_acts.specs.Answers.{Grant, then_on, stepped}
+use Rattle.seize_acts.specs.Answers.{Grant, then_on}
 use Rattle.seize_acts.proofs.Answers.{some, was_stepped}
 use Rattle.seize_words.specs.Mem.{Mem}
 use Rattle.papaya_tables.specs.Lengths.{IsTableLen}

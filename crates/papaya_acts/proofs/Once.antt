@@ -1,13 +1,13 @@
 -- That an act may be made is known in one way alone, so a course leads by a list of acts to one scene.
-use Rattle.std.specs.Prelude.{◌≡◌, ◌≢◌, ℕ, ◌+◌, ◌<◌, ◌^◌, Bool, true, false, List, [], ◌∷◌, Option, Some, None}
-use Rattle.std.specs.Coded.{Coded-set, coded_bool, coded_ℕ, le_prop, ×_prop, Π_prop, Unit-prop}
+use Rattle.std.specs.Prelude.{◌≡◌, ℕ, Bool, [], ◌∷◌}
+use Rattle.std.specs.Coded.{Coded-set, coded_bool, coded_ℕ, le_prop}
 use Rattle.std.proofs.Common.{refl, sym, ap, subst, ◌∙◌}
 use Rattle.seize.specs.World.{Request, Register', Enter', Leave', LeaveOwned, Refresh, Unregister', Retire, Flush, Defer'}
 use Rattle.papaya_callers.specs.Together.{IsOfSlots}
 use Rattle.papaya_executor.specs.IsAt.{Scene}
 use Rattle.papaya_acts.specs.Acts.{Act, BeginsCall, StepsCall, TellsCall, AsksCall, StopsCall, BeginsMaking, StepsMaking, BeginsEnding, StepsEnding, BeginsRow, StepsRow}
-use Rattle.papaya_acts.specs.Leads.{HasNoCall, IsFree, AreFewWith, MayBe}
-use Rattle.papaya_acts.specs.Lists.{Course, Reached, on_by, LedTo, IsDetermined}
+use Rattle.papaya_acts.specs.Leads.{IsFree, AreFewWith, MayBe}
+use Rattle.papaya_acts.specs.Lists.{Course, Reached, on_by, IsDetermined}
 
 bool_set : IsSet Bool
 bool_set = Coded-set coded_bool

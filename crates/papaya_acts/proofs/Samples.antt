@@ -1,5 +1,5 @@
 -- Acts that may be made at first, and some that may not.
-use Rattle.std.specs.Prelude.{◌≡◌, ℕ, ◌+◌, ◌<◌, ◌≤◌, ◌^◌, Bool, max, Option, Some, None}
+use Rattle.std.specs.Prelude.{◌≡◌, ℕ, ◌+◌, ◌<◌, ◌≤◌, ◌^◌, Bool, max, Some, None}
 use Rattle.std.specs.Int.{IsPowerOfTwo}
 use Rattle.std.proofs.Common.{refl, arith}
 use Rattle.seize.specs.World.{Register', with_at}
@@ -10,7 +10,7 @@ use Rattle.papaya_resize.specs.declared.new_map.Opening.TheVariants as at
 use Rattle.papaya_finishes.specs.Makings.{Beginning}
 use Rattle.papaya_executor.specs.IsAt.{Scene, at_first}
 use Rattle.papaya_acts.specs.Acts.{Act, Wanted, BeginsCall, StepsCall, BeginsMaking, StepsMaking, BeginsRow}
-use Rattle.papaya_acts.specs.Leads.{IsFree, MayBe, making_begun, making_steps}
+use Rattle.papaya_acts.specs.Leads.{IsFree, MayBe, making_begun}
 
 module _ {K : Type 0} (V : Type 0) (same : K → K → Bool) (hash : K → ℕ) (batch_size : ℕ) (slot : ℕ → ℕ) where
   abbrev First : Act K V → Type 0

@@ -14,7 +14,7 @@ use Rattle.papaya_raw.specs.declared.machines.progress.Progress.TheVariants as p
 use Rattle.papaya_callers.specs.Together.{UnderWay, Counting}
 use Rattle.papaya_finishes.specs.Maps.{Standing}
 use Rattle.papaya_executor.specs.IsAt.{Scene}
-use Rattle.papaya_acts.specs.Acts.{Act, Answer, OfCall, BeginsCall, StepsCall}
+use Rattle.papaya_acts.specs.Acts.{Act, OfCall, BeginsCall, StepsCall}
 use Rattle.papaya_acts.specs.Leads.{MayBe}
 use Rattle.papaya_acts.specs.Lists.{Course, Reached, LedTo}
 

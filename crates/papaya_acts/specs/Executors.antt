@@ -1,5 +1,5 @@
 -- What an executor does, it does by acts: where it is, its acts have led.
-use Rattle.std.specs.Prelude.{◌≡◌, ℕ, Bool, Option, Some, Result}
+use Rattle.std.specs.Prelude.{◌≡◌, ℕ, Bool, Some, Result}
 use Rattle.seize.specs.declared.progress.Progress.{Progress}
 use Rattle.seize.specs.declared.rows.settle.Settled.{Settled}
 use Rattle.seize_acts.specs.Answers.{Grant}
