@@ -1,6 +1,6 @@
 -- A step of the end of a map lowers its number, and nothing that others do changes that.
-use Rattle.std.specs.Prelude.{◌-◌, Option, Some}
-use Rattle.std.proofs.Common.{◌≡◌, ℕ, suc, ◌*◌, ◌/◌, ◌+◌, ◌<◌, ◌≤◌, Bool, false, List, [], ◌∷◌, ◌++◌, length, inl, inr, refl, sym, ap, subst, ◌∙◌, arith}
+use Rattle.std.specs.Prelude.{Some}
+use Rattle.std.proofs.Common.{◌≡◌, ℕ, suc, ◌<◌, ◌≤◌, Bool, false, List, [], ◌∷◌, ◌++◌, length, inl, inr, refl, sym, ap, subst, ◌∙◌, arith}
 use Rattle.std.proofs.lemmas.List.{length-append}
 use Rattle.seize_words.specs.Mem.{Mem, Took, value_at}
 use Rattle.seize_words.specs.Plan.{Steps}
@@ -19,7 +19,7 @@ use Rattle.papaya_points.specs.MeasuresTables.{number_of_sum}
 use Rattle.papaya_callers.proofs.Together.At.{at_same}
 use Rattle.papaya_resize.specs.declared.sum.Sum.{Sum}
 use Rattle.papaya_finishes.specs.Endings.{Finishing, FinishingFacts, FinishingTold, EndingsTogether, StepsOfEnding, waiting_by}
-use Rattle.papaya_finishes.specs.FactsEnds.{EndingFacts, Joins, Gives, back_of, wait_before}
+use Rattle.papaya_finishes.specs.FactsEnds.{EndingFacts, Joins, back_of, wait_before}
 use Rattle.papaya_finishes.proofs.Ends.OrdersOn.{back_same}
 use Rattle.papaya_maps.specs.MeasuresEnds.{stage, most_blocks, list_len, steps_left}
 use Rattle.papaya_maps.proofs.Begins.MachinesEnd.{lowered_ends}

@@ -1,8 +1,8 @@
 -- What is known of a list that waits: it is as long as it was from one of its blocks on.
 use Rattle.std.specs.Prelude.{◌++◌, IsSome, Option, Some, None}
-use Rattle.std.proofs.Common.{◌≡◌, ℕ, suc, ◌+◌, ◌*◌, ◌<◌, ◌≤◌, List, [], ◌∷◌, length, refl, sym, ap, subst, ◌∙◌, arith}
+use Rattle.std.proofs.Common.{◌≡◌, ℕ, ◌*◌, ◌<◌, ◌≤◌, List, [], ◌∷◌, length, refl, sym, subst, arith}
 use Rattle.std.proofs.lemmas.List.{length-append}
-use Rattle.seize_words.specs.Mem.{Mem, block_of, value_in, entry_in, value_at, word_at}
+use Rattle.seize_words.specs.Mem.{Mem, block_of, value_in, entry_in}
 use Rattle.seize_words.specs.declared.block.Block.{Block}
 use Rattle.seize.specs.Further.{ListFrom}
 use Rattle.seize.specs.World.{times}

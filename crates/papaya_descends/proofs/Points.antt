@@ -1,6 +1,6 @@
 -- A step of the end of a map that goes on, point by point: what is ahead until the next block is reclaimed is less.
-use Rattle.std.specs.Prelude.{◌-◌, ◌%◌, ◌^◌, ◌==◌, ◌&&◌, not, Option, Some, None, nat_lt, map, if◌then◌else◌}
-use Rattle.std.proofs.Common.{◌≡◌, ℕ, suc, ◌+◌, ◌*◌, ◌/◌, ◌<◌, ◌≤◌, Bool, true, false, List, [], ◌∷◌, ◌++◌, ◌⊎◌, length, inl, inr, refl, arith, ap, sym, subst, ◌∙◌}
+use Rattle.std.specs.Prelude.{◌-◌, ◌%◌, ◌^◌, ◌==◌, ◌&&◌, not, Some, None, nat_lt, map, if◌then◌else◌}
+use Rattle.std.proofs.Common.{◌≡◌, ℕ, suc, ◌+◌, ◌/◌, ◌<◌, ◌≤◌, Bool, true, false, List, [], ◌∷◌, ◌++◌, length, inl, inr, refl, arith, ap, sym, subst, ◌∙◌}
 use Rattle.std.proofs.lemmas.List.{length-append}
 use Rattle.seize_words.specs.declared.at.At.TheVariants.{Root, Used, Entry, Word}
 use Rattle.seize_words.specs.Op.{Found, Taken}
@@ -20,7 +20,7 @@ use Rattle.papaya_tables.specs.declared.node.Node.TheVariants as node
 use Rattle.papaya_tables.specs.declared.setting.Setting.{Setting}
 use Rattle.papaya_tables.specs.declared.table.Table.{Table}
 use Rattle.papaya_tables.specs.declared.table_words.TheConstants.{NEXT, DEFERRED, PLACES}
-use Rattle.papaya_raw.specs.EndMap.{standing, next_place, is_current, root_read, word_read, given_back, next_read, list_read, follower_read, after_read, dropped, plan_at, end_map_plan}
+use Rattle.papaya_raw.specs.EndMap.{standing, next_place, is_current, root_read, word_read, given_back, next_read, list_read, follower_read, after_read, dropped, plan_at}
 use Rattle.papaya_raw.specs.declared.machines.end_map.EndMap.{EndMap}
 use Rattle.papaya_raw.specs.declared.machines.end_map.Ending.{Ending}
 use Rattle.papaya_raw.specs.declared.machines.end_map.Ending.TheVariants as at
