@@ -8,5 +8,5 @@ mod Roots
 mod Tables
 mod Values
 pub mod Whole
-mod MachinesEnd
+pub mod MachinesEnd
 pub mod ComesToEnd

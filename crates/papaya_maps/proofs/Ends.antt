@@ -1,5 +1,5 @@
 -- A map that ends alone.
-mod BlocksFew
+pub mod BlocksFew
 mod Since
 pub mod Whole
 mod Lower

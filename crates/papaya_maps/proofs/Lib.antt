@@ -1,4 +1,4 @@
-mod Begins
+pub mod Begins
 pub mod Reserves
 pub mod Rests
 pub mod Ends

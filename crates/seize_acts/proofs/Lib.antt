@@ -1,7 +1,7 @@
-mod Answers
-mod Begun
+pub mod Answers
+pub mod Begun
 pub mod Ends
-mod Fine
+pub mod Fine
 pub mod Lost
 pub mod Reclaimed
 mod Refused

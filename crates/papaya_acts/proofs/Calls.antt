@@ -1,0 +1,183 @@
+-- A call that begins, takes a step, is told something, is asked for a pair, or is given up: all stand together then.
+use Rattle.std.specs.Prelude.{◌≡◌, ℕ, Bool, true, false, [], Some, None}
+use Rattle.std.specs.Option.{is_none}
+use Rattle.std.proofs.Common.{refl, sym, ap, subst, ◌∙◌}
+use Rattle.seize.specs.World.{with_at}
+use Rattle.seize_acts.specs.Answers.{Grant, then_on}
+use Rattle.seize_acts.proofs.Answers.{some, same_some, was_stepped}
+use Rattle.seize_acts.proofs.Begun.{rests_is}
+use Rattle.seize_rule.proofs.Rows.Leaving.{with_same}
+use Rattle.seize_words.specs.Mem.{Mem}
+use Rattle.papaya_tables.specs.declared.node.Node.{Node}
+use Rattle.papaya_tables.specs.declared.node.Node.TheVariants as node
+use Rattle.papaya_sweeps.specs.declared.sweep.Sweeping.{Sweeping}
+use Rattle.papaya_sweeps.specs.declared.sweep.Sweeping.TheVariants as sweeping
+use Rattle.papaya_raw.specs.CallAsks.{computing, updating, updating_or_inserting, trying_to_insert_with, removing_if}
+use Rattle.papaya_raw.specs.CallPoints.{getting, removing, inserting, trying_to_insert}
+use Rattle.papaya_raw.specs.Machine.{machine_plan, machine_replied, machine_asked, is_ready}
+use Rattle.papaya_raw.specs.declared.machines.asking.Reply.{Reply}
+use Rattle.papaya_raw.specs.declared.machines.call.KeyCall.{KeyCall}
+use Rattle.papaya_raw.specs.declared.machines.machine.Machine.{Machine}
+use Rattle.papaya_raw.specs.declared.machines.progress.Progress.{Progress}
+use Rattle.papaya_points.specs.Steps.{AreLawful, told_first}
+use Rattle.papaya_callers.specs.Asked.{told_before}
+use Rattle.papaya_callers.specs.Kind.{gets, removes, inserts, tries_to_insert, computes, updates, updates_or_inserts, tries_to_insert_with, removes_if}
+use Rattle.papaya_callers.specs.Pairs.{Given, Begun, IsTold}
+use Rattle.papaya_callers.specs.Together.{UnderWay, OnKey, ForRoom, Counting, OverAll, IsBegun}
+use Rattle.papaya_callers.specs.Together as begins
+use Rattle.papaya_finishes.specs.Endings.{EndingsTogether}
+use Rattle.papaya_finishes.specs.Machines.{machine_of, MachineStepsAmong}
+use Rattle.papaya_finishes.specs.Maps.{Standing, with_call}
+use Rattle.papaya_finishes.proofs.Among.Calls.{calls_begin_among}
+use Rattle.papaya_finishes.proofs.Among.Countings.{countings_begin_among}
+use Rattle.papaya_finishes.proofs.Among.Machines.{machines_stand_among}
+use Rattle.papaya_finishes.proofs.Among.MachinesTold.{machines_told_among}
+use Rattle.papaya_finishes.proofs.Among.Rooms.{rooms_begin_among}
+use Rattle.papaya_finishes.proofs.Among.Sweeps.{sweeps_begin_among, walks_stop_among}
+use Rattle.papaya_executor.specs.IsAt.{Scene}
+use Rattle.papaya_executor.specs.Replying.{scene_with, unless_stopped}
+use Rattle.papaya_acts.specs.Acts.{Wanted, Get, Remove, Insert, TryToInsert, Compute, Update, UpdateOrInsert, TryToInsertWith, RemoveIf, MakeRoom, Count, GoOver, Answer, Nothing, OfCall, OfReply, OfAsking, BeginsCall, StepsCall, TellsCall, AsksCall, StopsCall, its, begun}
+use Rattle.papaya_acts.specs.Leads.{MayBe, AllStand, Led, call_at, call_steps}
+use Rattle.papaya_acts.proofs.Tests.{none_is, some_is, inside_is, its_class}
+
+-- a stage that is ready is that one
+ready_is : (stage : Sweeping) → is_ready stage ≡ true → stage ≡ sweeping.Ready
+ready_is sweeping.Ready is = refl
+ready_is _ is = absurd (cc is)
+
+module _ {K V : Type 0} (same : K → K → Bool) (hash : K → ℕ) (batch_size roots : ℕ) (slot : ℕ → ℕ) (s : Scene K V) (all : AllStand same hash batch_size roots slot s) (i m : ℕ) where
+  abbrev Stands : Scene K V → Type 0
+  Stands n = AllStand same hash batch_size roots slot n
+
+  -- a call and its map, where both are there
+  both : (it : Standing K × UnderWay K V K) → call_at s i m ≡ Some it → (s.maps m ≡ Some it.0) × (s.calls m i ≡ Some it.1)
+  both it is =
+      let x = some (s.maps m) (λ standing. then_on (s.calls m i) (λ u. Some (standing, u))) it is in
+      let y = some (s.calls m i) (λ u. Some (x.0, u)) it x.2 in
+      let same_it : (x.0, y.0) ≡ it = same_some (x.0, y.0) it y.2 in
+      (x.1 ∙ ap (λ (z : Standing K × UnderWay K V K). Some z.0) same_it, y.1 ∙ ap (λ (z : Standing K × UnderWay K V K). Some z.1) same_it)
+
+  pub call_begins : (wanted : Wanted K V) → MayBe same hash batch_size roots slot (BeginsCall i m wanted) s
+      → (n : Scene K V) × Led same hash batch_size roots slot (BeginsCall i m wanted) s Nothing n × Stands n
+  call_begins wanted (free, rest, within, there, few) = (scene_with m i (begun same slot standing i wanted) s, (standing, stands, refl, refl), by wanted)
+    where
+      standing : Standing K
+      standing = (some_is (s.maps m) there).0
+
+      stands : s.maps m ≡ Some standing
+      stands = (some_is (s.maps m) there).1
+
+      no_call : (n : ℕ) → s.calls n i ≡ None
+      no_call n = none_is (s.calls n i) (free.no_call n)
+
+      lawful : AreLawful same standing.hash
+      lawful = (all.makings.standing.fit m standing stands).0
+
+      on : (keys : K → Bool) (pair : Given K V) (call : KeyCall K V K) → IsBegun V same standing.hash same standing.setting slot i keys pair call
+          → Stands (scene_with m i (OnKey (begins.begun_at V same standing.hash same standing.setting slot standing.chart keys pair call)) s)
+      on keys pair call is =
+          calls_begin_among V same same batch_size roots slot s.world s.maps s.calls s.makers s.enders all i (none_is (s.makers i) free.no_making) (none_is (s.enders i) free.no_ending)
+          no_call (rests_is (s.world.row i) rest) (inside_is (s.world.uses (slot i)) within) m standing stands (few standing stands) keys pair call is
+
+      by : (wanted : Wanted K V) → Stands (scene_with m i (begun same slot standing i wanted) s)
+      by (Get key) = on (same key) (Begun gets None) (getting (its slot standing i) (standing.hash key) key)
+          (begins.Gets key (standing.hash key) (lawful.fits key) (its_class same standing.hash lawful key))
+      by (Remove key) = on (same key) (Begun removes None) (removing (its slot standing i) (standing.hash key) key)
+          (begins.Removes key (standing.hash key) (lawful.fits key) (its_class same standing.hash lawful key))
+      by (Insert key value) =
+          on (same key) (Begun inserts (Some (node.Pair key value))) (inserting (its slot standing i) (standing.hash key) key value) (begins.Inserts key value)
+      by (TryToInsert key value) =
+          on (same key) (Begun tries_to_insert (Some (node.Pair key value))) (trying_to_insert (its slot standing i) (standing.hash key) key value) (begins.TriesToInsert key value)
+      by (Compute key) = on (same key) (IsTold computes (Some key) []) (computing (its slot standing i) (standing.hash key) key) (begins.Computes key)
+      by (Update key) = on (same key) (IsTold updates (Some key) []) (updating (its slot standing i) (standing.hash key) key) (begins.Updates key)
+      by (UpdateOrInsert key absent) =
+          on (same key) (IsTold updates_or_inserts (Some key) (told_before absent)) (updating_or_inserting (its slot standing i) (standing.hash key) key (told_first absent))
+          (begins.UpdatesOrInserts key absent)
+      by (TryToInsertWith key) =
+          on (same key) (IsTold tries_to_insert_with (Some key) []) (trying_to_insert_with (its slot standing i) (standing.hash key) key) (begins.TriesToInsertWith key)
+      by (RemoveIf key) = on (same key) (IsTold removes_if None []) (removing_if (its slot standing i) (standing.hash key) key)
+          (begins.RemovesIf key (standing.hash key) (lawful.fits key) (its_class same standing.hash lawful key))
+      by (MakeRoom additional) =
+          rooms_begin_among V same same batch_size roots slot s.world s.maps s.calls s.makers s.enders all i (none_is (s.makers i) free.no_making) (none_is (s.enders i) free.no_ending)
+          no_call (rests_is (s.world.row i) rest) (inside_is (s.world.uses (slot i)) within) m standing stands (few standing stands) additional
+      by Count =
+          countings_begin_among V same same batch_size roots slot s.world s.maps s.calls s.makers s.enders all i (none_is (s.makers i) free.no_making) (none_is (s.enders i) free.no_ending)
+          no_call (rests_is (s.world.row i) rest) (inside_is (s.world.uses (slot i)) within) m standing stands (few standing stands)
+      by (GoOver purpose) =
+          sweeps_begin_among V same same batch_size roots slot s.world s.maps s.calls s.makers s.enders all i (none_is (s.makers i) free.no_making) (none_is (s.enders i) free.no_ending)
+          no_call (rests_is (s.world.row i) rest) (inside_is (s.world.uses (slot i)) within) m standing stands (few standing stands) purpose
+
+  abbrev Came : Grant → Type 0
+  Came g = (told : Answer K V) × (n : Scene K V) × Led same hash batch_size roots slot (StepsCall i m g) s told n × Stands n
+
+  came : (g : Grant) (standing : Standing K) (u : UnderWay K V K) → s.maps m ≡ Some standing → s.calls m i ≡ Some u
+      → (m2 : Mem (Node K V)) (machine : Machine K V K) (progress : Progress (Node K V)) → call_steps same hash batch_size roots slot s g (standing, u) ≡ Some (m2, (machine, progress)) → Came g
+  came g standing u stands here m2 machine progress computed =
+      let did : MachineStepsAmong V same same batch_size roots slot s.world s.maps s.calls s.makers s.enders m standing i m2 u machine progress =
+      (machines_stand_among V same same batch_size roots slot s.world s.maps s.calls s.makers s.enders all m standing stands i u here).1 m2 machine progress
+      (was_stepped s.world.memory g (machine_plan same same standing.hash (machine_of u)) (m2, (machine, progress)) computed) in (
+        OfCall progress,
+        record { world = did.w2; maps = did.maps2; calls = with_call s.calls m i did.next; makers = s.makers; enders = s.enders },
+        record {
+          standing = standing;
+          stands = stands;
+          call = u;
+          here = here;
+          memory = m2;
+          machine = machine;
+          progress = progress;
+          computed = computed;
+          tells = refl;
+          did = did;
+          comes = refl;
+        },
+        did.together,
+      )
+
+  pub call_goes_on : (g : Grant) → MayBe same hash batch_size roots slot (StepsCall i m g) s → Came g
+  call_goes_on g may =
+      let found = some_is (then_on (call_at s i m) (call_steps same hash batch_size roots slot s g)) may in
+      let it = some (call_at s i m) (call_steps same hash batch_size roots slot s g) found.0 found.1 in
+      let here = both it.0 it.1 in
+      came g it.0.0 it.0.1 here.0 here.1 found.0.0 found.0.1.0 found.0.1.1 it.2
+
+  module _ (may : is_none (call_at s i m) ≡ false) where
+    abbrev it : Standing K × UnderWay K V K
+    it = (some_is (call_at s i m) may).0
+
+    abbrev here : (s.maps m ≡ Some it.0) × (s.calls m i ≡ Some it.1)
+    here = both it (some_is (call_at s i m) may).1
+
+    pub call_told : (reply : Reply V) → (told : Answer K V) × (n : Scene K V) × Led same hash batch_size roots slot (TellsCall i m reply) s told n × Stands n
+    call_told reply =
+        let so = (machines_told_among V same same batch_size roots slot s.world s.maps s.calls s.makers s.enders all m it.0 here.0 i it.1 here.1).0 reply in
+        (OfReply (machine_replied (machine_of it.1) reply).1, scene_with m i so.0 s, (it.0, here.0, it.1, so.0, here.1, so.1, refl, so.2, refl), so.3)
+
+    pub call_asked : (told : Answer K V) × (n : Scene K V) × Led same hash batch_size roots slot (AsksCall i m) s told n × Stands n
+    call_asked =
+        let so = (machines_told_among V same same batch_size roots slot s.world s.maps s.calls s.makers s.enders all m it.0 here.0 i it.1 here.1).1 in
+        (OfAsking (machine_asked (machine_of it.1)).1, scene_with m i so.0 s, (it.1, so.0, here.1, so.1, refl, refl), so.2)
+
+    -- what is not given up is as it was
+    unchanged : with_call s.calls m i (Some it.1) ≡ s.calls
+    unchanged = ap (λ x. with_call s.calls m i x) (sym here.1) ∙ (ap (λ x. with_at s.calls m x) (with_same (s.calls m) i) ∙ with_same s.calls m)
+
+    goes_on : EndingsTogether V same same batch_size roots slot s.world s.maps (with_call s.calls m i (Some it.1)) s.makers s.enders
+    goes_on = subst (λ x. EndingsTogether V same same batch_size roots slot s.world s.maps x s.makers s.enders) (sym unchanged) all
+
+    stops : (u : UnderWay K V K) → it.1 ≡ u → (ready : Bool) → (machine_asked (machine_of u)).1 ≡ ready
+        → EndingsTogether V same same batch_size roots slot s.world s.maps (with_call s.calls m i (unless_stopped ready it.1)) s.makers s.enders
+    stops u is false asked = goes_on
+    stops (OnKey k) is true asked = absurd (cc asked)
+    stops (ForRoom r) is true asked = absurd (cc asked)
+    stops (Counting sum) is true asked = absurd (cc asked)
+    stops (OverAll o) is true asked =
+        (walks_stop_among V same same batch_size roots slot s.world s.maps s.calls s.makers s.enders all m it.0 here.0 i o (here.1 ∙ ap Some is) (ready_is o.sweep.stands asked)).0
+
+    pub call_stops : (told : Answer K V) × (n : Scene K V) × Led same hash batch_size roots slot (StopsCall i m) s told n × Stands n
+    call_stops = (
+      OfAsking (machine_asked (machine_of it.1)).1,
+      record s { calls = with_call s.calls m i (unless_stopped (machine_asked (machine_of it.1)).1 it.1) },
+      (it.1, here.1, refl, refl),
+      stops it.1 refl (machine_asked (machine_of it.1)).1 refl,
+    )

@@ -1,0 +1,119 @@
+-- A making or an end of a map that begins, or takes a step: all stand together then.
+use Rattle.std.specs.Prelude.{◌≡◌, ℕ, ◌≤◌, ◌^◌, Bool, [], ◌∷◌, ◌++◌, max, Some, None}
+use Rattle.std.specs.Int.{IsPowerOfTwo}
+use Rattle.std.proofs.Common.{refl}
+use Rattle.seize.specs.World.{with_at, with_effect}
+use Rattle.seize.specs.Law.{Ended}
+use Rattle.seize.specs.declared.progress.Progress.{Progress}
+use Rattle.seize.specs.declared.progress.Progress.TheVariants as progress
+use Rattle.seize.specs.declared.rows.settle.Settled.{Settled}
+use Rattle.seize.specs.declared.rows.settle.Settled.TheVariants as settled
+use Rattle.seize_acts.specs.Answers.{Grant, then_on}
+use Rattle.seize_acts.proofs.Answers.{some, was_stepped}
+use Rattle.seize_words.specs.Mem.{Mem}
+use Rattle.papaya_tables.specs.Lengths.{IsTableLen}
+use Rattle.papaya_tables.specs.declared.node.Node.{Node}
+use Rattle.papaya_tables.specs.declared.setting.Setting.{Setting}
+use Rattle.papaya_resize.specs.NewMap.{new_map_plan}
+use Rattle.papaya_resize.specs.declared.new_map.NewMap.{NewMap}
+use Rattle.papaya_raw.specs.EndMap.{end_map_plan}
+use Rattle.papaya_raw.specs.declared.machines.end_map.EndMap.{EndMap}
+use Rattle.papaya_points.specs.Steps.{AreLawful}
+use Rattle.papaya_finishes.specs.Endings.{Finishing, MakingStepsAmong, MakingToldAmong, StepsOfEnding, FinishingTold, waiting_by}
+use Rattle.papaya_finishes.specs.Makings.{Beginning}
+use Rattle.papaya_finishes.proofs.Among.Begins.{endings_begin}
+use Rattle.papaya_finishes.proofs.Among.Makings.{makings_stand_among, makings_begin_among}
+use Rattle.papaya_finishes.proofs.Among.Own.Steps.{endings_stand}
+use Rattle.papaya_finishes.proofs.Beside.Makings.Promised.{makings_begin}
+use Rattle.papaya_executor.specs.Ending.{ending_begun}
+use Rattle.papaya_executor.specs.IsAt.{Scene}
+use Rattle.papaya_acts.specs.Acts.{Answer, Nothing, OfMaking, OfEnding, BeginsMaking, StepsMaking, BeginsEnding, StepsEnding}
+use Rattle.papaya_acts.specs.Leads.{MayBe, AllStand, Led, MakingCame, EndingCame, making_begun, making_steps, ending_steps}
+use Rattle.papaya_acts.proofs.Tests.{none_is, some_is}
+
+module _ {K V : Type 0} (same : K → K → Bool) (hash : K → ℕ) (batch_size roots : ℕ) (slot : ℕ → ℕ) (s : Scene K V) (all : AllStand same hash batch_size roots slot s) (i : ℕ) where
+  abbrev Stands : Scene K V → Type 0
+  Stands n = AllStand same hash batch_size roots slot n
+
+  pub making_begins : AreLawful same hash → (map : ℕ) (given : Setting) (places : ℕ) (power : IsPowerOfTwo given.initial) (sized : max places 8 ≤ 2 ^ 48 → IsTableLen (max places 8))
+      → MayBe same hash batch_size roots slot (BeginsMaking i map given places power sized) s
+      → (n : Scene K V) × Led same hash batch_size roots slot (BeginsMaking i map given places power sized) s Nothing n × Stands n
+  making_begins lawful map given places power sized (free, no_map, others, batches, mask, some) =
+      let b : Beginning K = making_begun hash roots map given places in
+      let no_call : (m : ℕ) → s.calls m i ≡ None = λ m. none_is (s.calls m i) (free.no_call m) in (
+        record s { makers = with_at s.makers i (Some b) },
+        (refl, refl),
+        makings_begin_among {Q = K} V same same batch_size roots slot s.world s.maps s.calls s.makers s.enders all i (none_is (s.enders i) free.no_ending) b
+            (makings_begin {Q = K} V same same batch_size roots slot s.world s.maps s.calls s.makers all.makings i (none_is (s.makers i) free.no_making) no_call
+            map (none_is (s.maps map) no_map) others given hash places lawful power batches mask some sized) refl,
+      )
+
+  -- by what a making tells
+  module _ (b : Beginning K) (m2 : Mem (Node K V)) (machine : NewMap) where
+    made : (told : Progress Setting) (did : MakingStepsAmong V same same batch_size roots slot s.world s.maps s.calls s.makers s.enders i b m2 (machine, told))
+        → MakingToldAmong V same same batch_size roots slot s.world s.maps s.calls s.makers s.enders i b did.step.w2 (machine, told)
+        → (n : Scene K V) × MakingCame same hash batch_size roots slot s i b did.step.w2 machine n told × Stands n
+    made progress.Goes did together = (record s { world = did.step.w2; makers = with_at s.makers i (Some (record b { machine = machine })) }, refl, together)
+    made progress.Waits did never = absurd never
+    made (progress.Done setting) did (standing, is_made, together) =
+        (record s { world = did.step.w2; maps = with_at s.maps b.map (Some standing); makers = with_at s.makers i None }, (standing, is_made, refl), together)
+    made (progress.Refused fault) did together = (record s { world = did.step.w2; makers = with_at s.makers i None }, refl, together)
+
+  making_came : (g : Grant) (b : Beginning K) → s.makers i ≡ Some b → (m2 : Mem (Node K V)) (machine : NewMap) (told : Progress Setting)
+      → making_steps same hash batch_size roots slot s g b ≡ Some (m2, (machine, told))
+      → (answer : Answer K V) × (n : Scene K V) × Led same hash batch_size roots slot (StepsMaking i g) s answer n × Stands n
+  making_came g b makes m2 machine told computed =
+      let did : MakingStepsAmong V same same batch_size roots slot s.world s.maps s.calls s.makers s.enders i b m2 (machine, told) =
+      (makings_stand_among {Q = K} V same same batch_size roots slot s.world s.maps s.calls s.makers s.enders all i b makes).1 m2 (machine, told)
+      (was_stepped s.world.memory g (new_map_plan {K = K} {V = V} b.machine) (m2, (machine, told)) computed) in
+      let to = made b m2 machine told did did.told in
+      (OfMaking told, to.0, (b, makes, m2, machine, told, computed, refl, did, to.1), to.2)
+
+  pub making_goes_on : (g : Grant) → MayBe same hash batch_size roots slot (StepsMaking i g) s
+      → (answer : Answer K V) × (n : Scene K V) × Led same hash batch_size roots slot (StepsMaking i g) s answer n × Stands n
+  making_goes_on g may =
+      let found = some_is (then_on (s.makers i) (making_steps same hash batch_size roots slot s g)) may in
+      let it = some (s.makers i) (making_steps same hash batch_size roots slot s g) found.0 found.1 in
+      making_came g it.0 it.1 found.0.0 found.0.1.0 found.0.1.1 it.2
+
+  pub ending_begins : (m : ℕ) → MayBe same hash batch_size roots slot (BeginsEnding i m) s
+      → (n : Scene K V) × Led same hash batch_size roots slot (BeginsEnding i m) s Nothing n × Stands n
+  ending_begins m (free, there, no_calls) =
+      let it = some_is (s.maps m) there in (
+        ending_begun m i it.0 s,
+        (it.0, it.1, refl, refl),
+        (endings_begin {Q = K} V same same batch_size roots slot s.world s.maps s.calls s.makers s.enders all i (none_is (s.enders i) free.no_ending) (none_is (s.makers i) free.no_making)
+            (λ n. none_is (s.calls n i) (free.no_call n)) m it.0 it.1 (λ j. none_is (s.calls m j) (no_calls j)) (with_effect s.world (Ended it.0.setting.counter)) refl).0,
+      )
+
+  -- by what an end tells
+  module _ (f : Finishing K V) (m2 : Mem (Node K V)) (machine : EndMap) where
+    ended : (told : Settled (Node K V)) (did : StepsOfEnding V same same batch_size roots slot s.world s.maps s.calls s.makers s.enders i f m2 (machine, told))
+        → FinishingTold V same same batch_size roots slot s.world s.maps s.calls s.makers s.enders i f did.w2 did.deed (machine, told)
+        → (n : Scene K V) × EndingCame same hash batch_size roots slot s i f did.w2 did.deed machine n told × Stands n
+    ended settled.Goes did (none, together) =
+        (record s { world = did.w2; enders = with_at s.enders i (Some (record f { machine = machine; waits = f.waits ++ waiting_by did.deed })) }, (none, refl), together)
+    ended settled.Waits did never = absurd never
+    ended (settled.Gave value) did (b, was, taken, together) = (
+      record s { world = did.w2; enders = with_at s.enders i (Some (record f { machine = machine; back = f.back ++ b ∷ []; waits = f.waits ++ waiting_by did.deed })) },
+      (b, was, taken, refl),
+      together,
+    )
+    ended settled.Done did (none, finished, together) = (record s { world = did.w2; enders = with_at s.enders i None }, (none, finished, refl), together)
+
+  ending_came : (g : Grant) (f : Finishing K V) → s.enders i ≡ Some f → (m2 : Mem (Node K V)) (machine : EndMap) (told : Settled (Node K V))
+      → ending_steps same hash batch_size roots slot s g f ≡ Some (m2, (machine, told))
+      → (answer : Answer K V) × (n : Scene K V) × Led same hash batch_size roots slot (StepsEnding i g) s answer n × Stands n
+  ending_came g f ends m2 machine told computed =
+      let did : StepsOfEnding V same same batch_size roots slot s.world s.maps s.calls s.makers s.enders i f m2 (machine, told) =
+      (endings_stand {Q = K} V same same batch_size roots slot s.world s.maps s.calls s.makers s.enders all i f ends).1 m2 (machine, told)
+      (was_stepped s.world.memory g (end_map_plan {K = K} {V = V} f.machine) (m2, (machine, told)) computed) in
+      let to = ended f m2 machine told did did.told in
+      (OfEnding told, to.0, (f, ends, m2, machine, told, computed, refl, did, to.1), to.2)
+
+  pub ending_goes_on : (g : Grant) → MayBe same hash batch_size roots slot (StepsEnding i g) s
+      → (answer : Answer K V) × (n : Scene K V) × Led same hash batch_size roots slot (StepsEnding i g) s answer n × Stands n
+  ending_goes_on g may =
+      let found = some_is (then_on (s.enders i) (ending_steps same hash batch_size roots slot s g)) may in
+      let it = some (s.enders i) (ending_steps same hash batch_size roots slot s g) found.0 found.1 in
+      ending_came g it.0 it.1 found.0.0 found.0.1.0 found.0.1.1 it.2

@@ -1,0 +1,57 @@
+-- That an act may be made is known in one way alone, so a course leads by a list of acts to one scene.
+use Rattle.std.specs.Prelude.{◌≡◌, ℕ, Bool, [], ◌∷◌}
+use Rattle.std.specs.Coded.{Coded-set, coded_bool, coded_ℕ, le_prop}
+use Rattle.std.proofs.Common.{refl, sym, ap, subst, ◌∙◌}
+use Rattle.seize.specs.World.{Request, Register', Enter', Leave', LeaveOwned, Refresh, Unregister', Retire, Flush, Defer'}
+use Rattle.papaya_callers.specs.Together.{IsOfSlots}
+use Rattle.papaya_executor.specs.IsAt.{Scene}
+use Rattle.papaya_acts.specs.Acts.{Act, BeginsCall, StepsCall, TellsCall, AsksCall, StopsCall, BeginsMaking, StepsMaking, BeginsEnding, StepsEnding, BeginsRow, StepsRow}
+use Rattle.papaya_acts.specs.Leads.{IsFree, AreFewWith, MayBe}
+use Rattle.papaya_acts.specs.Lists.{Course, Reached, on_by, IsDetermined}
+
+bool_set : IsSet Bool
+bool_set = Coded-set coded_bool
+
+absurd_prop : IsProp ⊥
+absurd_prop x y = absurd x
+
+of_slots_prop : (request : Request) → IsProp (IsOfSlots request)
+of_slots_prop (Retire s b) x y = absurd x
+of_slots_prop (Defer' s b t) x y = absurd x
+of_slots_prop (Register' enters) x y = refl
+of_slots_prop (Enter' s) x y = refl
+of_slots_prop (Leave' s) x y = refl
+of_slots_prop (LeaveOwned s) x y = refl
+of_slots_prop (Refresh s) x y = refl
+of_slots_prop (Unregister' s) x y = refl
+of_slots_prop (Flush s) x y = refl
+
+module _ {K V : Type 0} (s : Scene K V) where
+  free_prop : (i : ℕ) → IsProp (IsFree s i)
+  free_prop i = hlevel bool_set
+
+  few_prop : (i m : ℕ) → IsProp (AreFewWith s i m)
+  few_prop i m = hlevel le_prop
+
+module _ {K V : Type 0} (same : K → K → Bool) (hash : K → ℕ) (batch_size roots : ℕ) (slot : ℕ → ℕ) where
+  pub may_prop : (act : Act K V) (s : Scene K V) → IsProp (MayBe same hash batch_size roots slot act s)
+  may_prop (BeginsCall i m wanted) s = hlevel (bool_set, free_prop s i, few_prop s i m)
+  may_prop (StepsCall i m g) s = bool_set _ _
+  may_prop (TellsCall i m reply) s = bool_set _ _
+  may_prop (AsksCall i m) s = bool_set _ _
+  may_prop (StopsCall i m) s = bool_set _ _
+  may_prop (BeginsMaking i map given places power sized) s = hlevel (bool_set, free_prop s i, Coded-set coded_ℕ, le_prop)
+  may_prop (StepsMaking i g) s = bool_set _ _
+  may_prop (BeginsEnding i m) s = hlevel (bool_set, free_prop s i)
+  may_prop (StepsEnding i g) s = bool_set _ _
+  may_prop (BeginsRow i request) s = hlevel (bool_set, of_slots_prop request)
+  may_prop (StepsRow i g) s = hlevel bool_set
+
+  module _ (course : Course V same hash batch_size roots slot) where
+    pub is_determined : IsDetermined V same hash batch_size roots slot course
+    is_determined [] x y led other = led ∙ sym other
+    is_determined (act ∷ acts) x y (before, led, may, is) (before2, led2, may2, is2) =
+        is ∙ subst (λ (z : Reached V same hash batch_size roots slot). (m : MayBe same hash batch_size roots slot act z.0.0)
+        → on_by V same hash batch_size roots slot course before act may ≡ on_by V same hash batch_size roots slot course z act m)
+        (is_determined acts before before2 led led2)
+        (λ m. ap (on_by V same hash batch_size roots slot course before act) (may_prop act before.0.0 may m)) may2 ∙ sym is2

@@ -1,0 +1,60 @@
+-- Acts that may be made at first, and some that may not.
+use Rattle.std.specs.Prelude.{◌≡◌, ℕ, ◌+◌, ◌<◌, ◌≤◌, ◌^◌, Bool, max, Some, None}
+use Rattle.std.specs.Int.{IsPowerOfTwo}
+use Rattle.std.proofs.Common.{refl, arith}
+use Rattle.seize.specs.World.{Register', with_at}
+use Rattle.seize_acts.specs.Answers.{Grant}
+use Rattle.papaya_tables.specs.Lengths.{IsTableLen}
+use Rattle.papaya_tables.specs.declared.setting.Setting.{Setting}
+use Rattle.papaya_resize.specs.declared.new_map.Opening.TheVariants as at
+use Rattle.papaya_finishes.specs.Makings.{Beginning}
+use Rattle.papaya_executor.specs.IsAt.{Scene, at_first}
+use Rattle.papaya_acts.specs.Acts.{Act, Wanted, BeginsCall, StepsCall, BeginsMaking, StepsMaking, BeginsRow}
+use Rattle.papaya_acts.specs.Leads.{IsFree, MayBe, making_begun}
+
+module _ {K : Type 0} (V : Type 0) (same : K → K → Bool) (hash : K → ℕ) (batch_size : ℕ) (slot : ℕ → ℕ) where
+  abbrev First : Act K V → Type 0
+  First act = MayBe same hash batch_size 1 slot act (at_first 1)
+
+  -- At first any caller may begin to make a map, or take a slot.
+  may_make : (i map places : ℕ) (given : Setting) (power : IsPowerOfTwo given.initial) (sized : max places 8 ≤ 2 ^ 48 → IsTableLen (max places 8))
+      → given.batch_size ≡ batch_size → given.mask + 1 < 2 ^ 64 → First (BeginsMaking i map given places power sized)
+  may_make i map places given power sized batches mask =
+      (record { no_call = λ m. refl; no_making = refl; no_ending = refl }, refl, (λ j d has e. cc has), batches, mask, omega arith)
+
+  may_register : (i : ℕ) (enters : Bool) → First (BeginsRow i (Register' enters))
+  may_register i enters = ((λ m. refl), refl, tt, (λ m j u has closes. closes), refl)
+
+  -- No call begins where no map stands, and none takes a step that is not there.
+  no_map_yet : (i m : ℕ) (wanted : Wanted K V) → First (BeginsCall i m wanted) → ⊥
+  no_map_yet i m wanted may = cc (may.3)
+
+  no_call_yet : (i m : ℕ) (g : Grant) → First (StepsCall i m g) → ⊥
+  no_call_yet i m g may = cc may
+
+  module _ (given : Setting) where
+    -- A map is being made. Its caller has something under way, and may take the next step, which takes the root.
+    abbrev b : Beginning K
+    b = making_begun hash 1 0 given 0
+
+    abbrev Makes : Beginning K → Scene K V
+    Makes b = record (at_first 1) { makers = with_at (λ i. None) 0 (Some b) }
+
+    is_busy : IsFree (Makes b) 0 → ⊥
+    is_busy free = cc (free.no_making)
+
+    may_go_on : (g : Grant) → MayBe same hash batch_size 1 slot (StepsMaking 0 g) (Makes b)
+    may_go_on g = refl
+
+    -- Where it makes its counter, the memory may give that the number 1, or refuse it, and not 0, which is no block's.
+    abbrev at_shards : Beginning K
+    at_shards = record b { machine = record b.machine { stands = at.Shards } }
+
+    may_choose : MayBe same hash batch_size 1 slot (StepsMaking 0 (Some 1)) (Makes at_shards)
+    may_choose = refl
+
+    may_refuse : MayBe same hash batch_size 1 slot (StepsMaking 0 None) (Makes at_shards)
+    may_refuse = refl
+
+    not_that : MayBe same hash batch_size 1 slot (StepsMaking 0 (Some 0)) (Makes at_shards) → ⊥
+    not_that may = cc may

@@ -1,0 +1,89 @@
+-- An act is what one caller does at once, as plain data: it begins something, takes one step of what it has under way, or tells its call something.
+use Rattle.std.specs.Prelude.{ℕ, ◌≤◌, ◌^◌, Bool, [], Option, Some, None, Result, max}
+use Rattle.std.specs.Int.{IsPowerOfTwo}
+use Rattle.seize.specs.World.{Request}
+use Rattle.seize.specs.declared.progress.Progress.{Progress as Told}
+use Rattle.seize.specs.declared.rows.settle.Settled.{Settled}
+use Rattle.seize_acts.specs.Answers.{Grant}
+use Rattle.papaya_tables.specs.Lengths.{IsTableLen}
+use Rattle.papaya_tables.specs.declared.node.Node.{Node}
+use Rattle.papaya_tables.specs.declared.setting.Setting.{Setting}
+use Rattle.papaya_resize.specs.Sum.{summing}
+use Rattle.papaya_reserves.specs.Reserve.{reserving}
+use Rattle.papaya_sweeps.specs.declared.sweep.Purpose.{Purpose}
+use Rattle.papaya_raw.specs.CallAsks.{computing, updating, updating_or_inserting, trying_to_insert_with, removing_if}
+use Rattle.papaya_raw.specs.CallPoints.{getting, removing, inserting, trying_to_insert}
+use Rattle.papaya_raw.specs.declared.machines.asking.Reply.{Reply}
+use Rattle.papaya_raw.specs.declared.machines.call.KeyCall.{KeyCall}
+use Rattle.papaya_raw.specs.declared.machines.progress.Progress.{Progress}
+use Rattle.papaya_tables.specs.declared.node.Node.TheVariants as node
+use Rattle.papaya_points.specs.Steps.{told_first}
+use Rattle.papaya_callers.specs.Asked.{told_before}
+use Rattle.papaya_callers.specs.Kind.{gets, removes, inserts, tries_to_insert, computes, updates, updates_or_inserts, tries_to_insert_with, removes_if}
+use Rattle.papaya_callers.specs.OverAll.{begun_over_all}
+use Rattle.papaya_callers.specs.Pairs.{Given, Begun, IsTold}
+use Rattle.papaya_callers.specs.Together.{UnderWay, OnKey, ForRoom, Counting, OverAll, begun_at, in_slot}
+use Rattle.papaya_finishes.specs.Maps.{Standing}
+
+-- what a caller wants of a map
+pub data Wanted (K V : Type 0) : Type 0 where
+  Get : K → Wanted K V
+  Remove : K → Wanted K V
+  Insert : K → V → Wanted K V
+  TryToInsert : K → V → Wanted K V
+  Compute : K → Wanted K V
+  Update : K → Wanted K V
+  UpdateOrInsert : K → Option V → Wanted K V  -- with what is to be stored where the key is missing, if that is told at first
+  TryToInsertWith : K → Wanted K V
+  RemoveIf : K → Wanted K V
+  MakeRoom : ℕ → Wanted K V  -- for so many further pairs
+  Count : Wanted K V
+  GoOver : Purpose → Wanted K V
+
+-- A grant is what the memory is free to choose at a step: the number of the block that is made, or that it refuses.
+pub data Act (K V : Type 0) : Type 0 where
+  BeginsCall : ℕ → ℕ → Wanted K V → Act K V  -- this caller begins to do this on this map
+  StepsCall : ℕ → ℕ → Grant → Act K V  -- its call on this map takes its next step
+  TellsCall : ℕ → ℕ → Reply V → Act K V  -- its call on this map is told this
+  AsksCall : ℕ → ℕ → Act K V  -- or is asked for its next pair
+  StopsCall : ℕ → ℕ → Act K V  -- or is given up, if it is a walk that is ready
+  -- this caller begins to make this map, with this setting and a first table of so many places, or none for 0
+  BeginsMaking : ℕ → ℕ → (given : Setting) → (places : ℕ) → IsPowerOfTwo given.initial → (max places 8 ≤ 2 ^ 48 → IsTableLen (max places 8)) → Act K V
+  StepsMaking : ℕ → Grant → Act K V
+  BeginsEnding : ℕ → ℕ → Act K V  -- this caller begins to end this map
+  StepsEnding : ℕ → Grant → Act K V
+  BeginsRow : ℕ → Request → Act K V  -- this caller begins a row on its slot, between calls
+  StepsRow : ℕ → Grant → Act K V
+
+-- what the caller is told
+pub data Answer (K V : Type 0) : Type 0 where
+  Nothing : Answer K V
+  OfCall : Progress (Node K V) → Answer K V
+  OfReply : Result Unit (Reply V) → Answer K V  -- whether it was taken: one that was not comes back
+  OfAsking : Bool → Answer K V  -- whether the call was ready
+  OfMaking : Told Setting → Answer K V
+  OfEnding : Settled (Node K V) → Answer K V
+
+-- a caller works with the setting of the map, in its slot
+abbrev pub its : {K : Type 0} → (ℕ → ℕ) → Standing K → ℕ → Setting
+its slot s i = in_slot s.setting (slot i)
+
+module _ {K V : Type 0} (same : K → K → Bool) (slot : ℕ → ℕ) (s : Standing K) (i : ℕ) where
+  abbrev pub on_key : (K → Bool) → Given K V → KeyCall K V K → UnderWay K V K
+  on_key keys pair call = OnKey (begun_at V same s.hash same s.setting slot s.chart keys pair call)
+
+  -- what is under way as it begins to do this on a map that stands
+  abbrev pub begun : Wanted K V → UnderWay K V K
+  begun (Get key) = on_key (same key) (Begun gets None) (getting (its slot s i) (s.hash key) key)
+  begun (Remove key) = on_key (same key) (Begun removes None) (removing (its slot s i) (s.hash key) key)
+  begun (Insert key value) = on_key (same key) (Begun inserts (Some (node.Pair key value))) (inserting (its slot s i) (s.hash key) key value)
+  begun (TryToInsert key value) = on_key (same key) (Begun tries_to_insert (Some (node.Pair key value))) (trying_to_insert (its slot s i) (s.hash key) key value)
+  begun (Compute key) = on_key (same key) (IsTold computes (Some key) []) (computing (its slot s i) (s.hash key) key)
+  begun (Update key) = on_key (same key) (IsTold updates (Some key) []) (updating (its slot s i) (s.hash key) key)
+  begun (UpdateOrInsert key absent) =
+      on_key (same key) (IsTold updates_or_inserts (Some key) (told_before absent)) (updating_or_inserting (its slot s i) (s.hash key) key (told_first absent))
+  begun (TryToInsertWith key) = on_key (same key) (IsTold tries_to_insert_with (Some key) []) (trying_to_insert_with (its slot s i) (s.hash key) key)
+  begun (RemoveIf key) = on_key (same key) (IsTold removes_if None []) (removing_if (its slot s i) (s.hash key) key)
+  begun (MakeRoom additional) = ForRoom (record { began = s.chart.now; reserve = reserving (its slot s i) additional })
+  begun Count = Counting (summing (its slot s i))
+  begun (GoOver purpose) = OverAll (begun_over_all s.chart.now (its slot s i) purpose)

@@ -1,0 +1,71 @@
+-- What a counting of pairs has read of a map's counter by the end of a list of acts, and what it answers.
+use Rattle.std.specs.Prelude.{◌≡◌, ℕ, suc, ◌==◌, ◌&&◌, ◌%◌, ◌^◌, Bool, List, [], ◌∷◌, ◌++◌, length, Option, Some, None, if◌then◌else◌}
+use Rattle.std.specs.List.{sum}
+use Rattle.seize_words.specs.Mem.{Mem, word_at}
+use Rattle.seize_words.specs.declared.at.At.TheVariants.{Word}
+use Rattle.seize_acts.specs.Answers.{Grant}
+use Rattle.papaya_tables.specs.Counts.{count_in}
+use Rattle.papaya_tables.specs.declared.node.Node.{Node}
+use Rattle.papaya_resize.specs.declared.sum.Sum.{Sum}
+use Rattle.papaya_resize.specs.declared.sum.Summing.{Summing}
+use Rattle.papaya_resize.specs.declared.sum.Summing.TheVariants as sums
+use Rattle.papaya_raw.specs.declared.machines.progress.Answer.TheVariants as answers
+use Rattle.papaya_raw.specs.declared.machines.progress.Progress.TheVariants as progress
+use Rattle.papaya_callers.specs.Together.{UnderWay, Counting}
+use Rattle.papaya_finishes.specs.Maps.{Standing}
+use Rattle.papaya_executor.specs.IsAt.{Scene}
+use Rattle.papaya_acts.specs.Acts.{Act, OfCall, BeginsCall, StepsCall}
+use Rattle.papaya_acts.specs.Leads.{MayBe}
+use Rattle.papaya_acts.specs.Lists.{Course, Reached, LedTo}
+
+-- what is there, as a list
+abbrev pub listed : Option ℕ → List ℕ
+listed None = []
+listed (Some word) = word ∷ []
+
+module _ {K V : Type 0} (m : Mem (Node K V)) where
+  -- the word of the shard that a counting reads next, as it stands in this memory
+  abbrev pub next_shard : Sum → Summing → List ℕ
+  next_shard c (sums.Adds shard total) = listed (word_at m (Word c.setting.counter shard))
+  next_shard c (sums.Over count) = []
+
+  abbrev pub shard_of_call : Option (UnderWay K V K) → List ℕ
+  shard_of_call (Some (Counting c)) = next_shard c c.stands
+  shard_of_call _ = []
+
+-- these words were read, the last first: it has come so far, and to their sum
+abbrev pub HasRead : Sum → List ℕ → Type 0
+HasRead c words = c.stands ≡ sums.Adds (length words) (sum words % 2 ^ 64)
+
+-- an act is one on the call of this caller on this map
+abbrev pub is_its : ℕ → ℕ → ℕ → ℕ → Bool
+is_its i m j n = (j == i) && (n == m)
+
+module _ {K V : Type 0} (i m : ℕ) where
+  -- what the counting has read by an act: nothing as it begins, and one shard more by each step, as it stands then
+  abbrev pub read_on : Act K V → Scene K V → List ℕ → List ℕ
+  read_on (BeginsCall j n wanted) s words = if is_its i m j n then [] else words
+  read_on (StepsCall j n g) s words = if is_its i m j n then shard_of_call s.world.memory (s.calls m i) ++ words else words
+  read_on act s words = words
+
+module _ {K V : Type 0} (same : K → K → Bool) (hash : K → ℕ) (batch_size roots : ℕ) (slot : ℕ → ℕ) (course : Course V same hash batch_size roots slot) where
+  -- The words that the counting has read that this caller has under way on this map: each is that of its shard, at a moment since the counting began.
+  abbrev pub words_read : ℕ → ℕ → (acts : List (Act K V)) (x : Reached V same hash batch_size roots slot) → LedTo V same hash batch_size roots slot course acts x → List ℕ
+  words_read i m [] x led = []
+  words_read i m (act ∷ acts) x led = read_on i m act led.0.0.0 (words_read i m acts led.0 led.1)
+
+  -- Wherever a list of acts has led, a counting that is under way has come to the sum of the words that it has read, shard by shard from the first on.
+  abbrev pub CountingsAddUp : Type 0
+  CountingsAddUp =
+      (acts : List (Act K V)) (x : Reached V same hash batch_size roots slot) (led : LedTo V same hash batch_size roots slot course acts x)
+      → (i m : ℕ) (c : Sum) → x.0.0.calls m i ≡ Some (Counting c) → HasRead c (words_read i m acts x led)
+
+  -- And what it answers by its last step is the sum of the words of all shards, which is none where that is negative.
+  abbrev pub CountingsAnswerTheSum : Type 0
+  CountingsAnswerTheSum =
+      (acts : List (Act K V)) (x : Reached V same hash batch_size roots slot) (led : LedTo V same hash batch_size roots slot course acts x)
+      → (i m : ℕ) (c : Sum) → x.0.0.calls m i ≡ Some (Counting c) → (s : Standing K) → x.0.0.maps m ≡ Some s
+      → (g : Grant) (may : MayBe same hash batch_size roots slot (StepsCall i m g) x.0.0) (count : ℕ)
+      → course.told x.0 (StepsCall i m g) may ≡ OfCall (progress.Done (answers.Count count))
+      → (length (shard_of_call x.0.0.world.memory (x.0.0.calls m i) ++ words_read i m acts x led) ≡ suc s.setting.mask)
+      × (count ≡ count_in (sum (shard_of_call x.0.0.world.memory (x.0.0.calls m i) ++ words_read i m acts x led) % 2 ^ 64))

@@ -1,0 +1,5 @@
+pub mod Acts
+pub mod Leads
+pub mod Lists
+pub mod Counts
+pub mod Executors

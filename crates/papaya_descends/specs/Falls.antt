@@ -1,0 +1,47 @@
+-- What is promised of the numbers of countings and of ends of maps: each step that goes on lowers them, whatever other callers have under way.
+use Rattle.std.specs.Prelude.{◌≡◌, ℕ, Bool, [], ◌∷◌, ◌++◌, Option, Some}
+use Rattle.seize_words.specs.Mem.{Mem, Took, value_at}
+use Rattle.seize_words.specs.Plan.{Steps}
+use Rattle.seize.specs.World.{World}
+use Rattle.seize.specs.declared.progress.Progress.TheVariants as progress
+use Rattle.seize.specs.declared.rows.settle.Settled.{Settled}
+use Rattle.seize.specs.declared.rows.settle.Settled.TheVariants as settled
+use Rattle.papaya_tables.specs.declared.node.Node.{Node}
+use Rattle.papaya_resize.specs.Sum.{sum_plan}
+use Rattle.papaya_resize.specs.declared.sum.Sum.{Sum}
+use Rattle.papaya_raw.specs.EndMap.{end_map_plan}
+use Rattle.papaya_raw.specs.declared.machines.end_map.EndMap.{EndMap}
+use Rattle.papaya_points.specs.Measures.{IsBelow}
+use Rattle.papaya_points.specs.MeasuresTables.{number_of_sum}
+use Rattle.papaya_callers.specs.Together.{UnderWay}
+use Rattle.papaya_finishes.specs.Endings.{Finishing, EndingsTogether}
+use Rattle.papaya_finishes.specs.Makings.{Beginning}
+use Rattle.papaya_finishes.specs.Maps.{Standing}
+use Rattle.papaya_descends.specs.Numbers.{number_of_ending}
+
+-- A step of a counting that goes on, in any memory, leaves fewer shards to be read.
+abbrev pub CountingsFall : (K V : Type 0) → Type 0
+CountingsFall K V =
+    (sum sum2 : Sum) (m m2 : Mem (Node K V)) → Steps Took value_at m (sum_plan sum) m2 (sum2, progress.Goes) → IsBelow (number_of_sum sum2) (number_of_sum sum)
+
+module _ {K Q : Type 0} (V : Type 0) (same : K → K → Bool) (asks : Q → K → Bool) (batch_size roots : ℕ) (slot : ℕ → ℕ) where
+  -- The end of a map that goes on has a lower number then, whether it has reclaimed a block, which is the last one that it did, or none.
+  abbrev pub Lowers : Finishing K V → Mem (Node K V) → Mem (Node K V) → EndMap × Settled (Node K V) → Type 0
+  Lowers f m m2 (e, settled.Goes) = IsBelow (number_of_ending (record f { machine = e }) m2) (number_of_ending f m)
+  Lowers f m m2 (e, settled.Gave value) = (b : ℕ) → IsBelow (number_of_ending (record f { machine = e; back = f.back ++ b ∷ [] }) m2) (number_of_ending f m)
+  Lowers f m m2 (e, _) = Unit {0}
+
+  -- So does each step of one, among calls, makings and other ends.
+  abbrev pub EndingsFall : Type 0
+  EndingsFall =
+      (w : World (Node K V)) (maps : ℕ → Option (Standing K)) (calls : ℕ → ℕ → Option (UnderWay K V Q)) (makers : ℕ → Option (Beginning K)) (enders : ℕ → Option (Finishing K V))
+      → EndingsTogether V same asks batch_size roots slot w maps calls makers enders → (i : ℕ) (f : Finishing K V) → enders i ≡ Some f
+      → (m2 : Mem (Node K V)) (end : EndMap × Settled (Node K V)) → Steps Took value_at w.memory (end_map_plan f.machine) m2 end → Lowers f w.memory m2 end
+
+  -- And whatever others have done meanwhile, while it stands where it stood its number is what it was.
+  abbrev pub OthersLeaveEndings : Type 0
+  OthersLeaveEndings =
+      (w w2 : World (Node K V)) (maps maps2 : ℕ → Option (Standing K)) (calls calls2 : ℕ → ℕ → Option (UnderWay K V Q)) (makers makers2 : ℕ → Option (Beginning K))
+      (enders enders2 : ℕ → Option (Finishing K V))
+      → EndingsTogether V same asks batch_size roots slot w maps calls makers enders → EndingsTogether V same asks batch_size roots slot w2 maps2 calls2 makers2 enders2
+      → (i : ℕ) (f : Finishing K V) → enders i ≡ Some f → enders2 i ≡ Some f → number_of_ending f w2.memory ≡ number_of_ending f w.memory
