@@ -2,7 +2,6 @@
 pub mod Answered
 pub mod Blocks
 pub mod Calls
-pub mod Clears
 pub mod ComesBack
 pub mod HandsBack
 pub mod Keys
@@ -10,12 +9,7 @@ pub mod Lawful
 pub mod Lookups
 pub mod Making
 pub mod Places
-pub mod Questions
 pub mod Refreshes
-pub mod Refusals
 pub mod Rests
-pub mod Retains
 pub mod Rooms
-pub mod Siftings
 pub mod Standing
-pub mod Sweeps

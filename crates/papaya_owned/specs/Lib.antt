@@ -2,9 +2,7 @@ pub mod Ending
 pub mod Looking
 pub mod Machines
 pub mod Owned
-pub mod Retaining
 pub mod Rooms
 pub mod Standing
-pub mod Sweeping
 pub mod Tries
 pub mod Within

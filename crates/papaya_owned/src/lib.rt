@@ -8,13 +8,9 @@ mod most;
 mod most_looks;
 mod rooms;
 mod running;
-mod sweeping;
-mod sweeps;
 mod tries;
 
 pub use looking::{find, pair_at};
 pub use machines::{ForRoom, OnKey, Refreshes, Stop};
 pub use rooms::make_room;
 pub use running::run;
-pub use sweeping::{OverPairs, Pause};
-pub use sweeps::{empty, sift};

@@ -2,11 +2,11 @@
 ghost use Rattle.std.specs.Prelude.{List, [], IfErr, OnOk, OnErr};
 ghost use Rattle.papaya_late.specs.Faults.{IsRoom};
 ghost use Rattle.papaya_owned.specs.Owned.{Holds, hashed_by};
-ghost use Rattle.papaya_owned.specs.Retaining.{KeepsOf};
+ghost use Rattle.papaya_sifts.specs.Retaining.{KeepsOf};
 
 use crate::changes::refresh;
 use crate::counting::count;
-use papaya_owned::{empty, sift};
+use papaya_sifts::{empty, sift};
 use papaya_tables::{Node, Setting};
 use seize_words::{Fault, Plain};
 use std::hash::{BuildHasher, Hash};

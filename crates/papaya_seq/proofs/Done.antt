@@ -24,9 +24,9 @@ use Rattle.papaya_resting.specs.declared.change.Change.{Change}
 use Rattle.papaya_resting.specs.declared.change.Change.TheVariants as change
 use Rattle.papaya_resting.specs.declared.change.Compute.{Compute}
 use Rattle.papaya_resting.specs.declared.change.Compute.TheVariants as compute
-use Rattle.papaya_seq.proofs.Orders.{left_same}
+use Rattle.papaya_pairs.proofs.Orders.{left_same, left_and}
 use Rattle.papaya_seq.proofs.Kept.{Rested, Shown, rested}
-use Rattle.papaya_seq.proofs.Shows.{left_and, shown_as}
+use Rattle.papaya_seq.proofs.Shows.{shown_as}
 
 -- the map rests with some pairs, whatever was done, and what its words name can be looked at
 module _ {K V : Type 0} (same : K → K → Bool) (hash : K → ℕ) (setting : Setting) (m : Mem (Node K V)) (last : Last) (keys : K → Bool) (its : Option K) (xs : List (K × V)) where

@@ -21,7 +21,7 @@ use Rattle.papaya_forms.proofs.Members.{objects_have_their_pairs, objects_have_n
 use Rattle.papaya_shown.specs.Lent.{pair_shown}
 use Rattle.papaya_owned.specs.Owned.{left_by}
 use Rattle.papaya_seq.specs.Json.{FirstFault, IsNoPair, IsPairOf, IsRefusal}
-use Rattle.papaya_seq.proofs.Shows.{left_and}
+use Rattle.papaya_pairs.proofs.Orders.{left_and}
 
 -- what a walk shows that was run to its end is all that was to come
 module _ {S A B : Type 0} (shows : A → B) (rest : S → List B) where

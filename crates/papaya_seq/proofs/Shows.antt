@@ -18,14 +18,14 @@ use Rattle.papaya_shown.proofs.Chains.{root_counts, all_shown}
 use denote.Ref.{Bor}
 use Rattle.std.specs.Fn.{Mut}
 use Rattle.papaya_owned.specs.Owned.{Holds, found_by, left_by}
-use Rattle.papaya_owned.specs.Retaining.{AnswersByTest, KeepsOf}
-use Rattle.papaya_owned.proofs.Owned.Questions.{keeps_by_test}
+use Rattle.papaya_sifts.specs.Retaining.{AnswersByTest, KeepsOf}
+use Rattle.papaya_sifts.proofs.Over.Questions.{keeps_by_test}
 use Rattle.papaya_owned.proofs.Walks.{holds_stands, holds_moves_none, holds_pairs}
 use Rattle.papaya_resting.specs.Lasts.{pair_in}
 use Rattle.papaya_resting.specs.declared.last.Last.{Last}
 use Rattle.papaya_seq.specs.Maps.{Map, pairs_shown}
-use Rattle.papaya_seq.specs.Orders.{IsOneClass}
-use Rattle.papaya_seq.proofs.Orders.{apart_each, apart_same, found_same, keeps_same, kept_in_any_order, left_same, none_left}
+use Rattle.papaya_pairs.specs.Orders.{IsOneClass}
+use Rattle.papaya_pairs.proofs.Orders.{apart_each, apart_same, found_same, keeps_same, kept_in_any_order, left_same, none_left}
 
 module _ {K V : Type 0} (same : K → K → Bool) (hash : K → ℕ) (setting : Setting) (m : Mem (Node K V)) (xs : List (K × V)) (h : Holds same hash setting m xs) where
   stands : Stands same hash m setting h.chart h.blocks
@@ -89,10 +89,6 @@ pub all_shown_as : {K V : Type 0} (m : Mem (Node K V)) (setting : Setting) (tabl
     → xs ≡ pairs_shown m setting tables
 unfolding pairs_shown
 all_shown_as m setting tables xs is = is
-
--- with further pairs behind
-pub left_and : {K V : Type 0} (keys : K → Bool) (xs ys zs : List (K × V)) → IsPermutation xs ys → IsPermutation (left_by keys xs ++ zs) (left_by keys ys ++ zs)
-left_and keys xs ys zs same = IsPermutation-append_left zs (left_by keys xs) (left_by keys ys) (left_same keys xs ys same)
 
 -- after a change
 module _ {K V : Type 0} (same : K → K → Bool) (hash : K → ℕ) (setting : Setting) (m : Mem (Node K V)) where

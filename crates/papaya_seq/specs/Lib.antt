@@ -1,11 +1,5 @@
 pub mod Json
 pub mod Maps
-pub mod Orders
-pub mod Equals
-pub mod Puts
 pub mod Sets
-pub mod Walks
 pub mod Lent
 pub mod Pairs
-pub mod Each
-pub mod ReadBack

@@ -2,7 +2,7 @@
 ghost use Rattle.std.specs.Prelude.{◌≡◌, [], IfOk, IfErr, OnOk};
 ghost use Rattle.std.specs.List.Sorted.{IsPermutation};
 ghost use Rattle.papaya_late.specs.Faults.{IsRoom};
-ghost use Rattle.papaya_seq.specs.Puts.{ClonesAreSame, IsCloneOf, PutsClones, put, put_all};
+ghost use Rattle.papaya_pairs.specs.Puts.{ClonesAreSame, IsCloneOf, PutsClones, put, put_all};
 
 use crate::map::HashMap;
 use seize_words::Fault;

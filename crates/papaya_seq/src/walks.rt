@@ -1,11 +1,12 @@
-//! Walks over the pairs of a map for one owner. They read words and values, and complete no resize.
-ghost use Rattle.std.specs.Prelude.{◌≡◌};
+//! Walks over the pairs of a map for one owner, its keys and its values. They read words and values, and complete no resize.
+ghost use Rattle.std.specs.Prelude.{◌≡◌, length};
 ghost use Rattle.std.specs.List.{IsDistinct};
-ghost use Rattle.std.specs.Map.{keys_of};
+ghost use Rattle.std.specs.Map.{keys_of, values_of};
+ghost use Rattle.papaya_shown.specs.Columns.{keys_to_come, values_to_come};
 ghost use Rattle.papaya_shown.specs.Coming.{pairs_to_come, can_go_on};
 
 use crate::map::HashMap;
-use papaya_shown::{Pairs, pairs_of};
+use papaya_shown::{Keys, Pairs, Values, pairs_of};
 use std::hash::{BuildHasher, Hash};
 
 impl<K: Eq + Hash, V, S: BuildHasher> HashMap<K, V, S> {
@@ -16,5 +17,24 @@ impl<K: Eq + Hash, V, S: BuildHasher> HashMap<K, V, S> {
         ensures apart { IsDistinct K.eq (keys_of self.now.pairs) }
     {
         pairs_of(&self.resting.memory, self.resting.setting)
+    }
+
+    /// The keys, each once, in the order of `iter`. No two are equal.
+    pub fn keys(&self) -> Keys<'_, K, V>
+        ensures can { can_go_on result.pairs }
+        ensures keys { keys_to_come result ≡ keys_of self.now.pairs }
+        ensures count { length (keys_to_come result) ≡ length self.now.pairs }
+        ensures apart { IsDistinct K.eq (keys_of self.now.pairs) }
+    {
+        Keys { pairs: self.iter() }
+    }
+
+    /// The values, in the order of `iter`: that of each pair once, also where they are equal.
+    pub fn values(&self) -> Values<'_, K, V>
+        ensures can { can_go_on result.pairs }
+        ensures values { values_to_come result ≡ values_of self.now.pairs }
+        ensures count { length (values_to_come result) ≡ length self.now.pairs }
+    {
+        Values { pairs: self.iter() }
     }
 }

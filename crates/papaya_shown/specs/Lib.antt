@@ -2,3 +2,4 @@ pub mod Shown
 pub mod Chain
 pub mod Lent
 pub mod Coming
+pub mod Columns

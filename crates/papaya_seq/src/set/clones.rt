@@ -2,7 +2,7 @@
 ghost use Rattle.std.specs.Prelude.{◌≡◌, [], IfOk, IfErr, OnOk};
 ghost use Rattle.std.specs.List.Sorted.{IsPermutation};
 ghost use Rattle.papaya_late.specs.Faults.{IsRoom};
-ghost use Rattle.papaya_seq.specs.Puts.{ClonesAreSame};
+ghost use Rattle.papaya_pairs.specs.Puts.{ClonesAreSame};
 ghost use Rattle.papaya_seq.specs.Sets.{PutsElementClones, put_in, put_all_in};
 
 use super::HashSet;

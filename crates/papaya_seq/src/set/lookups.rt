@@ -3,10 +3,10 @@ ghost use Rattle.std.specs.Prelude.{◌≡◌, ◌==◌, length, is_some, find};
 ghost use Rattle.std.specs.List.{IsDistinct};
 ghost use Rattle.std.specs.Option.{option_copied};
 ghost use Rattle.papaya_shown.specs.Coming.{can_go_on};
-ghost use Rattle.papaya_seq.specs.Walks.{keys_to_come};
+ghost use Rattle.papaya_shown.specs.Columns.{keys_to_come};
 
 use super::HashSet;
-use crate::columns::Keys;
+use papaya_shown::Keys;
 use papaya_tables::Equivalent;
 use std::hash::{BuildHasher, Hash};
 

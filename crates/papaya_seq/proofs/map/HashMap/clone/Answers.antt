@@ -5,8 +5,8 @@ use Rattle.std.proofs.lemmas.List.Sorted.{IsPermutation-refl}
 use Rattle.std.specs.List.Sorted.{IsPermutation}
 use Rattle.papaya_shown.specs.Coming.{pairs_to_come}
 use Rattle.papaya_shown.specs.Lent.{pair_shown}
-use Rattle.papaya_seq.specs.Puts.{PutsClones}
-use Rattle.papaya_seq.proofs.Puts.{clones_more, clones_same_apart}
+use Rattle.papaya_pairs.specs.Puts.{PutsClones}
+use Rattle.papaya_pairs.proofs.Puts.{clones_more, clones_same_apart}
 use Rattle.papaya_seq.proofs.Walked.{shown_all}
 use Rattle.papaya_seq.proofs.map.HashMap.clone.Goals as goal
 

@@ -1,7 +1,7 @@
 -- Clones of what the walk has shown so far are put.
 use Rattle.std.specs.Prelude.{◌≡◌, map}
 use Rattle.papaya_shown.specs.Lent.{pair_shown}
-use Rattle.papaya_seq.specs.Puts.{PutsClones}
+use Rattle.papaya_pairs.specs.Puts.{PutsClones}
 use Rattle.papaya_seq.proofs.map.HashMap.clone.Given as goal
 
 abbrev pub invariant-loop-key : goal.invariant-loop-key

@@ -3,8 +3,8 @@ use Rattle.std.proofs.Common.{[], ◌∷◌, ◌++◌, ◌∙◌, sym, subst}
 use Rattle.std.proofs.iter.Next.{Yields-more}
 use Rattle.std.proofs.lemmas.List.Sorted.{IsPermutation-trans}
 use Rattle.std.specs.Iterator.{Yields}
-use Rattle.papaya_seq.proofs.Puts.{puts_more}
-use Rattle.papaya_seq.specs.Puts.{put_all}
+use Rattle.papaya_pairs.proofs.Puts.{puts_more}
+use Rattle.papaya_pairs.specs.Puts.{put_all}
 use Rattle.papaya_seq.proofs.map.HashMap.extend.Goals as goal
 
 pub loop-key-preserved : goal.loop-key-preserved

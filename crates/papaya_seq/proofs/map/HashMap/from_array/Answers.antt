@@ -2,8 +2,8 @@
 use Rattle.std.proofs.Common.{[], ◌∷◌, ◌++◌, rules, subst}
 use Rattle.std.proofs.lemmas.List.{take_all}
 use Rattle.std.proofs.lemmas.List.Elements.{all_zip_more}
-use Rattle.papaya_seq.specs.Puts.{IsCloneOf, PutsClones}
-use Rattle.papaya_seq.proofs.Puts.{clones_same, puts_more}
+use Rattle.papaya_pairs.specs.Puts.{IsCloneOf, PutsClones}
+use Rattle.papaya_pairs.proofs.Puts.{clones_same, puts_more}
 use Rattle.papaya_seq.proofs.map.HashMap.from_array.Goals as goal
 
 pub loop-item-preserved : goal.loop-item-preserved

@@ -1,6 +1,6 @@
 -- Clones of so many items are put.
 use Rattle.std.specs.Prelude.{take}
-use Rattle.papaya_seq.specs.Puts.{PutsClones}
+use Rattle.papaya_pairs.specs.Puts.{PutsClones}
 use Rattle.papaya_seq.proofs.map.HashMap.from_array.Given as goal
 
 abbrev pub invariant-loop-item : goal.invariant-loop-item

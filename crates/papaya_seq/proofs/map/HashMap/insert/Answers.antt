@@ -1,7 +1,8 @@
 -- By what the insertion comes to in the order in which its pairs were stored.
 use Rattle.papaya_seq.proofs.Kept.{either_rested, either_shown, holds_err, holds_ok}
-use Rattle.papaya_seq.proofs.Shows.{counts, left_and, seen_first, seen_held, shows_done, shows_refused, told_same}
+use Rattle.papaya_seq.proofs.Shows.{counts, seen_first, seen_held, shows_done, shows_refused, told_same}
 use Rattle.papaya_seq.proofs.map.HashMap.insert.Goals as goal
+use Rattle.papaya_pairs.proofs.Orders.{left_and}
 
 pub insert-requires : goal.insert-requires
 insert-requires g c = c.self.invariant

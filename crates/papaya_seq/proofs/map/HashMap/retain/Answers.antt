@@ -1,5 +1,5 @@
 -- By what the retaining comes to in the order in which its pairs were stored.
-use Rattle.papaya_owned.specs.Retaining.{KeepsOf}
+use Rattle.papaya_sifts.specs.Retaining.{KeepsOf}
 use Rattle.papaya_resting.proofs.Lasts.{none_in, none_named}
 use Rattle.papaya_seq.proofs.Shows.{counts, seen_held, shows_kept, shows_passing, shows_refused, some_rest}
 use Rattle.papaya_seq.proofs.map.HashMap.retain.Goals as goal

@@ -1,5 +1,5 @@
 -- By what the removal comes to in the order in which its pairs were stored.
-use Rattle.papaya_seq.proofs.Orders.{left_same}
+use Rattle.papaya_pairs.proofs.Orders.{left_same}
 use Rattle.papaya_seq.proofs.Kept.{either_rested, either_shown, holds_err, holds_ok}
 use Rattle.papaya_seq.proofs.Shows.{counts, seen_first, seen_held, shows_done, shows_refused, told_same}
 use Rattle.papaya_seq.proofs.map.HashMap.take.Goals as goal

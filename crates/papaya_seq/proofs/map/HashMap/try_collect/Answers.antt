@@ -2,7 +2,7 @@
 use Rattle.std.proofs.Common.{sym, subst}
 use Rattle.std.specs.Iterator.{Drains, IsFinite}
 use Rattle.std.specs.List.Sorted.{IsPermutation}
-use Rattle.papaya_seq.specs.Puts.{put_all}
+use Rattle.papaya_pairs.specs.Puts.{put_all}
 use Rattle.papaya_seq.proofs.map.HashMap.try_collect.Goals as goal
 
 pub extend-requires : goal.extend-requires

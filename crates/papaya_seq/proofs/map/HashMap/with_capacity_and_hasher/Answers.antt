@@ -3,7 +3,7 @@ use Rattle.seize_alone.specs.Alone.{nothing_yet, registered}
 use Rattle.std.proofs.Common.{true}
 use Rattle.papaya_resting.proofs.Makes.{nothing_happened, taken_inside}
 use Rattle.papaya_resting.proofs.Lasts.{none_named}
-use Rattle.papaya_seq.proofs.Orders.{none_left}
+use Rattle.papaya_pairs.proofs.Orders.{none_left}
 use Rattle.papaya_seq.proofs.Shows.{counts, shown}
 use Rattle.papaya_seq.proofs.map.HashMap.with_capacity_and_hasher.Goals as goal
 

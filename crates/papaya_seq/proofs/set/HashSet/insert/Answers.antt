@@ -3,7 +3,7 @@ use Rattle.std.specs.Prelude.{◌≡◌, find, is_none, is_some, IfOk, OnOk, OnE
 use Rattle.std.specs.List.Sorted.{IsPermutation}
 use Rattle.std.specs.Map.{keys_of}
 use Rattle.std.proofs.Common.{◌∙◌, ap, sym, subst}
-use Rattle.papaya_seq.specs.Puts.{put}
+use Rattle.papaya_pairs.specs.Puts.{put}
 use Rattle.papaya_seq.specs.Sets.{Set, put_in}
 use Rattle.papaya_seq.proofs.Sets.{keys_are_found, keys_in_order, keys_put, new_so}
 use Rattle.papaya_seq.proofs.set.HashSet.insert.Goals.{in-Ok, in-Err}

@@ -1,0 +1,6 @@
+-- Lemmas on lists of pairs.
+pub mod Equals
+pub mod Laws
+pub mod Orders
+pub mod Puts
+pub mod ReadBack

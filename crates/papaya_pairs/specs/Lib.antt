@@ -1,0 +1,5 @@
+pub mod Orders
+pub mod Equals
+pub mod Puts
+pub mod Each
+pub mod ReadBack

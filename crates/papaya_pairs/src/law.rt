@@ -1,0 +1,42 @@
+//! What is promised of pairs that are listed in another order, as those of a map are after a change, of a pair that is found, and of sets that are read.
+ghost use Rattle.papaya_pairs.specs.Each.{FoundPasses};
+ghost use Rattle.papaya_pairs.specs.Equals.{AgreeAtEachKey, AgreeInAnyOrder};
+ghost use Rattle.papaya_pairs.specs.Puts.{LastIsFound};
+ghost use Rattle.papaya_pairs.specs.ReadBack.{OneArrayOneSet};
+ghost use Rattle.papaya_pairs.specs.Orders.{FoundInAnyOrder, LeftInAnyOrder, ApartInAnyOrder, PutIsFound, OthersStay};
+
+/// Where no two keys are equal, the pair of a key is the same one in any order. So is what is left without it, but for the order, and no two
+/// keys are equal there.
+pub fn order_makes_no_difference<K, V>()
+    ensures found { FoundInAnyOrder K V }
+    ensures left { LeftInAnyOrder K V }
+    ensures apart { ApartInAnyOrder K V }
+{}
+
+/// Maps are equal just where they have pairs with equal values at the same keys, also in another order.
+pub fn equality_is_of_pairs<K, V>()
+    ensures each { AgreeAtEachKey K V }
+    ensures in_any_order { AgreeInAnyOrder K V }
+{}
+
+/// Of pairs that are put one after another, the last of each key is found.
+pub fn the_last_is_found<K, V>()
+    ensures { LastIsFound K V }
+{}
+
+/// A pair that was put in the place of that of its key is found by its key, and by other keys is found what was found before. Where a pair was
+/// removed, none is found by its key, and by other keys what was found before.
+pub fn changes_are_found<K, V>()
+    ensures put { PutIsFound K V }
+    ensures others { OthersStay K V }
+{}
+
+/// The pair that is found has a key that passes the test. What holds of every pair is kept by each call: the lemmas of `specs/Each` say so of any property.
+pub fn what_is_found_passes<K, V>()
+    ensures { FoundPasses K V }
+{}
+
+/// Sets that one array has are equal: what is read of the array that a set was written as equals that set.
+pub fn sets_are_read_back<K>()
+    ensures { OneArrayOneSet K }
+{}

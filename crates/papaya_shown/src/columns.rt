@@ -1,0 +1,54 @@
+//! Walks over the keys of a map, and over its values.
+ghost use Rattle.std.specs.Iterator.{YieldsFirstRef, item_count};
+ghost use Rattle.papaya_shown.specs.Coming.{can_go_on};
+ghost use Rattle.papaya_shown.specs.Columns.{keys_to_come, values_to_come};
+
+use crate::pairs::Pairs;
+
+/// The keys of a map, one after another.
+#[derive(Drop)]
+pub struct Keys<'a, K, V> {
+    /// Its pairs that are still to come.
+    pub pairs: Pairs<'a, K, V>,
+}
+
+impl<'a, K, V> Iterator for Keys<'a, K, V> {
+    type Item = &'a K;
+
+    ghost can_next = { λ it. can_go_on it.pairs };
+
+    ghost next_gives = { YieldsFirstRef keys_to_come };
+
+    ghost remaining = { item_count keys_to_come };
+
+    fn next(&mut self) -> Option<&'a K> {
+        match self.pairs.next() {
+            Some((key, _)) => Some(key),
+            None => None,
+        }
+    }
+}
+
+/// The values of a map, one after another.
+#[derive(Drop)]
+pub struct Values<'a, K, V> {
+    /// Its pairs that are still to come.
+    pub pairs: Pairs<'a, K, V>,
+}
+
+impl<'a, K, V> Iterator for Values<'a, K, V> {
+    type Item = &'a V;
+
+    ghost can_next = { λ it. can_go_on it.pairs };
+
+    ghost next_gives = { YieldsFirstRef values_to_come };
+
+    ghost remaining = { item_count values_to_come };
+
+    fn next(&mut self) -> Option<&'a V> {
+        match self.pairs.next() {
+            Some((_, value)) => Some(value),
+            None => None,
+        }
+    }
+}

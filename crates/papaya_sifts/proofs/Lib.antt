@@ -1,0 +1,2 @@
+-- Lemmas on what one owner sweeps.
+pub mod Over

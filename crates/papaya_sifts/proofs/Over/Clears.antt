@@ -1,0 +1,60 @@
+-- A clearing of one owner's map, from the list of pairs to the list with none.
+use Rattle.std.specs.Prelude.{◌≡◌, ℕ, Bool, List, [], Result, Ok, Err}
+use Rattle.std.proofs.Common.{sym, subst, refl}
+use denote.Ref.{Bor}
+use Rattle.seize_words.specs.Mem.{Mem}
+use Rattle.seize_words.specs.declared.fault.Fault.{Fault}
+use Rattle.papaya_tables.specs.declared.node.Node.{Node}
+use Rattle.papaya_tables.specs.declared.setting.Setting.{Setting}
+use Rattle.papaya_sweeps.specs.SweepPoints.{sweeping}
+use Rattle.papaya_sweeps.specs.declared.sweep.Purpose.TheVariants.{Walks, Clears}
+use Rattle.papaya_sweeps.specs.declared.sweep.Sweep.{Sweep}
+use Rattle.papaya_late.specs.Faults.{IsRoom, RoomInSweeping}
+use Rattle.papaya_owned.specs.Ending.{Ends, RunsTo}
+use Rattle.papaya_owned.specs.Owned.{Holds}
+use Rattle.papaya_sifts.specs.Sweeping.{ClearedBy, over_pairs_plan}
+use Rattle.papaya_sifts.specs.declared.sweeping.OverPairs.{OverPairs}
+use Rattle.papaya_sifts.specs.declared.sweeping.Pause.{Pause}
+use Rattle.papaya_sifts.specs.declared.sweeping.Pause.TheVariants as pause
+use Rattle.papaya_sifts.proofs.Over.Refusals.{runs_room}
+use Rattle.papaya_sifts.proofs.Over.Sweeps.{nothing, ComesTo, Under, begins_under, under_ends, comes_to, refused_holds, cleared_holds, never_asks}
+
+clears_not_walks : Clears ≡ Walks → ⊥
+clears_not_walks e = cc e
+
+module _ {K V S : Type 0} (same : K → K → Bool) (hashes : S → K → ℕ) (b : Bor S) (setting : Setting) (m0 : Mem (Node K V)) (xs : List (K × V)) (h : Holds same (hashes b.now) setting m0 xs)
+    (p : Sweep) (is : p ≡ sweeping setting Clears) where
+  begun : Under same hashes b setting m0 xs h Clears clears_not_walks nothing (record { sweep = p; hasher = b }) m0
+  begun =
+      subst (λ (x : Sweep). Under same hashes b setting m0 xs h Clears clears_not_walks nothing (record { sweep = x; hasher = b }) m0) (sym is)
+      (begins_under same hashes b setting m0 xs h Clears clears_not_walks)
+
+  pub clearing_ends : Ends (over_pairs_plan {V = V} hashes) (record { sweep = p; hasher = b }) m0
+  clearing_ends = under_ends same hashes b setting m0 xs h Clears clears_not_walks nothing _ m0 begun
+
+  cleared : (x : OverPairs S) (m : Mem (Node K V)) (result : Result Pause Fault) → ComesTo same hashes b setting m0 xs h Clears clears_not_walks nothing x m result → ClearedBy same (hashes b.now) setting m xs result
+  cleared x m (Ok pause.Ended) c = cleared_holds same hashes b setting m0 xs h Clears clears_not_walks refl nothing c.0 m c.1
+  cleared x m (Ok (pause.Asks word)) c = never_asks same hashes b setting m0 xs h Clears clears_not_walks refl nothing x m word c
+  cleared x m (Ok pause.Ready) c = c
+  cleared x m (Ok (pause.Shows word)) c = c
+  cleared x m (Err fault) c = refused_holds same hashes b setting m0 xs h Clears clears_not_walks nothing c.0 m c.1
+
+  pub clearing_by : (x : OverPairs S) (m : Mem (Node K V)) (result : Result Pause Fault) → RunsTo (over_pairs_plan {V = V} hashes) (record { sweep = p; hasher = b }) m0 x m result → ClearedBy same (hashes b.now) setting m xs result
+  clearing_by x m result runs = cleared x m result (comes_to same hashes b setting m0 xs h Clears clears_not_walks nothing _ m0 x m result runs begun)
+
+  done_by : (m : Mem (Node K V)) (end : Pause) → ClearedBy same (hashes b.now) setting m xs (Ok end) → Holds same (hashes b.now) setting m []
+  done_by m pause.Ended c = c
+  done_by m pause.Ready c = absurd c
+  done_by m (pause.Shows word) c = absurd c
+  done_by m (pause.Asks word) c = absurd c
+
+  -- so it is where it is done, however it says so
+  pub clearing_done : (x : OverPairs S) (m : Mem (Node K V)) (end : Pause) → RunsTo (over_pairs_plan {V = V} hashes) (record { sweep = p; hasher = b }) m0 x m (Ok end) → Holds same (hashes b.now) setting m []
+  clearing_done x m end runs = done_by m end (clearing_by x m (Ok end) runs)
+
+  pub clearing_refused : (x : OverPairs S) (m : Mem (Node K V)) (fault : Fault) → RunsTo (over_pairs_plan {V = V} hashes) (record { sweep = p; hasher = b }) m0 x m (Err fault) → Holds same (hashes b.now) setting m xs
+  clearing_refused x m fault runs = clearing_by x m (Err fault) runs
+
+  -- and it is for room
+  pub clearing_faults : (x : OverPairs S) (m : Mem (Node K V)) (fault : Fault) → RunsTo (over_pairs_plan {V = V} hashes) (record { sweep = p; hasher = b }) m0 x m (Err fault) → IsRoom fault
+  clearing_faults x m fault runs = (runs_room hashes (record { sweep = p; hasher = b }) m0 x m (Err fault) runs (subst (λ (y : Sweep). RoomInSweeping y.stands) (sym is) tt)).1

@@ -1,0 +1,2 @@
+pub mod Retaining
+pub mod Sweeping

@@ -1,0 +1,39 @@
+-- What a step of a sweep's machine does, and what a whole sweep comes to.
+use Rattle.std.specs.Prelude.{ℕ, Bool, List, [], Result, Ok, Err}
+use Rattle.seize_words.specs.Mem.{Mem}
+use Rattle.seize_words.specs.Plan.{Plan, plan_as}
+use Rattle.seize_words.specs.declared.fault.Fault.{Fault}
+use Rattle.seize.specs.declared.progress.Progress.{Progress}
+use Rattle.seize.specs.declared.progress.Progress.TheVariants as progress
+use Rattle.papaya_tables.specs.declared.node.Node.{Node}
+use Rattle.papaya_tables.specs.declared.setting.Setting.{Setting}
+use Rattle.papaya_sweeps.specs.Sweep.{sweep_plan}
+use Rattle.papaya_sweeps.specs.declared.sweep.Sweep.{Sweep}
+use Rattle.papaya_sweeps.specs.declared.sweep.Swept.{Swept}
+use Rattle.papaya_sweeps.specs.declared.sweep.Swept.TheVariants as swept
+use Rattle.papaya_owned.specs.Owned.{Holds}
+use Rattle.papaya_sifts.specs.declared.sweeping.OverPairs.{OverPairs}
+use Rattle.papaya_sifts.specs.declared.sweeping.Pause.{Pause}
+use Rattle.papaya_sifts.specs.declared.sweeping.Pause.TheVariants as pause
+
+-- after a step of its sweep, by what that told
+abbrev pub over_pairs_settled : {S T : Type 0} → OverPairs S → Swept T → OverPairs S × Progress Pause
+over_pairs_settled u swept.Ready = (u, progress.Done pause.Ready)
+over_pairs_settled u (swept.Pair word) = (u, progress.Done (pause.Shows word))
+over_pairs_settled u (swept.Asks word) = (u, progress.Done (pause.Asks word))
+over_pairs_settled u swept.Done = (u, progress.Done pause.Ended)
+over_pairs_settled u (swept.Refused fault) = (u, progress.Refused fault)
+over_pairs_settled u _ = (u, progress.Goes)
+
+module _ {K V S : Type 0} where
+  abbrev pub over_pairs_after : OverPairs S → Sweep × Swept (Node K V) → OverPairs S × Progress Pause
+  over_pairs_after u end = over_pairs_settled (record u { sweep = end.0 }) end.1
+
+  abbrev pub over_pairs_plan : (S → K → ℕ) → OverPairs S → Plan (Node K V) (OverPairs S × Progress Pause)
+  over_pairs_plan hashes u = plan_as (over_pairs_after u) (sweep_plan (hashes u.hasher.now) u.sweep)
+
+-- What a clearing has come to: the map has no pair, or it was refused, and has the same pairs.
+abbrev pub ClearedBy : {K V : Type 0} → (K → K → Bool) → (K → ℕ) → Setting → Mem (Node K V) → List (K × V) → Result Pause Fault → Type 0
+ClearedBy same hash setting m xs (Ok pause.Ended) = Holds same hash setting m []
+ClearedBy same hash setting m xs (Ok _) = ⊥
+ClearedBy same hash setting m xs (Err fault) = Holds same hash setting m xs
