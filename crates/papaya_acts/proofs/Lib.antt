@@ -9,3 +9,4 @@ mod Counts
 mod ExecutorsBegin
 mod Executors
 mod Samples
+mod Reclaiming
