@@ -126,6 +126,7 @@ module _ {K V S : Type 0} (same : K → K → Bool) (hash : K → ℕ) (e e2 : E
 
   pub others_are_acts : OthersAreActs same hash e e2 s i
   others_are_acts = record {
+    making_begins = λ given places leads lawful power batches mask some sized. (_, (refl, refl), (leads lawful power batches mask some sized).1);
     making = making;
     ending_begins = λ m leads none. (let to = leads none in (_, (to.0, to.1, refl, refl), to.4));
     ending = ending;

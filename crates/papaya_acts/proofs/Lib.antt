@@ -9,3 +9,5 @@ mod Counts
 mod ExecutorsBegin
 mod Executors
 mod Samples
+mod Untrue
+mod Reclaiming

@@ -1,13 +1,16 @@
 -- What an executor does, it does by acts: where it is, its acts have led.
-use Rattle.std.specs.Prelude.{◌≡◌, ℕ, Bool, Some, Result}
+use Rattle.std.specs.Prelude.{◌≡◌, ℕ, ◌+◌, ◌<◌, ◌≤◌, ◌^◌, length, max, Bool, Some, Result}
+use Rattle.std.specs.Int.{IsPowerOfTwo}
 use Rattle.seize.specs.declared.progress.Progress.{Progress}
 use Rattle.seize.specs.declared.rows.settle.Settled.{Settled}
 use Rattle.seize_acts.specs.Answers.{Grant}
+use Rattle.papaya_tables.specs.Lengths.{IsTableLen}
 use Rattle.papaya_tables.specs.declared.node.Node.{Node}
 use Rattle.papaya_tables.specs.declared.setting.Setting.{Setting}
 use Rattle.papaya_raw.specs.declared.machines.asking.Reply.{Reply}
 use Rattle.papaya_raw.specs.declared.machines.machine.Machine.{Machine}
 use Rattle.papaya_raw.specs.declared.machines.progress.Progress.{Progress as CallProgress}
+use Rattle.papaya_points.specs.Steps.{AreLawful}
 use Rattle.papaya_callers.specs.Together.{UnderWay}
 use Rattle.papaya_finishes.specs.Endings.{Finishing}
 use Rattle.papaya_finishes.specs.Machines.{machine_of}
@@ -23,12 +26,13 @@ use Rattle.papaya_executor.specs.Beginning.{Begins, BeginLeads}
 use Rattle.papaya_executor.specs.Ending.{NoCallOn, EndingBegins, EndingLeads}
 use Rattle.papaya_executor.specs.IsAt.{Scene, IsAt, slot_of, use_at, work_of}
 use Rattle.papaya_executor.specs.Making.{MakingLeads}
+use Rattle.papaya_executor.specs.MakingBegins.{MakingBegins}
 use Rattle.papaya_executor.specs.OnSlots.{MayBegin, RowBegins, RowLeads}
 use Rattle.papaya_executor.specs.Replying.{ReplyLeads, AskLeads, StopLeads}
 use Rattle.papaya_executor.specs.Rows.{request_of}
 use Rattle.papaya_executor.specs.Stepping.{StepLeads}
 use Rattle.papaya_acts.specs.Acts.{Act, Answer, Nothing, OfCall, OfReply, OfAsking, OfMaking, OfEnding, Wanted}
-use Rattle.papaya_acts.specs.Acts.{BeginsCall, StepsCall, TellsCall, AsksCall, StopsCall, StepsMaking, BeginsEnding, StepsEnding, BeginsRow, StepsRow}
+use Rattle.papaya_acts.specs.Acts.{BeginsCall, StepsCall, TellsCall, AsksCall, StopsCall, BeginsMaking, StepsMaking, BeginsEnding, StepsEnding, BeginsRow, StepsRow}
 use Rattle.papaya_acts.specs.Leads.{Led}
 
 module _ {K V S : Type 0} (same : K → K → Bool) (hash : K → ℕ) (e e2 : Executor K V S) (s : Scene K V) where
@@ -47,6 +51,9 @@ module _ {K V S : Type 0} (same : K → K → Bool) (hash : K → ℕ) (e e2 : E
 
   -- Of makings, of ends of maps, and of rows on slots.
   pub record OthersAreActs (i : ℕ) : Type 0 where
+    pub making_begins : (given : Setting) (places : ℕ) → MakingBegins same hash given places i s e e2 → AreLawful same hash → (power : IsPowerOfTwo given.initial)
+        → given.batch_size ≡ e.batch_size → given.mask + 1 < 2 ^ 64 → 0 < e.roots → (sized : max places 8 ≤ 2 ^ 48 → IsTableLen (max places 8))
+        → IsAct (BeginsMaking i (length e.maps.items) given places power sized) Nothing
     pub making : (told : Progress Setting) → MakingLeads same hash i told s e e2 → (b : Beginning K) → s.makers i ≡ Some b → (g : Grant) × IsAct (StepsMaking i g) (OfMaking told)
     pub ending_begins : (m : ℕ) → EndingBegins same hash m i s e e2 → NoCallOn e m → IsAct (BeginsEnding i m) Nothing
     pub ending : (told : Settled (Node K V)) → EndingLeads same hash i told s e e2 → (f : Finishing K V) → s.enders i ≡ Some f → (g : Grant) × IsAct (StepsEnding i g) (OfEnding told)

@@ -3,3 +3,4 @@ pub mod Leads
 pub mod Lists
 pub mod Counts
 pub mod Executors
+pub mod Reclaiming

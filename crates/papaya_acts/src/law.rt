@@ -2,6 +2,7 @@
 ghost use Rattle.std.specs.Prelude.{ℕ, Bool};
 ghost use Rattle.papaya_acts.specs.Counts.{CountingsAddUp, CountingsAnswerTheSum};
 ghost use Rattle.papaya_acts.specs.Executors.{ExecutorsAct};
+ghost use Rattle.papaya_acts.specs.Reclaiming.{ReclaimingIsByActs};
 ghost use Rattle.papaya_acts.specs.Lists.{Course, StepsAreActs, ListsDetermine};
 
 /// Any number of callers begin calls on any maps of one collector, in either mode, and take steps of them, tell them what they ask for, make and end maps, and
@@ -25,4 +26,10 @@ pub fn countings_answer_the_sum<K, V>()
 /// promises, it is then in the one to which an act leads, and tells what that tells.
 pub fn executors_act<K, V, S>()
     ensures acts { (same : K → K → Bool) (hash : K → ℕ) → ExecutorsAct V S same hash }
+{}
+
+/// And where nobody has anything under way, a caller that reclaims all does so by acts, too: each of its steps is one operation at most, computed from the
+/// memory and from what that was free to choose, and none is left out.
+pub fn reclaiming_is_by_acts<K, V>()
+    ensures acts { (same : K → K → Bool) (batch_size roots : ℕ) (slot : ℕ → ℕ) → ReclaimingIsByActs V same batch_size roots slot }
 {}
