@@ -1,4 +1,4 @@
-//! An element is put into a set for one owner, or removed from it.
+//! An element is put into a set for one owner, or removed from it, or room is made for more.
 ghost use Rattle.std.specs.Prelude.{◌≡◌, is_none, is_some, find, IfOk, IfErr, OnOk, OnErr};
 ghost use Rattle.std.specs.List.Sorted.{IsPermutation};
 ghost use Rattle.papaya_late.specs.Faults.{IsRoom};
@@ -39,5 +39,15 @@ impl<K: Eq + Hash + Drop, S: BuildHasher> HashSet<K, S> {
         ensures hasher { self.new.hasher ≡ self.old.hasher }
     {
         self.map.remove(asked)
+    }
+
+    /// Makes room for so many further elements beside those that it has. No element changes, only their order may. The faults are
+    /// `Fault::Capacity`, where that is too many, or the set has had too many tables, and `Fault::Memory`.
+    pub fn reserve(&mut self, additional: u64) -> Result<(), Fault>
+        ensures elements { IsPermutation self.new.elements self.old.elements }
+        ensures fault { IfErr result IsRoom }
+        ensures hasher { self.new.hasher ≡ self.old.hasher }
+    {
+        self.map.reserve(additional)
     }
 }

@@ -1,0 +1,91 @@
+#!/usr/bin/env python3
+"""Shows that what a map for one owner lends cannot be read once its next change has begun: such a program does not compile.
+
+    compile-fail/late_reads.py    compiles a program of functions that read early or late, and exits 1 if one that reads early is
+                                  refused, or one that reads late is not
+
+The program is compiled in a folder of its own beside links to this workspace's crates, and is not proved or run.
+"""
+import os
+import re
+import subprocess
+import sys
+import tempfile
+
+TOP = os.path.dirname(os.path.dirname(os.path.abspath(__file__)))
+NAME = "late_reads"
+HEAD = """//! Reads what a map lent before its next change, or after it began.
+#![tactic(auto)]
+
+use papaya_seq::{HashMap, HashSet};
+use std::hash::{BuildHasherDefault, DefaultHasher};
+use std::io;
+
+type Map = HashMap<u64, u64, BuildHasherDefault<DefaultHasher>>;
+type Set = HashSet<u64, BuildHasherDefault<DefaultHasher>>;
+"""
+# what is lent, by a call of a map or of a set, with a type to hold it, and how it is read
+LENT = [
+    ("get", "map: &mut Map", "map.get(&1)", "lent.is_some_and(|value| *value == 2)"),
+    ("get_key_value", "map: &mut Map", "map.get_key_value(&1)", "lent.is_some_and(|pair| *pair.1 == 2)"),
+    ("iter", "map: &mut Map", "map.iter().next()", "lent.is_some_and(|pair| *pair.1 == 2)"),
+    ("keys", "map: &mut Map", "map.keys().next()", "lent.is_some_and(|key| *key == 1)"),
+    ("values", "map: &mut Map", "map.values().next()", "lent.is_some_and(|value| *value == 2)"),
+    ("get_of_a_set", "map: &mut Set", "map.get(&1)", "lent.is_some_and(|element| *element == 1)"),
+]
+CHANGE = "let _ = map.clear();"
+MAIN = """
+fn main(rt: HostRuntime) -> io::Result<()> {
+    if let (Ok(mut map), Ok(mut set)) = (Map::new(rt.alloc()), Set::new(rt.alloc())) {
+%s    }
+    Ok(())
+}
+"""
+
+
+def program():
+    """The program, and the lines of its changes, by the names of their functions: early reads first."""
+    text, early, late = HEAD, {}, {}
+    for name, taken, call, read in LENT:
+        for kind, body in ((early, [f"let lent = {call};", f"let is = {read};", CHANGE, "is"]), (late, [f"let lent = {call};", CHANGE, read])):
+            of = f"{name}_{'early' if kind is early else 'late'}"
+            text += f"\nfn {of}({taken}) -> bool {{\n" + "".join(f"    {line}\n" for line in body) + "}\n"
+            kind[of] = text[: text.rindex(CHANGE)].count("\n") + 1
+    calls = "".join(f"        let _ = {of}(&mut {'set' if 'set' in of else 'map'});\n" for of in [*early, *late])
+    return text + MAIN % calls, early, late
+
+
+def compiled(text):
+    """What the compiler says of this program, which stands on the map for one owner."""
+    with tempfile.TemporaryDirectory(prefix="late-reads-") as room:
+        with open(f"{TOP}/crates.txt", encoding="utf-8") as lines, open(f"{room}/crates.txt", "w", encoding="utf-8") as to:
+            to.write(lines.read() + f"{NAME}: papaya_seq\n")
+        os.symlink(f"{TOP}/HANDLES", f"{room}/HANDLES")
+        for crate in os.listdir(f"{TOP}/crates"):
+            os.makedirs(f"{room}/crates/{crate}")
+            for part in ("src", "specs", "proofs"):
+                if os.path.isdir(f"{TOP}/crates/{crate}/{part}"):
+                    os.symlink(f"{TOP}/crates/{crate}/{part}", f"{room}/crates/{crate}/{part}")
+        os.makedirs(f"{room}/crates/{NAME}/src")
+        with open(f"{room}/crates/{NAME}/src/main.rt", "w", encoding="utf-8") as it:
+            it.write(text)
+        ran = subprocess.run(["rt", "try"], cwd=f"{room}/crates/{NAME}", stdout=subprocess.PIPE, stderr=subprocess.STDOUT, text=True, check=False)
+        return ran.stdout
+
+
+def main():
+    text, early, late = program()
+    said = compiled(text)
+    errors = re.findall(r"^src/main\.rt:(\d+):\d+: error\[([\w-]+)\]", said, re.M)
+    refused = {int(line) for line, code in errors if code == "borrow-e0502"}
+    wrong = [f"{name} compiles" for name, line in late.items() if line not in refused]
+    wrong += [f"{name} is refused" for name, line in early.items() if line in refused]
+    wrong += [f"line {line}: {code}" for line, code in errors if int(line) not in {*early.values(), *late.values()} or code != "borrow-e0502"]
+    if wrong or not errors:
+        print(said)
+        sys.exit(f"late reads: {'; '.join(wrong) or 'nothing was refused'}")
+    print(f"late reads: {len(late)} refused, {len(early)} early ones compile")
+
+
+if __name__ == "__main__":
+    main()

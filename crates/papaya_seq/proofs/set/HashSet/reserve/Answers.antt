@@ -1,0 +1,12 @@
+-- By the map's keys.
+use Rattle.std.specs.List.Sorted.{IsPermutation}
+use Rattle.std.specs.Map.{keys_of}
+use Rattle.std.proofs.Common.{subst}
+use Rattle.papaya_seq.specs.Sets.{Set}
+use Rattle.papaya_seq.proofs.Sets.{keys_in_order}
+use Rattle.papaya_seq.proofs.set.HashSet.reserve.Goals as goal
+
+pub returns-clause-elements : goal.returns-clause-elements
+returns-clause-elements g c =
+    let new = c.reserve.new.self.pairs in
+    subst (λ (x : Set g.row.K.Denot g.row.S.Denot). IsPermutation (keys_of new) x.elements) c.self.view_is (keys_in_order new c.self.inside.map.pairs c.reserve.ensures.pairs)
