@@ -28,7 +28,6 @@ use Rattle.papaya_callers.specs.Together.{IsBegun, in_slot}
 use Rattle.papaya_callers.proofs.Asked.By.{block_of_word}
 use Rattle.papaya_whole.specs.AtEnd.{AnswersSo}
 use Rattle.papaya_whole.specs.Contents.{ContentsBelow, AreContents, HasRun, pair_for, without}
-use Rattle.papaya_whole.specs.Owner.{AtRest}
 use Rattle.papaya_whole.proofs.Contents.Answers.{present_below}
 use Rattle.papaya_whole.proofs.Contents.AtEnd.{answers_tell_the_pairs}
 use Rattle.papaya_whole.proofs.Contents.Below.{below_stays, has_pair}
