@@ -1,5 +1,5 @@
 -- A call that asks, for one owner, from its beginning to its question, or to its end, where it asks nothing.
-use Rattle.std.specs.Prelude.{◌≡◌, ◌≢◌, ℕ, Bool, true, false, List, [], ◌∷◌, Option, Some, None, Result, Ok, Err, ◌⊎◌}
+use Rattle.std.specs.Prelude.{◌≡◌, ℕ, Bool, true, List, [], Option, Some, None, Result, Ok, Err, ◌⊎◌}
 use Rattle.std.proofs.Common.{refl, sym, ◌∙◌, ap, subst, inl, inr}
 use denote.Ref.{Bor}
 use Rattle.seize_words.specs.Mem.{Mem}
@@ -10,47 +10,30 @@ use Rattle.seize_words.specs.declared.fault.Fault.TheVariants.{RemoveNothing}
 use Rattle.papaya_tables.specs.declared.node.Node.{Node}
 use Rattle.papaya_tables.specs.declared.node.Node.TheVariants as node
 use Rattle.papaya_tables.specs.declared.setting.Setting.{Setting}
-use Rattle.papaya_raw.specs.CallAsks.{replied}
 use Rattle.papaya_raw.specs.declared.machines.answer.KeyAnswer.{KeyAnswer}
 use Rattle.papaya_raw.specs.declared.machines.answer.KeyAnswer.TheVariants as answers
-use Rattle.papaya_raw.specs.declared.machines.answer.Missing.TheVariants as missing
-use Rattle.papaya_raw.specs.declared.machines.answer.There.TheVariants as there
-use Rattle.papaya_raw.specs.declared.machines.asking.Asking.{Asking}
-use Rattle.papaya_raw.specs.declared.machines.asking.Asking.TheVariants as asking
-use Rattle.papaya_raw.specs.declared.machines.asking.Reply.{Reply}
-use Rattle.papaya_raw.specs.declared.machines.asking.Reply.TheVariants as reply
-use Rattle.papaya_raw.specs.declared.machines.asking.Takes.TheVariants as takes
-use Rattle.papaya_raw.specs.declared.machines.asking.Told.TheVariants as tells
 use Rattle.papaya_raw.specs.declared.machines.call.KeyCall.{KeyCall}
 use Rattle.papaya_raw.specs.declared.machines.call.Calling.TheVariants as at
-use Rattle.papaya_rule.specs.Chart.{Chart}
-use Rattle.papaya_rule.specs.Words.{Blocks}
-use Rattle.papaya_alone.specs.Counted.{HasAdded, counted_at}
 use Rattle.papaya_late.specs.Faults.{IsRoom}
 use Rattle.papaya_late.specs.Kinds.{FaultFits, TellsFit}
-use Rattle.papaya_late.proofs.KindsKept.Laws.{replies_keep_the_kind}
 use Rattle.papaya_raw.specs.declared.machines.answer.Called.TheVariants as called
-use Rattle.papaya_callers.specs.Asked.{Asked, last_told}
 use Rattle.papaya_callers.specs.Kind.{Kind}
-use Rattle.papaya_callers.specs.Pairs.{Given, IsTold, RemovesNone, and_told}
-use Rattle.papaya_callers.specs.Together.{IsBegun, AsksAbout, OnKey as OnKeyOf}
-use Rattle.papaya_whole.specs.Owner.{IsAlone}
-use Rattle.papaya_whole.proofs.Keys.Replies.{replies_lead_on, replies_count_nothing}
-use Rattle.papaya_asks.specs.Asking.{meant, IsTaken, AnswersAs, RefusedAs, Pauses, AsksOf, Unasked, StartsAs, ToldThis, HasKeyBack, HasPairBack}
+use Rattle.papaya_callers.specs.Pairs.{IsTold, RemovesNone}
+use Rattle.papaya_callers.specs.Together.{IsBegun}
+use Rattle.papaya_asks.specs.Asking.{AnswersAs, Pauses, AsksOf, Unasked, StartsAs, HasKeyBack, HasPairBack}
 use Rattle.papaya_owned.specs.Ending.{Ends, RunsTo}
 use Rattle.papaya_owned.specs.Machines.{on_key_plan}
-use Rattle.papaya_owned.specs.Owned.{Holds, IsWordOf, IsPairAt, found_by, left_by}
+use Rattle.papaya_owned.specs.Owned.{Holds, IsWordOf}
 use Rattle.papaya_owned.specs.declared.machines.OnKey.{OnKey}
 use Rattle.papaya_owned.specs.declared.machines.Stop.{Stop}
 use Rattle.papaya_owned.specs.declared.machines.Stop.TheVariants as stop
 use Rattle.papaya_owned.proofs.Owned.Answered as by
-use Rattle.papaya_owned.proofs.Owned.Keys.{Under, AsksAt, StopsAt, going, it, stops_at, under_ends}
+use Rattle.papaya_owned.proofs.Owned.Keys.{AsksAt, StopsAt, stops_at, under_ends}
 use Rattle.papaya_asks.proofs.Asks.Begins.{BeginsSo, begins_so}
 use Rattle.papaya_asks.proofs.Asks.Questions.{asks_so}
-use Rattle.papaya_asks.proofs.Asks.Replied.{known_by, value_by, seeks_by, reply_taken, replied_undisturbed}
 use Rattle.papaya_asks.proofs.Asks.Runs.{HandedOut, InHand, HasAsked, HasCome, has_come}
 use Rattle.papaya_asks.proofs.Asks.Told as told
-use Rattle.papaya_asks.proofs.Asks.Undisturbed.{AsksFor, Undisturbed, UndisturbedAt}
+use Rattle.papaya_asks.proofs.Asks.Undisturbed.{AsksFor}
 
 -- no value is known before
 no_key : {K V : Type 0} (its : Option K) → (v : V) → ◌≡◌ {A = Option V} None (Some v) → (◌≡◌ {A = Option V} None (Some v)) × (k : K) × (its ≡ Some k)

@@ -12,7 +12,6 @@ use Rattle.papaya_raw.specs.declared.machines.answer.KeyAnswer.TheVariants as an
 use Rattle.papaya_raw.specs.declared.machines.asking.Asking.{Asking}
 use Rattle.papaya_raw.specs.declared.machines.asking.Asking.TheVariants as asking
 use Rattle.papaya_raw.specs.declared.machines.call.KeyCall.{KeyCall}
-use Rattle.papaya_raw.specs.declared.machines.call.Calling.{Calling}
 use Rattle.papaya_raw.specs.declared.machines.call.Calling.TheVariants as at
 use Rattle.papaya_rule.specs.Words.{Blocks}
 use Rattle.papaya_points.specs.FactsCalls.{Unchanged, Seeks}
@@ -22,7 +21,7 @@ use Rattle.papaya_callers.specs.Since.{SoSince}
 use Rattle.papaya_callers.specs.Together.{in_slot}
 use Rattle.papaya_whole.specs.Contents.{HasRun}
 use Rattle.papaya_whole.proofs.Keys.Own as own
-use Rattle.papaya_owned.specs.Owned.{Holds, IsWordOf, found_by}
+use Rattle.papaya_owned.specs.Owned.{Holds, IsWordOf}
 use Rattle.papaya_owned.specs.declared.machines.OnKey.{OnKey}
 use Rattle.papaya_owned.proofs.Owned.Answered as by
 use Rattle.papaya_owned.proofs.Owned.Keys.{AsksAt, Course, going}

@@ -1,6 +1,6 @@
 -- For what a call that asks, for one owner, is refused once it was told what to do.
 use Rattle.std.specs.Prelude.{◌≡◌, ℕ, ◌==◌, Bool, true, List, false, Option, Some, None, Result, Ok, Err, IfErr, if◌then◌else◌, ◌⊎◌}
-use Rattle.std.proofs.Common.{refl, sym, ◌∙◌, ap, subst, inl, inr}
+use Rattle.std.proofs.Common.{sym, ◌∙◌, ap, subst, inl, inr}
 use Rattle.seize_words.specs.Mem.{Mem, Took, value_at}
 use Rattle.seize_words.specs.Op.{Found, Stored, Exchanged, Made, Taken, Roomed}
 use Rattle.seize_words.specs.Plan.{Plan, Steps}
@@ -16,7 +16,6 @@ use Rattle.papaya_tables.specs.declared.node.Node.{Node}
 use Rattle.papaya_tables.specs.declared.setting.Setting.{Setting}
 use Rattle.papaya_resize.specs.Dispose.{disposing, dispose_plan}
 use Rattle.papaya_resize.specs.declared.dispose.Dispose.{Dispose}
-use Rattle.papaya_raw.specs.Answers.{ended}
 use Rattle.papaya_raw.specs.Call.{call_plan, counts, disposed, plan_at, tries}
 use Rattle.papaya_raw.specs.CallAsks.{with_present, absent_told, present_told, told_at, replied}
 use Rattle.papaya_raw.specs.CallPoints.{going, over, ending, burying, changed, counted}

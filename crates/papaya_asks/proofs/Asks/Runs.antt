@@ -14,7 +14,7 @@ use Rattle.papaya_raw.specs.declared.machines.answer.Called.{Called}
 use Rattle.papaya_raw.specs.declared.machines.answer.Called.TheVariants as called
 use Rattle.papaya_raw.specs.declared.machines.call.KeyCall.{KeyCall}
 use Rattle.papaya_owned.specs.Ending.{GoesOn, Tells, RunsTo, stops, goes}
-use Rattle.papaya_owned.specs.Machines.{on_key_settled, on_key_after, on_key_plan}
+use Rattle.papaya_owned.specs.Machines.{on_key_after, on_key_plan}
 use Rattle.papaya_owned.specs.declared.machines.OnKey.{OnKey}
 use Rattle.papaya_owned.specs.declared.machines.Stop.{Stop}
 use Rattle.papaya_owned.specs.declared.machines.Stop.TheVariants as stop

@@ -1,12 +1,12 @@
 -- Each step of a call that asks, for one owner, leaves it undisturbed.
 use Rattle.std.specs.Prelude.{◌==◌, Option, Some, None, Ok, Err}
-use Rattle.std.proofs.Common.{◌≡◌, ◌≢◌, ℕ, Bool, true, false, refl, sym, ap, subst}
+use Rattle.std.proofs.Common.{◌≡◌, ℕ, Bool, true, false, refl, sym, ap, subst}
 use Rattle.seize_words.specs.Mem.{Mem, value_at, Took}
-use Rattle.seize_words.specs.Op.{Out, Found, Stored, Exchanged, Made, Taken, Roomed}
-use Rattle.seize_words.specs.Plan.{Plan, Steps}
-use Rattle.papaya_raw.specs.Call.{root_read, roots, next_read, nexts, key_read, pair_read, word_read, probes, tries, counts, first_made, next_made, disposed, helped, copied, plan_at}
+use Rattle.seize_words.specs.Op.{Found, Stored, Exchanged, Made, Taken, Roomed}
+use Rattle.seize_words.specs.Plan.{Steps}
+use Rattle.papaya_raw.specs.Call.{root_read, roots, next_read, nexts, key_read, pair_read, word_read, probes, tries, first_made, next_made, disposed, helped, copied, plan_at}
 use Rattle.papaya_raw.specs.CallFills.{putting_by, fill_by, fills_with, fills, asks_at}
-use Rattle.papaya_raw.specs.CallPoints.{aim_of, told, counted, changed}
+use Rattle.papaya_raw.specs.CallPoints.{aim_of, told}
 use Rattle.papaya_raw.specs.Replies.{as_own}
 use Rattle.papaya_tables.specs.Finding.{may_name, finding}
 use Rattle.papaya_tables.specs.declared.finding.Finding.TheVariants as finds
@@ -18,7 +18,6 @@ use Rattle.papaya_resize.specs.NewTable.{new_table_plan}
 use Rattle.papaya_raw.specs.declared.machines.answer.Called.{Called}
 use Rattle.papaya_raw.specs.declared.machines.answer.End.{End}
 use Rattle.papaya_raw.specs.declared.machines.answer.End.TheVariants as ends
-use Rattle.papaya_raw.specs.declared.machines.answer.Missing.TheVariants as missing
 use Rattle.papaya_raw.specs.declared.machines.asking.Asking.{Asking}
 use Rattle.papaya_raw.specs.declared.machines.asking.Asking.TheVariants as asking
 use Rattle.papaya_raw.specs.declared.machines.call.KeyCall.{KeyCall}

@@ -1,25 +1,22 @@
 -- A call that asks, for one owner: nobody changes the word that it is about to replace, so it replaces it at once. Until then it has no block of its own, and
 -- its key in hand.
-use Rattle.std.specs.Prelude.{◌==◌, ◌&&◌, Option, Some, None, Ok, Err, if◌then◌else◌}
+use Rattle.std.specs.Prelude.{◌==◌, ◌&&◌, Option, Some, None, Ok, if◌then◌else◌}
 use Rattle.std.proofs.Common.{◌≡◌, ◌≢◌, ℕ, Bool, true, false, refl, sym, ◌∙◌, ap, subst, eqb-true}
 use Rattle.std.proofs.lemmas.Bool.{eqb-false, ne_eqb}
 use Rattle.seize_words.specs.declared.at.At.TheVariants.{Word}
 use Rattle.seize_words.specs.Word.{block_in}
-use Rattle.seize_words.specs.Mem.{Mem, value_at, word_at, word_in, block_of, fresh, IsFreeNumber, Took, after}
-use Rattle.seize_words.specs.Op.{Op, Out, Load, Make, Found, Stored, Exchanged, Made, Taken, Roomed}
-use Rattle.seize_words.specs.Plan.{Steps}
+use Rattle.seize_words.specs.Mem.{Mem, word_at, word_in, block_of, fresh, IsFreeNumber, after}
+use Rattle.seize_words.specs.Op.{Make, Made}
 use Rattle.seize_words.proofs.OneOwner.AfterWrites.{block_of-made}
 use Rattle.seize.specs.declared.progress.Progress.{Progress}
 use Rattle.seize.specs.declared.progress.Progress.TheVariants as progress
 use Rattle.seize.specs.declared.rows.settle.Settled.{Settled}
 use Rattle.seize.specs.declared.rows.settle.Settled.TheVariants as settled
-use Rattle.papaya_raw.specs.Answers.{ended}
-use Rattle.papaya_raw.specs.Call.{root_found, next_found, key_read, pair_read, word_read, probes, tries, first_made, next_made, disposed, helped, copied, plan_at}
-use Rattle.papaya_raw.specs.CallFills.{putting_by, fill_by, fills_with}
-use Rattle.papaya_raw.specs.CallPoints.{aim_of, word_to, going, standing, over, ending, storing, at_gap, gap_by, asking_at, pair_by, asking_of, tableless, at_free, at_end, at_last, at_pair, passed, told_of, entering, went_on, changed, counted}
-use Rattle.papaya_raw.specs.Replies.{value_told, value_for, as_own}
+use Rattle.papaya_raw.specs.Call.{first_made, next_made, disposed, helped, copied}
+use Rattle.papaya_raw.specs.CallPoints.{going, standing, over, ending, storing, at_gap, gap_by, asking_at, pair_by, tableless, at_free, at_end, at_last, at_pair, passed, told_of, entering, went_on, changed, counted}
+use Rattle.papaya_raw.specs.Replies.{value_told, value_for}
 use Rattle.papaya_tables.specs.Chunks.{is_incremental}
-use Rattle.papaya_tables.specs.Finding.{may_name, finding, vacant, named, marked, shut}
+use Rattle.papaya_tables.specs.Finding.{finding, vacant, named, marked}
 use Rattle.papaya_tables.specs.Marks.{has_mark}
 use Rattle.papaya_tables.specs.Trials.{place_tried, next_trial}
 use Rattle.papaya_tables.specs.declared.finding.Aim.TheVariants as aims
@@ -31,10 +28,9 @@ use Rattle.papaya_tables.specs.declared.node.Node.TheVariants as node
 use Rattle.papaya_tables.specs.declared.resize_mode.ResizeMode.{ResizeMode}
 use Rattle.papaya_tables.specs.declared.table.Table.{Table}
 use Rattle.papaya_tables.specs.declared.trial.Trial.{Trial}
-use Rattle.papaya_resize.specs.Copier.{copier_plan}
 use Rattle.papaya_resize.specs.CopierStates.{copying_all}
-use Rattle.papaya_resize.specs.Dispose.{disposing, dispose_plan}
-use Rattle.papaya_resize.specs.NewTable.{new_table_plan, table_after}
+use Rattle.papaya_resize.specs.Dispose.{disposing}
+use Rattle.papaya_resize.specs.NewTable.{table_after}
 use Rattle.papaya_tables.specs.declared.lengths.Reason.TheVariants.{Full}
 use Rattle.papaya_resize.specs.declared.copier.Copier.{Copier}
 use Rattle.papaya_resize.specs.declared.dispose.Dispose.{Dispose}
@@ -61,7 +57,6 @@ use Rattle.papaya_raw.specs.declared.machines.call.KeyCall.{KeyCall}
 use Rattle.papaya_raw.specs.declared.machines.call.Calling.{Calling}
 use Rattle.papaya_raw.specs.declared.machines.call.Calling.TheVariants as at
 use Rattle.papaya_points.specs.Steps.{told_first}
-use Rattle.papaya_rule.proofs.Keys.Always.{Always, AlwaysOf, always_if, always_ends, always_plan_as, always_steps}
 use Rattle.papaya_owned.proofs.Owned.HandsBack.{IsOver}
 
 -- where the key is there it asks, or answers with the pair

@@ -1,8 +1,8 @@
 -- For what a sweep of one owner's map is refused: memory, or the length of a table.
-use Rattle.std.specs.Prelude.{◌≡◌, ℕ, Bool, Result, Ok, Err, IfErr}
+use Rattle.std.specs.Prelude.{ℕ, Result, Ok, Err, IfErr}
 use Rattle.std.proofs.Common.{sym, subst}
 use Rattle.seize_words.specs.Mem.{Mem, Took, value_at}
-use Rattle.seize_words.specs.Plan.{Plan, Steps}
+use Rattle.seize_words.specs.Plan.{Steps}
 use Rattle.seize_words.specs.declared.fault.Fault.{Fault}
 use Rattle.seize.specs.declared.progress.Progress.{Progress}
 use Rattle.seize.specs.declared.progress.Progress.TheVariants as progress

@@ -1,14 +1,12 @@
 -- It begins, and comes to what it was told.
-use Rattle.std.specs.Fn.{FnOnceReturns, FnOnceReturnsAt}
-use Rattle.std.specs.Prelude.{Some, None}
-use Rattle.std.proofs.Common.{◌≡◌, refl, inl, subst}
+use Rattle.std.specs.Prelude.{Some}
+use Rattle.std.proofs.Common.{refl, inl, subst}
 use Rattle.papaya_raw.specs.declared.machines.asking.Reply.TheVariants as reply
 use Rattle.papaya_callers.specs.Kind.{computes}
-use Rattle.papaya_asks.specs.Closures.{ComesTo, ComputesAs, Computing, UpdatingOrStoring, Storing}
+use Rattle.papaya_asks.specs.Closures.{ComesTo, ComputesAs, Computing}
 use Rattle.papaya_owned.specs.Owned.{hashed_by, found_by}
 use Rattle.papaya_asks.proofs.Asks.Begins.{computes_so}
-use Rattle.papaya_asks.proofs.Asks.Calls.{word_names}
-use Rattle.papaya_asks.proofs.Asks.Comes.{comes_answered, comes_asking, comes_refused, comes_told, comes_with, never_answers, aborted_holds, aborted_refused}
+use Rattle.papaya_asks.proofs.Asks.Comes.{comes_answered, comes_asking, comes_refused, comes_told, never_answers, aborted_holds, aborted_refused}
 use Rattle.papaya_asks.proofs.computing.compute.Goals as goal
 
 pub start-requires-clause-begun : goal.start-requires-clause-begun

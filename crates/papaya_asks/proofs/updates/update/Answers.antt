@@ -1,6 +1,6 @@
 -- It begins, and comes to what it was told.
 use Rattle.std.specs.Fn.{FnOnceReturnsAt}
-use Rattle.std.specs.Prelude.{Some, None}
+use Rattle.std.specs.Prelude.{Some}
 use Rattle.std.proofs.Common.{refl, inl}
 use Rattle.papaya_raw.specs.declared.machines.asking.Reply.TheVariants as reply
 use Rattle.papaya_callers.specs.Kind.{updates}

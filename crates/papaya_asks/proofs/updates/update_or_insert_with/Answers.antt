@@ -1,14 +1,14 @@
 -- It begins, and comes to what it was told.
 use Rattle.std.specs.Fn.{FnOnceReturns, FnOnceReturnsAt}
 use Rattle.std.specs.Prelude.{Some, None}
-use Rattle.std.proofs.Common.{◌≡◌, refl, inl, subst}
+use Rattle.std.proofs.Common.{refl, inl}
 use Rattle.papaya_raw.specs.declared.machines.asking.Reply.TheVariants as reply
 use Rattle.papaya_callers.specs.Kind.{updates_or_inserts}
-use Rattle.papaya_asks.specs.Closures.{ComesTo, ComputesAs, Computing, UpdatingOrStoring, Storing}
-use Rattle.papaya_owned.specs.Owned.{hashed_by, found_by}
+use Rattle.papaya_asks.specs.Closures.{UpdatingOrStoring}
+use Rattle.papaya_owned.specs.Owned.{hashed_by}
 use Rattle.papaya_asks.proofs.Asks.Begins.{updates_or_inserts_so}
 use Rattle.papaya_asks.proofs.Asks.Calls.{word_names}
-use Rattle.papaya_asks.proofs.Asks.Comes.{comes_answered, comes_asking, comes_refused, comes_told, comes_with, never_answers, aborted_holds, aborted_refused}
+use Rattle.papaya_asks.proofs.Asks.Comes.{comes_answered, comes_asking, comes_refused, comes_told}
 use Rattle.papaya_asks.proofs.updates.update_or_insert_with.Goals as goal
 
 pub start-requires-clause-begun : goal.start-requires-clause-begun

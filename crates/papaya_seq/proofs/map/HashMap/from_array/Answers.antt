@@ -1,10 +1,15 @@
 -- The clone of one more was put, and at the end those of all.
-use Rattle.std.proofs.Common.{[], ◌∷◌, ◌++◌, rules, subst}
+use Rattle.std.specs.List.Sorted.{IsPermutation}
+use Rattle.std.proofs.Common.{[], ◌∷◌, ◌++◌, rules, subst, sym}
 use Rattle.std.proofs.lemmas.List.{take_all}
 use Rattle.std.proofs.lemmas.List.Elements.{all_zip_more}
+use Rattle.std.proofs.lemmas.List.Sorted.{IsPermutation-refl}
 use Rattle.papaya_pairs.specs.Puts.{IsCloneOf, PutsClones}
 use Rattle.papaya_pairs.proofs.Puts.{clones_same, puts_more}
 use Rattle.papaya_seq.proofs.map.HashMap.from_array.Goals as goal
+
+pub loop-item-init : goal.loop-item-init
+loop-item-init g c = ([], tt, subst (λ l. IsPermutation l []) (sym c.in_ok-map.ensures.pairs) (IsPermutation-refl []))
 
 pub loop-item-preserved : goal.loop-item-preserved
 loop-item-preserved g c =
