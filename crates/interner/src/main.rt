@@ -1,10 +1,11 @@
 //! Gives each word of its input a number, and prints each line in numbers; then the numbers of all words as JSON, which it reads back.
 #![tactic(auto)]
 
-ghost use Rattle.std.specs.Prelude.{◌≡◌, IfOk, OnErr, Some, option_map};
+ghost use Rattle.std.specs.Prelude.{◌≡◌, ℕ, [], ◌∷◌, ◌++◌, length, Ok, OnErr, OnOk, IfOk, None, Some};
 ghost use Rattle.std.specs.List.Sorted.{IsPermutation};
 ghost use Rattle.std.specs.Str.{bytes_eq};
-ghost use Rattle.papaya_seq.specs.Pairs.{found_by};
+ghost use Rattle.papaya_seq.specs.Pairs.{left_by};
+ghost use Rattle.interner.specs.Numbers.{number_of};
 
 use papaya_forms::{Text, TextRef};
 use papaya_seq::{Fault, HashMap};
@@ -16,13 +17,22 @@ use std::io;
 /// The number of each word, and the hasher of std's maps.
 type Numbers = HashMap<Text, u64, BuildHasherDefault<FoldHasher>>;
 
+/// The number of this word, if it has one. The map owns its words, and is asked with one that is lent.
+fn number_of(numbers: &Numbers, word: &str) -> Option<u64>
+    ensures { result ≡ number_of word.now numbers.now.pairs }
+{
+    numbers.get(&TextRef::new(word)).copied()
+}
+
 /// The number of this word: the one that it has, or else the next one, which it then has. After a fault each word has the number that it had.
 fn intern(numbers: &mut Numbers, alloc: Global, word: &str) -> Result<u64, Fault>
-    ensures has { IfOk result (λ number. option_map (λ x. x.1) (found_by (bytes_eq word.now) numbers.new.pairs) ≡ Some number) }
+    ensures known { (number : ℕ) → number_of word.now numbers.old.pairs ≡ Some number → (result ≡ Ok number) × (numbers.new.pairs ≡ numbers.old.pairs) }
+    ensures next { number_of word.now numbers.old.pairs ≡ None → IfOk result (λ number. number ≡ length numbers.old.pairs) }
+    ensures stored { number_of word.now numbers.old.pairs ≡ None → OnOk result (IsPermutation numbers.new.pairs (left_by (bytes_eq word.now) numbers.old.pairs ++ ((word.now, length numbers.old.pairs) ∷ []))) }
     ensures refused { OnErr result (IsPermutation numbers.new.pairs numbers.old.pairs) }
 {
-    if let Some(number) = numbers.get(&TextRef::new(word)) {
-        return Ok(*number);
+    if let Some(number) = number_of(numbers, word) {
+        return Ok(number);
     }
     let next = numbers.len();
     match numbers.insert(Text::new(alloc, word)?, next) {
@@ -51,10 +61,7 @@ fn read_back(alloc: Global, text: &str) -> io::Result<Numbers> {
     let Ok(value) = Value::from_str(alloc, text) else {
         return Err(io::Error::other("what was written is no JSON"));
     };
-    match Numbers::from_value(alloc, &value) {
-        Ok(numbers) => Ok(numbers),
-        Err(_) => Err(io::Error::other("what was written has no numbers of words")),
-    }
+    Numbers::from_value(alloc, &value).map_err(|_| io::Error::other("what was written is no map"))
 }
 
 fn main(rt: HostRuntime) -> io::Result<()> {
@@ -70,11 +77,9 @@ fn main(rt: HostRuntime) -> io::Result<()> {
     let text = numbers.to_value(alloc)?.to_string(alloc)?;
     println!(rt; "{text}")?;
     let again = read_back(alloc, text.as_str())?;
-    let same = if again == numbers {
-        "the same"
-    } else {
-        "others"
-    };
-    println!(rt; "{} words, {same} read back", again.len())?;
+    if again != numbers {
+        return Err(io::Error::other("other numbers were read back"));
+    }
+    println!(rt; "{} words read back", again.len())?;
     Ok(())
 }
