@@ -2,7 +2,7 @@
 use Rattle.std.specs.Prelude.{ℕ, List, Option}
 use Rattle.std.specs.Option.{option_map}
 use Rattle.std.specs.Str.{bytes_eq}
-use Rattle.papaya_owned.specs.Owned.{found_by}
+use Rattle.papaya_seq.specs.Pairs.{found_by}
 
 -- the number of this word among the pairs, if it has one
 abbrev pub number_of : List ℕ → List (List ℕ × ℕ) → Option ℕ

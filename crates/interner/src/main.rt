@@ -48,10 +48,8 @@ fn in_numbers(numbers: &mut Numbers, alloc: Global, line: &str) -> io::Result<St
         if !text.is_empty() {
             text.push(' ')?;
         }
-        match intern(numbers, alloc, word) {
-            Ok(number) => text.push_str(number.to_string(alloc)?.as_str())?,
-            Err(fault) => return Err(io::Error::other(fault.name())),
-        }
+        let number = intern(numbers, alloc, word).map_err(|fault| io::Error::other(fault.name()))?;
+        text.push_str(number.to_string(alloc)?.as_str())?;
     }
     Ok(text)
 }
@@ -66,10 +64,7 @@ fn read_back(alloc: Global, text: &str) -> io::Result<Numbers> {
 
 fn main(rt: HostRuntime) -> io::Result<()> {
     let alloc = rt.alloc();
-    let mut numbers = match Numbers::new(alloc) {
-        Ok(numbers) => numbers,
-        Err(fault) => return Err(io::Error::other(fault.name())),
-    };
+    let mut numbers = Numbers::new(alloc).map_err(|fault| io::Error::other(fault.name()))?;
     for line in rt.lines(alloc) {
         let line = line?;
         println!(rt; "{}", in_numbers(&mut numbers, alloc, line.as_str())?)?;
