@@ -7,6 +7,7 @@ pub mod Asking
 pub mod AskedOn
 pub mod Steps
 pub mod Taking
+pub mod Settling
 pub mod RowSteps
 pub mod Calling
 pub mod Beginning
