@@ -1,6 +1,6 @@
 -- A row that reclaims nothing, and comes to no batch that it is to reclaim, goes on so.
-use Rattle.std.specs.Prelude.{◌≡◌, ℕ, Option, Some, None, Ok, Err, Bool, true, false, if◌then◌else◌, nat_lt, ◌==◌, ◌+◌, ◌-◌, ◌%◌, ◌^◌}
-use Rattle.std.proofs.Common.{refl, ap, sym, subst, ◌∙◌, inl, inr}
+use Rattle.std.specs.Prelude.{◌≡◌, ℕ, Option, Ok, Err, Bool, true, false, if◌then◌else◌, nat_lt, ◌==◌, ◌+◌, ◌-◌, ◌%◌, ◌^◌}
+use Rattle.std.proofs.Common.{refl, ap, sym, subst, inl, inr}
 use Rattle.seize_words.specs.Op.{Out, Found, Stored, Exchanged, Made, Taken, Roomed}
 use Rattle.seize_words.specs.Mem.{Mem, Took, value_at}
 use Rattle.seize_words.specs.Plan.{Plan, Then, Turn, Do, Now, Seeing, Sure, Steps, Ends}

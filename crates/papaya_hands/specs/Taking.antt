@@ -1,5 +1,5 @@
 -- Where a row of the collector stands that takes a block away with its next step, and where one that reclaims nothing.
-use Rattle.std.specs.Prelude.{◌≡◌, ℕ}
+use Rattle.std.specs.Prelude.{◌≡◌}
 use Rattle.seize.specs.declared.rows.leave.Leaving.{Leaving}
 use Rattle.seize.specs.declared.rows.leave.Leaving.TheVariants as leaving
 use Rattle.seize.specs.declared.rows.settle.Settle.{Settle}
