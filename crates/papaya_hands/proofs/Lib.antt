@@ -5,6 +5,7 @@ pub mod Stores
 pub mod Replacing
 pub mod Asking
 pub mod AskedOn
+pub mod RowsOn
 pub mod Steps
 pub mod Taking
 pub mod Settling

@@ -28,6 +28,7 @@ use Rattle.papaya_hands.specs.Taking.{IsToTake, ReclaimsNone, ComesToNone}
 use Rattle.papaya_hands.proofs.AskedOn.{asked_on}
 use Rattle.papaya_hands.proofs.HandTheirs.{hands_out, all_left, used_on}
 use Rattle.papaya_hands.proofs.HandsOn.{used_as, hands_on}
+use Rattle.papaya_hands.proofs.RowsOn.{rows_on}
 use Rattle.papaya_hands.proofs.Settling.{goes_so, not_to_take}
 use Rattle.papaya_hands.proofs.Spares.{handing}
 use Rattle.papaya_hands.proofs.Taking.{takes_none}
@@ -102,19 +103,18 @@ module _ {K V S : Type 0} (same : K → K → Bool) (hash : K → ℕ) (name : �
 
 pub rows_hand_theirs : (K V S : Type 0) (same : K → K → Bool) (hash : K → ℕ) → RowsHandTheirs K V S same hash
 rows_hand_theirs K V S same hash name m known s old new at all map i u here told leads other =
-    let theirs = hands_theirs same hash name m known s old new at all.shown map i u here told leads all.hands other in (
+    let theirs = hands_theirs same hash name m known s old new at all.shown map i u here told leads all.hands other in
+    let rests = reclaims_none same hash name m known s old new at all.shown map i u here told leads all.hands other (all.rows.none map i u here) in
+    let none = takes_theirs same hash name m known s old new at all.shown map i u here told leads all.hands other rests.0 in
+    let on = row_step_shown same hash name m known s old new at all.shown map i u here told leads other none theirs in
+    let to = went_to same hash name m known s old new at all.shown map i u here told leads in (
       theirs,
-      λ never.
-          let none = takes_theirs same hash name m known s old new at all.shown map i u here told leads all.hands other never in
-          let on = row_step_shown same hash name m known s old new at all.shown map i u here told leads other none theirs in
-          let to = went_to same hash name m known s old new at all.shown map i u here told leads in (
-            none,
-            record {
-              shown = on.shows;
-              asked = asked_on same hash name m known s old new at all.shown map i u here told leads all.asked on;
-              hands = hands_on same hash name m known s all.shown all.hands _ _ _ on new to.5 (pairs_then same hash name m known s old new at all.shown map i u here told leads all.hands other on)
-                  (tables_then same hash name m known s old new at all.shown map i u here told leads all.hands other on);
-            },
-          ),
-      reclaims_none same hash name m known s old new at all.shown map i u here told leads all.hands other,
+      none,
+      λ comes_to_none. record {
+        shown = on.shows;
+        asked = asked_on same hash name m known s old new at all.shown map i u here told leads all.asked on;
+        hands = hands_on same hash name m known s all.shown all.hands _ _ _ on new to.5 (pairs_then same hash name m known s old new at all.shown map i u here told leads all.hands other on)
+            (tables_then same hash name m known s old new at all.shown map i u here told leads all.hands other on);
+        rows = rows_on same hash name m known s old new at all.shown map i u here told leads all.rows (rests.1 comes_to_none);
+      },
     )

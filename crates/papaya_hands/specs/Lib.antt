@@ -1,5 +1,6 @@
 pub mod Asked
 pub mod Hands
+pub mod Rows
 pub mod Shows
 pub mod Taking
 pub mod Steps
