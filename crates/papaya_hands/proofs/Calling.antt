@@ -25,7 +25,7 @@ use Rattle.papaya_hands.specs.Asked.{AreReplies, AsksThere, IsAskedOn, IsAskedAs
 use Rattle.papaya_hands.specs.Calling.{IsBegunFor, AsksJust, CallsBeginFor, CallsComeToSo}
 use Rattle.papaya_hands.proofs.Asking.{which}
 use Rattle.papaya_hands.proofs.RowsOn.{rows_with}
-use Rattle.papaya_hands.specs.Taking.{ReclaimsNone}
+use Rattle.papaya_hands.specs.Rows.{ReclaimsNone}
 use Rattle.papaya_hands.proofs.HandsOn.{hands_with}
 
 module _ {K V : Type 0} (number : ℕ → ℕ) (stored : ℕ) (known : Known) where

@@ -24,14 +24,14 @@ use Rattle.papaya_follows.proofs.RowSteps.{row_step_shown}
 use Rattle.papaya_follows.proofs.Steps.{WentTo, went_to, made_so, DidSo, OfNoRow, LeadsThere}
 use Rattle.papaya_hands.specs.Hands.{IsInUse, ShowsHands}
 use Rattle.papaya_hands.specs.Steps.{RowsHandTheirs}
-use Rattle.papaya_hands.specs.Taking.{IsToTake, ReclaimsNone, ComesToNone}
+use Rattle.papaya_hands.specs.Rows.{ReclaimsNone, ComesToNone}
 use Rattle.papaya_hands.proofs.AskedOn.{asked_on}
 use Rattle.papaya_hands.proofs.HandTheirs.{hands_out, all_left, used_on}
 use Rattle.papaya_hands.proofs.HandsOn.{used_as, hands_on}
 use Rattle.papaya_hands.proofs.RowsOn.{rows_on}
 use Rattle.papaya_hands.proofs.Settling.{goes_so, not_to_take}
 use Rattle.papaya_hands.proofs.Spares.{handing}
-use Rattle.papaya_hands.proofs.Taking.{takes_none}
+use Rattle.papaya_hands.proofs.Taking.{IsToTake, takes_none}
 
 module _ {K V S : Type 0} (same : K → K → Bool) (hash : K → ℕ) (name : ℕ → List ℕ) (m : Moment K V) (known : Known) (s : Scene K V) (old new : Executor K V S) (at : IsAt same hash old s)
     (shown : Shows same name m known s) (map i : ℕ) (u : UnderWay K V K) (here : s.calls map i ≡ Some u) (told : Progress (Node K V)) (leads : StepLeads same hash i told s old new)

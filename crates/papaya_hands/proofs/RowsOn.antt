@@ -15,8 +15,7 @@ use Rattle.papaya_executor.specs.declared.executor.Executor.{Executor}
 use Rattle.papaya_executor.specs.Replying.{scene_with}
 use Rattle.papaya_follows.specs.Shows.{Shows}
 use Rattle.papaya_follows.proofs.Steps.{WentTo, went_to, DidSo, OfNoRow}
-use Rattle.papaya_hands.specs.Rows.{ShowsRows}
-use Rattle.papaya_hands.specs.Taking.{ReclaimsNone}
+use Rattle.papaya_hands.specs.Rows.{ReclaimsNone, ShowsRows}
 use Rattle.papaya_hands.proofs.Asking.{which}
 
 -- where calls alone have changed

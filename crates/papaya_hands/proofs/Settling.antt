@@ -21,7 +21,8 @@ use Rattle.papaya_tables.specs.declared.node.Node.{Node}
 use Rattle.papaya_tables.specs.declared.setting.Setting.{Setting}
 use Rattle.papaya_rule.proofs.World.Hands.{at_cases}
 use Rattle.papaya_callers.specs.Together.{HandsOver, IsOneStep}
-use Rattle.papaya_hands.specs.Taking.{IsAtTaking, IsToTake, IsAside, SettlesAside, ReclaimsNone, ComesToNone}
+use Rattle.papaya_hands.specs.Rows.{IsAside, SettlesAside, ReclaimsNone, ComesToNone}
+use Rattle.papaya_hands.proofs.Taking.{IsAtTaking, IsToTake}
 
 -- it goes on so, if it comes to no batch
 abbrev GoesSo : Settle → Type 0

@@ -34,7 +34,20 @@ use Rattle.papaya_callers.specs.Together.{CameAbout, HandsOver, IsOneStep}
 use Rattle.papaya_callers.proofs.Together.Came.{came_reached, came_next}
 use Rattle.papaya_follows.specs.Steps.{TakesNone}
 use Rattle.papaya_follows.proofs.Operations.{LeavesBy}
-use Rattle.papaya_hands.specs.Taking.{IsAtTaking, LeavesTaking, IsToTake}
+
+-- the block that it reclaims next is to be taken away
+abbrev pub IsAtTaking : Settling → Type 0
+IsAtTaking (at.Takes next) = Unit {0}
+IsAtTaking _ = ⊥
+
+abbrev pub LeavesTaking : Leaving → Type 0
+LeavesTaking (leaving.Settles settle) = IsAtTaking settle.stands
+LeavesTaking _ = ⊥
+
+abbrev pub IsToTake : Row → Type 0
+IsToTake (Settles c) = IsAtTaking c.stands
+IsToTake (Leaves c) = LeavesTaking c.stands
+IsToTake _ = ⊥
 
 -- the hands are as they were, whatever else such a step does
 

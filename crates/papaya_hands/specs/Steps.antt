@@ -14,7 +14,7 @@ use Rattle.papaya_executor.specs.declared.executor.Executor.{Executor}
 use Rattle.papaya_follows.specs.Finds.{FindsMap}
 use Rattle.papaya_follows.specs.Steps.{StoreTheirs, HandTheirs, TakesNone, IsOfNoRow}
 use Rattle.papaya_hands.specs.Shows.{ShowsAll}
-use Rattle.papaya_hands.specs.Taking.{ComesToNone}
+use Rattle.papaya_hands.specs.Rows.{ComesToNone}
 
 module _ (K V S : Type 0) (same : K → K → Bool) (hash : K → ℕ) where
   -- The promise, of a step of a call that is none of a row: it stores no pair but such as the call has to store, its effects find the map as they must, and lead
