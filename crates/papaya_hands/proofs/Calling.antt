@@ -24,6 +24,8 @@ use Rattle.papaya_follows.proofs.Steps.{one_of}
 use Rattle.papaya_hands.specs.Asked.{AreReplies, AsksThere, IsAskedOn, IsAskedAs, IsAsked, ShowsAsked}
 use Rattle.papaya_hands.specs.Calling.{IsBegunFor, AsksJust, CallsBeginFor, CallsComeToSo}
 use Rattle.papaya_hands.proofs.Asking.{which}
+use Rattle.papaya_hands.proofs.RowsOn.{rows_with}
+use Rattle.papaya_hands.specs.Rows.{ReclaimsNone}
 use Rattle.papaya_hands.proofs.HandsOn.{hands_with}
 
 module _ {K V : Type 0} (number : ℕ → ℕ) (stored : ℕ) (known : Known) where
@@ -161,13 +163,14 @@ module _ {K V : Type 0} (same : K → K → Bool) (name : ℕ → List ℕ) (m :
 
 module _ (K V : Type 0) (same : K → K → Bool) where
   pub calls_begin_for : CallsBeginFor K V same
-  calls_begin_for name m known s all of i u its guard apart called begun =
+  calls_begin_for name m known s all of i u its guard apart called begun rests =
       let b = begins_with same name m known s all.shown of i u its guard apart called in
       record {
         shown = b.0;
         asked = subst (λ (f : ℕ → ℕ → ℕ). ShowsAsked name f (with_call (name i) guard its (Some of) m) known (record s { calls = with_in s.calls of i (Some u) })) (sym b.1)
             (begins_asked same name m known s all.shown all.asked of i u its guard apart begun);
         hands = hands_with m known s (with_call (name i) guard its (Some of) m).calls (with_in s.calls of i (Some u)) all.hands;
+        rows = rows_with s of i u all.rows (subst ReclaimsNone (sym rests) tt);
       }
 
   pub calls_come_to_so : CallsComeToSo K V same
@@ -177,4 +180,5 @@ module _ (K V : Type 0) (same : K → K → Bool) where
         shown = b.0;
         asked = subst (λ (f : ℕ → ℕ → ℕ). ShowsAsked name f (come_to own o steps m) known s) (sym b.1) (come_asked same name m known s all.shown all.asked own o steps ended just);
         hands = hands_with m known s (come_to own o steps m).calls s.calls all.hands;
+        rows = all.rows;
       }

@@ -1,5 +1,5 @@
 -- A step of a row that is not to take a block away takes none.
-use Rattle.std.specs.Prelude.{◌≡◌, ℕ, zero, suc, ◌==◌, Bool, true, false, List, [], ◌∷◌, Option, Some, None, IsSome, if◌then◌else◌}
+use Rattle.std.specs.Prelude.{◌≡◌, ℕ, zero, suc, ◌==◌, Bool, true, false, [], ◌∷◌, Option, None, IsSome, if◌then◌else◌}
 use Rattle.std.proofs.Common.{refl, ap, sym, subst, ◌∙◌, arith, inl, inr}
 use Rattle.seize_words.specs.Mem.{Mem, value_at}
 use Rattle.seize.specs.declared.progress.Progress.{Progress}
@@ -19,7 +19,7 @@ use Rattle.seize.specs.declared.rows.defer.Defer.{Defer}
 use Rattle.seize.specs.declared.states.TheConstants.{ACTIVE}
 use Rattle.seize.specs.Law.{Entered}
 use Rattle.seize.specs.Sequence.{taken_in}
-use Rattle.seize.specs.World.{World, Hand, NoBlock, Row, Rests, Registers, Enters, Settles, Leaves, Defers, Frees, Request, Register', Enter', Leave', LeaveOwned, Refresh, Unregister', Retire, Flush, Defer', Begin, Happens, Steps', times, handed_by, settle_effects, leave_effects, register_effects, settles_on, registers_on, defers_on}
+use Rattle.seize.specs.World.{World, Hand, Row, Rests, Registers, Enters, Settles, Leaves, Defers, Frees, Request, Register', Enter', Leave', LeaveOwned, Refresh, Unregister', Retire, Flush, Defer', Begin, Happens, Steps', times, handed_by, settle_effects, leave_effects, register_effects, settles_on, registers_on, defers_on}
 use Rattle.seize_alone.proofs.Histories.NotTaken.{did, nobodys}
 use Rattle.seize_alone.proofs.Histories.Reached.{Reached}
 use Rattle.seize_alone.proofs.Spared.Rows.{RowStepped}
@@ -34,7 +34,20 @@ use Rattle.papaya_callers.specs.Together.{CameAbout, HandsOver, IsOneStep}
 use Rattle.papaya_callers.proofs.Together.Came.{came_reached, came_next}
 use Rattle.papaya_follows.specs.Steps.{TakesNone}
 use Rattle.papaya_follows.proofs.Operations.{LeavesBy}
-use Rattle.papaya_hands.specs.Taking.{IsAtTaking, LeavesTaking, IsToTake}
+
+-- the block that it reclaims next is to be taken away
+abbrev pub IsAtTaking : Settling → Type 0
+IsAtTaking (at.Takes next) = Unit {0}
+IsAtTaking _ = ⊥
+
+abbrev pub LeavesTaking : Leaving → Type 0
+LeavesTaking (leaving.Settles settle) = IsAtTaking settle.stands
+LeavesTaking _ = ⊥
+
+abbrev pub IsToTake : Row → Type 0
+IsToTake (Settles c) = IsAtTaking c.stands
+IsToTake (Leaves c) = LeavesTaking c.stands
+IsToTake _ = ⊥
 
 -- the hands are as they were, whatever else such a step does
 

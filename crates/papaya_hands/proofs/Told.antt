@@ -37,6 +37,7 @@ use Rattle.papaya_follows.proofs.Steps.{one_of}
 use Rattle.papaya_hands.specs.Asked.{as_told, KnowsFirst, IsSameQuestion, IsQuestion, IsAskedOn, IsAskedAs, IsAsked, ShowsAsked}
 use Rattle.papaya_hands.specs.Calling.{CallsTake}
 use Rattle.papaya_hands.proofs.Asking.{which}
+use Rattle.papaya_hands.proofs.RowsOn.{rows_with}
 use Rattle.papaya_hands.proofs.Calling.{caller_is, asked_as}
 use Rattle.papaya_hands.proofs.HandsOn.{hands_with}
 use Rattle.papaya_hands.proofs.Takes.{asked_leaves, and_given, not_begun, not_first}
@@ -207,4 +208,5 @@ calls_take K V S same hash name m known s e at_e all map i u here c c_is questio
           (told_asked same hash name m known s e at_e all.shown all.asked map i standing there c c_is question c_asks is_told u next here
           (own_told same hash name m known s e at_e all.shown all.asked map i standing there c c_is question c_asks is_told u next here machine taken goes));
       hands = hands_with m known s (told (name i) is_told m).calls (with_in s.calls map i (Some next)) all.hands;
+      rows = rows_with s map i next all.rows (all.rows.none map i u here);
     }

@@ -1,7 +1,7 @@
 pub mod Asked
 pub mod Hands
+pub mod Rows
 pub mod Shows
-pub mod Taking
 pub mod Steps
 pub mod Calling
 pub mod Beginning
