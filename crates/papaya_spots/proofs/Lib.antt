@@ -19,3 +19,4 @@ pub mod Deferred
 pub mod Numbers
 pub mod Begins
 pub mod Steps
+pub mod OnSlots

@@ -44,7 +44,7 @@ pub roomed_aside : (q : Bool) → AllAside (if q then [] else Asked ABucket ∷ 
 roomed_aside true = tt
 roomed_aside false = (refl, tt)
 
-same_pairs : (known known2 : Known) → known2.roles ≡ known.roles → WerePairs known known2
+pub same_pairs : (known known2 : Known) → known2.roles ≡ known.roles → WerePairs known known2
 same_pairs known known2 same b k is = ap (λ (f : ℕ → Role). f b) (sym same) ∙ is
 
 module _ {K V : Type 0} (caller map : ℕ) (m : Moment K V) (known : Known) (w w2 : World (Node K V)) (shown : ShowsBlocks m known w) (leaves : RowLeaves w w2) where

@@ -3,3 +3,4 @@ pub mod Unreclaimed
 pub mod Deferred
 pub mod Placed
 pub mod Steps
+pub mod OnSlots

@@ -1,0 +1,160 @@
+-- A step of a row on a slot: the moment after its effects shows the scene after it, also where it reclaims a pair or a table.
+use Rattle.std.specs.Prelude.{◌≡◌, ◌≢◌, ℕ, zero, suc, ◌<◌, ◌≤◌, nat_lt, Bool, true, false, List, [], ◌∷◌, Option, Some, None}
+use Rattle.std.proofs.Common.{refl, ap, sym, subst, ◌∙◌, arith}
+use Rattle.seize_words.specs.declared.at.At.TheVariants.{Root, Used, Slot, Entry, Word}
+use Rattle.seize_words.specs.Mem.{Mem, value_at}
+use Rattle.seize.specs.Sequence.{taken_in}
+use Rattle.seize.specs.World.{World, Hand, Step, Steps', times}
+use Rattle.seize_rule.proofs.Rows.Effects.{hand_kept}
+use Rattle.seize_alone.proofs.Spared.Rows.{RowStepped}
+use Rattle.seize_alone.proofs.Histories.NotTaken.{did, taken_gone}
+use Rattle.seize_alone.proofs.Histories.Reached.{Reached}
+use Rattle.papaya_tables.specs.Nodes.{deferred_word}
+use Rattle.papaya_tables.specs.declared.node.Node.{Node}
+use Rattle.papaya_schedules.specs.declared.effect.Effect.{Effect}
+use Rattle.papaya_schedules.specs.declared.effect.Effect.TheVariants.{PairGivenUp, TableGivenUp, Reclaimed}
+use Rattle.papaya_schedules.specs.declared.effect.Table.{Table}
+use Rattle.papaya_schedules.specs.declared.effect.Thing.TheVariants.{APair, ATable}
+use Rattle.papaya_schedules.specs.Effects.{with_effects, AtEachEffect}
+use Rattle.papaya_schedules.specs.Moment.{Handed, IsReclaimed, Moment}
+use Rattle.papaya_schedules.specs.Things.{same_table}
+use Rattle.papaya_schedules.specs.Views.{map_at}
+use Rattle.papaya_teller.specs.declared.changed.Changed.{Changed}
+use Rattle.papaya_teller.specs.declared.changed.Changed.TheVariants as changed
+use Rattle.papaya_rule.specs.InWorld.{IsMapIn}
+use Rattle.papaya_callers.proofs.Together.Came.{came_reached}
+use Rattle.papaya_finishes.specs.Maps.{Standing}
+use Rattle.papaya_effects.specs.Effects.{names_same, taken_by, effects_of, known_after}
+use Rattle.papaya_effects.specs.Known.{Known, with_role}
+use Rattle.papaya_effects.specs.declared.acting.Acting.TheVariants.{Row}
+use Rattle.papaya_effects.specs.declared.role.Role.{Role}
+use Rattle.papaya_effects.specs.declared.role.Role.TheVariants as role
+use Rattle.papaya_executor.specs.IsAt.{Scene, IsAt, slot_of, work_of}
+use Rattle.papaya_executor.specs.OnSlots.{RowSteps, HappensAt}
+use Rattle.papaya_executor.specs.declared.executor.Executor.{Executor}
+use Rattle.papaya_executor.specs.declared.row.RowTold.{RowTold}
+use Rattle.papaya_executor.specs.declared.row.SlotRow.{SlotRow}
+use Rattle.papaya_executor.specs.declared.worker.Work.TheVariants as work
+use Rattle.papaya_executor.proofs.OnSlots.{row_at, may_taken}
+use Rattle.papaya_follows.specs.Blocks.{WasLinked}
+use Rattle.papaya_follows.specs.Calls.{ShowsCalls}
+use Rattle.papaya_follows.specs.Maps.{table_of}
+use Rattle.papaya_follows.specs.Shows.{Shows}
+use Rattle.papaya_follows.proofs.Alike.{AllStill}
+use Rattle.papaya_follows.proofs.Operations.{StaysThere, LeavesBy, operated_leaves}
+use Rattle.papaya_follows.proofs.Told.{roomed_as_many}
+use Rattle.papaya_others.specs.After.{ShowsAfter}
+use Rattle.papaya_others.specs.Gone.{WasRetired}
+use Rattle.papaya_others.specs.Rows.{scene_then, RowsOnSlotsAreShown}
+use Rattle.papaya_others.proofs.Leads.{same_parts, roomed_still, either_still, calls_then, quiet, gone_quiet}
+use Rattle.papaya_others.proofs.RowPlans.{TellsRow, row_tells, row_operated}
+use Rattle.papaya_others.proofs.Retired.{retired_apart}
+use Rattle.papaya_others.proofs.Scenes.{pair_gone, table_gone}
+use Rattle.papaya_others.proofs.Stays.{StaysBlock, same_there}
+
+-- a block that is there still, if it was, is as it was
+module _ {K V : Type 0} (size : ℕ) (w w2 : World (Node K V)) (r : Reached deferred_word size w) (i : ℕ) (step : Steps' deferred_word i (w.row i) w w2) where
+  abbrev it : RowStepped deferred_word i w w2
+  it = did deferred_word size w r i w2 step
+
+  pub row_stays : (b : ℕ) → StaysThere w.memory w2.memory b → StaysBlock w w2 b
+  row_stays b there = by (times b (taken_in it.effects)) refl
+    where
+      by : (n : ℕ) → times b (taken_in it.effects) ≡ n → StaysBlock w w2 b
+      by zero e = record {
+        value = it.frames.values b e;
+        linked = λ value is linked. subst (λ (h : Hand). WasLinked h) (sym (ap (λ (h : ℕ → Hand). h b) it.hands ∙ hand_kept b it.effects w.hand e it.one)) linked;
+      }
+      by (suc n) e = none (value_at w.memory b) refl
+        where
+          gone : value_at w2.memory b ≡ None
+          gone = taken_gone deferred_word size w r i w2 step b (λ z. omega (arith, e, z))
+
+          none : (o : Option (Node K V)) → value_at w.memory b ≡ o → StaysBlock w w2 b
+          none None f = record { value = gone ∙ sym f; linked = λ value is linked. absurd (cc (f, is)) }
+          none (Some value) f = absurd (let now = (there.there value f).1 in cc (gone, now))
+
+module _ {K V S : Type 0} (same : K → K → Bool) (hash : K → ℕ) (name : ℕ → List ℕ) (m : Moment K V) (known : Known) (s : Scene K V) (old new : Executor K V S) (at : IsAt same hash old s)
+    (shown : Shows same name m known s) (i : ℕ) (row : SlotRow) (here : work_of old i ≡ Some (work.OnSlot row)) (end : SlotRow × RowTold (Node K V))
+    (steps : RowSteps K V row old.memory.memory new.memory.memory new.memory.changed end) (happened : HappensAt same hash (Step i) s old new) where
+  abbrev w : World (Node K V)
+  w = s.world
+
+  abbrev w2 : World (Node K V)
+  w2 = happened.0
+
+  abbrev told : Changed
+  told = new.memory.changed
+
+  left : LeavesBy w.memory w2.memory told
+  left =
+      subst (λ (n : Mem (Node K V)). LeavesBy w.memory n told) (sym happened.4.memory)
+      (subst (λ (n : Mem (Node K V)). LeavesBy n new.memory.memory told) (sym at.memory)
+      (operated_leaves old.memory.memory new.memory.memory told
+      (row_operated old.memory.memory new.memory.memory told end row (may_taken same hash old s at i row here (slot_of i) row (row_at same hash old s at i row here)) steps)))
+
+  stays : (b : ℕ) → StaysThere w.memory w2.memory b → StaysBlock w w2 b
+  stays = row_stays old.batch_size w w2 (came_reached old.batch_size w at.together.makings.standing.came) i happened.1
+
+  stood : (n : ℕ) (before : Standing K) → s.maps n ≡ Some before → IsMapIn same before.hash before.setting w before.chart before.blocks
+  stood n before e = (at.together.makings.standing.each n before e).ground.map
+
+  stand : (n : ℕ) (st : Standing K) → happened.2 n ≡ Some st → IsMapIn same st.hash st.setting w2 st.chart st.blocks
+  stand n st e = (happened.4.together.makings.standing.each n st e).ground.map
+
+  abbrev rest : Scene K V
+  rest = scene_then same hash (Step i) s old new happened
+
+  -- where these are the effects
+  abbrev Goal : List Effect → Known → Type 0
+  Goal effects after = ShowsAfter same name m known s shown (with_effects None None effects m) after rest
+
+  still : (effects : List Effect) (after : Known) → AllStill effects → after.roles ≡ known.roles → after.stored ≡ known.stored → ((b : ℕ) → StaysThere w.memory w2.memory b) → Goal effects after
+  still effects after none roles as_many there = quiet same name m known s shown w2 happened.2 happened.3 None rest shown.calls effects after none roles as_many (λ b. stays b (there b))
+
+  -- a block was taken away
+  module _ (b : ℕ) (gone : value_at w2.memory b ≡ None) (there : (x : ℕ) → x ≢ b → StaysThere w.memory w2.memory x) where
+    abbrev free : Known
+    free = with_role b role.Free known
+
+    others : (x : ℕ) → x ≢ b → StaysBlock w w2 x
+    others x ne = stays x (there x ne)
+
+    calls : (effects : List Effect) → ShowsCalls same name (with_effects None None effects m) s.calls
+    calls = calls_then same name m known s shown w2 happened.2 happened.3 None rest shown.calls
+
+    none_moved : (effects : List Effect) → AllStill effects → Goal effects free
+    none_moved effects none = gone_quiet same name m known s shown w2 happened.2 happened.3 None rest shown.calls stood stand effects none b gone others
+
+    taken : (r : Role) → known.roles b ≡ r → AtEachEffect WasRetired None None (taken_by Row r) m → Goal (taken_by Row r) free
+    taken role.Free e may = none_moved [] tt
+    taken (role.OwnPair caller) e may = none_moved (PairGivenUp ∷ []) (refl, tt)
+    taken (role.OwnTable turn shape) e may = none_moved (TableGivenUp (record { map = 0; turn = turn }) ∷ []) (refl, tt)
+    taken (role.Counter map) e may = none_moved [] tt
+    taken (role.Pair k) e may =
+        pair_gone same name m known s shown w2 happened.2 happened.3 stood stand b gone others free refl refl rest (with_effects None None (Reclaimed (APair k) ∷ []) m) refl
+        (calls (Reclaimed (APair k) ∷ [])) k e refl refl refl refl
+    taken (role.Table t len) e may =
+        table_gone same name m known s shown w2 happened.2 happened.3 stood stand b gone others free refl refl rest (with_effects None None (Reclaimed (ATable t) ∷ []) m) refl
+        (calls (Reclaimed (ATable t) ∷ [])) IsReclaimed t Handed (λ n before at. retired_apart n (shown.number n) before m known (shown.maps n before at) t may.0.0) may.0.1 (λ n. refl) refl refl refl refl
+
+  leads : (told : Changed) → TellsRow told → LeavesBy w.memory w2.memory told → AtEachEffect WasRetired None None (effects_of Row known told) m → Goal (effects_of Row known told) (known_after Row told known)
+  leads changed.Nothing is l may = still [] known tt refl refl l
+  leads (changed.Wrote (Slot t field) old new) is l may = still [] known tt refl refl (same_there w.memory w2.memory l.2)
+  leads (changed.Wrote (Entry b field) old new) is l may = still _ known (either_still (names_same old new)) refl refl (same_there w.memory w2.memory l.2)
+  leads (changed.Wrote (Root r) old new) is l may = absurd is
+  leads (changed.Wrote (Used r) old new) is l may = absurd is
+  leads (changed.Wrote (Word b field) old new) is l may = absurd is
+  leads (changed.Made kind b) is l may = absurd is
+  leads (changed.Unmade kind) is l may = absurd is
+  leads (changed.Took b) is l may = taken b l.1 l.2 (known.roles b) refl may
+  leads (changed.Roomed bucket had) is l may =
+      let alike = roomed_as_many Row known bucket had in still (effects_of Row known (changed.Roomed bucket had)) _ (roomed_still (nat_lt bucket known.buckets)) alike.0 alike.1 l
+
+  pub row_shown : AtEachEffect WasRetired None None (effects_of Row known told) m → Goal (effects_of Row known told) (known_after Row told known)
+  row_shown may = leads told (row_tells old.memory.memory new.memory.memory told end row steps) left may
+
+module _ (K V S : Type 0) (same : K → K → Bool) (hash : K → ℕ) where
+  pub rows_on_slots_are_shown : RowsOnSlotsAreShown K V S same hash
+  rows_on_slots_are_shown name m known s old new at shown i told leads row here may =
+      let to = leads row here in row_shown same hash name m known s old new at shown i row here (to.0, told) to.1 to.4 may

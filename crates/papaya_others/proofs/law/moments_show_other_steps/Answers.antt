@@ -1,0 +1,23 @@
+-- A moment of a run shows the scene after the executor's other steps.
+use Rattle.papaya_others.proofs.EndBegins.{endings_begin_shown, endings_are_over}
+use Rattle.papaya_others.proofs.Ends.{endings_are_shown}
+use Rattle.papaya_others.proofs.MakeBegins.{makings_begin_shown, maps_are_there}
+use Rattle.papaya_others.proofs.Makes.{makings_are_shown}
+use Rattle.papaya_others.proofs.RowBegins.{rows_begin_shown}
+use Rattle.papaya_others.proofs.Rows.{rows_on_slots_are_shown}
+use Rattle.papaya_others.proofs.Walks.{walks_go_on, walks_are_given_up}
+use Rattle.papaya_others.proofs.law.moments_show_other_steps.Goals as goal
+
+pub returns : goal.returns
+returns c d = record {
+  rows_begin = rows_begin_shown _ _ _;
+  rows = rows_on_slots_are_shown _ _ _;
+  asked = walks_go_on _ _ _;
+  given_up = walks_are_given_up _ _ _;
+  makings_begin = makings_begin_shown _ _;
+  maps_come = maps_are_there _ _;
+  makings = makings_are_shown _ _ _;
+  endings_begin = endings_begin_shown _ _;
+  endings = endings_are_shown _ _ _;
+  endings_over = endings_are_over _ _;
+}

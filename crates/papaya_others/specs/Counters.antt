@@ -1,0 +1,61 @@
+-- The counter of a map that is being made is noted as that of its map, whoever takes a step.
+use Rattle.std.specs.Prelude.{◌≡◌, ℕ, Bool, List, Some}
+use Rattle.seize.specs.declared.progress.Progress.{Progress as Making}
+use Rattle.seize.specs.declared.rows.settle.Settled.{Settled}
+use Rattle.papaya_tables.specs.declared.node.Node.{Node}
+use Rattle.papaya_tables.specs.declared.setting.Setting.{Setting}
+use Rattle.papaya_raw.specs.declared.machines.progress.Progress.{Progress}
+use Rattle.papaya_schedules.specs.Moment.{Moment}
+use Rattle.papaya_callers.specs.Together.{UnderWay}
+use Rattle.papaya_finishes.specs.Endings.{Finishing}
+use Rattle.papaya_finishes.specs.Makings.{Beginning}
+use Rattle.papaya_effects.specs.Effects.{known_after}
+use Rattle.papaya_effects.specs.Known.{Known}
+use Rattle.papaya_effects.specs.declared.acting.Acting.TheVariants as acts
+use Rattle.papaya_executor.specs.Ending.{EndingLeads}
+use Rattle.papaya_executor.specs.IsAt.{Scene, IsAt, work_of}
+use Rattle.papaya_executor.specs.Making.{MakingLeads}
+use Rattle.papaya_executor.specs.OnSlots.{RowLeads}
+use Rattle.papaya_executor.specs.Stepping.{StepLeads, scene_after}
+use Rattle.papaya_executor.specs.declared.executor.Executor.{Executor}
+use Rattle.papaya_executor.specs.declared.row.RowTold.{RowTold}
+use Rattle.papaya_executor.specs.declared.row.SlotRow.{SlotRow}
+use Rattle.papaya_executor.specs.declared.worker.Work.TheVariants.{OnSlot}
+use Rattle.papaya_follows.specs.Shows.{Shows}
+use Rattle.papaya_others.specs.Endings.{ending_after}
+use Rattle.papaya_others.specs.Makings.{NotesCounter, making_after}
+
+-- the counter of each making, if it has made one, is noted
+abbrev pub NotesCounters : {K V : Type 0} → Known → Scene K V → Type 0
+NotesCounters {K} known s = (i : ℕ) (b : Beginning K) → s.makers i ≡ Some b → NotesCounter known b
+
+module _ (K V S : Type 0) (same : K → K → Bool) (hash : K → ℕ) where
+  -- The promises: they are noted after a step of a call,
+  abbrev pub CallsNoteCounters : Type 0
+  CallsNoteCounters =
+      (name : ℕ → List ℕ) (m : Moment K V) (known : Known) (s : Scene K V) (old new : Executor K V S) → IsAt same hash old s → Shows same name m known s → NotesCounters known s
+      → (map i : ℕ) (u : UnderWay K V K) (here : s.calls map i ≡ Some u) (told : Progress (Node K V)) (leads : StepLeads same hash i told s old new)
+      → (let to = leads map u here in
+      NotesCounters (known_after (acts.Call i map) new.memory.changed known) (scene_after same hash s old new map i to.0 u to.1 told to.4))
+
+  -- of a row on a slot,
+  abbrev pub RowsNoteCounters : Type 0
+  RowsNoteCounters =
+      (name : ℕ → List ℕ) (m : Moment K V) (known : Known) (s : Scene K V) (old new : Executor K V S) → IsAt same hash old s → Shows same name m known s → NotesCounters known s
+      → (i : ℕ) (told : RowTold (Node K V)) → RowLeads same hash i told s old new → (row : SlotRow) → work_of old i ≡ Some (OnSlot row) → NotesCounters (known_after acts.Row new.memory.changed known) s
+
+  -- of an end,
+  abbrev pub EndingsNoteCounters : Type 0
+  EndingsNoteCounters =
+      (name : ℕ → List ℕ) (m : Moment K V) (known : Known) (s : Scene K V) (old new : Executor K V S) → IsAt same hash old s → Shows same name m known s → NotesCounters known s
+      → (i : ℕ) (told : Settled (Node K V)) (leads : EndingLeads same hash i told s old new) (f : Finishing K V) (here : s.enders i ≡ Some f) (map : ℕ)
+      → (let to = leads f here in
+      NotesCounters (known_after (acts.Ending map) new.memory.changed known) (ending_after same hash s new i f to.0 to.2.w2 to.2.deed told to.3))
+
+  -- and of a making.
+  abbrev pub MakingsNoteCounters : Type 0
+  MakingsNoteCounters =
+      (name : ℕ → List ℕ) (m : Moment K V) (known : Known) (s : Scene K V) (old new : Executor K V S) → IsAt same hash old s → Shows same name m known s → NotesCounters known s
+      → (i : ℕ) (told : Making Setting) (leads : MakingLeads same hash i told s old new) (b : Beginning K) (here : s.makers i ≡ Some b)
+      → (let to = leads b here in
+      NotesCounters (known_after (acts.Making b.map) new.memory.changed known) (making_after same hash s old new i b to.0 to.2.step.w2 told to.3))

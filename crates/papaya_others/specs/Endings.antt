@@ -1,0 +1,72 @@
+-- Ends of maps: where one begins, takes its steps and is over, the moment shows the scene then.
+use Rattle.std.specs.Prelude.{◌≡◌, ℕ, Bool, false, not, List, [], ◌∷◌, ◌++◌, filter, Some, None}
+use Rattle.seize.specs.World.{World, with_at}
+use Rattle.seize.specs.declared.rows.settle.Settled.{Settled}
+use Rattle.seize.specs.declared.rows.settle.Settled.TheVariants as settled
+use Rattle.papaya_tables.specs.declared.node.Node.{Node}
+use Rattle.papaya_runs.specs.Same.{is_same}
+use Rattle.papaya_schedules.specs.Effects.{with_effects, AtEachEffect}
+use Rattle.papaya_schedules.specs.Moment.{MapThere, Remains, Moment}
+use Rattle.papaya_schedules.specs.Views.{map_at}
+use Rattle.papaya_raw.specs.declared.machines.end_map.EndMap.{EndMap}
+use Rattle.papaya_teller.specs.declared.changed.Changed.{Changed}
+use Rattle.papaya_teller.specs.declared.changed.Changed.TheVariants.{Took}
+use Rattle.papaya_effects.specs.Effects.{effects_of, known_after}
+use Rattle.papaya_effects.specs.Known.{Known}
+use Rattle.papaya_effects.specs.declared.acting.Acting.TheVariants.{Ending}
+use Rattle.papaya_finishes.specs.Endings.{Finishing}
+use Rattle.papaya_finishes.specs.FactsEnds.{Deed}
+use Rattle.papaya_finishes.specs.Maps.{Standing}
+use Rattle.papaya_executor.specs.Ending.{EndingLeads, EndingComesTo, ending_begun, ending_goes}
+use Rattle.papaya_executor.specs.IsAt.{Scene, IsAt}
+use Rattle.papaya_executor.specs.declared.executor.Executor.{Executor}
+use Rattle.papaya_follows.specs.Shows.{Shows}
+use Rattle.papaya_follows.specs.Steps.{TakesNone}
+use Rattle.papaya_others.specs.After.{ShowsAfter}
+use Rattle.papaya_others.specs.Gone.{EndsWith}
+
+module _ {K V S : Type 0} (same : K → K → Bool) (hash : K → ℕ) (s : Scene K V) (new : Executor K V S) (i : ℕ) (f : Finishing K V) (ending : EndMap) (w2 : World (Node K V)) (deed : Deed) where
+  -- the scene to which a step of the end has come
+  abbrev pub ending_after : (told : Settled (Node K V)) → EndingComesTo same hash s new i f ending w2 deed told → Scene K V
+  ending_after settled.Goes comes = ending_goes same hash s new i f ending w2 deed f.back
+  ending_after settled.Waits comes = s
+  ending_after (settled.Gave value) comes = ending_goes same hash s new i f ending w2 deed (f.back ++ comes.0 ∷ [])
+  ending_after settled.Done comes = record s { world = w2; enders = with_at s.enders i None }
+
+  -- What is told of a step that hands a value out is that its block was taken, which is the one reclaimed next; no other step takes a block.
+  abbrev pub TellsNext : (told : Settled (Node K V)) → EndingComesTo same hash s new i f ending w2 deed told → Changed → Type 0
+  TellsNext settled.Goes comes changed = TakesNone changed
+  TellsNext settled.Waits comes changed = ⊥
+  TellsNext (settled.Gave value) comes changed = changed ≡ Took comes.0
+  TellsNext settled.Done comes changed = TakesNone changed
+
+-- the map of this name is there no more, and this is left over
+abbrev pub without_map : {K V : Type 0} → List ℕ → List Remains → Moment K V → Moment K V
+without_map own remains m = record m { maps = filter (λ f. not (is_same f.name own)) m.maps; remains = remains }
+
+module _ (K V : Type 0) (same : K → K → Bool) where
+  -- The promises: where the end of a map begins, all else is shown as before,
+  abbrev pub EndingsBeginShown : Type 0
+  EndingsBeginShown =
+      (name : ℕ → List ℕ) (m : Moment K V) (known : Known) (s : Scene K V) → (shown : Shows same name m known s)
+      → (map i : ℕ) (standing : Standing K) → ShowsAfter same name m known s shown m known (ending_begun map i standing s)
+
+  -- and where it is over, the map is there no more, and no map that stands has its name.
+  abbrev pub EndingsAreOver : Type 0
+  EndingsAreOver =
+      (name : ℕ → List ℕ) (m : Moment K V) (known : Known) (s : Scene K V) → (shown : Shows same name m known s)
+      → (own : List ℕ) (remains : List Remains) → ((map : ℕ) (standing : Standing K) (there : MapThere) → s.maps map ≡ Some standing → map_at map m ≡ Some there → is_same there.name own ≡ false)
+      → ShowsAfter same name m known s shown (without_map own remains m) known s
+
+module _ (K V S : Type 0) (same : K → K → Bool) (hash : K → ℕ) where
+  -- The promise, of a step of an end: the number that it is told by is that of no map that stands, and a table that ends with the map is one of it. Pairs and
+  -- tables end in the order in which their blocks are reclaimed.
+  abbrev pub EndingsAreShown : Type 0
+  EndingsAreShown =
+      (name : ℕ → List ℕ) (m : Moment K V) (known : Known) (s : Scene K V) (old new : Executor K V S) → IsAt same hash old s → (shown : Shows same name m known s)
+      → (i : ℕ) (told : Settled (Node K V)) (leads : EndingLeads same hash i told s old new) (f : Finishing K V) (here : s.enders i ≡ Some f) (map : ℕ) → s.maps map ≡ None
+      → AtEachEffect (λ v effect. EndsWith v map effect) None (Some map) (effects_of (Ending map) known new.memory.changed) m
+      → (let to = leads f here in
+      TellsNext same hash s new i f to.0 to.2.w2 to.2.deed told to.3 new.memory.changed
+      × ShowsAfter same name m known s shown (with_effects None (Some map) (effects_of (Ending map) known new.memory.changed) m) (known_after (Ending map) new.memory.changed known)
+      (ending_after same hash s new i f to.0 to.2.w2 to.2.deed told to.3))
