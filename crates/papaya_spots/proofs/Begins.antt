@@ -11,6 +11,7 @@ blocks_begin K V = record {
   pairs_there = λ k e. absurd (cc e);
   tables = λ b len t is. absurd (cc is);
   tables_there = λ t e. absurd (cc e);
+  tables_once = λ b d len len2 t is is2. absurd (cc is);
 }
 
 pub calls_leave_places : (K V : Type 0) → CallsLeavePlaces K V
@@ -20,5 +21,5 @@ calls_leave_places K V m known maps lying held calls = (
         (let h = lying.each map standing is in record { born = h.born; whole = h.whole; lies = h.lies; copied = λ e n k pair current. (let c = h.copied e n k pair current in c) });
     fresh = lying.fresh;
   },
-  record { pairs = held.pairs; pairs_there = held.pairs_there; tables = held.tables; tables_there = held.tables_there },
+  record { pairs = held.pairs; pairs_there = held.pairs_there; tables = held.tables; tables_there = held.tables_there; tables_once = held.tables_once },
 )

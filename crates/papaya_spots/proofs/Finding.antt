@@ -99,7 +99,7 @@ module _ {X : Type 0} (p : X → Bool) where
 
 -- the stage of a table of a map, where one that is at such a stage is there
 module _ {K : Type 0} (map : ℕ) (c : Chart K) (stage : ℕ → Stage) (test : Stage → Bool) (t : ℕ) where
-  abbrev AtStage : TableThere → Bool
+  abbrev pub AtStage : TableThere → Bool
   AtStage u = same_table u.table (table_of map t) && test u.stage
 
   stage_of : (n : ℕ) → list_any AtStage (tables_to map c stage n) ≡ true → test (stage t) ≡ true
@@ -112,6 +112,25 @@ module _ {K : Type 0} (map : ℕ) (c : Chart K) (stage : ℕ → Stage) (test : 
           let two = and_both (same_table (table_of map n) (table_of map t)) (test (stage n)) here in
           let turns = ap (λ (x : Table). x.turn) (table_is (table_of map n) (table_of map t) two.0) in
           ap (λ (x : ℕ). test (stage x)) (sym turns) ∙ two.1
+
+  pub turn_below : (n : ℕ) → list_any AtStage (tables_to map c stage n) ≡ true → t < n
+  turn_below zero e = absurd (cc e)
+  turn_below (suc n) e = by (any_either AtStage (tables_to map c stage n) (record { table = table_of map n; shape = shape_at map c n; stage = stage n }) e) (turn_below n)
+    where
+      by : (list_any AtStage (tables_to map c stage n) ≡ true) ⊎ ((same_table (table_of map n) (table_of map t) && test (stage n)) ≡ true) → (list_any AtStage (tables_to map c stage n) ≡ true → t < n) → t < suc n
+      by (inl before) rest = let l = rest before in omega (arith, l)
+      by (inr here) rest =
+          let two = and_both (same_table (table_of map n) (table_of map t)) (test (stage n)) here in
+          let turns = ap (λ (x : Table). x.turn) (table_is (table_of map n) (table_of map t) two.0) in
+          omega (arith, turns)
+
+-- a table of a map that stands is among those that the map has had
+pub listed_there : {K V : Type 0} (map : ℕ) (number : ℕ → ℕ) (s : Standing K) (m : Moment K V) (known : Known) (shown : ShowsMap map number s m known) (test : Stage → Bool) (t : ℕ)
+    → is_stage test (table_of map t) m ≡ true → list_any (AtStage map s.chart shown.tables.stage test t) (tables_to map s.chart shown.tables.stage s.chart.past) ≡ true
+listed_there map number s m known shown test t there =
+    ap (list_any (AtStage map s.chart shown.tables.stage test t)) (sym shown.tables.listed)
+    ∙ any_kept (AtStage map s.chart shown.tables.stage test t) (λ u. u.table.map == map)
+    (λ u e. let two = and_both (same_table u.table (table_of map t)) (test u.stage) e in ap (λ (x : Table). x.map == map) (table_is u.table (table_of map t) two.0) ∙ eq-eqb map map refl) m.tables there
 
 -- a spot is the same as itself
 spot_same : (s t : Spot) → s ≡ t → same_spot s t ≡ true
@@ -201,10 +220,7 @@ module _ {K V : Type 0} (same : K → K → Bool) (slot caller map : ℕ) (name 
   place_there : (t i : ℕ) → t < c.past → s.blocks.table_known t ≡ true → i < c.len t → is_place is_there map (spot_in t i) m ≡ true
   place_there t i made seen within =
       let there = held.tables (s.blocks.table t) (c.len t) (table_of map t) (shown.tables.roles t made seen) in
-      let stage = stage_of map c shown.tables.stage is_there t c.past
-      (ap (list_any (AtStage map c shown.tables.stage is_there t)) (sym shown.tables.listed)
-      ∙ any_kept (AtStage map c shown.tables.stage is_there t) (λ u. u.table.map == map)
-      (λ u e. let two = and_both (same_table u.table (table_of map t)) (is_there u.stage) e in ap (λ (x : Table). x.map == map) (table_is u.table (table_of map t) two.0) ∙ eq-eqb map map refl) m.tables there) in
+      let stage = stage_of map c shown.tables.stage is_there t c.past (listed_there map number s m known shown is_there t there) in
       among map number s m known shown (λ u. same_table u.table (table_of map t) && is_there u.stage && nat_lt i u.shape.len) t made
       (ap (λ (x : Bool). x && is_there (shown.tables.stage t) && nat_lt i (c.len t)) (same_one map number s m known shown t) ∙ ap (λ (x : Bool). x && nat_lt i (c.len t)) stage ∙ less i (c.len t) within)
     where

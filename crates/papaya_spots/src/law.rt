@@ -1,7 +1,7 @@
 //! What is promised of a moment of a run, by the scene that it shows: where pairs of maps lie, which blocks are not reclaimed, and what waits behind tables.
 ghost use Rattle.std.specs.Prelude.{ℕ, Bool};
 ghost use Rattle.papaya_spots.specs.Deferred.{EffectsLeaveOutside, EachWaitsOutside, CallsLeaveOutside};
-ghost use Rattle.papaya_spots.specs.OnSlots.{RowsLeavePlaces};
+ghost use Rattle.papaya_spots.specs.OnSlots.{RowsLeavePlaces, RowsKeepBlocks};
 ghost use Rattle.papaya_spots.specs.Placed.{PlacesNamePairs, CallsFindPlaces};
 ghost use Rattle.papaya_spots.specs.Steps.{PlacesBegin, BlocksBegin, CallsLeavePlaces, CallsKeepPlaces, CallsKeepBlocks};
 
@@ -18,10 +18,12 @@ pub fn moments_show_places<K, V, S>()
 {}
 
 /// The blocks of pairs and tables of maps are those of the pairs that were stored, and the tables that were linked, and that no moment calls reclaimed. So it
-/// is at first, and each step of a call leads on from there, where a row of the collector takes no block away.
+/// is at first, and each step of a call leads on from there, where a row of the collector takes no block away; and each of a row on a slot, where what waits
+/// behind a table that it reclaims is not reclaimed.
 pub fn blocks_are_unreclaimed<K, V, S>()
     ensures begins { BlocksBegin K V }
     ensures calls { (same : K → K → Bool) (hash : K → ℕ) → CallsKeepBlocks K V S same hash }
+    ensures rows { (same : K → K → Bool) (hash : K → ℕ) → RowsKeepBlocks K V S same hash }
 {}
 
 /// What waits behind a table is in no map: so it is after any effects that find numbers as they must, behind each table, and after each step of a call, and
