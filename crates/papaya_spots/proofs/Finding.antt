@@ -1,5 +1,5 @@
 -- What the effects of a step of a call find where pairs lie.
-use Rattle.std.specs.Prelude.{◌≡◌, ◌≢◌, ℕ, zero, suc, ◌+◌, ◌<◌, ◌≤◌, ◌==◌, nat_lt, Bool, true, false, ◌&&◌, ◌||◌, List, [], ◌∷◌, ◌++◌, filter, length, Option, Some, if◌then◌else◌, ◌⊎◌}
+use Rattle.std.specs.Prelude.{◌≡◌, ℕ, zero, suc, ◌+◌, ◌<◌, ◌≤◌, ◌==◌, nat_lt, Bool, true, false, ◌&&◌, ◌||◌, List, [], ◌∷◌, filter, length, Option, if◌then◌else◌, ◌⊎◌}
 use Rattle.std.specs.List.{list_any}
 use Rattle.std.proofs.Common.{refl, ap, sym, subst, ◌∙◌, arith, inl, inr}
 use Rattle.std.proofs.lemmas.Bool.{eq-eqb, cases_eq, cases_lt}
@@ -15,12 +15,12 @@ use Rattle.papaya_schedules.specs.declared.effect.Spot.{Spot}
 use Rattle.papaya_schedules.specs.Lists.{numbers_from}
 use Rattle.papaya_schedules.specs.Lives.{has_pair_at, MayCopy}
 use Rattle.papaya_schedules.specs.declared.effect.Table.{Table}
-use Rattle.papaya_schedules.specs.Moment.{Place, InMap, GivenBack, Stage, TableThere, Moment}
+use Rattle.papaya_schedules.specs.Moment.{Place, GivenBack, Stage, TableThere, Moment}
 use Rattle.papaya_schedules.specs.Things.{same_table, same_spot}
-use Rattle.papaya_schedules.specs.Views.{is_in_map, is_there, is_linked, first_of, tables_of, is_stage, is_place}
+use Rattle.papaya_schedules.specs.Views.{is_in_map, is_there, is_linked, is_stage, is_place}
 use Rattle.papaya_teller.specs.declared.changed.Changed.{Changed}
 use Rattle.papaya_teller.specs.declared.changed.Changed.TheVariants as changed
-use Rattle.papaya_rule.specs.Chart.{Phase, Still, Copying, Empty, Holds, Chart}
+use Rattle.papaya_rule.specs.Chart.{Still, Copying, Empty, Holds, Chart}
 use Rattle.papaya_rule.specs.Moments.{Moments}
 use Rattle.papaya_rule.specs.Rule.{Rule}
 use Rattle.papaya_rule.specs.Moves.{Move, Links, Stores, Replaces, Removes, Marks, MarksBlocking, Skips, Unmarks, Puts, Covers, PutsLate, Claims, Reclaims, Counts, GivesUp, Aborts, Promotes, Announces, MayChange, Allowed}
@@ -48,10 +48,9 @@ use Rattle.papaya_spots.specs.Placed.{FindPlaces}
 use Rattle.papaya_spots.specs.Spots.{ThePair, named_by, spot_in, LiesAt, ShowsSpots}
 use Rattle.papaya_spots.specs.Unreclaimed.{is_unreclaimed, ShowsUnreclaimed}
 use Rattle.papaya_spots.proofs.Born.{late_born}
-use Rattle.papaya_spots.proofs.Calm.{IsCalm}
 use Rattle.papaya_spots.proofs.Copies.{copied_from_root}
-use Rattle.papaya_spots.proofs.Done.{Did, DidStore, DidBy, DidMoved}
-use Rattle.papaya_spots.proofs.Moves.{names_none, named_made}
+use Rattle.papaya_spots.proofs.Done.{DidBy, DidMoved}
+use Rattle.papaya_spots.proofs.Moves.{names_none}
 use Rattle.papaya_spots.proofs.Names.{holds_is}
 use Rattle.papaya_spots.proofs.Placed.{lies_named}
 use Rattle.papaya_spots.proofs.Unreclaimed.{any_either, or_right, and_both, table_is}

@@ -1,8 +1,7 @@
 -- Which blocks are unreclaimed after the block of a pair, or of a table, was taken away.
-use Rattle.std.specs.Prelude.{◌≡◌, ◌≢◌, ℕ, Bool, true, false, ◌&&◌, ◌||◌, List, [], ◌∷◌, map, if◌then◌else◌, ◌⊎◌}
+use Rattle.std.specs.Prelude.{◌≡◌, ◌≢◌, ℕ, Bool, true, false, ◌&&◌, ◌||◌, List, [], ◌∷◌, map, if◌then◌else◌}
 use Rattle.std.specs.List.{list_any}
-use Rattle.std.proofs.Common.{refl, ap, sym, subst, ◌∙◌, inl, inr}
-use Rattle.std.proofs.lemmas.Bool.{cases_eq}
+use Rattle.std.proofs.Common.{refl, ap, sym, subst, ◌∙◌}
 use Rattle.papaya_schedules.specs.declared.effect.Table.{Table}
 use Rattle.papaya_schedules.specs.Effects.{all_at, at_stage}
 use Rattle.papaya_schedules.specs.Lists.{is_among, put}
@@ -16,7 +15,7 @@ use Rattle.papaya_follows.proofs.Alike.{put_here, put_elsewhere}
 use Rattle.papaya_follows.proofs.Onward.{IsOfMap}
 use Rattle.papaya_spots.specs.Unreclaimed.{is_unreclaimed, ShowsUnreclaimed}
 use Rattle.papaya_spots.proofs.Calm.{put_back}
-use Rattle.papaya_spots.proofs.Unreclaimed.{AsUnreclaimed, unreclaimed_same, Now, staged_other, same_itself, table_is}
+use Rattle.papaya_spots.proofs.Unreclaimed.{AsUnreclaimed, unreclaimed_same, Now, staged_other}
 
 module _ {K V : Type 0} (m v : Moment K V) (known : Known) (b : ℕ) (h : ShowsUnreclaimed m known) where
   abbrev roles2 : ℕ → Role

@@ -1,5 +1,5 @@
 -- Which blocks are not reclaimed after a step of a call, by the change of its map's tables, or by what a row has handed over.
-use Rattle.std.specs.Prelude.{◌≡◌, ◌≢◌, ℕ, ◌+◌, ◌<◌, nat_lt, ◌&&◌, Bool, true, false, List, [], ◌∷◌, ◌++◌, Option, Some, if◌then◌else◌, ◌⊎◌}
+use Rattle.std.specs.Prelude.{◌≡◌, ℕ, ◌+◌, nat_lt, ◌&&◌, Bool, true, false, List, [], ◌∷◌, Option, Some, if◌then◌else◌}
 use Rattle.std.specs.List.{list_any}
 use Rattle.std.proofs.Common.{refl, ap, sym, subst, ◌∙◌, arith, inl, inr}
 use Rattle.seize_words.specs.Mem.{Mem}
@@ -17,7 +17,6 @@ use Rattle.papaya_schedules.specs.Views.{is_in_map, is_there}
 use Rattle.papaya_teller.specs.declared.changed.Changed.{Changed}
 use Rattle.papaya_teller.specs.declared.changed.Changed.TheVariants as changed
 use Rattle.papaya_rule.specs.Chart.{Still, Holds, Chart}
-use Rattle.papaya_rule.specs.Rule.{Rule}
 use Rattle.papaya_rule.specs.Moves.{Move, Links, Stores, Replaces, Removes, Marks, MarksBlocking, Skips, Unmarks, Puts, Covers, PutsLate, Claims, Reclaims, Counts, GivesUp, Aborts, Promotes, Announces, MayChange, Allowed}
 use Rattle.papaya_rule.specs.Words.{Blocks}
 use Rattle.papaya_rule.specs.Maps.{spot_of}
@@ -27,7 +26,7 @@ use Rattle.papaya_callers.specs.Sights.{Sight, seen_by, IsGrown, IsSight}
 use Rattle.papaya_callers.specs.Together.{in_slot}
 use Rattle.papaya_finishes.specs.Maps.{Standing}
 use Rattle.papaya_effects.specs.Effects.{effects_of, known_after}
-use Rattle.papaya_effects.specs.Known.{Known, with_pair}
+use Rattle.papaya_effects.specs.Known.{Known}
 use Rattle.papaya_effects.specs.declared.acting.Acting.{Acting}
 use Rattle.papaya_effects.specs.declared.acting.Acting.TheVariants.{Call}
 use Rattle.papaya_effects.specs.declared.role.Role.{Role}
@@ -35,16 +34,16 @@ use Rattle.papaya_effects.specs.declared.role.Role.TheVariants as role
 use Rattle.papaya_follows.specs.Blocks.{ShowsBlocks}
 use Rattle.papaya_follows.specs.Maps.{table_of, ShowsMap}
 use Rattle.papaya_follows.specs.Steps.{TakesNone}
-use Rattle.papaya_follows.proofs.Alike.{AllStill, AreSame, calm_still, still_all}
-use Rattle.papaya_follows.proofs.Onward.{IsLasting, KeepsRoles}
+use Rattle.papaya_follows.proofs.Alike.{AreSame, calm_still, still_all}
+use Rattle.papaya_follows.proofs.Onward.{IsLasting}
 use Rattle.papaya_follows.proofs.Operations.{LeavesBy}
 use Rattle.papaya_follows.proofs.Rows.{HandsOn, IsStill, Puts as PutsBehind, Retires, RowLeaves}
-use Rattle.papaya_follows.proofs.RowSteps.{RowDone, row_done}
+use Rattle.papaya_follows.proofs.RowSteps.{row_done}
 use Rattle.papaya_follows.proofs.Stored.{still_current}
 use Rattle.papaya_spots.specs.Spots.{spot_in}
 use Rattle.papaya_spots.specs.Unreclaimed.{is_unreclaimed, ShowsUnreclaimed}
 use Rattle.papaya_spots.proofs.Calm.{IsCalm}
-use Rattle.papaya_spots.proofs.Done.{Did, DidStore, DidBy, DidMoved}
+use Rattle.papaya_spots.proofs.Done.{DidBy, DidMoved}
 use Rattle.papaya_spots.proofs.Finding.{turn_below, listed_there}
 use Rattle.papaya_spots.proofs.Named.{HaveBlocks, written_named}
 use Rattle.papaya_spots.proofs.Unreclaimed.{AsUnreclaimed, stay_of_maps, unreclaimed_same, moved_unreclaimed, stored_unreclaimed, linked_unreclaimed, retired_unreclaimed}

@@ -1,7 +1,6 @@
 -- A step of a row within a call leaves pairs where they lie: it hands over, or takes away, what has left its map.
 use Rattle.std.specs.Prelude.{◌≡◌, ℕ, nat_lt, Bool, true, false, List, [], ◌∷◌, if◌then◌else◌}
 use Rattle.std.proofs.Common.{refl, ap, sym, subst, ◌∙◌}
-use Rattle.seize_words.specs.Mem.{Mem}
 use Rattle.seize.specs.World.{World}
 use Rattle.papaya_tables.specs.declared.node.Node.{Node}
 use Rattle.papaya_schedules.specs.declared.effect.Effect.{Effect}

@@ -1,14 +1,13 @@
 -- Which blocks are not reclaimed after the effects of a step of a call.
-use Rattle.std.specs.Prelude.{◌≡◌, ◌≢◌, ℕ, ◌+◌, ◌==◌, nat_lt, Bool, true, false, ◌&&◌, ◌||◌, List, [], ◌∷◌, ◌++◌, map, Option, Some, if◌then◌else◌, ◌⊎◌}
+use Rattle.std.specs.Prelude.{◌≡◌, ◌≢◌, ℕ, ◌+◌, ◌==◌, Bool, true, false, ◌&&◌, ◌||◌, List, [], ◌∷◌, ◌++◌, map, if◌then◌else◌, ◌⊎◌}
 use Rattle.std.specs.List.{list_any}
 use Rattle.std.proofs.Common.{refl, ap, sym, subst, ◌∙◌, arith, inl, inr}
 use Rattle.std.proofs.lemmas.Bool.{eq-eqb, cases_eq}
 use Rattle.papaya_runs.specs.declared.outcome.TableShape.{TableShape}
-use Rattle.papaya_schedules.specs.declared.effect.Effect.{Effect}
 use Rattle.papaya_schedules.specs.declared.effect.Table.{Table}
 use Rattle.papaya_schedules.specs.Effects.{at_stage}
 use Rattle.papaya_schedules.specs.Lists.{put}
-use Rattle.papaya_schedules.specs.Moment.{Place, Unborn, InMap, Out, Handed, Behind, Left, GivenBack, Stage, IsLinked, IsRetired, IsReclaimed, IsTaken, TableThere, Moment}
+use Rattle.papaya_schedules.specs.Moment.{Place, Stage, IsLinked, IsRetired, TableThere, Moment}
 use Rattle.papaya_schedules.specs.Things.{same_table}
 use Rattle.papaya_schedules.specs.Views.{is_there, is_stage}
 use Rattle.papaya_effects.specs.Known.{Known, with_pair, with_role}

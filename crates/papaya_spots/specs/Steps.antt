@@ -10,7 +10,7 @@ use Rattle.papaya_effects.specs.Effects.{effects_of, known_after}
 use Rattle.papaya_effects.specs.Known.{Known, nothing_known}
 use Rattle.papaya_effects.specs.declared.acting.Acting.TheVariants.{Call}
 use Rattle.papaya_executor.specs.IsAt.{Scene, IsAt, at_first}
-use Rattle.papaya_executor.specs.Stepping.{StepLeads, scene_after}
+use Rattle.papaya_executor.specs.Stepping.{StepLeads}
 use Rattle.papaya_executor.specs.declared.executor.Executor.{Executor}
 use Rattle.papaya_follows.specs.Shows.{Shows}
 use Rattle.papaya_follows.specs.Steps.{TakesNone, IsOfNoRow}
