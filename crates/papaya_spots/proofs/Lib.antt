@@ -21,3 +21,4 @@ pub mod Numbers
 pub mod Begins
 pub mod Steps
 pub mod OnSlots
+pub mod Makings

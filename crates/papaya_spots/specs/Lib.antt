@@ -4,3 +4,4 @@ pub mod Deferred
 pub mod Placed
 pub mod Steps
 pub mod OnSlots
+pub mod Makings

@@ -1,6 +1,7 @@
 //! What is promised of a moment of a run, by the scene that it shows: where pairs of maps lie, which blocks are not reclaimed, and what waits behind tables.
 ghost use Rattle.std.specs.Prelude.{ℕ, Bool};
 ghost use Rattle.papaya_spots.specs.Deferred.{EffectsLeaveOutside, EachWaitsOutside, CallsLeaveOutside};
+ghost use Rattle.papaya_spots.specs.Makings.{MakingsLeavePlaces};
 ghost use Rattle.papaya_spots.specs.OnSlots.{RowsLeavePlaces, RowsKeepBlocks};
 ghost use Rattle.papaya_spots.specs.Placed.{PlacesNamePairs, CallsFindPlaces};
 ghost use Rattle.papaya_spots.specs.Steps.{PlacesBegin, BlocksBegin, CallsLeavePlaces, CallsKeepPlaces, CallsKeepBlocks};
@@ -27,10 +28,11 @@ pub fn blocks_are_unreclaimed<K, V, S>()
 {}
 
 /// What waits behind a table is in no map: so it is after any effects that find numbers as they must, behind each table, and after each step of a call, and
-/// of a row on a slot, which leaves pairs where they lie, too.
+/// of a row on a slot, or of the making of a map, which leave pairs where they lie, too.
 pub fn pairs_wait_outside<K, V, S>()
     ensures effects { EffectsLeaveOutside K V }
     ensures each { EachWaitsOutside K V }
     ensures calls { (same : K → K → Bool) (hash : K → ℕ) → CallsLeaveOutside K V S same hash }
     ensures rows { (same : K → K → Bool) (hash : K → ℕ) → RowsLeavePlaces K V S same hash }
+    ensures makings { (same : K → K → Bool) (hash : K → ℕ) → MakingsLeavePlaces K V S same hash }
 {}
