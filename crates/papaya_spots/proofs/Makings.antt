@@ -1,14 +1,13 @@
 -- A step of the making of a map leaves pairs where they lie, and no pair lies in its map.
-use Rattle.std.specs.Prelude.{◌≡◌, ◌≢◌, ℕ, zero, suc, ◌<◌, Bool, true, false, List, [], ◌∷◌, Option, Some, None, if◌then◌else◌, ◌⊎◌}
+use Rattle.std.specs.Prelude.{◌≡◌, ◌≢◌, ℕ, Bool, true, false, List, [], ◌∷◌, Option, Some, None, if◌then◌else◌}
 use Rattle.std.proofs.Common.{refl, ap, sym, subst, ◌∙◌, arith, inl, inr}
 use Rattle.std.proofs.lemmas.Bool.{cases_eq}
 use Rattle.seize_words.specs.Mem.{word_at}
 use Rattle.seize_words.specs.Word.{block_in}
 use Rattle.seize_words.specs.declared.at.At.TheVariants.{Root, Used, Slot, Entry, Word}
-use Rattle.seize.specs.World.{World, with_at}
+use Rattle.seize.specs.World.{World}
 use Rattle.seize.specs.declared.progress.Progress.{Progress}
 use Rattle.seize.specs.declared.progress.Progress.TheVariants as progress
-use Rattle.papaya_tables.specs.Chunks.{is_incremental}
 use Rattle.papaya_tables.specs.declared.node.Node.{Node}
 use Rattle.papaya_tables.specs.declared.setting.Setting.{Setting}
 use Rattle.papaya_tables.specs.declared.status.TheConstants.Status.{ABORTED}
@@ -18,7 +17,6 @@ use Rattle.papaya_schedules.specs.declared.effect.Effect.TheVariants.{Asked}
 use Rattle.papaya_schedules.specs.declared.effect.Growth.TheVariants.{ABlock}
 use Rattle.papaya_schedules.specs.declared.effect.Table.{Table}
 use Rattle.papaya_schedules.specs.Effects.{with_effects, AtEachEffect}
-use Rattle.papaya_schedules.specs.Lists.{put}
 use Rattle.papaya_schedules.specs.Moment.{Moment}
 use Rattle.papaya_teller.specs.declared.changed.Changed.{Changed}
 use Rattle.papaya_teller.specs.declared.changed.Changed.TheVariants as changed
@@ -34,10 +32,9 @@ use Rattle.papaya_effects.specs.declared.acting.Acting.{Acting}
 use Rattle.papaya_effects.specs.declared.acting.Acting.TheVariants.{Making}
 use Rattle.papaya_effects.specs.declared.role.Role.{Role}
 use Rattle.papaya_effects.specs.declared.role.Role.TheVariants as role
-use Rattle.papaya_executor.specs.IsAt.{Scene, IsAt}
-use Rattle.papaya_executor.specs.Making.{MakingLeads, MakingComesTo}
+use Rattle.papaya_executor.specs.IsAt.{Scene}
+use Rattle.papaya_executor.specs.Making.{MakingComesTo}
 use Rattle.papaya_executor.specs.declared.executor.Executor.{Executor}
-use Rattle.papaya_follows.specs.Shows.{Shows}
 use Rattle.papaya_follows.proofs.Alike.{put_here, put_elsewhere}
 use Rattle.papaya_follows.proofs.Operations.{LeavesBy}
 use Rattle.papaya_follows.proofs.Steps.{one_of}
@@ -46,12 +43,11 @@ use Rattle.papaya_others.specs.Makings.{making_after}
 use Rattle.papaya_others.proofs.MakingPlans.{TellsMaking}
 use Rattle.papaya_others.proofs.Makes.{tells, left, no_table_word}
 use Rattle.papaya_others.proofs.Stays.{same_maps}
-use Rattle.papaya_spots.specs.Deferred.{WaitOutside, FindsNumbers}
+use Rattle.papaya_spots.specs.Deferred.{FindsNumbers}
 use Rattle.papaya_spots.specs.Makings.{MakingsLeavePlaces}
 use Rattle.papaya_spots.specs.Spots.{IsPairOf, ShowsSpots, ShowsPlaces}
 use Rattle.papaya_spots.proofs.Deferred.{effects_leave_outside}
 use Rattle.papaya_spots.proofs.Effects.{AllAside}
-use Rattle.papaya_spots.proofs.Elsewhere.{stored_grows}
 use Rattle.papaya_spots.proofs.Rows.{same_pairs}
 use Rattle.papaya_spots.proofs.Stays.{WerePairs, places_stay}
 

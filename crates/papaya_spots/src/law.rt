@@ -4,7 +4,7 @@ ghost use Rattle.papaya_spots.specs.Deferred.{EffectsLeaveOutside, EachWaitsOuts
 ghost use Rattle.papaya_spots.specs.Makings.{MakingsLeavePlaces};
 ghost use Rattle.papaya_spots.specs.OnSlots.{RowsLeavePlaces, RowsKeepBlocks};
 ghost use Rattle.papaya_spots.specs.Placed.{PlacesNamePairs, CallsFindPlaces};
-ghost use Rattle.papaya_spots.specs.Steps.{PlacesBegin, BlocksBegin, CallsLeavePlaces, CallsKeepPlaces, CallsKeepBlocks};
+ghost use Rattle.papaya_spots.specs.Steps.{PlacesBegin, BlocksBegin, CallsLeavePlaces, FewerMapsStand, CallsKeepPlaces, CallsKeepBlocks};
 
 /// The pairs of each map that stands lie, at a moment of a run, where the tables of the map name them: each in the last table that does, in incremental
 /// mode, and in the root, in blocking mode, with its newest copy where the table behind the root has it. Nothing lies anywhere at first, and each step of a
@@ -14,6 +14,7 @@ pub fn moments_show_places<K, V, S>()
     ensures begins { PlacesBegin K V }
     ensures calls { (same : K → K → Bool) (hash : K → ℕ) → CallsKeepPlaces K V S same hash }
     ensures left { CallsLeavePlaces K V }
+    ensures fewer { FewerMapsStand K V }
     ensures names { (same : K → K → Bool) (hash : K → ℕ) → PlacesNamePairs K V S same hash }
     ensures finds { (same : K → K → Bool) (hash : K → ℕ) → CallsFindPlaces K V S same hash }
 {}
