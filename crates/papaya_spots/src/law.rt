@@ -5,6 +5,7 @@ ghost use Rattle.papaya_spots.specs.Makings.{MakingsLeavePlaces};
 ghost use Rattle.papaya_spots.specs.OnSlots.{RowsLeavePlaces, RowsKeepBlocks};
 ghost use Rattle.papaya_spots.specs.Placed.{PlacesNamePairs, CallsFindPlaces};
 ghost use Rattle.papaya_spots.specs.Steps.{PlacesBegin, BlocksBegin, CallsLeavePlaces, FewerMapsStand, CallsKeepPlaces, CallsKeepBlocks};
+ghost use Rattle.papaya_spots.specs.Unreclaimed.{UnreclaimedAreThere};
 
 /// The pairs of each map that stands lie, at a moment of a run, where the tables of the map name them: each in the last table that does, in incremental
 /// mode, and in the root, in blocking mode, with its newest copy where the table behind the root has it. Nothing lies anywhere at first, and each step of a
@@ -21,11 +22,12 @@ pub fn moments_show_places<K, V, S>()
 
 /// The blocks of pairs and tables of maps are those of the pairs that were stored, and the tables that were linked, and that no moment calls reclaimed. So it
 /// is at first, and each step of a call leads on from there, where a row of the collector takes no block away; and each of a row on a slot, where what waits
-/// behind a table that it reclaims is not reclaimed.
+/// behind a table that it reclaims is not reclaimed. What is not reclaimed is in the memory, in a block that was linked.
 pub fn blocks_are_unreclaimed<K, V, S>()
     ensures begins { BlocksBegin K V }
     ensures calls { (same : K → K → Bool) (hash : K → ℕ) → CallsKeepBlocks K V S same hash }
     ensures rows { (same : K → K → Bool) (hash : K → ℕ) → RowsKeepBlocks K V S same hash }
+    ensures there { (same : K → K → Bool) → UnreclaimedAreThere K V same }
 {}
 
 /// What waits behind a table is in no map: so it is after any effects that find numbers as they must, behind each table, and after each step of a call, and
