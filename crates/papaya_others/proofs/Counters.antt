@@ -1,6 +1,6 @@
 -- The counters of makings are noted after a step of a call, of a row, and of an end.
 use Rattle.std.specs.Prelude.{◌≡◌, ℕ, Bool, Some}
-use Rattle.std.proofs.Common.{refl, subst}
+use Rattle.std.proofs.Common.{subst}
 use Rattle.seize_words.specs.Mem.{Can, Took, value_at}
 use Rattle.seize_words.specs.Plan.{May}
 use Rattle.seize.specs.declared.rows.settle.Settled.{Settled}
@@ -13,12 +13,10 @@ use Rattle.papaya_finishes.specs.Endings.{StepsOfEnding}
 use Rattle.papaya_finishes.specs.Makings.{Beginning}
 use Rattle.papaya_finishes.specs.Machines.{machine_of}
 use Rattle.papaya_effects.specs.Effects.{known_after}
-use Rattle.papaya_effects.specs.Known.{Known}
 use Rattle.papaya_effects.specs.declared.acting.Acting.TheVariants as acts
 use Rattle.papaya_executor.specs.Ending.{EndingStepsFrom, EndingComesTo}
 use Rattle.papaya_executor.specs.IsAt.{Scene, IsAt, slot_of}
 use Rattle.papaya_executor.specs.Stepping.{scene_after}
-use Rattle.papaya_executor.specs.declared.executor.Executor.{Executor}
 use Rattle.papaya_executor.proofs.Endings.{has_ending, taken_ending, may_taken as may_end}
 use Rattle.papaya_executor.proofs.OnSlots.{row_at, may_taken}
 use Rattle.papaya_executor.proofs.Steps.{may_step}
