@@ -1,8 +1,7 @@
 -- What calls on one key were told, and ask, lasts by steps of calls, whoever takes them.
-use Rattle.std.specs.Prelude.{◌≡◌, ◌≢◌, ℕ, ◌<◌, ◌≤◌, Bool, true, List, [], ◌∷◌, Option, Some, None, ◌⊎◌}
+use Rattle.std.specs.Prelude.{◌≡◌, ◌≢◌, ℕ, ◌<◌, ◌≤◌, Bool, List, [], ◌∷◌, Option, Some, None, ◌⊎◌}
 use Rattle.std.proofs.Common.{refl, ap, sym, subst, ◌∙◌, arith, inl, inr}
 use Rattle.std.proofs.lemmas.Bool.{cases_eq}
-use Rattle.seize_words.specs.Mem.{Mem}
 use Rattle.seize_words.specs.Plan.{plan_as}
 use Rattle.seize_words.specs.Word.{block_in}
 use Rattle.seize.specs.World.{World, with_at}
@@ -22,18 +21,15 @@ use Rattle.papaya_schedules.specs.declared.call.Call.{Call}
 use Rattle.papaya_schedules.specs.declared.call.Call.TheVariants as call
 use Rattle.papaya_schedules.specs.declared.call.OneKey.{OneKey}
 use Rattle.papaya_schedules.specs.declared.call.Reply.{Reply}
-use Rattle.papaya_schedules.specs.Moment.{Asking, Stands, UnderWay as CallThere}
+use Rattle.papaya_schedules.specs.Moment.{UnderWay as CallThere}
 use Rattle.papaya_teller.specs.Tells.{StepsTold}
 use Rattle.papaya_teller.specs.declared.changed.Changed.TheVariants.{Nothing}
 use Rattle.papaya_points.specs.FactsCalls.{Change}
 use Rattle.papaya_callers.specs.Asked.{Asked}
-use Rattle.papaya_callers.specs.Pairs.{Given}
 use Rattle.papaya_callers.specs.OverAll.{come_to, gone_on}
 use Rattle.papaya_callers.specs.Together.{CallOnKey, UnderWay, OnKey, ForRoom, Counting, OverAll, next_of, change_told}
 use Rattle.papaya_callers.proofs.Together.At.{at_other, at_same}
 use Rattle.papaya_effects.specs.Known.{Known}
-use Rattle.papaya_effects.specs.declared.role.Role.{Role}
-use Rattle.papaya_effects.specs.declared.role.Role.TheVariants as role
 use Rattle.papaya_executor.specs.IsAt.{slot_of}
 use Rattle.papaya_executor.specs.Stepping.{StepsFrom}
 use Rattle.papaya_executor.specs.declared.executor.Executor.{Executor}
@@ -44,7 +40,7 @@ use Rattle.papaya_finishes.specs.Maps.{Standing, with_call}
 use Rattle.papaya_follows.specs.Steps.{Did}
 use Rattle.papaya_follows.proofs.Called.{key_goes_on, room_goes_on, counting_goes_on, sweep_goes_on}
 use Rattle.papaya_follows.proofs.Onward.{IsLasting, KeepsRoles}
-use Rattle.papaya_hands.specs.Asked.{given_by, KnowsFirst, IsSameQuestion, AreReplies, IsQuestion, AsksThere, IsAskedOn, IsAskedAs, IsAsked}
+use Rattle.papaya_hands.specs.Asked.{IsSameQuestion, AreReplies, IsQuestion, IsAskedOn, IsAskedAs, IsAsked}
 use Rattle.papaya_hands.proofs.Replacing.{IsOn}
 
 module _ (known known2 : Known) (keeps : KeepsRoles known known2) where

@@ -1,5 +1,5 @@
 -- Where a call begins, or has come to an outcome, each call under way was asked and told as the moment says.
-use Rattle.std.specs.Prelude.{◌≡◌, ◌≢◌, ℕ, ◌+◌, Bool, true, false, cond, not, List, [], ◌∷◌, filter, find, map, Option, Some, None, if◌then◌else◌, ◌⊎◌}
+use Rattle.std.specs.Prelude.{◌≡◌, ℕ, ◌+◌, Bool, true, false, cond, not, List, [], find, map, Option, Some, if◌then◌else◌, ◌⊎◌}
 use Rattle.std.proofs.Common.{refl, ap, sym, subst, ◌∙◌, inl, inr}
 use Rattle.papaya_runs.specs.Same.{is_same}
 use Rattle.papaya_schedules.specs.declared.call.Call.{Call}
@@ -7,7 +7,7 @@ use Rattle.papaya_schedules.specs.declared.call.Call.TheVariants as call
 use Rattle.papaya_schedules.specs.declared.call.OneKey.{OneKey}
 use Rattle.papaya_schedules.specs.declared.outcome.Outcome.{Outcome}
 use Rattle.papaya_schedules.specs.declared.outcome.Outcome.TheVariants as outcome
-use Rattle.papaya_schedules.specs.After.{asks_on, comes_to, without_call}
+use Rattle.papaya_schedules.specs.After.{asks_on, without_call}
 use Rattle.papaya_schedules.specs.Beginning.{fresh_call, with_call}
 use Rattle.papaya_schedules.specs.Entry.{ends_call}
 use Rattle.papaya_schedules.specs.Moment.{Stands, Going, Asking, Told, IsReady, UnderWay as CallThere, Moment}
@@ -21,9 +21,11 @@ use Rattle.papaya_follows.specs.Shows.{Shows}
 use Rattle.papaya_follows.proofs.Calling.{is_same_refl, is_same_is, apart_back, found_passes, found_kept, begins_with, come, come_of_same, come_with}
 use Rattle.papaya_follows.proofs.Calls.{changed, found}
 use Rattle.papaya_follows.proofs.Steps.{one_of}
-use Rattle.papaya_hands.specs.Asked.{given_by, AreReplies, AsksThere, IsAskedOn, IsAskedAs, IsAsked, ShowsAsked}
+use Rattle.papaya_hands.specs.Asked.{AreReplies, AsksThere, IsAskedOn, IsAskedAs, IsAsked, ShowsAsked}
 use Rattle.papaya_hands.specs.Calling.{IsBegunFor, AsksJust, CallsBeginFor, CallsComeToSo}
 use Rattle.papaya_hands.proofs.Asking.{which}
+use Rattle.papaya_hands.proofs.RowsOn.{rows_with}
+use Rattle.papaya_hands.specs.Taking.{ReclaimsNone}
 use Rattle.papaya_hands.proofs.HandsOn.{hands_with}
 
 module _ {K V : Type 0} (number : ℕ → ℕ) (stored : ℕ) (known : Known) where
@@ -50,7 +52,7 @@ module _ {K V : Type 0} (number : ℕ → ℕ) (stored : ℕ) (known : Known) wh
       replies = subst (AreReplies number stored h.asked) (sym replies) h.replies;
       first = h.first;
       replacing = replacing ∙ h.replacing;
-      asks = λ q stands. elim (asks q stands) as (λ _. AsksThere known u.call.stands q) [ | inl was ↦ h.asks q was | inr now ↦ now ];
+      asks = λ q stands. elim (asks q stands) as (λ _. AsksThere known u.call.stands q) [ inl was ↦ h.asks q was | inr now ↦ now ];
     }
 
     as_stands : (x : Call K V) → IsAskedAs number stored known u x c → IsAskedAs number stored known u x d
@@ -126,7 +128,7 @@ module _ {K V : Type 0} (same : K → K → Bool) (name : ℕ → List ℕ) (m :
           → IsAsked (shown.number n) st.chart.stored known x c
       one n j x st there c is (inl a) =
           let first : ◌≡◌ {A = Option (CallThere K V)} (Some fresh) (Some c) =
-              sym (ap (λ z. cond z (Some fresh) (find (λ y. is_same y.caller (name j)) m.calls)) (ap (λ (k : ℕ). is_same (name i) (name k)) a.1 ∙ is_same_refl (name i))) ∙ is in
+          sym (ap (λ z. cond z (Some fresh) (find (λ y. is_same y.caller (name j)) m.calls)) (ap (λ (k : ℕ). is_same (name i) (name k)) a.1 ∙ is_same_refl (name i))) ∙ is in
           subst (λ (y : UnderWay K V K). IsAsked (shown.number n) st.chart.stored known y c) (one_of u x a.2)
           (asked_as (shown.number n) st.chart.stored known u fresh c (one_of fresh c first) (fresh_asked (shown.number n) st.chart.stored known u its (name i) guard of m.events begun))
       one n j x st there c is (inr a) =
@@ -144,13 +146,13 @@ module _ {K V : Type 0} (same : K → K → Bool) (name : ℕ → List ℕ) (m :
           let kept : not (is_same was.0.caller own) ≡ true = ap (λ (l : List ℕ). not (is_same l own)) (caller_is (name j) m was.0 was.1) ∙ ap not (apart_back own (name j) (ended e n j x is)) in
           let here = found_kept (λ y. is_same y.caller (name j)) (λ y. not (is_same y.caller own)) m.calls was.0 was.1 kept in
           let now : find (λ y. is_same y.caller (name j)) (without_call own m.calls) ≡ Some c =
-              sym (ap (λ z. find (λ y. is_same y.caller (name j)) (if z then without_call own m.calls else map (λ y. if is_same y.caller own then come o steps y else y) m.calls)) e) ∙ is_found in
+          sym (ap (λ z. find (λ y. is_same y.caller (name j)) (if z then without_call own m.calls else map (λ y. if is_same y.caller own then come o steps y else y) m.calls)) e) ∙ is_found in
           asked_as (shown.number n) st.chart.stored known x was.0 c (one_of was.0 c (sym here ∙ now)) (asked.each n j x is st there was.0 was.1)
       one n j x is st there c false e is_found =
           let was = shown.calls n j x is in
           let here = found (come o steps) (come_of_same o steps) own (name j) m.calls was.0 was.1 in
           let now : find (λ y. is_same y.caller (name j)) (map (λ y. if is_same y.caller own then come o steps y else y) m.calls) ≡ Some c =
-              sym (ap (λ z. find (λ y. is_same y.caller (name j)) (if z then without_call own m.calls else map (λ y. if is_same y.caller own then come o steps y else y) m.calls)) e) ∙ is_found in
+          sym (ap (λ z. find (λ y. is_same y.caller (name j)) (if z then without_call own m.calls else map (λ y. if is_same y.caller own then come o steps y else y) m.calls)) e) ∙ is_found in
           asked_as (shown.number n) st.chart.stored known x (changed (come o steps) (come_of_same o steps) own was.0) c (one_of (changed (come o steps) (come_of_same o steps) own was.0) c (sym here ∙ now))
           (by_name was.0 (is_same was.0.caller own) refl was.1)
         where
@@ -161,13 +163,14 @@ module _ {K V : Type 0} (same : K → K → Bool) (name : ℕ → List ℕ) (m :
 
 module _ (K V : Type 0) (same : K → K → Bool) where
   pub calls_begin_for : CallsBeginFor K V same
-  calls_begin_for name m known s all of i u its guard apart called begun =
+  calls_begin_for name m known s all of i u its guard apart called begun rests =
       let b = begins_with same name m known s all.shown of i u its guard apart called in
       record {
         shown = b.0;
         asked = subst (λ (f : ℕ → ℕ → ℕ). ShowsAsked name f (with_call (name i) guard its (Some of) m) known (record s { calls = with_in s.calls of i (Some u) })) (sym b.1)
             (begins_asked same name m known s all.shown all.asked of i u its guard apart begun);
         hands = hands_with m known s (with_call (name i) guard its (Some of) m).calls (with_in s.calls of i (Some u)) all.hands;
+        rows = rows_with s of i u all.rows (subst ReclaimsNone (sym rests) tt);
       }
 
   pub calls_come_to_so : CallsComeToSo K V same
@@ -177,4 +180,5 @@ module _ (K V : Type 0) (same : K → K → Bool) where
         shown = b.0;
         asked = subst (λ (f : ℕ → ℕ → ℕ). ShowsAsked name f (come_to own o steps m) known s) (sym b.1) (come_asked same name m known s all.shown all.asked own o steps ended just);
         hands = hands_with m known s (come_to own o steps m).calls s.calls all.hands;
+        rows = all.rows;
       }

@@ -1,8 +1,7 @@
 -- What a step of a call on one key that has changed its map has stored: the pair that the call was begun with, or was told to store.
-use Rattle.std.specs.Prelude.{◌≡◌, ◌≢◌, ℕ, ◌<◌, ◌≤◌, Bool, true, false, Option, Some, None, ◌⊎◌}
-use Rattle.std.proofs.Common.{refl, ap, sym, subst, ◌∙◌, arith, inl, inr}
+use Rattle.std.specs.Prelude.{◌≡◌, ℕ, Bool, Option, Some, ◌⊎◌}
+use Rattle.std.proofs.Common.{refl, sym, subst, arith, inl, inr}
 use Rattle.seize_words.specs.Mem.{Mem}
-use Rattle.seize_words.specs.declared.fault.Fault.{Fault}
 use Rattle.seize.specs.World.{World, with_at}
 use Rattle.papaya_tables.specs.declared.node.Node.{Node}
 use Rattle.papaya_tables.specs.declared.setting.Setting.{Setting}
@@ -16,12 +15,12 @@ use Rattle.papaya_raw.specs.declared.machines.call.Calling.TheVariants as at
 use Rattle.papaya_late.specs.Kinds as kinds
 use Rattle.papaya_rule.specs.Chart.{Chart}
 use Rattle.papaya_rule.specs.Words.{Blocks}
-use Rattle.papaya_points.specs.FactsCalls.{Change, Unchanged, Stored, Replaced, Removed, Seeks, CallingFacts, CallFacts, Tells}
+use Rattle.papaya_points.specs.FactsCalls.{Change, Unchanged, Stored, Replaced, Removed, Seeks, CallingFacts, Tells}
 use Rattle.papaya_callers.specs.Kind.{Kind}
-use Rattle.papaya_callers.specs.Pairs.{Given, Begun, IsTold, kind_of, IsOfKind, StoresGiven, KeepsGiven}
+use Rattle.papaya_callers.specs.Pairs.{Given, Begun, IsTold, kind_of, StoresGiven, KeepsGiven}
 use Rattle.papaya_callers.specs.Rows.{once_over}
 use Rattle.papaya_callers.specs.Sights.{Sight, seen_by}
-use Rattle.papaya_callers.specs.Together.{CallOnKey, UnderWay, OnKey, in_slot, Knows, Stands, next_of, change_told, AnswersOnce, RefusesOnce, StepsTogether}
+use Rattle.papaya_callers.specs.Together.{CallOnKey, UnderWay, OnKey, in_slot, Knows, Stands, change_told, AnswersOnce, StepsTogether}
 use Rattle.papaya_callers.proofs.Together.At.{at_same}
 use Rattle.papaya_hands.proofs.Puts.{MayDo}
 

@@ -1,19 +1,19 @@
 -- A row within a call hands over what has left its map.
-use Rattle.std.specs.Prelude.{◌≡◌, ◌≢◌, ℕ, zero, suc, ◌<◌, ◌≤◌, ◌==◌, ◌/◌, nat_lt, Bool, true, false, List, [], ◌∷◌, Option, Some, None, if◌then◌else◌, ◌⊎◌}
+use Rattle.std.specs.Prelude.{◌≡◌, ℕ, zero, suc, ◌<◌, ◌==◌, ◌/◌, nat_lt, Bool, true, false, List, [], ◌∷◌, Some, None, if◌then◌else◌, ◌⊎◌}
 use Rattle.std.proofs.Common.{refl, ap, sym, subst, ◌∙◌, arith, inl, inr}
-use Rattle.std.proofs.lemmas.Bool.{eq-eqb, eqb-true, cases_eq, cases_lt}
+use Rattle.std.proofs.lemmas.Bool.{eq-eqb, cases_lt}
 use Rattle.seize_words.specs.declared.at.At.{At}
 use Rattle.seize_words.specs.declared.at.At.TheVariants.{Root, Used, Slot, Entry, Word}
 use Rattle.seize_words.specs.Mem.{Mem, value_at, word_at}
 use Rattle.seize_words.specs.Word.{block_in}
 use Rattle.seize.specs.declared.states.TheConstants.{FIRST}
-use Rattle.seize.specs.World.{World, Hand, NoBlock, Making, InUse, Parting, Cutting, Handed, LeftTo, Row, Request, Register', Enter', Leave', LeaveOwned, Refresh, Unregister', Retire, Flush, Defer', Begin, Steps', Happens, times}
+use Rattle.seize.specs.World.{World, Hand, NoBlock, Making, InUse, Parting, Cutting, Handed, LeftTo, Request, Register', Enter', Leave', LeaveOwned, Refresh, Unregister', Retire, Flush, Defer', Begin, Steps', Happens, times}
 use Rattle.seize.specs.Sequence.{taken_in}
 use Rattle.seize_alone.proofs.Histories.NotTaken.{did, taken_gone}
 use Rattle.seize_alone.proofs.Histories.Reached.{Reached}
 use Rattle.seize_alone.proofs.Spared.Rows.{RowStepped}
 use Rattle.seize_rule.proofs.Rows.Effects.{hand_kept}
-use Rattle.seize_moves.proofs.State.Ghost.{Life, IsFree, IsOwned, IsLinked, IsUnlinked, IsDeferring, IsDeferred, IsPending, IsIn, IsDoomed, IsLeft}
+use Rattle.seize_moves.proofs.State.Ghost.{Life}
 use Rattle.seize_rule.proofs.Points.Aside.{is_handed, HandFits}
 use Rattle.papaya_rule.proofs.World.Hands.{at_cases}
 use Rattle.papaya_rule.specs.InWorld.{IsHeldBy}
@@ -27,7 +27,6 @@ use Rattle.papaya_schedules.specs.declared.effect.Growth.TheVariants.{ABlock, AB
 use Rattle.papaya_schedules.specs.declared.effect.Spot.{Spot}
 use Rattle.papaya_schedules.specs.declared.effect.Table.{Table}
 use Rattle.papaya_schedules.specs.declared.effect.Thing.TheVariants.{APair, ATable}
-use Rattle.papaya_schedules.specs.Effects.{AtEachEffect}
 use Rattle.papaya_schedules.specs.Moment.{MapThere, Moment}
 use Rattle.papaya_schedules.specs.Views.{is_in_a_map, map_at}
 use Rattle.papaya_teller.specs.declared.changed.Changed.{Changed}
@@ -43,7 +42,7 @@ use Rattle.papaya_effects.specs.declared.acting.Acting.TheVariants as acts
 use Rattle.papaya_effects.specs.declared.role.Role.{Role}
 use Rattle.papaya_effects.specs.declared.role.Role.TheVariants as role
 use Rattle.papaya_executor.specs.IsAt.{Scene}
-use Rattle.papaya_follows.specs.Steps.{HasLeft, HandTheirs}
+use Rattle.papaya_follows.specs.Steps.{HandTheirs}
 use Rattle.papaya_follows.proofs.Operations.{LeavesBy}
 use Rattle.papaya_hands.specs.Hands.{IsInUse, ShowsHands}
 use Rattle.papaya_hands.proofs.Handing.{IsHanding, IsHandingRow, HandsOne, row_hands}
@@ -256,10 +255,10 @@ module _ {K V : Type 0} (name : List ℕ) (caller map : ℕ) (m : Moment K V) (k
     written_left values (Slot t field) old new was is = tt
     written_left values (Entry b field) old new was is =
         left_if (names_same old new) [] (batched its field (known.roles b)) (λ e. tt) (λ e.
-        batched_left b field (λ first used. elim (out values (Entry b field) first old new was is) as (λ _. ⊥) [ | inl same ↦ differ old new e same | inr h ↦ h used ]) (known.roles b) refl)
+        batched_left b field (λ first used. elim (out values (Entry b field) first old new was is) as (λ _. ⊥) [ inl same ↦ differ old new e same | inr h ↦ h used ]) (known.roles b) refl)
     written_left values (Word b field) old new was is =
         block_left (known.roles b) field known.stored (names_same old new) (named known old) (block_in new)
-        (λ e list used. elim (out values (Word b field) tt old new was is) as (λ _. ⊥) [ | inl same ↦ differ old new e same | inr h ↦ h used ])
+        (λ e list used. elim (out values (Word b field) tt old new was is) as (λ _. ⊥) [ inl same ↦ differ old new e same | inr h ↦ h used ])
 
     -- so all that it hands over has left its map
     pub all_left : (told : Changed) → LeavesBy s.world.memory w2.memory told → Left (effects_of its known told)

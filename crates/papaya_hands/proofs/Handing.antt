@@ -1,10 +1,10 @@
 -- What a step of a row within a call hands over was on its way to the collector: nobody has it in use.
-use Rattle.std.specs.Prelude.{◌≡◌, ◌≢◌, ℕ, zero, suc, ◌%◌, ◌+◌, ◌^◌, ◌/◌, ◌==◌, Bool, true, false, List, [], ◌∷◌, length, Option, Some, None, Ok, Err, IsSome, if◌then◌else◌, ◌⊎◌}
+use Rattle.std.specs.Prelude.{◌≡◌, ◌≢◌, ℕ, ◌%◌, ◌+◌, ◌^◌, ◌/◌, ◌==◌, Bool, true, false, length, Option, Some, None, Ok, Err, IsSome, if◌then◌else◌, ◌⊎◌}
 use Rattle.std.proofs.Common.{refl, ap, sym, subst, ◌∙◌, arith, inl, inr}
 use Rattle.std.proofs.lemmas.Bool.{eq-eqb}
 use Rattle.seize_words.specs.declared.at.At.{At}
 use Rattle.seize_words.specs.declared.at.At.TheVariants.{Root, Used, Slot, Entry, Word}
-use Rattle.seize_words.specs.Mem.{Mem, Can, Took, Gives, same_at, value_at, value_in, entry_in, word_at, block_of, with_word, with_block, after}
+use Rattle.seize_words.specs.Mem.{Mem, Can, Took, Gives, same_at, value_at, value_in, word_at, block_of, with_word, after}
 use Rattle.seize_words.specs.Op.{Op, Out, Load, Store, Swap, Add, Or, Exchange, Make, Take, Rewrite, Room, Found, Stored, Exchanged, Made, Taken, Roomed}
 use Rattle.seize_words.specs.Plan.{Plan, Turn, Do, May, Steps}
 use Rattle.seize_words.specs.Word.{block_in}
@@ -19,12 +19,12 @@ use Rattle.seize.specs.declared.rows.settle.Settled.{Settled}
 use Rattle.seize.specs.declared.rows.settle.Settled.TheVariants as settled
 use Rattle.seize.specs.declared.rows.settle.Settling.{Settling}
 use Rattle.seize.specs.declared.rows.settle.Settling.TheVariants as at
-use Rattle.seize.specs.declared.states.TheConstants.{FIRST, NEXT, LINK, COUNT, LAST_SLOT}
+use Rattle.seize.specs.declared.states.TheConstants.{FIRST, LAST_SLOT}
 use Rattle.seize.specs.Defer as defer
 use Rattle.seize.specs.Settle.{settle_plan, plan_at}
 use Rattle.seize.specs.World.{World, Row, Rests, Registers, Enters, Settles, Leaves, Defers, Frees, Steps', settles_on, defers_on}
 use Rattle.seize_alone.proofs.Histories.Reached.{Reached}
-use Rattle.seize_moves.proofs.State.Ghost.{State, IsPending, IsDeferring}
+use Rattle.seize_moves.proofs.State.Ghost.{IsPending}
 use Rattle.seize_rule.proofs.Points.Aside.{is_handed}
 use Rattle.seize_rule.proofs.Points.Known.{FitsAt, bare}
 use Rattle.seize_rule.proofs.Points.Retire.{of_link}

@@ -1,9 +1,8 @@
 -- After a step of a call, what the moment has in maps is in use there, or left over.
-use Rattle.std.specs.Prelude.{◌≡◌, ◌≢◌, ℕ, suc, ◌<◌, ◌≤◌, Bool, true, false, List, length, Option, Some, None, ◌⊎◌}
+use Rattle.std.specs.Prelude.{◌≡◌, ℕ, ◌<◌, ◌≤◌, Bool, true, List, length, Option, Some, None}
 use Rattle.std.proofs.Common.{refl, ap, sym, subst, ◌∙◌, arith, inl, inr}
 use Rattle.std.proofs.lemmas.Bool.{eq-eqb}
-use Rattle.seize.specs.World.{World, Hand, InUse}
-use Rattle.papaya_tables.specs.declared.node.Node.{Node}
+use Rattle.seize.specs.World.{Hand, InUse}
 use Rattle.papaya_schedules.specs.declared.effect.Table.{Table}
 use Rattle.papaya_schedules.specs.Moment.{Place, Unborn, InMap, Out, Handed, Behind, Left, GivenBack, MapThere, UnderWay as CallThere, Moment}
 use Rattle.papaya_schedules.specs.Views.{is_in_map, is_in_a_map, map_at}
@@ -11,14 +10,12 @@ use Rattle.papaya_rule.specs.InWorld.{IsMapIn}
 use Rattle.papaya_rule.proofs.Laws.{current_is_known}
 use Rattle.papaya_callers.specs.Together.{UnderWay}
 use Rattle.papaya_effects.specs.Known.{Known}
-use Rattle.papaya_effects.specs.declared.role.Role.{Role}
 use Rattle.papaya_effects.specs.declared.role.Role.TheVariants as role
 use Rattle.papaya_executor.specs.IsAt.{Scene, IsAt}
 use Rattle.papaya_executor.specs.declared.executor.Executor.{Executor}
 use Rattle.papaya_finishes.specs.Maps.{Standing}
-use Rattle.papaya_follows.specs.Maps.{ShowsMap}
 use Rattle.papaya_follows.specs.Shows.{Shows}
-use Rattle.papaya_follows.proofs.Going.{StoodOn, ComesToBe, ShowsOn}
+use Rattle.papaya_follows.proofs.Going.{ComesToBe, ShowsOn}
 use Rattle.papaya_follows.proofs.Onward.{IsOfMap}
 use Rattle.papaya_follows.proofs.Steps.{one_of}
 use Rattle.papaya_hands.specs.Hands.{IsInUse, ShowsHands}
@@ -128,9 +125,9 @@ module _ {K V S : Type 0} (same : K → K → Bool) (hash : K → ℕ) (name : �
       by None gone =
           let alike = on.none t.map (not_before t.map gone) in
           let was_role : known.roles b ≡ role.Table t len = elim (on.back b (subst IsOfMap (sym is) tt)) as (λ _. known.roles b ≡ role.Table t len) [
-                | inl old ↦ old ∙ is
-                | inr new_one ↦ absurd (let k = subst (ComesToBe known s s2 b) is new_one in let stood = k.2 in let none = not_before t.map gone in cc (stood, none))
-              ] in
+            | inl old ↦ old ∙ is
+            | inr new_one ↦ absurd (let k = subst (ComesToBe known s s2 b) is new_one in let stood = k.2 in let none = not_before t.map gone in cc (stood, none))
+          ] in
           tables b len t was_role (not_before t.map gone) (hands.tables b len t there was_role (sym alike.2 ∙ at_map) from)
 
   born_on : (n map : ℕ) → m2.place n ≡ InMap map → (n ≤ length m2.stored) × ((m2.born n).map ≡ map)

@@ -5,7 +5,10 @@ pub mod Stores
 pub mod Replacing
 pub mod Asking
 pub mod AskedOn
+pub mod RowsOn
 pub mod Steps
+pub mod Taking
+pub mod Settling
 pub mod RowSteps
 pub mod Calling
 pub mod Beginning

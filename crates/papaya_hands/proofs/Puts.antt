@@ -1,25 +1,24 @@
 -- The pair that a call on one key stores is the one that it has to store at that moment.
-use Rattle.std.specs.Prelude.{◌≡◌, ℕ, ◌<◌, Bool, true, List, [], ◌∷◌, ◌++◌, map, Option, Some, None, option_map, ◌⊎◌}
-use Rattle.std.proofs.Common.{refl, ap, sym, subst, ◌∙◌, inl, inr}
+use Rattle.std.specs.Prelude.{◌≡◌, ℕ, ◌<◌, List, [], ◌∷◌, ◌++◌, Option, Some, None}
+use Rattle.std.proofs.Common.{refl, ap, sym, ◌∙◌, inl, inr}
 use Rattle.seize_words.specs.Mem.{Mem, value_at}
 use Rattle.papaya_tables.specs.declared.node.Node.{Node}
 use Rattle.papaya_tables.specs.declared.node.Node.TheVariants as node
-use Rattle.papaya_raw.specs.declared.machines.asking.Reply.{Reply as MachineReply}
 use Rattle.papaya_raw.specs.declared.machines.asking.Reply.TheVariants as reply
 use Rattle.papaya_schedules.specs.declared.call.OneKey.{OneKey}
 use Rattle.papaya_schedules.specs.declared.call.OneKey.TheVariants.{Get, GetKeyValue, ContainsKey, Insert, TryInsert, TryInsertWith, GetOrInsert, GetOrInsertWith, Update, UpdateOrInsert, UpdateOrInsertWith, Compute, Remove, RemoveEntry, RemoveIf}
 use Rattle.papaya_schedules.specs.declared.call.Reply.{Reply}
 use Rattle.papaya_schedules.specs.declared.call.Reply.TheVariants.{Gives}
-use Rattle.papaya_schedules.specs.Sequential.{means, key_of, value_put, puts_reply, computes_none, computes as computes_it}
+use Rattle.papaya_schedules.specs.Sequential.{means, key_of, value_put}
 use Rattle.papaya_schedules.specs.Views.{reply_to}
 use Rattle.papaya_late.specs.Kinds.{MayPut, MayReplace}
-use Rattle.papaya_points.specs.FactsCalls.{Change, Unchanged, Stored, Replaced, Removed}
+use Rattle.papaya_points.specs.FactsCalls.{Change, Stored, Replaced}
 use Rattle.papaya_rule.specs.Chart.{Chart}
 use Rattle.papaya_rule.specs.Words.{Blocks}
 use Rattle.papaya_callers.specs.Asked.{Asked, last_told, told_before}
 use Rattle.papaya_callers.specs.Kind.{Kind}
-use Rattle.papaya_callers.specs.Pairs.{Given, kind_of, StoresGiven}
-use Rattle.papaya_hands.specs.Asked.{as_told, given_by, KnowsFirst, IsSameQuestion, AreReplies}
+use Rattle.papaya_callers.specs.Pairs.{kind_of, StoresGiven}
+use Rattle.papaya_hands.specs.Asked.{given_by, KnowsFirst, IsSameQuestion, AreReplies}
 use Rattle.papaya_hands.proofs.Replies.{gave, told_since, told_first, told_as}
 
 -- a call of this kind may store where there was none, or in the place of a pair
@@ -109,9 +108,11 @@ module _ {K V : Type 0} where
     puts_over (GetOrInsertWith k) o n l (inr (may, more)) has = absurd (cc may)
     puts_over (Update k) o n l may (there, (key, value, is, its, told)) =
         (value, (put_reply (reply_to (Some (number o)) replies) value (reply_is (Some o) (Some (number o)) value (l, refl) told) new (number o) k).0, some_pair k key value m (blocks.pair n) its is)
-    puts_over (UpdateOrInsert k v) o n l may (there, (key, value, is, its, told)) =
-        (value, (put_reply (reply_to (Some (number o)) replies) value (reply_is (Some o) (Some (number o)) value (l, refl) (since_it o v value told)) new (number o) k).0,
-        some_pair k key value m (blocks.pair n) its is)
+    puts_over (UpdateOrInsert k v) o n l may (there, (key, value, is, its, told)) = (
+      value,
+      (put_reply (reply_to (Some (number o)) replies) value (reply_is (Some o) (Some (number o)) value (l, refl) (since_it o v value told)) new (number o) k).0,
+      some_pair k key value m (blocks.pair n) its is,
+    )
     puts_over (UpdateOrInsertWith k) o n l may (there, (key, value, is, its, told)) =
         (value, (put_reply (reply_to (Some (number o)) replies) value (reply_is (Some o) (Some (number o)) value (l, refl) told) new (number o) k).2, some_pair k key value m (blocks.pair n) its is)
     puts_over (Compute k) o n l may (there, (key, value, is, its, told)) =

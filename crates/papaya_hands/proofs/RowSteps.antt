@@ -1,6 +1,6 @@
 -- A step of a row within a call: it hands over what has left its map, and calls were told, and blocks are in hands, as the moment says then.
-use Rattle.std.specs.Prelude.{◌≡◌, ℕ, Bool, List, Option, Some, None}
-use Rattle.std.proofs.Common.{refl, ap, sym, subst, ◌∙◌, inl, inr}
+use Rattle.std.specs.Prelude.{◌≡◌, ℕ, Bool, List, Some, None}
+use Rattle.std.proofs.Common.{ap, sym, subst, ◌∙◌, inl, inr}
 use Rattle.seize_words.specs.Mem.{Mem, value_at}
 use Rattle.seize.specs.World.{World}
 use Rattle.papaya_tables.specs.declared.node.Node.{Node}
@@ -11,7 +11,6 @@ use Rattle.papaya_callers.specs.Together.{UnderWay, OnKey, ForRoom, Counting, Ov
 use Rattle.papaya_effects.specs.Effects.{effects_of}
 use Rattle.papaya_effects.specs.Known.{Known}
 use Rattle.papaya_effects.specs.declared.acting.Acting.TheVariants as acts
-use Rattle.papaya_effects.specs.declared.role.Role.{Role}
 use Rattle.papaya_effects.specs.declared.role.Role.TheVariants as role
 use Rattle.papaya_executor.specs.IsAt.{Scene, IsAt, slot_of}
 use Rattle.papaya_executor.specs.Stepping.{StepLeads}
@@ -25,10 +24,14 @@ use Rattle.papaya_follows.proofs.RowSteps.{row_step_shown}
 use Rattle.papaya_follows.proofs.Steps.{WentTo, went_to, made_so, DidSo, OfNoRow, LeadsThere}
 use Rattle.papaya_hands.specs.Hands.{IsInUse, ShowsHands}
 use Rattle.papaya_hands.specs.Steps.{RowsHandTheirs}
+use Rattle.papaya_hands.specs.Taking.{IsToTake, ReclaimsNone, ComesToNone}
 use Rattle.papaya_hands.proofs.AskedOn.{asked_on}
 use Rattle.papaya_hands.proofs.HandTheirs.{hands_out, all_left, used_on}
 use Rattle.papaya_hands.proofs.HandsOn.{used_as, hands_on}
+use Rattle.papaya_hands.proofs.RowsOn.{rows_on}
+use Rattle.papaya_hands.proofs.Settling.{goes_so, not_to_take}
 use Rattle.papaya_hands.proofs.Spares.{handing}
+use Rattle.papaya_hands.proofs.Taking.{takes_none}
 
 module _ {K V S : Type 0} (same : K → K → Bool) (hash : K → ℕ) (name : ℕ → List ℕ) (m : Moment K V) (known : Known) (s : Scene K V) (old new : Executor K V S) (at : IsAt same hash old s)
     (shown : Shows same name m known s) (map i : ℕ) (u : UnderWay K V K) (here : s.calls map i ≡ Some u) (told : Progress (Node K V)) (leads : StepLeads same hash i told s old new)
@@ -58,14 +61,29 @@ module _ {K V S : Type 0} (same : K → K → Bool) (hash : K → ℕ) (name : �
       by (OverAll x) (p2, end, machine_is, told_is, inl step) other = absurd (other tt)
       by (OverAll x) (p2, end, machine_is, told_is, inr (row, stayed)) other = (row.step.w2, (row.step.memory, row.step.happened, stayed.0))
 
+  its_left : (other : NoRow u to.4.did → ⊥) → LeavesBy s.world.memory (row_step other).0.memory new.memory.changed
+  its_left other =
+      subst (λ (n : Mem (Node K V)). LeavesBy s.world.memory n new.memory.changed) (sym (row_step other).1.0)
+      (operated_leaves s.world.memory new.memory.memory new.memory.changed (made_so same hash name m known s old new at shown map i u here told leads))
+
+  -- it takes no block away, unless its row is to take one
+  pub takes_theirs : (NoRow u to.4.did → ⊥) → (IsToTake (s.world.row i) → ⊥) → TakesNone new.memory.changed
+  takes_theirs other never = let row = row_step other in takes_none to.0.setting i s.world row.0 each.ground.came never row.1.1 new.memory.changed (its_left other)
+
+  -- and it goes on so where it reclaims nothing
+  pub reclaims_none : (NoRow u to.4.did → ⊥) → ReclaimsNone (s.world.row i) → (IsToTake (s.world.row i) → ⊥) × (ComesToNone (to.4.w2.row i) → ReclaimsNone (to.4.w2.row i))
+  reclaims_none other none =
+      let row = row_step other in (
+        not_to_take (s.world.row i) none,
+        subst (λ (v : World (Node K V)). ComesToNone (v.row i) → ReclaimsNone (v.row i)) (sym row.1.2) (goes_so to.0.setting i s.world row.0 none row.1.1),
+      )
+
   -- what it hands over has left its map
   pub hands_theirs : (NoRow u to.4.did → ⊥) → HandTheirs (name i) map (effects_of (acts.Call i map) known new.memory.changed) m
   hands_theirs other =
       let row = row_step other in
       all_left (name i) i map m known s hands row.0
-      (hands_out to.0.setting i s.world row.0 each.ground.came (handing same to.0 s.world (s.calls map) each i u here) row.1.1) new.memory.changed
-      (subst (λ (n : Mem (Node K V)). LeavesBy s.world.memory n new.memory.changed) (sym row.1.0)
-      (operated_leaves s.world.memory new.memory.memory new.memory.changed (made_so same hash name m known s old new at shown map i u here told leads)))
+      (hands_out to.0.setting i s.world row.0 each.ground.came (handing same to.0 s.world (s.calls map) each i u here) row.1.1) new.memory.changed (its_left other)
 
   module _ (other : NoRow u to.4.did → ⊥) (on : LeadsThere same hash name m known s old new at shown map i u here told leads) where
     -- a block that was linked, and is there, is in use where it was
@@ -85,15 +103,18 @@ module _ {K V S : Type 0} (same : K → K → Bool) (hash : K → ℕ) (name : �
 
 pub rows_hand_theirs : (K V S : Type 0) (same : K → K → Bool) (hash : K → ℕ) → RowsHandTheirs K V S same hash
 rows_hand_theirs K V S same hash name m known s old new at all map i u here told leads other =
-    let theirs = hands_theirs same hash name m known s old new at all.shown map i u here told leads all.hands other in (
+    let theirs = hands_theirs same hash name m known s old new at all.shown map i u here told leads all.hands other in
+    let rests = reclaims_none same hash name m known s old new at all.shown map i u here told leads all.hands other (all.rows.none map i u here) in
+    let none = takes_theirs same hash name m known s old new at all.shown map i u here told leads all.hands other rests.0 in
+    let on = row_step_shown same hash name m known s old new at all.shown map i u here told leads other none theirs in
+    let to = went_to same hash name m known s old new at all.shown map i u here told leads in (
       theirs,
-      λ none.
-          let on = row_step_shown same hash name m known s old new at all.shown map i u here told leads other none theirs in
-          let to = went_to same hash name m known s old new at all.shown map i u here told leads in
-          record {
-            shown = on.shows;
-            asked = asked_on same hash name m known s old new at all.shown map i u here told leads all.asked on;
-            hands = hands_on same hash name m known s all.shown all.hands _ _ _ on new to.5 (pairs_then same hash name m known s old new at all.shown map i u here told leads all.hands other on)
-                (tables_then same hash name m known s old new at all.shown map i u here told leads all.hands other on);
-          },
+      none,
+      λ comes_to_none. record {
+        shown = on.shows;
+        asked = asked_on same hash name m known s old new at all.shown map i u here told leads all.asked on;
+        hands = hands_on same hash name m known s all.shown all.hands _ _ _ on new to.5 (pairs_then same hash name m known s old new at all.shown map i u here told leads all.hands other on)
+            (tables_then same hash name m known s old new at all.shown map i u here told leads all.hands other on);
+        rows = rows_on same hash name m known s old new at all.shown map i u here told leads all.rows (rests.1 comes_to_none);
+      },
     )

@@ -1,6 +1,6 @@
 -- A step of a call that is none of a row leaves what is of other maps in the hands that had it; and rows within calls hand something over.
-use Rattle.std.specs.Prelude.{◌≡◌, ℕ, Bool, List, Option, Some, None, ◌⊎◌}
-use Rattle.std.proofs.Common.{refl, ap, sym, subst, ◌∙◌, inl, inr}
+use Rattle.std.specs.Prelude.{◌≡◌, ℕ, Bool, List, Option, Some, None}
+use Rattle.std.proofs.Common.{ap, sym, subst, ◌∙◌, inl, inr}
 use Rattle.seize_words.specs.Mem.{value_at}
 use Rattle.seize.specs.World.{World, Hand, Row, Making}
 use Rattle.papaya_tables.specs.declared.node.Node.{Node}
@@ -21,10 +21,9 @@ use Rattle.papaya_rule.specs.InWorld.{IsIts}
 use Rattle.papaya_callers.specs.OverAll.{row_of_sweep}
 use Rattle.papaya_callers.specs.Rooms.{row_of_room}
 use Rattle.papaya_callers.specs.Rows.{row_of_disposal, row_of_copier, row_of}
-use Rattle.papaya_callers.specs.Sights.{Sight, IsSight, seen_by}
+use Rattle.papaya_callers.specs.Sights.{IsSight, seen_by}
 use Rattle.papaya_callers.specs.Together.{UnderWay, OnKey, ForRoom, Counting, OverAll, Together}
 use Rattle.papaya_effects.specs.Known.{Known}
-use Rattle.papaya_effects.specs.declared.role.Role.{Role}
 use Rattle.papaya_effects.specs.declared.role.Role.TheVariants as role
 use Rattle.papaya_executor.specs.IsAt.{Scene, IsAt, slot_of}
 use Rattle.papaya_executor.specs.Stepping.{StepLeads}
@@ -69,10 +68,10 @@ module _ {K V : Type 0} (same : K → K → Bool) (s : Standing K) (w : World (N
 
   -- whoever has a call under way has such a row, or none
   pub handing : (u : UnderWay K V K) → calls i ≡ Some u → IsHandingRow (w.row i)
-  handing (OnKey u) here = elim (each.stand i (OnKey u) here) as (λ _. IsHandingRow (w.row i)) [ | inl k ↦ as_row _ k.0 tt | inr k ↦ as_row _ k.0 (handing_call (slot_of i) u.call.stands) ]
-  handing (ForRoom r) here = elim (each.stand i (ForRoom r) here) as (λ _. IsHandingRow (w.row i)) [ | inl k ↦ as_row _ k.0 tt | inr k ↦ as_row _ k.0 (handing_room r.reserve.stands) ]
+  handing (OnKey u) here = elim (each.stand i (OnKey u) here) as (λ _. IsHandingRow (w.row i)) [ inl k ↦ as_row _ k.0 tt | inr k ↦ as_row _ k.0 (handing_call (slot_of i) u.call.stands) ]
+  handing (ForRoom r) here = elim (each.stand i (ForRoom r) here) as (λ _. IsHandingRow (w.row i)) [ inl k ↦ as_row _ k.0 tt | inr k ↦ as_row _ k.0 (handing_room r.reserve.stands) ]
   handing (Counting sum) here = as_row _ (each.stand i (Counting sum) here).0 tt
-  handing (OverAll o) here = elim (each.stand i (OverAll o) here) as (λ _. IsHandingRow (w.row i)) [ | inl k ↦ as_row _ k.0 tt | inr k ↦ as_row _ k.0 (handing_sweep (slot_of i) o.sweep.stands) ]
+  handing (OverAll o) here = elim (each.stand i (OverAll o) here) as (λ _. IsHandingRow (w.row i)) [ inl k ↦ as_row _ k.0 tt | inr k ↦ as_row _ k.0 (handing_sweep (slot_of i) o.sweep.stands) ]
 
 module _ {K V S : Type 0} (same : K → K → Bool) (hash : K → ℕ) (name : ℕ → List ℕ) (m : Moment K V) (known : Known) (s : Scene K V) (old new : Executor K V S) (at_old : IsAt same hash old s)
     (shown : Shows same name m known s) (map i : ℕ) (u : UnderWay K V K) (here : s.calls map i ≡ Some u) (told : Progress (Node K V)) (leads : StepLeads same hash i told s old new)

@@ -1,5 +1,5 @@
 -- A step of a call that is none of a row, of whichever kind the call is: it stores what the call has to store, and the moment after its effects shows the scene.
-use Rattle.std.specs.Prelude.{◌≡◌, ℕ, ◌<◌, Bool, List, Option, Some}
+use Rattle.std.specs.Prelude.{◌≡◌, ℕ, ◌<◌, Bool, List, Some}
 use Rattle.std.proofs.Common.{arith, inl, inr}
 use Rattle.std.proofs.lemmas.Bool.{cases_eq, cases_lt}
 use Rattle.papaya_tables.specs.declared.node.Node.{Node}
@@ -22,6 +22,7 @@ use Rattle.papaya_hands.specs.Asked.{ShowsAsked}
 use Rattle.papaya_hands.specs.Steps.{CallsStoreTheirs}
 use Rattle.papaya_hands.proofs.AskedOn.{asked_on}
 use Rattle.papaya_hands.proofs.HandsOn.{hands_on}
+use Rattle.papaya_hands.proofs.RowsOn.{rows_on, own_row}
 use Rattle.papaya_hands.proofs.Spares.{pairs_spared, tables_spared}
 use Rattle.papaya_hands.proofs.Stores.{key_gives, room_gives, sweep_gives}
 
@@ -79,10 +80,14 @@ pub calls_store_theirs : (K V S : Type 0) (same : K → K → Bool) (hash : K �
 calls_store_theirs K V S same hash name m known s old new at all map i u here told leads own =
     let stores = stores_theirs same hash name m known s old new at all.shown map i u here told leads all.asked own in
     let step = step_shown same hash name m known s old new at all.shown map i u here told leads own stores in
-    let to = went_to same hash name m known s old new at all.shown map i u here told leads in
-    (stores, step.0, record {
-      shown = step.1.shows;
-      asked = asked_on same hash name m known s old new at all.shown map i u here told leads all.asked step.1;
-      hands = hands_on same hash name m known s all.shown all.hands _ _ _ step.1 new to.5 (pairs_spared same hash name m known s old new at all.shown map i u here told leads all.hands own)
-          (tables_spared same hash name m known s old new at all.shown map i u here told leads all.hands own);
-    })
+    let to = went_to same hash name m known s old new at all.shown map i u here told leads in (
+      stores,
+      step.0,
+      record {
+        shown = step.1.shows;
+        asked = asked_on same hash name m known s old new at all.shown map i u here told leads all.asked step.1;
+        hands = hands_on same hash name m known s all.shown all.hands _ _ _ step.1 new to.5 (pairs_spared same hash name m known s old new at all.shown map i u here told leads all.hands own)
+            (tables_spared same hash name m known s old new at all.shown map i u here told leads all.hands own);
+        rows = rows_on same hash name m known s old new at all.shown map i u here told leads all.rows (own_row same hash name m known s old new at all.shown map i u here told leads all.rows own);
+      },
+    )

@@ -1,12 +1,11 @@
 -- A step of a call stores the pair that the call has to store, or none.
-use Rattle.std.specs.Prelude.{◌≡◌, ◌≢◌, ℕ, suc, ◌<◌, Bool, true, false, cond, eqb, List, [], ◌∷◌, map, Option, Some, None, if◌then◌else◌, ◌⊎◌}
+use Rattle.std.specs.Prelude.{◌≡◌, ℕ, ◌<◌, Bool, true, false, cond, eqb, List, map, Option, Some, None, if◌then◌else◌, ◌⊎◌}
 use Rattle.std.proofs.Common.{refl, ap, sym, subst, ◌∙◌, arith, inl, inr}
 use Rattle.std.proofs.lemmas.Bool.{ne_eqb, eq-eqb, cases_eq}
 use Rattle.seize_words.specs.Mem.{Mem, value_at}
 use Rattle.seize.specs.World.{World}
 use Rattle.papaya_tables.specs.Chunks.{is_incremental}
 use Rattle.papaya_tables.specs.declared.node.Node.{Node}
-use Rattle.papaya_tables.specs.declared.node.Node.TheVariants as node
 use Rattle.papaya_raw.specs.declared.machines.answer.Called.{Called}
 use Rattle.papaya_raw.specs.declared.machines.call.KeyCall.{KeyCall}
 use Rattle.papaya_runs.specs.Same.{is_same}
@@ -157,7 +156,7 @@ module _ {K V : Type 0} (same : K → K → Bool) (standing : Standing K) (w : W
       stored_so fresh others n (Replaced o k) changes has =
           absurd (let l = current_before o changes.1.0 in let k_is = changes.0 in
           let gone : c2.current o ≡ false = ap (λ (f : ℕ → Bool). f o) changes.2
-              ∙ ap (λ (q : Bool). cond q true (cond (eqb o o) false (c.current o))) (ne_eqb o k (λ e. omega (arith, l, e, k_is))) ∙ ap (λ (q : Bool). cond q false (c.current o)) (eq-eqb o o refl) in
+          ∙ ap (λ (q : Bool). cond q true (cond (eqb o o) false (c.current o))) (ne_eqb o k (λ e. omega (arith, l, e, k_is))) ∙ ap (λ (q : Bool). cond q false (c.current o)) (eq-eqb o o refl) in
           let still = others o l in let was = changes.1.0 in cc (gone, still, was))
       stored_so fresh others n (Removed o) changes has = absurd (none_without c2 o changes.0.0 changes.1 fresh)
 
@@ -182,7 +181,7 @@ module _ {K V : Type 0} (same : K → K → Bool) (standing : Standing K) (w : W
             | inr ne ↦
                 absurd (let k_is = changes.0 in
                 let still : c2.current p ≡ c.current p = ap (λ (f : ℕ → Bool). f p) changes.2 ∙ ap (λ (q : Bool). cond q true (cond (eqb p o) false (c.current p))) (ne_eqb p k (λ e. omega (arith, l, e, k_is)))
-                    ∙ ap (λ (q : Bool). cond q false (c.current p)) (ne_eqb p o ne) in cc (still, current, gone))
+                ∙ ap (λ (q : Bool). cond q false (c.current p)) (ne_eqb p o ne) in cc (still, current, gone))
           ]
       replaced_so fresh p l current gone n (Removed o) changes has = absurd (none_without c2 o changes.0.0 changes.1 fresh)
 

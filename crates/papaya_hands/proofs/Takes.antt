@@ -1,18 +1,16 @@
 -- A call that asks takes what it is told: it was told just that then.
-use Rattle.std.specs.Prelude.{◌≡◌, ◌≢◌, ℕ, ◌<◌, ◌==◌, Bool, true, false, List, [], ◌∷◌, ◌++◌, find, map, Option, Some, None, Result, Ok, Err, if◌then◌else◌, ◌⊎◌}
-use Rattle.std.proofs.Common.{refl, ap, sym, subst, ◌∙◌, inl, inr}
-use Rattle.seize_words.specs.Word.{block_in}
+use Rattle.std.specs.Prelude.{◌≡◌, ◌≢◌, ℕ, ◌==◌, Bool, true, false, List, ◌∷◌, ◌++◌, Option, Some, None, Ok, if◌then◌else◌}
+use Rattle.std.proofs.Common.{refl, ap, subst, ◌∙◌, inl, inr}
 use Rattle.seize.specs.World.{World}
 use Rattle.papaya_tables.specs.declared.node.Node.{Node}
 use Rattle.papaya_tables.specs.declared.marks.TheConstants.{TOMBSTONE}
 use Rattle.papaya_raw.specs.CallAsks.{with_absent, with_present, absent_told, present_told, told_at, replied}
-use Rattle.papaya_raw.specs.CallPoints.{standing, going, over, answering, burying, at_gap}
+use Rattle.papaya_raw.specs.CallPoints.{going, over, answering, burying, at_gap}
 use Rattle.papaya_raw.specs.declared.machines.answer.Called.{Called}
 use Rattle.papaya_raw.specs.declared.machines.answer.End.TheVariants as ends
 use Rattle.papaya_raw.specs.declared.machines.answer.KeyAnswer.TheVariants as answers
 use Rattle.papaya_raw.specs.declared.machines.asking.Told.TheVariants as tells
 use Rattle.seize_words.specs.declared.fault.Fault.TheVariants.{RemoveNothing}
-use Rattle.papaya_raw.specs.Machine.{machine_replied}
 use Rattle.papaya_raw.specs.declared.machines.asking.Asking.{Asking as AskingAt}
 use Rattle.papaya_raw.specs.declared.machines.asking.Asking.TheVariants as asking
 use Rattle.papaya_raw.specs.declared.machines.asking.Gap.{Gap}
@@ -24,8 +22,6 @@ use Rattle.papaya_raw.specs.declared.machines.asking.Takes.TheVariants as takes
 use Rattle.papaya_raw.specs.declared.machines.call.KeyCall.{KeyCall}
 use Rattle.papaya_raw.specs.declared.machines.call.Calling.{Calling}
 use Rattle.papaya_raw.specs.declared.machines.call.Calling.TheVariants as at
-use Rattle.papaya_raw.specs.declared.machines.machine.Machine.{Machine}
-use Rattle.papaya_raw.specs.declared.machines.machine.Machine.TheVariants as kinds
 use Rattle.papaya_tables.specs.declared.node.Node.TheVariants as node
 use Rattle.papaya_schedules.specs.declared.call.OneKey.{OneKey}
 use Rattle.papaya_schedules.specs.declared.call.OneKey.TheVariants.{Get, GetKeyValue, ContainsKey, Insert, TryInsert, TryInsertWith, GetOrInsert, GetOrInsertWith, Update, UpdateOrInsert, UpdateOrInsertWith, Compute, Remove, RemoveEntry, RemoveIf}
@@ -36,7 +32,6 @@ use Rattle.papaya_callers.specs.Kind.{Kind, gets, removes, inserts, tries_to_ins
 use Rattle.papaya_callers.specs.Pairs.{Given, Begun, IsTold, and_told, KeepsGiven}
 use Rattle.papaya_callers.specs.Sights.{seen_by}
 use Rattle.papaya_callers.specs.Together.{CallOnKey, OnKey, Knows, Stands}
-use Rattle.papaya_effects.specs.Known.{Known}
 use Rattle.papaya_executor.specs.IsAt.{slot_of}
 use Rattle.papaya_finishes.specs.Maps.{Standing}
 use Rattle.papaya_hands.specs.Asked.{given_by, KnowsFirst}
@@ -187,7 +182,7 @@ module _ {K V : Type 0} (same : K → K → Bool) (s : Standing K) (w : World (N
   pub not_first : (gap : Gap) → it ≡ asking.Absent gap → (one : OneKey K V) (asked : List (Asked V)) → u.pair ≡ given_by one asked → KnowsFirst one → last_told None asked ≡ None → ⊥
   not_first gap is (UpdateOrInsert k v) asked given first none =
       let kept = subst (λ (x : AskingAt). KeepsGiven s.hash w.memory s.chart seen u.keys (IsTold updates_or_inserts (Some k) (asked ++ told_before (Some v))) u.change u.call (at.Asks x)) is
-          (subst (λ (g : Given K V). KeepsGiven s.hash w.memory s.chart seen u.keys g u.change u.call (at.Asks it)) given keeps) in
+      (subst (λ (g : Given K V). KeepsGiven s.hash w.memory s.chart seen u.keys g u.change u.call (at.Asks it)) given keeps) in
       let untold = kept.0.0.absent_first kept.0.1 in
       let told = told_first None asked (told_before (Some v)) none in
       cc (untold, told)

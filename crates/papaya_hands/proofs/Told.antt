@@ -1,30 +1,25 @@
 -- Where a call that asks takes what it is told, each call under way was asked and told as the moment says.
-use Rattle.std.specs.Prelude.{◌≡◌, ◌≢◌, ℕ, ◌<◌, Bool, true, false, List, [], ◌∷◌, Option, Some, None, Ok, if◌then◌else◌, ◌⊎◌}
+use Rattle.std.specs.Prelude.{◌≡◌, ℕ, Bool, true, false, List, ◌∷◌, Option, Some, None, Ok, if◌then◌else◌, ◌⊎◌}
 use Rattle.std.proofs.Common.{refl, ap, sym, subst, ◌∙◌, inl, inr}
 use Rattle.seize_words.specs.Word.{block_in}
-use Rattle.seize.specs.World.{IsInside}
 use Rattle.papaya_runs.specs.Same.{is_same}
 use Rattle.papaya_raw.specs.CallAsks.{replied}
 use Rattle.papaya_raw.specs.Machine.{machine_replied}
 use Rattle.papaya_raw.specs.declared.machines.asking.Asking.{Asking as AskingAt}
 use Rattle.papaya_raw.specs.declared.machines.asking.Asking.TheVariants as asking
-use Rattle.papaya_raw.specs.declared.machines.asking.Reply.{Reply as MachineReply}
-use Rattle.papaya_raw.specs.declared.machines.call.KeyCall.{KeyCall}
 use Rattle.papaya_raw.specs.declared.machines.call.Calling.TheVariants as at
-use Rattle.papaya_raw.specs.declared.machines.machine.Machine.TheVariants as kinds
 use Rattle.papaya_schedules.specs.declared.call.Call.{Call}
 use Rattle.papaya_schedules.specs.declared.call.Call.TheVariants as call
 use Rattle.papaya_schedules.specs.declared.call.OneKey.{OneKey}
 use Rattle.papaya_schedules.specs.declared.call.Reply.{Reply}
 use Rattle.papaya_schedules.specs.After.{replied as replied_at}
-use Rattle.papaya_schedules.specs.Moment.{Stands, Asking, Told, UnderWay as CallThere, Moment}
+use Rattle.papaya_schedules.specs.Moment.{Asking, Told, UnderWay as CallThere, Moment}
 use Rattle.papaya_schedules.specs.Views.{call_of}
-use Rattle.papaya_rule.specs.Chart.{Still, Holds}
-use Rattle.papaya_rule.specs.Words.{byte_of, place_word}
+use Rattle.papaya_rule.specs.Chart.{Still}
+use Rattle.papaya_rule.specs.Words.{byte_of}
 use Rattle.papaya_rule.proofs.Laws.{words_name_pairs, bytes_are_few}
 use Rattle.papaya_callers.specs.Asked.{last_told}
-use Rattle.papaya_callers.specs.Kind.{Kind}
-use Rattle.papaya_callers.specs.Pairs.{Given, Begun, and_told}
+use Rattle.papaya_callers.specs.Pairs.{Given, and_told}
 use Rattle.papaya_callers.specs.Sights.{seen_by, IsSight}
 use Rattle.papaya_callers.specs.Together.{CallOnKey, UnderWay, OnKey, ForRoom, Counting, OverAll, told_about, AsksAbout, Together}
 use Rattle.papaya_effects.specs.Known.{Known}
@@ -39,9 +34,10 @@ use Rattle.papaya_follows.specs.Shows.{Shows}
 use Rattle.papaya_follows.proofs.Calling.{is_same_refl, replied_same, told_with}
 use Rattle.papaya_follows.proofs.Calls.{changed, found}
 use Rattle.papaya_follows.proofs.Steps.{one_of}
-use Rattle.papaya_hands.specs.Asked.{as_told, given_by, KnowsFirst, IsSameQuestion, IsQuestion, IsAskedOn, IsAskedAs, IsAsked, ShowsAsked}
+use Rattle.papaya_hands.specs.Asked.{as_told, KnowsFirst, IsSameQuestion, IsQuestion, IsAskedOn, IsAskedAs, IsAsked, ShowsAsked}
 use Rattle.papaya_hands.specs.Calling.{CallsTake}
 use Rattle.papaya_hands.proofs.Asking.{which}
+use Rattle.papaya_hands.proofs.RowsOn.{rows_with}
 use Rattle.papaya_hands.proofs.Calling.{caller_is, asked_as}
 use Rattle.papaya_hands.proofs.HandsOn.{hands_with}
 use Rattle.papaya_hands.proofs.Takes.{asked_leaves, and_given, not_begun, not_first}
@@ -77,8 +73,8 @@ module _ {K V S : Type 0} (same : K → K → Bool) (hash : K → ℕ) (name : �
       same_question (asking.Present word) is (Some n) None is_pair just = absurd just
       same_question (asking.Present word) is (Some n) (Some k) (l, seen, borrowed, word_is) just =
           let names : block_in word ≡ standing.blocks.pair n = ap block_in word_is
-              ∙ words_name_pairs standing.blocks.pair (λ x. byte_of standing.hash (standing.chart.key x)) n Still borrowed
-              (bytes_are_few standing.hash (at_e.together.makings.standing.fit map standing there).0.fits (standing.chart.key n)) in
+          ∙ words_name_pairs standing.blocks.pair (λ x. byte_of standing.hash (standing.chart.key x)) n Still borrowed
+          (bytes_are_few standing.hash (at_e.together.makings.standing.fit map standing there).0.fits (standing.chart.key n)) in
           let its_role = (shown.maps map standing there).pairs.roles n l (is_sight.pairs n l seen) in
           let same_role : role.Pair (number n) ≡ role.Pair k = sym its_role ∙ ap known.roles (sym names) ∙ just in
           (l, cc same_role)
@@ -196,7 +192,7 @@ module _ {K V S : Type 0} (same : K → K → Bool) (hash : K → ℕ) (name : �
             let now = found tells (λ y. replied_same is_told y y.stands) (name i) (name j) m.calls was.0 was.1 in
             let is_d : changed tells (λ y. replied_same is_told y y.stands) (name i) was.0 ≡ d = one_of (changed tells (λ y. replied_same is_told y y.stands) (name i) was.0) d (sym now ∙ d_is) in
             let same_so : (if is_same was.0.caller (name i) then tells was.0 else was.0) ≡ was.0 =
-                ap (λ q. if q then tells was.0 else was.0) (ap (λ (l : List ℕ). is_same l (name i)) (caller_is (name j) m was.0 was.1) ∙ other_name (is_same (name j) (name i)) refl) in
+            ap (λ q. if q then tells was.0 else was.0) (ap (λ (l : List ℕ). is_same l (name i)) (caller_is (name j) m was.0 was.1) ∙ other_name (is_same (name j) (name i)) refl) in
             asked_as (shown.number n) st.chart.stored known x was.0 d (sym same_so ∙ is_d) (asked.each n j x a.1 st st_is was.0 was.1)
           where
             other_name : (q : Bool) → is_same (name j) (name i) ≡ q → is_same (name j) (name i) ≡ false
@@ -212,4 +208,5 @@ calls_take K V S same hash name m known s e at_e all map i u here c c_is questio
           (told_asked same hash name m known s e at_e all.shown all.asked map i standing there c c_is question c_asks is_told u next here
           (own_told same hash name m known s e at_e all.shown all.asked map i standing there c c_is question c_asks is_told u next here machine taken goes));
       hands = hands_with m known s (told (name i) is_told m).calls (with_in s.calls map i (Some next)) all.hands;
+      rows = rows_with s map i next all.rows (all.rows.none map i u here);
     }

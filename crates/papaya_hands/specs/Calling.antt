@@ -1,8 +1,8 @@
 -- Calls between their steps, with what they were told: where one begins, is told a reply, or has come to an outcome.
-use Rattle.std.specs.Prelude.{◌≡◌, ℕ, Bool, true, List, [], Option, Some, Result, Ok}
+use Rattle.std.specs.Prelude.{◌≡◌, ℕ, Bool, true, List, [], Option, Some, Ok}
+use Rattle.seize.specs.World.{Rests}
 use Rattle.papaya_runs.specs.Same.{is_same}
 use Rattle.papaya_raw.specs.Machine.{machine_replied}
-use Rattle.papaya_raw.specs.declared.machines.asking.Reply.{Reply as MachineReply}
 use Rattle.papaya_schedules.specs.declared.call.Call.{Call}
 use Rattle.papaya_schedules.specs.declared.call.Call.TheVariants.{On}
 use Rattle.papaya_schedules.specs.declared.call.Reply.{Reply}
@@ -36,11 +36,11 @@ module _ {K V : Type 0} where
   AsksJust known _ _ = Unit {0}
 
 module _ (K V : Type 0) (same : K → K → Bool) where
-  -- The promises: a call begins by a name that no call under way has,
+  -- The promises: a call begins by a name that no call under way has, and where its caller has no row under way,
   abbrev pub CallsBeginFor : Type 0
   CallsBeginFor =
       (name : ℕ → List ℕ) (m : Moment K V) (known : Known) (s : Scene K V) → ShowsAll same name m known s
-      → (map i : ℕ) (u : UnderWay K V K) (call : Call K V) (guard : List ℕ) → NoneNamed name (name i) s → IsCalled same u call → IsBegunFor u call
+      → (map i : ℕ) (u : UnderWay K V K) (call : Call K V) (guard : List ℕ) → NoneNamed name (name i) s → IsCalled same u call → IsBegunFor u call → s.world.row i ≡ Rests
       → ShowsAll same name (with_call (name i) guard call (Some map) m) known (scene_with map i u s)
 
   -- it comes to an outcome: where it asks, it asks just that, and where it has ended, no call under way has its name any more.

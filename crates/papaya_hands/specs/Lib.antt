@@ -1,6 +1,8 @@
 pub mod Asked
 pub mod Hands
+pub mod Rows
 pub mod Shows
+pub mod Taking
 pub mod Steps
 pub mod Calling
 pub mod Beginning

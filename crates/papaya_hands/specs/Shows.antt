@@ -1,4 +1,4 @@
--- How a moment of a run, with what is noted of the memory, shows a scene of the executor, what its calls were told, and in whose hands blocks are.
+-- How a moment of a run, with what is noted of the memory, shows a scene of the executor, what its calls were told, in whose hands blocks are, and what rows do.
 use Rattle.std.specs.Prelude.{ℕ, Bool, List}
 use Rattle.papaya_schedules.specs.Moment.{Moment}
 use Rattle.papaya_effects.specs.Known.{Known}
@@ -6,9 +6,12 @@ use Rattle.papaya_executor.specs.IsAt.{Scene}
 use Rattle.papaya_follows.specs.Shows.{Shows}
 use Rattle.papaya_hands.specs.Asked.{ShowsAsked}
 use Rattle.papaya_hands.specs.Hands.{ShowsHands}
+use Rattle.papaya_hands.specs.Rows.{ShowsRows}
 
--- It shows what the scene has, and of each call under way what it was told, and asks; and what is in maps nobody has in hand.
+-- It shows what the scene has, and of each call under way what it was told, and asks; what is in maps nobody has in hand, and rows within calls reclaim
+-- nothing.
 pub record ShowsAll {K V : Type 0} (same : K → K → Bool) (name : ℕ → List ℕ) (m : Moment K V) (known : Known) (s : Scene K V) : Type 0 where
   pub shown : Shows same name m known s
   pub asked : ShowsAsked name shown.number m known s
   pub hands : ShowsHands m known s
+  pub rows : ShowsRows s

@@ -1,5 +1,5 @@
 -- Where a step of a call leads: the moment after its effects shows the scene after it, and what its calls were told, with no condition on what it stores.
-use Rattle.std.specs.Prelude.{◌≡◌, ℕ, Bool, List, Option, Some}
+use Rattle.std.specs.Prelude.{◌≡◌, ℕ, Bool, List, Some}
 use Rattle.papaya_tables.specs.declared.node.Node.{Node}
 use Rattle.papaya_raw.specs.declared.machines.progress.Progress.{Progress}
 use Rattle.papaya_schedules.specs.Effects.{with_effects, AtEachEffect}
@@ -14,6 +14,7 @@ use Rattle.papaya_executor.specs.declared.executor.Executor.{Executor}
 use Rattle.papaya_follows.specs.Finds.{FindsMap}
 use Rattle.papaya_follows.specs.Steps.{StoreTheirs, HandTheirs, TakesNone, IsOfNoRow}
 use Rattle.papaya_hands.specs.Shows.{ShowsAll}
+use Rattle.papaya_hands.specs.Taking.{ComesToNone}
 
 module _ (K V S : Type 0) (same : K → K → Bool) (hash : K → ℕ) where
   -- The promise, of a step of a call that is none of a row: it stores no pair but such as the call has to store, its effects find the map as they must, and lead
@@ -29,7 +30,8 @@ module _ (K V S : Type 0) (same : K → K → Bool) (hash : K → ℕ) where
       × ShowsAll same name (with_effects (Some (name i)) (Some map) (effects_of (Call i map) known new.memory.changed) m) (known_after (Call i map) new.memory.changed known)
       (scene_after same hash s old new map i to.0 u to.1 told to.4))
 
-  -- The promise, of a step of a row within a call: it hands over nothing but what has left its map; and where it takes no block away, it is the same.
+  -- The promise, of a step of a row within a call: it hands over nothing but what has left its map, and takes no block away; and unless its row comes to a batch
+  -- that it is to reclaim, it is the same.
   abbrev pub RowsHandTheirs : Type 0
   RowsHandTheirs =
       (name : ℕ → List ℕ) (m : Moment K V) (known : Known) (s : Scene K V) (old new : Executor K V S) → IsAt same hash old s → ShowsAll same name m known s
@@ -37,6 +39,7 @@ module _ (K V S : Type 0) (same : K → K → Bool) (hash : K → ℕ) where
       → (let to = leads map u here in
       (IsOfNoRow same old.batch_size old.roots s.world s.maps s.calls s.makers s.enders map to.0 i new.memory.memory to.4.w2 to.4.maps2 to.4.next u to.1 told to.4.did → ⊥)
       → HandTheirs (name i) map (effects_of (Call i map) known new.memory.changed) m
-      × (TakesNone new.memory.changed
+      × TakesNone new.memory.changed
+      × (ComesToNone (to.4.w2.row i)
       → ShowsAll same name (with_effects (Some (name i)) (Some map) (effects_of (Call i map) known new.memory.changed) m) (known_after (Call i map) new.memory.changed known)
       (scene_after same hash s old new map i to.0 u to.1 told to.4)))
