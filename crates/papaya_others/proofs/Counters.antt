@@ -1,6 +1,7 @@
 -- The counters of makings are noted after a step of a call, of a row, and of an end.
 use Rattle.std.specs.Prelude.{◌≡◌, ℕ, Bool, Some}
-use Rattle.std.proofs.Common.{refl, subst}
+use Rattle.std.proofs.Common.{sym, subst, ◌∙◌, inl, inr}
+use Rattle.std.proofs.lemmas.Bool.{cases_eq}
 use Rattle.seize_words.specs.Mem.{Can, Took, value_at}
 use Rattle.seize_words.specs.Plan.{May}
 use Rattle.seize.specs.declared.rows.settle.Settled.{Settled}
@@ -9,24 +10,33 @@ use Rattle.papaya_tables.specs.declared.node.Node.{Node}
 use Rattle.papaya_raw.specs.EndMap.{end_map_plan}
 use Rattle.papaya_raw.specs.Machine.{machine_plan}
 use Rattle.papaya_raw.specs.declared.machines.end_map.EndMap.{EndMap}
+use Rattle.papaya_callers.proofs.Together.At.{at_other, at_same}
 use Rattle.papaya_finishes.specs.Endings.{StepsOfEnding}
-use Rattle.papaya_finishes.specs.Makings.{Beginning}
+use Rattle.papaya_finishes.specs.Makings.{Beginning, HasMade}
 use Rattle.papaya_finishes.specs.Machines.{machine_of}
 use Rattle.papaya_effects.specs.Effects.{known_after}
-use Rattle.papaya_effects.specs.Known.{Known}
 use Rattle.papaya_effects.specs.declared.acting.Acting.TheVariants as acts
+use Rattle.papaya_effects.specs.declared.role.Role.TheVariants.{Counter}
 use Rattle.papaya_executor.specs.Ending.{EndingStepsFrom, EndingComesTo}
 use Rattle.papaya_executor.specs.IsAt.{Scene, IsAt, slot_of}
 use Rattle.papaya_executor.specs.Stepping.{scene_after}
-use Rattle.papaya_executor.specs.declared.executor.Executor.{Executor}
 use Rattle.papaya_executor.proofs.Endings.{has_ending, taken_ending, may_taken as may_end}
 use Rattle.papaya_executor.proofs.OnSlots.{row_at, may_taken}
 use Rattle.papaya_executor.proofs.Steps.{may_step}
+use Rattle.papaya_follows.proofs.Steps.{one_of}
 use Rattle.papaya_follows.proofs.Operations.{Operated, operated}
-use Rattle.papaya_others.specs.Counters.{NotesCounters, CallsNoteCounters, RowsNoteCounters, EndingsNoteCounters}
+use Rattle.papaya_others.specs.Counters.{NotesCounters, BeginningsNoteCounters, CallsNoteCounters, RowsNoteCounters, EndingsNoteCounters}
 use Rattle.papaya_others.specs.Endings.{ending_after}
 use Rattle.papaya_others.proofs.Noted.{counters_on}
 use Rattle.papaya_others.proofs.RowPlans.{row_operated}
+
+pub beginnings_note_counters : (K V : Type 0) → BeginningsNoteCounters K V
+beginnings_note_counters K V known s notes i b none j d is made = elim (cases_eq j i) as (λ _. known.roles d.machine.setting.counter ≡ Counter d.map) [
+  | inl e ↦
+      let its : b ≡ d = one_of b d (sym (at_same s.makers i (Some b) j e) ∙ is) in
+      absurd (none (subst (λ (x : Beginning K). HasMade x.machine.stands) (sym its) made))
+  | inr ne ↦ notes j d (sym (at_other s.makers i (Some b) j ne) ∙ is) made
+]
 
 module _ (K V S : Type 0) (same : K → K → Bool) (hash : K → ℕ) where
   pub calls_note_counters : CallsNoteCounters K V S same hash

@@ -329,8 +329,7 @@ module _ {K V S : Type 0} (same : K → K → Bool) (hash : K → ℕ) (name : �
 module _ (K V S : Type 0) (same : K → K → Bool) (hash : K → ℕ) where
   pub endings_are_shown : EndingsAreShown K V S same hash
   endings_are_shown name m known s old new at shown i said leads_to f here map not_there may =
-      let to = leads_to f here in
-      (
+      let to = leads_to f here in (
         tells_next same hash name m known s old new at shown i f here to.0 said to.1 to.2 map not_there said to.3,
         ending_shown same hash name m known s old new at shown i f here to.0 said to.1 to.2 map not_there said refl to.3 may,
       )

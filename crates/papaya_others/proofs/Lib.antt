@@ -19,3 +19,4 @@ pub mod Makes
 pub mod MakingGoes
 pub mod Noted
 pub mod Counters
+pub mod Elsewhere

@@ -1,5 +1,5 @@
 -- While the making of a map goes on, its map stays as new, and its counter is noted.
-use Rattle.std.specs.Prelude.{◌≡◌, ◌≢◌, ℕ, ◌==◌, Bool, List, [], ◌∷◌, filter, find, Option, Some, None, ◌⊎◌}
+use Rattle.std.specs.Prelude.{◌≡◌, ℕ, ◌==◌, Bool, List, filter, find, Option, Some, None, ◌⊎◌}
 use Rattle.std.proofs.Common.{refl, ap, sym, subst, ◌∙◌, inl, inr}
 use Rattle.std.proofs.lemmas.Bool.{cases_eq}
 use Rattle.seize_words.specs.declared.at.At.TheVariants.{Root, Used, Slot, Entry, Word}
@@ -12,18 +12,15 @@ use Rattle.papaya_tables.specs.declared.node.Node.{Node}
 use Rattle.papaya_tables.specs.declared.setting.Setting.{Setting}
 use Rattle.papaya_resize.specs.NewMap.{new_map_plan}
 use Rattle.papaya_resize.specs.declared.new_map.NewMap.{NewMap}
-use Rattle.papaya_schedules.specs.declared.effect.Effect.TheVariants.{Asked}
-use Rattle.papaya_schedules.specs.declared.effect.Growth.TheVariants.{ABlock}
 use Rattle.papaya_schedules.specs.Effects.{with_effects}
-use Rattle.papaya_schedules.specs.Moment.{Place, InMap, Moment}
-use Rattle.papaya_schedules.specs.Views.{map_at, tables_of}
+use Rattle.papaya_schedules.specs.Moment.{Place, Moment}
 use Rattle.papaya_teller.specs.declared.changed.Changed.{Changed}
 use Rattle.papaya_teller.specs.declared.changed.Changed.TheVariants as changed
 use Rattle.papaya_teller.specs.declared.changed.Kind.TheVariants as kind
 use Rattle.papaya_callers.proofs.Together.At.{at_other, at_same}
 use Rattle.papaya_finishes.specs.Endings.{MakingStepsAmong}
 use Rattle.papaya_finishes.specs.Makings.{Beginning, HasMade}
-use Rattle.papaya_effects.specs.Effects.{names_same, named, made_by, made_role, taken_by, effects_of, known_after}
+use Rattle.papaya_effects.specs.Effects.{names_same, named, made_role, taken_by, effects_of, known_after}
 use Rattle.papaya_effects.specs.Known.{Known}
 use Rattle.papaya_effects.specs.declared.acting.Acting.{Acting}
 use Rattle.papaya_effects.specs.declared.acting.Acting.TheVariants as acts
@@ -42,8 +39,8 @@ use Rattle.papaya_others.specs.Counters.{NotesCounters, MakingsNoteCounters}
 use Rattle.papaya_others.specs.Makings.{IsNew, NotesCounter, making_after, NewMapsStay}
 use Rattle.papaya_others.proofs.Leads.{word_says}
 use Rattle.papaya_others.proofs.Makes.{facts, tells, left, linked_stays, no_table_word, not_going, still_made}
-use Rattle.papaya_others.proofs.MakingPlans.{TellsMaking, CounterFrom, counter_from}
-use Rattle.papaya_others.proofs.Noted.{counter_on, counters_on}
+use Rattle.papaya_others.proofs.MakingPlans.{TellsMaking, counter_from}
+use Rattle.papaya_others.proofs.Noted.{counter_on}
 use Rattle.papaya_others.proofs.Quiet.{all_quiet}
 
 -- a map is as new where no pair and no table has moved

@@ -79,13 +79,13 @@ module _ {K V : Type 0} (n : ℕ) (number : ℕ → ℕ) (s : Standing K) (m : M
       by false f = f
       by true f =
           absurd (
-            let its = same_parts (table_of n u) t f in
-            let in_map = any_kept is_it (λ x. x.table.map == n)
-                (λ x e. (let parts = same_parts x.table t (both (same_table x.table t) (is_retired x.stage) e).0 in eq-eqb x.table.map n (parts.0 ∙ sym its.0))) m.tables retired in
-            let found = one_among n s.chart shown.tables.stage is_it s.chart.past (ap (list_any is_it) (sym shown.tables.listed) ∙ in_map) in
-            let is = both (same_table (table_of n found.0) t) (is_retired (shown.tables.stage found.0)) found.2 in
-            let same_turn : found.0 ≡ u = (same_parts (table_of n found.0) t is.0).1 ∙ sym its.1 in
-            let linked : shown.tables.stage found.0 ≡ IsLinked = ap shown.tables.stage same_turn ∙ shown.tables.linked u from made in
-            let not_retired : is_retired (shown.tables.stage found.0) ≡ false = ap is_retired linked in
-            let was_retired = is.1 in cc (not_retired, was_retired)
+          let its = same_parts (table_of n u) t f in
+          let in_map = any_kept is_it (λ x. x.table.map == n)
+          (λ x e. (let parts = same_parts x.table t (both (same_table x.table t) (is_retired x.stage) e).0 in eq-eqb x.table.map n (parts.0 ∙ sym its.0))) m.tables retired in
+          let found = one_among n s.chart shown.tables.stage is_it s.chart.past (ap (list_any is_it) (sym shown.tables.listed) ∙ in_map) in
+          let is = both (same_table (table_of n found.0) t) (is_retired (shown.tables.stage found.0)) found.2 in
+          let same_turn : found.0 ≡ u = (same_parts (table_of n found.0) t is.0).1 ∙ sym its.1 in
+          let linked : shown.tables.stage found.0 ≡ IsLinked = ap shown.tables.stage same_turn ∙ shown.tables.linked u from made in
+          let not_retired : is_retired (shown.tables.stage found.0) ≡ false = ap is_retired linked in
+          let was_retired = is.1 in cc (not_retired, was_retired)
           )

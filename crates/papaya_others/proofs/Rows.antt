@@ -1,5 +1,5 @@
 -- A step of a row on a slot: the moment after its effects shows the scene after it, also where it reclaims a pair or a table.
-use Rattle.std.specs.Prelude.{◌≡◌, ◌≢◌, ℕ, zero, suc, ◌<◌, ◌≤◌, nat_lt, Bool, true, false, List, [], ◌∷◌, Option, Some, None}
+use Rattle.std.specs.Prelude.{◌≡◌, ◌≢◌, ℕ, zero, suc, nat_lt, Bool, List, [], ◌∷◌, Option, Some, None}
 use Rattle.std.proofs.Common.{refl, ap, sym, subst, ◌∙◌, arith}
 use Rattle.seize_words.specs.declared.at.At.TheVariants.{Root, Used, Slot, Entry, Word}
 use Rattle.seize_words.specs.Mem.{Mem, value_at}
@@ -13,12 +13,9 @@ use Rattle.papaya_tables.specs.Nodes.{deferred_word}
 use Rattle.papaya_tables.specs.declared.node.Node.{Node}
 use Rattle.papaya_schedules.specs.declared.effect.Effect.{Effect}
 use Rattle.papaya_schedules.specs.declared.effect.Effect.TheVariants.{PairGivenUp, TableGivenUp, Reclaimed}
-use Rattle.papaya_schedules.specs.declared.effect.Table.{Table}
 use Rattle.papaya_schedules.specs.declared.effect.Thing.TheVariants.{APair, ATable}
 use Rattle.papaya_schedules.specs.Effects.{with_effects, AtEachEffect}
 use Rattle.papaya_schedules.specs.Moment.{Handed, IsReclaimed, Moment}
-use Rattle.papaya_schedules.specs.Things.{same_table}
-use Rattle.papaya_schedules.specs.Views.{map_at}
 use Rattle.papaya_teller.specs.declared.changed.Changed.{Changed}
 use Rattle.papaya_teller.specs.declared.changed.Changed.TheVariants as changed
 use Rattle.papaya_rule.specs.InWorld.{IsMapIn}
@@ -38,7 +35,6 @@ use Rattle.papaya_executor.specs.declared.worker.Work.TheVariants as work
 use Rattle.papaya_executor.proofs.OnSlots.{row_at, may_taken}
 use Rattle.papaya_follows.specs.Blocks.{WasLinked}
 use Rattle.papaya_follows.specs.Calls.{ShowsCalls}
-use Rattle.papaya_follows.specs.Maps.{table_of}
 use Rattle.papaya_follows.specs.Shows.{Shows}
 use Rattle.papaya_follows.proofs.Alike.{AllStill}
 use Rattle.papaya_follows.proofs.Operations.{StaysThere, LeavesBy, operated_leaves}
@@ -46,7 +42,7 @@ use Rattle.papaya_follows.proofs.Told.{roomed_as_many}
 use Rattle.papaya_others.specs.After.{ShowsAfter}
 use Rattle.papaya_others.specs.Gone.{WasRetired}
 use Rattle.papaya_others.specs.Rows.{scene_then, RowsOnSlotsAreShown}
-use Rattle.papaya_others.proofs.Leads.{same_parts, roomed_still, either_still, calls_then, quiet, gone_quiet}
+use Rattle.papaya_others.proofs.Leads.{roomed_still, either_still, calls_then, quiet, gone_quiet}
 use Rattle.papaya_others.proofs.RowPlans.{TellsRow, row_tells, row_operated}
 use Rattle.papaya_others.proofs.Retired.{retired_apart}
 use Rattle.papaya_others.proofs.Scenes.{pair_gone, table_gone}

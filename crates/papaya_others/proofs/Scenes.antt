@@ -124,15 +124,15 @@ module _ {K V : Type 0} (same : K → K → Bool) (name : ℕ → List ℕ) (m :
         → ShowsMap n (shown.number n) before v known) → Goal
     gone_so each = record {
       shows = record {
-          blocks = blocks_but m v known after s.world w2 shown.blocks stored as_many x role.Free roles gone (λ n e. cc e) stays;
-          number = shown.number;
-          maps = maps_then v after (λ n before e blocks sights part here.
-              let now = seen_so before blocks sights in
-              without_block same n (shown.number n) now v known after w2 x roles gone (stand n now here)
-              (map_on n (shown.number n) before now v v known known (blocks_part before.chart before.blocks blocks part) (λ b lasting. refl) refl (tables_same before.chart) (pairs_same before.chart)
-              (alike_same n v v (record { place = refl; born = refl; maps = refl; tables = refl; stored = refl })) (each n before blocks sights e part here)));
-          calls = calls;
-        };
+        blocks = blocks_but m v known after s.world w2 shown.blocks stored as_many x role.Free roles gone (λ n e. cc e) stays;
+        number = shown.number;
+        maps = maps_then v after (λ n before e blocks sights part here.
+            let now = seen_so before blocks sights in
+            without_block same n (shown.number n) now v known after w2 x roles gone (stand n now here)
+            (map_on n (shown.number n) before now v v known known (blocks_part before.chart before.blocks blocks part) (λ b lasting. refl) refl (tables_same before.chart) (pairs_same before.chart)
+            (alike_same n v v (record { place = refl; born = refl; maps = refl; tables = refl; stored = refl })) (each n before blocks sights e part here)));
+        calls = calls;
+      };
       numbers = λ n st e. refl;
     }
 

@@ -46,11 +46,11 @@ module _ {K V : Type 0} (same : K → K → Bool) where
 
 module _ (K V S : Type 0) (same : K → K → Bool) (hash : K → ℕ) where
   pub walks_go_on : WalksGoOn K V S same hash
-  walks_go_on name m known s old new shown i ready leads map u here is =
+  walks_go_on name m known s old new shown i leads map u here =
       let to = leads map u here in
       with_calls same name m known s (with_call s.calls map i (Some to.0))
       (fewer_calls same name m s.calls map i u here (Some to.0)
-      (λ x e its called. called_as same x to.0 its (some_is to.0 x e) (walk_on same u to.0 (sym to.2 ∙ is) to.1 its called)) shown.calls) shown
+      (λ x e its called. called_as same x to.0 its (some_is to.0 x e) (walk_on same u to.0 (sym to.2) to.1 its called)) shown.calls) shown
 
   pub walks_are_given_up : WalksAreGivenUp K V S same hash
   walks_are_given_up name m known s old new shown i stopped leads map u here = by stopped

@@ -1,5 +1,6 @@
 -- The counter of a map that is being made is noted as that of its map, whoever takes a step.
 use Rattle.std.specs.Prelude.{◌≡◌, ℕ, Bool, List, Some}
+use Rattle.seize.specs.World.{with_at}
 use Rattle.seize.specs.declared.progress.Progress.{Progress as Making}
 use Rattle.seize.specs.declared.rows.settle.Settled.{Settled}
 use Rattle.papaya_tables.specs.declared.node.Node.{Node}
@@ -8,7 +9,7 @@ use Rattle.papaya_raw.specs.declared.machines.progress.Progress.{Progress}
 use Rattle.papaya_schedules.specs.Moment.{Moment}
 use Rattle.papaya_callers.specs.Together.{UnderWay}
 use Rattle.papaya_finishes.specs.Endings.{Finishing}
-use Rattle.papaya_finishes.specs.Makings.{Beginning}
+use Rattle.papaya_finishes.specs.Makings.{Beginning, HasMade}
 use Rattle.papaya_effects.specs.Effects.{known_after}
 use Rattle.papaya_effects.specs.Known.{Known}
 use Rattle.papaya_effects.specs.declared.acting.Acting.TheVariants as acts
@@ -29,8 +30,14 @@ use Rattle.papaya_others.specs.Makings.{NotesCounter, making_after}
 abbrev pub NotesCounters : {K V : Type 0} → Known → Scene K V → Type 0
 NotesCounters {K} known s = (i : ℕ) (b : Beginning K) → s.makers i ≡ Some b → NotesCounter known b
 
+-- The promises: they are noted where a making begins, which has made none yet,
+abbrev pub BeginningsNoteCounters : Type 0 → Type 0 → Type 0
+BeginningsNoteCounters K V =
+    (known : Known) (s : Scene K V) → NotesCounters known s
+    → (i : ℕ) (b : Beginning K) → (HasMade b.machine.stands → ⊥) → NotesCounters known (record s { makers = with_at s.makers i (Some b) })
+
 module _ (K V S : Type 0) (same : K → K → Bool) (hash : K → ℕ) where
-  -- The promises: they are noted after a step of a call,
+  -- after a step of a call,
   abbrev pub CallsNoteCounters : Type 0
   CallsNoteCounters =
       (name : ℕ → List ℕ) (m : Moment K V) (known : Known) (s : Scene K V) (old new : Executor K V S) → IsAt same hash old s → Shows same name m known s → NotesCounters known s

@@ -5,3 +5,4 @@ pub mod Walks
 pub mod Endings
 pub mod Makings
 pub mod Counters
+pub mod Elsewhere

@@ -22,7 +22,7 @@ module _ (K V S : Type 0) (same : K → K → Bool) (hash : K → ℕ) where
   abbrev pub WalksGoOn : Type 0
   WalksGoOn =
       (name : ℕ → List ℕ) (m : Moment K V) (known : Known) (s : Scene K V) (old new : Executor K V S) → (shown : Shows same name m known s)
-      → (i : ℕ) (ready : Bool) (leads : AskLeads same hash i ready s old new) (map : ℕ) (u : UnderWay K V K) (here : s.calls map i ≡ Some u) → ready ≡ true
+      → (i : ℕ) (leads : AskLeads same hash i true s old new) (map : ℕ) (u : UnderWay K V K) (here : s.calls map i ≡ Some u)
       → ShowsAfter same name m known s shown m known (scene_with map i (leads map u here).0 s)
 
   -- and is given up: no call that is under way then has its name.

@@ -1,6 +1,7 @@
 //! What is promised of a moment of a run, with what is noted of the memory, where the executor takes a step that is none of a call.
 ghost use Rattle.std.specs.Prelude.{ℕ, Bool};
-ghost use Rattle.papaya_others.specs.Counters.{CallsNoteCounters, RowsNoteCounters, EndingsNoteCounters, MakingsNoteCounters};
+ghost use Rattle.papaya_others.specs.Counters.{BeginningsNoteCounters, CallsNoteCounters, RowsNoteCounters, EndingsNoteCounters, MakingsNoteCounters};
+ghost use Rattle.papaya_others.specs.Elsewhere.{ShownElsewhere};
 ghost use Rattle.papaya_others.specs.Endings.{EndingsBeginShown, EndingsAreShown, EndingsAreOver};
 ghost use Rattle.papaya_others.specs.Makings.{MakingsBeginShown, MapsAreThere, MakingsAreShown, NewMapsStay};
 ghost use Rattle.papaya_others.specs.Rows.{RowsBeginShown, RowsOnSlotsAreShown};
@@ -14,6 +15,7 @@ pub fn moments_show_other_steps<K, V, S>()
     ensures rows { (same : K → K → Bool) (hash : K → ℕ) → RowsOnSlotsAreShown K V S same hash }
     ensures asked { (same : K → K → Bool) (hash : K → ℕ) → WalksGoOn K V S same hash }
     ensures given_up { (same : K → K → Bool) (hash : K → ℕ) → WalksAreGivenUp K V S same hash }
+    ensures elsewhere { (same : K → K → Bool) → ShownElsewhere K V same }
     ensures makings_begin { (same : K → K → Bool) → MakingsBeginShown K V same }
     ensures maps_come { (same : K → K → Bool) → MapsAreThere K V same }
     ensures makings { (same : K → K → Bool) (hash : K → ℕ) → MakingsAreShown K V S same hash }
@@ -26,6 +28,7 @@ pub fn moments_show_other_steps<K, V, S>()
 /// end.
 pub fn new_maps_are_noted<K, V, S>()
     ensures new { (same : K → K → Bool) (hash : K → ℕ) → NewMapsStay K V S same hash }
+    ensures begin { BeginningsNoteCounters K V }
     ensures calls { (same : K → K → Bool) (hash : K → ℕ) → CallsNoteCounters K V S same hash }
     ensures rows { (same : K → K → Bool) (hash : K → ℕ) → RowsNoteCounters K V S same hash }
     ensures makings { (same : K → K → Bool) (hash : K → ℕ) → MakingsNoteCounters K V S same hash }

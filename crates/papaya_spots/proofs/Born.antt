@@ -1,6 +1,6 @@
 -- No table comes to name a pair that was stored in a later one, and the first table is never given up.
-use Rattle.std.specs.Prelude.{◌≡◌, ◌≢◌, ℕ, zero, suc, ◌<◌, ◌≤◌, Bool, true, false, cond, eqb, ◌⊎◌}
-use Rattle.std.proofs.Common.{refl, ap, sym, subst, ◌∙◌, arith, inl, inr}
+use Rattle.std.specs.Prelude.{◌≡◌, ◌≢◌, ℕ, ◌<◌, ◌≤◌, Bool, true, false, cond, eqb}
+use Rattle.std.proofs.Common.{ap, sym, subst, ◌∙◌, arith, inl, inr}
 use Rattle.std.proofs.lemmas.Bool.{cases_eq}
 use Rattle.papaya_tables.specs.declared.status.TheConstants.Status.{PENDING, ABORTED, PROMOTED}
 use Rattle.papaya_rule.specs.Chart.{Still, Place, Tombstone, Holds, Chart, put, put_in}
@@ -8,7 +8,7 @@ use Rattle.papaya_rule.specs.Rule.{Rule}
 use Rattle.papaya_rule.specs.Moments.{Moments}
 use Rattle.papaya_rule.specs.Moves.{Move, Links, Stores, Replaces, Removes, Marks, MarksBlocking, Skips, Unmarks, Puts, Covers, PutsLate, Claims, Reclaims, Counts, GivesUp, Aborts, Promotes, Announces, marked, still_place, copied_place, lent_place, Allowed, after}
 use Rattle.papaya_rule.proofs.Moves.Writes.{put_here, put_elsewhere, put_in_one}
-use Rattle.papaya_spots.specs.Spots.{Named, ThePair, named_by}
+use Rattle.papaya_spots.specs.Spots.{ThePair, named_by}
 use Rattle.papaya_spots.proofs.Moves.{lent_named}
 use Rattle.papaya_spots.proofs.Names.{other_pair, nobody, marked_names, still_names, copied_names}
 

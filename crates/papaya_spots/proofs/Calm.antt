@@ -1,6 +1,6 @@
 -- A step of a call that moves no pair and no table neither stores, nor copies, nor links: blocks of a map are those that they were.
-use Rattle.std.specs.Prelude.{◌≡◌, ◌≢◌, ℕ, ◌<◌, nat_lt, Bool, true, false, List, [], ◌∷◌, if◌then◌else◌, ◌⊎◌}
-use Rattle.std.proofs.Common.{refl, ap, sym, subst, ◌∙◌, inl, inr}
+use Rattle.std.specs.Prelude.{◌≡◌, ℕ, ◌<◌, nat_lt, Bool, true, false, List, [], ◌∷◌, if◌then◌else◌}
+use Rattle.std.proofs.Common.{refl, sym, subst, ◌∙◌, inl, inr}
 use Rattle.std.proofs.lemmas.Bool.{cases_eq}
 use Rattle.seize_words.specs.declared.at.At.{At}
 use Rattle.seize_words.specs.Mem.{Mem}
@@ -19,7 +19,7 @@ use Rattle.papaya_tells.specs.Tells.{KeepsNames}
 use Rattle.papaya_rule.specs.Chart.{Chart}
 use Rattle.papaya_rule.specs.Words.{Blocks}
 use Rattle.papaya_rule.specs.InWorld.{IsMapIn, Went}
-use Rattle.papaya_effects.specs.Effects.{made_role, made_by, taken_by, effects_of, known_after}
+use Rattle.papaya_effects.specs.Effects.{made_by, taken_by, effects_of, known_after}
 use Rattle.papaya_effects.specs.Known.{Known}
 use Rattle.papaya_effects.specs.declared.acting.Acting.{Acting}
 use Rattle.papaya_effects.specs.declared.acting.Acting.TheVariants.{Call}

@@ -1,5 +1,5 @@
 -- What a step of a call that is none of a row does, and what is known after it, by the change of its map's tables that its operation tells.
-use Rattle.std.specs.Prelude.{◌≡◌, ◌≢◌, ℕ, zero, suc, ◌+◌, ◌-◌, ◌*◌, ◌<◌, ◌≤◌, nat_lt, Bool, true, false, cond, eqb, List, [], ◌∷◌, ◌++◌, Option, if◌then◌else◌, ◌⊎◌}
+use Rattle.std.specs.Prelude.{◌≡◌, ◌≢◌, ℕ, zero, suc, ◌+◌, ◌*◌, ◌<◌, ◌≤◌, Bool, true, false, cond, eqb, List, [], ◌∷◌, ◌++◌, Option}
 use Rattle.std.proofs.Common.{refl, ap, sym, subst, ◌∙◌, arith, inl, inr}
 use Rattle.std.proofs.lemmas.Bool.{ne_eqb, eq-eqb, cases_eq}
 use Rattle.seize_words.specs.declared.at.At.{At}
@@ -20,8 +20,8 @@ use Rattle.papaya_schedules.specs.Moment.{Moment}
 use Rattle.papaya_teller.specs.declared.changed.Changed.{Changed}
 use Rattle.papaya_teller.specs.declared.changed.Changed.TheVariants as changed
 use Rattle.papaya_tells.specs.Seen.{Seen, Wrote}
-use Rattle.papaya_tells.specs.Tells.{place_at, last_link, KeepsNames, IsQuiet, new_word, IsSeenAs, IsTold}
-use Rattle.papaya_rule.specs.Chart.{Phase, Still, Copying, Empty, Holds, Chart}
+use Rattle.papaya_tells.specs.Tells.{place_at, last_link, IsQuiet, new_word, IsSeenAs, IsTold}
+use Rattle.papaya_rule.specs.Chart.{Phase, Still, Copying, Holds, Chart}
 use Rattle.papaya_rule.specs.Moves.{Move, Links, Stores, Replaces, Removes, Marks, MarksBlocking, Skips, Unmarks, Puts, Covers, PutsLate, Claims, Reclaims, Counts, GivesUp, Aborts, Promotes, Announces, Allowed, after, without}
 use Rattle.papaya_rule.specs.Words.{Blocks, byte_of, place_word}
 use Rattle.papaya_rule.specs.Maps.{spot_of}
@@ -42,7 +42,6 @@ use Rattle.papaya_effects.specs.declared.role.Role.TheVariants as role
 use Rattle.papaya_follows.specs.Blocks.{ShowsBlocks}
 use Rattle.papaya_follows.specs.Maps.{table_of, ShowsMap}
 use Rattle.papaya_follows.proofs.Linked.{was_own as own_before}
-use Rattle.papaya_follows.proofs.Onward.{StaysPairs}
 use Rattle.papaya_follows.proofs.Operations.{LeavesBy}
 use Rattle.papaya_follows.proofs.Stored.{inside, still_home, was_own}
 use Rattle.papaya_follows.proofs.Writes.{Says, nothing_free, place_says, next_says, root_says}

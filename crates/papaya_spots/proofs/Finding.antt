@@ -1,5 +1,5 @@
 -- What the effects of a step of a call find where pairs lie.
-use Rattle.std.specs.Prelude.{◌≡◌, ◌≢◌, ℕ, zero, suc, ◌+◌, ◌<◌, ◌≤◌, ◌==◌, nat_lt, Bool, true, false, ◌&&◌, ◌||◌, List, [], ◌∷◌, ◌++◌, filter, length, Option, Some, if◌then◌else◌, ◌⊎◌}
+use Rattle.std.specs.Prelude.{◌≡◌, ℕ, zero, suc, ◌+◌, ◌<◌, ◌≤◌, ◌==◌, nat_lt, Bool, true, false, ◌&&◌, ◌||◌, List, [], ◌∷◌, filter, length, Option, if◌then◌else◌, ◌⊎◌}
 use Rattle.std.specs.List.{list_any}
 use Rattle.std.proofs.Common.{refl, ap, sym, subst, ◌∙◌, arith, inl, inr}
 use Rattle.std.proofs.lemmas.Bool.{eq-eqb, cases_eq, cases_lt}
@@ -15,12 +15,12 @@ use Rattle.papaya_schedules.specs.declared.effect.Spot.{Spot}
 use Rattle.papaya_schedules.specs.Lists.{numbers_from}
 use Rattle.papaya_schedules.specs.Lives.{has_pair_at, MayCopy}
 use Rattle.papaya_schedules.specs.declared.effect.Table.{Table}
-use Rattle.papaya_schedules.specs.Moment.{Place, InMap, GivenBack, Stage, TableThere, Moment}
+use Rattle.papaya_schedules.specs.Moment.{Place, GivenBack, Stage, TableThere, Moment}
 use Rattle.papaya_schedules.specs.Things.{same_table, same_spot}
-use Rattle.papaya_schedules.specs.Views.{is_in_map, is_there, is_linked, first_of, tables_of, is_stage, is_place}
+use Rattle.papaya_schedules.specs.Views.{is_in_map, is_there, is_linked, is_stage, is_place}
 use Rattle.papaya_teller.specs.declared.changed.Changed.{Changed}
 use Rattle.papaya_teller.specs.declared.changed.Changed.TheVariants as changed
-use Rattle.papaya_rule.specs.Chart.{Phase, Still, Copying, Empty, Holds, Chart}
+use Rattle.papaya_rule.specs.Chart.{Still, Copying, Empty, Holds, Chart}
 use Rattle.papaya_rule.specs.Moments.{Moments}
 use Rattle.papaya_rule.specs.Rule.{Rule}
 use Rattle.papaya_rule.specs.Moves.{Move, Links, Stores, Replaces, Removes, Marks, MarksBlocking, Skips, Unmarks, Puts, Covers, PutsLate, Claims, Reclaims, Counts, GivesUp, Aborts, Promotes, Announces, MayChange, Allowed}
@@ -48,10 +48,9 @@ use Rattle.papaya_spots.specs.Placed.{FindPlaces}
 use Rattle.papaya_spots.specs.Spots.{ThePair, named_by, spot_in, LiesAt, ShowsSpots}
 use Rattle.papaya_spots.specs.Unreclaimed.{is_unreclaimed, ShowsUnreclaimed}
 use Rattle.papaya_spots.proofs.Born.{late_born}
-use Rattle.papaya_spots.proofs.Calm.{IsCalm}
 use Rattle.papaya_spots.proofs.Copies.{copied_from_root}
-use Rattle.papaya_spots.proofs.Done.{Did, DidStore, DidBy, DidMoved}
-use Rattle.papaya_spots.proofs.Moves.{names_none, named_made}
+use Rattle.papaya_spots.proofs.Done.{DidBy, DidMoved}
+use Rattle.papaya_spots.proofs.Moves.{names_none}
 use Rattle.papaya_spots.proofs.Names.{holds_is}
 use Rattle.papaya_spots.proofs.Placed.{lies_named}
 use Rattle.papaya_spots.proofs.Unreclaimed.{any_either, or_right, and_both, table_is}
@@ -99,7 +98,7 @@ module _ {X : Type 0} (p : X → Bool) where
 
 -- the stage of a table of a map, where one that is at such a stage is there
 module _ {K : Type 0} (map : ℕ) (c : Chart K) (stage : ℕ → Stage) (test : Stage → Bool) (t : ℕ) where
-  abbrev AtStage : TableThere → Bool
+  abbrev pub AtStage : TableThere → Bool
   AtStage u = same_table u.table (table_of map t) && test u.stage
 
   stage_of : (n : ℕ) → list_any AtStage (tables_to map c stage n) ≡ true → test (stage t) ≡ true
@@ -112,6 +111,25 @@ module _ {K : Type 0} (map : ℕ) (c : Chart K) (stage : ℕ → Stage) (test : 
           let two = and_both (same_table (table_of map n) (table_of map t)) (test (stage n)) here in
           let turns = ap (λ (x : Table). x.turn) (table_is (table_of map n) (table_of map t) two.0) in
           ap (λ (x : ℕ). test (stage x)) (sym turns) ∙ two.1
+
+  pub turn_below : (n : ℕ) → list_any AtStage (tables_to map c stage n) ≡ true → t < n
+  turn_below zero e = absurd (cc e)
+  turn_below (suc n) e = by (any_either AtStage (tables_to map c stage n) (record { table = table_of map n; shape = shape_at map c n; stage = stage n }) e) (turn_below n)
+    where
+      by : (list_any AtStage (tables_to map c stage n) ≡ true) ⊎ ((same_table (table_of map n) (table_of map t) && test (stage n)) ≡ true) → (list_any AtStage (tables_to map c stage n) ≡ true → t < n) → t < suc n
+      by (inl before) rest = let l = rest before in omega (arith, l)
+      by (inr here) rest =
+          let two = and_both (same_table (table_of map n) (table_of map t)) (test (stage n)) here in
+          let turns = ap (λ (x : Table). x.turn) (table_is (table_of map n) (table_of map t) two.0) in
+          omega (arith, turns)
+
+-- a table of a map that stands is among those that the map has had
+pub listed_there : {K V : Type 0} (map : ℕ) (number : ℕ → ℕ) (s : Standing K) (m : Moment K V) (known : Known) (shown : ShowsMap map number s m known) (test : Stage → Bool) (t : ℕ)
+    → is_stage test (table_of map t) m ≡ true → list_any (AtStage map s.chart shown.tables.stage test t) (tables_to map s.chart shown.tables.stage s.chart.past) ≡ true
+listed_there map number s m known shown test t there =
+    ap (list_any (AtStage map s.chart shown.tables.stage test t)) (sym shown.tables.listed)
+    ∙ any_kept (AtStage map s.chart shown.tables.stage test t) (λ u. u.table.map == map)
+    (λ u e. let two = and_both (same_table u.table (table_of map t)) (test u.stage) e in ap (λ (x : Table). x.map == map) (table_is u.table (table_of map t) two.0) ∙ eq-eqb map map refl) m.tables there
 
 -- a spot is the same as itself
 spot_same : (s t : Spot) → s ≡ t → same_spot s t ≡ true
@@ -201,10 +219,7 @@ module _ {K V : Type 0} (same : K → K → Bool) (slot caller map : ℕ) (name 
   place_there : (t i : ℕ) → t < c.past → s.blocks.table_known t ≡ true → i < c.len t → is_place is_there map (spot_in t i) m ≡ true
   place_there t i made seen within =
       let there = held.tables (s.blocks.table t) (c.len t) (table_of map t) (shown.tables.roles t made seen) in
-      let stage = stage_of map c shown.tables.stage is_there t c.past
-      (ap (list_any (AtStage map c shown.tables.stage is_there t)) (sym shown.tables.listed)
-      ∙ any_kept (AtStage map c shown.tables.stage is_there t) (λ u. u.table.map == map)
-      (λ u e. let two = and_both (same_table u.table (table_of map t)) (is_there u.stage) e in ap (λ (x : Table). x.map == map) (table_is u.table (table_of map t) two.0) ∙ eq-eqb map map refl) m.tables there) in
+      let stage = stage_of map c shown.tables.stage is_there t c.past (listed_there map number s m known shown is_there t there) in
       among map number s m known shown (λ u. same_table u.table (table_of map t) && is_there u.stage && nat_lt i u.shape.len) t made
       (ap (λ (x : Bool). x && is_there (shown.tables.stage t) && nat_lt i (c.len t)) (same_one map number s m known shown t) ∙ ap (λ (x : Bool). x && nat_lt i (c.len t)) stage ∙ less i (c.len t) within)
     where

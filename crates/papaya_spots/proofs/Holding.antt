@@ -1,7 +1,7 @@
 -- Which blocks are not reclaimed after a step of a call, by the change of its map's tables, or by what a row has handed over.
-use Rattle.std.specs.Prelude.{◌≡◌, ◌≢◌, ℕ, ◌+◌, ◌<◌, nat_lt, ◌&&◌, Bool, true, false, List, [], ◌∷◌, ◌++◌, Option, Some, if◌then◌else◌, ◌⊎◌}
+use Rattle.std.specs.Prelude.{◌≡◌, ℕ, ◌+◌, nat_lt, ◌&&◌, Bool, true, false, List, [], ◌∷◌, Option, Some, if◌then◌else◌}
 use Rattle.std.specs.List.{list_any}
-use Rattle.std.proofs.Common.{refl, ap, sym, subst, ◌∙◌, inl, inr}
+use Rattle.std.proofs.Common.{refl, ap, sym, subst, ◌∙◌, arith, inl, inr}
 use Rattle.seize_words.specs.Mem.{Mem}
 use Rattle.seize.specs.World.{World}
 use Rattle.papaya_tables.specs.Chunks.{is_incremental}
@@ -17,7 +17,6 @@ use Rattle.papaya_schedules.specs.Views.{is_in_map, is_there}
 use Rattle.papaya_teller.specs.declared.changed.Changed.{Changed}
 use Rattle.papaya_teller.specs.declared.changed.Changed.TheVariants as changed
 use Rattle.papaya_rule.specs.Chart.{Still, Holds, Chart}
-use Rattle.papaya_rule.specs.Rule.{Rule}
 use Rattle.papaya_rule.specs.Moves.{Move, Links, Stores, Replaces, Removes, Marks, MarksBlocking, Skips, Unmarks, Puts, Covers, PutsLate, Claims, Reclaims, Counts, GivesUp, Aborts, Promotes, Announces, MayChange, Allowed}
 use Rattle.papaya_rule.specs.Words.{Blocks}
 use Rattle.papaya_rule.specs.Maps.{spot_of}
@@ -27,7 +26,7 @@ use Rattle.papaya_callers.specs.Sights.{Sight, seen_by, IsGrown, IsSight}
 use Rattle.papaya_callers.specs.Together.{in_slot}
 use Rattle.papaya_finishes.specs.Maps.{Standing}
 use Rattle.papaya_effects.specs.Effects.{effects_of, known_after}
-use Rattle.papaya_effects.specs.Known.{Known, with_pair}
+use Rattle.papaya_effects.specs.Known.{Known}
 use Rattle.papaya_effects.specs.declared.acting.Acting.{Acting}
 use Rattle.papaya_effects.specs.declared.acting.Acting.TheVariants.{Call}
 use Rattle.papaya_effects.specs.declared.role.Role.{Role}
@@ -35,18 +34,19 @@ use Rattle.papaya_effects.specs.declared.role.Role.TheVariants as role
 use Rattle.papaya_follows.specs.Blocks.{ShowsBlocks}
 use Rattle.papaya_follows.specs.Maps.{table_of, ShowsMap}
 use Rattle.papaya_follows.specs.Steps.{TakesNone}
-use Rattle.papaya_follows.proofs.Alike.{AllStill, AreSame, calm_still, still_all}
-use Rattle.papaya_follows.proofs.Onward.{IsLasting, KeepsRoles}
+use Rattle.papaya_follows.proofs.Alike.{AreSame, calm_still, still_all}
+use Rattle.papaya_follows.proofs.Onward.{IsLasting}
 use Rattle.papaya_follows.proofs.Operations.{LeavesBy}
 use Rattle.papaya_follows.proofs.Rows.{HandsOn, IsStill, Puts as PutsBehind, Retires, RowLeaves}
-use Rattle.papaya_follows.proofs.RowSteps.{RowDone, row_done}
+use Rattle.papaya_follows.proofs.RowSteps.{row_done}
 use Rattle.papaya_follows.proofs.Stored.{still_current}
 use Rattle.papaya_spots.specs.Spots.{spot_in}
 use Rattle.papaya_spots.specs.Unreclaimed.{is_unreclaimed, ShowsUnreclaimed}
 use Rattle.papaya_spots.proofs.Calm.{IsCalm}
-use Rattle.papaya_spots.proofs.Done.{Did, DidStore, DidBy, DidMoved}
+use Rattle.papaya_spots.proofs.Done.{DidBy, DidMoved}
+use Rattle.papaya_spots.proofs.Finding.{turn_below, listed_there}
 use Rattle.papaya_spots.proofs.Named.{HaveBlocks, written_named}
-use Rattle.papaya_spots.proofs.Unreclaimed.{AsUnreclaimed, unreclaimed_same, moved_unreclaimed, stored_unreclaimed, linked_unreclaimed, retired_unreclaimed}
+use Rattle.papaya_spots.proofs.Unreclaimed.{AsUnreclaimed, stay_of_maps, unreclaimed_same, moved_unreclaimed, stored_unreclaimed, linked_unreclaimed, retired_unreclaimed}
 
 -- what is in a map is not reclaimed
 in_map_unreclaimed : (a : ℕ) (p : Place) → is_in_map a p ≡ true → is_unreclaimed p ≡ true
@@ -95,11 +95,11 @@ module _ {K V : Type 0} (same : K → K → Bool) (slot caller map : ℕ) (name 
   as_done e k done g = subst (λ (x : List Effect). ShowsUnreclaimed (led x) known2) (sym done.0) (subst (ShowsUnreclaimed (led e)) (sym done.1) g)
 
   calm_then : IsCalm known effects known2 → Now
-  calm_then calm = unreclaimed_same m (led effects) known known2 (as_same m (led effects) (still_all name map effects m (calm_still effects calm.calm))) calm.keeps calm.back h
+  calm_then calm = unreclaimed_same m (led effects) known known2 (as_same m (led effects) (still_all name map effects m (calm_still effects calm.calm))) (stay_of_maps known known2 calm.keeps) calm.back h
 
   -- as much is known, and nothing is reclaimed
   known_then : (v : Moment K V) → AsUnreclaimed m v → ShowsUnreclaimed v known
-  known_then v same_so = unreclaimed_same m v known known same_so (λ b lasting. refl) (λ b of. refl) h
+  known_then v same_so = unreclaimed_same m v known known same_so (λ b of. refl) (λ b of. refl) h
 
   module _ (t i n : ℕ) (borrowed : Bool) (k : K) (held : c.place t i ≡ Holds n Still borrowed) (may : MayChange same (spot_of s.hash) q c t k) where
     was_there : is_unreclaimed (m.place (number n)) ≡ true
@@ -108,9 +108,13 @@ module _ {K V : Type 0} (same : K → K → Bool) (slot caller map : ℕ) (name 
         let stored = (is_map.map.rule.common.keyed t i n Still borrowed held).0 in
         in_map_unreclaimed map (m.place (number n)) (shown.pairs.here n stored ∙ current)
 
+  -- the table that is linked next has no block
+  not_linked : (x n : ℕ) → known.roles x ≡ role.Table (table_of map c.past) n → ⊥
+  not_linked x n has = (let l = turn_below map c shown.tables.stage is_there c.past c.past (listed_there map number s m known shown is_there c.past (h.tables x n (table_of map c.past) has)) in omega (arith, l))
+
   by_move : (move : Move K) → Allowed same (spot_of s.hash) q move c → By move → Now
   by_move (Links len limit) allowed (b, own, done) = as_done _ _ done (linked_unreclaimed m (led (Linked (table_of map c.past) (record { len = len; limit = limit }) ∷ [])) known b len (table_of map c.past)
-      (record { len = len; limit = limit }) (λ lasting. subst IsLasting own lasting) refl refl h)
+      (record { len = len; limit = limit }) (λ lasting. subst IsLasting own lasting) (λ x n has. not_linked x n has) refl refl h)
   by_move (Stores t k j) allowed (i, b, own, its_block, done) =
       as_done _ _ done (stored_unreclaimed m (led (Stored (known.stored + 1) (spot_in t (spot_of s.hash (c.len t) k j)) ∷ [])) known b (InMap map) (λ lasting. subst IsLasting own lasting) refl refl refl h)
   by_move (Replaces t i k) allowed (n, borrowed, held, (j, b, own, its_block, done)) =
@@ -146,7 +150,7 @@ module _ {K V : Type 0} (caller map : ℕ) (name : Option (List ℕ)) (m : Momen
   -- so it is where nothing is done to pairs and tables
   pub calm_holds : (effects : List Effect) (known2 : Known) → IsCalm known effects known2 → ShowsUnreclaimed (with_effects name (Some map) effects m) known2
   calm_holds effects known2 calm =
-      unreclaimed_same m (with_effects name (Some map) effects m) known known2 (as_same m (with_effects name (Some map) effects m) (still_all name map effects m (calm_still effects calm.calm))) calm.keeps calm.back h
+      unreclaimed_same m (with_effects name (Some map) effects m) known known2 (as_same m (with_effects name (Some map) effects m) (still_all name map effects m (calm_still effects calm.calm))) (stay_of_maps known known2 calm.keeps) calm.back h
 
   -- and where they are handed over
   hands_hold : (effects : List Effect) → HandsOn effects → HaveBlocks known effects → AsUnreclaimed m (with_effects name (Some map) effects m)
@@ -175,4 +179,4 @@ module _ {K V : Type 0} (caller map : ℕ) (name : Option (List ℕ)) (m : Momen
     row_holds told left none =
         let done = row_done caller map m known w w2 shown leaves told left none in
         unreclaimed_same m (with_effects name (Some map) (effects_of its known told) m) known (known_after its told known) (have_blocks told done.hands left none)
-        (λ b lasting. ap (λ (f : ℕ → Role). f b) done.roles) (λ b of. ap (λ (f : ℕ → Role). f b) done.roles) h
+        (λ b of. ap (λ (f : ℕ → Role). f b) done.roles) (λ b of. ap (λ (f : ℕ → Role). f b) done.roles) h

@@ -12,10 +12,14 @@ pub mod Stays
 pub mod Rows
 pub mod Named
 pub mod Unreclaimed
-pub mod Holding
+pub mod Gone
 pub mod Placed
 pub mod Finding
+pub mod Holding
 pub mod Deferred
 pub mod Numbers
 pub mod Begins
 pub mod Steps
+pub mod OnSlots
+pub mod Makings
+pub mod There

@@ -1,11 +1,11 @@
 -- The effects of a step of a call find numbers as they must: of the pair that is stored next, and of one that is put behind a table.
-use Rattle.std.specs.Prelude.{◌≡◌, ◌≢◌, ℕ, ◌+◌, ◌≤◌, nat_lt, Bool, true, false, List, [], ◌∷◌, ◌++◌, length, Option, Some, if◌then◌else◌, ◌⊎◌}
-use Rattle.std.proofs.Common.{refl, ap, sym, subst, ◌∙◌, arith, inl, inr}
+use Rattle.std.specs.Prelude.{◌≡◌, ℕ, ◌+◌, nat_lt, Bool, true, false, List, [], ◌∷◌, length, Option, Some, if◌then◌else◌}
+use Rattle.std.proofs.Common.{refl, ap, sym, subst, arith, inl, inr}
 use Rattle.seize_words.specs.Mem.{Mem}
 use Rattle.seize.specs.World.{World}
 use Rattle.papaya_tables.specs.declared.node.Node.{Node}
 use Rattle.papaya_schedules.specs.declared.effect.Effect.{Effect}
-use Rattle.papaya_schedules.specs.declared.effect.Effect.TheVariants.{Asked, Copied, Stored, Replaced, Removed, Linked, Promoted, Deferred, Retired}
+use Rattle.papaya_schedules.specs.declared.effect.Effect.TheVariants.{Asked, Stored, Replaced, Deferred}
 use Rattle.papaya_schedules.specs.declared.effect.Growth.TheVariants.{ABucket}
 use Rattle.papaya_schedules.specs.Entry.{acting}
 use Rattle.papaya_schedules.specs.Effects.{with_effect, AtEachEffect}

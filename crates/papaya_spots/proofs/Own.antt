@@ -1,5 +1,5 @@
 -- Where the pairs of the map lie on which a call takes a step that is none of a row.
-use Rattle.std.specs.Prelude.{◌≡◌, ◌≢◌, ℕ, suc, ◌+◌, ◌<◌, ◌≤◌, ◌==◌, Bool, true, false, cond, eqb, List, [], ◌∷◌, ◌++◌, length, Option, Some, if◌then◌else◌, ◌⊎◌}
+use Rattle.std.specs.Prelude.{◌≡◌, ◌≢◌, ℕ, suc, ◌+◌, ◌<◌, ◌≤◌, Bool, true, false, cond, List, [], ◌∷◌, length, Option, Some, if◌then◌else◌}
 use Rattle.std.proofs.Common.{refl, ap, sym, subst, ◌∙◌, arith, inl, inr}
 use Rattle.std.proofs.lemmas.Bool.{eq-eqb, cases_eq, cases_lt}
 use Rattle.seize_words.specs.Mem.{Mem}
@@ -8,13 +8,12 @@ use Rattle.papaya_tables.specs.Chunks.{is_incremental}
 use Rattle.papaya_tables.specs.declared.node.Node.{Node}
 use Rattle.papaya_tables.specs.declared.status.TheConstants.Status.{ABORTED}
 use Rattle.papaya_schedules.specs.declared.effect.Effect.{Effect}
-use Rattle.papaya_schedules.specs.declared.effect.Effect.TheVariants.{Copied, Stored, Replaced, Removed, Linked, Promoted}
+use Rattle.papaya_schedules.specs.declared.effect.Effect.TheVariants.{Copied, Stored, Replaced, Promoted}
 use Rattle.papaya_schedules.specs.declared.effect.Spot.{Spot}
 use Rattle.papaya_schedules.specs.declared.effect.Table.{Table}
 use Rattle.papaya_schedules.specs.Effects.{later, is_chunked, spot_by, with_effects}
 use Rattle.papaya_schedules.specs.Lists.{put}
 use Rattle.papaya_schedules.specs.Moment.{Moment}
-use Rattle.papaya_schedules.specs.Views.{is_in_map}
 use Rattle.papaya_teller.specs.declared.changed.Changed.{Changed}
 use Rattle.papaya_rule.specs.Chart.{Still, Copying, Holds, Chart, put_in}
 use Rattle.papaya_rule.specs.Moments.{Moments}
@@ -23,7 +22,6 @@ use Rattle.papaya_rule.specs.Moves.{Move, Links, Stores, Replaces, Removes, Mark
 use Rattle.papaya_rule.specs.Words.{Blocks}
 use Rattle.papaya_rule.specs.Maps.{spot_of}
 use Rattle.papaya_rule.specs.InWorld.{IsMapIn, Moved, Went}
-use Rattle.papaya_rule.proofs.Moves.Writes.{put_in_one}
 use Rattle.papaya_points.specs.Steps.{AreLawful}
 use Rattle.papaya_callers.specs.Sights.{Sight, seen_by, IsGrown, IsSight}
 use Rattle.papaya_callers.specs.Together.{in_slot}
@@ -40,11 +38,11 @@ use Rattle.papaya_follows.proofs.Finds.{chunks_are}
 use Rattle.papaya_follows.proofs.Onward.{IsLasting, KeepsRoles}
 use Rattle.papaya_follows.proofs.Operations.{LeavesBy}
 use Rattle.papaya_follows.proofs.Stored.{in_root, still_home}
-use Rattle.papaya_spots.specs.Spots.{Named, ThePair, named_by, spot_in, LiesAt, IsCopiedTo, IsPairOf, ShowsSpots}
+use Rattle.papaya_spots.specs.Spots.{ThePair, named_by, spot_in, IsPairOf, ShowsSpots}
 use Rattle.papaya_spots.proofs.Born.{born_move, whole_move}
 use Rattle.papaya_spots.proofs.Copies.{alone, new_lies, new_copied}
 use Rattle.papaya_spots.proofs.Calm.{IsCalm}
-use Rattle.papaya_spots.proofs.Done.{Did, DidStore, DidBy, DidMoved}
+use Rattle.papaya_spots.proofs.Done.{Did, DidBy, DidMoved}
 use Rattle.papaya_spots.proofs.Effects.{AllAside, AreAside, aside_all, calm_aside, spot_copied, spot_copied_other, spot_promoted}
 use Rattle.papaya_spots.proofs.Lies.{Lies, plain_lies, put_lies, late_lies, promote_lies}
 use Rattle.papaya_spots.proofs.Moves.{Spares, keeps_move, named_stored}

@@ -1,6 +1,6 @@
 -- The word of the place at which a pair lies names the pair's block.
-use Rattle.std.specs.Prelude.{◌≡◌, ℕ, ◌+◌, ◌<◌, ◌≤◌, ◌==◌, Bool, true, false, Some}
-use Rattle.std.proofs.Common.{refl, ap, sym, subst, ◌∙◌, arith, inl, inr}
+use Rattle.std.specs.Prelude.{◌≡◌, ℕ, ◌+◌, ◌<◌, ◌≤◌, Bool, true, false}
+use Rattle.std.proofs.Common.{refl, ap, sym, ◌∙◌, arith, inl, inr}
 use Rattle.std.proofs.lemmas.Bool.{eq-eqb, cases_lt}
 use Rattle.seize_words.specs.declared.at.At.TheVariants.{Word}
 use Rattle.seize_words.specs.Mem.{Mem, word_at}
@@ -9,20 +9,17 @@ use Rattle.papaya_tables.specs.Chunks.{is_incremental}
 use Rattle.papaya_tables.specs.declared.node.Node.{Node}
 use Rattle.papaya_tables.specs.declared.table_words.TheConstants.{PLACES}
 use Rattle.papaya_schedules.specs.declared.effect.Spot.{Spot}
-use Rattle.papaya_schedules.specs.Moment.{Place, InMap, Moment}
 use Rattle.papaya_schedules.specs.Views.{is_in_map}
 use Rattle.papaya_rule.specs.Chart.{Phase, Holds, Chart}
 use Rattle.papaya_rule.specs.Maps.{spot_of}
 use Rattle.papaya_rule.specs.Words.{byte_of, place_word}
 use Rattle.papaya_rule.proofs.Laws.{current_is_known, words_name_pairs, bytes_are_few}
 use Rattle.papaya_callers.specs.Together.{Together}
-use Rattle.papaya_finishes.specs.Maps.{Standing}
-use Rattle.papaya_effects.specs.Known.{Known}
 use Rattle.papaya_effects.specs.declared.role.Role.TheVariants as role
-use Rattle.papaya_executor.specs.IsAt.{Scene, slot_of}
+use Rattle.papaya_executor.specs.IsAt.{slot_of}
 use Rattle.papaya_follows.specs.Maps.{ShowsMap}
-use Rattle.papaya_spots.specs.Placed.{IsNamedThere, PlacesNamePairs}
-use Rattle.papaya_spots.specs.Spots.{ThePair, named_by, LiesAt, ShowsSpots}
+use Rattle.papaya_spots.specs.Placed.{PlacesNamePairs}
+use Rattle.papaya_spots.specs.Spots.{ThePair, named_by, LiesAt}
 use Rattle.papaya_spots.proofs.Moves.{named_made}
 use Rattle.papaya_spots.proofs.Names.{holds_is}
 

@@ -1,7 +1,6 @@
 -- A step of a row within a call leaves pairs where they lie: it hands over, or takes away, what has left its map.
 use Rattle.std.specs.Prelude.{◌≡◌, ℕ, nat_lt, Bool, true, false, List, [], ◌∷◌, if◌then◌else◌}
 use Rattle.std.proofs.Common.{refl, ap, sym, subst, ◌∙◌}
-use Rattle.seize_words.specs.Mem.{Mem}
 use Rattle.seize.specs.World.{World}
 use Rattle.papaya_tables.specs.declared.node.Node.{Node}
 use Rattle.papaya_schedules.specs.declared.effect.Effect.{Effect}
@@ -44,7 +43,7 @@ pub roomed_aside : (q : Bool) → AllAside (if q then [] else Asked ABucket ∷ 
 roomed_aside true = tt
 roomed_aside false = (refl, tt)
 
-same_pairs : (known known2 : Known) → known2.roles ≡ known.roles → WerePairs known known2
+pub same_pairs : (known known2 : Known) → known2.roles ≡ known.roles → WerePairs known known2
 same_pairs known known2 same b k is = ap (λ (f : ℕ → Role). f b) (sym same) ∙ is
 
 module _ {K V : Type 0} (caller map : ℕ) (m : Moment K V) (known : Known) (w w2 : World (Node K V)) (shown : ShowsBlocks m known w) (leaves : RowLeaves w w2) where

@@ -1,5 +1,5 @@
 -- Pairs lie where they lay, where effects leave them so and no map has changed.
-use Rattle.std.specs.Prelude.{◌≡◌, ℕ, ◌<◌, ◌≤◌, true, false, List, length, Option, Some, None}
+use Rattle.std.specs.Prelude.{◌≡◌, ℕ, ◌≤◌, List, Option, Some, None}
 use Rattle.std.proofs.Common.{refl, ap, sym, subst, ◌∙◌, arith}
 use Rattle.papaya_tables.specs.Chunks.{is_incremental}
 use Rattle.papaya_schedules.specs.declared.effect.Effect.{Effect}
@@ -12,7 +12,7 @@ use Rattle.papaya_callers.specs.Sights.{Sight, IsPartOf}
 use Rattle.papaya_finishes.specs.Maps.{Standing, IsSameMap}
 use Rattle.papaya_effects.specs.Known.{Known}
 use Rattle.papaya_effects.specs.declared.role.Role.TheVariants as role
-use Rattle.papaya_spots.specs.Spots.{spot_in, LiesAt, IsCopiedTo, IsPairOf, ShowsSpots, ShowsPlaces}
+use Rattle.papaya_spots.specs.Spots.{LiesAt, IsCopiedTo, IsPairOf, ShowsSpots, ShowsPlaces}
 use Rattle.papaya_spots.proofs.Effects.{AllAside, AreAside, aside_all}
 use Rattle.papaya_spots.proofs.Elsewhere.{stored_grows}
 

@@ -1,14 +1,13 @@
 -- Which blocks are not reclaimed after the effects of a step of a call.
-use Rattle.std.specs.Prelude.{◌≡◌, ◌≢◌, ℕ, ◌+◌, ◌==◌, nat_lt, Bool, true, false, ◌&&◌, ◌||◌, List, [], ◌∷◌, ◌++◌, map, Option, Some, if◌then◌else◌, ◌⊎◌}
+use Rattle.std.specs.Prelude.{◌≡◌, ◌≢◌, ℕ, ◌+◌, ◌==◌, Bool, true, false, ◌&&◌, ◌||◌, List, [], ◌∷◌, ◌++◌, map, if◌then◌else◌, ◌⊎◌}
 use Rattle.std.specs.List.{list_any}
 use Rattle.std.proofs.Common.{refl, ap, sym, subst, ◌∙◌, arith, inl, inr}
 use Rattle.std.proofs.lemmas.Bool.{eq-eqb, cases_eq}
 use Rattle.papaya_runs.specs.declared.outcome.TableShape.{TableShape}
-use Rattle.papaya_schedules.specs.declared.effect.Effect.{Effect}
 use Rattle.papaya_schedules.specs.declared.effect.Table.{Table}
 use Rattle.papaya_schedules.specs.Effects.{at_stage}
 use Rattle.papaya_schedules.specs.Lists.{put}
-use Rattle.papaya_schedules.specs.Moment.{Place, Unborn, InMap, Out, Handed, Behind, Left, GivenBack, Stage, IsLinked, IsRetired, IsReclaimed, IsTaken, TableThere, Moment}
+use Rattle.papaya_schedules.specs.Moment.{Place, Stage, IsLinked, IsRetired, TableThere, Moment}
 use Rattle.papaya_schedules.specs.Things.{same_table}
 use Rattle.papaya_schedules.specs.Views.{is_there, is_stage}
 use Rattle.papaya_effects.specs.Known.{Known, with_pair, with_role}
@@ -18,9 +17,23 @@ use Rattle.papaya_follows.proofs.Alike.{put_here, put_elsewhere}
 use Rattle.papaya_follows.proofs.Onward.{IsLasting, IsOfMap, KeepsRoles}
 use Rattle.papaya_spots.specs.Unreclaimed.{is_unreclaimed, ShowsUnreclaimed}
 
--- blocks of maps are those that they were
+-- blocks of maps are those that they were, and stay those
 abbrev pub WereOfMaps : Known → Known → Type 0
 WereOfMaps known known2 = (b : ℕ) → IsOfMap (known2.roles b) → known2.roles b ≡ known.roles b
+
+abbrev pub StayOfMaps : Known → Known → Type 0
+StayOfMaps known known2 = (b : ℕ) → IsOfMap (known.roles b) → known2.roles b ≡ known.roles b
+
+of_map_lasts : (r : Role) → IsOfMap r → IsLasting r
+of_map_lasts (role.Pair n) of = tt
+of_map_lasts (role.Table t len) of = tt
+of_map_lasts role.Free of = absurd of
+of_map_lasts (role.OwnPair i) of = absurd of
+of_map_lasts (role.OwnTable turn shape) of = absurd of
+of_map_lasts (role.Counter map) of = absurd of
+
+pub stay_of_maps : (known known2 : Known) → KeepsRoles known known2 → StayOfMaps known known2
+stay_of_maps known known2 keeps b of = keeps b (of_map_lasts (known.roles b) of)
 
 module _ {K V : Type 0} where
   -- what is not reclaimed is the same
@@ -28,12 +41,13 @@ module _ {K V : Type 0} where
     pub place : (k : ℕ) → is_unreclaimed (v.place k) ≡ is_unreclaimed (m.place k)
     pub tables : (t : Table) → is_stage is_there t v ≡ is_stage is_there t m
 
-  pub unreclaimed_same : (m v : Moment K V) (known known2 : Known) → AsUnreclaimed m v → KeepsRoles known known2 → WereOfMaps known known2 → ShowsUnreclaimed m known → ShowsUnreclaimed v known2
+  pub unreclaimed_same : (m v : Moment K V) (known known2 : Known) → AsUnreclaimed m v → StayOfMaps known known2 → WereOfMaps known known2 → ShowsUnreclaimed m known → ShowsUnreclaimed v known2
   unreclaimed_same m v known known2 same keeps back h = record {
     pairs = λ b k is. same.place k ∙ h.pairs b k (sym (back b (subst IsOfMap (sym is) tt)) ∙ is);
-    pairs_there = λ k e. let it = h.pairs_there k (sym (same.place k) ∙ e) in (it.0, keeps it.0 (subst IsLasting (sym it.1) tt) ∙ it.1);
+    pairs_there = λ k e. let it = h.pairs_there k (sym (same.place k) ∙ e) in (it.0, keeps it.0 (subst IsOfMap (sym it.1) tt) ∙ it.1);
     tables = λ b len t is. same.tables t ∙ h.tables b len t (sym (back b (subst IsOfMap (sym is) tt)) ∙ is);
-    tables_there = λ t e. let it = h.tables_there t (sym (same.tables t) ∙ e) in (it.0, it.1, keeps it.0 (subst IsLasting (sym it.2) tt) ∙ it.2);
+    tables_there = λ t e. let it = h.tables_there t (sym (same.tables t) ∙ e) in (it.0, it.1, keeps it.0 (subst IsOfMap (sym it.2) tt) ∙ it.2);
+    tables_once = λ b d len len2 t is is2. h.tables_once b d len len2 t (sym (back b (subst IsOfMap (sym is) tt)) ∙ is) (sym (back d (subst IsOfMap (sym is2) tt)) ∙ is2);
   }
 
   -- a pair that is not reclaimed goes elsewhere, and is not there either
@@ -60,11 +74,11 @@ module _ {K V : Type 0} where
           let was = h.pairs_there k (sym (ap is_unreclaimed (put_elsewhere next p m.place k ne)) ∙ ap (λ (f : ℕ → Place). is_unreclaimed (f k)) (sym place) ∙ e) in
           (was.0, put_elsewhere b (role.Pair next) known.roles was.0 (λ z. own (subst IsLasting (sym (ap known.roles (sym z) ∙ was.1)) tt)) ∙ was.1)
     ];
-    tables = λ x len t is. same_tables t ∙ h.tables x len t (sym (put_elsewhere b (role.Pair next) known.roles x
-        (λ z. (let one : role.Pair next ≡ role.Table t len = sym (put_here b (role.Pair next) known.roles x z) ∙ is in cc one))) ∙ is);
+    tables = λ x len t is. same_tables t ∙ h.tables x len t (its_table x len t is);
     tables_there = λ t e.
         let was = h.tables_there t (sym (same_tables t) ∙ e) in
         (was.0, was.1, put_elsewhere b (role.Pair next) known.roles was.0 (λ z. own (subst IsLasting (sym (ap known.roles (sym z) ∙ was.2)) tt)) ∙ was.2);
+    tables_once = λ x y n l t is is2. h.tables_once x y n l t (its_table x n t is) (its_table y l t is2);
   }
     where
       next : ℕ
@@ -75,6 +89,10 @@ module _ {K V : Type 0} where
 
       other : (x k : ℕ) → k ≢ next → put b (role.Pair next) known.roles x ≡ role.Pair k → x ≢ b
       other x k ne is z = ne (let one : role.Pair next ≡ role.Pair k = sym (put_here b (role.Pair next) known.roles x z) ∙ is in cc one)
+
+      its_table : (x len : ℕ) (t : Table) → put b (role.Pair next) known.roles x ≡ role.Table t len → known.roles x ≡ role.Table t len
+      its_table x len t is =
+          sym (put_elsewhere b (role.Pair next) known.roles x (λ z. (let one : role.Pair next ≡ role.Table t len = sym (put_here b (role.Pair next) known.roles x z) ∙ is in cc one))) ∙ is
 
 -- of lists of tables
 
@@ -138,9 +156,9 @@ same_itself t = ap (λ (q : Bool). q && (t.turn == t.turn)) (eq-eqb t.map t.map 
 
 module _ {K V : Type 0} where
   -- a table is linked, in a block that was none of a map
-  pub linked_unreclaimed : (m v : Moment K V) (known : Known) (b len : ℕ) (t : Table) (shape : TableShape) → (IsLasting (known.roles b) → ⊥) → v.place ≡ m.place → v.tables ≡ m.tables ++ record { table = t; shape = shape; stage = IsLinked } ∷ []
+  pub linked_unreclaimed : (m v : Moment K V) (known : Known) (b len : ℕ) (t : Table) (shape : TableShape) → (IsLasting (known.roles b) → ⊥) → ((x n : ℕ) → known.roles x ≡ role.Table t n → ⊥) → v.place ≡ m.place → v.tables ≡ m.tables ++ record { table = t; shape = shape; stage = IsLinked } ∷ []
       → ShowsUnreclaimed m known → ShowsUnreclaimed v (with_role b (role.Table t len) known)
-  linked_unreclaimed m v known b len t shape own place tables h = record {
+  linked_unreclaimed m v known b len t shape own none place tables h = record {
     pairs = λ x k is. same_place k ∙ h.pairs x k (sym (put_elsewhere b its known.roles x (λ z. (let one : its ≡ role.Pair k = sym (put_here b its known.roles x z) ∙ is in cc one))) ∙ is);
     pairs_there = λ k e. let was = h.pairs_there k (sym (same_place k) ∙ e) in
         (was.0, put_elsewhere b its known.roles was.0 (λ z. own (subst IsLasting (sym (ap known.roles (sym z) ∙ was.1)) tt)) ∙ was.1);
@@ -152,6 +170,7 @@ module _ {K V : Type 0} where
           ∙ any_before (λ y. same_table y.table u && is_there y.stage) m.tables new (h.tables x n u (sym (put_elsewhere b its known.roles x ne) ∙ is))
     ];
     tables_there = λ u e. there u (any_either (λ y. same_table y.table u && is_there y.stage) m.tables new (sym (ap (list_any (λ y. same_table y.table u && is_there y.stage)) tables) ∙ e));
+    tables_once = λ x y n l u is is2. once x y n l u (cases_eq x b) (cases_eq y b) is is2;
   }
     where
       its : Role
@@ -171,23 +190,35 @@ module _ {K V : Type 0} where
           let was = h.tables_there u before in (was.0, was.1, put_elsewhere b its known.roles was.0 (λ z. own (subst IsLasting (sym (ap known.roles (sym z) ∙ was.2)) tt)) ∙ was.2)
       there u (inr now) = (b, len, put_here b its known.roles b refl ∙ ap (λ (x : Table). role.Table x len) (table_is t u (and_both (same_table t u) true now).0))
 
+      other : (x n : ℕ) (u : Table) → x ≢ b → put b its known.roles x ≡ role.Table u n → known.roles x ≡ role.Table u n
+      other x n u ne is = sym (put_elsewhere b its known.roles x ne) ∙ is
+
+      its_table : (x n : ℕ) (u : Table) → x ≡ b → put b its known.roles x ≡ role.Table u n → t ≡ u
+      its_table x n u e is = let one : its ≡ role.Table u n = sym (put_here b its known.roles x e) ∙ is in cc one
+
+      once : (x y n l : ℕ) (u : Table) → (x ≡ b) ⊎ (x ≢ b) → (y ≡ b) ⊎ (y ≢ b) → put b its known.roles x ≡ role.Table u n → put b its known.roles y ≡ role.Table u l → x ≡ y
+      once x y n l u (inl e) (inl f) is is2 = e ∙ sym f
+      once x y n l u (inl e) (inr f) is is2 = absurd (none y l (other y l u f is2 ∙ ap (λ (z : Table). role.Table z l) (sym (its_table x n u e is))))
+      once x y n l u (inr e) (inl f) is is2 = absurd (none x n (other x n u e is ∙ ap (λ (z : Table). role.Table z n) (sym (its_table y l u f is2))))
+      once x y n l u (inr e) (inr f) is is2 = h.tables_once x y n l u (other x n u e is) (other y l u f is2)
+
 -- a table that is there is retired
 module _ (t : Table) where
-  abbrev Now : Table → TableThere → Bool
+  abbrev pub Now : Table → TableThere → Bool
   Now u x = same_table x.table u && is_there x.stage
 
   -- other tables are as they were
-  retired_one : (u : Table) (x : TableThere) → (same_table x.table t ≡ true → same_table x.table u ≡ false) → Now u (at_stage t IsRetired x) ≡ Now u x
-  retired_one u x apart = by (same_table x.table t) refl
+  staged_one : (to : Stage) (u : Table) (x : TableThere) → (same_table x.table t ≡ true → same_table x.table u ≡ false) → Now u (at_stage t to x) ≡ Now u x
+  staged_one to u x apart = by (same_table x.table t) refl
     where
-      by : (q : Bool) → same_table x.table t ≡ q → Now u (if q then record x { stage = IsRetired } else x) ≡ Now u x
-      by true e = ap (λ (z : Bool). z && true) (apart e) ∙ sym (ap (λ (z : Bool). z && is_there x.stage) (apart e))
+      by : (q : Bool) → same_table x.table t ≡ q → Now u (if q then record x { stage = to } else x) ≡ Now u x
+      by true e = ap (λ (z : Bool). z && is_there to) (apart e) ∙ sym (ap (λ (z : Bool). z && is_there x.stage) (apart e))
       by false e = refl
 
-  retired_other : (u : Table) (xs : List TableThere) → (t ≡ u → ⊥) → list_any (Now u) (map (at_stage t IsRetired) xs) ≡ list_any (Now u) xs
-  retired_other u [] ne = refl
-  retired_other u (x ∷ xs) ne =
-      ap (λ (q : Bool). q || list_any (Now u) (map (at_stage t IsRetired) xs)) (retired_one u x (λ e. apart (same_table x.table u) refl e)) ∙ ap (λ (q : Bool). Now u x || q) (retired_other u xs ne)
+  pub staged_other : (to : Stage) (u : Table) (xs : List TableThere) → (t ≡ u → ⊥) → list_any (Now u) (map (at_stage t to) xs) ≡ list_any (Now u) xs
+  staged_other to u [] ne = refl
+  staged_other to u (x ∷ xs) ne =
+      ap (λ (q : Bool). q || list_any (Now u) (map (at_stage t to) xs)) (staged_one to u x (λ e. apart (same_table x.table u) refl e)) ∙ ap (λ (q : Bool). Now u x || q) (staged_other to u xs ne)
     where
       apart : (q : Bool) → same_table x.table u ≡ q → same_table x.table t ≡ true → same_table x.table u ≡ false
       apart true e f = absurd (ne (sym (table_is x.table t f) ∙ table_is x.table u e))
@@ -217,4 +248,4 @@ module _ {K V : Type 0} where
       by u true e =
           let u_is : t ≡ u = table_is t u e in
           subst (λ (x : Table). list_any (Now t x) (map (at_stage t IsRetired) m.tables) ≡ list_any (Now t x) m.tables) u_is (retired_there t m.tables was ∙ sym was)
-      by u false e = retired_other t u m.tables (λ z. (let same : same_table t u ≡ true = ap (same_table t) (sym z) ∙ same_itself t in cc (same, e)))
+      by u false e = staged_other t IsRetired u m.tables (λ z. (let same : same_table t u ≡ true = ap (same_table t) (sym z) ∙ same_itself t in cc (same, e)))

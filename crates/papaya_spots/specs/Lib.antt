@@ -3,3 +3,5 @@ pub mod Unreclaimed
 pub mod Deferred
 pub mod Placed
 pub mod Steps
+pub mod OnSlots
+pub mod Makings

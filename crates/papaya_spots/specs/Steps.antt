@@ -10,7 +10,7 @@ use Rattle.papaya_effects.specs.Effects.{effects_of, known_after}
 use Rattle.papaya_effects.specs.Known.{Known, nothing_known}
 use Rattle.papaya_effects.specs.declared.acting.Acting.TheVariants.{Call}
 use Rattle.papaya_executor.specs.IsAt.{Scene, IsAt, at_first}
-use Rattle.papaya_executor.specs.Stepping.{StepLeads, scene_after}
+use Rattle.papaya_executor.specs.Stepping.{StepLeads}
 use Rattle.papaya_executor.specs.declared.executor.Executor.{Executor}
 use Rattle.papaya_follows.specs.Shows.{Shows}
 use Rattle.papaya_follows.specs.Steps.{TakesNone, IsOfNoRow}
@@ -30,6 +30,12 @@ abbrev pub CallsLeavePlaces : Type 0 → Type 0 → Type 0
 CallsLeavePlaces K V =
     (m : Moment K V) (known : Known) (maps : ℕ → Option (Standing K)) → ShowsPlaces m known maps → ShowsUnreclaimed m known
     → (calls : List (CallThere K V)) → ShowsPlaces (record m { calls = calls }) known maps × ShowsUnreclaimed (record m { calls = calls }) known
+
+-- And so it is where a map stands no more.
+abbrev pub FewerMapsStand : Type 0 → Type 0 → Type 0
+FewerMapsStand K V =
+    (m : Moment K V) (known : Known) (maps maps2 : ℕ → Option (Standing K)) → ((map : ℕ) (standing : Standing K) → maps2 map ≡ Some standing → maps map ≡ Some standing)
+    → ShowsPlaces m known maps → ShowsPlaces m known maps2
 
 module _ (K V S : Type 0) (same : K → K → Bool) (hash : K → ℕ) where
   -- The promise: a step of a call, whether of a row or not, leads to a moment at which pairs lie where the tables have them then.

@@ -1,4 +1,5 @@
 -- A moment of a run shows the scene after the executor's other steps.
+use Rattle.papaya_others.proofs.Elsewhere.{shown_elsewhere}
 use Rattle.papaya_others.proofs.EndBegins.{endings_begin_shown, endings_are_over}
 use Rattle.papaya_others.proofs.Ends.{endings_are_shown}
 use Rattle.papaya_others.proofs.MakeBegins.{makings_begin_shown, maps_are_there}
@@ -14,6 +15,7 @@ returns c d = record {
   rows = rows_on_slots_are_shown _ _ _;
   asked = walks_go_on _ _ _;
   given_up = walks_are_given_up _ _ _;
+  elsewhere = shown_elsewhere _ _;
   makings_begin = makings_begin_shown _ _;
   maps_come = maps_are_there _ _;
   makings = makings_are_shown _ _ _;

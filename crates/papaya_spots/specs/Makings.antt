@@ -1,0 +1,29 @@
+-- Where pairs lie, and what waits behind tables, after a step of the making of a map.
+use Rattle.std.specs.Prelude.{◌≡◌, ℕ, Bool, List, Option, Some, None}
+use Rattle.seize.specs.declared.progress.Progress.{Progress}
+use Rattle.papaya_tables.specs.declared.setting.Setting.{Setting}
+use Rattle.papaya_schedules.specs.Effects.{with_effects}
+use Rattle.papaya_schedules.specs.Moment.{Moment}
+use Rattle.papaya_finishes.specs.Makings.{Beginning}
+use Rattle.papaya_effects.specs.Effects.{effects_of, known_after}
+use Rattle.papaya_effects.specs.Known.{Known}
+use Rattle.papaya_effects.specs.declared.acting.Acting.TheVariants.{Making}
+use Rattle.papaya_executor.specs.IsAt.{Scene, IsAt}
+use Rattle.papaya_executor.specs.Making.{MakingLeads}
+use Rattle.papaya_executor.specs.declared.executor.Executor.{Executor}
+use Rattle.papaya_follows.specs.Shows.{Shows}
+use Rattle.papaya_others.specs.Makings.{making_after}
+use Rattle.papaya_spots.specs.Deferred.{WaitOutside}
+use Rattle.papaya_spots.specs.Spots.{ShowsPlaces}
+
+module _ (K V S : Type 0) (same : K → K → Bool) (hash : K → ℕ) where
+  -- The promise, on whichever map its effects are told, if on any: pairs lie where they lay, none lies in the map that is made, and what waits behind tables
+  -- stays outside of maps.
+  abbrev pub MakingsLeavePlaces : Type 0
+  MakingsLeavePlaces =
+      (name : ℕ → List ℕ) (m : Moment K V) (known : Known) (s : Scene K V) (old new : Executor K V S) → IsAt same hash old s → Shows same name m known s
+      → (i : ℕ) (told : Progress Setting) (leads : MakingLeads same hash i told s old new) (b : Beginning K) (here : s.makers i ≡ Some b) (of : Option ℕ) → ShowsPlaces m known s.maps → WaitOutside m
+      → (let to = leads b here in
+      ShowsPlaces (with_effects None of (effects_of (Making b.map) known new.memory.changed) m) (known_after (Making b.map) new.memory.changed known)
+      (making_after same hash s old new i b to.0 to.2.step.w2 told to.3).maps
+      × WaitOutside (with_effects None of (effects_of (Making b.map) known new.memory.changed) m))
