@@ -20,3 +20,5 @@ pub mod MakingGoes
 pub mod Noted
 pub mod Counters
 pub mod Elsewhere
+pub mod Outcomes
+pub mod RowGives

@@ -41,6 +41,7 @@ use Rattle.papaya_rule.specs.Rule.{no_table}
 use Rattle.papaya_rule.proofs.Words.TablesSeen.{block_of_link}
 use Rattle.papaya_points.specs.FactsTables.{IsOwnTable, IsPlanned, MakingFacts}
 use Rattle.papaya_callers.specs.Together.{no_blocks}
+use Rattle.papaya_others.proofs.Outcomes.{told_in}
 use Rattle.papaya_finishes.specs.Makings.{OpeningFacts, HasTaken, HasMade}
 
 -- what it leaves of values: all but that of a block that it makes, or takes away
@@ -260,16 +261,6 @@ module _ {K V : Type 0} (w : World (Node K V)) (i roots : ℕ) (n : NewMap) wher
     abbrev pub CounterFrom : NewMap → Type 0
     CounterFrom end = (HasMade n.stands × (end.setting ≡ n.setting)) ⊎ (told ≡ changed.Made kind.Shards end.setting.counter)
 
-    -- an outcome that is turned into another one
-    as_outcome : {A B : Type 0} (f : A → B) (rest : Then (Node K V) A) (end : B) → Ends (value_at m2) (then_as f rest) end → (r : A) × (end ≡ f r)
-    as_outcome f (Now r) end e = (r, e)
-    as_outcome f (Seeing block rest) end e = as_outcome f (rest e.0) end e.2
-    as_outcome f (Sure fact rest) end e = as_outcome f rest end e
-
-    told_as : {A B : Type 0} (f : A → B) (plan : Plan (Node K V) A) (end : B) → StepsTold K V B m changed.Nothing (plan_as f plan) m2 told end → (r : A) × (end ≡ f r)
-    told_as f (Turn rest) end s = as_outcome f rest end s.1
-    told_as f (Do op rest) end s = as_outcome f (rest s.0) end s.2
-
     opened_setting : (r : NewTable × Progress Table) → (new_map.opened n r).0.setting ≡ n.setting
     opened_setting (making, progress.Goes) = refl
     opened_setting (making, progress.Waits) = refl
@@ -305,7 +296,7 @@ module _ {K V : Type 0} (w : World (Node K V)) (i roots : ℕ) (n : NewMap) wher
       counter_at at.Takes is facts s = takes_none is s.0 s.2
       counter_at at.Shards is facts s = shards_made is s.0 s.1.1 s.2
       counter_at (at.Tables making) is facts s =
-          let it = told_as (new_map.opened n) (new_table.new_table_plan making) (end, said) s in
+          let it = told_in m m2 told (new_map.opened n) (new_table.new_table_plan making) (end, said) s in
           inl (subst HasMade (sym is) tt, ap (λ (z : NewMap × Progress Setting). z.0.setting) it.1 ∙ opened_setting it.0)
       counter_at (at.Unmakes fault) is facts s = none_there _ _ s.2 (λ h. h)
       counter_at (at.Frees fault) is facts s = none_there _ _ s.2 (λ h. h)

@@ -6,3 +6,4 @@ pub mod Endings
 pub mod Makings
 pub mod Counters
 pub mod Elsewhere
+pub mod Gives

@@ -3,6 +3,7 @@ ghost use Rattle.std.specs.Prelude.{ℕ, Bool};
 ghost use Rattle.papaya_others.specs.Counters.{BeginningsNoteCounters, CallsNoteCounters, RowsNoteCounters, EndingsNoteCounters, MakingsNoteCounters};
 ghost use Rattle.papaya_others.specs.Elsewhere.{ShownElsewhere};
 ghost use Rattle.papaya_others.specs.Endings.{EndingsBeginShown, EndingsAreShown, EndingsAreOver};
+ghost use Rattle.papaya_others.specs.Gives.{RowsGiveWhatTheyTook};
 ghost use Rattle.papaya_others.specs.Makings.{MakingsBeginShown, MapsAreThere, MakingsAreShown, NewMapsStay};
 ghost use Rattle.papaya_others.specs.Rows.{RowsBeginShown, RowsOnSlotsAreShown};
 ghost use Rattle.papaya_others.specs.Walks.{WalksGoOn, WalksAreGivenUp};
@@ -13,6 +14,7 @@ ghost use Rattle.papaya_others.specs.Walks.{WalksGoOn, WalksAreGivenUp};
 pub fn moments_show_other_steps<K, V, S>()
     ensures rows_begin { (same : K → K → Bool) (hash : K → ℕ) → RowsBeginShown K V S same hash }
     ensures rows { (same : K → K → Bool) (hash : K → ℕ) → RowsOnSlotsAreShown K V S same hash }
+    ensures rows_give { (same : K → K → Bool) (hash : K → ℕ) → RowsGiveWhatTheyTook K V S same hash }
     ensures asked { (same : K → K → Bool) (hash : K → ℕ) → WalksGoOn K V S same hash }
     ensures given_up { (same : K → K → Bool) (hash : K → ℕ) → WalksAreGivenUp K V S same hash }
     ensures elsewhere { (same : K → K → Bool) → ShownElsewhere K V same }

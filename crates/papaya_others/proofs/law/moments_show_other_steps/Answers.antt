@@ -5,6 +5,7 @@ use Rattle.papaya_others.proofs.Ends.{endings_are_shown}
 use Rattle.papaya_others.proofs.MakeBegins.{makings_begin_shown, maps_are_there}
 use Rattle.papaya_others.proofs.Makes.{makings_are_shown}
 use Rattle.papaya_others.proofs.RowBegins.{rows_begin_shown}
+use Rattle.papaya_others.proofs.RowGives.{rows_give_what_they_took}
 use Rattle.papaya_others.proofs.Rows.{rows_on_slots_are_shown}
 use Rattle.papaya_others.proofs.Walks.{walks_go_on, walks_are_given_up}
 use Rattle.papaya_others.proofs.law.moments_show_other_steps.Goals as goal
@@ -13,6 +14,7 @@ pub returns : goal.returns
 returns c d = record {
   rows_begin = rows_begin_shown _ _ _;
   rows = rows_on_slots_are_shown _ _ _;
+  rows_give = rows_give_what_they_took _ _ _;
   asked = walks_go_on _ _ _;
   given_up = walks_are_given_up _ _ _;
   elsewhere = shown_elsewhere _ _;
