@@ -1,5 +1,5 @@
 -- What happens elsewhere leaves what is shown as it was.
-use Rattle.std.specs.Prelude.{◌≡◌, ℕ, Bool, Option}
+use Rattle.std.specs.Prelude.{ℕ, Bool, Option}
 use Rattle.std.proofs.Common.{refl, ap, sym, subst}
 use Rattle.seize_words.specs.Mem.{Mem, value_at}
 use Rattle.seize.specs.World.{Hand}

@@ -8,7 +8,7 @@ use Rattle.seize_words.specs.declared.fault.Fault.{Fault}
 use Rattle.seize_words.specs.declared.fault.Fault.TheVariants.{RootsUsedUp}
 use Rattle.seize_words.specs.Mem.{Mem, value_in, value_at, word_at, fresh, block_of, Can, Took}
 use Rattle.seize_words.specs.Op.{Op, Out, Load, Store, Swap, Add, Or, Exchange, Make, Take, Rewrite, Room, Exchanged, Made}
-use Rattle.seize_words.specs.Plan.{Plan, Turn, Do, Then, Now, Seeing, Sure, May, Ends, plan_as, then_as}
+use Rattle.seize_words.specs.Plan.{Plan, Turn, Do, May, Ends, plan_as, then_as}
 use Rattle.seize_words.specs.Word.{block_in}
 use Rattle.seize_words.proofs.OneOwner.AfterWrites.{value_at-with_word, block_of-with_block, block_of-made}
 use Rattle.seize_rule.proofs.Words.Named.{block_there}

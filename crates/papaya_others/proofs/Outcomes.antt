@@ -1,5 +1,5 @@
 -- The step of a plan whose outcome is turned into another one is a step of that plan.
-use Rattle.std.specs.Prelude.{◌≡◌, ℕ, Option}
+use Rattle.std.specs.Prelude.{◌≡◌}
 use Rattle.std.proofs.Common.{refl}
 use Rattle.seize_words.specs.Mem.{Mem, value_at}
 use Rattle.seize_words.specs.Plan.{Plan, Turn, Do, Then, Now, Seeing, Sure, Ends, plan_as, then_as}

@@ -1,6 +1,6 @@
 -- A walk goes on, or is given up: nothing else has changed.
 use Rattle.std.specs.Prelude.{◌≡◌, ℕ, Bool, true, false, List, Option, Some, None}
-use Rattle.std.proofs.Common.{refl, sym, ◌∙◌}
+use Rattle.std.proofs.Common.{refl, sym}
 use Rattle.seize_words.specs.declared.fault.Fault.TheVariants.{Memory}
 use Rattle.papaya_raw.specs.Machine.{machine_asked}
 use Rattle.papaya_schedules.specs.declared.outcome.Outcome.TheVariants.{Refused}
