@@ -1,9 +1,8 @@
 //! The maps that are timed, behind one trait.
 
 use std::alloc::Global;
-use std::collections;
 use std::hash::{BuildHasherDefault, FoldHasher};
-use std::io;
+use std::{collections, io};
 
 /// The map for one owner, with the hasher of std's maps.
 pub(crate) type Owned = papaya_seq::HashMap<u64, u64, BuildHasherDefault<FoldHasher>>;
