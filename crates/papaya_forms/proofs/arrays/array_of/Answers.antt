@@ -1,3 +1,4 @@
+-- Each element's value is put beside its text, and at the end the values are listed.
 use Rattle.std.proofs.Common.{◌∷◌, [], map, rules, sym, subst}
 use Rattle.std.proofs.lemmas.List.{map-append}
 use Rattle.std.proofs.lemmas.List.Elements.{All-nil, All-push}

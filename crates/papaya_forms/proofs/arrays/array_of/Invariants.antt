@@ -1,3 +1,4 @@
+-- What is so of the elements so far.
 use Rattle.std.specs.Prelude.{map, string_cmp}
 use Rattle.std.specs.BTreeMap.{IsOrdered}
 use Rattle.std.specs.List.{All}

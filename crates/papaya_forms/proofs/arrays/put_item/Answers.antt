@@ -1,3 +1,4 @@
+-- The text is the compact one, as the value has no float, and it is read back, as the value nests few levels.
 use Rattle.std.proofs.Common.{◌≤◌, ◌∙◌, ap, sym, subst}
 use Rattle.serde_json.specs.Data.{depth}
 use Rattle.serde_json.specs.Read.{max_depth}

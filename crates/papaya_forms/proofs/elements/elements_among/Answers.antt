@@ -1,3 +1,4 @@
+-- Each item is read, and its element put.
 use Rattle.std.proofs.Common.{rules}
 use Rattle.std.proofs.lemmas.Result.{err_from_is_err_and}
 use Rattle.papaya_forms.proofs.Readings.{fault_at, goes_on, has_elements, none_yet}

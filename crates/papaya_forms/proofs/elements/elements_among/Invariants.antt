@@ -1,3 +1,4 @@
+-- What is so of the items so far.
 use Rattle.std.specs.Prelude.{take}
 use Rattle.papaya_forms.proofs.Readings.{AreRead}
 use Rattle.papaya_forms.proofs.elements.elements_among.Given as goal

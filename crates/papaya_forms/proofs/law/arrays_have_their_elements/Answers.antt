@@ -1,3 +1,4 @@
+-- By the lemmas on arrays of the same elements.
 use Rattle.papaya_forms.proofs.OneArray.{arrays_are_one, arrays_tell, arrays_have_no_order}
 use Rattle.papaya_forms.proofs.law.arrays_have_their_elements.Goals as goal
 
