@@ -83,7 +83,7 @@ def table(maps, given):
         for keys in given.keys:
             times = medians(maps, kind, keys, given.turns, given.runs)
             shown = "".join(f"{times[name]:>10.1f}" for name in maps)
-            speeds = "".join(f"{times[name] / times['owned']:>10.2f}" for name in others)
+            speeds = "".join(f"{times[name] / times['owned']:>10.3f}" for name in others)
             print(f"{kind:<8} {keys:>9}{shown}{speeds}", flush=True)
     keys = max(given.keys)
     peaks = {name: peak(program, f"{name} insert {keys} {keys}") for name, program in maps.items()}
