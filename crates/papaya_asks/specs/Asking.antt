@@ -48,7 +48,8 @@ IsTaken takes.Choices (Some word) reply.No = Unit {0}
 IsTaken _ asked told = ⊥
 
 -- Where the map had these pairs, and a call with this key, if with one, was told so of the pair of these keys that the map had, or of none: what the map has now,
--- by its answer, and which pairs are in the blocks of its words: one that was replaced or removed waits there, apart from those of the map. Where it does not ask, it goes by what is known before.
+-- by its answer, and which pairs are in the blocks of its words: one that was replaced or removed waits there, apart from those of the map. Where it does not
+-- ask, it goes by what is known before.
 module _ {K V : Type 0} (same : K → K → Bool) (hash : K → ℕ) (setting : Setting) (m : Mem (Node K V)) (keys : K → Bool) (xs : List (K × V)) (its : Option K) (Told : Option (K × V) → Reply V → Type 0) where
   abbrev pub AnswersAs : KeyAnswer → Type 0
   AnswersAs answers.Absent = Told None reply.Abort × (found_by keys xs ≡ None) × Holds same hash setting m xs
