@@ -1,5 +1,5 @@
 -- What the last change of a map for one owner took out of it, and what it met at its key: the words of these pairs, and the pairs.
-use Rattle.std.specs.Prelude.{◌≡◌, ℕ, Bool, true, List, Option, Some, None, Result, Ok, Err, is_some}
+use Rattle.std.specs.Prelude.{ℕ, Bool, true, List, Option, Some, None, Result, Ok, Err, is_some}
 use Rattle.seize_words.specs.Mem.{Mem, value_at}
 use Rattle.seize_words.specs.Word.{block_in}
 use Rattle.papaya_tables.specs.declared.node.Node.{Node}

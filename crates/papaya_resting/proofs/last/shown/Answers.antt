@@ -1,7 +1,7 @@
 -- The word is that of a pair.
-use Rattle.std.proofs.Common.{◌∙◌, ap, sym, subst, true}
+use Rattle.std.proofs.Common.{sym, subst, true}
 use Rattle.std.specs.Prelude.{◌≡◌}
-use Rattle.papaya_resting.specs.Lasts.{is_named, pair_in}
+use Rattle.papaya_resting.specs.Lasts.{is_named}
 use Rattle.papaya_resting.proofs.Lasts.{names_a_pair, none_in, pair_there}
 use Rattle.papaya_resting.proofs.last.shown.Goals as goal
 
