@@ -35,6 +35,10 @@ module _ {K V : Type 0} where
       by true so = refl
       by false so = so
 
+  -- so of a pair that is the one found
+  pub key_found : (test : K → Bool) (xs : List (K × V)) (o : Option (K × V)) → o ≡ found_by test xs → option_map (λ x. x.0) o ≡ find test (keys_of xs)
+  key_found test xs o is = ap (option_map (λ (x : K × V). x.0)) is ∙ sym (keys_found test xs)
+
   pub keys_left : (test : K → Bool) (xs : List (K × V)) → keys_of (left_by test xs) ≡ left_in test (keys_of xs)
   keys_left test [] = refl
   keys_left test (x ∷ xs) = by (test x.0) (keys_left test xs)

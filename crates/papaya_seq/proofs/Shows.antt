@@ -17,7 +17,7 @@ use Rattle.papaya_shown.specs.Shown.{NoneMoves, Stands, pairs_stored}
 use Rattle.papaya_shown.proofs.Chains.{root_counts, all_shown}
 use denote.Ref.{Bor}
 use Rattle.std.specs.Fn.{Mut}
-use Rattle.papaya_owned.specs.Owned.{Holds, found_by, left_by}
+use Rattle.papaya_owned.specs.Owned.{Holds, found_by}
 use Rattle.papaya_sifts.specs.Retaining.{AnswersByTest, KeepsOf}
 use Rattle.papaya_sifts.proofs.Over.Questions.{keeps_by_test}
 use Rattle.papaya_owned.proofs.Walks.{holds_stands, holds_moves_none, holds_pairs}
@@ -25,7 +25,7 @@ use Rattle.papaya_resting.specs.Lasts.{pair_in}
 use Rattle.papaya_resting.specs.declared.last.Last.{Last}
 use Rattle.papaya_seq.specs.Maps.{Map, pairs_shown}
 use Rattle.papaya_pairs.specs.Orders.{IsOneClass}
-use Rattle.papaya_pairs.proofs.Orders.{apart_each, apart_same, found_same, keeps_same, kept_in_any_order, left_same, none_left}
+use Rattle.papaya_pairs.proofs.Orders.{apart_each, apart_same, found_same, keeps_same, kept_in_any_order, none_left}
 
 module _ {K V : Type 0} (same : K → K → Bool) (hash : K → ℕ) (setting : Setting) (m : Mem (Node K V)) (xs : List (K × V)) (h : Holds same hash setting m xs) where
   stands : Stands same hash m setting h.chart h.blocks

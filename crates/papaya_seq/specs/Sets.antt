@@ -1,16 +1,30 @@
 -- A set for one owner, as its callers see it, and elements that are put into it one after another.
 use denote.Ref.{Bor}
-use Rattle.std.specs.Prelude.{◌≡◌, Bool, List, [], ◌∷◌, ◌++◌, Option, Result, MatchResult, filter, map, not}
+use Rattle.std.specs.Prelude.{◌≡◌, Bool, List, [], ◌∷◌, ◌++◌, Option, Result, MatchResult, filter, map, not, option_map}
 use Rattle.std.specs.Fn.{Called, CalledAt, Mut}
 use Rattle.std.specs.Iterator.{Drains, Yields}
 use Rattle.std.specs.List.{AllZip, FoldsTo}
 use Rattle.std.specs.List.Sorted.{IsPermutation}
+use Rattle.std.specs.Map.{keys_of}
 use Rattle.papaya_asks.specs.declared.refused.RefusedKey.{RefusedKey}
+use Rattle.papaya_seq.specs.Maps.{Map}
 
--- The value of a set: its elements, and its hasher. Which order the elements are in, a walk tells alone.
+-- The value of a set: its elements, its hasher, and two elements that can be looked at until the next change. Which order the elements are in, a walk tells alone.
 pub record Set (K S : Type 0) : Type 0 where
   pub elements : List K
   pub hasher : S
+  -- the element that the last change took out, where it removed or replaced one
+  pub taken : Option K
+  -- the element that the last change put in
+  pub met : Option K
+
+-- the set of a map's keys
+abbrev pub set_of : {K V S : Type 0} → Map K V S → Set K S
+set_of m = record { elements = keys_of m.pairs; hasher = m.hasher; taken = option_map (λ x. x.0) m.taken; met = option_map (λ x. x.0) m.met }
+
+-- the last change took this element out of the set, or none, and put this one in, or none
+abbrev pub LastTookOut : {K S : Type 0} → Set K S → Option K → Option K → Type 0
+LastTookOut set taken met = (set.taken ≡ taken) × (set.met ≡ met)
 
 -- all elements but those that pass
 abbrev pub left_in : {K : Type 0} → (K → Bool) → List K → List K

@@ -6,8 +6,10 @@ mod equal;
 mod extending;
 mod formatting;
 mod json;
+mod last;
 mod lookups;
 mod making;
+mod requests;
 mod sweeps;
 
 use crate::map::HashMap;
@@ -16,18 +18,20 @@ use std::marker::Model;
 
 /// A hash set for one owner.
 ///
-/// It has its memory and its collector for itself, as a map has. A contract sees its elements and its hasher. The elements are in the order in
-/// which a walk shows them; a change may put them in any other order.
+/// It has its memory and its collector for itself, as a map has. The element that the last change took out of the set can be looked at until the
+/// next one, by `taken`, and the one that it put there, by `met`.
+///
+/// A contract sees its elements, its hasher, and these two elements. The elements are in the order in which a walk shows them; a change may put
+/// them in any other order.
 #[derive(Drop)]
 pub struct HashSet<K: Eq + Hash, S: BuildHasher> {
     pub(crate) map: HashMap<K, (), S>,
 }
 
 impl<K: Eq + Hash, S: BuildHasher> Model for HashSet<K, S> {
-    ghost use Rattle.std.specs.Map.{keys_of};
-    ghost use Rattle.papaya_seq.specs.Sets.{Set};
+    ghost use Rattle.papaya_seq.specs.Sets.{Set, set_of};
 
     ghost Value = { Set K S };
 
-    ghost view = { λ m. record { elements = keys_of m.map.pairs; hasher = m.map.hasher } };
+    ghost view = { λ m. set_of m.map };
 }

@@ -26,4 +26,8 @@ mod rows;
 #[cfg(test)]
 mod sets;
 #[cfg(test)]
+mod sets_lent;
+#[cfg(test)]
+mod sets_refused;
+#[cfg(test)]
 mod swept;

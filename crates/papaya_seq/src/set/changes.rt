@@ -1,8 +1,8 @@
 //! An element is put into a set for one owner, or removed from it, or room is made for more.
-ghost use Rattle.std.specs.Prelude.{◌≡◌, is_none, is_some, find, IfOk, IfErr, OnOk, OnErr};
+ghost use Rattle.std.specs.Prelude.{◌≡◌, None, Some, is_none, is_some, find, IfOk, IfErr, OnOk, OnErr, MatchResult};
 ghost use Rattle.std.specs.List.Sorted.{IsPermutation};
 ghost use Rattle.papaya_late.specs.Faults.{IsRoom};
-ghost use Rattle.papaya_seq.specs.Sets.{left_in, put_in};
+ghost use Rattle.papaya_seq.specs.Sets.{LastTookOut, left_in, put_in};
 
 use super::HashSet;
 use papaya_asks::RefusedKey;
@@ -11,12 +11,13 @@ use seize_words::Fault;
 use std::hash::{BuildHasher, Hash};
 
 impl<K: Eq + Hash + Drop, S: BuildHasher> HashSet<K, S> {
-    /// Stores an element, also in the place of one that equals it, and answers whether there was none. The faults are `Fault::Capacity` and
-    /// `Fault::Memory`; then no element has changed.
+    /// Stores an element, also in the place of one that equals it, and answers whether there was none. The one whose place it took is shown by `taken`
+    /// until the next change. The faults are `Fault::Capacity` and `Fault::Memory`; then no element has changed.
     pub fn insert(&mut self, element: K) -> Result<bool, RefusedKey<K>>
         ensures fresh { IfOk result (λ new. new ≡ is_none (find (K.eq element) self.old.elements)) }
         ensures stored { OnOk result (IsPermutation self.new.elements (put_in K.eq self.old.elements element)) }
         ensures refused { OnErr result (IsPermutation self.new.elements self.old.elements) }
+        ensures last { MatchResult result (λ _. LastTookOut self.new (find (K.eq element) self.old.elements) (Some element)) (λ _. LastTookOut self.new None None) }
         ensures back { IfErr result (λ r. r.key ≡ element) }
         ensures fault { IfErr result (λ r. IsRoom r.fault) }
         ensures hasher { self.new.hasher ≡ self.old.hasher }
@@ -30,11 +31,13 @@ impl<K: Eq + Hash + Drop, S: BuildHasher> HashSet<K, S> {
         }
     }
 
-    /// Removes the element that this asks for, and answers whether it was there. The faults are `Fault::Capacity` and `Fault::Memory`; then no element has changed.
+    /// Removes the element that this asks for, and answers whether it was there; `taken` shows it until the next change. The faults are
+    /// `Fault::Capacity` and `Fault::Memory`; then no element has changed.
     pub fn remove<Q: Equivalent<K>>(&mut self, asked: &Q) -> Result<bool, Fault>
         ensures some { IfOk result (λ was. was ≡ is_some (find (Q.Equivalent.equivalent asked.now) self.old.elements)) }
         ensures removed { OnOk result (IsPermutation self.new.elements (left_in (Q.Equivalent.equivalent asked.now) self.old.elements)) }
         ensures refused { OnErr result (IsPermutation self.new.elements self.old.elements) }
+        ensures last { MatchResult result (λ _. LastTookOut self.new (find (Q.Equivalent.equivalent asked.now) self.old.elements) None) (λ _. LastTookOut self.new None None) }
         ensures fault { IfErr result IsRoom }
         ensures hasher { self.new.hasher ≡ self.old.hasher }
     {
@@ -45,6 +48,7 @@ impl<K: Eq + Hash + Drop, S: BuildHasher> HashSet<K, S> {
     /// `Fault::Capacity`, where that is too many, or the set has had too many tables, and `Fault::Memory`.
     pub fn reserve(&mut self, additional: u64) -> Result<(), Fault>
         ensures elements { IsPermutation self.new.elements self.old.elements }
+        ensures last { LastTookOut self.new None None }
         ensures fault { IfErr result IsRoom }
         ensures hasher { self.new.hasher ≡ self.old.hasher }
     {

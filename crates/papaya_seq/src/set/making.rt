@@ -1,7 +1,8 @@
 //! How a set for one owner is made.
-ghost use Rattle.std.specs.Prelude.{◌≡◌, [], IfOk, IfErr, OnOk};
+ghost use Rattle.std.specs.Prelude.{◌≡◌, [], None, IfOk, IfErr, OnOk};
 ghost use Rattle.seize_words.specs.declared.fault.Fault.TheVariants.{Memory};
 ghost use Rattle.papaya_owned.specs.Rooms.{AreTooMany, IsUnmade};
+ghost use Rattle.papaya_seq.specs.Sets.{LastTookOut};
 
 use super::HashSet;
 use crate::map::HashMap;
@@ -13,6 +14,7 @@ impl<K: Eq + Hash + Drop, S: BuildHasher + Default + Drop> HashSet<K, S> {
     /// A set with no element. The only fault is `Fault::Memory`.
     pub fn new(alloc: Global) -> Result<Self, Fault>
         ensures elements { IfOk result (λ set. set.elements ≡ []) }
+        ensures last { IfOk result (λ set. LastTookOut set None None) }
         ensures fault { IfErr result (λ fault. fault ≡ Memory) }
     {
         HashSet::with_hasher(alloc, S::default())
@@ -21,6 +23,7 @@ impl<K: Eq + Hash + Drop, S: BuildHasher + Default + Drop> HashSet<K, S> {
     /// A set with no element, and with room for so many. The faults are `Fault::Capacity`, just where that is too many, and `Fault::Memory`.
     pub fn with_capacity(alloc: Global, capacity: u64) -> Result<Self, Fault>
         ensures elements { IfOk result (λ set. set.elements ≡ []) }
+        ensures last { IfOk result (λ set. LastTookOut set None None) }
         ensures few { OnOk result (AreTooMany capacity → ⊥) }
         ensures fault { IfErr result (IsUnmade capacity) }
     {
@@ -32,6 +35,7 @@ impl<K: Eq + Hash + Drop, S: BuildHasher + Drop> HashSet<K, S> {
     /// A set with no element, and with this hasher. The only fault is `Fault::Memory`.
     pub fn with_hasher(alloc: Global, hasher: S) -> Result<Self, Fault>
         ensures elements { IfOk result (λ set. set.elements ≡ []) }
+        ensures last { IfOk result (λ set. LastTookOut set None None) }
         ensures fault { IfErr result (λ fault. fault ≡ Memory) }
         ensures hasher { IfOk result (λ set. set.hasher ≡ hasher) }
     {
@@ -42,6 +46,7 @@ impl<K: Eq + Hash + Drop, S: BuildHasher + Drop> HashSet<K, S> {
     /// and `Fault::Memory`.
     pub fn with_capacity_and_hasher(alloc: Global, capacity: u64, hasher: S) -> Result<Self, Fault>
         ensures elements { IfOk result (λ set. set.elements ≡ []) }
+        ensures last { IfOk result (λ set. LastTookOut set None None) }
         ensures few { OnOk result (AreTooMany capacity → ⊥) }
         ensures fault { IfErr result (IsUnmade capacity) }
         ensures hasher { IfOk result (λ set. set.hasher ≡ hasher) }

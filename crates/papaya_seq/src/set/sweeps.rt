@@ -1,8 +1,8 @@
 //! What goes over all elements of a set for one owner, and removes them.
-ghost use Rattle.std.specs.Prelude.{◌≡◌, Bool, List, [], IfErr, OnOk, OnErr, filter};
+ghost use Rattle.std.specs.Prelude.{◌≡◌, None, Bool, List, [], IfErr, OnOk, OnErr, filter};
 ghost use Rattle.std.specs.List.Sorted.{IsPermutation};
 ghost use Rattle.papaya_late.specs.Faults.{IsRoom};
-ghost use Rattle.papaya_seq.specs.Sets.{AnswersByTestOf, KeepsElements};
+ghost use Rattle.papaya_seq.specs.Sets.{AnswersByTestOf, KeepsElements, LastTookOut};
 
 use super::HashSet;
 use seize_words::Fault;
@@ -14,6 +14,7 @@ impl<K: Eq + Hash + Drop, S: BuildHasher> HashSet<K, S> {
     pub fn clear(&mut self) -> Result<(), Fault>
         ensures done { OnOk result (self.new.elements ≡ []) }
         ensures refused { OnErr result (IsPermutation self.new.elements self.old.elements) }
+        ensures last { LastTookOut self.new None None }
         ensures fault { IfErr result IsRoom }
         ensures hasher { self.new.hasher ≡ self.old.hasher }
     {
@@ -27,6 +28,7 @@ impl<K: Eq + Hash + Drop, S: BuildHasher> HashSet<K, S> {
         ensures done { OnOk result ((kept : List K) × KeepsElements F.FnMut keep self.old.elements kept × IsPermutation self.new.elements kept) }
         ensures by_test { (test : K → Bool) → AnswersByTestOf F.FnMut test → OnOk result (IsPermutation self.new.elements (filter test self.old.elements)) }
         ensures refused { OnErr result (IsPermutation self.new.elements self.old.elements) }
+        ensures last { LastTookOut self.new None None }
         ensures fault { IfErr result IsRoom }
         ensures hasher { self.new.hasher ≡ self.old.hasher }
     {

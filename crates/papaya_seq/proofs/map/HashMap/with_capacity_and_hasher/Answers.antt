@@ -3,7 +3,7 @@ use Rattle.seize_alone.specs.Alone.{nothing_yet, registered}
 use Rattle.std.proofs.Common.{true, inr}
 use Rattle.std.proofs.lemmas.Result.{err_from_is_err_and}
 use Rattle.papaya_resting.proofs.Makes.{nothing_happened, slot_refused, taken_inside}
-use Rattle.papaya_resting.proofs.Lasts.{none_named}
+use Rattle.papaya_resting.proofs.Lasts.{none_in, none_named}
 use Rattle.papaya_pairs.proofs.Orders.{none_left}
 use Rattle.papaya_seq.proofs.Shows.{counts, shown}
 use Rattle.papaya_seq.proofs.map.HashMap.with_capacity_and_hasher.Goals as goal
@@ -27,3 +27,6 @@ pub returns-in_err-slot-clause-fault : goal.returns-in_err-slot-clause-fault
 returns-in_err-slot-clause-fault g c =
     let t = c.in_err-slot.ensures.told 32 1 nothing_yet (nothing_happened {K = g.row.K.Denot} {V = g.row.V.Denot} c.in_ok-memory.memory c.in_ok-memory.ensures) in
     let p = err_from_is_err_and c.from_residual-in_err-slot.result c.from_residual-in_err-slot.ensures.1 in rw (p.1, p.2) (inr (slot_refused c.register.new.memory _ t.0, c.in_ok-places.ensures.few))
+
+pub returns-clause-last : goal.returns-clause-last
+returns-clause-last g c = (none_in _, none_in _)

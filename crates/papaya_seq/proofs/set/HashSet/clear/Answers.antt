@@ -1,7 +1,8 @@
 -- By the map's keys.
+use Rattle.std.specs.Prelude.{option_map}
 use Rattle.std.specs.List.Sorted.{IsPermutation}
 use Rattle.std.specs.Map.{keys_of}
-use Rattle.std.proofs.Common.{subst}
+use Rattle.std.proofs.Common.{ap, subst}
 use Rattle.std.proofs.lemmas.Result.{on_err_weaker}
 use Rattle.papaya_seq.specs.Sets.{Set}
 use Rattle.papaya_seq.proofs.Sets.{keys_in_order}
@@ -12,3 +13,7 @@ returns-clause-refused g c =
     let new = c.clear.new.self.pairs in
     on_err_weaker c.clear.result
     (λ order. subst (λ (x : Set g.row.K.Denot g.row.S.Denot). IsPermutation (keys_of new) x.elements) c.self.view_is (keys_in_order new c.self.inside.map.pairs order)) c.clear.ensures.refused
+
+pub returns-clause-last : goal.returns-clause-last
+returns-clause-last g c =
+    let key = option_map (λ (x : g.row.K.Denot × Unit {0}). x.0) in (ap key c.clear.ensures.last.0, ap key c.clear.ensures.last.1)

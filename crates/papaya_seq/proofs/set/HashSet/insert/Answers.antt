@@ -1,11 +1,11 @@
 -- By the map's keys.
-use Rattle.std.specs.Prelude.{◌≡◌, find, is_none, is_some, IfOk, OnOk, OnErr}
+use Rattle.std.specs.Prelude.{◌≡◌, None, Some, find, is_none, is_some, option_map, IfOk, OnOk, OnErr, MatchResult}
 use Rattle.std.specs.List.Sorted.{IsPermutation}
 use Rattle.std.specs.Map.{keys_of}
 use Rattle.std.proofs.Common.{◌∙◌, ap, sym, subst}
 use Rattle.papaya_pairs.specs.Puts.{put}
 use Rattle.papaya_seq.specs.Sets.{Set, put_in}
-use Rattle.papaya_seq.proofs.Sets.{keys_are_found, keys_in_order, keys_put, new_so}
+use Rattle.papaya_seq.proofs.Sets.{key_found, keys_are_found, keys_in_order, keys_put, new_so}
 use Rattle.papaya_seq.proofs.set.HashSet.insert.Goals.{in-Ok, in-Err}
 use Rattle.papaya_seq.proofs.set.HashSet.insert.Goals as goal
 
@@ -40,4 +40,19 @@ returns-clause-refused g c =
       | in-Err w ↦
           subst (λ r. OnErr r (IsPermutation (keys_of new) c.args.self.now.elements)) (sym w.result-is)
           (subst (λ (x : Set g.row.K.Denot g.row.S.Denot). IsPermutation (keys_of new) x.elements) c.self.view_is (keys_in_order new old w.in-Err.ensures.refused))
+    ]
+
+pub returns-clause-last : goal.returns-clause-last
+returns-clause-last g c =
+    let test = g.K.PartialEq.eq c.args.element in
+    let old = c.self.inside.map.pairs in
+    let key = option_map (λ (x : g.row.K.Denot × Unit {0}). x.0) in
+    let taken = key c.insert.new.self.taken in let met = key c.insert.new.self.met in
+    elim c.match-insert.branch [
+      | in-Ok w ↦
+          subst (λ r. MatchResult r (λ _. (taken ≡ find test c.args.self.now.elements) × (met ≡ Some c.args.element)) (λ _. (taken ≡ None) × (met ≡ None))) (sym w.result-is)
+          (key_found test old c.insert.new.self.taken w.in-Ok.ensures.last.0 ∙ ap (λ (x : Set g.row.K.Denot g.row.S.Denot). find test x.elements) c.self.view_is, ap key w.in-Ok.ensures.last.1)
+      | in-Err w ↦
+          subst (λ r. MatchResult r (λ _. (taken ≡ find test c.args.self.now.elements) × (met ≡ Some c.args.element)) (λ _. (taken ≡ None) × (met ≡ None))) (sym w.result-is)
+          (ap key w.in-Err.ensures.last.0, ap key w.in-Err.ensures.last.1)
     ]

@@ -1,12 +1,12 @@
 -- By the map's keys.
-use Rattle.std.specs.Prelude.{find, is_some}
+use Rattle.std.specs.Prelude.{find, is_some, option_map}
 use Rattle.std.specs.List.Sorted.{IsPermutation}
 use Rattle.std.specs.Map.{keys_of}
 use Rattle.std.proofs.Common.{◌∙◌, ap, sym, subst}
-use Rattle.std.proofs.lemmas.Result.{IfOk-weaker, on_ok_weaker, on_err_weaker}
+use Rattle.std.proofs.lemmas.Result.{IfOk-weaker, MatchResult-weaker, on_ok_weaker, on_err_weaker}
 use Rattle.papaya_owned.specs.Owned.{left_by}
 use Rattle.papaya_seq.specs.Sets.{Set, left_in}
-use Rattle.papaya_seq.proofs.Sets.{keys_are_found, keys_in_order, keys_left}
+use Rattle.papaya_seq.proofs.Sets.{key_found, keys_are_found, keys_in_order, keys_left}
 use Rattle.papaya_seq.proofs.set.HashSet.remove.Goals as goal
 
 pub returns-clause-some : goal.returns-clause-some
@@ -28,3 +28,11 @@ returns-clause-refused g c =
     let new = c.take.new.self.pairs in
     on_err_weaker c.take.result
     (λ order. subst (λ (x : Set g.row.K.Denot g.row.S.Denot). IsPermutation (keys_of new) x.elements) c.self.view_is (keys_in_order new c.self.inside.map.pairs order)) c.take.ensures.refused
+
+pub returns-clause-last : goal.returns-clause-last
+returns-clause-last g c =
+    let test = g.Q.Equivalent.equivalent c.args.asked.now in
+    let key = option_map (λ (x : g.row.K.Denot × Unit {0}). x.0) in
+    MatchResult-weaker c.take.result c.take.ensures.last
+    (λ _ so. (key_found test c.self.inside.map.pairs c.take.new.self.taken so.0 ∙ ap (λ (x : Set g.row.K.Denot g.row.S.Denot). find test x.elements) c.self.view_is, ap key so.1))
+    (λ _ so. (ap key so.0, ap key so.1))

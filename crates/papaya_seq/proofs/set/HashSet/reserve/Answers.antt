@@ -1,7 +1,8 @@
 -- By the map's keys.
+use Rattle.std.specs.Prelude.{option_map}
 use Rattle.std.specs.List.Sorted.{IsPermutation}
 use Rattle.std.specs.Map.{keys_of}
-use Rattle.std.proofs.Common.{subst}
+use Rattle.std.proofs.Common.{ap, subst}
 use Rattle.papaya_seq.specs.Sets.{Set}
 use Rattle.papaya_seq.proofs.Sets.{keys_in_order}
 use Rattle.papaya_seq.proofs.set.HashSet.reserve.Goals as goal
@@ -10,3 +11,7 @@ pub returns-clause-elements : goal.returns-clause-elements
 returns-clause-elements g c =
     let new = c.reserve.new.self.pairs in
     subst (λ (x : Set g.row.K.Denot g.row.S.Denot). IsPermutation (keys_of new) x.elements) c.self.view_is (keys_in_order new c.self.inside.map.pairs c.reserve.ensures.pairs)
+
+pub returns-clause-last : goal.returns-clause-last
+returns-clause-last g c =
+    let key = option_map (λ (x : g.row.K.Denot × Unit {0}). x.0) in (ap key c.reserve.ensures.last.0, ap key c.reserve.ensures.last.1)

@@ -1,9 +1,9 @@
 -- The map asks the closure about the keys alone.
 use denote.Param.Always.{always_mut, mut_by, mut_next}
-use Rattle.std.specs.Prelude.{filter}
+use Rattle.std.specs.Prelude.{filter, option_map}
 use Rattle.std.specs.List.Sorted.{IsPermutation}
 use Rattle.std.specs.Map.{keys_of}
-use Rattle.std.proofs.Common.{of_calls, refl, subst}
+use Rattle.std.proofs.Common.{ap, of_calls, refl, subst}
 use Rattle.std.proofs.lemmas.Result.{on_ok_weaker, on_err_weaker}
 use Rattle.papaya_seq.specs.Sets.{KeepsElements, Set}
 use Rattle.papaya_seq.proofs.Sets.{kept_in_order, keys_in_order, keys_kept_of}
@@ -35,3 +35,7 @@ returns-clause-refused g c =
     let new = c.retain.new.self.pairs in
     on_err_weaker c.retain.result
     (λ order. subst (λ (x : Set g.row.K.Denot g.row.S.Denot). IsPermutation (keys_of new) x.elements) c.self.view_is (keys_in_order new c.self.inside.map.pairs order)) c.retain.ensures.refused
+
+pub returns-clause-last : goal.returns-clause-last
+returns-clause-last g c =
+    let key = option_map (λ (x : g.row.K.Denot × Unit {0}). x.0) in (ap key c.retain.ensures.last.0, ap key c.retain.ensures.last.1)
