@@ -12,5 +12,5 @@ runs_begin_so K V same roots name = record {
     born = λ n map at. absurd (cc at);
     stand = λ b len t standing is there. absurd (cc is);
   };
-  rows = record { none = λ map i u is. absurd (cc is) };
+  rows = record { none = λ map i u is. absurd (cc is); one = λ map i u is. absurd (cc is) };
 }

@@ -14,7 +14,7 @@ use Rattle.papaya_schedules.specs.Moment.{Stands, Going, Asking, Told, IsReady, 
 use Rattle.papaya_schedules.specs.Views.{call_of}
 use Rattle.papaya_callers.specs.Together.{CallOnKey, UnderWay, OnKey, ForRoom, Counting, OverAll}
 use Rattle.papaya_effects.specs.Known.{Known}
-use Rattle.papaya_executor.specs.IsAt.{Scene}
+use Rattle.papaya_executor.specs.IsAt.{Scene, slot_of}
 use Rattle.papaya_finishes.specs.Maps.{Standing, with_call as with_in}
 use Rattle.papaya_follows.specs.Calling.{NoneNamed, come_to}
 use Rattle.papaya_follows.specs.Shows.{Shows}
@@ -25,7 +25,7 @@ use Rattle.papaya_hands.specs.Asked.{AreReplies, AsksThere, IsAskedOn, IsAskedAs
 use Rattle.papaya_hands.specs.Calling.{IsBegunFor, AsksJust, CallsBeginFor, CallsComeToSo}
 use Rattle.papaya_hands.proofs.Asking.{which}
 use Rattle.papaya_hands.proofs.RowsOn.{rows_with}
-use Rattle.papaya_hands.specs.Rows.{ReclaimsNone}
+use Rattle.papaya_hands.specs.Rows.{ReclaimsNone, HoldsOne, KeepsOne}
 use Rattle.papaya_hands.proofs.HandsOn.{hands_with}
 
 module _ {K V : Type 0} (number : ℕ → ℕ) (stored : ℕ) (known : Known) where
@@ -170,7 +170,7 @@ module _ (K V : Type 0) (same : K → K → Bool) where
         asked = subst (λ (f : ℕ → ℕ → ℕ). ShowsAsked name f (with_call (name i) guard its (Some of) m) known (record s { calls = with_in s.calls of i (Some u) })) (sym b.1)
             (begins_asked same name m known s all.shown all.asked of i u its guard apart begun);
         hands = hands_with m known s (with_call (name i) guard its (Some of) m).calls (with_in s.calls of i (Some u)) all.hands;
-        rows = rows_with s of i u all.rows (subst ReclaimsNone (sym rests) tt);
+        rows = rows_with s of i u all.rows (subst ReclaimsNone (sym rests) tt, subst (KeepsOne (HoldsOne s.world (slot_of i))) (sym rests) tt);
       }
 
   pub calls_come_to_so : CallsComeToSo K V same

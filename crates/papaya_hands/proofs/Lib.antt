@@ -18,3 +18,8 @@ pub mod Handing
 pub mod HandTheirs
 pub mod HandsOn
 pub mod Spares
+pub mod Firsts
+pub mod Guarded
+pub mod Summed
+pub mod SettlingRows
+pub mod Others

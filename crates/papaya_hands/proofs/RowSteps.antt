@@ -2,7 +2,7 @@
 use Rattle.std.specs.Prelude.{◌≡◌, ℕ, Bool, List, Some, None}
 use Rattle.std.proofs.Common.{ap, sym, subst, ◌∙◌, inl, inr}
 use Rattle.seize_words.specs.Mem.{Mem, value_at}
-use Rattle.seize.specs.World.{World}
+use Rattle.seize.specs.World.{World, IsInside}
 use Rattle.papaya_tables.specs.declared.node.Node.{Node}
 use Rattle.papaya_raw.specs.declared.machines.progress.Progress.{Progress}
 use Rattle.papaya_schedules.specs.declared.effect.Table.{Table}
@@ -24,12 +24,12 @@ use Rattle.papaya_follows.proofs.RowSteps.{row_step_shown}
 use Rattle.papaya_follows.proofs.Steps.{WentTo, went_to, made_so, DidSo, OfNoRow, LeadsThere}
 use Rattle.papaya_hands.specs.Hands.{IsInUse, ShowsHands}
 use Rattle.papaya_hands.specs.Steps.{RowsHandTheirs}
-use Rattle.papaya_hands.specs.Rows.{ReclaimsNone, ComesToNone}
+use Rattle.papaya_hands.specs.Rows.{HoldsOne, ShowsRows}
 use Rattle.papaya_hands.proofs.AskedOn.{asked_on}
 use Rattle.papaya_hands.proofs.HandTheirs.{hands_out, all_left, used_on}
 use Rattle.papaya_hands.proofs.HandsOn.{used_as, hands_on}
-use Rattle.papaya_hands.proofs.RowsOn.{rows_on}
-use Rattle.papaya_hands.proofs.Settling.{goes_so, not_to_take}
+use Rattle.papaya_hands.proofs.RowsOn.{RowSo, inside_of, rows_on}
+use Rattle.papaya_hands.proofs.SettlingRows.{goes_so, leaves_one, not_to_take}
 use Rattle.papaya_hands.proofs.Spares.{handing}
 use Rattle.papaya_hands.proofs.Taking.{IsToTake, takes_none}
 
@@ -70,12 +70,15 @@ module _ {K V S : Type 0} (same : K → K → Bool) (hash : K → ℕ) (name : �
   pub takes_theirs : (NoRow u to.4.did → ⊥) → (IsToTake (s.world.row i) → ⊥) → TakesNone new.memory.changed
   takes_theirs other never = let row = row_step other in takes_none to.0.setting i s.world row.0 each.ground.came never row.1.1 new.memory.changed (its_left other)
 
-  -- and it goes on so where it reclaims nothing
-  pub reclaims_none : (NoRow u to.4.did → ⊥) → ReclaimsNone (s.world.row i) → (IsToTake (s.world.row i) → ⊥) × (ComesToNone (to.4.w2.row i) → ReclaimsNone (to.4.w2.row i))
-  reclaims_none other none =
-      let row = row_step other in (
-        not_to_take (s.world.row i) none,
-        subst (λ (v : World (Node K V)). ComesToNone (v.row i) → ReclaimsNone (v.row i)) (sym row.1.2) (goes_so to.0.setting i s.world row.0 none row.1.1),
+  -- and it goes on so where it reclaims nothing, and leaves the others the blocks of their batches
+  pub reclaims_none : (NoRow u to.4.did → ⊥) → ShowsRows s → (IsToTake (s.world.row i) → ⊥) × RowSo to.4.w2 i
+      × ((slot : ℕ) → IsInside (s.world.uses slot) → (first : ℕ) → HoldsOne s.world slot first → HoldsOne to.4.w2 slot first)
+  reclaims_none other rows =
+      let row = row_step other in
+      let inside = inside_of same hash s old at map i u here in (
+        not_to_take (s.world.row i) (rows.none map i u here),
+        subst (λ (v : World (Node K V)). RowSo v i) (sym row.1.2) (goes_so to.0.setting i (slot_of i) s.world row.0 each.ground.came inside (rows.none map i u here) (rows.one map i u here) row.1.1),
+        λ slot its first one. subst (λ (v : World (Node K V)). HoldsOne v slot first) (sym row.1.2) (leaves_one to.0.setting i slot s.world row.0 each.ground.came its row.1.1 first one),
       )
 
   -- what it hands over has left its map
@@ -104,17 +107,17 @@ module _ {K V S : Type 0} (same : K → K → Bool) (hash : K → ℕ) (name : �
 pub rows_hand_theirs : (K V S : Type 0) (same : K → K → Bool) (hash : K → ℕ) → RowsHandTheirs K V S same hash
 rows_hand_theirs K V S same hash name m known s old new at all map i u here told leads other =
     let theirs = hands_theirs same hash name m known s old new at all.shown map i u here told leads all.hands other in
-    let rests = reclaims_none same hash name m known s old new at all.shown map i u here told leads all.hands other (all.rows.none map i u here) in
+    let rests = reclaims_none same hash name m known s old new at all.shown map i u here told leads all.hands other all.rows in
     let none = takes_theirs same hash name m known s old new at all.shown map i u here told leads all.hands other rests.0 in
     let on = row_step_shown same hash name m known s old new at all.shown map i u here told leads other none theirs in
     let to = went_to same hash name m known s old new at all.shown map i u here told leads in (
       theirs,
       none,
-      λ comes_to_none. record {
+      record {
         shown = on.shows;
         asked = asked_on same hash name m known s old new at all.shown map i u here told leads all.asked on;
         hands = hands_on same hash name m known s all.shown all.hands _ _ _ on new to.5 (pairs_then same hash name m known s old new at all.shown map i u here told leads all.hands other on)
             (tables_then same hash name m known s old new at all.shown map i u here told leads all.hands other on);
-        rows = rows_on same hash name m known s old new at all.shown map i u here told leads all.rows (rests.1 comes_to_none);
+        rows = rows_on same hash name m known s old new at all.shown map i u here told leads all.rows rests.2 rests.1;
       },
     )

@@ -1,31 +1,52 @@
--- After a step of a call, and where a call begins or goes on, the row of each call under way reclaims nothing.
-use Rattle.std.specs.Prelude.{◌≡◌, ◌≢◌, ℕ, Bool, List, Some, ◌⊎◌}
-use Rattle.std.proofs.Common.{ap, sym, subst, ◌∙◌, inl, inr}
+-- After a step of a call, and where a call begins or goes on, the row of each call under way reclaims nothing, and keeps a block of its batch.
+use Rattle.std.specs.Prelude.{◌≡◌, ◌≢◌, ℕ, Bool, List, [], Option, Some, None, ◌⊎◌}
+use Rattle.std.proofs.Common.{refl, ap, sym, subst, ◌∙◌, inl, inr}
 use Rattle.std.proofs.lemmas.Bool.{cases_eq}
-use Rattle.seize.specs.World.{World, Row}
+use Rattle.seize.specs.World.{World, Row, Event, Runs, IsInside}
+use Rattle.papaya_tables.specs.Nodes.{deferred_word}
 use Rattle.papaya_tables.specs.declared.node.Node.{Node}
 use Rattle.papaya_raw.specs.declared.machines.progress.Progress.{Progress}
+use Rattle.papaya_rule.specs.InWorld.{AllUsers}
 use Rattle.papaya_schedules.specs.Moment.{Moment}
-use Rattle.papaya_callers.specs.Together.{UnderWay, OnKey, ForRoom, Counting, OverAll}
+use Rattle.papaya_callers.specs.Together.{UnderWay, OnKey, ForRoom, Counting, OverAll, CameAbout}
+use Rattle.papaya_callers.proofs.Together.Came.{came_reached}
 use Rattle.papaya_callers.proofs.Together.Users.{events_rows}
 use Rattle.papaya_effects.specs.Known.{Known}
-use Rattle.papaya_executor.specs.IsAt.{Scene, IsAt}
+use Rattle.papaya_executor.specs.IsAt.{Scene, IsAt, slot_of}
 use Rattle.papaya_executor.specs.Stepping.{StepLeads, scene_after}
 use Rattle.papaya_executor.specs.declared.executor.Executor.{Executor}
 use Rattle.papaya_executor.specs.Replying.{scene_with}
+use Rattle.papaya_finishes.specs.Maps.{Standing}
 use Rattle.papaya_follows.specs.Shows.{Shows}
 use Rattle.papaya_follows.proofs.Steps.{WentTo, went_to, DidSo, OfNoRow}
-use Rattle.papaya_hands.specs.Rows.{ReclaimsNone, ShowsRows}
+use Rattle.papaya_hands.specs.Rows.{ReclaimsNone, HoldsOne, KeepsOne, ShowsRows}
 use Rattle.papaya_hands.proofs.Asking.{which}
+use Rattle.papaya_hands.proofs.Guarded.{runs_keep_one}
+use Rattle.papaya_hands.proofs.SettlingRows.{one_kept}
+
+-- the row of a call is so
+abbrev pub RowSo : {K V : Type 0} → World (Node K V) → ℕ → Type 0
+RowSo w i = ReclaimsNone (w.row i) × KeepsOne (HoldsOne w (slot_of i)) (w.row i)
 
 -- where calls alone have changed
-pub rows_with : {K V : Type 0} (s : Scene K V) (map i : ℕ) (u : UnderWay K V K) → ShowsRows s → ReclaimsNone (s.world.row i) → ShowsRows (scene_with map i u s)
-rows_with s map i u rows own = record {
-  none = λ n j x is. elim (which s.calls map i (Some u) n j x is) as (λ _. ReclaimsNone (s.world.row j)) [
-    | inl its ↦ subst (λ (k : ℕ). ReclaimsNone (s.world.row k)) (sym its.1) own
-    | inr was ↦ rows.none n j x was.1
-  ];
-}
+module _ {K V : Type 0} (s : Scene K V) (map i : ℕ) (u : UnderWay K V K) (rows : ShowsRows s) (own : RowSo s.world i) where
+  each_so : (n j : ℕ) (x : UnderWay K V K) → (scene_with map i u s).calls n j ≡ Some x → RowSo s.world j
+  each_so n j x is = elim (which s.calls map i (Some u) n j x is) as (λ _. RowSo s.world j) [
+    | inl its ↦ subst (λ (k : ℕ). RowSo s.world k) (sym its.1) own
+    | inr was ↦ (rows.none n j x was.1, rows.one n j x was.1)
+  ]
+
+  pub rows_with : ShowsRows (scene_with map i u s)
+  rows_with = record { none = λ n j x is. (each_so n j x is).0; one = λ n j x is. (each_so n j x is).1 }
+
+-- whoever has a call under way is within its section
+module _ {K V S : Type 0} (same : K → K → Bool) (hash : K → ℕ) (s : Scene K V) (e : Executor K V S) (at : IsAt same hash e s) where
+  pub inside_of : (n j : ℕ) (x : UnderWay K V K) → s.calls n j ≡ Some x → IsInside (s.world.uses (slot_of j))
+  inside_of n j x is = by (s.maps n) refl
+    where
+      by : (o : Option (Standing K)) → s.maps n ≡ o → IsInside (s.world.uses (slot_of j))
+      by None gone = absurd (let none = at.together.makings.standing.only n j gone in cc (none, is))
+      by (Some st) there = (at.together.makings.standing.each n st there).inside j x is
 
 module _ {K V S : Type 0} (same : K → K → Bool) (hash : K → ℕ) (name : ℕ → List ℕ) (m : Moment K V) (known : Known) (s : Scene K V) (old new : Executor K V S) (at : IsAt same hash old s)
     (shown : Shows same name m known s) (map i : ℕ) (u : UnderWay K V K) (here : s.calls map i ≡ Some u) (told : Progress (Node K V)) (leads : StepLeads same hash i told s old new)
@@ -34,35 +55,61 @@ module _ {K V S : Type 0} (same : K → K → Bool) (hash : K → ℕ) (name : �
   to = went_to same hash name m known s old new at shown map i u here told leads
 
   abbrev Own : Type 0
-  Own = ReclaimsNone (to.4.w2.row i)
+  Own = RowSo to.4.w2 i
 
-  pub rows_on : Own → ShowsRows (scene_after same hash s old new map i to.0 u to.1 told to.4)
-  rows_on own = record { none = λ n j x is. by n j x (which s.calls map i to.4.next n j x is) (cases_eq j i) }
+  -- a block of a batch stays where some section is open
+  abbrev KeepsTheirs : Type 0
+  KeepsTheirs = (slot : ℕ) → IsInside (s.world.uses slot) → (first : ℕ) → HoldsOne s.world slot first → HoldsOne to.4.w2 slot first
+
+  pub rows_on : KeepsTheirs → Own → ShowsRows (scene_after same hash s old new map i to.0 u to.1 told to.4)
+  rows_on keeps own = record { none = λ n j x is. (one n j x is).0; one = λ n j x is. (one n j x is).1 }
     where
-      by : (n j : ℕ) (x : UnderWay K V K) → ((n ≡ map) × (j ≡ i) × (to.4.next ≡ Some x)) ⊎ ((n ≡ map → j ≡ i → ⊥) × (s.calls n j ≡ Some x)) → (j ≡ i) ⊎ (j ≢ i) → ReclaimsNone (to.4.w2.row j)
-      by n j x w (inl e) = subst (λ (k : ℕ). ReclaimsNone (to.4.w2.row k)) (sym e) own
+      by : (n j : ℕ) (x : UnderWay K V K) → ((n ≡ map) × (j ≡ i) × (to.4.next ≡ Some x)) ⊎ ((n ≡ map → j ≡ i → ⊥) × (s.calls n j ≡ Some x)) → (j ≡ i) ⊎ (j ≢ i) → RowSo to.4.w2 j
+      by n j x w (inl e) = subst (λ (k : ℕ). RowSo to.4.w2 k) (sym e) own
       by n j x (inl its) (inr ne) = absurd (ne its.1)
-      by n j x (inr was) (inr ne) = subst ReclaimsNone (sym (to.4.rows j ne)) (rows.none n j x was.1)
+      by n j x (inr was) (inr ne) = (
+        subst ReclaimsNone (sym (to.4.rows j ne)) (rows.none n j x was.1),
+        subst (KeepsOne (HoldsOne to.4.w2 (slot_of j))) (sym (to.4.rows j ne))
+            (one_kept (HoldsOne s.world (slot_of j)) (HoldsOne to.4.w2 (slot_of j)) (keeps (slot_of j) (inside_of same hash s old at n j x was.1)) (s.world.row j) (rows.one n j x was.1)),
+      )
 
-  -- a step that is none of a row leaves the row as it was
-  row_same : OfNoRow same hash name m known s old new at shown map i u here told leads u to.4.did → to.4.w2.row i ≡ s.world.row i
-  row_same own = by u to.4.did own
+      one : (n j : ℕ) (x : UnderWay K V K) → (scene_after same hash s old new map i to.0 u to.1 told to.4).calls n j ≡ Some x → RowSo to.4.w2 j
+      one n j x is = by n j x (which s.calls map i to.4.next n j x is) (cases_eq j i)
+
+  came : CameAbout to.0.setting.batch_size s.world
+  came = (at.together.makings.standing.each map to.0 to.2).ground.came
+
+  -- a step that is none of a row leaves the rows as they were, and each block in its batch
+  abbrev LeavesRows : Type 0
+  LeavesRows = (to.4.w2.row ≡ s.world.row) × KeepsTheirs
+
+  by_events : (w2 : World (Node K V)) → to.4.w2 ≡ w2 → (events : List (Event (Node K V))) → AllUsers events → Runs deferred_word to.0.setting.batch_size events s.world w2 → LeavesRows
+  by_events w2 is events users runs =
+      subst (λ (v : World (Node K V)). (v.row ≡ s.world.row) × ((slot : ℕ) → IsInside (s.world.uses slot) → (first : ℕ) → HoldsOne s.world slot first → HoldsOne v slot first)) (sym is)
+      (events_rows to.0.setting.batch_size events s.world w2 users runs,
+      λ slot inside first one. runs_keep_one slot first s.world (came_reached to.0.setting.batch_size s.world came) one events w2 inside users runs)
+
+  leaves_rows : OfNoRow same hash name m known s old new at shown map i u here told leads u to.4.did → LeavesRows
+  leaves_rows own = by u to.4.did own
     where
-      by : (x : UnderWay K V K) → (did : DidSo same hash name m known s old new at shown map i u here told leads x) → OfNoRow same hash name m known s old new at shown map i u here told leads x did
-          → to.4.w2.row i ≡ s.world.row i
-      by (OnKey x) (p2, end, machine_is, told_is, inl (step, moved)) own =
-          ap (λ (y : World (Node K V)). y.row i) moved.0
-          ∙ ap (λ (f : ℕ → Row). f i) (events_rows to.0.setting.batch_size step.step.went.events s.world step.step.went.w2 step.step.went.users step.step.went.runs)
+      by : (x : UnderWay K V K) → (did : DidSo same hash name m known s old new at shown map i u here told leads x) → OfNoRow same hash name m known s old new at shown map i u here told leads x did → LeavesRows
+      by (OnKey x) (p2, end, machine_is, told_is, inl (step, moved)) own = by_events step.step.went.w2 moved.0 step.step.went.events step.step.went.users step.step.went.runs
       by (OnKey x) (p2, end, machine_is, told_is, inr row) own = absurd own
-      by (ForRoom x) (p2, end, machine_is, told_is, inl (step, moved)) own =
-          ap (λ (y : World (Node K V)). y.row i) moved.0
-          ∙ ap (λ (f : ℕ → Row). f i) (events_rows to.0.setting.batch_size step.step.went.events s.world step.step.went.w2 step.step.went.users step.step.went.runs)
+      by (ForRoom x) (p2, end, machine_is, told_is, inl (step, moved)) own = by_events step.step.went.w2 moved.0 step.step.went.events step.step.went.users step.step.went.runs
       by (ForRoom x) (p2, end, machine_is, told_is, inr row) own = absurd own
-      by (Counting x) (p2, end, machine_is, told_is, still, stayed) own = ap (λ (y : World (Node K V)). y.row i) stayed.0
-      by (OverAll x) (p2, end, machine_is, told_is, inl (step, moved)) own =
-          ap (λ (y : World (Node K V)). y.row i) moved.0
-          ∙ ap (λ (f : ℕ → Row). f i) (events_rows to.0.setting.batch_size step.step.went.events s.world step.step.went.w2 step.step.went.users step.step.went.runs)
+      by (Counting x) (p2, end, machine_is, told_is, still, stayed) own =
+          by_events s.world stayed.0 [] tt refl
+      by (OverAll x) (p2, end, machine_is, told_is, inl (step, moved)) own = by_events step.step.went.w2 moved.0 step.step.went.events step.step.went.users step.step.went.runs
       by (OverAll x) (p2, end, machine_is, told_is, inr row) own = absurd own
 
+  pub keeps_theirs : OfNoRow same hash name m known s old new at shown map i u here told leads u to.4.did → KeepsTheirs
+  keeps_theirs own = (leaves_rows own).1
+
   pub own_row : OfNoRow same hash name m known s old new at shown map i u here told leads u to.4.did → Own
-  own_row own = subst ReclaimsNone (sym (row_same own)) (rows.none map i u here)
+  own_row own =
+      let left = leaves_rows own in
+      let row = ap (λ (f : ℕ → Row). f i) left.0 in (
+        subst ReclaimsNone (sym row) (rows.none map i u here),
+        subst (KeepsOne (HoldsOne to.4.w2 (slot_of i))) (sym row)
+            (one_kept (HoldsOne s.world (slot_of i)) (HoldsOne to.4.w2 (slot_of i)) (left.1 (slot_of i) (inside_of same hash s old at map i u here)) (s.world.row i) (rows.one map i u here)),
+      )

@@ -22,7 +22,7 @@ use Rattle.papaya_hands.specs.Asked.{ShowsAsked}
 use Rattle.papaya_hands.specs.Steps.{CallsStoreTheirs}
 use Rattle.papaya_hands.proofs.AskedOn.{asked_on}
 use Rattle.papaya_hands.proofs.HandsOn.{hands_on}
-use Rattle.papaya_hands.proofs.RowsOn.{rows_on, own_row}
+use Rattle.papaya_hands.proofs.RowsOn.{rows_on, keeps_theirs, own_row}
 use Rattle.papaya_hands.proofs.Spares.{pairs_spared, tables_spared}
 use Rattle.papaya_hands.proofs.Stores.{key_gives, room_gives, sweep_gives}
 
@@ -88,6 +88,7 @@ calls_store_theirs K V S same hash name m known s old new at all map i u here to
         asked = asked_on same hash name m known s old new at all.shown map i u here told leads all.asked step.1;
         hands = hands_on same hash name m known s all.shown all.hands _ _ _ step.1 new to.5 (pairs_spared same hash name m known s old new at all.shown map i u here told leads all.hands own)
             (tables_spared same hash name m known s old new at all.shown map i u here told leads all.hands own);
-        rows = rows_on same hash name m known s old new at all.shown map i u here told leads all.rows (own_row same hash name m known s old new at all.shown map i u here told leads all.rows own);
+        rows = rows_on same hash name m known s old new at all.shown map i u here told leads all.rows
+            (keeps_theirs same hash name m known s old new at all.shown map i u here told leads all.rows own) (own_row same hash name m known s old new at all.shown map i u here told leads all.rows own);
       },
     )

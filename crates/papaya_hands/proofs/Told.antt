@@ -208,5 +208,5 @@ calls_take K V S same hash name m known s e at_e all map i u here c c_is questio
           (told_asked same hash name m known s e at_e all.shown all.asked map i standing there c c_is question c_asks is_told u next here
           (own_told same hash name m known s e at_e all.shown all.asked map i standing there c c_is question c_asks is_told u next here machine taken goes));
       hands = hands_with m known s (told (name i) is_told m).calls (with_in s.calls map i (Some next)) all.hands;
-      rows = rows_with s map i next all.rows (all.rows.none map i u here);
+      rows = rows_with s map i next all.rows (all.rows.none map i u here, all.rows.one map i u here);
     }

@@ -5,3 +5,4 @@ pub mod Shows
 pub mod Steps
 pub mod Calling
 pub mod Beginning
+pub mod Others

@@ -14,7 +14,6 @@ use Rattle.papaya_executor.specs.declared.executor.Executor.{Executor}
 use Rattle.papaya_follows.specs.Finds.{FindsMap}
 use Rattle.papaya_follows.specs.Steps.{StoreTheirs, HandTheirs, TakesNone, IsOfNoRow}
 use Rattle.papaya_hands.specs.Shows.{ShowsAll}
-use Rattle.papaya_hands.specs.Rows.{ComesToNone}
 
 module _ (K V S : Type 0) (same : K → K → Bool) (hash : K → ℕ) where
   -- The promise, of a step of a call that is none of a row: it stores no pair but such as the call has to store, its effects find the map as they must, and lead
@@ -30,8 +29,7 @@ module _ (K V S : Type 0) (same : K → K → Bool) (hash : K → ℕ) where
       × ShowsAll same name (with_effects (Some (name i)) (Some map) (effects_of (Call i map) known new.memory.changed) m) (known_after (Call i map) new.memory.changed known)
       (scene_after same hash s old new map i to.0 u to.1 told to.4))
 
-  -- The promise, of a step of a row within a call: it hands over nothing but what has left its map, and takes no block away; and unless its row comes to a batch
-  -- that it is to reclaim, it is the same.
+  -- The promise, of a step of a row within a call: it hands over nothing but what has left its map, takes no block away, and leads to such a moment, too.
   abbrev pub RowsHandTheirs : Type 0
   RowsHandTheirs =
       (name : ℕ → List ℕ) (m : Moment K V) (known : Known) (s : Scene K V) (old new : Executor K V S) → IsAt same hash old s → ShowsAll same name m known s
@@ -40,6 +38,5 @@ module _ (K V S : Type 0) (same : K → K → Bool) (hash : K → ℕ) where
       (IsOfNoRow same old.batch_size old.roots s.world s.maps s.calls s.makers s.enders map to.0 i new.memory.memory to.4.w2 to.4.maps2 to.4.next u to.1 told to.4.did → ⊥)
       → HandTheirs (name i) map (effects_of (Call i map) known new.memory.changed) m
       × TakesNone new.memory.changed
-      × (ComesToNone (to.4.w2.row i)
-      → ShowsAll same name (with_effects (Some (name i)) (Some map) (effects_of (Call i map) known new.memory.changed) m) (known_after (Call i map) new.memory.changed known)
-      (scene_after same hash s old new map i to.0 u to.1 told to.4)))
+      × ShowsAll same name (with_effects (Some (name i)) (Some map) (effects_of (Call i map) known new.memory.changed) m) (known_after (Call i map) new.memory.changed known)
+      (scene_after same hash s old new map i to.0 u to.1 told to.4))

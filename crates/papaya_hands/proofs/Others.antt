@@ -1,0 +1,136 @@
+-- Whoever takes a step that is none of a call, the rows within calls are as they were, and keep a block of the batch that they close.
+use Rattle.std.specs.Prelude.{◌≡◌, ℕ, zero, suc, ◌<◌, Bool, Option, Some, None, is_some, option_map}
+use Rattle.std.proofs.Common.{refl, ap, sym, subst, ◌∙◌, arith, inl, inr}
+use Rattle.seize_words.specs.Mem.{value_at}
+use Rattle.seize.specs.Law.{Ended, holds}
+use Rattle.seize.specs.World.{World, Row, Runs, with_effect, times}
+use Rattle.seize_rule.proofs.Rows.Others.{begins_others, steps_others}
+use Rattle.seize_alone.proofs.Histories.Reached.{Reached}
+use Rattle.papaya_tables.specs.Nodes.{deferred_word}
+use Rattle.papaya_tables.specs.declared.node.Node.{Node}
+use Rattle.papaya_callers.specs.Together.{UnderWay}
+use Rattle.papaya_callers.proofs.Together.Came.{came_reached}
+use Rattle.papaya_callers.proofs.Together.Users.{events_rows}
+use Rattle.papaya_finishes.specs.FactsEnds.{Deed, Looks, TakesPair, LeavesTable, JoinsPair, TakesLeft, TakesCounter, WritesRoot, events_of, taken_by}
+use Rattle.papaya_finishes.specs.Machines.{machine_of}
+use Rattle.papaya_finishes.specs.Maps.{with_call}
+use Rattle.papaya_executor.specs.Ending.{ending_begun}
+use Rattle.papaya_executor.specs.IsAt.{Scene, IsAt, slot_of, work_of, call_in}
+use Rattle.papaya_executor.specs.Rows.{request_of}
+use Rattle.papaya_executor.specs.declared.executor.Executor.{Executor}
+use Rattle.papaya_executor.specs.declared.row.SlotRow.{SlotRow}
+use Rattle.papaya_executor.specs.declared.worker.Work.{Work}
+use Rattle.papaya_executor.specs.declared.worker.Work.TheVariants.{OnSlot}
+use Rattle.papaya_hands.specs.Others.{RowsBeginAside, RowsGoAside, MakingsGoAside, EndingsBeginAside, EndingsGoAside, CallsGoAside}
+use Rattle.papaya_hands.specs.Rows.{ReclaimsNone, HoldsOne, KeepsOne, ShowsRows}
+use Rattle.papaya_hands.proofs.Asking.{which}
+use Rattle.papaya_hands.proofs.Guarded.{AllBetween, IsInStill, in_at_first, all_between_in, one_of_still, there_still, step_keeps_one, begin_keeps_one, runs_keep_one}
+use Rattle.papaya_hands.proofs.RowsOn.{RowSo, inside_of}
+use Rattle.papaya_hands.proofs.SettlingRows.{one_kept}
+
+module _ {K V : Type 0} (s : Scene K V) (rows : ShowsRows s) (w2 : World (Node K V)) where
+  -- the row of a call that is under way is as it was, and so is the batch of each such block
+  abbrev IsSameRow : ℕ → Type 0
+  IsSameRow j = (w2.row j ≡ s.world.row j) × ((first : ℕ) → HoldsOne s.world (slot_of j) first → HoldsOne w2 (slot_of j) first)
+
+  row_so : (n j : ℕ) (x : UnderWay K V K) → s.calls n j ≡ Some x → IsSameRow j → RowSo w2 j
+  row_so n j x is it = (
+    subst ReclaimsNone (sym it.0) (rows.none n j x is),
+    subst (KeepsOne (HoldsOne w2 (slot_of j))) (sym it.0) (one_kept (HoldsOne s.world (slot_of j)) (HoldsOne w2 (slot_of j)) it.1 (s.world.row j) (rows.one n j x is)),
+  )
+
+  -- so they reclaim nothing still
+  rows_still : (rest : Scene K V) → rest.calls ≡ s.calls → rest.world ≡ w2 → ((n j : ℕ) (x : UnderWay K V K) → s.calls n j ≡ Some x → IsSameRow j) → ShowsRows rest
+  rows_still rest calls world each = record { none = λ n j x is. (so n j x is).0; one = λ n j x is. (so n j x is).1 }
+    where
+      so : (n j : ℕ) (x : UnderWay K V K) → rest.calls n j ≡ Some x → RowSo rest.world j
+      so n j x is =
+          let was = subst (λ (f : ℕ → ℕ → Option (UnderWay K V K)). f n j ≡ Some x) calls is in subst (λ (v : World (Node K V)). RowSo v j) (sym world) (row_so n j x was (each n j x was))
+
+module _ {K V : Type 0} {size : ℕ} (w : World (Node K V)) (r : Reached deferred_word size w) (slot first : ℕ) (one : HoldsOne w slot first) where
+  between_deed : (i : ℕ) (d : Deed) → AllBetween w r slot first one (events_of i d)
+  between_deed i Looks = tt
+  between_deed i (TakesPair b) = (tt, (tt, (tt, tt)))
+  between_deed i (LeavesTable b further) = (tt, (tt, tt))
+  between_deed i (JoinsPair b word) = (tt, tt)
+  between_deed i (TakesLeft b) = (tt, tt)
+  between_deed i (TakesCounter b) = (tt, tt)
+  between_deed i (WritesRoot at word) = (tt, tt)
+
+  -- a step of the end of a map, which takes no block that a section holds
+  end_keeps_one : (i : ℕ) (d : Deed) (w2 : World (Node K V)) → Runs deferred_word size (events_of i d) w w2 → ((t x : ℕ) → times x (taken_by d) ≡ 0 → holds t x w2.log ≡ holds t x w.log)
+      → ((x : ℕ) → 0 < times x (taken_by d) → value_at w2.memory x ≡ None) → HoldsOne w2 slot first
+  end_keeps_one i d w2 runs held gone = one_of_still w r slot first one w2 still (held slot one.block (by (times one.block (taken_by d)) refl) ∙ one.held)
+    where
+      still : IsInStill w r slot first one w2
+      still = all_between_in w r slot first one (events_of i d) w w2 (between_deed i d) runs (in_at_first w r slot first one)
+
+      by : (k : ℕ) → times one.block (taken_by d) ≡ k → times one.block (taken_by d) ≡ 0
+      by zero e = e
+      by (suc k) e =
+          let none = ap is_some (gone one.block (omega (arith, e))) in
+          let there = there_still w r slot first one w2 still in
+          absurd (cc (none, there))
+
+-- who has a row on a slot has no call
+module _ {K V S : Type 0} (same : K → K → Bool) (hash : K → ℕ) (s : Scene K V) (e : Executor K V S) (at : IsAt same hash e s) (i : ℕ) (row : SlotRow) (here : work_of e i ≡ Some (OnSlot row)) where
+  no_call : (n : ℕ) (x : UnderWay K V K) → s.calls n i ≡ Some x → ⊥
+  no_call n x is =
+      let some = ap (option_map machine_of) (sym is) in
+      let none = at.calls n i ∙ ap (λ (o : Option (Work K V)). call_in o n) here in
+      absurd (cc (some ∙ none))
+
+  another : (n j : ℕ) (x : UnderWay K V K) → s.calls n j ≡ Some x → j ≡ i → ⊥
+  another n j x is e = no_call n x (ap (s.calls n) (sym e) ∙ is)
+
+module _ (K V S : Type 0) (same : K → K → Bool) (hash : K → ℕ) where
+  reached : (s : Scene K V) (e : Executor K V S) → IsAt same hash e s → Reached deferred_word e.batch_size s.world
+  reached s e at = came_reached e.batch_size s.world at.together.makings.standing.came
+
+  pub rows_begin_aside : RowsBeginAside K V S same hash
+  rows_begin_aside s old new at rows called i may leads =
+      let to = (leads may).3 in
+      rows_still s rows to.0 (record s { world = to.0; maps = to.2 }) refl refl (λ n j x is. (
+        begins_others deferred_word old.batch_size s.world to.0 i j (another same hash (record s { world = to.0; maps = to.2 }) new to.4 i _ (leads may).1 n j x is) (request_of (slot_of i) called) to.1.1,
+        λ first one. begin_keeps_one s.world (reached s old at) (slot_of j) first one i (request_of (slot_of i) called) to.0 to.1
+      ))
+
+  pub rows_go_aside : RowsGoAside K V S same hash
+  rows_go_aside s old new at rows i told leads row here =
+      let to = (leads row here).4 in
+      rows_still s rows to.0 (record s { world = to.0; maps = to.2 }) refl refl (λ n j x is. (
+        steps_others deferred_word old.batch_size s.world to.0 i j (another same hash s old at i row here n j x is) (s.world.row i) to.1,
+        λ first one. step_keeps_one s.world (reached s old at) (slot_of j) first one i to.0 (inside_of same hash s old at n j x is) to.1
+      ))
+
+  pub makings_go_aside : MakingsGoAside K V S same hash
+  makings_go_aside s old new at rows i told leads b here =
+      let step = (leads b here).2.step in
+      rows_still s rows step.w2 (record s { world = step.w2 }) refl refl (λ n j x is. (
+        ap (λ (f : ℕ → Row). f j) (events_rows old.batch_size step.events s.world step.w2 step.users step.runs),
+        λ first one. runs_keep_one (slot_of j) first s.world (reached s old at) one step.events step.w2 (inside_of same hash s old at n j x is) step.users step.runs
+      ))
+
+  pub endings_begin_aside : EndingsBeginAside K V S same hash
+  endings_begin_aside s rows map i standing =
+      rows_still s rows (with_effect s.world (Ended standing.setting.counter)) (ending_begun map i standing s) refl refl (λ n j x is. (
+        refl,
+        λ first one. record { block = one.block; held = one.held; retired = one.retired; is_first = one.is_first }
+      ))
+
+  pub endings_go_aside : EndingsGoAside K V S same hash
+  endings_go_aside s old new at rows i told leads f here =
+      let did = (leads f here).2 in
+      rows_still s rows did.w2 (record s { world = did.w2 }) refl refl (λ n j x is. (
+        ap (λ (g : ℕ → Row). g j) did.spares.rows,
+        λ first one. end_keeps_one s.world (reached s old at) (slot_of j) first one i did.deed did.w2 did.runs did.spares.held did.spares.gone
+      ))
+
+  pub calls_go_aside : CallsGoAside K V S same hash
+  calls_go_aside s rows map i u here next = record { none = λ n j x is. (so n j x is).0; one = λ n j x is. (so n j x is).1 }
+    where
+      so : (n j : ℕ) (x : UnderWay K V K) → with_call s.calls map i next n j ≡ Some x → RowSo s.world j
+      so n j x is = elim (which s.calls map i next n j x is) as (λ _. RowSo s.world j) [
+        | inl its ↦ subst (λ (k : ℕ). RowSo s.world k) (sym its.1) (rows.none map i u here, rows.one map i u here)
+        | inr was ↦ (rows.none n j x was.1, rows.one n j x was.1)
+      ]

@@ -1,0 +1,57 @@
+-- Whoever takes a step that is none of a call, the rows within calls reclaim nothing still.
+use Rattle.std.specs.Prelude.{◌≡◌, ℕ, Bool, Option, Some}
+use Rattle.seize.specs.declared.progress.Progress.{Progress as Making}
+use Rattle.seize.specs.declared.rows.settle.Settled.{Settled}
+use Rattle.papaya_tables.specs.declared.node.Node.{Node}
+use Rattle.papaya_tables.specs.declared.setting.Setting.{Setting}
+use Rattle.papaya_callers.specs.Together.{UnderWay}
+use Rattle.papaya_finishes.specs.Endings.{Finishing}
+use Rattle.papaya_finishes.specs.Makings.{Beginning}
+use Rattle.papaya_finishes.specs.Maps.{Standing, with_call}
+use Rattle.papaya_executor.specs.Ending.{EndingLeads, ending_begun}
+use Rattle.papaya_executor.specs.IsAt.{Scene, IsAt, slot_of, work_of}
+use Rattle.papaya_executor.specs.Making.{MakingLeads}
+use Rattle.papaya_executor.specs.OnSlots.{MayBegin, RowBegins, RowLeads}
+use Rattle.papaya_executor.specs.declared.executor.Executor.{Executor}
+use Rattle.papaya_executor.specs.declared.row.RowTold.{RowTold}
+use Rattle.papaya_executor.specs.declared.row.SlotCall.{SlotCall}
+use Rattle.papaya_executor.specs.declared.row.SlotRow.{SlotRow}
+use Rattle.papaya_executor.specs.declared.worker.Work.TheVariants.{OnSlot}
+use Rattle.papaya_hands.specs.Rows.{ShowsRows}
+
+module _ (K V S : Type 0) (same : K → K → Bool) (hash : K → ℕ) where
+  -- The promises: so it is where a row begins on a slot,
+  abbrev pub RowsBeginAside : Type 0
+  RowsBeginAside =
+      (s : Scene K V) (old new : Executor K V S) → IsAt same hash old s → ShowsRows s
+      → (called : SlotCall) (i : ℕ) (may : MayBegin old (slot_of i) called) (leads : RowBegins same hash called i s old new)
+      → (let to = (leads may).3 in ShowsRows (record s { world = to.0; maps = to.2 }))
+
+  -- after a step of it,
+  abbrev pub RowsGoAside : Type 0
+  RowsGoAside =
+      (s : Scene K V) (old new : Executor K V S) → IsAt same hash old s → ShowsRows s
+      → (i : ℕ) (told : RowTold (Node K V)) (leads : RowLeads same hash i told s old new) (row : SlotRow) (here : work_of old i ≡ Some (OnSlot row))
+      → (let to = (leads row here).4 in ShowsRows (record s { world = to.0; maps = to.2 }))
+
+  -- of the making of a map,
+  abbrev pub MakingsGoAside : Type 0
+  MakingsGoAside =
+      (s : Scene K V) (old new : Executor K V S) → IsAt same hash old s → ShowsRows s
+      → (i : ℕ) (told : Making Setting) (leads : MakingLeads same hash i told s old new) (b : Beginning K) (here : s.makers i ≡ Some b)
+      → (let to = leads b here in ShowsRows (record s { world = to.2.step.w2 }))
+
+  -- where the end of a map begins, and after a step of it,
+  abbrev pub EndingsBeginAside : Type 0
+  EndingsBeginAside = (s : Scene K V) → ShowsRows s → (map i : ℕ) (standing : Standing K) → ShowsRows (ending_begun map i standing s)
+
+  abbrev pub EndingsGoAside : Type 0
+  EndingsGoAside =
+      (s : Scene K V) (old new : Executor K V S) → IsAt same hash old s → ShowsRows s
+      → (i : ℕ) (told : Settled (Node K V)) (leads : EndingLeads same hash i told s old new) (f : Finishing K V) (here : s.enders i ≡ Some f)
+      → (let to = leads f here in ShowsRows (record s { world = to.2.w2 }))
+
+  -- and where a call goes on by what it is asked or told, or is given up.
+  abbrev pub CallsGoAside : Type 0
+  CallsGoAside =
+      (s : Scene K V) → ShowsRows s → (map i : ℕ) (u : UnderWay K V K) → s.calls map i ≡ Some u → (next : Option (UnderWay K V K)) → ShowsRows (record s { calls = with_call s.calls map i next })
