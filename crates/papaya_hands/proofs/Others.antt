@@ -111,13 +111,6 @@ module _ (K V S : Type 0) (same : K → K → Bool) (hash : K → ℕ) where
         λ first one. runs_keep_one (slot_of j) first s.world (reached s old at) one step.events step.w2 (inside_of same hash s old at n j x is) step.users step.runs
       ))
 
-  pub endings_begin_aside : EndingsBeginAside K V S same hash
-  endings_begin_aside s rows map i standing =
-      rows_still s rows (with_effect s.world (Ended standing.setting.counter)) (ending_begun map i standing s) refl refl (λ n j x is. (
-        refl,
-        λ first one. record { block = one.block; held = one.held; retired = one.retired; is_first = one.is_first }
-      ))
-
   pub endings_go_aside : EndingsGoAside K V S same hash
   endings_go_aside s old new at rows i told leads f here =
       let did = (leads f here).2 in
@@ -126,7 +119,15 @@ module _ (K V S : Type 0) (same : K → K → Bool) (hash : K → ℕ) where
         λ first one. end_keeps_one s.world (reached s old at) (slot_of j) first one i did.deed did.w2 did.runs did.spares.held did.spares.gone
       ))
 
-  pub calls_go_aside : CallsGoAside K V S same hash
+module _ (K V : Type 0) where
+  pub endings_begin_aside : EndingsBeginAside K V
+  endings_begin_aside s rows map i standing =
+      rows_still s rows (with_effect s.world (Ended standing.setting.counter)) (ending_begun map i standing s) refl refl (λ n j x is. (
+        refl,
+        λ first one. record { block = one.block; held = one.held; retired = one.retired; is_first = one.is_first }
+      ))
+
+  pub calls_go_aside : CallsGoAside K V
   calls_go_aside s rows map i u here next = record { none = λ n j x is. (so n j x is).0; one = λ n j x is. (so n j x is).1 }
     where
       so : (n j : ℕ) (x : UnderWay K V K) → with_call s.calls map i next n j ≡ Some x → RowSo s.world j

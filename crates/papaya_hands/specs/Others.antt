@@ -41,17 +41,18 @@ module _ (K V S : Type 0) (same : K → K → Bool) (hash : K → ℕ) where
       → (i : ℕ) (told : Making Setting) (leads : MakingLeads same hash i told s old new) (b : Beginning K) (here : s.makers i ≡ Some b)
       → (let to = leads b here in ShowsRows (record s { world = to.2.step.w2 }))
 
-  -- where the end of a map begins, and after a step of it,
-  abbrev pub EndingsBeginAside : Type 0
-  EndingsBeginAside = (s : Scene K V) → ShowsRows s → (map i : ℕ) (standing : Standing K) → ShowsRows (ending_begun map i standing s)
-
+  -- and of the end of one,
   abbrev pub EndingsGoAside : Type 0
   EndingsGoAside =
       (s : Scene K V) (old new : Executor K V S) → IsAt same hash old s → ShowsRows s
       → (i : ℕ) (told : Settled (Node K V)) (leads : EndingLeads same hash i told s old new) (f : Finishing K V) (here : s.enders i ≡ Some f)
       → (let to = leads f here in ShowsRows (record s { world = to.2.w2 }))
 
-  -- and where a call goes on by what it is asked or told, or is given up.
-  abbrev pub CallsGoAside : Type 0
-  CallsGoAside =
-      (s : Scene K V) → ShowsRows s → (map i : ℕ) (u : UnderWay K V K) → s.calls map i ≡ Some u → (next : Option (UnderWay K V K)) → ShowsRows (record s { calls = with_call s.calls map i next })
+-- where the end of a map begins,
+abbrev pub EndingsBeginAside : Type 0 → Type 0 → Type 0
+EndingsBeginAside K V = (s : Scene K V) → ShowsRows s → (map i : ℕ) (standing : Standing K) → ShowsRows (ending_begun map i standing s)
+
+-- and where a call goes on by what it is asked or told, or is given up.
+abbrev pub CallsGoAside : Type 0 → Type 0 → Type 0
+CallsGoAside K V =
+    (s : Scene K V) → ShowsRows s → (map i : ℕ) (u : UnderWay K V K) → s.calls map i ≡ Some u → (next : Option (UnderWay K V K)) → ShowsRows (record s { calls = with_call s.calls map i next })

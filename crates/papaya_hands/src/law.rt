@@ -25,7 +25,7 @@ pub fn rows_reclaim_nothing<K, V, S>()
     ensures rows_begin { (same : K → K → Bool) (hash : K → ℕ) → RowsBeginAside K V S same hash }
     ensures rows { (same : K → K → Bool) (hash : K → ℕ) → RowsGoAside K V S same hash }
     ensures makings { (same : K → K → Bool) (hash : K → ℕ) → MakingsGoAside K V S same hash }
-    ensures endings_begin { (same : K → K → Bool) (hash : K → ℕ) → EndingsBeginAside K V S same hash }
+    ensures endings_begin { EndingsBeginAside K V }
     ensures endings { (same : K → K → Bool) (hash : K → ℕ) → EndingsGoAside K V S same hash }
-    ensures calls { (same : K → K → Bool) (hash : K → ℕ) → CallsGoAside K V S same hash }
+    ensures calls { CallsGoAside K V }
 {}

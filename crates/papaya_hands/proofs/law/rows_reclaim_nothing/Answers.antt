@@ -7,7 +7,7 @@ returns c d = record {
   rows_begin = rows_begin_aside _ _ _;
   rows = rows_go_aside _ _ _;
   makings = makings_go_aside _ _ _;
-  endings_begin = endings_begin_aside _ _ _;
+  endings_begin = endings_begin_aside _ _;
   endings = endings_go_aside _ _ _;
-  calls = calls_go_aside _ _ _;
+  calls = calls_go_aside _ _;
 }
