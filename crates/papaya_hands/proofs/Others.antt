@@ -92,7 +92,7 @@ module _ (K V S : Type 0) (same : K → K → Bool) (hash : K → ℕ) where
       let to = (leads may).3 in
       rows_still s rows to.0 (record s { world = to.0; maps = to.2 }) refl refl (λ n j x is. (
         begins_others deferred_word old.batch_size s.world to.0 i j (another same hash (record s { world = to.0; maps = to.2 }) new to.4 i _ (leads may).1 n j x is) (request_of (slot_of i) called) to.1.1,
-        λ first one. begin_keeps_one s.world (reached s old at) (slot_of j) first one i (request_of (slot_of i) called) to.0 to.1
+        λ first one. begin_keeps_one s.world (reached s old at) (slot_of j) first one i (request_of (slot_of i) called) to.0 to.1,
       ))
 
   pub rows_go_aside : RowsGoAside K V S same hash
@@ -100,7 +100,7 @@ module _ (K V S : Type 0) (same : K → K → Bool) (hash : K → ℕ) where
       let to = (leads row here).4 in
       rows_still s rows to.0 (record s { world = to.0; maps = to.2 }) refl refl (λ n j x is. (
         steps_others deferred_word old.batch_size s.world to.0 i j (another same hash s old at i row here n j x is) (s.world.row i) to.1,
-        λ first one. step_keeps_one s.world (reached s old at) (slot_of j) first one i to.0 (inside_of same hash s old at n j x is) to.1
+        λ first one. step_keeps_one s.world (reached s old at) (slot_of j) first one i to.0 (inside_of same hash s old at n j x is) to.1,
       ))
 
   pub makings_go_aside : MakingsGoAside K V S same hash
@@ -108,7 +108,7 @@ module _ (K V S : Type 0) (same : K → K → Bool) (hash : K → ℕ) where
       let step = (leads b here).2.step in
       rows_still s rows step.w2 (record s { world = step.w2 }) refl refl (λ n j x is. (
         ap (λ (f : ℕ → Row). f j) (events_rows old.batch_size step.events s.world step.w2 step.users step.runs),
-        λ first one. runs_keep_one (slot_of j) first s.world (reached s old at) one step.events step.w2 (inside_of same hash s old at n j x is) step.users step.runs
+        λ first one. runs_keep_one (slot_of j) first s.world (reached s old at) one step.events step.w2 (inside_of same hash s old at n j x is) step.users step.runs,
       ))
 
   pub endings_go_aside : EndingsGoAside K V S same hash
@@ -116,7 +116,7 @@ module _ (K V S : Type 0) (same : K → K → Bool) (hash : K → ℕ) where
       let did = (leads f here).2 in
       rows_still s rows did.w2 (record s { world = did.w2 }) refl refl (λ n j x is. (
         ap (λ (g : ℕ → Row). g j) did.spares.rows,
-        λ first one. end_keeps_one s.world (reached s old at) (slot_of j) first one i did.deed did.w2 did.runs did.spares.held did.spares.gone
+        λ first one. end_keeps_one s.world (reached s old at) (slot_of j) first one i did.deed did.w2 did.runs did.spares.held did.spares.gone,
       ))
 
 module _ (K V : Type 0) where
@@ -124,7 +124,7 @@ module _ (K V : Type 0) where
   endings_begin_aside s rows map i standing =
       rows_still s rows (with_effect s.world (Ended standing.setting.counter)) (ending_begun map i standing s) refl refl (λ n j x is. (
         refl,
-        λ first one. record { block = one.block; held = one.held; retired = one.retired; is_first = one.is_first }
+        λ first one. record { block = one.block; held = one.held; retired = one.retired; is_first = one.is_first },
       ))
 
   pub calls_go_aside : CallsGoAside K V

@@ -85,9 +85,10 @@ module _ {K V S : Type 0} (same : K → K → Bool) (hash : K → ℕ) (name : �
 
   by_events : (w2 : World (Node K V)) → to.4.w2 ≡ w2 → (events : List (Event (Node K V))) → AllUsers events → Runs deferred_word to.0.setting.batch_size events s.world w2 → LeavesRows
   by_events w2 is events users runs =
-      subst (λ (v : World (Node K V)). (v.row ≡ s.world.row) × ((slot : ℕ) → IsInside (s.world.uses slot) → (first : ℕ) → HoldsOne s.world slot first → HoldsOne v slot first)) (sym is)
-      (events_rows to.0.setting.batch_size events s.world w2 users runs,
-      λ slot inside first one. runs_keep_one slot first s.world (came_reached to.0.setting.batch_size s.world came) one events w2 inside users runs)
+      subst (λ (v : World (Node K V)). (v.row ≡ s.world.row) × ((slot : ℕ) → IsInside (s.world.uses slot) → (first : ℕ) → HoldsOne s.world slot first → HoldsOne v slot first)) (sym is) (
+        events_rows to.0.setting.batch_size events s.world w2 users runs,
+        λ slot inside first one. runs_keep_one slot first s.world (came_reached to.0.setting.batch_size s.world came) one events w2 inside users runs,
+      )
 
   leaves_rows : OfNoRow same hash name m known s old new at shown map i u here told leads u to.4.did → LeavesRows
   leaves_rows own = by u to.4.did own

@@ -178,15 +178,15 @@ module _ {K V : Type 0} (setting : Setting) (i slot : ℕ) where
   begins_so : (w begun : World (Node K V)) (request : Request) → HandsOver setting i w request → IsInside (w.uses slot) → Happens deferred_word setting.batch_size (Begin i request) w begun → BeginsSo begun
   begins_so w begun (Retire s b) hands inside h =
       subst BeginsSo (sym h.1.2) (
-      at_cases ReclaimsNone w.row i _ i (λ e. (refl, refl, refl, tt)) (λ ne. absurd (ne refl)),
-      at_cases (KeepsOne (HoldsOne _ slot)) w.row i _ i (λ e. tt) (λ ne. absurd (ne refl)),
-      inside_on w.uses s slot inside
+        at_cases ReclaimsNone w.row i _ i (λ e. (refl, refl, refl, tt)) (λ ne. absurd (ne refl)),
+        at_cases (KeepsOne (HoldsOne _ slot)) w.row i _ i (λ e. tt) (λ ne. absurd (ne refl)),
+        inside_on w.uses s slot inside,
       )
   begins_so w begun (Defer' s b t) hands inside h =
       subst BeginsSo (sym h.1.7) (
-      at_cases ReclaimsNone w.row i _ i (λ e. tt) (λ ne. absurd (ne refl)),
-      at_cases (KeepsOne (HoldsOne _ slot)) w.row i _ i (λ e. tt) (λ ne. absurd (ne refl)),
-      inside_on w.uses s slot inside
+        at_cases ReclaimsNone w.row i _ i (λ e. tt) (λ ne. absurd (ne refl)),
+        at_cases (KeepsOne (HoldsOne _ slot)) w.row i _ i (λ e. tt) (λ ne. absurd (ne refl)),
+        inside_on w.uses s slot inside,
       )
   begins_so w begun (Register' enters) hands inside h = absurd hands
   begins_so w begun (Enter' s) hands inside h = absurd hands
