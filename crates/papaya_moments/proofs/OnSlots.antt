@@ -67,13 +67,13 @@ stood_same (Some before) o2 (blocks, sights, here, part) st is =
 
 -- a pair that is in a map then was where it is
 module _ (place : ℕ → Place) where
-  put_out : (k : ℕ) (p : Place) → ((map : ℕ) → p ≡ InMap map → ⊥) → (n map : ℕ) → put k p place n ≡ InMap map → place n ≡ InMap map
+  pub put_out : (k : ℕ) (p : Place) → ((map : ℕ) → p ≡ InMap map → ⊥) → (n map : ℕ) → put k p place n ≡ InMap map → place n ≡ InMap map
   put_out k p none n map at_map = elim (cases_eq n k) as (λ _. place n ≡ InMap map) [
     | inl e ↦ absurd (none map (sym (put_here k p place n e) ∙ at_map))
     | inr ne ↦ sym (put_elsewhere k p place n ne) ∙ at_map
   ]
 
-  all_out : (p : Place) (numbers : List ℕ) → ((map : ℕ) → p ≡ InMap map → ⊥) → (n map : ℕ) → all_at p numbers place n ≡ InMap map → place n ≡ InMap map
+  pub all_out : (p : Place) (numbers : List ℕ) → ((map : ℕ) → p ≡ InMap map → ⊥) → (n map : ℕ) → all_at p numbers place n ≡ InMap map → place n ≡ InMap map
   all_out p numbers none n map at_map = by (is_among n numbers) at_map
     where
       by : (q : Bool) → (if q then p else place n) ≡ InMap map → place n ≡ InMap map
@@ -90,7 +90,7 @@ module _ {K V : Type 0} (m v : Moment K V) where
     pub place : (n map : ℕ) → v.place n ≡ InMap map → m.place n ≡ InMap map
 
 module _ {K V : Type 0} (m : Moment K V) where
-  alone : IsAlone m m
+  pub alone : IsAlone m m
   alone = record { stored = refl; born = refl; calls = refl; maps = refl; place = λ n map e. e }
 
   taken_alone : (r : Role) → IsAlone m (with_effects None None (taken_by Row r) m)
@@ -121,15 +121,15 @@ module _ {K V : Type 0} (m : Moment K V) where
   row_alone known (changed.Took b) is = taken_alone (known.roles b)
   row_alone known (changed.Roomed bucket had) is = roomed_alone (nat_lt bucket known.buckets)
 
-none_some : {T : Type 0} (o : Option T) → IsSome o → o ≡ None → ⊥
+pub none_some : {T : Type 0} (o : Option T) → IsSome o → o ≡ None → ⊥
 none_some {T} o some none = (let it : IsSome {T = T} None = subst (λ (x : Option T). IsSome x) none some in cc it)
 
 -- what is noted of blocks: those of maps were so, and what is there is what it was
 module _ {K V : Type 0} (known : Known) (w2 : World (Node K V)) where
-  abbrev Keeps : Known → Type 0
+  abbrev pub Keeps : Known → Type 0
   Keeps known2 = ((b : ℕ) → IsOfMap (known2.roles b) → known2.roles b ≡ known.roles b) × ((b : ℕ) → IsSome (value_at w2.memory b) → IsOfMap (known.roles b) → known2.roles b ≡ known.roles b)
 
-  same_roles : (known2 : Known) → known2.roles ≡ known.roles → Keeps known2
+  pub same_roles : (known2 : Known) → known2.roles ≡ known.roles → Keeps known2
   same_roles known2 e = (λ b of. ap (λ (f : ℕ → Role). f b) e, λ b some of. ap (λ (f : ℕ → Role). f b) e)
 
   row_keeps : (w : World (Node K V)) (told : Changed) → TellsRow told → LeavesBy w.memory w2.memory told → Keeps (known_after Row told known)
