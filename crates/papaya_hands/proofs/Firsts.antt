@@ -5,7 +5,7 @@ use Rattle.seize_words.specs.declared.at.At.{At}
 use Rattle.seize_words.specs.declared.at.At.TheVariants as name
 use Rattle.seize_words.specs.declared.block.Block.{Block}
 use Rattle.seize_words.specs.Op.{Op, Out, Load, Store, Swap, Add, Or, Exchange, Make, Take, Rewrite, Room, Found, Exchanged, Roomed}
-use Rattle.seize_words.specs.Mem.{Mem, same_at, value_at, entry_in, word_at, block_of, with_word, with_block, Can, Took, Gives, after}
+use Rattle.seize_words.specs.Mem.{Mem, same_at, value_at, entry_in, word_at, block_of, with_word, with_block, Can, Took, after}
 use Rattle.seize_words.specs.Plan.{Plan, Turn, Do, May, Steps, plan_as}
 use Rattle.seize_words.proofs.OneOwner.AfterWrites.{word_at-with_word, word_at-with_value, block_of-with_block}
 use Rattle.seize.specs.declared.states.TheConstants.{FIRST, LAST_SLOT}
@@ -14,8 +14,6 @@ use Rattle.seize.specs.declared.progress.Progress.TheVariants as progress
 use Rattle.seize.specs.declared.rows.defer.Defer.{Defer}
 use Rattle.seize.specs.declared.rows.defer.Deferring.{Deferring}
 use Rattle.seize.specs.declared.rows.defer.Deferring.TheVariants as deferring
-use Rattle.seize.specs.declared.rows.enter.Enter.{Enter}
-use Rattle.seize.specs.declared.rows.enter.Unregister.{Unregister}
 use Rattle.seize.specs.declared.rows.leave.Leave.{Leave}
 use Rattle.seize.specs.declared.rows.leave.Leaving.{Leaving}
 use Rattle.seize.specs.declared.rows.leave.Leaving.TheVariants as leaving

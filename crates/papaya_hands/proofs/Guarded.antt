@@ -9,7 +9,7 @@ use Rattle.seize.specs.Law.{Effect, Entered, Left, Retired, Taken, Deferred, hol
 use Rattle.seize.specs.Sequence.{IsBetween, taken_in}
 use Rattle.seize.specs.World.{World, Event, Begin, Step, Makes, Drops, Links, Parts, Unlinks, Rewrites, Operates, Ends, LeavesOver, Relinks, Clears, Chooses, Happens, Runs, Steps', IsInside, times, Request, Register', Enter', Leave', LeaveOwned, Refresh, Unregister', Retire, Flush, Defer', Begins}
 use Rattle.seize_waiting.specs.Held.{count}
-use Rattle.seize_moves.proofs.State.Ghost.{Debt, Stage, Unused, Open, Closing, Closed, Dead, Life, IsFree, IsOwned, IsLinked, IsUnlinked, IsDeferring, IsDeferred, IsPending, IsIn, IsDoomed, IsLeft, State, is_in, is_given}
+use Rattle.seize_moves.proofs.State.Ghost.{Debt, Stage, Unused, Open, Closing, Closed, Dead, Life, IsIn, IsDoomed, State, is_in, is_given}
 use Rattle.seize_moves.proofs.State.Held.{held_on}
 use Rattle.seize_moves.proofs.State.Moves.{left_over}
 use Rattle.seize_moves.proofs.State.Rule.{Inv, IsGuarded, IsLive, SameUnlessDead}

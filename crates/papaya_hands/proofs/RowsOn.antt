@@ -1,6 +1,6 @@
 -- After a step of a call, and where a call begins or goes on, the row of each call under way reclaims nothing, and keeps a block of its batch.
 use Rattle.std.specs.Prelude.{◌≡◌, ◌≢◌, ℕ, Bool, List, [], Option, Some, None, ◌⊎◌}
-use Rattle.std.proofs.Common.{refl, ap, sym, subst, ◌∙◌, inl, inr}
+use Rattle.std.proofs.Common.{refl, ap, sym, subst, inl, inr}
 use Rattle.std.proofs.lemmas.Bool.{cases_eq}
 use Rattle.seize.specs.World.{World, Row, Event, Runs, IsInside}
 use Rattle.papaya_tables.specs.Nodes.{deferred_word}

@@ -1,5 +1,5 @@
 -- A row within a call reclaims nothing, and goes on so with each step: an open section holds a block of each batch that it closes.
-use Rattle.std.specs.Prelude.{◌≡◌, ◌≢◌, ℕ, ◌+◌, Bool, true, false, cond, ◌∷◌, ◌++◌, length, ◌⊎◌, ◌==◌, if◌then◌else◌}
+use Rattle.std.specs.Prelude.{◌≡◌, ℕ, ◌+◌, Bool, true, cond, ◌∷◌, ◌++◌, length, ◌⊎◌, ◌==◌, if◌then◌else◌}
 use Rattle.std.proofs.Common.{refl, ap, sym, subst, ◌∙◌, arith, inl, inr}
 use Rattle.std.proofs.lemmas.Bool.{eq-eqb}
 use Rattle.seize_words.specs.declared.at.At.TheVariants.{Entry}

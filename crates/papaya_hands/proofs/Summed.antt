@@ -14,9 +14,9 @@ use Rattle.seize.specs.Law.{holds, is_open}
 use Rattle.seize.specs.Settle as plans
 use Rattle.seize.specs.World.{World}
 use Rattle.seize_waiting.specs.Held.{count}
-use Rattle.seize_moves.proofs.State.Ghost.{Debt, Unscanned, Marked, Skipped, Owing, Loose, Counted, Head, Never, Stage, Unused, Open, Closing, Closed, Dead, Life, IsIn, State, is_active, is_marked, owes, counts, was_put, total}
+use Rattle.seize_moves.proofs.State.Ghost.{Debt, Unscanned, Marked, Skipped, Owing, Loose, Counted, Head, Never, Stage, Closing, Life, IsIn, State, is_active, is_marked, owes, counts, was_put, total}
 use Rattle.seize_moves.proofs.State.Logs.{held_open}
-use Rattle.seize_moves.proofs.State.Rule.{Inv, IsLive, Waits, IsGuarded, SeenIs, AtStage}
+use Rattle.seize_moves.proofs.State.Rule.{IsLive, Waits, IsGuarded, SeenIs, AtStage}
 use Rattle.seize_moves.proofs.State.Sums.{put_parts, put_le, total_le}
 use Rattle.seize_rule.proofs.Points.Known.{Sums, bare}
 use Rattle.seize_rule.proofs.Points.Retire.{of_link}
@@ -27,9 +27,9 @@ use Rattle.seize_rule.proofs.Words.View.{view}
 use Rattle.seize_alone.proofs.Histories.Reached.{Reached}
 use Rattle.papaya_tables.specs.Nodes.{deferred_word}
 use Rattle.papaya_tables.specs.declared.node.Node.{Node}
-use Rattle.papaya_hands.specs.Rows.{HoldsOne, SettlesAside, TriesOne}
+use Rattle.papaya_hands.specs.Rows.{HoldsOne, SettlesAside}
 use Rattle.papaya_hands.proofs.Guarded.{block_in_batch, first_of_batch, counted_in, in_counted}
-use Rattle.papaya_hands.proofs.Settling.{IsBare, GoesSo, onward_aside}
+use Rattle.papaya_hands.proofs.Settling.{GoesSo, onward_aside}
 
 -- a batch that has a block has a first one
 some_block : (l : List ℕ) (b : ℕ) → count b l ≡ 1 → (d : ℕ) × (rest : List ℕ) × (l ≡ d ∷ rest)
