@@ -44,7 +44,7 @@ use Rattle.papaya_follows.specs.Calls.{ShowsCalls}
 use Rattle.papaya_follows.specs.Maps.{table_of}
 use Rattle.papaya_follows.specs.Shows.{Shows}
 use Rattle.papaya_follows.specs.Steps.{TakesNone}
-use Rattle.papaya_follows.proofs.Alike.{AllStill}
+use Rattle.papaya_follows.proofs.Alike.{AllStill, AllCalm}
 use Rattle.papaya_follows.proofs.Operations.{StaysThere, LeavesBy, operated, operated_leaves}
 use Rattle.papaya_follows.proofs.Quiet.{same_name}
 use Rattle.papaya_follows.proofs.Told.{roomed_as_many}
@@ -53,7 +53,7 @@ use Rattle.papaya_others.specs.After.{ShowsAfter}
 use Rattle.papaya_others.specs.Endings.{ending_after, TellsNext, EndingsAreShown}
 use Rattle.papaya_others.specs.Gone.{EndsWith}
 use Rattle.papaya_others.proofs.EndWords.{NamesPair, root_leads, root_or_none, root_waits, frees_no_root}
-use Rattle.papaya_others.proofs.Leads.{same_parts, roomed_still, either_still, DoesNothing, word_says, calls_then, quiet, nothing, gone_quiet}
+use Rattle.papaya_others.proofs.Leads.{same_parts, roomed_still, either_still, DoesNothing, word_says, calls_then, quiet, nothing, gone_quiet, either_calm, roomed_calm}
 use Rattle.papaya_others.proofs.Scenes.{pair_gone, table_gone}
 use Rattle.papaya_others.proofs.Stays.{StaysBlock, same_there, same_maps}
 
@@ -94,7 +94,7 @@ module _ {K V S : Type 0} (same : K → K → Bool) (hash : K → ℕ) (name : �
   abbrev its : Acting
   its = acts.Ending map
 
-  left : LeavesBy w.memory w2.memory told
+  pub left : LeavesBy w.memory w2.memory told
   left =
       let it = has_ending same hash old s at i (f, here) in
       let is = taken_ending same hash old s at i f here it.0 it.1 it.2 in
@@ -175,6 +175,19 @@ module _ {K V S : Type 0} (same : K → K → Bool) (hash : K → ℕ) (name : �
       by (role.Table t len) has = absurd (let there = has.1 in let is = pair.2 in cc (there, is))
       by (role.Counter of) has = tt
 
+  not_made : (b : ℕ) (value : Node K V) → value_at w.memory b ≡ None → value_at w2.memory b ≡ Some value → ⊥
+  not_made b value none some = by (times b (taken_of did.deed)) refl
+    where
+      by : (n : ℕ) → times b (taken_of did.deed) ≡ n → ⊥
+      by zero e = (let kept = did.spares.values b e in cc (kept, none, some))
+      by (suc n) e = (let gone = did.spares.gone b (omega (arith, e)) in cc (gone, some))
+
+  table_words : (b field before after : ℕ) → word_at w.memory (Word b field) ≡ Some before → word_at w2.memory (Word b field) ≡ Some after → ((x : ℕ) → value_at w2.memory x ≡ value_at w.memory x)
+      → (t : Table) (len : ℕ) → known.roles b ≡ role.Table t len → names_same before after ≡ true
+  table_words b field before after was now values t len e =
+      let has : HasRole w m.stored b (role.Table t len) = subst (λ (r : Role). HasRole w m.stored b r) e (shown.blocks.roles b) in
+      word_stays b field before after _ (values b ∙ has.1) was now
+
   module _ (comes : EndingComesTo same hash s new i f end w2 did.deed said) where
     root_quiet : (r before after : ℕ) → told ≡ changed.Wrote (Root r) before after → word_at w.memory (Root r) ≡ Some before → word_at w2.memory (Root r) ≡ Some after
         → DoesNothing known (written_by its known (Root r) before after) (written_on its (Root r) before after known)
@@ -200,6 +213,22 @@ module _ {K V S : Type 0} (same : K → K → Bool) (hash : K → ℕ) (name : �
             (λ over. subst (λ (p : Ending). EndingFacts f.setting f.chart f.blocks facts.lists false i f.hash w f.machine facts.past f.back p) over facts.facts.point) in
             cc (led, leads, before_is, after_is)
             )
+
+    -- it takes a block away, or does nothing to pairs and tables, by which as much is known of blocks
+    pub says_or_takes : (x : Changed) → told ≡ x → LeavesBy w.memory w2.memory x
+        → (AllCalm (effects_of its known x) × ((known_after its x known).roles ≡ known.roles)) ⊎ ((b : ℕ) × (x ≡ changed.Took b))
+    says_or_takes changed.Nothing is l = inl (tt, refl)
+    says_or_takes (changed.Wrote (Root r) before after) is l = let does = root_quiet r before after is l.0 l.1 in inl (does.0, ap (λ (k : Known). k.roles) does.1)
+    says_or_takes (changed.Wrote (Used r) before after) is l = inl (tt, refl)
+    says_or_takes (changed.Wrote (Slot t field) before after) is l = inl (tt, refl)
+    says_or_takes (changed.Wrote (Entry b field) before after) is l = inl (either_calm (names_same before after), refl)
+    says_or_takes (changed.Wrote (Word b field) before after) is l =
+        let does = word_says its known field (block_in after) (known.roles b) (names_same before after) (named known before) (named known after) (table_words b field before after l.0 l.1 l.2) in
+        inl (does.0, ap (λ (k : Known). k.roles) does.1)
+    says_or_takes (changed.Made kind b) is l = absurd (not_made b l.1 l.0 l.3)
+    says_or_takes (changed.Unmade kind) is l = inl ((refl, tt), refl)
+    says_or_takes (changed.Took b) is l = inr (b, refl)
+    says_or_takes (changed.Roomed bucket had) is l = inl (roomed_calm (nat_lt bucket known.buckets), (roomed_as_many its known bucket had).0)
 
     -- the scene after it
     module _ (rest : Scene K V) (calls : ShowsCalls same name m rest.calls) (stand : (n : ℕ) (st : Standing K) → s.maps n ≡ Some st → IsMapIn same st.hash st.setting w2 st.chart st.blocks) where
@@ -244,19 +273,6 @@ module _ {K V S : Type 0} (same : K → K → Bool) (hash : K → ℕ) (name : �
         taken (role.Table t len) e may =
             table_gone same name m known s shown w2 s.maps (λ n. same_maps (s.maps n)) stood stand b gone others free refl refl rest (with_effects None (Some map) (Taken t ∷ []) m) refl
             (calls_on (Taken t ∷ [])) IsTaken t Left (apart t may.0.0) may.0.1 (λ n. refl) refl refl refl refl
-
-      not_made : (b : ℕ) (value : Node K V) → value_at w.memory b ≡ None → value_at w2.memory b ≡ Some value → ⊥
-      not_made b value none some = by (times b (taken_of did.deed)) refl
-        where
-          by : (n : ℕ) → times b (taken_of did.deed) ≡ n → ⊥
-          by zero e = (let kept = did.spares.values b e in cc (kept, none, some))
-          by (suc n) e = (let gone = did.spares.gone b (omega (arith, e)) in cc (gone, some))
-
-      table_words : (b field before after : ℕ) → word_at w.memory (Word b field) ≡ Some before → word_at w2.memory (Word b field) ≡ Some after → ((x : ℕ) → value_at w2.memory x ≡ value_at w.memory x)
-          → (t : Table) (len : ℕ) → known.roles b ≡ role.Table t len → names_same before after ≡ true
-      table_words b field before after was now values t len e =
-          let has : HasRole w m.stored b (role.Table t len) = subst (λ (r : Role). HasRole w m.stored b r) e (shown.blocks.roles b) in
-          word_stays b field before after _ (values b ∙ has.1) was now
 
       leads : (x : Changed) → told ≡ x → LeavesBy w.memory w2.memory x → AtEachEffect (λ v effect. EndsWith v map effect) None (Some map) (effects_of its known x) m → Goal (effects_of its known x) (known_after its x known)
       leads changed.Nothing is l may = still [] known tt refl refl l

@@ -22,7 +22,7 @@ use Rattle.papaya_executor.specs.IsAt.{Scene}
 use Rattle.papaya_follows.specs.Blocks.{HasRole}
 use Rattle.papaya_follows.specs.Calls.{ShowsCalls}
 use Rattle.papaya_follows.specs.Shows.{Shows}
-use Rattle.papaya_follows.proofs.Alike.{AllStill, alike_same}
+use Rattle.papaya_follows.proofs.Alike.{AllStill, AllCalm, calm_still, alike_same}
 use Rattle.papaya_follows.proofs.Onward.{IsLasting}
 use Rattle.papaya_others.specs.After.{ShowsAfter}
 use Rattle.papaya_others.proofs.Quiet.{calls_none, stored_none, all_quiet, calls_shown}
@@ -34,18 +34,26 @@ pub same_parts : (t u : Table) → same_table t u ≡ true → (t.map ≡ u.map)
 same_parts t u e = (grind (arith, e), grind (arith, e))
 
 -- a bucket may have been asked for
+pub roomed_calm : (q : Bool) → AllCalm (if q then [] else Asked ABucket ∷ [])
+roomed_calm true = tt
+roomed_calm false = (refl, tt)
+
 pub roomed_still : (q : Bool) → AllStill (if q then [] else Asked ABucket ∷ [])
 roomed_still true = tt
 roomed_still false = (refl, tt)
 
 -- what does nothing either way
+pub either_calm : (q : Bool) → AllCalm (if q then [] else [])
+either_calm true = tt
+either_calm false = tt
+
 pub either_still : (q : Bool) → AllStill (if q then [] else [])
 either_still true = tt
 either_still false = tt
 
--- what does nothing, by which as much is known
+-- what does nothing, and copies nothing, by which as much is known
 abbrev pub DoesNothing : Known → List Effect → Known → Type 0
-DoesNothing known effects after = AllStill effects × (after ≡ known)
+DoesNothing known effects after = AllCalm effects × (after ≡ known)
 
 -- a word of a block says nothing, if it is none of a table, or goes on naming what it named
 pub word_says : (its : Acting) (known : Known) (field b : ℕ) (r : Role) (q : Bool) (was is : Role) → ((t : Table) (len : ℕ) → r ≡ role.Table t len → q ≡ true)
@@ -73,7 +81,7 @@ module _ {K V : Type 0} (same : K → K → Bool) (name : ℕ → List ℕ) (m :
       all_stay same name m known s shown w2 maps2 maps_same (with_effects None of effects m) after (all_quiet of effects m still) roles as_many stays rest (calls_then effects)
 
   pub nothing : (effects : List Effect) (after : Known) → DoesNothing known effects after → ((b : ℕ) → StaysBlock s.world w2 b) → LedTo effects after
-  nothing effects after does stays = quiet effects after does.0 (ap (λ (k : Known). k.roles) does.1) (ap (λ (k : Known). k.stored) does.1) stays
+  nothing effects after does stays = quiet effects after (calm_still effects does.0) (ap (λ (k : Known). k.roles) does.1) (ap (λ (k : Known). k.stored) does.1) stays
 
   -- one was made, where none was
   pub made : (effects : List Effect) → AllStill effects → (x : ℕ) (r : Role) → (IsLasting (known.roles x) → ⊥) → HasRole w2 m.stored x r → ((n : ℕ) → r ≡ role.Pair n → ⊥)

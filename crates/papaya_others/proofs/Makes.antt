@@ -99,7 +99,7 @@ module _ {K V : Type 0} (w : World (Node K V)) (stored : List (K × V)) where
   made_has its b node.Shards is = is
 
   -- what was linked, or is a counter, is there
-  lasting_there : (b : ℕ) (r : Role) → HasRole w stored b r → IsLasting r → value_at w.memory b ≡ None → ⊥
+  pub lasting_there : (b : ℕ) (r : Role) → HasRole w stored b r → IsLasting r → value_at w.memory b ≡ None → ⊥
   lasting_there b role.Free has last none = last
   lasting_there b (role.OwnPair caller) has last none = last
   lasting_there b (role.OwnTable turn shape) has last none = last

@@ -32,7 +32,7 @@ use Rattle.papaya_executor.specs.declared.executor.Executor.{Executor}
 use Rattle.papaya_executor.proofs.Makings.{may_make}
 use Rattle.papaya_follows.specs.Blocks.{HasRole}
 use Rattle.papaya_follows.specs.Shows.{Shows}
-use Rattle.papaya_follows.proofs.Alike.{AllStill, AreSame, put_here}
+use Rattle.papaya_follows.proofs.Alike.{AllStill, AreSame, calm_still, put_here}
 use Rattle.papaya_follows.proofs.Operations.{LeavesBy, Operated, operated}
 use Rattle.papaya_follows.proofs.Steps.{one_of}
 use Rattle.papaya_others.specs.Counters.{NotesCounters, MakingsNoteCounters}
@@ -89,6 +89,7 @@ module _ {K V S : Type 0} (same : K → K → Bool) (hash : K → ℕ) (name : �
     goes_still (changed.Wrote (Slot t field) before after) is so l = absurd so
     goes_still (changed.Wrote (Entry x field) before after) is so l = absurd so
     goes_still (changed.Wrote (Word x field) before after) is so l =
+        calm_still (effects_of its known (changed.Wrote (Word x field) before after))
         (word_says its known field (block_in after) (known.roles x) (names_same before after) (named known before) (named known after)
         (no_table_word same hash name m known s old new at shown i b here end said steps did None x (names_same before after) so)).0
     goes_still (changed.Made k x) is so l = still_made its k

@@ -30,7 +30,7 @@ module _ {X : Type 0} (p : X → Bool) where
   any_first x xs e = ap (λ q. q || list_any p xs) e
 
   -- what passes one test, and so another one, is among those that pass that
-  any_kept : (q : X → Bool) → ((x : X) → p x ≡ true → q x ≡ true) → (xs : List X) → list_any p xs ≡ true → list_any p (filter q xs) ≡ true
+  pub any_kept : (q : X → Bool) → ((x : X) → p x ≡ true → q x ≡ true) → (xs : List X) → list_any p xs ≡ true → list_any p (filter q xs) ≡ true
   any_kept q passes [] e = absurd (cc e)
   any_kept q passes (x ∷ xs) e = by (q x) refl (one_of_two (p x) (list_any p xs) e) (λ rest. any_kept q passes xs rest)
     where

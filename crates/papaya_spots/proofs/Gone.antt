@@ -5,7 +5,7 @@ use Rattle.std.proofs.Common.{refl, ap, sym, subst, ◌∙◌}
 use Rattle.papaya_schedules.specs.declared.effect.Table.{Table}
 use Rattle.papaya_schedules.specs.Effects.{all_at, at_stage}
 use Rattle.papaya_schedules.specs.Lists.{is_among, put}
-use Rattle.papaya_schedules.specs.Moment.{Place, Handed, GivenBack, IsReclaimed, TableThere, Moment}
+use Rattle.papaya_schedules.specs.Moment.{Place, GivenBack, Stage, TableThere, Moment}
 use Rattle.papaya_schedules.specs.Things.{same_table}
 use Rattle.papaya_schedules.specs.Views.{is_there, is_stage, behind}
 use Rattle.papaya_effects.specs.Known.{Known, with_role}
@@ -57,27 +57,27 @@ module _ {K V : Type 0} (m v : Moment K V) (known : Known) (b : ℕ) (h : ShowsU
       same_tables : (t : Table) → is_stage is_there t v ≡ is_stage is_there t m
       same_tables t = ap (list_any (λ u. same_table u.table t && is_there u.stage)) tables
 
--- none of the tables that are reclaimed is there
-none_there : (t : Table) (xs : List TableThere) → list_any (Now t t) (map (at_stage t IsReclaimed) xs) ≡ false
-none_there t [] = refl
-none_there t (x ∷ xs) = ap (λ (q : Bool). q || list_any (Now t t) (map (at_stage t IsReclaimed) xs)) (by (same_table x.table t) refl) ∙ none_there t xs
+-- none of the tables that are reclaimed, or have ended, is there
+none_there : (to : Stage) → is_there to ≡ false → (t : Table) (xs : List TableThere) → list_any (Now t t) (map (at_stage t to) xs) ≡ false
+none_there to gone t [] = refl
+none_there to gone t (x ∷ xs) = ap (λ (q : Bool). q || list_any (Now t t) (map (at_stage t to) xs)) (by (same_table x.table t) refl) ∙ none_there to gone t xs
   where
-    by : (q : Bool) → same_table x.table t ≡ q → Now t t (if q then record x { stage = IsReclaimed } else x) ≡ false
-    by true e = ap (λ (z : Bool). z && false) e
+    by : (q : Bool) → same_table x.table t ≡ q → Now t t (if q then record x { stage = to } else x) ≡ false
+    by true e = ap (λ (z : Bool). z && is_there to) e ∙ gone
     by false e = ap (λ (z : Bool). z && is_there x.stage) e
 
 module _ {K V : Type 0} (m v : Moment K V) (known : Known) (b len : ℕ) (t : Table) (its : known.roles b ≡ role.Table t len) (h : ShowsUnreclaimed m known)
-    (place : v.place ≡ all_at Handed (behind t m.deferred) m.place) (tables : v.tables ≡ map (at_stage t IsReclaimed) m.tables)
+    (p : Place) (kept : is_unreclaimed p ≡ true) (to : Stage) (gone : is_there to ≡ false) (place : v.place ≡ all_at p (behind t m.deferred) m.place) (tables : v.tables ≡ map (at_stage t to) m.tables)
     (waits : (n : ℕ) → is_among n (behind t m.deferred) ≡ true → is_unreclaimed (m.place n) ≡ true) where
   same_place : (n : ℕ) → is_unreclaimed (v.place n) ≡ is_unreclaimed (m.place n)
   same_place n = ap (λ (f : ℕ → Place). is_unreclaimed (f n)) place ∙ by (is_among n (behind t m.deferred)) refl
     where
-      by : (q : Bool) → is_among n (behind t m.deferred) ≡ q → is_unreclaimed (all_at Handed (behind t m.deferred) m.place n) ≡ is_unreclaimed (m.place n)
-      by true e = ap (λ (q : Bool). is_unreclaimed (if q then Handed else m.place n)) e ∙ sym (waits n e)
-      by false e = ap (λ (q : Bool). is_unreclaimed (if q then Handed else m.place n)) e
+      by : (q : Bool) → is_among n (behind t m.deferred) ≡ q → is_unreclaimed (all_at p (behind t m.deferred) m.place n) ≡ is_unreclaimed (m.place n)
+      by true e = ap (λ (q : Bool). is_unreclaimed (if q then p else m.place n)) e ∙ kept ∙ sym (waits n e)
+      by false e = ap (λ (q : Bool). is_unreclaimed (if q then p else m.place n)) e
 
   other_tables : (u : Table) → (t ≡ u → ⊥) → is_stage is_there u v ≡ is_stage is_there u m
-  other_tables u ne = ap (list_any (Now t u)) tables ∙ staged_other t IsReclaimed u m.tables ne
+  other_tables u ne = ap (list_any (Now t u)) tables ∙ staged_other t to u m.tables ne
 
   -- that of a table
   pub table_gone : ShowsUnreclaimed v (with_role b role.Free known)
@@ -93,4 +93,4 @@ module _ {K V : Type 0} (m v : Moment K V) (known : Known) (b len : ℕ) (t : Ta
   }
     where
       apart : (u : Table) → is_stage is_there u v ≡ true → t ≡ u → ⊥
-      apart u e z = (let gone : is_stage is_there u v ≡ false = ap (list_any (Now t u)) tables ∙ ap (λ (x : Table). list_any (Now t x) (map (at_stage t IsReclaimed) m.tables)) (sym z) ∙ none_there t m.tables in cc (e, gone))
+      apart u e z = (let none : is_stage is_there u v ≡ false = ap (list_any (Now t u)) tables ∙ ap (λ (x : Table). list_any (Now t x) (map (at_stage t to) m.tables)) (sym z) ∙ none_there to gone t m.tables in cc (e, none))

@@ -7,7 +7,7 @@ use Rattle.papaya_schedules.specs.declared.effect.Effect.{Effect}
 use Rattle.papaya_schedules.specs.declared.effect.Effect.TheVariants.{Asked}
 use Rattle.papaya_schedules.specs.declared.effect.Growth.TheVariants.{ABucket}
 use Rattle.papaya_schedules.specs.Effects.{with_effect, with_effects, AtEachEffect}
-use Rattle.papaya_schedules.specs.Moment.{Place, Moment}
+use Rattle.papaya_schedules.specs.Moment.{Place, Handed, IsReclaimed, Moment}
 use Rattle.papaya_schedules.specs.Things.{same_table}
 use Rattle.papaya_schedules.specs.Views.{is_there}
 use Rattle.papaya_teller.specs.declared.changed.Changed.{Changed}
@@ -102,7 +102,7 @@ module _ (K V S : Type 0) (same : K → K → Bool) (hash : K → ℕ) where
     taken_done b (role.OwnTable turn shape) e may =
         other_gone m (with_effects None None (taken_by Row (role.OwnTable turn shape)) m) known b h (λ of. subst IsOfMap e of) (record { place = λ k. refl; tables = λ t. refl })
     taken_done b (role.Pair k) e may = pair_gone m (with_effects None None (taken_by Row (role.Pair k)) m) known b h k e (λ d is. shown.blocks.once d b k is e) refl refl
-    taken_done b (role.Table t len) e may = table_gone m (with_effects None None (taken_by Row (role.Table t len)) m) known b len t e h refl refl may.0
+    taken_done b (role.Table t len) e may = table_gone m (with_effects None None (taken_by Row (role.Table t len)) m) known b len t e h Handed refl IsReclaimed refl refl refl may.0
     taken_done b (role.Counter of) e may = other_gone m m known b h (λ its. subst IsOfMap e its) (record { place = λ k. refl; tables = λ t. refl })
 
     done : (told : Changed) → TellsRow told → After told

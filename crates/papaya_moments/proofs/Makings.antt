@@ -1,0 +1,176 @@
+-- A step of the making of a map leaves the same blocks unreclaimed as are pairs and tables of maps.
+use Rattle.std.specs.Prelude.{◌≡◌, ◌≢◌, ℕ, ◌==◌, Bool, true, false, ◌&&◌, List, [], ◌∷◌, Option, Some, None, if◌then◌else◌}
+use Rattle.std.specs.List.{list_any}
+use Rattle.std.proofs.Common.{refl, ap, sym, subst, ◌∙◌}
+use Rattle.std.proofs.lemmas.Bool.{eq-eqb}
+use Rattle.seize_words.specs.Mem.{value_at, word_at}
+use Rattle.seize_words.specs.Word.{block_in}
+use Rattle.seize_words.specs.declared.at.At.TheVariants.{Root, Used, Slot, Entry, Word}
+use Rattle.seize.specs.World.{World}
+use Rattle.seize.specs.declared.progress.Progress.{Progress}
+use Rattle.papaya_tables.specs.declared.node.Node.{Node}
+use Rattle.papaya_tables.specs.declared.setting.Setting.{Setting}
+use Rattle.papaya_resize.specs.declared.new_map.NewMap.{NewMap}
+use Rattle.papaya_schedules.specs.declared.effect.Effect.{Effect}
+use Rattle.papaya_schedules.specs.declared.effect.Effect.TheVariants.{Asked, Linked}
+use Rattle.papaya_schedules.specs.declared.effect.Growth.TheVariants.{ABlock}
+use Rattle.papaya_schedules.specs.declared.effect.Table.{Table}
+use Rattle.papaya_schedules.specs.Effects.{with_effects}
+use Rattle.papaya_schedules.specs.Moment.{Place, TableThere, Moment}
+use Rattle.papaya_schedules.specs.Things.{same_table}
+use Rattle.papaya_schedules.specs.Views.{is_there}
+use Rattle.papaya_teller.specs.declared.changed.Changed.{Changed}
+use Rattle.papaya_teller.specs.declared.changed.Changed.TheVariants as changed
+use Rattle.papaya_teller.specs.declared.changed.Kind.{Kind}
+use Rattle.papaya_teller.specs.declared.changed.Kind.TheVariants as kind
+use Rattle.papaya_finishes.specs.Endings.{MakingStepsAmong}
+use Rattle.papaya_finishes.specs.Makings.{Beginning}
+use Rattle.papaya_effects.specs.Effects.{made_role, made_by, taken_by, led_to, linked_on, named, names_same, effects_of, known_after}
+use Rattle.papaya_effects.specs.Known.{Known, with_role}
+use Rattle.papaya_effects.specs.declared.acting.Acting.{Acting}
+use Rattle.papaya_effects.specs.declared.acting.Acting.TheVariants.{Making}
+use Rattle.papaya_effects.specs.declared.role.Role.{Role}
+use Rattle.papaya_effects.specs.declared.role.Role.TheVariants as role
+use Rattle.papaya_executor.specs.IsAt.{Scene, IsAt, slot_of}
+use Rattle.papaya_executor.specs.Making.{MakingStepsFrom}
+use Rattle.papaya_executor.specs.declared.executor.Executor.{Executor}
+use Rattle.papaya_follows.specs.Blocks.{HasRole}
+use Rattle.papaya_follows.specs.Shows.{Shows}
+use Rattle.papaya_follows.proofs.Alike.{AllStill, calm_still, put_elsewhere}
+use Rattle.papaya_follows.proofs.Onward.{IsLasting, IsOfMap}
+use Rattle.papaya_follows.proofs.Operations.{LeavesBy}
+use Rattle.papaya_follows.proofs.Writes.{nothing_free}
+use Rattle.papaya_others.specs.Makings.{IsNew}
+use Rattle.papaya_others.proofs.Leads.{word_says}
+use Rattle.papaya_others.proofs.MakingPlans.{TellsMaking}
+use Rattle.papaya_others.proofs.Makes.{still_made, lasting_there, linked_stays, no_table_word, tells, left}
+use Rattle.papaya_others.proofs.Quiet.{all_quiet}
+use Rattle.papaya_others.proofs.Retired.{any_kept}
+use Rattle.papaya_spots.specs.Unreclaimed.{is_unreclaimed, ShowsUnreclaimed}
+use Rattle.papaya_spots.proofs.Calm.{put_back}
+use Rattle.papaya_spots.proofs.Gone.{other_gone}
+use Rattle.papaya_spots.proofs.Unreclaimed.{AsUnreclaimed, unreclaimed_same, linked_unreclaimed, and_both, table_is}
+use Rattle.papaya_moments.specs.Makings.{MakingsKeepBlocks}
+
+module _ {K V : Type 0} (map : ℕ) (of : Option ℕ) (m : Moment K V) (known : Known) (blocks : ShowsUnreclaimed m known) where
+  abbrev its : Acting
+  its = Making map
+
+  -- effects that move nothing
+  as_still : (effects : List Effect) → AllStill effects → AsUnreclaimed m (with_effects None of effects m)
+  as_still effects still =
+      let a = all_quiet of effects m still in
+      record { place = λ k. ap (λ (g : ℕ → Place). is_unreclaimed (g k)) a.place; tables = λ t. ap (list_any (λ u. same_table u.table t && is_there u.stage)) a.tables }
+
+  still_blocks : (effects : List Effect) → AllStill effects → (known2 : Known) → known2.roles ≡ known.roles → ShowsUnreclaimed (with_effects None of effects m) known2
+  still_blocks effects still known2 roles =
+      unreclaimed_same m (with_effects None of effects m) known known2 (as_still effects still) (λ b is. ap (λ (g : ℕ → Role). g b) roles) (λ b is. ap (λ (g : ℕ → Role). g b) roles) blocks
+
+  none_of_map : (k : Kind) → IsOfMap (made_role its k) → ⊥
+  none_of_map kind.Pair is = is
+  none_of_map (kind.Table len limit turn) is = is
+  none_of_map kind.Shards is = is
+
+  -- a block was made, where none was
+  made_blocks : (k : Kind) (x : ℕ) → (IsLasting (known.roles x) → ⊥) → ShowsUnreclaimed (with_effects None of (Asked ABlock ∷ made_by its k) m) (with_role x (made_role its k) known)
+  made_blocks k x none =
+      unreclaimed_same m (with_effects None of (Asked ABlock ∷ made_by its k) m) known (with_role x (made_role its k) known) (as_still (Asked ABlock ∷ made_by its k) (still_made its k))
+      (λ b is. put_elsewhere x (made_role its k) known.roles b (λ e. none (lasting_of (known.roles x) (subst (λ (y : ℕ). IsOfMap (known.roles y)) e is))))
+      (λ b is. put_back known.roles x (made_role its k) (none_of_map k) b is) blocks
+    where
+      lasting_of : (r : Role) → IsOfMap r → IsLasting r
+      lasting_of role.Free is = is
+      lasting_of (role.OwnPair j) is = is
+      lasting_of (role.OwnTable turn shape) is = is
+      lasting_of (role.Pair n) is = is
+      lasting_of (role.Table t len) is = is
+      lasting_of (role.Counter n) is = absurd is
+
+  -- one that was none of a map was taken away
+  taken_blocks : (x : ℕ) (r : Role) → known.roles x ≡ r → (IsOfMap r → ⊥) → ShowsUnreclaimed (with_effects None of (taken_by its r) m) (with_role x role.Free known)
+  taken_blocks x role.Free e none = other_gone m m known x blocks (λ is. none (subst IsOfMap e is)) (record { place = λ k. refl; tables = λ t. refl })
+  taken_blocks x (role.OwnPair j) e none = other_gone m (with_effects None of (taken_by its (role.OwnPair j)) m) known x blocks (λ is. none (subst IsOfMap e is)) (record { place = λ k. refl; tables = λ t. refl })
+  taken_blocks x (role.OwnTable turn shape) e none =
+      other_gone m (with_effects None of (taken_by its (role.OwnTable turn shape)) m) known x blocks (λ is. none (subst IsOfMap e is)) (record { place = λ k. refl; tables = λ t. refl })
+  taken_blocks x (role.Pair k) e none = absurd (none tt)
+  taken_blocks x (role.Table t len) e none = absurd (none tt)
+  taken_blocks x (role.Counter n) e none = other_gone m m known x blocks (λ is. none (subst IsOfMap e is)) (record { place = λ k. refl; tables = λ t. refl })
+
+  module _ (setting : Setting) (new : IsNew map setting m) where
+    -- no block is a table of the new map
+    no_table : (x len : ℕ) (t : Table) → t.map ≡ map → known.roles x ≡ role.Table t len → ⊥
+    no_table x len t e is =
+        let any = any_kept (λ u. same_table u.table t && is_there u.stage) (λ u. u.table.map == map)
+        (λ u a. ap (λ (y : ℕ). y == map) (ap (λ (y : Table). y.map) (table_is u.table t (and_both (same_table u.table t) (is_there u.stage) a).0) ∙ e) ∙ eq-eqb map map refl)
+        m.tables (blocks.tables x len t is) in
+        let none = ap (list_any (λ u. same_table u.table t && is_there u.stage)) new.no_tables in
+        absurd (cc (sym any ∙ none))
+
+    -- a root that led nowhere leads to a table
+    led_blocks : (q : Bool) (b : ℕ) (is : Role) → known.roles b ≡ is
+        → ShowsUnreclaimed (with_effects None of (if q then [] else led_to its role.Free is) m) (if q then known else linked_on its b is known)
+    led_blocks true b is e = blocks
+    led_blocks false b role.Free e = blocks
+    led_blocks false b (role.OwnPair i) e = blocks
+    led_blocks false b (role.OwnTable turn shape) e =
+        linked_unreclaimed m (with_effects None of (Linked (record { map = map; turn = turn }) shape ∷ []) m) known b shape.len (record { map = map; turn = turn }) shape
+        (λ last. subst IsLasting e last) (λ x n is. no_table x n (record { map = map; turn = turn }) refl is) refl refl blocks
+    led_blocks false b (role.Pair n) e = blocks
+    led_blocks false b (role.Table t len) e = blocks
+    led_blocks false b (role.Counter n) e = blocks
+
+module _ {K V S : Type 0} (same : K → K → Bool) (hash : K → ℕ) (name : ℕ → List ℕ) (m : Moment K V) (known : Known) (s : Scene K V) (old new : Executor K V S) (at : IsAt same hash old s)
+    (shown : Shows same name m known s) (blocks : ShowsUnreclaimed m known) (i : ℕ) (b : Beginning K) (here : s.makers i ≡ Some b) (end : NewMap) (said : Progress Setting)
+    (steps : MakingStepsFrom b.machine old new end said)
+    (did : MakingStepsAmong V same same old.batch_size old.roots slot_of s.world s.maps s.calls s.makers s.enders i b new.memory.memory (end, said)) (of : Option ℕ)
+    (setting : Setting) (is_new : IsNew b.map setting m) where
+  abbrev w : World (Node K V)
+  w = s.world
+
+  abbrev w2 : World (Node K V)
+  w2 = did.step.w2
+
+  -- a block of a map is there still
+  not_of_map : (x : ℕ) → value_at w2.memory x ≡ None → (r : Role) → known.roles x ≡ r → IsOfMap r → ⊥
+  not_of_map x gone (role.Pair k) e is =
+      let it = subst (HasRole w m.stored x) e (shown.blocks.roles x) in
+      let there = it.3 in let kept = (linked_stays same hash name m known s old new at shown i b here end said steps did of x _ it.3 it.4).0 in cc (there, kept, gone)
+  not_of_map x gone (role.Table t len) e is =
+      let it = subst (HasRole w m.stored x) e (shown.blocks.roles x) in
+      let there = it.1 in let kept = (linked_stays same hash name m known s old new at shown i b here end said steps did of x _ it.1 it.2).0 in cc (there, kept, gone)
+  not_of_map x gone _ e is = is
+
+  abbrev After : Changed → Type 0
+  After x = ShowsUnreclaimed (with_effects None of (effects_of (Making b.map) known x) m) (known_after (Making b.map) x known)
+
+  keeps : (x : Changed) → TellsMaking w i b.machine.setting.root x → LeavesBy w.memory w2.memory x → After x
+  keeps changed.Nothing so l = blocks
+  keeps (changed.Wrote (Root r) before after) so l =
+      subst (λ (y : Role). ShowsUnreclaimed (with_effects None of (if names_same before after then [] else led_to (Making b.map) y (named known after)) m)
+      (if names_same before after then known else linked_on (Making b.map) (block_in after) (named known after) known)) (sym was_free)
+      (led_blocks b.map of m known blocks setting is_new (names_same before after) (block_in after) (named known after) refl)
+    where
+      nothing_before : before ≡ 0
+      nothing_before = let there : word_at w.memory (Root r) ≡ Some 0 = ap (λ (y : ℕ). word_at w.memory (Root y)) so.0 ∙ so.1 in let words = l.0 in cc (there, words)
+
+      was_free : named known before ≡ role.Free
+      was_free = ap (λ (y : ℕ). known.roles (block_in y)) nothing_before ∙ nothing_free w m.stored known shown.blocks.roles
+  keeps (changed.Wrote (Used r) before after) so l = blocks
+  keeps (changed.Wrote (Slot t field) before after) so l = absurd so
+  keeps (changed.Wrote (Entry x field) before after) so l = absurd so
+  keeps (changed.Wrote (Word x field) before after) so l =
+      let does = word_says (Making b.map) known field (block_in after) (known.roles x) (names_same before after) (named known before) (named known after)
+      (no_table_word same hash name m known s old new at shown i b here end said steps did of x (names_same before after) so) in
+      still_blocks b.map of m known blocks _ (calm_still _ does.0) _ (ap (λ (k : Known). k.roles) does.1)
+  keeps (changed.Made k x) so l = made_blocks b.map of m known blocks k x (λ last. lasting_there w m.stored x (known.roles x) (shown.blocks.roles x) last l.0)
+  keeps (changed.Unmade k) so l = still_blocks b.map of m known blocks (Asked ABlock ∷ []) (refl, tt) known refl
+  keeps (changed.Took x) so l = taken_blocks b.map of m known blocks x (known.roles x) refl (not_of_map x l.1 (known.roles x) refl)
+  keeps (changed.Roomed bucket had) so l = absurd so
+
+  pub making_keeps : After new.memory.changed
+  making_keeps = keeps new.memory.changed (tells same hash name m known s old new at shown i b here end said steps did of) (left same hash name m known s old new at shown i b here end said steps did of)
+
+module _ (K V S : Type 0) (same : K → K → Bool) (hash : K → ℕ) where
+  pub makings_keep_blocks : MakingsKeepBlocks K V S same hash
+  makings_keep_blocks name m known s old new at shown blocks i told leads b here of setting is_new =
+      let to = leads b here in making_keeps same hash name m known s old new at shown blocks i b here to.0 told to.1 to.2 of setting is_new

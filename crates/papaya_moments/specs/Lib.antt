@@ -1,0 +1,4 @@
+pub mod Whole
+pub mod OnSlots
+pub mod Endings
+pub mod Makings

@@ -1,0 +1,83 @@
+-- What a moment of a run, with what is noted of the memory, shows of a scene of the executor, in one piece.
+use Rattle.std.specs.Prelude.{◌≡◌, ℕ, Bool, true, List, Option, Some, Ok}
+use Rattle.seize.specs.World.{Rests}
+use Rattle.papaya_tables.specs.declared.node.Node.{Node}
+use Rattle.papaya_runs.specs.Same.{is_same}
+use Rattle.papaya_raw.specs.Machine.{machine_replied}
+use Rattle.papaya_raw.specs.declared.machines.progress.Progress.{Progress}
+use Rattle.papaya_schedules.specs.declared.call.Call.{Call}
+use Rattle.papaya_schedules.specs.declared.call.Reply.{Reply}
+use Rattle.papaya_schedules.specs.declared.outcome.Outcome.{Outcome}
+use Rattle.papaya_schedules.specs.Beginning.{with_call}
+use Rattle.papaya_schedules.specs.Effects.{with_effects}
+use Rattle.papaya_schedules.specs.Entry.{ends_call}
+use Rattle.papaya_schedules.specs.Moment.{Asking, UnderWay as CallThere, Moment, start}
+use Rattle.papaya_schedules.specs.Views.{call_of}
+use Rattle.papaya_callers.specs.Together.{UnderWay}
+use Rattle.papaya_effects.specs.Effects.{effects_of, known_after}
+use Rattle.papaya_effects.specs.Known.{Known, nothing_known}
+use Rattle.papaya_effects.specs.declared.acting.Acting.TheVariants as acts
+use Rattle.papaya_executor.specs.IsAt.{Scene, IsAt, at_first, slot_of}
+use Rattle.papaya_executor.specs.Replying.{scene_with}
+use Rattle.papaya_executor.specs.Stepping.{StepLeads, scene_after}
+use Rattle.papaya_executor.specs.declared.executor.Executor.{Executor}
+use Rattle.papaya_finishes.specs.Machines.{machine_of, ToldOfKind}
+use Rattle.papaya_finishes.specs.Maps.{Standing}
+use Rattle.papaya_follows.specs.Calling.{NoneNamed, told, come_to}
+use Rattle.papaya_follows.specs.Calls.{IsCalled}
+use Rattle.papaya_hands.specs.Asked.{as_told}
+use Rattle.papaya_hands.specs.Calling.{IsBegunFor, AsksJust}
+use Rattle.papaya_hands.specs.Shows.{ShowsAll}
+use Rattle.papaya_others.specs.Counters.{NotesCounters}
+use Rattle.papaya_spots.specs.Deferred.{WaitOutside}
+use Rattle.papaya_spots.specs.Spots.{ShowsPlaces}
+use Rattle.papaya_spots.specs.Unreclaimed.{ShowsUnreclaimed}
+
+-- It shows what the scene has, what calls were told, in whose hands blocks are and what rows do; where pairs lie, which blocks are not reclaimed, that what waits
+-- behind tables is in no map; and the counters of maps that are being made.
+pub record ShowsWhole {K V : Type 0} (same : K → K → Bool) (name : ℕ → List ℕ) (m : Moment K V) (known : Known) (s : Scene K V) : Type 0 where
+  pub all : ShowsAll same name m known s
+  pub places : ShowsPlaces m known s.maps
+  pub blocks : ShowsUnreclaimed m known
+  pub outside : WaitOutside m
+  pub counters : NotesCounters known s
+
+-- The promises: so it is before all events,
+abbrev pub WholeBegins : Type 0 → Type 0 → Type 0
+WholeBegins K V = (same : K → K → Bool) (roots : ℕ) (name : ℕ → List ℕ) → ShowsWhole {K = K} {V = V} same name start nothing_known (at_first roots)
+
+module _ (K V S : Type 0) (same : K → K → Bool) (hash : K → ℕ) where
+  -- after each step of a call,
+  abbrev pub CallsKeepWhole : Type 0
+  CallsKeepWhole =
+      (name : ℕ → List ℕ) (m : Moment K V) (known : Known) (s : Scene K V) (old new : Executor K V S) → IsAt same hash old s → ShowsWhole same name m known s
+      → (map i : ℕ) (u : UnderWay K V K) (here : s.calls map i ≡ Some u) (told : Progress (Node K V)) (leads : StepLeads same hash i told s old new)
+      → (let to = leads map u here in
+      ShowsWhole same name (with_effects (Some (name i)) (Some map) (effects_of (acts.Call i map) known new.memory.changed) m) (known_after (acts.Call i map) new.memory.changed known)
+      (scene_after same hash s old new map i to.0 u to.1 told to.4))
+
+  -- where one that asks takes what it is told,
+  abbrev pub CallsTakeWhole : Type 0
+  CallsTakeWhole =
+      (name : ℕ → List ℕ) (m : Moment K V) (known : Known) (s : Scene K V) (e : Executor K V S) → IsAt same hash e s → ShowsWhole same name m known s
+      → (map i : ℕ) (u : UnderWay K V K) → s.calls map i ≡ Some u → (c : CallThere K V) → call_of (name i) m ≡ Some c → (question : Option ℕ) → c.stands ≡ Asking question
+      → (standing : Standing K) → s.maps map ≡ Some standing → (is_told : Reply V) (next : UnderWay K V K)
+      → machine_of next ≡ (machine_replied (machine_of u) (as_told is_told)).0 → (machine_replied (machine_of u) (as_told is_told)).1 ≡ Ok tt
+      → ToldOfKind V same same e.batch_size e.roots slot_of standing i u (as_told is_told) next
+      → ShowsWhole same name (told (name i) is_told m) known (scene_with map i next s)
+
+module _ (K V : Type 0) (same : K → K → Bool) where
+  -- where one begins by a name that no call under way has, of a caller that has no row under way,
+  abbrev pub CallsBeginWhole : Type 0
+  CallsBeginWhole =
+      (name : ℕ → List ℕ) (m : Moment K V) (known : Known) (s : Scene K V) → ShowsWhole same name m known s
+      → (map i : ℕ) (u : UnderWay K V K) (call : Call K V) (guard : List ℕ) → NoneNamed name (name i) s → IsCalled same u call → IsBegunFor u call → s.world.row i ≡ Rests
+      → ShowsWhole same name (with_call (name i) guard call (Some map) m) known (scene_with map i u s)
+
+  -- and where one comes to an outcome: it asks just that, and where it has ended, no call under way has its name any more.
+  abbrev pub CallsComeToWhole : Type 0
+  CallsComeToWhole =
+      (name : ℕ → List ℕ) (m : Moment K V) (known : Known) (s : Scene K V) → ShowsWhole same name m known s
+      → (own : List ℕ) (outcome : Outcome V) (steps : ℕ) → (ends_call outcome ≡ true → NoneNamed name own s)
+      → ((map i : ℕ) (u : UnderWay K V K) → s.calls map i ≡ Some u → is_same (name i) own ≡ true → AsksJust known u outcome)
+      → ShowsWhole same name (come_to own outcome steps m) known s

@@ -1,0 +1,28 @@
+//! What is promised of a moment of a run that shows the executor: all of it, whoever has a call.
+ghost use Rattle.std.specs.Prelude.{ℕ, Bool};
+ghost use Rattle.papaya_moments.specs.Endings.{EndingsBeginWhole, EndingsKeepWhole};
+ghost use Rattle.papaya_moments.specs.Makings.{MakingsKeepBlocks};
+ghost use Rattle.papaya_moments.specs.OnSlots.{RowsBeginWhole, RowsKeepWhole};
+ghost use Rattle.papaya_moments.specs.Whole.{WholeBegins, CallsKeepWhole, CallsBeginWhole, CallsTakeWhole, CallsComeToWhole};
+
+/// The moment before all events shows an executor that has no map and no call, and so does the moment after each step of a call, whether it is one of a row of the
+/// collector or none, with no condition: its blocks, maps and calls, what these were told, in whose hands blocks are, that rows within calls reclaim nothing, where
+/// pairs lie, which blocks are not reclaimed, that what waits behind tables is in no map, and the counters of maps that are being made. And the moment shows that
+/// where a call begins, takes a reply, and comes to an outcome; where a row begins on a slot, and after each step of it;
+/// and where the end of a map begins, and after each step of it.
+pub fn moments_show_all<K, V, S>()
+    ensures begins { WholeBegins K V }
+    ensures calls { (same : K → K → Bool) (hash : K → ℕ) → CallsKeepWhole K V S same hash }
+    ensures begun { (same : K → K → Bool) → CallsBeginWhole K V same }
+    ensures told { (same : K → K → Bool) (hash : K → ℕ) → CallsTakeWhole K V S same hash }
+    ensures come_to { (same : K → K → Bool) → CallsComeToWhole K V same }
+    ensures rows_begin { (same : K → K → Bool) (hash : K → ℕ) → RowsBeginWhole K V S same hash }
+    ensures rows { (same : K → K → Bool) (hash : K → ℕ) → RowsKeepWhole K V S same hash }
+    ensures endings_begin { (same : K → K → Bool) (hash : K → ℕ) → EndingsBeginWhole K V S same hash }
+    ensures endings { (same : K → K → Bool) (hash : K → ℕ) → EndingsKeepWhole K V S same hash }
+{}
+
+/// While a map is being made, and is there as a new one, the blocks of pairs and tables of maps are those that no moment calls reclaimed.
+pub fn makings_keep_blocks<K, V, S>()
+    ensures makings { (same : K → K → Bool) (hash : K → ℕ) → MakingsKeepBlocks K V S same hash }
+{}
