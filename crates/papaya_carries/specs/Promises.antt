@@ -1,0 +1,59 @@
+-- What is promised of the blocks behind which something may be put: each kind of step leaves them somebody's, so that at rest they are linked tables.
+use Rattle.std.specs.Prelude.{◌≡◌, ℕ, Bool, true, Option, Some, None}
+use Rattle.seize_words.specs.Mem.{Mem, Took, value_at}
+use Rattle.seize_words.specs.Plan.{Steps}
+use Rattle.seize.specs.World.{World, Making, Request, Begin, Step, Happens, with_at}
+use Rattle.papaya_tables.specs.Chunks.{is_incremental}
+use Rattle.papaya_tables.specs.Nodes.{deferred_word}
+use Rattle.papaya_tables.specs.declared.node.Node.{Node}
+use Rattle.papaya_raw.specs.Call.{call_plan}
+use Rattle.papaya_raw.specs.declared.machines.answer.Called.{Called}
+use Rattle.papaya_raw.specs.declared.machines.call.KeyCall.{KeyCall}
+use Rattle.papaya_rule.specs.Chart.{Chart}
+use Rattle.papaya_rule.specs.InWorld.{IsOut, IsKnownBlock}
+use Rattle.papaya_rule.specs.Words.{Blocks}
+use Rattle.papaya_points.specs.Told.{IsRowOfCall}
+use Rattle.papaya_callers.specs.Together.{UnderWay, OnKey, CallOnKey, IsOfSlots, next_of, change_told}
+use Rattle.papaya_finishes.specs.Endings.{Finishing, EndingsTogether, StepsAmong, RowStepsAmong}
+use Rattle.papaya_finishes.specs.Makings.{Beginning}
+use Rattle.papaya_finishes.specs.Maps.{Standing, IsSameMap, with_call}
+use Rattle.papaya_reclaims.specs.Deferred.{OnlyTheyCarry}
+use Rattle.papaya_carries.specs.Theirs.{AllAreTheirs}
+
+-- What this caller has made, and is out after a step of it, is a table or a pair of the map then.
+abbrev pub LinksKnown : {K V : Type 0} → ℕ → World (Node K V) → World (Node K V) → Chart K → Blocks → Type 0
+LinksKnown i w w2 c2 blocks2 = (b : ℕ) → w.hand b ≡ Making i → IsOut (w2.hand b) → IsKnownBlock c2 blocks2 b
+
+module _ {K Q : Type 0} (V : Type 0) (same : K → K → Bool) (asks : Q → K → Bool) (batch_size roots : ℕ) (slot : ℕ → ℕ)
+    (w : World (Node K V)) (maps : ℕ → Option (Standing K)) (calls : ℕ → ℕ → Option (UnderWay K V Q)) (makers : ℕ → Option (Beginning K)) (enders : ℕ → Option (Finishing K V)) where
+  -- Where nobody has a call, and no map ends, users have no other such block than the linked tables of maps that stand.
+  abbrev pub OnlyTablesCarry : Type 0
+  OnlyTablesCarry = ((m j : ℕ) → calls m j ≡ None) → ((j : ℕ) → enders j ≡ None) → AllAreTheirs w maps calls enders → OnlyTheyCarry w maps
+
+  -- a row between calls begins, or goes on
+  abbrev pub GuardsKeepTheirs : Type 0
+  GuardsKeepTheirs =
+      EndingsTogether V same asks batch_size roots slot w maps calls makers enders → AllAreTheirs w maps calls enders
+      → (i : ℕ) → ((m : ℕ) → calls m i ≡ None) → (w2 : World (Node K V)) (maps2 : ℕ → Option (Standing K)) → ((m : ℕ) → IsSameMap (maps m) (maps2 m))
+      → ((request : Request) → IsOfSlots request → Happens deferred_word batch_size (Begin i request) w w2 → AllAreTheirs w2 maps2 calls enders)
+      × (Happens deferred_word batch_size (Step i) w w2 → AllAreTheirs w2 maps2 calls enders)
+
+  -- A call on one key takes a step that is none of a row, on a map in incremental mode, and what it links is its map's.
+  abbrev pub CallsKeepTheirs : Type 0
+  CallsKeepTheirs =
+      EndingsTogether V same asks batch_size roots slot w maps calls makers enders → AllAreTheirs w maps calls enders
+      → (m : ℕ) (s : Standing K) → maps m ≡ Some s → is_incremental s.setting.mode ≡ true → (i : ℕ) (u : CallOnKey K V Q) → calls m i ≡ Some (OnKey u) → (IsRowOfCall u.call.stands → ⊥)
+      → (m2 : Mem (Node K V)) (p2 : KeyCall K V Q) (progress : Called (Node K V)) → Steps Took value_at w.memory (call_plan asks same s.hash u.call) m2 (p2, progress)
+      → (st : StepsAmong V same asks batch_size roots slot w maps calls makers enders m s i u m2 p2 progress)
+      → LinksKnown i w st.step.went.w2 st.step.went.c2 st.step.went.blocks2
+      → AllAreTheirs st.step.went.w2 (with_at maps m (Some (record s { chart = st.step.went.c2; blocks = st.step.blocks2; sights = st.step.sights2 })))
+      (with_call calls m i (next_of (record { keys = u.keys; pair = u.pair; began = u.began; change = change_told V same s.hash asks s.setting slot st.step.went.told; call = p2 }) progress)) enders
+
+  -- A row within a call on one key begins, or goes on.
+  abbrev pub RowsKeepTheirs : Type 0
+  RowsKeepTheirs =
+      EndingsTogether V same asks batch_size roots slot w maps calls makers enders → AllAreTheirs w maps calls enders
+      → (m : ℕ) (s : Standing K) → maps m ≡ Some s → (i : ℕ) (u : CallOnKey K V Q) → calls m i ≡ Some (OnKey u) → IsRowOfCall u.call.stands
+      → (m2 : Mem (Node K V)) (p2 : KeyCall K V Q) (progress : Called (Node K V)) → Steps Took value_at w.memory (call_plan asks same s.hash u.call) m2 (p2, progress)
+      → (st : RowStepsAmong V same asks batch_size roots slot w maps calls makers enders m s i u m2 p2 progress)
+      → AllAreTheirs st.step.w2 st.together.0 (with_call calls m i (next_of (record { keys = u.keys; pair = u.pair; began = u.began; change = u.change; call = p2 }) progress)) enders
