@@ -30,6 +30,7 @@ use Rattle.papaya_reclaims.specs.Deferred.{IsLinkedTable}
 use Rattle.papaya_carries.specs.Promises.{LinksKnown}
 use Rattle.papaya_carries.specs.Theirs.{IsDue, CanCarry, IsOwed, IsEnding, IsTheirs, AllAreTheirs}
 use Rattle.papaya_carries.proofs.Hands.{step_origin}
+use Rattle.papaya_carries.proofs.Owed.{one_some, IsDueThen, owed_then, owed_with}
 
 users_of : (h : Hand) → IsStillHad h → IsOfUsers h
 users_of NoBlock is = absurd is
@@ -49,9 +50,6 @@ out_of (Cutting i) is = tt
 out_of Handed is = absurd is
 out_of (LeftTo i) is = absurd is
 
-one_of : {X : Type 0} (o : Option X) (a b : X) → o ≡ Some a → o ≡ Some b → a ≡ b
-one_of o a b e f = cc (e, f)
-
 module _ {K Q : Type 0} (V : Type 0) (same : K → K → Bool) (asks : Q → K → Bool) (size : ℕ) (slot : ℕ → ℕ)
     (w : World (Node K V)) (maps : ℕ → Option (Standing K)) (calls : ℕ → ℕ → Option (UnderWay K V Q)) (enders : ℕ → Option (Finishing K V)) (all : MapsTogether V same asks size slot w maps calls)
     (m : ℕ) (s : Standing K) (here : maps m ≡ Some s) (i : ℕ) (u : UnderWay K V Q) (has : calls m i ≡ Some u)
@@ -69,11 +67,14 @@ module _ {K Q : Type 0} (V : Type 0) (same : K → K → Bool) (asks : Q → K �
   calls2 = with_call calls m i next
 
   -- the call goes on, and is to hand the block over
-  abbrev pub IsDueThen : ℕ → Type 0
-  IsDueThen b = (u2 : UnderWay K V Q) × (next ≡ Some u2) × IsDue u2 b
+  abbrev Due : ℕ → Type 0
+  Due b = IsDueThen w went.w2 maps maps2 calls enders enders m i next b
 
   together : Together V same s.hash asks s.setting slot w s.chart s.blocks s.sights (calls m)
   together = all.each m s here
+
+  pub rows_are : (j : ℕ) → went.w2.row j ≡ w.row j
+  rows_are j = ap (λ (f : ℕ → Row). f j) (events_rows s.setting.batch_size went.events w went.w2 went.users went.runs)
 
   module _ (b : ℕ) where
     -- another map stands as it stood
@@ -83,30 +84,12 @@ module _ {K Q : Type 0} (V : Type 0) (same : K → K → Bool) (asks : Q → K �
     its_now : maps2 m ≡ Some its
     its_now = at_same maps m (Some its) m refl
 
-    rows_are : (j : ℕ) → went.w2.row j ≡ w.row j
-    rows_are j = ap (λ (f : ℕ → Row). f j) (events_rows s.setting.batch_size went.events w went.w2 went.users went.runs)
-
-    -- whoever was to hand it over is to
-    owed_on : (IsDue u b → IsDueThen b) → IsOwed w maps calls enders b → IsOwed went.w2 maps2 calls2 enders b
-    owed_on keeps (n, j, v, under, rests, due) = by (cases_eq n m) (cases_eq j i)
-      where
-        still_under : calls2 n j ≡ calls n j → IsOwed went.w2 maps2 calls2 enders b
-        still_under e = (n, j, v, e ∙ under, rows_are j ∙ rests, due)
-
-        by : (n ≡ m) ⊎ (n ≢ m) → (j ≡ i) ⊎ (j ≢ i) → IsOwed went.w2 maps2 calls2 enders b
-        by (inr ne) e = still_under (ap (λ (f : ℕ → Option (UnderWay K V Q)). f j) (at_other calls m (with_at (calls m) i next) n ne))
-        by (inl same_map) (inr ne) =
-            still_under (ap (λ (f : ℕ → Option (UnderWay K V Q)). f j) (at_same calls m (with_at (calls m) i next) n same_map) ∙ at_other (calls m) i next j ne ∙ ap (λ (k : ℕ). calls k j) (sym same_map))
-        by (inl same_map) (inl same_caller) =
-            let is : v ≡ u = one_of (calls n j) v u under (ap (λ (k : ℕ). calls k j) same_map ∙ ap (calls m) same_caller ∙ has) in
-            let k = keeps (subst (λ (x : UnderWay K V Q). IsDue x b) is due) in
-            (m, i, k.0, ap (λ (f : ℕ → Option (UnderWay K V Q)). f i) (at_same calls m (with_at (calls m) i next) m refl) ∙ at_same (calls m) i next i refl ∙ k.1,
-            rows_are i ∙ subst (λ (x : ℕ). w.row x ≡ Rests) same_caller rests, k.2)
-
     -- whose it was, it is
-    theirs_on : ((t : ℕ) → s.chart.first ≤ t → t < went.c2.first → b ≡ s.blocks.table t → (w.row i ≡ Rests) × IsDueThen b) → (IsDue u b → IsDueThen b)
+    theirs_on : ((t : ℕ) → s.chart.first ≤ t → t < went.c2.first → b ≡ s.blocks.table t → Due b) → (IsDue u b → w.row i ≡ Rests → Due b)
         → IsTheirs w maps calls enders b → IsTheirs went.w2 maps2 calls2 enders b
-    theirs_on passes keeps (inr (inl owed)) = inr (inl (owed_on keeps owed))
+    theirs_on passes keeps (inr (inl owed)) =
+        inr (inl (owed_with w went.w2 maps maps2 calls enders enders m i next b (λ n j v under ne rests. rows_are j ∙ rests)
+        (λ v under due rests. keeps (subst (λ (x : UnderWay K V Q). IsDue x b) (one_some (calls m i) v u under has) due) rests) owed))
     theirs_on passes keeps (inr (inr ending)) = inr (inr ending)
     theirs_on passes keeps (inl (n, r, is, t, from, made, at)) = by (cases_eq n m)
       where
@@ -116,13 +99,13 @@ module _ {K Q : Type 0} (V : Type 0) (same : K → K → Bool) (asks : Q → K �
         in_it : r ≡ s → (t < went.c2.first) ⊎ (went.c2.first ≤ t) → IsTheirs went.w2 maps2 calls2 enders b
         in_it e (inl left) =
             let k = passes t (subst (λ (x : Standing K). x.chart.first ≤ t) e from) left (subst (λ (x : Standing K). b ≡ x.blocks.table t) e at) in
-            inr (inl (m, i, k.1.0, ap (λ (f : ℕ → Option (UnderWay K V Q)). f i) (at_same calls m (with_at (calls m) i next) m refl) ∙ at_same (calls m) i next i refl ∙ k.1.1, rows_are i ∙ k.0, k.1.2))
+            inr (inl (owed_then w went.w2 maps maps2 calls enders enders m i next b k))
         in_it e (inr linked) =
             let was : t < s.chart.past = subst (λ (x : Standing K). t < x.chart.past) e made in
             inl (m, its, its_now, t, linked, omega (arith, was, past), subst (λ (x : Standing K). b ≡ x.blocks.table t) e at ∙ sym (grown.tables t was).0)
 
         by : (n ≡ m) ⊎ (n ≢ m) → IsTheirs went.w2 maps2 calls2 enders b
-        by (inl e) = in_it (one_of (maps n) r s is (ap maps e ∙ here)) (cases_lt t went.c2.first)
+        by (inl e) = in_it (one_some (maps n) r s is (ap maps e ∙ here)) (cases_lt t went.c2.first)
         by (inr ne) = inl (n, r, other n ne ∙ is, t, from, made, at)
 
     -- what users have then, and may have something put behind it, they had so, or it is a table that the step has linked
@@ -151,7 +134,7 @@ module _ {K Q : Type 0} (V : Type 0) (same : K → K → Bool) (asks : Q → K �
               (m, its, its_now, t, linked new (first_moves same s.hash (in_slot s.setting (slot i)) s.chart went.c2 went.moved), made, at ∙ sym (grown.new_tables t new).0)
 
       no_pair : (o : Option (Node K V)) → value_at went.w2.memory b ≡ o → (key : K) (value : V) → o ≡ Some (node.Pair key value) → CanCarry went.w2 maps2 calls2 enders b → ⊥
-      no_pair o e key value is (still, field, x, there, has_list) = none x (one_of (value_at went.w2.memory b) x (node.Pair key value) there (e ∙ is)) has_list
+      no_pair o e key value is (still, field, x, there, has_list) = none x (one_some (value_at went.w2.memory b) x (node.Pair key value) there (e ∙ is)) has_list
         where
           none : (y : Node K V) → y ≡ node.Pair key value → deferred_word y ≡ Some field → ⊥
           none y same_value h = let k : deferred_word y ≡ None = ap deferred_word same_value in cc (k, h)
@@ -175,7 +158,7 @@ module _ {K Q : Type 0} (V : Type 0) (same : K → K → Bool) (asks : Q → K �
           by : (o : Option (Node K V)) → value_at w.memory b ≡ o → IsSome o → value_at w.memory b ≡ Some x
           by (Some y) is some =
               let kept = ap (λ (n : Mem (Node K V)). value_at n b) went.memory ∙ went.frame.values b y is not_own in
-              is ∙ ap Some (one_of (value_at went.w2.memory b) y x kept there)
+              is ∙ ap Some (one_some (value_at went.w2.memory b) y x kept there)
 
       carried : CanCarry went.w2 maps2 calls2 enders b → CanCarry w maps calls enders b ⊎ IsLinkedTable went.w2 maps2 b
       carried can =
@@ -188,7 +171,7 @@ module _ {K Q : Type 0} (V : Type 0) (same : K → K → Bool) (asks : Q → K �
 
   -- so each is somebody's
   pub went_theirs : LinksKnown i w went.w2 went.c2 went.blocks2 → AllAreTheirs w maps calls enders
-      → ((b t : ℕ) → s.chart.first ≤ t → t < went.c2.first → b ≡ s.blocks.table t → (w.row i ≡ Rests) × IsDueThen b) → ((b : ℕ) → IsDue u b → IsDueThen b)
+      → ((b t : ℕ) → s.chart.first ≤ t → t < went.c2.first → b ≡ s.blocks.table t → Due b) → ((b : ℕ) → IsDue u b → w.row i ≡ Rests → Due b)
       → AllAreTheirs went.w2 maps2 calls2 enders
   went_theirs links theirs passes keeps b can = by (carried b links can)
     where

@@ -16,11 +16,12 @@ use Rattle.papaya_callers.proofs.Rows.Beside.{users_value}
 use Rattle.papaya_callers.proofs.Together.Came.{came_reached}
 use Rattle.papaya_finishes.specs.Endings.{Finishing}
 use Rattle.papaya_finishes.specs.Makings.{Beginning}
-use Rattle.papaya_finishes.specs.Maps.{Standing, IsSameMap}
+use Rattle.papaya_finishes.specs.Maps.{Standing, IsSameMap, with_call}
 use Rattle.papaya_reclaims.specs.Deferred.{IsLinkedTable}
-use Rattle.papaya_carries.specs.Promises.{GuardsKeepTheirs, OnlyTablesCarry}
+use Rattle.papaya_carries.specs.Promises.{ChangesKeepTheirs, GuardsKeepTheirs, OnlyTablesCarry}
 use Rattle.papaya_carries.specs.Theirs.{CanCarry, IsOwed, IsTheirs, AllAreTheirs}
 use Rattle.papaya_carries.proofs.Hands.{begun_same, still_row}
+use Rattle.papaya_carries.proofs.Owed.{owed_with}
 
 pub users_own : (h : Hand) → IsStillHad h → IsUsersOwn h
 users_own NoBlock is = absurd is
@@ -91,3 +92,12 @@ module _ {K Q : Type 0} (V : Type 0) (same : K → K → Bool) (asks : Q → K �
       by (inl linked) = linked
       by (inr (inl (m, i, u, under, rests, due))) = absurd (let none = no_calls m i in cc (none, under))
       by (inr (inr (i, f, ends, rest))) = absurd (let none = no_enders i in cc (none, ends))
+
+  pub changes_keep_theirs : ChangesKeepTheirs V same asks batch_size roots slot w maps calls makers enders
+  changes_keep_theirs m i next still theirs b can = by (theirs b can)
+    where
+      by : IsTheirs w maps calls enders b → IsTheirs w maps (with_call calls m i next) enders b
+      by (inl linked) = inl linked
+      by (inr (inl owed)) =
+          inr (inl (owed_with w w maps maps calls enders enders m i next b (λ n j u under ne rests. rests) (λ u under due rests. (rests, still u b under due)) owed))
+      by (inr (inr ending)) = inr (inr ending)

@@ -1,4 +1,5 @@
 pub mod Hands
+pub mod Owed
 pub mod Calls
 pub mod Keys
 pub mod Guards
@@ -6,3 +7,5 @@ pub mod Promised
 pub mod FirstSteps
 pub mod Rows
 pub mod Within
+pub mod Endings
+pub mod Reclaiming

@@ -20,7 +20,7 @@ use Rattle.papaya_finishes.specs.Maps.{Standing}
 use Rattle.papaya_finishes.proofs.Beside.Maps.Steps.{its_inside}
 use Rattle.papaya_carries.specs.Promises.{CallsKeepTheirs}
 use Rattle.papaya_carries.specs.Theirs.{IsDue, IsDueOfCall}
-use Rattle.papaya_carries.proofs.Calls.{went_theirs}
+use Rattle.papaya_carries.proofs.Calls.{rows_are, went_theirs}
 use Rattle.papaya_carries.proofs.Keys.{CallGoesOwing, call_due_stays, call_left}
 
 module _ {K Q : Type 0} (V : Type 0) (same : K → K → Bool) (asks : Q → K → Bool) (batch_size roots : ℕ) (slot : ℕ → ℕ)
@@ -28,8 +28,8 @@ module _ {K Q : Type 0} (V : Type 0) (same : K → K → Bool) (asks : Q → K �
   pub calls_keep_theirs : CallsKeepTheirs V same asks batch_size roots slot w maps calls makers enders
   calls_keep_theirs all theirs m s here bits i u has row m2 p2 progress steps st links =
       went_theirs V same asks batch_size slot w maps calls enders all.makings.standing m s here i (OnKey u) has m2 _ st.step.went st.step.blocks2 st.step.grown st.step.sights2 next links theirs
-      (λ b t from left at. (knows.0, owing b (subst (λ (x : ℕ). CallGoesOwing same s.hash asks u.call w.memory m2 (p2, progress) x) (sym at) (goes t from left))))
-      (λ b due. owing b (call_due_stays same s.hash asks u.call w.memory m2 (p2, progress) b u.call.stands row steps due))
+      (λ b t from left at. (row_then, owing b (subst (λ (x : ℕ). CallGoesOwing same s.hash asks u.call w.memory m2 (p2, progress) x) (sym at) (goes t from left))))
+      (λ b due rests. (row_then, owing b (call_due_stays same s.hash asks u.call w.memory m2 (p2, progress) b u.call.stands row steps due)))
     where
       then : CallOnKey K V Q
       then = record { keys = u.keys; pair = u.pair; began = u.began; change = change_told V same s.hash asks s.setting slot st.step.went.told; call = p2 }
@@ -47,6 +47,9 @@ module _ {K Q : Type 0} (V : Type 0) (same : K → K → Bool) (asks : Q → K �
 
       knows : (w.row i ≡ Rests) × Knows V same s.hash asks s.setting slot w s.chart (seen_by s.blocks (s.sights (slot i))) i u u.call
       knows = at_none ((all.makings.standing.each m s here).stand i (OnKey u) has)
+
+      row_then : st.step.went.w2.row i ≡ Rests
+      row_then = rows_are V same asks batch_size slot w maps calls enders all.makings.standing m s here i (OnKey u) has m2 _ st.step.went st.step.blocks2 st.step.grown st.step.sights2 next i ∙ knows.0
 
       facts_of : Knows V same s.hash asks s.setting slot w s.chart (seen_by s.blocks (s.sights (slot i))) i u u.call
           → CallFacts same s.hash asks w i (in_slot s.setting (slot i)) s.chart (seen_by s.blocks (s.sights (slot i))) u.keys u.change u.call

@@ -24,7 +24,7 @@ use Rattle.papaya_callers.specs.Rows.{row_of}
 use Rattle.papaya_callers.specs.Sights.{seen_by}
 use Rattle.papaya_callers.specs.Together.{UnderWay, OnKey, CallOnKey, HandsOver, IsOneStep, Stands, next_of}
 use Rattle.papaya_callers.proofs.Rows.Beside.{users_value}
-use Rattle.papaya_callers.proofs.Together.At.{at_other, at_same}
+use Rattle.papaya_callers.proofs.Together.At.{at_same}
 use Rattle.papaya_callers.proofs.Together.Came.{came_reached}
 use Rattle.papaya_finishes.specs.Endings.{Finishing}
 use Rattle.papaya_finishes.specs.Makings.{Beginning}
@@ -35,10 +35,8 @@ use Rattle.papaya_carries.specs.Theirs.{IsDue, IsDueOfCall, IsOwed}
 use Rattle.papaya_carries.proofs.FirstSteps.{row_retires, row_defers}
 use Rattle.papaya_carries.proofs.Guards.{users_own, theirs_by, can_back}
 use Rattle.papaya_carries.proofs.Hands.{still_row}
+use Rattle.papaya_carries.proofs.Owed.{one_some, owed_with}
 use Rattle.papaya_carries.proofs.Rows.{IsOn, IsWithinIt, within_it}
-
-one_some : {X : Type 0} (o : Option X) (a b : X) → o ≡ Some a → o ≡ Some b → a ≡ b
-one_some o a b e f = cc (e, f)
 
 module _ {K V : Type 0} (setting : Setting) (i : ℕ) (w w2 : World (Node K V)) (r : Reached deferred_word setting.batch_size w) where
   -- a block changes no hand but to the collector, and keeps its value
@@ -171,19 +169,16 @@ module _ {K Q : Type 0} (V : Type 0) (same : K → K → Bool) (asks : Q → K �
           begun_gone s.setting i w w2 reached st.step.happened rests b k.0 k.2
           (row_then k.0 k.1 (st.step.together.stand i (OnKey then) (at_same (calls m) i next i refl ∙ goes_on progress k.3))) can.0
 
-      owed_on : IsOwed w maps calls enders b → IsOwed w2 maps calls2 enders b
-      owed_on (n, j, v, under, rests, due) = by (cases_eq n m) (cases_eq j i)
+      others : (n j : ℕ) (v : UnderWay K V Q) → calls n j ≡ Some v → (n ≡ m → j ≡ i → ⊥) → w.row j ≡ Rests → w2.row j ≡ Rests
+      others n j v under ne rests = one_others s.setting i w w2 reached st.step.happened j (λ e. by (cases_eq n m) e) ∙ rests
         where
-          at_call : (j ≡ i → ⊥) → calls2 n j ≡ calls n j → IsOwed w2 maps calls2 enders b
-          at_call ne e = (n, j, v, e ∙ under, one_others s.setting i w w2 reached st.step.happened j ne ∙ rests, due)
+          by : (n ≡ m) ⊎ (n ≢ m) → j ≡ i → ⊥
+          by (inl same_map) e = ne same_map e
+          by (inr other) e =
+              let none = no_other V same asks batch_size slot w maps calls all.makings.standing m s here i (OnKey u) has n other in
+              let it : calls n i ≡ Some v = ap (calls n) (sym e) ∙ under in cc (none, it)
 
-          by : (n ≡ m) ⊎ (n ≢ m) → (j ≡ i) ⊎ (j ≢ i) → IsOwed w2 maps calls2 enders b
-          by (inr ne) (inl same_caller) =
-              absurd (let none = no_other V same asks batch_size slot w maps calls all.makings.standing m s here i (OnKey u) has n ne in
-              let it : calls n i ≡ Some v = ap (calls n) (sym same_caller) ∙ under in cc (none, it))
-          by (inr ne) (inr other) = at_call other (ap (λ (f : ℕ → Option (UnderWay K V Q)). f j) (at_other calls m (with_at (calls m) i next) n ne))
-          by (inl same_map) (inr other) =
-              at_call other (ap (λ (f : ℕ → Option (UnderWay K V Q)). f j) (at_same calls m (with_at (calls m) i next) n same_map) ∙ at_other (calls m) i next j other ∙ ap (λ (k : ℕ). calls k j) (sym same_map))
-          by (inl same_map) (inl same_caller) =
-              let is : v ≡ OnKey u = one_some (calls n j) v (OnKey u) under (ap (λ (k : ℕ). calls k j) same_map ∙ ap (calls m) same_caller ∙ has) in
-              absurd (its_own (subst (λ (x : UnderWay K V Q). IsDue x b) is due) (subst (λ (x : ℕ). w.row x ≡ Rests) same_caller rests))
+      owed_on : IsOwed w maps calls enders b → IsOwed w2 st.together.0 calls2 enders b
+      owed_on owed =
+          owed_with w w2 maps st.together.0 calls enders enders m i next b others
+          (λ v under due rests. absurd (its_own (subst (λ (x : UnderWay K V Q). IsDue x b) (one_some (calls m i) v (OnKey u) under has) due) rests)) owed

@@ -1,24 +1,29 @@
 -- What is promised of the blocks behind which something may be put: each kind of step leaves them somebody's, so that at rest they are linked tables.
-use Rattle.std.specs.Prelude.{◌≡◌, ℕ, Bool, true, Option, Some, None}
+use Rattle.std.specs.Prelude.{◌≡◌, ℕ, Bool, true, List, Option, Some, None}
 use Rattle.seize_words.specs.Mem.{Mem, Took, value_at}
 use Rattle.seize_words.specs.Plan.{Steps}
-use Rattle.seize.specs.World.{World, Making, Request, Begin, Step, Happens, with_at}
+use Rattle.seize.specs.World.{World, Making, Request, Begin, Step, Ends, Happens, with_at}
+use Rattle.seize.specs.declared.rows.reclaim_all.ReclaimAll.{ReclaimAll}
+use Rattle.seize.specs.declared.rows.settle.Settled.{Settled}
 use Rattle.papaya_tables.specs.Chunks.{is_incremental}
 use Rattle.papaya_tables.specs.Nodes.{deferred_word}
 use Rattle.papaya_tables.specs.declared.node.Node.{Node}
 use Rattle.papaya_raw.specs.Call.{call_plan}
 use Rattle.papaya_raw.specs.declared.machines.answer.Called.{Called}
 use Rattle.papaya_raw.specs.declared.machines.call.KeyCall.{KeyCall}
+use Rattle.papaya_raw.specs.declared.machines.end_map.EndMap.{EndMap}
 use Rattle.papaya_rule.specs.Chart.{Chart}
 use Rattle.papaya_rule.specs.InWorld.{IsOut, IsKnownBlock}
 use Rattle.papaya_rule.specs.Words.{Blocks}
 use Rattle.papaya_points.specs.Told.{IsRowOfCall}
 use Rattle.papaya_callers.specs.Together.{UnderWay, OnKey, CallOnKey, IsOfSlots, next_of, change_told}
-use Rattle.papaya_finishes.specs.Endings.{Finishing, EndingsTogether, StepsAmong, RowStepsAmong}
+use Rattle.papaya_finishes.specs.Endings.{Finishing, finishing_of, HasFinished, EndingsTogether, StepsAmong, RowStepsAmong, StepsOfEnding}
 use Rattle.papaya_finishes.specs.Makings.{Beginning}
 use Rattle.papaya_finishes.specs.Maps.{Standing, IsSameMap, with_call}
-use Rattle.papaya_reclaims.specs.Deferred.{OnlyTheyCarry}
-use Rattle.papaya_carries.specs.Theirs.{AllAreTheirs}
+use Rattle.papaya_reclaims.specs.Deferred.{OnlyPairsWait, OnlyTheyCarry}
+use Rattle.papaya_reclaims.specs.Left.{GoesOnBy}
+use Rattle.papaya_reclaims.specs.Reclaims.{AllIsReclaimed, AllStandIdle, StepsOfReclaiming}
+use Rattle.papaya_carries.specs.Theirs.{IsDue, AllAreTheirs}
 
 -- What this caller has made, and is out after a step of it, is a table or a pair of the map then.
 abbrev pub LinksKnown : {K V : Type 0} → ℕ → World (Node K V) → World (Node K V) → Chart K → Blocks → Type 0
@@ -29,6 +34,12 @@ module _ {K Q : Type 0} (V : Type 0) (same : K → K → Bool) (asks : Q → K �
   -- Where nobody has a call, and no map ends, users have no other such block than the linked tables of maps that stand.
   abbrev pub OnlyTablesCarry : Type 0
   OnlyTablesCarry = ((m j : ℕ) → calls m j ≡ None) → ((j : ℕ) → enders j ≡ None) → AllAreTheirs w maps calls enders → OnlyTheyCarry w maps
+
+  -- What a caller has under way begins, ends, or goes on otherwise, and is to hand over no less.
+  abbrev pub ChangesKeepTheirs : Type 0
+  ChangesKeepTheirs =
+      (m i : ℕ) (next : Option (UnderWay K V Q)) → ((u : UnderWay K V Q) (b : ℕ) → calls m i ≡ Some u → IsDue u b → (u2 : UnderWay K V Q) × (next ≡ Some u2) × IsDue u2 b)
+      → AllAreTheirs w maps calls enders → AllAreTheirs w maps (with_call calls m i next) enders
 
   -- a row between calls begins, or goes on
   abbrev pub GuardsKeepTheirs : Type 0
@@ -57,3 +68,29 @@ module _ {K Q : Type 0} (V : Type 0) (same : K → K → Bool) (asks : Q → K �
       → (m2 : Mem (Node K V)) (p2 : KeyCall K V Q) (progress : Called (Node K V)) → Steps Took value_at w.memory (call_plan asks same s.hash u.call) m2 (p2, progress)
       → (st : RowStepsAmong V same asks batch_size roots slot w maps calls makers enders m s i u m2 p2 progress)
       → AllAreTheirs st.step.w2 st.together.0 (with_call calls m i (next_of (record { keys = u.keys; pair = u.pair; began = u.began; change = u.change; call = p2 }) progress)) enders
+
+  -- the end of a map begins
+  abbrev pub EndingsBeginAndKeepTheirs : Type 0
+  EndingsBeginAndKeepTheirs =
+      AllAreTheirs w maps calls enders → (i : ℕ) → enders i ≡ None → (m : ℕ) (s : Standing K) → maps m ≡ Some s
+      → (w2 : World (Node K V)) → Happens deferred_word batch_size (Ends i s.setting.counter) w w2
+      → AllAreTheirs w2 (with_at maps m None) calls (with_at enders i (Some (finishing_of s w)))
+
+  -- It takes a step, by which it goes on, or is over.
+  abbrev pub EndingsKeepTheirs : Type 0
+  EndingsKeepTheirs =
+      AllAreTheirs w maps calls enders → (i : ℕ) (f : Finishing K V) → enders i ≡ Some f → (m2 : Mem (Node K V)) (end : EndMap × Settled (Node K V))
+      → (st : StepsOfEnding V same asks batch_size roots slot w maps calls makers enders i f m2 end)
+      → ((f2 : Finishing K V) → GoesOnBy f st.deed f2 → AllAreTheirs st.w2 maps calls (with_at enders i (Some f2)))
+      × (HasFinished st.w2.memory f → AllAreTheirs st.w2 maps calls (with_at enders i None))
+
+  -- A caller that reclaims all takes a step.
+  abbrev pub ReclaimingKeepsTheirs : Type 0
+  ReclaimingKeepsTheirs =
+      AllStandIdle V same asks batch_size roots slot maps calls makers enders w → (i : ℕ) (lists : ℕ → List ℕ) (m2 : Mem (Node K V)) (c2 : ReclaimAll) (progress : Settled (Node K V))
+      → (st : StepsOfReclaiming V same asks batch_size roots slot maps calls makers enders w i lists m2 c2 progress)
+      → AllAreTheirs w maps calls enders → AllAreTheirs st.w2 st.maps2 calls enders
+
+  -- Once all is reclaimed, nothing waits but what is deferred on linked tables of maps that stand.
+  abbrev pub NothingElseWaits : Type 0
+  NothingElseWaits = AllStandIdle V same asks batch_size roots slot maps calls makers enders w → AllIsReclaimed roots w maps → AllAreTheirs w maps calls enders → OnlyPairsWait w maps

@@ -3,7 +3,7 @@
 use Rattle.std.specs.Prelude.{◌≡◌, ◌⊎◌, ℕ, ◌*◌, ◌<◌, ◌≤◌, Option, Some}
 use Rattle.seize_words.specs.Mem.{value_at}
 use Rattle.seize.specs.Settle.{retiring}
-use Rattle.seize.specs.World.{World, Rests}
+use Rattle.seize.specs.World.{World, Rests, times}
 use Rattle.seize_acts.specs.Reclaimed.{IsStillHad}
 use Rattle.papaya_tables.specs.Nodes.{deferred_word}
 use Rattle.papaya_tables.specs.declared.node.Node.{Node}
@@ -53,9 +53,10 @@ module _ {K V Q : Type 0} (w : World (Node K V)) (maps : ℕ → Option (Standin
   abbrev pub IsOwed : ℕ → Type 0
   IsOwed b = (m : ℕ) × (i : ℕ) × (u : UnderWay K V Q) × (calls m i ≡ Some u) × (w.row i ≡ Rests) × IsDue u b
 
-  -- it is a table of a map that ends
+  -- it is a table of a map that ends, and was not reclaimed so far
   abbrev pub IsEnding : ℕ → Type 0
-  IsEnding b = (i : ℕ) × (f : Finishing K V) × (enders i ≡ Some f) × (t : ℕ) × (f.chart.first ≤ t) × (t < f.chart.past) × (b ≡ f.blocks.table t)
+  IsEnding b =
+      (i : ℕ) × (f : Finishing K V) × (enders i ≡ Some f) × (t : ℕ) × (f.chart.first ≤ t) × (t < f.chart.past) × (b ≡ f.blocks.table t) × (times b f.back ≡ 0)
 
   -- whose it is
   abbrev pub IsTheirs : ℕ → Type 0
