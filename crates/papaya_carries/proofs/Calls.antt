@@ -156,6 +156,7 @@ module _ {K Q : Type 0} (V : Type 0) (same : K → K → Bool) (asks : Q → K �
           not_own own = subst IsStillHad own.0 still
 
           by : (o : Option (Node K V)) → value_at w.memory b ≡ o → IsSome o → value_at w.memory b ≡ Some x
+          by None is some = absurd (cc some)
           by (Some y) is some =
               let kept = ap (λ (n : Mem (Node K V)). value_at n b) went.memory ∙ went.frame.values b y is not_own in
               is ∙ ap Some (one_some (value_at went.w2.memory b) y x kept there)

@@ -1,6 +1,6 @@
 -- Whose a block is that users have, and behind which something may be put, as a map begins to end, and over each step of its end.
 use Rattle.std.specs.Prelude.{◌≢◌, Option, Some, None}
-use Rattle.std.proofs.Common.{◌≡◌, ℕ, zero, suc, ◌+◌, ◌<◌, ◌≤◌, Bool, List, [], ◌⊎◌, inl, inr, refl, arith, ap, sym, subst, ◌∙◌}
+use Rattle.std.proofs.Common.{◌≡◌, ℕ, zero, suc, ◌+◌, ◌<◌, ◌≤◌, Bool, false, List, [], ◌⊎◌, inl, inr, refl, arith, ap, sym, subst, ◌∙◌}
 use Rattle.std.proofs.lemmas.Bool.{cases_eq}
 use Rattle.seize_words.specs.Mem.{value_at}
 use Rattle.seize.specs.World.{World, Row, LeftTo, Rests, Ends, Happens, times, with_at}
@@ -45,11 +45,19 @@ module _ {K Q : Type 0} (V : Type 0) (same : K → K → Bool) (asks : Q → K �
           at_map (inr ne) = inl (n, r, at_other maps m None n ne ∙ is, t, from, made, at)
           at_map (inl e) =
               let it : r ≡ s = one_some (maps n) r s is (ap maps e ∙ here) in
-              inr (inr (i, finishing_of s w, at_same enders i (Some (finishing_of s w)) i refl, t, subst (λ (x : Standing K). x.chart.first ≤ t) it from,
-              subst (λ (x : Standing K). t < x.chart.past) it made, subst (λ (x : Standing K). b ≡ x.blocks.table t) it at, refl))
+              inr (inr (
+                i,
+                finishing_of s w,
+                at_same enders i (Some (finishing_of s w)) i refl,
+                t,
+                subst (λ (x : Standing K). x.chart.first ≤ t) it from,
+                subst (λ (x : Standing K). t < x.chart.past) it made,
+                subst (λ (x : Standing K). b ≡ x.blocks.table t) it at,
+                refl,
+              ))
       by (inr (inl (n, j, u, under, rests, due))) = inr (inl (n, j, u, under, ap (λ (v : World (Node K V)). v.row j) h ∙ rests, due))
-      by (inr (inr (j, f, ends, rest))) =
-          inr (inr (j, f, at_other enders i (Some (finishing_of s w)) j (λ e. let no = none in let has : enders i ≡ Some f = ap enders (sym e) ∙ ends in cc (no, has)) ∙ ends, rest))
+      by (inr (inr (j, f, ends, t, from, made, at, none_so))) =
+          inr (inr (j, f, at_other enders i (Some (finishing_of s w)) j (λ e. let no = none in let has : enders i ≡ Some f = ap enders (sym e) ∙ ends in cc (no, has)) ∙ ends, t, from, made, at, none_so))
 
   pub endings_keep_theirs : EndingsKeepTheirs V same asks batch_size roots slot w maps calls makers enders
   endings_keep_theirs theirs i f ends m2 end st = (goes_on, over)
@@ -94,7 +102,7 @@ module _ {K Q : Type 0} (V : Type 0) (same : K → K → Bool) (asks : Q → K �
               its t (subst (λ (x : Finishing K V). x.chart.first ≤ t) it from) (subst (λ (x : Finishing K V). t < x.chart.past) it made)
               (subst (λ (x : Finishing K V). b ≡ x.blocks.table t) it at) (subst (λ (x : Finishing K V). times b x.back ≡ 0) it none)
 
-      goes_on : (f2 : Finishing K V) → GoesOnBy f st.deed f2 → AllAreTheirs w2 maps calls (with_at enders i (Some f2))
+      goes_on : (f2 : Finishing K V) → GoesOnBy V same asks batch_size roots slot w maps calls makers enders f st.deed f2 → AllAreTheirs w2 maps calls (with_at enders i (Some f2))
       goes_on f2 on b can = with_end (Some f2) b its (theirs b (could b can))
         where
           none_then : times b f.back ≡ 0 → times b f2.back ≡ 0
@@ -103,8 +111,16 @@ module _ {K Q : Type 0} (V : Type 0) (same : K → K → Bool) (asks : Q → K �
 
           its : (t : ℕ) → f.chart.first ≤ t → t < f.chart.past → b ≡ f.blocks.table t → times b f.back ≡ 0 → IsTheirs w2 maps calls (with_at enders i (Some f2)) b
           its t from made at none =
-              inr (inr (i, f2, at_same enders i (Some f2) i refl, t, subst (λ (c : Chart K). c.first ≤ t) (sym on.chart_is) from, subst (λ (c : Chart K). t < c.past) (sym on.chart_is) made,
-              at ∙ ap (λ (x : Blocks). x.table t) (sym on.blocks_are), none_then none))
+              inr (inr (
+                i,
+                f2,
+                at_same enders i (Some f2) i refl,
+                t,
+                subst (λ (c : Chart K). c.first ≤ t) (sym on.chart_is) from,
+                subst (λ (c : Chart K). t < c.past) (sym on.chart_is) made,
+                at ∙ ap (λ (x : Blocks). x.table t) (sym on.blocks_are),
+                none_then none,
+              ))
 
       over : HasFinished w2.memory f → AllAreTheirs w2 maps calls (with_at enders i None)
       over finished b can =

@@ -91,7 +91,7 @@ module _ {K Q : Type 0} (V : Type 0) (same : K → K → Bool) (asks : Q → K �
       by : IsTheirs w maps calls enders b → IsLinkedTable w maps b
       by (inl linked) = linked
       by (inr (inl (m, i, u, under, rests, due))) = absurd (let none = no_calls m i in cc (none, under))
-      by (inr (inr (i, f, ends, rest))) = absurd (let none = no_enders i in cc (none, ends))
+      by (inr (inr (i, f, ends, t, from, made, at, none_so))) = absurd (let none = no_enders i in cc (none, ends))
 
   pub changes_keep_theirs : ChangesKeepTheirs V same asks batch_size roots slot w maps calls makers enders
   changes_keep_theirs m i next still theirs b can = by (theirs b can)
@@ -99,5 +99,5 @@ module _ {K Q : Type 0} (V : Type 0) (same : K → K → Bool) (asks : Q → K �
       by : IsTheirs w maps calls enders b → IsTheirs w maps (with_call calls m i next) enders b
       by (inl linked) = inl linked
       by (inr (inl owed)) =
-          inr (inl (owed_with w w maps maps calls enders enders m i next b (λ n j u under ne rests. rests) (λ u under due rests. (rests, still u b under due)) owed))
+          inr (inl (owed_with w w maps maps calls enders enders m i next b (λ n j u under ne rests. rests) (λ u under due rests. let k = still u b under due in (rests, k.0, k.1, k.2)) owed))
       by (inr (inr ending)) = inr (inr ending)

@@ -1,5 +1,5 @@
 -- What users have after a step, and had before it, or had made: over rows, and over what a step of a call does.
-use Rattle.std.specs.Prelude.{Option, Some, Ok, Err, IsSome}
+use Rattle.std.specs.Prelude.{Option, Some, None, Ok, Err, IsSome}
 use Rattle.std.proofs.Common.{◌≡◌, ◌≢◌, ℕ, ◌+◌, Bool, true, List, [], ◌∷◌, ◌⊎◌, inl, inr, refl, arith, ap, sym, subst, ◌∙◌}
 use Rattle.seize_words.specs.Mem.{Mem, IsFreeNumber, Took, value_at}
 use Rattle.seize_words.specs.Op.{Out, Make, Found, Stored, Exchanged, Made, Taken, Roomed}
@@ -82,6 +82,7 @@ module _ {T : Type 0} (defers : T → Option ℕ) (size : ℕ) where
         at_cases (λ (h : Hand). h ≡ Handed) w.hand c (Making i) b (λ e. absurd (free (value_at w.memory b) refl (handed_there w r b is) e)) (λ _. is)
       where
         free : (o : Option T) → value_at w.memory b ≡ o → IsSome o → b ≡ c → ⊥
+        free None at some e = absurd (cc some)
         free (Some x) at some e = new_apart w.memory b c x at took.0.0 e
     made_handed w r i value words (Made (Err back)) m took is = is
     made_handed w r i value words (Found word) m took is = is
@@ -154,12 +155,12 @@ module _ {K V : Type 0} (size : ℕ) (setting : Setting) (caller : ℕ) (w : Wor
         by_out (w.hand b) refl (λ is. let a = handed is in let k : v.hand b ≡ Making h = ap v.hand e ∙ making in cc (a, k)) (subst (λ (y : ℕ). IsOut (w.hand y)) (sym e) (out x known))
 
     event_origin : (e : Event (Node K V)) (v2 : World (Node K V)) → IsItsEvent setting caller w c blocks e → Happens deferred_word size e v v2 → IsStillHad (v2.hand b) → Origin
-    event_origin (Makes i value words) v2 its h is = so (made_back deferred_word size b v i h.1 h.0 (subst (λ (x : World (Node K V)). IsStillHad (x.hand b)) h.4 is))
-    event_origin (Drops i x) v2 its h is = so (gone_back deferred_word size b v.hand x NoBlock (λ none. none) (subst (λ (y : World (Node K V)). IsStillHad (y.hand b)) h.4 is))
+    event_origin (Makes i value words) v2 its h is = so (made_back (deferred_word {K = K} {V = V}) size b v i h.1 h.0 (subst (λ (x : World (Node K V)). IsStillHad (x.hand b)) h.4 is))
+    event_origin (Drops i x) v2 its h is = so (gone_back (deferred_word {K = K} {V = V}) size b v.hand x NoBlock (λ none. none) (subst (λ (y : World (Node K V)). IsStillHad (y.hand b)) h.4 is))
     event_origin (Links i x o) v2 its h is =
         at_cases (λ (k : Hand). IsStillHad k → Origin) v.hand x (InUse o) b (λ e _. linked x h.0.0 its.0 h.0.1 e) (λ _ still. so still) (subst (λ (y : World (Node K V)). IsStillHad (y.hand b)) h.1 is)
-    event_origin (Parts i x) v2 its h is = so (back deferred_word size b v.hand x (Parting i) (λ e. subst IsStillHad (sym h.0.1) tt) (subst (λ (y : World (Node K V)). IsStillHad (y.hand b)) h.1 is))
-    event_origin (Unlinks i x) v2 its h is = so (back deferred_word size b v.hand x (Cutting i) (λ e. cut_still deferred_word size b i (v.hand x) h.0) (subst (λ (y : World (Node K V)). IsStillHad (y.hand b)) h.1 is))
+    event_origin (Parts i x) v2 its h is = so (back (deferred_word {K = K} {V = V}) size b v.hand x (Parting i) (λ e. subst IsStillHad (sym h.0.1) tt) (subst (λ (y : World (Node K V)). IsStillHad (y.hand b)) h.1 is))
+    event_origin (Unlinks i x) v2 its h is = so (back (deferred_word {K = K} {V = V}) size b v.hand x (Cutting i) (λ e. cut_still (deferred_word {K = K} {V = V}) size b i (v.hand x) h.0) (subst (λ (y : World (Node K V)). IsStillHad (y.hand b)) h.1 is))
     event_origin (Rewrites i x value) v2 its h is = so (subst (λ (y : World (Node K V)). IsStillHad (y.hand b)) h.5 is)
     event_origin (Operates op) v2 its h is = so (subst (λ (y : World (Node K V)). IsStillHad (y.hand b)) h.4 is)
     event_origin (Chooses choice) v2 its h is = so (subst (λ (y : World (Node K V)). IsStillHad (y.hand b)) h is)
@@ -170,7 +171,7 @@ module _ {K V : Type 0} (size : ℕ) (setting : Setting) (caller : ℕ) (w : Wor
   events_origin [] v w2 r users its runs handed so is = so (subst (λ (y : World (Node K V)). IsStillHad (y.hand b)) runs is)
   events_origin (e ∷ events) v w2 r users its runs handed so is =
       events_origin events runs.0 w2 (happens_reached deferred_word size e v runs.0 r runs.1) users.1 its.1 runs.2
-      (λ h. user_handed deferred_word size b e v runs.0 r users.0 runs.1 (handed h)) (event_origin v handed so e runs.0 its.0 runs.1) is
+      (λ h. user_handed (deferred_word {K = K} {V = V}) size b e v runs.0 r users.0 runs.1 (handed h)) (event_origin v handed so e runs.0 its.0 runs.1) is
 
   pub step_origin : (events : List (Event (Node K V))) (w2 : World (Node K V)) → Reached deferred_word size w → AllUsers events → AllIts setting caller w c blocks events → Runs deferred_word size events w w2 → IsStillHad (w2.hand b) → Origin
   step_origin events w2 r users its runs is = events_origin events w w2 r users its runs (λ h. h) (λ still. inl still) is

@@ -23,7 +23,7 @@ module _ {K V Q : Type 0} (w w2 : World (Node K V)) (maps maps2 : ℕ → Option
 
   -- the call goes on, and is to hand the block over
   abbrev pub IsDueThen : ℕ → Type 0
-  IsDueThen b = (w2.row i ≡ Rests) × ((u2 : UnderWay K V Q) × (next ≡ Some u2) × IsDue u2 b)
+  IsDueThen b = (w2.row i ≡ Rests) × (u2 : UnderWay K V Q) × (next ≡ Some u2) × IsDue u2 b
 
   pub owed_then : (b : ℕ) → IsDueThen b → IsOwed w2 maps2 calls2 enders2 b
   owed_then b (rests, u2, is, due) = (m, i, u2, call_now ∙ is, rests, due)

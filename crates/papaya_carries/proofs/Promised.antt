@@ -28,8 +28,8 @@ module _ {K Q : Type 0} (V : Type 0) (same : K → K → Bool) (asks : Q → K �
   pub calls_keep_theirs : CallsKeepTheirs V same asks batch_size roots slot w maps calls makers enders
   calls_keep_theirs all theirs m s here bits i u has row m2 p2 progress steps st links =
       went_theirs V same asks batch_size slot w maps calls enders all.makings.standing m s here i (OnKey u) has m2 _ st.step.went st.step.blocks2 st.step.grown st.step.sights2 next links theirs
-      (λ b t from left at. (row_then, owing b (subst (λ (x : ℕ). CallGoesOwing same s.hash asks u.call w.memory m2 (p2, progress) x) (sym at) (goes t from left))))
-      (λ b due rests. (row_then, owing b (call_due_stays same s.hash asks u.call w.memory m2 (p2, progress) b u.call.stands row steps due)))
+      (λ b t from left at. owing b (subst (λ (x : ℕ). CallGoesOwing same s.hash asks u.call w.memory m2 (p2, progress) x) (sym at) (goes t from left)))
+      (λ b due rests. owing b (call_due_stays same s.hash asks u.call w.memory m2 (p2, progress) b u.call.stands row steps due))
     where
       then : CallOnKey K V Q
       then = record { keys = u.keys; pair = u.pair; began = u.began; change = change_told V same s.hash asks s.setting slot st.step.went.told; call = p2 }
@@ -70,8 +70,9 @@ module _ {K Q : Type 0} (V : Type 0) (same : K → K → Bool) (asks : Q → K �
           call_left same s.hash asks (in_slot s.setting (slot i)) u.keys w st.step.went.w2 s.chart st.step.went.c2 (seen_by s.blocks (s.sights (slot i))) st.step.went.blocks2 map st.step.went.map
           st.step.went.moved st.step.went.blocks_same i u.change m2 st.step.went.memory u.call (p2, progress) (facts_of knows.1) bits row steps t (from, left)
 
-      owing : (b : ℕ) → CallGoesOwing same s.hash asks u.call w.memory m2 (p2, progress) b → (u2 : UnderWay K V Q) × (next ≡ Some u2) × IsDue u2 b
+      owing : (b : ℕ) → CallGoesOwing same s.hash asks u.call w.memory m2 (p2, progress) b → (st.step.went.w2.row i ≡ Rests) × (u2 : UnderWay K V Q) × (next ≡ Some u2) × IsDue u2 b
       owing b (q, is, due) = (
+        row_then,
         OnKey then,
         ap (next_of then) (ap (λ (e : KeyCall K V Q × Called (Node K V)). e.1) is),
         subst (λ (x : KeyCall K V Q). IsDueOfCall x.stands b) (sym (ap (λ (e : KeyCall K V Q × Called (Node K V)). e.0) is)) due,

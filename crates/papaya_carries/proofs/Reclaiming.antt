@@ -57,7 +57,7 @@ module _ {K V : Type 0} (size i b : ℕ) where
       (hand, users_value size w r i w2 h b (users_own (w.hand b) (subst IsStillHad hand still)))
 
   rows_had : (events : List (Event (Node K V))) → AreItsRows i events → (w w2 : World (Node K V)) → Reached deferred_word size w → Runs deferred_word size events w w2 → HadSo w w2
-  rows_had [] own w w2 r runs still = (ap (λ (x : World (Node K V)). x.hand b) runs, ap (λ (x : World (Node K V)). value_at x.memory b) runs)
+  rows_had [] own w w2 r runs = λ still. (ap (λ (x : World (Node K V)). x.hand b) runs, ap (λ (x : World (Node K V)). value_at x.memory b) runs)
   rows_had (Begin j request ∷ events) own w w2 r runs =
       let h = subst (λ (k : ℕ). Happens deferred_word size (Begin k request) w runs.0) own.0 runs.1 in
       had_then w runs.0 w2 (begun_had request own.1 w runs.0 h) (rows_had events own.2 runs.0 w2 (happens_reached deferred_word size (Begin i request) w runs.0 r h) runs.2)

@@ -57,9 +57,13 @@ module _ {K V Q : Type 0} (same : K → K → Bool) (hash : K → ℕ) (asks : Q
     first_of : (stands : Copying) → IsRowOfCopier stands → IsDueAt copier stands b → Steps Took value_at m (copier_plan_at hash copier stands) m2 end1
         → (rest : ℕ) × (end2 : Settle × Settled (Node K V)) × IsRetiring deferred_word (b * 2048) end2 × (end1 ≡ retired copier rest end2)
     first_of (copies.Retires settle rest) row due s =
-        let k = steps_back (retired copier rest) m m2 (settle_plan deferred_word settle) end1 s in
-        (rest, k.0, retires_first deferred_word copier.setting.slot copier.setting.batch_size (b * 2048) m m2 k.0
-        (subst (λ (x : Settle). Steps Took value_at m (settle_plan deferred_word x) m2 k.0) due k.1), k.2)
+        let k = steps_back (retired copier rest) m m2 (settle_plan deferred_word settle) end1 s in (
+          rest,
+          k.0,
+          retires_first deferred_word copier.setting.slot copier.setting.batch_size (b * 2048) m m2 k.0
+              (subst (λ (x : Settle). Steps Took value_at m (settle_plan deferred_word x) m2 k.0) due k.1),
+          k.2,
+        )
     first_of _ row due s = absurd row
 
   pub within_it : (stands : Calling) → IsRowOfCall stands → IsDueOfCall stands b → Steps Took value_at m (plan_at asks same hash p stands) m2 end → IsWithinIt

@@ -92,9 +92,10 @@ module _ {K V : Type 0} (setting : Setting) (i : ℕ) (w w2 : World (Node K V)) 
       let r1 = happens_reached deferred_word setting.batch_size (Begin i request) w begun r h in
       let hand = still_row deferred_word setting.batch_size begun r1 i w2 step b still in
       let first = subst IsStillHad hand still in
-      let memory = begins_memory deferred_word setting.batch_size i request w begun h.1 in
-      (hand ∙ begun_hand begun b request over h first,
-      users_value setting.batch_size begun r1 i w2 step b (users_own (begun.hand b) first) ∙ ap (λ (x : Mem (Node K V)). value_at x b) memory)
+      let memory = begins_memory deferred_word setting.batch_size i request w begun h.1 in (
+        hand ∙ begun_hand begun b request over h first,
+        users_value setting.batch_size begun r1 i w2 step b (users_own (begun.hand b) first) ∙ ap (λ (x : Mem (Node K V)). value_at x b) memory,
+      )
 
   pub one_others : IsOneStep setting i w w2 → (j : ℕ) → j ≢ i → w2.row j ≡ w.row j
   one_others (inl h) j ne = steps_others deferred_word setting.batch_size w w2 i j ne (w.row i) h

@@ -81,7 +81,7 @@ module _ {K Q : Type 0} (V : Type 0) (same : K → K → Bool) (asks : Q → K �
   EndingsKeepTheirs =
       AllAreTheirs w maps calls enders → (i : ℕ) (f : Finishing K V) → enders i ≡ Some f → (m2 : Mem (Node K V)) (end : EndMap × Settled (Node K V))
       → (st : StepsOfEnding V same asks batch_size roots slot w maps calls makers enders i f m2 end)
-      → ((f2 : Finishing K V) → GoesOnBy f st.deed f2 → AllAreTheirs st.w2 maps calls (with_at enders i (Some f2)))
+      → ((f2 : Finishing K V) → GoesOnBy V same asks batch_size roots slot w maps calls makers enders f st.deed f2 → AllAreTheirs st.w2 maps calls (with_at enders i (Some f2)))
       × (HasFinished st.w2.memory f → AllAreTheirs st.w2 maps calls (with_at enders i None))
 
   -- A caller that reclaims all takes a step.

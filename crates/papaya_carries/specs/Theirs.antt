@@ -64,7 +64,7 @@ module _ {K V Q : Type 0} (w : World (Node K V)) (maps : ℕ → Option (Standin
 
   -- users have the block, and something may be put behind it
   abbrev pub CanCarry : ℕ → Type 0
-  CanCarry b = IsStillHad (w.hand b) × ((field : ℕ) × (value : Node K V) × (value_at w.memory b ≡ Some value) × (deferred_word value ≡ Some field))
+  CanCarry b = IsStillHad (w.hand b) × (field : ℕ) × (value : Node K V) × (value_at w.memory b ≡ Some value) × (deferred_word value ≡ Some field)
 
   -- Each such block is a linked table of a map that stands, or a call is to hand it over, or it is of a map that ends.
   abbrev pub AllAreTheirs : Type 0
