@@ -9,3 +9,4 @@ pub mod Rows
 pub mod Within
 pub mod Endings
 pub mod Reclaiming
+mod Samples

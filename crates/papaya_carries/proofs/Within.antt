@@ -1,4 +1,4 @@
--- Whose a block is that users have, and behind which something may be put, over a step of a row within a call on one key.
+-- Whose a block is that users have, and behind which something may be put, over a step of a row within a call, a reservation or a sweep.
 use Rattle.std.specs.Prelude.{◌≢◌, ◌*◌, Option, Some, None}
 use Rattle.std.proofs.Common.{◌≡◌, ℕ, Bool, ◌⊎◌, inl, inr, refl, arith, ap, sym, subst, ◌∙◌}
 use Rattle.std.proofs.lemmas.Bool.{cases_eq}
@@ -20,23 +20,25 @@ use Rattle.papaya_raw.specs.declared.machines.answer.Called.{Called}
 use Rattle.papaya_raw.specs.declared.machines.answer.Called.TheVariants as called
 use Rattle.papaya_raw.specs.declared.machines.call.KeyCall.{KeyCall}
 use Rattle.papaya_rule.proofs.World.Hands.{at_cases}
+use Rattle.papaya_callers.specs.OverAll.{gone_on, row_of_sweep}
+use Rattle.papaya_callers.specs.Rooms.{CallForRoom, row_of_room}
 use Rattle.papaya_callers.specs.Rows.{row_of}
 use Rattle.papaya_callers.specs.Sights.{seen_by}
-use Rattle.papaya_callers.specs.Together.{UnderWay, OnKey, CallOnKey, HandsOver, IsOneStep, Stands, next_of}
+use Rattle.papaya_callers.specs.Together.{UnderWay, OnKey, ForRoom, OverAll, CallOnKey, HandsOver, IsOneStep, Stands, next_of, next_for_room, next_over_all}
 use Rattle.papaya_callers.proofs.Rows.Beside.{users_value}
 use Rattle.papaya_callers.proofs.Together.At.{at_same}
 use Rattle.papaya_callers.proofs.Together.Came.{came_reached}
-use Rattle.papaya_finishes.specs.Endings.{Finishing}
+use Rattle.papaya_finishes.specs.Endings.{Finishing, EndingsTogether}
 use Rattle.papaya_finishes.specs.Makings.{Beginning}
-use Rattle.papaya_finishes.specs.Maps.{Standing, with_call}
+use Rattle.papaya_finishes.specs.Maps.{Standing, IsSameMap, with_call}
 use Rattle.papaya_finishes.proofs.Beside.Maps.Steps.{no_other}
-use Rattle.papaya_carries.specs.Promises.{RowsKeepTheirs}
-use Rattle.papaya_carries.specs.Theirs.{IsDue, IsDueOfCall, IsOwed}
+use Rattle.papaya_carries.specs.Promises.{RowsKeepTheirs, RoomRowsKeepTheirs, SweepRowsKeepTheirs}
+use Rattle.papaya_carries.specs.Theirs.{IsDue, AllAreTheirs}
 use Rattle.papaya_carries.proofs.FirstSteps.{row_retires, row_defers}
 use Rattle.papaya_carries.proofs.Guards.{users_own, theirs_by, can_back}
 use Rattle.papaya_carries.proofs.Hands.{still_row}
 use Rattle.papaya_carries.proofs.Owed.{one_some, owed_with}
-use Rattle.papaya_carries.proofs.Rows.{IsOn, IsWithinIt, within_it}
+use Rattle.papaya_carries.proofs.Rows.{IsItsRow, call_within, room_within, sweep_within}
 
 module _ {K V : Type 0} (setting : Setting) (i : ℕ) (w w2 : World (Node K V)) (r : Reached deferred_word setting.batch_size w) where
   -- a block changes no hand but to the collector, and keeps its value
@@ -128,58 +130,72 @@ module _ {K V : Type 0} (setting : Setting) (i : ℕ) (w w2 : World (Node K V)) 
 
 module _ {K Q : Type 0} (V : Type 0) (same : K → K → Bool) (asks : Q → K → Bool) (batch_size roots : ℕ) (slot : ℕ → ℕ)
     (w : World (Node K V)) (maps : ℕ → Option (Standing K)) (calls : ℕ → ℕ → Option (UnderWay K V Q)) (makers : ℕ → Option (Beginning K)) (enders : ℕ → Option (Finishing K V)) where
-  pub rows_keep_theirs : RowsKeepTheirs V same asks batch_size roots slot w maps calls makers enders
-  rows_keep_theirs all theirs m s here i u has row m2 p2 progress steps st b can =
-      theirs_by w w2 maps st.together.0 calls enders calls2 st.together.1 b owed_on (theirs b (can_back w w2 maps st.together.0 calls enders b kept can))
-    where
-      w2 : World (Node K V)
-      w2 = st.step.w2
+  module _ (all : EndingsTogether V same asks batch_size roots slot w maps calls makers enders) (theirs : AllAreTheirs w maps calls enders)
+      (m : ℕ) (s : Standing K) (here : maps m ≡ Some s) (i : ℕ) (u : UnderWay K V Q) (has : calls m i ≡ Some u)
+      (w2 : World (Node K V)) (one : IsOneStep s.setting i w w2) (maps2 : ℕ → Option (Standing K)) (same_maps : (n : ℕ) → IsSameMap (maps n) (maps2 n)) (next : Option (UnderWay K V Q)) where
+    reached : Reached deferred_word s.setting.batch_size w
+    reached = came_reached s.setting.batch_size w (all.makings.standing.each m s here).ground.came
 
+    others : (n j : ℕ) (v : UnderWay K V Q) → calls n j ≡ Some v → (n ≡ m → j ≡ i → ⊥) → w.row j ≡ Rests → w2.row j ≡ Rests
+    others n j v under ne rests = one_others s.setting i w w2 reached one j (λ e. by (cases_eq n m) e) ∙ rests
+      where
+        by : (n ≡ m) ⊎ (n ≢ m) → j ≡ i → ⊥
+        by (inl same_map) e = ne same_map e
+        by (inr other) e =
+            let none = no_other V same asks batch_size slot w maps calls all.makings.standing m s here i u has n other in
+            let it : calls n i ≡ Some v = ap (calls n) (sym e) ∙ under in cc (none, it)
+
+    -- if it has begun to retire what it was to hand over next
+    row_theirs : ((b : ℕ) → IsDue u b → w.row i ≡ Rests → (d : Settle) × (d.pending ≡ b * 2048) × ((w2.row i ≡ Rests) ⊎ (w2.row i ≡ Settles d)))
+        → AllAreTheirs w2 maps2 (with_call calls m i next) enders
+    row_theirs within b can =
+        theirs_by w w2 maps maps2 calls enders (with_call calls m i next) same_maps b
+        (owed_with w w2 maps maps2 calls enders enders m i next b others
+        (λ v under due rests.
+        let k = within b (subst (λ (x : UnderWay K V Q). IsDue x b) (one_some (calls m i) v u under has) due) rests in
+        absurd (begun_gone s.setting i w w2 reached one rests b k.0 k.1 k.2 can.0)))
+        (theirs b (can_back w w2 maps maps2 calls enders b (one_kept s.setting i w w2 reached one b) can))
+
+  -- where it stands, by what it knows of its call
+  row_then : (i : ℕ) (w2 : World (Node K V)) (row : Row) (b : ℕ) → IsItsRow b row
+      → (w2.row i ≡ Rests) ⊎ (w2.row i ≡ row) → (d : Settle) × (d.pending ≡ b * 2048) × ((w2.row i ≡ Rests) ⊎ (w2.row i ≡ Settles d))
+  row_then i w2 row b (d, is, pending) (inl rests) = (d, pending, inl rests)
+  row_then i w2 row b (d, is, pending) (inr at) = (d, pending, inr (at ∙ is))
+
+  pub rows_keep_theirs : RowsKeepTheirs V same asks batch_size roots slot w maps calls makers enders
+  rows_keep_theirs all theirs m s here i u has row m2 p2 progress steps st =
+      row_theirs all theirs m s here i (OnKey u) has st.step.w2 st.step.happened st.together.0 st.together.1 (next_of then progress)
+      (λ b due rests. let k = call_within same s.hash asks (slot i) b u w.memory m2 u.call.stands row due (p2, progress) steps in
+      row_then i st.step.w2 (row_of (slot i) p2.stands) b k.0 (by (st.step.together.stand i (OnKey then) (at_same (calls m) i (next_of then progress) i refl ∙ k.1))))
+    where
       then : CallOnKey K V Q
       then = record { keys = u.keys; pair = u.pair; began = u.began; change = u.change; call = p2 }
 
-      next : Option (UnderWay K V Q)
-      next = next_of then progress
+      by : Stands V same s.hash asks s.setting slot st.step.w2 s.chart (seen_by s.blocks (s.sights (slot i))) i (OnKey then) → (st.step.w2.row i ≡ Rests) ⊎ (st.step.w2.row i ≡ row_of (slot i) p2.stands)
+      by (inl k) = inl k.0
+      by (inr k) = inr k.0
 
-      calls2 : ℕ → ℕ → Option (UnderWay K V Q)
-      calls2 = with_call calls m i next
+  pub room_rows_keep_theirs : RoomRowsKeepTheirs V same asks batch_size roots slot w maps calls makers enders
+  room_rows_keep_theirs all theirs m s here i r has row m2 p2 end steps st =
+      row_theirs all theirs m s here i (ForRoom r) has st.step.w2 st.step.happened st.together.0 st.together.1 (next_for_room then end)
+      (λ b due rests. let k = room_within Q s.hash b r w.memory m2 r.reserve.stands row due (p2, end) steps in
+      row_then i st.step.w2 (row_of_room p2.stands) b k.0 (by (st.step.together.stand i (ForRoom then) (at_same (calls m) i (next_for_room then end) i refl ∙ k.1))))
+    where
+      then : CallForRoom
+      then = record { began = r.began; reserve = p2 }
 
-      reached : Reached deferred_word s.setting.batch_size w
-      reached = came_reached s.setting.batch_size w (all.makings.standing.each m s here).ground.came
+      by : Stands V same s.hash asks s.setting slot st.step.w2 s.chart (seen_by s.blocks (s.sights (slot i))) i (ForRoom then) → (st.step.w2.row i ≡ Rests) ⊎ (st.step.w2.row i ≡ row_of_room p2.stands)
+      by (inl k) = inl k.0
+      by (inr k) = inr k.0
 
-      kept : IsStillHad (w2.hand b) → (w2.hand b ≡ w.hand b) × (value_at w2.memory b ≡ value_at w.memory b)
-      kept still = one_kept s.setting i w w2 reached st.step.happened b still
-
-      goes_on : (progress2 : Called (Node K V)) → IsOn progress2 → next_of {K = K} {V = V} {Q = Q} then progress2 ≡ Some (OnKey then)
-      goes_on called.Goes is = refl
-      goes_on called.Waits is = refl
-      goes_on (called.Gave value) is = refl
-      goes_on (called.Unstored value) is = refl
-      goes_on (called.Asks about) is = refl
-      goes_on (called.Done answer) is = absurd is
-      goes_on (called.Refused fault) is = absurd is
-
-      row_then : (d : Settle) → row_of (slot i) p2.stands ≡ Settles d → Stands V same s.hash asks s.setting slot w2 s.chart (seen_by s.blocks (s.sights (slot i))) i (OnKey then)
-          → (w2.row i ≡ Rests) ⊎ (w2.row i ≡ Settles d)
-      row_then d at (inl k) = inl k.0
-      row_then d at (inr k) = inr (k.0 ∙ at)
-
-      its_own : IsDueOfCall u.call.stands b → w.row i ≡ Rests → ⊥
-      its_own due rests =
-          let k = within_it same s.hash asks (slot i) b u.call w.memory m2 (p2, progress) u.call.stands row due steps in
-          begun_gone s.setting i w w2 reached st.step.happened rests b k.0 k.2
-          (row_then k.0 k.1 (st.step.together.stand i (OnKey then) (at_same (calls m) i next i refl ∙ goes_on progress k.3))) can.0
-
-      others : (n j : ℕ) (v : UnderWay K V Q) → calls n j ≡ Some v → (n ≡ m → j ≡ i → ⊥) → w.row j ≡ Rests → w2.row j ≡ Rests
-      others n j v under ne rests = one_others s.setting i w w2 reached st.step.happened j (λ e. by (cases_eq n m) e) ∙ rests
-        where
-          by : (n ≡ m) ⊎ (n ≢ m) → j ≡ i → ⊥
-          by (inl same_map) e = ne same_map e
-          by (inr other) e =
-              let none = no_other V same asks batch_size slot w maps calls all.makings.standing m s here i (OnKey u) has n other in
-              let it : calls n i ≡ Some v = ap (calls n) (sym e) ∙ under in cc (none, it)
-
-      owed_on : IsOwed w maps calls enders b → IsOwed w2 st.together.0 calls2 enders b
-      owed_on owed =
-          owed_with w w2 maps st.together.0 calls enders enders m i next b others
-          (λ v under due rests. absurd (its_own (subst (λ (x : UnderWay K V Q). IsDue x b) (one_some (calls m i) v (OnKey u) under has) due) rests)) owed
+  pub sweep_rows_keep_theirs : SweepRowsKeepTheirs V same asks batch_size roots slot w maps calls makers enders
+  sweep_rows_keep_theirs all theirs m s here i o has row m2 p2 end steps st =
+      row_theirs all theirs m s here i (OverAll o) has st.step.w2 st.step.happened st.together.0 st.together.1 (next_over_all (gone_on o p2) end)
+      (λ b due rests. let k = sweep_within Q s.hash (slot i) b o w.memory m2 o.sweep.stands row due (p2, end) steps in
+      row_then i st.step.w2 (row_of_sweep (slot i) p2.stands) b k.0
+      (by (st.step.together.stand i (OverAll (gone_on o p2)) (at_same (calls m) i (next_over_all (gone_on o p2) end) i refl ∙ k.1))))
+    where
+      by : Stands V same s.hash asks s.setting slot st.step.w2 s.chart (seen_by s.blocks (s.sights (slot i))) i (OverAll (gone_on o p2))
+          → (st.step.w2.row i ≡ Rests) ⊎ (st.step.w2.row i ≡ row_of_sweep (slot i) p2.stands)
+      by (inl k) = inl k.0
+      by (inr k) = inr k.0

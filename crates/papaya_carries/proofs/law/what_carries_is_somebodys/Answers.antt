@@ -3,7 +3,7 @@ use Rattle.papaya_carries.proofs.Endings.{endings_begin_and_keep_theirs, endings
 use Rattle.papaya_carries.proofs.Guards.{changes_keep_theirs, guards_keep_theirs, only_tables_carry}
 use Rattle.papaya_carries.proofs.Promised.{calls_keep_theirs}
 use Rattle.papaya_carries.proofs.Reclaiming.{reclaiming_keeps_theirs, nothing_else_waits}
-use Rattle.papaya_carries.proofs.Within.{rows_keep_theirs}
+use Rattle.papaya_carries.proofs.Within.{rows_keep_theirs, room_rows_keep_theirs, sweep_rows_keep_theirs}
 use Rattle.papaya_carries.proofs.law.what_carries_is_somebodys.Goals as goal
 
 pub returns : goal.returns
@@ -13,6 +13,8 @@ returns c d = record {
   guards = guards_keep_theirs _;
   calls = calls_keep_theirs _;
   rows = rows_keep_theirs _;
+  room_rows = room_rows_keep_theirs _;
+  sweep_rows = sweep_rows_keep_theirs _;
   endings_begin = endings_begin_and_keep_theirs _;
   endings = endings_keep_theirs _;
   reclaiming = reclaiming_keeps_theirs _;
