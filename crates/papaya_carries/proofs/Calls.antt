@@ -28,7 +28,7 @@ use Rattle.papaya_finishes.proofs.Beside.Maps.OtherSteps.{known_out}
 use Rattle.papaya_finishes.proofs.Beside.Maps.Steps.{seen_known}
 use Rattle.papaya_reclaims.specs.Deferred.{IsLinkedTable}
 use Rattle.papaya_carries.specs.Promises.{LinksKnown}
-use Rattle.papaya_carries.specs.Theirs.{IsDue, CanCarry, IsOwed, IsEnding, IsTheirs, AllAreTheirs}
+use Rattle.papaya_carries.specs.Theirs.{IsDue, CanCarry, IsTheirs, AllAreTheirs}
 use Rattle.papaya_carries.proofs.Hands.{step_origin}
 use Rattle.papaya_carries.proofs.Owed.{one_some, IsDueThen, owed_then, owed_with}
 

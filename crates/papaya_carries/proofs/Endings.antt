@@ -1,25 +1,24 @@
 -- Whose a block is that users have, and behind which something may be put, as a map begins to end, and over each step of its end.
 use Rattle.std.specs.Prelude.{◌≢◌, Option, Some, None}
-use Rattle.std.proofs.Common.{◌≡◌, ℕ, zero, suc, ◌+◌, ◌<◌, ◌≤◌, Bool, false, List, [], ◌⊎◌, inl, inr, refl, arith, ap, sym, subst, ◌∙◌}
+use Rattle.std.proofs.Common.{◌≡◌, ℕ, zero, suc, ◌<◌, ◌≤◌, Bool, false, [], ◌⊎◌, inl, inr, refl, arith, ap, sym, subst, ◌∙◌}
 use Rattle.std.proofs.lemmas.Bool.{cases_eq}
 use Rattle.seize_words.specs.Mem.{value_at}
-use Rattle.seize.specs.World.{World, Row, LeftTo, Rests, Ends, Happens, times, with_at}
+use Rattle.seize.specs.World.{World, Row, times, with_at}
 use Rattle.seize_acts.specs.Reclaimed.{IsStillHad}
-use Rattle.papaya_tables.specs.Nodes.{deferred_word}
 use Rattle.papaya_tables.specs.declared.node.Node.{Node}
 use Rattle.papaya_rule.specs.Chart.{Chart}
 use Rattle.papaya_rule.specs.Words.{Blocks}
 use Rattle.papaya_callers.specs.Together.{UnderWay}
 use Rattle.papaya_callers.proofs.Together.At.{at_other, at_same}
 use Rattle.papaya_finishes.specs.Endings.{Finishing, HasFinished, finishing_of}
-use Rattle.papaya_finishes.specs.FactsEnds.{Deed, Spares, back_of, from_table, taken_by, left_by}
+use Rattle.papaya_finishes.specs.FactsEnds.{back_of, from_table, taken_by, left_by}
 use Rattle.papaya_finishes.specs.Makings.{Beginning}
 use Rattle.papaya_finishes.specs.Maps.{Standing}
 use Rattle.papaya_finishes.proofs.Ends.CountedBlocks.{some_last, times-append}
 use Rattle.papaya_finishes.proofs.Ends.OrdersOn.{table_later}
 use Rattle.papaya_reclaims.specs.Left.{GoesOnBy}
 use Rattle.papaya_carries.specs.Promises.{EndingsBeginAndKeepTheirs, EndingsKeepTheirs}
-use Rattle.papaya_carries.specs.Theirs.{CanCarry, IsOwed, IsEnding, IsTheirs, AllAreTheirs}
+use Rattle.papaya_carries.specs.Theirs.{CanCarry, IsTheirs, AllAreTheirs}
 use Rattle.papaya_carries.proofs.Owed.{one_some}
 
 -- once a map has ended all its tables are reclaimed

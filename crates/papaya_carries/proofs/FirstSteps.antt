@@ -1,9 +1,9 @@
 -- What the first step of a row leaves of what it is to hand over: a retirement has its block still, and neither ends by it.
-use Rattle.std.specs.Prelude.{◌==◌, Option, if◌then◌else◌}
-use Rattle.std.proofs.Common.{◌≡◌, ℕ, Bool, true, false, refl, ap, sym, subst, ◌∙◌}
+use Rattle.std.specs.Prelude.{◌==◌, Option}
+use Rattle.std.proofs.Common.{◌≡◌, ℕ, refl, ap, sym, subst, ◌∙◌}
 use Rattle.seize_words.specs.Mem.{Mem, Took, value_at}
 use Rattle.seize_words.specs.Op.{Out, Found, Stored, Exchanged, Made, Taken, Roomed}
-use Rattle.seize_words.specs.Plan.{Now, Steps}
+use Rattle.seize_words.specs.Plan.{Steps}
 use Rattle.seize_words.proofs.OneOwner.Operations.{loaded}
 use Rattle.seize.specs.declared.progress.Progress.{Progress}
 use Rattle.seize.specs.declared.progress.Progress.TheVariants as progress
@@ -15,7 +15,7 @@ use Rattle.seize.specs.declared.rows.settle.Settled.TheVariants as settled
 use Rattle.seize.specs.declared.states.TheConstants.{HELD}
 use Rattle.seize.specs.Defer.{deferring, head_read, standing}
 use Rattle.seize.specs.Settle.{retiring, seen, settle_plan}
-use Rattle.seize.specs.World.{World, Row, Rests, Settles, Defers, Steps', settles_on, defers_on}
+use Rattle.seize.specs.World.{World, Settles, Defers, Steps', settles_on, defers_on}
 use Rattle.seize_words.specs.declared.at.At.{At}
 use Rattle.seize_rule.proofs.Rows.Others.{with_here}
 use Rattle.papaya_rule.proofs.Keys.Always.{Always, always_if, always_steps}

@@ -2,7 +2,7 @@
 use Rattle.std.specs.Prelude.{Option, Some, None}
 use Rattle.std.proofs.Common.{◌≡◌, ◌≢◌, ◌<◌, ◌≤◌, ℕ, Bool, inl, inr, refl, ap, sym, subst, ◌∙◌}
 use Rattle.seize_words.specs.Mem.{Mem, value_at}
-use Rattle.seize.specs.World.{World, Hand, NoBlock, Making, InUse, Parting, Cutting, Handed, LeftTo, Request, Rests, Begin, Step, Happens}
+use Rattle.seize.specs.World.{World, Hand, NoBlock, Making, InUse, Parting, Cutting, Handed, LeftTo, Request, Begin, Step, Happens}
 use Rattle.seize_acts.specs.Reclaimed.{IsStillHad}
 use Rattle.seize_rule.proofs.Rows.Others.{begins_others, steps_others}
 use Rattle.seize_ends.proofs.Batches.Rows.{begins_memory}

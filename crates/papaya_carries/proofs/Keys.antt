@@ -1,13 +1,14 @@
 -- A step of a call on one key that is none of a row: what its copier is to hand over next it is to hand over next still, and in incremental mode the table that
 -- the root has left by it is that one.
-use Rattle.std.specs.Prelude.{◌≢◌, ◌*◌, ◌/◌, Option, Some, None}
-use Rattle.std.proofs.Common.{◌≡◌, ℕ, zero, suc, ◌<◌, ◌≤◌, Bool, true, false, cond, ◌⊎◌, inl, inr, refl, arith, ap, sym, subst, ◌∙◌}
+use Rattle.std.specs.Prelude.{◌*◌, ◌/◌, Some}
+use Rattle.std.proofs.Common.{◌≡◌, ℕ, suc, ◌<◌, ◌≤◌, Bool, true, false, cond, ◌⊎◌, inl, inr, refl, arith, ap, sym, subst, ◌∙◌}
 use Rattle.seize_words.specs.declared.at.At.TheVariants.{Root, Word}
-use Rattle.seize_words.specs.Mem.{Mem, Took, value_at, word_at}
+use Rattle.seize_words.specs.Mem.{Mem, Can, Took, value_at, word_at}
 use Rattle.seize_words.specs.Plan.{Steps}
 use Rattle.seize_words.proofs.OneOwner.Operations.{loaded, exchanged}
+use Rattle.seize_words.proofs.Plans.{steps_as}
 use Rattle.seize.specs.Settle.{retiring}
-use Rattle.seize.specs.World.{World, Rests}
+use Rattle.seize.specs.World.{World}
 use Rattle.seize_rule.proofs.Rows.Leaving.{steps_back}
 use Rattle.papaya_tables.specs.Chunks.{is_incremental}
 use Rattle.papaya_tables.specs.declared.node.Node.{Node}
@@ -23,7 +24,7 @@ use Rattle.papaya_resize.specs.declared.copier.Copying.TheVariants as copies
 use Rattle.papaya_resize.specs.declared.outcome.Outcome.{Outcome}
 use Rattle.papaya_resize.specs.declared.outcome.Outcome.TheVariants as outcome
 use Rattle.papaya_raw.specs.Call.{helped, copied, plan_at, call_plan}
-use Rattle.papaya_raw.specs.CallPoints.{standing}
+use Rattle.papaya_raw.specs.CallPoints.{getting, standing}
 use Rattle.papaya_raw.specs.declared.machines.answer.Called.{Called}
 use Rattle.papaya_raw.specs.declared.machines.answer.Called.TheVariants as called
 use Rattle.papaya_raw.specs.declared.machines.call.KeyCall.{KeyCall}
@@ -86,64 +87,85 @@ module _ {K V Q : Type 0} (same : K → K → Bool) (hash : K → ℕ) (asks : Q
   call_due_stays b _ row s due = absurd due
 
 -- what the root has left by the step
-module _ {K V Q : Type 0} (same : K → K → Bool) (hash : K → ℕ) (asks : Q → K → Bool) (setting : Setting) (keys : K → Bool)
+module _ {K V : Type 0} (same : K → K → Bool) (hash : K → ℕ) (setting : Setting)
     (w w2 : World (Node K V)) (c c2 : Chart K) (blocks blocks2 : Blocks) (map : IsMapIn same hash setting w c blocks) (map2 : IsMapIn same hash setting w2 c2 blocks2)
-    {mover : ℕ} (moved : Moved same hash setting.mode mover c c2) (same_blocks : SameBlocks c blocks blocks2) (caller : ℕ) (change : Change)
-    (m2 : Mem (Node K V)) (memory : w2.memory ≡ m2) (p : KeyCall K V Q) (end : KeyCall K V Q × Called (Node K V)) (facts : CallFacts same hash asks w caller setting c blocks keys change p)
+    {mover : ℕ} (moved : Moved same hash setting.mode mover c c2) (same_blocks : SameBlocks c blocks blocks2) (m2 : Mem (Node K V)) (memory : w2.memory ≡ m2)
     (bits : is_incremental setting.mode ≡ true) where
   stays : RootStays setting.root w.memory m2 → c2.first ≡ c.first
   stays root = first_kept same hash setting w w2 c c2 blocks blocks2 map map2 same_blocks moved (subst (λ (n : Mem (Node K V)). RootStays setting.root w.memory n) (sym memory) root)
 
-  same_memory : m2 ≡ w.memory → c2.first ≡ c.first
-  same_memory e = stays (inl (ap (λ (n : Mem (Node K V)). word_at n (Root setting.root)) e))
-
   -- the root has left its table, and no other
-  abbrev Leaves : ℕ → Type 0
+  abbrev pub Leaves : ℕ → Type 0
   Leaves t = (c.first ≤ t) × (t < c2.first)
 
+  none_left : (t : ℕ) → c2.first ≡ c.first → Leaves t → ⊥
+  none_left t same_first left = let from = left.0 in let to = left.1 in omega (arith, same_first, from, to)
+
   one_left : (t : ℕ) → Leaves t → (0 < c.past) × (t ≡ c.first)
-  one_left t (from, to) = by (first_moves same hash setting c c2 moved)
+  one_left t left = by (first_moves same hash setting c c2 moved)
     where
       by : (c2.first ≡ c.first) ⊎ IsPromoted same hash setting c c2 → (0 < c.past) × (t ≡ c.first)
-      by (inl e) = absurd (omega (arith, e, from, to))
+      by (inl e) = absurd (none_left t e left)
       by (inr is) =
           let next : c2.first ≡ suc c.first = subst (λ (b : Bool). cond b (c2.first ≡ suc c.first) (Unit {0})) bits is.3 in
-          let made = is.1 in (omega (arith, made), omega (arith, next, from, to))
+          let made = is.1 in let from = left.0 in let to = left.1 in (omega (arith, made), omega (arith, next, from, to))
 
-  helps_left : (copier : Copier) (goal : Table) → copier.stands ≡ copies.Promotes → copier.setting ≡ setting → Steps Took value_at w.memory (plan_at asks same hash p (at.Helps copier goal)) m2 end
-      → (t : ℕ) → Leaves t → CallGoesOwing same hash asks p w.memory m2 end (blocks.table t)
-  helps_left copier goal is setting_is s t left = by (promotes_or_stays hash copier w.memory m2 d.0 (subst (λ (y : Copying). Steps Took value_at w.memory (copier_plan_at hash copier y) m2 d.0) is d.1))
+  -- a copier that is to make the next table the root is to hand that over
+  promotes_left : (p : Copier) (end : Copier × Outcome (Node K V) Table) → p.setting ≡ setting → Steps Took value_at w.memory (copier_plan_at hash p copies.Promotes) m2 end
+      → (t : ℕ) → Leaves t → GoesOwing hash p w.memory m2 end (blocks.table t)
+  promotes_left p end setting_is s t left = by (promotes_or_stays hash p w.memory m2 end s)
     where
-      d : (e : Copier × Outcome (Node K V) Table) × Steps Took value_at w.memory (copier_plan hash copier) m2 e × (end ≡ helped p goal e)
-      d = steps_back (helped p goal) w.memory m2 (copier_plan hash copier) end s
-
-      by : ((word_at w.memory (Root copier.setting.root) ≡ Some copier.source.link) × (d.0 ≡ (copying.standing copier copies.Announces, outcome.Goes))) ⊎ (m2 ≡ w.memory)
-          → CallGoesOwing same hash asks p w.memory m2 end (blocks.table t)
+      by : ((word_at w.memory (Root p.setting.root) ≡ Some p.source.link) × (end ≡ (copying.standing p copies.Announces, outcome.Goes))) ⊎ (m2 ≡ w.memory)
+          → GoesOwing hash p w.memory m2 end (blocks.table t)
       by (inl (read, moves)) =
           let one = one_left t left in
-          let named = root_named same hash setting w c blocks map copier.source.link one.0 (subst (λ (x : Setting). word_at w.memory (Root x.root) ≡ Some copier.source.link) setting_is read) in
-          (standing p (at.Helps (copying.standing copier copies.Announces) goal), d.2 ∙ ap (helped p goal) moves, named ∙ ap (λ (x : ℕ). blocks.table x * 2048) (sym one.1))
-      by (inr e) = let first = same_memory e in let from = left.0 in let to = left.1 in absurd (omega (arith, first, from, to))
+          let named = root_named same hash setting w c blocks map p.source.link one.0 (subst (λ (x : Setting). word_at w.memory (Root x.root) ≡ Some p.source.link) setting_is read) in
+          (copying.standing p copies.Announces, moves, named ∙ ap (λ (x : ℕ). blocks.table x * 2048) (sym one.1))
+      by (inr e) = absurd (none_left t (stays (inl (ap (λ (n : Mem (Node K V)). word_at n (Root setting.root)) e))) left)
 
-  pub call_left : (IsRowOfCall p.stands → ⊥) → Steps Took value_at w.memory (call_plan asks same hash p) m2 end → (t : ℕ) → Leaves t → CallGoesOwing same hash asks p w.memory m2 end (blocks.table t)
-  call_left row s t left = by p.stands refl (call_is_promoting p.stands) refl
+  -- each other step of one leaves the root
+  pub copier_left : (p : Copier) (end : Copier × Outcome (Node K V) Table) → p.setting ≡ setting → (IsRowOfCopier p.stands → ⊥) → Steps Took value_at w.memory (copier_plan hash p) m2 end
+      → (t : ℕ) → Leaves t → GoesOwing hash p w.memory m2 end (blocks.table t)
+  copier_left p end setting_is row s t left = by p.stands refl (is_promoting p.stands) refl
     where
-      kept : (stands : Calling) → p.stands ≡ stands → call_is_promoting stands ≡ false → CallGoesOwing same hash asks p w.memory m2 end (blocks.table t)
-      kept stands is other =
-          let first = stays (root_stays asks same hash p stands other (subst (λ (x : Calling). IsRowOfCall x → ⊥) is row) w.memory m2 end
-          (subst (λ (x : Calling). Steps Took value_at w.memory (plan_at asks same hash p x) m2 end) is s) setting.root) in
-          let from = left.0 in let to = left.1 in absurd (omega (arith, first, from, to))
+      any : KeyCall K V Unit
+      any = getting p.setting 0 tt
 
-      promotes : (x : Copying) → is_promoting x ≡ true → x ≡ copies.Promotes
-      promotes copies.Promotes e = refl
-      promotes _ e = absurd (cc e)
-
-      by : (stands : Calling) → p.stands ≡ stands → (b : Bool) → call_is_promoting stands ≡ b → CallGoesOwing same hash asks p w.memory m2 end (blocks.table t)
-      by stands is false other = kept stands is other
-      by (at.Helps copier goal) is true it =
-          let point = subst (λ (x : Calling). CallingFacts same hash asks w caller setting c blocks keys change p x) is facts.point in
-          helps_left copier goal (promotes copier.stands it) point.6.setting_is (subst (λ (x : Calling). Steps Took value_at w.memory (plan_at asks same hash p x) m2 end) is s) t left
-      by (at.Copies copier) is true it =
-          let point = subst (λ (x : Calling). CallingFacts same hash asks w caller setting c blocks keys change p x) is facts.point in
-          let blocking = point.1 in absurd (cc (bits, blocking))
+      by : (stands : Copying) → p.stands ≡ stands → (b : Bool) → is_promoting stands ≡ b → GoesOwing hash p w.memory m2 end (blocks.table t)
+      by stands is false other =
+          absurd (none_left t (stays (root_stays (λ q k. true) same hash any (at.Copies p) (ap is_promoting is ∙ other) row w.memory m2 (copied any end)
+          (steps_as (copied any) Can Took value_at w.memory m2 (copier_plan hash p) end s) setting.root)) left)
+      by copies.Promotes is true it = promotes_left p end setting_is (subst (λ (x : Copying). Steps Took value_at w.memory (copier_plan_at hash p x) m2 end) is s) t left
       by _ is true it = absurd (cc it)
+
+  module _ {Q : Type 0} (asks : Q → K → Bool) (keys : K → Bool) (caller : ℕ) (change : Change) (p : KeyCall K V Q) (end : KeyCall K V Q × Called (Node K V))
+      (facts : CallFacts same hash asks w caller setting c blocks keys change p) where
+    pub call_left : (IsRowOfCall p.stands → ⊥) → Steps Took value_at w.memory (call_plan asks same hash p) m2 end → (t : ℕ) → Leaves t → CallGoesOwing same hash asks p w.memory m2 end (blocks.table t)
+    call_left row s t left = by p.stands refl facts.point
+      where
+        at_point : (stands : Calling) → p.stands ≡ stands → Steps Took value_at w.memory (plan_at asks same hash p stands) m2 end
+        at_point stands is = subst (λ (x : Calling). Steps Took value_at w.memory (plan_at asks same hash p x) m2 end) is s
+
+        kept : (stands : Calling) → p.stands ≡ stands → call_is_promoting stands ≡ false → CallGoesOwing same hash asks p w.memory m2 end (blocks.table t)
+        kept stands is other =
+            absurd (none_left t (stays (root_stays asks same hash p stands other (subst (λ (x : Calling). IsRowOfCall x → ⊥) is row) w.memory m2 end (at_point stands is) setting.root)) left)
+
+        by : (stands : Calling) → p.stands ≡ stands → CallingFacts same hash asks w caller setting c blocks keys change p stands → CallGoesOwing same hash asks p w.memory m2 end (blocks.table t)
+        by (at.Helps copier goal) is point =
+            let d = steps_back (helped p goal) w.memory m2 (copier_plan hash copier) end (at_point (at.Helps copier goal) is) in
+            let k = copier_left copier d.0 point.6.setting_is (subst (λ (x : Calling). IsRowOfCall x → ⊥) is row) d.1 t left in
+            (standing p (at.Helps k.0 goal), d.2 ∙ ap (helped p goal) k.1, k.2)
+        by (at.Copies copier) is point = let blocking = point.1 in absurd (cc (bits, blocking))
+        by at.Makes is point = kept at.Makes is refl
+        by (at.Looks l) is point = kept (at.Looks l) is refl
+        by at.Roots is point = kept at.Roots is refl
+        by at.Probes is point = kept at.Probes is refl
+        by (at.Tries word new) is point = kept (at.Tries word new) is refl
+        by (at.Counts removed) is point = kept (at.Counts removed) is refl
+        by at.Nexts is point = kept at.Nexts is refl
+        by (at.Firsts making) is point = kept (at.Firsts making) is refl
+        by (at.Allocs making) is point = kept (at.Allocs making) is refl
+        by (at.Asks asking) is point = kept (at.Asks asking) is refl
+        by (at.Disposes d answer) is point = kept (at.Disposes d answer) is refl
+        by (at.Drops over) is point = kept (at.Drops over) is refl
+        by (at.Over over) is point = kept (at.Over over) is refl

@@ -7,6 +7,8 @@ pub mod Promised
 pub mod FirstSteps
 pub mod Rows
 pub mod Within
+pub mod Rooms
+pub mod Sweeps
 pub mod Endings
 pub mod Reclaiming
 mod Samples

@@ -1,14 +1,12 @@
 -- A step of a call on one key that is none of a row, on a map in incremental mode, leaves each block somebody's behind which something may be put.
-use Rattle.std.specs.Prelude.{Option, Some, None}
-use Rattle.std.proofs.Common.{◌≡◌, ◌<◌, ◌≤◌, ℕ, Bool, true, inl, inr, ◌⊎◌, refl, ap, sym, subst, ◌∙◌}
+use Rattle.std.specs.Prelude.{Option, Some}
+use Rattle.std.proofs.Common.{◌≡◌, ◌<◌, ◌≤◌, ℕ, Bool, inl, inr, ◌⊎◌, ap, sym, subst, ◌∙◌}
 use Rattle.seize.specs.World.{World, Rests, IsInside}
 use Rattle.papaya_tables.specs.declared.node.Node.{Node}
 use Rattle.papaya_raw.specs.declared.machines.answer.Called.{Called}
-use Rattle.papaya_raw.specs.declared.machines.answer.Called.TheVariants as called
 use Rattle.papaya_raw.specs.declared.machines.call.KeyCall.{KeyCall}
 use Rattle.papaya_rule.specs.InWorld.{IsMapIn}
 use Rattle.papaya_points.specs.FactsCalls.{Unchanged, CallFacts}
-use Rattle.papaya_points.specs.Told.{IsRowOfCall}
 use Rattle.papaya_late.specs.LateCalls.{LateCallFacts}
 use Rattle.papaya_callers.specs.Sights.{seen_by}
 use Rattle.papaya_callers.specs.Together.{UnderWay, OnKey, CallOnKey, Knows, Stands, in_slot, next_of, change_told}
@@ -67,8 +65,8 @@ module _ {K Q : Type 0} (V : Type 0) (same : K → K → Bool) (asks : Q → K �
 
       goes : (t : ℕ) → s.chart.first ≤ t → t < st.step.went.c2.first → CallGoesOwing same s.hash asks u.call w.memory m2 (p2, progress) (s.blocks.table t)
       goes t from left =
-          call_left same s.hash asks (in_slot s.setting (slot i)) u.keys w st.step.went.w2 s.chart st.step.went.c2 (seen_by s.blocks (s.sights (slot i))) st.step.went.blocks2 map st.step.went.map
-          st.step.went.moved st.step.went.blocks_same i u.change m2 st.step.went.memory u.call (p2, progress) (facts_of knows.1) bits row steps t (from, left)
+          call_left same s.hash (in_slot s.setting (slot i)) w st.step.went.w2 s.chart st.step.went.c2 (seen_by s.blocks (s.sights (slot i))) st.step.went.blocks2 map st.step.went.map
+          st.step.went.moved st.step.went.blocks_same m2 st.step.went.memory bits asks u.keys i u.change u.call (p2, progress) (facts_of knows.1) row steps t (from, left)
 
       owing : (b : ℕ) → CallGoesOwing same s.hash asks u.call w.memory m2 (p2, progress) b → (st.step.went.w2.row i ≡ Rests) × (u2 : UnderWay K V Q) × (next ≡ Some u2) × IsDue u2 b
       owing b (q, is, due) = (

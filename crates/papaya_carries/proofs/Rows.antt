@@ -1,6 +1,6 @@
 -- A step of a row within a call, a reservation or a sweep: what its copier was to hand over next it has begun to retire, and is within that row.
 use Rattle.std.specs.Prelude.{◌*◌}
-use Rattle.std.proofs.Common.{◌≡◌, ℕ, Bool, refl, ap, sym, subst, ◌∙◌}
+use Rattle.std.proofs.Common.{◌≡◌, ℕ, Bool, refl, sym, subst}
 use Rattle.seize_words.specs.Mem.{Mem, Took, value_at}
 use Rattle.seize_words.specs.Plan.{Steps}
 use Rattle.seize.specs.Settle.{settle_plan}
@@ -39,10 +39,10 @@ use Rattle.papaya_late.specs.ToldSweeps.{IsRowOfSweep}
 use Rattle.papaya_callers.specs.OverAll.{CallOverAll, gone_on, row_of_sweep}
 use Rattle.papaya_callers.specs.Rooms.{CallForRoom, row_of_room}
 use Rattle.papaya_callers.specs.Rows.{row_of, row_of_copier}
-use Rattle.papaya_callers.specs.Together.{UnderWay, OnKey, ForRoom, OverAll, CallOnKey, next_of, next_for_room, next_over_all}
+use Rattle.papaya_callers.specs.Together.{OnKey, ForRoom, OverAll, CallOnKey, next_of, next_for_room, next_over_all}
 use Rattle.papaya_carries.specs.Theirs.{IsDueAt, IsDueOfCall, IsDueOfRoom, IsDueOfSweep}
 use Rattle.papaya_carries.proofs.FirstSteps.{IsRetiring, retires_first}
-use Rattle.std.specs.Prelude.{Option, Some}
+use Rattle.std.specs.Prelude.{Some}
 
 -- this row is the retirement of this block, which has begun
 abbrev pub IsItsRow : ℕ → Row → Type 0

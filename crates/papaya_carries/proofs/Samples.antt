@@ -1,6 +1,6 @@
 -- What the definition refuses: a table that a call has unlinked and forgotten, and one whose call goes on elsewhere.
 use Rattle.std.specs.Prelude.{◌≢◌, Option, Some, None}
-use Rattle.std.proofs.Common.{◌≡◌, ◌≤◌, ℕ, inl, inr, sym, subst, ◌∙◌}
+use Rattle.std.proofs.Common.{◌≡◌, ◌≤◌, ℕ, inl, inr, sym, subst}
 use Rattle.seize_words.specs.Mem.{value_at}
 use Rattle.seize.specs.World.{World, Cutting}
 use Rattle.seize_acts.specs.Reclaimed.{IsStillHad}

@@ -1,5 +1,5 @@
 -- Whose a block is that users have, and behind which something may be put, over a step of a row within a call, a reservation or a sweep.
-use Rattle.std.specs.Prelude.{◌≢◌, ◌*◌, Option, Some, None}
+use Rattle.std.specs.Prelude.{◌≢◌, ◌*◌, Option, Some}
 use Rattle.std.proofs.Common.{◌≡◌, ℕ, Bool, ◌⊎◌, inl, inr, refl, arith, ap, sym, subst, ◌∙◌}
 use Rattle.std.proofs.lemmas.Bool.{cases_eq}
 use Rattle.seize_words.specs.Mem.{Mem, value_at}
@@ -16,9 +16,6 @@ use Rattle.seize_alone.proofs.Histories.Reached.{Reached, happens_reached}
 use Rattle.papaya_tables.specs.Nodes.{deferred_word}
 use Rattle.papaya_tables.specs.declared.node.Node.{Node}
 use Rattle.papaya_tables.specs.declared.setting.Setting.{Setting}
-use Rattle.papaya_raw.specs.declared.machines.answer.Called.{Called}
-use Rattle.papaya_raw.specs.declared.machines.answer.Called.TheVariants as called
-use Rattle.papaya_raw.specs.declared.machines.call.KeyCall.{KeyCall}
 use Rattle.papaya_rule.proofs.World.Hands.{at_cases}
 use Rattle.papaya_callers.specs.OverAll.{gone_on, row_of_sweep}
 use Rattle.papaya_callers.specs.Rooms.{CallForRoom, row_of_room}

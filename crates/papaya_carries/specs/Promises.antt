@@ -24,14 +24,14 @@ use Rattle.papaya_rule.specs.Words.{Blocks}
 use Rattle.papaya_points.specs.Told.{IsRowOfCall}
 use Rattle.papaya_late.specs.ToldReserves.{IsRowOfReserve}
 use Rattle.papaya_late.specs.ToldSweeps.{IsRowOfSweep}
-use Rattle.papaya_callers.specs.OverAll.{CallOverAll, gone_on}
+use Rattle.papaya_callers.specs.OverAll.{CallOverAll, come_to, gone_on}
 use Rattle.papaya_callers.specs.Rooms.{CallForRoom}
 use Rattle.papaya_callers.specs.Together.{UnderWay, OnKey, ForRoom, OverAll, CallOnKey, IsOfSlots, next_of, next_for_room, next_over_all, change_told}
 use Rattle.papaya_finishes.specs.Endings.{Finishing, finishing_of, HasFinished, EndingsTogether, StepsAmong, RowStepsAmong, StepsOfEnding}
 use Rattle.papaya_finishes.specs.Makings.{Beginning}
 use Rattle.papaya_finishes.specs.Maps.{Standing, IsSameMap, with_call}
-use Rattle.papaya_finishes.specs.Rooms.{RoomRowsAmong}
-use Rattle.papaya_finishes.specs.Sweeps.{SweepRowsAmong}
+use Rattle.papaya_finishes.specs.Rooms.{RoomRowsAmong, RoomStepsAmong}
+use Rattle.papaya_finishes.specs.Sweeps.{SweepRowsAmong, SweepStepsAmong}
 use Rattle.papaya_reclaims.specs.Deferred.{OnlyPairsWait, OnlyTheyCarry}
 use Rattle.papaya_reclaims.specs.Left.{GoesOnBy}
 use Rattle.papaya_reclaims.specs.Reclaims.{AllIsReclaimed, AllStandIdle, StepsOfReclaiming}
@@ -71,6 +71,28 @@ module _ {K Q : Type 0} (V : Type 0) (same : K → K → Bool) (asks : Q → K �
       → LinksKnown i w st.step.went.w2 st.step.went.c2 st.step.went.blocks2
       → AllAreTheirs st.step.went.w2 (with_at maps m (Some (record s { chart = st.step.went.c2; blocks = st.step.blocks2; sights = st.step.sights2 })))
       (with_call calls m i (next_of (record { keys = u.keys; pair = u.pair; began = u.began; change = change_told V same s.hash asks s.setting slot st.step.went.told; call = p2 }) progress)) enders
+
+  -- So does a reservation.
+  abbrev pub RoomsKeepTheirs : Type 0
+  RoomsKeepTheirs =
+      EndingsTogether V same asks batch_size roots slot w maps calls makers enders → AllAreTheirs w maps calls enders
+      → (m : ℕ) (s : Standing K) → maps m ≡ Some s → is_incremental s.setting.mode ≡ true → (i : ℕ) (r : CallForRoom) → calls m i ≡ Some (ForRoom r) → (IsRowOfReserve r.reserve.stands → ⊥)
+      → (m2 : Mem (Node K V)) (p2 : Reserve) (end : Outcome (Node K V) Unit) → Steps Took value_at w.memory (reserve_plan s.hash r.reserve) m2 (p2, end)
+      → (st : RoomStepsAmong V same asks batch_size roots slot w maps calls makers enders m s i r m2 p2 end)
+      → LinksKnown i w st.step.went.w2 st.step.went.c2 st.step.went.blocks2
+      → AllAreTheirs st.step.went.w2 (with_at maps m (Some (record s { chart = st.step.went.c2; blocks = st.step.blocks2; sights = st.step.sights2 })))
+      (with_call calls m i (next_for_room (record { began = r.began; reserve = p2 }) end)) enders
+
+  -- And so does a sweep.
+  abbrev pub SweepsKeepTheirs : Type 0
+  SweepsKeepTheirs =
+      EndingsTogether V same asks batch_size roots slot w maps calls makers enders → AllAreTheirs w maps calls enders
+      → (m : ℕ) (s : Standing K) → maps m ≡ Some s → is_incremental s.setting.mode ≡ true → (i : ℕ) (o : CallOverAll) → calls m i ≡ Some (OverAll o) → (IsRowOfSweep o.sweep.stands → ⊥)
+      → (m2 : Mem (Node K V)) (p2 : Sweep) (end : Swept (Node K V)) → Steps Took value_at w.memory (sweep_plan s.hash o.sweep) m2 (p2, end)
+      → (st : SweepStepsAmong V same asks batch_size roots slot w maps calls makers enders m s i o m2 p2 end)
+      → LinksKnown i w st.step.went.w2 st.step.went.c2 st.step.went.blocks2
+      → AllAreTheirs st.step.went.w2 (with_at maps m (Some (record s { chart = st.step.went.c2; blocks = st.step.blocks2; sights = st.step.sights2 })))
+      (with_call calls m i (next_over_all (come_to o st.step.entered2 st.step.done2 p2) end)) enders
 
   -- A row within a call on one key begins, or goes on.
   abbrev pub RowsKeepTheirs : Type 0
