@@ -1,0 +1,14 @@
+pub mod Hands
+pub mod Owed
+pub mod Calls
+pub mod Keys
+pub mod Guards
+pub mod Promised
+pub mod FirstSteps
+pub mod Rows
+pub mod Within
+pub mod Rooms
+pub mod Sweeps
+pub mod Endings
+pub mod Reclaiming
+mod Samples

@@ -1,0 +1,26 @@
+-- Rows between calls, steps of calls on one key and of rows within them, ends of maps, and rest.
+use Rattle.papaya_carries.proofs.Endings.{endings_begin_and_keep_theirs, endings_keep_theirs}
+use Rattle.papaya_carries.proofs.Guards.{changes_keep_theirs, guards_keep_theirs, only_tables_carry}
+use Rattle.papaya_carries.proofs.Promised.{calls_keep_theirs}
+use Rattle.papaya_carries.proofs.Reclaiming.{reclaiming_keeps_theirs, nothing_else_waits}
+use Rattle.papaya_carries.proofs.Rooms.{rooms_keep_theirs}
+use Rattle.papaya_carries.proofs.Sweeps.{sweeps_keep_theirs}
+use Rattle.papaya_carries.proofs.Within.{rows_keep_theirs, room_rows_keep_theirs, sweep_rows_keep_theirs}
+use Rattle.papaya_carries.proofs.law.what_carries_is_somebodys.Goals as goal
+
+pub returns : goal.returns
+returns c d = record {
+  rest = only_tables_carry _;
+  changes = changes_keep_theirs _;
+  guards = guards_keep_theirs _;
+  calls = calls_keep_theirs _;
+  rooms = rooms_keep_theirs _;
+  sweeps = sweeps_keep_theirs _;
+  rows = rows_keep_theirs _;
+  room_rows = room_rows_keep_theirs _;
+  sweep_rows = sweep_rows_keep_theirs _;
+  endings_begin = endings_begin_and_keep_theirs _;
+  endings = endings_keep_theirs _;
+  reclaiming = reclaiming_keeps_theirs _;
+  waits = nothing_else_waits _;
+}

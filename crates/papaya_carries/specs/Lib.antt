@@ -1,0 +1,2 @@
+pub mod Theirs
+pub mod Promises
