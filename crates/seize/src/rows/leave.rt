@@ -1,9 +1,9 @@
 //! A slot's section ends: its list is taken, and counted down.
 ghost use Rattle.std.specs.Prelude.{◌≡◌, true, false};
-ghost use Rattle.seize_words.specs.Plan.{May, Steps, plan_as};
+ghost use Rattle.seize_words.specs.Plan.{May, Steps};
+ghost use Rattle.seize.specs.declared.rows.leave.Leaving.TheVariants as at;
 ghost use Rattle.seize.specs.declared.states.TheConstants.{IDLE, ACTIVE};
-ghost use Rattle.seize.specs.Settle.{settle_plan};
-ghost use Rattle.seize.specs.Leave.{leaving, counted_down, swaps, settled, frees};
+ghost use Rattle.seize.specs.Leave.{leaving, counted_down, standing, swaps, settled, frees, leave_plan};
 
 use crate::machine::Machine;
 use crate::rows::settle::{Defers, Settle, Settled};
@@ -87,20 +87,23 @@ impl Leave {
         Settled::Goes
     }
 
-    /// Takes a step of the settling.
-    fn settles<T: Defers, M: Memory<T>>(&mut self, memory: &mut M, mut settle: Settle) -> Settled<T>
-        requires { May M.can M.took M.shown memory.old (plan_as (settled self.old) (settle_plan T.defers settle)) }
-        ensures { Steps M.took M.shown memory.old (plan_as (settled self.old) (settle_plan T.defers settle)) memory.new (self.new, result) }
+    /// Takes a step of the settling, where it stands.
+    fn settles<T: Defers, M: Memory<T>>(&mut self, memory: &mut M) -> Settled<T>
+        requires settling { (settle : Settle) × (self.old.stands ≡ at.Settles settle) }
+        requires may { May M.can M.took M.shown memory.old (leave_plan T.defers self.old) }
+        ensures { Steps M.took M.shown memory.old (leave_plan T.defers self.old) memory.new (self.new, result) }
     {
+        let Leaving::Settles(settle) = &mut self.stands else {
+            unreachable!()
+        };
         let progress = settle.step(memory);
-        self.settled(settle, progress)
+        self.settled(progress)
     }
 
     /// Goes on after a step of the settling.
-    fn settled<T>(&mut self, settle: Settle, progress: Settled<T>) -> Settled<T>
-        ensures { (self.new, result) ≡ settled self.old (settle, progress) }
+    fn settled<T>(&mut self, progress: Settled<T>) -> Settled<T>
+        ensures { (begun : Leave) (settle : Settle) → self.old ≡ standing begun (at.Settles settle) → (self.new, result) ≡ settled begun (settle, progress) }
     {
-        self.stands = Leaving::Settles(settle);
         match progress {
             Settled::Goes => Settled::Goes,
             Settled::Waits => Settled::Waits,
@@ -135,8 +138,6 @@ impl Leave {
 }
 
 impl<T: Defers> Machine<T> for Leave {
-    ghost use Rattle.seize.specs.Leave.{leave_plan};
-
     type Progress = Settled<T>;
 
     ghost plan = { leave_plan T.defers };
@@ -144,7 +145,7 @@ impl<T: Defers> Machine<T> for Leave {
     fn step<M: Memory<T>>(&mut self, memory: &mut M) -> Settled<T> {
         match self.stands {
             Leaving::Swaps => self.swaps(memory),
-            Leaving::Settles(settle) => self.settles(memory, settle),
+            Leaving::Settles(_) => self.settles(memory),
             Leaving::Frees => self.frees(memory),
             Leaving::Over => Settled::Done,
         }
