@@ -1,14 +1,14 @@
 //! The disposal of a pair that was taken out of its place.
 ghost use Rattle.std.specs.Prelude.{◌≡◌};
-ghost use Rattle.papaya_resize.specs.Dispose.{disposing, settled, deferred, reads, walks};
+ghost use Rattle.papaya_resize.specs.Dispose.{disposing, standing, settled, deferred, reads, walks, dispose_plan};
+ghost use Rattle.papaya_resize.specs.declared.dispose.Disposing.TheVariants as at;
 ghost use Rattle.seize.specs.Defer.{defer_plan};
-ghost use Rattle.seize.specs.Settle.{settle_plan};
 ghost use Rattle.seize_words.specs.Plan.{May, Steps, plan_as};
 
 use papaya_tables::marks::{BORROWED, has, link_of};
 use papaya_tables::table_words::{DEFERRED, NEXT};
 use papaya_tables::{Node, ResizeMode, Setting, Table};
-use seize::rows::{Defer, Defers, Settle, Settled};
+use seize::rows::{Defer, Settle, Settled};
 use seize::{Machine, Progress};
 use seize_words::{At, Link, Memory};
 
@@ -62,20 +62,23 @@ impl Dispose {
         }
     }
 
-    /// Takes a step of the retirement.
-    fn settles<T: Defers, M: Memory<T>>(&mut self, memory: &mut M, mut settle: Settle) -> Settled<T>
-        requires { May M.can M.took M.shown memory.old (plan_as (settled self.old) (settle_plan T.defers settle)) }
-        ensures { Steps M.took M.shown memory.old (plan_as (settled self.old) (settle_plan T.defers settle)) memory.new (self.new, result) }
+    /// Takes a step of the retirement, where it stands.
+    fn settles<K, V, M: Memory<Node<K, V>>>(&mut self, memory: &mut M) -> Settled<Node<K, V>>
+        requires settling { (settle : Settle) × (self.old.stands ≡ at.Settles settle) }
+        requires may { May M.can M.took M.shown memory.old (dispose_plan self.old) }
+        ensures { Steps M.took M.shown memory.old (dispose_plan self.old) memory.new (self.new, result) }
     {
+        let Disposing::Settles(settle) = &mut self.stands else {
+            unreachable!()
+        };
         let progress = settle.step(memory);
-        self.settled(settle, progress)
+        self.settled(progress)
     }
 
     /// Goes on after a step of the retirement.
-    fn settled<T>(&mut self, settle: Settle, progress: Settled<T>) -> Settled<T>
-        ensures { (self.new, result) ≡ settled self.old (settle, progress) }
+    fn settled<T>(&mut self, progress: Settled<T>) -> Settled<T>
+        ensures { (begun : Dispose) (settle : Settle) → self.old ≡ standing begun (at.Settles settle) → (self.new, result) ≡ settled begun (settle, progress) }
     {
-        self.stands = Disposing::Settles(settle);
         match progress {
             Settled::Goes => Settled::Goes,
             Settled::Waits => Settled::Waits,
@@ -146,15 +149,13 @@ impl Dispose {
 }
 
 impl<K, V> Machine<Node<K, V>> for Dispose {
-    ghost use Rattle.papaya_resize.specs.Dispose.{dispose_plan};
-
     type Progress = Settled<Node<K, V>>;
 
     ghost plan = { dispose_plan };
 
     fn step<M: Memory<Node<K, V>>>(&mut self, memory: &mut M) -> Settled<Node<K, V>> {
         match self.stands {
-            Disposing::Settles(settle) => self.settles(memory, settle),
+            Disposing::Settles(_) => self.settles(memory),
             Disposing::Reads => self.reads(memory),
             Disposing::Walks { table } => self.walks(memory, table),
             Disposing::Defers(defer) => self.defers(memory, defer),

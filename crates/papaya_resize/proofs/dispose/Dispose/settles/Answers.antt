@@ -1,15 +1,17 @@
 -- A step of the retirement is the disposal's, with its outcome turned.
-use Rattle.seize_words.proofs.Plans.{may_as}
+use Rattle.std.proofs.Common.{refl, subst, sym}
+use Rattle.seize_words.specs.Plan.{Steps}
 use Rattle.seize.proofs.StepsInto.{steps_into}
 use Rattle.seize.specs.Settle.{settle_plan}
-use Rattle.papaya_resize.specs.Dispose.{settled}
+use Rattle.papaya_tables.specs.Nodes.{deferred_word}
+use Rattle.papaya_resize.specs.declared.dispose.Disposing.{Disposing}
+use Rattle.papaya_resize.specs.Dispose.{plan_at, settled}
 use Rattle.papaya_resize.proofs.dispose.Dispose.settles.Goals as goal
-
-pub step-progress-requires : goal.step-progress-requires
-step-progress-requires g c =
-    may_as (settled c.args.self.now) g.M.Look.can g.M.Look.took g.M.Look.shown c.args.memory.now (settle_plan g.T.Defers.defers c.args.settle) c.requires
 
 pub returns : goal.returns
 returns g c =
-    steps_into (settled c.args.self.now) g.M.Look.can g.M.Look.took g.M.Look.shown c.args.memory.now c.step-progress.new.memory
-    (settle_plan g.T.Defers.defers c.args.settle) (c.step-progress.new.self, c.step-progress.result) _ c.settled.ensures c.step-progress.ensures
+    subst (λ (stands : Disposing). Steps g.M.Look.took g.M.Look.shown c.args.memory.now (plan_at c.args.self.now stands)
+    c.step-progress.new.memory (c.settled.new.self, c.settled.result)) (sym c.in-Settles.is)
+    (steps_into (settled c.args.self.now) g.M.Look.can g.M.Look.took g.M.Look.shown c.args.memory.now c.step-progress.new.memory
+    (settle_plan deferred_word c.in-Settles.settle) (c.step-progress.new.self, c.step-progress.result) _
+    (c.settled.ensures c.args.self.now c.step-progress.new.self refl) c.step-progress.ensures)
