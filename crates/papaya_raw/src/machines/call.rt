@@ -164,10 +164,10 @@ impl<K: Eq + Hash + Drop, V: Drop, Q: Equivalent<K>> KeyCall<K, V, Q> {
             Calling::Nexts => self.nexts(memory),
             Calling::Firsts(making) => self.firsts(memory, making),
             Calling::Allocs(making) => self.allocs(memory, making),
-            Calling::Helps { copier, goal } => self.helps(memory, hasher, copier, goal),
+            Calling::Helps { .. } => self.helps(memory, hasher),
             Calling::Copies(copier) => self.copies(memory, hasher, copier),
             Calling::Asks(asking) => self.asks(memory, asking),
-            Calling::Disposes { dispose, answer } => self.disposes(memory, dispose, answer),
+            Calling::Disposes { .. } => self.disposes(memory),
             Calling::Drops(end) => self.drops(memory, end),
             Calling::Over(end) => end.told(),
         }

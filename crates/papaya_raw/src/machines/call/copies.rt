@@ -2,40 +2,46 @@
 ghost use Rattle.std.specs.Prelude.{◌≡◌};
 ghost use Rattle.seize_words.specs.Plan.{May, Steps, plan_as};
 ghost use Rattle.papaya_resize.specs.Copier.{copier_plan};
-ghost use Rattle.papaya_raw.specs.Call.{helped, copied};
+ghost use Rattle.papaya_raw.specs.CallPoints.{standing};
+ghost use Rattle.papaya_raw.specs.Call.{call_plan, helped, copied};
+ghost use Rattle.papaya_raw.specs.declared.machines.call.Calling.TheVariants as at;
 
 use crate::machines::answer::{Called, End};
 use crate::machines::call::{Calling, KeyCall};
 use papaya_resize::{Copier, Outcome};
-use papaya_tables::{Hashes, Node, Table};
+use papaya_tables::{Equivalent, Hashes, Node, Table};
 use seize_words::Memory;
+use std::hash::Hash;
 
-impl<K: Drop, V: Drop, Q> KeyCall<K, V, Q> {
-    /// Takes a step of the help with a resize.
+impl<K: Eq + Hash + Drop, V: Drop, Q: Equivalent<K>> KeyCall<K, V, Q> {
+    /// Takes a step of the help with a resize, where it stands.
     pub(super) fn helps<S: Hashes<K>, M: Memory<Node<K, V>>>(
         &mut self,
         memory: &mut M,
         hasher: &S,
-        mut copier: Copier,
-        goal: Table,
     ) -> Called<Node<K, V>>
-        requires { May M.can M.took M.shown memory.old (plan_as (helped self.old goal) (copier_plan (S.hash hasher.now) copier)) }
-        ensures { Steps M.took M.shown memory.old (plan_as (helped self.old goal) (copier_plan (S.hash hasher.now) copier)) memory.new (self.new, result) }
+        requires helping { (copier : Copier) × (goal : Table) × (self.old.stands ≡ at.Helps copier goal) }
+        requires may { May M.can M.took M.shown memory.old (call_plan Q.Equivalent.equivalent K.eq (S.hash hasher.now) self.old) }
+        ensures { Steps M.took M.shown memory.old (call_plan Q.Equivalent.equivalent K.eq (S.hash hasher.now) self.old) memory.new (self.new, result) }
     {
+        let Calling::Helps { copier, goal } = &mut self.stands else {
+            unreachable!()
+        };
+        let goal = *goal;
         let progress = copier.step(memory, hasher);
-        self.after_help(goal, copier, progress)
+        self.after_help(goal, progress)
     }
+}
 
+impl<K: Drop, V: Drop, Q> KeyCall<K, V, Q> {
     /// Goes on after a step of the help.
     fn after_help(
         &mut self,
         goal: Table,
-        copier: Copier,
         progress: Outcome<Node<K, V>, Table>,
     ) -> Called<Node<K, V>>
-        ensures { (self.new, result) ≡ helped self.old goal (copier, progress) }
+        ensures { (begun : KeyCall K V Q) (copier : Copier) → self.old ≡ standing begun (at.Helps copier goal) → (self.new, result) ≡ helped begun goal (copier, progress) }
     {
-        self.stands = Calling::Helps { copier, goal };
         match progress {
             Outcome::Goes => Called::Goes,
             Outcome::Waits => Called::Waits,

@@ -1,8 +1,9 @@
 //! Tries of the key at a table: what a word says, and its exchange.
 ghost use Rattle.std.specs.Prelude.{◌≡◌, true, false};
 ghost use Rattle.seize_words.specs.Plan.{May, MaySee, Steps, Ends};
-ghost use Rattle.papaya_raw.specs.CallPoints.{at_free, at_pair, beyond, halted, told, changed, counted, aim_of};
+ghost use Rattle.papaya_raw.specs.CallPoints.{going, at_free, at_pair, beyond, halted, told, changed, counted, aim_of};
 ghost use Rattle.papaya_raw.specs.Call.{have_one_key, word_read, probes, tries, counts};
+ghost use Rattle.papaya_raw.specs.declared.machines.call.Calling.TheVariants as at;
 
 use crate::machines::answer::{Called, KeyAnswer, Missing, There};
 use crate::machines::asking::Gap;
@@ -96,7 +97,7 @@ impl<K, V, Q> KeyCall<K, V, Q> {
             Finding::Passed => match self.trial.next() {
                 Some(trial) => {
                     self.trial = trial;
-                    self.go_to(Calling::Probes)
+                    self.probe_on()
                 }
                 None => self.go_beyond(),
             },
@@ -104,6 +105,16 @@ impl<K, V, Q> KeyCall<K, V, Q> {
             Finding::Copying => self.halt(loaded),
             Finding::There => self.is_there(word),
         }
+    }
+
+    /// Goes on with its try. Where it reads words already, it stays there: writing a point costs more than a look.
+    fn probe_on(&mut self) -> Called<Node<K, V>>
+        ensures { (self.new, result) ≡ going self.old at.Probes }
+    {
+        if let Calling::Probes = self.stands {
+            return Called::Goes;
+        }
+        self.go_to(Calling::Probes)
     }
 
     /// The key is not in the map, and the place of the try is empty.

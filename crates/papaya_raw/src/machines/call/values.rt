@@ -1,9 +1,9 @@
 //! The call's own pair, the pairs that it disposes of, and lookups.
-ghost use Rattle.std.specs.Prelude.{◌≡◌};
-ghost use Rattle.seize_words.specs.Plan.{May, Steps, plan_as};
-ghost use Rattle.papaya_resize.specs.Dispose.{dispose_plan};
-ghost use Rattle.papaya_raw.specs.CallPoints.{word_to};
-ghost use Rattle.papaya_raw.specs.Call.{makes, drops, looks, looked, disposed};
+ghost use Rattle.std.specs.Prelude.{◌≡◌, ℕ};
+ghost use Rattle.seize_words.specs.Plan.{May, Steps};
+ghost use Rattle.papaya_raw.specs.CallPoints.{word_to, standing};
+ghost use Rattle.papaya_raw.specs.Call.{makes, drops, looks, looked, disposed, call_plan};
+ghost use Rattle.papaya_raw.specs.declared.machines.call.Calling.TheVariants as at;
 
 use crate::machines::answer::{Called, End, KeyAnswer};
 use crate::machines::call::{Calling, KeyCall};
@@ -57,30 +57,10 @@ impl<K, V, Q> KeyCall<K, V, Q> {
         Called::Unstored(pair)
     }
 
-    /// Takes a step of the disposal of the pair that was there.
-    pub(super) fn disposes<M: Memory<Node<K, V>>>(
-        &mut self,
-        memory: &mut M,
-        mut dispose: Dispose,
-        answer: KeyAnswer,
-    ) -> Called<Node<K, V>>
-        requires { May M.can M.took M.shown memory.old (plan_as (disposed self.old answer) (dispose_plan dispose)) }
-        ensures { Steps M.took M.shown memory.old (plan_as (disposed self.old answer) (dispose_plan dispose)) memory.new (self.new, result) }
-    {
-        let progress = dispose.step(memory);
-        self.disposed(answer, dispose, progress)
-    }
-
     /// Goes on after a step of the disposal.
-    fn disposed(
-        &mut self,
-        answer: KeyAnswer,
-        dispose: Dispose,
-        progress: Settled<Node<K, V>>,
-    ) -> Called<Node<K, V>>
-        ensures { (self.new, result) ≡ disposed self.old answer (dispose, progress) }
+    fn disposed(&mut self, answer: KeyAnswer, progress: Settled<Node<K, V>>) -> Called<Node<K, V>>
+        ensures { (begun : KeyCall K V Q) (dispose : Dispose) → self.old ≡ standing begun (at.Disposes dispose answer) → (self.new, result) ≡ disposed begun answer (dispose, progress) }
     {
-        self.stands = Calling::Disposes { dispose, answer };
         match progress {
             Settled::Goes => Called::Goes,
             Settled::Waits => Called::Waits,
@@ -91,6 +71,20 @@ impl<K, V, Q> KeyCall<K, V, Q> {
 }
 
 impl<K: Eq + Hash, V, Q: Equivalent<K>> KeyCall<K, V, Q> {
+    /// Takes a step of the disposal of the pair that was there, where it stands.
+    pub(super) fn disposes<M: Memory<Node<K, V>>>(&mut self, memory: &mut M) -> Called<Node<K, V>>
+        requires disposing { (dispose : Dispose) × (answer : KeyAnswer) × (self.old.stands ≡ at.Disposes dispose answer) }
+        requires may { (hashes : K → ℕ) × May M.can M.took M.shown memory.old (call_plan Q.Equivalent.equivalent K.eq hashes self.old) }
+        ensures { (hashes : K → ℕ) → Steps M.took M.shown memory.old (call_plan Q.Equivalent.equivalent K.eq hashes self.old) memory.new (self.new, result) }
+    {
+        let Calling::Disposes { dispose, answer } = &mut self.stands else {
+            unreachable!()
+        };
+        let answer = *answer;
+        let progress = dispose.step(memory);
+        self.disposed(answer, progress)
+    }
+
     /// Takes a step of the lookup.
     #[tactic(auto, using(seize_words::proofs::Plans::may_as))]
     pub(super) fn looks<M: Memory<Node<K, V>>>(

@@ -5,20 +5,6 @@ use Rattle.papaya_raw.specs.declared.machines.call.Calling.{Calling}
 use Rattle.papaya_raw.specs.Call.{plan_at}
 use Rattle.papaya_raw.proofs.machines.call.KeyCall.step.Goals as goal
 
-pub returns-in-Disposes : goal.returns-in-Disposes
-returns-in-Disposes g c =
-    subst (λ (stands : Calling). Steps g.M.Look.took g.M.Look.shown c.args.memory.now
-    (plan_at g.Q.Equivalent.equivalent g.K.PartialEq.eq (g.S.Hashes.hash c.args.hasher.now) c.args.self.now stands) c.disposes.new.memory
-    (c.disposes.new.self, c.disposes.result))
-    (sym c.in-Disposes.is) c.disposes.ensures
-
-pub returns-in-Helps : goal.returns-in-Helps
-returns-in-Helps g c =
-    subst (λ (stands : Calling). Steps g.M.Look.took g.M.Look.shown c.args.memory.now
-    (plan_at g.Q.Equivalent.equivalent g.K.PartialEq.eq (g.S.Hashes.hash c.args.hasher.now) c.args.self.now stands) c.helps.new.memory
-    (c.helps.new.self, c.helps.result))
-    (sym c.in-Helps.is) c.helps.ensures
-
 pub returns-in-Copies : goal.returns-in-Copies
 returns-in-Copies g c =
     subst (λ (stands : Calling). Steps g.M.Look.took g.M.Look.shown c.args.memory.now
