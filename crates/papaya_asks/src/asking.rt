@@ -9,7 +9,7 @@ ghost use Rattle.papaya_raw.specs.declared.machines.asking.Told.TheVariants as t
 ghost use Rattle.papaya_asks.specs.Asking.{IsTaken, EndsAs, Pauses, StartsAs, ToldThis, HasKeyBack, HasPairBack};
 ghost use Rattle.papaya_owned.specs.Owned.{Holds};
 
-use papaya_owned::{OnKey, Stop, run};
+use papaya_owned::{OnKey, Stop, run_skimming};
 use papaya_raw::machines::{KeyAnswer, Reply, Told};
 use papaya_tables::{Equivalent, Hashes, Node, Setting};
 use seize_words::{Fault, Plain};
@@ -29,7 +29,7 @@ pub(crate) fn start<K: Eq + Hash + Drop, V: Drop, Q: Equivalent<K>, S: Hashes<K>
         → IsBegun V K.eq (S.hash machine.old.hasher.now) Q.Equivalent.equivalent _setting (λ i. _setting.slot) 0 keys (IsTold kind its []) machine.old.call
         → StartsAs Q.Equivalent.equivalent K.eq S.hash _setting kind its keys xs machine.old.hasher machine.new memory.new result }
 {
-    run(machine, memory)
+    run_skimming(machine, memory)
 }
 
 /// Tells a call what it has asked, and takes its steps until it has ended. It asks no more.
@@ -49,7 +49,7 @@ pub(crate) fn finish<K: Eq + Hash + Drop, V: Drop, Q: Equivalent<K>, S: Hashes<K
         → IsTaken kind.takes None reply → reply ≡ replies.Insert value → IfErr result (λ fault. HasPairBack machine.new key value) }
 {
     let _taken = machine.call.reply(reply);
-    match run(machine, memory) {
+    match run_skimming(machine, memory) {
         Ok(Stop::Answered(answer)) => Ok(answer),
         Ok(Stop::Asks(_)) => unreachable!(),
         Err(fault) => Err(fault),

@@ -8,7 +8,7 @@ ghost use Rattle.papaya_owned.specs.Owned.{Holds, EndsBy, hashed_by};
 
 use crate::asking::{finish, start};
 use crate::lent::Lent;
-use papaya_owned::{OnKey, Stop, pair_at, run};
+use papaya_owned::{OnKey, Stop, pair_at, run_skimming};
 use papaya_raw::machines::{KeyAnswer, KeyCall, Reply};
 use papaya_tables::{Equivalent, Hashes, Node, Setting};
 use seize_words::{Fault, Plain};
@@ -37,7 +37,7 @@ pub fn remove<K: Eq + Hash + Drop, V: Drop, Q: Equivalent<K>, S: BuildHasher>(
         hasher,
         unstored: None,
     };
-    run(&mut machine, memory)
+    run_skimming(&mut machine, memory)
 }
 
 /// A choice, as a reply.

@@ -31,3 +31,8 @@ module _ {T X A : Type 0} (plan : X → Plan T (X × Progress A)) where
         → Steps Took value_at m (plan x) m2 (x2, told) → Tells told result → RunsTo x m x2 m2 result
     goes : (x : X) (m : Mem T) (x1 : X) (m1 : Mem T) (told : Progress A) → GoesOn told → Steps Took value_at m (plan x) m1 (x1, told)
         → (x2 : X) (m2 : Mem T) (result : Result A Fault) → RunsTo x1 m1 x2 m2 result → RunsTo x m x2 m2 result
+
+  -- Some steps that go on and leave this memory as it is lead from the one to the other.
+  pub data Leads : Mem T → X → X → Type 0 where
+    none_taken : (m : Mem T) (x : X) → Leads m x x
+    one_more : (m : Mem T) (x y z : X) → Leads m x y → Steps Took value_at m (plan y) m (z, progress.Goes) → Leads m x z

@@ -8,6 +8,7 @@ use Rattle.seize.specs.declared.rows.leave.Leave.{Leave}
 use Rattle.seize.specs.declared.rows.settle.Settled.{Settled}
 use Rattle.seize.specs.declared.rows.settle.Settled.TheVariants as settled
 use Rattle.papaya_tables.specs.declared.node.Node.{Node}
+use Rattle.papaya_tables.specs.declared.trial.Trial.{Trial}
 use Rattle.papaya_resize.specs.declared.outcome.Outcome.{Outcome}
 use Rattle.papaya_resize.specs.declared.outcome.Outcome.TheVariants as outcome
 use Rattle.papaya_reserves.specs.Reserve.{reserve_plan}
@@ -36,6 +37,10 @@ module _ {K V Q S : Type 0} where
 
   abbrev pub on_key_plan : (Q → K → Bool) → (K → K → Bool) → (S → K → ℕ) → OnKey K V Q S → Plan (Node K V) (OnKey K V Q S × Progress Stop)
   on_key_plan asks same hashes u = plan_as (on_key_after u) (call_plan asks same (hashes u.hasher.now) u.call)
+
+-- the call is at this try
+abbrev pub at_trial : {K V Q S : Type 0} → OnKey K V Q S → Trial → OnKey K V Q S
+at_trial u trial = record u { call = record u.call { trial = trial } }
 
 abbrev pub for_room_settled : {S T : Type 0} → ForRoom S → Outcome T Unit → ForRoom S × Progress Unit
 for_room_settled r (outcome.Done end) = (r, progress.Done end)

@@ -1,6 +1,7 @@
 //! Machines that the one owner of a memory runs to their ends, and what a map's calls come to then.
 #![tactic(auto)]
 
+mod calls;
 pub mod law;
 mod looking;
 mod machines;
@@ -8,9 +9,11 @@ mod most;
 mod most_looks;
 mod rooms;
 mod running;
+mod skims;
 mod tries;
 
 pub use looking::{find, pair_at};
 pub use machines::{ForRoom, OnKey, Refreshes, Stop};
 pub use rooms::make_room;
-pub use running::run;
+pub use running::{run, run_skimming};
+pub use skims::Skims;

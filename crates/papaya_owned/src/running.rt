@@ -3,6 +3,7 @@ ghost use Rattle.std.specs.Prelude.{◌≡◌};
 ghost use Rattle.papaya_owned.specs.Ending.{Ends, RunsTo};
 
 use crate::most::Most;
+use crate::skims::Skims;
 use seize::{Machine, Progress};
 use seize_words::{Fault, Plain};
 use std::marker::PhantomData;
@@ -36,6 +37,26 @@ pub fn run<T, A, M: Machine<T, Progress = Progress<A>>>(
 {
     let mut left = most(machine, memory);
     loop {
+        match machine.step(memory) {
+            Progress::Goes | Progress::Waits => {}
+            Progress::Done(answer) => return Ok(answer),
+            Progress::Refused(fault) => return Err(fault),
+        }
+        left = most(machine, memory);
+    }
+}
+
+/// Takes the steps of a machine until it has ended, and those that it takes by themselves in that way.
+pub fn run_skimming<T, A, M: Machine<T, Progress = Progress<A>> + Skims<T, A>>(
+    machine: &mut M,
+    memory: &mut Plain<T>,
+) -> Result<A, Fault>
+    requires { Ends M.Machine.plan machine.old memory.old }
+    ensures { RunsTo M.Machine.plan machine.old memory.old machine.new memory.new result }
+{
+    let mut left = most(machine, memory);
+    loop {
+        machine.skim(memory);
         match machine.step(memory) {
             Progress::Goes | Progress::Waits => {}
             Progress::Done(answer) => return Ok(answer),

@@ -10,7 +10,7 @@ ghost use Rattle.papaya_resting.specs.Lasts.{RestsWith};
 use crate::changes::refresh;
 use crate::last::{Last, told_at};
 use papaya_asks::Refused;
-use papaya_owned::{OnKey, Stop, run};
+use papaya_owned::{OnKey, Stop, run_skimming};
 use papaya_raw::machines::{KeyAnswer, KeyCall};
 use papaya_tables::{Hashes, Node, Setting};
 use seize_words::{Fault, Plain};
@@ -36,7 +36,7 @@ fn store<K: Eq + Hash + Drop, V: Drop, S: BuildHasher>(
         hasher,
         unstored: None,
     };
-    let end = run(&mut machine, memory);
+    let end = run_skimming(&mut machine, memory);
     (end, machine.unstored)
 }
 

@@ -186,7 +186,7 @@ module _ {T X A : Type 0} (plan : X → Plan T (X × Progress A)) where
       (n, omega arith, goes_so told (within plan n x2 m2) on (steps_so m (plan x) (λ m2 end. if_goes end.1 (within plan n end.0 m2)) e m2 (x2, told) s))
 
   -- it is lower after each step
-  lower : (n : ℕ) (x : X) (m : Mem T) → within plan n x m ≡ true → (k : ℕ) (x2 : X) (m2 : Mem T) → IsLeast (λ j. within plan j x2 m2) k
+  pub lower : (n : ℕ) (x : X) (m : Mem T) → within plan n x m ≡ true → (k : ℕ) (x2 : X) (m2 : Mem T) → IsLeast (λ j. within plan j x2 m2) k
       → (told : Progress A) → GoesOn told → Steps Took value_at m (plan x) m2 (x2, told) → k < n
   lower zero x m e k x2 m2 least told on s = absurd (false≢true e)
   lower (suc n) x m e k x2 m2 least told on s =

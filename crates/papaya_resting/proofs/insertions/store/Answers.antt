@@ -3,8 +3,8 @@ use Rattle.papaya_owned.specs.Owned.{hashed_by}
 use Rattle.papaya_resting.proofs.Stores.{insertion_ends, insertion_by, insertion_back}
 use Rattle.papaya_resting.proofs.insertions.store.Goals as goal
 
-pub run-end-requires : goal.run-end-requires
-run-end-requires g c =
+pub run_skimming-end-requires : goal.run_skimming-end-requires
+run_skimming-end-requires g c =
     let r = c.requires in
     insertion_ends g.K.PartialEq.eq (hashed_by g.S.Hasher.Hasher.finish g.S.Hasher.Hasher.write g.S.BuildHasher.build_hasher g.K.Hash.hash_input) c.args.hasher c.args.setting _ r.map.0 r.map.1 r.call.1 r.call.2 r.call.0
     c.args.call r.call.3
@@ -12,9 +12,9 @@ run-end-requires g c =
 pub returns-clause-ends : goal.returns-clause-ends
 returns-clause-ends g c = λ xs kind key value has stores.
     insertion_by g.K.PartialEq.eq (hashed_by g.S.Hasher.Hasher.finish g.S.Hasher.Hasher.write g.S.BuildHasher.build_hasher g.K.Hash.hash_input) c.args.hasher c.args.setting _ xs has key value kind
-    c.args.call stores _ _ _ c.run-end.ensures
+    c.args.call stores _ _ _ c.run_skimming-end.ensures
 
 pub returns-clause-back : goal.returns-clause-back
 returns-clause-back g c = λ xs kind key value has stores.
     insertion_back g.K.PartialEq.eq (hashed_by g.S.Hasher.Hasher.finish g.S.Hasher.Hasher.write g.S.BuildHasher.build_hasher g.K.Hash.hash_input) c.args.hasher c.args.setting _ xs has key value kind
-    c.args.call stores _ _ _ c.run-end.ensures
+    c.args.call stores _ _ _ c.run_skimming-end.ensures
