@@ -6,17 +6,17 @@ use Rattle.papaya_raw.specs.declared.machines.machine.Machine.{Machine}
 use Rattle.papaya_runs.specs.Same.{is_same}
 use Rattle.papaya_schedules.specs.Beginning.{with_call}
 use Rattle.papaya_schedules.specs.Lists.{put}
-use Rattle.papaya_schedules.specs.Moment.{Moment}
+use Rattle.papaya_schedules.specs.Moment.{Moment, start}
 use Rattle.papaya_callers.specs.Together.{UnderWay}
-use Rattle.papaya_effects.specs.Known.{Known, known}
+use Rattle.papaya_effects.specs.Known.{Known, known, nothing_known}
 use Rattle.papaya_executor.specs.Beginning.{BeginLeads}
-use Rattle.papaya_executor.specs.IsAt.{Scene, IsAt, HasCall}
-use Rattle.papaya_executor.specs.declared.executor.Executor.{Executor}
+use Rattle.papaya_executor.specs.IsAt.{Scene, IsAt, HasCall, at_first}
+use Rattle.papaya_executor.specs.Replying.{scene_with}
 use Rattle.papaya_executor.specs.declared.worker.TheConstants.{SLOTS}
 use Rattle.papaya_executor.proofs.Fresh.{caller_in, no_calls_yet, resting}
 use Rattle.papaya_follows.specs.Calling.{NoneNamed}
 use Rattle.papaya_moments.specs.Whole.{ShowsWhole}
-use Rattle.papaya_moments.proofs.Calls.{calls_begin_whole}
+use Rattle.papaya_moments.proofs.Calls.{whole_begins, calls_begin_whole}
 use Rattle.papaya_logged.specs.Calling.{CallBegins}
 use Rattle.papaya_logged.specs.Shown.{IsShown}
 use Rattle.papaya_logged.specs.declared.logged.Logged.{Logged}
@@ -42,9 +42,19 @@ module _ {K V S : Type 0} (same : K → K → Bool) (hash : K → ℕ) where
           λ j has. kept i j own name (λ e. absurd (cc (has.2, subst (λ x. s.calls has.0 x ≡ None) (sym e) (no_calls_yet same hash old.executor s shown.is_at slot fits has.0)))) in
       let before = renamed same name names m (known old.notes) s agree shown.shows in
       let none : NoneNamed names (names i) s = λ n j x here. subst (λ a. is_same a (names j) ≡ false) (sym (named i own name)) (subst (λ a. is_same own a ≡ false) (sym (agree j (n, x, here))) (apart n j x here)) in
+      let after = with_call own guard call (Some map) m in
+      let then_at = scene_with map i u s in
       record {
         is_at = leads.1;
-        shows = subst (λ a. ShowsWhole same names (with_call a guard call (Some map) m) (known new.notes) _) (named i own name)
-            (subst (λ k. ShowsWhole same names _ (known k) _) (sym noted)
+        shows = subst (λ (k : Known). ShowsWhole {K = K} {V = V} same names after k then_at) (ap known (sym noted))
+            (subst (λ (a : List ℕ). ShowsWhole {K = K} {V = V} same names (with_call a guard call (Some map) m) (known old.notes) then_at) (named i own name)
             (calls_begin_whole K V same names m (known old.notes) s before map i u call guard none called begun (resting same hash old.executor s shown.is_at slot fits)));
       }
+
+-- so it is before all events, with nothing noted
+pub first_shown : {K V S : Type 0} (same : K → K → Bool) (hash : K → ℕ) (name : ℕ → List ℕ) (l : Logged K V S) (roots : ℕ) → IsAt same hash l.executor (at_first roots) → known l.notes ≡ nothing_known
+    → IsShown same hash name start l (at_first roots)
+first_shown {K} {V} same hash name l roots at noted = record {
+  is_at = at;
+  shows = subst (λ (k : Known). ShowsWhole {K = K} {V = V} same name start k (at_first roots)) (sym noted) (whole_begins K V same roots name);
+}

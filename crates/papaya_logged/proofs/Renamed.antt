@@ -17,7 +17,7 @@ module _ {K V : Type 0} (same : K → K → Bool) (name name2 : ℕ → List ℕ
   calls : ShowsCalls same name m s.calls → ShowsCalls same name2 m s.calls
   calls shown map i u here = let c = shown map i u here in (c.0, ap (λ x. call_of x m) (agree i (map, u, here)) ∙ c.1, c.2, c.3)
 
-  shows : Shows same name m known s → Shows same name2 m known s
+  abbrev shows : Shows same name m known s → Shows same name2 m known s
   shows shown = record { blocks = shown.blocks; number = shown.number; maps = shown.maps; calls = calls shown.calls }
 
   asked : (number : ℕ → ℕ → ℕ) → ShowsAsked name number m known s → ShowsAsked name2 number m known s

@@ -1,15 +1,17 @@
 -- A step of a call is written down.
-use Rattle.std.specs.Prelude.{◌≡◌, ℕ, Bool, List, ◌++◌}
-use Rattle.std.proofs.Common.{refl, subst, sym}
+use Rattle.std.specs.Prelude.{◌≡◌, ℕ, Bool, List, ◌++◌, Some}
+use Rattle.std.proofs.Common.{subst, sym}
 use Rattle.papaya_tables.specs.declared.node.Node.{Node}
 use Rattle.papaya_raw.specs.declared.machines.progress.Progress.{Progress}
 use Rattle.papaya_schedules.specs.declared.effect.Effect.{Effect}
+use Rattle.papaya_schedules.specs.Effects.{with_effects}
 use Rattle.papaya_schedules.specs.Moment.{Moment}
 use Rattle.papaya_effects.specs.Effects.{effects_of, known_after}
 use Rattle.papaya_effects.specs.Known.{Known, known}
+use Rattle.papaya_effects.specs.declared.notes.Notes.{Notes}
 use Rattle.papaya_effects.specs.declared.acting.Acting.TheVariants as acts
 use Rattle.papaya_executor.specs.IsAt.{Scene, IsAt}
-use Rattle.papaya_executor.specs.Stepping.{StepLeads}
+use Rattle.papaya_executor.specs.Stepping.{StepLeads, scene_after}
 use Rattle.papaya_executor.specs.declared.executor.Executor.{Executor}
 use Rattle.papaya_moments.proofs.Calls.{calls_keep_whole}
 use Rattle.papaya_moments.specs.Whole.{ShowsWhole}
@@ -18,6 +20,27 @@ use Rattle.papaya_logged.specs.Shown.{IsShown}
 use Rattle.papaya_logged.specs.declared.logged.Logged.{Logged}
 
 module _ {K V S : Type 0} (same : K → K → Bool) (hash : K → ℕ) where
+  goes_so : (old : Logged K V S) (stepped : Executor K V S) (notes : Notes) (i map : ℕ) (told : Progress (Node K V)) (before after : List Effect)
+      → ((s : Scene K V) → IsAt same hash old.executor s → StepLeads same hash i told s old.executor stepped)
+      → after ≡ before ++ effects_of (acts.Call i map) (known old.notes) stepped.memory.changed
+      → known notes ≡ known_after (acts.Call i map) stepped.memory.changed (known old.notes)
+      → (name : ℕ → List ℕ) (m : Moment K V) (s : Scene K V) → IsShown same hash name m old s
+      → CallGoesOn same hash name m s i map told before after old (record { executor = stepped; notes = notes })
+  goes_so old stepped notes i map told before after stepping did noted name m s shown u here =
+      let leads = stepping s shown.is_at in
+      let to = leads map u here in
+      let effects = effects_of (acts.Call i map) (known old.notes) stepped.memory.changed in
+      (
+        leads,
+        effects,
+        did,
+        record {
+          is_at = to.5;
+          shows = subst (λ (k : Known). ShowsWhole {K = K} {V = V} same name (with_effects (Some (name i)) (Some map) effects m) k (scene_after same hash s old.executor stepped map i to.0 u to.1 told to.4)) (sym noted)
+              (calls_keep_whole K V S same hash name m (known old.notes) s old.executor stepped shown.is_at shown.shows map i u here told leads);
+        },
+      )
+
   -- The executor has taken the step, and then its memory was noted: the executor stayed as it was.
   pub goes_on : (old new : Logged K V S) (stepped : Executor K V S) (i map : ℕ) (told : Progress (Node K V)) (before after : List Effect)
       → ((s : Scene K V) → IsAt same hash old.executor s → StepLeads same hash i told s old.executor stepped)
@@ -25,7 +48,6 @@ module _ {K V S : Type 0} (same : K → K → Bool) (hash : K → ℕ) where
       → known new.notes ≡ known_after (acts.Call i map) stepped.memory.changed (known old.notes)
       → new.executor ≡ stepped
       → (name : ℕ → List ℕ) (m : Moment K V) (s : Scene K V) → IsShown same hash name m old s → CallGoesOn same hash name m s i map told before after old new
-  goes_on old new stepped i map told before after stepping did noted refl name m s shown u here =
-      let leads = stepping s shown.is_at in
-      (leads, _, did, record { is_at = (leads map u here).5;
-                               shows = subst (λ k. ShowsWhole same name _ k _) (sym noted) (calls_keep_whole K V S same hash name m _ s old.executor _ shown.is_at shown.shows map i u here told leads) })
+  goes_on old new stepped i map told before after stepping did noted executor name m s shown =
+      subst (λ (e : Executor K V S). CallGoesOn same hash name m s i map told before after old (record { executor = e; notes = new.notes })) (sym executor)
+      (goes_so old stepped new.notes i map told before after stepping did noted name m s shown)
