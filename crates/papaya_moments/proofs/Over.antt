@@ -1,11 +1,11 @@
 -- Where the end of a map is over, the moment shows all of the scene.
-use Rattle.std.specs.Prelude.{◌≡◌, ℕ, suc, ◌<◌, ◌≤◌, ◌==◌, Bool, true, false, not, cond, List, [], ◌∷◌, filter, find, Option, Some, None, if◌then◌else◌}
+use Rattle.std.specs.Prelude.{◌≡◌, ℕ, suc, ◌≤◌, ◌==◌, Bool, true, false, not, cond, List, [], ◌∷◌, filter, find, Some, if◌then◌else◌}
 use Rattle.std.specs.List.{All}
 use Rattle.std.proofs.Common.{refl, ap, sym, subst, ◌∙◌, arith}
 use Rattle.std.proofs.lemmas.Bool.{eqb-true}
 use Rattle.papaya_runs.specs.Same.{is_same}
 use Rattle.papaya_schedules.specs.declared.effect.Table.{Table}
-use Rattle.papaya_schedules.specs.Moment.{MapThere, Moment}
+use Rattle.papaya_schedules.specs.Moment.{MapThere}
 use Rattle.papaya_schedules.specs.Views.{map_at}
 use Rattle.papaya_effects.specs.declared.role.Role.TheVariants as role
 use Rattle.papaya_hands.specs.Hands.{IsInUse}
