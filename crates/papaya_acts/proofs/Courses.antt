@@ -1,5 +1,5 @@
 -- By any two courses an act leads from what is alike to what is alike, and so does a list.
-use Rattle.std.specs.Prelude.{◌≢◌, Option, Some, None, option_map}
+use Rattle.std.specs.Prelude.{◌≢◌, ◌++◌, Option, Some, None, option_map}
 use Rattle.std.specs.Option.{is_none}
 use Rattle.std.proofs.Common.{◌≡◌, ℕ, Bool, true, false, List, [], ◌∷◌, ◌⊎◌, inl, inr, refl, ap, sym, subst, ◌∙◌}
 use Rattle.std.proofs.lemmas.Bool.{cases_eq}
@@ -34,7 +34,7 @@ use Rattle.papaya_points.specs.Steps.{told_first}
 use Rattle.papaya_callers.specs.Together.{UnderWay, OnKey, ForRoom, Counting, OverAll, in_slot}
 use Rattle.papaya_callers.proofs.Together.At.{at_same, at_other}
 use Rattle.papaya_callers.proofs.Together.Users.{events_rows}
-use Rattle.papaya_finishes.specs.Endings.{Finishing, finishing_of}
+use Rattle.papaya_finishes.specs.Endings.{Finishing, finishing_of, waiting_by}
 use Rattle.papaya_finishes.specs.FactsEnds.{Deed}
 use Rattle.papaya_finishes.specs.Machines.{machine_of}
 use Rattle.papaya_finishes.specs.Makings.{Beginning}
@@ -231,9 +231,12 @@ module _ {K V : Type 0} (same : K → K → Bool) (hash : K → ℕ) (batch_size
 
     ended_agree : (i : ℕ) (f f2 : Finishing K V) (machine : EndMap) (w v : World (Node K V)) (deed deed2 : Deed) → w.memory ≡ v.memory → w.row ≡ s.world.row → v.row ≡ t.world.row
         → (end : Settled (Node K V)) → EndingCame same hash batch_size roots slot s i f w deed machine n end → EndingCame same hash batch_size roots slot t i f2 v deed2 machine o end → AreAlike n o
-    ended_agree i f f2 machine w v deed deed2 memory rows rows2 settled.Goes (none, is) (none2, is2) = to _ _ is is2 (with_ends i _ _ w v refl memory rows rows2)
+    ended_agree i f f2 machine w v deed deed2 memory rows rows2 settled.Goes (none, is) (none2, is2) = to _ _ is is2
+        (with_ends i (Some (record f { machine = machine; waits = f.waits ++ waiting_by deed })) (Some (record f2 { machine = machine; waits = f2.waits ++ waiting_by deed2 })) w v refl memory rows rows2)
     ended_agree i f f2 machine w v deed deed2 memory rows rows2 settled.Waits never never2 = absurd never
-    ended_agree i f f2 machine w v deed deed2 memory rows rows2 (settled.Gave value) (b, was, taken, is) (b2, was2, taken2, is2) = to _ _ is is2 (with_ends i _ _ w v refl memory rows rows2)
+    ended_agree i f f2 machine w v deed deed2 memory rows rows2 (settled.Gave value) (b, was, taken, is) (b2, was2, taken2, is2) = to _ _ is is2
+        (with_ends i (Some (record f { machine = machine; back = f.back ++ b ∷ []; waits = f.waits ++ waiting_by deed }))
+        (Some (record f2 { machine = machine; back = f2.back ++ b2 ∷ []; waits = f2.waits ++ waiting_by deed2 })) w v refl memory rows rows2)
     ended_agree i f f2 machine w v deed deed2 memory rows rows2 settled.Done (none, finished, is) (none2, finished2, is2) = to _ _ is is2 (with_ends i None None w v refl memory rows rows2)
 
     -- a row between calls has gone on
