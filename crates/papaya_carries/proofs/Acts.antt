@@ -30,11 +30,11 @@ use Rattle.papaya_acts.specs.Acts.{Act, Answer, begun}
 use Rattle.papaya_acts.specs.Acts.{BeginsCall, StepsCall, TellsCall, AsksCall, StopsCall, BeginsMaking, StepsMaking, BeginsEnding, StepsEnding, BeginsRow, StepsRow}
 use Rattle.papaya_acts.specs.Leads.{MayBe, AllStand, Led, MakingCame, EndingCame}
 use Rattle.papaya_acts.proofs.Tests.{none_is}
-use Rattle.papaya_carries.specs.Lists.{AreTheirs, ActLinksIts, ActsKeepTheirs}
+use Rattle.papaya_carries.specs.Lists.{AreTheirs, ActIsOnIncremental, ActsKeepTheirs}
 use Rattle.papaya_carries.specs.Theirs.{IsDue, AllAreTheirs}
 use Rattle.papaya_carries.proofs.Endings.{endings_begin_and_keep_theirs, endings_keep_theirs}
 use Rattle.papaya_carries.proofs.Guards.{changes_keep_theirs, guards_keep_theirs}
-use Rattle.papaya_carries.proofs.Kinds.{kind_theirs}
+use Rattle.papaya_carries.proofs.Machines.{kind_theirs}
 use Rattle.papaya_carries.proofs.Makings.{makings_keep_theirs}
 use Rattle.papaya_carries.proofs.Owed.{one_some}
 use Rattle.papaya_carries.proofs.Told.{told_due, next_due, not_stopped}
@@ -96,7 +96,7 @@ module _ {K V : Type 0} (same : K → K → Bool) (hash : K → ℕ) (batch_size
           to _ is ((endings_keep_theirs V same same batch_size roots slot s.world s.maps s.calls s.makers s.enders theirs i f ends m2 (machine, settled.Done) d).1 finished)
 
   pub by_act : (act : Act K V) → MayBe same hash batch_size roots slot act s → (told : Answer K V) (led : Led same hash batch_size roots slot act s told n)
-      → ActLinksIts V same hash batch_size roots slot act s told n led → AreTheirs n
+      → ActIsOnIncremental V same hash batch_size roots slot act s told n led → AreTheirs n
   by_act (BeginsCall i m wanted) may told (standing, stands, none, is) links =
       to _ is (changed m i (Some (begun same slot standing i wanted)) (λ u b here due. absurd (let free = none_is (s.calls m i) (may.0.no_call m) in cc (free, here))))
   by_act (StepsCall i m g) may told led links =

@@ -19,7 +19,7 @@ use Rattle.papaya_acts.specs.Acts.{Act}
 use Rattle.papaya_acts.specs.Leads.{AllStand}
 use Rattle.papaya_acts.specs.Lists.{Course, Reached, LedTo}
 use Rattle.papaya_acts.specs.Reclaiming.{IsReclaimingAll, ReclaimedOn}
-use Rattle.papaya_carries.specs.Lists.{AreTheirs, IsAtRest, IsLeft, ReclaimsTo, AllLinkTheirs, ListsKeepTheirs, ReclaimingBeginsThere, OnlyPairsWaitThere}
+use Rattle.papaya_carries.specs.Lists.{AreTheirs, IsAtRest, IsLeft, ReclaimsTo, AllAreOnIncremental, ListsKeepTheirs, ReclaimingBeginsThere, OnlyPairsWaitThere}
 use Rattle.papaya_carries.proofs.Acts.{by_act}
 use Rattle.papaya_carries.proofs.Guards.{none_begins}
 use Rattle.papaya_carries.proofs.Left as left

@@ -24,8 +24,8 @@ use Rattle.papaya_carries.proofs.Keys.{CallGoesOwing, call_due_stays, call_left}
 module _ {K Q : Type 0} (V : Type 0) (same : K → K → Bool) (asks : Q → K → Bool) (batch_size roots : ℕ) (slot : ℕ → ℕ)
     (w : World (Node K V)) (maps : ℕ → Option (Standing K)) (calls : ℕ → ℕ → Option (UnderWay K V Q)) (makers : ℕ → Option (Beginning K)) (enders : ℕ → Option (Finishing K V)) where
   pub calls_keep_theirs : CallsKeepTheirs V same asks batch_size roots slot w maps calls makers enders
-  calls_keep_theirs all theirs m s here bits i u has row m2 p2 progress steps st links =
-      went_theirs V same asks batch_size slot w maps calls enders all.makings.standing m s here i (OnKey u) has m2 _ st.step.went st.step.blocks2 st.step.grown st.step.sights2 next links theirs
+  calls_keep_theirs all theirs m s here bits i u has row m2 p2 progress steps st =
+      went_theirs V same asks batch_size slot w maps calls enders all.makings.standing m s here i (OnKey u) has m2 _ st.step.went st.step.blocks2 st.step.grown st.step.sights2 next theirs
       (λ b t from left at. owing b (subst (λ (x : ℕ). CallGoesOwing same s.hash asks u.call w.memory m2 (p2, progress) x) (sym at) (goes t from left)))
       (λ b due rests. owing b (call_due_stays same s.hash asks u.call w.memory m2 (p2, progress) b u.call.stands row steps due))
     where

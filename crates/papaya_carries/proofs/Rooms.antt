@@ -55,8 +55,8 @@ same_first {K} hash mode c c2 (inr (len, limit, e)) = ap (λ (x : Chart K). x.fi
 module _ {K Q : Type 0} (V : Type 0) (same : K → K → Bool) (asks : Q → K → Bool) (batch_size roots : ℕ) (slot : ℕ → ℕ)
     (w : World (Node K V)) (maps : ℕ → Option (Standing K)) (calls : ℕ → ℕ → Option (UnderWay K V Q)) (makers : ℕ → Option (Beginning K)) (enders : ℕ → Option (Finishing K V)) where
   pub rooms_keep_theirs : RoomsKeepTheirs V same asks batch_size roots slot w maps calls makers enders
-  rooms_keep_theirs all theirs m s here bits i r has row m2 p2 end steps st links =
-      went_theirs V same asks batch_size slot w maps calls enders all.makings.standing m s here i (ForRoom r) has m2 _ st.step.went st.step.blocks2 st.step.grown st.step.sights2 next links theirs
+  rooms_keep_theirs all theirs m s here bits i r has row m2 p2 end steps st =
+      went_theirs V same asks batch_size slot w maps calls enders all.makings.standing m s here i (ForRoom r) has m2 _ st.step.went st.step.blocks2 st.step.grown st.step.sights2 next theirs
       (λ b t from left at. owing b (subst (λ (x : ℕ). RoomGoesOwing (p2, end) x) (sym at) (goes t from left)))
       (λ b due rests. owing b (room_due_stays s.hash r.reserve w.memory m2 (p2, end) b r.reserve.stands row steps due))
     where

@@ -56,8 +56,8 @@ same_first {K} hash mode c c2 (inr (t, i, e)) = ap (λ (x : Chart K). x.first) e
 module _ {K Q : Type 0} (V : Type 0) (same : K → K → Bool) (asks : Q → K → Bool) (batch_size roots : ℕ) (slot : ℕ → ℕ)
     (w : World (Node K V)) (maps : ℕ → Option (Standing K)) (calls : ℕ → ℕ → Option (UnderWay K V Q)) (makers : ℕ → Option (Beginning K)) (enders : ℕ → Option (Finishing K V)) where
   pub sweeps_keep_theirs : SweepsKeepTheirs V same asks batch_size roots slot w maps calls makers enders
-  sweeps_keep_theirs all theirs m s here bits i o has row m2 p2 end steps st links =
-      went_theirs V same asks batch_size slot w maps calls enders all.makings.standing m s here i (OverAll o) has m2 _ st.step.went st.step.blocks2 st.step.grown st.step.sights2 next links theirs
+  sweeps_keep_theirs all theirs m s here bits i o has row m2 p2 end steps st =
+      went_theirs V same asks batch_size slot w maps calls enders all.makings.standing m s here i (OverAll o) has m2 _ st.step.went st.step.blocks2 st.step.grown st.step.sights2 next theirs
       (λ b t from left at. owing b (subst (λ (x : ℕ). SweepGoesOwing (p2, end) x) (sym at) (goes t from left)))
       (λ b due rests. owing b (sweep_due_stays s.hash o.sweep w.memory m2 (p2, end) b o.sweep.stands row steps due))
     where

@@ -31,7 +31,7 @@ use Rattle.papaya_finishes.specs.Machines.{machine_of}
 use Rattle.papaya_finishes.specs.Makings.{Beginning}
 use Rattle.papaya_finishes.specs.Maps.{Standing, IsSameMap, with_call}
 use Rattle.papaya_reclaims.specs.Deferred.{IsLinkedTable}
-use Rattle.papaya_carries.specs.Lists.{Did, LinksIts}
+use Rattle.papaya_carries.specs.Lists.{Did, IsOnIncremental}
 use Rattle.papaya_carries.specs.Theirs.{IsDue, IsTheirs, AllAreTheirs}
 use Rattle.papaya_carries.proofs.Guards.{theirs_by}
 use Rattle.papaya_carries.proofs.Owed.{one_some, owed_with}
@@ -177,16 +177,16 @@ module _ {K Q : Type 0} (V : Type 0) (same : K → K → Bool) (asks : Q → K �
 
   pub kind_theirs : (u : UnderWay K V Q) → calls m i ≡ Some u → (machine : Machine K V Q) (told : Progress (Node K V)) → Steps Took value_at w.memory (machine_plan asks same s.hash (machine_of u)) m2 (machine, told)
       → (did : Did same asks batch_size roots slot w maps calls makers enders m s i m2 w2 maps2 next u machine told)
-      → LinksIts same asks batch_size roots slot w maps calls makers enders m s i m2 w2 maps2 next u machine told did → Then
-  kind_theirs (OnKey u) has machine told steps (p2, end, is, tells, inl (st, moved)) (bits, links) =
+      → IsOnIncremental same asks batch_size roots slot w maps calls makers enders m s i m2 w2 maps2 next u machine told did → Then
+  kind_theirs (OnKey u) has machine told steps (p2, end, is, tells, inl (st, moved)) bits =
       come _ _ _ moved (calls_keep_theirs V same asks batch_size roots slot w maps calls makers enders all theirs m s here bits i u has st.no_row m2 p2 end
-      (key_steps asks same s.hash w.memory m2 machine told u.call p2 end is tells steps) st links)
+      (key_steps asks same s.hash w.memory m2 machine told u.call p2 end is tells steps) st)
   kind_theirs (OnKey u) has machine told steps (p2, end, is, tells, inr (st, stayed)) links =
       stay st.step.w2 st.together.0 _ st.together.1 stayed (rows_keep_theirs V same asks batch_size roots slot w maps calls makers enders all theirs m s here i u has st.is_row m2 p2 end
       (key_steps asks same s.hash w.memory m2 machine told u.call p2 end is tells steps) st)
-  kind_theirs (ForRoom r) has machine told steps (p2, end, is, tells, inl (st, moved)) (bits, links) =
+  kind_theirs (ForRoom r) has machine told steps (p2, end, is, tells, inl (st, moved)) bits =
       come _ _ _ moved (rooms_keep_theirs V same asks batch_size roots slot w maps calls makers enders all theirs m s here bits i r has st.no_row m2 p2 end
-      (room_steps asks same s.hash w.memory m2 machine told r.reserve p2 end is tells steps) st links)
+      (room_steps asks same s.hash w.memory m2 machine told r.reserve p2 end is tells steps) st)
   kind_theirs (ForRoom r) has machine told steps (p2, end, is, tells, inr (st, stayed)) links =
       stay st.step.w2 st.together.0 _ st.together.1 stayed (room_rows_keep_theirs V same asks batch_size roots slot w maps calls makers enders all theirs m s here i r has st.is_row m2 p2 end
       (room_steps asks same s.hash w.memory m2 machine told r.reserve p2 end is tells steps) st)
@@ -194,9 +194,9 @@ module _ {K Q : Type 0} (V : Type 0) (same : K → K → Bool) (asks : Q → K �
       theirs_by w w maps maps2 calls enders (with_call calls m i (next_of_counting sum2 end)) same2 b
       (owed_with w w maps maps2 calls enders enders m i (next_of_counting sum2 end) b (λ n j v under ne rests. rests)
       (λ v under due rests. absurd (subst (λ (x : UnderWay K V Q). IsDue x b) (one_some (calls m i) v (Counting sum) under has) due))) (theirs b can))
-  kind_theirs (OverAll o) has machine told steps (p2, end, is, tells, inl (st, moved)) (bits, links) =
+  kind_theirs (OverAll o) has machine told steps (p2, end, is, tells, inl (st, moved)) bits =
       come _ _ _ moved (sweeps_keep_theirs V same asks batch_size roots slot w maps calls makers enders all theirs m s here bits i o has st.no_row m2 p2 end
-      (sweep_steps asks same s.hash w.memory m2 machine told o.sweep p2 end is tells steps) st links)
+      (sweep_steps asks same s.hash w.memory m2 machine told o.sweep p2 end is tells steps) st)
   kind_theirs (OverAll o) has machine told steps (p2, end, is, tells, inr (st, stayed)) links =
       stay st.step.w2 st.together.0 _ st.together.1 stayed (sweep_rows_keep_theirs V same asks batch_size roots slot w maps calls makers enders all theirs m s here i o has st.is_row m2 p2 end
       (sweep_steps asks same s.hash w.memory m2 machine told o.sweep p2 end is tells steps) st)
