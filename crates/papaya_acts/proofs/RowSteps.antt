@@ -46,7 +46,7 @@ module _ {T : Type 0} (defers : T → Option ℕ) (i : ℕ) where
         ap (λ (u : World T). u.row i) (sym at) ∙ here.1 ∙ ap (λ (p : Mem T × R). row p.1) one ∙ sym there.1 ∙ ap (λ (u : World T). u.row i) at2,
       )
 
-  registered_row : Register × Progress ℕ → Row
+  abbrev registered_row : Register × Progress ℕ → Row
   registered_row (end, progress.Done s) = Rests
   registered_row (end, progress.Refused fault) = Rests
   registered_row (end, _) = Registers end
@@ -57,7 +57,7 @@ module _ {T : Type 0} (defers : T → Option ℕ) (i : ℕ) where
   registers_to c u m (end, progress.Goes) = (refl, with_here u.row i (Registers end))
   registers_to c u m (end, progress.Waits) = (refl, with_here u.row i (Registers end))
 
-  settled_row : Settle × Settled T → Row
+  abbrev settled_row : Settle × Settled T → Row
   settled_row (end, settled.Done) = Rests
   settled_row (end, _) = Settles end
 
@@ -67,7 +67,7 @@ module _ {T : Type 0} (defers : T → Option ℕ) (i : ℕ) where
   settles_to c u m (end, settled.Waits) = (refl, with_here u.row i (Settles end))
   settles_to c u m (end, settled.Gave value) = (refl, with_here u.row i (Settles end))
 
-  deferred_row : ℕ → Defer × Progress Unit → Row
+  abbrev deferred_row : ℕ → Defer × Progress Unit → Row
   deferred_row s (end, progress.Done x) = Rests
   deferred_row s (end, _) = Defers s end
 
@@ -77,7 +77,7 @@ module _ {T : Type 0} (defers : T → Option ℕ) (i : ℕ) where
   defers_to s u m (end, progress.Waits) = (refl, with_here u.row i (Defers s end))
   defers_to s u m (end, progress.Refused fault) = (refl, with_here u.row i (Defers s end))
 
-  left_to : Leave × Settled T → Row
+  abbrev left_to : Leave × Settled T → Row
   left_to (end, told) = left_row end told
 
   pub row_step_alike : (row : Row) (g : Grant) (w v w2 v2 : World T) → w.memory ≡ v.memory → row_steps defers i row g w ≡ Some w2 → row_steps defers i row g v ≡ Some v2 → RowAlike w2 v2
