@@ -42,7 +42,7 @@ use Rattle.papaya_carries.proofs.Within.{rows_keep_theirs, room_rows_keep_theirs
 
 -- how far a call is tells how far its machine is, and that tells it
 module _ {T : Type 0} where
-  as_called : Progress T → Called T
+  abbrev as_called : Progress T → Called T
   as_called progress.Waits = called_as.Waits
   as_called (progress.Gave value) = called_as.Gave value
   as_called (progress.Unstored value) = called_as.Unstored value
@@ -60,7 +60,7 @@ module _ {T : Type 0} where
   called_back (called_as.Done answer) = refl
   called_back (called_as.Refused fault) = refl
 
-  as_outcome : Progress T → Outcome T Unit
+  abbrev as_outcome : Progress T → Outcome T Unit
   as_outcome progress.Waits = outcome.Waits
   as_outcome (progress.Gave value) = outcome.Gave value
   as_outcome (progress.Done answer) = outcome.Done tt
@@ -74,7 +74,7 @@ module _ {T : Type 0} where
   outcome_back (outcome.Done end) = refl
   outcome_back (outcome.Refused fault) = refl
 
-  as_swept : Progress T → Swept T
+  abbrev as_swept : Progress T → Swept T
   as_swept progress.Waits = swept_as.Waits
   as_swept (progress.Gave value) = swept_as.Gave value
   as_swept progress.Ready = swept_as.Ready

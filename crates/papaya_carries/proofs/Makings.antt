@@ -34,6 +34,10 @@ use Rattle.papaya_carries.specs.Promises.{MakingsKeepTheirs}
 use Rattle.papaya_carries.specs.Theirs.{CanCarry, IsTheirs, AllAreTheirs}
 use Rattle.papaya_carries.proofs.Calls.{users_of, out_of}
 
+-- another block changes hands, or this one stays with users
+moved_hand : (b : ℕ) (hand : ℕ → Hand) (c : ℕ) (new : Hand) → (b ≡ c → IsStillHad new) → IsStillHad (hand b) → IsStillHad (with_at hand c new b)
+moved_hand b hand c new is had = at_cases IsStillHad hand c new b is (λ _. had)
+
 -- What users do leaves with them what they have, with its value.
 module _ {K V : Type 0} (size b : ℕ) where
   abbrev HasStill : World (Node K V) → World (Node K V) → Type 0
@@ -43,16 +47,13 @@ module _ {K V : Type 0} (size b : ℕ) where
   not_made : (w : World (Node K V)) (c i : ℕ) → w.hand c ≡ Making i → IsStillHad (w.hand b) → b ≡ c → ⊥
   not_made w c i is had e = subst IsStillHad (ap w.hand e ∙ is) had
 
-  moved_hand : (hand : ℕ → Hand) (c : ℕ) (new : Hand) → (b ≡ c → IsStillHad new) → IsStillHad (hand b) → IsStillHad (with_at hand c new b)
-  moved_hand hand c new is had = at_cases IsStillHad hand c new b is (λ _. had)
-
   made_keeps : (w : World (Node K V)) (i words : ℕ) (value : Node K V) (out : Out (Node K V)) (m : Mem (Node K V)) → IsSome (value_at w.memory b) → Took w.memory (Make value words) out m
       → IsStillHad (w.hand b) → HasStill w (made_by deferred_word w i m out)
   made_keeps w i words value out m there took had =
       (hand out took, ap (λ (x : Mem (Node K V)). value_at x b) (made_memory deferred_word w i m out) ∙ made_value deferred_word w.memory b value words out m there took)
     where
       hand : (o : Out (Node K V)) → Took w.memory (Make value words) o m → IsStillHad ((made_by deferred_word w i m o).hand b)
-      hand (Made (Ok c)) took = moved_hand w.hand c (Making i) (λ e. absurd (let free = (made_one w.memory value words c took.0.0).was_free in cc (there, ap (value_at w.memory) e, free))) had
+      hand (Made (Ok c)) took = moved_hand b w.hand c (Making i) (λ e. absurd (let free = (made_one w.memory value words c took.0.0).was_free in cc (there, ap (value_at w.memory) e, free))) had
       hand (Made (Err back)) took = had
       hand (Found word) took = had
       hand Stored took = had
@@ -67,10 +68,10 @@ module _ {K V : Type 0} (size b : ℕ) where
       subst (HasStill w) (sym h.4) (made_keeps w i words value h.0 h.1 (kept_there deferred_word size w r b (IsHad (users_of (w.hand b) had))) h.3 had)
   event_keeps (Drops i c) w v r u h had =
       let ne = not_made w c h.2.0 h.2.1 had in
-      subst (HasStill w) (sym h.4) (moved_hand w.hand c NoBlock (λ e. absurd (ne e)) had, taken_value deferred_word w.memory b c h.0 h.1 h.3 ne)
-  event_keeps (Links i c o) w v r u h had = subst (HasStill w) (sym h.1) (moved_hand w.hand c (InUse o) (λ e. tt) had, refl)
-  event_keeps (Parts i c) w v r u h had = subst (HasStill w) (sym h.1) (moved_hand w.hand c (Parting i) (λ e. tt) had, refl)
-  event_keeps (Unlinks i c) w v r u h had = subst (HasStill w) (sym h.1) (moved_hand w.hand c (Cutting i) (λ e. tt) had, refl)
+      subst (HasStill w) (sym h.4) (moved_hand b w.hand c NoBlock (λ e. absurd (ne e)) had, taken_value deferred_word w.memory b c h.0 h.1 h.3 ne)
+  event_keeps (Links i c o) w v r u h had = subst (HasStill w) (sym h.1) (moved_hand b w.hand c (InUse o) (λ e. tt) had, refl)
+  event_keeps (Parts i c) w v r u h had = subst (HasStill w) (sym h.1) (moved_hand b w.hand c (Parting i) (λ e. tt) had, refl)
+  event_keeps (Unlinks i c) w v r u h had = subst (HasStill w) (sym h.1) (moved_hand b w.hand c (Cutting i) (λ e. tt) had, refl)
   event_keeps (Rewrites i c value) w v r u h had =
       subst (HasStill w) (sym h.5) (had, rewritten_value deferred_word w.memory b c value h.0 h.1 h.3 (not_made w c h.2.0 h.2.1 had))
   event_keeps (Operates op) w v r u h had =
