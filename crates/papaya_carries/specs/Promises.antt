@@ -1,11 +1,10 @@
 -- What is promised of the blocks behind which something may be put: each kind of step leaves them somebody's, so that at rest they are linked tables.
-use Rattle.std.specs.Prelude.{◌≡◌, ℕ, Bool, true, List, Option, Some, None}
+use Rattle.std.specs.Prelude.{◌≡◌, ℕ, Bool, List, Option, Some, None}
 use Rattle.seize_words.specs.Mem.{Mem, Took, value_at}
 use Rattle.seize_words.specs.Plan.{Steps}
 use Rattle.seize.specs.World.{World, Making, Request, Begin, Step, Ends, Happens, with_at}
 use Rattle.seize.specs.declared.rows.reclaim_all.ReclaimAll.{ReclaimAll}
 use Rattle.seize.specs.declared.rows.settle.Settled.{Settled}
-use Rattle.papaya_tables.specs.Chunks.{is_incremental}
 use Rattle.papaya_tables.specs.Nodes.{deferred_word}
 use Rattle.papaya_tables.specs.declared.node.Node.{Node}
 use Rattle.papaya_resize.specs.declared.outcome.Outcome.{Outcome}
@@ -35,7 +34,7 @@ use Rattle.papaya_finishes.specs.Sweeps.{SweepRowsAmong, SweepStepsAmong}
 use Rattle.papaya_reclaims.specs.Deferred.{OnlyPairsWait, OnlyTheyCarry}
 use Rattle.papaya_reclaims.specs.Left.{GoesOnBy}
 use Rattle.papaya_reclaims.specs.Reclaims.{AllIsReclaimed, AllStandIdle, StepsOfReclaiming}
-use Rattle.papaya_carries.specs.Theirs.{IsDue, AllAreTheirs}
+use Rattle.papaya_carries.specs.Theirs.{Owes, AllAreTheirs}
 
 -- What this caller has made, and is out after a step of it, is a table or a pair of the map then.
 abbrev pub LinksKnown : {K V : Type 0} → ℕ → World (Node K V) → World (Node K V) → Chart K → Blocks → Type 0
@@ -50,7 +49,7 @@ module _ {K Q : Type 0} (V : Type 0) (same : K → K → Bool) (asks : Q → K �
   -- What a caller has under way begins, ends, or goes on otherwise, and is to hand over no less.
   abbrev pub ChangesKeepTheirs : Type 0
   ChangesKeepTheirs =
-      (m i : ℕ) (next : Option (UnderWay K V Q)) → ((u : UnderWay K V Q) (b : ℕ) → calls m i ≡ Some u → IsDue u b → (u2 : UnderWay K V Q) × (next ≡ Some u2) × IsDue u2 b)
+      (m i : ℕ) (next : Option (UnderWay K V Q)) → ((u : UnderWay K V Q) (b : ℕ) → calls m i ≡ Some u → Owes w maps m i u b → (u2 : UnderWay K V Q) × (next ≡ Some u2) × Owes w maps m i u2 b)
       → AllAreTheirs w maps calls enders → AllAreTheirs w maps (with_call calls m i next) enders
 
   -- a row between calls begins, or goes on
@@ -61,11 +60,11 @@ module _ {K Q : Type 0} (V : Type 0) (same : K → K → Bool) (asks : Q → K �
       → ((request : Request) → IsOfSlots request → Happens deferred_word batch_size (Begin i request) w w2 → AllAreTheirs w2 maps2 calls enders)
       × (Happens deferred_word batch_size (Step i) w w2 → AllAreTheirs w2 maps2 calls enders)
 
-  -- A call on one key takes a step that is none of a row, on a map in incremental mode, and what it links is its map's.
+  -- A call on one key takes a step that is none of a row, and what it links is its map's.
   abbrev pub CallsKeepTheirs : Type 0
   CallsKeepTheirs =
       EndingsTogether V same asks batch_size roots slot w maps calls makers enders → AllAreTheirs w maps calls enders
-      → (m : ℕ) (s : Standing K) → maps m ≡ Some s → is_incremental s.setting.mode ≡ true → (i : ℕ) (u : CallOnKey K V Q) → calls m i ≡ Some (OnKey u) → (IsRowOfCall u.call.stands → ⊥)
+      → (m : ℕ) (s : Standing K) → maps m ≡ Some s → (i : ℕ) (u : CallOnKey K V Q) → calls m i ≡ Some (OnKey u) → (IsRowOfCall u.call.stands → ⊥)
       → (m2 : Mem (Node K V)) (p2 : KeyCall K V Q) (progress : Called (Node K V)) → Steps Took value_at w.memory (call_plan asks same s.hash u.call) m2 (p2, progress)
       → (st : StepsAmong V same asks batch_size roots slot w maps calls makers enders m s i u m2 p2 progress)
       → LinksKnown i w st.step.went.w2 st.step.went.c2 st.step.went.blocks2
@@ -76,7 +75,7 @@ module _ {K Q : Type 0} (V : Type 0) (same : K → K → Bool) (asks : Q → K �
   abbrev pub RoomsKeepTheirs : Type 0
   RoomsKeepTheirs =
       EndingsTogether V same asks batch_size roots slot w maps calls makers enders → AllAreTheirs w maps calls enders
-      → (m : ℕ) (s : Standing K) → maps m ≡ Some s → is_incremental s.setting.mode ≡ true → (i : ℕ) (r : CallForRoom) → calls m i ≡ Some (ForRoom r) → (IsRowOfReserve r.reserve.stands → ⊥)
+      → (m : ℕ) (s : Standing K) → maps m ≡ Some s → (i : ℕ) (r : CallForRoom) → calls m i ≡ Some (ForRoom r) → (IsRowOfReserve r.reserve.stands → ⊥)
       → (m2 : Mem (Node K V)) (p2 : Reserve) (end : Outcome (Node K V) Unit) → Steps Took value_at w.memory (reserve_plan s.hash r.reserve) m2 (p2, end)
       → (st : RoomStepsAmong V same asks batch_size roots slot w maps calls makers enders m s i r m2 p2 end)
       → LinksKnown i w st.step.went.w2 st.step.went.c2 st.step.went.blocks2
@@ -87,7 +86,7 @@ module _ {K Q : Type 0} (V : Type 0) (same : K → K → Bool) (asks : Q → K �
   abbrev pub SweepsKeepTheirs : Type 0
   SweepsKeepTheirs =
       EndingsTogether V same asks batch_size roots slot w maps calls makers enders → AllAreTheirs w maps calls enders
-      → (m : ℕ) (s : Standing K) → maps m ≡ Some s → is_incremental s.setting.mode ≡ true → (i : ℕ) (o : CallOverAll) → calls m i ≡ Some (OverAll o) → (IsRowOfSweep o.sweep.stands → ⊥)
+      → (m : ℕ) (s : Standing K) → maps m ≡ Some s → (i : ℕ) (o : CallOverAll) → calls m i ≡ Some (OverAll o) → (IsRowOfSweep o.sweep.stands → ⊥)
       → (m2 : Mem (Node K V)) (p2 : Sweep) (end : Swept (Node K V)) → Steps Took value_at w.memory (sweep_plan s.hash o.sweep) m2 (p2, end)
       → (st : SweepStepsAmong V same asks batch_size roots slot w maps calls makers enders m s i o m2 p2 end)
       → LinksKnown i w st.step.went.w2 st.step.went.c2 st.step.went.blocks2
@@ -120,10 +119,10 @@ module _ {K Q : Type 0} (V : Type 0) (same : K → K → Bool) (asks : Q → K �
       → (st : SweepRowsAmong V same asks batch_size roots slot w maps calls makers enders m s i o m2 p2 end)
       → AllAreTheirs st.step.w2 st.together.0 (with_call calls m i (next_over_all (gone_on o p2) end)) enders
 
-  -- the end of a map begins
+  -- The end of a map begins, on which nobody has a call.
   abbrev pub EndingsBeginAndKeepTheirs : Type 0
   EndingsBeginAndKeepTheirs =
-      AllAreTheirs w maps calls enders → (i : ℕ) → enders i ≡ None → (m : ℕ) (s : Standing K) → maps m ≡ Some s
+      AllAreTheirs w maps calls enders → (i : ℕ) → enders i ≡ None → (m : ℕ) (s : Standing K) → maps m ≡ Some s → ((j : ℕ) → calls m j ≡ None)
       → (w2 : World (Node K V)) → Happens deferred_word batch_size (Ends i s.setting.counter) w w2
       → AllAreTheirs w2 (with_at maps m None) calls (with_at enders i (Some (finishing_of s w)))
 
