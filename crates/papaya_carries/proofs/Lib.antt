@@ -2,7 +2,7 @@ pub mod Hands
 pub mod Owed
 pub mod Calls
 pub mod Copiers
-pub mod Kinds
+pub mod Inside
 pub mod Known
 pub mod Steps
 pub mod Guards

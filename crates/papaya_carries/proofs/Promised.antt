@@ -24,7 +24,7 @@ use Rattle.papaya_finishes.specs.Makings.{Beginning}
 use Rattle.papaya_finishes.specs.Maps.{Standing}
 use Rattle.papaya_carries.specs.Promises.{CallsKeepTheirs}
 use Rattle.papaya_carries.specs.Theirs.{copier_of_call}
-use Rattle.papaya_carries.proofs.Kinds.{it_is, call_copies, call_row, none_promotes}
+use Rattle.papaya_carries.proofs.Inside.{it_is, call_copies, call_row, none_promotes}
 use Rattle.papaya_carries.proofs.Known.{CopierKnows, incremental_knows, blocking_knows, left_knows}
 use Rattle.papaya_carries.proofs.Steps.{StepsBy, map_here, step_theirs}
 

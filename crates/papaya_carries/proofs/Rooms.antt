@@ -19,7 +19,7 @@ use Rattle.papaya_finishes.specs.Makings.{Beginning}
 use Rattle.papaya_finishes.specs.Maps.{Standing}
 use Rattle.papaya_carries.specs.Promises.{RoomsKeepTheirs}
 use Rattle.papaya_carries.specs.Theirs.{copier_of_room}
-use Rattle.papaya_carries.proofs.Kinds.{it_is, room_copies, room_row, room_without}
+use Rattle.papaya_carries.proofs.Inside.{it_is, room_copies, room_row, room_without}
 use Rattle.papaya_carries.proofs.Known.{CopierKnows, whole_knows, left_knows}
 use Rattle.papaya_carries.proofs.Steps.{StepsBy, step_theirs}
 

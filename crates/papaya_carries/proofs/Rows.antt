@@ -24,7 +24,7 @@ use Rattle.papaya_points.specs.Told.{IsRowOfCopier}
 use Rattle.papaya_callers.specs.Rows.{row_of_copier}
 use Rattle.papaya_carries.specs.Theirs.{IsDueAt, IsAhead, next_of_them}
 use Rattle.papaya_carries.proofs.FirstSteps.{IsRetiring, retires_first}
-use Rattle.papaya_carries.proofs.Kinds.{IsOn}
+use Rattle.papaya_carries.proofs.Inside.{IsOn}
 
 -- this row is the retirement of this block, which has begun
 abbrev pub IsItsRow : ℕ → Row → Type 0

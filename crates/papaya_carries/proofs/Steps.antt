@@ -26,7 +26,7 @@ use Rattle.papaya_carries.specs.Promises.{LinksKnown}
 use Rattle.papaya_carries.specs.Theirs.{IsAhead, next_of_them, copier_of, IsToHandOver, Owes, AllAreTheirs}
 use Rattle.papaya_carries.proofs.Calls.{Due, calls2, maps2, owes_after, went_theirs}
 use Rattle.papaya_carries.proofs.Copiers.{GoesOwing, IsItsNext, copier_left, copier_stays}
-use Rattle.papaya_carries.proofs.Kinds.{IsOn}
+use Rattle.papaya_carries.proofs.Inside.{IsOn}
 use Rattle.papaya_carries.proofs.Known.{CopierKnows}
 use Rattle.papaya_carries.proofs.Owed.{one_some}
 
@@ -95,7 +95,7 @@ module _ {K Q : Type 0} (V : Type 0) (same : K → K → Bool) (asks : Q → K �
     step_theirs rests without within links theirs =
         went_theirs V same asks size slot w maps calls enders all m s here i u has m2 Told went blocks2 grown sights2 next links theirs
         (λ b t from to at. subst DueThen (sym at) (passes (copier_of u) refl t from to))
-        (λ b (owes : Owes w maps m i u b). keeps_by owes.0 (within owes.0 owes.1) rests b owes.2)
+        (λ b owes. keeps_by owes.0 (within owes.0 owes.1) rests b owes.2)
       where
         passes : (o : Option Copier) → copier_of u ≡ o → (t : ℕ) → s.chart.first ≤ t → t < went.c2.first → DueThen (s.blocks.table t)
         passes None is t from to = absurd (let kept = without is in omega (arith, kept, from, to))

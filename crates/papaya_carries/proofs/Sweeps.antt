@@ -18,7 +18,7 @@ use Rattle.papaya_finishes.specs.Makings.{Beginning}
 use Rattle.papaya_finishes.specs.Maps.{Standing}
 use Rattle.papaya_carries.specs.Promises.{SweepsKeepTheirs}
 use Rattle.papaya_carries.specs.Theirs.{copier_of_sweep}
-use Rattle.papaya_carries.proofs.Kinds.{it_is, sweep_copies, sweep_row, sweep_without}
+use Rattle.papaya_carries.proofs.Inside.{it_is, sweep_copies, sweep_row, sweep_without}
 use Rattle.papaya_carries.proofs.Known.{CopierKnows, whole_knows, left_knows}
 use Rattle.papaya_carries.proofs.Steps.{StepsBy, step_theirs}
 

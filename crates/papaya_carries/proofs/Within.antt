@@ -40,7 +40,7 @@ use Rattle.papaya_carries.specs.Theirs.{IsDueAt, copier_of_call, copier_of_room,
 use Rattle.papaya_carries.proofs.FirstSteps.{row_retires, row_defers}
 use Rattle.papaya_carries.proofs.Guards.{users_own, theirs_by, can_back, same_on}
 use Rattle.papaya_carries.proofs.Hands.{still_row}
-use Rattle.papaya_carries.proofs.Kinds.{IsOn, call_copies, call_row, call_row_is, room_copies, room_row, room_row_is, sweep_copies, sweep_row, sweep_row_is}
+use Rattle.papaya_carries.proofs.Inside.{IsOn, call_copies, call_row, call_row_is, room_copies, room_row, room_row_is, sweep_copies, sweep_row, sweep_row_is}
 use Rattle.papaya_carries.proofs.Owed.{one_some, comes_on, OwesThen, owed_with}
 use Rattle.papaya_carries.proofs.Rows.{row_within, row_goes, ahead_next}
 
@@ -187,7 +187,7 @@ module _ {K Q : Type 0} (V : Type 0) (same : K → K → Bool) (asks : Q → K �
     row_theirs within b can =
         theirs_by w w2 maps maps2 calls enders (with_call calls m i next) same_maps b
         (owed_with w w2 maps maps2 calls enders enders m i next b (λ n j v under ne. (others n j v under ne, same_on w w2 maps maps2 calls enders n (same_maps n)))
-        (λ v under (owes : Owes w maps m i v b).
+        (λ v under owes.
         hands_by b can.0 owes.0 (within owes.0 (subst (λ (y : UnderWay K V Q). copier_of y ≡ Some owes.0) (one_some (calls m i) v u under has) owes.1)) owes.2))
         (theirs b (can_back w w2 maps maps2 calls enders b (one_kept s.setting i w w2 reached one b) can))
 
