@@ -1,4 +1,4 @@
-mod Tests
+pub mod Tests
 mod Calls
 mod Makings
 mod Rows

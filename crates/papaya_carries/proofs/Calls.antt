@@ -33,7 +33,7 @@ use Rattle.papaya_carries.specs.Theirs.{copier_of, IsToHandOver, Owes, CanCarry,
 use Rattle.papaya_carries.proofs.Hands.{step_origin}
 use Rattle.papaya_carries.proofs.Owed.{one_some, StandsOn, StandsOnAt, stays_so, hands_on, OwesThen, owed_then, owed_with}
 
-users_of : (h : Hand) → IsStillHad h → IsOfUsers h
+pub users_of : (h : Hand) → IsStillHad h → IsOfUsers h
 users_of NoBlock is = absurd is
 users_of (Making i) is = absurd is
 users_of (InUse o) is = tt
@@ -42,7 +42,7 @@ users_of (Cutting i) is = tt
 users_of Handed is = absurd is
 users_of (LeftTo i) is = absurd is
 
-out_of : (h : Hand) → IsStillHad h → IsOut h
+pub out_of : (h : Hand) → IsStillHad h → IsOut h
 out_of NoBlock is = absurd is
 out_of (Making i) is = absurd is
 out_of (InUse o) is = tt

@@ -18,7 +18,7 @@ use Rattle.papaya_finishes.specs.Endings.{Finishing}
 use Rattle.papaya_finishes.specs.Makings.{Beginning}
 use Rattle.papaya_finishes.specs.Maps.{Standing, IsSameMap, with_call}
 use Rattle.papaya_reclaims.specs.Deferred.{IsLinkedTable}
-use Rattle.papaya_carries.specs.Promises.{ChangesKeepTheirs, GuardsKeepTheirs, OnlyTablesCarry}
+use Rattle.papaya_carries.specs.Promises.{ChangesKeepTheirs, GuardsKeepTheirs, NoneBegins, OnlyTablesCarry}
 use Rattle.papaya_carries.specs.Theirs.{CanCarry, IsOwed, IsTheirs, AllAreTheirs}
 use Rattle.papaya_carries.proofs.Hands.{begun_same, still_row}
 use Rattle.papaya_carries.proofs.Owed.{StandsOnAt, stays_so, owed_on, owed_with}
@@ -89,6 +89,9 @@ module _ {K Q : Type 0} (V : Type 0) (same : K → K → Bool) (asks : Q → K �
           (theirs b (can_back w w2 maps maps2 calls enders b (λ still.
           let hand = still_row deferred_word batch_size w reached i w2 h b still in
           (hand, users_value batch_size w reached i w2 h b (users_own (w.hand b) (subst IsStillHad hand still)))) can))
+
+  pub none_begins : NoneBegins V same asks batch_size roots slot w maps calls makers enders
+  none_begins none b can = absurd (none b can.0)
 
   pub only_tables_carry : OnlyTablesCarry V same asks batch_size roots slot w maps calls makers enders
   only_tables_carry no_calls no_enders theirs b field value still there has_list = by (theirs b (still, field, value, there, has_list))

@@ -14,4 +14,10 @@ pub mod Rooms
 pub mod Sweeps
 pub mod Endings
 pub mod Reclaiming
+pub mod Makings
+pub mod Kinds
+pub mod Told
+pub mod Acts
+pub mod Left
+pub mod Lists
 mod Samples

@@ -1,13 +1,16 @@
--- What the definitions refuse: a table that a call has unlinked and forgotten, and one that its copier has come past.
+-- What the definitions refuse: a table that a call has unlinked and forgotten, one that its copier has come past, and rest while a map is made.
 use Rattle.std.specs.Prelude.{◌≢◌, ◌*◌, Option, Some, None}
 use Rattle.std.proofs.Common.{◌≡◌, ◌+◌, ◌≤◌, ℕ, inl, inr, refl, arith, sym, subst}
 use Rattle.seize_words.specs.Mem.{value_at}
-use Rattle.seize.specs.World.{World, Cutting}
+use Rattle.seize.specs.World.{World, Cutting, with_at}
 use Rattle.seize_acts.specs.Reclaimed.{IsStillHad}
 use Rattle.papaya_tables.specs.Nodes.{deferred_word}
 use Rattle.papaya_tables.specs.declared.node.Node.{Node}
 use Rattle.papaya_callers.specs.Together.{UnderWay}
+use Rattle.papaya_finishes.specs.Makings.{Beginning}
 use Rattle.papaya_finishes.specs.Maps.{Standing}
+use Rattle.papaya_executor.specs.IsAt.{at_first}
+use Rattle.papaya_carries.specs.Lists.{IsAtRest}
 use Rattle.papaya_carries.specs.Theirs.{IsAhead, Owes, IsTheirs, AllAreTheirs}
 
 module _ {K V Q : Type 0} (w : World (Node K V)) (maps : ℕ → Option (Standing K)) (b field i : ℕ) (value : Node K V)
@@ -47,3 +50,10 @@ target_is_not (t, next, u, from, before, at) = omega (arith, before, at)
 -- once no word names one, none is
 none_is : (b : ℕ) → IsAheadThere 0 b → ⊥
 none_is b (t, next, u, from, before, at) = let named = next.named in omega (arith, named)
+
+-- At first nobody has anything under way. While a map is made, somebody has.
+first_rests : {K V : Type 0} (roots : ℕ) → IsAtRest (at_first {K = K} {V = V} roots)
+first_rests roots = record { no_calls = λ m i. refl; no_makers = λ i. refl; no_enders = λ i. refl; rows = λ j. refl }
+
+making_goes_on : {K V : Type 0} (roots : ℕ) (b : Beginning K) → IsAtRest (record (at_first {K = K} {V = V} roots) { makers = with_at (λ i. None) 0 (Some b) }) → ⊥
+making_goes_on roots b rest = let none = rest.no_makers 0 in cc none

@@ -3,10 +3,15 @@ use Rattle.std.specs.Prelude.{◌≡◌, ℕ, Bool, List, Option, Some, None}
 use Rattle.seize_words.specs.Mem.{Mem, Took, value_at}
 use Rattle.seize_words.specs.Plan.{Steps}
 use Rattle.seize.specs.World.{World, Making, Request, Begin, Step, Ends, Happens, with_at}
+use Rattle.seize.specs.declared.progress.Progress.{Progress}
+use Rattle.seize.specs.declared.progress.Progress.TheVariants as progress
 use Rattle.seize.specs.declared.rows.reclaim_all.ReclaimAll.{ReclaimAll}
 use Rattle.seize.specs.declared.rows.settle.Settled.{Settled}
+use Rattle.seize_acts.specs.Reclaimed.{IsStillHad}
 use Rattle.papaya_tables.specs.Nodes.{deferred_word}
 use Rattle.papaya_tables.specs.declared.node.Node.{Node}
+use Rattle.papaya_tables.specs.declared.setting.Setting.{Setting}
+use Rattle.papaya_resize.specs.declared.new_map.NewMap.{NewMap}
 use Rattle.papaya_resize.specs.declared.outcome.Outcome.{Outcome}
 use Rattle.papaya_reserves.specs.Reserve.{reserve_plan}
 use Rattle.papaya_reserves.specs.declared.reserve.Reserve.{Reserve}
@@ -27,8 +32,8 @@ use Rattle.papaya_callers.specs.OverAll.{CallOverAll, come_to, gone_on}
 use Rattle.papaya_callers.specs.Rooms.{CallForRoom}
 use Rattle.papaya_callers.specs.Together.{UnderWay, OnKey, ForRoom, OverAll, CallOnKey, IsOfSlots, next_of, next_for_room, next_over_all, change_told}
 use Rattle.papaya_finishes.specs.Endings.{Finishing, finishing_of, HasFinished, EndingsTogether, StepsAmong, RowStepsAmong, StepsOfEnding}
-use Rattle.papaya_finishes.specs.Makings.{Beginning}
-use Rattle.papaya_finishes.specs.Maps.{Standing, IsSameMap, with_call}
+use Rattle.papaya_finishes.specs.Makings.{Beginning, IsMade, StepsOfMaking}
+use Rattle.papaya_finishes.specs.Maps.{Standing, IsSameMap, MapsTogether, with_call}
 use Rattle.papaya_finishes.specs.Rooms.{RoomRowsAmong, RoomStepsAmong}
 use Rattle.papaya_finishes.specs.Sweeps.{SweepRowsAmong, SweepStepsAmong}
 use Rattle.papaya_reclaims.specs.Deferred.{OnlyPairsWait, OnlyTheyCarry}
@@ -42,6 +47,10 @@ LinksKnown i w w2 c2 blocks2 = (b : ℕ) → w.hand b ≡ Making i → IsOut (w2
 
 module _ {K Q : Type 0} (V : Type 0) (same : K → K → Bool) (asks : Q → K → Bool) (batch_size roots : ℕ) (slot : ℕ → ℕ)
     (w : World (Node K V)) (maps : ℕ → Option (Standing K)) (calls : ℕ → ℕ → Option (UnderWay K V Q)) (makers : ℕ → Option (Beginning K)) (enders : ℕ → Option (Finishing K V)) where
+  -- Where users have none, as in the beginning, each is.
+  abbrev pub NoneBegins : Type 0
+  NoneBegins = ((b : ℕ) → IsStillHad (w.hand b) → ⊥) → AllAreTheirs w maps calls enders
+
   -- Where nobody has a call, and no map ends, users have no other such block than the linked tables of maps that stand.
   abbrev pub OnlyTablesCarry : Type 0
   OnlyTablesCarry = ((m j : ℕ) → calls m j ≡ None) → ((j : ℕ) → enders j ≡ None) → AllAreTheirs w maps calls enders → OnlyTheyCarry w maps
@@ -118,6 +127,20 @@ module _ {K Q : Type 0} (V : Type 0) (same : K → K → Bool) (asks : Q → K �
       → (m2 : Mem (Node K V)) (p2 : Sweep) (end : Swept (Node K V)) → Steps Took value_at w.memory (sweep_plan s.hash o.sweep) m2 (p2, end)
       → (st : SweepRowsAmong V same asks batch_size roots slot w maps calls makers enders m s i o m2 p2 end)
       → AllAreTheirs st.step.w2 st.together.0 (with_call calls m i (next_over_all (gone_on o p2) end)) enders
+
+  -- A making has taken a step. All stand together then: the maps that stood, and that of the making, if it has come to it.
+  abbrev pub MakingKept : Beginning K → World (Node K V) → NewMap × Progress Setting → Type 0
+  MakingKept b w2 (n, progress.Done answer) =
+      (s : Standing K) → IsMade V same asks batch_size roots slot b answer s → MapsTogether V same asks batch_size slot w2 (with_at maps b.map (Some s)) calls
+      → AllAreTheirs w2 (with_at maps b.map (Some s)) calls enders
+  MakingKept b w2 (n, _) = AllAreTheirs w2 maps calls enders
+
+  -- what its map has linked by then is its first table
+  abbrev pub MakingsKeepTheirs : Type 0
+  MakingsKeepTheirs =
+      EndingsTogether V same asks batch_size roots slot w maps calls makers enders → AllAreTheirs w maps calls enders
+      → (i : ℕ) (b : Beginning K) → makers i ≡ Some b → (m2 : Mem (Node K V)) (end : NewMap × Progress Setting)
+      → (st : StepsOfMaking V same asks batch_size roots slot w maps calls makers i b m2 end) → MakingKept b st.w2 end
 
   -- The end of a map begins, on which nobody has a call.
   abbrev pub EndingsBeginAndKeepTheirs : Type 0

@@ -1,10 +1,10 @@
 -- Ends of maps keep all that a moment shows.
-use Rattle.std.specs.Prelude.{◌≡◌, ◌≢◌, ℕ, zero, suc, ◌<◌, Bool, true, ◌&&◌, List, [], ◌∷◌, Option, Some, None, IsSome, ◌⊎◌}
+use Rattle.std.specs.Prelude.{◌≡◌, ℕ, zero, suc, Bool, true, ◌&&◌, List, [], ◌∷◌, Option, Some, None, IsSome, ◌⊎◌}
 use Rattle.std.specs.List.{list_any}
 use Rattle.std.proofs.Common.{refl, ap, sym, subst, ◌∙◌, arith, inl, inr}
 use Rattle.std.proofs.lemmas.Bool.{cases_eq}
 use Rattle.seize_words.specs.Mem.{value_at}
-use Rattle.seize.specs.World.{World, Hand, with_at, times}
+use Rattle.seize.specs.World.{World, with_at, times}
 use Rattle.seize.specs.declared.rows.settle.Settled.{Settled}
 use Rattle.seize.specs.declared.rows.settle.Settled.TheVariants as settled
 use Rattle.papaya_tables.specs.declared.node.Node.{Node}
@@ -12,7 +12,7 @@ use Rattle.papaya_raw.specs.declared.machines.end_map.EndMap.{EndMap}
 use Rattle.papaya_schedules.specs.declared.effect.Effect.{Effect}
 use Rattle.papaya_schedules.specs.declared.effect.Effect.TheVariants.{Stored, Deferred}
 use Rattle.papaya_schedules.specs.Effects.{with_effect, with_effects, AtEachEffect}
-use Rattle.papaya_schedules.specs.Moment.{Place, InMap, Left, GivenBack, IsTaken, Moment}
+use Rattle.papaya_schedules.specs.Moment.{Place, Left, GivenBack, IsTaken, Moment}
 use Rattle.papaya_schedules.specs.Things.{same_table}
 use Rattle.papaya_schedules.specs.Views.{behind, is_there}
 use Rattle.papaya_teller.specs.declared.changed.Changed.{Changed}
@@ -42,7 +42,7 @@ use Rattle.papaya_others.specs.Endings.{ending_after}
 use Rattle.papaya_others.proofs.Counters.{endings_note_counters}
 use Rattle.papaya_others.proofs.EndBegins.{endings_begin_shown}
 use Rattle.papaya_others.proofs.Ends.{left, says_or_takes, endings_are_shown}
-use Rattle.papaya_others.proofs.Quiet.{calls_none, all_quiet}
+use Rattle.papaya_others.proofs.Quiet.{all_quiet}
 use Rattle.papaya_others.proofs.Stays.{same_maps}
 use Rattle.papaya_spots.specs.Deferred.{FindsNumbers}
 use Rattle.papaya_spots.specs.Spots.{ShowsPlaces}
@@ -52,13 +52,12 @@ use Rattle.papaya_spots.proofs.Calm.{put_back}
 use Rattle.papaya_spots.proofs.Deferred.{effects_leave_outside}
 use Rattle.papaya_spots.proofs.Effects.{AllAside, calm_aside}
 use Rattle.papaya_spots.proofs.Gone.{other_gone, pair_gone, table_gone}
-use Rattle.papaya_spots.proofs.Rows.{same_pairs}
 use Rattle.papaya_spots.proofs.Stays.{WerePairs, places_stay}
 use Rattle.papaya_spots.proofs.Unreclaimed.{unreclaimed_same}
 use Rattle.papaya_moments.specs.Endings.{WaitsOn, EndingsBeginWhole, EndingsKeepWhole}
 use Rattle.papaya_moments.specs.Whole.{ShowsWhole}
 use Rattle.papaya_moments.proofs.Beside.{IsBeside, hands_beside, asked_beside}
-use Rattle.papaya_moments.proofs.OnSlots.{put_out, all_out, IsAlone, alone, none_some, Keeps, same_roles}
+use Rattle.papaya_moments.proofs.OnSlots.{put_out, all_out, IsAlone, alone, still_alone, none_some, Keeps, same_roles}
 
 -- effects that move no pair and no table find numbers as they must
 module _ {K V : Type 0} (acted : Option ℕ) where
@@ -103,15 +102,7 @@ module _ {K V : Type 0} (map : ℕ) (m : Moment K V) where
   same_calm effects calm = all_quiet (Some map) effects m (calm_still effects calm)
 
   calm_alone : (effects : List Effect) → AllCalm effects → IsAlone m (with_effects None (Some map) effects m)
-  calm_alone effects calm =
-      let a = same_calm effects calm in
-      record {
-        stored = a.stored;
-        born = a.born;
-        calls = calls_none (Some map) effects m;
-        maps = a.maps;
-        place = λ n x e. sym (ap (λ (f : ℕ → Place). f n) a.place) ∙ e;
-      }
+  calm_alone effects calm = still_alone m (Some map) effects (calm_still effects calm)
 
 module _ {K V S : Type 0} (same : K → K → Bool) (hash : K → ℕ) (name : ℕ → List ℕ) (m : Moment K V) (known : Known) (s : Scene K V) (old new : Executor K V S) (at : IsAt same hash old s)
     (whole : ShowsWhole same name m known s) (i : ℕ) (f : Finishing K V) (here : s.enders i ≡ Some f) (end : EndMap) (said : Settled (Node K V)) (steps : EndingStepsFrom f.machine old new end said)
@@ -179,11 +170,11 @@ module _ {K V S : Type 0} (same : K → K → Bool) (hash : K → ℕ) (name : �
     calls = end_alone.calls;
     maps = end_alone.maps;
     place = end_alone.place;
-    back = end_keeps.0;
+    back = λ b of. inl (end_keeps.0 b of);
     roles = λ b some of. end_keeps.1 b (subst (λ (x : World (Node K V)). IsSome (value_at x.memory b)) world some) of;
     hands = λ b some used. subst (λ (x : World (Node K V)). IsInUse (x.hand b)) (sym world) (hand_there b (subst (λ (x : World (Node K V)). IsSome (value_at x.memory b)) world some) used);
     same_calls = calls;
-    stood = λ n st is. (st, subst (λ (g : ℕ → Option (Standing K)). g n ≡ Some st) maps is, refl, λ t. refl);
+    stood = λ n st is. inl (st, subst (λ (g : ℕ → Option (Standing K)). g n ≡ Some st) maps is, refl, λ t. refl);
   }
 
   -- which blocks are unreclaimed
@@ -291,9 +282,9 @@ module _ (K V S : Type 0) (same : K → K → Bool) (hash : K → ℕ) where
         calls = refl;
         maps = refl;
         place = λ n x e. e;
-        back = λ b of. refl;
+        back = λ b of. inl refl;
         roles = λ b some of. refl;
         hands = λ b some used. used;
         same_calls = refl;
-        stood = λ n st is. (st, fewer n st is, refl, λ t. refl);
+        stood = λ n st is. inl (st, fewer n st is, refl, λ t. refl);
       }

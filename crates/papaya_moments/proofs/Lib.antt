@@ -2,4 +2,8 @@ pub mod Beside
 pub mod OnSlots
 pub mod Ends
 pub mod Makings
+pub mod MakingSteps
+pub mod MapsCome
+pub mod Over
 pub mod Calls
+pub mod Walks

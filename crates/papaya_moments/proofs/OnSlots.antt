@@ -1,5 +1,5 @@
 -- Rows on slots keep all that a moment shows.
-use Rattle.std.specs.Prelude.{◌≡◌, ◌≢◌, ℕ, zero, suc, nat_lt, Bool, true, false, List, [], ◌∷◌, Option, Some, None, IsSome, if◌then◌else◌}
+use Rattle.std.specs.Prelude.{◌≡◌, ℕ, zero, suc, nat_lt, Bool, true, false, List, [], ◌∷◌, Option, Some, None, IsSome, if◌then◌else◌}
 use Rattle.std.proofs.Common.{refl, ap, sym, subst, ◌∙◌, arith, inl, inr}
 use Rattle.std.proofs.lemmas.Bool.{cases_eq}
 use Rattle.seize_words.specs.declared.at.At.TheVariants.{Root, Used, Slot, Entry, Word}
@@ -24,7 +24,7 @@ use Rattle.papaya_teller.specs.declared.changed.Changed.TheVariants as changed
 use Rattle.papaya_callers.proofs.Together.Came.{came_reached}
 use Rattle.papaya_finishes.specs.Maps.{Standing, IsSameMap}
 use Rattle.papaya_effects.specs.Effects.{names_same, taken_by, effects_of, known_after}
-use Rattle.papaya_effects.specs.Known.{Known, with_role}
+use Rattle.papaya_effects.specs.Known.{Known}
 use Rattle.papaya_effects.specs.declared.acting.Acting.TheVariants.{Row}
 use Rattle.papaya_effects.specs.declared.role.Role.{Role}
 use Rattle.papaya_effects.specs.declared.role.Role.TheVariants as role
@@ -38,7 +38,7 @@ use Rattle.papaya_executor.specs.declared.row.SlotCall.TheVariants as call
 use Rattle.papaya_executor.specs.declared.row.SlotRow.{SlotRow}
 use Rattle.papaya_executor.specs.declared.worker.Work.TheVariants as work
 use Rattle.papaya_executor.proofs.OnSlots.{row_at, may_taken}
-use Rattle.papaya_follows.proofs.Alike.{put_here, put_elsewhere}
+use Rattle.papaya_follows.proofs.Alike.{AllStill, put_here, put_elsewhere}
 use Rattle.papaya_follows.proofs.Onward.{IsOfMap}
 use Rattle.papaya_follows.proofs.Operations.{LeavesBy, operated_leaves}
 use Rattle.papaya_follows.proofs.Steps.{one_of}
@@ -47,6 +47,7 @@ use Rattle.papaya_hands.specs.Hands.{IsInUse}
 use Rattle.papaya_hands.proofs.Others.{rows_begin_aside, rows_go_aside}
 use Rattle.papaya_others.specs.Rows.{scene_then}
 use Rattle.papaya_others.proofs.Counters.{rows_note_counters}
+use Rattle.papaya_others.proofs.Quiet.{calls_none, all_quiet}
 use Rattle.papaya_others.proofs.RowBegins.{rows_begin_shown}
 use Rattle.papaya_others.proofs.RowPlans.{TellsRow, row_tells, row_operated}
 use Rattle.papaya_others.proofs.Rows.{rows_on_slots_are_shown}
@@ -54,7 +55,6 @@ use Rattle.papaya_spots.proofs.Calm.{put_back}
 use Rattle.papaya_spots.proofs.OnSlots.{rows_leave_places, rows_keep_blocks}
 use Rattle.papaya_spots.proofs.Stays.{places_stay}
 use Rattle.papaya_moments.specs.OnSlots.{RowsBeginWhole, RowsKeepWhole}
-use Rattle.papaya_moments.specs.Whole.{ShowsWhole}
 use Rattle.papaya_moments.proofs.Beside.{IsBeside, hands_beside, asked_beside}
 
 -- a map that stands then stood so, with its tables in the same blocks
@@ -92,6 +92,12 @@ module _ {K V : Type 0} (m v : Moment K V) where
 module _ {K V : Type 0} (m : Moment K V) where
   pub alone : IsAlone m m
   alone = record { stored = refl; born = refl; calls = refl; maps = refl; place = λ n map e. e }
+
+  -- so it is of effects that move nothing
+  pub still_alone : (of : Option ℕ) (effects : List Effect) → AllStill effects → IsAlone m (with_effects None of effects m)
+  still_alone of effects still =
+      let a = all_quiet of effects m still in
+      record { stored = a.stored; born = a.born; calls = calls_none of effects m; maps = a.maps; place = λ n map e. sym (ap (λ (f : ℕ → Place). f n) a.place) ∙ e }
 
   taken_alone : (r : Role) → IsAlone m (with_effects None None (taken_by Row r) m)
   taken_alone role.Free = alone
@@ -190,11 +196,11 @@ module _ {K V S : Type 0} (same : K → K → Bool) (hash : K → ℕ) (m : Mome
         calls = a.calls;
         maps = a.maps;
         place = a.place;
-        back = k.0;
+        back = λ b of. inl (k.0 b of);
         roles = k.1;
         hands = λ b some used. subst IsInUse (sym (hand_same b some)) used;
         same_calls = refl;
-        stood = λ map st is. stood_same (s.maps map) (happened.2 map) (happened.3 map) st is;
+        stood = λ map st is. inl (stood_same (s.maps map) (happened.2 map) (happened.3 map) st is);
       }
 
 -- a row that begins leaves hands as they are
@@ -238,11 +244,11 @@ module _ (K V S : Type 0) (same : K → K → Bool) (hash : K → ℕ) where
         calls = refl;
         maps = refl;
         place = λ n map e. e;
-        back = λ b of. refl;
+        back = λ b of. inl refl;
         roles = λ b some of. refl;
         hands = λ b some used. subst (λ (h : ℕ → Hand). IsInUse (h b)) (sym hands) used;
         same_calls = refl;
-        stood = λ map st is. stood_same (s.maps map) (to.2 map) (to.3 map) st is;
+        stood = λ map st is. inl (stood_same (s.maps map) (to.2 map) (to.3 map) st is);
       } in
       record {
         all = record {

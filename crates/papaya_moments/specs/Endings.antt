@@ -1,13 +1,15 @@
 -- Ends of maps: where one begins, and takes its steps, the moment shows all of the scene then.
-use Rattle.std.specs.Prelude.{◌≡◌, ℕ, true, Bool, List, Some, None}
+use Rattle.std.specs.Prelude.{◌≡◌, ℕ, true, false, Bool, List, Some, None}
+use Rattle.std.specs.List.{All}
 use Rattle.seize.specs.declared.rows.settle.Settled.{Settled}
 use Rattle.papaya_tables.specs.declared.node.Node.{Node}
 use Rattle.papaya_schedules.specs.declared.effect.Effect.{Effect}
 use Rattle.papaya_schedules.specs.declared.effect.Effect.TheVariants.{Taken}
 use Rattle.papaya_schedules.specs.Effects.{with_effects, AtEachEffect}
 use Rattle.papaya_schedules.specs.Lists.{is_among}
-use Rattle.papaya_schedules.specs.Moment.{Moment}
-use Rattle.papaya_schedules.specs.Views.{behind}
+use Rattle.papaya_runs.specs.Same.{is_same}
+use Rattle.papaya_schedules.specs.Moment.{MapThere, Remains, Moment}
+use Rattle.papaya_schedules.specs.Views.{map_at, behind}
 use Rattle.papaya_effects.specs.Effects.{effects_of, known_after}
 use Rattle.papaya_effects.specs.Known.{Known}
 use Rattle.papaya_effects.specs.declared.acting.Acting.TheVariants.{Ending}
@@ -16,10 +18,14 @@ use Rattle.papaya_executor.specs.IsAt.{Scene, IsAt}
 use Rattle.papaya_executor.specs.declared.executor.Executor.{Executor}
 use Rattle.papaya_finishes.specs.Endings.{Finishing}
 use Rattle.papaya_finishes.specs.Maps.{Standing}
-use Rattle.papaya_others.specs.Endings.{ending_after}
+use Rattle.papaya_others.specs.Endings.{ending_after, without_map}
 use Rattle.papaya_others.specs.Gone.{EndsWith}
 use Rattle.papaya_spots.specs.Unreclaimed.{is_unreclaimed}
 use Rattle.papaya_moments.specs.Whole.{ShowsWhole}
+
+-- each map that is there is the one that is found by its number
+abbrev pub AreFound : {K V : Type 0} → Moment K V → Type 0
+AreFound m = All (λ there. map_at there.number m ≡ Some there) m.maps
 
 -- what waits behind a table that ends with its map is not reclaimed
 abbrev pub WaitsOn : {K V : Type 0} → Moment K V → Effect → Type 0
@@ -43,3 +49,11 @@ module _ (K V S : Type 0) (same : K → K → Bool) (hash : K → ℕ) where
       → (let to = leads f here in
       ShowsWhole same name (with_effects None (Some map) (effects_of (Ending map) known new.memory.changed) m) (known_after (Ending map) new.memory.changed known)
       (ending_after same hash s new i f to.0 to.2.w2 to.2.deed told to.3))
+
+module _ (K V : Type 0) (same : K → K → Bool) where
+  -- And where it is over, the map is there no more, and no map that stands has its name.
+  abbrev pub EndingsAreOverWhole : Type 0
+  EndingsAreOverWhole =
+      (name : ℕ → List ℕ) (m : Moment K V) (known : Known) (s : Scene K V) → ShowsWhole same name m known s → (own : List ℕ) (remains : List Remains) → AreFound m
+      → ((map : ℕ) (standing : Standing K) (there : MapThere) → s.maps map ≡ Some standing → map_at map m ≡ Some there → is_same there.name own ≡ false)
+      → ShowsWhole same name (without_map own remains m) known s

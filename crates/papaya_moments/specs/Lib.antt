@@ -2,3 +2,4 @@ pub mod Whole
 pub mod OnSlots
 pub mod Endings
 pub mod Makings
+pub mod Walks

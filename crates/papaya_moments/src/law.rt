@@ -1,15 +1,17 @@
 //! What is promised of a moment of a run that shows the executor: all of it, whoever has a call.
 ghost use Rattle.std.specs.Prelude.{ℕ, Bool};
-ghost use Rattle.papaya_moments.specs.Endings.{EndingsBeginWhole, EndingsKeepWhole};
-ghost use Rattle.papaya_moments.specs.Makings.{MakingsKeepBlocks};
+ghost use Rattle.papaya_moments.specs.Endings.{EndingsBeginWhole, EndingsKeepWhole, EndingsAreOverWhole};
+ghost use Rattle.papaya_moments.specs.Makings.{MakingsBeginWhole, MapsComeWhole, MakingsKeepBlocks, MakingsKeepWhole};
 ghost use Rattle.papaya_moments.specs.OnSlots.{RowsBeginWhole, RowsKeepWhole};
+ghost use Rattle.papaya_moments.specs.Walks.{WalksGoOnWhole, WalksStopWhole};
 ghost use Rattle.papaya_moments.specs.Whole.{WholeBegins, CallsKeepWhole, CallsBeginWhole, CallsTakeWhole, CallsComeToWhole};
 
 /// The moment before all events shows an executor that has no map and no call, and so does the moment after each step of a call, whether it is one of a row of the
 /// collector or none, with no condition: its blocks, maps and calls, what these were told, in whose hands blocks are, that rows within calls reclaim nothing, where
 /// pairs lie, which blocks are not reclaimed, that what waits behind tables is in no map, and the counters of maps that are being made. And the moment shows that
 /// where a call begins, takes a reply, and comes to an outcome; where a row begins on a slot, and after each step of it;
-/// and where the end of a map begins, and after each step of it.
+/// where the end of a map begins, after each step of it, and once it is over; where the making of a map begins, where its map comes, and after each step of it,
+/// by the last one with the map; and where a walk goes on, or is given up.
 pub fn moments_show_all<K, V, S>()
     ensures begins { WholeBegins K V }
     ensures calls { (same : K → K → Bool) (hash : K → ℕ) → CallsKeepWhole K V S same hash }
@@ -20,6 +22,12 @@ pub fn moments_show_all<K, V, S>()
     ensures rows { (same : K → K → Bool) (hash : K → ℕ) → RowsKeepWhole K V S same hash }
     ensures endings_begin { (same : K → K → Bool) (hash : K → ℕ) → EndingsBeginWhole K V S same hash }
     ensures endings { (same : K → K → Bool) (hash : K → ℕ) → EndingsKeepWhole K V S same hash }
+    ensures endings_over { (same : K → K → Bool) → EndingsAreOverWhole K V same }
+    ensures makings_begin { (same : K → K → Bool) → MakingsBeginWhole K V same }
+    ensures maps_come { (same : K → K → Bool) → MapsComeWhole K V same }
+    ensures makings { (same : K → K → Bool) (hash : K → ℕ) → MakingsKeepWhole K V S same hash }
+    ensures walks { (same : K → K → Bool) (hash : K → ℕ) → WalksGoOnWhole K V S same hash }
+    ensures walks_stop { (same : K → K → Bool) (hash : K → ℕ) → WalksStopWhole K V S same hash }
 {}
 
 /// While a map is being made, and is there as a new one, the blocks of pairs and tables of maps are those that no moment calls reclaimed.
