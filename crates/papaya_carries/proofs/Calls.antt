@@ -100,7 +100,7 @@ module _ {K Q : Type 0} (V : Type 0) (same : K → K → Bool) (asks : Q → K �
 
   -- what its copier is to hand over, of the tables as they stood, the call is to hand over then
   pub owes_after : (u2 : UnderWay K V Q) (q : Copier) → next ≡ Some u2 → copier_of u2 ≡ Some q → (b : ℕ) → IsToHandOver w maps m i q b → Due b
-  owes_after u2 q is copies b hands = (u2, is, q, copies, hands_on w went.w2 maps maps2 m i q b (λ rests. rows_are i ∙ rests) (stand_on m) hands)
+  owes_after u2 q is copies b hands = (u2, is, (q, copies, hands_on w went.w2 maps maps2 m i q b (λ rests. rows_are i ∙ rests) (stand_on m) hands))
 
   module _ (b : ℕ) where
     -- whose it was, it is

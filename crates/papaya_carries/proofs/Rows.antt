@@ -51,14 +51,14 @@ module _ {K V : Type 0} (copier : Copier) (rest : ℕ) where
   by_retired (d, settled.Gave value) = (tt, refl, λ some. refl)
   by_retired (d, settled.Done) = (tt, target (rest == 0), λ some. next (rest == 0) (ne_eqb rest 0 some))
     where
-      then : Bool → Copier
-      then none = if none then standing copier copies.Over else standing copier (copies.Succeeds rest)
+      goes : Bool → Copier
+      goes none = if none then standing copier copies.Over else standing copier (copies.Succeeds rest)
 
-      target : (none : Bool) → (then none).target ≡ copier.target
+      target : (none : Bool) → (goes none).target ≡ copier.target
       target true = refl
       target false = refl
 
-      next : (none : Bool) → none ≡ false → next_of_them (then none) (then none).stands ≡ rest
+      next : (none : Bool) → none ≡ false → next_of_them (goes none) (goes none).stands ≡ rest
       next true e = absurd (cc e)
       next false e = refl
 

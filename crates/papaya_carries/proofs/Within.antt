@@ -176,10 +176,12 @@ module _ {K Q : Type 0} (V : Type 0) (same : K → K → Bool) (asks : Q → K �
           let on = st.goes g.0 in (
             on.0,
             on.1,
-            st.end.0,
-            on.2,
-            inr (comes_on maps maps2 m st.end.0 b (same_on w w2 maps maps2 calls enders m (same_maps m))
-                (r, is, blocking, ahead_next r.chart.past r.blocks.table x st.end.0 g.1 g.2 b ahead)),
+            (
+                st.end.0,
+                on.2,
+                inr (comes_on maps maps2 m st.end.0 b (same_on w w2 maps maps2 calls enders m (same_maps m))
+                    (r, is, blocking, ahead_next r.chart.past r.blocks.table x st.end.0 g.1 g.2 b ahead)),
+            ),
           )
 
     -- So all are somebody's then.
