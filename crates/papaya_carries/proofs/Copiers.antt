@@ -8,7 +8,7 @@ use Rattle.seize_words.specs.Plan.{Steps}
 use Rattle.seize_words.proofs.OneOwner.Operations.{loaded, exchanged}
 use Rattle.seize_words.proofs.Plans.{steps_as}
 use Rattle.seize.specs.Settle.{retiring}
-use Rattle.seize.specs.World.{World, Cutting}
+use Rattle.seize.specs.World.{World}
 use Rattle.papaya_tables.specs.Chunks.{is_incremental}
 use Rattle.papaya_tables.specs.declared.node.Node.{Node}
 use Rattle.papaya_tables.specs.declared.setting.Setting.{Setting}

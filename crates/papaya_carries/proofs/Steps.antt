@@ -23,7 +23,7 @@ use Rattle.papaya_finishes.specs.Endings.{Finishing}
 use Rattle.papaya_finishes.specs.Maps.{Standing, MapsTogether}
 use Rattle.papaya_finishes.proofs.Beside.Maps.Steps.{its_inside}
 use Rattle.papaya_carries.specs.Promises.{LinksKnown}
-use Rattle.papaya_carries.specs.Theirs.{IsAhead, next_of_them, copier_of, IsToHandOver, Owes, AllAreTheirs}
+use Rattle.papaya_carries.specs.Theirs.{IsAhead, next_of_them, copier_of, IsToHandOver, AllAreTheirs}
 use Rattle.papaya_carries.proofs.Calls.{Due, calls2, maps2, owes_after, went_theirs}
 use Rattle.papaya_carries.proofs.Copiers.{GoesOwing, IsItsNext, copier_left, copier_stays}
 use Rattle.papaya_carries.proofs.Inside.{IsOn}
