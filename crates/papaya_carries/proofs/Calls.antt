@@ -4,7 +4,7 @@ use Rattle.std.specs.Prelude.{◌≢◌, Option, Some, None, IsSome}
 use Rattle.std.proofs.Common.{◌≡◌, ℕ, ◌<◌, ◌≤◌, zero, suc, Bool, true, ◌⊎◌, inl, inr, refl, arith, ap, sym, subst, ◌∙◌}
 use Rattle.std.proofs.lemmas.Bool.{cases_lt, cases_eq}
 use Rattle.seize_words.specs.Mem.{Mem, value_at}
-use Rattle.seize.specs.World.{World, Row, Hand, NoBlock, Making, InUse, Parting, Cutting, Handed, LeftTo, Rests, with_at}
+use Rattle.seize.specs.World.{World, Row, Hand, NoBlock, Making, InUse, Parting, Cutting, Handed, LeftTo, with_at}
 use Rattle.seize_acts.specs.Reclaimed.{IsStillHad}
 use Rattle.seize_alone.specs.Alone.{IsOfUsers}
 use Rattle.seize_alone.proofs.Histories.NotTaken.{IsHad, kept_there}
@@ -100,7 +100,7 @@ module _ {K Q : Type 0} (V : Type 0) (same : K → K → Bool) (asks : Q → K �
 
   -- what its copier is to hand over, of the tables as they stood, the call is to hand over then
   pub owes_after : (u2 : UnderWay K V Q) (q : Copier) → next ≡ Some u2 → copier_of u2 ≡ Some q → (b : ℕ) → IsToHandOver w maps m i q b → Due b
-  owes_after u2 q is copies b hands = (u2, is, q, copies, hands_on w went.w2 maps maps2 m i q b (λ rests. rows_are i ∙ rests) (stand_on m) hands)
+  owes_after u2 q is copies b hands = (u2, is, (q, copies, hands_on w went.w2 maps maps2 m i q b (λ rests. rows_are i ∙ rests) (stand_on m) hands))
 
   module _ (b : ℕ) where
     -- whose it was, it is

@@ -8,7 +8,7 @@ use Rattle.seize_words.specs.Plan.{Steps}
 use Rattle.seize_words.proofs.OneOwner.Operations.{loaded, exchanged}
 use Rattle.seize_words.proofs.Plans.{steps_as}
 use Rattle.seize.specs.Settle.{retiring}
-use Rattle.seize.specs.World.{World, Cutting}
+use Rattle.seize.specs.World.{World}
 use Rattle.papaya_tables.specs.Chunks.{is_incremental}
 use Rattle.papaya_tables.specs.declared.node.Node.{Node}
 use Rattle.papaya_tables.specs.declared.setting.Setting.{Setting}
@@ -131,7 +131,7 @@ module _ {K V : Type 0} (same : K → K → Bool) (hash : K → ℕ) (setting : 
         by (inl after) =
             let more : suc x < t = omega (arith, after, low) in
             let rest = rest_between same hash caller setting w c blocks map p knows.0 x t cut.0 cut.1 cut.2 table is d.0 link_is more in
-            inr (blocking, suc x, next_then (also_retired p d.0) more rest, u, omega (arith, after), before, at)
+            inr (blocking, (suc x, next_then (also_retired p d.0) more rest, u, omega (arith, after), before, at))
         by (inr to) =
             let it : u ≡ x = omega (arith, to, from, first_is) in
             inl (ap (λ (y : ℕ). retiring p.setting.slot p.setting.batch_size y) (is ∙ ap (λ (y : ℕ). y * 2048) (ap blocks.table (sym it) ∙ sym at)))
@@ -141,7 +141,7 @@ module _ {K V : Type 0} (same : K → K → Bool) (hash : K → ℕ) (setting : 
   ahead_stays blocking b copies.Announces row tables s ahead = (copying.standing p (copies.Succeeds p.source.link), s.2, inr (blocking, ahead))
   ahead_stays blocking b (copies.Succeeds table) row (x, t, is, cut) s ahead = succeeds_ahead blocking table x t is cut b s ahead
   ahead_stays blocking b (copies.Retires settle rest) row tables s ahead = absurd (row tt)
-  ahead_stays blocking b _ row tables s (t, next, rest) = absurd (let named = next.named in let some = next.some in omega (arith, named, some))
+  ahead_stays blocking b _ row tables s (t, next, u, from, before, at) = absurd (let named = next.named in let some = next.some in omega (arith, named, some))
 
   -- what it is to hand over it is to hand over still
   pub copier_stays : (IsRowOfCopier p.stands → ⊥) → Steps Took value_at w.memory (copier_plan hash p) m2 end → (b : ℕ) → IsItsNext p b → GoesOwing b

@@ -1,5 +1,5 @@
 -- A step of a call, a reservation or a sweep in which a copier is under way is that copier's, and goes on where it goes on.
-use Rattle.std.specs.Prelude.{Option, Some, None}
+use Rattle.std.specs.Prelude.{Some, None}
 use Rattle.std.proofs.Common.{◌≡◌, ℕ, Bool, false, refl, ap, sym, subst}
 use Rattle.seize_words.specs.Mem.{Mem, Took, value_at}
 use Rattle.seize_words.specs.Plan.{Steps}
@@ -33,7 +33,7 @@ use Rattle.papaya_late.specs.ToldSweeps.{IsRowOfSweep}
 use Rattle.papaya_callers.specs.OverAll.{CallOverAll, row_of_sweep}
 use Rattle.papaya_callers.specs.Rooms.{CallForRoom, row_of_room}
 use Rattle.papaya_callers.specs.Rows.{row_of, row_of_copier}
-use Rattle.papaya_callers.specs.Together.{UnderWay, OnKey, ForRoom, OverAll, CallOnKey, next_of, next_for_room, next_over_all}
+use Rattle.papaya_callers.specs.Together.{OnKey, ForRoom, OverAll, CallOnKey, next_of, next_for_room, next_over_all}
 use Rattle.papaya_carries.specs.Theirs.{copier_of_call, copier_of_room, copier_of_sweep}
 
 -- it goes on, and has neither ended nor been refused

@@ -30,12 +30,12 @@ module _ {K V : Type 0} (same : K → K → Bool) (hash : K → ℕ) (w : World 
 
   fresh_knows : (p : Copier) (stands : Copying) → CopyingFactsBlocking same hash w caller setting c blocks p stands → KnowsTables p stands
   fresh_knows p copies.Promotes (t, rests, counted) = (c.first, t, rests.0.0, rests.0.2)
-  fresh_knows p (copies.Succeeds table) (s, unlinked, is) = (s, c.first, is, unlinked.0, unlinked.1, unlinked.3)
+  fresh_knows p (copies.Succeeds table) (s, unlinked, is) = (s, c.first, is, (unlinked.0, unlinked.1, unlinked.3))
   fresh_knows p _ facts = tt
 
   late_knows : (began : ℕ) (p : Copier) (stands : Copying) → LateCopying same hash w caller setting c blocks began p stands → KnowsTables p stands
   late_knows began p copies.Promotes (s, t, copies_late) = (s, t, copies_late.source, copies_late.target)
-  late_knows began p (copies.Succeeds table) (s, t, unlinked, is) = (s, t, is, unlinked.0, unlinked.1, unlinked.4)
+  late_knows began p (copies.Succeeds table) (s, t, unlinked, is) = (s, t, is, (unlinked.0, unlinked.1, unlinked.4))
   late_knows began p _ facts = tt
 
   -- it works with the map's setting, and in blocking mode knows so

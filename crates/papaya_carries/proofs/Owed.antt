@@ -66,7 +66,7 @@ module _ {K V : Type 0} (w w2 : World (Node K V)) (maps maps2 : ℕ → Option (
   module _ {Q : Type 0} (calls : ℕ → ℕ → Option (UnderWay K V Q)) (enders enders2 : ℕ → Option (Finishing K V)) where
     -- so do all calls, if they go on as they were
     pub owed_on : (b : ℕ) → ((n j : ℕ) (u : UnderWay K V Q) → calls n j ≡ Some u → (w.row j ≡ Rests → w2.row j ≡ Rests) × StandsOnAt maps maps2 n) → IsOwed w maps calls enders b → IsOwed w2 maps2 calls enders2 b
-    owed_on b on (n, j, u, under, p, is, owes) = let k = on n j u under in (n, j, u, under, p, is, hands_on n j p b k.0 k.1 owes)
+    owed_on b on (n, j, u, under, (p, is, owes)) = let k = on n j u under in (n, j, u, under, (p, is, hands_on n j p b k.0 k.1 owes))
 
     module _ (m i : ℕ) (next : Option (UnderWay K V Q)) where
       abbrev calls2 : ℕ → ℕ → Option (UnderWay K V Q)
@@ -85,10 +85,10 @@ module _ {K V : Type 0} (w w2 : World (Node K V)) (maps maps2 : ℕ → Option (
       pub owed_with : (b : ℕ) → ((n j : ℕ) (u : UnderWay K V Q) → calls n j ≡ Some u → (n ≡ m → j ≡ i → ⊥) → (w.row j ≡ Rests → w2.row j ≡ Rests) × StandsOnAt maps maps2 n)
           → ((u : UnderWay K V Q) → calls m i ≡ Some u → Owes w maps m i u b → OwesThen b)
           → IsOwed w maps calls enders b → IsOwed w2 maps2 calls2 enders2 b
-      owed_with b others its (n, j, u, under, p, is, owes) = by (cases_eq n m) (cases_eq j i)
+      owed_with b others its (n, j, u, under, (p, is, owes)) = by (cases_eq n m) (cases_eq j i)
         where
           still : (n ≡ m → j ≡ i → ⊥) → calls2 n j ≡ calls n j → IsOwed w2 maps2 calls2 enders2 b
-          still ne e = let k = others n j u under ne in (n, j, u, e ∙ under, p, is, hands_on n j p b k.0 k.1 owes)
+          still ne e = let k = others n j u under ne in (n, j, u, e ∙ under, (p, is, hands_on n j p b k.0 k.1 owes))
 
           by : (n ≡ m) ⊎ (n ≢ m) → (j ≡ i) ⊎ (j ≢ i) → IsOwed w2 maps2 calls2 enders2 b
           by (inr ne) e = still (λ same _. ne same) (ap (λ (f : ℕ → Option (UnderWay K V Q)). f j) (at_other calls m (with_at (calls m) i next) n ne))

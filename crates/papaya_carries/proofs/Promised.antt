@@ -1,18 +1,13 @@
 -- A step of a call on one key that is none of a row leaves each block somebody's behind which something may be put.
 use Rattle.std.specs.Prelude.{Option, Some, None}
-use Rattle.std.proofs.Common.{◌≡◌, ℕ, Bool, inl, inr, ◌⊎◌, sym, subst, ◌∙◌}
-use Rattle.seize_words.specs.Mem.{Mem, Took, value_at}
-use Rattle.seize_words.specs.Plan.{Steps}
+use Rattle.std.proofs.Common.{◌≡◌, ℕ, Bool, inl, inr, ◌⊎◌, sym, subst}
+use Rattle.seize_words.specs.Mem.{Mem}
 use Rattle.seize.specs.World.{World, Rests}
 use Rattle.papaya_tables.specs.declared.node.Node.{Node}
 use Rattle.papaya_resize.specs.declared.copier.Copier.{Copier}
-use Rattle.papaya_raw.specs.Call.{call_plan}
-use Rattle.papaya_raw.specs.declared.machines.answer.Called.{Called}
-use Rattle.papaya_raw.specs.declared.machines.call.KeyCall.{KeyCall}
 use Rattle.papaya_raw.specs.declared.machines.call.Calling.{Calling}
 use Rattle.papaya_raw.specs.declared.machines.call.Calling.TheVariants as at
 use Rattle.papaya_points.specs.FactsCalls.{Unchanged, CallFacts, CallingFacts}
-use Rattle.papaya_points.specs.Told.{IsRowOfCall}
 use Rattle.papaya_points.proofs.Steps.RootSteps.{root_stays}
 use Rattle.papaya_late.specs.LateCalls.{LateCallFacts, LateCalling}
 use Rattle.papaya_rule.proofs.World.RootSpared.{RootStays}

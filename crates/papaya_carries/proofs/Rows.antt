@@ -1,6 +1,6 @@
 -- A step of a row within which a copier is: what it was to hand over next it has begun to retire, and it is to come to the tables behind still.
 use Rattle.std.specs.Prelude.{◌≢◌, ◌*◌, ◌==◌, if◌then◌else◌}
-use Rattle.std.proofs.Common.{◌≡◌, ℕ, ◌<◌, Bool, true, false, refl, arith, sym, subst, ◌∙◌}
+use Rattle.std.proofs.Common.{◌≡◌, ℕ, Bool, true, false, refl, arith, sym, subst}
 use Rattle.std.proofs.lemmas.Bool.{ne_eqb}
 use Rattle.seize_words.specs.Mem.{Mem, Took, value_at}
 use Rattle.seize_words.specs.Plan.{Steps}
@@ -51,14 +51,14 @@ module _ {K V : Type 0} (copier : Copier) (rest : ℕ) where
   by_retired (d, settled.Gave value) = (tt, refl, λ some. refl)
   by_retired (d, settled.Done) = (tt, target (rest == 0), λ some. next (rest == 0) (ne_eqb rest 0 some))
     where
-      then : Bool → Copier
-      then none = if none then standing copier copies.Over else standing copier (copies.Succeeds rest)
+      goes : Bool → Copier
+      goes none = if none then standing copier copies.Over else standing copier (copies.Succeeds rest)
 
-      target : (none : Bool) → (then none).target ≡ copier.target
+      target : (none : Bool) → (goes none).target ≡ copier.target
       target true = refl
       target false = refl
 
-      next : (none : Bool) → none ≡ false → next_of_them (then none) (then none).stands ≡ rest
+      next : (none : Bool) → none ≡ false → next_of_them (goes none) (goes none).stands ≡ rest
       next true e = absurd (cc e)
       next false e = refl
 

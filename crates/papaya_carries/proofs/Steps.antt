@@ -23,7 +23,7 @@ use Rattle.papaya_finishes.specs.Endings.{Finishing}
 use Rattle.papaya_finishes.specs.Maps.{Standing, MapsTogether}
 use Rattle.papaya_finishes.proofs.Beside.Maps.Steps.{its_inside}
 use Rattle.papaya_carries.specs.Promises.{LinksKnown}
-use Rattle.papaya_carries.specs.Theirs.{IsAhead, next_of_them, copier_of, IsToHandOver, Owes, AllAreTheirs}
+use Rattle.papaya_carries.specs.Theirs.{IsAhead, next_of_them, copier_of, IsToHandOver, AllAreTheirs}
 use Rattle.papaya_carries.proofs.Calls.{Due, calls2, maps2, owes_after, went_theirs}
 use Rattle.papaya_carries.proofs.Copiers.{GoesOwing, IsItsNext, copier_left, copier_stays}
 use Rattle.papaya_carries.proofs.Inside.{IsOn}
@@ -69,7 +69,7 @@ module _ {K Q : Type 0} (V : Type 0) (same : K → K → Bool) (asks : Q → K �
 
       from_hand : (b : ℕ) → IsToHandOver w maps m i x b → Next x b
       from_hand b (inl (row, due)) = inl due
-      from_hand b (inr (r, is, later)) = inr (subst (Later b) (one_some (maps m) r s is here) later)
+      from_hand b (inr (r, is, blocking, ahead)) = inr (subst (Later b) (one_some (maps m) r s is here) (blocking, ahead))
 
       due_then : (b : ℕ) → GoesOwing same s.hash (in_slot s.setting (slot i)) w s.chart (seen_by s.blocks (s.sights (slot i))) map_here i x st.knows m2 st.end b → DueThen b
       due_then b (q, is, hands) =

@@ -1,5 +1,5 @@
 -- A step of a sweep that is none of a row leaves each block somebody's behind which something may be put.
-use Rattle.std.specs.Prelude.{Option, Some, None}
+use Rattle.std.specs.Prelude.{Option, Some}
 use Rattle.std.proofs.Common.{◌≡◌, ℕ, Bool, inl, inr, ap, subst}
 use Rattle.seize.specs.World.{World, Rests}
 use Rattle.papaya_tables.specs.declared.node.Node.{Node}

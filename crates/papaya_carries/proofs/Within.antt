@@ -36,7 +36,7 @@ use Rattle.papaya_finishes.specs.Makings.{Beginning}
 use Rattle.papaya_finishes.specs.Maps.{Standing, IsSameMap, with_call}
 use Rattle.papaya_finishes.proofs.Beside.Maps.Steps.{no_other}
 use Rattle.papaya_carries.specs.Promises.{RowsKeepTheirs, RoomRowsKeepTheirs, SweepRowsKeepTheirs}
-use Rattle.papaya_carries.specs.Theirs.{IsDueAt, copier_of_call, copier_of_room, copier_of_sweep, copier_of, IsToHandOver, Owes, AllAreTheirs}
+use Rattle.papaya_carries.specs.Theirs.{IsDueAt, copier_of_call, copier_of_room, copier_of_sweep, copier_of, IsToHandOver, AllAreTheirs}
 use Rattle.papaya_carries.proofs.FirstSteps.{row_retires, row_defers}
 use Rattle.papaya_carries.proofs.Guards.{users_own, theirs_by, can_back, same_on}
 use Rattle.papaya_carries.proofs.Hands.{still_row}
@@ -176,10 +176,12 @@ module _ {K Q : Type 0} (V : Type 0) (same : K → K → Bool) (asks : Q → K �
           let on = st.goes g.0 in (
             on.0,
             on.1,
-            st.end.0,
-            on.2,
-            inr (comes_on maps maps2 m st.end.0 b (same_on w w2 maps maps2 calls enders m (same_maps m))
-                (r, is, blocking, ahead_next r.chart.past r.blocks.table x st.end.0 g.1 g.2 b ahead)),
+            (
+              st.end.0,
+              on.2,
+              inr (comes_on maps maps2 m st.end.0 b (same_on w w2 maps maps2 calls enders m (same_maps m))
+                  (r, is, blocking, ahead_next r.chart.past r.blocks.table x st.end.0 g.1 g.2 b ahead)),
+            ),
           )
 
     -- So all are somebody's then.
