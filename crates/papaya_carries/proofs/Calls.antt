@@ -28,7 +28,6 @@ use Rattle.papaya_finishes.specs.Maps.{Standing, MapsTogether, with_call}
 use Rattle.papaya_finishes.proofs.Beside.Maps.OtherSteps.{known_out}
 use Rattle.papaya_finishes.proofs.Beside.Maps.Steps.{seen_known}
 use Rattle.papaya_reclaims.specs.Deferred.{IsLinkedTable}
-use Rattle.papaya_carries.specs.Promises.{LinksKnown}
 use Rattle.papaya_carries.specs.Theirs.{copier_of, IsToHandOver, Owes, CanCarry, IsTheirs, AllAreTheirs}
 use Rattle.papaya_carries.proofs.Hands.{step_origin}
 use Rattle.papaya_carries.proofs.Owed.{one_some, StandsOn, StandsOnAt, stays_so, hands_on, OwesThen, owed_then, owed_with}
@@ -124,73 +123,72 @@ module _ {K Q : Type 0} (V : Type 0) (same : K → K → Bool) (asks : Q → K �
         by (inl e) = in_it (one_some (maps n) r s is (ap maps e ∙ here)) (cases_lt t went.c2.first)
         by (inr ne) = inl (n, r, other n ne ∙ is, t, from, made, at)
 
+    seen_out : (x : ℕ) → IsKnownBlock s.chart (seen_by s.blocks (s.sights (slot i))) x → IsOut (w.hand x)
+    seen_out x seen = known_out same s.hash asks s.setting slot w s.chart s.blocks s.sights (calls m) together x (seen_known V same asks size slot w maps calls all m s here i u has x seen)
+
+    -- a table that its caller had made
+    new_linked : w.hand b ≡ Making i → (t : ℕ) → t < went.c2.past → went.blocks2.table_known t ≡ true → b ≡ went.blocks2.table t → IsLinkedTable went.w2 maps2 b
+    new_linked making t made known at = by (cases_lt t s.chart.past)
+      where
+        first_low : (past : ℕ) → s.chart.past ≡ past → s.chart.past ≤ t → s.chart.first ≤ t
+        first_low zero none new = let first = together.ground.map.map.rule.common.rootless none in omega (arith, first)
+        first_low (suc k) some new = let first = together.ground.map.map.rule.common.rooted (omega (arith, some)) in omega (arith, first, new)
+
+        linked : s.chart.past ≤ t → (went.c2.first ≡ s.chart.first) ⊎ IsPromoted same s.hash (in_slot s.setting (slot i)) s.chart went.c2 → went.c2.first ≤ t
+        linked new (inl same_first) = let low = first_low s.chart.past refl new in omega (arith, low, same_first)
+        linked new (inr moved) = let same_past = moved.2 in absurd (omega (arith, made, same_past, new))
+
+        by : (t < s.chart.past) ⊎ (s.chart.past ≤ t) → IsLinkedTable went.w2 maps2 b
+        by (inl was) =
+            let known_then = went.blocks_same.tables_back t was known in
+            let at_then = at ∙ (went.blocks_same.tables t was known_then).0 in
+            let is_out = seen_out b (inl (t, was, known_then, at_then)) in absurd (subst IsOut making is_out)
+        by (inr new) =
+            (m, its, its_now, t, linked new (first_moves same s.hash (in_slot s.setting (slot i)) s.chart went.c2 went.moved), made, at ∙ sym (grown.new_tables t new).0)
+
+    no_pair : (o : Option (Node K V)) → value_at went.w2.memory b ≡ o → (key : K) (value : V) → o ≡ Some (node.Pair key value) → CanCarry went.w2 maps2 calls2 enders b → ⊥
+    no_pair o e key value is (still, field, x, there, has_list) = none x (one_some (value_at went.w2.memory b) x (node.Pair key value) there (e ∙ is)) has_list
+      where
+        none : (y : Node K V) → y ≡ node.Pair key value → deferred_word y ≡ Some field → ⊥
+        none y same_value h = let k : deferred_word y ≡ None = ap deferred_word same_value in cc (k, h)
+
+    of_made : w.hand b ≡ Making i → CanCarry went.w2 maps2 calls2 enders b → IsKnownBlock went.c2 went.blocks2 b → IsLinkedTable went.w2 maps2 b
+    of_made making can (inl (t, made, known, at)) = new_linked making t made known at
+    of_made making can (inr (n, was, known, at)) =
+        let pair = went.map.map.shows.pairs n was known in
+        absurd (no_pair (value_at went.w2.memory b) refl pair.0 pair.1 (ap (value_at went.w2.memory) at ∙ pair.2) can)
+
+    -- it had the value that it has
+    same_value : IsStillHad (w.hand b) → CanCarry went.w2 maps2 calls2 enders b → CanCarry w maps calls enders b
+    same_value still (then, field, x, there, has_list) = (still, field, x, by (value_at w.memory b) refl (kept_there deferred_word s.setting.batch_size w reached b (IsHad (users_of (w.hand b) still))), has_list)
+      where
+        reached : Reached deferred_word s.setting.batch_size w
+        reached = came_reached s.setting.batch_size w together.ground.came
+
+        not_own : IsOwnBlock i w b → ⊥
+        not_own own = subst IsStillHad own.0 still
+
+        by : (o : Option (Node K V)) → value_at w.memory b ≡ o → IsSome o → value_at w.memory b ≡ Some x
+        by None is some = absurd (cc some)
+        by (Some y) is some =
+            let kept = ap (λ (n : Mem (Node K V)). value_at n b) went.memory ∙ went.frame.values b y is not_own in
+            is ∙ ap Some (one_some (value_at went.w2.memory b) y x kept there)
+
     -- what users have then, and may have something put behind it, they had so, or it is a table that the step has linked
-    module _ (links : LinksKnown i w went.w2 went.c2 went.blocks2) where
-      seen_out : (x : ℕ) → IsKnownBlock s.chart (seen_by s.blocks (s.sights (slot i))) x → IsOut (w.hand x)
-      seen_out x seen = known_out same s.hash asks s.setting slot w s.chart s.blocks s.sights (calls m) together x (seen_known V same asks size slot w maps calls all m s here i u has x seen)
-
-      -- a table that its caller had made
-      new_linked : w.hand b ≡ Making i → (t : ℕ) → t < went.c2.past → went.blocks2.table_known t ≡ true → b ≡ went.blocks2.table t → IsLinkedTable went.w2 maps2 b
-      new_linked making t made known at = by (cases_lt t s.chart.past)
-        where
-          first_low : (past : ℕ) → s.chart.past ≡ past → s.chart.past ≤ t → s.chart.first ≤ t
-          first_low zero none new = let first = together.ground.map.map.rule.common.rootless none in omega (arith, first)
-          first_low (suc k) some new = let first = together.ground.map.map.rule.common.rooted (omega (arith, some)) in omega (arith, first, new)
-
-          linked : s.chart.past ≤ t → (went.c2.first ≡ s.chart.first) ⊎ IsPromoted same s.hash (in_slot s.setting (slot i)) s.chart went.c2 → went.c2.first ≤ t
-          linked new (inl same_first) = let low = first_low s.chart.past refl new in omega (arith, low, same_first)
-          linked new (inr moved) = let same_past = moved.2 in absurd (omega (arith, made, same_past, new))
-
-          by : (t < s.chart.past) ⊎ (s.chart.past ≤ t) → IsLinkedTable went.w2 maps2 b
-          by (inl was) =
-              let known_then = went.blocks_same.tables_back t was known in
-              let at_then = at ∙ (went.blocks_same.tables t was known_then).0 in
-              let is_out = seen_out b (inl (t, was, known_then, at_then)) in absurd (subst IsOut making is_out)
-          by (inr new) =
-              (m, its, its_now, t, linked new (first_moves same s.hash (in_slot s.setting (slot i)) s.chart went.c2 went.moved), made, at ∙ sym (grown.new_tables t new).0)
-
-      no_pair : (o : Option (Node K V)) → value_at went.w2.memory b ≡ o → (key : K) (value : V) → o ≡ Some (node.Pair key value) → CanCarry went.w2 maps2 calls2 enders b → ⊥
-      no_pair o e key value is (still, field, x, there, has_list) = none x (one_some (value_at went.w2.memory b) x (node.Pair key value) there (e ∙ is)) has_list
-        where
-          none : (y : Node K V) → y ≡ node.Pair key value → deferred_word y ≡ Some field → ⊥
-          none y same_value h = let k : deferred_word y ≡ None = ap deferred_word same_value in cc (k, h)
-
-      of_made : w.hand b ≡ Making i → CanCarry went.w2 maps2 calls2 enders b → IsKnownBlock went.c2 went.blocks2 b → IsLinkedTable went.w2 maps2 b
-      of_made making can (inl (t, made, known, at)) = new_linked making t made known at
-      of_made making can (inr (n, was, known, at)) =
-          let pair = went.map.map.shows.pairs n was known in
-          absurd (no_pair (value_at went.w2.memory b) refl pair.0 pair.1 (ap (value_at went.w2.memory) at ∙ pair.2) can)
-
-      -- it had the value that it has
-      same_value : IsStillHad (w.hand b) → CanCarry went.w2 maps2 calls2 enders b → CanCarry w maps calls enders b
-      same_value still (then, field, x, there, has_list) = (still, field, x, by (value_at w.memory b) refl (kept_there deferred_word s.setting.batch_size w reached b (IsHad (users_of (w.hand b) still))), has_list)
-        where
-          reached : Reached deferred_word s.setting.batch_size w
-          reached = came_reached s.setting.batch_size w together.ground.came
-
-          not_own : IsOwnBlock i w b → ⊥
-          not_own own = subst IsStillHad own.0 still
-
-          by : (o : Option (Node K V)) → value_at w.memory b ≡ o → IsSome o → value_at w.memory b ≡ Some x
-          by None is some = absurd (cc some)
-          by (Some y) is some =
-              let kept = ap (λ (n : Mem (Node K V)). value_at n b) went.memory ∙ went.frame.values b y is not_own in
-              is ∙ ap Some (one_some (value_at went.w2.memory b) y x kept there)
-
-      carried : CanCarry went.w2 maps2 calls2 enders b → CanCarry w maps calls enders b ⊎ IsLinkedTable went.w2 maps2 b
-      carried can =
-          by (step_origin s.setting.batch_size (in_slot s.setting (slot i)) i w s.chart (seen_by s.blocks (s.sights (slot i))) seen_out b went.events went.w2
-          (came_reached s.setting.batch_size w together.ground.came) went.users went.its went.runs can.0)
-        where
-          by : IsStillHad (w.hand b) ⊎ (w.hand b ≡ Making i) → CanCarry w maps calls enders b ⊎ IsLinkedTable went.w2 maps2 b
-          by (inl still) = inl (same_value still can)
-          by (inr making) = inr (of_made making can (links b making (out_of (went.w2.hand b) can.0)))
+    carried : CanCarry went.w2 maps2 calls2 enders b → CanCarry w maps calls enders b ⊎ IsLinkedTable went.w2 maps2 b
+    carried can =
+        by (step_origin s.setting.batch_size (in_slot s.setting (slot i)) i w s.chart (seen_by s.blocks (s.sights (slot i))) seen_out b went.events went.w2
+        (came_reached s.setting.batch_size w together.ground.came) went.users went.its went.runs can.0)
+      where
+        by : IsStillHad (w.hand b) ⊎ (w.hand b ≡ Making i) → CanCarry w maps calls enders b ⊎ IsLinkedTable went.w2 maps2 b
+        by (inl still) = inl (same_value still can)
+        by (inr making) = inr (of_made making can (went.links.known b making (out_of (went.w2.hand b) can.0)))
 
   -- so each is somebody's
-  pub went_theirs : LinksKnown i w went.w2 went.c2 went.blocks2 → AllAreTheirs w maps calls enders
+  pub went_theirs : AllAreTheirs w maps calls enders
       → ((b t : ℕ) → s.chart.first ≤ t → t < went.c2.first → b ≡ s.blocks.table t → Due b) → ((b : ℕ) → Owes w maps m i u b → Due b)
       → AllAreTheirs went.w2 maps2 calls2 enders
-  went_theirs links theirs passes keeps b can = by (carried b links can)
+  went_theirs theirs passes keeps b can = by (carried b can)
     where
       by : CanCarry w maps calls enders b ⊎ IsLinkedTable went.w2 maps2 b → IsTheirs went.w2 maps2 calls2 enders b
       by (inl was) = theirs_on b (passes b) (keeps b) (theirs b was)

@@ -15,7 +15,7 @@ pub mod Sweeps
 pub mod Endings
 pub mod Reclaiming
 pub mod Makings
-pub mod Kinds
+pub mod Machines
 pub mod Told
 pub mod Acts
 pub mod Left

@@ -26,9 +26,9 @@ use Rattle.papaya_carries.proofs.Steps.{StepsBy, map_here, step_theirs}
 module _ {K Q : Type 0} (V : Type 0) (same : K → K → Bool) (asks : Q → K → Bool) (batch_size roots : ℕ) (slot : ℕ → ℕ)
     (w : World (Node K V)) (maps : ℕ → Option (Standing K)) (calls : ℕ → ℕ → Option (UnderWay K V Q)) (makers : ℕ → Option (Beginning K)) (enders : ℕ → Option (Finishing K V)) where
   pub calls_keep_theirs : CallsKeepTheirs V same asks batch_size roots slot w maps calls makers enders
-  calls_keep_theirs all theirs m s here i u has row m2 p2 progress steps st links =
+  calls_keep_theirs all theirs m s here i u has row m2 p2 progress steps st =
       step_theirs V same asks batch_size slot w maps calls enders all.makings.standing m s here i (OnKey u) has m2 _ st.step.went st.step.blocks2 st.step.grown st.step.sights2 next
-      knows.0 without within links theirs
+      knows.0 without within theirs
     where
       then : CallOnKey K V Q
       then = record { keys = u.keys; pair = u.pair; began = u.began; change = change_told V same s.hash asks s.setting slot st.step.went.told; call = p2 }

@@ -30,9 +30,9 @@ same_first {K} hash mode c c2 (inr (len, limit, e)) = ap (λ (x : Chart K). x.fi
 module _ {K Q : Type 0} (V : Type 0) (same : K → K → Bool) (asks : Q → K → Bool) (batch_size roots : ℕ) (slot : ℕ → ℕ)
     (w : World (Node K V)) (maps : ℕ → Option (Standing K)) (calls : ℕ → ℕ → Option (UnderWay K V Q)) (makers : ℕ → Option (Beginning K)) (enders : ℕ → Option (Finishing K V)) where
   pub rooms_keep_theirs : RoomsKeepTheirs V same asks batch_size roots slot w maps calls makers enders
-  rooms_keep_theirs all theirs m s here i r has row m2 p2 end steps st links =
+  rooms_keep_theirs all theirs m s here i r has row m2 p2 end steps st =
       step_theirs V same asks batch_size slot w maps calls enders all.makings.standing m s here i (ForRoom r) has m2 _ st.step.went st.step.blocks2 st.step.grown st.step.sights2 next
-      knows.0 (λ none. same_first s.hash s.setting.mode s.chart st.step.went.c2 (beside st.step.went.told (room_without r.reserve.stands none))) within links theirs
+      knows.0 (λ none. same_first s.hash s.setting.mode s.chart st.step.went.c2 (beside st.step.went.told (room_without r.reserve.stands none))) within theirs
     where
       then : CallForRoom
       then = record { began = r.began; reserve = p2 }

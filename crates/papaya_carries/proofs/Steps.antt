@@ -22,7 +22,6 @@ use Rattle.papaya_callers.proofs.Together.Fits.{map_in_slot}
 use Rattle.papaya_finishes.specs.Endings.{Finishing}
 use Rattle.papaya_finishes.specs.Maps.{Standing, MapsTogether}
 use Rattle.papaya_finishes.proofs.Beside.Maps.Steps.{its_inside}
-use Rattle.papaya_carries.specs.Promises.{LinksKnown}
 use Rattle.papaya_carries.specs.Theirs.{IsAhead, next_of_them, copier_of, IsToHandOver, AllAreTheirs}
 use Rattle.papaya_carries.proofs.Calls.{Due, calls2, maps2, owes_after, went_theirs}
 use Rattle.papaya_carries.proofs.Copiers.{GoesOwing, IsItsNext, copier_left, copier_stays}
@@ -89,11 +88,11 @@ module _ {K Q : Type 0} (V : Type 0) (same : K → K → Bool) (asks : Q → K �
 
     -- So all are somebody's then.
     pub step_theirs : w.row i ≡ Rests → (copier_of u ≡ None → went.c2.first ≡ s.chart.first) → ((x : Copier) → copier_of u ≡ Some x → StepsBy x)
-        → LinksKnown i w went.w2 went.c2 went.blocks2 → AllAreTheirs w maps calls enders
+        → AllAreTheirs w maps calls enders
         → AllAreTheirs went.w2 (maps2 V same asks size slot w maps calls enders all m s here i u has m2 Told went blocks2 grown sights2 next)
         (calls2 V same asks size slot w maps calls enders all m s here i u has m2 Told went blocks2 grown sights2 next) enders
-    step_theirs rests without within links theirs =
-        went_theirs V same asks size slot w maps calls enders all m s here i u has m2 Told went blocks2 grown sights2 next links theirs
+    step_theirs rests without within theirs =
+        went_theirs V same asks size slot w maps calls enders all m s here i u has m2 Told went blocks2 grown sights2 next theirs
         (λ b t from to at. subst DueThen (sym at) (passes (copier_of u) refl t from to))
         (λ b owes. keeps_by owes.0 (within owes.0 owes.1) rests b owes.2)
       where

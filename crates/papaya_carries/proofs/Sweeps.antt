@@ -29,9 +29,9 @@ same_first {K} hash mode c c2 (inr (t, i, e)) = ap (λ (x : Chart K). x.first) e
 module _ {K Q : Type 0} (V : Type 0) (same : K → K → Bool) (asks : Q → K → Bool) (batch_size roots : ℕ) (slot : ℕ → ℕ)
     (w : World (Node K V)) (maps : ℕ → Option (Standing K)) (calls : ℕ → ℕ → Option (UnderWay K V Q)) (makers : ℕ → Option (Beginning K)) (enders : ℕ → Option (Finishing K V)) where
   pub sweeps_keep_theirs : SweepsKeepTheirs V same asks batch_size roots slot w maps calls makers enders
-  sweeps_keep_theirs all theirs m s here i o has row m2 p2 end steps st links =
+  sweeps_keep_theirs all theirs m s here i o has row m2 p2 end steps st =
       step_theirs V same asks batch_size slot w maps calls enders all.makings.standing m s here i (OverAll o) has m2 _ st.step.went st.step.blocks2 st.step.grown st.step.sights2 next
-      knows.0 (λ none. same_first s.hash s.setting.mode s.chart st.step.went.c2 (st.step.went.told.beside (sweep_without o.sweep.stands none))) within links theirs
+      knows.0 (λ none. same_first s.hash s.setting.mode s.chart st.step.went.c2 (st.step.went.told.beside (sweep_without o.sweep.stands none))) within theirs
     where
       then : CallOverAll
       then = come_to o st.step.entered2 st.step.done2 p2

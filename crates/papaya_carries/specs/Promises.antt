@@ -2,7 +2,7 @@
 use Rattle.std.specs.Prelude.{◌≡◌, ℕ, Bool, List, Option, Some, None}
 use Rattle.seize_words.specs.Mem.{Mem, Took, value_at}
 use Rattle.seize_words.specs.Plan.{Steps}
-use Rattle.seize.specs.World.{World, Making, Request, Begin, Step, Ends, Happens, with_at}
+use Rattle.seize.specs.World.{World, Request, Begin, Step, Ends, Happens, with_at}
 use Rattle.seize.specs.declared.progress.Progress.{Progress}
 use Rattle.seize.specs.declared.progress.Progress.TheVariants as progress
 use Rattle.seize.specs.declared.rows.reclaim_all.ReclaimAll.{ReclaimAll}
@@ -22,9 +22,6 @@ use Rattle.papaya_raw.specs.Call.{call_plan}
 use Rattle.papaya_raw.specs.declared.machines.answer.Called.{Called}
 use Rattle.papaya_raw.specs.declared.machines.call.KeyCall.{KeyCall}
 use Rattle.papaya_raw.specs.declared.machines.end_map.EndMap.{EndMap}
-use Rattle.papaya_rule.specs.Chart.{Chart}
-use Rattle.papaya_rule.specs.InWorld.{IsOut, IsKnownBlock}
-use Rattle.papaya_rule.specs.Words.{Blocks}
 use Rattle.papaya_points.specs.Told.{IsRowOfCall}
 use Rattle.papaya_late.specs.ToldReserves.{IsRowOfReserve}
 use Rattle.papaya_late.specs.ToldSweeps.{IsRowOfSweep}
@@ -40,10 +37,6 @@ use Rattle.papaya_reclaims.specs.Deferred.{OnlyPairsWait, OnlyTheyCarry}
 use Rattle.papaya_reclaims.specs.Left.{GoesOnBy}
 use Rattle.papaya_reclaims.specs.Reclaims.{AllIsReclaimed, AllStandIdle, StepsOfReclaiming}
 use Rattle.papaya_carries.specs.Theirs.{Owes, AllAreTheirs}
-
--- What this caller has made, and is out after a step of it, is a table or a pair of the map then.
-abbrev pub LinksKnown : {K V : Type 0} → ℕ → World (Node K V) → World (Node K V) → Chart K → Blocks → Type 0
-LinksKnown i w w2 c2 blocks2 = (b : ℕ) → w.hand b ≡ Making i → IsOut (w2.hand b) → IsKnownBlock c2 blocks2 b
 
 module _ {K Q : Type 0} (V : Type 0) (same : K → K → Bool) (asks : Q → K → Bool) (batch_size roots : ℕ) (slot : ℕ → ℕ)
     (w : World (Node K V)) (maps : ℕ → Option (Standing K)) (calls : ℕ → ℕ → Option (UnderWay K V Q)) (makers : ℕ → Option (Beginning K)) (enders : ℕ → Option (Finishing K V)) where
@@ -69,14 +62,13 @@ module _ {K Q : Type 0} (V : Type 0) (same : K → K → Bool) (asks : Q → K �
       → ((request : Request) → IsOfSlots request → Happens deferred_word batch_size (Begin i request) w w2 → AllAreTheirs w2 maps2 calls enders)
       × (Happens deferred_word batch_size (Step i) w w2 → AllAreTheirs w2 maps2 calls enders)
 
-  -- A call on one key takes a step that is none of a row, and what it links is its map's.
+  -- A call on one key takes a step that is none of a row.
   abbrev pub CallsKeepTheirs : Type 0
   CallsKeepTheirs =
       EndingsTogether V same asks batch_size roots slot w maps calls makers enders → AllAreTheirs w maps calls enders
       → (m : ℕ) (s : Standing K) → maps m ≡ Some s → (i : ℕ) (u : CallOnKey K V Q) → calls m i ≡ Some (OnKey u) → (IsRowOfCall u.call.stands → ⊥)
       → (m2 : Mem (Node K V)) (p2 : KeyCall K V Q) (progress : Called (Node K V)) → Steps Took value_at w.memory (call_plan asks same s.hash u.call) m2 (p2, progress)
       → (st : StepsAmong V same asks batch_size roots slot w maps calls makers enders m s i u m2 p2 progress)
-      → LinksKnown i w st.step.went.w2 st.step.went.c2 st.step.went.blocks2
       → AllAreTheirs st.step.went.w2 (with_at maps m (Some (record s { chart = st.step.went.c2; blocks = st.step.blocks2; sights = st.step.sights2 })))
       (with_call calls m i (next_of (record { keys = u.keys; pair = u.pair; began = u.began; change = change_told V same s.hash asks s.setting slot st.step.went.told; call = p2 }) progress)) enders
 
@@ -87,7 +79,6 @@ module _ {K Q : Type 0} (V : Type 0) (same : K → K → Bool) (asks : Q → K �
       → (m : ℕ) (s : Standing K) → maps m ≡ Some s → (i : ℕ) (r : CallForRoom) → calls m i ≡ Some (ForRoom r) → (IsRowOfReserve r.reserve.stands → ⊥)
       → (m2 : Mem (Node K V)) (p2 : Reserve) (end : Outcome (Node K V) Unit) → Steps Took value_at w.memory (reserve_plan s.hash r.reserve) m2 (p2, end)
       → (st : RoomStepsAmong V same asks batch_size roots slot w maps calls makers enders m s i r m2 p2 end)
-      → LinksKnown i w st.step.went.w2 st.step.went.c2 st.step.went.blocks2
       → AllAreTheirs st.step.went.w2 (with_at maps m (Some (record s { chart = st.step.went.c2; blocks = st.step.blocks2; sights = st.step.sights2 })))
       (with_call calls m i (next_for_room (record { began = r.began; reserve = p2 }) end)) enders
 
@@ -98,7 +89,6 @@ module _ {K Q : Type 0} (V : Type 0) (same : K → K → Bool) (asks : Q → K �
       → (m : ℕ) (s : Standing K) → maps m ≡ Some s → (i : ℕ) (o : CallOverAll) → calls m i ≡ Some (OverAll o) → (IsRowOfSweep o.sweep.stands → ⊥)
       → (m2 : Mem (Node K V)) (p2 : Sweep) (end : Swept (Node K V)) → Steps Took value_at w.memory (sweep_plan s.hash o.sweep) m2 (p2, end)
       → (st : SweepStepsAmong V same asks batch_size roots slot w maps calls makers enders m s i o m2 p2 end)
-      → LinksKnown i w st.step.went.w2 st.step.went.c2 st.step.went.blocks2
       → AllAreTheirs st.step.went.w2 (with_at maps m (Some (record s { chart = st.step.went.c2; blocks = st.step.blocks2; sights = st.step.sights2 })))
       (with_call calls m i (next_over_all (come_to o st.step.entered2 st.step.done2 p2) end)) enders
 

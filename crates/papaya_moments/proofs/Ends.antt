@@ -10,7 +10,7 @@ use Rattle.seize.specs.declared.rows.settle.Settled.TheVariants as settled
 use Rattle.papaya_tables.specs.declared.node.Node.{Node}
 use Rattle.papaya_raw.specs.declared.machines.end_map.EndMap.{EndMap}
 use Rattle.papaya_schedules.specs.declared.effect.Effect.{Effect}
-use Rattle.papaya_schedules.specs.declared.effect.Effect.TheVariants.{Stored, Deferred}
+use Rattle.papaya_schedules.specs.declared.effect.Effect.TheVariants.{Stored, Deferred, Taken}
 use Rattle.papaya_schedules.specs.Effects.{with_effect, with_effects, AtEachEffect}
 use Rattle.papaya_schedules.specs.Moment.{Place, Left, GivenBack, IsTaken, Moment}
 use Rattle.papaya_schedules.specs.Things.{same_table}
@@ -39,25 +39,26 @@ use Rattle.papaya_hands.proofs.Others.{endings_begin_aside, endings_go_aside}
 use Rattle.papaya_others.specs.After.{ShowsAfter}
 use Rattle.papaya_others.specs.Counters.{NotesCounters}
 use Rattle.papaya_others.specs.Endings.{ending_after}
+use Rattle.papaya_others.specs.Gone.{EndsWith}
 use Rattle.papaya_others.proofs.Counters.{endings_note_counters}
 use Rattle.papaya_others.proofs.EndBegins.{endings_begin_shown}
 use Rattle.papaya_others.proofs.Ends.{left, says_or_takes, endings_are_shown}
 use Rattle.papaya_others.proofs.Quiet.{all_quiet}
 use Rattle.papaya_others.proofs.Stays.{same_maps}
-use Rattle.papaya_spots.specs.Deferred.{FindsNumbers}
+use Rattle.papaya_spots.specs.Deferred.{WaitOutside, FindsNumbers}
 use Rattle.papaya_spots.specs.Spots.{ShowsPlaces}
 use Rattle.papaya_spots.specs.Unreclaimed.{is_unreclaimed, ShowsUnreclaimed}
 use Rattle.papaya_spots.proofs.Begins.{fewer_maps_stand}
 use Rattle.papaya_spots.proofs.Calm.{put_back}
-use Rattle.papaya_spots.proofs.Deferred.{effects_leave_outside}
+use Rattle.papaya_spots.proofs.Deferred.{effects_leave_outside, each_waits_outside}
 use Rattle.papaya_spots.proofs.Effects.{AllAside, calm_aside}
 use Rattle.papaya_spots.proofs.Gone.{other_gone, pair_gone, table_gone}
 use Rattle.papaya_spots.proofs.Stays.{WerePairs, places_stay}
 use Rattle.papaya_spots.proofs.Unreclaimed.{unreclaimed_same}
-use Rattle.papaya_moments.specs.Endings.{WaitsOn, EndingsBeginWhole, EndingsKeepWhole}
+use Rattle.papaya_moments.specs.Endings.{IsOfIts, WaitsOn, EndingsBeginWhole, EndingsKeepWhole}
 use Rattle.papaya_moments.specs.Whole.{ShowsWhole}
 use Rattle.papaya_moments.proofs.Beside.{IsBeside, hands_beside, asked_beside}
-use Rattle.papaya_moments.proofs.OnSlots.{put_out, all_out, IsAlone, alone, still_alone, none_some, Keeps, same_roles}
+use Rattle.papaya_moments.proofs.OnSlots.{put_out, all_out, with_outside, IsAlone, alone, still_alone, none_some, Keeps, same_roles}
 
 -- effects that move no pair and no table find numbers as they must
 module _ {K V : Type 0} (acted : Option ℕ) where
@@ -208,7 +209,7 @@ module _ {K V S : Type 0} (same : K → K → Bool) (hash : K → ℕ) (name : �
     | inr it ↦ subst (λ (x : Changed). AllAside (does x)) (sym it.1) (taken_aside map m (known.roles it.0))
   ]
 
-  end_numbers : AtEachEffect FindsNumbers None (Some map) (does told) m
+  pub end_numbers : AtEachEffect FindsNumbers None (Some map) (does told) m
   end_numbers = elim says as (λ _. AtEachEffect FindsNumbers None (Some map) (does told) m) [
     | inl it ↦ calm_numbers (Some map) (does told) m it.0
     | inr it ↦ subst (λ (x : Changed). AtEachEffect FindsNumbers None (Some map) (does x) m) (sym it.1) (taken_numbers map m (known.roles it.0))
@@ -244,10 +245,16 @@ module _ {K V S : Type 0} (same : K → K → Bool) (hash : K → ℕ) (name : �
   end_keeps_whole (settled.Gave value) it rows after counters = whole_at _ refl refl refl it.3 (record { none = rows.none; one = rows.one }) after counters
   end_keeps_whole settled.Done it rows after counters = whole_at _ refl refl refl it.2 (record { none = rows.none; one = rows.one }) after counters
 
+ends_with : {K V : Type 0} (map : ℕ) (f : Effect) (v : Moment K V) → IsOfIts map v f → WaitOutside v → EndsWith v map f
+ends_with map (Taken t) v its outside = (its, each_waits_outside _ _ v outside t)
+ends_with map _ v its outside = tt
+
 module _ (K V S : Type 0) (same : K → K → Bool) (hash : K → ℕ) where
   pub endings_keep_whole : EndingsKeepWhole K V S same hash
-  endings_keep_whole name m known s old new at whole i told leads f here map not_there ends waits =
+  endings_keep_whole name m known s old new at whole i told leads f here map not_there its waits =
       let to = leads f here in
+      let finds = end_numbers same hash name m known s old new at whole i f here to.0 told to.1 to.2 map not_there to.3 waits in
+      let ends = with_outside None (Some map) (IsOfIts map) (λ v effect. EndsWith v map effect) (ends_with map) (effects_of (Ending map) known new.memory.changed) m finds whole.outside its in
       end_keeps_whole same hash name m known s old new at whole i f here to.0 told to.1 to.2 map not_there to.3 waits told to.3
       (endings_go_aside K V S same hash s old new at whole.all.rows i told leads f here)
       (endings_are_shown K V S same hash name m known s old new at whole.all.shown i told leads f here map not_there ends).1

@@ -1,5 +1,6 @@
 -- Where the making of a map begins, and where its map is there by its number, the moment shows all of the scene.
-use Rattle.std.specs.Prelude.{◌≡◌, ℕ, ◌≤◌, ◌==◌, Bool, true, false, cond, List, [], ◌∷◌, find, Option, Some, None, option_or}
+use Rattle.std.specs.Prelude.{◌≡◌, ℕ, ◌≤◌, ◌==◌, Bool, true, false, cond, List, [], ◌∷◌, find, Option, Some, None}
+use Rattle.std.specs.Option.{option_or}
 use Rattle.std.proofs.Common.{refl, ap, sym, subst, ◌∙◌}
 use Rattle.std.proofs.lemmas.Bool.{eqb-true}
 use Rattle.std.proofs.lemmas.List.Folds.{find-append}
@@ -7,7 +8,7 @@ use Rattle.seize.specs.World.{with_at}
 use Rattle.papaya_runs.specs.Same.{is_same}
 use Rattle.papaya_schedules.specs.declared.effect.Table.{Table}
 use Rattle.papaya_schedules.specs.Beginning.{with_map}
-use Rattle.papaya_schedules.specs.Moment.{MapThere, Moment}
+use Rattle.papaya_schedules.specs.Moment.{UnderWay as CallThere, MapThere, Moment}
 use Rattle.papaya_schedules.specs.Views.{map_at, tables_of}
 use Rattle.papaya_effects.specs.Known.{Known}
 use Rattle.papaya_effects.specs.declared.role.Role.TheVariants as role
@@ -30,7 +31,7 @@ asked_still same name m m2 known s shown after calls asked = record {
   apart = asked.apart;
   each = λ map i u here st there c found.
       subst (λ (f : ℕ → ℕ). IsAsked f st.chart.stored known u c) (sym (after.numbers map st there))
-      (asked.each map i u here st there c (ap (λ cs. find (λ x. is_same x.caller (name i)) cs) (sym calls) ∙ found));
+      (asked.each map i u here st there c (ap (λ (cs : List (CallThere K V)). find (λ x. is_same x.caller (name i)) cs) (sym calls) ∙ found));
 }
 
 module _ (K V : Type 0) (same : K → K → Bool) where

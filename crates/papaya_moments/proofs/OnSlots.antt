@@ -13,9 +13,10 @@ use Rattle.seize_alone.proofs.Histories.Reached.{Reached}
 use Rattle.papaya_tables.specs.Nodes.{deferred_word}
 use Rattle.papaya_tables.specs.declared.node.Node.{Node}
 use Rattle.papaya_schedules.specs.declared.effect.Effect.{Effect}
-use Rattle.papaya_schedules.specs.declared.effect.Effect.TheVariants.{Asked}
+use Rattle.papaya_schedules.specs.declared.effect.Effect.TheVariants.{Asked, Reclaimed}
 use Rattle.papaya_schedules.specs.declared.effect.Growth.TheVariants.{ABucket}
-use Rattle.papaya_schedules.specs.Effects.{with_effects, all_at}
+use Rattle.papaya_schedules.specs.declared.effect.Thing.TheVariants.{APair, ATable}
+use Rattle.papaya_schedules.specs.Effects.{with_effect, with_effects, all_at, AtEachEffect}
 use Rattle.papaya_schedules.specs.Lists.{put, is_among}
 use Rattle.papaya_schedules.specs.Moment.{Place, InMap, Handed, GivenBack, Moment}
 use Rattle.papaya_schedules.specs.Views.{behind}
@@ -45,16 +46,19 @@ use Rattle.papaya_follows.proofs.Steps.{one_of}
 use Rattle.papaya_follows.proofs.Told.{roomed_as_many}
 use Rattle.papaya_hands.specs.Hands.{IsInUse}
 use Rattle.papaya_hands.proofs.Others.{rows_begin_aside, rows_go_aside}
+use Rattle.papaya_others.specs.Gone.{WasRetired}
 use Rattle.papaya_others.specs.Rows.{scene_then}
 use Rattle.papaya_others.proofs.Counters.{rows_note_counters}
 use Rattle.papaya_others.proofs.Quiet.{calls_none, all_quiet}
 use Rattle.papaya_others.proofs.RowBegins.{rows_begin_shown}
 use Rattle.papaya_others.proofs.RowPlans.{TellsRow, row_tells, row_operated}
 use Rattle.papaya_others.proofs.Rows.{rows_on_slots_are_shown}
+use Rattle.papaya_spots.specs.Deferred.{WaitOutside, FindsNumbers}
 use Rattle.papaya_spots.proofs.Calm.{put_back}
-use Rattle.papaya_spots.proofs.OnSlots.{rows_leave_places, rows_keep_blocks}
+use Rattle.papaya_spots.proofs.Deferred.{effects_leave_outside, each_waits_outside}
+use Rattle.papaya_spots.proofs.OnSlots.{row_beside as finds_numbers, rows_leave_places, rows_keep_blocks}
 use Rattle.papaya_spots.proofs.Stays.{places_stay}
-use Rattle.papaya_moments.specs.OnSlots.{RowsBeginWhole, RowsKeepWhole}
+use Rattle.papaya_moments.specs.OnSlots.{HadRetired, RowsBeginWhole, RowsKeepWhole}
 use Rattle.papaya_moments.proofs.Beside.{IsBeside, hands_beside, asked_beside}
 
 -- a map that stands then stood so, with its tables in the same blocks
@@ -79,6 +83,21 @@ module _ (place : ℕ → Place) where
       by : (q : Bool) → (if q then p else place n) ≡ InMap map → place n ≡ InMap map
       by true e = absurd (none map e)
       by false e = e
+
+-- what is so of effects, since what waits behind tables is in no map
+module _ {K V : Type 0} (caller : Option (List ℕ)) (acted : Option ℕ) (Had Has : Moment K V → Effect → Type 0) (both : (f : Effect) (v : Moment K V) → Had v f → WaitOutside v → Has v f) where
+  pub with_outside : (effects : List Effect) (v : Moment K V) → AtEachEffect FindsNumbers caller acted effects v → WaitOutside v → AtEachEffect Had caller acted effects v
+      → AtEachEffect Has caller acted effects v
+  with_outside [] v finds outside had = tt
+  with_outside (f ∷ effects) v finds outside had = (
+    both f v had.0 outside,
+    with_outside effects (with_effect caller acted f v) finds.1 (effects_leave_outside K V caller acted (f ∷ []) v (finds.0, tt) outside) had.1,
+  )
+
+was_retired : {K V : Type 0} (f : Effect) (v : Moment K V) → HadRetired v f → WaitOutside v → WasRetired v f
+was_retired (Reclaimed (ATable t)) v had outside = (had, each_waits_outside _ _ v outside t)
+was_retired (Reclaimed (APair n)) v had outside = tt
+was_retired _ v had outside = tt
 
 module _ {K V : Type 0} (m v : Moment K V) where
   -- of the moment: calls and maps are as they were, and pairs are in the map in which they were, or in none
@@ -217,7 +236,9 @@ module _ (K V S : Type 0) (same : K → K → Bool) (hash : K → ℕ) where
   pub rows_keep_whole : RowsKeepWhole K V S same hash
   rows_keep_whole name m known s old new at whole i told leads row here retired unreclaimed =
       let to = leads row here in
-      let after = rows_on_slots_are_shown K V S same hash name m known s old new at whole.all.shown i told leads row here retired in
+      let tells = row_tells old.memory.memory new.memory.memory new.memory.changed (to.0, told) row to.1 in
+      let after = rows_on_slots_are_shown K V S same hash name m known s old new at whole.all.shown i told leads row here
+      (with_outside None None HadRetired WasRetired was_retired (effects_of Row known new.memory.changed) m (finds_numbers m known new.memory.changed tells).0.1 whole.outside retired) in
       let beside = row_beside same hash m known s old new at i row here (to.0, told) to.1 to.4 in
       let lie = rows_leave_places K V S same hash m known s old new i told leads row here whole.places whole.outside in
       record {

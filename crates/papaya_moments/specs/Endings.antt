@@ -19,13 +19,17 @@ use Rattle.papaya_executor.specs.declared.executor.Executor.{Executor}
 use Rattle.papaya_finishes.specs.Endings.{Finishing}
 use Rattle.papaya_finishes.specs.Maps.{Standing}
 use Rattle.papaya_others.specs.Endings.{ending_after, without_map}
-use Rattle.papaya_others.specs.Gone.{EndsWith}
 use Rattle.papaya_spots.specs.Unreclaimed.{is_unreclaimed}
 use Rattle.papaya_moments.specs.Whole.{ShowsWhole}
 
 -- each map that is there is the one that is found by its number
 abbrev pub AreFound : {K V : Type 0} → Moment K V → Type 0
 AreFound m = All (λ there. map_at there.number m ≡ Some there) m.maps
+
+-- a table that ends with this map is one of it
+abbrev pub IsOfIts : {K V : Type 0} → ℕ → Moment K V → Effect → Type 0
+IsOfIts map m (Taken t) = t.map ≡ map
+IsOfIts map m _ = Unit {0}
 
 -- what waits behind a table that ends with its map is not reclaimed
 abbrev pub WaitsOn : {K V : Type 0} → Moment K V → Effect → Type 0
@@ -39,12 +43,12 @@ module _ (K V S : Type 0) (same : K → K → Bool) (hash : K → ℕ) where
       (name : ℕ → List ℕ) (m : Moment K V) (known : Known) (s : Scene K V) (new : Executor K V S) → ShowsWhole same name m known s
       → (map i : ℕ) (standing : Standing K) → s.maps map ≡ Some standing → IsAt same hash new (ending_begun map i standing s) → ShowsWhole same name m known (ending_begun map i standing s)
 
-  -- and after a step of it: a table that ends with its map is one of it, and what waits behind that is in no map, and not reclaimed.
+  -- and after a step of it: a table that ends with its map is one of it, and what waits behind that is not reclaimed.
   abbrev pub EndingsKeepWhole : Type 0
   EndingsKeepWhole =
       (name : ℕ → List ℕ) (m : Moment K V) (known : Known) (s : Scene K V) (old new : Executor K V S) → IsAt same hash old s → ShowsWhole same name m known s
       → (i : ℕ) (told : Settled (Node K V)) (leads : EndingLeads same hash i told s old new) (f : Finishing K V) (here : s.enders i ≡ Some f) (map : ℕ) → s.maps map ≡ None
-      → AtEachEffect (λ v effect. EndsWith v map effect) None (Some map) (effects_of (Ending map) known new.memory.changed) m
+      → AtEachEffect (IsOfIts map) None (Some map) (effects_of (Ending map) known new.memory.changed) m
       → AtEachEffect WaitsOn None (Some map) (effects_of (Ending map) known new.memory.changed) m
       → (let to = leads f here in
       ShowsWhole same name (with_effects None (Some map) (effects_of (Ending map) known new.memory.changed) m) (known_after (Ending map) new.memory.changed known)

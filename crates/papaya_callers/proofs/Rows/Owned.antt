@@ -16,7 +16,7 @@ use Rattle.papaya_rule.specs.InWorld.{IsOut, IsItsEvent, AllIts}
 use Rattle.papaya_rule.proofs.World.Hands.{at_cases}
 
 -- what may be unlinked is out
-pub cut_out : (i : ℕ) (h : Hand) → MayCut i h → IsOut h
+cut_out : (i : ℕ) (h : Hand) → MayCut i h → IsOut h
 cut_out i NoBlock cut = absurd cut
 cut_out i (Making j) cut = absurd cut
 cut_out i (InUse o) cut = tt

@@ -6,7 +6,7 @@ use Rattle.seize_words.specs.Mem.{Mem, value_at}
 use Rattle.seize.specs.declared.states.TheConstants.{LAST_SLOT}
 use Rattle.seize.specs.World.{World, Hand, NoBlock, Making, InUse, Parting, Cutting, Handed, LeftTo, Event, Begin, Step, Makes, Drops, Links, Parts, Unlinks, Rewrites, Operates, Ends, LeavesOver, Relinks, Clears, Chooses, Happens, Runs, with_at, made_by}
 use Rattle.seize_moves.proofs.State.Ghost.{Life}
-use Rattle.seize_rule.proofs.Points.Aside.{HandFits, is_handed}
+use Rattle.seize_rule.proofs.Points.Aside.{HandFits, is_handed, IsStanding, cut_stands}
 use Rattle.seize_rule.proofs.Words.Shows.{lives}
 use Rattle.seize_rule.proofs.Words.There.{value_there}
 use Rattle.seize_alone.proofs.Histories.Reached.{Reached}
@@ -18,9 +18,18 @@ use Rattle.papaya_rule.specs.InWorld.{IsOut, IsIts, IsItsEvent, IsKnownBlock, Al
 use Rattle.papaya_rule.specs.Words.{Blocks}
 use Rattle.papaya_rule.proofs.World.Hands.{at_cases}
 use Rattle.papaya_callers.specs.Together.{CameAbout}
-use Rattle.papaya_callers.proofs.Rows.Owned.{cut_out}
 use Rattle.papaya_callers.proofs.Together.Came.{came_reached}
 use Rattle.papaya_finishes.proofs.Beside.Endings.Spares.{some_there}
+
+-- what is linked is out
+standing_out : (h : Hand) → IsStanding h → IsOut h
+standing_out NoBlock is = absurd is
+standing_out (Making i) is = absurd is
+standing_out (InUse o) is = tt
+standing_out (Parting i) is = tt
+standing_out (Cutting i) is = absurd is
+standing_out Handed is = absurd is
+standing_out (LeftTo i) is = absurd is
 
 handed_lives : (l : Life) → is_handed l ≡ true → lives l ≡ true
 handed_lives l is = grind (arith, is)
@@ -80,7 +89,7 @@ module _ {K V : Type 0} (setting : Setting) (caller : ℕ) (w : World (Node K V)
   event_from size (Drops i x) v v2 its e so = subst IsFromIn (sym e.4) (put_from v.hand x NoBlock (λ out. absurd out) so)
   event_from size (Links i x o) v v2 its e so = subst IsFromIn (sym e.1) (linked_from v.hand x o its.0 so)
   event_from size (Parts i x) v v2 its e so = subst IsFromIn (sym e.1) (put_from v.hand x (Parting i) (λ out. subst IsOut (sym e.0.1) tt) so)
-  event_from size (Unlinks i x) v v2 its e so = subst IsFromIn (sym e.1) (put_from v.hand x (Cutting i) (λ out. cut_out i (v.hand x) e.0) so)
+  event_from size (Unlinks i x) v v2 its e so = subst IsFromIn (sym e.1) (put_from v.hand x (Cutting i) (λ out. standing_out (v.hand x) (cut_stands i (v.hand x) e.0)) so)
   event_from size (Rewrites i x new) v v2 its e so = subst IsFromIn (sym e.5) so
   event_from size (Operates op) v v2 its e so = subst IsFromIn (sym e.4) so
   event_from size (Ends i o) v v2 its e so = absurd its

@@ -29,11 +29,10 @@ use Rattle.papaya_raw.specs.declared.machines.progress.Progress.{Progress}
 use Rattle.papaya_raw.specs.declared.machines.progress.Progress.TheVariants as progress
 use Rattle.papaya_callers.specs.Together.{UnderWay, OnKey, ForRoom, Counting, OverAll, next_of_counting}
 use Rattle.papaya_finishes.specs.Endings.{Finishing, EndingsTogether}
-use Rattle.papaya_finishes.specs.Machines.{machine_of}
+use Rattle.papaya_finishes.specs.Machines.{DidOfKind, machine_of}
 use Rattle.papaya_finishes.specs.Makings.{Beginning}
 use Rattle.papaya_finishes.specs.Maps.{Standing, IsSameMap, with_call}
 use Rattle.papaya_reclaims.specs.Deferred.{IsLinkedTable}
-use Rattle.papaya_carries.specs.Lists.{Did, LinksIts}
 use Rattle.papaya_carries.specs.Theirs.{copier_of, IsTheirs, AllAreTheirs}
 use Rattle.papaya_carries.proofs.Guards.{theirs_by, same_on}
 use Rattle.papaya_carries.proofs.Owed.{one_some, StandsOn, StandsOnAt, owed_on, owed_with}
@@ -192,27 +191,26 @@ module _ {K Q : Type 0} (V : Type 0) (same : K → K → Bool) (asks : Q → K �
       by b (inr (inr ending)) = inr (inr ending)
 
   pub kind_theirs : (u : UnderWay K V Q) → calls m i ≡ Some u → (machine : Machine K V Q) (told : Progress (Node K V)) → Steps Took value_at w.memory (machine_plan asks same s.hash (machine_of u)) m2 (machine, told)
-      → (did : Did same asks batch_size roots slot w maps calls makers enders m s i m2 w2 maps2 next u machine told)
-      → LinksIts same asks batch_size roots slot w maps calls makers enders m s i m2 w2 maps2 next u machine told did → Then
-  kind_theirs (OnKey u) has machine told steps (p2, end, is, tells, inl (st, moved)) links =
+      → DidOfKind V same asks batch_size roots slot w maps calls makers enders m s i m2 w2 maps2 next u machine told → Then
+  kind_theirs (OnKey u) has machine told steps (p2, end, is, tells, inl (st, moved)) =
       come _ _ _ moved (calls_keep_theirs V same asks batch_size roots slot w maps calls makers enders all theirs m s here i u has st.no_row m2 p2 end
-      (key_steps asks same s.hash w.memory m2 machine told u.call p2 end is tells steps) st links)
-  kind_theirs (OnKey u) has machine told steps (p2, end, is, tells, inr (st, stayed)) links =
+      (key_steps asks same s.hash w.memory m2 machine told u.call p2 end is tells steps) st)
+  kind_theirs (OnKey u) has machine told steps (p2, end, is, tells, inr (st, stayed)) =
       stay st.step.w2 st.together.0 _ st.together.1 stayed (rows_keep_theirs V same asks batch_size roots slot w maps calls makers enders all theirs m s here i u has st.is_row m2 p2 end
       (key_steps asks same s.hash w.memory m2 machine told u.call p2 end is tells steps) st)
-  kind_theirs (ForRoom r) has machine told steps (p2, end, is, tells, inl (st, moved)) links =
+  kind_theirs (ForRoom r) has machine told steps (p2, end, is, tells, inl (st, moved)) =
       come _ _ _ moved (rooms_keep_theirs V same asks batch_size roots slot w maps calls makers enders all theirs m s here i r has st.no_row m2 p2 end
-      (room_steps asks same s.hash w.memory m2 machine told r.reserve p2 end is tells steps) st links)
-  kind_theirs (ForRoom r) has machine told steps (p2, end, is, tells, inr (st, stayed)) links =
+      (room_steps asks same s.hash w.memory m2 machine told r.reserve p2 end is tells steps) st)
+  kind_theirs (ForRoom r) has machine told steps (p2, end, is, tells, inr (st, stayed)) =
       stay st.step.w2 st.together.0 _ st.together.1 stayed (room_rows_keep_theirs V same asks batch_size roots slot w maps calls makers enders all theirs m s here i r has st.is_row m2 p2 end
       (room_steps asks same s.hash w.memory m2 machine told r.reserve p2 end is tells steps) st)
-  kind_theirs (Counting sum) has machine told steps (sum2, end, is, tells, still, (e, same2, k)) links = come w maps2 (next_of_counting sum2 end) (e, refl, k) (λ b can.
+  kind_theirs (Counting sum) has machine told steps (sum2, end, is, tells, still, (e, same2, k)) = come w maps2 (next_of_counting sum2 end) (e, refl, k) (λ b can.
       theirs_by w w maps maps2 calls enders (with_call calls m i (next_of_counting sum2 end)) same2 b
       (owed_with w w maps maps2 calls enders enders m i (next_of_counting sum2 end) b (λ n j v under ne. ((λ rests. rests), same_on w w maps maps2 calls enders n (same2 n)))
       (λ v under owes. absurd (none_within {K = K} {V = V} {Q = Q} sum owes.0 (subst (λ (x : UnderWay K V Q). copier_of x ≡ Some owes.0) (one_some (calls m i) v (Counting sum) under has) owes.1)))) (theirs b can))
-  kind_theirs (OverAll o) has machine told steps (p2, end, is, tells, inl (st, moved)) links =
+  kind_theirs (OverAll o) has machine told steps (p2, end, is, tells, inl (st, moved)) =
       come _ _ _ moved (sweeps_keep_theirs V same asks batch_size roots slot w maps calls makers enders all theirs m s here i o has st.no_row m2 p2 end
-      (sweep_steps asks same s.hash w.memory m2 machine told o.sweep p2 end is tells steps) st links)
-  kind_theirs (OverAll o) has machine told steps (p2, end, is, tells, inr (st, stayed)) links =
+      (sweep_steps asks same s.hash w.memory m2 machine told o.sweep p2 end is tells steps) st)
+  kind_theirs (OverAll o) has machine told steps (p2, end, is, tells, inr (st, stayed)) =
       stay st.step.w2 st.together.0 _ st.together.1 stayed (sweep_rows_keep_theirs V same asks batch_size roots slot w maps calls makers enders all theirs m s here i o has st.is_row m2 p2 end
       (sweep_steps asks same s.hash w.memory m2 machine told o.sweep p2 end is tells steps) st)
