@@ -213,7 +213,7 @@ module _ {K Q : Type 0} (V : Type 0) (same : K → K → Bool) (asks : Q → K �
     as_it_was x j is =
         let there = end_there batch_size w all.standing.came 0 j x (inr is) in went.left.blocks x there.0 there.1 (λ its. not_made x j is its.0)
 
-    outs : (x : ℕ) → IsOut (w.hand x) → went.w2.hand x ≡ w.hand x
+    pub outs : (x : ℕ) → IsOut (w.hand x) → went.w2.hand x ≡ w.hand x
     outs x out = let there = out_there batch_size w all.standing.came x out in (went.left.blocks x there.0 there.1 (λ its. subst IsOut its.0 out)).hand
 
     pub rest : LeavesRest {Q = Q} V same asks batch_size roots slot w went.w2 b.machine end
