@@ -15,6 +15,7 @@ use Rattle.seize_acts.proofs.Answers.{was_stepped}
 use Rattle.papaya_tables.specs.declared.node.Node.{Node}
 use Rattle.papaya_tables.specs.declared.setting.Setting.{Setting}
 use Rattle.papaya_resize.specs.declared.new_map.NewMap.{NewMap}
+use Rattle.papaya_resize.specs.declared.copier.Copier.{Copier}
 use Rattle.papaya_raw.specs.Machine.{machine_plan, machine_asked}
 use Rattle.papaya_raw.specs.declared.machines.end_map.EndMap.{EndMap}
 use Rattle.papaya_callers.specs.Together.{UnderWay}
@@ -30,14 +31,14 @@ use Rattle.papaya_acts.specs.Acts.{Act, Answer, begun}
 use Rattle.papaya_acts.specs.Acts.{BeginsCall, StepsCall, TellsCall, AsksCall, StopsCall, BeginsMaking, StepsMaking, BeginsEnding, StepsEnding, BeginsRow, StepsRow}
 use Rattle.papaya_acts.specs.Leads.{MayBe, AllStand, Led, MakingCame, EndingCame}
 use Rattle.papaya_acts.proofs.Tests.{none_is}
-use Rattle.papaya_carries.specs.Lists.{AreTheirs, ActIsOnIncremental, ActsKeepTheirs}
-use Rattle.papaya_carries.specs.Theirs.{IsDue, AllAreTheirs}
+use Rattle.papaya_carries.specs.Lists.{AreTheirs, ActsKeepTheirs}
+use Rattle.papaya_carries.specs.Theirs.{copier_of, AllAreTheirs}
 use Rattle.papaya_carries.proofs.Endings.{endings_begin_and_keep_theirs, endings_keep_theirs}
 use Rattle.papaya_carries.proofs.Guards.{changes_keep_theirs, guards_keep_theirs}
 use Rattle.papaya_carries.proofs.Machines.{kind_theirs}
 use Rattle.papaya_carries.proofs.Makings.{makings_keep_theirs}
 use Rattle.papaya_carries.proofs.Owed.{one_some}
-use Rattle.papaya_carries.proofs.Told.{told_due, next_due, not_stopped}
+use Rattle.papaya_carries.proofs.Told.{told_on, next_on, not_stopped}
 
 -- an end goes on, with what it has reclaimed by now, and what waits
 pub goes_on_by : {K V Q : Type 0} (same : K → K → Bool) (asks : Q → K → Bool) (batch_size roots : ℕ) (slot : ℕ → ℕ) (w : World (Node K V)) (maps : ℕ → Option (Standing K))
@@ -56,13 +57,16 @@ module _ {K V : Type 0} (same : K → K → Bool) (hash : K → ℕ) (batch_size
   to : (x : Scene K V) → n ≡ x → AreTheirs x → AreTheirs n
   to x is so = subst AreTheirs (sym is) so
 
-  -- what is under way is another thing, and hands over no less
-  changed : (m i : ℕ) (next : Option (UnderWay K V K)) → ((u : UnderWay K V K) (b : ℕ) → s.calls m i ≡ Some u → IsDue u b → (u2 : UnderWay K V K) × (next ≡ Some u2) × IsDue u2 b)
+  -- what is under way is another thing, with the copier that was within it
+  changed : (m i : ℕ) (next : Option (UnderWay K V K))
+      → ((u : UnderWay K V K) (p : Copier) → s.calls m i ≡ Some u → copier_of u ≡ Some p → (u2 : UnderWay K V K) × (next ≡ Some u2) × (copier_of u2 ≡ Some p))
       → AreTheirs (record s { calls = with_call s.calls m i next })
-  changed m i next still = changes_keep_theirs V same same batch_size roots slot s.world s.maps s.calls s.makers s.enders m i next still theirs
+  changed m i next still =
+      changes_keep_theirs V same same batch_size roots slot s.world s.maps s.calls s.makers s.enders m i next
+      (λ u b here owes. let k = still u owes.0 here owes.1 in (k.0, k.1, (owes.0, k.2, owes.2))) theirs
 
-  of_call : (m i : ℕ) (u : UnderWay K V K) → s.calls m i ≡ Some u → (v : UnderWay K V K) (b : ℕ) → s.calls m i ≡ Some v → IsDue v b → IsDue u b
-  of_call m i u here v b there due = subst (λ (x : UnderWay K V K). IsDue x b) (one_some (s.calls m i) v u there here) due
+  of_call : (m i : ℕ) (u : UnderWay K V K) → s.calls m i ≡ Some u → (v : UnderWay K V K) (p : Copier) → s.calls m i ≡ Some v → copier_of v ≡ Some p → copier_of u ≡ Some p
+  of_call m i u here v p there has = subst (λ (x : UnderWay K V K). copier_of x ≡ Some p) (one_some (s.calls m i) v u there here) has
 
   -- by what a making tells
   made : (i : ℕ) (b : Beginning K) → s.makers i ≡ Some b → (m2 : Mem (Node K V)) (machine : NewMap) (end : Progress Setting)
@@ -95,31 +99,30 @@ module _ {K V : Type 0} (same : K → K → Bool) (hash : K → ℕ) (batch_size
       by settled.Done d (none, finished, is) =
           to _ is ((endings_keep_theirs V same same batch_size roots slot s.world s.maps s.calls s.makers s.enders theirs i f ends m2 (machine, settled.Done) d).1 finished)
 
-  pub by_act : (act : Act K V) → MayBe same hash batch_size roots slot act s → (told : Answer K V) (led : Led same hash batch_size roots slot act s told n)
-      → ActIsOnIncremental V same hash batch_size roots slot act s told n led → AreTheirs n
-  by_act (BeginsCall i m wanted) may told (standing, stands, none, is) links =
-      to _ is (changed m i (Some (begun same slot standing i wanted)) (λ u b here due. absurd (let free = none_is (s.calls m i) (may.0.no_call m) in cc (free, here))))
-  by_act (StepsCall i m g) may told led links =
+  pub by_act : (act : Act K V) → MayBe same hash batch_size roots slot act s → (told : Answer K V) → Led same hash batch_size roots slot act s told n → AreTheirs n
+  by_act (BeginsCall i m wanted) may told (standing, stands, none, is) =
+      to _ is (changed m i (Some (begun same slot standing i wanted)) (λ u p here has. absurd (let free = none_is (s.calls m i) (may.0.no_call m) in cc (free, here))))
+  by_act (StepsCall i m g) may told led =
       to _ led.comes (kind_theirs V same same batch_size roots slot s.world s.maps s.calls s.makers s.enders all theirs m led.standing led.stands i led.memory led.did.w2 led.did.maps2 led.did.next
       led.call led.here led.machine led.progress
-      (was_stepped s.world.memory g (machine_plan same same led.standing.hash (machine_of led.call)) (led.memory, (led.machine, led.progress)) led.computed) led.did.did links)
-  by_act (TellsCall i m reply) may told (standing, stands, u, next, here, machine_is, told_is, kind, is) links =
-      to _ is (changed m i (Some next) (λ v b there due. (next, refl, told_due b u next reply machine_is (of_call m i u here v b there due))))
-  by_act (AsksCall i m) may told (u, next, here, machine_is, told_is, is) links =
-      to _ is (changed m i (Some next) (λ v b there due. (next, refl, next_due b u next machine_is (of_call m i u here v b there due))))
-  by_act (StopsCall i m) may told (u, here, told_is, is) links =
+      (was_stepped s.world.memory g (machine_plan same same led.standing.hash (machine_of led.call)) (led.memory, (led.machine, led.progress)) led.computed) led.did.did)
+  by_act (TellsCall i m reply) may told (standing, stands, u, next, here, machine_is, told_is, kind, is) =
+      to _ is (changed m i (Some next) (λ v p there has. (next, refl, told_on p u next reply machine_is (of_call m i u here v p there has))))
+  by_act (AsksCall i m) may told (u, next, here, machine_is, told_is, is) =
+      to _ is (changed m i (Some next) (λ v p there has. (next, refl, next_on p u next machine_is (of_call m i u here v p there has))))
+  by_act (StopsCall i m) may told (u, here, told_is, is) =
       to _ is (changed m i (unless_stopped (machine_asked (machine_of u)).1 u)
-      (λ v b there due. not_stopped b u (machine_asked (machine_of u)).1 refl (of_call m i u here v b there due)))
-  by_act (BeginsMaking i map given places power sized) may told (told_is, is) links = to _ is theirs
-  by_act (StepsMaking i g) may told (b, makes, m2, machine, end, computed, told_is, did, came) links = made i b makes m2 machine end did came
-  by_act (BeginsEnding i m) may told (standing, stands, told_is, is) links =
+      (λ v p there has. let k = of_call m i u here v p there has in (u, not_stopped p u (machine_asked (machine_of u)).1 refl k, k)))
+  by_act (BeginsMaking i map given places power sized) may told (told_is, is) = to _ is theirs
+  by_act (StepsMaking i g) may told (b, makes, m2, machine, end, computed, told_is, did, came) = made i b makes m2 machine end did came
+  by_act (BeginsEnding i m) may told (standing, stands, told_is, is) =
       to _ is (endings_begin_and_keep_theirs V same same batch_size roots slot s.world s.maps s.calls s.makers s.enders theirs i (none_is (s.enders i) may.0.no_ending) m standing stands
-      (with_effect s.world (Ended standing.setting.counter)) refl)
-  by_act (StepsEnding i g) may told (f, ends, m2, machine, end, computed, told_is, did, came) links = ended i f ends m2 machine end did came
-  by_act (BeginsRow i request) may told (w2, happens, maps2, same_maps, told_is, is) links =
+      (λ j. none_is (s.calls m j) (may.2 j)) (with_effect s.world (Ended standing.setting.counter)) refl)
+  by_act (StepsEnding i g) may told (f, ends, m2, machine, end, computed, told_is, did, came) = ended i f ends m2 machine end did came
+  by_act (BeginsRow i request) may told (w2, happens, maps2, same_maps, told_is, is) =
       to _ is ((guards_keep_theirs V same same batch_size roots slot s.world s.maps s.calls s.makers s.enders all theirs i (λ m. none_is (s.calls m i) (may.0 m)) w2 maps2 same_maps).0 request may.2 happens)
-  by_act (StepsRow i g) may told (w2, computed, happens, maps2, same_maps, told_is, is) links =
+  by_act (StepsRow i g) may told (w2, computed, happens, maps2, same_maps, told_is, is) =
       to _ is ((guards_keep_theirs V same same batch_size roots slot s.world s.maps s.calls s.makers s.enders all theirs i (λ m. none_is (s.calls m i) (may.0 m)) w2 maps2 same_maps).1 happens)
 
 pub acts_keep_theirs : {K : Type 0} (V : Type 0) (same : K → K → Bool) (hash : K → ℕ) (batch_size roots : ℕ) (slot : ℕ → ℕ) → ActsKeepTheirs V same hash batch_size roots slot
-acts_keep_theirs V same hash batch_size roots slot s n all stand act may told led links theirs = by_act same hash batch_size roots slot s n all stand theirs act may told led links
+acts_keep_theirs V same hash batch_size roots slot s n all stand act may told led theirs = by_act same hash batch_size roots slot s n all stand theirs act may told led

@@ -1,7 +1,10 @@
 pub mod Hands
 pub mod Owed
 pub mod Calls
-pub mod Keys
+pub mod Copiers
+pub mod Inside
+pub mod Known
+pub mod Steps
 pub mod Guards
 pub mod Promised
 pub mod FirstSteps

@@ -19,7 +19,7 @@ use Rattle.papaya_acts.specs.Acts.{Act}
 use Rattle.papaya_acts.specs.Leads.{AllStand}
 use Rattle.papaya_acts.specs.Lists.{Course, Reached, LedTo}
 use Rattle.papaya_acts.specs.Reclaiming.{IsReclaimingAll, ReclaimedOn}
-use Rattle.papaya_carries.specs.Lists.{AreTheirs, IsAtRest, IsLeft, ReclaimsTo, AllAreOnIncremental, ListsKeepTheirs, ReclaimingBeginsThere, OnlyPairsWaitThere}
+use Rattle.papaya_carries.specs.Lists.{AreTheirs, IsAtRest, IsLeft, ReclaimsTo, ListsKeepTheirs, ReclaimingBeginsThere, OnlyPairsWaitThere}
 use Rattle.papaya_carries.proofs.Acts.{by_act}
 use Rattle.papaya_carries.proofs.Guards.{none_begins}
 use Rattle.papaya_carries.proofs.Left as left
@@ -67,11 +67,11 @@ module _ {K : Type 0} (V : Type 0) (same : K → K → Bool) (hash : K → ℕ) 
 
   module _ (course : Course V same hash batch_size roots slot) where
     pub lists_keep_theirs : ListsKeepTheirs V same hash batch_size roots slot course
-    lists_keep_theirs [] x led links = subst (λ (y : Reached V same hash batch_size roots slot). AreTheirs y.0.0) (sym led) none_at_first
-    lists_keep_theirs (act ∷ acts) x (y, led, may, is) (rest, links) =
+    lists_keep_theirs [] x led = subst (λ (y : Reached V same hash batch_size roots slot). AreTheirs y.0.0) (sym led) none_at_first
+    lists_keep_theirs (act ∷ acts) x (y, led, may, is) =
         subst (λ (z : Reached V same hash batch_size roots slot). AreTheirs z.0.0) (sym is)
-        (by_act same hash batch_size roots slot y.0.0 (course.next y.0 act may).0 y.0.1 (course.next y.0 act may).1 (lists_keep_theirs acts y led rest) act may (course.told y.0 act may)
-        (course.leads y.0 act may) links)
+        (by_act same hash batch_size roots slot y.0.0 (course.next y.0 act may).0 y.0.1 (course.next y.0 act may).1 (lists_keep_theirs acts y led) act may (course.told y.0 act may)
+        (course.leads y.0 act may))
 
     left_there : (acts : List (Act K V)) (x : Reached V same hash batch_size roots slot) → LedTo V same hash batch_size roots slot course acts x
         → (lists : ℕ → List ℕ) × IsLeft V same hash batch_size roots slot x.0.0 lists
@@ -92,4 +92,4 @@ module _ {K : Type 0} (V : Type 0) (same : K → K → Bool) (hash : K → ℕ) 
         )
 
     pub only_pairs_wait_there : OnlyPairsWaitThere V same hash batch_size roots slot course
-    only_pairs_wait_there acts x led links i lists c idle grants n to = reclaimed_theirs i x.0.0 n lists c idle (lists_keep_theirs acts x led links) grants to
+    only_pairs_wait_there acts x led i lists c idle grants n to = reclaimed_theirs i x.0.0 n lists c idle (lists_keep_theirs acts x led) grants to

@@ -1,6 +1,6 @@
 -- A step of a call under way, whichever its kind, leaves each block somebody's behind which something may be put.
 use Rattle.std.specs.Prelude.{◌*◌, Option, Some, None}
-use Rattle.std.proofs.Common.{◌≡◌, ℕ, ◌≤◌, ◌<◌, Bool, true, ◌⊎◌, inl, inr, refl, ap, sym, subst, ◌∙◌}
+use Rattle.std.proofs.Common.{◌≡◌, ℕ, ◌≤◌, ◌<◌, Bool, true, ◌⊎◌, inl, inr, refl, arith, ap, sym, subst, ◌∙◌}
 use Rattle.seize_words.specs.Mem.{Mem, Took, value_at}
 use Rattle.seize_words.specs.Plan.{Plan, Steps}
 use Rattle.seize.specs.World.{World}
@@ -17,6 +17,8 @@ use Rattle.papaya_sweeps.specs.declared.sweep.Swept.TheVariants as swept_as
 use Rattle.papaya_raw.specs.Call.{call_plan}
 use Rattle.papaya_raw.specs.Machine.{machine_plan, called, reserved, swept}
 use Rattle.papaya_raw.specs.Progress.{of_called, of_outcome, of_swept}
+use Rattle.papaya_resize.specs.declared.copier.Copier.{Copier}
+use Rattle.papaya_resize.specs.declared.sum.Sum.{Sum}
 use Rattle.papaya_raw.specs.declared.machines.answer.Called.{Called}
 use Rattle.papaya_raw.specs.declared.machines.answer.Called.TheVariants as called_as
 use Rattle.papaya_raw.specs.declared.machines.call.KeyCall.{KeyCall}
@@ -27,14 +29,13 @@ use Rattle.papaya_raw.specs.declared.machines.progress.Progress.{Progress}
 use Rattle.papaya_raw.specs.declared.machines.progress.Progress.TheVariants as progress
 use Rattle.papaya_callers.specs.Together.{UnderWay, OnKey, ForRoom, Counting, OverAll, next_of_counting}
 use Rattle.papaya_finishes.specs.Endings.{Finishing, EndingsTogether}
-use Rattle.papaya_finishes.specs.Machines.{machine_of}
+use Rattle.papaya_finishes.specs.Machines.{DidOfKind, machine_of}
 use Rattle.papaya_finishes.specs.Makings.{Beginning}
 use Rattle.papaya_finishes.specs.Maps.{Standing, IsSameMap, with_call}
 use Rattle.papaya_reclaims.specs.Deferred.{IsLinkedTable}
-use Rattle.papaya_carries.specs.Lists.{Did, IsOnIncremental}
-use Rattle.papaya_carries.specs.Theirs.{IsDue, IsTheirs, AllAreTheirs}
-use Rattle.papaya_carries.proofs.Guards.{theirs_by}
-use Rattle.papaya_carries.proofs.Owed.{one_some, owed_with}
+use Rattle.papaya_carries.specs.Theirs.{copier_of, IsTheirs, AllAreTheirs}
+use Rattle.papaya_carries.proofs.Guards.{theirs_by, same_on}
+use Rattle.papaya_carries.proofs.Owed.{one_some, StandsOn, StandsOnAt, owed_on, owed_with}
 use Rattle.papaya_carries.proofs.Promised.{calls_keep_theirs}
 use Rattle.papaya_carries.proofs.Rooms.{rooms_keep_theirs}
 use Rattle.papaya_carries.proofs.Sweeps.{sweeps_keep_theirs}
@@ -136,6 +137,10 @@ module _ {K V Q : Type 0} (asks : Q → K → Bool) (same : K → K → Bool) (h
       (same_sweep {K = K} {V = V} {Q = Q} d.0.0 p2 (sym (ap (λ (x : Machine K V Q × Progress (Node K V)). x.0) d.2) ∙ is))
       (one_back of_swept as_swept swept_back d.0.1 end (sym (ap (λ (x : Machine K V Q × Progress (Node K V)). x.1) d.2) ∙ tells)) d.1
 
+-- no copier is within a counting
+none_within : {K V Q : Type 0} (sum : Sum) (p : Copier) → copier_of {K = K} {V = V} {Q = Q} (Counting sum) ≡ Some p → ⊥
+none_within sum p is = cc is
+
 module _ {K Q : Type 0} (V : Type 0) (same : K → K → Bool) (asks : Q → K → Bool) (batch_size roots : ℕ) (slot : ℕ → ℕ)
     (w : World (Node K V)) (maps : ℕ → Option (Standing K)) (calls : ℕ → ℕ → Option (UnderWay K V Q)) (makers : ℕ → Option (Beginning K)) (enders : ℕ → Option (Finishing K V))
     (all : EndingsTogether V same asks batch_size roots slot w maps calls makers enders) (theirs : AllAreTheirs w maps calls enders)
@@ -165,6 +170,16 @@ module _ {K Q : Type 0} (V : Type 0) (same : K → K → Bool) (asks : Q → K �
         at ∙ ap (λ (x : Standing K). x.blocks.table t) (sym e) ∙ part3.tables t ∙ sym (part4.tables t),
       )
 
+  alike_on : (maps3 : ℕ → Option (Standing K)) (n : ℕ) (o : Option (Standing K)) → IsSameMap o (maps3 n) → IsSameMap o (maps2 n) → StandsOnAt maps3 maps2 n
+  alike_on maps3 n None one other r is = absurd (cc (one, is))
+  alike_on maps3 n (Some was) (blocks3, sights3, is3, part3) (blocks4, sights4, is4, part4) r is =
+      let e = one_some (maps3 n) (record was { blocks = blocks3; sights = sights3 }) r is3 is in (
+        record was { blocks = blocks4; sights = sights4 },
+        is4,
+        subst (λ (x : Standing K). StandsOn x (record was { blocks = blocks4; sights = sights4 })) e
+            (record { mode = refl; past = omega arith; tables = λ t made. part4.tables t ∙ sym (part3.tables t) }),
+      )
+
   -- or to this, with its maps as they were
   stay : (v : World (Node K V)) (maps3 : ℕ → Option (Standing K)) (it : Option (UnderWay K V Q)) → ((n : ℕ) → IsSameMap (maps n) (maps3 n)) → (w2 ≡ v) × ((n : ℕ) → IsSameMap (maps n) (maps2 n)) × (next ≡ it)
       → AllAreTheirs v maps3 (with_call calls m i it) enders → Then
@@ -172,31 +187,30 @@ module _ {K Q : Type 0} (V : Type 0) (same : K → K → Bool) (asks : Q → K �
     where
       by : (b : ℕ) → IsTheirs v maps3 (with_call calls m i it) enders b → IsTheirs v maps2 (with_call calls m i it) enders b
       by b (inl (n, r, is, t, from, made, at)) = inl (linked_alike v maps3 n (maps n) (same3 n) (same2 n) r is b t from made at)
-      by b (inr (inl owed)) = inr (inl owed)
+      by b (inr (inl owed)) = inr (inl (owed_on v v maps3 maps2 (with_call calls m i it) enders enders b (λ n j u under. ((λ rests. rests), alike_on maps3 n (maps n) (same3 n) (same2 n))) owed))
       by b (inr (inr ending)) = inr (inr ending)
 
   pub kind_theirs : (u : UnderWay K V Q) → calls m i ≡ Some u → (machine : Machine K V Q) (told : Progress (Node K V)) → Steps Took value_at w.memory (machine_plan asks same s.hash (machine_of u)) m2 (machine, told)
-      → (did : Did same asks batch_size roots slot w maps calls makers enders m s i m2 w2 maps2 next u machine told)
-      → IsOnIncremental same asks batch_size roots slot w maps calls makers enders m s i m2 w2 maps2 next u machine told did → Then
-  kind_theirs (OnKey u) has machine told steps (p2, end, is, tells, inl (st, moved)) bits =
-      come _ _ _ moved (calls_keep_theirs V same asks batch_size roots slot w maps calls makers enders all theirs m s here bits i u has st.no_row m2 p2 end
+      → DidOfKind V same asks batch_size roots slot w maps calls makers enders m s i m2 w2 maps2 next u machine told → Then
+  kind_theirs (OnKey u) has machine told steps (p2, end, is, tells, inl (st, moved)) =
+      come _ _ _ moved (calls_keep_theirs V same asks batch_size roots slot w maps calls makers enders all theirs m s here i u has st.no_row m2 p2 end
       (key_steps asks same s.hash w.memory m2 machine told u.call p2 end is tells steps) st)
-  kind_theirs (OnKey u) has machine told steps (p2, end, is, tells, inr (st, stayed)) links =
+  kind_theirs (OnKey u) has machine told steps (p2, end, is, tells, inr (st, stayed)) =
       stay st.step.w2 st.together.0 _ st.together.1 stayed (rows_keep_theirs V same asks batch_size roots slot w maps calls makers enders all theirs m s here i u has st.is_row m2 p2 end
       (key_steps asks same s.hash w.memory m2 machine told u.call p2 end is tells steps) st)
-  kind_theirs (ForRoom r) has machine told steps (p2, end, is, tells, inl (st, moved)) bits =
-      come _ _ _ moved (rooms_keep_theirs V same asks batch_size roots slot w maps calls makers enders all theirs m s here bits i r has st.no_row m2 p2 end
+  kind_theirs (ForRoom r) has machine told steps (p2, end, is, tells, inl (st, moved)) =
+      come _ _ _ moved (rooms_keep_theirs V same asks batch_size roots slot w maps calls makers enders all theirs m s here i r has st.no_row m2 p2 end
       (room_steps asks same s.hash w.memory m2 machine told r.reserve p2 end is tells steps) st)
-  kind_theirs (ForRoom r) has machine told steps (p2, end, is, tells, inr (st, stayed)) links =
+  kind_theirs (ForRoom r) has machine told steps (p2, end, is, tells, inr (st, stayed)) =
       stay st.step.w2 st.together.0 _ st.together.1 stayed (room_rows_keep_theirs V same asks batch_size roots slot w maps calls makers enders all theirs m s here i r has st.is_row m2 p2 end
       (room_steps asks same s.hash w.memory m2 machine told r.reserve p2 end is tells steps) st)
-  kind_theirs (Counting sum) has machine told steps (sum2, end, is, tells, still, (e, same2, k)) links = come w maps2 (next_of_counting sum2 end) (e, refl, k) (λ b can.
+  kind_theirs (Counting sum) has machine told steps (sum2, end, is, tells, still, (e, same2, k)) = come w maps2 (next_of_counting sum2 end) (e, refl, k) (λ b can.
       theirs_by w w maps maps2 calls enders (with_call calls m i (next_of_counting sum2 end)) same2 b
-      (owed_with w w maps maps2 calls enders enders m i (next_of_counting sum2 end) b (λ n j v under ne rests. rests)
-      (λ v under due rests. absurd (subst (λ (x : UnderWay K V Q). IsDue x b) (one_some (calls m i) v (Counting sum) under has) due))) (theirs b can))
-  kind_theirs (OverAll o) has machine told steps (p2, end, is, tells, inl (st, moved)) bits =
-      come _ _ _ moved (sweeps_keep_theirs V same asks batch_size roots slot w maps calls makers enders all theirs m s here bits i o has st.no_row m2 p2 end
+      (owed_with w w maps maps2 calls enders enders m i (next_of_counting sum2 end) b (λ n j v under ne. ((λ rests. rests), same_on w w maps maps2 calls enders n (same2 n)))
+      (λ v under owes. absurd (none_within {K = K} {V = V} {Q = Q} sum owes.0 (subst (λ (x : UnderWay K V Q). copier_of x ≡ Some owes.0) (one_some (calls m i) v (Counting sum) under has) owes.1)))) (theirs b can))
+  kind_theirs (OverAll o) has machine told steps (p2, end, is, tells, inl (st, moved)) =
+      come _ _ _ moved (sweeps_keep_theirs V same asks batch_size roots slot w maps calls makers enders all theirs m s here i o has st.no_row m2 p2 end
       (sweep_steps asks same s.hash w.memory m2 machine told o.sweep p2 end is tells steps) st)
-  kind_theirs (OverAll o) has machine told steps (p2, end, is, tells, inr (st, stayed)) links =
+  kind_theirs (OverAll o) has machine told steps (p2, end, is, tells, inr (st, stayed)) =
       stay st.step.w2 st.together.0 _ st.together.1 stayed (sweep_rows_keep_theirs V same asks batch_size roots slot w maps calls makers enders all theirs m s here i o has st.is_row m2 p2 end
       (sweep_steps asks same s.hash w.memory m2 machine told o.sweep p2 end is tells steps) st)

@@ -33,6 +33,7 @@ use Rattle.papaya_reclaims.specs.Deferred.{IsLinkedTable}
 use Rattle.papaya_carries.specs.Promises.{MakingsKeepTheirs}
 use Rattle.papaya_carries.specs.Theirs.{CanCarry, IsTheirs, AllAreTheirs}
 use Rattle.papaya_carries.proofs.Calls.{users_of, out_of}
+use Rattle.papaya_carries.proofs.Owed.{stays_so, owed_on}
 
 -- another block changes hands, or this one stays with users
 moved_hand : (b : ℕ) (hand : ℕ → Hand) (c : ℕ) (new : Hand) → (b ≡ c → IsStillHad new) → IsStillHad (hand b) → IsStillHad (with_at hand c new b)
@@ -106,7 +107,8 @@ module _ {K Q : Type 0} (V : Type 0) (same : K → K → Bool) (asks : Q → K �
       where
         theirs_on : IsTheirs w maps calls enders x → IsTheirs st.w2 maps2 calls enders x
         theirs_on (inl (n, s, is, t, from, made, at)) = inl (n, s, on n s is, t, from, made, at)
-        theirs_on (inr (inl (n, j, u, under, rests, due))) = inr (inl (n, j, u, under, rows_are j ∙ rests, due))
+        theirs_on (inr (inl owed)) =
+            inr (inl (owed_on w st.w2 maps maps2 calls enders enders x (λ n j u under. ((λ rests. rows_are j ∙ rests), λ s is. (s, on n s is, stays_so s))) owed))
         theirs_on (inr (inr ending)) = inr (inr ending)
 
         by : IsOut (w.hand x) ⊎ IsFirstTable st.w2 end x → IsTheirs st.w2 maps2 calls enders x

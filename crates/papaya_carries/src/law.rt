@@ -11,12 +11,12 @@ ghost use Rattle.papaya_carries.specs.Lists.{ActsKeepTheirs, ActsLeaveIt, ListsK
 ghost use Rattle.papaya_carries.specs.Promises.{CallsKeepTheirs, ChangesKeepTheirs, EndingsBeginAndKeepTheirs, EndingsKeepTheirs, GuardsKeepTheirs, MakingsKeepTheirs, NoneBegins, NothingElseWaits, OnlyTablesCarry, ReclaimingKeepsTheirs, RoomRowsKeepTheirs, RoomsKeepTheirs, RowsKeepTheirs, SweepRowsKeepTheirs, SweepsKeepTheirs};
 
 /// Each block that users have, and behind which something may be put, is a linked table of a map that stands, or one that a call has unlinked and is to hand
-/// over, or it is of a map that ends. It is so where calls begin, or are told what they ask for, over rows between calls, where the end of a map begins and
-/// over its steps, and over rows within calls, reservations and sweeps: there these hand over what they were to. It is so over a step of a call on one key,
-/// of a reservation or of a sweep that is none of a row, on a map in incremental mode: the table that the root leaves by it is the one that the call is to
-/// hand over next. It is so over a step of a making, whose map's first table is linked as the map stands. Where nobody has a call, and no map ends, such a
-/// block is a linked table of a map that stands. So it is while a caller reclaims all, and once all is reclaimed nothing waits but pairs that are deferred on
-/// linked tables.
+/// over, or it is of a map that ends. In blocking mode a call may have unlinked several tables, and comes to them one after another. So it is where calls
+/// begin, or are told what they ask for, over rows between calls, where the end of a map begins on which nobody has a call, and over its steps, and over rows
+/// within calls, reservations and sweeps: there these hand over what they were to. It is so over a step of a call on one key, of a reservation or of a sweep
+/// that is none of a row: the tables that the root leaves by it are those that the call is to hand over then. It is so over a step of a making, whose map's
+/// first table is linked as the map stands. Where nobody has a call, and no map ends, such a block is a linked table of a map that stands. So it is while a
+/// caller reclaims all, and once all is reclaimed nothing waits but pairs that are deferred on linked tables.
 pub fn what_carries_is_somebodys<K, V, Q>()
     ensures starts { (same : K → K → Bool) (asks : Q → K → Bool) (batch_size roots : ℕ) (slot : ℕ → ℕ) (w : World (Node K V)) (maps : ℕ → Option (Standing K)) (calls : ℕ → ℕ → Option (UnderWay K V Q)) (makers : ℕ → Option (Beginning K)) (enders : ℕ → Option (Finishing K V)) → NoneBegins V same asks batch_size roots slot w maps calls makers enders }
     ensures rest { (same : K → K → Bool) (asks : Q → K → Bool) (batch_size roots : ℕ) (slot : ℕ → ℕ) (w : World (Node K V)) (maps : ℕ → Option (Standing K)) (calls : ℕ → ℕ → Option (UnderWay K V Q)) (makers : ℕ → Option (Beginning K)) (enders : ℕ → Option (Finishing K V)) → OnlyTablesCarry V same asks batch_size roots slot w maps calls makers enders }
