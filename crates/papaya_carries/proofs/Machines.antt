@@ -138,8 +138,8 @@ module _ {K V Q : Type 0} (asks : Q → K → Bool) (same : K → K → Bool) (h
       (one_back of_swept as_swept swept_back d.0.1 end (sym (ap (λ (x : Machine K V Q × Progress (Node K V)). x.1) d.2) ∙ tells)) d.1
 
 -- no copier is within a counting
-none_within : {K V Q : Type 0} (sum : Sum) (p : Copier) → copier_of {K = K} {V = V} {Q = Q} (Counting sum) ≡ Some p → ⊥
-none_within sum p is = cc is
+none_within : (K V Q : Type 0) (sum : Sum) (p : Copier) → copier_of {K = K} {V = V} {Q = Q} (Counting sum) ≡ Some p → ⊥
+none_within K V Q sum p is = cc is
 
 module _ {K Q : Type 0} (V : Type 0) (same : K → K → Bool) (asks : Q → K → Bool) (batch_size roots : ℕ) (slot : ℕ → ℕ)
     (w : World (Node K V)) (maps : ℕ → Option (Standing K)) (calls : ℕ → ℕ → Option (UnderWay K V Q)) (makers : ℕ → Option (Beginning K)) (enders : ℕ → Option (Finishing K V))
@@ -207,7 +207,7 @@ module _ {K Q : Type 0} (V : Type 0) (same : K → K → Bool) (asks : Q → K �
   kind_theirs (Counting sum) has machine told steps (sum2, end, is, tells, still, (e, same2, k)) = come w maps2 (next_of_counting sum2 end) (e, refl, k) (λ b can.
       theirs_by w w maps maps2 calls enders (with_call calls m i (next_of_counting sum2 end)) same2 b
       (owed_with w w maps maps2 calls enders enders m i (next_of_counting sum2 end) b (λ n j v under ne. ((λ rests. rests), same_on w w maps maps2 calls enders n (same2 n)))
-      (λ v under owes. absurd (none_within {K = K} {V = V} {Q = Q} sum owes.0 (subst (λ (x : UnderWay K V Q). copier_of x ≡ Some owes.0) (one_some (calls m i) v (Counting sum) under has) owes.1)))) (theirs b can))
+      (λ v under owes. absurd (none_within K V Q sum owes.0 (subst (λ (x : UnderWay K V Q). copier_of x ≡ Some owes.0) (one_some (calls m i) v (Counting sum) under has) owes.1)))) (theirs b can))
   kind_theirs (OverAll o) has machine told steps (p2, end, is, tells, inl (st, moved)) =
       come _ _ _ moved (sweeps_keep_theirs V same asks batch_size roots slot w maps calls makers enders all theirs m s here i o has st.no_row m2 p2 end
       (sweep_steps asks same s.hash w.memory m2 machine told o.sweep p2 end is tells steps) st)
