@@ -48,7 +48,7 @@ use Rattle.papaya_acts.specs.Acts.{Act, Answer, OfCall, OfReply, OfAsking, OfMak
 use Rattle.papaya_acts.specs.Acts.{BeginsCall, StepsCall, TellsCall, AsksCall, StopsCall, BeginsMaking, StepsMaking, BeginsEnding, StepsEnding, BeginsRow, StepsRow}
 use Rattle.papaya_acts.specs.Courses.{set_up, AreAlike, CoursesAgree}
 use Rattle.papaya_acts.specs.Leads.{HasNoCall, MayBe, AllStand, Led, CallCame, MakingCame, EndingCame, making_begun}
-use Rattle.papaya_acts.specs.Lists.{Course, Reached, LedTo, on_by}
+use Rattle.papaya_acts.specs.Lists.{Reached}
 use Rattle.papaya_acts.proofs.Calls.{ready_is}
 use Rattle.papaya_acts.proofs.Counts.{its_call, other_call}
 use Rattle.papaya_acts.proofs.Lists.{all_may_step}

@@ -1,6 +1,6 @@
 -- What a row on a slot does to the memory, and where it stands then, is said by the memory, the row and what the memory was free to choose.
 use Rattle.std.specs.Prelude.{Option, Some}
-use Rattle.std.proofs.Common.{◌≡◌, ℕ, List, [], ◌∷◌, refl, ap, sym, subst, ◌∙◌}
+use Rattle.std.proofs.Common.{◌≡◌, ℕ, [], ◌∷◌, refl, ap, sym, ◌∙◌}
 use Rattle.seize_words.specs.Mem.{Mem}
 use Rattle.seize_words.specs.Plan.{Plan}
 use Rattle.seize.specs.Defer.{defer_plan}
