@@ -1,0 +1,14 @@
+-- Lists of acts, and a caller that reclaims all after one.
+use Rattle.papaya_carries.proofs.Acts.{acts_keep_theirs}
+use Rattle.papaya_carries.proofs.Left.{acts_leave_it}
+use Rattle.papaya_carries.proofs.Lists.{lists_keep_theirs, reclaiming_begins_there, only_pairs_wait_there}
+use Rattle.papaya_carries.proofs.law.lists_leave_only_pairs.Goals as goal
+
+pub returns : goal.returns
+returns c d = record {
+  acts = acts_keep_theirs _;
+  left = acts_leave_it _;
+  lists = lists_keep_theirs _;
+  begins = reclaiming_begins_there _;
+  waits = only_pairs_wait_there _;
+}
