@@ -1,0 +1,9 @@
+pub mod Later
+pub mod Found
+pub mod Had
+pub mod Now
+pub mod Logs
+pub mod Within
+pub mod Begun
+pub mod Steps
+pub mod Calling

@@ -1,0 +1,3 @@
+pub mod Had
+pub mod Histories
+pub mod Kept

@@ -1,0 +1,16 @@
+//! What is promised of the history of a map since a call on it began.
+ghost use Rattle.std.specs.Prelude.{ℕ, Bool};
+ghost use Rattle.papaya_histories.specs.Kept.{HistoriesBegin, CallsKeepHistories, CallsBeginHistories, CallsTakeHistories, CallsComeToHistories, EventsKeepHistories, FirstStepsChangeFirst};
+
+/// At each moment of a run that shows the executor, the history of a map since a call on it began is within the moments of the run since then: what the class of a
+/// key had at a moment of the map, the finite map has at one of these. So it is before all events; after each step of a call, whoever's, if no class changes twice
+/// within one event, as none does by the first step of one; where a call begins, takes a reply and comes to an outcome; and where an event is over.
+pub fn histories_are_within<K, V, S>()
+    ensures begins { HistoriesBegin K V }
+    ensures calls { (same : K → K → Bool) (hash : K → ℕ) → CallsKeepHistories K V S same hash }
+    ensures begun { (same : K → K → Bool) (hash : K → ℕ) → CallsBeginHistories K V S same hash }
+    ensures told { (same : K → K → Bool) (hash : K → ℕ) → CallsTakeHistories K V S same hash }
+    ensures come_to { (same : K → K → Bool) → CallsComeToHistories K V same }
+    ensures events { (same : K → K → Bool) → EventsKeepHistories K V same }
+    ensures first { (same : K → K → Bool) → FirstStepsChangeFirst K V same }
+{}
