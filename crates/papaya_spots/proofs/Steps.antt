@@ -142,7 +142,7 @@ module _ {K V S : Type 0} (same : K → K → Bool) (hash : K → ℕ) (m : Mome
       abbrev DidIt : Type 0
       DidIt = DidMoved same (slot_of i) i map (Some caller) (shown.number map) standing lawful w sight is_sight is_map m2 (λ w2 c2 blocks2. Unit {0}) went blocks2 grown sights2 m known is_shown shown.blocks told left went.moved
 
-      did : DidIt
+      pub did : DidIt
       did = by made
         where
           did_by : (seen : Seen (Node K V)) → ((at : At) (x y : ℕ) → seen ≡ Wrote at x y → told ≡ changed.Wrote at x y) → ((at : At) (x y : ℕ) → told ≡ changed.Wrote at x y → seen ≡ Wrote at x y)
