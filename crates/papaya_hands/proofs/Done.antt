@@ -1,5 +1,5 @@
 -- What a step of a call on one key that has changed its map has stored: the pair that the call was begun with, or was told to store.
-use Rattle.std.specs.Prelude.{◌≡◌, ℕ, ◌<◌, Bool, true, Option, Some, ◌⊎◌}
+use Rattle.std.specs.Prelude.{◌≡◌, ℕ, ◌+◌, ◌*◌, ◌<◌, Bool, true, Option, Some, ◌⊎◌}
 use Rattle.std.proofs.Common.{refl, sym, subst, arith, inl, inr}
 use Rattle.seize_words.specs.Mem.{Mem}
 use Rattle.seize_words.specs.Word.{link_word}
@@ -60,7 +60,7 @@ module _ {K V Q : Type 0} (same : K → K → Bool) (hash : K → ℕ) (asks : Q
   -- the word of a pair is not zero
   removed_kind : (kind : Kind) (removed n block byte marks : ℕ) → kinds.FitsCount kind.present kind.absent kind.takes removed → change ≡ Removed n → 0 < block → removed ≡ link_word block byte marks
       → MayDo kind change
-  removed_kind kind removed n block byte marks fits is some word = subst (MayDo kind) (sym is) (fits.1 (λ none. omega (arith, some, word, none)))
+  removed_kind kind removed n block byte marks fits is some word = subst (MayDo kind) (sym is) (fits.1 (λ none. (let sum : removed ≡ block * 2048 + byte * 8 + marks = word in omega (arith, some, sum, none))))
 
   module _ (w : World (Node K V)) (c : Chart K) (seen : Blocks) (p : KeyCall K V Q) where
     abbrev pub Held : Type 0

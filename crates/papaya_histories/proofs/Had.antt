@@ -35,3 +35,12 @@ module _ {K : Type 0} (same : K → K → Bool) (s : Standing K) (number : ℕ �
 
   pub had_one : (o p : Option ℕ) → HadThen same s number time k o → HadThen same s number time k p → o ≡ p
   had_one o p h j = just_one o p h.just j.just
+
+  -- what it had then is all that it had
+  pub had_none : (o : Option ℕ) → HadThen same s number time k o → ((n : ℕ) → Had same s number time k n → ⊥) → o ≡ None
+  had_none None h none = refl
+  had_none (Some q) h none = absurd (none h.just.0 h.just.1)
+
+  pub had_pair : (o : Option ℕ) → HadThen same s number time k o → (n : ℕ) → Had same s number time k n → o ≡ Some (number n)
+  had_pair None h n had = absurd (h.just n had)
+  had_pair (Some q) h n had = ap Some (sym h.just.2 ∙ ap number (sym (h.just.3 n had)))

@@ -7,3 +7,5 @@ pub mod Within
 pub mod Begun
 pub mod Steps
 pub mod Calling
+pub mod Meanings
+pub mod Changes

@@ -1,3 +1,4 @@
 pub mod Had
 pub mod Histories
 pub mod Kept
+pub mod Changes

@@ -1,5 +1,6 @@
 //! What is promised of the history of a map since a call on it began.
 ghost use Rattle.std.specs.Prelude.{ℕ, Bool};
+ghost use Rattle.papaya_histories.specs.Changes.{StepsChangeOnce};
 ghost use Rattle.papaya_histories.specs.Kept.{HistoriesBegin, CallsKeepHistories, CallsBeginHistories, CallsTakeHistories, CallsComeToHistories, EventsKeepHistories, FirstStepsChangeFirst};
 
 /// At each moment of a run that shows the executor, the history of a map since a call on it began is within the moments of the run since then: what the class of a
@@ -13,4 +14,10 @@ pub fn histories_are_within<K, V, S>()
     ensures come_to { (same : K → K → Bool) → CallsComeToHistories K V same }
     ensures events { (same : K → K → Bool) → EventsKeepHistories K V same }
     ensures first { (same : K → K → Bool) → FirstStepsChangeFirst K V same }
+{}
+
+/// By a step of a call on one key the class of its key changes once at most, by what the sequential specification says that the call means just then; if it got such
+/// replies alone as it takes, and owes no answer as long as it has changed nothing.
+pub fn steps_change_once<K, V, S>()
+    ensures changes { (same : K → K → Bool) (hash : K → ℕ) → StepsChangeOnce K V S same hash }
 {}
