@@ -63,6 +63,7 @@ use Rattle.papaya_moments.proofs.Calls.{of_row}
 use Rattle.papaya_histories.specs.Changes.{AreTaken, StepsChangeOnce}
 use Rattle.papaya_histories.specs.Had.{Had, HadThen}
 use Rattle.papaya_histories.proofs.Had.{had_none, had_pair}
+use Rattle.papaya_histories.proofs.Keys.{its_call}
 use Rattle.papaya_histories.proofs.Meanings.{puts_some, ToRemove, takes_it}
 use Rattle.papaya_histories.proofs.Now.{now_had}
 
@@ -105,11 +106,8 @@ module _ {K V S : Type 0} (same : K → K → Bool) (hash : K → ℕ) (name : �
   there : (n : ℕ) → ch.current n ≡ true → n < ch.stored
   there n is = (current_is_known same st.hash st.setting s.world.memory ch st.blocks each.ground.map.map.rule each.ground.map.map.shows n is).0
 
-  its_call : (c.map ≡ map) × (x.keys ≡ same k)
-  its_call =
-      let it = shown.calls map i (OnKey x) here in
-      let is_c : it.0 ≡ c = one_of it.0 c (sym it.1 ∙ c_is) in
-      (ap (λ (z : CallThere K V). z.map) (sym is_c) ∙ it.2, subst (λ (z : Call K V). IsCalled same (OnKey x) z) one_is (subst (λ (z : CallThere K V). IsCalled same (OnKey x) z.call) is_c it.3))
+  its : (c.map ≡ map) × (x.keys ≡ same k)
+  its = its_call same name m known s shown map i x here c c_is one one_is
 
   asked_on : IsAskedOn number ch.stored known x one c
   asked_on = subst (λ (z : Call K V). IsAskedAs number ch.stored known x z c) one_is (whole.all.asked.each map i (OnKey x) here st to.2 c c_is)
@@ -119,15 +117,15 @@ module _ {K V S : Type 0} (same : K → K → Bool) (hash : K → ℕ) (name : �
   now = now_had same map number st m known s.world (s.calls map) (at.together.makings.standing.fit map st to.2).0 each (shown.maps map st to.2).pairs shown.blocks k
 
   class_has : (o : Option ℕ) → finite_map same map m k ≡ o → there_for same one c m ≡ o
-  class_has o e = ap (λ (z : ℕ). finite_map same z m k) its_call.0 ∙ e
+  class_has o e = ap (λ (z : ℕ). finite_map same z m k) its.0 ∙ e
 
   none_there : IsAbsent same st.hash (is_incremental st.setting.mode) ch x.keys → there_for same one c m ≡ None
   none_there absent = class_has None (had_none same st number ch.now k (finite_map same map m k) now (λ n had.
-      let no : same k had.2 ≡ false = ap (λ (f : K → Bool). f had.2) (sym its_call.1) ∙ absent n had.2 (sym (each.ground.moments.now_is n) ∙ had.1) had.3 in let yes = had.4 in cc (no, yes)))
+      let no : same k had.2 ≡ false = ap (λ (f : K → Bool). f had.2) (sym its.1) ∙ absent n had.2 (sym (each.ground.moments.now_is n) ∙ had.1) had.3 in let yes = had.4 in cc (no, yes)))
 
   pair_there : (o : ℕ) → IsPair same st.hash (is_incremental st.setting.mode) ch x.keys o → there_for same one c m ≡ Some (number o)
   pair_there o pair = class_has (Some (number o)) (had_pair same st number ch.now k (finite_map same map m k) now o
-      (there o pair.0, each.ground.moments.now_is o ∙ pair.0, pair.1, pair.2, ap (λ (f : K → Bool). f pair.1) (sym its_call.1) ∙ pair.3))
+      (there o pair.0, each.ground.moments.now_is o ∙ pair.0, pair.1, pair.2, ap (λ (f : K → Bool). f pair.1) (sym its.1) ∙ pair.3))
 
   abbrev new_number : ℕ
   new_number = length m.stored + 1

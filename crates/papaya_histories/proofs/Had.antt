@@ -36,6 +36,20 @@ module _ {K : Type 0} (same : K → K → Bool) (s : Standing K) (number : ℕ �
   pub had_one : (o p : Option ℕ) → HadThen same s number time k o → HadThen same s number time k p → o ≡ p
   had_one o p h j = just_one o p h.just j.just
 
+  -- at a moment at which the map had the same pairs, too
+  pub had_at : (later : ℕ) → ((n : ℕ) → s.chart.was later n ≡ s.chart.was time n) → (o : Option ℕ) → HadThen same s number time k o → HadThen same s number later k o
+  had_at later alike o h = record { stored = λ n was. h.stored n (sym (alike n) ∙ was); just = by o h.just }
+    where
+      forth : (n : ℕ) → Had same s number time k n → Had same s number later k n
+      forth n had = (had.0, alike n ∙ had.1, had.2, had.3, had.4)
+
+      back : (n : ℕ) → Had same s number later k n → Had same s number time k n
+      back n had = (had.0, sym (alike n) ∙ had.1, had.2, had.3, had.4)
+
+      by : (x : Option ℕ) → HadJust same s number time k x → HadJust same s number later k x
+      by None none = λ n had. none n (back n had)
+      by (Some q) it = (it.0, forth it.0 it.1, it.2, λ n had. it.3 n (back n had))
+
   -- what it had then is all that it had
   pub had_none : (o : Option ℕ) → HadThen same s number time k o → ((n : ℕ) → Had same s number time k n → ⊥) → o ≡ None
   had_none None h none = refl

@@ -2,3 +2,4 @@ pub mod Had
 pub mod Histories
 pub mod Kept
 pub mod Changes
+pub mod Answers

@@ -1,5 +1,6 @@
 //! What is promised of the history of a map since a call on it began.
 ghost use Rattle.std.specs.Prelude.{ℕ, Bool};
+ghost use Rattle.papaya_histories.specs.Answers.{AnswersWereSo};
 ghost use Rattle.papaya_histories.specs.Changes.{StepsChangeOnce};
 ghost use Rattle.papaya_histories.specs.Kept.{HistoriesBegin, CallsKeepHistories, CallsBeginHistories, CallsTakeHistories, CallsComeToHistories, EventsKeepHistories, FirstStepsChangeFirst};
 
@@ -20,4 +21,10 @@ pub fn histories_are_within<K, V, S>()
 /// replies alone as it takes, and owes no answer as long as it has changed nothing.
 pub fn steps_change_once<K, V, S>()
     ensures changes { (same : K → K → Bool) (hash : K → ℕ) → StepsChangeOnce K V S same hash }
+{}
+
+/// What a call on one key answers without a change is what the sequential specification says that it means at a moment of the call between two events, by the last
+/// reply for what the class of its key has there; where no pair of the class has come or gone within the present event.
+pub fn answers_were_so<K, V, S>()
+    ensures answers { (same : K → K → Bool) (hash : K → ℕ) → AnswersWereSo K V S same hash }
 {}
