@@ -28,7 +28,6 @@ use Rattle.papaya_rule.specs.Chart.{Chart, put}
 use Rattle.papaya_rule.specs.Maps.{IsAbsent, IsPair}
 use Rattle.papaya_rule.specs.Words.{Blocks}
 use Rattle.papaya_rule.proofs.Laws.{current_is_known}
-use Rattle.papaya_rule.proofs.Moves.Writes.{put_here, put_elsewhere}
 use Rattle.papaya_points.specs.FactsCalls.{Change, Unchanged, Stored, Replaced, Removed, Changes}
 use Rattle.papaya_points.specs.Steps.{AreLawful}
 use Rattle.papaya_callers.specs.Asked.{Asked}
@@ -56,7 +55,7 @@ use Rattle.papaya_hands.proofs.Done.{done, stepped}
 use Rattle.papaya_hands.proofs.Puts.{MayDo}
 use Rattle.papaya_hands.proofs.RowSteps.{rows_hand_theirs}
 use Rattle.papaya_hands.proofs.Steps.{numbers_apart, calls_store_theirs}
-use Rattle.papaya_spots.proofs.Shifts.{Shifts, KeepsAll, StoresOne, ReplacesOne, RemovesOne, calm_shifts}
+use Rattle.papaya_spots.proofs.Shifts.{Shifts, calm_shifts}
 use Rattle.papaya_spots.proofs.Steps.{moved_shifts}
 use Rattle.papaya_moments.specs.Whole.{ShowsWhole}
 use Rattle.papaya_moments.proofs.Calls.{of_row}
@@ -66,6 +65,7 @@ use Rattle.papaya_histories.proofs.Had.{had_none, had_pair}
 use Rattle.papaya_histories.proofs.Keys.{its_call}
 use Rattle.papaya_histories.proofs.Meanings.{puts_some, ToRemove, takes_it}
 use Rattle.papaya_histories.proofs.Now.{now_had}
+use Rattle.papaya_histories.proofs.Which.{DidOnce, DidNone, DidStore, DidReplace, DidRemove, did_once, none_shifted}
 
 -- what rows hand over shifts no pair
 hands_shift : (effects : List Effect) → HandsOn effects → flat_map shift_of effects ≡ []
@@ -197,92 +197,24 @@ module _ {K V S : Type 0} (same : K → K → Bool) (hash : K → ℕ) (name : �
   abbrev Did : Change → Type 0
   Did change = (change ≡ Unchanged) ⊎ (MayDo (kind_of x.pair) change × ToRemoveBy change)
 
-  module _ (c2 : Chart K) (unchanged : x.change ≡ Unchanged) where
-    abbrev Now : ℕ → Bool
-    Now = c2.current
-
-    value : (f g : ℕ → Bool) → f ≡ g → (n : ℕ) → f n ≡ g n
-    value f g e n = ap (λ (h : ℕ → Bool). h n) e
-
-    -- no pair is in the map that was not stored
-    not_new : ch.current ch.stored ≡ true → ⊥
-    not_new is = let l = there ch.stored is in omega (arith, l)
-
-    apart_from_new : (o : ℕ) → ch.current o ≡ true → o ≢ ch.stored
-    apart_from_new o is e = let l = there o is in omega (arith, l, e)
-
-    by_stored : (sp : Spot) → effects ≡ effect.Stored (known.stored + 1) sp ∷ [] → Now ≡ put ch.current ch.stored true → Stores effects → (change : Change)
-        → Changes same st.hash (is_incremental st.setting.mode) x.keys ch c2 change → Goal
-    by_stored sp is cur stores Unchanged e = absurd (not_new (sym (value Now ch.current e ch.stored) ∙ value Now (put ch.current ch.stored true) cur ch.stored ∙ put_here ch.current ch.stored true))
-    by_stored sp is cur stores (Stored n) (n_is, absent, cur2) = stores_new sp is stores absent unchanged
-    by_stored sp is cur stores (Replaced o n) (n_is, pair, cur2) =
-        absurd (let ne = apart_from_new o pair.0 in
-        let yes : Now o ≡ true = value Now (put ch.current ch.stored true) cur o ∙ put_elsewhere ch.current ch.stored true o ne ∙ pair.0 in
-        let no : Now o ≡ false = value Now (put (put ch.current o false) n true) cur2 o ∙ put_elsewhere (put ch.current o false) n true o (λ e. ne (e ∙ n_is)) ∙ put_here ch.current o false in cc (yes, no))
-    by_stored sp is cur stores (Removed o) (pair, cur2) =
-        absurd (let ne = apart_from_new o pair.0 in
-        not_new (sym (value Now (put ch.current o false) cur2 ch.stored ∙ put_elsewhere ch.current o false ch.stored (λ e. ne (sym e)))
-        ∙ value Now (put ch.current ch.stored true) cur ch.stored ∙ put_here ch.current ch.stored true))
-
-    by_replaced : (n : ℕ) (sp : Spot) → effects ≡ effect.Replaced (number n) ∷ effect.Stored (known.stored + 1) sp ∷ [] → ch.current n ≡ true → Now ≡ put (put ch.current n false) ch.stored true → Stores effects
-        → (change : Change) → Changes same st.hash (is_incremental st.setting.mode) x.keys ch c2 change → Goal
-    by_replaced n sp is was cur stores Unchanged e =
-        absurd (not_new (sym (value Now ch.current e ch.stored) ∙ value Now (put (put ch.current n false) ch.stored true) cur ch.stored ∙ put_here (put ch.current n false) ch.stored true))
-    by_replaced n sp is was cur stores (Stored o) (o_is, absent, cur2) =
-        absurd (let ne = apart_from_new n was in
-        let no : Now n ≡ false = value Now (put (put ch.current n false) ch.stored true) cur n ∙ put_elsewhere (put ch.current n false) ch.stored true n ne ∙ put_here ch.current n false in
-        let yes : Now n ≡ true = value Now (put ch.current o true) cur2 n ∙ put_elsewhere ch.current o true n (λ e. ne (e ∙ o_is)) ∙ was in cc (yes, no))
-    by_replaced n sp is was cur stores (Replaced o p) (p_is, pair, cur2) = elim (cases_eq o n) as (λ _. Goal) [
-      | inl e ↦ stores_over n sp is stores (subst (λ (z : ℕ). IsPair same st.hash (is_incremental st.setting.mode) ch x.keys z) e pair) unchanged
-      | inr ne ↦
-          absurd (let far = apart_from_new o pair.0 in
-          let yes : Now o ≡ true =
-          value Now (put (put ch.current n false) ch.stored true) cur o ∙ put_elsewhere (put ch.current n false) ch.stored true o far ∙ put_elsewhere ch.current n false o ne ∙ pair.0 in
-          let no : Now o ≡ false = value Now (put (put ch.current o false) p true) cur2 o ∙ put_elsewhere (put ch.current o false) p true o (λ e. far (e ∙ p_is)) ∙ put_here ch.current o false in cc (yes, no))
-    ]
-    by_replaced n sp is was cur stores (Removed o) (pair, cur2) =
-        absurd (let ne = apart_from_new o pair.0 in
-        not_new (sym (value Now (put ch.current o false) cur2 ch.stored ∙ put_elsewhere ch.current o false ch.stored (λ e. ne (sym e)))
-        ∙ value Now (put (put ch.current n false) ch.stored true) cur ch.stored ∙ put_here (put ch.current n false) ch.stored true))
-
-    by_removed : (n : ℕ) → effects ≡ effect.Removed (number n) ∷ [] → ch.current n ≡ true → Now ≡ put ch.current n false → (change : Change)
-        → Changes same st.hash (is_incremental st.setting.mode) x.keys ch c2 change → Did change → Goal
-    by_removed n is was cur Unchanged e did =
-        absurd (let no : Now n ≡ false = value Now (put ch.current n false) cur n ∙ put_here ch.current n false in let yes : Now n ≡ true = value Now ch.current e n ∙ was in cc (yes, no))
-    by_removed n is was cur (Stored o) (o_is, absent, cur2) did =
-        absurd (let ne = apart_from_new n was in
-        not_new (sym (value Now (put ch.current n false) cur ch.stored ∙ put_elsewhere ch.current n false ch.stored (λ e. ne (sym e)))
-        ∙ ap Now (sym o_is) ∙ value Now (put ch.current o true) cur2 o ∙ put_here ch.current o true))
-    by_removed n is was cur (Replaced o p) (p_is, pair, cur2) did =
-        absurd (let ne = apart_from_new n was in
-        not_new (sym (value Now (put ch.current n false) cur ch.stored ∙ put_elsewhere ch.current n false ch.stored (λ e. ne (sym e)))
-        ∙ ap Now (sym p_is) ∙ value Now (put (put ch.current o false) p true) cur2 p ∙ put_here (put ch.current o false) p true))
-    by_removed n is was cur (Removed o) (pair, cur2) did = elim (cases_eq o n) as (λ _. Goal) [
-      | inl e ↦ elim did as (λ _. Goal) [
-        | inl none ↦ absurd (cc none)
-        | inr may ↦ removes_it n is (subst (λ (z : ℕ). IsPair same st.hash (is_incremental st.setting.mode) ch x.keys z) e pair)
-            (subst (λ (z : ℕ). MayDo (kind_of x.pair) (Removed z)) e may.0) (subst (λ (z : ℕ). ToRemove z x.pair) e may.1) unchanged
-      ]
-      | inr ne ↦
-          absurd (let yes : Now o ≡ true = value Now (put ch.current n false) cur o ∙ put_elsewhere ch.current n false o ne ∙ pair.0 in
-          let no : Now o ≡ false = value Now (put ch.current o false) cur2 o ∙ put_here ch.current o false in cc (yes, no))
-    ]
+  -- by the change that it has made
+  by_once : (c2 : Chart K) (change : Change) → x.change ≡ Unchanged → DidOnce same st.hash (is_incremental st.setting.mode) x.keys ch c2 number known.stored effects change → Stores effects → Did change → Goal
+  by_once c2 change unchanged (DidNone e none) stores did = inl none
+  by_once c2 change unchanged (DidStore sp is e absent) stores did = stores_new sp is stores absent unchanged
+  by_once c2 change unchanged (DidReplace n sp is e pair) stores did = stores_over n sp is stores pair unchanged
+  by_once c2 change unchanged (DidRemove n is e pair) stores did = elim (subst Did e did) as (λ _. Goal) [
+    | inl none ↦ absurd (cc none)
+    | inr may ↦ removes_it n is pair may.0 may.1 unchanged
+  ]
 
   -- whatever the step did
   by_shifts : (c2 : Chart K) → Shifts ch c2 number known.stored effects → Stores effects → (change : Change)
       → (c2.current ≡ ch.current) ⊎ ((x.change ≡ Unchanged) × Changes same st.hash (is_incremental st.setting.mode) x.keys ch c2 change) → Did change → Goal
-  by_shifts c2 (KeepsAll kept none) stores change told did = inl none
-  by_shifts c2 (StoresOne sp is cur) stores change (inl kept) did = by_kept
-    where
-      by_kept : Goal
-      by_kept = absurd (let l = there ch.stored (sym (ap (λ (h : ℕ → Bool). h ch.stored) kept) ∙ ap (λ (h : ℕ → Bool). h ch.stored) cur ∙ put_here ch.current ch.stored true) in omega (arith, l))
-  by_shifts c2 (StoresOne sp is cur) stores change (inr (unchanged, told)) did = by_stored c2 unchanged sp is cur stores change told
-  by_shifts c2 (ReplacesOne n sp is was cur) stores change (inl kept) did =
-      absurd (let l = there ch.stored (sym (ap (λ (h : ℕ → Bool). h ch.stored) kept) ∙ ap (λ (h : ℕ → Bool). h ch.stored) cur ∙ put_here (put ch.current n false) ch.stored true) in omega (arith, l))
-  by_shifts c2 (ReplacesOne n sp is was cur) stores change (inr (unchanged, told)) did = by_replaced c2 unchanged n sp is was cur stores change told
-  by_shifts c2 (RemovesOne n is was cur) stores change (inl kept) did =
-      absurd (let no : c2.current n ≡ false = ap (λ (h : ℕ → Bool). h n) cur ∙ put_here ch.current n false in let yes : c2.current n ≡ true = ap (λ (h : ℕ → Bool). h n) kept ∙ was in cc (yes, no))
-  by_shifts c2 (RemovesOne n is was cur) stores change (inr (unchanged, told)) did = by_removed c2 unchanged n is was cur change told did
+  by_shifts c2 shifts stores change (inl kept) did =
+      inl (none_shifted same st.hash (is_incremental st.setting.mode) x.keys ch c2 number known.stored effects Unchanged refl
+      (did_once same st.hash (is_incremental st.setting.mode) x.keys ch c2 number known.stored effects there shifts Unchanged kept))
+  by_shifts c2 shifts stores change (inr (unchanged, told)) did =
+      by_once c2 change unchanged (did_once same st.hash (is_incremental st.setting.mode) x.keys ch c2 number known.stored effects there shifts change told) stores did
 
   abbrev DidSoHere : Type 0
   DidSoHere = DidSo same hash name m known s old new at shown map i (OnKey x) here said leads (OnKey x)

@@ -9,5 +9,8 @@ pub mod Steps
 pub mod Calling
 pub mod Keys
 pub mod Meanings
+pub mod Which
 pub mod Changes
 pub mod Answers
+pub mod Dues
+pub mod Due

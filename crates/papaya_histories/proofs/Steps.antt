@@ -51,7 +51,7 @@ module _ {K V S : Type 0} (same : K → K → Bool) (hash : K → ℕ) (name : �
   abbrev pub to : WentTo same hash name m known s old new at shown map i u here said leads
   to = went_to same hash name m known s old new at shown map i u here said leads
 
-  abbrev Led : Type 0
+  abbrev pub Led : Type 0
   Led = LeadsThere same hash name m known s old new at shown map i u here said leads
 
   abbrev Did : UnderWay K V K → Type 0
@@ -149,13 +149,13 @@ module _ {K V S : Type 0} (same : K → K → Bool) (hash : K → ℕ) (name : �
 module _ {K V S : Type 0} (same : K → K → Bool) (hash : K → ℕ) (name : ℕ → List ℕ) (log : List (Entry K V)) (m : Moment K V) (known : Known) (s : Scene K V) (old new : Executor K V S)
     (at : IsAt same hash old s) (whole : ShowsWhole same name m known s) (history : ShowsHistory same name log m known s) (map i : ℕ) (u : UnderWay K V K) (here : s.calls map i ≡ Some u)
     (said : Progress (Node K V)) (leads : StepLeads same hash i said s old new) where
-  abbrev then_shown : LeadsThere same hash name m known s old new at history.shown map i u here said leads
+  abbrev pub then_shown : LeadsThere same hash name m known s old new at history.shown map i u here said leads
   then_shown = led_on same hash name m known s old new at whole history.shown map i u here said leads
 
-  abbrev v2 : Moment K V
+  abbrev pub v2 : Moment K V
   v2 = v same hash name m known s old new at whole history.shown map i u here said leads
 
-  abbrev scene2 : Scene K V
+  abbrev pub scene2 : Scene K V
   scene2 = s2 same hash name m known s old new at whole history.shown map i u here said leads
 
   -- a call that is there then was there, and one event began both
@@ -181,7 +181,7 @@ module _ {K V S : Type 0} (same : K → K → Bool) (hash : K → ℕ) (name : �
         (history.begun n j was.0 was.1 was.3 was.4) (changes n) (now_then same hash name m known s old new at whole history.shown map i u here said leads n st there) began
         (history.within n j was.0 was.1 before.0 before.1 was.3 was.4 began (sym was.2 ∙ began_is)))
 
-    pub step_history : ShowsHistory same name log v2 (after same hash name m known s old new at whole history.shown map i u here said leads) scene2
+    abbrev pub step_history : ShowsHistory same name log v2 (after same hash name m known s old new at whole history.shown map i u here said leads) scene2
     step_history = record {
       shown = then_shown.shows;
       asked = asked_on same hash name m known s old new at history.shown map i u here said leads history.asked then_shown;

@@ -3,3 +3,4 @@ pub mod Histories
 pub mod Kept
 pub mod Changes
 pub mod Answers
+pub mod Due
