@@ -68,7 +68,7 @@ module _ {K V S : Type 0} (same : K → K → Bool) (hash : K → ℕ) (name : �
   ]
 
   -- the tables of its map have come to these
-  moved_chart : (c2 : Chart K) (blocks2 : Blocks) (sights2 : ℕ → Sight) → to.4.maps2 ≡ with_at s.maps map (Some (record to.0 { chart = c2; blocks = blocks2; sights = sights2 }))
+  pub moved_chart : (c2 : Chart K) (blocks2 : Blocks) (sights2 : ℕ → Sight) → to.4.maps2 ≡ with_at s.maps map (Some (record to.0 { chart = c2; blocks = blocks2; sights = sights2 }))
       → (st : Standing K) → to.4.maps2 map ≡ Some st → st.chart ≡ c2
   moved_chart c2 blocks2 sights2 e st is =
       ap (λ (x : Standing K). x.chart)

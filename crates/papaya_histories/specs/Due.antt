@@ -39,7 +39,7 @@ pub record ShowsDue {K V : Type 0} (same : K → K → Bool) (name : ℕ → Lis
   pub history : ShowsHistory same name log m known s
   pub owes : (map i : ℕ) (u : CallOnKey K V K) → s.calls map i ≡ Some (OnKey u) → (standing : Standing K) → s.maps map ≡ Some standing → (c : CallThere K V) → call_of (name i) m ≡ Some c
       → (one : OneKey K V) → c.call ≡ On one → Owes (history.shown.number map) standing.chart.stored one c u.change
-  pub taken : (map i : ℕ) (u : CallOnKey K V K) → s.calls map i ≡ Some (OnKey u) → (c : CallThere K V) → call_of (name i) m ≡ Some c → (one : OneKey K V) → c.call ≡ On one → AreTaken one c.replies
+  pub taken : (map i : ℕ) (u : UnderWay K V K) → s.calls map i ≡ Some u → (c : CallThere K V) → call_of (name i) m ≡ Some c → (one : OneKey K V) → c.call ≡ On one → AreTaken one c.replies
 
 module _ (K V S : Type 0) (same : K → K → Bool) (hash : K → ℕ) where
   -- The promise: so it is after each step of a call, whoever's, if no class changes twice within one event by it.

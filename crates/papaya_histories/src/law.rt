@@ -2,6 +2,7 @@
 ghost use Rattle.std.specs.Prelude.{ℕ, Bool};
 ghost use Rattle.papaya_histories.specs.Answers.{AnswersWereSo};
 ghost use Rattle.papaya_histories.specs.Changes.{StepsChangeOnce};
+ghost use Rattle.papaya_histories.specs.Due.{CallsKeepDue};
 ghost use Rattle.papaya_histories.specs.Kept.{HistoriesBegin, CallsKeepHistories, CallsBeginHistories, CallsTakeHistories, CallsComeToHistories, EventsKeepHistories, FirstStepsChangeFirst};
 
 /// At each moment of a run that shows the executor, the history of a map since a call on it began is within the moments of the run since then: what the class of a
@@ -27,4 +28,10 @@ pub fn steps_change_once<K, V, S>()
 /// reply for what the class of its key has there; where no pair of the class has come or gone within the present event.
 pub fn answers_were_so<K, V, S>()
     ensures answers { (same : K → K → Bool) (hash : K → ℕ) → AnswersWereSo K V S same hash }
+{}
+
+/// After each step of a call, whoever's, a call on one key owes nothing as an answer if it has changed nothing; and if it has, the answer that the sequential
+/// specification says that it means by its change; if no class changes twice within one event.
+pub fn calls_keep_due<K, V, S>()
+    ensures calls { (same : K → K → Bool) (hash : K → ℕ) → CallsKeepDue K V S same hash }
 {}
