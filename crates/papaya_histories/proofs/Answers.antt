@@ -1,7 +1,6 @@
 -- An answer without a change is what the call means at a moment of the run since it began.
 use Rattle.std.specs.Prelude.{◌≡◌, ℕ, ◌+◌, ◌<◌, ◌≤◌, Bool, true, false, List, ◌∷◌, length, Option, Some, None, ◌⊎◌}
 use Rattle.std.proofs.Common.{refl, ap, sym, subst, ◌∙◌, arith, inl, inr}
-use Rattle.std.proofs.lemmas.Bool.{cases_lt}
 use Rattle.seize_words.specs.Word.{block_in}
 use Rattle.seize.specs.World.{World, with_at}
 use Rattle.papaya_tables.specs.Chunks.{is_incremental}
@@ -28,12 +27,10 @@ use Rattle.papaya_schedules.specs.Sequential.{Answers, Leaves, means, key_of}
 use Rattle.papaya_schedules.specs.Views.{call_of, finite_map, reply_to}
 use Rattle.papaya_rule.specs.Chart.{Phase, Holds, Chart}
 use Rattle.papaya_rule.specs.Words.{Blocks, byte_of, place_word}
-use Rattle.papaya_rule.proofs.Laws.{words_name_pairs, bytes_are_few}
 use Rattle.papaya_points.specs.FactsCalls.{Change, Unchanged, Stored, Replaced, Removed, Changes, Tells}
 use Rattle.papaya_callers.specs.Sights.{Sight, IsSight, seen_by}
 use Rattle.papaya_callers.specs.Since.{SoSince}
 use Rattle.papaya_callers.specs.Together.{CallOnKey, UnderWay, OnKey, StepTold, Fresh, Late, change_told, AnswersOnce, in_slot}
-use Rattle.papaya_callers.proofs.Together.At.{at_same}
 use Rattle.papaya_finishes.specs.Maps.{Standing, IsSameMap}
 use Rattle.papaya_effects.specs.Effects.{known_after}
 use Rattle.papaya_effects.specs.Known.{Known}
@@ -55,10 +52,11 @@ use Rattle.papaya_histories.proofs.Keys.{its_call}
 use Rattle.papaya_histories.proofs.Later.{IsLater}
 use Rattle.papaya_histories.proofs.Logs.{each_of, last_there}
 use Rattle.papaya_histories.proofs.Now.{now_had}
-use Rattle.papaya_histories.proofs.Steps.{to, led_on, v, after, s2, maps_later, now_then}
+use Rattle.papaya_histories.proofs.Roles.{named_by, stands_then, stands_is, roles_before, roles_after}
+use Rattle.papaya_histories.proofs.Steps.{to, led_on, v, after, maps_later, now_then}
 use Rattle.papaya_histories.proofs.Within.{within_on}
 
-ended : {T : Type 0} (end : Called T) (answer : KeyAnswer) → Done (Key answer) ≡ of_called end → end ≡ called.Done answer
+pub ended : {T : Type 0} (end : Called T) (answer : KeyAnswer) → Done (Key answer) ≡ of_called end → end ≡ called.Done answer
 ended called.Goes answer e = absurd (cc e)
 ended called.Waits answer e = absurd (cc e)
 ended (called.Gave value) answer e = absurd (cc e)
@@ -154,9 +152,7 @@ module _ {K V S : Type 0} (same : K → K → Bool) (hash : K → ℕ) (name : �
     module _ (seen : Blocks) (roles : (n : ℕ) → n < st2.chart.stored → seen.pair_known n ≡ true → known2.roles (seen.pair n) ≡ role.Pair (number2 n)) where
       was_so : (an : KeyAnswer) → SoSince st2.hash st2.chart seen x.keys x.began an → IsToldAs known2 one c.replies an a → Goal
       was_so (answers.Found word) (time, from, to, (n, had, known_too, phase, borrowed, word_is)) (q, names, meaning) =
-          let named : block_in word ≡ seen.pair n = ap block_in word_is
-          ∙ words_name_pairs seen.pair (λ z. byte_of st2.hash (st2.chart.key z)) n phase borrowed
-          (bytes_are_few st2.hash (went.5.together.makings.standing.fit map st2 st2_is).0.fits (st2.chart.key n)) in
+          let named = named_by same st2.hash (went.5.together.makings.standing.fit map st2 st2_is).0 st2.chart seen word n phase borrowed word_is in
           let pairs : role.Pair q ≡ role.Pair (number2 n) = sym names ∙ ap known2.roles named ∙ roles n had.0 known_too in
           let q_is : q ≡ number2 n = cc pairs in
           means_then (Some q) meaning time from to
@@ -205,51 +201,23 @@ module _ {K V S : Type 0} (same : K → K → Bool) (hash : K → ℕ) (name : �
   abbrev Did : Type 0
   Did = DidSo same hash name m known s old new at shown map i (OnKey x) here said leads (OnKey x)
 
-  abbrev sight : Sight
-  sight = st.sights (slot_of i)
-
-  its_sight : IsSight st.chart st.blocks sight
-  its_sight = is_sight same hash m known s old new at name shown map i st went.2 (name i) (made_so same hash name m known s old new at shown map i (OnKey x) here said leads)
-      (is_inside same hash name m known s old new at shown map i (OnKey x) here said leads)
-
   by : (told : IsToldAs known2 one c.replies answer a) → Did → Goal
   by told (p2, end, machine_is, told_is, inl (step, moved)) =
       let it = once step.step.went.w2 step.step.went.c2 step.step.went.blocks2 (change_told V same st.hash same st.setting slot_of step.step.went.told) (step.step.answers answer (ended end answer told_is)) told in
-      was_so st2 st2_is (kept_by step.step.went.told it.0) step.step.went.blocks2 roles answer it.1 told
-    where
-      st2 : Standing K
-      st2 = record st { chart = step.step.went.c2; blocks = step.step.blocks2; sights = step.step.sights2 }
-
-      st2_is : went.4.maps2 map ≡ Some st2
-      st2_is = ap (λ (f : ℕ → Option (Standing K)). f map) moved.1 ∙ at_same s.maps map (Some st2) map refl
-
-      roles : (n : ℕ) → n < step.step.went.c2.stored → step.step.went.blocks2.pair_known n ≡ true → known2.roles (step.step.went.blocks2.pair n) ≡ role.Pair (on.shows.number map n)
-      roles n l known_too = elim (cases_lt n st.chart.stored) as (λ _. known2.roles (step.step.went.blocks2.pair n) ≡ role.Pair (on.shows.number map n)) [
-        | inl before ↦
-            let was = step.step.went.blocks_same.pairs_back n before known_too in
-            let grown = step.step.grown.pairs n before in
-            ap known2.roles ((step.step.went.blocks_same.pairs n before was).0 ∙ sym grown.0) ∙ (on.shows.maps map st2 st2_is).pairs.roles n l (grown.1 ∙ its_sight.pairs n before was)
-        | inr fresh ↦
-            let grown = step.step.grown.new_pairs n fresh in
-            ap known2.roles (sym grown.0) ∙ (on.shows.maps map st2 st2_is).pairs.roles n l (grown.1 ∙ known_too)
-      ]
+      was_so (stands_then same hash name m known s old new at whole shown map i x here said leads p2 end step moved.1) (stands_is same hash name m known s old new at whole shown map i x here said leads p2 end step moved.1)
+      (kept_by step.step.went.told it.0) step.step.went.blocks2 (roles_after same hash name m known s old new at whole shown map i x here said leads p2 end step moved.1) answer it.1 told
   by told (p2, end, machine_is, told_is, inr (row, stayed)) =
-      let it = once row.step.w2 st.chart (seen_by st.blocks sight) x.change (row.step.answers answer (ended end answer told_is)) told in
-      was_so st2 st2_is refl (seen_by st.blocks sight) roles answer it.1 told
+      let it = once row.step.w2 st.chart (seen_by st.blocks (st.sights (slot_of i))) x.change (row.step.answers answer (ended end answer told_is)) told in
+      was_so then_there then_is refl (seen_by st.blocks (st.sights (slot_of i))) (roles_before same hash name m known s old new at whole shown map i x here said leads) answer it.1 told
     where
       same_map : IsSameMap (Some st) (went.4.maps2 map)
       same_map = subst (λ (o : Option (Standing K)). IsSameMap o (went.4.maps2 map)) went.2 (stayed.1 map)
 
-      st2 : Standing K
-      st2 = record st { blocks = same_map.0; sights = same_map.1 }
+      then_there : Standing K
+      then_there = record st { blocks = same_map.0; sights = same_map.1 }
 
-      st2_is : went.4.maps2 map ≡ Some st2
-      st2_is = same_map.2
-
-      roles : (n : ℕ) → n < st.chart.stored → sight.pairs n ≡ true → known2.roles (st.blocks.pair n) ≡ role.Pair (on.shows.number map n)
-      roles n l seen =
-          let is = (shown.maps map st went.2).pairs.roles n l (its_sight.pairs n l seen) in
-          on.keeps (st.blocks.pair n) (subst IsLasting (sym is) tt) ∙ is ∙ ap role.Pair (sym (on.numbers map st went.2 n l))
+      then_is : went.4.maps2 map ≡ Some then_there
+      then_is = same_map.2
 
 pub answers_were_so : (K V S : Type 0) (same : K → K → Bool) (hash : K → ℕ) → AnswersWereSo K V S same hash
 answers_were_so K V S same hash name log m known s old new at whole history map i u here answer leads c c_is one one_is still a told =

@@ -361,24 +361,34 @@ module _ {K V S : Type 0} (same : K → K → Bool) (hash : K → ℕ) (name : �
     abbrev DidHere : Type 0
     DidHere = DidSoHere same hash name m known s old new at whole shown1 dues.history.asked map i z here said leads c c_is one one_is taken nothing_due
 
-    goes_on : (x : CallOnKey K V K) → went1.4.next ≡ Some (OnKey x) → (did : DidHere) → (NoRow same hash name m known s old new at whole shown1 dues.history.asked map i z here said leads c c_is one one_is taken nothing_due did → StoresIts its_effects)
-        → ((NoRow same hash name m known s old new at whole shown1 dues.history.asked map i z here said leads c c_is one one_is taken nothing_due did → ⊥) → TakesNone new.memory.changed) → Then x.change
-    goes_on x e (p2, end, machine_is, told_is, inl (step, moved)) stores takes =
-        subst Then (sym (same_change x _ (key_goes_on _ end (OnKey x) (sym moved.2 ∙ e))))
-        (by_told step.step.went.c2 (moved_chart same hash name m known s old new at whole shown1 map i (OnKey z) here said leads step.step.went.c2 step.step.blocks2 step.step.sights2 moved.1 st2 st2_is)
+    -- what the call has changed by its step
+    abbrev pub change_by : DidHere → Change
+    change_by (p2, end, machine_is, told_is, inl (step, moved)) = change_told V same went1.0.hash same went1.0.setting slot_of step.step.went.told
+    change_by (p2, end, machine_is, told_is, inr (row, stayed)) = z.change
+
+    -- it owes what it means by that
+    pub owes_now : (did : DidHere) → (NoRow same hash name m known s old new at whole shown1 dues.history.asked map i z here said leads c c_is one one_is taken nothing_due did → StoresIts its_effects) → ((NoRow same hash name m known s old new at whole shown1 dues.history.asked map i z here said leads c c_is one one_is taken nothing_due did → ⊥) → TakesNone new.memory.changed) → Then (change_by did)
+    owes_now (p2, end, machine_is, told_is, inl (step, moved)) stores takes =
+        by_told step.step.went.c2 (moved_chart same hash name m known s old new at whole shown1 map i (OnKey z) here said leads step.step.went.c2 step.step.blocks2 step.step.sights2 moved.1 st2 st2_is)
         (its_shifts same hash name m known s old new at whole shown1 dues.history.asked map i z here said leads c c_is one one_is taken nothing_due p2 end step) (stores tt) (change_told V same went1.0.hash same went1.0.setting slot_of step.step.went.told)
-        (told_once same hash name m known s old new at whole shown1 dues.history.asked map i z here said leads c c_is one one_is taken nothing_due step.step.went.told) (its_done same hash name m known s old new at whole shown1 dues.history.asked map i z here said leads c c_is one one_is taken nothing_due p2 end step))
-    goes_on x e (p2, end, machine_is, told_is, inr (row, stayed)) stores takes =
-        subst Then (sym (same_change x _ (key_goes_on _ end (OnKey x) (sym stayed.2 ∙ e))))
-        (stays (by_row same hash name m known s old new at whole shown1 dues.history.asked map i z here said leads c c_is one one_is taken nothing_due (takes (λ no. no)) (p2, end, machine_is, told_is, inr (row, stayed)) (λ no. no)))
+        (told_once same hash name m known s old new at whole shown1 dues.history.asked map i z here said leads c c_is one one_is taken nothing_due step.step.went.told) (its_done same hash name m known s old new at whole shown1 dues.history.asked map i z here said leads c c_is one one_is taken nothing_due p2 end step)
+    owes_now (p2, end, machine_is, told_is, inr (row, stayed)) stores takes = stays (by_row same hash name m known s old new at whole shown1 dues.history.asked map i z here said leads c c_is one one_is taken nothing_due (takes (λ no. no)) (p2, end, machine_is, told_is, inr (row, stayed)) (λ no. no))
+
+    pub goes_on : (x : CallOnKey K V K) → went1.4.next ≡ Some (OnKey x) → (did : DidHere) → x.change ≡ change_by did
+    goes_on x e (p2, end, machine_is, told_is, inl (step, moved)) = same_change x _ (key_goes_on _ end (OnKey x) (sym moved.2 ∙ e))
+    goes_on x e (p2, end, machine_is, told_is, inr (row, stayed)) = same_change x _ (key_goes_on _ end (OnKey x) (sym stayed.2 ∙ e))
+
+    -- so it is for the step that was made
+    pub owes_then_by : Then (change_by went1.4.did)
+    owes_then_by = owes_now went1.4.did (λ own. (calls_store_theirs K V S same hash name m known s old new at whole.all map i (OnKey z) here said leads own).0)
+        (λ other. (rows_hand_theirs K V S same hash name m known s old new at whole.all map i (OnKey z) here said leads other).1)
 
   own_key : Own same hash name log m known s old new at whole dues map i (OnKey z) here said leads
   own_key x e st2 st2_is d d_is one one_is =
       let c = shown1.calls map i (OnKey z) here in
       let was = was_there same hash name log m known s old new at whole dues map i (OnKey z) here said leads i c.0 d c.1 d_is in
-      goes_on c.0 c.1 one (sym was.0 ∙ one_is) st2 st2_is d d_is x e went1.4.did
-      (λ own. (calls_store_theirs K V S same hash name m known s old new at whole.all map i (OnKey z) here said leads own).0)
-      (λ other. (rows_hand_theirs K V S same hash name m known s old new at whole.all map i (OnKey z) here said leads other).1)
+      subst (λ (y : Change). Owes num2 st2.chart.stored one d y) (sym (goes_on c.0 c.1 one (sym was.0 ∙ one_is) st2 st2_is d d_is x e went1.4.did))
+      (owes_then_by c.0 c.1 one (sym was.0 ∙ one_is) st2 st2_is d d_is)
 
 pub calls_keep_due : (K V S : Type 0) (same : K → K → Bool) (hash : K → ℕ) → CallsKeepDue K V S same hash
 calls_keep_due K V S same hash name log m known s old new at whole dues map i (OnKey z) here said leads changes =

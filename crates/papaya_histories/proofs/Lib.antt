@@ -10,7 +10,9 @@ pub mod Calling
 pub mod Keys
 pub mod Meanings
 pub mod Which
+pub mod Roles
 pub mod Changes
 pub mod Answers
 pub mod Dues
 pub mod Due
+pub mod Owed

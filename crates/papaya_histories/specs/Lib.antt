@@ -2,5 +2,5 @@ pub mod Had
 pub mod Histories
 pub mod Kept
 pub mod Changes
-pub mod Answers
 pub mod Due
+pub mod Answers

@@ -1,6 +1,6 @@
 //! What is promised of the history of a map since a call on it began.
 ghost use Rattle.std.specs.Prelude.{ℕ, Bool};
-ghost use Rattle.papaya_histories.specs.Answers.{AnswersWereSo};
+ghost use Rattle.papaya_histories.specs.Answers.{AnswersWereSo, AnswersAreOwed};
 ghost use Rattle.papaya_histories.specs.Changes.{StepsChangeOnce};
 ghost use Rattle.papaya_histories.specs.Due.{CallsKeepDue};
 ghost use Rattle.papaya_histories.specs.Kept.{HistoriesBegin, CallsKeepHistories, CallsBeginHistories, CallsTakeHistories, CallsComeToHistories, EventsKeepHistories, FirstStepsChangeFirst};
@@ -34,4 +34,9 @@ pub fn answers_were_so<K, V, S>()
 /// specification says that it means by its change; if no class changes twice within one event.
 pub fn calls_keep_due<K, V, S>()
     ensures calls { (same : K → K → Bool) (hash : K → ℕ) → CallsKeepDue K V S same hash }
+{}
+
+/// What a call on one key answers that tells a change is the answer that it owes since it has changed its map.
+pub fn answers_are_owed<K, V, S>()
+    ensures answers { (same : K → K → Bool) (hash : K → ℕ) → AnswersAreOwed K V S same hash }
 {}
