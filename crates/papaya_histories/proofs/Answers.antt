@@ -52,7 +52,7 @@ use Rattle.papaya_histories.proofs.Keys.{its_call}
 use Rattle.papaya_histories.proofs.Later.{IsLater}
 use Rattle.papaya_histories.proofs.Logs.{each_of, last_there}
 use Rattle.papaya_histories.proofs.Now.{now_had}
-use Rattle.papaya_histories.proofs.Roles.{named_by, stands_then, stands_is, roles_before, roles_after}
+use Rattle.papaya_histories.proofs.Roles.{named_by, no_change, stands_then, stands_is, roles_before, roles_after}
 use Rattle.papaya_histories.proofs.Steps.{to, led_on, v, after, maps_later, now_then}
 use Rattle.papaya_histories.proofs.Within.{within_on}
 
@@ -164,30 +164,11 @@ module _ {K V S : Type 0} (same : K → K → Bool) (hash : K → ℕ) (name : �
       was_so (answers.Replaced before then_there) (time, from, to, no) told = absurd no
       was_so (answers.Removed word) (time, from, to, no) told = absurd no
 
-  -- an answer that tells no change tells none
   module _ (w : World (Node K V)) (c2 : Chart K) (seen : Blocks) where
-    no_change : (change : Change) (an : KeyAnswer) → Tells same st.hash same w i (in_slot st.setting (slot_of i)) c2 seen x.keys change change an → IsToldAs known2 one c.replies an a → ⊥
-    no_change Unchanged an tells told = tells
-    no_change (Stored n) (answers.Found word) tells told = tells
-    no_change (Stored n) answers.Absent tells told = tells
-    no_change (Stored n) (answers.Stored word) tells told = told
-    no_change (Stored n) (answers.Replaced before then_there) tells told = told
-    no_change (Stored n) (answers.Removed word) tells told = told
-    no_change (Replaced o n) (answers.Found word) tells told = tells
-    no_change (Replaced o n) answers.Absent tells told = tells
-    no_change (Replaced o n) (answers.Stored word) tells told = told
-    no_change (Replaced o n) (answers.Replaced before then_there) tells told = told
-    no_change (Replaced o n) (answers.Removed word) tells told = told
-    no_change (Removed n) (answers.Found word) tells told = tells
-    no_change (Removed n) answers.Absent tells told = tells
-    no_change (Removed n) (answers.Stored word) tells told = told
-    no_change (Removed n) (answers.Replaced before then_there) tells told = told
-    no_change (Removed n) (answers.Removed word) tells told = told
-
     once : (change : Change) → AnswersOnce V same st.hash same st.setting slot_of w c2 seen i x change answer → IsToldAs known2 one c.replies answer a
         → (change ≡ Unchanged) × SoSince st.hash c2 seen x.keys x.began answer
     once change (fits, inl so) told = (so.0, so.1)
-    once change (fits, inr (changed, tells, stores)) told = absurd (no_change change answer tells told)
+    once change (fits, inr (changed, tells, stores)) told = absurd (no_change same st.hash same w i (in_slot st.setting (slot_of i)) c2 seen x.keys change known2 one c.replies a change answer tells told)
 
   -- a step by which the call has changed nothing has moved no pair
   kept_by : {p2 : KeyCall K V K} {end : Called (Node K V)} {w2 : World (Node K V)} {c2 : Chart K} {blocks2 : Blocks} → (it : StepTold V same st.hash same st.setting slot_of st.chart i x p2 end w2 c2 blocks2)

@@ -16,3 +16,4 @@ pub mod Answers
 pub mod Dues
 pub mod Due
 pub mod Owed
+pub mod Events

@@ -1,6 +1,6 @@
 -- An answer that tells a change is the one that the call owes.
 use Rattle.std.specs.Prelude.{◌≡◌, ℕ, ◌<◌, Bool, true, List, Option, Some, None}
-use Rattle.std.proofs.Common.{refl, ap, sym, ◌∙◌, inl, inr}
+use Rattle.std.proofs.Common.{refl, ap, sym, subst, ◌∙◌, inl, inr}
 use Rattle.seize_words.specs.Word.{block_in}
 use Rattle.seize.specs.World.{World}
 use Rattle.papaya_tables.specs.declared.node.Node.{Node}
@@ -33,11 +33,11 @@ use Rattle.papaya_executor.specs.declared.executor.Executor.{Executor}
 use Rattle.papaya_follows.specs.Shows.{Shows}
 use Rattle.papaya_follows.proofs.Steps.{WentTo, LeadsThere, DidSo}
 use Rattle.papaya_moments.specs.Whole.{ShowsWhole}
-use Rattle.papaya_histories.specs.Answers.{IsToldDone, AnswersAreOwed}
+use Rattle.papaya_histories.specs.Answers.{IsToldAs, IsToldDone, AnswersAreOwed}
 use Rattle.papaya_histories.specs.Due.{Owes, ShowsDue}
 use Rattle.papaya_histories.proofs.Answers.{ended}
 use Rattle.papaya_histories.proofs.Due.{change_by, owes_then_by, was_there}
-use Rattle.papaya_histories.proofs.Roles.{named_by, stands_then, stands_is, roles_before, roles_after}
+use Rattle.papaya_histories.proofs.Roles.{named_by, no_change, stands_then, stands_is, roles_before, roles_after}
 use Rattle.papaya_histories.proofs.Steps.{to, led_on, v, after}
 
 module _ {K V S : Type 0} (same : K → K → Bool) (hash : K → ℕ) (name : ℕ → List ℕ) (log : List (Entry K V)) (m : Moment K V) (known : Known) (s : Scene K V) (old new : Executor K V S)
@@ -120,6 +120,13 @@ module _ {K V S : Type 0} (same : K → K → Bool) (hash : K → ℕ) (name : �
       owed_once w stored change (fits, inl (none, so, leaves)) owes told = absurd (no_look answer so told)
       owed_once w stored change (fits, inr (changed, tells, stores)) owes told = owed_by w stored change answer tells owes told
 
+      -- and where none is told, it owes none
+      none_owed : (w : World (Node K V)) (stored : ℕ) (change : Change) → AnswersOnce V same st.hash same st.setting slot_of w c2 seen i z change answer → Owes number stored one d change
+          → IsToldAs known2 one c.replies answer a → d.due ≡ None
+      none_owed w stored change (fits, inl (none, so, leaves)) owes told = subst (λ (x : Change). Owes number stored one d x) none owes
+      none_owed w stored change (fits, inr (changed, tells, stores)) owes told =
+          absurd (no_change same st.hash same w i (in_slot st.setting (slot_of i)) c2 seen z.keys change known2 one c.replies a change answer tells told)
+
     by : (did : DidSo same hash name m known s old new at shown map i (OnKey z) here said leads (OnKey z))
         → Owes number st2.chart.stored one d (change_by same hash name log m known s old new at whole dues map i z here said leads c c_is one one_is st2 went.4.its_map.4 d d_is did)
         → IsToldDone known2 one c.replies answer a → d.due ≡ Some a
@@ -132,6 +139,19 @@ module _ {K V S : Type 0} (same : K → K → Bool) (hash : K → ℕ) (name : �
 
     pub owed : IsToldDone known2 one c.replies answer a → d.due ≡ Some a
     owed told = by went.4.did (owes_then_by same hash name log m known s old new at whole dues map i z here said leads c c_is one one_is st2 went.4.its_map.4 d d_is) told
+
+    none_by : (did : DidSo same hash name m known s old new at shown map i (OnKey z) here said leads (OnKey z))
+        → Owes number st2.chart.stored one d (change_by same hash name log m known s old new at whole dues map i z here said leads c c_is one one_is st2 went.4.its_map.4 d d_is did)
+        → IsToldAs known2 one c.replies answer a → d.due ≡ None
+    none_by (p2, end, machine_is, told_is, inl (step, moved)) owes told =
+        none_owed step.step.went.c2 step.step.went.blocks2 (roles_after same hash name m known s old new at whole shown map i z here said leads p2 end step moved.1) step.step.went.w2 st2.chart.stored
+        (change_told V same st.hash same st.setting slot_of step.step.went.told) (step.step.answers answer (ended end answer told_is)) owes told
+    none_by (p2, end, machine_is, told_is, inr (row, stayed)) owes told =
+        none_owed st.chart (seen_by st.blocks (st.sights (slot_of i))) (roles_before same hash name m known s old new at whole shown map i z here said leads) row.step.w2 st2.chart.stored
+        z.change (row.step.answers answer (ended end answer told_is)) owes told
+
+    pub due_none : IsToldAs known2 one c.replies answer a → d.due ≡ None
+    due_none told = none_by went.4.did (owes_then_by same hash name log m known s old new at whole dues map i z here said leads c c_is one one_is st2 went.4.its_map.4 d d_is) told
 
 pub answers_are_owed : (K V S : Type 0) (same : K → K → Bool) (hash : K → ℕ) → AnswersAreOwed K V S same hash
 answers_are_owed K V S same hash name log m known s old new at whole dues map i u here answer leads c c_is one one_is d d_is a told =

@@ -3,7 +3,14 @@ use Rattle.std.specs.Prelude.{◌≡◌, ℕ, ◌<◌, Bool, true, List, Option,
 use Rattle.std.proofs.Common.{refl, ap, sym, subst, ◌∙◌, inl, inr}
 use Rattle.std.proofs.lemmas.Bool.{cases_lt}
 use Rattle.seize_words.specs.Word.{block_in}
-use Rattle.seize.specs.World.{with_at}
+use Rattle.seize.specs.World.{World, with_at}
+use Rattle.papaya_tables.specs.declared.setting.Setting.{Setting}
+use Rattle.papaya_raw.specs.declared.machines.answer.KeyAnswer.{KeyAnswer}
+use Rattle.papaya_raw.specs.declared.machines.answer.KeyAnswer.TheVariants as answers
+use Rattle.papaya_schedules.specs.declared.call.Answer.{Answer}
+use Rattle.papaya_schedules.specs.declared.call.OneKey.{OneKey}
+use Rattle.papaya_schedules.specs.declared.call.Reply.{Reply}
+use Rattle.papaya_points.specs.FactsCalls.{Change, Unchanged, Stored, Replaced, Removed, Tells}
 use Rattle.papaya_tables.specs.declared.node.Node.{Node}
 use Rattle.papaya_raw.specs.declared.machines.answer.Called.{Called}
 use Rattle.papaya_raw.specs.declared.machines.call.KeyCall.{KeyCall}
@@ -27,6 +34,7 @@ use Rattle.papaya_follows.specs.Shows.{Shows}
 use Rattle.papaya_follows.proofs.Onward.{IsLasting}
 use Rattle.papaya_follows.proofs.Steps.{WentTo, made_so, is_inside, is_sight, LeadsThere}
 use Rattle.papaya_moments.specs.Whole.{ShowsWhole}
+use Rattle.papaya_histories.specs.Answers.{IsToldAs}
 use Rattle.papaya_histories.proofs.Steps.{to, led_on, after}
 
 -- a word that names a pair names its block
@@ -34,6 +42,27 @@ pub named_by : {K : Type 0} (same : K → K → Bool) (hash : K → ℕ) → Are
     → block_in word ≡ blocks.pair n
 named_by same hash lawful c blocks word n phase borrowed is =
     ap block_in is ∙ words_name_pairs blocks.pair (λ z. byte_of hash (c.key z)) n phase borrowed (bytes_are_few hash lawful.fits (c.key n))
+
+-- an answer that tells a change is not told as one without
+module _ {K V Q : Type 0} (same : K → K → Bool) (hash : K → ℕ) (asks : Q → K → Bool) (w : World (Node K V)) (i : ℕ) (setting : Setting) (c : Chart K) (seen : Blocks) (keys : K → Bool) (known : Change)
+    (noted : Known) (one : OneKey K V) (replies : List (Option ℕ × Reply V)) (a : Answer V) where
+  pub no_change : (change : Change) (an : KeyAnswer) → Tells same hash asks w i setting c seen keys known change an → IsToldAs noted one replies an a → ⊥
+  no_change Unchanged an tells told = tells
+  no_change (Stored n) (answers.Found word) tells told = tells
+  no_change (Stored n) answers.Absent tells told = tells
+  no_change (Stored n) (answers.Stored word) tells told = told
+  no_change (Stored n) (answers.Replaced before then_there) tells told = told
+  no_change (Stored n) (answers.Removed word) tells told = told
+  no_change (Replaced o n) (answers.Found word) tells told = tells
+  no_change (Replaced o n) answers.Absent tells told = tells
+  no_change (Replaced o n) (answers.Stored word) tells told = told
+  no_change (Replaced o n) (answers.Replaced before then_there) tells told = told
+  no_change (Replaced o n) (answers.Removed word) tells told = told
+  no_change (Removed n) (answers.Found word) tells told = tells
+  no_change (Removed n) answers.Absent tells told = tells
+  no_change (Removed n) (answers.Stored word) tells told = told
+  no_change (Removed n) (answers.Replaced before then_there) tells told = told
+  no_change (Removed n) (answers.Removed word) tells told = told
 
 module _ {K V S : Type 0} (same : K → K → Bool) (hash : K → ℕ) (name : ℕ → List ℕ) (m : Moment K V) (known : Known) (s : Scene K V) (old new : Executor K V S) (at : IsAt same hash old s)
     (whole : ShowsWhole same name m known s) (shown : Shows same name m known s) (map i : ℕ) (x : CallOnKey K V K) (here : s.calls map i ≡ Some (OnKey x)) (said : Progress (Node K V))

@@ -4,3 +4,4 @@ pub mod Kept
 pub mod Changes
 pub mod Due
 pub mod Answers
+pub mod Events

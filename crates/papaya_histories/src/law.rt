@@ -3,6 +3,7 @@ ghost use Rattle.std.specs.Prelude.{ℕ, Bool};
 ghost use Rattle.papaya_histories.specs.Answers.{AnswersWereSo, AnswersAreOwed};
 ghost use Rattle.papaya_histories.specs.Changes.{StepsChangeOnce};
 ghost use Rattle.papaya_histories.specs.Due.{CallsKeepDue};
+ghost use Rattle.papaya_histories.specs.Events.{StepsAreLinearizable};
 ghost use Rattle.papaya_histories.specs.Kept.{HistoriesBegin, CallsKeepHistories, CallsBeginHistories, CallsTakeHistories, CallsComeToHistories, EventsKeepHistories, FirstStepsChangeFirst};
 
 /// At each moment of a run that shows the executor, the history of a map since a call on it began is within the moments of the run since then: what the class of a
@@ -39,4 +40,9 @@ pub fn calls_keep_due<K, V, S>()
 /// What a call on one key answers that tells a change is the answer that it owes since it has changed its map.
 pub fn answers_are_owed<K, V, S>()
     ensures answers { (same : K → K → Bool) (hash : K → ℕ) → AnswersAreOwed K V S same hash }
+{}
+
+/// An event that is one step of a call on one key, and goes on, waits, or has answered by it, changes maps and answers as one finite map says: it is linearizable.
+pub fn steps_are_linearizable<K, V, S>()
+    ensures events { (same : K → K → Bool) (hash : K → ℕ) → StepsAreLinearizable K V S same hash }
 {}
