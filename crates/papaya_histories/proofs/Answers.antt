@@ -159,7 +159,7 @@ module _ {K V S : Type 0} (same : K → K → Bool) (hash : K → ℕ) (name : �
           (λ p h. had_pair same st2 number2 time k p h n (had.0, had.1, had.2, had.3, ap (λ (f : K → Bool). f had.2) (sym its.1) ∙ had.4) ∙ ap Some (sym q_is))
       was_so answers.Absent (time, from, to, none) meaning = means_then None meaning time from to
           (λ p h. had_none same st2 number2 time k p h (λ n had.
-            let no : same k had.2 ≡ false = ap (λ (f : K → Bool). f had.2) (sym its.1) ∙ none.1 n had.2 had.0 had.1 had.3 in let yes = had.4 in cc (no, yes)))
+          let no : same k had.2 ≡ false = ap (λ (f : K → Bool). f had.2) (sym its.1) ∙ none.1 n had.2 had.0 had.1 had.3 in let yes = had.4 in cc (no, yes)))
       was_so (answers.Stored word) (time, from, to, no) told = absurd no
       was_so (answers.Replaced before then_there) (time, from, to, no) told = absurd no
       was_so (answers.Removed word) (time, from, to, no) told = absurd no

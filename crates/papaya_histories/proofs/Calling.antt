@@ -121,7 +121,7 @@ module _ (K V S : Type 0) (same : K → K → Bool) (hash : K → ℕ) where
       (own_told same hash name m known s e at history.shown history.asked map i standing there c c_is question c_asks is_told u next here machine taken goes))
       (λ n j x is d d_is. inl (as_before n j x d d_is (which s.calls map i (Some next) n j x is)))
     where
-      abbrev tells : CallThere K V → CallThere K V
+      tells : CallThere K V → CallThere K V
       tells y = replied is_told y y.stands
 
       as_before : (n j : ℕ) (x : UnderWay K V K) (d : CallThere K V) → call_of (name j) (told (name i) is_told m) ≡ Some d

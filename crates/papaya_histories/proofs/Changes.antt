@@ -155,7 +155,7 @@ module _ {K V S : Type 0} (same : K → K → Bool) (hash : K → ℕ) (name : �
       puts_some (λ v. (k, v)) (has.0, has.1) [] (means one (reply_to old c.replies) old q)
       (sym (new_pairs replacing_is replies_are) ∙ sym (ap (λ (z : Call K V). new_pair z d q) (call_is ∙ one_is)) ∙ has.2)
     where
-      abbrev pairs_of : Option ℕ → List (Option ℕ × Reply V) → List (K × V)
+      pairs_of : Option ℕ → List (Option ℕ × Reply V) → List (K × V)
       pairs_of o replies = list_map (λ v. (k, v)) (value_put (means one (reply_to o replies) o q))
 
       new_pairs : d.replacing ≡ old → d.replies ≡ c.replies → pairs_of d.replacing d.replies ≡ pairs_of old c.replies

@@ -139,7 +139,7 @@ module _ {K V S : Type 0} (same : K → K → Bool) (hash : K → ℕ) (name : �
         ∙ ap (λ (o : Option ℕ). with_effects (Some (name i)) o e.effects m) acts_on
         ∙ ap (λ (l : List Effect). with_effects (Some (name i)) (Some map) l m) effects_are
 
-    d : CallThere K V
+    abbrev d : CallThere K V
     d = (calls_after (name i) map (name i) effects m c c_is).0
 
     d_is : call_of (name i) v ≡ Some d

@@ -69,7 +69,7 @@ module _ {K V : Type 0} (same : K → K → Bool) (map : ℕ) (number : ℕ → 
           (it.1, each.ground.moments.now_is it.0 ∙ is, pair.0, pair.2, its_key),
           sym it.2,
           λ o other. one_current same (spot_of s.hash) lawful.lawful.classes c (is_incremental s.setting.mode) each.ground.map.map.rule k o it.0
-          (sym (each.ground.moments.now_is o) ∙ other.1) is (ap (is_of same (spot_of s.hash) (is_incremental s.setting.mode) k) other.3 ∙ other.4) of_class,
+              (sym (each.ground.moments.now_is o) ∙ other.1) is (ap (is_of same (spot_of s.hash) (is_incremental s.setting.mode) k) other.3 ∙ other.4) of_class,
         )
 
     pub now_had : HadThen same s number c.now k (finite_map same map m k)
