@@ -33,7 +33,7 @@ use Rattle.papaya_hands.proofs.Beginning.{runs_begin_so}
 use Rattle.papaya_hands.proofs.Calling.{caller_is, begins_asked, come_asked}
 use Rattle.papaya_hands.proofs.Told.{own_told, told_asked}
 use Rattle.papaya_histories.specs.Had.{HadThen}
-use Rattle.papaya_histories.specs.Histories.{began_of, since, IsWithin, ShowsHistory}
+use Rattle.papaya_histories.specs.Histories.{began_of, since, IsWithin, ShowsHistory, StaysWithin}
 use Rattle.papaya_histories.specs.Kept.{HasJustBegun, ChangesFirst, HistoriesBegin, CallsBeginHistories, CallsTakeHistories, CallsComeToHistories, EventsKeepHistories, FirstStepsChangeFirst}
 use Rattle.papaya_histories.proofs.Begun.{if_begun, replied_begun, comes_begun}
 use Rattle.papaya_histories.proofs.Found.{map_alike}
@@ -54,13 +54,16 @@ pub first_steps_change_first : (K V : Type 0) (same : K → K → Bool) → Firs
 first_steps_change_first K V same log m v begun map k = inr (map_alike same map k (moment log) m begun.0 begun.1)
 
 pub events_keep_histories : (K V : Type 0) (same : K → K → Bool) → EventsKeepHistories K V same
-events_keep_histories K V same name log e known s history = record {
-  shown = history.shown;
-  asked = history.asked;
-  begun = λ n i u is c found. (let b = history.begun n i u is c found in omega (arith, b));
-  within = λ n i u is st there c found began began_is time from to k.
-      more n c (history.begun n i u is c found) (λ x. HadThen same st (history.shown.number n) time k (finite_map same n x k)) (history.within n i u is st there c found began began_is time from to k);
-}
+events_keep_histories K V same name log e known s history = (
+  record {
+    shown = history.shown;
+    asked = history.asked;
+    begun = λ n i u is c found. (let b = history.begun n i u is c found in omega (arith, b));
+    within = λ n i u is st there c found began began_is time from to k.
+        more n c (history.begun n i u is c found) (λ x. HadThen same st (history.shown.number n) time k (finite_map same n x k)) (history.within n i u is st there c found began began_is time from to k);
+  },
+  refl,
+)
   where
     more : (n : ℕ) (c : CallThere K V) → c.begun ≤ length log → (P : Moment K V → Type 0) → OneOf P (since log (moment (e ∷ log)) c) → OneOf P (since (e ∷ log) (moment (e ∷ log)) c)
     more n c b P (inl here) = inl here
@@ -104,13 +107,16 @@ module _ {K V : Type 0} (same : K → K → Bool) (name : ℕ → List ℕ) (log
         (history.within n j was.0 was.1 st there was.3 was.4 began (sym was.2 ∙ began_is))))
     within_then n j x d (inr now) st there began began_is = now.1 st there began began_is
 
-    pub calls_changed : ShowsHistory same name log m2 known (record s { calls = calls2 })
-    calls_changed = record {
-      shown = after;
-      asked = subst (λ (f : ℕ → ℕ → ℕ). ShowsAsked name f m2 known (record s { calls = calls2 })) (sym numbers) asked;
-      begun = λ n j x is d d_is. begun_then n j x d (which_is n j x is d d_is);
-      within = λ n j x is st there d d_is began began_is. within_then n j x d (which_is n j x is d d_is) st there began began_is;
-    }
+    pub calls_changed : StaysWithin same name log m known s history log m2 (record s { calls = calls2 })
+    calls_changed = (
+      record {
+        shown = after;
+        asked = subst (λ (f : ℕ → ℕ → ℕ). ShowsAsked name f m2 known (record s { calls = calls2 })) (sym numbers) asked;
+        begun = λ n j x is d d_is. begun_then n j x d (which_is n j x is d d_is);
+        within = λ n j x is st there d d_is began began_is. within_then n j x d (which_is n j x is d d_is) st there began began_is;
+      },
+      numbers,
+    )
 
 module _ (K V S : Type 0) (same : K → K → Bool) (hash : K → ℕ) where
   pub calls_take_histories : CallsTakeHistories K V S same hash
@@ -187,6 +193,26 @@ module _ (K V S : Type 0) (same : K → K → Bool) (hash : K → ℕ) where
           (one_of d fresh (sym (found_now j true (ap (λ (k : ℕ). is_same (name i) (name k)) its_is.1 ∙ is_same_refl (name i)) d d_is))))
       one n j x d d_is (inr was) = inl (x, was.1, refl, d, found_now j false (apart n j x was.1) d d_is, refl)
 
+-- a call that has come to an outcome, and goes on, or is another one
+module _ {K V : Type 0} (same : K → K → Bool) (name : ℕ → List ℕ) (m : Moment K V) (s : Scene K V) (own : List ℕ) (o : Outcome V) (steps : ℕ) (ended : ends_call o ≡ true → NoneNamed name own s) where
+  pub came_so : (n j : ℕ) (x : UnderWay K V K) → s.calls n j ≡ Some x → (c : CallThere K V) → call_of (name j) m ≡ Some c → (d : CallThere K V) → call_of (name j) (come_to own o steps m) ≡ Some d
+      → (d ≡ c) ⊎ (d ≡ come o steps c)
+  came_so n j x is c c_is d d_is = by (ends_call o) refl
+    where
+      found_then : (q : Bool) → ends_call o ≡ q → find (λ y. is_same y.caller (name j)) (if q then without_call own m.calls else map (λ y. if is_same y.caller own then come o steps y else y) m.calls) ≡ Some d
+      found_then q e = sym (ap (λ z. find (λ y. is_same y.caller (name j)) (if z then without_call own m.calls else map (λ y. if is_same y.caller own then come o steps y else y) m.calls)) e) ∙ d_is
+
+      by_name : (q : Bool) → d ≡ (if q then come o steps c else c) → (d ≡ c) ⊎ (d ≡ come o steps c)
+      by_name true e = inr e
+      by_name false e = inl e
+
+      by : (q : Bool) → ends_call o ≡ q → (d ≡ c) ⊎ (d ≡ come o steps c)
+      by true e =
+          let kept : not (is_same c.caller own) ≡ true = ap (λ (l : List ℕ). not (is_same l own)) (caller_is (name j) m c c_is) ∙ ap not (apart_back own (name j) (ended e n j x is)) in
+          inl (one_of d c (sym (found_then true e) ∙ found_kept (λ y. is_same y.caller (name j)) (λ y. not (is_same y.caller own)) m.calls c c_is kept))
+      by false e =
+          by_name (is_same c.caller own) (one_of d (if is_same c.caller own then come o steps c else c) (sym (found_then false e) ∙ found (come o steps) (come_of_same o steps) own (name j) m.calls c c_is))
+
 module _ (K V : Type 0) (same : K → K → Bool) where
   pub calls_come_to_histories : CallsComeToHistories K V same
   calls_come_to_histories name log m known s history own o steps ended just =
@@ -198,18 +224,8 @@ module _ (K V : Type 0) (same : K → K → Bool) where
 
       as_before : (n j : ℕ) (x : UnderWay K V K) → s.calls n j ≡ Some x → (d : CallThere K V) → call_of (name j) (come_to own o steps m) ≡ Some d
           → (y : UnderWay K V K) × (s.calls n j ≡ Some y) × (began_of x ≡ began_of y) × (c : CallThere K V) × (call_of (name j) m ≡ Some c) × (d.begun ≡ c.begun)
-      as_before n j x is d d_is = let was = history.shown.calls n j x is in (x, is, refl, was.0, was.1, same_event was.0 was.1 (ends_call o) refl)
+      as_before n j x is d d_is = let was = history.shown.calls n j x is in (x, is, refl, was.0, was.1, same_event was.0 (came_so same name m s own o steps ended n j x is was.0 was.1 d d_is))
         where
-          same_event : (c : CallThere K V) → call_of (name j) m ≡ Some c → (q : Bool) → ends_call o ≡ q → d.begun ≡ c.begun
-          same_event c c_is true e =
-              let kept : not (is_same c.caller own) ≡ true = ap (λ (l : List ℕ). not (is_same l own)) (caller_is (name j) m c c_is) ∙ ap not (apart_back own (name j) (ended e n j x is)) in
-              let here = found_kept (λ y. is_same y.caller (name j)) (λ y. not (is_same y.caller own)) m.calls c c_is kept in
-              let now : find (λ y. is_same y.caller (name j)) (without_call own m.calls) ≡ Some d =
-              sym (ap (λ z. find (λ y. is_same y.caller (name j)) (if z then without_call own m.calls else map (λ y. if is_same y.caller own then come o steps y else y) m.calls)) e) ∙ d_is in
-              ap (λ (y : CallThere K V). y.begun) (one_of d c (sym now ∙ here))
-          same_event c c_is false e =
-              let here = found (come o steps) (come_of_same o steps) own (name j) m.calls c c_is in
-              let now : find (λ y. is_same y.caller (name j)) (map (λ y. if is_same y.caller own then come o steps y else y) m.calls) ≡ Some d =
-              sym (ap (λ z. find (λ y. is_same y.caller (name j)) (if z then without_call own m.calls else map (λ y. if is_same y.caller own then come o steps y else y) m.calls)) e) ∙ d_is in
-              ap (λ (y : CallThere K V). y.begun) (one_of d (if is_same c.caller own then come o steps c else c) (sym now ∙ here))
-              ∙ if_begun (come o steps) (λ y. comes_begun o (record y { steps = y.steps + steps })) c (is_same c.caller own)
+          same_event : (c : CallThere K V) → (d ≡ c) ⊎ (d ≡ come o steps c) → d.begun ≡ c.begun
+          same_event c (inl e) = ap (λ (y : CallThere K V). y.begun) e
+          same_event c (inr e) = ap (λ (y : CallThere K V). y.begun) e ∙ comes_begun o (record c { steps = c.steps + steps })

@@ -15,5 +15,6 @@ pub mod Changes
 pub mod Answers
 pub mod Dues
 pub mod Due
+pub mod DueOn
 pub mod Owed
 pub mod Events

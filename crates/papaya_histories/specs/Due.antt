@@ -1,24 +1,29 @@
 -- What a call on one key owes as an answer, by what it has changed.
-use Rattle.std.specs.Prelude.{◌≡◌, ℕ, ◌<◌, Bool, List, Option, Some, None}
+use Rattle.std.specs.Prelude.{◌≡◌, ℕ, ◌<◌, Bool, true, List, [], ◌∷◌, Option, Some, None}
 use Rattle.papaya_tables.specs.declared.node.Node.{Node}
+use Rattle.papaya_runs.specs.Same.{is_same}
 use Rattle.papaya_raw.specs.declared.machines.progress.Progress.{Progress}
 use Rattle.papaya_schedules.specs.declared.call.Answer.{Answer}
 use Rattle.papaya_schedules.specs.declared.call.Call.TheVariants.{On}
 use Rattle.papaya_schedules.specs.declared.call.OneKey.{OneKey}
+use Rattle.papaya_schedules.specs.declared.outcome.Outcome.{Outcome}
+use Rattle.papaya_schedules.specs.After.{moment}
 use Rattle.papaya_schedules.specs.Effects.{with_effects}
-use Rattle.papaya_schedules.specs.Entry.{Entry}
-use Rattle.papaya_schedules.specs.Moment.{UnderWay as CallThere, Moment}
+use Rattle.papaya_schedules.specs.Entry.{Entry, ends_call}
+use Rattle.papaya_schedules.specs.Moment.{UnderWay as CallThere, Moment, start}
 use Rattle.papaya_schedules.specs.Sequential.{Answers, Puts, Takes, means}
 use Rattle.papaya_schedules.specs.Views.{call_of, reply_to}
 use Rattle.papaya_points.specs.FactsCalls.{Change, Unchanged, Stored, Replaced, Removed}
 use Rattle.papaya_callers.specs.Together.{CallOnKey, UnderWay, OnKey}
 use Rattle.papaya_effects.specs.Effects.{effects_of, known_after}
-use Rattle.papaya_effects.specs.Known.{Known}
+use Rattle.papaya_effects.specs.Known.{Known, nothing_known}
 use Rattle.papaya_effects.specs.declared.acting.Acting.TheVariants as acts
-use Rattle.papaya_executor.specs.IsAt.{Scene, IsAt}
+use Rattle.papaya_executor.specs.IsAt.{Scene, IsAt, at_first}
 use Rattle.papaya_executor.specs.Stepping.{StepLeads, scene_after}
 use Rattle.papaya_executor.specs.declared.executor.Executor.{Executor}
 use Rattle.papaya_finishes.specs.Maps.{Standing}
+use Rattle.papaya_follows.specs.Calling.{NoneNamed, come_to}
+use Rattle.papaya_hands.specs.Calling.{AsksJust}
 use Rattle.papaya_moments.specs.Whole.{ShowsWhole}
 use Rattle.papaya_histories.specs.Changes.{AreTaken}
 use Rattle.papaya_histories.specs.Histories.{ShowsHistory}
@@ -52,3 +57,22 @@ module _ (K V S : Type 0) (same : K → K → Bool) (hash : K → ℕ) where
       → (let to = leads map u here in
       ShowsDue same name log (with_effects (Some (name i)) (Some map) (effects_of (acts.Call i map) known new.memory.changed) m) (known_after (acts.Call i map) new.memory.changed known)
       (scene_after same hash s old new map i to.0 u to.1 said to.4))
+
+module _ (K V : Type 0) (same : K → K → Bool) where
+  -- So it is before all events,
+  abbrev pub DuesBegin : Type 0
+  DuesBegin = (roots : ℕ) (name : ℕ → List ℕ) → ShowsDue {K = K} {V = V} same name [] start nothing_known (at_first roots)
+
+  -- where a call comes to an outcome,
+  abbrev pub CallsComeToDue : Type 0
+  CallsComeToDue =
+      (name : ℕ → List ℕ) (log : List (Entry K V)) (m : Moment K V) (known : Known) (s : Scene K V) → ShowsDue same name log m known s
+      → (own : List ℕ) (outcome : Outcome V) (steps : ℕ) → (ends_call outcome ≡ true → NoneNamed name own s)
+      → ((map i : ℕ) (u : UnderWay K V K) → s.calls map i ≡ Some u → is_same (name i) own ≡ true → AsksJust known u outcome)
+      → ShowsDue same name log (come_to own outcome steps m) known s
+
+  -- and where an event is over.
+  abbrev pub EventsKeepDue : Type 0
+  EventsKeepDue =
+      (name : ℕ → List ℕ) (log : List (Entry K V)) (e : Entry K V) (known : Known) (s : Scene K V) → ShowsDue same name log (moment (e ∷ log)) known s
+      → ShowsDue same name (e ∷ log) (moment (e ∷ log)) known s

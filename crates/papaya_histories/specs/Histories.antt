@@ -39,3 +39,8 @@ pub record ShowsHistory {K V : Type 0} (same : K → K → Bool) (name : ℕ →
   pub within : (map i : ℕ) (u : UnderWay K V K) → s.calls map i ≡ Some u → (standing : Standing K) → s.maps map ≡ Some standing
       → (c : CallThere K V) → call_of (name i) m ≡ Some c
       → (began : ℕ) → began_of u ≡ Some began → IsWithin same map standing (shown.number map) (since log m c) began
+
+-- the moment shows it so, and pairs have the numbers that they had
+abbrev pub StaysWithin : {K V : Type 0} (same : K → K → Bool) (name : ℕ → List ℕ) (log : List (Entry K V)) (m : Moment K V) (known : Known) (s : Scene K V) → ShowsHistory same name log m known s
+    → List (Entry K V) → Moment K V → Scene K V → Type 0
+StaysWithin same name log m known s history log2 m2 s2 = (after : ShowsHistory same name log2 m2 known s2) × (after.shown.number ≡ history.shown.number)

@@ -28,7 +28,7 @@ use Rattle.papaya_follows.specs.Calls.{IsCalled}
 use Rattle.papaya_hands.specs.Asked.{as_told}
 use Rattle.papaya_hands.specs.Calling.{IsBegunFor, AsksJust}
 use Rattle.papaya_moments.specs.Whole.{ShowsWhole}
-use Rattle.papaya_histories.specs.Histories.{began_of, ShowsHistory}
+use Rattle.papaya_histories.specs.Histories.{began_of, ShowsHistory, StaysWithin}
 
 module _ {K V : Type 0} (log : List (Entry K V)) (m : Moment K V) where
   -- no pair has come or gone since the last event of the log
@@ -58,35 +58,35 @@ module _ (K V S : Type 0) (same : K → K → Bool) (hash : K → ℕ) where
   -- where a call begins at this moment of its map, by a name that no call under way has, within the next event,
   abbrev pub CallsBeginHistories : Type 0
   CallsBeginHistories =
-      (name : ℕ → List ℕ) (log : List (Entry K V)) (m : Moment K V) (known : Known) (s : Scene K V) (e : Executor K V S) → IsAt same hash e s → ShowsHistory same name log m known s
+      (name : ℕ → List ℕ) (log : List (Entry K V)) (m : Moment K V) (known : Known) (s : Scene K V) (e : Executor K V S) → IsAt same hash e s → (history : ShowsHistory same name log m known s)
       → (map i : ℕ) (u : UnderWay K V K) (call : Call K V) (guard : List ℕ) (standing : Standing K) → s.maps map ≡ Some standing → ((began : ℕ) → began_of u ≡ Some began → began ≡ standing.chart.now)
       → NoneNamed name (name i) s → IsCalled same u call → IsBegunFor u call → m.events ≡ length log
-      → ShowsHistory same name log (with_call (name i) guard call (Some map) m) known (scene_with map i u s)
+      → StaysWithin same name log m known s history log (with_call (name i) guard call (Some map) m) (scene_with map i u s)
 
   -- where one that asks takes what it is told,
   abbrev pub CallsTakeHistories : Type 0
   CallsTakeHistories =
-      (name : ℕ → List ℕ) (log : List (Entry K V)) (m : Moment K V) (known : Known) (s : Scene K V) (e : Executor K V S) → IsAt same hash e s → ShowsHistory same name log m known s
+      (name : ℕ → List ℕ) (log : List (Entry K V)) (m : Moment K V) (known : Known) (s : Scene K V) (e : Executor K V S) → IsAt same hash e s → (history : ShowsHistory same name log m known s)
       → (map i : ℕ) (u : UnderWay K V K) → s.calls map i ≡ Some u → (c : CallThere K V) → call_of (name i) m ≡ Some c → (question : Option ℕ) → c.stands ≡ Asking question
       → (standing : Standing K) → s.maps map ≡ Some standing → (is_told : Reply V) (next : UnderWay K V K)
       → machine_of next ≡ (machine_replied (machine_of u) (as_told is_told)).0 → (machine_replied (machine_of u) (as_told is_told)).1 ≡ Ok tt
       → ToldOfKind V same same e.batch_size e.roots slot_of standing i u (as_told is_told) next
-      → ShowsHistory same name log (told (name i) is_told m) known (scene_with map i next s)
+      → StaysWithin same name log m known s history log (told (name i) is_told m) (scene_with map i next s)
 
 module _ (K V : Type 0) (same : K → K → Bool) where
   -- where one comes to an outcome,
   abbrev pub CallsComeToHistories : Type 0
   CallsComeToHistories =
-      (name : ℕ → List ℕ) (log : List (Entry K V)) (m : Moment K V) (known : Known) (s : Scene K V) → ShowsHistory same name log m known s
+      (name : ℕ → List ℕ) (log : List (Entry K V)) (m : Moment K V) (known : Known) (s : Scene K V) → (history : ShowsHistory same name log m known s)
       → (own : List ℕ) (outcome : Outcome V) (steps : ℕ) → (ends_call outcome ≡ true → NoneNamed name own s)
       → ((map i : ℕ) (u : UnderWay K V K) → s.calls map i ≡ Some u → is_same (name i) own ≡ true → AsksJust known u outcome)
-      → ShowsHistory same name log (come_to own outcome steps m) known s
+      → StaysWithin same name log m known s history log (come_to own outcome steps m) s
 
   -- and where an event is over, and its moment is one of the log.
   abbrev pub EventsKeepHistories : Type 0
   EventsKeepHistories =
-      (name : ℕ → List ℕ) (log : List (Entry K V)) (e : Entry K V) (known : Known) (s : Scene K V) → ShowsHistory same name log (moment (e ∷ log)) known s
-      → ShowsHistory same name (e ∷ log) (moment (e ∷ log)) known s
+      (name : ℕ → List ℕ) (log : List (Entry K V)) (e : Entry K V) (known : Known) (s : Scene K V) → (history : ShowsHistory same name log (moment (e ∷ log)) known s)
+      → StaysWithin same name log (moment (e ∷ log)) known s history (e ∷ log) (moment (e ∷ log)) s
 
   -- The first step of an event changes no class twice.
   abbrev pub FirstStepsChangeFirst : Type 0

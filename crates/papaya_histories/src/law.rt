@@ -2,7 +2,7 @@
 ghost use Rattle.std.specs.Prelude.{ℕ, Bool};
 ghost use Rattle.papaya_histories.specs.Answers.{AnswersWereSo, AnswersAreOwed};
 ghost use Rattle.papaya_histories.specs.Changes.{StepsChangeOnce};
-ghost use Rattle.papaya_histories.specs.Due.{CallsKeepDue};
+ghost use Rattle.papaya_histories.specs.Due.{DuesBegin, CallsKeepDue, CallsComeToDue, EventsKeepDue};
 ghost use Rattle.papaya_histories.specs.Events.{StepsAreLinearizable};
 ghost use Rattle.papaya_histories.specs.Kept.{HistoriesBegin, CallsKeepHistories, CallsBeginHistories, CallsTakeHistories, CallsComeToHistories, EventsKeepHistories, FirstStepsChangeFirst};
 
@@ -32,9 +32,13 @@ pub fn answers_were_so<K, V, S>()
 {}
 
 /// After each step of a call, whoever's, a call on one key owes nothing as an answer if it has changed nothing; and if it has, the answer that the sequential
-/// specification says that it means by its change; if no class changes twice within one event.
+/// specification says that it means by its change; if no class changes twice within one event. So it is before all events, too, where a call comes to an outcome,
+/// and where an event is over.
 pub fn calls_keep_due<K, V, S>()
+    ensures begins { (same : K → K → Bool) → DuesBegin K V same }
     ensures calls { (same : K → K → Bool) (hash : K → ℕ) → CallsKeepDue K V S same hash }
+    ensures come_to { (same : K → K → Bool) → CallsComeToDue K V same }
+    ensures events { (same : K → K → Bool) → EventsKeepDue K V same }
 {}
 
 /// What a call on one key answers that tells a change is the answer that it owes since it has changed its map.
