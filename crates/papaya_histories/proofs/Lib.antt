@@ -7,6 +7,7 @@ pub mod Within
 pub mod Begun
 pub mod Steps
 pub mod Calling
+pub mod Others
 pub mod Keys
 pub mod Meanings
 pub mod Which

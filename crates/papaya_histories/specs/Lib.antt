@@ -5,3 +5,4 @@ pub mod Changes
 pub mod Due
 pub mod Answers
 pub mod Events
+pub mod Others

@@ -4,11 +4,13 @@ ghost use Rattle.papaya_histories.specs.Answers.{AnswersWereSo, AnswersAreOwed};
 ghost use Rattle.papaya_histories.specs.Changes.{StepsChangeOnce};
 ghost use Rattle.papaya_histories.specs.Due.{DuesBegin, CallsKeepDue, CallsComeToDue, EventsKeepDue};
 ghost use Rattle.papaya_histories.specs.Events.{StepsAreLinearizable};
+ghost use Rattle.papaya_histories.specs.Others.{RowsBeginHistories, RowsKeepHistories};
 ghost use Rattle.papaya_histories.specs.Kept.{HistoriesBegin, CallsKeepHistories, CallsBeginHistories, CallsTakeHistories, CallsComeToHistories, EventsKeepHistories, FirstStepsChangeFirst};
 
 /// At each moment of a run that shows the executor, the history of a map since a call on it began is within the moments of the run since then: what the class of a
 /// key had at a moment of the map, the finite map has at one of these. So it is before all events; after each step of a call, whoever's, if no class changes twice
-/// within one event, as none does by the first step of one; where a call begins, takes a reply and comes to an outcome; and where an event is over.
+/// within one event, as none does by the first step of one; where a call begins, takes a reply and comes to an outcome; where an event is over; and where a row
+/// begins on a slot, and after each step of it.
 pub fn histories_are_within<K, V, S>()
     ensures begins { HistoriesBegin K V }
     ensures calls { (same : K → K → Bool) (hash : K → ℕ) → CallsKeepHistories K V S same hash }
@@ -17,6 +19,8 @@ pub fn histories_are_within<K, V, S>()
     ensures come_to { (same : K → K → Bool) → CallsComeToHistories K V same }
     ensures events { (same : K → K → Bool) → EventsKeepHistories K V same }
     ensures first { (same : K → K → Bool) → FirstStepsChangeFirst K V same }
+    ensures rows_begin { (same : K → K → Bool) (hash : K → ℕ) → RowsBeginHistories K V S same hash }
+    ensures rows { (same : K → K → Bool) (hash : K → ℕ) → RowsKeepHistories K V S same hash }
 {}
 
 /// By a step of a call on one key the class of its key changes once at most, by what the sequential specification says that the call means just then; if it got such
