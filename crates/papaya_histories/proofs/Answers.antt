@@ -151,18 +151,18 @@ module _ {K V S : Type 0} (same : K → K → Bool) (hash : K → ℕ) (name : �
 
     module _ (seen : Blocks) (roles : (n : ℕ) → n < st2.chart.stored → seen.pair_known n ≡ true → known2.roles (seen.pair n) ≡ role.Pair (number2 n)) where
       was_so : (an : KeyAnswer) → SoSince st2.hash st2.chart seen x.keys x.began an → IsToldAs known2 one c.replies an a → Goal
-      was_so (answers.Found word) (time, from, to, (n, had, known_too, phase, borrowed, word_is)) (q, names, meaning) =
+      was_so (answers.Found word) (time, from, until, (n, had, known_too, phase, borrowed, word_is)) (q, names, meaning) =
           let named = named_by same st2.hash (went.5.together.makings.standing.fit map st2 st2_is).0 st2.chart seen word n phase borrowed word_is in
           let pairs : role.Pair q ≡ role.Pair (number2 n) = sym names ∙ ap known2.roles named ∙ roles n had.0 known_too in
           let q_is : q ≡ number2 n = cc pairs in
-          means_then (Some q) meaning time from to
+          means_then (Some q) meaning time from until
           (λ p h. had_pair same st2 number2 time k p h n (had.0, had.1, had.2, had.3, ap (λ (f : K → Bool). f had.2) (sym its.1) ∙ had.4) ∙ ap Some (sym q_is))
-      was_so answers.Absent (time, from, to, none) meaning = means_then None meaning time from to
+      was_so answers.Absent (time, from, until, none) meaning = means_then None meaning time from until
           (λ p h. had_none same st2 number2 time k p h (λ n had.
           let no : same k had.2 ≡ false = ap (λ (f : K → Bool). f had.2) (sym its.1) ∙ none.1 n had.2 had.0 had.1 had.3 in let yes = had.4 in cc (no, yes)))
-      was_so (answers.Stored word) (time, from, to, no) told = absurd no
-      was_so (answers.Replaced before then_there) (time, from, to, no) told = absurd no
-      was_so (answers.Removed word) (time, from, to, no) told = absurd no
+      was_so (answers.Stored word) (time, from, until, never) told = absurd never
+      was_so (answers.Replaced before then_there) (time, from, until, never) told = absurd never
+      was_so (answers.Removed word) (time, from, until, never) told = absurd never
 
   module _ (w : World (Node K V)) (c2 : Chart K) (seen : Blocks) where
     once : (change : Change) → AnswersOnce V same st.hash same st.setting slot_of w c2 seen i x change answer → IsToldAs known2 one c.replies answer a

@@ -130,6 +130,11 @@ module _ (K V S : Type 0) (same : K → K → Bool) (hash : K → ℕ) where
       tells : CallThere K V → CallThere K V
       tells y = replied is_told y y.stands
 
+      same_event : (j : ℕ) (c0 d : CallThere K V) → call_of (name j) m ≡ Some c0 → call_of (name j) (told (name i) is_told m) ≡ Some d → d.begun ≡ c0.begun
+      same_event j c0 d c0_is d_is =
+          ap (λ (z : CallThere K V). z.begun) (one_of d (if is_same c0.caller (name i) then tells c0 else c0) (sym d_is ∙ found tells (λ y. replied_same is_told y y.stands) (name i) (name j) m.calls c0 c0_is))
+          ∙ if_begun tells (λ y. replied_begun is_told y y.stands) c0 (is_same c0.caller (name i))
+
       as_before : (n j : ℕ) (x : UnderWay K V K) (d : CallThere K V) → call_of (name j) (told (name i) is_told m) ≡ Some d
           → ((n ≡ map) × (j ≡ i) × (◌≡◌ {A = Option (UnderWay K V K)} (Some next) (Some x))) ⊎ ((n ≡ map → j ≡ i → ⊥) × (s.calls n j ≡ Some x))
           → (y : UnderWay K V K) × (s.calls n j ≡ Some y) × (began_of x ≡ began_of y) × (c0 : CallThere K V) × (call_of (name j) m ≡ Some c0) × (d.begun ≡ c0.begun)
@@ -144,11 +149,6 @@ module _ (K V S : Type 0) (same : K → K → Bool) (hash : K → ℕ) where
             same_event j was.0 d was.1 d_is,
           )
       as_before n j x d d_is (inr was_so) = let was = history.shown.calls n j x was_so.1 in (x, was_so.1, refl, was.0, was.1, same_event j was.0 d was.1 d_is)
-
-      same_event : (j : ℕ) (c0 d : CallThere K V) → call_of (name j) m ≡ Some c0 → call_of (name j) (told (name i) is_told m) ≡ Some d → d.begun ≡ c0.begun
-      same_event j c0 d c0_is d_is =
-          ap (λ (z : CallThere K V). z.begun) (one_of d (if is_same c0.caller (name i) then tells c0 else c0) (sym d_is ∙ found tells (λ y. replied_same is_told y y.stands) (name i) (name j) m.calls c0 c0_is))
-          ∙ if_begun tells (λ y. replied_begun is_told y y.stands) c0 (is_same c0.caller (name i))
 
   pub calls_begin_histories : CallsBeginHistories K V S same hash
   calls_begin_histories name log m known s e at history map i u its guard standing there begins apart called begun_for events =

@@ -238,13 +238,13 @@ module _ {K V S : Type 0} (same : K → K → Bool) (hash : K → ℕ) (name : �
     replies_are : d.replies ≡ c.replies
     replies_are = (was_there same hash name log m known s old new at whole dues map i (OnKey z) here said leads i c d c_is d_is).1
 
-    taken : AreTaken one c.replies
+    pub taken : AreTaken one c.replies
     taken = dues.taken map i (OnKey z) here c c_is one one_is
 
     owed : Owes num ch.stored one c z.change
     owed = dues.owes map i z here went1.0 went1.2 c c_is one one_is
 
-    nothing_due : z.change ≡ Unchanged → c.due ≡ None
+    pub nothing_due : z.change ≡ Unchanged → c.due ≡ None
     nothing_due e = subst (Owes num ch.stored one c) e owed
 
     -- the pair that has come has the number that was next

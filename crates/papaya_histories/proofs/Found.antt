@@ -26,11 +26,11 @@ module _ {K V : Type 0} (eq : K → K → Bool) (map : ℕ) (k : K) (m : Moment 
 
   pub found : (n : ℕ) → FoundIn n (found_below eq map k m n)
   found zero = λ q above l is. omega (arith, above, l)
-  found (suc n) = by (is_its (suc n)) refl
+  found (suc n) = by (is_its (suc n)) refl (found n)
     where
-      by : (b : Bool) → is_its (suc n) ≡ b → FoundIn (suc n) (if b then Some (suc n) else found_below eq map k m n)
-      by true e = (omega arith, omega arith, e)
-      by false e = further n e (found_below eq map k m n) (found n)
+      by : (b : Bool) → is_its (suc n) ≡ b → FoundIn n (found_below eq map k m n) → FoundIn (suc n) (if b then Some (suc n) else found_below eq map k m n)
+      by true e rest = (omega arith, omega arith, e)
+      by false e rest = further n e (found_below eq map k m n) rest
 
 -- it has the same where pairs are where they were, and no other one was stored
 module _ {K V : Type 0} (eq : K → K → Bool) (map : ℕ) (k : K) (m m2 : Moment K V) (place : m2.place ≡ m.place) (stored : m2.stored ≡ m.stored) where

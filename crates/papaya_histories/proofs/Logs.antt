@@ -11,10 +11,10 @@ each_of P Q [] so one = one
 each_of P Q (x ∷ xs) so (inl here) = inl (so x here)
 each_of P Q (x ∷ xs) so (inr there) = inr (each_of P Q xs so there)
 
-module _ {K V : Type 0} where
-  not_before : (n begun : ℕ) → begun ≤ n → nat_lt n begun ≡ false
-  not_before n begun l = grind (arith, l)
+not_before : (n begun : ℕ) → begun ≤ n → nat_lt n begun ≡ false
+not_before n begun l = grind (arith, l)
 
+module _ {K V : Type 0} where
   -- an event after that one adds its moment
   pub moments_grow : (begun : ℕ) (e : Entry K V) (log : List (Entry K V)) → begun ≤ length (e ∷ log) → moments_from begun (e ∷ log) ≡ moment (e ∷ log) ∷ moments_from begun log
   moments_grow begun e log l = ap (λ q. if q then [] else moment (e ∷ log) ∷ moments_from begun log) (not_before (length (e ∷ log)) begun l)

@@ -51,25 +51,28 @@ abbrev pub ToRemove : {K V : Type 0} → ℕ → Given K V → Type 0
 ToRemove n (Begun kind pair) = Unit {0}
 ToRemove n (IsTold kind its asked) = (last_told (Some n) asked ≡ Some reply.Remove) ⊎ (last_told (Some n) asked ≡ Some reply.Yes)
 
+-- the last reply about a pair is what the call was told last of it
+module _ {V : Type 0} (number : ℕ → ℕ) (stored : ℕ) (apart : (n o : ℕ) → n < stored → o < stored → number n ≡ number o → n ≡ o)
+    (asked : List (Asked V)) (replies : List (Option ℕ × Reply V)) (are : AreReplies number stored asked replies) (n : ℕ) (l : n < stored) where
+  reply_is : last_told (Some n) asked ≡ option_map as_told (reply_to (Some (number n)) replies)
+  reply_is = told_as number stored apart (Some n) (Some (number n)) (l, refl) asked replies are
+
 module _ {K V : Type 0} (number : ℕ → ℕ) (stored : ℕ) (apart : (n o : ℕ) → n < stored → o < stored → number n ≡ number o → n ≡ o)
     (asked : List (Asked V)) (replies : List (Option ℕ × Reply V)) (are : AreReplies number stored asked replies) (n : ℕ) (l : n < stored) (new : ℕ) where
   -- it means to remove this pair
   abbrev pub TakesIt : OneKey K V → Type 0
   TakesIt one = (a : Answer V) × (means one (reply_to (Some (number n)) replies) (Some (number n)) new ≡ Answers a Takes)
 
-  its_reply : last_told (Some n) asked ≡ option_map as_told (reply_to (Some (number n)) replies)
-  its_reply = told_as number stored apart (Some n) (Some (number n)) (l, refl) asked replies are
-
   computed : (k : K) → AreTaken (Compute k) replies → (last_told (Some n) asked ≡ Some reply.Remove) ⊎ (last_told (Some n) asked ≡ Some reply.Yes) → TakesIt (Compute k)
   computed k taken (inl told) =
-      let is = removed_by (reply_to (Some (number n)) replies) (sym its_reply ∙ told) in
+      let is = removed_by (reply_to (Some (number n)) replies) (sym (reply_is number stored apart asked replies are n l) ∙ told) in
       (answer.Removed (number n), ap (λ (o : Option (Reply V)). means {K = K} (Compute k) o (Some (number n)) new) is)
-  computed k taken (inr told) = absurd (taken (Some (number n)) (Decides true) (decided_by (reply_to (Some (number n)) replies) (sym its_reply ∙ told)))
+  computed k taken (inr told) = absurd (taken (Some (number n)) (Decides true) (decided_by (reply_to (Some (number n)) replies) (sym (reply_is number stored apart asked replies are n l) ∙ told)))
 
   chosen : (k : K) → AreTaken (RemoveIf k) replies → (last_told (Some n) asked ≡ Some reply.Remove) ⊎ (last_told (Some n) asked ≡ Some reply.Yes) → TakesIt (RemoveIf k)
-  chosen k taken (inl told) = absurd (taken (Some (number n)) Removes (removed_by (reply_to (Some (number n)) replies) (sym its_reply ∙ told)))
+  chosen k taken (inl told) = absurd (taken (Some (number n)) Removes (removed_by (reply_to (Some (number n)) replies) (sym (reply_is number stored apart asked replies are n l) ∙ told)))
   chosen k taken (inr told) =
-      let is = decided_by (reply_to (Some (number n)) replies) (sym its_reply ∙ told) in
+      let is = decided_by (reply_to (Some (number n)) replies) (sym (reply_is number stored apart asked replies are n l) ∙ told) in
       (answer.Found (number n), ap (λ (o : Option (Reply V)). means {K = K} (RemoveIf k) o (Some (number n)) new) is)
 
   abbrev MayIt : OneKey K V → Type 0

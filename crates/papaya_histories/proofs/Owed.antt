@@ -1,5 +1,5 @@
 -- An answer that tells a change is the one that the call owes.
-use Rattle.std.specs.Prelude.{◌≡◌, ℕ, ◌<◌, Bool, true, List, Option, Some, None}
+use Rattle.std.specs.Prelude.{◌≡◌, ℕ, ◌<◌, Bool, true, false, List, Option, Some, None}
 use Rattle.std.proofs.Common.{refl, ap, sym, subst, ◌∙◌, inl, inr}
 use Rattle.seize_words.specs.Word.{block_in}
 use Rattle.seize.specs.World.{World}
@@ -111,9 +111,9 @@ module _ {K V S : Type 0} (same : K → K → Bool) (hash : K → ℕ) (name : �
       no_look : (an : KeyAnswer) → SoSince st.hash c2 seen z.keys z.began an → IsToldDone known2 one c.replies an a → ⊥
       no_look (answers.Found word) so told = told
       no_look answers.Absent so told = told
-      no_look (answers.Stored word) (time, from, to, no) told = no
-      no_look (answers.Replaced before then_there) (time, from, to, no) told = no
-      no_look (answers.Removed word) (time, from, to, no) told = no
+      no_look (answers.Stored word) (time, from, until, never) told = never
+      no_look (answers.Replaced before then_there) (time, from, until, never) told = never
+      no_look (answers.Removed word) (time, from, until, never) told = never
 
       owed_once : (w : World (Node K V)) (stored : ℕ) (change : Change) → AnswersOnce V same st.hash same st.setting slot_of w c2 seen i z change answer → Owes number stored one d change
           → IsToldDone known2 one c.replies answer a → d.due ≡ Some a

@@ -12,13 +12,15 @@ use Rattle.papaya_schedules.specs.Entry.{Entry}
 use Rattle.papaya_schedules.specs.Moment.{UnderWay as CallThere, Moment}
 use Rattle.papaya_schedules.specs.Views.{call_of, finite_map}
 use Rattle.papaya_rule.specs.Chart.{Chart}
-use Rattle.papaya_rule.specs.InWorld.{Went}
+use Rattle.papaya_rule.specs.InWorld.{IsMapIn, Went}
 use Rattle.papaya_rule.specs.Moments.{Remembers}
 use Rattle.papaya_rule.specs.Words.{Blocks}
 use Rattle.papaya_points.proofs.MovedLasts.{moved_lasts}
 use Rattle.papaya_callers.specs.Sights.{Sight, seen_by}
 use Rattle.papaya_callers.specs.Together.{UnderWay, OnKey, ForRoom, Counting, OverAll, in_slot}
+use Rattle.papaya_callers.proofs.Sights.Seen.{map_seen}
 use Rattle.papaya_callers.proofs.Together.At.{at_same}
+use Rattle.papaya_callers.proofs.Together.Fits.{map_in_slot}
 use Rattle.papaya_finishes.specs.Maps.{Standing, IsSameMap}
 use Rattle.papaya_effects.specs.Effects.{effects_of, known_after}
 use Rattle.papaya_effects.specs.Known.{Known}
@@ -29,7 +31,7 @@ use Rattle.papaya_executor.specs.declared.executor.Executor.{Executor}
 use Rattle.papaya_follows.specs.Shows.{Shows}
 use Rattle.papaya_follows.proofs.Called.{key_goes_on, room_goes_on, sweep_goes_on, counting_goes_on}
 use Rattle.papaya_follows.proofs.RowSteps.{row_step_shown}
-use Rattle.papaya_follows.proofs.Steps.{WentTo, went_to, made_so, is_inside, is_map, DidSo, LeadsThere, step_shown, one_of}
+use Rattle.papaya_follows.proofs.Steps.{WentTo, went_to, made_so, is_inside, is_sight, DidSo, LeadsThere, step_shown, one_of}
 use Rattle.papaya_hands.proofs.AskedOn.{asked_on}
 use Rattle.papaya_hands.proofs.Asking.{which}
 use Rattle.papaya_hands.proofs.RowSteps.{rows_hand_theirs}
@@ -75,14 +77,20 @@ module _ {K V S : Type 0} (same : K → K → Bool) (hash : K → ℕ) (name : �
       (one_of st (record to.0 { chart = c2; blocks = blocks2; sights = sights2 })
       (sym is ∙ ap (λ (f : ℕ → Option (Standing K)). f map) e ∙ at_same s.maps map (Some (record to.0 { chart = c2; blocks = blocks2; sights = sights2 })) map refl))
 
+  its_map : IsMapIn same to.0.hash (in_slot to.0.setting (slot_of i)) s.world to.0.chart (seen_by to.0.blocks (to.0.sights (slot_of i)))
+  its_map =
+      map_seen same to.0.hash (in_slot to.0.setting (slot_of i)) s.world to.0.chart to.0.blocks (to.0.sights (slot_of i))
+      (map_in_slot same to.0.hash to.0.setting s.world to.0.chart to.0.blocks (slot_of i) (at.together.makings.standing.each map to.0 to.2).ground.map)
+      (is_sight same hash m known s old new at name shown map i to.0 to.2 (name i) (made_so same hash name m known s old new at shown map i u here said leads)
+      (is_inside same hash name m known s old new at shown map i u here said leads))
+
   went_later : (Told : World (Node K V) → Chart K → Blocks → Type 0)
       (went : Went same to.0.hash (in_slot to.0.setting (slot_of i)) i s.world to.0.chart (seen_by to.0.blocks (to.0.sights (slot_of i))) new.memory.memory Told)
       → Remembers (is_incremental to.0.setting.mode) to.0.chart went.c2 → IsLater to.0.chart went.c2
   went_later Told went remembers =
       moved_later same to.0.hash to.0.setting.mode to.0.chart went.c2 i went.moved
       (moved_lasts same to.0.hash (in_slot to.0.setting (slot_of i)) (at.together.makings.standing.fit map to.0 to.2).0.lawful s.world to.0.chart went.c2 (seen_by to.0.blocks (to.0.sights (slot_of i)))
-      (is_map same hash m known s old new at name shown map i to.0 to.2 (name i) (made_so same hash name m known s old new at shown map i u here said leads)
-      (is_inside same hash name m known s old new at shown map i u here said leads)) went.moved) remembers
+      its_map went.moved) remembers
 
   same_map_later : (n : ℕ) → IsSameMap (s.maps n) (to.4.maps2 n) → (st : Standing K) → to.4.maps2 n ≡ Some st → (before : Standing K) × (s.maps n ≡ Some before) × IsLater before.chart st.chart
   same_map_later n kept st is =
@@ -167,11 +175,11 @@ module _ {K V S : Type 0} (same : K → K → Bool) (hash : K → ℕ) (name : �
       let now = effects_begun (name i) map (name j) (effects_of (acts.Call i map) known new.memory.changed) m call.0 call.1 in
       (was.0, was.1, was.2, call.0, call.1, ap (λ (z : CallThere K V). z.begun) (one_of d now.0 (sym found ∙ now.1)) ∙ now.2)
 
-  begun_then : (n j : ℕ) (x : UnderWay K V K) → scene2.calls n j ≡ Some x → (d : CallThere K V) → call_of (name j) v2 ≡ Some d → d.begun ≤ length log
+  pub begun_then : (n j : ℕ) (x : UnderWay K V K) → scene2.calls n j ≡ Some x → (d : CallThere K V) → call_of (name j) v2 ≡ Some d → d.begun ≤ length log
   begun_then n j x is d found = let was = was_there n j x is d found in subst (λ (b : ℕ). b ≤ length log) (sym was.5) (history.begun n j was.0 was.1 was.3 was.4)
 
   module _ (changes : ChangesFirst log m same v2) where
-    within_then : (n j : ℕ) (x : UnderWay K V K) → scene2.calls n j ≡ Some x → (st : Standing K) → scene2.maps n ≡ Some st → (d : CallThere K V) → call_of (name j) v2 ≡ Some d
+    pub within_then : (n j : ℕ) (x : UnderWay K V K) → scene2.calls n j ≡ Some x → (st : Standing K) → scene2.maps n ≡ Some st → (d : CallThere K V) → call_of (name j) v2 ≡ Some d
         → (began : ℕ) → began_of x ≡ Some began → IsWithin same n st (then_shown.shows.number n) (since log v2 d) began
     within_then n j x is st there d found began began_is =
         let was = was_there n j x is d found in

@@ -37,7 +37,7 @@ module _ {K : Type 0} (same : K → K → Bool) (hash : K → ℕ) (incremental 
 
     -- the new pair was not in the map
     new_came : c2.current c.stored ≡ true → c2.current c.stored ≡ c.current c.stored → ⊥
-    new_came yes kept = not_new (sym kept ∙ yes)
+    new_came there_now kept = not_new (sym kept ∙ there_now)
 
     comes : (f : ℕ → Bool) → ((n : ℕ) → f n ≡ true → c.current n ≡ true) → c2.current ≡ put f c.stored true → Comes
     comes f less cur n now from = elim (cases_eq n c.stored) as (λ _. n ≡ c.stored) [
