@@ -30,7 +30,7 @@ use Rattle.papaya_effects.specs.declared.acting.Acting.TheVariants.{Row}
 use Rattle.papaya_effects.specs.declared.role.Role.{Role}
 use Rattle.papaya_effects.specs.declared.role.Role.TheVariants as role
 use Rattle.papaya_executor.specs.IsAt.{Scene, IsAt, slot_of, work_of}
-use Rattle.papaya_executor.specs.OnSlots.{RowSteps, HappensAt}
+use Rattle.papaya_executor.specs.OnSlots.{MayBegin, RowBegins, RowSteps, HappensAt}
 use Rattle.papaya_executor.specs.Rows.{request_of}
 use Rattle.papaya_executor.specs.declared.executor.Executor.{Executor}
 use Rattle.papaya_executor.specs.declared.row.RowTold.{RowTold}
@@ -254,12 +254,13 @@ module _ (K V S : Type 0) (same : K → K → Bool) (hash : K → ℕ) where
         counters = rows_note_counters K V S same hash name m known s old new at whole.all.shown whole.counters i told leads row here;
       }
 
-  pub rows_begin_whole : RowsBeginWhole K V S same hash
-  rows_begin_whole name m known s old new at whole called i may leads =
+  -- all is as it was where a row begins
+  pub rows_begin_beside : (m : Moment K V) (known : Known) (s : Scene K V) (old new : Executor K V S) (called : SlotCall) (i : ℕ) (may : MayBegin old (slot_of i) called) (leads : RowBegins same hash called i s old new)
+      → IsBeside m m known known s (scene_then same hash (Begin i (request_of (slot_of i) called)) s old new (leads may).3)
+  rows_begin_beside m known s old new called i may leads =
       let to = (leads may).3 in
-      let after = rows_begin_shown K V S same hash name m known s old new at whole.all.shown called i may leads in
       let hands = begun_hands old.batch_size (slot_of i) i s.world to.0 called to.1.1 in
-      let beside : IsBeside m m known known s (scene_then same hash (Begin i (request_of (slot_of i) called)) s old new to) = record {
+      record {
         stored = refl;
         born = refl;
         calls = refl;
@@ -270,7 +271,13 @@ module _ (K V S : Type 0) (same : K → K → Bool) (hash : K → ℕ) where
         hands = λ b some used. subst (λ (h : ℕ → Hand). IsInUse (h b)) (sym hands) used;
         same_calls = refl;
         stood = λ map st is. inl (stood_same (s.maps map) (to.2 map) (to.3 map) st is);
-      } in
+      }
+
+  pub rows_begin_whole : RowsBeginWhole K V S same hash
+  rows_begin_whole name m known s old new at whole called i may leads =
+      let to = (leads may).3 in
+      let after = rows_begin_shown K V S same hash name m known s old new at whole.all.shown called i may leads in
+      let beside = rows_begin_beside m known s old new called i may leads in
       record {
         all = record {
           shown = after.shows;

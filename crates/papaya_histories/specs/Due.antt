@@ -1,0 +1,78 @@
+-- What a call on one key owes as an answer, by what it has changed.
+use Rattle.std.specs.Prelude.{◌≡◌, ℕ, ◌<◌, Bool, true, List, [], ◌∷◌, Option, Some, None}
+use Rattle.papaya_tables.specs.declared.node.Node.{Node}
+use Rattle.papaya_runs.specs.Same.{is_same}
+use Rattle.papaya_raw.specs.declared.machines.progress.Progress.{Progress}
+use Rattle.papaya_schedules.specs.declared.call.Answer.{Answer}
+use Rattle.papaya_schedules.specs.declared.call.Call.TheVariants.{On}
+use Rattle.papaya_schedules.specs.declared.call.OneKey.{OneKey}
+use Rattle.papaya_schedules.specs.declared.outcome.Outcome.{Outcome}
+use Rattle.papaya_schedules.specs.After.{moment}
+use Rattle.papaya_schedules.specs.Effects.{with_effects}
+use Rattle.papaya_schedules.specs.Entry.{Entry, ends_call}
+use Rattle.papaya_schedules.specs.Moment.{UnderWay as CallThere, Moment, start}
+use Rattle.papaya_schedules.specs.Sequential.{Answers, Puts, Takes, means}
+use Rattle.papaya_schedules.specs.Views.{call_of, reply_to}
+use Rattle.papaya_points.specs.FactsCalls.{Change, Unchanged, Stored, Replaced, Removed}
+use Rattle.papaya_callers.specs.Together.{CallOnKey, UnderWay, OnKey}
+use Rattle.papaya_effects.specs.Effects.{effects_of, known_after}
+use Rattle.papaya_effects.specs.Known.{Known, nothing_known}
+use Rattle.papaya_effects.specs.declared.acting.Acting.TheVariants as acts
+use Rattle.papaya_executor.specs.IsAt.{Scene, IsAt, at_first}
+use Rattle.papaya_executor.specs.Stepping.{StepLeads, scene_after}
+use Rattle.papaya_executor.specs.declared.executor.Executor.{Executor}
+use Rattle.papaya_finishes.specs.Maps.{Standing}
+use Rattle.papaya_follows.specs.Calling.{NoneNamed, come_to}
+use Rattle.papaya_hands.specs.Calling.{AsksJust}
+use Rattle.papaya_moments.specs.Whole.{ShowsWhole}
+use Rattle.papaya_histories.specs.Changes.{AreTaken}
+use Rattle.papaya_histories.specs.Histories.{ShowsHistory}
+use Rattle.papaya_histories.specs.Kept.{ChangesFirst}
+
+-- Of a map, whose pairs have these numbers of the run, and of which so many were stored.
+module _ {K V : Type 0} (number : ℕ → ℕ) (stored : ℕ) (one : OneKey K V) (c : CallThere K V) where
+  -- it owes nothing as long as it has changed nothing; then the answer that it means, by the last reply for the pair that its class had, or for none
+  abbrev pub Owes : Change → Type 0
+  Owes Unchanged = c.due ≡ None
+  Owes (Stored n) = (n < stored) × (a : Answer V) × (v : V) × (means one (reply_to None c.replies) None (number n) ≡ Answers a (Puts v)) × (c.due ≡ Some a)
+  Owes (Replaced o n) =
+      (o < stored) × (n < stored) × (a : Answer V) × (v : V) × (means one (reply_to (Some (number o)) c.replies) (Some (number o)) (number n) ≡ Answers a (Puts v)) × (c.due ≡ Some a)
+  Owes (Removed o) = (o < stored) × (a : Answer V) × (new : ℕ) × (means one (reply_to (Some (number o)) c.replies) (Some (number o)) new ≡ Answers a Takes) × (c.due ≡ Some a)
+
+-- the history is within the run, and each call on one key owes what it is to answer, and got such replies alone as it takes
+pub record ShowsDue {K V : Type 0} (same : K → K → Bool) (name : ℕ → List ℕ) (log : List (Entry K V)) (m : Moment K V) (known : Known) (s : Scene K V) : Type 0 where
+  pub history : ShowsHistory same name log m known s
+  pub owes : (map i : ℕ) (u : CallOnKey K V K) → s.calls map i ≡ Some (OnKey u) → (standing : Standing K) → s.maps map ≡ Some standing → (c : CallThere K V) → call_of (name i) m ≡ Some c
+      → (one : OneKey K V) → c.call ≡ On one → Owes (history.shown.number map) standing.chart.stored one c u.change
+  pub taken : (map i : ℕ) (u : UnderWay K V K) → s.calls map i ≡ Some u → (c : CallThere K V) → call_of (name i) m ≡ Some c → (one : OneKey K V) → c.call ≡ On one → AreTaken one c.replies
+
+module _ (K V S : Type 0) (same : K → K → Bool) (hash : K → ℕ) where
+  -- The promise: so it is after each step of a call, whoever's, if no class changes twice within one event by it.
+  abbrev pub CallsKeepDue : Type 0
+  CallsKeepDue =
+      (name : ℕ → List ℕ) (log : List (Entry K V)) (m : Moment K V) (known : Known) (s : Scene K V) (old new : Executor K V S) → IsAt same hash old s
+      → ShowsWhole same name m known s → ShowsDue same name log m known s
+      → (map i : ℕ) (u : UnderWay K V K) (here : s.calls map i ≡ Some u) (said : Progress (Node K V)) (leads : StepLeads same hash i said s old new)
+      → ChangesFirst log m same (with_effects (Some (name i)) (Some map) (effects_of (acts.Call i map) known new.memory.changed) m)
+      → (let to = leads map u here in
+      ShowsDue same name log (with_effects (Some (name i)) (Some map) (effects_of (acts.Call i map) known new.memory.changed) m) (known_after (acts.Call i map) new.memory.changed known)
+      (scene_after same hash s old new map i to.0 u to.1 said to.4))
+
+module _ (K V : Type 0) (same : K → K → Bool) where
+  -- So it is before all events,
+  abbrev pub DuesBegin : Type 0
+  DuesBegin = (roots : ℕ) (name : ℕ → List ℕ) → ShowsDue {K = K} {V = V} same name [] start nothing_known (at_first roots)
+
+  -- where a call comes to an outcome,
+  abbrev pub CallsComeToDue : Type 0
+  CallsComeToDue =
+      (name : ℕ → List ℕ) (log : List (Entry K V)) (m : Moment K V) (known : Known) (s : Scene K V) → ShowsDue same name log m known s
+      → (own : List ℕ) (outcome : Outcome V) (steps : ℕ) → (ends_call outcome ≡ true → NoneNamed name own s)
+      → ((map i : ℕ) (u : UnderWay K V K) → s.calls map i ≡ Some u → is_same (name i) own ≡ true → AsksJust known u outcome)
+      → ShowsDue same name log (come_to own outcome steps m) known s
+
+  -- and where an event is over.
+  abbrev pub EventsKeepDue : Type 0
+  EventsKeepDue =
+      (name : ℕ → List ℕ) (log : List (Entry K V)) (e : Entry K V) (known : Known) (s : Scene K V) → ShowsDue same name log (moment (e ∷ log)) known s
+      → ShowsDue same name (e ∷ log) (moment (e ∷ log)) known s
