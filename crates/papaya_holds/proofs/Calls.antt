@@ -1,0 +1,4 @@
+-- A call on one key, and its own block.
+pub mod Goes
+pub mod Runs
+pub mod Steps

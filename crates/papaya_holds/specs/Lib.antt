@@ -1,0 +1,3 @@
+pub mod Balances
+pub mod Came
+pub mod Promises
