@@ -3,3 +3,4 @@ mod Calls
 mod Lists
 mod Runs
 mod Samples
+mod Sweeps

@@ -1,3 +1,4 @@
 pub mod Balances
 pub mod Came
 pub mod Promises
+pub mod Sweeps

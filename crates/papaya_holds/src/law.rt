@@ -1,5 +1,6 @@
 //! What is promised of the pairs in the memory of a map for one owner.
 ghost use Rattle.papaya_holds.specs.Promises.{AnswersBalance, CallsBegin, CallsStoreAlone, MakingsPutNone, RefreshesPutNone, RepliesPutNone, RoomsPutNone, SweepsPutNone, WhatLeavesBalances};
+ghost use Rattle.papaya_holds.specs.Sweeps.{SweepsTakeNoneAway};
 
 /// The memory of a map for one owner has the pairs of the map, each in a block of its own, those that a change took out and that wait to be given back,
 /// each in the block in which it stood, and no other. A map that is made has none in its memory. A call on one key, of any kind and whatever it is told where
@@ -16,4 +17,10 @@ pub fn pairs_balance<K, V, Q, S>()
     ensures makings { MakingsPutNone K V }
     ensures leaves { WhatLeavesBalances K V }
     ensures answers { AnswersBalance K V }
+{}
+
+/// A sweep over the map of one owner gives none of its pairs back: each pair that the map had as the sweep began stands, wherever it stops to ask and where
+/// it ends, in the block in which it stood then. So what a `clear` or a `retain` has removed waits there, and is given back by a later change.
+pub fn sweeps_take_nothing_away<K, V, S>()
+    ensures { SweepsTakeNoneAway K V S }
 {}
