@@ -3,6 +3,8 @@ use Rattle.std.specs.Prelude.{◌≡◌, ◌≢◌, ℕ, ◌<◌, ◌^◌, ◌�
 use Rattle.seize_words.specs.Mem.{Mem, value_at}
 use Rattle.seize_words.specs.Word.{block_in}
 use Rattle.seize_words.specs.declared.fault.Fault.{Fault}
+use Rattle.seize.specs.declared.rows.settle.Settled.{Settled}
+use Rattle.seize.specs.declared.rows.settle.Settled.TheVariants as settled
 use Rattle.papaya_tables.specs.declared.marks.TheConstants.{TOMBSTONE}
 use Rattle.papaya_tables.specs.declared.node.Node.{Node}
 use Rattle.papaya_tables.specs.declared.node.Node.TheVariants as node
@@ -32,6 +34,10 @@ module _ {K V : Type 0} where
     -- but for what stands in this block
     abbrev pub NoneCameBut : ℕ → Type 0
     NoneCameBut c = (b : ℕ) (x : K × V) → StandsAt m b x → StandsAt m0 b x ⊎ (b ≡ c)
+
+    -- Each pair that was there stands there still, or is what this tells as given back.
+    abbrev pub HandsOut : Settled (Node K V) → Type 0
+    HandsOut told = (b : ℕ) (x : K × V) → StandsAt m0 b x → StandsAt m b x ⊎ (told ≡ settled.Gave (node.Pair x.0 x.1))
 
     -- By the answer of a call on one key: where it tells the word of a pair that was stored, that pair alone has come.
     abbrev pub CameBy : KeyAnswer → Type 0

@@ -1,7 +1,13 @@
 -- What is promised of the memory of a map for one owner: what runs puts no pair there but the one that it stores, and what leaves the map waits there, or was given back.
 use Rattle.std.specs.Prelude.{◌≡◌, ℕ, Bool, List, [], Result}
-use Rattle.seize_words.specs.Mem.{Mem}
+use Rattle.seize_words.specs.Mem.{Mem, Can, Took, value_at}
+use Rattle.seize_words.specs.Plan.{May, Steps}
 use Rattle.seize_words.specs.declared.fault.Fault.{Fault}
+use Rattle.seize.specs.Leave.{leave_plan}
+use Rattle.seize.specs.Settle.{settle_plan}
+use Rattle.seize.specs.declared.rows.leave.Leave.{Leave}
+use Rattle.seize.specs.declared.rows.settle.Settle.{Settle}
+use Rattle.seize.specs.declared.rows.settle.Settled.{Settled}
 use Rattle.papaya_tables.specs.Nodes.{deferred_word}
 use Rattle.papaya_tables.specs.declared.node.Node.{Node}
 use Rattle.papaya_tables.specs.declared.setting.Setting.{Setting}
@@ -25,7 +31,7 @@ use Rattle.papaya_sifts.specs.Sweeping.{over_pairs_plan}
 use Rattle.papaya_sifts.specs.declared.sweeping.OverPairs.{OverPairs}
 use Rattle.papaya_sifts.specs.declared.sweeping.Pause.{Pause}
 use Rattle.papaya_holds.specs.Balances.{HasJust, Balances, HasStored}
-use Rattle.papaya_holds.specs.Came.{StandsAt, NoneCame, CameBy, HasCome, ComesWith}
+use Rattle.papaya_holds.specs.Came.{StandsAt, NoneCame, HandsOut, CameBy, HasCome, ComesWith}
 
 module _ (K V Q S : Type 0) where
   -- A call on one key begins, and no pair has come.
@@ -58,13 +64,20 @@ module _ (K V S : Type 0) where
       → (x2 : OverPairs S) (m2 : Mem (Node K V)) (result : Result Pause Fault) → RunsTo (over_pairs_plan {K = K} {V = V} hashes) x m x2 m2 result → NoneCame m m2
 
 module _ (K V : Type 0) where
-  -- nor by a refresh of the section,
+  -- nor by a refresh of the section.
   abbrev pub RefreshesPutNone : Type 0
   RefreshesPutNone =
       (x : Refreshes) (m : Mem (Node K V)) → Ends (refreshes_plan (deferred_word {K = K} {V = V})) x m
       → (x2 : Refreshes) (m2 : Mem (Node K V)) (result : Result Unit Fault) → RunsTo (refreshes_plan (deferred_word {K = K} {V = V})) x m x2 m2 result → NoneCame m m2
 
-  -- nor by the making of the map: where the memory had no pair, it has none.
+  -- A step of a refresh, or of a retirement, leaves each pair where it stands, or hands it out.
+  abbrev pub RowsHandOut : Type 0
+  RowsHandOut =
+      (m m2 : Mem (Node K V)) (told : Settled (Node K V))
+      → ((c c2 : Leave) → May Can Took value_at m (leave_plan deferred_word c) → Steps Took value_at m (leave_plan deferred_word c) m2 (c2, told) → HandsOut m m2 told)
+      × ((c c2 : Settle) → May Can Took value_at m (settle_plan deferred_word c) → Steps Took value_at m (settle_plan deferred_word c) m2 (c2, told) → HandsOut m m2 told)
+
+  -- No pair comes by the making of the map: where the memory had none, it has none.
   abbrev pub MakingsPutNone : Type 0
   MakingsPutNone =
       (x : NewMap) (m : Mem (Node K V)) → Ends (new_map_plan {K = K} {V = V}) x m

@@ -1,12 +1,13 @@
 //! What is promised of the pairs in the memory of a map for one owner.
-ghost use Rattle.papaya_holds.specs.Promises.{AnswersBalance, CallsBegin, CallsStoreAlone, MakingsPutNone, RefreshesPutNone, RepliesPutNone, RoomsPutNone, SweepsPutNone, WhatLeavesBalances};
+ghost use Rattle.papaya_holds.specs.Promises.{AnswersBalance, CallsBegin, CallsStoreAlone, MakingsPutNone, RefreshesPutNone, RepliesPutNone, RoomsPutNone, RowsHandOut, SweepsPutNone, WhatLeavesBalances};
 ghost use Rattle.papaya_holds.specs.Sweeps.{SweepsTakeNoneAway};
 
 /// The memory of a map for one owner has the pairs of the map, each in a block of its own, those that a change took out and that wait to be given back,
 /// each in the block in which it stood, and no other. A map that is made has none in its memory. A call on one key, of any kind and whatever it is told where
 /// it asks, puts no pair there but the one that it tells as stored; one that is refused leaves none there. A reservation, a sweep up to each question and
 /// to its end, and a refresh of the section put none there. So what the memory has after any of these, and what was given back meanwhile, are what it had
-/// before and what was stored, each pair as often: nothing is lost, and nothing is given back twice.
+/// before and what was stored, each pair as often: nothing is lost, and nothing is given back twice. A step of a refresh, or of a retirement, that takes a pair
+/// out of the memory hands it out as given back.
 pub fn pairs_balance<K, V, Q, S>()
     ensures begins { CallsBegin K V Q S }
     ensures calls { CallsStoreAlone K V Q S }
@@ -14,6 +15,7 @@ pub fn pairs_balance<K, V, Q, S>()
     ensures rooms { RoomsPutNone K V S }
     ensures sweeps { SweepsPutNone K V S }
     ensures refreshes { RefreshesPutNone K V }
+    ensures rows { RowsHandOut K V }
     ensures makings { MakingsPutNone K V }
     ensures leaves { WhatLeavesBalances K V }
     ensures answers { AnswersBalance K V }

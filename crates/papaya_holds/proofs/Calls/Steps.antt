@@ -68,8 +68,8 @@ module _ {K V Q : Type 0} (p : KeyCall K V Q) (o : Owns p) (m0 m m2 : Mem (Node 
         | inl was ↦ inl was
         | inr mine ↦ absurd (mine.0 none)
       ]
-      | inr at ↦
-          inr (subst (λ (w : ℕ). (w ≢ 0) × (c ≡ block_in w)) (sym own) (some_word b p.hash o.code is.0.1 is.1, at ∙ sym (names_block b p.hash o.code is.0.1 is.1)))
+      | inr its ↦
+          inr (subst (λ (w : ℕ). (w ≢ 0) × (c ≡ block_in w)) (sym own) (some_word b p.hash o.code is.0.1 is.1, its ∙ sym (names_block b p.hash o.code is.0.1 is.1)))
     ]
 
   -- its own block gets another pair
@@ -79,7 +79,7 @@ module _ {K V Q : Type 0} (p : KeyCall K V Q) (o : Owns p) (m0 m m2 : Mem (Node 
       | inl was ↦ inl was
       | inr mine ↦ inr (subst (λ (w : ℕ). (w ≢ 0) × (c ≡ block_in w)) (sym own) mine)
     ]
-    | inr at ↦ inr (subst (λ (w : ℕ). (w ≢ 0) × (c ≡ block_in w)) (sym own) (some, at))
+    | inr its ↦ inr (subst (λ (w : ℕ). (w ≢ 0) × (c ≡ block_in w)) (sym own) (some, its))
   ]
 
   -- its own block is gone

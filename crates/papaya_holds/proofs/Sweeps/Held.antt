@@ -116,7 +116,7 @@ module _ {K V S : Type 0} (same : K → K → Bool) (hashes : S → K → ℕ) (
   next_by : (o : CallOverAll) (m : Mem (Node K V)) (here : Course o m) (m2 : Mem (Node K V)) (p2 : Sweep) (end : Swept (Node K V)) (s : Steps Took value_at m (sweep_plan hash o.sweep) m2 (p2, end))
       → Next (over_pairs_settled (it p2) end).0 m2 (over_pairs_settled (it p2) end).1
   next_by o m here m2 p2 swept.Goes s = under_of o m here m2 p2 swept.Goes s (led o m here m2 p2 swept.Goes s).leads
-  next_by o m here m2 p2 swept.Waits s = absurd (led o m here m2 p2 swept.Waits s).leads
+  next_by o m here m2 p2 swept.Waits s = absurd ((led o m here m2 p2 swept.Waits s).leads)
   next_by o m here m2 p2 (swept.Gave value) s = under_of o m here m2 p2 (swept.Gave value) s (led o m here m2 p2 (swept.Gave value) s).leads.0
   next_by o m here m2 p2 swept.Ready s = still_then o m here m2 p2 swept.Ready s
   next_by o m here m2 p2 (swept.Pair word) s = still_then o m here m2 p2 (swept.Pair word) s

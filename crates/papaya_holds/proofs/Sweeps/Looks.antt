@@ -70,7 +70,7 @@ module _ {K V Q : Type 0} (same : K → K → Bool) (hash : K → ℕ) (asks : Q
               let there = (whole.map.shows.pairs n low known).2 in (
                 (stepped.grown.pairs n low).1 ∙ known,
                 (stepped.grown.pairs n low).0,
-                went.frame.values (blocks.pair n) _ there.0 (λ making. subst IsOut making.0 (whole.pairs_out n low known)) ∙ sym there.0,
+                went.frame.values (blocks.pair n) _ there (λ making. subst IsOut making.0 (whole.pairs_out n low known)) ∙ sym there,
               );
         }
 
