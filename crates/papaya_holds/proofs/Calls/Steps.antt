@@ -98,10 +98,10 @@ module _ {K V Q : Type 0} (p : KeyCall K V Q) (o : Owns p) (m0 m m2 : Mem (Node 
   makes_so a (Some value) e s = elim (made_by_step m (made p) value 0 m2 e s) as (λ _. Comes e) [
     | inl d ↦
         subst Comes (sym d.3)
-            (record { code = o.code; live = live_word d.0 p.hash; removes = λ r. absurd (a.1 r); point = tt }, tt, only_made value d.0 d.1 d.2 a.0 (record p { unmade = None; own = word_to d.0 p.hash; stands = at.Roots }) refl)
+        (record { code = o.code; live = live_word d.0 p.hash; removes = λ r. absurd (a.1 r); point = tt }, tt, only_made value d.0 d.1 d.2 a.0 (record p { unmade = None; own = word_to d.0 p.hash; stands = at.Roots }) refl)
     | inr d ↦
         subst Comes (sym d.3)
-            (record { code = o.code; live = o.live; removes = o.removes; point = a.0 }, tt, only_same (as_it_was m m2 d.2) (record p { unmade = None; stands = at.Over (ends.Refused Memory) }) refl)
+        (record { code = o.code; live = o.live; removes = o.removes; point = a.0 }, tt, only_same (as_it_was m m2 d.2) (record p { unmade = None; stands = at.Over (ends.Refused Memory) }) refl)
   ]
 
   -- it puts a pair into its own block, which is made where there is none
@@ -129,7 +129,7 @@ module _ {K V Q : Type 0} (p : KeyCall K V Q) (o : Owns p) (m0 m m2 : Mem (Node 
           )
       | inr d ↦
           subst Comes (sym d.3)
-              (owns_at (standing q (at.Over (ends.Refused Memory))) refl refl refl (eqb-true q.own 0 none), tt, only_same (as_it_was m m2 d.2) (standing q (at.Over (ends.Refused Memory))) own)
+          (owns_at (standing q (at.Over (ends.Refused Memory))) refl refl refl (eqb-true q.own 0 none), tt, only_same (as_it_was m m2 d.2) (standing q (at.Over (ends.Refused Memory))) own)
     ]
     puts_so false has word key value e s =
         let d = rewritten m (filled q word) (block_in q.own) (node.Pair key value) m2 e s in
@@ -144,7 +144,7 @@ module _ {K V Q : Type 0} (p : KeyCall K V Q) (o : Owns p) (m0 m m2 : Mem (Node 
       → Steps Took value_at m (fill_by value (record p { replies = as_own p.replies word }) word key) m2 e → Comes e
   filled_so some None word key e s =
       subst Comes (sym s.1)
-          (record { code = o.code; live = o.live; removes = o.removes; point = tt }, tt, only_same (as_it_was m m2 s.0) (record p { replies = as_own p.replies word; stands = at.Probes }) refl)
+      (record { code = o.code; live = o.live; removes = o.removes; point = tt }, tt, only_same (as_it_was m m2 s.0) (record p { replies = as_own p.replies word; stands = at.Probes }) refl)
   filled_so some (Some value) word key e s =
       puts_so (record p { replies = record (as_own p.replies word) { key = None } }) refl refl refl some (p.own == 0) refl word key value e s
 
@@ -175,10 +175,10 @@ module _ {K V Q : Type 0} (p : KeyCall K V Q) (o : Owns p) (m0 m m2 : Mem (Node 
       )
   gives_up_so some word (node.Table len limit turn) there is shown e ends =
       subst Comes (sym ends)
-          (record { code = o.code; live = nothing_live; removes = λ r. absurd (some r); point = inr refl }, tt, only_gone (node.Table len limit turn) there is (record p { own = 0; stands = at.Tries word TOMBSTONE }))
+      (record { code = o.code; live = nothing_live; removes = λ r. absurd (some r); point = inr refl }, tt, only_gone (node.Table len limit turn) there is (record p { own = 0; stands = at.Tries word TOMBSTONE }))
   gives_up_so some word node.Shards there is shown e ends =
       subst Comes (sym ends)
-          (record { code = o.code; live = nothing_live; removes = λ r. absurd (some r); point = inr refl }, tt, only_gone node.Shards there is (record p { own = 0; stands = at.Tries word TOMBSTONE }))
+      (record { code = o.code; live = nothing_live; removes = λ r. absurd (some r); point = inr refl }, tt, only_gone node.Shards there is (record p { own = 0; stands = at.Tries word TOMBSTONE }))
 
   module _ (asks : Q → K → Bool) (same : K → K → Bool) (hash : K → ℕ) (e : KeyCall K V Q × Called (Node K V)) where
     -- a point at which it keeps its own block, and puts no pair
@@ -220,7 +220,7 @@ module _ {K V Q : Type 0} (p : KeyCall K V Q) (o : Owns p) (m0 m m2 : Mem (Node 
     from (at.Drops end) a may s =
         let d = taken m (dropped p end) (block_in p.own) m2 e s in
         subst Comes (sym d.3)
-            (record { code = o.code; live = nothing_live; removes = λ r. ((o.removes r).0, refl); point = a }, tt, only_gone d.0 d.1 d.2 (record p { own = 0; stands = at.Over end }))
+        (record { code = o.code; live = nothing_live; removes = λ r. ((o.removes r).0, refl); point = a }, tt, only_gone d.0 d.1 d.2 (record p { own = 0; stands = at.Over end }))
     from (at.Over end) a may s = at_point (at.Over end) (told_over p o end a) tt may s
 
     pub step_comes : May Can Took value_at m (plan_at asks same hash p p.stands) → Steps Took value_at m (plan_at asks same hash p p.stands) m2 e → Comes e

@@ -93,9 +93,9 @@ module _ {K V Q : Type 0} (same : K → K → Bool) (hash : K → ℕ) (asks : Q
             known,
             refl,
             ap (λ (y : Mem (Node K V)). value_at y (blocks.pair n)) (sym led.memory)
-            ∙ kept_value deferred_word setting.batch_size now.v (came_reached setting.batch_size now.v now.together.ground.came) 0 led.w2 led.happened (blocks.pair n)
-            (is_kept now.v (blocks.pair n) (now.together.ground.kept.pairs n low known))
-            ∙ ap (λ (y : Mem (Node K V)). value_at y (blocks.pair n)) now.memory,
+                ∙ kept_value deferred_word setting.batch_size now.v (came_reached setting.batch_size now.v now.together.ground.came) 0 led.w2 led.happened (blocks.pair n)
+                (is_kept now.v (blocks.pair n) (now.together.ground.kept.pairs n low known))
+                ∙ ap (λ (y : Mem (Node K V)). value_at y (blocks.pair n)) now.memory,
           );
         }
       where
