@@ -49,6 +49,20 @@ use Rattle.papaya_raw.specs.declared.machines.call.KeyCall.{KeyCall}
 use Rattle.papaya_rule.proofs.Keys.Always.{Always, always_if}
 use Rattle.papaya_holds.specs.Came.{TellsOwn, EndsOwn, OwnsAt, Owns}
 
+-- an end that tells nothing of its own block
+abbrev IsPlain : End → Type 0
+IsPlain (ends.Answered (answers.Stored word)) = ⊥
+IsPlain (ends.Answered (answers.Replaced old new)) = ⊥
+IsPlain _ = Unit {0}
+
+plain_ends : (end : End) → IsPlain end → EndsOwn 0 end
+plain_ends (ends.Answered answers.Absent) plain = refl
+plain_ends (ends.Answered (answers.Found word)) plain = refl
+plain_ends (ends.Answered (answers.Stored word)) plain = absurd plain
+plain_ends (ends.Answered (answers.Replaced old new)) plain = absurd plain
+plain_ends (ends.Answered (answers.Removed word)) plain = refl
+plain_ends (ends.Refused fault) plain = refl
+
 module _ {K V Q : Type 0} where
   -- what it tells of its own block
   abbrev pub TellsSo : KeyCall K V Q × Called (Node K V) → Type 0
@@ -66,20 +80,6 @@ module _ {K V Q : Type 0} where
 
   either : (own : ℕ) (b : Bool) (x y : KeyCall K V Q × Called (Node K V)) → GoesWith own x → GoesWith own y → GoesWith own (if b then x else y)
   either own b x y f g = by_test own b x y (λ e. f) (λ e. g)
-
-  -- an end that tells nothing of its own block
-  abbrev IsPlain : End → Type 0
-  IsPlain (ends.Answered (answers.Stored word)) = ⊥
-  IsPlain (ends.Answered (answers.Replaced old new)) = ⊥
-  IsPlain _ = Unit {0}
-
-  plain_ends : (end : End) → IsPlain end → EndsOwn 0 end
-  plain_ends (ends.Answered answers.Absent) plain = refl
-  plain_ends (ends.Answered (answers.Found word)) plain = refl
-  plain_ends (ends.Answered (answers.Stored word)) plain = absurd plain
-  plain_ends (ends.Answered (answers.Replaced old new)) plain = absurd plain
-  plain_ends (ends.Answered (answers.Removed word)) plain = refl
-  plain_ends (ends.Refused fault) plain = refl
 
   module _ (p : KeyCall K V Q) (o : Owns p) where
     pub on_to : (stands : Calling) → OwnsAt p stands → GoesWith p.own (going p stands)

@@ -66,27 +66,27 @@ calls_begin K V Q S same hash asks setting slot i lawful keys given call begun m
     by _ _ _ (RemovesIf q code few class) = record { code = few; live = λ e. absurd (cc e); removes = λ e. absurd (cc e); point = tt }
 
 -- What it has come to, by what it tells.
+module _ {K V : Type 0} (m0 m : Mem (Node K V)) (own : ℕ) (only : (b : ℕ) (x : K × V) → StandsAt m b x → StandsAt m0 b x ⊎ ((own ≢ 0) × (b ≡ block_in own))) where
+  none_so : own ≡ 0 → NoneCame m0 m
+  none_so none b x here = elim (only b x here) as (λ _. StandsAt m0 b x) [
+    | inl was ↦ was
+    | inr mine ↦ absurd (mine.0 none)
+  ]
+
+  but_so : (word : ℕ) → word ≡ own → (b : ℕ) (x : K × V) → StandsAt m b x → StandsAt m0 b x ⊎ (b ≡ block_in word)
+  but_so word is b x here = elim (only b x here) as (λ _. StandsAt m0 b x ⊎ (b ≡ block_in word)) [
+    | inl was ↦ inl was
+    | inr mine ↦ inr (mine.1 ∙ ap block_in (sym is))
+  ]
+
+  answered : (answer : KeyAnswer) → TellsOwn own answer → CameBy m0 m answer
+  answered answers.Absent so = none_so so
+  answered (answers.Found word) so = none_so so
+  answered (answers.Stored word) so = but_so word so
+  answered (answers.Replaced old new) so = but_so new so
+  answered (answers.Removed word) so = none_so so
+
 module _ {K V Q S : Type 0} (m0 m : Mem (Node K V)) where
-  module _ (own : ℕ) (only : (b : ℕ) (x : K × V) → StandsAt m b x → StandsAt m0 b x ⊎ ((own ≢ 0) × (b ≡ block_in own))) where
-    none_so : own ≡ 0 → NoneCame m0 m
-    none_so none b x here = elim (only b x here) as (λ _. StandsAt m0 b x) [
-      | inl was ↦ was
-      | inr mine ↦ absurd (mine.0 none)
-    ]
-
-    but_so : (word : ℕ) → word ≡ own → (b : ℕ) (x : K × V) → StandsAt m b x → StandsAt m0 b x ⊎ (b ≡ block_in word)
-    but_so word is b x here = elim (only b x here) as (λ _. StandsAt m0 b x ⊎ (b ≡ block_in word)) [
-      | inl was ↦ inl was
-      | inr mine ↦ inr (mine.1 ∙ ap block_in (sym is))
-    ]
-
-    answered : (answer : KeyAnswer) → TellsOwn own answer → CameBy m0 m answer
-    answered answers.Absent so = none_so so
-    answered (answers.Found word) so = none_so so
-    answered (answers.Stored word) so = but_so word so
-    answered (answers.Replaced old new) so = but_so new so
-    answered (answers.Removed word) so = none_so so
-
   -- where a step of the machine leads
   abbrev Next : OnKey K V Q S × Progress Stop → Type 0
   Next (x, progress.Done (stop.Answered answer)) = CameBy m0 m answer
@@ -100,8 +100,8 @@ module _ {K V Q S : Type 0} (m0 m : Mem (Node K V)) where
   next_by x (called.Gave value) owns so only = record { owns = owns; only = only }
   next_by x (called.Unstored value) owns so only = record { owns = owns; only = only }
   next_by x (called.Asks asked) owns so only = record { owns = owns; only = only }
-  next_by x (called.Done answer) owns so only = answered x.call.own only answer so
-  next_by x (called.Refused fault) owns so only = none_so x.call.own only so
+  next_by x (called.Done answer) owns so only = answered m0 m x.call.own only answer so
+  next_by x (called.Refused fault) owns so only = none_so m0 m x.call.own only so
 
   stopped : (x : OnKey K V Q S) (told : Progress Stop) (result : Result Stop Fault) → Next (x, told) → Tells told result → ComesWith m0 m x result
   stopped x (progress.Done a) (Ok b) next tells = subst (λ (z : Stop). ComesWith m0 m x (Ok z)) (sym tells) (by a next)

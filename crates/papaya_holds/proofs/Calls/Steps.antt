@@ -18,7 +18,7 @@ use Rattle.papaya_resize.specs.NewTable.{new_table_plan}
 use Rattle.papaya_resize.specs.declared.lookup.Lookup.{Lookup}
 use Rattle.papaya_raw.specs.Call.{made, makes_of, dropped, looked, looks_for, first_made, next_made, disposed, helped, copied, plan_at}
 use Rattle.papaya_raw.specs.CallFills.{taken_back, filled, putting_by, fill_by, emptied, fills_with, given_up}
-use Rattle.papaya_raw.specs.CallPoints.{word_to, going, standing}
+use Rattle.papaya_raw.specs.CallPoints.{word_to, going, standing, over}
 use Rattle.papaya_raw.specs.Replies.{value_for, as_own}
 use Rattle.papaya_raw.specs.declared.machines.answer.Called.{Called}
 use Rattle.papaya_raw.specs.declared.machines.answer.Called.TheVariants as called
@@ -191,7 +191,7 @@ module _ {K V Q : Type 0} (p : KeyCall K V Q) (o : Owns p) (m0 m m2 : Mem (Node 
     looks_so none l (Some q) may s =
         same_own (puts_none m m2 (looks_for asks p l (Some q)) e (puts_as (looked p) (lookup_plan (asks q) l) (lookup_puts K V (asks q) l)) may s) e
         (always_steps (GoesWith p.own) m m2 (looks_for asks p l (Some q)) e (always_plan_as (GoesWith p.own) (looked p) (looked_so p o none) (lookup_plan (asks q) l)) s)
-    looks_so none l None may s = subst Comes (sym s.1) (same_own (as_it_was m m2 s.0) _ (over_so p o (ends.Answered answers.Absent) none))
+    looks_so none l None may s = subst Comes (sym s.1) (same_own (as_it_was m m2 s.0) (over p (ends.Answered answers.Absent)) (over_so p o (ends.Answered answers.Absent) none))
 
     from : (stands : Calling) → OwnsAt p stands → May Can Took value_at m (plan_at asks same hash p stands) → Steps Took value_at m (plan_at asks same hash p stands) m2 e → Comes e
     from at.Makes a may s = makes_so a p.unmade e s

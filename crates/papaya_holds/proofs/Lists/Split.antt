@@ -1,6 +1,6 @@
 -- Of the pairs that stood in a memory, some stand in a later one, and the others do not.
 use Rattle.std.specs.Prelude.{◌≡◌, ℕ, ◌+◌, ◌==◌, Bool, true, false, cond, List, [], ◌∷◌, ◌++◌, Option, Some, None, IsPermutation, if◌then◌else◌}
-use Rattle.std.proofs.Common.{refl, sym, ◌∙◌, ap}
+use Rattle.std.proofs.Common.{refl, sym, ◌∙◌, ap, arith}
 use Rattle.std.proofs.lemmas.Bool.{ne_eqb}
 use Rattle.std.proofs.lemmas.List.Sorted.{IsPermutation-refl, IsPermutation-sym, IsPermutation-trans, IsPermutation-cons, IsPermutation-middle}
 use Rattle.seize_words.specs.Mem.{Mem}
@@ -25,7 +25,7 @@ module _ {K V : Type 0} where
   pub has_if : (o : Option (Node K V)) (x : K × V) → o ≡ Some (node.Pair x.0 x.1) → has_pair o ≡ true
   has_if o x is = ap has_pair is
 
-none_of_none : (q : Bool) → 0 ≡ cond q 0 0
+none_of_none : (q : Bool) → ◌≡◌ {A = ℕ} 0 (cond q 0 0)
 none_of_none true = refl
 none_of_none false = refl
 
@@ -49,7 +49,8 @@ module _ {K V : Type 0} (m0 m : Mem (Node K V)) (passes : ℕ → Bool) (stays :
     more_true is c false e = ap (λ (z : Bool). (if z then 1 else 0) + 0) (ne_eqb c b (λ same. let f : true ≡ false = sym is ∙ sym (ap passes same) ∙ e in cc f))
 
     more_false : passes b ≡ false → (c : ℕ) (q : Bool) → passes c ≡ q → cond q (times c blocks) 0 ≡ cond q ((if c == b then 1 else 0) + times c blocks) 0
-    more_false is c true e = ap (λ (z : Bool). (if z then 1 else 0) + times c blocks) (sym (ne_eqb c b (λ same. let f : true ≡ false = sym e ∙ ap passes same ∙ is in cc f)))
+    more_false is c true e =
+        let k = ap (λ (z : Bool). (if z then 1 else 0) + times c blocks) (ne_eqb c b (λ same. let f : true ≡ false = sym e ∙ ap passes same ∙ is in cc f)) in omega (arith, k)
     more_false is c false e = refl
 
     still : passes b ≡ true → Split (b ∷ blocks) (x ∷ xs)

@@ -44,17 +44,17 @@ module _ {K V : Type 0} (m m2 : Mem (Node K V)) where
 
     taken_hand : (told : Settled (Node K V)) → told ≡ settled.Gave value → HandsOut m m2 told
     taken_hand told gave k x stands =
-        elim ((leaves_taken m m2 Its Nobody Nobody b value there is refl (λ j its. its) (λ j no. no)).stay k (node.Pair x.0 x.1) stands) as (λ _. StandsAt m2 k x ⊎ (told ≡ settled.Gave (node.Pair x.0 x.1))) [
+        elim ((leaves_taken m m2 Its Nobody Nobody b value there is refl (λ j its. its) (λ j void. void)).stay k (node.Pair x.0 x.1) stands) as (λ _. StandsAt m2 k x ⊎ (told ≡ settled.Gave (node.Pair x.0 x.1))) [
           | inl still ↦ inl still
           | inr same ↦ inr (gave ∙ ap (λ (v : Node K V). settled.Gave v) (its_value x (sym there ∙ ap (value_at m) (sym same) ∙ stands)))
         ]
 
   module _ (c : Settle) (e : Settle × Settled (Node K V)) where
-    plainly : (stands : Settling) → IsPlainStep (settles.plan_at deferred_word c stands) → May Can Took value_at m (settles.plan_at deferred_word c stands)
-        → Steps Took value_at m (settles.plan_at deferred_word c stands) m2 e → HandsOut m m2 e.1
-    plainly stands plain may s = same_hand e.1 (plain_keeps m m2 (settles.plan_at deferred_word c stands) e plain may s)
+    plainly : (stands : Settling) → IsPlainStep (settles.plan_at (deferred_word {K = K} {V = V}) c stands) → May Can Took value_at m (settles.plan_at (deferred_word {K = K} {V = V}) c stands)
+        → Steps Took value_at m (settles.plan_at (deferred_word {K = K} {V = V}) c stands) m2 e → HandsOut m m2 e.1
+    plainly stands plain may s = same_hand e.1 (plain_keeps m m2 (settles.plan_at (deferred_word {K = K} {V = V}) c stands) e plain may s)
 
-    settle_hands : (stands : Settling) → May Can Took value_at m (settles.plan_at deferred_word c stands) → Steps Took value_at m (settles.plan_at deferred_word c stands) m2 e → HandsOut m m2 e.1
+    settle_hands : (stands : Settling) → May Can Took value_at m (settles.plan_at (deferred_word {K = K} {V = V}) c stands) → Steps Took value_at m (settles.plan_at (deferred_word {K = K} {V = V}) c stands) m2 e → HandsOut m m2 e.1
     settle_hands (settling.Takes next) may s =
         let d = taken m (given_back c next) (block_in c.reclaiming) m2 e s in taken_hand (block_in c.reclaiming) d.0 d.1 d.2 e.1 (ap (λ (x : Settle × Settled (Node K V)). x.1) d.3)
     settle_hands settling.Sees may s = plainly settling.Sees tt may s
@@ -93,17 +93,17 @@ module _ {K V : Type 0} (m m2 : Mem (Node K V)) where
     told_on (s, settled.Gave given) value is = is
     told_on (s, settled.Done) value is = absurd (cc is)
 
-    leave_hands : (e : Leave × Settled (Node K V)) (stands : Leaving) → May Can Took value_at m (leaves.plan_at deferred_word c stands) → Steps Took value_at m (leaves.plan_at deferred_word c stands) m2 e → HandsOut m m2 e.1
-    leave_hands e leaving.Swaps may s = same_hand e.1 (plain_keeps m m2 (leaves.plan_at deferred_word c leaving.Swaps) e tt may s)
+    leave_hands : (e : Leave × Settled (Node K V)) (stands : Leaving) → May Can Took value_at m (leaves.plan_at (deferred_word {K = K} {V = V}) c stands) → Steps Took value_at m (leaves.plan_at (deferred_word {K = K} {V = V}) c stands) m2 e → HandsOut m m2 e.1
+    leave_hands e leaving.Swaps may s = same_hand e.1 (plain_keeps m m2 (leaves.plan_at (deferred_word {K = K} {V = V}) c leaving.Swaps) e tt may s)
     leave_hands e (leaving.Settles settle) may s =
-        let d = steps_back (leaves.settled c) m m2 (settle_plan deferred_word settle) e s in
-        let hands = settle_hands settle d.0 settle.stands (may_as (leaves.settled c) Can Took value_at m (settle_plan deferred_word settle) may) d.1 in
+        let d = steps_back (leaves.settled c) m m2 (settle_plan (deferred_word {K = K} {V = V}) settle) e s in
+        let hands = settle_hands settle d.0 settle.stands (may_as (leaves.settled c) Can Took value_at m (settle_plan (deferred_word {K = K} {V = V}) settle) may) d.1 in
         λ b x there. elim (hands b x there) as (λ _. StandsAt m2 b x ⊎ (e.1 ≡ settled.Gave (node.Pair x.0 x.1))) [
           | inl still ↦ inl still
           | inr gave ↦ inr (ap (λ (y : Leave × Settled (Node K V)). y.1) d.2 ∙ told_on d.0 (node.Pair x.0 x.1) gave)
         ]
-    leave_hands e leaving.Frees may s = same_hand e.1 (plain_keeps m m2 (leaves.plan_at deferred_word c leaving.Frees) e tt may s)
-    leave_hands e leaving.Over may s = same_hand e.1 (plain_keeps m m2 (leaves.plan_at deferred_word c leaving.Over) e tt may s)
+    leave_hands e leaving.Frees may s = same_hand e.1 (plain_keeps m m2 (leaves.plan_at (deferred_word {K = K} {V = V}) c leaving.Frees) e tt may s)
+    leave_hands e leaving.Over may s = same_hand e.1 (plain_keeps m m2 (leaves.plan_at (deferred_word {K = K} {V = V}) c leaving.Over) e tt may s)
 
 pub rows_hand_out : (K V : Type 0) → RowsHandOut K V
 rows_hand_out K V m m2 told = (λ c c2 may s. leave_hands m m2 c (c2, told) c.stands may s, λ c c2 may s. settle_hands m m2 c (c2, told) c.stands may s)

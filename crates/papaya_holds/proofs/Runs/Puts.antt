@@ -50,19 +50,19 @@ module _ {K V : Type 0} where
 
     -- a block is made: what stands there has come
     module _ (value : Node K V) (words b : ℕ) (free : IsFreeNumber m b) (is : m2 ≡ mem_after m (Make value words) (Made (Ok b))) where
-      abbrev None' : ℕ → Type 0
-      None' k = ⊥
+      abbrev Nobodys : ℕ → Type 0
+      Nobodys k = ⊥
 
       abbrev This : ℕ → Type 0
       This k = k ≡ b
 
       pub made_but : NoneCameBut m m2 b
-      made_but k x there = (leaves_made m m2 None' This None' value words b free is refl (λ k no. no) (λ k at. at)).came k (node.Pair x.0 x.1) there
+      made_but k x there = (leaves_made m m2 Nobodys This Nobodys value words b free is refl (λ k void. void) (λ k its. its)).came k (node.Pair x.0 x.1) there
 
       made_none : IsNoPair value → NoneCame m m2
       made_none none k x there = elim (made_but k x there) as (λ _. StandsAt m k x) [
         | inl before ↦ before
-        | inr at ↦ absurd (no_pair value x none (sym (made_here m m2 None' This None' value words b free is) ∙ ap (value_at m2) (sym at) ∙ there))
+        | inr its ↦ absurd (no_pair value x none (sym (made_here m m2 Nobodys This Nobodys value words b free is) ∙ ap (value_at m2) (sym its) ∙ there))
       ]
 
     -- a block is taken away
@@ -74,15 +74,15 @@ module _ {K V : Type 0} where
       Nobody k = ⊥
 
       pub taken_gone : (x : K × V) → StandsAt m2 b x → ⊥
-      taken_gone x here = elim ((leaves_taken m m2 Its Nobody Nobody b value there is refl (λ k at. at) (λ k no. no)).kept b (node.Pair x.0 x.1) here refl) as (λ _. ⊥) [
-        | inl no ↦ no
-        | inr no ↦ no
+      taken_gone x here = elim ((leaves_taken m m2 Its Nobody Nobody b value there is refl (λ k its. its) (λ k void. void)).kept b (node.Pair x.0 x.1) here refl) as (λ _. ⊥) [
+        | inl void ↦ void
+        | inr void ↦ void
       ]
 
       pub taken_none : NoneCame m m2
-      taken_none k x here = elim ((leaves_taken m m2 Its Nobody Nobody b value there is refl (λ k at. at) (λ k no. no)).came k (node.Pair x.0 x.1) here) as (λ _. StandsAt m k x) [
+      taken_none k x here = elim ((leaves_taken m m2 Its Nobody Nobody b value there is refl (λ k its. its) (λ k void. void)).came k (node.Pair x.0 x.1) here) as (λ _. StandsAt m k x) [
         | inl before ↦ before
-        | inr no ↦ absurd no
+        | inr void ↦ absurd void
       ]
 
     -- a value is replaced: what stands there has come
@@ -98,14 +98,14 @@ module _ {K V : Type 0} where
 
       pub rewritten_but : NoneCameBut m m2 b
       rewritten_but k x stands = elim (cases_eq k b) as (λ _. StandsAt m k x ⊎ (k ≡ b)) [
-        | inl at ↦ inr at
+        | inl its ↦ inr its
         | inr ne ↦ inl (sym (elsewhere k ne) ∙ stands)
       ]
 
       rewrites_none : IsNoPair new → NoneCame m m2
       rewrites_none none k x stands = elim (rewritten_but k x stands) as (λ _. StandsAt m k x) [
         | inl before ↦ before
-        | inr at ↦ absurd (no_pair new x none (sym here_now ∙ ap (value_at m2) (sym at) ∙ stands))
+        | inr its ↦ absurd (no_pair new x none (sym here_now ∙ ap (value_at m2) (sym its) ∙ stands))
       ]
 
     module _ {R : Type 0} where
