@@ -33,7 +33,7 @@ use Rattle.papaya_sifts.specs.declared.sweeping.Pause.{Pause}
 use Rattle.papaya_holds.specs.Balances.{HasJust, Balances, HasStored}
 use Rattle.papaya_holds.specs.Came.{StandsAt, NoneCame, HandsOut, CameBy, HasCome, ComesWith}
 
-module _ (K V Q S : Type 0) where
+module _ (K V Q : Type 0) where
   -- A call on one key begins, and no pair has come.
   abbrev pub CallsBegin : Type 0
   CallsBegin =
@@ -41,8 +41,8 @@ module _ (K V Q S : Type 0) where
       → (keys : K → Bool) (given : Given K V) (call : KeyCall K V Q) → IsBegun V same hash asks setting slot i keys given call → (m : Mem (Node K V)) → HasCome m m call
 
   -- It is run on, to its end or to a question, and no pair has come but the one that it tells as stored.
-  abbrev pub CallsStoreAlone : Type 0
-  CallsStoreAlone =
+  abbrev pub CallsStoreAlone : Type 0 → Type 0
+  CallsStoreAlone S =
       (asks : Q → K → Bool) (same : K → K → Bool) (hashes : S → K → ℕ) (m0 : Mem (Node K V)) (x : OnKey K V Q S) (m : Mem (Node K V)) → HasCome m0 m x.call → Ends (on_key_plan asks same hashes) x m
       → (x2 : OnKey K V Q S) (m2 : Mem (Node K V)) (result : Result Stop Fault) → RunsTo (on_key_plan asks same hashes) x m x2 m2 result → ComesWith m0 m2 x2 result
 

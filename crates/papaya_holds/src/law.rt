@@ -9,9 +9,9 @@ ghost use Rattle.papaya_holds.specs.Sweeps.{SweepsTakeNoneAway};
 /// before and what was stored, each pair as often: nothing is lost, and nothing is given back twice. A step of a refresh, or of a retirement, that takes a pair
 /// out of the memory hands it out as given back.
 pub fn pairs_balance<K, V, Q, S>()
-    ensures begins { CallsBegin K V Q S }
+    ensures begins { CallsBegin K V Q }
     ensures calls { CallsStoreAlone K V Q S }
-    ensures replies { RepliesPutNone K V Q S }
+    ensures replies { RepliesPutNone K V Q }
     ensures rooms { RoomsPutNone K V S }
     ensures sweeps { SweepsPutNone K V S }
     ensures refreshes { RefreshesPutNone K V }

@@ -51,8 +51,8 @@ module _ {K V Q : Type 0} (m : Mem (Node K V)) (p : KeyCall K V Q) where
   begins_so : Owns p → HasCome m m p
   begins_so owns = record { owns = owns; only = λ b x here. inl here }
 
-pub calls_begin : (K V Q S : Type 0) → CallsBegin K V Q S
-calls_begin K V Q S same hash asks setting slot i lawful keys given call begun m = begins_so m call (by keys given call begun)
+pub calls_begin : (K V Q : Type 0) → CallsBegin K V Q
+calls_begin K V Q same hash asks setting slot i lawful keys given call begun m = begins_so m call (by keys given call begun)
   where
     by : (keys : K → Bool) (given : Given K V) (call : KeyCall K V Q) → IsBegun V same hash asks setting slot i keys given call → Owns call
     by _ _ _ (Gets q code few class) = record { code = few; live = λ e. absurd (cc e); removes = λ e. absurd (cc e); point = refl }
@@ -218,7 +218,7 @@ module _ {K V Q : Type 0} (p : KeyCall K V Q) (o : Owns p) where
   told_so (at.Drops end) is some told = as_it_is
   told_so (at.Over end) is some told = as_it_is
 
-pub replies_put_none : (K V Q S : Type 0) → RepliesPutNone K V Q S
-replies_put_none K V Q S m0 m p h told =
+pub replies_put_none : (K V Q : Type 0) → RepliesPutNone K V Q
+replies_put_none K V Q m0 m p h told =
     let r = told_so p h.owns p.stands refl h.owns.point told in
     record { owns = r.0; only = λ b x here. subst (λ (own : ℕ). StandsAt m0 b x ⊎ ((own ≢ 0) × (b ≡ block_in own))) (sym r.1) (h.only b x here) }

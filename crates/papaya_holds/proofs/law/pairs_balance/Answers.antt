@@ -7,9 +7,9 @@ use Rattle.papaya_holds.proofs.law.pairs_balance.Goals as goal
 
 pub returns : goal.returns
 returns c d = record {
-  begins = calls_begin _ _ _ _;
+  begins = calls_begin _ _ _;
   calls = calls_store_alone _ _ _ _;
-  replies = replies_put_none _ _ _ _;
+  replies = replies_put_none _ _ _;
   rooms = rooms_put_none _ _ _;
   sweeps = sweeps_put_none _ _ _;
   refreshes = refreshes_put_none _ _;
