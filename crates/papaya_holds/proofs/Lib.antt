@@ -3,4 +3,5 @@ mod Calls
 mod Lists
 mod Runs
 mod Samples
+mod Stood
 mod Sweeps

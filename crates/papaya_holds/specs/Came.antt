@@ -1,5 +1,5 @@
 -- Which pairs a memory has, block by block, and which of them have come since it was another one.
-use Rattle.std.specs.Prelude.{◌≡◌, ◌≢◌, ℕ, ◌<◌, ◌^◌, ◌⊎◌, Some, Result, Ok, Err}
+use Rattle.std.specs.Prelude.{◌≡◌, ◌≢◌, ℕ, ◌<◌, ◌^◌, ◌⊎◌, List, Some, Result, Ok, Err}
 use Rattle.seize_words.specs.Mem.{Mem, value_at}
 use Rattle.seize_words.specs.Word.{block_in}
 use Rattle.seize_words.specs.declared.fault.Fault.{Fault}
@@ -17,6 +17,7 @@ use Rattle.papaya_raw.specs.declared.machines.answer.There.TheVariants as there
 use Rattle.papaya_raw.specs.declared.machines.call.Calling.{Calling}
 use Rattle.papaya_raw.specs.declared.machines.call.Calling.TheVariants as at
 use Rattle.papaya_raw.specs.declared.machines.call.KeyCall.{KeyCall}
+use Rattle.papaya_owned.specs.Standing.{Standing}
 use Rattle.papaya_owned.specs.declared.machines.OnKey.{OnKey}
 use Rattle.papaya_owned.specs.declared.machines.Stop.{Stop}
 use Rattle.papaya_owned.specs.declared.machines.Stop.TheVariants as stop
@@ -38,6 +39,10 @@ module _ {K V : Type 0} where
     -- Each pair that was there stands there still, or is what this tells as given back.
     abbrev pub HandsOut : Settled (Node K V) → Type 0
     HandsOut told = (b : ℕ) (x : K × V) → StandsAt m0 b x → StandsAt m b x ⊎ (told ≡ settled.Gave (node.Pair x.0 x.1))
+
+    -- each of these pairs stood in a block of its own, and stands there still
+    abbrev pub StayInPlace : List (K × V) → Type 0
+    StayInPlace xs = (blocks : List ℕ) × Standing m0 blocks xs × Standing m blocks xs
 
     -- By the answer of a call on one key: where it tells the word of a pair that was stored, that pair alone has come.
     abbrev pub CameBy : KeyAnswer → Type 0

@@ -10,11 +10,11 @@ use Rattle.papaya_sweeps.specs.declared.sweep.Purpose.{Purpose}
 use Rattle.papaya_callers.specs.Together.{in_slot}
 use Rattle.papaya_owned.specs.Ending.{RunsTo}
 use Rattle.papaya_owned.specs.Owned.{Holds}
-use Rattle.papaya_owned.specs.Standing.{Standing}
 use Rattle.papaya_sifts.specs.Sweeping.{over_pairs_plan}
 use Rattle.papaya_sifts.specs.declared.sweeping.OverPairs.{OverPairs}
 use Rattle.papaya_sifts.specs.declared.sweeping.Pause.{Pause}
 use Rattle.papaya_sifts.specs.declared.sweeping.Pause.TheVariants as pause
+use Rattle.papaya_holds.specs.Came.{NoneCame, StayInPlace}
 
 module _ {K V S : Type 0} (hashes : S → K → ℕ) (b : Bor S) (setting : Setting) (purpose : Purpose) (m0 : Mem (Node K V)) where
   -- A sweep for this purpose, begun on this memory, has come here: it was run from question to question, and told each time whether to keep the pair.
@@ -23,10 +23,11 @@ module _ {K V S : Type 0} (hashes : S → K → ℕ) (b : Bor S) (setting : Sett
     asked : (x : OverPairs S) (m : Mem (Node K V)) → IsSweeping x m → (x2 : OverPairs S) (m2 : Mem (Node K V)) (word : ℕ) → RunsTo (over_pairs_plan {K = K} {V = V} hashes) x m x2 m2 (Ok (pause.Asks word))
         → (keeps : Bool) → IsSweeping (record x2 { sweep = after_reply x2.sweep keeps }) m2
 
--- Wherever it stops next, each pair that the map had as it began stands still in the block in which it stood then, also where it was removed.
+-- Wherever it stops next, no pair has come, and each pair that the map had as it began stands still in the block in which it stood then, also where it was
+-- removed.
 abbrev pub SweepsTakeNoneAway : (K V S : Type 0) → Type 0
 SweepsTakeNoneAway K V S =
     (same : K → K → Bool) (hashes : S → K → ℕ) (b : Bor S) (setting : Setting) (m0 : Mem (Node K V)) (xs : List (K × V)) → Holds same (hashes b.now) setting m0 xs
     → (purpose : Purpose) (x : OverPairs S) (m : Mem (Node K V)) → IsSweeping hashes b setting purpose m0 x m
     → (x2 : OverPairs S) (m2 : Mem (Node K V)) (result : Result Pause Fault) → RunsTo (over_pairs_plan {K = K} {V = V} hashes) x m x2 m2 result
-    → (blocks : List ℕ) × Standing m0 blocks xs × Standing m2 blocks xs
+    → NoneCame m0 m2 × StayInPlace m0 m2 xs

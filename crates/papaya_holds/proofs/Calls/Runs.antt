@@ -67,7 +67,7 @@ calls_begin K V Q same hash asks setting slot i lawful keys given call begun m =
 
 -- What it has come to, by what it tells.
 module _ {K V : Type 0} (m0 m : Mem (Node K V)) (own : ℕ) (only : (b : ℕ) (x : K × V) → StandsAt m b x → StandsAt m0 b x ⊎ ((own ≢ 0) × (b ≡ block_in own))) where
-  none_so : own ≡ 0 → NoneCame m0 m
+  pub none_so : own ≡ 0 → NoneCame m0 m
   none_so none b x here = elim (only b x here) as (λ _. StandsAt m0 b x) [
     | inl was ↦ was
     | inr mine ↦ absurd (mine.0 none)
@@ -79,7 +79,7 @@ module _ {K V : Type 0} (m0 m : Mem (Node K V)) (own : ℕ) (only : (b : ℕ) (x
     | inr mine ↦ inr (mine.1 ∙ ap block_in (sym is))
   ]
 
-  answered : (answer : KeyAnswer) → TellsOwn own answer → CameBy m0 m answer
+  pub answered : (answer : KeyAnswer) → TellsOwn own answer → CameBy m0 m answer
   answered answers.Absent so = none_so so
   answered (answers.Found word) so = none_so so
   answered (answers.Stored word) so = but_so word so

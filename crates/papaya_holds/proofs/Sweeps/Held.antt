@@ -2,8 +2,8 @@
 use Rattle.std.specs.Prelude.{◌≡◌, ℕ, ◌<◌, ◌≤◌, Bool, true, List, Result, Ok, Err}
 use Rattle.std.proofs.Common.{refl, sym, ◌∙◌, ap, subst, arith}
 use denote.Ref.{Bor}
-use Rattle.seize_words.specs.Mem.{Mem, Took, value_at}
-use Rattle.seize_words.specs.Plan.{Steps}
+use Rattle.seize_words.specs.Mem.{Mem, Can, Took, value_at}
+use Rattle.seize_words.specs.Plan.{May, Steps}
 use Rattle.seize_words.specs.declared.fault.Fault.{Fault}
 use Rattle.seize.specs.World.{World}
 use Rattle.seize.specs.declared.progress.Progress.{Progress}
@@ -18,26 +18,26 @@ use Rattle.papaya_sweeps.specs.declared.sweep.Sweep.{Sweep}
 use Rattle.papaya_sweeps.specs.declared.sweep.Sweeping.TheVariants as at
 use Rattle.papaya_sweeps.specs.declared.sweep.Swept.{Swept}
 use Rattle.papaya_sweeps.specs.declared.sweep.Swept.TheVariants as swept
-use Rattle.papaya_rule.proofs.World.Hands.{current_known}
 use Rattle.papaya_rule.specs.Chart.{Chart}
-use Rattle.papaya_rule.specs.InWorld.{IsMapIn}
 use Rattle.papaya_rule.specs.Words.{Blocks}
 use Rattle.papaya_callers.specs.OverAll.{CallOverAll, begun_over_all, told_of}
 use Rattle.papaya_callers.specs.Sights.{Sight}
 use Rattle.papaya_callers.specs.Together.{OverAll, in_slot}
-use Rattle.papaya_whole.proofs.Contents.Below.{below_stays}
 use Rattle.papaya_whole.proofs.Sweeps.Begins.{sweeps_begin_alone}
+use Rattle.papaya_whole.proofs.Sweeps.Leads.{sweeps_go_on_alone}
 use Rattle.papaya_whole.proofs.Sweeps.ToldOn.{sweeps_told_alone}
 use Rattle.papaya_whole.specs.Owner.{IsAlone}
-use Rattle.papaya_owned.proofs.Owned.Standing.{blocks_below, standing_below}
 use Rattle.papaya_owned.specs.Ending.{GoesOn, Tells, RunsTo, stops, goes}
 use Rattle.papaya_owned.specs.Owned.{Holds}
-use Rattle.papaya_owned.specs.Standing.{Standing}
 use Rattle.papaya_sifts.specs.Sweeping.{over_pairs_after, over_pairs_plan, over_pairs_settled}
 use Rattle.papaya_sifts.specs.declared.sweeping.OverPairs.{OverPairs}
 use Rattle.papaya_sifts.specs.declared.sweeping.Pause.{Pause}
 use Rattle.papaya_sifts.specs.declared.sweeping.Pause.TheVariants as pause
+use Rattle.papaya_holds.proofs.Runs.Machines.{sweep_puts}
+use Rattle.papaya_holds.proofs.Runs.Puts.{puts_none}
+use Rattle.papaya_holds.proofs.Stood.{StandsStill, still_first, stood}
 use Rattle.papaya_holds.proofs.Sweeps.Looks.{Led, led_on}
+use Rattle.papaya_holds.specs.Came.{NoneCame, StayInPlace}
 use Rattle.papaya_holds.specs.Sweeps.{IsSweeping, begun, asked, SweepsTakeNoneAway}
 
 module _ {K V S : Type 0} (same : K → K → Bool) (hashes : S → K → ℕ) (b : Bor S) (setting : Setting) (m0 : Mem (Node K V)) (xs : List (K × V)) (h : Holds same (hashes b.now) setting m0 xs) where
@@ -53,9 +53,9 @@ module _ {K V S : Type 0} (same : K → K → Bool) (hashes : S → K → ℕ) (
   abbrev AloneIn : World (Node K V) → Chart K → Blocks → (ℕ → Sight) → CallOverAll → Type 0
   AloneIn w c blocks sights o = IsAlone {Q = K} same hash same setting slot_of w c blocks sights (OverAll o)
 
-  -- what could be looked at as the map rested stands in its block
-  abbrev StandsStill : Mem (Node K V) → Type 0
-  StandsStill m = (n : ℕ) → n < h.chart.stored → h.blocks.pair_known n ≡ true → value_at m (h.blocks.pair n) ≡ value_at h.world.memory (h.blocks.pair n)
+  -- no pair has come, and what could be looked at as the map rested stands still
+  abbrev IsHeld : Mem (Node K V) → Type 0
+  IsHeld m = NoneCame m0 m × StandsStill same hash setting m0 xs h m
 
   -- it is under way, and alone
   record Course (o : CallOverAll) (m : Mem (Node K V)) : Type 0 where
@@ -67,7 +67,7 @@ module _ {K V S : Type 0} (same : K → K → Bool) (hashes : S → K → ℕ) (
     pub memory : w.memory ≡ m
     pub stored : h.chart.stored ≤ c.stored
     pub looks : (n : ℕ) → n < h.chart.stored → h.blocks.pair_known n ≡ true → (blocks.pair_known n ≡ true) × (blocks.pair n ≡ h.blocks.pair n)
-    pub still : StandsStill m
+    pub held : IsHeld m
 
   record Under (x : OverPairs S) (m : Mem (Node K V)) : Type 0 where
     pub o : CallOverAll
@@ -79,8 +79,8 @@ module _ {K V S : Type 0} (same : K → K → Bool) (hashes : S → K → ℕ) (
   Next x m progress.Goes = Under x m
   Next x m progress.Waits = ⊥
   Next x m (progress.Done (pause.Asks word)) = Under x m × (x.sweep.stands ≡ at.Asks word)
-  Next x m (progress.Done _) = StandsStill m
-  Next x m (progress.Refused fault) = StandsStill m
+  Next x m (progress.Done _) = IsHeld m
+  Next x m (progress.Refused fault) = IsHeld m
 
   module _ (o : CallOverAll) (m : Mem (Node K V)) (here : Course o m) (m2 : Mem (Node K V)) (p2 : Sweep) (end : Swept (Node K V)) (s : Steps Took value_at m (sweep_plan hash o.sweep) m2 (p2, end)) where
     led : Led {Q = K} same hash same setting slot_of h.lawful here.w here.c here.blocks here.sights o here.alone m2 p2 end
@@ -89,11 +89,19 @@ module _ {K V S : Type 0} (same : K → K → Bool) (hashes : S → K → ℕ) (
         led_on {Q = K} same hash same setting slot_of h.lawful here.w here.c here.blocks here.sights o here.alone m2 p2 end
         (subst (λ (y : Mem (Node K V)). Steps Took value_at y (sweep_plan hash o.sweep) m2 (p2, end)) (sym here.memory) s) h.initial
 
-    still_then : StandsStill m2
+    still_then : StandsStill same hash setting m0 xs h m2
     still_then n low known =
         let l = here.looks n low known in
         let low2 : n < here.c.stored = (let more = here.stored in omega (arith, low, more)) in
-        ap (value_at m2) (sym l.1) ∙ (led.looks n low2 l.0).2 ∙ ap (value_at here.w.memory) l.1 ∙ ap (λ (y : Mem (Node K V)). value_at y (h.blocks.pair n)) here.memory ∙ here.still n low known
+        ap (value_at m2) (sym l.1) ∙ (led.looks n low2 l.0).2 ∙ ap (value_at here.w.memory) l.1 ∙ ap (λ (y : Mem (Node K V)). value_at y (h.blocks.pair n)) here.memory ∙ here.held.1 n low known
+
+    may : May Can Took value_at m (sweep_plan hash o.sweep)
+    may =
+        subst (λ (y : Mem (Node K V)). May Can Took value_at y (sweep_plan hash o.sweep)) here.memory
+        (sweeps_go_on_alone {Q = K} same hash same setting slot_of h.lawful h.initial here.w here.c here.blocks here.sights o here.alone).0
+
+    held_then : IsHeld m2
+    held_then = (λ n y there. here.held.0 n y (puts_none m m2 (sweep_plan hash o.sweep) (p2, end) (sweep_puts K V hash o.sweep) may s n y there), still_then)
 
     course_of : AloneIn led.w2 led.c2 led.blocks2 led.sights2 led.o2 → Course led.o2 m2
     course_of alone = record {
@@ -107,7 +115,7 @@ module _ {K V S : Type 0} (same : K → K → Bool) (hashes : S → K → ℕ) (
       looks = λ n low known.
           let l = here.looks n low known in
           let k = led.looks n (let more = here.stored in omega (arith, low, more)) l.0 in (k.0, k.1 ∙ l.1);
-      still = still_then;
+      held = held_then;
     }
 
     under_of : AloneIn led.w2 led.c2 led.blocks2 led.sights2 led.o2 → Under (it p2) m2
@@ -118,12 +126,12 @@ module _ {K V S : Type 0} (same : K → K → Bool) (hashes : S → K → ℕ) (
   next_by o m here m2 p2 swept.Goes s = under_of o m here m2 p2 swept.Goes s (led o m here m2 p2 swept.Goes s).leads
   next_by o m here m2 p2 swept.Waits s = absurd ((led o m here m2 p2 swept.Waits s).leads)
   next_by o m here m2 p2 (swept.Gave value) s = under_of o m here m2 p2 (swept.Gave value) s (led o m here m2 p2 (swept.Gave value) s).leads.0
-  next_by o m here m2 p2 swept.Ready s = still_then o m here m2 p2 swept.Ready s
-  next_by o m here m2 p2 (swept.Pair word) s = still_then o m here m2 p2 (swept.Pair word) s
+  next_by o m here m2 p2 swept.Ready s = held_then o m here m2 p2 swept.Ready s
+  next_by o m here m2 p2 (swept.Pair word) s = held_then o m here m2 p2 (swept.Pair word) s
   next_by o m here m2 p2 (swept.Asks word) s =
       let l = led o m here m2 p2 (swept.Asks word) s in (under_of o m here m2 p2 (swept.Asks word) s l.leads.0, ap (λ (q : Sweep). q.stands) (sym l.sweep) ∙ l.leads.1)
-  next_by o m here m2 p2 swept.Done s = still_then o m here m2 p2 swept.Done s
-  next_by o m here m2 p2 (swept.Refused fault) s = still_then o m here m2 p2 (swept.Refused fault) s
+  next_by o m here m2 p2 swept.Done s = held_then o m here m2 p2 swept.Done s
+  next_by o m here m2 p2 (swept.Refused fault) s = held_then o m here m2 p2 (swept.Refused fault) s
 
   next_of : (x : OverPairs S) (m : Mem (Node K V)) (u : Under x m) (m2 : Mem (Node K V)) (x2 : OverPairs S) (told : Progress Pause) → Steps Took value_at m (over_pairs_plan {K = K} {V = V} hashes x) m2 (x2, told) → Next x2 m2 told
   next_of x m u m2 x2 told s =
@@ -134,7 +142,7 @@ module _ {K V S : Type 0} (same : K → K → Bool) (hashes : S → K → ℕ) (
   -- where it stops
   abbrev StopsAt : OverPairs S → Mem (Node K V) → Result Pause Fault → Type 0
   StopsAt x m (Ok (pause.Asks word)) = Under x m × (x.sweep.stands ≡ at.Asks word)
-  StopsAt x m _ = StandsStill m
+  StopsAt x m _ = IsHeld m
 
   stopped : (x : OverPairs S) (m : Mem (Node K V)) (told : Progress Pause) (result : Result Pause Fault) → Next x m told → Tells told result → StopsAt x m result
   stopped x m (progress.Done a) (Ok e) next tells = subst (λ (z : Pause). StopsAt x m (Ok z)) (sym tells) (by a next)
@@ -174,7 +182,7 @@ module _ {K V S : Type 0} (same : K → K → Bool) (hashes : S → K → ℕ) (
       memory = h.memory;
       stored = omega arith;
       looks = λ n low known. (known, refl);
-      still = λ n low known. ap (λ (y : Mem (Node K V)). value_at y (h.blocks.pair n)) (sym h.memory);
+      held = ((λ n y there. there), still_first same hash setting m0 xs h);
     };
   }
 
@@ -197,7 +205,7 @@ module _ {K V S : Type 0} (same : K → K → Bool) (hashes : S → K → ℕ) (
           memory = c.memory;
           stored = c.stored;
           looks = c.looks;
-          still = c.still;
+          held = c.held;
         };
       }
 
@@ -207,34 +215,17 @@ module _ {K V S : Type 0} (same : K → K → Bool) (hashes : S → K → ℕ) (
       let k = stops_at x m (under_way purpose x m before) x2 m2 (Ok (pause.Asks word)) runs in told_on x2 m2 k.0 word k.1 keeps
 
   -- wherever it stops
-  at_stop : (x : OverPairs S) (m : Mem (Node K V)) (result : Result Pause Fault) → StopsAt x m result → StandsStill m
-  at_stop x m (Ok (pause.Asks word)) s = s.0.course.still
+  at_stop : (x : OverPairs S) (m : Mem (Node K V)) (result : Result Pause Fault) → StopsAt x m result → IsHeld m
+  at_stop x m (Ok (pause.Asks word)) s = s.0.course.held
   at_stop x m (Ok pause.Ended) s = s
   at_stop x m (Ok pause.Ready) s = s
   at_stop x m (Ok (pause.Shows word)) s = s
   at_stop x m (Err fault) s = s
 
-  map : IsMapIn same hash setting h.world h.chart h.blocks
-  map = h.rests.together.ground.map
-
-  apart : (n o : ℕ) → h.chart.current n ≡ true → h.chart.current o ≡ true → h.blocks.pair n ≡ h.blocks.pair o → n ≡ o
-  apart n o now now2 alike =
-      let k = current_known same hash setting h.world h.chart h.blocks map.map.rule map.map.shows n now in
-      let k2 = current_known same hash setting h.world h.chart h.blocks map.map.rule map.map.shows o now2 in map.map.shows.pairs_apart n o k.0 k2.0 k.1 k2.1 alike
-
-  stand_in : (m : Mem (Node K V)) → StandsStill m → Standing m (blocks_below h.chart h.blocks.pair h.chart.stored) xs
-  stand_in m still =
-      standing_below h.chart h.blocks.pair m h.blocks (λ o now. refl) apart h.chart.stored xs
-      (below_stays same h.world.memory m h.chart h.chart h.blocks h.blocks h.chart.stored xs (λ o low. refl)
-      (λ o low now. let k = current_known same hash setting h.world h.chart h.blocks map.map.rule map.map.shows o now in still o k.0 k.1) h.are)
-
   pub take_none_away : (purpose : Purpose) (x : OverPairs S) (m : Mem (Node K V)) → IsSweeping hashes b setting purpose m0 x m → (x2 : OverPairs S) (m2 : Mem (Node K V)) (result : Result Pause Fault)
-      → RunsTo (over_pairs_plan {K = K} {V = V} hashes) x m x2 m2 result → (blocks : List ℕ) × Standing m0 blocks xs × Standing m2 blocks xs
-  take_none_away purpose x m is x2 m2 result runs = (
-    blocks_below h.chart h.blocks.pair h.chart.stored,
-    stand_in m0 (λ n low known. ap (λ (y : Mem (Node K V)). value_at y (h.blocks.pair n)) (sym h.memory)),
-    stand_in m2 (at_stop x2 m2 result (stops_at x m (under_way purpose x m is) x2 m2 result runs)),
-  )
+      → RunsTo (over_pairs_plan {K = K} {V = V} hashes) x m x2 m2 result → NoneCame m0 m2 × StayInPlace m0 m2 xs
+  take_none_away purpose x m is x2 m2 result runs =
+      let at_end = at_stop x2 m2 result (stops_at x m (under_way purpose x m is) x2 m2 result runs) in (at_end.0, stood same hash setting m0 xs h m2 at_end.1)
 
 pub sweeps_take_none_away : (K V S : Type 0) → SweepsTakeNoneAway K V S
 sweeps_take_none_away K V S same hashes b setting m0 xs h purpose x m is x2 m2 result runs = take_none_away same hashes b setting m0 xs h purpose x m is x2 m2 result runs

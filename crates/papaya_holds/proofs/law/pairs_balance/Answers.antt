@@ -1,5 +1,6 @@
 -- What comes to the memory of a map for one owner, and what becomes of it.
 use Rattle.papaya_holds.proofs.Calls.Runs.{calls_begin, calls_store_alone, replies_put_none}
+use Rattle.papaya_holds.proofs.Lists.Lives.{lives_balance}
 use Rattle.papaya_holds.proofs.Runs.Hands.{rows_hand_out}
 use Rattle.papaya_holds.proofs.Lists.Balance.{what_leaves_balances, answers_balance}
 use Rattle.papaya_holds.proofs.Runs.None.{rooms_put_none, sweeps_put_none, refreshes_put_none, makings_put_none}
@@ -17,4 +18,5 @@ returns c d = record {
   makings = makings_put_none _ _;
   leaves = what_leaves_balances _ _;
   answers = answers_balance _ _;
+  lives = lives_balance _ _;
 }
