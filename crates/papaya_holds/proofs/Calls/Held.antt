@@ -138,6 +138,7 @@ module _ {K V Q S : Type 0} (asks : Q → K → Bool) (same : K → K → Bool) 
 
   next_by : (u : CallOnKey K V Q) (unstored : Option (Node K V)) (m : Mem (Node K V)) (here : Course u m) (m2 : Mem (Node K V)) (p2 : KeyCall K V Q) (told : Called (Node K V)) (s : Steps Took value_at m (call_plan asks same hash u.call) m2 (p2, told))
       → Next (on_key_settled (it p2 unstored) told).0 m2 (on_key_settled (it p2 unstored) told).1
+  unfolding under_of
   next_by u unstored m here m2 p2 called.Goes s = under_of u m here m2 p2 called.Goes s unstored (led u m here m2 p2 called.Goes s).leads
   next_by u unstored m here m2 p2 called.Waits s = absurd ((led u m here m2 p2 called.Waits s).leads)
   next_by u unstored m here m2 p2 (called.Gave value) s = under_of u m here m2 p2 (called.Gave value) s unstored (led u m here m2 p2 (called.Gave value) s).leads.0
