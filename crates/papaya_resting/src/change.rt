@@ -74,8 +74,8 @@ pub(crate) fn computed<K, T>(
             *last = told(answer);
             Ok(Compute::Changed(changed(answer)))
         }
-        Ok(Computed::Aborted(end)) => {
-            *last = Last::NONE;
+        Ok(Computed::Aborted(end, answer)) => {
+            *last = told(answer);
             Ok(Compute::Aborted(end))
         }
         Err(refused) => {
