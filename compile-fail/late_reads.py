@@ -36,6 +36,9 @@ LENT = [
     ("remove", "map: &mut Map", "map.remove(&1)", "lent.is_ok_and(|value| value.is_some_and(|value| *value == 2))"),
     ("remove_entry", "map: &mut Map", "map.remove_entry(&1)", "lent.is_ok_and(|pair| pair.is_some_and(|pair| *pair.1 == 2))"),
     ("get_of_a_set", "map: &mut Set", "map.get(&1)", "lent.is_some_and(|element| *element == 1)"),
+    ("iter_of_a_set", "map: &mut Set", "map.iter().next()", "lent.is_some_and(|element| *element == 1)"),
+    ("taken_of_a_set", "map: &mut Set", "map.taken()", "lent.is_some_and(|element| *element == 1)"),
+    ("met_of_a_set", "map: &mut Set", "map.met()", "lent.is_some_and(|element| *element == 1)"),
 ]
 CHANGE = "let _ = map.clear();"
 # a change while the map is lent, or while a change has lent it
