@@ -13,7 +13,7 @@ use seize_words::Plain;
 use std::hash::{BuildHasher, Hash};
 
 /// What a computing gives, by the pair that is there, or where there is none.
-#[derive(Drop)]
+#[derive(Debug, Drop, PartialEq, Eq)]
 pub enum Operation<V, T> {
     /// This value is to be stored.
     Insert(V),
