@@ -1,19 +1,20 @@
-//! A list of elements of which no two are equal, to read arrays into.
+//! A list of elements of which no two are equal, to read arrays into whose elements have no hash.
 ghost use Rattle.std.specs.Prelude.{◌≡◌, [], IfOk};
 ghost use Rattle.std.specs.Slice.Iter.{iter_rest};
 
-use papaya_forms::Gathers;
+use crate::gathers::Gathers;
 use seize_words::Fault;
 use std::alloc::{AllocError, Global};
 use std::slice::Iter;
 
-/// The elements, in the order in which they were put in last.
+/// Elements of which no two are equal, in the order in which each was put in last.
 #[derive(Drop)]
 pub struct Listed<K> {
     elements: Vec<K>,
 }
 
 impl<K> Listed<K> {
+    /// The elements, in that order.
     pub fn iter(&self) -> Iter<'_, K>
         ensures { iter_rest result ≡ self.now.elements.items }
     {

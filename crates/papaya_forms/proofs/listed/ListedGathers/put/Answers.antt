@@ -3,7 +3,7 @@ use Rattle.std.specs.List.Sorted.{IsPermutation}
 use Rattle.std.proofs.Common.{◌∷◌, [], ◌++◌, not, rules, subst}
 use Rattle.std.proofs.lemmas.Fn.{filter_same}
 use Rattle.std.proofs.lemmas.List.Sorted.{IsPermutation-refl}
-use Rattle.papaya_forms_tests.proofs.listed.ListedGathers.put.Goals as goal
+use Rattle.papaya_forms.proofs.listed.ListedGathers.put.Goals as goal
 
 pub returns-clause-put : goal.returns-clause-put
 returns-clause-put g c =
