@@ -1,0 +1,2 @@
+pub mod Sheltered
+pub mod Promises
