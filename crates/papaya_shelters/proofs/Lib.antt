@@ -4,3 +4,4 @@ pub mod Lasting
 pub mod Within
 pub mod Calls
 pub mod Rows
+pub mod Events

@@ -42,7 +42,7 @@ use Rattle.papaya_others.proofs.RowPlans.{TellsRow, row_tells, row_operated}
 use Rattle.papaya_moments.proofs.Beside.{IsBeside}
 use Rattle.papaya_moments.proofs.OnSlots.{none_some, row_beside}
 use Rattle.papaya_shelters.specs.Promises.{RowsShelter, NoneIsBack}
-use Rattle.papaya_shelters.specs.Sheltered.{IsOfThing, HasCome, IsSheltered, AreSheltered}
+use Rattle.papaya_shelters.specs.Sheltered.{IsOfThing, GuardsAreInside, IsSheltered, AreSheltered}
 use Rattle.papaya_shelters.proofs.Lasting.{Lasts, of_map, all_last, guards_last}
 use Rattle.papaya_shelters.proofs.Lists.{all_of}
 
@@ -163,8 +163,9 @@ module _ {K V S : Type 0} (same : K → K → Bool) (hash : K → ℕ) (m : Mome
     told_back (changed.Took b) is tells_so xs all = taken_back b is (known.roles b) refl xs all
     told_back (changed.Roomed bucket had) is tells_so xs all = roomed_back (nat_lt bucket known.buckets) xs
 
-    pub row_shelters : (xs : List Sheltered) → AreSheltered there w known xs → AreSheltered there w2 known2 xs × NoneIsBack (effects_of Row known new.memory.changed) xs
-    row_shelters xs all = (all_last there known known2 w w2 lasts xs all, told_back new.memory.changed refl tells xs all)
+    pub row_shelters : (xs : List Sheltered) → AreSheltered there w known xs
+        → (GuardsAreInside there w → GuardsAreInside there w2) × AreSheltered there w2 known2 xs × NoneIsBack (effects_of Row known new.memory.changed) xs
+    row_shelters xs all = (guards_last there known known2 w w2 lasts, all_last there known known2 w w2 lasts xs all, told_back new.memory.changed refl tells xs all)
 
 module _ (K V S : Type 0) (same : K → K → Bool) (hash : K → ℕ) where
   pub rows_shelter : RowsShelter K V S same hash

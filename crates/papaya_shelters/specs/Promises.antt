@@ -1,5 +1,5 @@
 -- What is promised of what left its map while guards were there: each kind of step leaves it sheltered, and reclaims none of it.
-use Rattle.std.specs.Prelude.{◌≡◌, ℕ, Bool, false, List, [], Some, flat_map}
+use Rattle.std.specs.Prelude.{◌≡◌, ℕ, Bool, false, List, [], ◌++◌, Some, flat_map}
 use Rattle.std.specs.List.{AllByRecursion}
 use Rattle.seize.specs.World.{Step}
 use Rattle.seize.specs.declared.rows.settle.Settled.{Settled}
@@ -7,10 +7,13 @@ use Rattle.papaya_tables.specs.declared.node.Node.{Node}
 use Rattle.papaya_raw.specs.declared.machines.progress.Progress.{Progress}
 use Rattle.papaya_runs.specs.Present.{Present}
 use Rattle.papaya_schedules.specs.declared.effect.Effect.{Effect}
+use Rattle.papaya_schedules.specs.After.{after, moment}
 use Rattle.papaya_schedules.specs.Effects.{with_effects}
+use Rattle.papaya_schedules.specs.Entry.{Entry}
 use Rattle.papaya_schedules.specs.Lists.{is_in}
 use Rattle.papaya_schedules.specs.Model.{thing_back}
 use Rattle.papaya_schedules.specs.Moment.{Sheltered, Moment}
+use Rattle.papaya_schedules.specs.Reclaims.{IsProtected}
 use Rattle.papaya_schedules.specs.Things.{same_thing}
 use Rattle.papaya_callers.specs.Together.{UnderWay}
 use Rattle.papaya_effects.specs.Effects.{effects_of, known_after}
@@ -31,8 +34,16 @@ use Rattle.papaya_shelters.specs.Sheltered.{GuardsAreInside, AreSheltered}
 abbrev pub NoneIsBack : List Effect → List Sheltered → Type 0
 NoneIsBack effects sheltered = AllByRecursion (λ x. is_in same_thing x.thing (flat_map thing_back effects) ≡ false) sheltered
 
+-- The promises: what none of two parts reclaims, both do not,
+abbrev pub StepsProtect : Type 0
+StepsProtect = (effects more : List Effect) (sheltered : List Sheltered) → NoneIsBack effects sheltered → NoneIsBack more sheltered → NoneIsBack (effects ++ more) sheltered
+
+-- and an event whose effects reclaim nothing that is sheltered after it is as it is to be.
+abbrev pub EventsAreProtected : Type 0 → Type 0 → Type 0
+EventsAreProtected K V = (log : List (Entry K V)) (e : Entry K V) → NoneIsBack e.effects (after e (moment log)).sheltered → IsProtected log e
+
 module _ (K V S : Type 0) (same : K → K → Bool) (hash : K → ℕ) where
-  -- The promises: a step of a call leaves guards within their sections, and shelters what it takes out of its map; it reclaims nothing.
+  -- A step of a call leaves guards within their sections, and shelters what it takes out of its map; it reclaims nothing.
   abbrev pub CallsShelter : Type 0
   CallsShelter =
       (name : ℕ → List ℕ) (m : Moment K V) (known : Known) (s : Scene K V) (old new : Executor K V S) → IsAt same hash old s → ShowsWhole same name m known s
@@ -51,5 +62,6 @@ module _ (K V S : Type 0) (same : K → K → Bool) (hash : K → ℕ) where
       → (i : ℕ) (told : RowTold (Node K V)) (leads : RowLeads same hash i told s old new) (row : SlotRow) (here : work_of old i ≡ Some (OnSlot row))
       → (there : Present) (sheltered : List Sheltered) → AreSheltered there s.world known sheltered
       → (let effects = effects_of acts.Row known new.memory.changed in
-      AreSheltered there (scene_then same hash (Step i) s old new (leads row here).4).world (known_after acts.Row new.memory.changed known) sheltered
+      let then = (scene_then same hash (Step i) s old new (leads row here).4).world in
+      (GuardsAreInside there s.world → GuardsAreInside there then) × AreSheltered there then (known_after acts.Row new.memory.changed known) sheltered
       × NoneIsBack effects sheltered)
