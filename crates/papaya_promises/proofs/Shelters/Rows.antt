@@ -41,10 +41,10 @@ use Rattle.papaya_follows.proofs.Told.{roomed_as_many}
 use Rattle.papaya_others.proofs.RowPlans.{TellsRow, row_tells, row_operated}
 use Rattle.papaya_moments.proofs.Beside.{IsBeside}
 use Rattle.papaya_moments.proofs.OnSlots.{none_some, row_beside}
-use Rattle.papaya_shelters.specs.Promises.{RowsShelter, NoneIsBack}
-use Rattle.papaya_shelters.specs.Sheltered.{IsOfThing, GuardsAreInside, IsSheltered, AreSheltered}
-use Rattle.papaya_shelters.proofs.Lasting.{Lasts, of_map, all_last, guards_last}
-use Rattle.papaya_shelters.proofs.Lists.{all_of}
+use Rattle.papaya_promises.specs.Shelters.{RowsShelter, NoneIsBack}
+use Rattle.papaya_promises.specs.Sheltered.{IsOfThing, GuardsAreInside, IsSheltered, AreSheltered}
+use Rattle.papaya_promises.proofs.Shelters.Lasting.{Lasts, of_map, all_last, guards_last}
+use Rattle.papaya_promises.proofs.Lists.{all_of}
 
 -- two things that are the same
 

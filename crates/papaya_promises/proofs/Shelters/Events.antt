@@ -10,7 +10,7 @@ use Rattle.papaya_schedules.specs.Lists.{is_in}
 use Rattle.papaya_schedules.specs.Model.{thing_back}
 use Rattle.papaya_schedules.specs.Moment.{Sheltered}
 use Rattle.papaya_schedules.specs.Things.{same_thing}
-use Rattle.papaya_shelters.specs.Promises.{NoneIsBack, StepsProtect, EventsAreProtected}
+use Rattle.papaya_promises.specs.Shelters.{NoneIsBack, StepsProtect, EventsAreProtected}
 
 -- it is in none of two lists
 in_none : (x : Thing) (things more : List Thing) → is_in same_thing x things ≡ false → is_in same_thing x more ≡ false → is_in same_thing x (things ++ more) ≡ false

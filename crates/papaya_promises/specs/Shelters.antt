@@ -28,7 +28,7 @@ use Rattle.papaya_executor.specs.declared.row.SlotRow.{SlotRow}
 use Rattle.papaya_executor.specs.declared.worker.Work.TheVariants.{OnSlot}
 use Rattle.papaya_others.specs.Rows.{scene_then}
 use Rattle.papaya_moments.specs.Whole.{ShowsWhole}
-use Rattle.papaya_shelters.specs.Sheltered.{GuardsAreInside, AreSheltered}
+use Rattle.papaya_promises.specs.Sheltered.{GuardsAreInside, AreSheltered}
 
 -- none of these things is reclaimed by the effects
 abbrev pub NoneIsBack : List Effect → List Sheltered → Type 0

@@ -25,7 +25,7 @@ use Rattle.papaya_effects.specs.declared.acting.Acting.{Acting}
 use Rattle.papaya_effects.specs.declared.acting.Acting.TheVariants.{Call}
 use Rattle.papaya_effects.specs.declared.role.Role.{Role}
 use Rattle.papaya_effects.specs.declared.role.Role.TheVariants as role
-use Rattle.papaya_shelters.proofs.Lists.{none_shelter}
+use Rattle.papaya_promises.proofs.Lists.{none_shelter}
 
 -- it takes nothing out of a map
 abbrev pub KeepsIn : Effect → Type 0

@@ -1,4 +1,3 @@
-pub mod Lists
 pub mod Outs
 pub mod Lasting
 pub mod Within

@@ -14,8 +14,8 @@ use Rattle.papaya_effects.specs.Known.{Known}
 use Rattle.papaya_effects.specs.declared.role.Role.{Role}
 use Rattle.papaya_effects.specs.declared.role.Role.TheVariants as role
 use Rattle.papaya_follows.proofs.Onward.{IsOfMap}
-use Rattle.papaya_shelters.specs.Sheltered.{IsOfThing, HasCome, GuardsAreInside, IsSheltered, AreSheltered}
-use Rattle.papaya_shelters.proofs.Lists.{all_of}
+use Rattle.papaya_promises.specs.Sheltered.{IsOfThing, HasCome, GuardsAreInside, IsSheltered, AreSheltered}
+use Rattle.papaya_promises.proofs.Lists.{all_of}
 
 pub of_map : (x : Thing) (r : Role) → IsOfThing x r → IsOfMap r
 of_map (APair n) r is = subst IsOfMap (sym is) tt

@@ -54,12 +54,12 @@ use Rattle.papaya_hands.proofs.Steps.{calls_store_theirs}
 use Rattle.papaya_spots.proofs.Elsewhere.{stored_grows}
 use Rattle.papaya_moments.specs.Whole.{ShowsWhole}
 use Rattle.papaya_moments.proofs.Calls.{of_row}
-use Rattle.papaya_shelters.specs.Promises.{CallsShelter}
-use Rattle.papaya_shelters.specs.Sheltered.{IsOfThing, HasCome, GuardsAreInside, IsSheltered, AreSheltered}
-use Rattle.papaya_shelters.proofs.Lasting.{Lasts, of_map, all_last, guards_last}
-use Rattle.papaya_shelters.proofs.Lists.{all_append, all_of, passed_all, IsFound, all_found, all_shelter}
-use Rattle.papaya_shelters.proofs.Outs.{KeepsIn, OutFirst, AreFew, TakesOwn, effects_few, keep_all}
-use Rattle.papaya_shelters.proofs.Within.{GoOn, call_goes_on}
+use Rattle.papaya_promises.specs.Shelters.{CallsShelter}
+use Rattle.papaya_promises.specs.Sheltered.{IsOfThing, HasCome, GuardsAreInside, IsSheltered, AreSheltered}
+use Rattle.papaya_promises.proofs.Shelters.Lasting.{Lasts, of_map, all_last, guards_last}
+use Rattle.papaya_promises.proofs.Lists.{all_append, all_of, passed_all, IsFound, all_found, all_shelter}
+use Rattle.papaya_promises.proofs.Shelters.Outs.{KeepsIn, OutFirst, AreFew, TakesOwn, effects_few, keep_all}
+use Rattle.papaya_promises.proofs.Shelters.Within.{GoOn, call_goes_on}
 
 -- what a row within a call does takes nothing out of a map
 

@@ -1,2 +1,0 @@
-pub mod Sheltered
-pub mod Promises
