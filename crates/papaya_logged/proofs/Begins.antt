@@ -1,0 +1,50 @@
+-- The beginning of a call is written down, under the name of its caller.
+use Rattle.std.specs.Prelude.{◌≡◌, ◌<◌, ◌≢◌, ℕ, ◌==◌, Bool, true, false, List, Some, None, length, if◌then◌else◌}
+use Rattle.std.proofs.Common.{refl, sym, subst, ap, arith, ◌∙◌}
+use Rattle.std.proofs.lemmas.Bool.{eq-eqb, ne_eqb}
+use Rattle.papaya_raw.specs.declared.machines.machine.Machine.{Machine}
+use Rattle.papaya_runs.specs.Same.{is_same}
+use Rattle.papaya_schedules.specs.Beginning.{with_call}
+use Rattle.papaya_schedules.specs.Lists.{put}
+use Rattle.papaya_schedules.specs.Moment.{Moment}
+use Rattle.papaya_callers.specs.Together.{UnderWay}
+use Rattle.papaya_effects.specs.Known.{Known, known}
+use Rattle.papaya_executor.specs.Beginning.{BeginLeads}
+use Rattle.papaya_executor.specs.IsAt.{Scene, IsAt, HasCall}
+use Rattle.papaya_executor.specs.declared.executor.Executor.{Executor}
+use Rattle.papaya_executor.specs.declared.worker.TheConstants.{SLOTS}
+use Rattle.papaya_executor.proofs.Fresh.{caller_in, no_calls_yet, resting}
+use Rattle.papaya_follows.specs.Calling.{NoneNamed}
+use Rattle.papaya_moments.specs.Whole.{ShowsWhole}
+use Rattle.papaya_moments.proofs.Calls.{calls_begin_whole}
+use Rattle.papaya_logged.specs.Calling.{CallBegins}
+use Rattle.papaya_logged.specs.Shown.{IsShown}
+use Rattle.papaya_logged.specs.declared.logged.Logged.{Logged}
+use Rattle.papaya_logged.proofs.Renamed.{renamed}
+
+-- one that is named gets its name, and the others keep theirs
+named : (i : ℕ) (own : List ℕ) (name : ℕ → List ℕ) → put i own name i ≡ own
+named i own name = ap (λ (b : Bool). if b then own else name i) (eq-eqb i i refl)
+
+kept : (i j : ℕ) (own : List ℕ) (name : ℕ → List ℕ) → j ≢ i → put i own name j ≡ name j
+kept i j own name ne = ap (λ (b : Bool). if b then own else name j) (ne_eqb j i ne)
+
+module _ {K V S : Type 0} (same : K → K → Bool) (hash : K → ℕ) where
+  pub call_begins : (old new : Logged K V S) (slot map : ℕ) (machine : Machine K V K) (fits : slot < SLOTS)
+      → ((s : Scene K V) → IsAt same hash old.executor s → BeginLeads same hash map machine (caller_in old.executor slot) s old.executor new.executor)
+      → new.notes ≡ old.notes
+      → (name : ℕ → List ℕ) (m : Moment K V) (s : Scene K V) → IsShown same hash name m old s → CallBegins same hash name m s (caller_in old.executor slot) map machine old new
+  call_begins old new slot map machine fits begins noted name m s shown standing stands inside u is fresh own guard call called begun apart =
+      let i = caller_in old.executor slot in
+      let names = put i own name in
+      let leads = begins s shown.is_at standing stands inside u is fresh in
+      let agree : (j : ℕ) → HasCall s j → names j ≡ name j =
+          λ j has. kept i j own name (λ e. absurd (cc (has.2, subst (λ x. s.calls has.0 x ≡ None) (sym e) (no_calls_yet same hash old.executor s shown.is_at slot fits has.0)))) in
+      let before = renamed same name names m (known old.notes) s agree shown.shows in
+      let none : NoneNamed names (names i) s = λ n j x here. subst (λ a. is_same a (names j) ≡ false) (sym (named i own name)) (subst (λ a. is_same own a ≡ false) (sym (agree j (n, x, here))) (apart n j x here)) in
+      record {
+        is_at = leads.1;
+        shows = subst (λ a. ShowsWhole same names (with_call a guard call (Some map) m) (known new.notes) _) (named i own name)
+            (subst (λ k. ShowsWhole same names _ (known k) _) (sym noted)
+            (calls_begin_whole K V same names m (known old.notes) s before map i u call guard none called begun (resting same hash old.executor s shown.is_at slot fits)));
+      }

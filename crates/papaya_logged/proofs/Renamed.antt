@@ -1,0 +1,36 @@
+-- The names of callers matter only where they have a call under way.
+use Rattle.std.specs.Prelude.{◌≡◌, ℕ, Bool, true, List, Some}
+use Rattle.std.proofs.Common.{refl, sym, subst, ◌∙◌, ap}
+use Rattle.papaya_runs.specs.Same.{is_same}
+use Rattle.papaya_schedules.specs.Moment.{Moment}
+use Rattle.papaya_schedules.specs.Views.{call_of}
+use Rattle.papaya_callers.specs.Together.{UnderWay}
+use Rattle.papaya_effects.specs.Known.{Known}
+use Rattle.papaya_executor.specs.IsAt.{Scene, HasCall}
+use Rattle.papaya_follows.specs.Calls.{ShowsCalls}
+use Rattle.papaya_follows.specs.Shows.{Shows}
+use Rattle.papaya_hands.specs.Asked.{ShowsAsked}
+use Rattle.papaya_hands.specs.Shows.{ShowsAll}
+use Rattle.papaya_moments.specs.Whole.{ShowsWhole}
+
+module _ {K V : Type 0} (same : K → K → Bool) (name name2 : ℕ → List ℕ) (m : Moment K V) (known : Known) (s : Scene K V) (agree : (i : ℕ) → HasCall s i → name2 i ≡ name i) where
+  calls : ShowsCalls same name m s.calls → ShowsCalls same name2 m s.calls
+  calls shown map i u here = let c = shown map i u here in (c.0, ap (λ x. call_of x m) (agree i (map, u, here)) ∙ c.1, c.2, c.3)
+
+  shows : Shows same name m known s → Shows same name2 m known s
+  shows shown = record { blocks = shown.blocks; number = shown.number; maps = shown.maps; calls = calls shown.calls }
+
+  asked : (number : ℕ → ℕ → ℕ) → ShowsAsked name number m known s → ShowsAsked name2 number m known s
+  asked number shown = record {
+    apart = λ n j k l x y is other one. shown.apart n j k l x y is other (subst (λ a. is_same a (name l) ≡ true) (agree j (n, x, is)) (subst (λ a. is_same (name2 j) a ≡ true) (agree l (k, y, other)) one));
+    each = λ map i u here standing stands c there. shown.each map i u here standing stands c (ap (λ x. call_of x m) (sym (agree i (map, u, here))) ∙ there);
+  }
+
+  pub renamed : ShowsWhole same name m known s → ShowsWhole same name2 m known s
+  renamed whole = record {
+    all = record { shown = shows whole.all.shown; asked = asked whole.all.shown.number whole.all.asked; hands = whole.all.hands; rows = whole.all.rows };
+    places = whole.places;
+    blocks = whole.blocks;
+    outside = whole.outside;
+    counters = whole.counters;
+  }

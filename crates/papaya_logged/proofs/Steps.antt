@@ -1,0 +1,31 @@
+-- A step of a call is written down.
+use Rattle.std.specs.Prelude.{◌≡◌, ℕ, Bool, List, ◌++◌}
+use Rattle.std.proofs.Common.{refl, subst, sym}
+use Rattle.papaya_tables.specs.declared.node.Node.{Node}
+use Rattle.papaya_raw.specs.declared.machines.progress.Progress.{Progress}
+use Rattle.papaya_schedules.specs.declared.effect.Effect.{Effect}
+use Rattle.papaya_schedules.specs.Moment.{Moment}
+use Rattle.papaya_effects.specs.Effects.{effects_of, known_after}
+use Rattle.papaya_effects.specs.Known.{Known, known}
+use Rattle.papaya_effects.specs.declared.acting.Acting.TheVariants as acts
+use Rattle.papaya_executor.specs.IsAt.{Scene, IsAt}
+use Rattle.papaya_executor.specs.Stepping.{StepLeads}
+use Rattle.papaya_executor.specs.declared.executor.Executor.{Executor}
+use Rattle.papaya_moments.proofs.Calls.{calls_keep_whole}
+use Rattle.papaya_moments.specs.Whole.{ShowsWhole}
+use Rattle.papaya_logged.specs.Calling.{CallGoesOn}
+use Rattle.papaya_logged.specs.Shown.{IsShown}
+use Rattle.papaya_logged.specs.declared.logged.Logged.{Logged}
+
+module _ {K V S : Type 0} (same : K → K → Bool) (hash : K → ℕ) where
+  -- The executor has taken the step, and then its memory was noted: the executor stayed as it was.
+  pub goes_on : (old new : Logged K V S) (stepped : Executor K V S) (i map : ℕ) (told : Progress (Node K V)) (before after : List Effect)
+      → ((s : Scene K V) → IsAt same hash old.executor s → StepLeads same hash i told s old.executor stepped)
+      → after ≡ before ++ effects_of (acts.Call i map) (known old.notes) stepped.memory.changed
+      → known new.notes ≡ known_after (acts.Call i map) stepped.memory.changed (known old.notes)
+      → new.executor ≡ stepped
+      → (name : ℕ → List ℕ) (m : Moment K V) (s : Scene K V) → IsShown same hash name m old s → CallGoesOn same hash name m s i map told before after old new
+  goes_on old new stepped i map told before after stepping did noted refl name m s shown u here =
+      let leads = stepping s shown.is_at in
+      (leads, _, did, record { is_at = (leads map u here).5;
+                               shows = subst (λ k. ShowsWhole same name _ k _) (sym noted) (calls_keep_whole K V S same hash name m _ s old.executor _ shown.is_at shown.shows map i u here told leads) })
