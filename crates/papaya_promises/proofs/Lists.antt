@@ -8,7 +8,7 @@ use Rattle.std.proofs.lemmas.List.Concat.{flat_map-cons}
 use Rattle.papaya_runs.specs.Present.{guard_of}
 use Rattle.papaya_runs.specs.Same.{is_same}
 use Rattle.papaya_runs.specs.declared.holders.Guard.{Guard}
-use Rattle.papaya_runs.proofs.Sames.{same_refl}
+use Rattle.papaya_runs.proofs.Laws.{same_tells}
 use Rattle.papaya_schedules.specs.declared.effect.Thing.{Thing}
 use Rattle.papaya_schedules.specs.declared.effect.Thing.TheVariants.{ATable}
 use Rattle.papaya_schedules.specs.Effects.{passed}
@@ -39,7 +39,7 @@ module _ (all : List Guard) where
   IsFound g = (found : Guard) × (guard_of g.name all ≡ Some found)
 
 found_in : (before : List Guard) (g : Guard) (rest : List Guard) → IsFound (before ++ g ∷ rest) g
-found_in [] g rest = (g, ap (λ (q : Bool). if q then Some g else guard_of g.name rest) (same_refl g.name))
+found_in [] g rest = (g, ap (λ (q : Bool). if q then Some g else guard_of g.name rest) ((same_tells g.name g.name).1 refl))
 found_in (x ∷ before) g rest = by (is_same x.name g.name)
   where
     by : (q : Bool) → (found : Guard) × ((if q then Some x else guard_of g.name (before ++ g ∷ rest)) ≡ Some found)

@@ -13,13 +13,13 @@ use Rattle.papaya_schedules.specs.Things.{same_thing}
 use Rattle.papaya_promises.specs.Shelters.{NoneIsBack, StepsProtect, EventsAreProtected}
 
 -- it is in none of two lists
+none_then : (q : Bool) (rest both : Bool) → (q || rest) ≡ false → (rest ≡ false → both ≡ false) → (q || both) ≡ false
+none_then true rest both e further = absurd (cc e)
+none_then false rest both e further = further e
+
 in_none : (x : Thing) (things more : List Thing) → is_in same_thing x things ≡ false → is_in same_thing x more ≡ false → is_in same_thing x (things ++ more) ≡ false
 in_none x [] more none other = other
-in_none x (y ∷ things) more none other = by (same_thing x y) none
-  where
-    by : (q : Bool) → (q || is_in same_thing x things) ≡ false → (q || is_in same_thing x (things ++ more)) ≡ false
-    by true e = absurd (cc e)
-    by false e = in_none x things more e other
+in_none x (y ∷ things) more none other = none_then (same_thing x y) (is_in same_thing x things) (is_in same_thing x (things ++ more)) none (λ rest. in_none x things more rest other)
 
 pub steps_protect : StepsProtect
 steps_protect effects more [] none other = tt
