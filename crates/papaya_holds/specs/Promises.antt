@@ -1,5 +1,5 @@
 -- What is promised of the memory of a map for one owner: what runs puts no pair there but the one that it stores, and what leaves the map waits there, or was given back.
-use Rattle.std.specs.Prelude.{◌≡◌, ℕ, Bool, List, [], Result}
+use Rattle.std.specs.Prelude.{ℕ, Bool, List, [], Result}
 use Rattle.seize_words.specs.Mem.{Mem, Can, Took, value_at}
 use Rattle.seize_words.specs.Plan.{May, Steps}
 use Rattle.seize_words.specs.declared.fault.Fault.{Fault}

@@ -1,5 +1,5 @@
 -- A call on one key that one owner runs, and tells what it asks, puts no pair into the memory but the one that it tells as stored.
-use Rattle.std.specs.Prelude.{◌^◌, ◌<◌, Option, Some, Result, Ok, Err}
+use Rattle.std.specs.Prelude.{◌^◌, ◌<◌, Result, Ok, Err}
 use Rattle.std.proofs.Common.{◌≡◌, ◌≢◌, ℕ, Bool, ◌⊎◌, inl, inr, refl, sym, ◌∙◌, ap, subst}
 use Rattle.seize_words.specs.Mem.{Mem, Can, Took, value_at}
 use Rattle.seize_words.specs.Plan.{Steps}
@@ -11,10 +11,9 @@ use Rattle.seize.specs.declared.progress.Progress.{Progress}
 use Rattle.seize.specs.declared.progress.Progress.TheVariants as progress
 use Rattle.seize_rule.proofs.Rows.Leaving.{steps_back}
 use Rattle.papaya_tables.specs.declared.node.Node.{Node}
-use Rattle.papaya_tables.specs.declared.setting.Setting.{Setting}
 use Rattle.papaya_raw.specs.Call.{call_plan}
-use Rattle.papaya_raw.specs.CallAsks.{with_absent, with_present, absent_told, present_told, told_at, replied}
-use Rattle.papaya_raw.specs.CallPoints.{standing, ending, burying, at_gap}
+use Rattle.papaya_raw.specs.CallAsks.{with_absent, with_present, absent_told, present_told, told_at}
+use Rattle.papaya_raw.specs.CallPoints.{standing}
 use Rattle.papaya_raw.specs.declared.machines.answer.Called.{Called}
 use Rattle.papaya_raw.specs.declared.machines.answer.Called.TheVariants as called
 use Rattle.papaya_raw.specs.declared.machines.answer.End.TheVariants as ends
@@ -27,12 +26,10 @@ use Rattle.papaya_raw.specs.declared.machines.asking.Reply.{Reply}
 use Rattle.papaya_raw.specs.declared.machines.asking.Reply.TheVariants as reply
 use Rattle.papaya_raw.specs.declared.machines.asking.Takes.{Takes}
 use Rattle.papaya_raw.specs.declared.machines.asking.Takes.TheVariants as takes
-use Rattle.papaya_raw.specs.declared.machines.asking.Told.{Told}
 use Rattle.papaya_raw.specs.declared.machines.asking.Told.TheVariants as tells
 use Rattle.papaya_raw.specs.declared.machines.call.Calling.{Calling}
 use Rattle.papaya_raw.specs.declared.machines.call.Calling.TheVariants as at
 use Rattle.papaya_raw.specs.declared.machines.call.KeyCall.{KeyCall}
-use Rattle.papaya_points.specs.Steps.{AreLawful}
 use Rattle.papaya_callers.specs.Pairs.{Given}
 use Rattle.papaya_callers.specs.Together.{IsBegun, Gets, Removes, Inserts, TriesToInsert, Computes, Updates, UpdatesOrInserts, TriesToInsertWith, RemovesIf}
 use Rattle.papaya_owned.specs.Ending.{GoesOn, Tells, Ends, RunsTo, stops, goes}
@@ -44,7 +41,7 @@ use Rattle.papaya_owned.proofs.Runs.Steps.{may_step, ends_on}
 use Rattle.papaya_holds.specs.Came.{StandsAt, NoneCame, CameBy, TellsOwn, OwnsAt, Owns, HasOnly, HasCome, ComesWith}
 use Rattle.papaya_holds.specs.Promises.{CallsBegin, CallsStoreAlone, RepliesPutNone}
 use Rattle.papaya_holds.proofs.Calls.Goes.{TellsSo, ending_so, burying_so, gap_so}
-use Rattle.papaya_holds.proofs.Calls.Steps.{Comes, step_comes}
+use Rattle.papaya_holds.proofs.Calls.Steps.{step_comes}
 
 -- It begins with no block of its own.
 module _ {K V Q : Type 0} (m : Mem (Node K V)) (p : KeyCall K V Q) where

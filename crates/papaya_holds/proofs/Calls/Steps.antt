@@ -1,5 +1,5 @@
 -- A step of a call on one key leaves it as one that has put no pair into the memory but that of its own block.
-use Rattle.std.specs.Prelude.{◌==◌, ◌^◌, ◌<◌, ◌/◌, Option, Some, None, Ok, Err}
+use Rattle.std.specs.Prelude.{◌==◌, ◌^◌, ◌<◌, Option, Some, None, Ok}
 use Rattle.std.proofs.Common.{◌≡◌, ◌≢◌, ℕ, Bool, true, false, ◌⊎◌, inl, inr, refl, sym, ◌∙◌, ap, subst, arith, eqb-true}
 use Rattle.std.proofs.lemmas.Bool.{eqb-false}
 use Rattle.seize_words.specs.Mem.{Mem, Can, Took, IsFreeNumber, value_at, with_block, with_value, after as mem_after}
@@ -21,7 +21,6 @@ use Rattle.papaya_raw.specs.CallFills.{taken_back, filled, putting_by, fill_by, 
 use Rattle.papaya_raw.specs.CallPoints.{word_to, going, standing, over}
 use Rattle.papaya_raw.specs.Replies.{value_for, as_own}
 use Rattle.papaya_raw.specs.declared.machines.answer.Called.{Called}
-use Rattle.papaya_raw.specs.declared.machines.answer.Called.TheVariants as called
 use Rattle.papaya_raw.specs.declared.machines.answer.End.TheVariants as ends
 use Rattle.papaya_raw.specs.declared.machines.answer.KeyAnswer.TheVariants as answers
 use Rattle.papaya_raw.specs.declared.machines.answer.There.TheVariants as there

@@ -1,5 +1,5 @@
 -- Runs of machines that put no pair into a block, and what they leave.
-use Rattle.std.specs.Prelude.{ℕ, [], Result}
+use Rattle.std.specs.Prelude.{[], Result}
 use Rattle.seize_words.specs.Mem.{Mem}
 use Rattle.seize_words.specs.Plan.{Plan}
 use Rattle.seize_words.specs.declared.fault.Fault.{Fault}
