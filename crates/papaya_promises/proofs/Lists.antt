@@ -25,13 +25,12 @@ all_of P Q (x ∷ xs) f all = (f x all.0, all_of P Q xs f all.1)
 -- a table that is passed has a turn from the root's on
 pub passed_all : (P : Thing → Type 0) (of first n : ℕ) → ((k : ℕ) → first ≤ k → k < n → P (ATable (record { map = of; turn = k }))) → AllByRecursion P (passed of first n)
 passed_all P of first zero each = tt
-passed_all P of first (suc n) each = by (nat_lt n first) refl
+passed_all P of first (suc n) each = by (nat_lt n first) refl (passed_all P of first n (λ k l less. each k l (omega (arith, less))))
   where
-    by : (q : Bool) → nat_lt n first ≡ q → AllByRecursion P (if q then [] else passed of first n ++ ATable (record { map = of; turn = n }) ∷ [])
-    by true e = tt
-    by false e =
-        all_append P (passed of first n) (ATable (record { map = of; turn = n }) ∷ []) (passed_all P of first n (λ k l less. each k l (omega (arith, less))))
-        (each n (grind (arith, nat_tests, e)) (omega arith), tt)
+    by : (q : Bool) → nat_lt n first ≡ q → AllByRecursion P (passed of first n) → AllByRecursion P (if q then [] else passed of first n ++ ATable (record { map = of; turn = n }) ∷ [])
+    by true e before = tt
+    by false e before =
+        all_append P (passed of first n) (ATable (record { map = of; turn = n }) ∷ []) before (each n (grind (arith, nat_tests, e)) (omega arith), tt)
 
 -- one of the guards is found by its name
 module _ (all : List Guard) where
@@ -40,11 +39,11 @@ module _ (all : List Guard) where
 
 found_in : (before : List Guard) (g : Guard) (rest : List Guard) → IsFound (before ++ g ∷ rest) g
 found_in [] g rest = (g, ap (λ (q : Bool). if q then Some g else guard_of g.name rest) ((same_tells g.name g.name).1 refl))
-found_in (x ∷ before) g rest = by (is_same x.name g.name)
+found_in (x ∷ before) g rest = by (is_same x.name g.name) (found_in before g rest)
   where
-    by : (q : Bool) → (found : Guard) × ((if q then Some x else guard_of g.name (before ++ g ∷ rest)) ≡ Some found)
-    by true = (x, refl)
-    by false = found_in before g rest
+    by : (q : Bool) → IsFound (before ++ g ∷ rest) g → (found : Guard) × ((if q then Some x else guard_of g.name (before ++ g ∷ rest)) ≡ Some found)
+    by true later = (x, refl)
+    by false later = later
 
 found_from : (before guards : List Guard) → AllByRecursion (IsFound (before ++ guards)) guards
 found_from before [] = tt
@@ -69,7 +68,10 @@ all_shelter P T things all (g ∷ guards) each =
     (all_append P (map (λ x. record { guard = g.name; thing = x }) things) (flat_map (λ (g : Guard). map (λ x. record { guard = g.name; thing = x }) things) guards)
     (one_shelters P T g each.0 things all) (all_shelter P T things all guards each.1))
 
--- no thing has nobody to shelter it
-pub none_shelter : (guards : List Guard) → flat_map (λ (g : Guard). map (λ (x : Thing). record { guard = g.name; thing = x }) []) guards ≡ []
+-- nobody shelters anything, where there is no thing
+abbrev pub nothing_by : Guard → List Sheltered
+nothing_by g = map (λ (x : Thing). record { guard = g.name; thing = x }) []
+
+pub none_shelter : (guards : List Guard) → flat_map nothing_by guards ≡ []
 none_shelter [] = refl
-none_shelter (g ∷ guards) = subst (λ (xs : List Sheltered). xs ≡ []) (sym (flat_map-cons (λ (g : Guard). map (λ (x : Thing). record { guard = g.name; thing = x }) []) g guards)) (none_shelter guards)
+none_shelter (g ∷ guards) = subst (λ (xs : List Sheltered). xs ≡ []) (sym (flat_map-cons nothing_by g guards)) (none_shelter guards)

@@ -1,3 +1,4 @@
+-- What leaves its map is sheltered by the sections that are open, by kind of step.
 pub mod Outs
 pub mod Lasting
 pub mod Within
