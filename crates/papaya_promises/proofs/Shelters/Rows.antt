@@ -36,11 +36,12 @@ use Rattle.papaya_executor.specs.declared.row.RowTold.{RowTold}
 use Rattle.papaya_executor.specs.declared.row.SlotRow.{SlotRow}
 use Rattle.papaya_executor.specs.declared.worker.Work.TheVariants as work
 use Rattle.papaya_executor.proofs.OnSlots.{row_at, may_taken}
+use Rattle.papaya_follows.proofs.Onward.{IsOfMap}
 use Rattle.papaya_follows.proofs.Operations.{LeavesBy, operated_leaves}
 use Rattle.papaya_follows.proofs.Told.{roomed_as_many}
 use Rattle.papaya_others.proofs.RowPlans.{TellsRow, row_tells, row_operated}
-use Rattle.papaya_moments.proofs.Beside.{IsBeside}
-use Rattle.papaya_moments.proofs.OnSlots.{none_some, row_beside}
+use Rattle.papaya_spots.proofs.Calm.{put_back}
+use Rattle.papaya_moments.proofs.OnSlots.{none_some}
 use Rattle.papaya_promises.specs.Shelters.{RowsShelter, NoneIsBack}
 use Rattle.papaya_promises.specs.Sheltered.{IsOfThing, GuardsAreInside, IsSheltered, AreSheltered}
 use Rattle.papaya_promises.proofs.Shelters.Lasting.{Lasts, of_map, all_last, guards_last}
@@ -115,12 +116,25 @@ module _ {K V S : Type 0} (same : K → K → Bool) (hash : K → ℕ) (m : Mome
   as_many (changed.Took b) is = refl
   as_many (changed.Roomed bucket had) is = (roomed_as_many Row known bucket had).1
 
+  -- a block of a map was so
+  was_so : (told : Changed) → TellsRow told → (b : ℕ) → IsOfMap ((known_after Row told known).roles b) → (known_after Row told known).roles b ≡ known.roles b
+  was_so changed.Nothing is b of = refl
+  was_so (changed.Wrote (Slot t field) before now) is b of = refl
+  was_so (changed.Wrote (Entry c field) before now) is b of = refl
+  was_so (changed.Wrote (Root r) before now) is b of = absurd is
+  was_so (changed.Wrote (Used r) before now) is b of = absurd is
+  was_so (changed.Wrote (Word c field) before now) is b of = absurd is
+  was_so (changed.Made kind c) is b of = absurd is
+  was_so (changed.Unmade kind) is b of = absurd is
+  was_so (changed.Took c) is b of = put_back known.roles c role.Free (λ none. none) b of
+  was_so (changed.Roomed bucket had) is b of = ap (λ (f : ℕ → Role). f b) (roomed_as_many Row known bucket had).0
+
   lasts : Lasts known known2 w w2
   lasts = record {
     inside = λ t inside. inside_kept deferred_word old.batch_size w reached i w2 happened.1 t inside;
     held = λ t b inside of h. still_held deferred_word old.batch_size w reached i w2 happened.1 t b inside h;
     more = (let e = as_many new.memory.changed tells in omega (arith, e));
-    back = λ x b come of. inl (sym ((row_beside same hash m known s old new at i row here end steps happened).back b (of_map x (known2.roles b) of)));
+    back = λ x b come of. inl (sym (was_so new.memory.changed tells b (of_map x (known2.roles b) of)));
   }
 
   -- a block that a section holds is not taken away
