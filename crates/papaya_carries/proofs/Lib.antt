@@ -20,4 +20,5 @@ pub mod Told
 pub mod Acts
 pub mod Left
 pub mod Lists
+pub mod Reclaimed
 mod Samples

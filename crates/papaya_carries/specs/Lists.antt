@@ -55,6 +55,12 @@ module _ {K : Type 0} (V : Type 0) (same : K → K → Bool) (hash : K → ℕ) 
       (told : Settled (Node K V)) × (v : Scene K V) × (lists2 : ℕ → List ℕ) × (c2 : ReclaimAll) × ReclaimedOn V same batch_size roots slot s i lists c g told v lists2 c2
       × (((told ≡ settled.Done) × (v ≡ n)) ⊎ ReclaimsTo i grants v lists2 c2 n)
 
+  -- The promise of caller i: where it reclaims all, there are steps by which it comes to its end.
+  abbrev pub ReclaimingComesToEnd : ℕ → Type 0
+  ReclaimingComesToEnd i =
+      batch_size < 2 ^ 64 → (s : Scene K V) (lists : ℕ → List ℕ) (c : ReclaimAll) → IsReclaimingAll V same batch_size roots slot s i lists c
+      → (grants : List Grant) × (n : Scene K V) × ReclaimsTo i grants s lists c n
+
   module _ (course : Course V same hash batch_size roots slot) where
     -- The promise: wherever a list of acts has led, each block behind which something may be put is somebody's.
     abbrev pub ListsKeepTheirs : Type 0
