@@ -7,7 +7,7 @@ ghost use Rattle.papaya_finishes.specs.Endings.{Finishing};
 ghost use Rattle.papaya_finishes.specs.Makings.{Beginning};
 ghost use Rattle.papaya_finishes.specs.Maps.{Standing};
 ghost use Rattle.papaya_acts.specs.Lists.{Course};
-ghost use Rattle.papaya_carries.specs.Lists.{ActsKeepTheirs, ActsLeaveIt, ListsKeepTheirs, OnlyPairsWaitThere, ReclaimingBeginsThere, ReclaimingComesToEnd};
+ghost use Rattle.papaya_carries.specs.Lists.{ActsKeepTheirs, AllCanBeReclaimedThere, ActsLeaveIt, ListsKeepTheirs, OnlyPairsWaitThere, ReclaimingBeginsThere, ReclaimingComesToEnd};
 ghost use Rattle.papaya_carries.specs.Promises.{CallsKeepTheirs, ChangesKeepTheirs, EndingsBeginAndKeepTheirs, EndingsKeepTheirs, GuardsKeepTheirs, MakingsKeepTheirs, NoneBegins, NothingElseWaits, OnlyTablesCarry, ReclaimingKeepsTheirs, RoomRowsKeepTheirs, RoomsKeepTheirs, RowsKeepTheirs, SweepRowsKeepTheirs, SweepsKeepTheirs};
 
 /// Each block that users have, and behind which something may be put, is a linked table of a map that stands, or one that a call has unlinked and is to hand
@@ -46,4 +46,5 @@ pub fn lists_leave_only_pairs<K, V>()
     ensures begins { (same : K → K → Bool) (hash : K → ℕ) (batch_size roots : ℕ) (slot : ℕ → ℕ) (course : Course V same hash batch_size roots slot) → ReclaimingBeginsThere V same hash batch_size roots slot course }
     ensures ends { (same : K → K → Bool) (hash : K → ℕ) (batch_size roots : ℕ) (slot : ℕ → ℕ) (i : ℕ) → ReclaimingComesToEnd V same hash batch_size roots slot i }
     ensures waits { (same : K → K → Bool) (hash : K → ℕ) (batch_size roots : ℕ) (slot : ℕ → ℕ) (course : Course V same hash batch_size roots slot) → OnlyPairsWaitThere V same hash batch_size roots slot course }
+    ensures all { (same : K → K → Bool) (hash : K → ℕ) (batch_size roots : ℕ) (slot : ℕ → ℕ) (course : Course V same hash batch_size roots slot) → AllCanBeReclaimedThere V same hash batch_size roots slot course }
 {}
