@@ -1,7 +1,8 @@
 -- What the definitions refuse: a table that a call has unlinked and forgotten, one that its copier has come past, and rest while a map is made.
 use Rattle.std.specs.Prelude.{◌≢◌, ◌*◌, Option, Some, None}
-use Rattle.std.proofs.Common.{◌≡◌, ◌+◌, ◌≤◌, ℕ, inl, inr, refl, arith, sym, subst}
+use Rattle.std.proofs.Common.{◌≡◌, ◌+◌, ◌≤◌, ℕ, Bool, List, [], inl, inr, refl, arith, sym, subst}
 use Rattle.seize_words.specs.Mem.{value_at}
+use Rattle.seize.specs.declared.rows.reclaim_all.ReclaimAll.{ReclaimAll}
 use Rattle.seize.specs.World.{World, Cutting, with_at}
 use Rattle.seize_acts.specs.Reclaimed.{IsStillHad}
 use Rattle.papaya_tables.specs.Nodes.{deferred_word}
@@ -9,8 +10,8 @@ use Rattle.papaya_tables.specs.declared.node.Node.{Node}
 use Rattle.papaya_callers.specs.Together.{UnderWay}
 use Rattle.papaya_finishes.specs.Makings.{Beginning}
 use Rattle.papaya_finishes.specs.Maps.{Standing}
-use Rattle.papaya_executor.specs.IsAt.{at_first}
-use Rattle.papaya_carries.specs.Lists.{IsAtRest}
+use Rattle.papaya_executor.specs.IsAt.{Scene, at_first}
+use Rattle.papaya_carries.specs.Lists.{IsAtRest, ReclaimsTo}
 use Rattle.papaya_carries.specs.Theirs.{IsAhead, Owes, IsTheirs, AllAreTheirs}
 
 module _ {K V Q : Type 0} (w : World (Node K V)) (maps : ℕ → Option (Standing K)) (b field i : ℕ) (value : Node K V)
@@ -57,3 +58,8 @@ first_rests roots = record { no_calls = λ m i. refl; no_makers = λ i. refl; no
 
 making_goes_on : {K V : Type 0} (roots : ℕ) (b : Beginning K) → IsAtRest (record (at_first {K = K} {V = V} roots) { makers = with_at (λ i. None) 0 (Some b) }) → ⊥
 making_goes_on roots b rest = let none = rest.no_makers 0 in cc none
+
+-- Whoever reclaims all, and has taken no step of it, has not come to its end.
+no_step_yet : {K : Type 0} (V : Type 0) (same : K → K → Bool) (hash : K → ℕ) (batch_size roots : ℕ) (slot : ℕ → ℕ) (i : ℕ) (s n : Scene K V) (lists : ℕ → List ℕ) (c : ReclaimAll)
+    → ReclaimsTo V same hash batch_size roots slot i [] s lists c n → ⊥
+no_step_yet V same hash batch_size roots slot i s n lists c to = to

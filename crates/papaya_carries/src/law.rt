@@ -7,7 +7,7 @@ ghost use Rattle.papaya_finishes.specs.Endings.{Finishing};
 ghost use Rattle.papaya_finishes.specs.Makings.{Beginning};
 ghost use Rattle.papaya_finishes.specs.Maps.{Standing};
 ghost use Rattle.papaya_acts.specs.Lists.{Course};
-ghost use Rattle.papaya_carries.specs.Lists.{ActsKeepTheirs, AllCanBeReclaimedThere, ActsLeaveIt, ListsKeepTheirs, OnlyPairsWaitThere, ReclaimingBeginsThere, ReclaimingComesToEnd};
+ghost use Rattle.papaya_carries.specs.Lists.{ActsKeepTheirs, ActsLeaveIt, AllCanBeReclaimedThere, ListsKeepTheirs, OnlyPairsWaitThere, ReclaimingBeginsThere, ReclaimingComesToEnd};
 ghost use Rattle.papaya_carries.specs.Promises.{CallsKeepTheirs, ChangesKeepTheirs, EndingsBeginAndKeepTheirs, EndingsKeepTheirs, GuardsKeepTheirs, MakingsKeepTheirs, NoneBegins, NothingElseWaits, OnlyTablesCarry, ReclaimingKeepsTheirs, RoomRowsKeepTheirs, RoomsKeepTheirs, RowsKeepTheirs, SweepRowsKeepTheirs, SweepsKeepTheirs};
 
 /// Each block that users have, and behind which something may be put, is a linked table of a map that stands, or one that a call has unlinked and is to hand
