@@ -1,7 +1,7 @@
 -- Wherever a list of acts has led: each block is somebody's behind which something may be put, any caller may reclaim all where nobody has anything under way,
 -- and nothing else waits then.
 use Rattle.std.specs.Prelude.{Option, Some, None, IsSome, is_some}
-use Rattle.std.proofs.Common.{◌≡◌, ℕ, ◌<◌, ◌^◌, Bool, List, [], ◌∷◌, ◌⊎◌, inl, inr, refl, ap, sym, subst, ◌∙◌}
+use Rattle.std.proofs.Common.{◌≡◌, ℕ, Bool, List, [], ◌∷◌, inl, inr, refl, ap, sym, subst}
 use Rattle.seize_words.specs.declared.at.At.TheVariants.{Slot}
 use Rattle.seize_words.specs.Mem.{word_at}
 use Rattle.seize.specs.ReclaimAll.{reclaiming_all, clearing}
@@ -14,16 +14,14 @@ use Rattle.seize_acts.specs.Answers.{Grant}
 use Rattle.papaya_tables.specs.Nodes.{deferred_word}
 use Rattle.papaya_tables.specs.declared.node.Node.{Node}
 use Rattle.papaya_points.proofs.Making.OwnTables.{zero_at}
-use Rattle.papaya_reclaims.specs.Reclaims.{AllStandIdle}
 use Rattle.papaya_reclaims.specs.Slots.{IsQuiet}
 use Rattle.papaya_reclaims.proofs.Left.Stays.{left_is_left_behind, nothing_is_left}
 use Rattle.papaya_reclaims.proofs.Promised.{reclaiming_begins}
 use Rattle.papaya_executor.specs.IsAt.{Scene, at_first}
 use Rattle.papaya_acts.specs.Acts.{Act}
-use Rattle.papaya_acts.specs.Leads.{AllStand}
 use Rattle.papaya_acts.specs.Lists.{Course, Reached, LedTo}
 use Rattle.papaya_acts.specs.Reclaiming.{IsReclaimingAll, ReclaimedOn}
-use Rattle.papaya_carries.specs.Lists.{AreTheirs, IsAtRest, IsLeft, ReclaimsTo, OnlyPairsAreLeft, ListsKeepTheirs, ReclaimingBeginsThere, OnlyPairsWaitThere, AllCanBeReclaimedThere}
+use Rattle.papaya_carries.specs.Lists.{AreTheirs, IsLeft, ReclaimsTo, OnlyPairsAreLeft, ListsKeepTheirs, ReclaimingBeginsThere, OnlyPairsWaitThere, AllCanBeReclaimedThere}
 use Rattle.papaya_carries.proofs.Acts.{by_act}
 use Rattle.papaya_carries.proofs.Guards.{none_begins}
 use Rattle.papaya_carries.proofs.Left as left

@@ -1,6 +1,6 @@
 -- What is promised of lists of acts: after any of them each block behind which something may be put is somebody's, what ended maps have left is behind roots
 -- that are nobody's, and once a caller has reclaimed all, nothing waits but pairs that are deferred on linked tables.
-use Rattle.std.specs.Prelude.{◌≡◌, ◌⊎◌, ℕ, ◌<◌, ◌^◌, Bool, List, [], ◌∷◌, Option, None, IsSome}
+use Rattle.std.specs.Prelude.{◌≡◌, ◌⊎◌, ℕ, ◌<◌, ◌^◌, Bool, List, [], ◌∷◌, None, IsSome}
 use Rattle.seize_words.specs.declared.at.At.TheVariants.{Slot}
 use Rattle.seize_words.specs.Mem.{word_at}
 use Rattle.seize.specs.ReclaimAll.{reclaiming_all, clearing}
