@@ -246,15 +246,15 @@ module _ {K V S : Type 0} (same : K → K → Bool) (hash : K → ℕ) (name : �
   end_keeps_whole settled.Done it rows after counters = whole_at _ refl refl refl it.2 (record { none = rows.none; one = rows.one }) after counters
 
 ends_with : {K V : Type 0} (map : ℕ) (f : Effect) (v : Moment K V) → IsOfIts map v f → WaitOutside v → EndsWith v map f
-ends_with map (Taken t) v its outside = (its, each_waits_outside _ _ v outside t)
-ends_with map _ v its outside = tt
+ends_with map (Taken t) v of_map outside = (of_map, each_waits_outside _ _ v outside t)
+ends_with map _ v of_map outside = tt
 
 module _ (K V S : Type 0) (same : K → K → Bool) (hash : K → ℕ) where
   pub endings_keep_whole : EndingsKeepWhole K V S same hash
-  endings_keep_whole name m known s old new at whole i told leads f here map not_there its waits =
+  endings_keep_whole name m known s old new at whole i told leads f here map not_there of_map waits =
       let to = leads f here in
       let finds = end_numbers same hash name m known s old new at whole i f here to.0 told to.1 to.2 map not_there to.3 waits in
-      let ends = with_outside None (Some map) (IsOfIts map) (λ v effect. EndsWith v map effect) (ends_with map) (effects_of (Ending map) known new.memory.changed) m finds whole.outside its in
+      let ends = with_outside None (Some map) (IsOfIts map) (λ v effect. EndsWith v map effect) (ends_with map) (effects_of (Ending map) known new.memory.changed) m finds whole.outside of_map in
       end_keeps_whole same hash name m known s old new at whole i f here to.0 told to.1 to.2 map not_there to.3 waits told to.3
       (endings_go_aside K V S same hash s old new at whole.all.rows i told leads f here)
       (endings_are_shown K V S same hash name m known s old new at whole.all.shown i told leads f here map not_there ends).1

@@ -4,16 +4,14 @@ use Rattle.std.specs.Option.{option_or}
 use Rattle.std.proofs.Common.{refl, ap, sym, subst, ◌∙◌}
 use Rattle.std.proofs.lemmas.Bool.{eqb-true}
 use Rattle.std.proofs.lemmas.List.Folds.{find-append}
-use Rattle.seize.specs.World.{with_at}
 use Rattle.papaya_runs.specs.Same.{is_same}
 use Rattle.papaya_schedules.specs.declared.effect.Table.{Table}
 use Rattle.papaya_schedules.specs.Beginning.{with_map}
 use Rattle.papaya_schedules.specs.Moment.{UnderWay as CallThere, MapThere, Moment}
-use Rattle.papaya_schedules.specs.Views.{map_at, tables_of}
+use Rattle.papaya_schedules.specs.Views.{map_at}
 use Rattle.papaya_effects.specs.Known.{Known}
 use Rattle.papaya_effects.specs.declared.role.Role.TheVariants as role
 use Rattle.papaya_executor.specs.IsAt.{Scene}
-use Rattle.papaya_finishes.specs.Makings.{Beginning}
 use Rattle.papaya_follows.specs.Shows.{Shows}
 use Rattle.papaya_hands.specs.Asked.{IsAsked, ShowsAsked}
 use Rattle.papaya_hands.specs.Hands.{IsInUse}
@@ -21,18 +19,17 @@ use Rattle.papaya_others.specs.After.{ShowsAfter}
 use Rattle.papaya_others.proofs.Counters.{beginnings_note_counters}
 use Rattle.papaya_others.proofs.MakeBegins.{maps_are_there}
 use Rattle.papaya_moments.specs.Makings.{MakingsBeginWhole, MapsComeWhole}
-use Rattle.papaya_moments.specs.Whole.{ShowsWhole}
 use Rattle.papaya_moments.proofs.Makings.{none_of_it}
 
--- what calls were asked and told stays as it was where they and the maps that stand are so
-pub asked_still : {K V : Type 0} (same : K → K → Bool) (name : ℕ → List ℕ) (m m2 : Moment K V) (known : Known) (s : Scene K V) (shown : Shows same name m known s)
-    (after : ShowsAfter same name m known s shown m2 known s) → m2.calls ≡ m.calls → ShowsAsked name shown.number m known s → ShowsAsked name after.shows.number m2 known s
-asked_still same name m m2 known s shown after calls asked = record {
-  apart = asked.apart;
-  each = λ map i u here st there c found.
-      subst (λ (f : ℕ → ℕ). IsAsked f st.chart.stored known u c) (sym (after.numbers map st there))
-      (asked.each map i u here st there c (ap (λ (cs : List (CallThere K V)). find (λ x. is_same x.caller (name i)) cs) (sym calls) ∙ found));
-}
+module _ {K V : Type 0} (same : K → K → Bool) (name : ℕ → List ℕ) (m m2 : Moment K V) (known : Known) (s : Scene K V) (shown : Shows same name m known s) where
+  -- what calls were asked and told stays as it was where they and the maps that stand are so
+  pub asked_still : (after : ShowsAfter same name m known s shown m2 known s) → m2.calls ≡ m.calls → ShowsAsked name shown.number m known s → ShowsAsked name after.shows.number m2 known s
+  asked_still after calls asked = record {
+    apart = asked.apart;
+    each = λ map i u here st there c found.
+        subst (λ (f : ℕ → ℕ). IsAsked f st.chart.stored known u c) (sym (after.numbers map st there))
+        (asked.each map i u here st there c (ap (λ (cs : List (CallThere K V)). find (λ x. is_same x.caller (name i)) cs) (sym calls) ∙ found));
+  }
 
 module _ (K V : Type 0) (same : K → K → Bool) where
   pub makings_begin_whole : MakingsBeginWhole K V same

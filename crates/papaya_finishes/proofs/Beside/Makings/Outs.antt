@@ -9,7 +9,6 @@ use Rattle.seize_moves.proofs.State.Ghost.{Life}
 use Rattle.seize_rule.proofs.Points.Aside.{HandFits, is_handed, IsStanding, cut_stands}
 use Rattle.seize_rule.proofs.Words.Shows.{lives}
 use Rattle.seize_rule.proofs.Words.There.{value_there}
-use Rattle.seize_alone.proofs.Histories.Reached.{Reached}
 use Rattle.papaya_tables.specs.Nodes.{deferred_word}
 use Rattle.papaya_tables.specs.declared.node.Node.{Node}
 use Rattle.papaya_tables.specs.declared.setting.Setting.{Setting}
