@@ -12,4 +12,4 @@ mod ExecutorsBegin
 mod Executors
 mod Samples
 mod Untrue
-mod Reclaiming
+pub mod Reclaiming

@@ -19,5 +19,6 @@ pub mod Machines
 pub mod Told
 pub mod Acts
 pub mod Left
+pub mod Reclaimed
 pub mod Lists
 mod Samples

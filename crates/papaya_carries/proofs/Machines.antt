@@ -1,6 +1,6 @@
 -- A step of a call under way, whichever its kind, leaves each block somebody's behind which something may be put.
-use Rattle.std.specs.Prelude.{◌*◌, Option, Some, None}
-use Rattle.std.proofs.Common.{◌≡◌, ℕ, ◌≤◌, ◌<◌, Bool, true, ◌⊎◌, inl, inr, refl, arith, ap, sym, subst, ◌∙◌}
+use Rattle.std.specs.Prelude.{Option, Some, None}
+use Rattle.std.proofs.Common.{◌≡◌, ℕ, ◌≤◌, ◌<◌, Bool, inl, inr, refl, arith, ap, sym, subst, ◌∙◌}
 use Rattle.seize_words.specs.Mem.{Mem, Took, value_at}
 use Rattle.seize_words.specs.Plan.{Plan, Steps}
 use Rattle.seize.specs.World.{World}

@@ -1,6 +1,6 @@
 -- A making takes a step: what users have then they had, with its value, or it is the first table of the map that stands by it.
 use Rattle.std.specs.Prelude.{◌*◌, Option, Some, Ok, Err, IsSome, is_some}
-use Rattle.std.proofs.Common.{◌≡◌, ◌≢◌, ℕ, ◌<◌, ◌≤◌, Bool, List, [], ◌∷◌, ◌⊎◌, inl, inr, refl, arith, ap, sym, subst, ◌∙◌}
+use Rattle.std.proofs.Common.{◌≡◌, ℕ, ◌<◌, Bool, List, [], ◌∷◌, ◌⊎◌, inl, inr, refl, arith, ap, sym, subst, ◌∙◌}
 use Rattle.seize_words.specs.declared.at.At.TheVariants.{Root}
 use Rattle.seize_words.specs.Mem.{Mem, Took, value_at, word_at}
 use Rattle.seize_words.specs.Op.{Out, Make, Found, Stored, Exchanged, Made, Taken, Roomed}
@@ -27,7 +27,7 @@ use Rattle.papaya_callers.proofs.Together.At.{at_other, at_same}
 use Rattle.papaya_callers.proofs.Together.Came.{came_reached}
 use Rattle.papaya_callers.proofs.Together.Users.{events_rows}
 use Rattle.papaya_finishes.specs.Endings.{Finishing, EndingsTogether}
-use Rattle.papaya_finishes.specs.Makings.{Beginning, IsFirstTable, IsMade, StepsOfMaking}
+use Rattle.papaya_finishes.specs.Makings.{Beginning, IsFirstTable, StepsOfMaking}
 use Rattle.papaya_finishes.specs.Maps.{Standing, MapsTogether}
 use Rattle.papaya_reclaims.specs.Deferred.{IsLinkedTable}
 use Rattle.papaya_carries.specs.Promises.{MakingsKeepTheirs}

@@ -4,6 +4,7 @@ pub mod Ends
 pub mod Makings
 pub mod MakingSteps
 pub mod MapsCome
+pub mod Numbers
 pub mod Over
 pub mod Calls
 pub mod Walks

@@ -3,6 +3,7 @@ use Rattle.std.specs.Prelude.{◌≡◌, ℕ, suc, ◌≤◌, ◌==◌, Bool, tr
 use Rattle.std.specs.List.{All}
 use Rattle.std.proofs.Common.{refl, ap, sym, subst, ◌∙◌, arith}
 use Rattle.std.proofs.lemmas.Bool.{eqb-true}
+use Rattle.std.proofs.lemmas.List.Elements.{All-filter}
 use Rattle.papaya_runs.specs.Same.{is_same}
 use Rattle.papaya_schedules.specs.declared.effect.Table.{Table}
 use Rattle.papaya_schedules.specs.Moment.{MapThere}
@@ -13,20 +14,7 @@ use Rattle.papaya_others.specs.Endings.{without_map}
 use Rattle.papaya_others.proofs.EndBegins.{endings_are_over}
 use Rattle.papaya_moments.specs.Endings.{EndingsAreOverWhole}
 use Rattle.papaya_moments.proofs.MapsCome.{asked_still}
-
--- what is found among those that are kept passes the test, and is one of all
-module _ {X : Type 0} (Q : X → Type 0) (test keep : X → Bool) where
-  found_in : (xs : List X) (x : X) → All Q xs → find test (filter keep xs) ≡ Some x → (test x ≡ true) × Q x
-  found_in [] x all is = absurd (cc is)
-  found_in (y ∷ ys) x all is = by (keep y) refl (test y) refl (λ later. found_in ys x (λ k d l. all (suc k) d (omega (arith, l))) later) is
-    where
-      by : (q : Bool) → keep y ≡ q → (p : Bool) → test y ≡ p → (find test (filter keep ys) ≡ Some x → (test x ≡ true) × Q x)
-          → find test (if q then y ∷ filter keep ys else filter keep ys) ≡ Some x → (test x ≡ true) × Q x
-      by true f true e rest found =
-          let it : y ≡ x = (let here : cond true (Some y) (find test (filter keep ys)) ≡ Some x = ap (λ z. cond z (Some y) (find test (filter keep ys))) (sym e) ∙ found in cc here) in
-          (ap test (sym it) ∙ e, subst Q it (all 0 y (omega arith)))
-      by true f false e rest found = rest (ap (λ z. cond z (Some y) (find test (filter keep ys))) (sym e) ∙ found)
-      by false f p e rest found = rest found
+use Rattle.papaya_moments.proofs.Numbers.{found_of}
 
 module _ (K V : Type 0) (same : K → K → Bool) where
   pub endings_are_over_whole : EndingsAreOverWhole K V same
@@ -54,5 +42,6 @@ module _ (K V : Type 0) (same : K → K → Bool) where
       -- a map that is there still is the one that was found by its number
       used : (b len : ℕ) (t : Table) (x : MapThere) → known.roles b ≡ role.Table t len → map_at t.map (without_map own remains m) ≡ Some x → x.first ≤ t.turn → IsInUse (s.world.hand b)
       used b len t x is at_map from =
-          let it = found_in (λ there. map_at there.number m ≡ Some there) (λ f. f.number == t.map) (λ f. not (is_same f.name own)) m.maps x apart at_map in
+          let it = found_of (λ there. map_at there.number m ≡ Some there) (λ f. f.number == t.map) (filter (λ f. not (is_same f.name own)) m.maps) x
+          (All-filter (λ f. not (is_same f.name own)) (λ there. map_at there.number m ≡ Some there) m.maps apart) at_map in
           whole.all.hands.tables b len t x is (ap (λ n. map_at n m) (sym (eqb-true x.number t.map it.0)) ∙ it.1) from

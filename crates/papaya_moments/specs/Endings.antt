@@ -1,6 +1,5 @@
 -- Ends of maps: where one begins, and takes its steps, the moment shows all of the scene then.
 use Rattle.std.specs.Prelude.{◌≡◌, ℕ, true, false, Bool, List, Some, None}
-use Rattle.std.specs.List.{All}
 use Rattle.seize.specs.declared.rows.settle.Settled.{Settled}
 use Rattle.papaya_tables.specs.declared.node.Node.{Node}
 use Rattle.papaya_schedules.specs.declared.effect.Effect.{Effect}
@@ -20,11 +19,8 @@ use Rattle.papaya_finishes.specs.Endings.{Finishing}
 use Rattle.papaya_finishes.specs.Maps.{Standing}
 use Rattle.papaya_others.specs.Endings.{ending_after, without_map}
 use Rattle.papaya_spots.specs.Unreclaimed.{is_unreclaimed}
+use Rattle.papaya_moments.specs.Numbers.{AreFound}
 use Rattle.papaya_moments.specs.Whole.{ShowsWhole}
-
--- each map that is there is the one that is found by its number
-abbrev pub AreFound : {K V : Type 0} → Moment K V → Type 0
-AreFound m = All (λ there. map_at there.number m ≡ Some there) m.maps
 
 -- a table that ends with this map is one of it
 abbrev pub IsOfIts : {K V : Type 0} → ℕ → Moment K V → Effect → Type 0

@@ -1,4 +1,5 @@
 pub mod Whole
+pub mod Numbers
 pub mod OnSlots
 pub mod Endings
 pub mod Makings

@@ -2,6 +2,7 @@
 ghost use Rattle.std.specs.Prelude.{ℕ, Bool};
 ghost use Rattle.papaya_moments.specs.Endings.{EndingsBeginWhole, EndingsKeepWhole, EndingsAreOverWhole};
 ghost use Rattle.papaya_moments.specs.Makings.{MakingsBeginWhole, MapsComeWhole, MakingsKeepBlocks, MakingsKeepWhole};
+ghost use Rattle.papaya_moments.specs.Numbers.{NumbersBegin, MapsComeByNumber, MapsGo, StepsKeepNumbers, NumbersAreBelow, RowsKeepNumbers};
 ghost use Rattle.papaya_moments.specs.OnSlots.{RowsBeginWhole, RowsKeepWhole};
 ghost use Rattle.papaya_moments.specs.Walks.{WalksGoOnWhole, WalksStopWhole};
 ghost use Rattle.papaya_moments.specs.Whole.{WholeBegins, CallsKeepWhole, CallsBeginWhole, CallsTakeWhole, CallsComeToWhole};
@@ -33,4 +34,16 @@ pub fn moments_show_all<K, V, S>()
 /// While a map is being made, and is there as a new one, the blocks of pairs and tables of maps are those that no moment calls reclaimed.
 pub fn makings_keep_blocks<K, V, S>()
     ensures makings { (same : K → K → Bool) (hash : K → ℕ) → MakingsKeepBlocks K V S same hash }
+{}
+
+/// Each map that is there has a number of its own, by which it is found, and so it is from the beginning on: where a map comes by the next number, of which
+/// there is no table yet, and where one is there no more; and after each step of a call, of a making or of an end, on a map that was made, as each is that is
+/// there, and after each step of a row on a slot.
+pub fn maps_have_numbers<K, V, S>()
+    ensures begins { NumbersBegin K V }
+    ensures comes { MapsComeByNumber K V }
+    ensures goes { MapsGo K V }
+    ensures steps { StepsKeepNumbers K V }
+    ensures below { NumbersAreBelow K V }
+    ensures rows { (same : K → K → Bool) (hash : K → ℕ) → RowsKeepNumbers K V S same hash }
 {}
