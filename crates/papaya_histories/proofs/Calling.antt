@@ -51,7 +51,7 @@ histories_begin K V same roots name =
     }
 
 pub first_steps_change_first : (K V : Type 0) (same : K → K → Bool) → FirstStepsChangeFirst K V same
-first_steps_change_first K V same log m v begun map k = inr (map_alike same map k (moment log) m begun.0 begun.1)
+first_steps_change_first K V same log m v map begun k = inr (map_alike same map k (moment log) m begun.0 begun.1)
 
 pub events_keep_histories : (K V : Type 0) (same : K → K → Bool) → EventsKeepHistories K V same
 events_keep_histories K V same name log e known s history = (

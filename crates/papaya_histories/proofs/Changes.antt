@@ -244,7 +244,7 @@ module _ {K V S : Type 0} (same : K → K → Bool) (hash : K → ℕ) (name : �
 
   to_remove : (memory : Mem (Node K V)) (c2 : Chart K) (blocks : Blocks) (given : Given K V) (n : ℕ) → StoresGiven st.hash memory c2 blocks given (Removed n) → ToRemove n given
   to_remove memory c2 blocks (Begun kind pair) n has = tt
-  to_remove memory c2 blocks (IsTold kind its asked) n has = has
+  to_remove memory c2 blocks (IsTold kind key told) n has = has
 
   to_remove_by : (memory : Mem (Node K V)) (c2 : Chart K) (blocks : Blocks) (change : Change) → StoresGiven st.hash memory c2 blocks x.pair change → ToRemoveBy change
   to_remove_by memory c2 blocks Unchanged has = tt

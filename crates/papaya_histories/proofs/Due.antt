@@ -158,7 +158,7 @@ module _ {K V S : Type 0} (same : K → K → Bool) (hash : K → ℕ) (name : �
       → Owes (number2 map) st2.chart.stored one d x.change
 
   -- so it is for all, where it is for the call itself
-  module _ (own : Own) (changes : ChangesFirst log m same v2) where
+  module _ (own : Own) (changes : ChangesFirst log m same map v2) where
     owes_then : (n j : ℕ) (x : CallOnKey K V K) → scene2.calls n j ≡ Some (OnKey x) → (st2 : Standing K) → went.4.maps2 n ≡ Some st2 → (d : CallThere K V) → call_of (name j) v2 ≡ Some d
         → (one : OneKey K V) → d.call ≡ On one → Owes (number2 n) st2.chart.stored one d x.change
     owes_then n j x is st2 there d found one one_is = elim (which s.calls map i went.4.next n j (OnKey x) is) as (λ _. Owes (number2 n) st2.chart.stored one d x.change) [

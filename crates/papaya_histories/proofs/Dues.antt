@@ -11,7 +11,7 @@ use Rattle.papaya_schedules.specs.Sequential.{Shift}
 use Rattle.papaya_schedules.specs.Views.{call_of}
 use Rattle.papaya_follows.proofs.Calls.{changed_same, changed, found}
 
-none_of : (xs ys : List Shift) → xs ++ ys ≡ [] → (xs ≡ []) × (ys ≡ [])
+pub none_of : (xs ys : List Shift) → xs ++ ys ≡ [] → (xs ≡ []) × (ys ≡ [])
 none_of [] ys e = (refl, e)
 none_of (x ∷ xs) ys e = absurd (cc e)
 

@@ -53,7 +53,7 @@ module _ (K V S : Type 0) (same : K → K → Bool) (hash : K → ℕ) where
       (name : ℕ → List ℕ) (log : List (Entry K V)) (m : Moment K V) (known : Known) (s : Scene K V) (old new : Executor K V S) → IsAt same hash old s
       → ShowsWhole same name m known s → ShowsDue same name log m known s
       → (map i : ℕ) (u : UnderWay K V K) (here : s.calls map i ≡ Some u) (said : Progress (Node K V)) (leads : StepLeads same hash i said s old new)
-      → ChangesFirst log m same (with_effects (Some (name i)) (Some map) (effects_of (acts.Call i map) known new.memory.changed) m)
+      → ChangesFirst log m same map (with_effects (Some (name i)) (Some map) (effects_of (acts.Call i map) known new.memory.changed) m)
       → (let to = leads map u here in
       ShowsDue same name log (with_effects (Some (name i)) (Some map) (effects_of (acts.Call i map) known new.memory.changed) m) (known_after (acts.Call i map) new.memory.changed known)
       (scene_after same hash s old new map i to.0 u to.1 said to.4))

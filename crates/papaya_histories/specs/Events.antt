@@ -26,13 +26,14 @@ use Rattle.papaya_moments.specs.Whole.{ShowsWhole}
 use Rattle.papaya_histories.specs.Answers.{IsToldAs, IsToldDone}
 use Rattle.papaya_histories.specs.Due.{ShowsDue}
 
--- What such a step comes to: it goes on or waits, or it has answered, and that is told by numbers of pairs. Questions and refusals are none of these.
+-- What such a step comes to: it goes on or waits, is refused, or has answered, and that is told by numbers of pairs. A question is none of these.
 abbrev pub ComesToIt : {K V : Type 0} → Known → OneKey K V → List (Option ℕ × Reply V) → Progress (Node K V) → Outcome V → Type 0
 ComesToIt known one replies (progress.Done (Key answer)) (outcome.Answered a) = IsToldAs known one replies answer a ⊎ IsToldDone known one replies answer a
 ComesToIt known one replies progress.Goes outcome.Goes = Unit {0}
 ComesToIt known one replies progress.Waits outcome.Waits = Unit {0}
 ComesToIt known one replies (progress.Gave value) outcome.Goes = Unit {0}
 ComesToIt known one replies (progress.Unstored value) outcome.Goes = Unit {0}
+ComesToIt known one replies (progress.Refused fault) (outcome.Refused other) = other ≡ fault
 ComesToIt known one replies _ _ = ⊥
 
 module _ (K V S : Type 0) (same : K → K → Bool) (hash : K → ℕ) where
