@@ -90,7 +90,7 @@ due_of meaning a d is = ap (λ (z : Meaning _). answer_due z) is
 due_when : {K V : Type 0} (its : Call K V) (c : CallThere K V) (one : OneKey K V) (old : Option ℕ) (new : ℕ) → its ≡ On one → (due_for its c old new).due ≡ answer_due (means one (reply_to old c.replies) old new)
 due_when its c one old new is = ap (λ (z : Call _ _). (due_for z c old new).due) is
 
-same_change : {K V : Type 0} (x y : CallOnKey K V K) → ◌≡◌ {A = UnderWay K V K} (OnKey x) (OnKey y) → x.change ≡ y.change
+pub same_change : {K V : Type 0} (x y : CallOnKey K V K) → ◌≡◌ {A = UnderWay K V K} (OnKey x) (OnKey y) → x.change ≡ y.change
 same_change x y e = let one : x ≡ y = cc e in ap (λ (z : CallOnKey _ _ _). z.change) one
 
 module _ {K V S : Type 0} (same : K → K → Bool) (hash : K → ℕ) (name : ℕ → List ℕ) (log : List (Entry K V)) (m : Moment K V) (known : Known) (s : Scene K V) (old new : Executor K V S)

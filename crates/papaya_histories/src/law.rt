@@ -2,7 +2,7 @@
 ghost use Rattle.std.specs.Prelude.{ℕ, Bool};
 ghost use Rattle.papaya_histories.specs.Answers.{AnswersWereSo, AnswersAreOwed, RefusalsWereSo};
 ghost use Rattle.papaya_histories.specs.Changes.{StepsChangeOnce};
-ghost use Rattle.papaya_histories.specs.Due.{DuesBegin, CallsKeepDue, CallsComeToDue, EventsKeepDue};
+ghost use Rattle.papaya_histories.specs.Due.{DuesBegin, CallsKeepDue, CallsBeginDue, CallsTakeDue, CallsComeToDue, EventsKeepDue};
 ghost use Rattle.papaya_histories.specs.Events.{StepsAreLinearizable};
 ghost use Rattle.papaya_histories.specs.Others.{RowsBeginHistories, RowsKeepHistories};
 ghost use Rattle.papaya_histories.specs.Several.{MidstsBegin, MidstsGoOn, MidstsEnd};
@@ -37,11 +37,13 @@ pub fn answers_were_so<K, V, S>()
 {}
 
 /// After each step of a call, whoever's, a call on one key owes nothing as an answer if it has changed nothing; and if it has, the answer that the sequential
-/// specification says that it means by its change; if no class changes twice within one event. So it is before all events, too, where a call comes to an outcome,
-/// and where an event is over.
+/// specification says that it means by its change; if no class changes twice within one event. So it is before all events, too, where a call begins, takes a reply
+/// that such a call takes, and comes to an outcome, and where an event is over.
 pub fn calls_keep_due<K, V, S>()
     ensures begins { (same : K → K → Bool) → DuesBegin K V same }
     ensures calls { (same : K → K → Bool) (hash : K → ℕ) → CallsKeepDue K V S same hash }
+    ensures begun { (same : K → K → Bool) (hash : K → ℕ) → CallsBeginDue K V S same hash }
+    ensures told { (same : K → K → Bool) (hash : K → ℕ) → CallsTakeDue K V S same hash }
     ensures come_to { (same : K → K → Bool) → CallsComeToDue K V same }
     ensures events { (same : K → K → Bool) → EventsKeepDue K V same }
 {}
