@@ -1,8 +1,7 @@
 -- An answer without a change is what the call means at a moment of the run since it began.
-use Rattle.std.specs.Prelude.{◌≡◌, ℕ, ◌+◌, ◌<◌, ◌≤◌, Bool, true, false, List, ◌∷◌, length, Option, Some, None, ◌⊎◌}
-use Rattle.std.proofs.Common.{refl, ap, sym, subst, ◌∙◌, arith, inl, inr}
-use Rattle.seize_words.specs.Word.{block_in}
-use Rattle.seize.specs.World.{World, with_at}
+use Rattle.std.specs.Prelude.{◌≡◌, ℕ, ◌+◌, ◌<◌, ◌≤◌, Bool, true, false, List, ◌∷◌, length, Option, Some, None}
+use Rattle.std.proofs.Common.{refl, ap, sym, subst, ◌∙◌, inl, inr}
+use Rattle.seize.specs.World.{World}
 use Rattle.papaya_tables.specs.Chunks.{is_incremental}
 use Rattle.papaya_tables.specs.declared.node.Node.{Node}
 use Rattle.papaya_raw.specs.Progress.{of_called}
@@ -15,37 +14,32 @@ use Rattle.papaya_raw.specs.declared.machines.progress.Answer.TheVariants.{Key}
 use Rattle.papaya_raw.specs.declared.machines.progress.Progress.{Progress}
 use Rattle.papaya_raw.specs.declared.machines.progress.Progress.TheVariants.{Done}
 use Rattle.papaya_schedules.specs.declared.call.Answer.{Answer}
-use Rattle.papaya_schedules.specs.declared.call.Call.{Call}
 use Rattle.papaya_schedules.specs.declared.call.Call.TheVariants.{On}
 use Rattle.papaya_schedules.specs.declared.call.OneKey.{OneKey}
 use Rattle.papaya_schedules.specs.After.{moment, moments_from}
 use Rattle.papaya_schedules.specs.Entry.{Entry}
-use Rattle.papaya_schedules.specs.Linearizable.{there_for, meaning_at}
+use Rattle.papaya_schedules.specs.Linearizable.{meaning_at}
 use Rattle.papaya_schedules.specs.Lists.{OneOf}
 use Rattle.papaya_schedules.specs.Moment.{UnderWay as CallThere, Moment}
 use Rattle.papaya_schedules.specs.Sequential.{Meaning, Answers, Leaves, means, key_of}
 use Rattle.papaya_schedules.specs.Views.{call_of, finite_map, reply_to}
-use Rattle.papaya_rule.specs.Chart.{Phase, Holds, Chart}
-use Rattle.papaya_rule.specs.Words.{Blocks, byte_of, place_word}
-use Rattle.papaya_points.specs.FactsCalls.{Change, Unchanged, Stored, Replaced, Removed, Changes, Tells}
-use Rattle.papaya_callers.specs.Sights.{Sight, IsSight, seen_by}
+use Rattle.papaya_rule.specs.Chart.{Chart}
+use Rattle.papaya_rule.specs.Words.{Blocks}
+use Rattle.papaya_points.specs.FactsCalls.{Change, Unchanged, Changes}
+use Rattle.papaya_callers.specs.Sights.{seen_by}
 use Rattle.papaya_callers.specs.Since.{SoSince}
-use Rattle.papaya_callers.specs.Together.{CallOnKey, UnderWay, OnKey, StepTold, Fresh, Late, change_told, AnswersOnce, in_slot}
+use Rattle.papaya_callers.specs.Together.{CallOnKey, OnKey, StepTold, Fresh, Late, change_told, AnswersOnce, in_slot}
 use Rattle.papaya_finishes.specs.Maps.{Standing, IsSameMap}
-use Rattle.papaya_effects.specs.Effects.{known_after}
 use Rattle.papaya_effects.specs.Known.{Known}
-use Rattle.papaya_effects.specs.declared.acting.Acting.TheVariants as acts
 use Rattle.papaya_effects.specs.declared.role.Role.TheVariants as role
 use Rattle.papaya_executor.specs.IsAt.{Scene, IsAt, slot_of}
 use Rattle.papaya_executor.specs.Stepping.{StepLeads}
 use Rattle.papaya_executor.specs.declared.executor.Executor.{Executor}
-use Rattle.papaya_follows.specs.Calls.{IsCalled}
 use Rattle.papaya_follows.specs.Shows.{Shows}
-use Rattle.papaya_follows.proofs.Onward.{IsLasting}
-use Rattle.papaya_follows.proofs.Steps.{WentTo, went_to, made_so, is_inside, is_sight, DidSo, LeadsThere, one_of}
+use Rattle.papaya_follows.proofs.Steps.{WentTo, DidSo, LeadsThere, one_of}
 use Rattle.papaya_moments.specs.Whole.{ShowsWhole}
 use Rattle.papaya_histories.specs.Answers.{NamesPair, IsToldAs, AnswersWereSo}
-use Rattle.papaya_histories.specs.Had.{Had, HadThen}
+use Rattle.papaya_histories.specs.Had.{HadThen}
 use Rattle.papaya_histories.specs.Histories.{IsWithin, ShowsHistory}
 use Rattle.papaya_histories.proofs.Had.{had_none, had_pair}
 use Rattle.papaya_histories.proofs.Keys.{its_call}

@@ -25,7 +25,7 @@ use Rattle.papaya_finishes.specs.Maps.{Standing}
 use Rattle.papaya_executor.specs.IsAt.{Scene, IsAt, slot_of}
 use Rattle.papaya_executor.specs.Replying.{scene_with}
 use Rattle.papaya_executor.specs.declared.executor.Executor.{Executor}
-use Rattle.papaya_follows.specs.Calling.{told, come_to}
+use Rattle.papaya_follows.specs.Calling.{told}
 use Rattle.papaya_follows.proofs.Calling.{is_same_refl, replied_same, come}
 use Rattle.papaya_follows.proofs.Calls.{found}
 use Rattle.papaya_follows.proofs.Steps.{one_of}
@@ -33,7 +33,7 @@ use Rattle.papaya_hands.specs.Asked.{as_told, IsAskedAs}
 use Rattle.papaya_hands.proofs.Asking.{which}
 use Rattle.papaya_hands.proofs.Calling.{caller_is}
 use Rattle.papaya_histories.specs.Changes.{IsTaken, AreTaken}
-use Rattle.papaya_histories.specs.Due.{Owes, ShowsDue, DuesBegin, CallsComeToDue, EventsKeepDue, CallsBeginDue, CallsTakeDue}
+use Rattle.papaya_histories.specs.Due.{Owes, DuesBegin, CallsComeToDue, EventsKeepDue, CallsBeginDue, CallsTakeDue}
 use Rattle.papaya_histories.specs.Histories.{StaysWithin}
 use Rattle.papaya_histories.proofs.Calling.{came_so, histories_begin, calls_begin_histories, calls_take_histories, calls_come_to_histories, events_keep_histories}
 use Rattle.papaya_histories.proofs.Due.{owes_on, same_change}

@@ -1,5 +1,5 @@
 -- An event that is one step of a call on one key is linearizable.
-use Rattle.std.specs.Prelude.{◌≡◌, ℕ, ◌+◌, Bool, true, List, [], ◌++◌, length, flat_map, Option, Some, None, ◌⊎◌}
+use Rattle.std.specs.Prelude.{◌≡◌, ℕ, ◌+◌, Bool, List, [], ◌++◌, length, flat_map, Option, Some, None, ◌⊎◌}
 use Rattle.std.proofs.Common.{refl, ap, sym, subst, ◌∙◌, inl, inr}
 use Rattle.seize_words.specs.declared.fault.Fault.{Fault}
 use Rattle.seize_words.specs.declared.fault.Fault.TheVariants.{Busy, RemoveNothing}
@@ -25,7 +25,7 @@ use Rattle.papaya_schedules.specs.Lists.{OneOf}
 use Rattle.papaya_schedules.specs.Moment.{Stands, Going, Asking, Told, IsReady, UnderWay as CallThere, Moment}
 use Rattle.papaya_schedules.specs.Sequential.{Meaning, Answers, Refuses, Leaves, means, key_of}
 use Rattle.papaya_schedules.specs.Views.{call_of, reply_to, finite_map}
-use Rattle.papaya_points.specs.FactsCalls.{Change, Unchanged}
+use Rattle.papaya_points.specs.FactsCalls.{Unchanged}
 use Rattle.papaya_callers.specs.Together.{CallOnKey, OnKey}
 use Rattle.papaya_effects.specs.Effects.{effects_of, known_after}
 use Rattle.papaya_effects.specs.Known.{Known}
@@ -33,10 +33,7 @@ use Rattle.papaya_effects.specs.declared.acting.Acting.TheVariants as acts
 use Rattle.papaya_executor.specs.IsAt.{Scene, IsAt}
 use Rattle.papaya_executor.specs.Stepping.{StepLeads}
 use Rattle.papaya_executor.specs.declared.executor.Executor.{Executor}
-use Rattle.papaya_finishes.specs.Maps.{Standing}
-use Rattle.papaya_moments.specs.Whole.{ShowsWhole}
 use Rattle.papaya_histories.specs.Answers.{IsToldAs, IsToldDone}
-use Rattle.papaya_histories.specs.Due.{Owes, ShowsDue}
 use Rattle.papaya_histories.specs.Events.{ComesToIt, StepsAreLinearizable}
 use Rattle.papaya_histories.specs.Several.{IsSameCall, InMidst, MidstsEnd}
 use Rattle.papaya_histories.proofs.Answers.{answers_were_so}

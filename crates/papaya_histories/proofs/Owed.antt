@@ -20,8 +20,7 @@ use Rattle.papaya_schedules.specs.Views.{call_of, reply_to}
 use Rattle.papaya_rule.specs.Chart.{Still, Holds, Chart}
 use Rattle.papaya_rule.specs.Words.{Blocks, place_word}
 use Rattle.papaya_points.specs.FactsCalls.{Change, Unchanged, Stored, Replaced, Removed, Tells}
-use Rattle.papaya_points.specs.Steps.{AreLawful}
-use Rattle.papaya_callers.specs.Sights.{Sight, seen_by}
+use Rattle.papaya_callers.specs.Sights.{seen_by}
 use Rattle.papaya_callers.specs.Since.{SoSince}
 use Rattle.papaya_callers.specs.Together.{CallOnKey, OnKey, AnswersOnce, change_told, in_slot}
 use Rattle.papaya_finishes.specs.Maps.{Standing}
@@ -37,7 +36,7 @@ use Rattle.papaya_histories.specs.Answers.{IsToldAs, IsToldDone, AnswersAreOwed}
 use Rattle.papaya_histories.specs.Due.{Owes, ShowsDue}
 use Rattle.papaya_histories.proofs.Answers.{ended}
 use Rattle.papaya_histories.proofs.Due.{change_by, owes_then_by, was_there}
-use Rattle.papaya_histories.proofs.Roles.{named_by, no_change, stands_then, stands_is, roles_before, roles_after}
+use Rattle.papaya_histories.proofs.Roles.{named_by, no_change, roles_before, roles_after}
 use Rattle.papaya_histories.proofs.Steps.{to, led_on, v, after}
 
 module _ {K V S : Type 0} (same : K → K → Bool) (hash : K → ℕ) (name : ℕ → List ℕ) (log : List (Entry K V)) (m : Moment K V) (known : Known) (s : Scene K V) (old new : Executor K V S)

@@ -1,6 +1,6 @@
 -- A call that is refused owes nothing, and where there was nothing to remove it was so at a moment of the run since it began.
-use Rattle.std.specs.Prelude.{◌≡◌, ℕ, Bool, List, Option, Some, None, ◌⊎◌}
-use Rattle.std.proofs.Common.{refl, ap, sym, subst, ◌∙◌, inl, inr}
+use Rattle.std.specs.Prelude.{◌≡◌, ℕ, Bool, List, Some, None}
+use Rattle.std.proofs.Common.{refl, ap, subst, inl, inr}
 use Rattle.seize_words.specs.declared.fault.Fault.{Fault}
 use Rattle.seize_words.specs.declared.fault.Fault.TheVariants.{RemoveNothing}
 use Rattle.papaya_tables.specs.declared.node.Node.{Node}
@@ -23,7 +23,7 @@ use Rattle.papaya_points.specs.FactsCalls.{Change, Unchanged}
 use Rattle.papaya_late.specs.Kinds.{FaultFits}
 use Rattle.papaya_callers.specs.Pairs.{Given, kind_of, RemovesNone}
 use Rattle.papaya_callers.specs.Sights.{seen_by}
-use Rattle.papaya_callers.specs.Together.{CallOnKey, OnKey, change_told}
+use Rattle.papaya_callers.specs.Together.{CallOnKey, OnKey}
 use Rattle.papaya_finishes.specs.Maps.{Standing}
 use Rattle.papaya_effects.specs.Known.{Known}
 use Rattle.papaya_executor.specs.IsAt.{Scene, IsAt, slot_of}
@@ -31,7 +31,7 @@ use Rattle.papaya_executor.specs.Stepping.{StepLeads}
 use Rattle.papaya_executor.specs.declared.executor.Executor.{Executor}
 use Rattle.papaya_follows.specs.Shows.{Shows}
 use Rattle.papaya_follows.proofs.Steps.{WentTo, DidSo}
-use Rattle.papaya_hands.specs.Asked.{given_by, IsAskedOn, IsAskedAs}
+use Rattle.papaya_hands.specs.Asked.{IsAskedOn, IsAskedAs}
 use Rattle.papaya_hands.proofs.Steps.{numbers_apart}
 use Rattle.papaya_moments.specs.Whole.{ShowsWhole}
 use Rattle.papaya_histories.specs.Answers.{RefusalsWereSo}

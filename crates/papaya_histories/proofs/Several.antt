@@ -1,5 +1,5 @@
 -- In the midst of an event of several steps of a call on one key, and at its end.
-use Rattle.std.specs.Prelude.{◌≡◌, ℕ, ◌+◌, Bool, List, [], ◌∷◌, ◌++◌, length, flat_map, Option, Some, None, ◌⊎◌}
+use Rattle.std.specs.Prelude.{◌≡◌, ℕ, ◌+◌, Bool, List, [], ◌++◌, length, flat_map, Option, Some, None, ◌⊎◌}
 use Rattle.std.proofs.Common.{refl, ap, sym, subst, ◌∙◌, inl, inr}
 use Rattle.std.proofs.lemmas.Grind.{flat_map-append}
 use Rattle.std.proofs.lemmas.List.{append-nil}
@@ -14,7 +14,7 @@ use Rattle.papaya_schedules.specs.Effects.{with_effects}
 use Rattle.papaya_schedules.specs.Entry.{Entry}
 use Rattle.papaya_schedules.specs.Linearizable.{shift_of, there_for, meaning_at, ChangesOnce}
 use Rattle.papaya_schedules.specs.Moment.{UnderWay as CallThere, Moment}
-use Rattle.papaya_schedules.specs.Sequential.{Shift, Deed, means, key_of, shifts}
+use Rattle.papaya_schedules.specs.Sequential.{Shift, means, key_of, shifts}
 use Rattle.papaya_schedules.specs.Views.{call_of, finite_map, reply_to}
 use Rattle.papaya_points.specs.FactsCalls.{Change, Unchanged}
 use Rattle.papaya_callers.specs.Together.{CallOnKey, UnderWay, OnKey}
@@ -29,9 +29,8 @@ use Rattle.papaya_executor.specs.Stepping.{StepLeads, scene_after}
 use Rattle.papaya_executor.specs.declared.executor.Executor.{Executor}
 use Rattle.papaya_follows.proofs.Steps.{one_of}
 use Rattle.papaya_hands.proofs.Replacing.{calls_after}
-use Rattle.papaya_moments.specs.Whole.{ShowsWhole}
 use Rattle.papaya_moments.proofs.Calls.{calls_keep_whole}
-use Rattle.papaya_histories.specs.Due.{Owes, ShowsDue}
+use Rattle.papaya_histories.specs.Due.{Owes}
 use Rattle.papaya_histories.specs.Kept.{ChangesFirst}
 use Rattle.papaya_histories.specs.Several.{IsSameCall, InMidst, MidstsBegin, MidstsGoOn}
 use Rattle.papaya_histories.proofs.Begun.{effects_begun}

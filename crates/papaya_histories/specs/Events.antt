@@ -13,7 +13,7 @@ use Rattle.papaya_schedules.specs.After.{moment}
 use Rattle.papaya_schedules.specs.Beginning.{at_work}
 use Rattle.papaya_schedules.specs.Entry.{Entry, caller_of, acted_on}
 use Rattle.papaya_schedules.specs.Linearizable.{IsLinearizable}
-use Rattle.papaya_schedules.specs.Moment.{UnderWay as CallThere, Moment}
+use Rattle.papaya_schedules.specs.Moment.{UnderWay as CallThere}
 use Rattle.papaya_schedules.specs.Views.{call_of}
 use Rattle.papaya_callers.specs.Together.{CallOnKey, OnKey}
 use Rattle.papaya_effects.specs.Effects.{effects_of, known_after}
