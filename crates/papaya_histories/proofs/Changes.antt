@@ -1,7 +1,6 @@
 -- By a step of a call on one key its class changes once at most, by what the call means just then.
-use Rattle.std.specs.Prelude.{◌≡◌, ℕ, ◌+◌, ◌<◌, Bool, true, false, List, [], ◌∷◌, ◌++◌, length, flat_map, map as list_map, Option, Some, None, ◌⊎◌, if◌then◌else◌}
-use Rattle.std.proofs.Common.{refl, ap, sym, subst, ◌∙◌, arith, inl, inr}
-use Rattle.std.proofs.lemmas.Bool.{cases_eq}
+use Rattle.std.specs.Prelude.{◌≡◌, ℕ, ◌+◌, ◌<◌, Bool, true, false, List, [], ◌∷◌, length, flat_map, map as list_map, Option, Some, None, ◌⊎◌, if◌then◌else◌}
+use Rattle.std.proofs.Common.{refl, ap, sym, subst, ◌∙◌, inl, inr}
 use Rattle.seize_words.specs.Mem.{Mem}
 use Rattle.seize.specs.World.{World}
 use Rattle.papaya_tables.specs.Chunks.{is_incremental}
@@ -20,19 +19,17 @@ use Rattle.papaya_schedules.specs.declared.effect.Effect.TheVariants as effect
 use Rattle.papaya_schedules.specs.declared.effect.Spot.{Spot}
 use Rattle.papaya_schedules.specs.Effects.{new_pair, call_by, with_effect, AtEachEffect}
 use Rattle.papaya_schedules.specs.Entry.{acting}
-use Rattle.papaya_schedules.specs.Linearizable.{shift_of, there_for, meaning_at, ChangesOnce}
+use Rattle.papaya_schedules.specs.Linearizable.{shift_of, there_for, ChangesOnce}
 use Rattle.papaya_schedules.specs.Moment.{UnderWay as CallThere, Moment}
-use Rattle.papaya_schedules.specs.Sequential.{Meaning, Answers, Deed, Puts, Takes, Shift, ComesIn, GivesWay, GoesOut, means, key_of, value_put, shifts}
+use Rattle.papaya_schedules.specs.Sequential.{Answers, Deed, Puts, Takes, ComesIn, GivesWay, means, key_of, value_put, shifts}
 use Rattle.papaya_schedules.specs.Views.{call_of, finite_map, reply_to}
-use Rattle.papaya_rule.specs.Chart.{Chart, put}
+use Rattle.papaya_rule.specs.Chart.{Chart}
 use Rattle.papaya_rule.specs.Maps.{IsAbsent, IsPair}
 use Rattle.papaya_rule.specs.Words.{Blocks}
 use Rattle.papaya_rule.proofs.Laws.{current_is_known}
 use Rattle.papaya_points.specs.FactsCalls.{Change, Unchanged, Stored, Replaced, Removed, Changes}
-use Rattle.papaya_points.specs.Steps.{AreLawful}
-use Rattle.papaya_callers.specs.Asked.{Asked}
 use Rattle.papaya_callers.specs.Pairs.{Given, Begun, IsTold, kind_of, StoresGiven}
-use Rattle.papaya_callers.specs.Together.{CallOnKey, UnderWay, OnKey, Together, StepTold, Fresh, Late, change_told}
+use Rattle.papaya_callers.specs.Together.{CallOnKey, OnKey, Together, StepTold, Fresh, Late, change_told}
 use Rattle.papaya_finishes.specs.Endings.{StepsAmong}
 use Rattle.papaya_finishes.specs.Maps.{Standing}
 use Rattle.papaya_effects.specs.Effects.{effects_of}
@@ -41,18 +38,17 @@ use Rattle.papaya_effects.specs.declared.acting.Acting.TheVariants as acts
 use Rattle.papaya_executor.specs.IsAt.{Scene, IsAt, slot_of}
 use Rattle.papaya_executor.specs.Stepping.{StepLeads}
 use Rattle.papaya_executor.specs.declared.executor.Executor.{Executor}
-use Rattle.papaya_follows.specs.Calls.{IsCalled}
 use Rattle.papaya_follows.specs.Shows.{Shows}
-use Rattle.papaya_follows.specs.Steps.{named_now, HasToStore, HasPair, StoreTheirs, TakesNone}
+use Rattle.papaya_follows.specs.Steps.{named_now, HasToStore, HasPair, TakesNone}
 use Rattle.papaya_follows.proofs.Calling.{is_same_refl}
-use Rattle.papaya_follows.proofs.Calls.{changed_same, changed, found}
+use Rattle.papaya_follows.proofs.Calls.{changed_same, found}
 use Rattle.papaya_follows.proofs.Operations.{operated_leaves, LeavesBy}
 use Rattle.papaya_follows.proofs.Rows.{HandsOn, IsStill, Puts as PutsBehind, Retires, one_step_leaves}
 use Rattle.papaya_follows.proofs.RowSteps.{row_done}
-use Rattle.papaya_follows.proofs.Steps.{WentTo, went_to, made_so, is_inside, DidSo, OfNoRow, one_of}
-use Rattle.papaya_hands.specs.Asked.{given_by, IsAskedOn, IsAskedAs, ShowsAsked}
+use Rattle.papaya_follows.proofs.Steps.{WentTo, went_to, made_so, is_inside, DidSo, OfNoRow}
+use Rattle.papaya_hands.specs.Asked.{IsAskedOn, IsAskedAs, ShowsAsked}
 use Rattle.papaya_hands.proofs.Calling.{caller_is}
-use Rattle.papaya_hands.proofs.Done.{done, stepped}
+use Rattle.papaya_hands.proofs.Done.{done}
 use Rattle.papaya_hands.proofs.Puts.{MayDo}
 use Rattle.papaya_hands.proofs.RowSteps.{rows_hand_theirs}
 use Rattle.papaya_hands.proofs.Steps.{numbers_apart, calls_store_theirs}
@@ -61,7 +57,7 @@ use Rattle.papaya_spots.proofs.Steps.{moved_shifts}
 use Rattle.papaya_moments.specs.Whole.{ShowsWhole}
 use Rattle.papaya_moments.proofs.Calls.{of_row}
 use Rattle.papaya_histories.specs.Changes.{AreTaken, StepsChangeOnce}
-use Rattle.papaya_histories.specs.Had.{Had, HadThen}
+use Rattle.papaya_histories.specs.Had.{HadThen}
 use Rattle.papaya_histories.proofs.Had.{had_none, had_pair}
 use Rattle.papaya_histories.proofs.Keys.{its_call}
 use Rattle.papaya_histories.proofs.Meanings.{puts_some, ToRemove, takes_it}
@@ -244,7 +240,7 @@ module _ {K V S : Type 0} (same : K → K → Bool) (hash : K → ℕ) (name : �
 
   to_remove : (memory : Mem (Node K V)) (c2 : Chart K) (blocks : Blocks) (given : Given K V) (n : ℕ) → StoresGiven st.hash memory c2 blocks given (Removed n) → ToRemove n given
   to_remove memory c2 blocks (Begun kind pair) n has = tt
-  to_remove memory c2 blocks (IsTold kind its asked) n has = has
+  to_remove memory c2 blocks (IsTold kind key told) n has = has
 
   to_remove_by : (memory : Mem (Node K V)) (c2 : Chart K) (blocks : Blocks) (change : Change) → StoresGiven st.hash memory c2 blocks x.pair change → ToRemoveBy change
   to_remove_by memory c2 blocks Unchanged has = tt

@@ -1,8 +1,7 @@
 -- What a call on one key owes as an answer is what it means by the change that it has made, after each step of a call, whoever's.
-use Rattle.std.specs.Prelude.{◌≡◌, ◌≢◌, ℕ, suc, ◌+◌, ◌<◌, ◌≤◌, Bool, true, false, List, [], ◌∷◌, length, flat_map, Option, Some, None, ◌⊎◌}
+use Rattle.std.specs.Prelude.{◌≡◌, ℕ, ◌+◌, ◌<◌, ◌≤◌, Bool, true, List, [], ◌∷◌, length, flat_map, Option, Some, None}
 use Rattle.std.proofs.Common.{refl, ap, sym, subst, ◌∙◌, arith, inl, inr}
 use Rattle.std.proofs.lemmas.Bool.{cases_lt, eq-eqb}
-use Rattle.seize_words.specs.Mem.{Mem}
 use Rattle.papaya_tables.specs.Chunks.{is_incremental}
 use Rattle.papaya_tables.specs.declared.node.Node.{Node}
 use Rattle.papaya_raw.specs.declared.machines.progress.Progress.{Progress}
@@ -22,7 +21,7 @@ use Rattle.papaya_schedules.specs.Moment.{InMap, UnderWay as CallThere, Moment}
 use Rattle.papaya_schedules.specs.Sequential.{Meaning, Answers, Deed, Puts, Takes, means, answer_due}
 use Rattle.papaya_schedules.specs.Views.{is_in_map, call_of, reply_to}
 use Rattle.papaya_rule.specs.Chart.{Chart}
-use Rattle.papaya_points.specs.FactsCalls.{Change, Unchanged, Stored, Replaced, Removed, Changes}
+use Rattle.papaya_points.specs.FactsCalls.{Change, Unchanged, Stored, Replaced, Removed}
 use Rattle.papaya_callers.specs.Together.{CallOnKey, UnderWay, OnKey, ForRoom, Counting, OverAll, change_told}
 use Rattle.papaya_finishes.specs.Maps.{Standing}
 use Rattle.papaya_effects.specs.Effects.{effects_of}
@@ -90,7 +89,7 @@ due_of meaning a d is = ap (λ (z : Meaning _). answer_due z) is
 due_when : {K V : Type 0} (its : Call K V) (c : CallThere K V) (one : OneKey K V) (old : Option ℕ) (new : ℕ) → its ≡ On one → (due_for its c old new).due ≡ answer_due (means one (reply_to old c.replies) old new)
 due_when its c one old new is = ap (λ (z : Call _ _). (due_for z c old new).due) is
 
-same_change : {K V : Type 0} (x y : CallOnKey K V K) → ◌≡◌ {A = UnderWay K V K} (OnKey x) (OnKey y) → x.change ≡ y.change
+pub same_change : {K V : Type 0} (x y : CallOnKey K V K) → ◌≡◌ {A = UnderWay K V K} (OnKey x) (OnKey y) → x.change ≡ y.change
 same_change x y e = let one : x ≡ y = cc e in ap (λ (z : CallOnKey _ _ _). z.change) one
 
 module _ {K V S : Type 0} (same : K → K → Bool) (hash : K → ℕ) (name : ℕ → List ℕ) (log : List (Entry K V)) (m : Moment K V) (known : Known) (s : Scene K V) (old new : Executor K V S)
@@ -158,7 +157,7 @@ module _ {K V S : Type 0} (same : K → K → Bool) (hash : K → ℕ) (name : �
       → Owes (number2 map) st2.chart.stored one d x.change
 
   -- so it is for all, where it is for the call itself
-  module _ (own : Own) (changes : ChangesFirst log m same v2) where
+  module _ (own : Own) (changes : ChangesFirst log m same map v2) where
     owes_then : (n j : ℕ) (x : CallOnKey K V K) → scene2.calls n j ≡ Some (OnKey x) → (st2 : Standing K) → went.4.maps2 n ≡ Some st2 → (d : CallThere K V) → call_of (name j) v2 ≡ Some d
         → (one : OneKey K V) → d.call ≡ On one → Owes (number2 n) st2.chart.stored one d x.change
     owes_then n j x is st2 there d found one one_is = elim (which s.calls map i went.4.next n j (OnKey x) is) as (λ _. Owes (number2 n) st2.chart.stored one d x.change) [

@@ -1,5 +1,5 @@
 -- What effects leave of what a call owes: one that shifts no pair leaves it, and one that stores or removes a pair makes it what the call means then.
-use Rattle.std.specs.Prelude.{◌≡◌, ℕ, ◌+◌, Bool, true, false, List, [], ◌∷◌, ◌++◌, length, flat_map, Option, Some, None, if◌then◌else◌}
+use Rattle.std.specs.Prelude.{◌≡◌, ℕ, Bool, true, false, List, [], ◌∷◌, ◌++◌, flat_map, Some, if◌then◌else◌}
 use Rattle.std.proofs.Common.{refl, ap, sym, ◌∙◌}
 use Rattle.papaya_runs.specs.Same.{is_same}
 use Rattle.papaya_schedules.specs.declared.effect.Effect.{Effect}
@@ -11,7 +11,7 @@ use Rattle.papaya_schedules.specs.Sequential.{Shift}
 use Rattle.papaya_schedules.specs.Views.{call_of}
 use Rattle.papaya_follows.proofs.Calls.{changed_same, changed, found}
 
-none_of : (xs ys : List Shift) → xs ++ ys ≡ [] → (xs ≡ []) × (ys ≡ [])
+pub none_of : (xs ys : List Shift) → xs ++ ys ≡ [] → (xs ≡ []) × (ys ≡ [])
 none_of [] ys e = (refl, e)
 none_of (x ∷ xs) ys e = absurd (cc e)
 

@@ -18,4 +18,7 @@ pub mod Dues
 pub mod Due
 pub mod DueOn
 pub mod Owed
+pub mod Refusals
+pub mod Steady
+pub mod Several
 pub mod Events

@@ -1,6 +1,6 @@
 -- The moments of a run since an event: those of the log are among them, and more come.
-use Rattle.std.specs.Prelude.{◌≡◌, ℕ, ◌==◌, nat_lt, ◌≤◌, Bool, true, false, List, [], ◌∷◌, length, if◌then◌else◌}
-use Rattle.std.proofs.Common.{refl, ap, subst, sym, arith, inl, inr}
+use Rattle.std.specs.Prelude.{◌≡◌, ℕ, ◌==◌, nat_lt, ◌≤◌, true, false, List, [], ◌∷◌, length, if◌then◌else◌}
+use Rattle.std.proofs.Common.{ap, subst, sym, arith, inl, inr}
 use Rattle.papaya_schedules.specs.After.{moment, moments_from}
 use Rattle.papaya_schedules.specs.Entry.{Entry}
 use Rattle.papaya_schedules.specs.Lists.{OneOf}

@@ -1,21 +1,23 @@
 -- What a call means where it stores or removes a pair.
-use Rattle.std.specs.Prelude.{◌≡◌, ℕ, ◌<◌, Bool, true, false, List, [], ◌∷◌, map, Option, Some, None, option_map, ◌⊎◌}
+use Rattle.seize_words.specs.declared.fault.Fault.TheVariants.{RemoveNothing}
+use Rattle.std.specs.Prelude.{◌≡◌, ℕ, ◌<◌, true, false, List, ◌∷◌, map, Option, Some, None, option_map, ◌⊎◌}
 use Rattle.std.proofs.Common.{refl, ap, sym, ◌∙◌, inl, inr}
 use Rattle.papaya_raw.specs.declared.machines.asking.Reply.{Reply as MachineReply}
 use Rattle.papaya_raw.specs.declared.machines.asking.Reply.TheVariants as reply
+use Rattle.papaya_raw.specs.declared.machines.asking.Takes.TheVariants as takes
 use Rattle.papaya_schedules.specs.declared.call.Answer.{Answer}
 use Rattle.papaya_schedules.specs.declared.call.Answer.TheVariants as answer
 use Rattle.papaya_schedules.specs.declared.call.OneKey.{OneKey}
 use Rattle.papaya_schedules.specs.declared.call.OneKey.TheVariants.{Get, GetKeyValue, ContainsKey, Insert, TryInsert, TryInsertWith, GetOrInsert, GetOrInsertWith, Update, UpdateOrInsert, UpdateOrInsertWith, Compute, Remove, RemoveEntry, RemoveIf}
 use Rattle.papaya_schedules.specs.declared.call.Reply.{Reply}
 use Rattle.papaya_schedules.specs.declared.call.Reply.TheVariants.{Gives, Removes, Aborts, Decides}
-use Rattle.papaya_schedules.specs.Sequential.{Meaning, Answers, Refuses, Wants, Deed, Leaves, Puts, Takes, means, value_put}
+use Rattle.papaya_schedules.specs.Sequential.{Meaning, Answers, Refuses, Wants, Leaves, Puts, Takes, means, value_put}
 use Rattle.papaya_schedules.specs.Views.{reply_to}
-use Rattle.papaya_late.specs.Kinds.{MayRemove}
+use Rattle.papaya_late.specs.Faults.{IsRoom}
+use Rattle.papaya_late.specs.Kinds.{MayRemove, FaultFits}
 use Rattle.papaya_callers.specs.Asked.{Asked, last_told}
-use Rattle.papaya_callers.specs.Kind.{Kind}
-use Rattle.papaya_callers.specs.Pairs.{Given, Begun, IsTold, kind_of}
-use Rattle.papaya_hands.specs.Asked.{as_told, given_by, IsSameQuestion, AreReplies}
+use Rattle.papaya_callers.specs.Pairs.{Given, Begun, IsTold, kind_of, RemovesNone}
+use Rattle.papaya_hands.specs.Asked.{as_told, given_by, AreReplies}
 use Rattle.papaya_hands.proofs.Replies.{told_as}
 use Rattle.papaya_histories.specs.Changes.{AreTaken}
 
@@ -105,3 +107,36 @@ module _ {K V : Type 0} (number : ℕ → ℕ) (stored : ℕ) (apart : (n o : �
   takes_it (Remove k) taken may told = (answer.Found (number n), refl)
   takes_it (RemoveEntry k) taken may told = (answer.Found (number n), refl)
   takes_it (RemoveIf k) taken may told = chosen k taken told
+
+no_room : IsRoom RemoveNothing → ⊥
+no_room (inl e) = cc e
+no_room (inr e) = cc e
+
+-- a call that was told to remove what is not there means to be refused for that
+module _ {K V : Type 0} (number : ℕ → ℕ) (stored : ℕ) (apart : (n o : ℕ) → n < stored → o < stored → number n ≡ number o → n ≡ o)
+    (asked : List (Asked V)) (replies : List (Option ℕ × Reply V)) (are : AreReplies number stored asked replies) where
+  abbrev FitsIt : OneKey K V → Type 0
+  FitsIt one = FaultFits (kind_of (given_by one asked)).present (kind_of (given_by one asked)).absent (kind_of (given_by one asked)).takes RemoveNothing
+
+  -- only where it takes changes
+  takes_changes : (one : OneKey K V) → FitsIt one → (kind_of (given_by one asked)).takes ≡ takes.Changes
+  takes_changes one (inl (more, room)) = absurd (no_room room)
+  takes_changes one (inr fits) = fits.0
+
+  pub refuses_it : (one : OneKey K V) → FitsIt one → RemovesNone (given_by one asked) → (n : ℕ) → means one (reply_to None replies) None n ≡ Refuses
+  refuses_it (Get k) fits told n = absurd told
+  refuses_it (GetKeyValue k) fits told n = absurd told
+  refuses_it (ContainsKey k) fits told n = absurd told
+  refuses_it (Insert k v) fits told n = absurd told
+  refuses_it (TryInsert k v) fits told n = absurd told
+  refuses_it (TryInsertWith k) fits told n = absurd (let e = takes_changes (TryInsertWith k) fits in cc e)
+  refuses_it (GetOrInsert k v) fits told n = absurd told
+  refuses_it (GetOrInsertWith k) fits told n = absurd (let e = takes_changes (GetOrInsertWith k) fits in cc e)
+  refuses_it (Update k) fits told n = absurd (let e = takes_changes (Update k) fits in cc e)
+  refuses_it (UpdateOrInsert k v) fits told n = absurd (let e = takes_changes (UpdateOrInsert k v) fits in cc e)
+  refuses_it (UpdateOrInsertWith k) fits told n = absurd (let e = takes_changes (UpdateOrInsertWith k) fits in cc e)
+  refuses_it (Compute k) fits told n =
+      ap (λ (o : Option (Reply V)). means {K = K} (Compute k) o None n) (removed_by (reply_to None replies) (sym (told_as number stored apart None None tt asked replies are) ∙ told))
+  refuses_it (Remove k) fits told n = absurd told
+  refuses_it (RemoveEntry k) fits told n = absurd told
+  refuses_it (RemoveIf k) fits told n = absurd (let e = takes_changes (RemoveIf k) fits in cc e)

@@ -1,6 +1,6 @@
 -- What is of no call leaves histories within the moments of the run: no pair of a map comes or goes.
-use Rattle.std.specs.Prelude.{◌≡◌, ℕ, ◌≤◌, Bool, List, length, find, Option, Some}
-use Rattle.std.proofs.Common.{refl, ap, sym, subst, ◌∙◌, arith, inl}
+use Rattle.std.specs.Prelude.{◌≡◌, ℕ, Bool, List, find, Option, Some}
+use Rattle.std.proofs.Common.{ap, sym, subst, ◌∙◌, arith, inl}
 use Rattle.papaya_runs.specs.Same.{is_same}
 use Rattle.papaya_schedules.specs.Entry.{Entry}
 use Rattle.papaya_schedules.specs.Moment.{UnderWay as CallThere, Moment}

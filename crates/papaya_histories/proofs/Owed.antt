@@ -20,8 +20,7 @@ use Rattle.papaya_schedules.specs.Views.{call_of, reply_to}
 use Rattle.papaya_rule.specs.Chart.{Still, Holds, Chart}
 use Rattle.papaya_rule.specs.Words.{Blocks, place_word}
 use Rattle.papaya_points.specs.FactsCalls.{Change, Unchanged, Stored, Replaced, Removed, Tells}
-use Rattle.papaya_points.specs.Steps.{AreLawful}
-use Rattle.papaya_callers.specs.Sights.{Sight, seen_by}
+use Rattle.papaya_callers.specs.Sights.{seen_by}
 use Rattle.papaya_callers.specs.Since.{SoSince}
 use Rattle.papaya_callers.specs.Together.{CallOnKey, OnKey, AnswersOnce, change_told, in_slot}
 use Rattle.papaya_finishes.specs.Maps.{Standing}
@@ -37,7 +36,7 @@ use Rattle.papaya_histories.specs.Answers.{IsToldAs, IsToldDone, AnswersAreOwed}
 use Rattle.papaya_histories.specs.Due.{Owes, ShowsDue}
 use Rattle.papaya_histories.proofs.Answers.{ended}
 use Rattle.papaya_histories.proofs.Due.{change_by, owes_then_by, was_there}
-use Rattle.papaya_histories.proofs.Roles.{named_by, no_change, stands_then, stands_is, roles_before, roles_after}
+use Rattle.papaya_histories.proofs.Roles.{named_by, no_change, roles_before, roles_after}
 use Rattle.papaya_histories.proofs.Steps.{to, led_on, v, after}
 
 module _ {K V S : Type 0} (same : K → K → Bool) (hash : K → ℕ) (name : ℕ → List ℕ) (log : List (Entry K V)) (m : Moment K V) (known : Known) (s : Scene K V) (old new : Executor K V S)
@@ -120,12 +119,15 @@ module _ {K V S : Type 0} (same : K → K → Bool) (hash : K → ℕ) (name : �
       owed_once w stored change (fits, inl (none, so, leaves)) owes told = absurd (no_look answer so told)
       owed_once w stored change (fits, inr (changed, tells, stores)) owes told = owed_by w stored change answer tells owes told
 
+      unchanged : (w : World (Node K V)) (change : Change) → AnswersOnce V same st.hash same st.setting slot_of w c2 seen i z change answer → IsToldAs known2 one c.replies answer a → change ≡ Unchanged
+      unchanged w change (fits, inl (none, so, leaves)) told = none
+      unchanged w change (fits, inr (changed, tells, stores)) told =
+          absurd (no_change same st.hash same w i (in_slot st.setting (slot_of i)) c2 seen z.keys change known2 one c.replies a change answer tells told)
+
       -- and where none is told, it owes none
       none_owed : (w : World (Node K V)) (stored : ℕ) (change : Change) → AnswersOnce V same st.hash same st.setting slot_of w c2 seen i z change answer → Owes number stored one d change
           → IsToldAs known2 one c.replies answer a → d.due ≡ None
-      none_owed w stored change (fits, inl (none, so, leaves)) owes told = subst (λ (x : Change). Owes number stored one d x) none owes
-      none_owed w stored change (fits, inr (changed, tells, stores)) owes told =
-          absurd (no_change same st.hash same w i (in_slot st.setting (slot_of i)) c2 seen z.keys change known2 one c.replies a change answer tells told)
+      none_owed w stored change once owes told = subst (λ (x : Change). Owes number stored one d x) (unchanged w change once told) owes
 
     by : (did : DidSo same hash name m known s old new at shown map i (OnKey z) here said leads (OnKey z))
         → Owes number st2.chart.stored one d (change_by same hash name log m known s old new at whole dues map i z here said leads c c_is one one_is st2 went.4.its_map.4 d d_is did)
@@ -149,6 +151,19 @@ module _ {K V S : Type 0} (same : K → K → Bool) (hash : K → ℕ) (name : �
     none_by (p2, end, machine_is, told_is, inr (row, stayed)) owes told =
         none_owed st.chart (seen_by st.blocks (st.sights (slot_of i))) (roles_before same hash name m known s old new at whole shown map i z here said leads) row.step.w2 st2.chart.stored
         z.change (row.step.answers answer (ended end answer told_is)) owes told
+
+    -- the call has changed nothing then
+    unchanged_by : (did : DidSo same hash name m known s old new at shown map i (OnKey z) here said leads (OnKey z)) → IsToldAs known2 one c.replies answer a
+        → change_by same hash name log m known s old new at whole dues map i z here said leads c c_is one one_is st2 went.4.its_map.4 d d_is did ≡ Unchanged
+    unchanged_by (p2, end, machine_is, told_is, inl (step, moved)) told =
+        unchanged step.step.went.c2 step.step.went.blocks2 (roles_after same hash name m known s old new at whole shown map i z here said leads p2 end step moved.1) step.step.went.w2
+        (change_told V same st.hash same st.setting slot_of step.step.went.told) (step.step.answers answer (ended end answer told_is)) told
+    unchanged_by (p2, end, machine_is, told_is, inr (row, stayed)) told =
+        unchanged st.chart (seen_by st.blocks (st.sights (slot_of i))) (roles_before same hash name m known s old new at whole shown map i z here said leads) row.step.w2
+        z.change (row.step.answers answer (ended end answer told_is)) told
+
+    pub change_none : IsToldAs known2 one c.replies answer a → change_by same hash name log m known s old new at whole dues map i z here said leads c c_is one one_is st2 went.4.its_map.4 d d_is went.4.did ≡ Unchanged
+    change_none told = unchanged_by went.4.did told
 
     pub due_none : IsToldAs known2 one c.replies answer a → d.due ≡ None
     due_none told = none_by went.4.did (owes_then_by same hash name log m known s old new at whole dues map i z here said leads c c_is one one_is st2 went.4.its_map.4 d d_is) told

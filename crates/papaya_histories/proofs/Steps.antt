@@ -1,12 +1,13 @@
 -- A step of a call, whoever's: the history of each map stays within the moments of the run.
-use Rattle.std.specs.Prelude.{◌≡◌, ◌≢◌, ℕ, ◌<◌, ◌≤◌, Bool, List, ◌∷◌, length, Option, Some, None, ◌⊎◌}
-use Rattle.std.proofs.Common.{refl, ap, sym, subst, ◌∙◌, inl, inr}
+use Rattle.std.specs.Prelude.{◌≡◌, ◌≢◌, ℕ, ◌≤◌, Bool, List, length, Option, Some, ◌⊎◌}
+use Rattle.std.proofs.Common.{refl, ap, sym, subst, ◌∙◌, arith, inl, inr}
 use Rattle.std.proofs.lemmas.Bool.{cases_eq}
 use Rattle.seize.specs.World.{World, with_at}
 use Rattle.papaya_tables.specs.Chunks.{is_incremental}
 use Rattle.papaya_tables.specs.declared.node.Node.{Node}
 use Rattle.papaya_raw.specs.declared.machines.progress.Progress.{Progress}
 use Rattle.papaya_schedules.specs.declared.effect.Effect.{Effect}
+use Rattle.papaya_schedules.specs.After.{moment}
 use Rattle.papaya_schedules.specs.Effects.{with_effects}
 use Rattle.papaya_schedules.specs.Entry.{Entry}
 use Rattle.papaya_schedules.specs.Moment.{UnderWay as CallThere, Moment}
@@ -43,6 +44,7 @@ use Rattle.papaya_histories.specs.Had.{HadThen}
 use Rattle.papaya_histories.specs.Histories.{began_of, since, IsWithin, ShowsHistory}
 use Rattle.papaya_histories.specs.Kept.{ChangesFirst, CallsKeepHistories}
 use Rattle.papaya_histories.proofs.Begun.{effects_begun}
+use Rattle.papaya_histories.proofs.Had.{had_on, had_at, had_one}
 use Rattle.papaya_histories.proofs.Later.{IsLater, same_later, moved_later}
 use Rattle.papaya_histories.proofs.Now.{now_had}
 use Rattle.papaya_histories.proofs.Within.{within_on}
@@ -154,6 +156,29 @@ module _ {K V S : Type 0} (same : K → K → Bool) (hash : K → ℕ) (name : �
       now_had same n (led_on.shows.number n) st v after s2.world (s2.calls n) (to.5.together.makings.standing.fit n st is).0 (to.5.together.makings.standing.each n st is)
       (led_on.shows.maps n st is).pairs led_on.shows.blocks k
 
+  -- where a map has the pairs that it had, its finite map is the same
+  pub same_pairs : (n : ℕ) (st : Standing K) (there : s2.maps n ≡ Some st) (before : Standing K) (was : s.maps n ≡ Some before) → st.chart.current ≡ before.chart.current → (k : K)
+      → finite_map same n v k ≡ finite_map same n m k
+  same_pairs n st there before was kept k =
+      had_one same st (led_on.shows.number n) st.chart.now k (finite_map same n v k) (finite_map same n m k) (now_then n st there k)
+      (had_at same st (led_on.shows.number n) before.chart.now k st.chart.now alike (finite_map same n m k)
+      (had_on same before st (shown.number n) (led_on.shows.number n) later (led_on.numbers n before was) before.chart.now (omega arith) k (finite_map same n m k)
+      (now_had same n (shown.number n) before m known s.world (s.calls n) (at.together.makings.standing.fit n before was).0 (at.together.makings.standing.each n before was)
+      (shown.maps n before was).pairs shown.blocks k)))
+    where
+      later : IsLater before.chart st.chart
+      later = let it = maps_later n st there in subst (λ (z : Standing K). IsLater z.chart st.chart) (one_of it.0 before (sym it.1 ∙ was)) it.2
+
+      alike : (o : ℕ) → st.chart.was st.chart.now o ≡ st.chart.was before.chart.now o
+      alike o =
+          (to.5.together.makings.standing.each n st there).ground.moments.now_is o ∙ ap (λ (f : ℕ → Bool). f o) kept
+          ∙ sym ((at.together.makings.standing.each n before was).ground.moments.now_is o) ∙ sym (ap (λ (f : ℕ → Bool). f o) (later.was before.chart.now (omega arith)))
+
+  -- and so it is on each other map
+  pub same_elsewhere : (n : ℕ) → n ≢ map → (st : Standing K) → s2.maps n ≡ Some st → (k : K) → finite_map same n v k ≡ finite_map same n m k
+  same_elsewhere n ne st there k =
+      let it = stood_same (s.maps n) (to.4.maps2 n) (to.4.others n ne) st there in same_pairs n st there it.0 it.1 (ap (λ (c : Chart K). c.current) it.2) k
+
 module _ {K V S : Type 0} (same : K → K → Bool) (hash : K → ℕ) (name : ℕ → List ℕ) (log : List (Entry K V)) (m : Moment K V) (known : Known) (s : Scene K V) (old new : Executor K V S)
     (at : IsAt same hash old s) (whole : ShowsWhole same name m known s) (history : ShowsHistory same name log m known s) (map i : ℕ) (u : UnderWay K V K) (here : s.calls map i ≡ Some u)
     (said : Progress (Node K V)) (leads : StepLeads same hash i said s old new) where
@@ -178,7 +203,13 @@ module _ {K V S : Type 0} (same : K → K → Bool) (hash : K → ℕ) (name : �
   pub begun_then : (n j : ℕ) (x : UnderWay K V K) → scene2.calls n j ≡ Some x → (d : CallThere K V) → call_of (name j) v2 ≡ Some d → d.begun ≤ length log
   begun_then n j x is d found = let was = was_there n j x is d found in subst (λ (b : ℕ). b ≤ length log) (sym was.5) (history.begun n j was.0 was.1 was.3 was.4)
 
-  module _ (changes : ChangesFirst log m same v2) where
+  module _ (changes : ChangesFirst log m same map v2) where
+    changes_then : (n : ℕ) (st : Standing K) → scene2.maps n ≡ Some st → (k : K) → (finite_map same n v2 k ≡ finite_map same n m k) ⊎ (finite_map same n m k ≡ finite_map same n (moment log) k)
+    changes_then n st there k = elim (cases_eq n map) as (λ _. (finite_map same n v2 k ≡ finite_map same n m k) ⊎ (finite_map same n m k ≡ finite_map same n (moment log) k)) [
+      | inl e ↦ subst (λ (z : ℕ). (finite_map same z v2 k ≡ finite_map same z m k) ⊎ (finite_map same z m k ≡ finite_map same z (moment log) k)) (sym e) (changes k)
+      | inr ne ↦ inl (same_elsewhere same hash name m known s old new at whole history.shown map i u here said leads n ne st there k)
+    ]
+
     pub within_then : (n j : ℕ) (x : UnderWay K V K) → scene2.calls n j ≡ Some x → (st : Standing K) → scene2.maps n ≡ Some st → (d : CallThere K V) → call_of (name j) v2 ≡ Some d
         → (began : ℕ) → began_of x ≡ Some began → IsWithin same n st (then_shown.shows.number n) (since log v2 d) began
     within_then n j x is st there d found began began_is =
@@ -186,7 +217,7 @@ module _ {K V S : Type 0} (same : K → K → Bool) (hash : K → ℕ) (name : �
         let before = maps_later same hash name m known s old new at whole history.shown map i u here said leads n st there in
         subst (λ (b : ℕ). IsWithin same n st (then_shown.shows.number n) (since log v2 (record d { begun = b })) began) (sym was.5)
         (within_on same n before.0 st (history.shown.number n) (then_shown.shows.number n) before.2 (then_shown.numbers n before.0 before.1) log m v2 was.3.begun
-        (history.begun n j was.0 was.1 was.3 was.4) (changes n) (now_then same hash name m known s old new at whole history.shown map i u here said leads n st there) began
+        (history.begun n j was.0 was.1 was.3 was.4) (changes_then n st there) (now_then same hash name m known s old new at whole history.shown map i u here said leads n st there) began
         (history.within n j was.0 was.1 before.0 before.1 was.3 was.4 began (sym was.2 ∙ began_is)))
 
     abbrev pub step_history : ShowsHistory same name log v2 (after same hash name m known s old new at whole history.shown map i u here said leads) scene2

@@ -1,11 +1,12 @@
 -- What a call on one key answers without a change, in the words of a run, and when that was so.
 use Rattle.std.specs.Prelude.{◌≡◌, ℕ, Bool, List, Option, Some, None}
+use Rattle.seize_words.specs.declared.fault.Fault.{Fault}
+use Rattle.seize_words.specs.declared.fault.Fault.TheVariants.{RemoveNothing}
 use Rattle.seize_words.specs.Word.{block_in}
-use Rattle.papaya_tables.specs.declared.node.Node.{Node}
 use Rattle.papaya_raw.specs.declared.machines.answer.KeyAnswer.{KeyAnswer}
 use Rattle.papaya_raw.specs.declared.machines.answer.KeyAnswer.TheVariants as answers
 use Rattle.papaya_raw.specs.declared.machines.progress.Answer.TheVariants.{Key}
-use Rattle.papaya_raw.specs.declared.machines.progress.Progress.TheVariants.{Done}
+use Rattle.papaya_raw.specs.declared.machines.progress.Progress.TheVariants.{Done, Refused}
 use Rattle.papaya_schedules.specs.declared.call.Answer.{Answer}
 use Rattle.papaya_schedules.specs.declared.call.Call.TheVariants.{On}
 use Rattle.papaya_schedules.specs.declared.call.OneKey.{OneKey}
@@ -16,7 +17,7 @@ use Rattle.papaya_schedules.specs.Entry.{Entry}
 use Rattle.papaya_schedules.specs.Linearizable.{meaning_at}
 use Rattle.papaya_schedules.specs.Lists.{OneOf}
 use Rattle.papaya_schedules.specs.Moment.{UnderWay as CallThere, Moment}
-use Rattle.papaya_schedules.specs.Sequential.{Answers, Leaves, Puts, Takes, means, key_of}
+use Rattle.papaya_schedules.specs.Sequential.{Answers, Refuses, Leaves, Puts, Takes, means, key_of}
 use Rattle.papaya_schedules.specs.Views.{call_of, finite_map, reply_to}
 use Rattle.papaya_callers.specs.Together.{CallOnKey, OnKey}
 use Rattle.papaya_effects.specs.Effects.{effects_of, known_after}
@@ -69,3 +70,13 @@ module _ (K V S : Type 0) (same : K → K → Bool) (hash : K → ℕ) where
       → (c : CallThere K V) → call_of (name i) m ≡ Some c → (one : OneKey K V) → c.call ≡ On one
       → (d : CallThere K V) → call_of (name i) (with_effects (Some (name i)) (Some map) (effects_of (acts.Call i map) known new.memory.changed) m) ≡ Some d
       → (a : Answer V) → IsToldDone (known_after (acts.Call i map) new.memory.changed known) one c.replies answer a → d.due ≡ Some a
+
+  -- The promise: a call that is refused owes no answer; and where it was told to remove what is not there, that is what it means at a moment of it between two events.
+  abbrev pub RefusalsWereSo : Type 0
+  RefusalsWereSo =
+      (name : ℕ → List ℕ) (log : List (Entry K V)) (m : Moment K V) (known : Known) (s : Scene K V) (old new : Executor K V S) → IsAt same hash old s
+      → ShowsWhole same name m known s → ShowsDue same name log m known s
+      → (map i : ℕ) (u : CallOnKey K V K) (here : s.calls map i ≡ Some (OnKey u)) (fault : Fault) (leads : StepLeads same hash i (Refused fault) s old new)
+      → (c : CallThere K V) → call_of (name i) m ≡ Some c → (one : OneKey K V) → c.call ≡ On one → finite_map same map m (key_of one) ≡ finite_map same map (moment log) (key_of one)
+      → (d : CallThere K V) → call_of (name i) (with_effects (Some (name i)) (Some map) (effects_of (acts.Call i map) known new.memory.changed) m) ≡ Some d
+      → (d.due ≡ None) × (fault ≡ RemoveNothing → OneOf (λ v. meaning_at same one c v ≡ Refuses) (moments_from c.begun log))

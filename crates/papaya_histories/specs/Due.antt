@@ -1,16 +1,20 @@
 -- What a call on one key owes as an answer, by what it has changed.
-use Rattle.std.specs.Prelude.{◌≡◌, ℕ, ◌<◌, Bool, true, List, [], ◌∷◌, Option, Some, None}
+use Rattle.std.specs.Prelude.{◌≡◌, ℕ, ◌<◌, Bool, true, List, [], ◌∷◌, length, Option, Some, None, Ok}
 use Rattle.papaya_tables.specs.declared.node.Node.{Node}
 use Rattle.papaya_runs.specs.Same.{is_same}
 use Rattle.papaya_raw.specs.declared.machines.progress.Progress.{Progress}
 use Rattle.papaya_schedules.specs.declared.call.Answer.{Answer}
+use Rattle.papaya_raw.specs.Machine.{machine_replied}
+use Rattle.papaya_schedules.specs.declared.call.Call.{Call}
 use Rattle.papaya_schedules.specs.declared.call.Call.TheVariants.{On}
+use Rattle.papaya_schedules.specs.declared.call.Reply.{Reply}
+use Rattle.papaya_schedules.specs.Beginning.{with_call}
 use Rattle.papaya_schedules.specs.declared.call.OneKey.{OneKey}
 use Rattle.papaya_schedules.specs.declared.outcome.Outcome.{Outcome}
 use Rattle.papaya_schedules.specs.After.{moment}
 use Rattle.papaya_schedules.specs.Effects.{with_effects}
 use Rattle.papaya_schedules.specs.Entry.{Entry, ends_call}
-use Rattle.papaya_schedules.specs.Moment.{UnderWay as CallThere, Moment, start}
+use Rattle.papaya_schedules.specs.Moment.{Asking, UnderWay as CallThere, Moment, start}
 use Rattle.papaya_schedules.specs.Sequential.{Answers, Puts, Takes, means}
 use Rattle.papaya_schedules.specs.Views.{call_of, reply_to}
 use Rattle.papaya_points.specs.FactsCalls.{Change, Unchanged, Stored, Replaced, Removed}
@@ -18,15 +22,19 @@ use Rattle.papaya_callers.specs.Together.{CallOnKey, UnderWay, OnKey}
 use Rattle.papaya_effects.specs.Effects.{effects_of, known_after}
 use Rattle.papaya_effects.specs.Known.{Known, nothing_known}
 use Rattle.papaya_effects.specs.declared.acting.Acting.TheVariants as acts
-use Rattle.papaya_executor.specs.IsAt.{Scene, IsAt, at_first}
+use Rattle.papaya_executor.specs.IsAt.{Scene, IsAt, at_first, slot_of}
+use Rattle.papaya_executor.specs.Replying.{scene_with}
 use Rattle.papaya_executor.specs.Stepping.{StepLeads, scene_after}
 use Rattle.papaya_executor.specs.declared.executor.Executor.{Executor}
+use Rattle.papaya_finishes.specs.Machines.{machine_of, ToldOfKind}
 use Rattle.papaya_finishes.specs.Maps.{Standing}
-use Rattle.papaya_follows.specs.Calling.{NoneNamed, come_to}
-use Rattle.papaya_hands.specs.Calling.{AsksJust}
+use Rattle.papaya_follows.specs.Calling.{NoneNamed, told, come_to}
+use Rattle.papaya_follows.specs.Calls.{IsCalled}
+use Rattle.papaya_hands.specs.Asked.{as_told}
+use Rattle.papaya_hands.specs.Calling.{IsBegunFor, AsksJust}
 use Rattle.papaya_moments.specs.Whole.{ShowsWhole}
-use Rattle.papaya_histories.specs.Changes.{AreTaken}
-use Rattle.papaya_histories.specs.Histories.{ShowsHistory}
+use Rattle.papaya_histories.specs.Changes.{IsTaken, AreTaken}
+use Rattle.papaya_histories.specs.Histories.{began_of, ShowsHistory}
 use Rattle.papaya_histories.specs.Kept.{ChangesFirst}
 
 -- Of a map, whose pairs have these numbers of the run, and of which so many were stored.
@@ -53,7 +61,7 @@ module _ (K V S : Type 0) (same : K → K → Bool) (hash : K → ℕ) where
       (name : ℕ → List ℕ) (log : List (Entry K V)) (m : Moment K V) (known : Known) (s : Scene K V) (old new : Executor K V S) → IsAt same hash old s
       → ShowsWhole same name m known s → ShowsDue same name log m known s
       → (map i : ℕ) (u : UnderWay K V K) (here : s.calls map i ≡ Some u) (said : Progress (Node K V)) (leads : StepLeads same hash i said s old new)
-      → ChangesFirst log m same (with_effects (Some (name i)) (Some map) (effects_of (acts.Call i map) known new.memory.changed) m)
+      → ChangesFirst log m same map (with_effects (Some (name i)) (Some map) (effects_of (acts.Call i map) known new.memory.changed) m)
       → (let to = leads map u here in
       ShowsDue same name log (with_effects (Some (name i)) (Some map) (effects_of (acts.Call i map) known new.memory.changed) m) (known_after (acts.Call i map) new.memory.changed known)
       (scene_after same hash s old new map i to.0 u to.1 said to.4))
@@ -76,3 +84,22 @@ module _ (K V : Type 0) (same : K → K → Bool) where
   EventsKeepDue =
       (name : ℕ → List ℕ) (log : List (Entry K V)) (e : Entry K V) (known : Known) (s : Scene K V) → ShowsDue same name log (moment (e ∷ log)) known s
       → ShowsDue same name (e ∷ log) (moment (e ∷ log)) known s
+
+module _ (K V S : Type 0) (same : K → K → Bool) (hash : K → ℕ) where
+  -- So it is where a call begins, that has changed nothing,
+  abbrev pub CallsBeginDue : Type 0
+  CallsBeginDue =
+      (name : ℕ → List ℕ) (log : List (Entry K V)) (m : Moment K V) (known : Known) (s : Scene K V) (e : Executor K V S) → IsAt same hash e s → ShowsDue same name log m known s
+      → (map i : ℕ) (u : UnderWay K V K) (call : Call K V) (guard : List ℕ) (standing : Standing K) → s.maps map ≡ Some standing → ((began : ℕ) → began_of u ≡ Some began → began ≡ standing.chart.now)
+      → ((v : CallOnKey K V K) → u ≡ OnKey v → v.change ≡ Unchanged) → NoneNamed name (name i) s → IsCalled same u call → IsBegunFor u call → m.events ≡ length log
+      → ShowsDue same name log (with_call (name i) guard call (Some map) m) known (scene_with map i u s)
+
+  -- and where one that asks takes a reply that such a call takes.
+  abbrev pub CallsTakeDue : Type 0
+  CallsTakeDue =
+      (name : ℕ → List ℕ) (log : List (Entry K V)) (m : Moment K V) (known : Known) (s : Scene K V) (e : Executor K V S) → IsAt same hash e s → ShowsDue same name log m known s
+      → (map i : ℕ) (u : UnderWay K V K) → s.calls map i ≡ Some u → (c : CallThere K V) → call_of (name i) m ≡ Some c → (question : Option ℕ) → c.stands ≡ Asking question
+      → (standing : Standing K) → s.maps map ≡ Some standing → (is_told : Reply V) (next : UnderWay K V K)
+      → machine_of next ≡ (machine_replied (machine_of u) (as_told is_told)).0 → (machine_replied (machine_of u) (as_told is_told)).1 ≡ Ok tt
+      → ToldOfKind V same same e.batch_size e.roots slot_of standing i u (as_told is_told) next → ((one : OneKey K V) → c.call ≡ On one → IsTaken one is_told)
+      → ShowsDue same name log (told (name i) is_told m) known (scene_with map i next s)

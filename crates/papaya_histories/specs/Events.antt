@@ -13,7 +13,7 @@ use Rattle.papaya_schedules.specs.After.{moment}
 use Rattle.papaya_schedules.specs.Beginning.{at_work}
 use Rattle.papaya_schedules.specs.Entry.{Entry, caller_of, acted_on}
 use Rattle.papaya_schedules.specs.Linearizable.{IsLinearizable}
-use Rattle.papaya_schedules.specs.Moment.{UnderWay as CallThere, Moment}
+use Rattle.papaya_schedules.specs.Moment.{UnderWay as CallThere}
 use Rattle.papaya_schedules.specs.Views.{call_of}
 use Rattle.papaya_callers.specs.Together.{CallOnKey, OnKey}
 use Rattle.papaya_effects.specs.Effects.{effects_of, known_after}
@@ -26,13 +26,14 @@ use Rattle.papaya_moments.specs.Whole.{ShowsWhole}
 use Rattle.papaya_histories.specs.Answers.{IsToldAs, IsToldDone}
 use Rattle.papaya_histories.specs.Due.{ShowsDue}
 
--- What such a step comes to: it goes on or waits, or it has answered, and that is told by numbers of pairs. Questions and refusals are none of these.
+-- What such a step comes to: it goes on or waits, is refused, or has answered, and that is told by numbers of pairs. A question is none of these.
 abbrev pub ComesToIt : {K V : Type 0} → Known → OneKey K V → List (Option ℕ × Reply V) → Progress (Node K V) → Outcome V → Type 0
 ComesToIt known one replies (progress.Done (Key answer)) (outcome.Answered a) = IsToldAs known one replies answer a ⊎ IsToldDone known one replies answer a
 ComesToIt known one replies progress.Goes outcome.Goes = Unit {0}
 ComesToIt known one replies progress.Waits outcome.Waits = Unit {0}
 ComesToIt known one replies (progress.Gave value) outcome.Goes = Unit {0}
 ComesToIt known one replies (progress.Unstored value) outcome.Goes = Unit {0}
+ComesToIt known one replies (progress.Refused fault) (outcome.Refused other) = other ≡ fault
 ComesToIt known one replies _ _ = ⊥
 
 module _ (K V S : Type 0) (same : K → K → Bool) (hash : K → ℕ) where

@@ -35,9 +35,9 @@ module _ {K V : Type 0} (log : List (Entry K V)) (m : Moment K V) where
   abbrev pub HasJustBegun : Type 0
   HasJustBegun = (m.place ≡ (moment log).place) × (m.stored ≡ (moment log).stored)
 
-  -- A class that has another pair then, or none any more, had what it had at the end of the last event: no class changes twice within one event.
-  abbrev pub ChangesFirst : (K → K → Bool) → Moment K V → Type 0
-  ChangesFirst same v = (map : ℕ) (k : K) → (finite_map same map v k ≡ finite_map same map m k) ⊎ (finite_map same map m k ≡ finite_map same map (moment log) k)
+  -- A class that has another pair of this map then, or none any more, had what it had at the end of the last event: no class changes twice within one event.
+  abbrev pub ChangesFirst : (K → K → Bool) → ℕ → Moment K V → Type 0
+  ChangesFirst same map v = (k : K) → (finite_map same map v k ≡ finite_map same map m k) ⊎ (finite_map same map m k ≡ finite_map same map (moment log) k)
 
 -- The promises: so it is before all events,
 abbrev pub HistoriesBegin : Type 0 → Type 0 → Type 0
@@ -50,7 +50,7 @@ module _ (K V S : Type 0) (same : K → K → Bool) (hash : K → ℕ) where
       (name : ℕ → List ℕ) (log : List (Entry K V)) (m : Moment K V) (known : Known) (s : Scene K V) (old new : Executor K V S) → IsAt same hash old s
       → ShowsWhole same name m known s → ShowsHistory same name log m known s
       → (map i : ℕ) (u : UnderWay K V K) (here : s.calls map i ≡ Some u) (said : Progress (Node K V)) (leads : StepLeads same hash i said s old new)
-      → ChangesFirst log m same (with_effects (Some (name i)) (Some map) (effects_of (acts.Call i map) known new.memory.changed) m)
+      → ChangesFirst log m same map (with_effects (Some (name i)) (Some map) (effects_of (acts.Call i map) known new.memory.changed) m)
       → (let to = leads map u here in
       ShowsHistory same name log (with_effects (Some (name i)) (Some map) (effects_of (acts.Call i map) known new.memory.changed) m) (known_after (acts.Call i map) new.memory.changed known)
       (scene_after same hash s old new map i to.0 u to.1 said to.4))
@@ -90,4 +90,4 @@ module _ (K V : Type 0) (same : K → K → Bool) where
 
   -- The first step of an event changes no class twice.
   abbrev pub FirstStepsChangeFirst : Type 0
-  FirstStepsChangeFirst = (log : List (Entry K V)) (m v : Moment K V) → HasJustBegun log m → ChangesFirst log m same v
+  FirstStepsChangeFirst = (log : List (Entry K V)) (m v : Moment K V) (map : ℕ) → HasJustBegun log m → ChangesFirst log m same map v

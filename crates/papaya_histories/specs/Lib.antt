@@ -6,3 +6,4 @@ pub mod Due
 pub mod Answers
 pub mod Events
 pub mod Others
+pub mod Several

@@ -5,7 +5,6 @@ use Rattle.seize_words.specs.Mem.{Mem}
 use Rattle.seize.specs.World.{World}
 use Rattle.papaya_tables.specs.Chunks.{is_incremental}
 use Rattle.papaya_tables.specs.declared.node.Node.{Node}
-use Rattle.papaya_tables.specs.declared.setting.Setting.{Setting}
 use Rattle.papaya_schedules.specs.declared.effect.Effect.{Effect}
 use Rattle.papaya_schedules.specs.declared.effect.Effect.TheVariants.{Stored, Replaced, Removed}
 use Rattle.papaya_schedules.specs.declared.effect.Spot.{Spot}
@@ -13,7 +12,7 @@ use Rattle.papaya_schedules.specs.Linearizable.{shift_of}
 use Rattle.papaya_schedules.specs.Moment.{Moment}
 use Rattle.papaya_schedules.specs.Sequential.{Shift}
 use Rattle.papaya_teller.specs.declared.changed.Changed.{Changed}
-use Rattle.papaya_rule.specs.Chart.{Place, Holds, Chart, put}
+use Rattle.papaya_rule.specs.Chart.{Place, Chart, put}
 use Rattle.papaya_rule.specs.InWorld.{IsMapIn, Moved, Went}
 use Rattle.papaya_rule.specs.Maps.{spot_of}
 use Rattle.papaya_rule.specs.Moves.{Move, Links, Stores, Replaces, Removes, Marks, MarksBlocking, Skips, Unmarks, Puts, Covers, PutsLate, Claims, Reclaims, Counts, GivesUp, Aborts, Promotes, Announces, Allowed, after, without}
