@@ -18,7 +18,11 @@ fn word(so: bool) -> &'static str {
 fn main(rt: HostRuntime) -> io::Result<()> {
     let alloc = rt.alloc();
     for maker in makers::ROWS {
-        println!(rt; "map {}: {}", maker.1, word(makers::is_made(alloc, maker.0)))?;
+        println!(rt;
+            "map {}: {}",
+            maker.1,
+            word(makers::is_made(alloc, maker.0))
+        )?;
     }
     for row in changes::ROWS {
         println!(rt; "map {}: {}", row.1, word(changes::goes_so(alloc, row)))?;

@@ -7,6 +7,7 @@ use serde_json::Value;
 use std::alloc::{AllocError, Global};
 
 type Map = HashMap<Text, u64, Hashing>;
+
 type Set = HashSet<Text, Hashing>;
 
 /// What is done.
