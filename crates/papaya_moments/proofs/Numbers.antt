@@ -7,7 +7,6 @@ use Rattle.std.proofs.lemmas.Bool.{eq-eqb, eqb-true, ne_eqb}
 use Rattle.std.proofs.lemmas.List.Elements.{All-append, All-cons, All-filter, All-map}
 use Rattle.std.proofs.lemmas.List.Folds.{find-append}
 use Rattle.seize_words.specs.declared.at.At.TheVariants.{Root, Used, Slot, Entry, Word}
-use Rattle.seize_words.specs.Word.{block_in}
 use Rattle.seize.specs.declared.states.TheConstants.{FIRST}
 use Rattle.papaya_tables.specs.declared.table_words.TheConstants.{NEXT, DEFERRED}
 use Rattle.papaya_runs.specs.Same.{is_same}
@@ -20,7 +19,7 @@ use Rattle.papaya_schedules.specs.declared.effect.Thing.TheVariants.{APair, ATab
 use Rattle.papaya_schedules.specs.Effects.{at_stage, promoted, with_effect, with_effects}
 use Rattle.papaya_schedules.specs.Moment.{MapThere, Stage, IsLinked, IsRetired, IsReclaimed, IsTaken, TableThere, Moment}
 use Rattle.papaya_schedules.specs.Things.{same_table}
-use Rattle.papaya_schedules.specs.Views.{map_at, tables_of}
+use Rattle.papaya_schedules.specs.Views.{map_at}
 use Rattle.papaya_teller.specs.declared.changed.Changed.{Changed}
 use Rattle.papaya_teller.specs.declared.changed.Changed.TheVariants as changed
 use Rattle.papaya_teller.specs.declared.changed.Kind.{Kind}

@@ -1,7 +1,6 @@
 -- Where the end of a map is over, the moment shows all of the scene.
-use Rattle.std.specs.Prelude.{◌≡◌, ℕ, suc, ◌≤◌, ◌==◌, Bool, true, false, not, cond, List, [], ◌∷◌, filter, find, Some, if◌then◌else◌}
-use Rattle.std.specs.List.{All}
-use Rattle.std.proofs.Common.{refl, ap, sym, subst, ◌∙◌, arith}
+use Rattle.std.specs.Prelude.{◌≡◌, ℕ, ◌≤◌, ◌==◌, Bool, not, filter, Some}
+use Rattle.std.proofs.Common.{refl, ap, sym, ◌∙◌}
 use Rattle.std.proofs.lemmas.Bool.{eqb-true}
 use Rattle.std.proofs.lemmas.List.Elements.{All-filter}
 use Rattle.papaya_runs.specs.Same.{is_same}
