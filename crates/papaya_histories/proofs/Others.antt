@@ -1,6 +1,6 @@
 -- What is of no call leaves histories within the moments of the run: no pair of a map comes or goes.
-use Rattle.std.specs.Prelude.{◌≡◌, ℕ, Bool, List, find, Option, Some}
-use Rattle.std.proofs.Common.{ap, sym, subst, ◌∙◌, arith, inl}
+use Rattle.std.specs.Prelude.{◌≡◌, ℕ, Bool, List, find, Option, Some, ◌⊎◌}
+use Rattle.std.proofs.Common.{ap, sym, subst, ◌∙◌, arith, inl, inr}
 use Rattle.papaya_runs.specs.Same.{is_same}
 use Rattle.papaya_schedules.specs.Entry.{Entry}
 use Rattle.papaya_schedules.specs.Moment.{UnderWay as CallThere, Moment}
@@ -14,7 +14,7 @@ use Rattle.papaya_executor.specs.declared.executor.Executor.{Executor}
 use Rattle.papaya_others.specs.After.{ShowsAfter}
 use Rattle.papaya_others.proofs.RowBegins.{rows_begin_shown}
 use Rattle.papaya_others.proofs.Rows.{rows_on_slots_are_shown}
-use Rattle.papaya_moments.proofs.Beside.{IsBeside, asked_beside}
+use Rattle.papaya_moments.proofs.Beside.{IsBeside, StoodSo, StandsNew, asked_beside}
 use Rattle.papaya_moments.proofs.OnSlots.{row_beside, rows_begin_beside}
 use Rattle.papaya_histories.specs.Had.{HadThen}
 use Rattle.papaya_histories.specs.Histories.{began_of, since, IsWithin, ShowsHistory}
@@ -33,11 +33,8 @@ module _ {K V S : Type 0} (same : K → K → Bool) (hash : K → ℕ) (name : �
   was_called : (j : ℕ) (c : CallThere K V) → call_of (name j) m2 ≡ Some c → call_of (name j) m ≡ Some c
   was_called j c found = ap (λ (cs : List (CallThere K V)). find (λ x. is_same x.caller (name j)) cs) (sym beside.calls) ∙ found
 
-  -- of a map that stands then
-  module _ (n : ℕ) (st : Standing K) (there : s2.maps n ≡ Some st) where
-    stood : (before : Standing K) × (s.maps n ≡ Some before) × (st.chart ≡ before.chart) × ((t : ℕ) → st.blocks.table t ≡ before.blocks.table t)
-    stood = beside.stood n st there
-
+  -- of a map that stood so
+  module _ (n : ℕ) (st : Standing K) (there : s2.maps n ≡ Some st) (stood : StoodSo known known2 s s2 n st) where
     later : IsLater stood.0.chart st.chart
     later = subst (IsLater stood.0.chart) (sym stood.2) (same_later stood.0.chart)
 
@@ -67,8 +64,14 @@ module _ {K V S : Type 0} (same : K → K → Bool) (hash : K → ℕ) (name : �
     shown = after.shows;
     asked = asked_beside same name m m2 known known2 s s2 history.shown after beside hash new at2 history.asked;
     begun = λ n j x is c found. history.begun n j x (was_here n j x is) c (was_called j c found);
-    within = λ n j x is st there c found began began_is. within_then n st there j x is c found began began_is;
+    within = λ n j x is st there c found began began_is. within_so n st there j x is c found began began_is (beside.stood n st there);
   }
+    where
+      -- on a new one no call is under way
+      within_so : (n : ℕ) (st : Standing K) (there : s2.maps n ≡ Some st) (j : ℕ) (x : UnderWay K V K) → s2.calls n j ≡ Some x → (c : CallThere K V) → call_of (name j) m2 ≡ Some c
+          → (began : ℕ) → began_of x ≡ Some began → StoodSo known known2 s s2 n st ⊎ StandsNew known known2 s s2 n → IsWithin same n st (after.shows.number n) (since log m2 c) began
+      within_so n st there j x is c found began began_is (inl stood) = within_then n st there stood j x is c found began began_is
+      within_so n st there j x is c found began began_is (inr new_map) = absurd (let none = new_map.0 j in cc (none, is))
 
 module _ (K V S : Type 0) (same : K → K → Bool) (hash : K → ℕ) where
   pub rows_begin_histories : RowsBeginHistories K V S same hash
