@@ -1,10 +1,11 @@
 #!/usr/bin/env python3
-"""Shows that what a map for one owner lends cannot be read once its next change has begun: such a program does not compile.
+"""Shows that what a map for one owner lends cannot be read once its next change has begun, nor be put into another map: such programs do not compile.
 
     compile-fail/late_reads.py    compiles a program of functions that read early or late, and exits 1 if one that reads early is
-                                  refused, or one that reads late is not
+                                  refused, or one that reads late is not; and one that puts what is lent into another map, and exits 1
+                                  if that is not refused
 
-The program is compiled in a folder of its own beside links to this workspace's crates, and is not proved or run.
+The programs are compiled in a folder of their own beside links to this workspace's crates, and are not proved or run.
 """
 import os
 import re
@@ -36,6 +37,9 @@ LENT = [
     ("remove", "map: &mut Map", "map.remove(&1)", "lent.is_ok_and(|value| value.is_some_and(|value| *value == 2))"),
     ("remove_entry", "map: &mut Map", "map.remove_entry(&1)", "lent.is_ok_and(|pair| pair.is_some_and(|pair| *pair.1 == 2))"),
     ("get_of_a_set", "map: &mut Set", "map.get(&1)", "lent.is_some_and(|element| *element == 1)"),
+    ("iter_of_a_set", "map: &mut Set", "map.iter().next()", "lent.is_some_and(|element| *element == 1)"),
+    ("taken_of_a_set", "map: &mut Set", "map.taken()", "lent.is_some_and(|element| *element == 1)"),
+    ("met_of_a_set", "map: &mut Set", "map.met()", "lent.is_some_and(|element| *element == 1)"),
 ]
 CHANGE = "let _ = map.clear();"
 # a change while the map is lent, or while a change has lent it
@@ -47,6 +51,31 @@ fn main(rt: HostRuntime) -> io::Result<()> {
     Ok(())
 }
 """
+# a clone that would share its pairs with the map, where they own memory
+SHARING = """//! Puts what a map lends into another one.
+#![tactic(auto)]
+
+use papaya_forms::Text;
+use papaya_seq::HashMap;
+use std::hash::{BuildHasherDefault, DefaultHasher};
+use std::io;
+
+type Map = HashMap<Text, u64, BuildHasherDefault<DefaultHasher>>;
+
+fn shares(map: &Map, clone: &mut Map) {
+    for (key, value) in map.iter() {
+        let _ = clone.insert(*key, *value);
+    }
+}
+
+fn main(rt: HostRuntime) -> io::Result<()> {
+    if let (Ok(map), Ok(mut clone)) = (Map::new(rt.alloc()), Map::new(rt.alloc())) {
+        shares(&map, &mut clone);
+    }
+    Ok(())
+}
+"""
+SHARED = "clone.insert(*key, *value)"
 
 
 def program():
@@ -62,10 +91,10 @@ def program():
 
 
 def compiled(text):
-    """What the compiler says of this program, which stands on the map for one owner."""
+    """What the compiler says of this program, which stands on the map for one owner, and the lines and codes of its errors."""
     with tempfile.TemporaryDirectory(prefix="late-reads-") as room:
         with open(f"{TOP}/crates.txt", encoding="utf-8") as lines, open(f"{room}/crates.txt", "w", encoding="utf-8") as to:
-            to.write(lines.read() + f"{NAME}: papaya_seq\n")
+            to.write(lines.read() + f"{NAME}: papaya_seq papaya_forms\n")
         os.symlink(f"{TOP}/HANDLES", f"{room}/HANDLES")
         for crate in os.listdir(f"{TOP}/crates"):
             os.makedirs(f"{room}/crates/{crate}")
@@ -76,13 +105,12 @@ def compiled(text):
         with open(f"{room}/crates/{NAME}/src/main.rt", "w", encoding="utf-8") as it:
             it.write(text)
         ran = subprocess.run(["rt", "try"], cwd=f"{room}/crates/{NAME}", stdout=subprocess.PIPE, stderr=subprocess.STDOUT, text=True, check=False)
-        return ran.stdout
+        return ran.stdout, re.findall(r"^src/main\.rt:(\d+):\d+: error\[([\w-]+)\]", ran.stdout, re.M)
 
 
 def main():
     text, early, late = program()
-    said = compiled(text)
-    errors = re.findall(r"^src/main\.rt:(\d+):\d+: error\[([\w-]+)\]", said, re.M)
+    said, errors = compiled(text)
     refused = {int(line) for line, code in errors if code in REFUSALS}
     wrong = [f"{name} compiles" for name, line in late.items() if line not in refused]
     wrong += [f"{name} is refused" for name, line in early.items() if line in refused]
@@ -90,7 +118,11 @@ def main():
     if wrong or not errors:
         print(said)
         sys.exit(f"late reads: {'; '.join(wrong) or 'nothing was refused'}")
-    print(f"late reads: {len(late)} refused, {len(early)} early ones compile")
+    said, errors = compiled(SHARING)
+    if errors != [(str(SHARING[: SHARING.index(SHARED)].count("\n") + 1), "move-out-of-place")]:
+        print(said)
+        sys.exit("late reads: a pair that is lent is put into another map")
+    print(f"late reads: {len(late)} refused, {len(early)} early ones compile; a pair that is lent stays in its map")
 
 
 if __name__ == "__main__":

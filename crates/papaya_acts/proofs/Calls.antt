@@ -41,7 +41,7 @@ use Rattle.papaya_acts.specs.Leads.{MayBe, AllStand, Led, call_at, call_steps}
 use Rattle.papaya_acts.proofs.Tests.{none_is, some_is, inside_is, its_class}
 
 -- a stage that is ready is that one
-ready_is : (stage : Sweeping) → is_ready stage ≡ true → stage ≡ sweeping.Ready
+pub ready_is : (stage : Sweeping) → is_ready stage ≡ true → stage ≡ sweeping.Ready
 ready_is sweeping.Ready is = refl
 ready_is _ is = absurd (cc is)
 

@@ -1,4 +1,4 @@
-mod Tests
+pub mod Tests
 mod Calls
 mod Makings
 mod Rows
@@ -6,8 +6,10 @@ mod Lists
 mod Once
 mod Sums
 mod Counts
+mod RowSteps
+mod Courses
 mod ExecutorsBegin
 mod Executors
 mod Samples
 mod Untrue
-mod Reclaiming
+pub mod Reclaiming

@@ -12,9 +12,6 @@ use Rattle.papaya_acts.specs.Lists.{Course, Reached, on_by, IsDetermined}
 bool_set : IsSet Bool
 bool_set = Coded-set coded_bool
 
-absurd_prop : IsProp ⊥
-absurd_prop x y = absurd x
-
 of_slots_prop : (request : Request) → IsProp (IsOfSlots request)
 of_slots_prop (Retire s b) x y = absurd x
 of_slots_prop (Defer' s b t) x y = absurd x

@@ -10,6 +10,7 @@ use Rattle.papaya_resize.specs.declared.new_map.Opening.TheVariants as at
 use Rattle.papaya_finishes.specs.Makings.{Beginning}
 use Rattle.papaya_executor.specs.IsAt.{Scene, at_first}
 use Rattle.papaya_acts.specs.Acts.{Act, Wanted, BeginsCall, StepsCall, BeginsMaking, StepsMaking, BeginsRow}
+use Rattle.papaya_acts.specs.Courses.{AreAlike}
 use Rattle.papaya_acts.specs.Leads.{IsFree, MayBe, making_begun}
 
 module _ {K : Type 0} (V : Type 0) (same : K → K → Bool) (hash : K → ℕ) (batch_size : ℕ) (slot : ℕ → ℕ) where
@@ -58,3 +59,7 @@ module _ {K : Type 0} (V : Type 0) (same : K → K → Bool) (hash : K → ℕ) 
 
     not_that : MayBe same hash batch_size 1 slot (StepsMaking 0 (Some 0)) (Makes at_shards) → ⊥
     not_that may = cc may
+
+    -- It is not alike the first one, where no map is made.
+    not_alike : AreAlike (Makes b) (at_first 1) → ⊥
+    not_alike alike = let same_making = alike.makers 0 in cc same_making

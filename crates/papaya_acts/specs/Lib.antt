@@ -4,3 +4,4 @@ pub mod Lists
 pub mod Counts
 pub mod Executors
 pub mod Reclaiming
+pub mod Courses

@@ -1,6 +1,7 @@
 //! What is promised of lists of acts, of any number of callers, on any number of maps of one collector.
 ghost use Rattle.std.specs.Prelude.{ℕ, Bool};
 ghost use Rattle.papaya_acts.specs.Counts.{CountingsAddUp, CountingsAnswerTheSum};
+ghost use Rattle.papaya_acts.specs.Courses.{CoursesAgree};
 ghost use Rattle.papaya_acts.specs.Executors.{ExecutorsAct};
 ghost use Rattle.papaya_acts.specs.Reclaiming.{ReclaimingIsByActs};
 ghost use Rattle.papaya_acts.specs.Lists.{Course, StepsAreActs, ListsDetermine};
@@ -9,10 +10,11 @@ ghost use Rattle.papaya_acts.specs.Lists.{Course, StepsAreActs, ListsDetermine};
 /// work on their slots, in any order. What one does at once is an act, as plain data: who does it, on which map, what the memory was free to choose, and what
 /// a call was told. Each act is one operation on the memory at most, and a list of acts determines the world, the maps with all their tables and pairs, what
 /// callers have under way, and what they were told. After each act all stand together, and whoever takes the next step of what it has under way may take it:
-/// what it looks at is there. No step that a memory can take is left out.
+/// what it looks at is there. No step that a memory can take is left out. By any course a list leads to the same memory, machines and answers.
 pub fn lists_of_acts_determine<K, V>()
     ensures steps { (same : K → K → Bool) (hash : K → ℕ) (batch_size roots : ℕ) (slot : ℕ → ℕ) → StepsAreActs V same hash batch_size roots slot }
     ensures determined { (same : K → K → Bool) (hash : K → ℕ) (batch_size roots : ℕ) (slot : ℕ → ℕ) → ListsDetermine V same hash batch_size roots slot }
+    ensures agree { (same : K → K → Bool) (hash : K → ℕ) (batch_size roots : ℕ) (slot : ℕ → ℕ) → CoursesAgree V same hash batch_size roots slot }
 {}
 
 /// What a counting of pairs answers is the sum of what the shards of its map's counter said, each as it was read, at a moment since the counting began, while

@@ -21,9 +21,17 @@ use Rattle.papaya_asks.specs.declared.refused.Refused.{Refused}
 abbrev pub TestsAs : {F K V : Type 0} → Once F (Bor K × (Bor V × Unit {0})) Bool → F → K × V → Bool → Type 0
 TestsAs {F} {K} {V} g f x answer = (p : Bor K) × (q : Bor V) × FnOnceReturns g f (p, (q, tt)) answer × (p.now ≡ x.0) × (q.now ≡ x.1)
 
+-- and may be called at it
+abbrev pub TestTakes : {F K V : Type 0} → Once F (Bor K × (Bor V × Unit {0})) Bool → F → K × V → Type 0
+TestTakes {F} {K} {V} g f x = (p : Bor K) (q : Bor V) → p.now ≡ x.0 → q.now ≡ x.1 → g.pre f (p, (q, tt))
+
 -- a computing may give this operation where it is shown this pair, or none
 abbrev pub ComputesAs : {F K V T : Type 0} → Once F (Option (Bor K × Bor V) × Unit {0}) (Operation V T) → F → Option (K × V) → Operation V T → Type 0
 ComputesAs {F} {K} {V} g f about gives = (shown : Option (Bor K × Bor V)) × FnOnceReturns g f (shown, tt) gives × (option_map (λ x. (x.0.now, x.1.now)) shown ≡ about)
+
+-- and may be called there
+abbrev pub ComputingTakes : {F K V T : Type 0} → Once F (Option (Bor K × Bor V) × Unit {0}) (Operation V T) → F → Option (K × V) → Type 0
+ComputingTakes {F} {K} {V} g f about = (shown : Option (Bor K × Bor V)) → option_map (λ x. (x.0.now, x.1.now)) shown ≡ about → g.pre f (shown, tt)
 
 module _ {K V : Type 0} where
   -- The value of a pair that is there gives way to one that is made of it, and where there is none, nothing changes.
@@ -68,8 +76,9 @@ module _ {K V : Type 0} (same : K → K → Bool) (hash : K → ℕ) (setting : 
   ComesToWith value Told (Ok answer) = AnswersAs same hash setting m (same key) xs (Some key) Told answer
   ComesToWith value Told (Err r) = RefusedAs same hash setting m (same key) xs (Some key) Told r.fault × (r.key ≡ key) × (r.value ≡ value)
 
-  -- a computing that was told to change nothing says with what
+  -- a computing that was told to change nothing says with what, and what it found
   abbrev pub ComputesTo : {T : Type 0} → (Option (K × V) → Operation V T → Type 0) → Result (Computed T) (RefusedKey K) → Type 0
   ComputesTo Gives (Ok (computed.Changed answer)) = AnswersAs same hash setting m (same key) xs (Some key) (Computing Gives) answer
-  ComputesTo Gives (Ok (computed.Aborted end)) = Gives (found_by (same key) xs) (operation.Abort end) × Holds same hash setting m xs
+  ComputesTo Gives (Ok (computed.Aborted end answer)) =
+      Gives (found_by (same key) xs) (operation.Abort end) × AnswersAs same hash setting m (same key) xs (Some key) (λ about said. said ≡ reply.Abort) answer
   ComputesTo Gives (Err r) = RefusedAs same hash setting m (same key) xs (Some key) (Computing Gives) r.fault × (r.key ≡ key)

@@ -1,6 +1,6 @@
 //! A call on a key that computes what is to be done with it, run to its end by the one owner.
 ghost use Rattle.std.specs.Prelude.{◌≡◌, ℕ, Bool, List, Option, None, Some, option_map};
-ghost use Rattle.papaya_asks.specs.Closures.{ComputesAs, ComputesTo};
+ghost use Rattle.papaya_asks.specs.Closures.{ComputesAs, ComputesTo, ComputingTakes};
 ghost use Rattle.papaya_owned.specs.Owned.{Holds, IsWordOf, found_by, hashed_by};
 
 use crate::asking::{key_of, start};
@@ -13,7 +13,7 @@ use seize_words::Plain;
 use std::hash::{BuildHasher, Hash};
 
 /// What a computing gives, by the pair that is there, or where there is none.
-#[derive(Drop)]
+#[derive(Debug, Drop, PartialEq, Eq)]
 pub enum Operation<V, T> {
     /// This value is to be stored.
     Insert(V),
@@ -28,8 +28,8 @@ pub enum Operation<V, T> {
 pub enum Computed<T> {
     /// A pair was stored, replaced or removed, as this answer says.
     Changed(KeyAnswer),
-    /// Nothing has changed.
-    Aborted(T),
+    /// Nothing has changed: this was answered, of the pair that the call has found, or of none.
+    Aborted(T, KeyAnswer),
 }
 
 /// The pair of a word, if there is one.
@@ -58,8 +58,8 @@ pub fn compute<
     key: K,
     compute: F,
 ) -> Result<Computed<T>, RefusedKey<K>>
-    requires callable { F.IsAlwaysCallable compute }
-    requires holds { (xs : List (K × V)) × Holds K.eq (hashed_by S.Hasher.finish S.Hasher.write S.build_hasher K.hash_input hasher.now) setting memory.old xs }
+    requires holds { (xs : List (K × V)) × Holds K.eq (hashed_by S.Hasher.finish S.Hasher.write S.build_hasher K.hash_input hasher.now) setting memory.old xs
+        × ComputingTakes F.FnOnce compute (found_by (K.eq key) xs) }
     ensures { (xs : List (K × V)) → Holds K.eq (hashed_by S.Hasher.finish S.Hasher.write S.build_hasher K.hash_input hasher.now) setting memory.old xs
         → ComputesTo K.eq (hashed_by S.Hasher.finish S.Hasher.write S.build_hasher K.hash_input hasher.now) setting memory.new key xs (ComputesAs F.FnOnce compute) result }
 {
@@ -86,7 +86,7 @@ pub fn compute<
                 Err(refused) => Err(refused),
             },
             Operation::Abort(end) => match replied(memory, setting, &mut machine, Reply::Abort) {
-                Ok(_) => Ok(Computed::Aborted(end)),
+                Ok(answer) => Ok(Computed::Aborted(end, answer)),
                 Err(refused) => Err(refused),
             },
         },

@@ -3,7 +3,7 @@
 use seize_words::Fault;
 
 /// A call was refused, and no pair of the map has changed: the key that it was given.
-#[derive(Drop)]
+#[derive(Debug, Drop, PartialEq, Eq)]
 pub struct RefusedKey<K> {
     /// Why.
     pub fault: Fault,
@@ -12,7 +12,7 @@ pub struct RefusedKey<K> {
 }
 
 /// A call was refused, and no pair of the map has changed: the key and the value that it was given.
-#[derive(Drop)]
+#[derive(Debug, Drop, PartialEq, Eq)]
 pub struct Refused<K, V> {
     /// Why.
     pub fault: Fault,

@@ -1,10 +1,11 @@
 //! Removals of the pair of a key, which is asked for by whatever is equivalent to it. Each is run to its end by the one owner.
 ghost use Rattle.std.specs.Prelude.{◌≡◌, List, None, if◌then◌else◌};
+ghost use Rattle.std.specs.Option.{ForSome};
 ghost use Rattle.papaya_raw.specs.declared.machines.asking.Reply.TheVariants as replies;
 ghost use Rattle.papaya_callers.specs.Kind.{removes};
 ghost use Rattle.papaya_asks.specs.Asking.{EndsAs};
-ghost use Rattle.papaya_asks.specs.Closures.{TestsAs, Removing};
-ghost use Rattle.papaya_owned.specs.Owned.{Holds, EndsBy, hashed_by};
+ghost use Rattle.papaya_asks.specs.Closures.{TestsAs, TestTakes, Removing};
+ghost use Rattle.papaya_owned.specs.Owned.{Holds, EndsBy, found_by, hashed_by};
 
 use crate::asking::{finish, start};
 use crate::lent::Lent;
@@ -61,8 +62,8 @@ pub fn remove_if<
     asked: &Q,
     test: F,
 ) -> Result<KeyAnswer, Fault>
-    requires callable { F.IsAlwaysCallable test }
-    requires holds { (xs : List (K × V)) × Holds K.eq (hashed_by S.Hasher.finish S.Hasher.write S.build_hasher K.hash_input hasher.now) setting memory.old xs }
+    requires holds { (xs : List (K × V)) × Holds K.eq (hashed_by S.Hasher.finish S.Hasher.write S.build_hasher K.hash_input hasher.now) setting memory.old xs
+        × ForSome (found_by (Q.Equivalent.equivalent asked.now) xs) (TestTakes F.FnOnce test) }
     ensures { (xs : List (K × V)) → Holds K.eq (hashed_by S.Hasher.finish S.Hasher.write S.build_hasher K.hash_input hasher.now) setting memory.old xs
         → EndsAs K.eq (hashed_by S.Hasher.finish S.Hasher.write S.build_hasher K.hash_input hasher.now) setting memory.new (Q.Equivalent.equivalent asked.now) xs None (Removing (TestsAs F.FnOnce test)) result }
 {

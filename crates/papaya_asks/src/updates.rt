@@ -1,10 +1,11 @@
 //! Calls on a key that update the value that is there, or store one where there is none, by closures. Each is run to its end by the one owner.
 ghost use Rattle.std.specs.Prelude.{◌≡◌, ℕ, Bool, List, Option, None, Some, IfOk, IfErr, Ok, Err};
-ghost use Rattle.std.specs.Fn.{FnOnceReturns, FnOnceReturnsAt};
+ghost use Rattle.std.specs.Fn.{FnOnceReturns, FnOnceReturnsAt, FnOnceTakesAt};
+ghost use Rattle.std.specs.Option.{ForNone, ForSome};
 ghost use Rattle.papaya_callers.specs.Kind.{Kind};
 ghost use Rattle.papaya_asks.specs.Asking.{IsTaken, Pauses, ToldThis};
 ghost use Rattle.papaya_asks.specs.Closures.{ComesTo, ComesToWith, Updating, UpdatingOrStoring, Storing};
-ghost use Rattle.papaya_owned.specs.Owned.{Holds, hashed_by};
+ghost use Rattle.papaya_owned.specs.Owned.{Holds, found_by, hashed_by};
 ghost use Rattle.papaya_raw.specs.declared.machines.asking.Reply.TheVariants as replies;
 ghost use Rattle.papaya_raw.specs.declared.machines.asking.Takes.TheVariants as takes;
 
@@ -45,8 +46,8 @@ pub fn update<K: Eq + Hash + Drop, V: Drop, S: BuildHasher, F: FnOnce(&V) -> V>(
     key: K,
     make: F,
 ) -> Result<KeyAnswer, RefusedKey<K>>
-    requires callable { F.IsAlwaysCallable make }
-    requires holds { (xs : List (K × V)) × Holds K.eq (hashed_by S.Hasher.finish S.Hasher.write S.build_hasher K.hash_input hasher.now) setting memory.old xs }
+    requires holds { (xs : List (K × V)) × Holds K.eq (hashed_by S.Hasher.finish S.Hasher.write S.build_hasher K.hash_input hasher.now) setting memory.old xs
+        × ForSome (found_by (K.eq key) xs) (λ x. FnOnceTakesAt F.FnOnce make x.1) }
     ensures { (xs : List (K × V)) → Holds K.eq (hashed_by S.Hasher.finish S.Hasher.write S.build_hasher K.hash_input hasher.now) setting memory.old xs
         → ComesTo K.eq (hashed_by S.Hasher.finish S.Hasher.write S.build_hasher K.hash_input hasher.now) setting memory.new key xs (Updating (FnOnceReturnsAt F.FnOnce make)) result }
 {
@@ -86,9 +87,8 @@ pub fn update_or_insert_with<
     begin: B,
     make: F,
 ) -> Result<KeyAnswer, RefusedKey<K>>
-    requires begins { B.IsAlwaysCallable begin }
-    requires makes { F.IsAlwaysCallable make }
-    requires holds { (xs : List (K × V)) × Holds K.eq (hashed_by S.Hasher.finish S.Hasher.write S.build_hasher K.hash_input hasher.now) setting memory.old xs }
+    requires holds { (xs : List (K × V)) × Holds K.eq (hashed_by S.Hasher.finish S.Hasher.write S.build_hasher K.hash_input hasher.now) setting memory.old xs
+        × ForNone (found_by (K.eq key) xs) (B.pre begin) × ForSome (found_by (K.eq key) xs) (λ x. FnOnceTakesAt F.FnOnce make x.1) }
     ensures { (xs : List (K × V)) → Holds K.eq (hashed_by S.Hasher.finish S.Hasher.write S.build_hasher K.hash_input hasher.now) setting memory.old xs
         → ComesTo K.eq (hashed_by S.Hasher.finish S.Hasher.write S.build_hasher K.hash_input hasher.now) setting memory.new key xs
         (UpdatingOrStoring (FnOnceReturnsAt F.FnOnce make) (λ value. FnOnceReturns B.FnOnce begin tt value)) result }
@@ -127,8 +127,8 @@ pub fn update_or_insert<K: Eq + Hash + Drop, V: Drop, S: BuildHasher, F: FnOnce(
     value: V,
     make: F,
 ) -> Result<KeyAnswer, Refused<K, V>>
-    requires callable { F.IsAlwaysCallable make }
-    requires holds { (xs : List (K × V)) × Holds K.eq (hashed_by S.Hasher.finish S.Hasher.write S.build_hasher K.hash_input hasher.now) setting memory.old xs }
+    requires holds { (xs : List (K × V)) × Holds K.eq (hashed_by S.Hasher.finish S.Hasher.write S.build_hasher K.hash_input hasher.now) setting memory.old xs
+        × ForSome (found_by (K.eq key) xs) (λ x. FnOnceTakesAt F.FnOnce make x.1) }
     ensures { (xs : List (K × V)) → Holds K.eq (hashed_by S.Hasher.finish S.Hasher.write S.build_hasher K.hash_input hasher.now) setting memory.old xs
         → ComesToWith K.eq (hashed_by S.Hasher.finish S.Hasher.write S.build_hasher K.hash_input hasher.now) setting memory.new key xs value
         (UpdatingOrStoring (FnOnceReturnsAt F.FnOnce make) (λ new. new ≡ value)) result }
@@ -189,8 +189,8 @@ pub fn insert_with<K: Eq + Hash + Drop, V: Drop, S: BuildHasher, B: FnOnce() -> 
     key: K,
     begin: B,
 ) -> Result<KeyAnswer, RefusedKey<K>>
-    requires callable { B.IsAlwaysCallable begin }
-    requires holds { (xs : List (K × V)) × Holds K.eq (hashed_by S.Hasher.finish S.Hasher.write S.build_hasher K.hash_input hasher.now) setting memory.old xs }
+    requires holds { (xs : List (K × V)) × Holds K.eq (hashed_by S.Hasher.finish S.Hasher.write S.build_hasher K.hash_input hasher.now) setting memory.old xs
+        × ForNone (found_by (K.eq key) xs) (B.pre begin) }
     ensures { (xs : List (K × V)) → Holds K.eq (hashed_by S.Hasher.finish S.Hasher.write S.build_hasher K.hash_input hasher.now) setting memory.old xs
         → ComesTo K.eq (hashed_by S.Hasher.finish S.Hasher.write S.build_hasher K.hash_input hasher.now) setting memory.new key xs (Storing (λ value. FnOnceReturns B.FnOnce begin tt value)) result }
 {

@@ -19,7 +19,7 @@ use Rattle.papaya_finishes.proofs.Ends.OrdersOn.{table_later}
 use Rattle.papaya_reclaims.specs.Left.{GoesOnBy}
 use Rattle.papaya_carries.specs.Promises.{EndingsBeginAndKeepTheirs, EndingsKeepTheirs}
 use Rattle.papaya_carries.specs.Theirs.{CanCarry, IsTheirs, AllAreTheirs}
-use Rattle.papaya_carries.proofs.Owed.{one_some}
+use Rattle.papaya_carries.proofs.Owed.{one_some, stays_so, owed_on}
 
 -- once a map has ended all its tables are reclaimed
 table_back : {K V : Type 0} (f : Finishing K V) (t : ℕ) → f.chart.first ≤ t → t < f.chart.past → 0 < times (f.blocks.table t) (back_of f.setting f.chart f.blocks (λ u. []) false)
@@ -28,7 +28,7 @@ table_back f t from made = some_last (f.blocks.table t) _ (from_table f.setting 
 module _ {K Q : Type 0} (V : Type 0) (same : K → K → Bool) (asks : Q → K → Bool) (batch_size roots : ℕ) (slot : ℕ → ℕ)
     (w : World (Node K V)) (maps : ℕ → Option (Standing K)) (calls : ℕ → ℕ → Option (UnderWay K V Q)) (makers : ℕ → Option (Beginning K)) (enders : ℕ → Option (Finishing K V)) where
   pub endings_begin_and_keep_theirs : EndingsBeginAndKeepTheirs V same asks batch_size roots slot w maps calls makers enders
-  endings_begin_and_keep_theirs theirs i none m s here w2 h b can =
+  endings_begin_and_keep_theirs theirs i none m s here no_calls w2 h b can =
       by (theirs b (subst (λ (v : World (Node K V)). IsStillHad (v.hand b)) h can.0, can.1, can.2, ap (λ (v : World (Node K V)). value_at v.memory b) (sym h) ∙ can.3, can.4))
     where
       enders2 : ℕ → Option (Finishing K V)
@@ -36,6 +36,9 @@ module _ {K Q : Type 0} (V : Type 0) (same : K → K → Bool) (asks : Q → K �
 
       maps2 : ℕ → Option (Standing K)
       maps2 = with_at maps m None
+
+      elsewhere : (n j : ℕ) (u : UnderWay K V Q) → calls n j ≡ Some u → n ≢ m
+      elsewhere n j u under e = let no = no_calls j in let has : calls m j ≡ Some u = ap (λ (k : ℕ). calls k j) (sym e) ∙ under in cc (no, has)
 
       by : IsTheirs w maps calls enders b → IsTheirs w2 maps2 calls enders2 b
       by (inl (n, r, is, t, from, made, at)) = at_map (cases_eq n m)
@@ -54,7 +57,9 @@ module _ {K Q : Type 0} (V : Type 0) (same : K → K → Bool) (asks : Q → K �
                 subst (λ (x : Standing K). b ≡ x.blocks.table t) it at,
                 refl,
               ))
-      by (inr (inl (n, j, u, under, rests, due))) = inr (inl (n, j, u, under, ap (λ (v : World (Node K V)). v.row j) h ∙ rests, due))
+      by (inr (inl owed)) =
+          inr (inl (owed_on w w2 maps maps2 calls enders enders2 b
+          (λ n j u under. ((λ rests. ap (λ (v : World (Node K V)). v.row j) h ∙ rests), λ r is. (r, at_other maps m None n (elsewhere n j u under) ∙ is, stays_so r))) owed))
       by (inr (inr (j, f, ends, t, from, made, at, none_so))) =
           inr (inr (j, f, at_other enders i (Some (finishing_of s w)) j (λ e. let no = none in let has : enders i ≡ Some f = ap enders (sym e) ∙ ends in cc (no, has)) ∙ ends, t, from, made, at, none_so))
 
@@ -91,7 +96,8 @@ module _ {K Q : Type 0} (V : Type 0) (same : K → K → Bool) (asks : Q → K �
       with_end : (next : Option (Finishing K V)) (b : ℕ) → ((t : ℕ) → f.chart.first ≤ t → t < f.chart.past → b ≡ f.blocks.table t → times b f.back ≡ 0 → IsTheirs w2 maps calls (with_at enders i next) b)
           → IsTheirs w maps calls enders b → IsTheirs w2 maps calls (with_at enders i next) b
       with_end next b its (inl linked) = inl linked
-      with_end next b its (inr (inl (n, j, u, under, rests, due))) = inr (inl (n, j, u, under, row_is j ∙ rests, due))
+      with_end next b its (inr (inl owed)) =
+          inr (inl (owed_on w w2 maps maps calls enders (with_at enders i next) b (λ n j u under. ((λ rests. row_is j ∙ rests), λ r is. (r, is, stays_so r))) owed))
       with_end next b its (inr (inr (j, g, is, t, from, made, at, none))) = by (cases_eq j i)
         where
           by : (j ≡ i) ⊎ (j ≢ i) → IsTheirs w2 maps calls (with_at enders i next) b

@@ -1,6 +1,6 @@
 -- Whose a block is that users have, and behind which something may be put, over rows between calls; and at rest.
 use Rattle.std.specs.Prelude.{Option, Some, None}
-use Rattle.std.proofs.Common.{◌≡◌, ◌≢◌, ◌<◌, ◌≤◌, ℕ, Bool, inl, inr, refl, ap, sym, subst, ◌∙◌}
+use Rattle.std.proofs.Common.{◌≡◌, ◌≢◌, ◌<◌, ◌≤◌, ℕ, Bool, inl, inr, refl, arith, ap, sym, subst, ◌∙◌}
 use Rattle.seize_words.specs.Mem.{Mem, value_at}
 use Rattle.seize.specs.World.{World, Hand, NoBlock, Making, InUse, Parting, Cutting, Handed, LeftTo, Request, Begin, Step, Happens}
 use Rattle.seize_acts.specs.Reclaimed.{IsStillHad}
@@ -18,10 +18,10 @@ use Rattle.papaya_finishes.specs.Endings.{Finishing}
 use Rattle.papaya_finishes.specs.Makings.{Beginning}
 use Rattle.papaya_finishes.specs.Maps.{Standing, IsSameMap, with_call}
 use Rattle.papaya_reclaims.specs.Deferred.{IsLinkedTable}
-use Rattle.papaya_carries.specs.Promises.{ChangesKeepTheirs, GuardsKeepTheirs, OnlyTablesCarry}
+use Rattle.papaya_carries.specs.Promises.{ChangesKeepTheirs, GuardsKeepTheirs, NoneBegins, OnlyTablesCarry}
 use Rattle.papaya_carries.specs.Theirs.{CanCarry, IsOwed, IsTheirs, AllAreTheirs}
 use Rattle.papaya_carries.proofs.Hands.{begun_same, still_row}
-use Rattle.papaya_carries.proofs.Owed.{owed_with}
+use Rattle.papaya_carries.proofs.Owed.{StandsOnAt, stays_so, owed_on, owed_with}
 
 pub users_own : (h : Hand) → IsStillHad h → IsUsersOwn h
 users_own NoBlock is = absurd is
@@ -49,9 +49,14 @@ module _ {K V Q : Type 0} (w w2 : World (Node K V)) (maps maps2 : ℕ → Option
       let k = linked_on n s is (same n) in
       inl (n, k.0, k.1, t, subst (λ (x : Chart K). x.first ≤ t) (sym k.2) from, subst (λ (x : Chart K). t < x.past) (sym k.2) made, at ∙ sym (k.3 t))
 
+  pub same_on : (n : ℕ) → IsSameMap (maps n) (maps2 n) → StandsOnAt maps maps2 n
+  same_on n same s is =
+      let k = subst (λ (x : Option (Standing K)). IsSameMap x (maps2 n)) is same in
+      (record s { blocks = k.0; sights = k.1 }, k.2, record { mode = refl; past = omega arith; tables = λ t made. k.3.tables t })
+
   pub theirs_same : ((n : ℕ) → IsSameMap (maps n) (maps2 n)) → ((n j : ℕ) (u : UnderWay K V Q) → calls n j ≡ Some u → w2.row j ≡ w.row j) → (b : ℕ)
       → IsTheirs w maps calls enders b → IsTheirs w2 maps2 calls enders b
-  theirs_same same rows b = theirs_by calls same b (λ owed. (owed.0, owed.1, owed.2, owed.3, rows owed.0 owed.1 owed.2 owed.3 ∙ owed.4, owed.5))
+  theirs_same same rows b = theirs_by calls same b (owed_on w w2 maps maps2 calls enders enders b (λ n j u under. ((λ rests. rows n j u under ∙ rests), same_on n (same n))))
 
   -- what has its hand and its value can carry as it could
   pub can_back : (b : ℕ) → (IsStillHad (w2.hand b) → (w2.hand b ≡ w.hand b) × (value_at w2.memory b ≡ value_at w.memory b)) → CanCarry w2 maps2 calls enders b → CanCarry w maps calls enders b
@@ -85,12 +90,15 @@ module _ {K Q : Type 0} (V : Type 0) (same : K → K → Bool) (asks : Q → K �
           let hand = still_row deferred_word batch_size w reached i w2 h b still in
           (hand, users_value batch_size w reached i w2 h b (users_own (w.hand b) (subst IsStillHad hand still)))) can))
 
+  pub none_begins : NoneBegins V same asks batch_size roots slot w maps calls makers enders
+  none_begins none b can = absurd (none b can.0)
+
   pub only_tables_carry : OnlyTablesCarry V same asks batch_size roots slot w maps calls makers enders
   only_tables_carry no_calls no_enders theirs b field value still there has_list = by (theirs b (still, field, value, there, has_list))
     where
       by : IsTheirs w maps calls enders b → IsLinkedTable w maps b
       by (inl linked) = linked
-      by (inr (inl (m, i, u, under, rests, due))) = absurd (let none = no_calls m i in cc (none, under))
+      by (inr (inl (m, i, u, under, owes))) = absurd (let none = no_calls m i in cc (none, under))
       by (inr (inr (i, f, ends, t, from, made, at, none_so))) = absurd (let none = no_enders i in cc (none, ends))
 
   pub changes_keep_theirs : ChangesKeepTheirs V same asks batch_size roots slot w maps calls makers enders
@@ -99,5 +107,5 @@ module _ {K Q : Type 0} (V : Type 0) (same : K → K → Bool) (asks : Q → K �
       by : IsTheirs w maps calls enders b → IsTheirs w maps (with_call calls m i next) enders b
       by (inl linked) = inl linked
       by (inr (inl owed)) =
-          inr (inl (owed_with w w maps maps calls enders enders m i next b (λ n j u under ne rests. rests) (λ u under due rests. let k = still u b under due in (rests, k.0, k.1, k.2)) owed))
+          inr (inl (owed_with w w maps maps calls enders enders m i next b (λ n j u under ne. ((λ rests. rests), λ s here. (s, here, stays_so s))) (λ u under owes. still u b under owes) owed))
       by (inr (inr ending)) = inr (inr ending)

@@ -1,7 +1,10 @@
 pub mod Hands
 pub mod Owed
 pub mod Calls
-pub mod Keys
+pub mod Copiers
+pub mod Inside
+pub mod Known
+pub mod Steps
 pub mod Guards
 pub mod Promised
 pub mod FirstSteps
@@ -11,4 +14,11 @@ pub mod Rooms
 pub mod Sweeps
 pub mod Endings
 pub mod Reclaiming
+pub mod Makings
+pub mod Machines
+pub mod Told
+pub mod Acts
+pub mod Left
+pub mod Reclaimed
+pub mod Lists
 mod Samples

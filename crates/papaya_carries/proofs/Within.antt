@@ -2,7 +2,8 @@
 use Rattle.std.specs.Prelude.{◌≢◌, ◌*◌, Option, Some}
 use Rattle.std.proofs.Common.{◌≡◌, ℕ, Bool, ◌⊎◌, inl, inr, refl, arith, ap, sym, subst, ◌∙◌}
 use Rattle.std.proofs.lemmas.Bool.{cases_eq}
-use Rattle.seize_words.specs.Mem.{Mem, value_at}
+use Rattle.seize_words.specs.Mem.{Mem, Took, value_at}
+use Rattle.seize_words.specs.Plan.{Steps}
 use Rattle.seize_words.specs.Word.{link_to}
 use Rattle.seize.specs.Defer.{deferring}
 use Rattle.seize.specs.Settle.{retiring}
@@ -16,10 +17,15 @@ use Rattle.seize_alone.proofs.Histories.Reached.{Reached, happens_reached}
 use Rattle.papaya_tables.specs.Nodes.{deferred_word}
 use Rattle.papaya_tables.specs.declared.node.Node.{Node}
 use Rattle.papaya_tables.specs.declared.setting.Setting.{Setting}
+use Rattle.papaya_tables.specs.declared.table.Table.{Table}
+use Rattle.papaya_resize.specs.Copier.{copier_plan}
+use Rattle.papaya_resize.specs.declared.copier.Copier.{Copier}
+use Rattle.papaya_resize.specs.declared.outcome.Outcome.{Outcome}
+use Rattle.papaya_points.specs.Told.{IsRowOfCopier}
 use Rattle.papaya_rule.proofs.World.Hands.{at_cases}
 use Rattle.papaya_callers.specs.OverAll.{gone_on, row_of_sweep}
 use Rattle.papaya_callers.specs.Rooms.{CallForRoom, row_of_room}
-use Rattle.papaya_callers.specs.Rows.{row_of}
+use Rattle.papaya_callers.specs.Rows.{row_of, row_of_copier}
 use Rattle.papaya_callers.specs.Sights.{seen_by}
 use Rattle.papaya_callers.specs.Together.{UnderWay, OnKey, ForRoom, OverAll, CallOnKey, HandsOver, IsOneStep, Stands, next_of, next_for_room, next_over_all}
 use Rattle.papaya_callers.proofs.Rows.Beside.{users_value}
@@ -30,12 +36,13 @@ use Rattle.papaya_finishes.specs.Makings.{Beginning}
 use Rattle.papaya_finishes.specs.Maps.{Standing, IsSameMap, with_call}
 use Rattle.papaya_finishes.proofs.Beside.Maps.Steps.{no_other}
 use Rattle.papaya_carries.specs.Promises.{RowsKeepTheirs, RoomRowsKeepTheirs, SweepRowsKeepTheirs}
-use Rattle.papaya_carries.specs.Theirs.{IsDue, AllAreTheirs}
+use Rattle.papaya_carries.specs.Theirs.{IsDueAt, copier_of_call, copier_of_room, copier_of_sweep, copier_of, IsToHandOver, AllAreTheirs}
 use Rattle.papaya_carries.proofs.FirstSteps.{row_retires, row_defers}
-use Rattle.papaya_carries.proofs.Guards.{users_own, theirs_by, can_back}
+use Rattle.papaya_carries.proofs.Guards.{users_own, theirs_by, can_back, same_on}
 use Rattle.papaya_carries.proofs.Hands.{still_row}
-use Rattle.papaya_carries.proofs.Owed.{one_some, owed_with}
-use Rattle.papaya_carries.proofs.Rows.{IsItsRow, call_within, room_within, sweep_within}
+use Rattle.papaya_carries.proofs.Inside.{IsOn, call_copies, call_row, call_row_is, room_copies, room_row, room_row_is, sweep_copies, sweep_row, sweep_row_is}
+use Rattle.papaya_carries.proofs.Owed.{one_some, comes_on, OwesThen, owed_with}
+use Rattle.papaya_carries.proofs.Rows.{row_within, row_goes, ahead_next}
 
 module _ {K V : Type 0} (setting : Setting) (i : ℕ) (w w2 : World (Node K V)) (r : Reached deferred_word setting.batch_size w) where
   -- a block changes no hand but to the collector, and keeps its value
@@ -142,28 +149,65 @@ module _ {K Q : Type 0} (V : Type 0) (same : K → K → Bool) (asks : Q → K �
             let none = no_other V same asks batch_size slot w maps calls all.makings.standing m s here i u has n other in
             let it : calls n i ≡ Some v = ap (calls n) (sym e) ∙ under in cc (none, it)
 
-    -- if it has begun to retire what it was to hand over next
-    row_theirs : ((b : ℕ) → IsDue u b → w.row i ≡ Rests → (d : Settle) × (d.pending ≡ b * 2048) × ((w2.row i ≡ Rests) ⊎ (w2.row i ≡ Settles d)))
-        → AllAreTheirs w2 maps2 (with_call calls m i next) enders
+    -- it is a step of this copier, at a row; what is under way goes on with it, within that row, or with none
+    pub record RowsBy (x : Copier) : Type 0 where
+      pub row : IsRowOfCopier x.stands
+      pub m2 : Mem (Node K V)
+      pub end : Copier × Outcome (Node K V) Table
+      pub steps : Steps Took value_at w.memory (copier_plan s.hash x) m2 end
+      pub goes : IsOn end.1 → (u2 : UnderWay K V Q) × (next ≡ Some u2) × (copier_of u2 ≡ Some end.0) × ((w2.row i ≡ Rests) ⊎ (w2.row i ≡ row_of_copier end.0.stands))
+
+    module _ (b : ℕ) (still : IsStillHad (w2.hand b)) (x : Copier) (st : RowsBy x) where
+      -- what it was to hand over next it has begun to retire: so users have it not
+      due_gone : w.row i ≡ Rests → IsDueAt x x.stands b → ⊥
+      due_gone rests due =
+          let it = row_within s.hash x w.memory st.m2 st.end b x.stands st.row due st.steps in
+          let on = st.goes (row_goes s.hash x w.memory st.m2 st.end x.stands st.row st.steps).0 in
+          begun_gone s.setting i w w2 reached one rests b it.0 it.2 (by it.0 it.1 on.3) still
+        where
+          by : (d : Settle) → row_of_copier st.end.0.stands ≡ Settles d → (w2.row i ≡ Rests) ⊎ (w2.row i ≡ row_of_copier st.end.0.stands) → (w2.row i ≡ Rests) ⊎ (w2.row i ≡ Settles d)
+          by d is (inl rests) = inl rests
+          by d is (inr at) = inr (at ∙ is)
+
+      hands_by : IsToHandOver w maps m i x b → OwesThen w w2 maps maps2 calls enders enders m i next b
+      hands_by (inl (rests, due)) = absurd (due_gone rests due)
+      hands_by (inr (r, is, blocking, ahead)) =
+          let g = row_goes s.hash x w.memory st.m2 st.end x.stands st.row st.steps in
+          let on = st.goes g.0 in (
+            on.0,
+            on.1,
+            (
+              st.end.0,
+              on.2,
+              inr (comes_on maps maps2 m st.end.0 b (same_on w w2 maps maps2 calls enders m (same_maps m))
+                  (r, is, blocking, ahead_next r.chart.past r.blocks.table x st.end.0 g.1 g.2 b ahead)),
+            ),
+          )
+
+    -- So all are somebody's then.
+    row_theirs : ((x : Copier) → copier_of u ≡ Some x → RowsBy x) → AllAreTheirs w2 maps2 (with_call calls m i next) enders
     row_theirs within b can =
         theirs_by w w2 maps maps2 calls enders (with_call calls m i next) same_maps b
-        (owed_with w w2 maps maps2 calls enders enders m i next b others
-        (λ v under due rests.
-        let k = within b (subst (λ (x : UnderWay K V Q). IsDue x b) (one_some (calls m i) v u under has) due) rests in
-        absurd (begun_gone s.setting i w w2 reached one rests b k.0 k.1 k.2 can.0)))
+        (owed_with w w2 maps maps2 calls enders enders m i next b (λ n j v under ne. (others n j v under ne, same_on w w2 maps maps2 calls enders n (same_maps n)))
+        (λ v under owes.
+        hands_by b can.0 owes.0 (within owes.0 (subst (λ (y : UnderWay K V Q). copier_of y ≡ Some owes.0) (one_some (calls m i) v u under has) owes.1)) owes.2))
         (theirs b (can_back w w2 maps maps2 calls enders b (one_kept s.setting i w w2 reached one b) can))
 
-  -- where it stands, by what it knows of its call
-  row_then : (i : ℕ) (w2 : World (Node K V)) (row : Row) (b : ℕ) → IsItsRow b row
-      → (w2.row i ≡ Rests) ⊎ (w2.row i ≡ row) → (d : Settle) × (d.pending ≡ b * 2048) × ((w2.row i ≡ Rests) ⊎ (w2.row i ≡ Settles d))
-  row_then i w2 row b (d, is, pending) (inl rests) = (d, pending, inl rests)
-  row_then i w2 row b (d, is, pending) (inr at) = (d, pending, inr (at ∙ is))
+  -- where it stands, by what it knows
+  on_row : (i : ℕ) (w2 : World (Node K V)) (at copiers : Row) → at ≡ copiers → (w2.row i ≡ Rests) ⊎ (w2.row i ≡ at) → (w2.row i ≡ Rests) ⊎ (w2.row i ≡ copiers)
+  on_row i w2 at copiers is (inl rests) = inl rests
+  on_row i w2 at copiers is (inr here) = inr (here ∙ is)
 
   pub rows_keep_theirs : RowsKeepTheirs V same asks batch_size roots slot w maps calls makers enders
   rows_keep_theirs all theirs m s here i u has row m2 p2 progress steps st =
       row_theirs all theirs m s here i (OnKey u) has st.step.w2 st.step.happened st.together.0 st.together.1 (next_of then progress)
-      (λ b due rests. let k = call_within same s.hash asks (slot i) b u w.memory m2 u.call.stands row due (p2, progress) steps in
-      row_then i st.step.w2 (row_of (slot i) p2.stands) b k.0 (by (st.step.together.stand i (OnKey then) (at_same (calls m) i (next_of then progress) i refl ∙ k.1))))
+      (λ x is. let k = call_copies same s.hash asks u.call w.memory m2 (p2, progress) u.call.stands x is steps in record {
+        row = (call_row u.call.stands x is).0 row;
+        m2 = m2;
+        end = k.0;
+        steps = k.1;
+        goes = λ on. let g = k.2 on in (OnKey then, g.1 then, g.0, stands k.0.0 g.0 (g.1 then));
+      })
     where
       then : CallOnKey K V Q
       then = record { keys = u.keys; pair = u.pair; began = u.began; change = u.change; call = p2 }
@@ -172,11 +216,21 @@ module _ {K Q : Type 0} (V : Type 0) (same : K → K → Bool) (asks : Q → K �
       by (inl k) = inl k.0
       by (inr k) = inr k.0
 
+      stands : (q : Copier) → copier_of_call p2.stands ≡ Some q → next_of then progress ≡ Some (OnKey then) → (st.step.w2.row i ≡ Rests) ⊎ (st.step.w2.row i ≡ row_of_copier q.stands)
+      stands q is on =
+          on_row i st.step.w2 (row_of (slot i) p2.stands) (row_of_copier q.stands) (call_row_is (slot i) p2.stands q is)
+          (by (st.step.together.stand i (OnKey then) (at_same (calls m) i (next_of then progress) i refl ∙ on)))
+
   pub room_rows_keep_theirs : RoomRowsKeepTheirs V same asks batch_size roots slot w maps calls makers enders
   room_rows_keep_theirs all theirs m s here i r has row m2 p2 end steps st =
       row_theirs all theirs m s here i (ForRoom r) has st.step.w2 st.step.happened st.together.0 st.together.1 (next_for_room then end)
-      (λ b due rests. let k = room_within Q s.hash b r w.memory m2 r.reserve.stands row due (p2, end) steps in
-      row_then i st.step.w2 (row_of_room p2.stands) b k.0 (by (st.step.together.stand i (ForRoom then) (at_same (calls m) i (next_for_room then end) i refl ∙ k.1))))
+      (λ x is. let k = room_copies Q s.hash r.reserve w.memory m2 (p2, end) r.reserve.stands x is steps in record {
+        row = (room_row r.reserve.stands x is).0 row;
+        m2 = m2;
+        end = k.0;
+        steps = k.1;
+        goes = λ on. let g = k.2 on in (ForRoom then, g.1 then, g.0, stands k.0.0 g.0 (g.1 then));
+      })
     where
       then : CallForRoom
       then = record { began = r.began; reserve = p2 }
@@ -185,14 +239,30 @@ module _ {K Q : Type 0} (V : Type 0) (same : K → K → Bool) (asks : Q → K �
       by (inl k) = inl k.0
       by (inr k) = inr k.0
 
+      stands : (q : Copier) → copier_of_room p2.stands ≡ Some q → next_for_room {K = K} {V = V} {Q = Q} then end ≡ Some (ForRoom then)
+          → (st.step.w2.row i ≡ Rests) ⊎ (st.step.w2.row i ≡ row_of_copier q.stands)
+      stands q is on =
+          on_row i st.step.w2 (row_of_room p2.stands) (row_of_copier q.stands) (room_row_is p2.stands q is)
+          (by (st.step.together.stand i (ForRoom then) (at_same (calls m) i (next_for_room then end) i refl ∙ on)))
+
   pub sweep_rows_keep_theirs : SweepRowsKeepTheirs V same asks batch_size roots slot w maps calls makers enders
   sweep_rows_keep_theirs all theirs m s here i o has row m2 p2 end steps st =
       row_theirs all theirs m s here i (OverAll o) has st.step.w2 st.step.happened st.together.0 st.together.1 (next_over_all (gone_on o p2) end)
-      (λ b due rests. let k = sweep_within Q s.hash (slot i) b o w.memory m2 o.sweep.stands row due (p2, end) steps in
-      row_then i st.step.w2 (row_of_sweep (slot i) p2.stands) b k.0
-      (by (st.step.together.stand i (OverAll (gone_on o p2)) (at_same (calls m) i (next_over_all (gone_on o p2) end) i refl ∙ k.1))))
+      (λ x is. let k = sweep_copies Q s.hash o.sweep w.memory m2 (p2, end) o.sweep.stands x is steps in record {
+        row = (sweep_row o.sweep.stands x is).0 row;
+        m2 = m2;
+        end = k.0;
+        steps = k.1;
+        goes = λ on. let g = k.2 on in (OverAll (gone_on o p2), g.1 (gone_on o p2), g.0, stands k.0.0 g.0 (g.1 (gone_on o p2)));
+      })
     where
       by : Stands V same s.hash asks s.setting slot st.step.w2 s.chart (seen_by s.blocks (s.sights (slot i))) i (OverAll (gone_on o p2))
           → (st.step.w2.row i ≡ Rests) ⊎ (st.step.w2.row i ≡ row_of_sweep (slot i) p2.stands)
       by (inl k) = inl k.0
       by (inr k) = inr k.0
+
+      stands : (q : Copier) → copier_of_sweep p2.stands ≡ Some q → next_over_all {K = K} {V = V} {Q = Q} (gone_on o p2) end ≡ Some (OverAll (gone_on o p2))
+          → (st.step.w2.row i ≡ Rests) ⊎ (st.step.w2.row i ≡ row_of_copier q.stands)
+      stands q is on =
+          on_row i st.step.w2 (row_of_sweep (slot i) p2.stands) (row_of_copier q.stands) (sweep_row_is (slot i) p2.stands q is)
+          (by (st.step.together.stand i (OverAll (gone_on o p2)) (at_same (calls m) i (next_over_all (gone_on o p2) end) i refl ∙ on)))

@@ -1,2 +1,3 @@
 pub mod Theirs
 pub mod Promises
+pub mod Lists

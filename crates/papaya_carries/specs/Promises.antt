@@ -1,13 +1,17 @@
 -- What is promised of the blocks behind which something may be put: each kind of step leaves them somebody's, so that at rest they are linked tables.
-use Rattle.std.specs.Prelude.{◌≡◌, ℕ, Bool, true, List, Option, Some, None}
+use Rattle.std.specs.Prelude.{◌≡◌, ℕ, Bool, List, Option, Some, None}
 use Rattle.seize_words.specs.Mem.{Mem, Took, value_at}
 use Rattle.seize_words.specs.Plan.{Steps}
-use Rattle.seize.specs.World.{World, Making, Request, Begin, Step, Ends, Happens, with_at}
+use Rattle.seize.specs.World.{World, Request, Begin, Step, Ends, Happens, with_at}
+use Rattle.seize.specs.declared.progress.Progress.{Progress}
+use Rattle.seize.specs.declared.progress.Progress.TheVariants as progress
 use Rattle.seize.specs.declared.rows.reclaim_all.ReclaimAll.{ReclaimAll}
 use Rattle.seize.specs.declared.rows.settle.Settled.{Settled}
-use Rattle.papaya_tables.specs.Chunks.{is_incremental}
+use Rattle.seize_acts.specs.Reclaimed.{IsStillHad}
 use Rattle.papaya_tables.specs.Nodes.{deferred_word}
 use Rattle.papaya_tables.specs.declared.node.Node.{Node}
+use Rattle.papaya_tables.specs.declared.setting.Setting.{Setting}
+use Rattle.papaya_resize.specs.declared.new_map.NewMap.{NewMap}
 use Rattle.papaya_resize.specs.declared.outcome.Outcome.{Outcome}
 use Rattle.papaya_reserves.specs.Reserve.{reserve_plan}
 use Rattle.papaya_reserves.specs.declared.reserve.Reserve.{Reserve}
@@ -18,9 +22,6 @@ use Rattle.papaya_raw.specs.Call.{call_plan}
 use Rattle.papaya_raw.specs.declared.machines.answer.Called.{Called}
 use Rattle.papaya_raw.specs.declared.machines.call.KeyCall.{KeyCall}
 use Rattle.papaya_raw.specs.declared.machines.end_map.EndMap.{EndMap}
-use Rattle.papaya_rule.specs.Chart.{Chart}
-use Rattle.papaya_rule.specs.InWorld.{IsOut, IsKnownBlock}
-use Rattle.papaya_rule.specs.Words.{Blocks}
 use Rattle.papaya_points.specs.Told.{IsRowOfCall}
 use Rattle.papaya_late.specs.ToldReserves.{IsRowOfReserve}
 use Rattle.papaya_late.specs.ToldSweeps.{IsRowOfSweep}
@@ -28,21 +29,21 @@ use Rattle.papaya_callers.specs.OverAll.{CallOverAll, come_to, gone_on}
 use Rattle.papaya_callers.specs.Rooms.{CallForRoom}
 use Rattle.papaya_callers.specs.Together.{UnderWay, OnKey, ForRoom, OverAll, CallOnKey, IsOfSlots, next_of, next_for_room, next_over_all, change_told}
 use Rattle.papaya_finishes.specs.Endings.{Finishing, finishing_of, HasFinished, EndingsTogether, StepsAmong, RowStepsAmong, StepsOfEnding}
-use Rattle.papaya_finishes.specs.Makings.{Beginning}
-use Rattle.papaya_finishes.specs.Maps.{Standing, IsSameMap, with_call}
+use Rattle.papaya_finishes.specs.Makings.{Beginning, IsMade, StepsOfMaking}
+use Rattle.papaya_finishes.specs.Maps.{Standing, IsSameMap, MapsTogether, with_call}
 use Rattle.papaya_finishes.specs.Rooms.{RoomRowsAmong, RoomStepsAmong}
 use Rattle.papaya_finishes.specs.Sweeps.{SweepRowsAmong, SweepStepsAmong}
 use Rattle.papaya_reclaims.specs.Deferred.{OnlyPairsWait, OnlyTheyCarry}
 use Rattle.papaya_reclaims.specs.Left.{GoesOnBy}
 use Rattle.papaya_reclaims.specs.Reclaims.{AllIsReclaimed, AllStandIdle, StepsOfReclaiming}
-use Rattle.papaya_carries.specs.Theirs.{IsDue, AllAreTheirs}
-
--- What this caller has made, and is out after a step of it, is a table or a pair of the map then.
-abbrev pub LinksKnown : {K V : Type 0} → ℕ → World (Node K V) → World (Node K V) → Chart K → Blocks → Type 0
-LinksKnown i w w2 c2 blocks2 = (b : ℕ) → w.hand b ≡ Making i → IsOut (w2.hand b) → IsKnownBlock c2 blocks2 b
+use Rattle.papaya_carries.specs.Theirs.{Owes, AllAreTheirs}
 
 module _ {K Q : Type 0} (V : Type 0) (same : K → K → Bool) (asks : Q → K → Bool) (batch_size roots : ℕ) (slot : ℕ → ℕ)
     (w : World (Node K V)) (maps : ℕ → Option (Standing K)) (calls : ℕ → ℕ → Option (UnderWay K V Q)) (makers : ℕ → Option (Beginning K)) (enders : ℕ → Option (Finishing K V)) where
+  -- Where users have none, as in the beginning, each is.
+  abbrev pub NoneBegins : Type 0
+  NoneBegins = ((b : ℕ) → IsStillHad (w.hand b) → ⊥) → AllAreTheirs w maps calls enders
+
   -- Where nobody has a call, and no map ends, users have no other such block than the linked tables of maps that stand.
   abbrev pub OnlyTablesCarry : Type 0
   OnlyTablesCarry = ((m j : ℕ) → calls m j ≡ None) → ((j : ℕ) → enders j ≡ None) → AllAreTheirs w maps calls enders → OnlyTheyCarry w maps
@@ -50,7 +51,7 @@ module _ {K Q : Type 0} (V : Type 0) (same : K → K → Bool) (asks : Q → K �
   -- What a caller has under way begins, ends, or goes on otherwise, and is to hand over no less.
   abbrev pub ChangesKeepTheirs : Type 0
   ChangesKeepTheirs =
-      (m i : ℕ) (next : Option (UnderWay K V Q)) → ((u : UnderWay K V Q) (b : ℕ) → calls m i ≡ Some u → IsDue u b → (u2 : UnderWay K V Q) × (next ≡ Some u2) × IsDue u2 b)
+      (m i : ℕ) (next : Option (UnderWay K V Q)) → ((u : UnderWay K V Q) (b : ℕ) → calls m i ≡ Some u → Owes w maps m i u b → (u2 : UnderWay K V Q) × (next ≡ Some u2) × Owes w maps m i u2 b)
       → AllAreTheirs w maps calls enders → AllAreTheirs w maps (with_call calls m i next) enders
 
   -- a row between calls begins, or goes on
@@ -61,14 +62,13 @@ module _ {K Q : Type 0} (V : Type 0) (same : K → K → Bool) (asks : Q → K �
       → ((request : Request) → IsOfSlots request → Happens deferred_word batch_size (Begin i request) w w2 → AllAreTheirs w2 maps2 calls enders)
       × (Happens deferred_word batch_size (Step i) w w2 → AllAreTheirs w2 maps2 calls enders)
 
-  -- A call on one key takes a step that is none of a row, on a map in incremental mode, and what it links is its map's.
+  -- A call on one key takes a step that is none of a row.
   abbrev pub CallsKeepTheirs : Type 0
   CallsKeepTheirs =
       EndingsTogether V same asks batch_size roots slot w maps calls makers enders → AllAreTheirs w maps calls enders
-      → (m : ℕ) (s : Standing K) → maps m ≡ Some s → is_incremental s.setting.mode ≡ true → (i : ℕ) (u : CallOnKey K V Q) → calls m i ≡ Some (OnKey u) → (IsRowOfCall u.call.stands → ⊥)
+      → (m : ℕ) (s : Standing K) → maps m ≡ Some s → (i : ℕ) (u : CallOnKey K V Q) → calls m i ≡ Some (OnKey u) → (IsRowOfCall u.call.stands → ⊥)
       → (m2 : Mem (Node K V)) (p2 : KeyCall K V Q) (progress : Called (Node K V)) → Steps Took value_at w.memory (call_plan asks same s.hash u.call) m2 (p2, progress)
       → (st : StepsAmong V same asks batch_size roots slot w maps calls makers enders m s i u m2 p2 progress)
-      → LinksKnown i w st.step.went.w2 st.step.went.c2 st.step.went.blocks2
       → AllAreTheirs st.step.went.w2 (with_at maps m (Some (record s { chart = st.step.went.c2; blocks = st.step.blocks2; sights = st.step.sights2 })))
       (with_call calls m i (next_of (record { keys = u.keys; pair = u.pair; began = u.began; change = change_told V same s.hash asks s.setting slot st.step.went.told; call = p2 }) progress)) enders
 
@@ -76,10 +76,9 @@ module _ {K Q : Type 0} (V : Type 0) (same : K → K → Bool) (asks : Q → K �
   abbrev pub RoomsKeepTheirs : Type 0
   RoomsKeepTheirs =
       EndingsTogether V same asks batch_size roots slot w maps calls makers enders → AllAreTheirs w maps calls enders
-      → (m : ℕ) (s : Standing K) → maps m ≡ Some s → is_incremental s.setting.mode ≡ true → (i : ℕ) (r : CallForRoom) → calls m i ≡ Some (ForRoom r) → (IsRowOfReserve r.reserve.stands → ⊥)
+      → (m : ℕ) (s : Standing K) → maps m ≡ Some s → (i : ℕ) (r : CallForRoom) → calls m i ≡ Some (ForRoom r) → (IsRowOfReserve r.reserve.stands → ⊥)
       → (m2 : Mem (Node K V)) (p2 : Reserve) (end : Outcome (Node K V) Unit) → Steps Took value_at w.memory (reserve_plan s.hash r.reserve) m2 (p2, end)
       → (st : RoomStepsAmong V same asks batch_size roots slot w maps calls makers enders m s i r m2 p2 end)
-      → LinksKnown i w st.step.went.w2 st.step.went.c2 st.step.went.blocks2
       → AllAreTheirs st.step.went.w2 (with_at maps m (Some (record s { chart = st.step.went.c2; blocks = st.step.blocks2; sights = st.step.sights2 })))
       (with_call calls m i (next_for_room (record { began = r.began; reserve = p2 }) end)) enders
 
@@ -87,10 +86,9 @@ module _ {K Q : Type 0} (V : Type 0) (same : K → K → Bool) (asks : Q → K �
   abbrev pub SweepsKeepTheirs : Type 0
   SweepsKeepTheirs =
       EndingsTogether V same asks batch_size roots slot w maps calls makers enders → AllAreTheirs w maps calls enders
-      → (m : ℕ) (s : Standing K) → maps m ≡ Some s → is_incremental s.setting.mode ≡ true → (i : ℕ) (o : CallOverAll) → calls m i ≡ Some (OverAll o) → (IsRowOfSweep o.sweep.stands → ⊥)
+      → (m : ℕ) (s : Standing K) → maps m ≡ Some s → (i : ℕ) (o : CallOverAll) → calls m i ≡ Some (OverAll o) → (IsRowOfSweep o.sweep.stands → ⊥)
       → (m2 : Mem (Node K V)) (p2 : Sweep) (end : Swept (Node K V)) → Steps Took value_at w.memory (sweep_plan s.hash o.sweep) m2 (p2, end)
       → (st : SweepStepsAmong V same asks batch_size roots slot w maps calls makers enders m s i o m2 p2 end)
-      → LinksKnown i w st.step.went.w2 st.step.went.c2 st.step.went.blocks2
       → AllAreTheirs st.step.went.w2 (with_at maps m (Some (record s { chart = st.step.went.c2; blocks = st.step.blocks2; sights = st.step.sights2 })))
       (with_call calls m i (next_over_all (come_to o st.step.entered2 st.step.done2 p2) end)) enders
 
@@ -120,10 +118,24 @@ module _ {K Q : Type 0} (V : Type 0) (same : K → K → Bool) (asks : Q → K �
       → (st : SweepRowsAmong V same asks batch_size roots slot w maps calls makers enders m s i o m2 p2 end)
       → AllAreTheirs st.step.w2 st.together.0 (with_call calls m i (next_over_all (gone_on o p2) end)) enders
 
-  -- the end of a map begins
+  -- A making has taken a step. All stand together then: the maps that stood, and that of the making, if it has come to it.
+  abbrev pub MakingKept : Beginning K → World (Node K V) → NewMap × Progress Setting → Type 0
+  MakingKept b w2 (n, progress.Done answer) =
+      (s : Standing K) → IsMade V same asks batch_size roots slot b answer s → MapsTogether V same asks batch_size slot w2 (with_at maps b.map (Some s)) calls
+      → AllAreTheirs w2 (with_at maps b.map (Some s)) calls enders
+  MakingKept b w2 (n, _) = AllAreTheirs w2 maps calls enders
+
+  -- what its map has linked by then is its first table
+  abbrev pub MakingsKeepTheirs : Type 0
+  MakingsKeepTheirs =
+      EndingsTogether V same asks batch_size roots slot w maps calls makers enders → AllAreTheirs w maps calls enders
+      → (i : ℕ) (b : Beginning K) → makers i ≡ Some b → (m2 : Mem (Node K V)) (end : NewMap × Progress Setting)
+      → (st : StepsOfMaking V same asks batch_size roots slot w maps calls makers i b m2 end) → MakingKept b st.w2 end
+
+  -- The end of a map begins, on which nobody has a call.
   abbrev pub EndingsBeginAndKeepTheirs : Type 0
   EndingsBeginAndKeepTheirs =
-      AllAreTheirs w maps calls enders → (i : ℕ) → enders i ≡ None → (m : ℕ) (s : Standing K) → maps m ≡ Some s
+      AllAreTheirs w maps calls enders → (i : ℕ) → enders i ≡ None → (m : ℕ) (s : Standing K) → maps m ≡ Some s → ((j : ℕ) → calls m j ≡ None)
       → (w2 : World (Node K V)) → Happens deferred_word batch_size (Ends i s.setting.counter) w w2
       → AllAreTheirs w2 (with_at maps m None) calls (with_at enders i (Some (finishing_of s w)))
 

@@ -23,7 +23,7 @@ use Rattle.papaya_executor.proofs.Forgotten.{as_step}
 use Rattle.papaya_executor.proofs.Taken.{through}
 
 -- what goes on is the machine after the step
-goes_as : {K V : Type 0} (machine : Machine K V K) (told : Progress (Node K V)) (next : Option (UnderWay K V K)) → GoesOnAs machine told next → option_map machine_of next ≡ going_on machine told
+pub goes_as : {K V : Type 0} (machine : Machine K V K) (told : Progress (Node K V)) (next : Option (UnderWay K V K)) → GoesOnAs machine told next → option_map machine_of next ≡ going_on machine told
 goes_as {K} {V} machine told next goes = of told goes
   where
     under : (x : UnderWay K V K) → next ≡ Some x → machine_of x ≡ machine → option_map machine_of next ≡ Some machine

@@ -1,5 +1,5 @@
 -- Maps that are made among calls of many callers on other maps: whoever takes the next step, of a making or of a call, all stand together.
-use Rattle.std.specs.Prelude.{◌≡◌, ◌≢◌, ℕ, ◌+◌, ◌<◌, ◌≤◌, ◌^◌, ◌⊎◌, Bool, false, List, max, Option, Some, None}
+use Rattle.std.specs.Prelude.{◌≡◌, ◌≢◌, ℕ, ◌+◌, ◌*◌, ◌<◌, ◌≤◌, ◌^◌, ◌⊎◌, Bool, false, List, max, Option, Some, None}
 use Rattle.std.specs.Int.{IsPowerOfTwo}
 use Rattle.seize_words.specs.Mem.{Mem, Can, Took, value_at, word_at}
 use Rattle.seize_words.specs.Plan.{May, Steps}
@@ -26,7 +26,7 @@ use Rattle.papaya_raw.specs.declared.machines.asking.Asking.{Asking}
 use Rattle.papaya_raw.specs.declared.machines.call.Calling.TheVariants as calling
 use Rattle.papaya_raw.specs.declared.machines.call.KeyCall.{KeyCall}
 use Rattle.papaya_rule.specs.Chart.{Chart}
-use Rattle.papaya_rule.specs.InWorld.{AllUsers}
+use Rattle.papaya_rule.specs.InWorld.{AllUsers, IsOut}
 use Rattle.papaya_rule.specs.Maps.{spot_of}
 use Rattle.papaya_rule.specs.Moves.{Links, after}
 use Rattle.papaya_rule.specs.Rule.{no_table}
@@ -75,6 +75,11 @@ HasLen len _ = Unit {0}
 abbrev pub IsNewChart : {K : Type 0} → (K → ℕ) → Setting → ℕ → Chart K → Type 0
 IsNewChart hash setting places chart =
     ((places ≡ 0) × (chart ≡ no_table)) ⊎ ((places ≢ 0) × (limit : ℕ) × (chart ≡ after (spot_of hash) (is_incremental setting.mode) (Links (max places 8) limit) no_table))
+
+-- this block is the first table of the map that the step has brought: that map's root leads there
+abbrev pub IsFirstTable : {K V : Type 0} → World (Node K V) → NewMap × Progress Setting → ℕ → Type 0
+IsFirstTable w2 (n2, progress.Done answer) x = word_at w2.memory (Root answer.root) ≡ Some (x * 2048)
+IsFirstTable w2 (n2, _) x = ⊥
 
 module _ {K V : Type 0} (w : World (Node K V)) where
   -- there are as many roots, and those that are free lead nowhere
@@ -199,7 +204,8 @@ module _ {K Q : Type 0} (V : Type 0) (same : K → K → Bool) (asks : Q → K �
     MakingTold w2 (n, progress.Done answer) = (s : Standing K) × IsMade b answer s × MakingsTogether w2 (with_at maps b.map (Some s)) calls (with_at makers i None)
     MakingTold w2 (n, progress.Refused fault) = MakingsTogether w2 maps calls (with_at makers i None)
 
-    -- Where a step of a making leads: users' events alone lead there, the maps that stood stand as they were, and what is nobody's is left alone.
+    -- Where a step of a making leads: users' events alone lead there, the maps that stood stand as they were, and what is nobody's is left alone. A block
+    -- that is out is in the hands that had it, and what is out then was so, or is the first table of the making's map.
     pub record StepsOfMaking (m2 : Mem (Node K V)) (end : NewMap × Progress Setting) : Type 0 where
       pub w2 : World (Node K V)
       pub events : List (Event (Node K V))
@@ -208,6 +214,8 @@ module _ {K Q : Type 0} (V : Type 0) (same : K → K → Bool) (asks : Q → K �
       pub memory : w2.memory ≡ m2
       pub keeps : KeepsIts w w2 b.machine end
       pub rest : LeavesRest w w2 b.machine end
+      pub outs : (x : ℕ) → IsOut (w.hand x) → w2.hand x ≡ w.hand x
+      pub links : (x : ℕ) → IsOut (w2.hand x) → IsOut (w.hand x) ⊎ IsFirstTable w2 end x
       pub told : MakingTold w2 end
 
   -- The promise: whichever caller takes a step of its making, it may take it, and all stand together again.

@@ -31,12 +31,14 @@ module _ {K Q : Type 0} (V : Type 0) (same : K → K → Bool) (asks : Q → K �
       (m : ℕ) (s : Standing K) (i : ℕ) (r : CallForRoom) (m2 : Mem (Node K V)) (p2 : Reserve) (end : Outcome (Node K V) Unit) where
     -- where a step of a reservation leads that is none of a row: in its own map as if this were the only one
     pub record RoomStepsAmong : Type 0 where
+      pub no_row : IsRowOfReserve r.reserve.stands → ⊥
       pub step : RoomStepsTogether V same s.hash asks s.setting slot w s.chart s.blocks s.sights (calls m) i r m2 p2 end
       pub together : EndingsTogether V same asks batch_size roots slot step.went.w2 (with_at maps m (Some (record s { chart = step.went.c2; blocks = step.blocks2; sights = step.sights2 })))
           (with_call calls m i (next_for_room (record { began = r.began; reserve = p2 }) end)) makers enders
 
     -- where a step of a row within a reservation leads
     pub record RoomRowsAmong : Type 0 where
+      pub is_row : IsRowOfReserve r.reserve.stands
       pub step : RoomRowsTogether V same s.hash asks s.setting slot w s.chart s.blocks s.sights (calls m) i r m2 p2 end
       pub together : AllEndingsStand V same asks batch_size roots slot step.w2 maps (with_call calls m i (next_for_room (record { began = r.began; reserve = p2 }) end)) makers enders
 

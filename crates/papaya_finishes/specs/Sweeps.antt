@@ -37,6 +37,7 @@ module _ {K Q : Type 0} (V : Type 0) (same : K → K → Bool) (asks : Q → K �
       (m : ℕ) (s : Standing K) (i : ℕ) (o : CallOverAll) (m2 : Mem (Node K V)) (p2 : Sweep) (end : Swept (Node K V)) where
     -- where a step of a sweep leads that is none of a row: in its own map as if this were the only one
     pub record SweepStepsAmong : Type 0 where
+      pub no_row : IsRowOfSweep o.sweep.stands → ⊥
       pub step : SweepStepsTogether V same s.hash asks s.setting slot w s.chart s.blocks s.sights (calls m) i o m2 p2 end
       pub together : EndingsTogether V same asks batch_size roots slot step.went.w2
           (with_at maps m (Some (record s { chart = step.went.c2; blocks = step.blocks2; sights = step.sights2 })))
@@ -44,6 +45,7 @@ module _ {K Q : Type 0} (V : Type 0) (same : K → K → Bool) (asks : Q → K �
 
     -- where a step of a row within a sweep leads
     pub record SweepRowsAmong : Type 0 where
+      pub is_row : IsRowOfSweep o.sweep.stands
       pub step : SweepRowsTogether V same s.hash asks s.setting slot w s.chart s.blocks s.sights (calls m) i o m2 p2 end
       pub together : AllEndingsStand V same asks batch_size roots slot step.w2 maps (with_call calls m i (next_over_all (gone_on o p2) end)) makers enders
 

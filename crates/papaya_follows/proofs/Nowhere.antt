@@ -9,7 +9,7 @@ use Rattle.papaya_rule.specs.Chart.{Chart}
 use Rattle.papaya_rule.specs.Words.{Blocks}
 use Rattle.papaya_rule.specs.InWorld.{IsMapIn, IsFramed, Went}
 use Rattle.papaya_rule.proofs.World.Footprints.{framed_same}
-use Rattle.papaya_rule.proofs.Words.LinksOwn.{outs_same, links_none}
+use Rattle.papaya_rule.proofs.Words.LinksOwn.{outs_same, known_same, links_none}
 use Rattle.papaya_rule.proofs.World.MovesKnown.{tables_same}
 use Rattle.papaya_rule.proofs.World.OthersSpared.{keeps_same}
 
@@ -26,7 +26,7 @@ went_nowhere same hash setting caller w c blocks map m2 is = record {
   runs = refl;
   memory = sym is;
   tables = tables_same c blocks;
-  links = links_none caller w w c c blocks refl refl (outs_same w.memory w.hand);
+  links = links_none caller w w c c blocks refl refl (outs_same w.memory w.hand) (known_same caller w.hand c blocks);
   frame = subst (IsFramed setting caller w c blocks) (sym is) (framed_same setting caller w c blocks);
   spares = λ j other. keeps_same j w.memory w.hand;
   moved = inl refl;

@@ -1,6 +1,5 @@
 //! Elements as JSON arrays.
-use crate::listed::Listed;
-use papaya_forms::{JsonFault, JsonForm, Text, array_of, elements_of};
+use papaya_forms::{JsonFault, JsonForm, Listed, Text, array_of, elements_of};
 use serde_json::Value;
 use std::alloc::Global;
 use std::test::Fail;

@@ -5,7 +5,6 @@
 mod arrays;
 #[cfg(test)]
 mod forms;
-mod listed;
 #[cfg(test)]
 mod objects;
 #[cfg(test)]

@@ -104,7 +104,7 @@ pub caller_is : {K V : Type 0} (name : List ℕ) (m : Moment K V) (c : CallThere
 caller_is name m c is = is_same_is c.caller name (found_passes (λ x. is_same x.caller name) (λ x. true) m.calls c is)
 
 module _ {K V : Type 0} (same : K → K → Bool) (name : ℕ → List ℕ) (m : Moment K V) (known : Known) (s : Scene K V) (shown : Shows same name m known s) (asked : ShowsAsked name shown.number m known s) where
-  begins_asked : (of i : ℕ) (u : UnderWay K V K) (its : Call K V) (guard : List ℕ) → NoneNamed name (name i) s → IsBegunFor u its
+  pub begins_asked : (of i : ℕ) (u : UnderWay K V K) (its : Call K V) (guard : List ℕ) → NoneNamed name (name i) s → IsBegunFor u its
       → ShowsAsked name shown.number (with_call (name i) guard its (Some of) m) known (record s { calls = with_in s.calls of i (Some u) })
   begins_asked of i u its guard apart begun = record {
     apart = λ n j k l x y is is2 names. two n j k l x y (which s.calls of i (Some u) n j x is) (which s.calls of i (Some u) k l y is2) names;
@@ -134,7 +134,7 @@ module _ {K V : Type 0} (same : K → K → Bool) (name : ℕ → List ℕ) (m :
       one n j x st there c is (inr a) =
           asked.each n j x a.1 st there c (sym (ap (λ z. cond z (Some fresh) (find (λ y. is_same y.caller (name j)) m.calls)) (apart n j x a.1)) ∙ is)
 
-  come_asked : (own : List ℕ) (o : Outcome V) (steps : ℕ) → (ends_call o ≡ true → NoneNamed name own s)
+  pub come_asked : (own : List ℕ) (o : Outcome V) (steps : ℕ) → (ends_call o ≡ true → NoneNamed name own s)
       → ((n j : ℕ) (x : UnderWay K V K) → s.calls n j ≡ Some x → is_same (name j) own ≡ true → AsksJust known x o) → ShowsAsked name shown.number (come_to own o steps m) known s
   come_asked own o steps ended just = record { apart = asked.apart; each = λ n j x is st there c found. one n j x is st there c (ends_call o) refl found }
     where

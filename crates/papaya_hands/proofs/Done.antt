@@ -1,8 +1,9 @@
 -- What a step of a call on one key that has changed its map has stored: the pair that the call was begun with, or was told to store.
-use Rattle.std.specs.Prelude.{◌≡◌, ℕ, Bool, Option, Some, ◌⊎◌}
+use Rattle.std.specs.Prelude.{◌≡◌, ℕ, ◌+◌, ◌*◌, ◌<◌, Bool, true, Option, Some, ◌⊎◌}
 use Rattle.std.proofs.Common.{refl, sym, subst, arith, inl, inr}
 use Rattle.seize_words.specs.Mem.{Mem}
-use Rattle.seize.specs.World.{World, with_at}
+use Rattle.seize_words.specs.Word.{link_word}
+use Rattle.seize.specs.World.{World, IsInside, with_at}
 use Rattle.papaya_tables.specs.declared.node.Node.{Node}
 use Rattle.papaya_tables.specs.declared.setting.Setting.{Setting}
 use Rattle.papaya_raw.specs.declared.machines.answer.Called.{Called}
@@ -13,8 +14,8 @@ use Rattle.papaya_raw.specs.declared.machines.call.KeyCall.{KeyCall}
 use Rattle.papaya_raw.specs.declared.machines.call.Calling.{Calling}
 use Rattle.papaya_raw.specs.declared.machines.call.Calling.TheVariants as at
 use Rattle.papaya_late.specs.Kinds as kinds
-use Rattle.papaya_rule.specs.Chart.{Chart}
-use Rattle.papaya_rule.specs.Words.{Blocks}
+use Rattle.papaya_rule.specs.Chart.{Still, Chart}
+use Rattle.papaya_rule.specs.Words.{Blocks, byte_of, mark_bits}
 use Rattle.papaya_points.specs.FactsCalls.{Change, Unchanged, Stored, Replaced, Removed, Seeks, CallingFacts, Tells}
 use Rattle.papaya_callers.specs.Kind.{Kind}
 use Rattle.papaya_callers.specs.Pairs.{Given, Begun, IsTold, kind_of, StoresGiven, KeepsGiven}
@@ -37,7 +38,11 @@ module _ {K V Q : Type 0} (same : K → K → Bool) (hash : K → ℕ) (asks : Q
   tells_kind : (w : World (Node K V)) (c : Chart K) (seen : Blocks) (kind : Kind) (x : Change) (answer : KeyAnswer) → kinds.Fits kind.present kind.absent kind.takes answer
       → Tells same hash asks w i (in_slot setting (slot i)) c seen u.keys change x answer → MayDo kind x
   tells_kind w c seen kind Unchanged answer fits tells = tt
-  tells_kind w c seen kind (Removed n) answer fits tells = tt
+  tells_kind w c seen kind (Removed n) (answers.Removed word) fits tells = fits
+  tells_kind w c seen kind (Removed n) (answers.Found word) fits tells = absurd tells
+  tells_kind w c seen kind (Removed n) answers.Absent fits tells = absurd tells
+  tells_kind w c seen kind (Removed n) (answers.Stored word) fits tells = absurd tells
+  tells_kind w c seen kind (Removed n) (answers.Replaced old new) fits tells = absurd tells
   tells_kind w c seen kind (Stored n) (answers.Stored word) fits tells = fits
   tells_kind w c seen kind (Stored n) (answers.Found word) fits tells = absurd tells
   tells_kind w c seen kind (Stored n) answers.Absent fits tells = absurd tells
@@ -52,48 +57,52 @@ module _ {K V Q : Type 0} (same : K → K → Bool) (hash : K → ℕ) (asks : Q
   counts_kind : (kind : Kind) (removed n : ℕ) → kinds.FitsCount kind.present kind.absent kind.takes removed → removed ≡ 0 → change ≡ Stored n → MayDo kind change
   counts_kind kind removed n fits none is = subst (MayDo kind) (sym is) (fits.0 none)
 
-  removed_kind : (kind : Kind) (n : ℕ) → change ≡ Removed n → MayDo kind change
-  removed_kind kind n is = subst (MayDo kind) (sym is) tt
+  -- the word of a pair is not zero
+  removed_kind : (kind : Kind) (removed n block byte marks : ℕ) → kinds.FitsCount kind.present kind.absent kind.takes removed → change ≡ Removed n → 0 < block → removed ≡ link_word block byte marks
+      → MayDo kind change
+  removed_kind kind removed n block byte marks fits is some word = subst (MayDo kind) (sym is) (fits.1 (λ none. (let sum : removed ≡ block * 2048 + byte * 8 + marks = word in omega (arith, some, sum, none))))
 
   module _ (w : World (Node K V)) (c : Chart K) (seen : Blocks) (p : KeyCall K V Q) where
     abbrev pub Held : Type 0
     Held = (change ≡ Unchanged) ⊎ (MayDo (kind_of u.pair) change × StoresGiven hash w.memory c seen u.pair change)
 
-    -- where it goes on, it stands past its change, and keeps what it has stored
-    at_counts : (given : Given K V) (removed : ℕ) → CallingFacts same hash asks w i (in_slot setting (slot i)) c seen u.keys change p (at.Counts removed)
-        → KeepsGiven hash w.memory c seen u.keys given change p (at.Counts removed) → MayDo (kind_of given) change × StoresGiven hash w.memory c seen given change
-    at_counts (Begun kind pair) removed (inl stored) keeps = (counts_kind kind removed stored.1 keeps.2.4 stored.0 stored.2, keeps.1)
-    at_counts (Begun kind pair) removed (inr gone) keeps = (removed_kind kind gone.0 gone.3, keeps.1)
-    at_counts (IsTold kind its asked) removed (inl stored) keeps = (counts_kind kind removed stored.1 keeps.2.4 stored.0 stored.2, keeps.0)
-    at_counts (IsTold kind its asked) removed (inr gone) keeps = (removed_kind kind gone.0 gone.3, keeps.0)
+    -- pairs that are seen have blocks
+    module _ (pairs : (n : ℕ) → n < c.stored → seen.pair_known n ≡ true → 0 < seen.pair n) where
+      -- where it goes on, it stands past its change, and keeps what it has stored
+      at_counts : (given : Given K V) (removed : ℕ) → CallingFacts same hash asks w i (in_slot setting (slot i)) c seen u.keys change p (at.Counts removed)
+          → KeepsGiven hash w.memory c seen u.keys given change p (at.Counts removed) → MayDo (kind_of given) change × StoresGiven hash w.memory c seen given change
+      at_counts (Begun kind pair) removed (inl stored) keeps = (counts_kind kind removed stored.1 keeps.2.4 stored.0 stored.2, keeps.1)
+      at_counts (Begun kind pair) removed (inr gone) keeps = (removed_kind kind removed gone.0 (seen.pair gone.0) (byte_of hash (c.key gone.0)) (mark_bits Still gone.2) keeps.2.4 gone.3 (pairs gone.0 gone.4.0 gone.4.1) gone.5, keeps.1)
+      at_counts (IsTold kind its asked) removed (inl stored) keeps = (counts_kind kind removed stored.1 keeps.2.4 stored.0 stored.2, keeps.0)
+      at_counts (IsTold kind its asked) removed (inr gone) keeps = (removed_kind kind removed gone.0 (seen.pair gone.0) (byte_of hash (c.key gone.0)) (mark_bits Still gone.2) keeps.2.4 gone.3 (pairs gone.0 gone.4.0 gone.4.1) gone.5, keeps.0)
 
-    held_at : (stands : Calling) → (Seeks same hash asks w i (in_slot setting (slot i)) c seen u.keys change stands → change ≡ Unchanged) → CallingFacts same hash asks w i (in_slot setting (slot i)) c seen u.keys change p stands
-        → KeepsGiven hash w.memory c seen u.keys u.pair change p stands → Held
-    held_at at.Makes seeks point keeps = inl (seeks tt)
-    held_at (at.Looks lookup) seeks point keeps = inl (seeks tt)
-    held_at at.Roots seeks point keeps = inl (seeks tt)
-    held_at at.Probes seeks point keeps = inl (seeks tt)
-    held_at (at.Tries word new) seeks point keeps = inl (seeks tt)
-    held_at at.Nexts seeks point keeps = inl (seeks tt)
-    held_at (at.Firsts making) seeks point keeps = inl (seeks tt)
-    held_at (at.Allocs making) seeks point keeps = inl (seeks tt)
-    held_at (at.Helps copier goal) seeks point keeps = inl (seeks tt)
-    held_at (at.Copies copier) seeks point keeps = inl (seeks tt)
-    held_at (at.Asks asking) seeks point keeps = inl (seeks tt)
-    held_at (at.Drops end) seeks point keeps = inl (seeks tt)
-    held_at (at.Over end) seeks point keeps = inl point
-    held_at (at.Counts removed) seeks point keeps = inr (at_counts u.pair removed point keeps)
-    held_at (at.Disposes dispose answer) seeks point keeps = inr (by u.pair keeps)
-      where
-        by : (given : Given K V) → KeepsGiven hash w.memory c seen u.keys given change p (at.Disposes dispose answer) → MayDo (kind_of given) change × StoresGiven hash w.memory c seen given change
-        by (Begun kind pair) keeps = (tells_kind w c seen kind change answer keeps.2.4 point.1, keeps.1)
-        by (IsTold kind its asked) keeps = (tells_kind w c seen kind change answer keeps.2.4 point.1, keeps.0)
+      held_at : (stands : Calling) → (Seeks same hash asks w i (in_slot setting (slot i)) c seen u.keys change stands → change ≡ Unchanged) → CallingFacts same hash asks w i (in_slot setting (slot i)) c seen u.keys change p stands
+          → KeepsGiven hash w.memory c seen u.keys u.pair change p stands → Held
+      held_at at.Makes seeks point keeps = inl (seeks tt)
+      held_at (at.Looks lookup) seeks point keeps = inl (seeks tt)
+      held_at at.Roots seeks point keeps = inl (seeks tt)
+      held_at at.Probes seeks point keeps = inl (seeks tt)
+      held_at (at.Tries word new) seeks point keeps = inl (seeks tt)
+      held_at at.Nexts seeks point keeps = inl (seeks tt)
+      held_at (at.Firsts making) seeks point keeps = inl (seeks tt)
+      held_at (at.Allocs making) seeks point keeps = inl (seeks tt)
+      held_at (at.Helps copier goal) seeks point keeps = inl (seeks tt)
+      held_at (at.Copies copier) seeks point keeps = inl (seeks tt)
+      held_at (at.Asks asking) seeks point keeps = inl (seeks tt)
+      held_at (at.Drops end) seeks point keeps = inl (seeks tt)
+      held_at (at.Over end) seeks point keeps = inl point
+      held_at (at.Counts removed) seeks point keeps = inr (at_counts u.pair removed point keeps)
+      held_at (at.Disposes dispose answer) seeks point keeps = inr (by u.pair keeps)
+        where
+          by : (given : Given K V) → KeepsGiven hash w.memory c seen u.keys given change p (at.Disposes dispose answer) → MayDo (kind_of given) change × StoresGiven hash w.memory c seen given change
+          by (Begun kind pair) keeps = (tells_kind w c seen kind change answer keeps.2.4 point.1, keeps.1)
+          by (IsTold kind its asked) keeps = (tells_kind w c seen kind change answer keeps.2.4 point.1, keeps.0)
 
-    pub held : Knows V same hash asks setting slot w c seen i u p → Held
-    held knows = elim (knows.facts) as (λ _. Held) [
-      | inl facts ↦ held_at p.stands facts.unchanged facts.point knows.pair
-      | inr late ↦ inl late.0
-    ]
+      pub held : Knows V same hash asks setting slot w c seen i u p → Held
+      held knows = elim (knows.facts) as (λ _. Held) [
+        | inl facts ↦ held_at p.stands facts.unchanged facts.point knows.pair
+        | inr late ↦ inl late.0
+      ]
 
 module _ {K V Q : Type 0} (same : K → K → Bool) (hash : K → ℕ) (asks : Q → K → Bool) (setting : Setting) (slot : ℕ → ℕ) (w : World (Node K V)) (c : Chart K) (blocks : Blocks)
     (sights : ℕ → Sight) (calls : ℕ → Option (UnderWay K V Q)) (i : ℕ) (u : CallOnKey K V Q) (m2 : Mem (Node K V)) (p2 : KeyCall K V Q) where
@@ -118,10 +127,13 @@ module _ {K V Q : Type 0} (same : K → K → Bool) (hash : K → ℕ) (asks : Q
     pub here : with_at calls i (Some (OnKey (stepped progress step))) i ≡ Some (OnKey (stepped progress step))
     here = at_same calls i (Some (OnKey (stepped progress step))) i refl
 
-    goes_on : Stands V same hash asks setting slot step.went.w2 step.went.c2 seen i (OnKey (stepped progress step)) → HasDoneSo progress step
-    goes_on stands = elim stands as (λ _. HasDoneSo progress step) [
-      | inl k ↦ from_held (held same hash asks setting slot i (stepped progress step) step.went.w2 step.went.c2 seen p2 k.1)
-      | inr k ↦ from_held (held same hash asks setting slot i (stepped progress step) step.went.w2 step.went.c2 seen (once_over p2) k.2)
+    have_blocks : IsInside (step.went.w2.uses (slot i)) → (n : ℕ) → n < step.went.c2.stored → seen.pair_known n ≡ true → 0 < seen.pair n
+    have_blocks inside n l known = let ground = step.together.ground in (ground.map.map.shows.pair_numbers n l ((ground.sight (slot i) inside).0.pairs n l known)).0
+
+    goes_on : IsInside (step.went.w2.uses (slot i)) → Stands V same hash asks setting slot step.went.w2 step.went.c2 seen i (OnKey (stepped progress step)) → HasDoneSo progress step
+    goes_on is stands = elim stands as (λ _. HasDoneSo progress step) [
+      | inl k ↦ from_held (held same hash asks setting slot i (stepped progress step) step.went.w2 step.went.c2 seen p2 (have_blocks is) k.1)
+      | inr k ↦ from_held (held same hash asks setting slot i (stepped progress step) step.went.w2 step.went.c2 seen (once_over p2) (have_blocks is) k.2)
     ]
 
     answered : (answer : KeyAnswer) → AnswersOnce V same hash asks setting slot step.went.w2 step.went.c2 step.went.blocks2 i u (stepped progress step).change answer → HasDoneSo progress step
@@ -131,10 +143,10 @@ module _ {K V Q : Type 0} (same : K → K → Bool) (hash : K → ℕ) (asks : Q
 
   -- so it is after each step that is none of a row
   pub done : (progress : Called (Node K V)) (step : Step progress) → HasDoneSo progress step
-  done called.Goes step = goes_on called.Goes step (step.together.stand i _ (here called.Goes step))
-  done called.Waits step = goes_on called.Waits step (step.together.stand i _ (here called.Waits step))
-  done (called.Gave value) step = goes_on (called.Gave value) step (step.together.stand i _ (here (called.Gave value) step))
-  done (called.Unstored value) step = goes_on (called.Unstored value) step (step.together.stand i _ (here (called.Unstored value) step))
-  done (called.Asks about) step = goes_on (called.Asks about) step (step.together.stand i _ (here (called.Asks about) step))
+  done called.Goes step = goes_on called.Goes step (step.together.inside i _ (here called.Goes step)) (step.together.stand i _ (here called.Goes step))
+  done called.Waits step = goes_on called.Waits step (step.together.inside i _ (here called.Waits step)) (step.together.stand i _ (here called.Waits step))
+  done (called.Gave value) step = goes_on (called.Gave value) step (step.together.inside i _ (here (called.Gave value) step)) (step.together.stand i _ (here (called.Gave value) step))
+  done (called.Unstored value) step = goes_on (called.Unstored value) step (step.together.inside i _ (here (called.Unstored value) step)) (step.together.stand i _ (here (called.Unstored value) step))
+  done (called.Asks about) step = goes_on (called.Asks about) step (step.together.inside i _ (here (called.Asks about) step)) (step.together.stand i _ (here (called.Asks about) step))
   done (called.Done answer) step = answered (called.Done answer) step answer (step.answers answer refl)
   done (called.Refused fault) step = inl (step.refuses fault refl).0

@@ -27,7 +27,7 @@ pub in_use : (h : Hand) (o : ℕ) → h ≡ InUse o → IsInUse h
 in_use h o e = subst IsInUse (sym e) tt
 
 -- in some map is in one of a number
-in_one : (p : Place) → is_in_a_map p ≡ true → (map : ℕ) × (p ≡ InMap map)
+pub in_one : (p : Place) → is_in_a_map p ≡ true → (map : ℕ) × (p ≡ InMap map)
 in_one (InMap map) e = (map, refl)
 in_one Unborn e = absurd (cc e)
 in_one Out e = absurd (cc e)

@@ -11,8 +11,8 @@ use Rattle.papaya_schedules.specs.declared.call.Reply.{Reply}
 use Rattle.papaya_schedules.specs.declared.call.Reply.TheVariants.{Gives}
 use Rattle.papaya_schedules.specs.Sequential.{means, key_of, value_put}
 use Rattle.papaya_schedules.specs.Views.{reply_to}
-use Rattle.papaya_late.specs.Kinds.{MayPut, MayReplace}
-use Rattle.papaya_points.specs.FactsCalls.{Change, Stored, Replaced}
+use Rattle.papaya_late.specs.Kinds.{MayPut, MayReplace, MayRemove}
+use Rattle.papaya_points.specs.FactsCalls.{Change, Stored, Replaced, Removed}
 use Rattle.papaya_rule.specs.Chart.{Chart}
 use Rattle.papaya_rule.specs.Words.{Blocks}
 use Rattle.papaya_callers.specs.Asked.{Asked, last_told, told_before}
@@ -21,10 +21,11 @@ use Rattle.papaya_callers.specs.Pairs.{kind_of, StoresGiven}
 use Rattle.papaya_hands.specs.Asked.{given_by, KnowsFirst, IsSameQuestion, AreReplies}
 use Rattle.papaya_hands.proofs.Replies.{gave, told_since, told_first, told_as}
 
--- a call of this kind may store where there was none, or in the place of a pair
+-- a call of this kind may store where there was none, or in the place of a pair, or remove one
 abbrev pub MayDo : Kind → Change → Type 0
 MayDo kind (Stored n) = MayPut kind.present kind.absent kind.takes
 MayDo kind (Replaced o n) = MayReplace kind.present kind.absent kind.takes
+MayDo kind (Removed o) = MayRemove kind.present kind.absent kind.takes
 MayDo kind _ = Unit {0}
 
 module _ {K V : Type 0} where

@@ -126,7 +126,7 @@ module _ {K V S : Type 0} (same : K → K → Bool) (hash : K → ℕ) (name : �
       as_told_on call.Len h = tt
       as_told_on call.Walk h = tt
 
-  own_told : (u next : UnderWay K V K) → s.calls map i ≡ Some u → machine_of next ≡ (machine_replied (machine_of u) (as_told is_told)).0 → (machine_replied (machine_of u) (as_told is_told)).1 ≡ Ok tt
+  pub own_told : (u next : UnderWay K V K) → s.calls map i ≡ Some u → machine_of next ≡ (machine_replied (machine_of u) (as_told is_told)).0 → (machine_replied (machine_of u) (as_told is_told)).1 ≡ Ok tt
       → ToldOfKind V same same e.batch_size e.roots slot_of standing i u (as_told is_told) next → IsAsked number stored known next after
   own_told (OnKey u) next here machine taken (inl (asks_at, about, stands, asks, is)) =
       subst (λ (x : UnderWay K V K). IsAsked number stored known x after) (sym is)

@@ -1,7 +1,7 @@
 -- What a moment shows of calls and of hands lasts by a step that is of no call, and takes away what is in no map and what no call asks about.
-use Rattle.std.specs.Prelude.{◌≡◌, ℕ, ◌<◌, ◌≤◌, ◌==◌, Bool, true, List, length, find, Option, Some, None, IsSome}
+use Rattle.std.specs.Prelude.{◌≡◌, ℕ, ◌<◌, ◌≤◌, ◌==◌, Bool, true, List, length, find, Option, Some, None, IsSome, ◌⊎◌}
 use Rattle.std.specs.Int.{IsPowerOfTwo}
-use Rattle.std.proofs.Common.{refl, ap, sym, subst, ◌∙◌, arith}
+use Rattle.std.proofs.Common.{refl, ap, sym, subst, ◌∙◌, inl, inr}
 use Rattle.seize_words.specs.Mem.{value_at}
 use Rattle.seize_words.specs.Word.{block_in}
 use Rattle.papaya_tables.specs.declared.node.Node.{Node}
@@ -12,7 +12,7 @@ use Rattle.papaya_raw.specs.declared.machines.call.Calling.TheVariants as at
 use Rattle.papaya_schedules.specs.declared.call.Call.{Call}
 use Rattle.papaya_schedules.specs.declared.call.Call.TheVariants as call
 use Rattle.papaya_schedules.specs.declared.effect.Table.{Table}
-use Rattle.papaya_schedules.specs.Moment.{Place, Unborn, InMap, Out, Handed, Behind, Left, GivenBack, MapThere, UnderWay as CallThere, Moment}
+use Rattle.papaya_schedules.specs.Moment.{InMap, MapThere, UnderWay as CallThere, Moment}
 use Rattle.papaya_schedules.specs.Views.{is_in_a_map, map_at, call_of}
 use Rattle.papaya_rule.specs.Chart.{Chart, Still}
 use Rattle.papaya_rule.specs.Words.{byte_of}
@@ -22,7 +22,6 @@ use Rattle.papaya_callers.specs.Sights.{seen_by}
 use Rattle.papaya_callers.specs.Together.{CallOnKey, UnderWay, OnKey, ForRoom, Counting, OverAll, AsksAbout, Together}
 use Rattle.papaya_callers.proofs.Together.Replies.{replies_stand_together}
 use Rattle.papaya_effects.specs.Known.{Known}
-use Rattle.papaya_effects.specs.declared.role.Role.{Role}
 use Rattle.papaya_effects.specs.declared.role.Role.TheVariants as role
 use Rattle.papaya_executor.specs.IsAt.{Scene, IsAt, slot_of}
 use Rattle.papaya_executor.specs.declared.executor.Executor.{Executor}
@@ -30,33 +29,41 @@ use Rattle.papaya_finishes.specs.Maps.{Standing}
 use Rattle.papaya_follows.specs.Blocks.{HasRole}
 use Rattle.papaya_follows.specs.Shows.{Shows}
 use Rattle.papaya_follows.proofs.Onward.{IsOfMap}
-use Rattle.papaya_hands.specs.Asked.{IsQuestion, IsAskedOn, IsAskedAs, IsAsked, ShowsAsked}
+use Rattle.papaya_hands.specs.Asked.{IsQuestion, IsAskedAs, IsAsked, ShowsAsked}
 use Rattle.papaya_hands.specs.Hands.{IsInUse, ShowsHands}
+use Rattle.papaya_hands.proofs.HandsOn.{in_one}
 use Rattle.papaya_others.specs.After.{ShowsAfter}
 
--- in some map is in one of a number
-in_one : (p : Place) → is_in_a_map p ≡ true → (map : ℕ) × (p ≡ InMap map)
-in_one (InMap map) e = (map, refl)
-in_one Unborn e = absurd (cc e)
-in_one Out e = absurd (cc e)
-in_one Handed e = absurd (cc e)
-in_one Behind e = absurd (cc e)
-in_one Left e = absurd (cc e)
-in_one GivenBack e = absurd (cc e)
+module _ {K V : Type 0} (known known2 : Known) (s s2 : Scene K V) where
+  -- a block came as a table: it is in use, and has its place in its map, if that stands
+  pub record CameAsTable (b : ℕ) : Type 0 where
+    pub len : ℕ
+    pub table : Table
+    pub is : known2.roles b ≡ role.Table table len
+    pub used : IsInUse (s2.world.hand b)
+    pub place : (st : Standing K) → s2.maps table.map ≡ Some st → (table.turn < st.chart.past) × (st.chart.first ≤ table.turn → b ≡ st.blocks.table table.turn)
 
--- Calls, maps and what was stored are as they were. A pair is in the map in which it was, or in none. A block that is there is what it was, and is in use still if it
--- was, and so is each map that stands then, with its tables.
+  -- the map stood so, with its tables in the same blocks
+  abbrev pub StoodSo : ℕ → Standing K → Type 0
+  StoodSo map st = (before : Standing K) × (s.maps map ≡ Some before) × (st.chart ≡ before.chart) × ((t : ℕ) → st.blocks.table t ≡ before.blocks.table t)
+
+  -- or it is new: no call is under way on it, and no block was a table of it
+  abbrev pub StandsNew : ℕ → Type 0
+  StandsNew map = ((i : ℕ) → s2.calls map i ≡ None) × ((b len : ℕ) (t : Table) → known.roles b ≡ role.Table t len → t.map ≡ map → ⊥)
+
+-- Calls, maps and what was stored are as they were. A pair is in the map in which it was, or in none. A block of a map was so, or came as a table. One that is there
+-- is what it was, and is in use still if it was, and each map that stands then stood so, with its tables, or is new.
 pub record IsBeside {K V : Type 0} (m m2 : Moment K V) (known known2 : Known) (s s2 : Scene K V) : Type 0 where
   pub stored : m2.stored ≡ m.stored
   pub born : m2.born ≡ m.born
   pub calls : m2.calls ≡ m.calls
   pub maps : m2.maps ≡ m.maps
   pub place : (n map : ℕ) → m2.place n ≡ InMap map → m.place n ≡ InMap map
-  pub back : (b : ℕ) → IsOfMap (known2.roles b) → known2.roles b ≡ known.roles b
+  pub back : (b : ℕ) → IsOfMap (known2.roles b) → (known2.roles b ≡ known.roles b) ⊎ CameAsTable known known2 s s2 b
   pub roles : (b : ℕ) → IsSome (value_at s2.world.memory b) → IsOfMap (known.roles b) → known2.roles b ≡ known.roles b
   pub hands : (b : ℕ) → IsSome (value_at s2.world.memory b) → IsInUse (s.world.hand b) → IsInUse (s2.world.hand b)
   pub same_calls : s2.calls ≡ s.calls
-  pub stood : (map : ℕ) (st : Standing K) → s2.maps map ≡ Some st → (before : Standing K) × (s.maps map ≡ Some before) × (st.chart ≡ before.chart) × ((t : ℕ) → st.blocks.table t ≡ before.blocks.table t)
+  pub stood : (map : ℕ) (st : Standing K) → s2.maps map ≡ Some st → StoodSo known known2 s s2 map st ⊎ StandsNew known known2 s s2 map
 
 module _ {K V : Type 0} (same : K → K → Bool) (name : ℕ → List ℕ) (m m2 : Moment K V) (known known2 : Known) (s s2 : Scene K V) (shown : Shows same name m known s)
     (after : ShowsAfter same name m known s shown m2 known2 s2) (beside : IsBeside m m2 known known2 s s2) where
@@ -69,14 +76,21 @@ module _ {K V : Type 0} (same : K → K → Bool) (name : ℕ → List ℕ) (m m
     pair_used b n is there =
         let had = subst (HasRole s2.world m2.stored b) is (after.shows.blocks.roles b) in
         let it = in_one (m2.place n) there in
-        beside.hands b (some_is b _ had.3)
-        (hands.pairs b n (sym (beside.back b (subst IsOfMap (sym is) tt)) ∙ is) (ap is_in_a_map (beside.place n it.0 it.1)))
+        beside.hands b (some_is b _ had.3) (hands.pairs b n (was_pair (beside.back b (subst IsOfMap (sym is) tt))) (ap is_in_a_map (beside.place n it.0 it.1)))
+      where
+        was_pair : (known2.roles b ≡ known.roles b) ⊎ CameAsTable known known2 s s2 b → known.roles b ≡ role.Pair n
+        was_pair (inl was) = sym was ∙ is
+        was_pair (inr came) = absurd (let table = came.is in cc (table, is))
 
     table_used : (b len : ℕ) (t : Table) (there : MapThere) → known2.roles b ≡ role.Table t len → map_at t.map m2 ≡ Some there → there.first ≤ t.turn → IsInUse (s2.world.hand b)
     table_used b len t there is at_map from =
         let had = subst (HasRole s2.world m2.stored b) is (after.shows.blocks.roles b) in
-        beside.hands b (some_is b _ had.1)
-        (hands.tables b len t there (sym (beside.back b (subst IsOfMap (sym is) tt)) ∙ is) (ap (λ (fs : List MapThere). find (λ f. f.number == t.map) fs) (sym beside.maps) ∙ at_map) from)
+        elim (beside.back b (subst IsOfMap (sym is) tt)) as (λ _. IsInUse (s2.world.hand b)) [
+          | inl was ↦
+              beside.hands b (some_is b _ had.1)
+              (hands.tables b len t there (sym was ∙ is) (ap (λ (fs : List MapThere). find (λ f. f.number == t.map) fs) (sym beside.maps) ∙ at_map) from)
+          | inr came ↦ came.used
+        ]
 
     born_so : (n map : ℕ) → m2.place n ≡ InMap map → (n ≤ length m2.stored) × ((m2.born n).map ≡ map)
     born_so n map at_map =
@@ -84,12 +98,21 @@ module _ {K V : Type 0} (same : K → K → Bool) (name : ℕ → List ℕ) (m m
         (subst (λ (xs : List (K × V)). n ≤ length xs) (sym beside.stored) was.0, ap (λ (f : ℕ → Table). (f n).map) beside.born ∙ was.1)
 
     stand_so : (b len : ℕ) (t : Table) (st : Standing K) → known2.roles b ≡ role.Table t len → s2.maps t.map ≡ Some st → (t.turn < st.chart.past) × (st.chart.first ≤ t.turn → b ≡ st.blocks.table t.turn)
-    stand_so b len t st is there =
-        let stood = beside.stood t.map st there in
-        let had = hands.stand b len t stood.0 (sym (beside.back b (subst IsOfMap (sym is) tt)) ∙ is) stood.1 in (
-          subst (λ (c : Chart K). t.turn < c.past) (sym stood.2) had.0,
-          λ from. had.1 (subst (λ (c : Chart K). c.first ≤ t.turn) stood.2 from) ∙ sym (stood.3 t.turn),
-        )
+    stand_so b len t st is there = by (beside.back b (subst IsOfMap (sym is) tt)) (beside.stood t.map st there)
+      where
+        Goal : Table → Type 0
+        Goal u = (u.turn < st.chart.past) × (st.chart.first ≤ u.turn → b ≡ st.blocks.table u.turn)
+
+        by : (known2.roles b ≡ known.roles b) ⊎ CameAsTable known known2 s s2 b → StoodSo known known2 s s2 t.map st ⊎ StandsNew known known2 s s2 t.map → Goal t
+        by (inl was) (inl stood) =
+            let had = hands.stand b len t stood.0 (sym was ∙ is) stood.1 in (
+              subst (λ (c : Chart K). t.turn < c.past) (sym stood.2) had.0,
+              λ from. had.1 (subst (λ (c : Chart K). c.first ≤ t.turn) stood.2 from) ∙ sym (stood.3 t.turn),
+            )
+        by (inl was) (inr newly) = absurd (newly.1 b len t (sym was ∙ is) refl)
+        by (inr came) so =
+            let same_table : came.table ≡ t = (let table = came.is in cc (table, is)) in
+            subst Goal same_table (came.place st (ap s2.maps (ap (λ (u : Table). u.map) same_table) ∙ there))
 
     pub hands_beside : ShowsHands m2 known2 s2
     hands_beside = record { pairs = pair_used; tables = table_used; born = born_so; stand = stand_so }
@@ -158,13 +181,13 @@ module _ {K V : Type 0} (same : K → K → Bool) (name : ℕ → List ℕ) (m m
     pub asked_beside : ShowsAsked name after.shows.number m2 known2 s2
     asked_beside = record {
       apart = λ n j k l x y is is2 names. asked.apart n j k l x y (was_here n j x is) (was_here k l y is2) names;
-      each = λ map i u here st there c found. asked_so map i u here st there c (after.shows.number map) st.chart.stored (as_before map i u here st there c found);
+      each = λ map i u here st there c found. asked_so map i u here st there c (after.shows.number map) st.chart.stored (as_before map i u here st c found (beside.stood map st there));
     }
       where
-        as_before : (map i : ℕ) (u : UnderWay K V K) → s2.calls map i ≡ Some u → (st : Standing K) → s2.maps map ≡ Some st → (c : CallThere K V) → call_of (name i) m2 ≡ Some c
-            → IsAsked (after.shows.number map) st.chart.stored known u c
-        as_before map i u here st there c found =
-            let stood = beside.stood map st there in
+        as_before : (map i : ℕ) (u : UnderWay K V K) → s2.calls map i ≡ Some u → (st : Standing K) → (c : CallThere K V) → call_of (name i) m2 ≡ Some c
+            → StoodSo known known2 s s2 map st ⊎ StandsNew known known2 s s2 map → IsAsked (after.shows.number map) st.chart.stored known u c
+        as_before map i u here st c found (inr newly) = absurd (let none = newly.0 i in cc (none, here))
+        as_before map i u here st c found (inl stood) =
             subst (λ (f : ℕ → ℕ). IsAsked f st.chart.stored known u c) (sym (after.numbers map stood.0 stood.1))
             (subst (λ (x : Chart K). IsAsked (shown.number map) x.stored known u c) (sym stood.2)
             (asked.each map i u (was_here map i u here) stood.0 stood.1 c (ap (λ (cs : List (CallThere K V)). find (λ x. is_same x.caller (name i)) cs) (sym beside.calls) ∙ found)))

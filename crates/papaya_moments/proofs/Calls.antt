@@ -1,8 +1,7 @@
 -- Calls keep all that a moment shows.
 use Rattle.std.specs.Prelude.{◌≡◌, ℕ, Bool, List, Some, ◌⊎◌}
-use Rattle.std.proofs.Common.{refl, inl, inr}
+use Rattle.std.proofs.Common.{inl, inr}
 use Rattle.papaya_tables.specs.declared.node.Node.{Node}
-use Rattle.papaya_raw.specs.declared.machines.machine.Machine.{Machine}
 use Rattle.papaya_raw.specs.declared.machines.progress.Progress.{Progress}
 use Rattle.papaya_schedules.specs.Beginning.{with_call}
 use Rattle.papaya_schedules.specs.Effects.{with_effects}
@@ -49,7 +48,7 @@ module _ {K V S : Type 0} (same : K → K → Bool) (hash : K → ℕ) (name : �
   NoRow x did = OfNoRow same hash name m known s old new at whole.all.shown map i u here told leads x did
 
   -- it was a step of a row, or none
-  of_row : (x : UnderWay K V K) (did : Did x) → NoRow x did ⊎ (NoRow x did → ⊥)
+  pub of_row : (x : UnderWay K V K) (did : Did x) → NoRow x did ⊎ (NoRow x did → ⊥)
   of_row (OnKey x) (p2, end, machine_is, told_is, inl step) = inl tt
   of_row (OnKey x) (p2, end, machine_is, told_is, inr row) = inr (λ none. none)
   of_row (ForRoom x) (p2, end, machine_is, told_is, inl step) = inl tt

@@ -1,18 +1,18 @@
 -- Ends of maps keep all that a moment shows.
-use Rattle.std.specs.Prelude.{◌≡◌, ◌≢◌, ℕ, zero, suc, ◌<◌, Bool, true, ◌&&◌, List, [], ◌∷◌, Option, Some, None, IsSome, ◌⊎◌}
+use Rattle.std.specs.Prelude.{◌≡◌, ℕ, zero, suc, Bool, true, ◌&&◌, List, [], ◌∷◌, Option, Some, None, IsSome, ◌⊎◌}
 use Rattle.std.specs.List.{list_any}
 use Rattle.std.proofs.Common.{refl, ap, sym, subst, ◌∙◌, arith, inl, inr}
 use Rattle.std.proofs.lemmas.Bool.{cases_eq}
 use Rattle.seize_words.specs.Mem.{value_at}
-use Rattle.seize.specs.World.{World, Hand, with_at, times}
+use Rattle.seize.specs.World.{World, with_at, times}
 use Rattle.seize.specs.declared.rows.settle.Settled.{Settled}
 use Rattle.seize.specs.declared.rows.settle.Settled.TheVariants as settled
 use Rattle.papaya_tables.specs.declared.node.Node.{Node}
 use Rattle.papaya_raw.specs.declared.machines.end_map.EndMap.{EndMap}
 use Rattle.papaya_schedules.specs.declared.effect.Effect.{Effect}
-use Rattle.papaya_schedules.specs.declared.effect.Effect.TheVariants.{Stored, Deferred}
+use Rattle.papaya_schedules.specs.declared.effect.Effect.TheVariants.{Stored, Deferred, Taken}
 use Rattle.papaya_schedules.specs.Effects.{with_effect, with_effects, AtEachEffect}
-use Rattle.papaya_schedules.specs.Moment.{Place, InMap, Left, GivenBack, IsTaken, Moment}
+use Rattle.papaya_schedules.specs.Moment.{Place, Left, GivenBack, IsTaken, Moment}
 use Rattle.papaya_schedules.specs.Things.{same_table}
 use Rattle.papaya_schedules.specs.Views.{behind, is_there}
 use Rattle.papaya_teller.specs.declared.changed.Changed.{Changed}
@@ -39,26 +39,26 @@ use Rattle.papaya_hands.proofs.Others.{endings_begin_aside, endings_go_aside}
 use Rattle.papaya_others.specs.After.{ShowsAfter}
 use Rattle.papaya_others.specs.Counters.{NotesCounters}
 use Rattle.papaya_others.specs.Endings.{ending_after}
+use Rattle.papaya_others.specs.Gone.{EndsWith}
 use Rattle.papaya_others.proofs.Counters.{endings_note_counters}
 use Rattle.papaya_others.proofs.EndBegins.{endings_begin_shown}
 use Rattle.papaya_others.proofs.Ends.{left, says_or_takes, endings_are_shown}
-use Rattle.papaya_others.proofs.Quiet.{calls_none, all_quiet}
+use Rattle.papaya_others.proofs.Quiet.{all_quiet}
 use Rattle.papaya_others.proofs.Stays.{same_maps}
-use Rattle.papaya_spots.specs.Deferred.{FindsNumbers}
+use Rattle.papaya_spots.specs.Deferred.{WaitOutside, FindsNumbers}
 use Rattle.papaya_spots.specs.Spots.{ShowsPlaces}
 use Rattle.papaya_spots.specs.Unreclaimed.{is_unreclaimed, ShowsUnreclaimed}
 use Rattle.papaya_spots.proofs.Begins.{fewer_maps_stand}
 use Rattle.papaya_spots.proofs.Calm.{put_back}
-use Rattle.papaya_spots.proofs.Deferred.{effects_leave_outside}
+use Rattle.papaya_spots.proofs.Deferred.{effects_leave_outside, each_waits_outside}
 use Rattle.papaya_spots.proofs.Effects.{AllAside, calm_aside}
 use Rattle.papaya_spots.proofs.Gone.{other_gone, pair_gone, table_gone}
-use Rattle.papaya_spots.proofs.Rows.{same_pairs}
 use Rattle.papaya_spots.proofs.Stays.{WerePairs, places_stay}
 use Rattle.papaya_spots.proofs.Unreclaimed.{unreclaimed_same}
-use Rattle.papaya_moments.specs.Endings.{WaitsOn, EndingsBeginWhole, EndingsKeepWhole}
+use Rattle.papaya_moments.specs.Endings.{IsOfIts, WaitsOn, EndingsBeginWhole, EndingsKeepWhole}
 use Rattle.papaya_moments.specs.Whole.{ShowsWhole}
 use Rattle.papaya_moments.proofs.Beside.{IsBeside, hands_beside, asked_beside}
-use Rattle.papaya_moments.proofs.OnSlots.{put_out, all_out, IsAlone, alone, none_some, Keeps, same_roles}
+use Rattle.papaya_moments.proofs.OnSlots.{put_out, all_out, with_outside, IsAlone, alone, still_alone, none_some, Keeps, same_roles}
 
 -- effects that move no pair and no table find numbers as they must
 module _ {K V : Type 0} (acted : Option ℕ) where
@@ -103,15 +103,7 @@ module _ {K V : Type 0} (map : ℕ) (m : Moment K V) where
   same_calm effects calm = all_quiet (Some map) effects m (calm_still effects calm)
 
   calm_alone : (effects : List Effect) → AllCalm effects → IsAlone m (with_effects None (Some map) effects m)
-  calm_alone effects calm =
-      let a = same_calm effects calm in
-      record {
-        stored = a.stored;
-        born = a.born;
-        calls = calls_none (Some map) effects m;
-        maps = a.maps;
-        place = λ n x e. sym (ap (λ (f : ℕ → Place). f n) a.place) ∙ e;
-      }
+  calm_alone effects calm = still_alone m (Some map) effects (calm_still effects calm)
 
 module _ {K V S : Type 0} (same : K → K → Bool) (hash : K → ℕ) (name : ℕ → List ℕ) (m : Moment K V) (known : Known) (s : Scene K V) (old new : Executor K V S) (at : IsAt same hash old s)
     (whole : ShowsWhole same name m known s) (i : ℕ) (f : Finishing K V) (here : s.enders i ≡ Some f) (end : EndMap) (said : Settled (Node K V)) (steps : EndingStepsFrom f.machine old new end said)
@@ -179,11 +171,11 @@ module _ {K V S : Type 0} (same : K → K → Bool) (hash : K → ℕ) (name : �
     calls = end_alone.calls;
     maps = end_alone.maps;
     place = end_alone.place;
-    back = end_keeps.0;
+    back = λ b of. inl (end_keeps.0 b of);
     roles = λ b some of. end_keeps.1 b (subst (λ (x : World (Node K V)). IsSome (value_at x.memory b)) world some) of;
     hands = λ b some used. subst (λ (x : World (Node K V)). IsInUse (x.hand b)) (sym world) (hand_there b (subst (λ (x : World (Node K V)). IsSome (value_at x.memory b)) world some) used);
     same_calls = calls;
-    stood = λ n st is. (st, subst (λ (g : ℕ → Option (Standing K)). g n ≡ Some st) maps is, refl, λ t. refl);
+    stood = λ n st is. inl (st, subst (λ (g : ℕ → Option (Standing K)). g n ≡ Some st) maps is, refl, λ t. refl);
   }
 
   -- which blocks are unreclaimed
@@ -217,7 +209,7 @@ module _ {K V S : Type 0} (same : K → K → Bool) (hash : K → ℕ) (name : �
     | inr it ↦ subst (λ (x : Changed). AllAside (does x)) (sym it.1) (taken_aside map m (known.roles it.0))
   ]
 
-  end_numbers : AtEachEffect FindsNumbers None (Some map) (does told) m
+  pub end_numbers : AtEachEffect FindsNumbers None (Some map) (does told) m
   end_numbers = elim says as (λ _. AtEachEffect FindsNumbers None (Some map) (does told) m) [
     | inl it ↦ calm_numbers (Some map) (does told) m it.0
     | inr it ↦ subst (λ (x : Changed). AtEachEffect FindsNumbers None (Some map) (does x) m) (sym it.1) (taken_numbers map m (known.roles it.0))
@@ -253,10 +245,16 @@ module _ {K V S : Type 0} (same : K → K → Bool) (hash : K → ℕ) (name : �
   end_keeps_whole (settled.Gave value) it rows after counters = whole_at _ refl refl refl it.3 (record { none = rows.none; one = rows.one }) after counters
   end_keeps_whole settled.Done it rows after counters = whole_at _ refl refl refl it.2 (record { none = rows.none; one = rows.one }) after counters
 
+ends_with : {K V : Type 0} (map : ℕ) (f : Effect) (v : Moment K V) → IsOfIts map v f → WaitOutside v → EndsWith v map f
+ends_with map (Taken t) v of_map outside = (of_map, each_waits_outside _ _ v outside t)
+ends_with map _ v of_map outside = tt
+
 module _ (K V S : Type 0) (same : K → K → Bool) (hash : K → ℕ) where
   pub endings_keep_whole : EndingsKeepWhole K V S same hash
-  endings_keep_whole name m known s old new at whole i told leads f here map not_there ends waits =
+  endings_keep_whole name m known s old new at whole i told leads f here map not_there of_map waits =
       let to = leads f here in
+      let finds = end_numbers same hash name m known s old new at whole i f here to.0 told to.1 to.2 map not_there to.3 waits in
+      let ends = with_outside None (Some map) (IsOfIts map) (λ v effect. EndsWith v map effect) (ends_with map) (effects_of (Ending map) known new.memory.changed) m finds whole.outside of_map in
       end_keeps_whole same hash name m known s old new at whole i f here to.0 told to.1 to.2 map not_there to.3 waits told to.3
       (endings_go_aside K V S same hash s old new at whole.all.rows i told leads f here)
       (endings_are_shown K V S same hash name m known s old new at whole.all.shown i told leads f here map not_there ends).1
@@ -291,9 +289,9 @@ module _ (K V S : Type 0) (same : K → K → Bool) (hash : K → ℕ) where
         calls = refl;
         maps = refl;
         place = λ n x e. e;
-        back = λ b of. refl;
+        back = λ b of. inl refl;
         roles = λ b some of. refl;
         hands = λ b some used. used;
         same_calls = refl;
-        stood = λ n st is. (st, fewer n st is, refl, λ t. refl);
+        stood = λ n st is. inl (st, fewer n st is, refl, λ t. refl);
       }

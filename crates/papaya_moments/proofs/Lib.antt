@@ -2,4 +2,9 @@ pub mod Beside
 pub mod OnSlots
 pub mod Ends
 pub mod Makings
+pub mod MakingSteps
+pub mod MapsCome
+pub mod Numbers
+pub mod Over
 pub mod Calls
+pub mod Walks

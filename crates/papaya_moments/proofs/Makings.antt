@@ -1,5 +1,5 @@
 -- A step of the making of a map leaves the same blocks unreclaimed as are pairs and tables of maps.
-use Rattle.std.specs.Prelude.{◌≡◌, ◌≢◌, ℕ, ◌==◌, Bool, true, false, ◌&&◌, List, [], ◌∷◌, Option, Some, None, if◌then◌else◌}
+use Rattle.std.specs.Prelude.{◌≡◌, ℕ, ◌==◌, Bool, true, false, ◌&&◌, List, [], ◌∷◌, Option, Some, None, if◌then◌else◌}
 use Rattle.std.specs.List.{list_any}
 use Rattle.std.proofs.Common.{refl, ap, sym, subst, ◌∙◌}
 use Rattle.std.proofs.lemmas.Bool.{eq-eqb}
@@ -16,9 +16,9 @@ use Rattle.papaya_schedules.specs.declared.effect.Effect.TheVariants.{Asked, Lin
 use Rattle.papaya_schedules.specs.declared.effect.Growth.TheVariants.{ABlock}
 use Rattle.papaya_schedules.specs.declared.effect.Table.{Table}
 use Rattle.papaya_schedules.specs.Effects.{with_effects}
-use Rattle.papaya_schedules.specs.Moment.{Place, TableThere, Moment}
+use Rattle.papaya_schedules.specs.Moment.{Place, Moment}
 use Rattle.papaya_schedules.specs.Things.{same_table}
-use Rattle.papaya_schedules.specs.Views.{is_there}
+use Rattle.papaya_schedules.specs.Views.{is_there, tables_of}
 use Rattle.papaya_teller.specs.declared.changed.Changed.{Changed}
 use Rattle.papaya_teller.specs.declared.changed.Changed.TheVariants as changed
 use Rattle.papaya_teller.specs.declared.changed.Kind.{Kind}
@@ -52,6 +52,24 @@ use Rattle.papaya_spots.proofs.Gone.{other_gone}
 use Rattle.papaya_spots.proofs.Unreclaimed.{AsUnreclaimed, unreclaimed_same, linked_unreclaimed, and_both, table_is}
 use Rattle.papaya_moments.specs.Makings.{MakingsKeepBlocks}
 
+-- what is of a map lasts
+pub lasting_of : (r : Role) → IsOfMap r → IsLasting r
+lasting_of role.Free is = is
+lasting_of (role.OwnPair j) is = is
+lasting_of (role.OwnTable turn shape) is = is
+lasting_of (role.Pair n) is = is
+lasting_of (role.Table t len) is = is
+lasting_of (role.Counter n) is = absurd is
+
+-- of a map that has no table no block is one
+pub none_of_it : {K V : Type 0} (m : Moment K V) (known : Known) → ShowsUnreclaimed m known → (map : ℕ) → tables_of map m ≡ [] → (x len : ℕ) (t : Table) → known.roles x ≡ role.Table t len → t.map ≡ map → ⊥
+none_of_it m known blocks map none x len t is e =
+    let any = any_kept (λ u. same_table u.table t && is_there u.stage) (λ u. u.table.map == map)
+    (λ u a. ap (λ (y : ℕ). y == map) (ap (λ (y : Table). y.map) (table_is u.table t (and_both (same_table u.table t) (is_there u.stage) a).0) ∙ e) ∙ eq-eqb map map refl)
+    m.tables (blocks.tables x len t is) in
+    let never = ap (list_any (λ u. same_table u.table t && is_there u.stage)) none in
+    absurd (cc (sym any ∙ never))
+
 module _ {K V : Type 0} (map : ℕ) (of : Option ℕ) (m : Moment K V) (known : Known) (blocks : ShowsUnreclaimed m known) where
   abbrev its : Acting
   its = Making map
@@ -66,7 +84,7 @@ module _ {K V : Type 0} (map : ℕ) (of : Option ℕ) (m : Moment K V) (known : 
   still_blocks effects still known2 roles =
       unreclaimed_same m (with_effects None of effects m) known known2 (as_still effects still) (λ b is. ap (λ (g : ℕ → Role). g b) roles) (λ b is. ap (λ (g : ℕ → Role). g b) roles) blocks
 
-  none_of_map : (k : Kind) → IsOfMap (made_role its k) → ⊥
+  pub none_of_map : (k : Kind) → IsOfMap (made_role its k) → ⊥
   none_of_map kind.Pair is = is
   none_of_map (kind.Table len limit turn) is = is
   none_of_map kind.Shards is = is
@@ -77,14 +95,6 @@ module _ {K V : Type 0} (map : ℕ) (of : Option ℕ) (m : Moment K V) (known : 
       unreclaimed_same m (with_effects None of (Asked ABlock ∷ made_by its k) m) known (with_role x (made_role its k) known) (as_still (Asked ABlock ∷ made_by its k) (still_made its k))
       (λ b is. put_elsewhere x (made_role its k) known.roles b (λ e. none (lasting_of (known.roles x) (subst (λ (y : ℕ). IsOfMap (known.roles y)) e is))))
       (λ b is. put_back known.roles x (made_role its k) (none_of_map k) b is) blocks
-    where
-      lasting_of : (r : Role) → IsOfMap r → IsLasting r
-      lasting_of role.Free is = is
-      lasting_of (role.OwnPair j) is = is
-      lasting_of (role.OwnTable turn shape) is = is
-      lasting_of (role.Pair n) is = is
-      lasting_of (role.Table t len) is = is
-      lasting_of (role.Counter n) is = absurd is
 
   -- one that was none of a map was taken away
   taken_blocks : (x : ℕ) (r : Role) → known.roles x ≡ r → (IsOfMap r → ⊥) → ShowsUnreclaimed (with_effects None of (taken_by its r) m) (with_role x role.Free known)
@@ -97,15 +107,6 @@ module _ {K V : Type 0} (map : ℕ) (of : Option ℕ) (m : Moment K V) (known : 
   taken_blocks x (role.Counter n) e none = other_gone m m known x blocks (λ is. none (subst IsOfMap e is)) (record { place = λ k. refl; tables = λ t. refl })
 
   module _ (setting : Setting) (new : IsNew map setting m) where
-    -- no block is a table of the new map
-    no_table : (x len : ℕ) (t : Table) → t.map ≡ map → known.roles x ≡ role.Table t len → ⊥
-    no_table x len t e is =
-        let any = any_kept (λ u. same_table u.table t && is_there u.stage) (λ u. u.table.map == map)
-        (λ u a. ap (λ (y : ℕ). y == map) (ap (λ (y : Table). y.map) (table_is u.table t (and_both (same_table u.table t) (is_there u.stage) a).0) ∙ e) ∙ eq-eqb map map refl)
-        m.tables (blocks.tables x len t is) in
-        let none = ap (list_any (λ u. same_table u.table t && is_there u.stage)) new.no_tables in
-        absurd (cc (sym any ∙ none))
-
     -- a root that led nowhere leads to a table
     led_blocks : (q : Bool) (b : ℕ) (is : Role) → known.roles b ≡ is
         → ShowsUnreclaimed (with_effects None of (if q then [] else led_to its role.Free is) m) (if q then known else linked_on its b is known)
@@ -114,7 +115,7 @@ module _ {K V : Type 0} (map : ℕ) (of : Option ℕ) (m : Moment K V) (known : 
     led_blocks false b (role.OwnPair i) e = blocks
     led_blocks false b (role.OwnTable turn shape) e =
         linked_unreclaimed m (with_effects None of (Linked (record { map = map; turn = turn }) shape ∷ []) m) known b shape.len (record { map = map; turn = turn }) shape
-        (λ last. subst IsLasting e last) (λ x n is. no_table x n (record { map = map; turn = turn }) refl is) refl refl blocks
+        (λ last. subst IsLasting e last) (λ x n is. none_of_it m known blocks map new.no_tables x n (record { map = map; turn = turn }) is refl) refl refl blocks
     led_blocks false b (role.Pair n) e = blocks
     led_blocks false b (role.Table t len) e = blocks
     led_blocks false b (role.Counter n) e = blocks
@@ -122,8 +123,7 @@ module _ {K V : Type 0} (map : ℕ) (of : Option ℕ) (m : Moment K V) (known : 
 module _ {K V S : Type 0} (same : K → K → Bool) (hash : K → ℕ) (name : ℕ → List ℕ) (m : Moment K V) (known : Known) (s : Scene K V) (old new : Executor K V S) (at : IsAt same hash old s)
     (shown : Shows same name m known s) (blocks : ShowsUnreclaimed m known) (i : ℕ) (b : Beginning K) (here : s.makers i ≡ Some b) (end : NewMap) (said : Progress Setting)
     (steps : MakingStepsFrom b.machine old new end said)
-    (did : MakingStepsAmong V same same old.batch_size old.roots slot_of s.world s.maps s.calls s.makers s.enders i b new.memory.memory (end, said)) (of : Option ℕ)
-    (setting : Setting) (is_new : IsNew b.map setting m) where
+    (did : MakingStepsAmong V same same old.batch_size old.roots slot_of s.world s.maps s.calls s.makers s.enders i b new.memory.memory (end, said)) (of : Option ℕ) where
   abbrev w : World (Node K V)
   w = s.world
 
@@ -131,7 +131,7 @@ module _ {K V S : Type 0} (same : K → K → Bool) (hash : K → ℕ) (name : �
   w2 = did.step.w2
 
   -- a block of a map is there still
-  not_of_map : (x : ℕ) → value_at w2.memory x ≡ None → (r : Role) → known.roles x ≡ r → IsOfMap r → ⊥
+  pub not_of_map : (x : ℕ) → value_at w2.memory x ≡ None → (r : Role) → known.roles x ≡ r → IsOfMap r → ⊥
   not_of_map x gone (role.Pair k) e is =
       let it = subst (HasRole w m.stored x) e (shown.blocks.roles x) in
       let there = it.3 in let kept = (linked_stays same hash name m known s old new at shown i b here end said steps did of x _ it.3 it.4).0 in cc (there, kept, gone)
@@ -140,35 +140,38 @@ module _ {K V S : Type 0} (same : K → K → Bool) (hash : K → ℕ) (name : �
       let there = it.1 in let kept = (linked_stays same hash name m known s old new at shown i b here end said steps did of x _ it.1 it.2).0 in cc (there, kept, gone)
   not_of_map x gone _ e is = is
 
-  abbrev After : Changed → Type 0
-  After x = ShowsUnreclaimed (with_effects None of (effects_of (Making b.map) known x) m) (known_after (Making b.map) x known)
-
-  keeps : (x : Changed) → TellsMaking w i b.machine.setting.root x → LeavesBy w.memory w2.memory x → After x
-  keeps changed.Nothing so l = blocks
-  keeps (changed.Wrote (Root r) before after) so l =
-      subst (λ (y : Role). ShowsUnreclaimed (with_effects None of (if names_same before after then [] else led_to (Making b.map) y (named known after)) m)
-      (if names_same before after then known else linked_on (Making b.map) (block_in after) (named known after) known)) (sym was_free)
-      (led_blocks b.map of m known blocks setting is_new (names_same before after) (block_in after) (named known after) refl)
+  -- its root led nowhere where it is written
+  pub before_free : (r before after : ℕ) → TellsMaking w i b.machine.setting.root (changed.Wrote (Root r) before after) → LeavesBy w.memory w2.memory (changed.Wrote (Root r) before after)
+      → named known before ≡ role.Free
+  before_free r before after so l = ap (λ (y : ℕ). known.roles (block_in y)) nothing_before ∙ nothing_free w m.stored known shown.blocks.roles
     where
       nothing_before : before ≡ 0
       nothing_before = let there : word_at w.memory (Root r) ≡ Some 0 = ap (λ (y : ℕ). word_at w.memory (Root y)) so.0 ∙ so.1 in let words = l.0 in cc (there, words)
 
-      was_free : named known before ≡ role.Free
-      was_free = ap (λ (y : ℕ). known.roles (block_in y)) nothing_before ∙ nothing_free w m.stored known shown.blocks.roles
-  keeps (changed.Wrote (Used r) before after) so l = blocks
-  keeps (changed.Wrote (Slot t field) before after) so l = absurd so
-  keeps (changed.Wrote (Entry x field) before after) so l = absurd so
-  keeps (changed.Wrote (Word x field) before after) so l =
-      let does = word_says (Making b.map) known field (block_in after) (known.roles x) (names_same before after) (named known before) (named known after)
-      (no_table_word same hash name m known s old new at shown i b here end said steps did of x (names_same before after) so) in
-      still_blocks b.map of m known blocks _ (calm_still _ does.0) _ (ap (λ (k : Known). k.roles) does.1)
-  keeps (changed.Made k x) so l = made_blocks b.map of m known blocks k x (λ last. lasting_there w m.stored x (known.roles x) (shown.blocks.roles x) last l.0)
-  keeps (changed.Unmade k) so l = still_blocks b.map of m known blocks (Asked ABlock ∷ []) (refl, tt) known refl
-  keeps (changed.Took x) so l = taken_blocks b.map of m known blocks x (known.roles x) refl (not_of_map x l.1 (known.roles x) refl)
-  keeps (changed.Roomed bucket had) so l = absurd so
+  module _ (setting : Setting) (is_new : IsNew b.map setting m) where
+    abbrev After : Changed → Type 0
+    After x = ShowsUnreclaimed (with_effects None of (effects_of (Making b.map) known x) m) (known_after (Making b.map) x known)
 
-  pub making_keeps : After new.memory.changed
-  making_keeps = keeps new.memory.changed (tells same hash name m known s old new at shown i b here end said steps did of) (left same hash name m known s old new at shown i b here end said steps did of)
+    keeps : (x : Changed) → TellsMaking w i b.machine.setting.root x → LeavesBy w.memory w2.memory x → After x
+    keeps changed.Nothing so l = blocks
+    keeps (changed.Wrote (Root r) before after) so l =
+        subst (λ (y : Role). ShowsUnreclaimed (with_effects None of (if names_same before after then [] else led_to (Making b.map) y (named known after)) m)
+        (if names_same before after then known else linked_on (Making b.map) (block_in after) (named known after) known)) (sym (before_free r before after so l))
+        (led_blocks b.map of m known blocks setting is_new (names_same before after) (block_in after) (named known after) refl)
+    keeps (changed.Wrote (Used r) before after) so l = blocks
+    keeps (changed.Wrote (Slot t field) before after) so l = absurd so
+    keeps (changed.Wrote (Entry x field) before after) so l = absurd so
+    keeps (changed.Wrote (Word x field) before after) so l =
+        let does = word_says (Making b.map) known field (block_in after) (known.roles x) (names_same before after) (named known before) (named known after)
+        (no_table_word same hash name m known s old new at shown i b here end said steps did of x (names_same before after) so) in
+        still_blocks b.map of m known blocks _ (calm_still _ does.0) _ (ap (λ (k : Known). k.roles) does.1)
+    keeps (changed.Made k x) so l = made_blocks b.map of m known blocks k x (λ last. lasting_there w m.stored x (known.roles x) (shown.blocks.roles x) last l.0)
+    keeps (changed.Unmade k) so l = still_blocks b.map of m known blocks (Asked ABlock ∷ []) (refl, tt) known refl
+    keeps (changed.Took x) so l = taken_blocks b.map of m known blocks x (known.roles x) refl (not_of_map x l.1 (known.roles x) refl)
+    keeps (changed.Roomed bucket had) so l = absurd so
+
+    pub making_keeps : After new.memory.changed
+    making_keeps = keeps new.memory.changed (tells same hash name m known s old new at shown i b here end said steps did of) (left same hash name m known s old new at shown i b here end said steps did of)
 
 module _ (K V S : Type 0) (same : K → K → Bool) (hash : K → ℕ) where
   pub makings_keep_blocks : MakingsKeepBlocks K V S same hash

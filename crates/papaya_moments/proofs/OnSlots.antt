@@ -1,5 +1,5 @@
 -- Rows on slots keep all that a moment shows.
-use Rattle.std.specs.Prelude.{◌≡◌, ◌≢◌, ℕ, zero, suc, nat_lt, Bool, true, false, List, [], ◌∷◌, Option, Some, None, IsSome, if◌then◌else◌}
+use Rattle.std.specs.Prelude.{◌≡◌, ℕ, zero, suc, nat_lt, Bool, true, false, List, [], ◌∷◌, Option, Some, None, IsSome, if◌then◌else◌}
 use Rattle.std.proofs.Common.{refl, ap, sym, subst, ◌∙◌, arith, inl, inr}
 use Rattle.std.proofs.lemmas.Bool.{cases_eq}
 use Rattle.seize_words.specs.declared.at.At.TheVariants.{Root, Used, Slot, Entry, Word}
@@ -13,9 +13,10 @@ use Rattle.seize_alone.proofs.Histories.Reached.{Reached}
 use Rattle.papaya_tables.specs.Nodes.{deferred_word}
 use Rattle.papaya_tables.specs.declared.node.Node.{Node}
 use Rattle.papaya_schedules.specs.declared.effect.Effect.{Effect}
-use Rattle.papaya_schedules.specs.declared.effect.Effect.TheVariants.{Asked}
+use Rattle.papaya_schedules.specs.declared.effect.Effect.TheVariants.{Asked, Reclaimed}
 use Rattle.papaya_schedules.specs.declared.effect.Growth.TheVariants.{ABucket}
-use Rattle.papaya_schedules.specs.Effects.{with_effects, all_at}
+use Rattle.papaya_schedules.specs.declared.effect.Thing.TheVariants.{APair, ATable}
+use Rattle.papaya_schedules.specs.Effects.{with_effect, with_effects, all_at, AtEachEffect}
 use Rattle.papaya_schedules.specs.Lists.{put, is_among}
 use Rattle.papaya_schedules.specs.Moment.{Place, InMap, Handed, GivenBack, Moment}
 use Rattle.papaya_schedules.specs.Views.{behind}
@@ -24,12 +25,12 @@ use Rattle.papaya_teller.specs.declared.changed.Changed.TheVariants as changed
 use Rattle.papaya_callers.proofs.Together.Came.{came_reached}
 use Rattle.papaya_finishes.specs.Maps.{Standing, IsSameMap}
 use Rattle.papaya_effects.specs.Effects.{names_same, taken_by, effects_of, known_after}
-use Rattle.papaya_effects.specs.Known.{Known, with_role}
+use Rattle.papaya_effects.specs.Known.{Known}
 use Rattle.papaya_effects.specs.declared.acting.Acting.TheVariants.{Row}
 use Rattle.papaya_effects.specs.declared.role.Role.{Role}
 use Rattle.papaya_effects.specs.declared.role.Role.TheVariants as role
 use Rattle.papaya_executor.specs.IsAt.{Scene, IsAt, slot_of, work_of}
-use Rattle.papaya_executor.specs.OnSlots.{RowSteps, HappensAt}
+use Rattle.papaya_executor.specs.OnSlots.{MayBegin, RowBegins, RowSteps, HappensAt}
 use Rattle.papaya_executor.specs.Rows.{request_of}
 use Rattle.papaya_executor.specs.declared.executor.Executor.{Executor}
 use Rattle.papaya_executor.specs.declared.row.RowTold.{RowTold}
@@ -38,23 +39,26 @@ use Rattle.papaya_executor.specs.declared.row.SlotCall.TheVariants as call
 use Rattle.papaya_executor.specs.declared.row.SlotRow.{SlotRow}
 use Rattle.papaya_executor.specs.declared.worker.Work.TheVariants as work
 use Rattle.papaya_executor.proofs.OnSlots.{row_at, may_taken}
-use Rattle.papaya_follows.proofs.Alike.{put_here, put_elsewhere}
+use Rattle.papaya_follows.proofs.Alike.{AllStill, put_here, put_elsewhere}
 use Rattle.papaya_follows.proofs.Onward.{IsOfMap}
 use Rattle.papaya_follows.proofs.Operations.{LeavesBy, operated_leaves}
 use Rattle.papaya_follows.proofs.Steps.{one_of}
 use Rattle.papaya_follows.proofs.Told.{roomed_as_many}
 use Rattle.papaya_hands.specs.Hands.{IsInUse}
 use Rattle.papaya_hands.proofs.Others.{rows_begin_aside, rows_go_aside}
+use Rattle.papaya_others.specs.Gone.{WasRetired}
 use Rattle.papaya_others.specs.Rows.{scene_then}
 use Rattle.papaya_others.proofs.Counters.{rows_note_counters}
+use Rattle.papaya_others.proofs.Quiet.{calls_none, all_quiet}
 use Rattle.papaya_others.proofs.RowBegins.{rows_begin_shown}
 use Rattle.papaya_others.proofs.RowPlans.{TellsRow, row_tells, row_operated}
 use Rattle.papaya_others.proofs.Rows.{rows_on_slots_are_shown}
+use Rattle.papaya_spots.specs.Deferred.{WaitOutside, FindsNumbers}
 use Rattle.papaya_spots.proofs.Calm.{put_back}
-use Rattle.papaya_spots.proofs.OnSlots.{rows_leave_places, rows_keep_blocks}
+use Rattle.papaya_spots.proofs.Deferred.{effects_leave_outside, each_waits_outside}
+use Rattle.papaya_spots.proofs.OnSlots.{row_beside as finds_numbers, rows_leave_places, rows_keep_blocks}
 use Rattle.papaya_spots.proofs.Stays.{places_stay}
-use Rattle.papaya_moments.specs.OnSlots.{RowsBeginWhole, RowsKeepWhole}
-use Rattle.papaya_moments.specs.Whole.{ShowsWhole}
+use Rattle.papaya_moments.specs.OnSlots.{HadRetired, RowsBeginWhole, RowsKeepWhole}
 use Rattle.papaya_moments.proofs.Beside.{IsBeside, hands_beside, asked_beside}
 
 -- a map that stands then stood so, with its tables in the same blocks
@@ -80,6 +84,21 @@ module _ (place : ℕ → Place) where
       by true e = absurd (none map e)
       by false e = e
 
+-- what is so of effects, since what waits behind tables is in no map
+module _ {K V : Type 0} (caller : Option (List ℕ)) (acted : Option ℕ) (Had Has : Moment K V → Effect → Type 0) (both : (f : Effect) (v : Moment K V) → Had v f → WaitOutside v → Has v f) where
+  pub with_outside : (effects : List Effect) (v : Moment K V) → AtEachEffect FindsNumbers caller acted effects v → WaitOutside v → AtEachEffect Had caller acted effects v
+      → AtEachEffect Has caller acted effects v
+  with_outside [] v finds outside had = tt
+  with_outside (f ∷ effects) v finds outside had = (
+    both f v had.0 outside,
+    with_outside effects (with_effect caller acted f v) finds.1 (effects_leave_outside K V caller acted (f ∷ []) v (finds.0, tt) outside) had.1,
+  )
+
+was_retired : {K V : Type 0} (f : Effect) (v : Moment K V) → HadRetired v f → WaitOutside v → WasRetired v f
+was_retired (Reclaimed (ATable t)) v had outside = (had, each_waits_outside _ _ v outside t)
+was_retired (Reclaimed (APair n)) v had outside = tt
+was_retired _ v had outside = tt
+
 module _ {K V : Type 0} (m v : Moment K V) where
   -- of the moment: calls and maps are as they were, and pairs are in the map in which they were, or in none
   pub record IsAlone : Type 0 where
@@ -92,6 +111,12 @@ module _ {K V : Type 0} (m v : Moment K V) where
 module _ {K V : Type 0} (m : Moment K V) where
   pub alone : IsAlone m m
   alone = record { stored = refl; born = refl; calls = refl; maps = refl; place = λ n map e. e }
+
+  -- so it is of effects that move nothing
+  pub still_alone : (of : Option ℕ) (effects : List Effect) → AllStill effects → IsAlone m (with_effects None of effects m)
+  still_alone of effects still =
+      let a = all_quiet of effects m still in
+      record { stored = a.stored; born = a.born; calls = calls_none of effects m; maps = a.maps; place = λ n map e. sym (ap (λ (f : ℕ → Place). f n) a.place) ∙ e }
 
   taken_alone : (r : Role) → IsAlone m (with_effects None None (taken_by Row r) m)
   taken_alone role.Free = alone
@@ -190,11 +215,11 @@ module _ {K V S : Type 0} (same : K → K → Bool) (hash : K → ℕ) (m : Mome
         calls = a.calls;
         maps = a.maps;
         place = a.place;
-        back = k.0;
+        back = λ b of. inl (k.0 b of);
         roles = k.1;
         hands = λ b some used. subst IsInUse (sym (hand_same b some)) used;
         same_calls = refl;
-        stood = λ map st is. stood_same (s.maps map) (happened.2 map) (happened.3 map) st is;
+        stood = λ map st is. inl (stood_same (s.maps map) (happened.2 map) (happened.3 map) st is);
       }
 
 -- a row that begins leaves hands as they are
@@ -211,7 +236,9 @@ module _ (K V S : Type 0) (same : K → K → Bool) (hash : K → ℕ) where
   pub rows_keep_whole : RowsKeepWhole K V S same hash
   rows_keep_whole name m known s old new at whole i told leads row here retired unreclaimed =
       let to = leads row here in
-      let after = rows_on_slots_are_shown K V S same hash name m known s old new at whole.all.shown i told leads row here retired in
+      let tells = row_tells old.memory.memory new.memory.memory new.memory.changed (to.0, told) row to.1 in
+      let after = rows_on_slots_are_shown K V S same hash name m known s old new at whole.all.shown i told leads row here
+      (with_outside None None HadRetired WasRetired was_retired (effects_of Row known new.memory.changed) m (finds_numbers m known new.memory.changed tells).0.1 whole.outside retired) in
       let beside = row_beside same hash m known s old new at i row here (to.0, told) to.1 to.4 in
       let lie = rows_leave_places K V S same hash m known s old new i told leads row here whole.places whole.outside in
       record {
@@ -227,23 +254,30 @@ module _ (K V S : Type 0) (same : K → K → Bool) (hash : K → ℕ) where
         counters = rows_note_counters K V S same hash name m known s old new at whole.all.shown whole.counters i told leads row here;
       }
 
-  pub rows_begin_whole : RowsBeginWhole K V S same hash
-  rows_begin_whole name m known s old new at whole called i may leads =
+  -- all is as it was where a row begins
+  pub rows_begin_beside : (m : Moment K V) (known : Known) (s : Scene K V) (old new : Executor K V S) (called : SlotCall) (i : ℕ) (may : MayBegin old (slot_of i) called) (leads : RowBegins same hash called i s old new)
+      → IsBeside m m known known s (scene_then same hash (Begin i (request_of (slot_of i) called)) s old new (leads may).3)
+  rows_begin_beside m known s old new called i may leads =
       let to = (leads may).3 in
-      let after = rows_begin_shown K V S same hash name m known s old new at whole.all.shown called i may leads in
       let hands = begun_hands old.batch_size (slot_of i) i s.world to.0 called to.1.1 in
-      let beside : IsBeside m m known known s (scene_then same hash (Begin i (request_of (slot_of i) called)) s old new to) = record {
+      record {
         stored = refl;
         born = refl;
         calls = refl;
         maps = refl;
         place = λ n map e. e;
-        back = λ b of. refl;
+        back = λ b of. inl refl;
         roles = λ b some of. refl;
         hands = λ b some used. subst (λ (h : ℕ → Hand). IsInUse (h b)) (sym hands) used;
         same_calls = refl;
-        stood = λ map st is. stood_same (s.maps map) (to.2 map) (to.3 map) st is;
-      } in
+        stood = λ map st is. inl (stood_same (s.maps map) (to.2 map) (to.3 map) st is);
+      }
+
+  pub rows_begin_whole : RowsBeginWhole K V S same hash
+  rows_begin_whole name m known s old new at whole called i may leads =
+      let to = (leads may).3 in
+      let after = rows_begin_shown K V S same hash name m known s old new at whole.all.shown called i may leads in
+      let beside = rows_begin_beside m known s old new called i may leads in
       record {
         all = record {
           shown = after.shows;

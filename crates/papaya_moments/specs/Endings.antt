@@ -1,13 +1,14 @@
 -- Ends of maps: where one begins, and takes its steps, the moment shows all of the scene then.
-use Rattle.std.specs.Prelude.{◌≡◌, ℕ, true, Bool, List, Some, None}
+use Rattle.std.specs.Prelude.{◌≡◌, ℕ, true, false, Bool, List, Some, None}
 use Rattle.seize.specs.declared.rows.settle.Settled.{Settled}
 use Rattle.papaya_tables.specs.declared.node.Node.{Node}
 use Rattle.papaya_schedules.specs.declared.effect.Effect.{Effect}
 use Rattle.papaya_schedules.specs.declared.effect.Effect.TheVariants.{Taken}
 use Rattle.papaya_schedules.specs.Effects.{with_effects, AtEachEffect}
 use Rattle.papaya_schedules.specs.Lists.{is_among}
-use Rattle.papaya_schedules.specs.Moment.{Moment}
-use Rattle.papaya_schedules.specs.Views.{behind}
+use Rattle.papaya_runs.specs.Same.{is_same}
+use Rattle.papaya_schedules.specs.Moment.{MapThere, Remains, Moment}
+use Rattle.papaya_schedules.specs.Views.{map_at, behind}
 use Rattle.papaya_effects.specs.Effects.{effects_of, known_after}
 use Rattle.papaya_effects.specs.Known.{Known}
 use Rattle.papaya_effects.specs.declared.acting.Acting.TheVariants.{Ending}
@@ -16,10 +17,15 @@ use Rattle.papaya_executor.specs.IsAt.{Scene, IsAt}
 use Rattle.papaya_executor.specs.declared.executor.Executor.{Executor}
 use Rattle.papaya_finishes.specs.Endings.{Finishing}
 use Rattle.papaya_finishes.specs.Maps.{Standing}
-use Rattle.papaya_others.specs.Endings.{ending_after}
-use Rattle.papaya_others.specs.Gone.{EndsWith}
+use Rattle.papaya_others.specs.Endings.{ending_after, without_map}
 use Rattle.papaya_spots.specs.Unreclaimed.{is_unreclaimed}
+use Rattle.papaya_moments.specs.Numbers.{AreFound}
 use Rattle.papaya_moments.specs.Whole.{ShowsWhole}
+
+-- a table that ends with this map is one of it
+abbrev pub IsOfIts : {K V : Type 0} → ℕ → Moment K V → Effect → Type 0
+IsOfIts map m (Taken t) = t.map ≡ map
+IsOfIts map m _ = Unit {0}
 
 -- what waits behind a table that ends with its map is not reclaimed
 abbrev pub WaitsOn : {K V : Type 0} → Moment K V → Effect → Type 0
@@ -33,13 +39,21 @@ module _ (K V S : Type 0) (same : K → K → Bool) (hash : K → ℕ) where
       (name : ℕ → List ℕ) (m : Moment K V) (known : Known) (s : Scene K V) (new : Executor K V S) → ShowsWhole same name m known s
       → (map i : ℕ) (standing : Standing K) → s.maps map ≡ Some standing → IsAt same hash new (ending_begun map i standing s) → ShowsWhole same name m known (ending_begun map i standing s)
 
-  -- and after a step of it: a table that ends with its map is one of it, and what waits behind that is in no map, and not reclaimed.
+  -- and after a step of it: a table that ends with its map is one of it, and what waits behind that is not reclaimed.
   abbrev pub EndingsKeepWhole : Type 0
   EndingsKeepWhole =
       (name : ℕ → List ℕ) (m : Moment K V) (known : Known) (s : Scene K V) (old new : Executor K V S) → IsAt same hash old s → ShowsWhole same name m known s
       → (i : ℕ) (told : Settled (Node K V)) (leads : EndingLeads same hash i told s old new) (f : Finishing K V) (here : s.enders i ≡ Some f) (map : ℕ) → s.maps map ≡ None
-      → AtEachEffect (λ v effect. EndsWith v map effect) None (Some map) (effects_of (Ending map) known new.memory.changed) m
+      → AtEachEffect (IsOfIts map) None (Some map) (effects_of (Ending map) known new.memory.changed) m
       → AtEachEffect WaitsOn None (Some map) (effects_of (Ending map) known new.memory.changed) m
       → (let to = leads f here in
       ShowsWhole same name (with_effects None (Some map) (effects_of (Ending map) known new.memory.changed) m) (known_after (Ending map) new.memory.changed known)
       (ending_after same hash s new i f to.0 to.2.w2 to.2.deed told to.3))
+
+module _ (K V : Type 0) (same : K → K → Bool) where
+  -- And where it is over, the map is there no more, and no map that stands has its name.
+  abbrev pub EndingsAreOverWhole : Type 0
+  EndingsAreOverWhole =
+      (name : ℕ → List ℕ) (m : Moment K V) (known : Known) (s : Scene K V) → ShowsWhole same name m known s → (own : List ℕ) (remains : List Remains) → AreFound m
+      → ((map : ℕ) (standing : Standing K) (there : MapThere) → s.maps map ≡ Some standing → map_at map m ≡ Some there → is_same there.name own ≡ false)
+      → ShowsWhole same name (without_map own remains m) known s

@@ -1,4 +1,6 @@
 pub mod Whole
+pub mod Numbers
 pub mod OnSlots
 pub mod Endings
 pub mod Makings
+pub mod Walks

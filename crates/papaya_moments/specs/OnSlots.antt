@@ -1,9 +1,13 @@
 -- Rows on slots: where one begins, and takes its steps, the moment shows all of the scene then.
-use Rattle.std.specs.Prelude.{◌≡◌, ℕ, Bool, List, Some, None}
+use Rattle.std.specs.Prelude.{◌≡◌, ℕ, Bool, true, List, Some, None}
 use Rattle.seize.specs.World.{Begin, Step}
 use Rattle.papaya_tables.specs.declared.node.Node.{Node}
+use Rattle.papaya_schedules.specs.declared.effect.Effect.{Effect}
+use Rattle.papaya_schedules.specs.declared.effect.Effect.TheVariants.{Reclaimed}
+use Rattle.papaya_schedules.specs.declared.effect.Thing.TheVariants.{ATable}
 use Rattle.papaya_schedules.specs.Effects.{with_effects, AtEachEffect}
 use Rattle.papaya_schedules.specs.Moment.{Moment}
+use Rattle.papaya_schedules.specs.Views.{is_retired, is_stage}
 use Rattle.papaya_effects.specs.Effects.{effects_of, known_after}
 use Rattle.papaya_effects.specs.Known.{Known}
 use Rattle.papaya_effects.specs.declared.acting.Acting.TheVariants.{Row}
@@ -15,10 +19,14 @@ use Rattle.papaya_executor.specs.declared.row.RowTold.{RowTold}
 use Rattle.papaya_executor.specs.declared.row.SlotCall.{SlotCall}
 use Rattle.papaya_executor.specs.declared.row.SlotRow.{SlotRow}
 use Rattle.papaya_executor.specs.declared.worker.Work.TheVariants.{OnSlot}
-use Rattle.papaya_others.specs.Gone.{WasRetired}
 use Rattle.papaya_others.specs.Rows.{scene_then}
 use Rattle.papaya_spots.specs.OnSlots.{WaitUnreclaimed}
 use Rattle.papaya_moments.specs.Whole.{ShowsWhole}
+
+-- a table that is reclaimed was retired
+abbrev pub HadRetired : {K V : Type 0} → Moment K V → Effect → Type 0
+HadRetired m (Reclaimed (ATable t)) = is_stage is_retired t m ≡ true
+HadRetired m _ = Unit {0}
 
 module _ (K V S : Type 0) (same : K → K → Bool) (hash : K → ℕ) where
   -- The promises: so it is where a row begins on a slot,
@@ -28,11 +36,11 @@ module _ (K V S : Type 0) (same : K → K → Bool) (hash : K → ℕ) where
       → (called : SlotCall) (i : ℕ) (may : MayBegin old (slot_of i) called) (leads : RowBegins same hash called i s old new)
       → ShowsWhole same name m known (scene_then same hash (Begin i (request_of (slot_of i) called)) s old new (leads may).3)
 
-  -- and after a step of it: a table that it reclaims was retired, and what waits behind that is in no map, and not reclaimed.
+  -- and after a step of it: a table that it reclaims was retired, and what waits behind that is not reclaimed.
   abbrev pub RowsKeepWhole : Type 0
   RowsKeepWhole =
       (name : ℕ → List ℕ) (m : Moment K V) (known : Known) (s : Scene K V) (old new : Executor K V S) → IsAt same hash old s → ShowsWhole same name m known s
       → (i : ℕ) (told : RowTold (Node K V)) (leads : RowLeads same hash i told s old new) (row : SlotRow) (here : work_of old i ≡ Some (OnSlot row))
-      → AtEachEffect WasRetired None None (effects_of Row known new.memory.changed) m → AtEachEffect WaitUnreclaimed None None (effects_of Row known new.memory.changed) m
+      → AtEachEffect HadRetired None None (effects_of Row known new.memory.changed) m → AtEachEffect WaitUnreclaimed None None (effects_of Row known new.memory.changed) m
       → ShowsWhole same name (with_effects None None (effects_of Row known new.memory.changed) m) (known_after Row new.memory.changed known)
       (scene_then same hash (Step i) s old new (leads row here).4)

@@ -241,7 +241,7 @@ module _ {K V S : Type 0} (same : K → K → Bool) (hash : K → ℕ) (name : �
         let after_it = there.together.makings.facts i (record b { machine = end }) (at_same s.makers i (Some (record b { machine = end })) i refl) in
         not_zero (subst (λ (x : ℕ). word_at w2.memory (Root x) ≡ Some 0) going.1 (taken_root w2 new.roots end end.stands after_it.point going.0))
 
-    not_refused : (fault : Fault) → said ≡ progress.Refused fault → ⊥
+    pub not_refused : (fault : Fault) → said ≡ progress.Refused fault → ⊥
     not_refused fault e = not_zero ((keeps (progress.Refused fault) e).0 taken_then).1
 
   -- Its map stands.
@@ -439,6 +439,19 @@ module _ {K V S : Type 0} (same : K → K → Bool) (hash : K → ℕ) (name : �
 
       one_table_done : Both (effects_of its known (changed.Wrote (Root r) before after)) (known_after its (changed.Wrote (Root r) before after) known)
       one_table_done = subst (λ (effects : List Effect). Both effects (known_after its (changed.Wrote (Root r) before after) known)) (sym says.0) (subst (λ (k : Known). Both (Linked table shape ∷ []) k) (sym says.1) (beside, of_map))
+
+    -- a block that comes by its root, which it had made, is its first table
+    pub came_first : (r before after : ℕ) → told ≡ changed.Wrote (Root r) before after
+        → (block_in after ≡ st.blocks.table 0) × (st.chart.past ≡ 1) × (st.chart.first ≡ 0) × (shape : TableShape) × (known.roles (block_in after) ≡ role.OwnTable 0 shape)
+    came_first r before after is =
+        let by_it = subst (λ (x : Changed). DoneBy w i old.roots b.machine old.memory.memory new.memory.memory told setting x) is done_by in
+        let had : HasMade b.machine.stands × (b.machine.len ≢ 0) = (by_it.0, by_it.1) in (
+          its_block r before after is had,
+          past_is r before after is had,
+          first_is r before after is had,
+          shape r before after is had,
+          role_then r before after is had ∙ ap (λ (turn : ℕ). role.OwnTable turn (shape r before after is had)) (planned r before after is had).turn_is,
+        )
 
     done_so : (x : Changed) → told ≡ x → DoneBy w i old.roots b.machine old.memory.memory new.memory.memory told setting x → Both (effects_of its known x) (known_after its x known)
     done_so changed.Nothing is by_it = absurd by_it

@@ -24,13 +24,14 @@ use Rattle.papaya_others.specs.Walks.{given_up, WalksGoOn, WalksAreGivenUp}
 
 module _ {K V : Type 0} (same : K → K → Bool) where
   -- calls of which one goes on, or is under way no more, are shown
-  fewer_calls : (name : ℕ → List ℕ) (m : Moment K V) (calls : ℕ → ℕ → Option (UnderWay K V K)) (map i : ℕ) (u : UnderWay K V K) → calls map i ≡ Some u → (next : Option (UnderWay K V K))
+  pub fewer_calls : (name : ℕ → List ℕ) (m : Moment K V) (calls : ℕ → ℕ → Option (UnderWay K V K)) (map i : ℕ) (u : UnderWay K V K) → calls map i ≡ Some u → (next : Option (UnderWay K V K))
       → ((x : UnderWay K V K) → next ≡ Some x → CalledOn same u x) → ShowsCalls same name m calls → ShowsCalls same name m (with_call calls map i next)
   fewer_calls name m calls map i u here next on shown n j x is =
       let before = was_there same calls map i u here next on n j x is in
       let there = shown n j before.0 before.1 in (there.0, there.1, there.2, before.2 there.0.call there.3)
 
-  with_calls : (name : ℕ → List ℕ) (m : Moment K V) (known : Known) (s : Scene K V) (calls : ℕ → ℕ → Option (UnderWay K V K)) → ShowsCalls same name m calls → (shown : Shows same name m known s)
+  -- nothing else has changed
+  pub with_calls : (name : ℕ → List ℕ) (m : Moment K V) (known : Known) (s : Scene K V) (calls : ℕ → ℕ → Option (UnderWay K V K)) → ShowsCalls same name m calls → (shown : Shows same name m known s)
       → ShowsAfter same name m known s shown m known (record s { calls = calls })
   with_calls name m known s calls there shown = record { shows = record { blocks = shown.blocks; number = shown.number; maps = shown.maps; calls = there }; numbers = λ n st e. refl }
 

@@ -8,6 +8,7 @@ use Rattle.papaya_tables.specs.declared.setting.Setting.{Setting}
 use Rattle.papaya_raw.specs.declared.machines.answer.KeyAnswer.{KeyAnswer}
 use Rattle.papaya_raw.specs.declared.machines.answer.KeyAnswer.TheVariants as answers
 use Rattle.papaya_raw.specs.declared.machines.asking.Reply.{Reply}
+use Rattle.papaya_raw.specs.declared.machines.asking.Reply.TheVariants as reply
 use Rattle.papaya_asks.specs.Asking.{AnswersAs, EndsAs, RefusedAs}
 use Rattle.papaya_asks.specs.Closures.{ComesTo, ComesToWith, ComputesTo, Computing}
 use Rattle.papaya_asks.specs.declared.computing.Computed.{Computed}
@@ -15,6 +16,7 @@ use Rattle.papaya_asks.specs.declared.computing.Computed.TheVariants as computed
 use Rattle.papaya_asks.specs.declared.computing.Operation.{Operation}
 use Rattle.papaya_asks.specs.declared.refused.RefusedKey.{RefusedKey}
 use Rattle.papaya_asks.specs.declared.refused.Refused.{Refused}
+use Rattle.papaya_owned.specs.Owned.{found_by}
 use Rattle.papaya_resting.specs.Asking.{HasDone, IsRefusedFor, ComesToIt, ComputesToIt, changed_by, ended_by, computing_ended_by}
 use Rattle.papaya_resting.specs.Lasts.{RestsWith, no_words, words_of, words_of_computing, words_of_end}
 use Rattle.papaya_resting.specs.declared.last.Last.{Last}
@@ -38,6 +40,14 @@ module _ {K V : Type 0} (same : K → K → Bool) (hash : K → ℕ) (setting : 
     ends_so : (r : Result KeyAnswer Fault) → EndsAs same hash setting m keys xs its Told r → ComesToIt keys its Told xs (RestsWith same hash setting m (words_of_end r)) (λ fault. fault) (ended_by r)
     ends_so (Ok answer) e = done_so answer e
     ends_so (Err fault) e = refused_for fault e
+
+  -- told to change nothing, it has found what was there
+  pub aborted_so : (answer : KeyAnswer) → AnswersAs same hash setting m keys xs its (λ about said. said ≡ reply.Abort) answer → RestsWith same hash setting m (words_of answer) xs None (found_by keys xs)
+  aborted_so answers.Absent a = subst (RestsWith same hash setting m no_words xs None) (sym a.1) (record { holds = a.2; taken_is = tt; met_is = tt })
+  aborted_so (answers.Found word) a = subst (RestsWith same hash setting m (words_of (answers.Found word)) xs None) (sym a.2) (record { holds = a.4; taken_is = tt; met_is = a.3 })
+  aborted_so (answers.Stored word) a = absurd (let f = a.3 in cc f)
+  aborted_so (answers.Replaced old new) a = absurd (let f = a.4 in cc f)
+  aborted_so (answers.Removed word) a = absurd (let f = a.1 in cc f)
 
   -- as it is with the words that were kept, and what was answered
   module _ (Told : Option (K × V) → Reply V → Type 0) {E : Type 0} (fault_of : E → Fault) (r : Result KeyAnswer E) where
@@ -93,12 +103,12 @@ module _ {K V : Type 0} (same : K → K → Bool) (hash : K → ℕ) (setting : 
 
     computes_so : (r : Result (Computed T) (RefusedKey K)) → ComputesTo same hash setting m key xs Gives r → ComputesWith (words_of_computing r) (computing_ended_by r)
     computes_so (Ok (computed.Changed answer)) e = done_so same hash setting m (same key) (Some key) xs (Computing Gives) answer e
-    computes_so (Ok (computed.Aborted end)) e = (e.0, record { holds = e.1; taken_is = tt; met_is = tt })
+    computes_so (Ok (computed.Aborted end answer)) e = (e.0, aborted_so same hash setting m (same key) (Some key) xs answer e.1)
     computes_so (Err r) e = refused_for same hash setting m (same key) (Some key) xs (Computing Gives) r.fault e.0
 
     computing_key_back : (r : Result (Computed T) (RefusedKey K)) → ComputesTo same hash setting m key xs Gives r → IfErr (computing_ended_by r) (λ e. e.key ≡ key)
     computing_key_back (Ok (computed.Changed answer)) e = tt
-    computing_key_back (Ok (computed.Aborted end)) e = tt
+    computing_key_back (Ok (computed.Aborted end answer)) e = tt
     computing_key_back (Err r) e = e.1
 
     module _ (r : Result (Computed T) (RefusedKey K)) (e : ComputesTo same hash setting m key xs Gives r) where

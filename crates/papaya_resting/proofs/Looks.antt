@@ -39,10 +39,6 @@ module _ {K V : Type 0} (same : K → K → Bool) (hash : K → ℕ) (setting : 
       one_word total fits sum = omega (arith, fits, sum)
 
 module _ {K V : Type 0} (keys : K → Bool) (m : Mem (Node K V)) (xs : List (K × V)) where
-  -- by the word that was found
-  pub names_found : (found : Option ℕ) (word : ℕ) → IsWordOf keys m xs found → found ≡ Some word → IsWordOf keys m xs (Some word)
-  names_found found word so is = subst (IsWordOf keys m xs) is so
-
   pub some_found : (found : Option ℕ) → IsWordOf keys m xs found → is_some found ≡ is_some (found_by keys xs)
   some_found None so = ap is_some (sym so)
   some_found (Some word) so = ap is_some (sym so.3)

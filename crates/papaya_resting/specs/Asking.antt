@@ -34,7 +34,7 @@ ended_by (Err e) = Err e
 -- and so of a computing
 abbrev pub computed_by : {T : Type 0} → Computed T → Compute T
 computed_by (computed.Changed answer) = compute.Changed (changed_by answer)
-computed_by (computed.Aborted end) = compute.Aborted end
+computed_by (computed.Aborted end answer) = compute.Aborted end
 
 abbrev pub computing_ended_by : {T E : Type 0} → Result (Computed T) E → Result (Compute T) E
 computing_ended_by (Ok done) = Ok (computed_by done)
@@ -64,7 +64,7 @@ module _ {K V : Type 0} (keys : K → Bool) (its : Option K) (Told : Option (K �
 module _ {K V T : Type 0} (keys : K → Bool) (its : Option K) (Gives : Option (K × V) → Operation V T → Type 0) (xs : List (K × V)) (After : List (K × V) → Option (K × V) → Option (K × V) → Type 0) where
   abbrev pub HasComputed : Compute T → Type 0
   HasComputed (compute.Changed done) = HasDone keys its (Computing Gives) xs After done
-  HasComputed (compute.Aborted end) = Gives (found_by keys xs) (operation.Abort end) × After xs None None
+  HasComputed (compute.Aborted end) = Gives (found_by keys xs) (operation.Abort end) × After xs None (found_by keys xs)
 
   abbrev pub ComputesToIt : {E : Type 0} → (E → Fault) → Result (Compute T) E → Type 0
   ComputesToIt fault_of (Ok done) = HasComputed done

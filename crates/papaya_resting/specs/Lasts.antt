@@ -37,7 +37,7 @@ words_of_end (Err e) = no_words
 
 abbrev pub words_of_computing : {T E : Type 0} → Result (Computed T) E → Last
 words_of_computing (Ok (computed.Changed answer)) = words_of answer
-words_of_computing (Ok (computed.Aborted end)) = no_words
+words_of_computing (Ok (computed.Aborted end answer)) = words_of answer
 words_of_computing (Err e) = no_words
 
 module _ {K V : Type 0} where

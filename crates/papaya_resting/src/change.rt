@@ -8,7 +8,7 @@ use papaya_asks::{Computed, RefusedKey};
 use papaya_raw::machines::KeyAnswer;
 
 /// What a call has done with the pair of a key.
-#[derive(Clone, Copy)]
+#[derive(Clone, Copy, Debug, PartialEq, Eq)]
 pub enum Change {
     /// Nothing: the key was not there, and is not.
     Missing,
@@ -23,7 +23,7 @@ pub enum Change {
 }
 
 /// What a computing has come to.
-#[derive(Drop)]
+#[derive(Debug, Drop, PartialEq, Eq)]
 pub enum Compute<T> {
     /// A pair was stored, replaced or removed.
     Changed(Change),
@@ -74,8 +74,8 @@ pub(crate) fn computed<K, T>(
             *last = told(answer);
             Ok(Compute::Changed(changed(answer)))
         }
-        Ok(Computed::Aborted(end)) => {
-            *last = Last::NONE;
+        Ok(Computed::Aborted(end, answer)) => {
+            *last = told(answer);
             Ok(Compute::Aborted(end))
         }
         Err(refused) => {

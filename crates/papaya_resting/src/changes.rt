@@ -13,7 +13,7 @@ use seize::rows::Leave;
 use seize_words::{Fault, Plain};
 use std::hash::{BuildHasher, Hash};
 
-/// Ends the owner's section, and begins the next one: what is out of the map is given back.
+/// Ends the owner's section, and begins the next one: what is out of the map may be given back, once enough of it waits.
 pub fn refresh<K: Eq + Hash + Drop, V: Drop, S: BuildHasher>(
     memory: &mut Plain<Node<K, V>>,
     setting: Setting,

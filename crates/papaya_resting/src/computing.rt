@@ -1,7 +1,7 @@
 //! A call that computes what is to be done with a key, after a refresh.
 ghost use Rattle.std.specs.Prelude.{◌≡◌, List, Some, IfErr};
-ghost use Rattle.papaya_asks.specs.Closures.{ComputesAs};
-ghost use Rattle.papaya_owned.specs.Owned.{Holds, hashed_by};
+ghost use Rattle.papaya_asks.specs.Closures.{ComputesAs, ComputingTakes};
+ghost use Rattle.papaya_owned.specs.Owned.{Holds, found_by, hashed_by};
 ghost use Rattle.papaya_resting.specs.Asking.{ComputesToIt};
 ghost use Rattle.papaya_resting.specs.Lasts.{RestsWith};
 
@@ -28,8 +28,8 @@ pub fn compute<
     key: K,
     decide: F,
 ) -> Result<Compute<T>, RefusedKey<K>>
-    requires callable { F.IsAlwaysCallable decide }
-    requires holds { (xs : List (K × V)) × Holds K.eq (hashed_by S.Hasher.finish S.Hasher.write S.build_hasher K.hash_input hasher.now) setting memory.old xs }
+    requires holds { (xs : List (K × V)) × Holds K.eq (hashed_by S.Hasher.finish S.Hasher.write S.build_hasher K.hash_input hasher.now) setting memory.old xs
+        × ComputingTakes F.FnOnce decide (found_by (K.eq key) xs) }
     ensures comes { (xs : List (K × V)) → Holds K.eq (hashed_by S.Hasher.finish S.Hasher.write S.build_hasher K.hash_input hasher.now) setting memory.old xs
         → ComputesToIt (K.eq key) (Some key) (ComputesAs F.FnOnce decide) xs (RestsWith K.eq (hashed_by S.Hasher.finish S.Hasher.write S.build_hasher K.hash_input hasher.now) setting memory.new last.new) (λ r. r.fault) result }
     ensures back { IfErr result (λ r. r.key ≡ key) }

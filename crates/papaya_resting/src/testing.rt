@@ -1,7 +1,8 @@
 //! Removals that a test decides, each after a refresh.
 ghost use Rattle.std.specs.Prelude.{List, None};
-ghost use Rattle.papaya_asks.specs.Closures.{Removing, TestsAs};
-ghost use Rattle.papaya_owned.specs.Owned.{Holds, hashed_by};
+ghost use Rattle.std.specs.Option.{ForSome};
+ghost use Rattle.papaya_asks.specs.Closures.{Removing, TestsAs, TestTakes};
+ghost use Rattle.papaya_owned.specs.Owned.{Holds, found_by, hashed_by};
 ghost use Rattle.papaya_resting.specs.Asking.{ComesToIt};
 ghost use Rattle.papaya_resting.specs.Lasts.{RestsWith};
 
@@ -27,8 +28,8 @@ pub fn remove_if<
     asked: &Q,
     test: F,
 ) -> Result<Change, Fault>
-    requires callable { F.IsAlwaysCallable test }
-    requires holds { (xs : List (K × V)) × Holds K.eq (hashed_by S.Hasher.finish S.Hasher.write S.build_hasher K.hash_input hasher.now) setting memory.old xs }
+    requires holds { (xs : List (K × V)) × Holds K.eq (hashed_by S.Hasher.finish S.Hasher.write S.build_hasher K.hash_input hasher.now) setting memory.old xs
+        × ForSome (found_by (Q.Equivalent.equivalent asked.now) xs) (TestTakes F.FnOnce test) }
     ensures { (xs : List (K × V)) → Holds K.eq (hashed_by S.Hasher.finish S.Hasher.write S.build_hasher K.hash_input hasher.now) setting memory.old xs
         → ComesToIt (Q.Equivalent.equivalent asked.now) None (Removing (TestsAs F.FnOnce test)) xs (RestsWith K.eq (hashed_by S.Hasher.finish S.Hasher.write S.build_hasher K.hash_input hasher.now) setting memory.new last.new) (λ fault. fault) result }
 {

@@ -103,21 +103,23 @@ module _ {K V : Type 0} where
   abbrev pub SparesOthers : ℕ → World (Node K V) → World (Node K V) → Type 0
   SparesOthers caller w w2 = (j : ℕ) → j ≢ caller → KeepsBlocks j w.memory w.hand w2.memory w2.hand
 
--- What is linked by a step of this caller it has made before, and what was linked, or was before, is not made anew.
+-- a table or a pair of a map that can be looked at
+abbrev pub IsKnownBlock : {K : Type 0} → Chart K → Blocks → ℕ → Type 0
+IsKnownBlock c blocks b =
+    ((t : ℕ) × (t < c.past) × (blocks.table_known t ≡ true) × (b ≡ blocks.table t)) ⊎ ((n : ℕ) × (n < c.stored) × (blocks.pair_known n ≡ true) × (b ≡ blocks.pair n))
+
+-- What is linked by a step of this caller it has made before, and what was linked, or was before, is not made anew. What it had made, and is out then,
+-- is a table or a pair of the map.
 pub record LinksItsOwn {K V : Type 0} (caller : ℕ) (w w2 : World (Node K V)) (c c2 : Chart K) (blocks2 : Blocks) : Type 0 where
   pub tables : (t : ℕ) → c.past ≤ t → t < c2.past → w.hand (blocks2.table t) ≡ Making caller
   pub pairs : (n : ℕ) → c.stored ≤ n → n < c2.stored → w.hand (blocks2.pair n) ≡ Making caller
   pub outs : (b : ℕ) (value : Node K V) → value_at w.memory b ≡ Some value → IsOut (w.hand b) → IsOut (w2.hand b)
+  pub known : (b : ℕ) → w.hand b ≡ Making caller → IsOut (w2.hand b) → IsKnownBlock c2 blocks2 b
 
 -- each of these events is one of users, none of a row
 abbrev pub AllUsers : {T : Type 0} → List (Event T) → Type 0
 AllUsers [] = Unit {0}
 AllUsers (e ∷ events) = IsUsers e × AllUsers events
-
--- a table or a pair of a map that can be looked at
-abbrev pub IsKnownBlock : {K : Type 0} → Chart K → Blocks → ℕ → Type 0
-IsKnownBlock c blocks b =
-    ((t : ℕ) × (t < c.past) × (blocks.table_known t ≡ true) × (b ≡ blocks.table t)) ⊎ ((n : ℕ) × (n < c.stored) × (blocks.pair_known n ≡ true) × (b ≡ blocks.pair n))
 
 -- a block of the caller's own: it has made it, as a table or a pair to come, and not as the counter of a map
 abbrev pub IsOwnBlock : {K V : Type 0} → ℕ → World (Node K V) → ℕ → Type 0

@@ -48,7 +48,7 @@ module _ {K V : Type 0} (same : K → K → Bool) (hash : K → ℕ) (setting : 
   pub computes_rests : {T E : Type 0} (Gives : Option (K × V) → Operation V T → Type 0) (fault_of : E → Fault) (r : Result (Compute T) E)
       → ComputesToIt keys its Gives xs With fault_of r → Rested same hash setting m last
   computes_rests Gives fault_of (Ok (compute.Changed done)) d = done_rests (Computing Gives) done d
-  computes_rests Gives fault_of (Ok (compute.Aborted end)) d = rested same hash setting m last xs None None d.1
+  computes_rests Gives fault_of (Ok (compute.Aborted end)) d = rested same hash setting m last xs None (found_by keys xs) d.1
   computes_rests Gives fault_of (Err e) d = rested same hash setting m last xs None None d.1
 
   -- and shows them, in whatever order, and these two pairs
@@ -96,7 +96,7 @@ module _ {K V : Type 0} (same : K → K → Bool) (hash : K → ℕ) (setting : 
     module _ {T : Type 0} (Gives : Option (K × V) → Operation V T → Type 0) {E : Type 0} (fault_of : E → Fault) where
       pub shows_computed : (r : Result (Compute T) E) → ComputesToIt keys its Gives xs With fault_of r → IfOk r (λ done. HasComputed keys its Gives zs shows done)
       shows_computed (Ok (compute.Changed done)) d = shows_change (Computing Gives) done d
-      shows_computed (Ok (compute.Aborted end)) d = (subst (λ about. Gives about (operation.Abort end)) (sym is) d.0, shows_with xs zs None None d.1 order)
+      shows_computed (Ok (compute.Aborted end)) d = (subst (λ about. Gives about (operation.Abort end)) (sym is) d.0, subst (shows zs None) (sym is) (shows_with xs zs None (found_by keys xs) d.1 order))
       shows_computed (Err e) d = tt
 
       pub shows_uncomputed : (r : Result (Compute T) E) → ComputesToIt keys its Gives xs With fault_of r → OnErr r (shows zs None None)

@@ -1,8 +1,10 @@
 //! Calls on a map for one owner that update a value, or store one, by closures. Each begins with a refresh.
 ghost use Rattle.std.specs.Prelude.{◌≡◌, None, Some, IfOk, IfErr, OnErr};
-ghost use Rattle.std.specs.Fn.{FnOnceReturns, FnOnceReturnsAt};
+ghost use Rattle.std.specs.Fn.{FnOnceReturns, FnOnceReturnsAt, FnOnceTakesAt};
+ghost use Rattle.std.specs.Option.{ForNone, ForSome};
 ghost use Rattle.papaya_asks.specs.Closures.{Updating, UpdatingOrStoring, Storing};
 ghost use Rattle.papaya_late.specs.Faults.{IsRoom};
+ghost use Rattle.papaya_owned.specs.Owned.{found_by};
 ghost use Rattle.papaya_resting.specs.Asking.{HasDone};
 ghost use Rattle.papaya_seq.specs.Maps.{HasNow};
 
@@ -15,7 +17,7 @@ impl<K: Eq + Hash + Drop, V: Drop, S: BuildHasher> HashMap<K, V, S> {
     /// Replaces the value of a key by one that is made of it, if the key is there. The closure is called where it is, and else not at all. It answers
     /// `Replaced` or `Missing`. The faults are `Fault::Capacity` and `Fault::Memory`; then no pair has changed, and the key comes back.
     pub fn update<F: FnOnce(&V) -> V>(&mut self, key: K, make: F) -> Result<Change, RefusedKey<K>>
-        requires callable { F.IsAlwaysCallable make }
+        requires callable { ForSome (found_by (K.eq key) self.old.pairs) (λ x. FnOnceTakesAt F.FnOnce make x.1) }
         ensures done { IfOk result (λ done. HasDone (K.eq key) (Some key) (Updating (FnOnceReturnsAt F.FnOnce make)) self.old.pairs (HasNow self.new) done) }
         ensures refused { OnErr result (HasNow self.new self.old.pairs None None) }
         ensures fault { IfErr result (λ r. IsRoom r.fault) }
@@ -40,8 +42,8 @@ impl<K: Eq + Hash + Drop, V: Drop, S: BuildHasher> HashMap<K, V, S> {
         begin: B,
         make: F,
     ) -> Result<Change, RefusedKey<K>>
-        requires begins { B.IsAlwaysCallable begin }
-        requires makes { F.IsAlwaysCallable make }
+        requires begins { ForNone (found_by (K.eq key) self.old.pairs) (B.pre begin) }
+        requires makes { ForSome (found_by (K.eq key) self.old.pairs) (λ x. FnOnceTakesAt F.FnOnce make x.1) }
         ensures done { IfOk result (λ done. HasDone (K.eq key) (Some key) (UpdatingOrStoring (FnOnceReturnsAt F.FnOnce make) (λ value. FnOnceReturns B.FnOnce begin tt value)) self.old.pairs (HasNow self.new) done) }
         ensures refused { OnErr result (HasNow self.new self.old.pairs None None) }
         ensures fault { IfErr result (λ r. IsRoom r.fault) }
@@ -66,7 +68,7 @@ impl<K: Eq + Hash + Drop, V: Drop, S: BuildHasher> HashMap<K, V, S> {
         key: K,
         begin: B,
     ) -> Result<Change, RefusedKey<K>>
-        requires callable { B.IsAlwaysCallable begin }
+        requires callable { ForNone (found_by (K.eq key) self.old.pairs) (B.pre begin) }
         ensures done { IfOk result (λ done. HasDone (K.eq key) (Some key) (Storing (λ value. FnOnceReturns B.FnOnce begin tt value)) self.old.pairs (HasNow self.new) done) }
         ensures refused { OnErr result (HasNow self.new self.old.pairs None None) }
         ensures fault { IfErr result (λ r. IsRoom r.fault) }
@@ -92,7 +94,7 @@ impl<K: Eq + Hash + Drop, V: Drop, S: BuildHasher> HashMap<K, V, S> {
         value: V,
         make: F,
     ) -> Result<Change, Refused<K, V>>
-        requires callable { F.IsAlwaysCallable make }
+        requires callable { ForSome (found_by (K.eq key) self.old.pairs) (λ x. FnOnceTakesAt F.FnOnce make x.1) }
         ensures done { IfOk result (λ done. HasDone (K.eq key) (Some key) (UpdatingOrStoring (FnOnceReturnsAt F.FnOnce make) (λ new. new ≡ value)) self.old.pairs (HasNow self.new) done) }
         ensures refused { OnErr result (HasNow self.new self.old.pairs None None) }
         ensures fault { IfErr result (λ r. IsRoom r.fault) }

@@ -1,6 +1,7 @@
 //! A call on a map for one owner that computes what is to be done with a key. It begins with a refresh.
 ghost use Rattle.std.specs.Prelude.{◌≡◌, None, Some, IfOk, IfErr, OnErr};
-ghost use Rattle.papaya_asks.specs.Closures.{Computing, ComputesAs};
+ghost use Rattle.papaya_asks.specs.Closures.{Computing, ComputesAs, ComputingTakes};
+ghost use Rattle.papaya_owned.specs.Owned.{found_by};
 ghost use Rattle.papaya_resting.specs.Asking.{HasComputed, IsRefusedFor};
 ghost use Rattle.papaya_seq.specs.Maps.{HasNow};
 
@@ -18,7 +19,7 @@ impl<K: Eq + Hash + Drop, V: Drop, S: BuildHasher> HashMap<K, V, S> {
         key: K,
         decide: F,
     ) -> Result<Compute<T>, RefusedKey<K>>
-        requires callable { F.IsAlwaysCallable decide }
+        requires callable { ComputingTakes F.FnOnce decide (found_by (K.eq key) self.old.pairs) }
         ensures done { IfOk result (λ done. HasComputed (K.eq key) (Some key) (ComputesAs F.FnOnce decide) self.old.pairs (HasNow self.new) done) }
         ensures refused { OnErr result (HasNow self.new self.old.pairs None None) }
         ensures fault { IfErr result (λ r. IsRefusedFor (K.eq key) (Computing (ComputesAs F.FnOnce decide)) self.old.pairs r.fault) }

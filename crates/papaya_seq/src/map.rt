@@ -24,8 +24,8 @@ pub(crate) struct Resting<K, V> {
 /// A hash map for one owner.
 ///
 /// It has its memory and its collector for itself. Each change begins with a refresh of its one section: what changes before it took out of
-/// the map is given back then, and no earlier. So the pair that the last change took out of the map can be looked at until the next one, by
-/// `taken`, and the one that it met at its key or put there, by `met`.
+/// the map may be given back then, once enough of it waits, and no earlier. So the pair that the last change took out of the map can be looked
+/// at until the next one, by `taken`, and the one that it met at its key or put there, by `met`.
 ///
 /// A contract sees its pairs, its hasher, and these two pairs. The pairs are in the order in which a walk shows them; a change may put them in
 /// any other order.

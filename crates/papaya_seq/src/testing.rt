@@ -1,7 +1,9 @@
 //! Removals from a map for one owner that a test decides. Each begins with a refresh.
 ghost use Rattle.std.specs.Prelude.{◌≡◌, None, IfOk, IfErr, OnErr};
-ghost use Rattle.papaya_asks.specs.Closures.{Removing, TestsAs};
+ghost use Rattle.std.specs.Option.{ForSome};
+ghost use Rattle.papaya_asks.specs.Closures.{Removing, TestsAs, TestTakes};
 ghost use Rattle.papaya_late.specs.Faults.{IsRoom};
+ghost use Rattle.papaya_owned.specs.Owned.{found_by};
 ghost use Rattle.papaya_resting.specs.Asking.{HasDone};
 ghost use Rattle.papaya_seq.specs.Maps.{HasNow};
 
@@ -19,7 +21,7 @@ impl<K: Eq + Hash + Drop, V: Drop, S: BuildHasher> HashMap<K, V, S> {
         asked: &Q,
         test: F,
     ) -> Result<Change, Fault>
-        requires callable { F.IsAlwaysCallable test }
+        requires callable { ForSome (found_by (Q.Equivalent.equivalent asked.now) self.old.pairs) (TestTakes F.FnOnce test) }
         ensures done { IfOk result (λ done. HasDone (Q.Equivalent.equivalent asked.now) None (Removing (TestsAs F.FnOnce test)) self.old.pairs (HasNow self.new) done) }
         ensures refused { OnErr result (HasNow self.new self.old.pairs None None) }
         ensures fault { IfErr result IsRoom }

@@ -29,7 +29,7 @@ const ROWS: [(Call, Pair, Pair); 9] = [
 ];
 
 /// Calls by closures from there on.
-const ASKED: [(asked::Call, Pair, Pair); 13] = [
+const ASKED: [(asked::Call, Pair, Pair); 14] = [
     (asked::Call::Update(2), Some((2, 21)), Some((2, 31))),
     (asked::Call::Update(9), None, None),
     (asked::Call::UpdateOrInsert(3, 30), None, Some((3, 30))),
@@ -42,7 +42,8 @@ const ASKED: [(asked::Call, Pair, Pair); 13] = [
     (asked::Call::RemoveIf(3, 9), None, Some((3, 40))),
     (asked::Call::RemoveIf(3, 40), Some((3, 40)), None),
     (asked::Call::Put(2, 9), Some((2, 31)), Some((2, 9))),
-    (asked::Call::Abort(2), None, None),
+    (asked::Call::Abort(2), None, Some((2, 9))),
+    (asked::Call::Abort(9), None, None),
     (asked::Call::Take(2), Some((2, 9)), None),
     (asked::Call::Reserve(100), None, None),
     (asked::Call::Put(4, 40), None, Some((4, 40))),

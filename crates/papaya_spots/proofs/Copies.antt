@@ -14,7 +14,7 @@ use Rattle.papaya_spots.specs.Spots.{ThePair, named_by, spot_in, LiesAt, IsCopie
 use Rattle.papaya_spots.proofs.Names.{holds_is}
 use Rattle.papaya_spots.proofs.Moves.{names_none, named_made}
 
-less_is : (a b : ℕ) → a < b → nat_lt a b ≡ true
+pub less_is : (a b : ℕ) → a < b → nat_lt a b ≡ true
 less_is a b l = grind (arith, l)
 
 not_less : (a b : ℕ) → b ≤ a → nat_lt a b ≡ false

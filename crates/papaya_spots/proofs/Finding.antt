@@ -48,7 +48,7 @@ use Rattle.papaya_spots.specs.Placed.{FindPlaces}
 use Rattle.papaya_spots.specs.Spots.{ThePair, named_by, spot_in, LiesAt, ShowsSpots}
 use Rattle.papaya_spots.specs.Unreclaimed.{is_unreclaimed, ShowsUnreclaimed}
 use Rattle.papaya_spots.proofs.Born.{late_born}
-use Rattle.papaya_spots.proofs.Copies.{copied_from_root}
+use Rattle.papaya_spots.proofs.Copies.{less_is, copied_from_root}
 use Rattle.papaya_spots.proofs.Done.{DidBy, DidMoved}
 use Rattle.papaya_spots.proofs.Moves.{names_none}
 use Rattle.papaya_spots.proofs.Names.{holds_is}
@@ -221,10 +221,7 @@ module _ {K V : Type 0} (same : K → K → Bool) (slot caller map : ℕ) (name 
       let there = held.tables (s.blocks.table t) (c.len t) (table_of map t) (shown.tables.roles t made seen) in
       let stage = stage_of map c shown.tables.stage is_there t c.past (listed_there map number s m known shown is_there t there) in
       among map number s m known shown (λ u. same_table u.table (table_of map t) && is_there u.stage && nat_lt i u.shape.len) t made
-      (ap (λ (x : Bool). x && is_there (shown.tables.stage t) && nat_lt i (c.len t)) (same_one map number s m known shown t) ∙ ap (λ (x : Bool). x && nat_lt i (c.len t)) stage ∙ less i (c.len t) within)
-    where
-      less : (a b : ℕ) → a < b → nat_lt a b ≡ true
-      less a b l = grind (arith, l)
+      (ap (λ (x : Bool). x && is_there (shown.tables.stage t) && nat_lt i (c.len t)) (same_one map number s m known shown t) ∙ ap (λ (x : Bool). x && nat_lt i (c.len t)) stage ∙ less_is i (c.len t) within)
 
   not_back : (p : Place) → is_unreclaimed p ≡ true → p ≡ GivenBack → ⊥
   not_back p e z = let gone : is_unreclaimed p ≡ false = ap is_unreclaimed z in cc (e, gone)

@@ -6,6 +6,7 @@ pub mod Lies
 pub mod Effects
 pub mod Calm
 pub mod Done
+pub mod Shifts
 pub mod Own
 pub mod Elsewhere
 pub mod Stays

@@ -62,9 +62,6 @@ module _ {K V : Type 0} (map : ℕ) (of : Option ℕ) (m : Moment K V) (known : 
   abbrev pub IsBeside : List Effect → Type 0
   IsBeside effects = AllAside effects × AtEachEffect FindsNumbers None of effects m
 
-  none_beside : IsBeside []
-  none_beside = (tt, tt)
-
   made_beside : (k : Kind) → IsBeside (Asked ABlock ∷ made_by its k)
   made_beside kind.Pair = ((refl, (refl, tt)), (tt, (tt, tt)))
   made_beside (kind.Table len limit turn) = ((refl, (refl, tt)), (tt, (tt, tt)))

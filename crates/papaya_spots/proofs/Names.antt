@@ -18,9 +18,6 @@ holds_is (Holds o phase borrowed) n b e =
 pub other_pair : (n o : ℕ) (b x : Bool) → ThePair n b ≡ ThePair o x → n ≡ o
 other_pair n o b x e = cc e
 
-pub same_borrowed : (n o : ℕ) (b x : Bool) → ThePair n b ≡ ThePair o x → b ≡ x
-same_borrowed n o b x e = cc e
-
 pub nobody : (n : ℕ) (b : Bool) → Nobody ≡ ThePair n b → ⊥
 nobody n b e = cc e
 

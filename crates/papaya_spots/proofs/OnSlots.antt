@@ -35,7 +35,7 @@ use Rattle.papaya_spots.proofs.Unreclaimed.{unreclaimed_same}
 
 module _ {K V : Type 0} (m : Moment K V) (known : Known) where
   -- effects that neither move a pair nor find a number
-  abbrev IsBeside : List Effect → Type 0
+  abbrev pub IsBeside : List Effect → Type 0
   IsBeside effects = AllAside effects × AtEachEffect FindsNumbers None None effects m
 
   taken_beside : (r : Role) → IsBeside (taken_by Row r)
@@ -54,7 +54,7 @@ module _ {K V : Type 0} (m : Moment K V) (known : Known) where
   roomed_numbers true = tt
   roomed_numbers false = (tt, tt)
 
-  row_beside : (told : Changed) → TellsRow told → IsBeside (effects_of Row known told) × WerePairs known (known_after Row told known)
+  pub row_beside : (told : Changed) → TellsRow told → IsBeside (effects_of Row known told) × WerePairs known (known_after Row told known)
   row_beside changed.Nothing is = ((tt, tt), same_pairs known known refl)
   row_beside (changed.Wrote (Slot t field) old new) is = ((tt, tt), same_pairs known known refl)
   row_beside (changed.Wrote (Entry b field) old new) is = (nothing_beside (names_same old new), same_pairs known known refl)

@@ -65,6 +65,7 @@ use Rattle.papaya_spots.proofs.Holding.{moved_holds, calm_holds, row_holds}
 use Rattle.papaya_spots.proofs.Numbers.{calm_numbers, moved_numbers, row_numbers}
 use Rattle.papaya_spots.proofs.Own.{own_lies}
 use Rattle.papaya_spots.proofs.Rows.{row_aside}
+use Rattle.papaya_spots.proofs.Shifts.{Shifts, shifted}
 use Rattle.papaya_spots.proofs.Stays.{places_stay}
 
 -- a pair that is in one map is in no other
@@ -173,6 +174,10 @@ module _ {K V S : Type 0} (same : K → K → Bool) (hash : K → ℕ) (m : Mome
 
       pub moved_outside : AtEachEffect FindsNumbers (Some caller) (Some map) effects m
       moved_outside = moved_numbers same (slot_of i) i map (Some caller) (shown.number map) standing lawful w sight is_sight is_map m2 (λ w2 c2 blocks2. Unit {0}) went blocks2 grown sights2 m known is_shown shown.blocks told left did
+
+      -- which pairs come to the map, or leave it
+      pub moved_shifts : Shifts standing.chart had.c2 (shown.number map) known.stored effects
+      moved_shifts = shifted same (slot_of i) i map (Some caller) (shown.number map) standing lawful w sight is_sight is_map m2 (λ w2 c2 blocks2. Unit {0}) went blocks2 grown sights2 m known is_shown shown.blocks told left did
 
       -- where pairs lie
       module _ (lying : ShowsPlaces m known s.maps) where

@@ -1,3 +1,4 @@
+mod Joined
 mod Fresh
 pub mod Rows
 pub mod Keys

@@ -86,15 +86,10 @@ module _ {K V S : Type 0} (same : K → K → Bool) (hashes : S → K → ℕ) (
   as_lent : ComesTo same (hashes b.now) setting m key xs (ToldThis (same key) xs reply.Abort) result
   as_lent = subst (λ (z : Bor S). ComesTo same (hashes z.now) setting m key xs (ToldThis (same key) xs reply.Abort) result) lent e
 
-  pub aborted_holds : (answer : KeyAnswer) → result ≡ Ok answer → Holds same (hashes b.now) setting m xs
-  aborted_holds answer is = by answer (subst (ComesTo same (hashes b.now) setting m key xs (ToldThis (same key) xs reply.Abort)) is as_lent)
-    where
-      by : (answer : KeyAnswer) → AnswersAs same (hashes b.now) setting m (same key) xs (Some key) (ToldThis (same key) xs reply.Abort) answer → Holds same (hashes b.now) setting m xs
-      by answers.Absent a = a.2
-      by (answers.Found word) a = a.4
-      by (answers.Stored word) a = absurd (let f = a.3.1 in cc f)
-      by (answers.Replaced old new) a = absurd (let f = a.4.1 in cc f)
-      by (answers.Removed word) a = absurd (let f = a.1.1 in cc f)
+  pub aborted_answers : (answer : KeyAnswer) → result ≡ Ok answer → AnswersAs same (hashes b.now) setting m (same key) xs (Some key) (λ about said. said ≡ reply.Abort) answer
+  aborted_answers answer is =
+      answers_as same (hashes b.now) setting m (same key) xs (Some key) (ToldThis (same key) xs reply.Abort) (λ about said. said ≡ reply.Abort) (λ about said told. told.1) answer
+      (subst (ComesTo same (hashes b.now) setting m key xs (ToldThis (same key) xs reply.Abort)) is as_lent)
 
   pub aborted_refused : (r : RefusedKey K) → result ≡ Err r → (Meant : Option (K × V) → Reply V → Type 0) → RefusedAs same (hashes b.now) setting m (same key) xs (Some key) Meant r.fault × (r.key ≡ key)
   aborted_refused r is Meant =

@@ -68,6 +68,7 @@ module _ {K Q : Type 0} (V : Type 0) (same : K → K → Bool) (asks : Q → K �
         λ m2 p2 progress st.
             let to = leads.1 m2 p2 progress st in
             record {
+              no_row = none;
               step = to.step;
               together = endings_same V same asks batch_size roots slot w maps calls makers enders all to.step.went.w2
                   (call_spares V same asks batch_size roots slot w maps calls makers enders all m s here i (OnKey u) has m2 _ to.step.went) _ _ to.together

@@ -53,6 +53,7 @@ module _ {K Q : Type 0} (V : Type 0) (same : K → K → Bool) (asks : Q → K �
         λ m2 p2 progress st.
             let to = leads.1 m2 p2 progress st in
             record {
+              is_row = is_row;
               step = to.step;
               together = all_on V same asks batch_size roots slot w maps calls makers enders all to.step.w2
                   (within_spares V same asks batch_size roots slot w maps calls makers enders all m s here i to.step.w2 to.step.happened) _

@@ -41,6 +41,7 @@ module _ {K Q : Type 0} (V : Type 0) (same : K → K → Bool) (asks : Q → K �
         λ m2 p2 end st.
             let step = leads.1 m2 p2 end st in
             record {
+              no_row = none;
               step = step;
               together = endings_same V same asks batch_size roots slot w maps calls makers enders all step.went.w2
                   (call_spares V same asks batch_size roots slot w maps calls makers enders all m s here i (OverAll o) has m2 _ step.went) _ _
@@ -91,6 +92,7 @@ module _ {K Q : Type 0} (V : Type 0) (same : K → K → Bool) (asks : Q → K �
             let step = leads.1 m2 p2 end st in
             let other = no_maker V same asks batch_size roots slot w maps calls makers all.makings m i (OverAll o) has in
             record {
+              is_row = is_row;
               step = step;
               together = rows.all_on V same asks batch_size roots slot w maps calls makers enders all step.w2
                   (rows.within_spares V same asks batch_size roots slot w maps calls makers enders all m s here i step.w2 step.happened) _

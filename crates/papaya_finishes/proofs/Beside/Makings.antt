@@ -1,6 +1,7 @@
 -- Maps that are made among calls of many callers on other maps.
 pub mod Leaves
 pub mod OtherMaps
+pub mod Outs
 pub mod Lasts
 pub mod OtherMakings
 pub mod Beside

@@ -124,7 +124,7 @@ module _ {K V : Type 0} (same : K → K → Bool) (hash : K → ℕ) (caller : �
       (framed_written setting caller w c blocks (Root setting.root) (blocks.table t * 2048) (is_some_of _ _ root_here) refl)
       (λ j other. keeps_then j w.memory written.memory cut.w2.memory w.hand w.hand cut.w2.hand
       (keeps_written caller w j other (Root setting.root) (blocks.table t * 2048) (is_some_of _ _ root_here) tt) (cut.others j other))
-      chart blocks (spares_moved (spot_of hash) (is_incremental setting.mode) c blocks map.map.shows.linked (Promotes t) tt) (links_none caller w cut.w2 c chart blocks refl refl cut.outs) (inr (Promotes t, allowed, refl, λ i by. absurd by)) map_cut
+      chart blocks (spares_moved (spot_of hash) (is_incremental setting.mode) c blocks map.map.shows.linked (Promotes t) tt) (links_none caller w cut.w2 c chart blocks refl refl cut.outs cut.known) (inr (Promotes t, allowed, refl, λ i by. absurd by)) map_cut
       (record { tables = λ u made known. (refl, known); pairs = λ n was known. (refl, known); tables_back = λ t made known. known; pairs_back = λ n was known. known })
       (CopierTells same hash caller setting w c blocks (AloneBlocking c p at.Promotes) (standing p at.Announces, Goes)) (
         (spares_then w written cut.w2 (spares_written w (Root setting.root) (blocks.table t * 2048) (is_some_of _ _ root_here)) cut.spares, refl, told),

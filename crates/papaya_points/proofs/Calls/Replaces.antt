@@ -5,7 +5,7 @@ use Rattle.std.proofs.lemmas.Bool.{eq-eqb}
 use Rattle.seize_words.specs.declared.at.At.TheVariants.{Word}
 use Rattle.seize_words.specs.Mem.{Mem, word_at, with_word}
 use Rattle.seize.specs.Law.{Unlinked}
-use Rattle.seize.specs.World.{Making, World, InUse, Parting, Cutting, Parts, Unlinks, with_at, MayCut}
+use Rattle.seize.specs.World.{Hand, Making, World, InUse, Parting, Cutting, Parts, Unlinks, with_at, MayCut}
 use Rattle.papaya_tables.specs.Chunks.{is_incremental}
 use Rattle.papaya_raw.specs.CallPoints.{going, changed}
 use Rattle.papaya_tables.specs.Trials.{place_tried}
@@ -49,9 +49,9 @@ use Rattle.papaya_rule.proofs.World.Hands.{hand_kept, in_use_apart}
 use Rattle.papaya_points.proofs.Steps.StandsOut.{replaced_has_left, replaced_stands}
 use Rattle.papaya_points.proofs.Disposals.DisposesBegin.{dispose_begins}
 use Rattle.papaya_points.proofs.Calls.Makes.{by_end}
-use Rattle.papaya_points.proofs.Calls.Stores.{own_asked, own_large, own_word_is, own_shown, same_blocks, own_hands}
+use Rattle.papaya_points.proofs.Calls.Stores.{own_asked, own_large, own_word_is, own_shown, same_blocks, own_comes_out, own_hands}
 use Rattle.papaya_points.proofs.Calls.Removes.{stands_still, is_pair}
-use Rattle.papaya_rule.proofs.Words.LinksOwn.{outs_handed}
+use Rattle.papaya_rule.proofs.Words.LinksOwn.{OutsAreKnown, outs_handed, known_with}
 use Rattle.papaya_rule.proofs.World.OthersSpared.{keeps_then, keeps_handed, used_not_held, own_not_held}
 
 module _ {K V Q : Type 0} (same : K → K → Bool) (hash : K → ℕ) (asks : Q → K → Bool) (caller : ℕ) (setting : Setting) (keys : K → Bool)
@@ -187,6 +187,12 @@ module _ {K V Q : Type 0} (same : K → K → Bool) (hash : K → ℕ) (asks : Q
         ap w.hand (ap (λ (q : ℕ). cond (eqb q c.stored) own.block (blocks.pair q)) (let e : x ≡ c.stored = omega (arith, l, m) in e) ∙ ap (λ q. cond q own.block (blocks.pair c.stored)) (eq-eqb c.stored c.stored refl))
         ∙ own.hand
 
+    -- nothing comes out but the two pairs
+    come_out : (new : Hand) → OutsAreKnown caller w.hand (with_at (with_at w.hand own.block (InUse setting.counter)) (blocks2.pair n) new) c2 blocks2
+    come_out new =
+        known_with caller w.hand c2 blocks2 (with_at w.hand own.block (InUse setting.counter)) (blocks2.pair n) new (λ mine out. inr (n, left.0, known_still, refl))
+        (own_comes_out same hash asks caller setting keys lawful fits w c blocks map p s t j trial none root own spot)
+
     by_older : (q : Bool) → cond bit borrowed false ≡ q → CallWent same hash asks caller setting keys w c blocks map change p f m2 end
     by_older true e =
         went_changed same hash asks caller setting keys lawful fits w c blocks map p s t j trial word p.own found is m2 after_is
@@ -196,7 +202,7 @@ module _ {K V Q : Type 0} (same : K → K → Bool) (hash : K → ℕ) (asks : Q
         (keeps_handed i m (with_at w.hand own.block (InUse setting.counter)) (blocks2.pair n) (Parting caller) (used_not_held i (with_at w.hand own.block (InUse setting.counter) (blocks2.pair n)) used)))
         (λ x value is out. outs_handed w.memory (with_at w.hand own.block (InUse setting.counter)) (blocks2.pair n) (Parting caller) tt x value is (outs_handed w.memory w.hand own.block (InUse setting.counter) tt x value is out))
         (Links caller own.block setting.counter ∷ Parts caller (blocks2.pair n) ∷ []) (tt, (tt, tt)) ((inl (own.hand, λ shards. (let there = own.there in cc (there, shards))), refl), (inr (inr (n, was, known, block_is)), tt)) (_, ((caller, own.hand), refl), (_, ((setting.counter, used), refl), refl))
-        (Replaces t spot own.key) ((λ i by. absurd by), trial.table.known) allowed refl blocks2 new_made shown map.map.later
+        (Replaces t spot own.key) ((λ i by. absurd by), trial.table.known) allowed refl blocks2 new_made (come_out (Parting caller)) shown map.map.later
         (let h = hands_parting same hash setting (record w { hand = with_at w.hand own.block (InUse setting.counter); log = Linked own.block setting.counter ∷ w.log }) c2 blocks2
         (moves_keep same (spot_of hash) bit lawful (Replaces t spot own.key) c map.map.rule allowed).0 shown caller n left.0 known_still left.2 used hands in
         record { tables = h.tables; pairs = h.pairs; named = h.named; tables_out = h.tables_out; pairs_out = h.pairs_out })
@@ -214,7 +220,7 @@ module _ {K V Q : Type 0} (same : K → K → Bool) (hash : K → ℕ) (asks : Q
         (keeps_handed i m (with_at w.hand own.block (InUse setting.counter)) (blocks2.pair n) (Cutting caller) (used_not_held i (with_at w.hand own.block (InUse setting.counter) (blocks2.pair n)) used)))
         (λ x value is out. outs_handed w.memory (with_at w.hand own.block (InUse setting.counter)) (blocks2.pair n) (Cutting caller) tt x value is (outs_handed w.memory w.hand own.block (InUse setting.counter) tt x value is out))
         (Links caller own.block setting.counter ∷ Unlinks caller (blocks2.pair n) ∷ []) (tt, (tt, tt)) ((inl (own.hand, λ shards. (let there = own.there in cc (there, shards))), refl), (inr (inr (n, was, known, block_is)), tt)) (_, ((caller, own.hand), refl), (_, (subst (MayCut caller) (sym used) tt, refl), refl))
-        (Replaces t spot own.key) ((λ i by. absurd by), trial.table.known) allowed refl blocks2 new_made shown map.map.later
+        (Replaces t spot own.key) ((λ i by. absurd by), trial.table.known) allowed refl blocks2 new_made (come_out (Cutting caller)) shown map.map.later
         (let h = hands_left same hash setting (record w { hand = with_at w.hand own.block (InUse setting.counter); log = Linked own.block setting.counter ∷ w.log }) c2 blocks2
         (moves_keep same (spot_of hash) bit lawful (Replaces t spot own.key) c map.map.rule allowed).0 shown caller n left.0 known_still left.2 nowhere hands in
         record { tables = h.tables; pairs = h.pairs; named = h.named; tables_out = h.tables_out; pairs_out = h.pairs_out })

@@ -22,7 +22,7 @@ use Rattle.papaya_rule.specs.Rule.{IsLawful, Rule}
 use Rattle.papaya_rule.specs.Moves.{Stores, MayChange, Allowed, with_pair, without}
 use Rattle.papaya_rule.specs.Words.{Blocks, place_word, Shows}
 use Rattle.papaya_rule.specs.Maps.{spot_at, spot_of, IsTrial, NoneBefore}
-use Rattle.papaya_rule.specs.InWorld.{IsMapIn, SameBlocks}
+use Rattle.papaya_rule.specs.InWorld.{IsKnownBlock, IsMapIn, SameBlocks}
 use Rattle.papaya_points.specs.FactsCalls.{Change, Unchanged, Stored, IsOwnPair, CallFacts}
 use Rattle.papaya_points.specs.Told.{CallTold}
 use Rattle.papaya_rule.proofs.World.Hands.{Hands, hands_of, hands_linked, own_outside}
@@ -34,7 +34,7 @@ use Rattle.papaya_points.proofs.Calls.CallsOn.{Seeking}
 use Rattle.papaya_points.proofs.Calls.CallsFound.{inside}
 use Rattle.papaya_points.proofs.Calls.Makes.{CallWent, by_end}
 use Rattle.papaya_points.proofs.Calls.Tries.{went_changed}
-use Rattle.papaya_rule.proofs.Words.LinksOwn.{outs_handed}
+use Rattle.papaya_rule.proofs.Words.LinksOwn.{OutsAreKnown, outs_handed, known_same, known_with}
 use Rattle.papaya_rule.proofs.World.OthersSpared.{keeps_handed, own_not_held}
 
 -- the word of a block by a hash
@@ -99,6 +99,21 @@ module _ {K V Q : Type 0} (same : K → K → Bool) (hash : K → ℕ) (asks : Q
       pairs_back = λ n was known. sym (ap (λ q. cond q true (blocks.pair_known n)) (ne_eqb n c.stored (omega arith))) ∙ known;
     }
 
+    -- it alone comes out, as a pair of the map
+    own_known : IsKnownBlock (with_pair (spot_of hash) (is_incremental setting.mode) c t i own.key) (with_pair_block blocks c.stored own.block) own.block
+    own_known = inr (
+      c.stored,
+      omega arith,
+      ap (λ q. cond q true (blocks.pair_known c.stored)) (eq-eqb c.stored c.stored refl),
+      sym (ap (λ q. cond q own.block (blocks.pair c.stored)) (eq-eqb c.stored c.stored refl)),
+    )
+
+    pub own_comes_out : OutsAreKnown caller w.hand (with_at w.hand own.block (InUse setting.counter)) (with_pair (spot_of hash) (is_incremental setting.mode) c t i own.key)
+        (with_pair_block blocks c.stored own.block)
+    own_comes_out =
+        known_with caller w.hand (with_pair (spot_of hash) (is_incremental setting.mode) c t i own.key) (with_pair_block blocks c.stored own.block) w.hand own.block (InUse setting.counter)
+        (λ mine out. own_known) (known_same caller w.hand (with_pair (spot_of hash) (is_incremental setting.mode) c t i own.key) (with_pair_block blocks c.stored own.block))
+
     -- its block is linked, and its pair stored
     pub own_hands : Hands same hash setting (record w { hand = with_at w.hand own.block (InUse setting.counter); log = Linked own.block setting.counter ∷ w.log })
         (with_pair (spot_of hash) (is_incremental setting.mode) c t i own.key) (with_pair_block blocks c.stored own.block)
@@ -140,6 +155,7 @@ module _ {K V Q : Type 0} (same : K → K → Bool) (hash : K → ℕ) (asks : Q
         (λ m i other. keeps_handed i m w.hand own.block (InUse setting.counter) (own_not_held caller i (w.hand own.block) other own.hand)) (outs_handed w.memory w.hand own.block (InUse setting.counter) tt) (Links caller own.block setting.counter ∷ []) (tt, tt) ((inl (own.hand, λ shards. (let there = own.there in cc (there, shards))), refl), tt) (_, ((caller, own.hand), refl), refl)
         (Stores t own.key j) ((λ i by. absurd by), trial.table.known) allowed refl (with_pair_block blocks c.stored own.block)
         (λ x l m. ap w.hand (ap (λ (q : ℕ). cond (eqb q c.stored) own.block (blocks.pair q)) (let e : x ≡ c.stored = omega (arith, l, m) in e) ∙ ap (λ q. cond q own.block (blocks.pair c.stored)) (eq-eqb c.stored c.stored refl)) ∙ own.hand)
+        (own_comes_out (spot_of hash (c.len t) own.key j))
         (subst (λ (x : ℕ). Shows hash (with_word w.memory (Word (blocks.table t) (spot_at (c.len t) p.hash j + PLACES)) p.own)
         (with_pair (spot_of hash) (is_incremental setting.mode) c t x own.key) (with_pair_block blocks c.stored own.block) setting.root) (sym spot_is)
         (own_shown (spot_at (c.len t) p.hash j) (inside same hash asks caller setting keys lawful fits w c blocks map p s t j trial none root)))

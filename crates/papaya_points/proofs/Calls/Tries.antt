@@ -24,7 +24,7 @@ use Rattle.papaya_rule.specs.Maps.{spot_at, spot_of, IsTrial}
 use Rattle.papaya_rule.specs.InWorld.{IsMapIn, AllUsers, AllIts, SameBlocks, Went, KeepsBlocks}
 use Rattle.papaya_rule.proofs.Words.TablesSeen.{place_stands}
 use Rattle.papaya_rule.proofs.World.Hands.{Hands}
-use Rattle.papaya_rule.proofs.Words.LinksOwn.{OutsStay}
+use Rattle.papaya_rule.proofs.Words.LinksOwn.{OutsStay, OutsAreKnown}
 use Rattle.papaya_rule.proofs.World.MovesKnown.{IsItsMove}
 use Rattle.papaya_rule.proofs.World.WentWrote.{IsLater}
 use Rattle.papaya_points.proofs.Calls.CallsOn.{Seeking}
@@ -67,6 +67,7 @@ module _ {K V Q : Type 0} (same : K → K → Bool) (hash : K → ℕ) (asks : Q
       (record w { memory = with_word w.memory (place_tried p.trial) new; hand = hand; log = log })
       → (move : Move K) → IsItsMove caller blocks move → Allowed same (spot_of hash) (is_incremental setting.mode) move c → (after (spot_of hash) (is_incremental setting.mode) move c).past ≡ c.past → (blocks2 : Blocks)
       → ((n : ℕ) → c.stored ≤ n → n < (after (spot_of hash) (is_incremental setting.mode) move c).stored → w.hand (blocks2.pair n) ≡ Making caller)
+      → OutsAreKnown caller w.hand hand (after (spot_of hash) (is_incremental setting.mode) move c) blocks2
       → Shows hash (with_word w.memory (Word (blocks.table t) (spot_at (c.len t) p.hash j + PLACES)) new) (after (spot_of hash) (is_incremental setting.mode) move c) blocks2 setting.root
       → IsLater (after (spot_of hash) (is_incremental setting.mode) move c) blocks2
       → Hands same hash setting (record w { hand = hand; log = log }) (after (spot_of hash) (is_incremental setting.mode) move c) blocks2

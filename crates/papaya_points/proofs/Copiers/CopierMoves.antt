@@ -26,7 +26,7 @@ use Rattle.papaya_points.proofs.Copiers.CopierWent.{CopierTells, CopierCame}
 use Rattle.papaya_rule.proofs.World.Hands.{Hands}
 use Rattle.papaya_rule.proofs.World.WentStill.{spares_same, spares_written}
 use Rattle.std.proofs.lemmas.Bool.{cases_eq}
-use Rattle.papaya_rule.proofs.Words.LinksOwn.{outs_same, links_none, none_stored}
+use Rattle.papaya_rule.proofs.Words.LinksOwn.{outs_same, known_same, links_none, none_stored}
 use Rattle.papaya_rule.proofs.World.MovesKnown.{IsOfKnown, spares_moved}
 use Rattle.papaya_rule.proofs.World.OthersSpared.{keeps_same}
 use Rattle.papaya_rule.proofs.World.Footprints.{MayWriteBy, framed_same}
@@ -88,7 +88,8 @@ module _ {K V : Type 0} (same : K → K → Bool) (hash : K → ℕ) (caller : �
           runs = refl;
           memory = sym is;
           links = links_none caller w w c (chart_of (is_incremental setting.mode)) blocks (subst (λ (b : Bool). (chart_of b).past ≡ c.past) (sym blocking) past)
-              (none_stored same (spot_of hash) (is_incremental setting.mode) c map.map.rule.common move (subst (λ (b : Bool). (chart_of b).current ≡ c.current) (sym blocking) current)) (outs_same w.memory w.hand);
+              (none_stored same (spot_of hash) (is_incremental setting.mode) c map.map.rule.common move (subst (λ (b : Bool). (chart_of b).current ≡ c.current) (sym blocking) current)) (outs_same w.memory w.hand)
+              (known_same caller w.hand (chart_of (is_incremental setting.mode)) blocks);
           tables = spares_moved (spot_of hash) (is_incremental setting.mode) c blocks map.map.shows.linked move known;
           frame = subst (IsFramed setting caller w c blocks) (sym is) (framed_same setting caller w c blocks);
           spares = λ j other. keeps_same j w.memory w.hand;

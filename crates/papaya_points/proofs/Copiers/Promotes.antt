@@ -33,7 +33,7 @@ use Rattle.papaya_rule.proofs.World.Hands.{Hands, hands_of, hands_kept, hands_un
 use Rattle.papaya_rule.proofs.Words.TablesSeen.{pair_apart}
 use Rattle.papaya_rule.proofs.Moves.Totals.{total_none}
 use Rattle.papaya_rule.proofs.World.Footprints.{framed_written}
-use Rattle.papaya_rule.proofs.Words.LinksOwn.{outs_handed, links_none}
+use Rattle.papaya_rule.proofs.Words.LinksOwn.{outs_handed, known_same, known_with, links_none}
 use Rattle.papaya_rule.proofs.World.MovesKnown.{spares_moved}
 use Rattle.papaya_rule.proofs.World.OthersSpared.{keeps_changed, used_not_held}
 use Rattle.papaya_rule.proofs.World.WentStill.{spares_then, spares_written, spares_hand}
@@ -139,7 +139,8 @@ module _ {K V : Type 0} (same : K → K → Bool) (hash : K → ℕ) (setting : 
           (framed_written setting caller w c blocks (Root setting.root) (blocks.table (suc c.first) * 2048) some refl)
           (λ j other. keeps_changed caller w j other (Root setting.root) (blocks.table (suc c.first) * 2048) some tt block (Cutting caller) (used_not_held j (w.hand block) in_use)) chart blocks
           (spares_moved (spot_of hash) (is_incremental setting.mode) c blocks map.map.shows.linked (Promotes (suc c.first)) tt)
-          (links_none caller w unlinked c chart blocks refl refl (outs_handed w.memory w.hand block (Cutting caller) tt))
+          (links_none caller w unlinked c chart blocks refl refl (outs_handed w.memory w.hand block (Cutting caller) tt)
+          (known_with caller w.hand chart blocks w.hand block (Cutting caller) (λ own out. inl (c.first, source.made, source.known, refl)) (known_same caller w.hand chart blocks)))
           (inr (Promotes (suc c.first), allowed, refl, λ i by. absurd by))
           (map_then lawful)
           (record { tables = λ t made known. (refl, known); pairs = λ n was known. (refl, known); tables_back = λ t made known. known; pairs_back = λ n was known. known })

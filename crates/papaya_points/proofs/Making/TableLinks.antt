@@ -38,7 +38,7 @@ use Rattle.papaya_rule.specs.Links.{LeadsTo}
 use Rattle.papaya_rule.proofs.Words.LinksSeen.{root_leads, next_leads}
 use Rattle.papaya_rule.proofs.Words.TablesSeen.{word_stands}
 use Rattle.papaya_rule.proofs.World.Footprints.{framed_written, aside_of}
-use Rattle.papaya_rule.proofs.Words.LinksOwn.{outs_handed}
+use Rattle.papaya_rule.proofs.Words.LinksOwn.{outs_handed, known_same, known_with}
 use Rattle.papaya_rule.proofs.Moves.Writes.{put_here}
 use Rattle.papaya_rule.proofs.World.MovesKnown.{spares_moved}
 use Rattle.papaya_rule.proofs.World.OthersSpared.{keeps_changed, own_not_held}
@@ -239,6 +239,8 @@ module _ {K V : Type 0} (same : K → K → Bool) (hash : K → ℕ) (w : World 
           tables = λ t l m. ap w.hand (ap (put blocks.table c.past own.block) (let e : t ≡ c.past = omega (arith, l, m) in e) ∙ put_here blocks.table c.past own.block) ∙ own.hand;
           pairs = λ x l m. absurd (omega (arith, l, m));
           outs = outs_handed w.memory w.hand own.block (InUse setting.counter) tt;
+          known = known_with caller w.hand c2 blocks2 w.hand own.block (InUse setting.counter)
+              (λ mine out. inl (c.past, omega arith, put_here blocks.table_known c.past true, sym (put_here blocks.table c.past own.block))) (known_same caller w.hand c2 blocks2);
         })
         (inr (Links table.len table.limit, allowed, refl, λ i by. absurd by)) linked_in
         (same_blocks_linked c blocks own.block)

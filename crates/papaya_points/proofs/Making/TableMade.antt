@@ -39,7 +39,7 @@ use Rattle.papaya_rule.proofs.World.Framed.{shows_framed}
 use Rattle.papaya_rule.proofs.World.FramedSteps.{frames_written}
 use Rattle.papaya_rule.proofs.World.Hands.{Hands, hands_of, own_outside}
 use Rattle.papaya_rule.proofs.World.Footprints.{framed_written}
-use Rattle.papaya_rule.proofs.Words.LinksOwn.{outs_same, links_none}
+use Rattle.papaya_rule.proofs.Words.LinksOwn.{outs_same, known_same, links_none}
 use Rattle.papaya_rule.proofs.World.MovesKnown.{tables_same}
 use Rattle.papaya_rule.proofs.World.OthersSpared.{own_aside, keeps_written}
 use Rattle.papaya_rule.proofs.World.WentStill.{went_still, spares_same, spares_written, spares_made}
@@ -165,7 +165,8 @@ module _ {K V : Type 0} (same : K → K → Bool) (hash : K → ℕ) (w : World 
             [] tt tt promoted refl refl
             (framed_written setting caller w c blocks (Word own.block STATUS) PROMOTED (is_some_of _ _ own.status_is) (inr (inl (own.hand, λ shards. (let value = own.value in cc (value, shards))))))
             (λ j other. keeps_written caller w j other (Word own.block STATUS) PROMOTED (is_some_of _ _ own.status_is) (own_aside caller w own.block STATUS own.hand))
-            c blocks (tables_same c blocks) (links_none caller w promoted c c blocks refl refl (outs_same w.memory w.hand)) (inl refl) promoted_in
+            c blocks (tables_same c blocks) (links_none caller w promoted c c blocks refl refl (outs_same w.memory w.hand)
+            (known_same caller w.hand c blocks)) (inl refl) promoted_in
             (record { tables = λ t made known. (refl, known); pairs = λ p was known. (refl, known); tables_back = λ t made known. known; pairs_back = λ n was known. known })
             (NewTableTells end) (
               spares_written w (Word own.block STATUS) PROMOTED (is_some_of _ _ own.status_is),

@@ -18,7 +18,7 @@ use Rattle.papaya_rule.proofs.World.Framed.{shows_framed}
 use Rattle.papaya_rule.proofs.World.FramedSteps.{IsBeside, frames_written}
 use Rattle.papaya_rule.proofs.World.Hands.{hands_of}
 use Rattle.papaya_rule.proofs.World.Footprints.{framed_written, aside_of}
-use Rattle.papaya_rule.proofs.Words.LinksOwn.{outs_same, links_none}
+use Rattle.papaya_rule.proofs.Words.LinksOwn.{outs_same, known_same, links_none}
 use Rattle.papaya_rule.proofs.Words.WritesWords.{is_some_of}
 use Rattle.papaya_rule.proofs.World.MovesKnown.{tables_same}
 use Rattle.papaya_rule.proofs.World.OthersSpared.{keeps_written}
@@ -68,7 +68,8 @@ module _ {K V : Type 0} (same : K → K → Bool) (hash : K → ℕ) (caller : �
       (framed_written setting caller w c blocks (Word own.counter (bit_and own.slot own.mask)) ((found + change) % 2 ^ 64) shard_some shard_mine)
       (λ j other. keeps_written caller w j other (Word own.counter (bit_and own.slot own.mask)) ((found + change) % 2 ^ 64) shard_some
       (aside_of same hash setting caller w c blocks map (Word own.counter (bit_and own.slot own.mask)) shard_mine)) c blocks (tables_same c blocks)
-      (links_none caller w (record w { memory = with_word w.memory (Word own.counter (bit_and own.slot own.mask)) ((found + change) % 2 ^ 64) }) c c blocks refl refl (outs_same w.memory w.hand)) (inl refl)
+      (links_none caller w (record w { memory = with_word w.memory (Word own.counter (bit_and own.slot own.mask)) ((found + change) % 2 ^ 64) }) c c blocks refl refl (outs_same w.memory w.hand)
+      (known_same caller w.hand c blocks)) (inl refl)
       (counted_in ((found + change) % 2 ^ 64))
       (record { tables = λ u made seen. (refl, seen); pairs = λ o made seen. (refl, seen); tables_back = λ t made known. known; pairs_back = λ n was known. known })
       Told (told (with_word w.memory (Word own.counter (bit_and own.slot own.mask)) ((found + change) % 2 ^ 64))))

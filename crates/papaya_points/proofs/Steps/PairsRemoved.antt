@@ -5,7 +5,7 @@ use Rattle.seize_words.specs.declared.at.At.{At}
 use Rattle.seize_words.specs.declared.at.At.TheVariants.{Word}
 use Rattle.seize_words.specs.Mem.{Mem, word_at, with_word}
 use Rattle.seize.specs.Law.{Unlinked}
-use Rattle.seize.specs.World.{World, InUse, Parting, Cutting, Parts, Unlinks, with_at, MayCut}
+use Rattle.seize.specs.World.{World, Hand, InUse, Parting, Cutting, Parts, Unlinks, with_at, MayCut}
 use Rattle.papaya_tables.specs.Chunks.{is_incremental}
 use Rattle.papaya_tables.specs.declared.marks.TheConstants.{TOMBSTONE}
 use Rattle.papaya_tables.specs.declared.node.Node.{Node}
@@ -21,7 +21,7 @@ use Rattle.papaya_rule.specs.InWorld.{IsMapIn, Went}
 use Rattle.papaya_rule.proofs.Words.PlaceWordsRead.{word-same_pair}
 use Rattle.papaya_rule.proofs.Words.PlacesShown.{byte_of-few, shown_byte, shown_apart, are_stored}
 use Rattle.papaya_rule.proofs.Words.WritesPlaces.{place_written}
-use Rattle.papaya_rule.proofs.Words.LinksOwn.{outs_handed}
+use Rattle.papaya_rule.proofs.Words.LinksOwn.{OutsAreKnown, outs_handed, known_same, known_with}
 use Rattle.papaya_rule.proofs.World.Framed.{shows_beside}
 use Rattle.papaya_rule.proofs.World.Hands.{Hands, hands_of}
 use Rattle.papaya_rule.proofs.World.HandsStored.{hands_tombstone, hands_left, hands_parting}
@@ -87,6 +87,10 @@ module _ {K V : Type 0} (same : K → K → Bool) (hash : K → ℕ) (caller : �
     stands_out : cond (cond bit borrowed false) Older Nowhere
     stands_out = tombstone_stands same (spot_of hash) w caller setting blocks lawful c t i n k bit map.map.rule borrowed stands of_key may
 
+    -- nothing comes out but the pair
+    come_out : (new : Hand) → OutsAreKnown caller w.hand (with_at w.hand (blocks.pair n) new) c2 blocks
+    come_out new = known_with caller w.hand c2 blocks w.hand (blocks.pair n) new (λ own out. inr (n, was, known, refl)) (known_same caller w.hand c2 blocks)
+
     -- The tombstone was written. What is so wherever the pair was taken out is so of where that led.
     module _ (word found : ℕ) (is : (word_at w.memory at ≡ Some found) × (found ≡ word)) (m2 : Mem (Node K V)) (after_is : m2 ≡ with_word w.memory at TOMBSTONE)
         (Told : World (Node K V) → Chart K → Blocks → Type 0)
@@ -98,7 +102,7 @@ module _ {K V : Type 0} (same : K → K → Bool) (hash : K → ℕ) (caller : �
           (with_at w.hand (blocks.pair n) (Parting caller)) w.log
           (λ m j other. keeps_handed j m w.hand (blocks.pair n) (Parting caller) (used_not_held j (w.hand (blocks.pair n)) pair_used)) (outs_handed w.memory w.hand (blocks.pair n) (Parting caller) tt)
           (Parts caller (blocks.pair n) ∷ []) (tt, tt) (inr (inr (n, was, known, refl)), tt) (_, ((setting.counter, pair_used), refl), refl)
-          (Removes t i) ((λ j by. absurd by), seen) allowed refl blocks (λ x l m. absurd (omega (arith, l, m))) shown map.map.later
+          (Removes t i) ((λ j by. absurd by), seen) allowed refl blocks (λ x l m. absurd (omega (arith, l, m))) (come_out (Parting caller)) shown map.map.later
           (let h = hands_parting same hash setting w c2 blocks (moves_keep same (spot_of hash) bit lawful (Removes t i) c map.map.rule allowed).0 shown caller n was known left.2 pair_used hands in
           record { tables = h.tables; pairs = h.pairs; named = h.named; tables_out = h.tables_out; pairs_out = h.pairs_out })
           (record { tables = λ u made seen. (refl, seen); pairs = λ o made seen. (refl, seen); tables_back = λ t made known. known; pairs_back = λ n was known. known })
@@ -112,7 +116,7 @@ module _ {K V : Type 0} (same : K → K → Bool) (hash : K → ℕ) (caller : �
           (with_at w.hand (blocks.pair n) (Cutting caller)) (Unlinked (blocks.pair n) ∷ w.log)
           (λ m j other. keeps_handed j m w.hand (blocks.pair n) (Cutting caller) (used_not_held j (w.hand (blocks.pair n)) pair_used)) (outs_handed w.memory w.hand (blocks.pair n) (Cutting caller) tt)
           (Unlinks caller (blocks.pair n) ∷ []) (tt, tt) (inr (inr (n, was, known, refl)), tt) (_, (subst (MayCut caller) (sym pair_used) tt, refl), refl)
-          (Removes t i) ((λ j by. absurd by), seen) allowed refl blocks (λ x l m. absurd (omega (arith, l, m))) shown map.map.later
+          (Removes t i) ((λ j by. absurd by), seen) allowed refl blocks (λ x l m. absurd (omega (arith, l, m))) (come_out (Cutting caller)) shown map.map.later
           (let h = hands_left same hash setting w c2 blocks (moves_keep same (spot_of hash) bit lawful (Removes t i) c map.map.rule allowed).0 shown caller n was known left.2 nowhere hands in
           record { tables = h.tables; pairs = h.pairs; named = h.named; tables_out = h.tables_out; pairs_out = h.pairs_out })
           (record { tables = λ u made seen. (refl, seen); pairs = λ o made seen. (refl, seen); tables_back = λ t made known. known; pairs_back = λ n was known. known })

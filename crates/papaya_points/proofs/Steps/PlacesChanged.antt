@@ -21,7 +21,7 @@ use Rattle.papaya_rule.specs.InWorld.{InFootprint, IsMapIn, AllUsers, AllIts, Sa
 use Rattle.papaya_rule.proofs.Words.WritesWords.{is_some_of}
 use Rattle.papaya_rule.proofs.World.Hands.{Hands}
 use Rattle.papaya_rule.proofs.World.Footprints.{framed_written, aside_of}
-use Rattle.papaya_rule.proofs.Words.LinksOwn.{OutsStay}
+use Rattle.papaya_rule.proofs.Words.LinksOwn.{OutsStay, OutsAreKnown}
 use Rattle.papaya_rule.proofs.World.MovesKnown.{IsItsMove, spares_moved}
 use Rattle.papaya_rule.proofs.World.OthersSpared.{keeps_then, keeps_written}
 use Rattle.papaya_rule.proofs.World.WentWrote.{IsLater, counter_of, counter_written, map_in, map_moved, went_after, own_word}
@@ -54,13 +54,14 @@ module _ {K V : Type 0} (same : K → K → Bool) (hash : K → ℕ) (caller : �
       (record w { memory = with_word w.memory at new; hand = hand; log = log })
       → (move : Move K) → IsItsMove caller blocks move → Allowed same (spot_of hash) (is_incremental setting.mode) move c → (after (spot_of hash) (is_incremental setting.mode) move c).past ≡ c.past → (blocks2 : Blocks)
       → ((n : ℕ) → c.stored ≤ n → n < (after (spot_of hash) (is_incremental setting.mode) move c).stored → w.hand (blocks2.pair n) ≡ Making caller)
+      → OutsAreKnown caller w.hand hand (after (spot_of hash) (is_incremental setting.mode) move c) blocks2
       → Shows hash (with_word w.memory (Word (blocks.table t) (i + PLACES)) new) (after (spot_of hash) (is_incremental setting.mode) move c) blocks2 setting.root
       → IsLater (after (spot_of hash) (is_incremental setting.mode) move c) blocks2
       → Hands same hash setting (record w { hand = hand; log = log }) (after (spot_of hash) (is_incremental setting.mode) move c) blocks2
       → SameBlocks c blocks blocks2 → (Told : World (Node K V) → Chart K → Blocks → Type 0)
       → Told (record w { memory = with_word w.memory at new; hand = hand; log = log }) (after (spot_of hash) (is_incremental setting.mode) move c) blocks2
       → Went same hash setting caller w c blocks m2 Told
-  went_changed lawful word new found is m2 after_is hand log others outs events users its runs move by allowed past blocks2 fresh shows later hands same_blocks Told told =
+  went_changed lawful word new found is m2 after_is hand log others outs events users its runs move by allowed past blocks2 fresh come_out shows later hands same_blocks Told told =
       subst (λ (n : Mem (Node K V)). Went same hash setting caller w c blocks n Told) (sym after_is)
       (went_after same hash setting caller w c blocks map (Exchange at word new) (Exchanged (Ok found)) word_own
       (with_word w.memory at new) (is, refl) events users its
@@ -68,7 +69,7 @@ module _ {K V : Type 0} (same : K → K → Bool) (hash : K → ℕ) (caller : �
       (λ i other. keeps_then i w.memory (with_word w.memory at new) (with_word w.memory at new) w.hand w.hand hand
       (keeps_written caller w i other at new word_some (aside_of same hash setting caller w c blocks map at word_mine)) (others (with_word w.memory at new) i other))
       (after (spot_of hash) (is_incremental setting.mode) move c) blocks2 (spares_moved (spot_of hash) (is_incremental setting.mode) c blocks map.map.shows.linked move by.1)
-      (record { tables = λ t l m. absurd (omega (arith, l, m, past)); pairs = fresh; outs = outs }) (inr (move, allowed, refl, by.0)) map2 same_blocks Told told)
+      (record { tables = λ t l m. absurd (omega (arith, l, m, past)); pairs = fresh; outs = outs; known = come_out }) (inr (move, allowed, refl, by.0)) map2 same_blocks Told told)
     where
       map2 : IsMapIn same hash setting (record w { memory = with_word w.memory at new; hand = hand; log = log }) (after (spot_of hash) (is_incremental setting.mode) move c) blocks2
       map2 =

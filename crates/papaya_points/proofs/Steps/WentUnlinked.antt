@@ -15,7 +15,7 @@ use Rattle.papaya_rule.proofs.Words.TablesSeen.{pair_apart}
 use Rattle.papaya_rule.proofs.World.WentStill.{spares_hand}
 use Rattle.papaya_rule.proofs.World.WentWrote.{counter_of, map_in}
 use Rattle.papaya_rule.proofs.World.Footprints.{framed_same}
-use Rattle.papaya_rule.proofs.Words.LinksOwn.{outs_handed, links_none}
+use Rattle.papaya_rule.proofs.Words.LinksOwn.{outs_handed, known_same, known_with, links_none}
 use Rattle.papaya_rule.proofs.World.MovesKnown.{tables_same}
 use Rattle.papaya_rule.proofs.World.OthersSpared.{keeps_handed}
 
@@ -37,7 +37,8 @@ module _ {K V : Type 0} (same : K → K → Bool) (hash : K → ℕ) (setting : 
     runs = (w2, (subst (MayCut caller) (sym parting) refl, refl), refl);
     memory = sym is;
     tables = tables_same c blocks;
-    links = links_none caller w w2 c c blocks refl refl (outs_handed w.memory w.hand b (Cutting caller) tt);
+    links = links_none caller w w2 c c blocks refl refl (outs_handed w.memory w.hand b (Cutting caller) tt)
+        (known_with caller w.hand c blocks w.hand b (Cutting caller) (λ own out. inr (n, was, seen, refl)) (known_same caller w.hand c blocks));
     frame = subst (IsFramed setting caller w c blocks) (sym is) (framed_same setting caller w c blocks);
     spares = λ j other. keeps_handed j w.memory w.hand b (Cutting caller) (λ held. other (sym (subst (IsHeldBy j) parting held)));
     moved = inl refl;

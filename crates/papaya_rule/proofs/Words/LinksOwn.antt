@@ -9,9 +9,24 @@ use Rattle.papaya_rule.specs.Chart.{Chart, put}
 use Rattle.papaya_rule.specs.Rule.{Common}
 use Rattle.papaya_rule.specs.Moves.{Move, Links, Stores, Replaces, Removes, Marks, MarksBlocking, Skips, Unmarks, Puts, Covers, PutsLate, Claims, Reclaims, Counts, GivesUp, Aborts, Promotes, Announces, without, after}
 use Rattle.papaya_rule.specs.Words.{Blocks}
-use Rattle.papaya_rule.specs.InWorld.{IsOut, LinksItsOwn}
+use Rattle.papaya_rule.specs.InWorld.{IsOut, IsKnownBlock, LinksItsOwn}
 use Rattle.papaya_rule.proofs.Words.BlocksApart.{new_apart}
 use Rattle.papaya_rule.proofs.World.Hands.{at_cases}
+
+-- what this caller had made, and is out then, is a table or a pair of the map
+abbrev pub OutsAreKnown : {K : Type 0} → ℕ → (ℕ → Hand) → (ℕ → Hand) → Chart K → Blocks → Type 0
+OutsAreKnown caller hand hand2 c2 blocks2 = (b : ℕ) → hand b ≡ Making caller → IsOut (hand2 b) → IsKnownBlock c2 blocks2 b
+
+module _ {K : Type 0} (caller : ℕ) (hand : ℕ → Hand) (c2 : Chart K) (blocks2 : Blocks) where
+  -- none comes out
+  pub known_same : OutsAreKnown caller hand hand c2 blocks2
+  known_same b making out = absurd (subst IsOut making out)
+
+  -- one block more changes hands: where it comes out, it is such a block
+  pub known_with : (hand2 : ℕ → Hand) (b : ℕ) (new : Hand) → (hand b ≡ Making caller → IsOut new → IsKnownBlock c2 blocks2 b)
+      → OutsAreKnown caller hand hand2 c2 blocks2 → OutsAreKnown caller hand (with_at hand2 b new) c2 blocks2
+  known_with hand2 b new known outs x making =
+      at_cases (λ (h : Hand). IsOut h → IsKnownBlock c2 blocks2 x) hand2 b new x (λ e out. subst (IsKnownBlock c2 blocks2) (sym e) (known (ap hand (sym e) ∙ making) out)) (λ _ out. outs x making out)
 
 module _ {K V : Type 0} where
   abbrev pub OutsStay : Mem (Node K V) → (ℕ → Hand) → (ℕ → Hand) → Type 0
@@ -33,11 +48,13 @@ module _ {K V : Type 0} where
       at_cases IsOut hand b new x (λ e. absurd (subst IsOut own (subst (λ (y : ℕ). IsOut (hand y)) e out))) (λ _. out)
 
   -- where nothing was linked
-  pub links_none : (caller : ℕ) (w w2 : World (Node K V)) (c c2 : Chart K) (blocks2 : Blocks) → c2.past ≡ c.past → c2.stored ≡ c.stored → OutsStay w.memory w.hand w2.hand → LinksItsOwn caller w w2 c c2 blocks2
-  links_none caller w w2 c c2 blocks2 past stored outs = record {
+  pub links_none : (caller : ℕ) (w w2 : World (Node K V)) (c c2 : Chart K) (blocks2 : Blocks) → c2.past ≡ c.past → c2.stored ≡ c.stored → OutsStay w.memory w.hand w2.hand
+      → OutsAreKnown caller w.hand w2.hand c2 blocks2 → LinksItsOwn caller w w2 c c2 blocks2
+  links_none caller w w2 c c2 blocks2 past stored outs known = record {
     tables = λ t l m. absurd (omega (arith, l, m, past));
     pairs = λ n l m. absurd (omega (arith, l, m, stored));
     outs = outs;
+    known = known;
   }
 
 module _ {K : Type 0} (same : K → K → Bool) (spot : ℕ → K → ℕ → ℕ) (incremental : Bool) (c : Chart K) (rule : Common same spot incremental c) where

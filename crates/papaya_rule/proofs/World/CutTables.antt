@@ -3,7 +3,7 @@ use Rattle.std.specs.Prelude.{List, [], ◌∷◌}
 use Rattle.std.proofs.Common.{◌≡◌, ◌≢◌, ℕ, zero, suc, ◌+◌, ◌<◌, ◌≤◌, Bool, true, inl, inr, refl, ap, arith, sym, subst}
 use Rattle.std.proofs.lemmas.Bool.{cases_eq, eq-eqb}
 use Rattle.seize.specs.Law.{Unlinked}
-use Rattle.seize.specs.World.{World, InUse, Cutting, Event, Unlinks, Runs, with_hand, with_effect, MayCut}
+use Rattle.seize.specs.World.{World, Making, InUse, Cutting, Event, Unlinks, Runs, with_hand, with_effect, MayCut}
 use Rattle.papaya_tables.specs.Nodes.{deferred_word}
 use Rattle.papaya_tables.specs.declared.node.Node.{Node}
 use Rattle.papaya_tables.specs.declared.setting.Setting.{Setting}
@@ -11,10 +11,10 @@ use Rattle.papaya_rule.specs.Moves.{passing}
 use Rattle.papaya_rule.specs.Chart.{Chart}
 use Rattle.papaya_rule.specs.Words.{Blocks}
 use Rattle.papaya_rule.specs.InWorld.{AllUsers, AllIts, IsMapIn, SparesPairs, SparesOthers}
-use Rattle.papaya_rule.proofs.World.Hands.{Hands, hand_kept, current_known, hands_unlinked, named_known}
+use Rattle.papaya_rule.proofs.World.Hands.{Hands, hand_kept, in_use_apart, current_known, hands_unlinked, named_known}
 use Rattle.papaya_rule.proofs.Words.TablesSeen.{pair_apart}
 use Rattle.papaya_rule.proofs.World.WentStill.{spares_same, spares_then, spares_hand}
-use Rattle.papaya_rule.proofs.Words.LinksOwn.{OutsStay, outs_same, outs_handed}
+use Rattle.papaya_rule.proofs.Words.LinksOwn.{OutsStay, OutsAreKnown, outs_same, outs_handed, known_same}
 use Rattle.papaya_rule.proofs.World.OthersSpared.{keeps_same, keeps_then, keeps_handed, used_not_held}
 
 -- the tables from s on are unlinked, up to t, which is then the root
@@ -37,6 +37,7 @@ module _ {K V : Type 0} (same : K → K → Bool) (hash : K → ℕ) (caller : �
     pub spares : SparesPairs v w2
     pub others : SparesOthers caller v w2
     pub outs : OutsStay w.memory v.hand w2.hand
+    pub known : OutsAreKnown caller v.hand w2.hand root_at blocks
     pub cut : (x : ℕ) → c.first ≤ x → x < t → w2.hand (blocks.table x) ≡ Cutting caller
 
   -- tables have blocks of their own
@@ -81,6 +82,7 @@ module _ {K V : Type 0} (same : K → K → Bool) (hash : K → ℕ) (caller : �
       hands = rest.hands;
       spares = spares_then v (cut_at v u) rest.w2 spares_cut rest.spares;
       outs = λ b value is out. rest.outs b value is (outs_handed w.memory v.hand (blocks.table u) (Cutting caller) tt b value is out);
+      known = λ b own. rest.known b (hand_kept v.hand (blocks.table u) (Cutting caller) (Making caller) b (λ e. in_use_apart v.hand (blocks.table u) b caller own in_use (sym e)) own);
       others = λ j other. keeps_then j v.memory v.memory rest.w2.memory v.hand (cut_at v u).hand rest.w2.hand
           (keeps_handed j v.memory v.hand (blocks.table u) (Cutting caller) (used_not_held j (v.hand (blocks.table u)) in_use)) (rest.others j other);
       cut = rest.cut;
@@ -99,6 +101,7 @@ module _ {K V : Type 0} (same : K → K → Bool) (hash : K → ℕ) (caller : �
     spares = spares_same v;
     others = λ j other. keeps_same j v.memory v.hand;
     outs = outs_same w.memory v.hand;
+    known = known_same caller v.hand root_at blocks;
     cut = λ x low m. cut x low (omega (arith, m, sum));
   }
   cut_tables (suc m) u v sum l hands used cut =

@@ -21,7 +21,7 @@ use Rattle.papaya_rule.proofs.World.FramedSteps.{IsOutside, frames_made, frames_
 use Rattle.papaya_rule.proofs.World.Hands.{hands_of, hands_beside, own_outside}
 use Rattle.papaya_rule.proofs.World.WentWrote.{counter_of, counter_stays, map_in}
 use Rattle.papaya_rule.proofs.World.Footprints.{framed_made, framed_dropped}
-use Rattle.papaya_rule.proofs.Words.LinksOwn.{outs_made, outs_dropped, links_none}
+use Rattle.papaya_rule.proofs.Words.LinksOwn.{outs_made, outs_dropped, known_same, known_with, links_none}
 use Rattle.papaya_rule.proofs.World.MovesKnown.{tables_same}
 use Rattle.papaya_rule.proofs.World.OthersSpared.{keeps_made, keeps_dropped}
 use Rattle.papaya_rule.proofs.World.CounterSpared.{counter_apart, counter_made_apart}
@@ -66,7 +66,8 @@ module _ {K V : Type 0} (same : K → K → Bool) (hash : K → ℕ) (setting : 
     runs = (world_made i value words b, (Made (Ok b), mem_after w.memory (Make value words) (Made (Ok b)), list, (is, refl), refl), refl);
     memory = sym after;
     tables = tables_same c blocks;
-    links = links_none i w (world_made i value words b) c c blocks refl refl (outs_made w.memory w.hand b (Making i) is.0);
+    links = links_none i w (world_made i value words b) c c blocks refl refl (outs_made w.memory w.hand b (Making i) is.0)
+        (known_with i w.hand c blocks w.hand b (Making i) (λ own out. absurd out) (known_same i w.hand c blocks));
     frame = subst (IsFramed setting i w c blocks) (sym after) (framed_made setting i w c blocks value words b is.0);
     spares = λ j apart. keeps_made i w j apart value words b is.0;
     moved = inl refl;
@@ -113,7 +114,8 @@ module _ {K V : Type 0} (same : K → K → Bool) (hash : K → ℕ) (setting : 
     runs = (world_dropped b, (Taken value, with_block w.memory b None, (i, making), (is, refl), refl), refl);
     memory = sym after;
     tables = tables_same c blocks;
-    links = links_none i w (world_dropped b) c c blocks refl refl (outs_dropped w.memory w.hand b i NoBlock making);
+    links = links_none i w (world_dropped b) c c blocks refl refl (outs_dropped w.memory w.hand b i NoBlock making)
+        (known_with i w.hand c blocks w.hand b NoBlock (λ own out. absurd out) (known_same i w.hand c blocks));
     frame = subst (IsFramed setting i w c blocks) (sym after) (framed_dropped setting i w c blocks b (making, λ shards. other (cc (is, shards))) (is_some_of _ _ is));
     spares = λ j apart. keeps_dropped i w j apart b making (is_some_of _ _ is);
     moved = inl refl;

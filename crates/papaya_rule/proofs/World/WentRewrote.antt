@@ -1,9 +1,9 @@
 -- A step of a call that replaced the value of a block of its own.
-use Rattle.std.specs.Prelude.{◌≡◌, ◌≢◌, ℕ, zero, suc, Bool, true, [], ◌∷◌, Option, Some, None, IsSome, cond, if◌then◌else◌}
+use Rattle.std.specs.Prelude.{◌≡◌, ◌≢◌, ℕ, zero, suc, Bool, [], ◌∷◌, Option, Some, None, IsSome, if◌then◌else◌}
 use Rattle.std.proofs.Common.{arith, subst, refl, ap, sym, ◌∙◌, inl, inr}
 use Rattle.std.proofs.lemmas.Bool.{ne_eqb, eq-eqb, cases_eq}
 use Rattle.seize_words.specs.declared.at.At.TheVariants.{Root, Word}
-use Rattle.seize_words.specs.Mem.{Mem, value_at, word_at, with_value}
+use Rattle.seize_words.specs.Mem.{Mem, value_at, with_value}
 use Rattle.seize_words.proofs.OneOwner.AfterWrites.{word_at-with_value, value_at-with_value}
 use Rattle.seize.specs.World.{World, Making, Rewrites}
 use Rattle.papaya_tables.specs.Nodes.{deferred_word}
@@ -19,8 +19,8 @@ use Rattle.papaya_rule.proofs.World.Footprints.{stays_so}
 use Rattle.papaya_rule.proofs.World.Framed.{shows_framed}
 use Rattle.papaya_rule.proofs.World.FramedSteps.{IsOutside}
 use Rattle.papaya_rule.proofs.World.Hands.{hands_of, own_outside}
-use Rattle.papaya_rule.proofs.World.WentWrote.{counter_of, map_in}
-use Rattle.papaya_rule.proofs.Words.LinksOwn.{outs_same, links_none}
+use Rattle.papaya_rule.proofs.World.WentWrote.{map_in}
+use Rattle.papaya_rule.proofs.Words.LinksOwn.{outs_same, known_same, links_none}
 use Rattle.papaya_rule.proofs.World.MovesKnown.{tables_same}
 use Rattle.papaya_rule.proofs.World.OthersSpared.{held_once}
 use Rattle.papaya_rule.proofs.World.CounterSpared.{counter_apart}
@@ -105,7 +105,7 @@ module _ {K V : Type 0} (same : K → K → Bool) (hash : K → ℕ) (setting : 
     runs = (world_rewritten, (before, with_value w.memory b new, (i, making), (is, refl), lists, refl), refl);
     memory = sym after;
     tables = tables_same c blocks;
-    links = links_none i w world_rewritten c c blocks refl refl (outs_same w.memory w.hand);
+    links = links_none i w world_rewritten c c blocks refl refl (outs_same w.memory w.hand) (known_same i w.hand c blocks);
     frame = subst (IsFramed setting i w c blocks) (sym after) (framed lists none);
     spares = spared;
     moved = inl refl;

@@ -18,7 +18,7 @@ use Rattle.papaya_rule.specs.Words.{Blocks}
 use Rattle.papaya_rule.specs.InWorld.{IsMapIn, IsFramed, Went, SparesPairs}
 use Rattle.papaya_rule.proofs.World.Hands.{hand_kept}
 use Rattle.papaya_rule.proofs.World.Footprints.{framed_same}
-use Rattle.papaya_rule.proofs.Words.LinksOwn.{outs_same, links_none}
+use Rattle.papaya_rule.proofs.Words.LinksOwn.{outs_same, known_same, links_none}
 use Rattle.papaya_rule.proofs.World.MovesKnown.{tables_same}
 use Rattle.papaya_rule.proofs.World.OthersSpared.{keeps_same}
 use Rattle.papaya_rule.proofs.Words.BlocksApart.{new_apart}
@@ -36,7 +36,7 @@ module _ {K V : Type 0} (same : K → K → Bool) (hash : K → ℕ) (setting : 
     runs = refl;
     memory = sym is;
     tables = tables_same c blocks;
-    links = links_none caller w w c c blocks refl refl (outs_same w.memory w.hand);
+    links = links_none caller w w c c blocks refl refl (outs_same w.memory w.hand) (known_same caller w.hand c blocks);
     frame = subst (IsFramed setting caller w c blocks) (sym is) (framed_same setting caller w c blocks);
     spares = λ j other. keeps_same j w.memory w.hand;
     moved = inl refl;

@@ -21,7 +21,7 @@ use Rattle.papaya_rule.specs.Words.{Blocks, Shows}
 use Rattle.papaya_rule.specs.Maps.{spot_of, IsMap}
 use Rattle.papaya_rule.specs.InWorld.{IsMapIn, AllUsers, AllIts, Moved, SameBlocks, SparesOthers, IsFramed, SparesTables, LinksItsOwn, Went}
 use Rattle.papaya_rule.proofs.World.Hands.{Hands}
-use Rattle.papaya_rule.proofs.Words.LinksOwn.{outs_same, links_none, none_stored}
+use Rattle.papaya_rule.proofs.Words.LinksOwn.{outs_same, known_same, links_none, none_stored}
 use Rattle.papaya_rule.proofs.World.MovesKnown.{IsItsMove, spares_moved}
 use Rattle.papaya_rule.proofs.World.OthersSpared.{keeps_written}
 use Rattle.papaya_rule.proofs.World.Footprints.{MayWriteBy, framed_written, aside_of}
@@ -145,7 +145,8 @@ module _ {K V : Type 0} (same : K → K → Bool) (hash : K → ℕ) (setting : 
         (framed_written setting caller w c blocks at word some own.1) (λ j other. keeps_written caller w j other at word some (aside_of same hash setting caller w c blocks map at own.1))
         (after (spot_of hash) (is_incremental setting.mode) move c) blocks2 (spares_moved (spot_of hash) (is_incremental setting.mode) c blocks map.map.shows.linked move by.1)
         (links_none caller w (record w { memory = with_word w.memory at word }) c (after (spot_of hash) (is_incremental setting.mode) move c) blocks2 past
-        (none_stored same (spot_of hash) (is_incremental setting.mode) c map.map.rule.common move current) (outs_same w.memory w.hand)) (inr (move, allowed, refl, by.0))
+        (none_stored same (spot_of hash) (is_incremental setting.mode) c map.map.rule.common move current) (outs_same w.memory w.hand)
+        (known_same caller w.hand (after (spot_of hash) (is_incremental setting.mode) move c) blocks2)) (inr (move, allowed, refl, by.0))
         (wrote_in at word some (after (spot_of hash) (is_incremental setting.mode) move c) blocks2
         (map_moved lawful w.memory (with_word w.memory at word) c blocks blocks2 move map.map allowed shows later)
         hands)

@@ -1,7 +1,7 @@
 -- The numbers of a call with those of its row: each of its own steps that goes on lowers them.
 use Rattle.std.specs.Prelude.{◌≡◌, ℕ, ◌+◌, ◌<◌, Bool, List, [], ◌∷◌, ◌++◌, length}
 use Rattle.std.specs.Int.{IsPowerOfTwo}
-use Rattle.std.proofs.Common.{inl, inr, refl, ap, sym, subst, ◌∙◌, length-append}
+use Rattle.std.proofs.Common.{inl, inr, refl, ap, subst, ◌∙◌, length-append}
 use Rattle.seize_words.specs.Mem.{Mem, Took, value_at}
 use Rattle.seize_words.specs.Plan.{Steps}
 use Rattle.seize.specs.World.{World, Row, Settles, Defers}
@@ -31,9 +31,9 @@ use Rattle.papaya_falls.proofs.Laws.{calls_fall, numbers_are_as_many}
 use Rattle.papaya_callers.specs.Rows.{row_of}
 use Rattle.papaya_callers.specs.Sights.{Sight, seen_by}
 use Rattle.papaya_callers.specs.Together.{CallOnKey, OnKey}
-use Rattle.papaya_callers.proofs.Sights.Sources.{below, above}
 use Rattle.papaya_whole.specs.Owner.{IsAlone}
 use Rattle.papaya_whole.specs.Whole.{then_so, GoesOn, ComesToAnEnd}
+use Rattle.papaya_whole.proofs.Joined.{same_joined, links_joined}
 use Rattle.papaya_whole.proofs.Keys.Own as own
 
 -- how much a row has left to do
@@ -104,20 +104,11 @@ module _ {K V Q : Type 0} (same : K → K → Bool) (hash : K → ℕ) (asks : Q
       memory = lone.memory;
       frame = lone.frame;
       tables = lone.tables;
-      links = record {
-        tables = λ t new made. ap w.hand (above t c.past (blocks.table t) (lone.blocks2.table t) new) ∙ lone.links.tables t new made;
-        pairs = λ n new was. ap w.hand (above n c.stored (blocks.pair n) (lone.blocks2.pair n) new) ∙ lone.links.pairs n new was;
-        outs = lone.links.outs;
-      };
+      links = links_joined c (own.seen same hash asks setting slot lawful w c blocks sights u a) lone.blocks2 lone.blocks_same 0 w lone.w2 lone.c2 lone.links;
       spares = lone.spares;
       moved = lone.moved;
       map = own.map2 same hash asks setting slot lawful w c blocks sights u a none initial m2 p2 called.Goes st;
-      blocks_same = record {
-        tables = λ t l known. (below t c.past (blocks.table t) (lone.blocks2.table t) l, below t c.past ((sights (slot 0)).tables t) (lone.blocks2.table_known t) l ∙ known);
-        pairs = λ n l known. (below n c.stored (blocks.pair n) (lone.blocks2.pair n) l, below n c.stored ((sights (slot 0)).pairs n) (lone.blocks2.pair_known n) l ∙ known);
-        tables_back = λ t l known. sym (below t c.past ((sights (slot 0)).tables t) (lone.blocks2.table_known t) l) ∙ known;
-        pairs_back = λ n l known. sym (below n c.stored ((sights (slot 0)).pairs n) (lone.blocks2.pair_known n) l) ∙ known;
-      };
+      blocks_same = same_joined c (own.seen same hash asks setting slot lawful w c blocks sights u a) lone.blocks2;
       told = tt;
     }
 

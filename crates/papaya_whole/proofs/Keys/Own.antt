@@ -1,7 +1,7 @@
 -- A step of a call that is alone, none of a row of the collector: it does not wait, and the call is alone still, or it asks, or the owner rests.
 use Rattle.std.specs.Prelude.{◌≡◌, ℕ, ◌<◌, Bool, Option, Some, None}
 use Rattle.std.specs.Int.{IsPowerOfTwo}
-use Rattle.std.proofs.Common.{inl, inr, refl, ap, sym, subst, ◌∙◌, true, arith}
+use Rattle.std.proofs.Common.{inl, inr, refl, ap, sym, subst, ◌∙◌, true}
 use Rattle.std.proofs.lemmas.Bool.{cases_eq, cases_lt}
 use Rattle.seize_words.specs.Mem.{Mem, Can, Took, value_at}
 use Rattle.seize_words.specs.Plan.{May, Steps}

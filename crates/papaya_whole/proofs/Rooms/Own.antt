@@ -38,7 +38,7 @@ use Rattle.papaya_callers.specs.Rooms.{CallForRoom}
 use Rattle.papaya_callers.specs.Sights.{Sight, seen_by}
 use Rattle.papaya_callers.specs.Together.{UnderWay, ForRoom, next_for_room, in_slot, KnowsRoom, Stands, Together, RoomTold, FreshRoom, RoomStepsTogether}
 use Rattle.papaya_callers.proofs.Sights.Seen.{map_seen}
-use Rattle.papaya_callers.proofs.Sights.Sources.{below, above}
+use Rattle.papaya_callers.proofs.Sights.Sources.{below}
 use Rattle.papaya_callers.proofs.Together.At.{at_other, at_same}
 use Rattle.papaya_callers.proofs.Together.Came.{came_reached}
 use Rattle.papaya_callers.proofs.Together.Fits.{map_in_slot}
@@ -53,6 +53,7 @@ use Rattle.papaya_alone.proofs.Shards.Sums.{added_same}
 use Rattle.papaya_maps.proofs.Reserves.Counted.{reserve_counts_none}
 use Rattle.papaya_whole.specs.Owner.{IsFirst, IsOfRoot, AtRest, IsAlone}
 use Rattle.papaya_whole.specs.WholeRooms.{room_so, RoomLeads, RoomStepLeads}
+use Rattle.papaya_whole.proofs.Joined.{same_joined, links_joined}
 use Rattle.papaya_whole.proofs.Fresh.Rooms.{never_both_rooms}
 use Rattle.papaya_whole.proofs.Rooms.Account.{no_room_row_rests}
 
@@ -251,20 +252,11 @@ module _ {K V Q : Type 0} (same : K → K → Bool) (hash : K → ℕ) (asks : Q
           memory = went.memory;
           frame = went.frame;
           tables = went.tables;
-          links = record {
-            tables = λ t new made. ap w.hand (above t c.past (blocks.table t) (went.blocks2.table t) new) ∙ went.links.tables t new made;
-            pairs = λ n new was. ap w.hand (above n c.stored (blocks.pair n) (went.blocks2.pair n) new) ∙ went.links.pairs n new was;
-            outs = went.links.outs;
-          };
+          links = links_joined c seen went.blocks2 went.blocks_same 0 w went.w2 went.c2 went.links;
           spares = went.spares;
           moved = went.moved;
           map = map2;
-          blocks_same = record {
-            tables = λ t l known. (below t c.past (blocks.table t) (went.blocks2.table t) l, below t c.past ((sights (slot 0)).tables t) (went.blocks2.table_known t) l ∙ known);
-            pairs = λ n l known. (below n c.stored (blocks.pair n) (went.blocks2.pair n) l, below n c.stored ((sights (slot 0)).pairs n) (went.blocks2.pair_known n) l ∙ known);
-            tables_back = λ t l known. sym (below t c.past ((sights (slot 0)).tables t) (went.blocks2.table_known t) l) ∙ known;
-            pairs_back = λ n l known. sym (below n c.stored ((sights (slot 0)).pairs n) (went.blocks2.pair_known n) l) ∙ known;
-          };
+          blocks_same = same_joined c seen went.blocks2;
           told = tt;
         }
 

@@ -48,6 +48,7 @@ use Rattle.papaya_callers.proofs.Together.Users.{events_rows, inside_on}
 use Rattle.papaya_whole.specs.LoneSweeps.{IsBefore, goes_once, IsLoneSweep, GoesOverRoot, StandsThere, OverRoot, IsOverRoot}
 use Rattle.papaya_whole.specs.Owner.{IsOfRoot, AtRest, IsAlone}
 use Rattle.papaya_whole.specs.WholeSweeps.{SweepLeads}
+use Rattle.papaya_whole.proofs.Joined.{same_joined, links_joined}
 use Rattle.papaya_whole.proofs.Fresh.Sweeps.{CopiesRoot, of_whole, whole_of}
 use Rattle.papaya_whole.proofs.Sweeps.Account.{no_sweep_row_rests}
 use Rattle.papaya_whole.proofs.Sweeps.Lone.{LeadsSweep}
@@ -302,20 +303,11 @@ module _ {K V Q : Type 0} (same : K → K → Bool) (hash : K → ℕ) (asks : Q
           memory = went.memory;
           frame = went.frame;
           tables = went.tables;
-          links = record {
-            tables = λ t new made. ap w.hand (above t c.past (blocks.table t) (went.blocks2.table t) new) ∙ went.links.tables t new made;
-            pairs = λ n new was. ap w.hand (above n c.stored (blocks.pair n) (went.blocks2.pair n) new) ∙ went.links.pairs n new was;
-            outs = went.links.outs;
-          };
+          links = links_joined c seen went.blocks2 went.blocks_same 0 w went.w2 went.c2 went.links;
           spares = went.spares;
           moved = went.moved;
           map = map2;
-          blocks_same = record {
-            tables = λ t l known. (below t c.past (blocks.table t) (went.blocks2.table t) l, below t c.past ((sights (slot 0)).tables t) (went.blocks2.table_known t) l ∙ known);
-            pairs = λ n l known. (below n c.stored (blocks.pair n) (went.blocks2.pair n) l, below n c.stored ((sights (slot 0)).pairs n) (went.blocks2.pair_known n) l ∙ known);
-            tables_back = λ t l known. sym (below t c.past ((sights (slot 0)).tables t) (went.blocks2.table_known t) l) ∙ known;
-            pairs_back = λ n l known. sym (below n c.stored ((sights (slot 0)).pairs n) (went.blocks2.pair_known n) l) ∙ known;
-          };
+          blocks_same = same_joined c seen went.blocks2;
           told = tt;
         }
 

@@ -6,7 +6,7 @@ use Rattle.papaya_callers.specs.Kind.{computes}
 use Rattle.papaya_asks.specs.Closures.{ComesTo, ComputesAs, Computing}
 use Rattle.papaya_owned.specs.Owned.{hashed_by, found_by}
 use Rattle.papaya_asks.proofs.Asks.Begins.{computes_so}
-use Rattle.papaya_asks.proofs.Asks.Comes.{comes_answered, comes_asking, comes_refused, comes_told, never_answers, aborted_holds, aborted_refused}
+use Rattle.papaya_asks.proofs.Asks.Comes.{comes_answered, comes_asking, comes_refused, comes_told, never_answers, aborted_answers, aborted_refused}
 use Rattle.papaya_asks.proofs.computing.compute.Goals as goal
 
 pub start-requires-clause-begun : goal.start-requires-clause-begun
@@ -17,6 +17,12 @@ shown_at-requires g c =
     let r = c.requires.holds in
     let h = c.start.ensures r.0 computes (Some c.args.key) (g.K.PartialEq.eq c.args.key) r.1 (computes_so g.K.PartialEq.eq ((hashed_by g.S.Hasher.Hasher.finish g.S.Hasher.Hasher.write g.S.BuildHasher.build_hasher g.K.Hash.hash_input) c.args.hasher.now) c.args.setting c.args.key _ c.hash_of-hash.ensures _ c.compute-call.ensures) in
     (g.K.PartialEq.eq c.args.key, r.0, (comes_asking g.K.PartialEq.eq g.K.PartialEq.eq (hashed_by g.S.Hasher.Hasher.finish g.S.Hasher.Hasher.write g.S.BuildHasher.build_hasher g.K.Hash.hash_input) c.args.hasher c.args.setting computes (Some c.args.key) (g.K.PartialEq.eq c.args.key) r.0 c.start.new.machine c.start.new.memory c.start.result h _ _ c.in-Ok-Asks.asked c.in-Ok-Asks.is c.in-Ok-Asks.field-0-is refl).2)
+
+pub compute-requires : goal.compute-requires
+compute-requires g c =
+    let r = c.requires.holds in
+    let h = c.start.ensures r.0 computes (Some c.args.key) (g.K.PartialEq.eq c.args.key) r.1 (computes_so g.K.PartialEq.eq ((hashed_by g.S.Hasher.Hasher.finish g.S.Hasher.Hasher.write g.S.BuildHasher.build_hasher g.K.Hash.hash_input) c.args.hasher.now) c.args.setting c.args.key _ c.hash_of-hash.ensures _ c.compute-call.ensures) in
+    r.2 c.shown_at.result (c.shown_at.ensures (g.K.PartialEq.eq c.args.key) r.0 (comes_asking g.K.PartialEq.eq g.K.PartialEq.eq (hashed_by g.S.Hasher.Hasher.finish g.S.Hasher.Hasher.write g.S.BuildHasher.build_hasher g.K.Hash.hash_input) c.args.hasher c.args.setting computes (Some c.args.key) (g.K.PartialEq.eq c.args.key) r.0 c.start.new.machine c.start.new.memory c.start.result h _ _ c.in-Ok-Asks.asked c.in-Ok-Asks.is c.in-Ok-Asks.field-0-is refl).2)
 
 pub replied-requires : goal.replied-requires
 replied-requires g c =
@@ -68,7 +74,7 @@ pub returns-in-Ok-replied-2 : goal.returns-in-Ok-replied-2
 returns-in-Ok-replied-2 g c = λ xs has.
     let h = c.start.ensures xs computes (Some c.args.key) (g.K.PartialEq.eq c.args.key) has (computes_so g.K.PartialEq.eq ((hashed_by g.S.Hasher.Hasher.finish g.S.Hasher.Hasher.write g.S.BuildHasher.build_hasher g.K.Hash.hash_input) c.args.hasher.now) c.args.setting c.args.key _ c.hash_of-hash.ensures _ c.compute-call.ensures) in
     let a = comes_asking g.K.PartialEq.eq g.K.PartialEq.eq (hashed_by g.S.Hasher.Hasher.finish g.S.Hasher.Hasher.write g.S.BuildHasher.build_hasher g.K.Hash.hash_input) c.args.hasher c.args.setting computes (Some c.args.key) (g.K.PartialEq.eq c.args.key) xs c.start.new.machine c.start.new.memory c.start.result h _ _ c.in-Ok-Asks.asked c.in-Ok-Asks.is c.in-Ok-Asks.field-0-is refl in
-    ((c.shown_at.result, subst (λ o. g.F.FnOnce.post c.args.compute (c.shown_at.result, tt) o) c.in-Abort.is c.compute.ensures, c.shown_at.ensures (g.K.PartialEq.eq c.args.key) xs a.2), aborted_holds g.K.PartialEq.eq (hashed_by g.S.Hasher.Hasher.finish g.S.Hasher.Hasher.write g.S.BuildHasher.build_hasher g.K.Hash.hash_input) c.args.hasher c.start.new.machine.hasher a.1 c.args.setting xs c.replied-in-Abort.new.memory c.args.key c.replied-in-Abort.result (c.replied-in-Abort.ensures xs computes c.args.key c.in-Ok-Asks.asked a.0 tt) _ c.in-Ok-replied-2.is)
+    ((c.shown_at.result, subst (λ o. g.F.FnOnce.post c.args.compute (c.shown_at.result, tt) o) c.in-Abort.is c.compute.ensures, c.shown_at.ensures (g.K.PartialEq.eq c.args.key) xs a.2), aborted_answers g.K.PartialEq.eq (hashed_by g.S.Hasher.Hasher.finish g.S.Hasher.Hasher.write g.S.BuildHasher.build_hasher g.K.Hash.hash_input) c.args.hasher c.start.new.machine.hasher a.1 c.args.setting xs c.replied-in-Abort.new.memory c.args.key c.replied-in-Abort.result (c.replied-in-Abort.ensures xs computes c.args.key c.in-Ok-Asks.asked a.0 tt) _ c.in-Ok-replied-2.is)
 
 pub returns-in-Ok-Asks : goal.returns-in-Ok-Asks
 returns-in-Ok-Asks g c = λ xs has.

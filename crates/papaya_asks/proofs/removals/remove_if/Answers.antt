@@ -32,6 +32,17 @@ pair_at-requires g c =
     g.met.Q.Equivalent.respects_hash g.met.Q.Equivalent.respects_eq c.args.asked.now)) _ c.remove_if-call.ensures) in
     word_names (g.Q.Equivalent.equivalent c.args.asked.now) c.start.new.memory r.0 c.in-Ok-Asks-Some.word (comes_asking (λ x key. g.Q.Equivalent.equivalent x.asked.now key) g.K.PartialEq.eq (hashed_by g.S.Hasher.Hasher.finish g.S.Hasher.Hasher.write g.S.BuildHasher.build_hasher g.K.Hash.hash_input) c.args.hasher c.args.setting removes_if None (g.Q.Equivalent.equivalent c.args.asked.now) r.0 c.start.new.machine c.start.new.memory c.start.result h _ _ _ c.in-Ok-Asks-Some.is c.in-Ok-Asks-Some.field-0-is c.in-Ok-Asks-Some.field-0-0-is).2
 
+pub test-yes-requires : goal.test-yes-requires
+test-yes-requires g c =
+    let r = c.requires.holds in
+    let h = c.start.ensures r.0 removes_if None (g.Q.Equivalent.equivalent c.args.asked.now) r.1
+    (removes_if_so g.K.PartialEq.eq ((hashed_by g.S.Hasher.Hasher.finish g.S.Hasher.Hasher.write g.S.BuildHasher.build_hasher g.K.Hash.hash_input) c.args.hasher.now) (λ x key. g.Q.Equivalent.equivalent x.asked.now key) c.args.setting _ _ c.hash_of-hash.type_inv (subst (λ x. IsClass g.K.PartialEq.eq ((hashed_by g.S.Hasher.Hasher.finish g.S.Hasher.Hasher.write g.S.BuildHasher.build_hasher g.K.Hash.hash_input) c.args.hasher.now) (g.Q.Equivalent.equivalent c.args.asked.now) x) (sym c.hash_of-hash.ensures)
+    (is_class g.K.PartialEq.eq g.S.Hasher.Hasher.finish g.S.Hasher.Hasher.write g.S.BuildHasher.build_hasher g.K.Hash.hash_input c.args.hasher.now g.Q.Equivalent.equivalent g.Q.Hash.hash_input
+    g.met.Q.Equivalent.respects_hash g.met.Q.Equivalent.respects_eq c.args.asked.now)) _ c.remove_if-call.ensures) in
+    let w = (comes_asking (λ x key. g.Q.Equivalent.equivalent x.asked.now key) g.K.PartialEq.eq (hashed_by g.S.Hasher.Hasher.finish g.S.Hasher.Hasher.write g.S.BuildHasher.build_hasher g.K.Hash.hash_input) c.args.hasher c.args.setting removes_if None (g.Q.Equivalent.equivalent c.args.asked.now) r.0 c.start.new.machine c.start.new.memory c.start.result h _ _ _ c.in-Ok-Asks-Some.is c.in-Ok-Asks-Some.field-0-is c.in-Ok-Asks-Some.field-0-0-is).2 in
+    let at = c.pair_at.ensures w.0 w.1 w.2 in
+    r.2 (w.0, w.1) w.3 c.pair_at.result.0 c.pair_at.result.1 at.0 at.1
+
 pub finish-requires : goal.finish-requires
 finish-requires g c =
     let r = c.requires.holds in

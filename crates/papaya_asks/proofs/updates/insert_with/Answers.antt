@@ -19,6 +19,12 @@ unreachable-requires g c =
     let h = c.start.ensures r.0 tries_to_insert_with (Some c.args.key) (g.K.PartialEq.eq c.args.key) r.1 (inserts_with_so g.K.PartialEq.eq ((hashed_by g.S.Hasher.Hasher.finish g.S.Hasher.Hasher.write g.S.BuildHasher.build_hasher g.K.Hash.hash_input) c.args.hasher.now) c.args.setting c.args.key _ c.hash_of-hash.ensures _ c.try_insert_with-call.ensures) in
     let e = (comes_asking g.K.PartialEq.eq g.K.PartialEq.eq (hashed_by g.S.Hasher.Hasher.finish g.S.Hasher.Hasher.write g.S.BuildHasher.build_hasher g.K.Hash.hash_input) c.args.hasher c.args.setting tries_to_insert_with (Some c.args.key) (g.K.PartialEq.eq c.args.key) r.0 c.start.new.machine c.start.new.memory c.start.result h _ _ _ c.in-Ok-Asks-Some.is c.in-Ok-Asks-Some.field-0-is c.in-Ok-Asks-Some.field-0-0-is).3 in cc e
 
+pub begin-value-requires : goal.begin-value-requires
+begin-value-requires g c =
+    let r = c.requires.holds in
+    let h = c.start.ensures r.0 tries_to_insert_with (Some c.args.key) (g.K.PartialEq.eq c.args.key) r.1 (inserts_with_so g.K.PartialEq.eq ((hashed_by g.S.Hasher.Hasher.finish g.S.Hasher.Hasher.write g.S.BuildHasher.build_hasher g.K.Hash.hash_input) c.args.hasher.now) c.args.setting c.args.key _ c.hash_of-hash.ensures _ c.try_insert_with-call.ensures) in
+    r.2 (comes_asking g.K.PartialEq.eq g.K.PartialEq.eq (hashed_by g.S.Hasher.Hasher.finish g.S.Hasher.Hasher.write g.S.BuildHasher.build_hasher g.K.Hash.hash_input) c.args.hasher c.args.setting tries_to_insert_with (Some c.args.key) (g.K.PartialEq.eq c.args.key) r.0 c.start.new.machine c.start.new.memory c.start.result h _ _ _ c.in-Ok-Asks-None.is c.in-Ok-Asks-None.field-0-is c.in-Ok-Asks-None.field-0-0-is).2
+
 pub replied-requires : goal.replied-requires
 replied-requires g c =
     let r = c.requires.holds in

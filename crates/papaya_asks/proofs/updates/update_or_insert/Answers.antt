@@ -20,6 +20,13 @@ pair_at-requires g c =
     let h = c.start.ensures r.0 updates_or_inserts (Some c.args.key) (g.K.PartialEq.eq c.args.key) r.1 (updates_or_inserts_so g.K.PartialEq.eq ((hashed_by g.S.Hasher.Hasher.finish g.S.Hasher.Hasher.write g.S.BuildHasher.build_hasher g.K.Hash.hash_input) c.args.hasher.now) c.args.setting c.args.key _ c.hash_of-hash.ensures _ c.update_or_insert_with-call.ensures) in
     word_names (g.K.PartialEq.eq c.args.key) c.start.new.memory r.0 c.in-Ok-Asks-Some.word (comes_asking g.K.PartialEq.eq g.K.PartialEq.eq (hashed_by g.S.Hasher.Hasher.finish g.S.Hasher.Hasher.write g.S.BuildHasher.build_hasher g.K.Hash.hash_input) c.args.hasher c.args.setting updates_or_inserts (Some c.args.key) (g.K.PartialEq.eq c.args.key) r.0 c.start.new.machine c.start.new.memory c.start.result h _ _ _ c.in-Ok-Asks-Some.is c.in-Ok-Asks-Some.field-0-is c.in-Ok-Asks-Some.field-0-0-is).2
 
+pub make-new-requires : goal.make-new-requires
+make-new-requires g c =
+    let r = c.requires.holds in
+    let h = c.start.ensures r.0 updates_or_inserts (Some c.args.key) (g.K.PartialEq.eq c.args.key) r.1 (updates_or_inserts_so g.K.PartialEq.eq ((hashed_by g.S.Hasher.Hasher.finish g.S.Hasher.Hasher.write g.S.BuildHasher.build_hasher g.K.Hash.hash_input) c.args.hasher.now) c.args.setting c.args.key _ c.hash_of-hash.ensures _ c.update_or_insert_with-call.ensures) in
+    let w = (comes_asking g.K.PartialEq.eq g.K.PartialEq.eq (hashed_by g.S.Hasher.Hasher.finish g.S.Hasher.Hasher.write g.S.BuildHasher.build_hasher g.K.Hash.hash_input) c.args.hasher c.args.setting updates_or_inserts (Some c.args.key) (g.K.PartialEq.eq c.args.key) r.0 c.start.new.machine c.start.new.memory c.start.result h _ _ _ c.in-Ok-Asks-Some.is c.in-Ok-Asks-Some.field-0-is c.in-Ok-Asks-Some.field-0-0-is).2 in
+    r.2 (w.0, w.1) w.3 c.pair_at.result.1 ((c.pair_at.ensures w.0 w.1 w.2).1)
+
 pub replied-requires : goal.replied-requires
 replied-requires g c =
     let r = c.requires.holds in

@@ -1,6 +1,7 @@
 -- Rows between calls, steps of calls on one key and of rows within them, ends of maps, and rest.
 use Rattle.papaya_carries.proofs.Endings.{endings_begin_and_keep_theirs, endings_keep_theirs}
-use Rattle.papaya_carries.proofs.Guards.{changes_keep_theirs, guards_keep_theirs, only_tables_carry}
+use Rattle.papaya_carries.proofs.Guards.{changes_keep_theirs, guards_keep_theirs, none_begins, only_tables_carry}
+use Rattle.papaya_carries.proofs.Makings.{makings_keep_theirs}
 use Rattle.papaya_carries.proofs.Promised.{calls_keep_theirs}
 use Rattle.papaya_carries.proofs.Reclaiming.{reclaiming_keeps_theirs, nothing_else_waits}
 use Rattle.papaya_carries.proofs.Rooms.{rooms_keep_theirs}
@@ -10,6 +11,7 @@ use Rattle.papaya_carries.proofs.law.what_carries_is_somebodys.Goals as goal
 
 pub returns : goal.returns
 returns c d = record {
+  starts = none_begins _;
   rest = only_tables_carry _;
   changes = changes_keep_theirs _;
   guards = guards_keep_theirs _;
@@ -19,6 +21,7 @@ returns c d = record {
   rows = rows_keep_theirs _;
   room_rows = room_rows_keep_theirs _;
   sweep_rows = sweep_rows_keep_theirs _;
+  makings = makings_keep_theirs _;
   endings_begin = endings_begin_and_keep_theirs _;
   endings = endings_keep_theirs _;
   reclaiming = reclaiming_keeps_theirs _;

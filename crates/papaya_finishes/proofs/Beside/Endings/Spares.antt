@@ -63,7 +63,7 @@ module _ {K V : Type 0} (w : World (Node K V)) where
   end_not_held owner i b (inr left) j held = subst (IsHeldBy j) left held
 
 -- what is there has some value
-some_there : {X : Type 0} (o : Option X) → IsSome o → (x : X) × (o ≡ Some x)
+pub some_there : {X : Type 0} (o : Option X) → IsSome o → (x : X) × (o ≡ Some x)
 some_there None some = absurd (cc some)
 some_there (Some x) some = (x, refl)
 

@@ -12,7 +12,7 @@ use Rattle.seize_words.proofs.OneOwner.AfterWrites.{block_of-made, block_of-with
 use Rattle.seize_words.proofs.OneOwner.Operations.{may_make, made as make_made, may_take, taken}
 use Rattle.seize_rule.proofs.Words.Named.{block_there}
 use Rattle.seize.specs.Law.{Nowhere, Dropped, where_is}
-use Rattle.seize.specs.World.{World, Hand, NoBlock, Making, Makes, Drops, with_hand, with_effect, made_by}
+use Rattle.seize.specs.World.{World, Hand, NoBlock, Making, Makes, Drops, with_at, with_hand, with_effect, made_by}
 use Rattle.seize.specs.declared.progress.Progress.{Progress}
 use Rattle.papaya_tables.specs.Nodes.{deferred_word}
 use Rattle.papaya_tables.specs.declared.node.Node.{Node}
@@ -26,6 +26,7 @@ use Rattle.papaya_rule.proofs.Words.BlocksApart.{new_apart}
 use Rattle.papaya_rule.proofs.Words.WritesWords.{is_some_of}
 use Rattle.papaya_rule.proofs.World.Hands.{at_cases, hand_kept}
 use Rattle.papaya_rule.proofs.World.OthersSpared.{keeps_made, keeps_dropped}
+use Rattle.papaya_rule.specs.InWorld.{IsOut}
 use Rattle.papaya_rule.specs.Rule.{no_table}
 use Rattle.papaya_points.proofs.Making.OwnTables.{zero_at}
 use Rattle.papaya_callers.specs.Kept.{IsMaking}
@@ -141,6 +142,9 @@ module _ {K Q : Type 0} (V : Type 0) (same : K → K → Bool) (asks : Q → K �
           by true = (λ has. refl, λ has. absurd (subst HasMade here has))
           by false = (λ has. (tt, refl), λ has. absurd (subst HasMade here has))
 
+    not_new : (x y : ℕ) → IsOut (with_at w.hand x (Making i) y) → IsOut (w.hand y)
+    not_new x y = at_cases (λ (h : Hand). IsOut h → IsOut (w.hand y)) w.hand x (Making i) y (λ e none. absurd none) (λ ne is. is)
+
     pub went_shards : (m2 : Mem (Node K V)) (end : NewMap × Progress Setting) → Steps Took value_at w.memory (shards b.machine) m2 end → MakingWent V same asks batch_size roots slot w i b m2 end
     went_shards m2 end s =
         elim (make_made w.memory (made n) node.Shards words m2 end s) as (λ _. MakingWent V same asks batch_size roots slot w i b m2 end) [
@@ -150,6 +154,7 @@ module _ {K Q : Type 0} (V : Type 0) (same : K → K → Bool) (asks : Q → K �
             left = left d.0 d.1;
             keeps = subst (KeepsIts V same asks batch_size roots slot w (w2 d.0 d.1) b.machine) (sym d.3) (shards_keep d.0 d.1);
             unused = λ r is. inl is;
+            links = λ y out. inl (not_new d.0 y out);
             told = subst (Told (w2 d.0 d.1)) (sym d.3) (shards_told d.0 d.1);
           }
           | inr d ↦ still V same asks batch_size roots slot w i b f free m2 d.2 end (goes n (at.Frees Memory)) d.3 (λ has. (tt, refl), λ has. absurd (subst HasMade here has)) (
@@ -212,6 +217,7 @@ module _ {K Q : Type 0} (V : Type 0) (same : K → K → Bool) (asks : Q → K �
           left = left_gone;
           keeps = subst (KeepsIts V same asks batch_size roots slot w gone b.machine) (sym d.3) (λ has. (tt, refl), λ has. inr taken_away);
           unused = λ r is. inl is;
+          links = λ y out. inl (at_cases (λ (h : Hand). IsOut h → IsOut (w.hand y)) w.hand x NoBlock y (λ e none. absurd none) (λ ne is. is) out);
           told = subst (Told gone) (sym d.3) (
             facts_at V same asks batch_size roots slot w i b f free gone (record b.machine { stands = at.Frees fault }) f.setting_is refl refl point.0,
             λ has. inl (subst HasTaken (sym here) tt, refl),

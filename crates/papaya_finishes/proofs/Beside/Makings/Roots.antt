@@ -128,6 +128,7 @@ module _ {K Q : Type 0} (V : Type 0) (same : K → K → Bool) (asks : Q → K �
               | inl e ↦ inr (subst (λ (x : NewMap × Progress Setting). HasComeTo {Q = Q} V same asks batch_size roots slot x r) (sym d.3) (tt, sym e))
               | inr ne ↦ inl (used_kept 1 there r ne ∙ is)
             ]);
+            links = λ x out. inl out;
             told = subst (GoesTo V same asks batch_size roots slot w i b (written 1 there)) (sym d.3) (
               facts_at V same asks batch_size roots slot w i b f free (written 1 there) (record b.machine { stands = at.Shards }) f.setting_is refl refl (used_written 1 there, free_root read),
               λ has. inr read,
@@ -158,5 +159,6 @@ module _ {K Q : Type 0} (V : Type 0) (same : K → K → Bool) (asks : Q → K �
             | inl e ↦ inl (subst (λ (x : ℕ). word_at (written 0 taken_there).memory (Used x) ≡ Some 0) (sym e) (used_written 0 taken_there))
             | inr ne ↦ inl (used_kept 0 taken_there r ne ∙ is)
           ]);
+          links = λ x out. inl out;
           told = subst (GoesTo V same asks batch_size roots slot w i b (written 0 taken_there)) (sym d.1) tt;
         }

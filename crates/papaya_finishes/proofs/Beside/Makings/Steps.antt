@@ -13,6 +13,7 @@ use Rattle.papaya_tables.specs.declared.node.Node.{Node}
 use Rattle.papaya_tables.specs.declared.setting.Setting.{Setting}
 use Rattle.papaya_resize.specs.declared.new_map.NewMap.{NewMap}
 use Rattle.papaya_points.specs.Steps.{AreLawful}
+use Rattle.papaya_rule.specs.InWorld.{IsOut}
 use Rattle.papaya_finishes.specs.Makings.{Beginning, HasTaken, HasMade, HasOwnCounter, MakingFacts, MakingsTogether, MakingTold, StepsOfMaking, LeavesRest}
 use Rattle.papaya_finishes.specs.Maps.{Standing, MapsTogether}
 use Rattle.papaya_callers.specs.Together.{UnderWay, CameAbout}
@@ -20,6 +21,7 @@ use Rattle.papaya_finishes.proofs.Beside.Makings.Lasts.{facts_last, taken_root, 
 use Rattle.papaya_finishes.proofs.Beside.Makings.Leaves.{LeavesOthers, came_then, IsAsItWas}
 use Rattle.papaya_finishes.proofs.Beside.Makings.OtherMakings.{making_left}
 use Rattle.papaya_finishes.proofs.Beside.Makings.OtherMaps.{map_stays}
+use Rattle.papaya_finishes.proofs.Beside.Makings.Outs.{out_there}
 use Rattle.papaya_finishes.proofs.Beside.Makings.Went.{IsOwnRoot, IsOwnCounter, GoesTo, MakesMap, MakingWent}
 use Rattle.papaya_finishes.proofs.Beside.Maps.All.{one_of, StandsSo}
 use Rattle.papaya_finishes.proofs.Beside.Maps.Comes.{each_at, two_at, none_at}
@@ -211,6 +213,9 @@ module _ {K Q : Type 0} (V : Type 0) (same : K → K → Bool) (asks : Q → K �
     as_it_was x j is =
         let there = end_there batch_size w all.standing.came 0 j x (inr is) in went.left.blocks x there.0 there.1 (λ its. not_made x j is its.0)
 
+    pub outs : (x : ℕ) → IsOut (w.hand x) → went.w2.hand x ≡ w.hand x
+    outs x out = let there = out_there batch_size w all.standing.came x out in (went.left.blocks x there.0 there.1 (λ its. subst IsOut its.0 out)).hand
+
     pub rest : LeavesRest {Q = Q} V same asks batch_size roots slot w went.w2 b.machine end
     rest = record {
       hands = λ x j is. (as_it_was x j is).hand ∙ is;
@@ -231,5 +236,7 @@ module _ {K Q : Type 0} (V : Type 0) (same : K → K → Bool) (asks : Q → K �
     memory = went.memory;
     keeps = went.keeps;
     rest = rest m2 end went;
+    outs = outs m2 end went;
+    links = went.links;
     told = told went.w2 went.left end went.told;
   }

@@ -1,5 +1,5 @@
 -- A making has its first table made and linked: its map stands with it, or without one if that is refused for want of a length or of memory.
-use Rattle.std.specs.Prelude.{◌≡◌, ◌≢◌, ℕ, ◌<◌, Bool, max, Some}
+use Rattle.std.specs.Prelude.{◌≡◌, ◌≢◌, ℕ, ◌*◌, ◌<◌, Bool, max, Some, ◌⊎◌}
 use Rattle.std.specs.Int.{IsPowerOfTwo}
 use Rattle.std.proofs.Common.{refl, ap, sym, subst, ◌∙◌, inl, inr, arith}
 use Rattle.seize_words.specs.declared.at.At.{At}
@@ -27,7 +27,7 @@ use Rattle.papaya_resize.specs.declared.new_table.Making.{Making as Point}
 use Rattle.papaya_resize.specs.declared.new_table.Making.TheVariants as makes
 use Rattle.papaya_rule.specs.Beside.{KeptBeside, IsBeside}
 use Rattle.papaya_rule.specs.Chart.{Chart}
-use Rattle.papaya_rule.specs.InWorld.{IsOut, IsIts, InFootprint, IsMapIn, Went}
+use Rattle.papaya_rule.specs.InWorld.{IsOut, IsIts, IsKnownBlock, InFootprint, IsMapIn, Went}
 use Rattle.papaya_rule.specs.Maps.{spot_of}
 use Rattle.papaya_rule.specs.Moments.{Moments}
 use Rattle.papaya_rule.specs.Moves.{Links, after}
@@ -42,12 +42,13 @@ use Rattle.papaya_points.specs.Told.{NewTableTold, LinksLast}
 use Rattle.papaya_late.proofs.Known.Steps.{moments_on}
 use Rattle.papaya_points.proofs.Making.NewTable.{may_new_table, went_new_table_lowers}
 use Rattle.papaya_callers.specs.Kept.{IsMaking}
-use Rattle.papaya_finishes.specs.Makings.{Beginning, HasTaken, HasMade, HasRoots, IsTakenRoot, HasOwnCounter, OpeningFacts, MakingFacts, KeepsIts}
+use Rattle.papaya_finishes.specs.Makings.{Beginning, HasTaken, HasMade, HasRoots, IsTakenRoot, HasOwnCounter, OpeningFacts, MakingFacts, IsFirstTable, KeepsIts}
 use Rattle.papaya_callers.specs.Together.{CameAbout, no_blocks}
 use Rattle.papaya_callers.proofs.MapBegins.{map_begins}
 use Rattle.papaya_finishes.proofs.Beside.Makings.FirstLengths.{LensTo, lens_told}
 use Rattle.papaya_finishes.proofs.Beside.Makings.FirstTable.{first_table_together}
 use Rattle.papaya_finishes.proofs.Beside.Makings.Leaves.{IsItsBlock, LeavesOthers, came_then}
+use Rattle.papaya_finishes.proofs.Beside.Makings.Outs.{out_from}
 use Rattle.papaya_finishes.proofs.Beside.Makings.Went.{GoesTo, MakesMap, MakingWent, facts_at}
 use Rattle.papaya_callers.proofs.Rows.Behind.{carrier_not_made, events_back}
 use Rattle.papaya_callers.proofs.Rows.Owned.{events_owned}
@@ -241,6 +242,39 @@ module _ {K Q : Type 0} (V : Type 0) (same : K → K → Bool) (asks : Q → K �
     keeps_to (making2, progress.Done table) told = (λ has. refl, λ has. refl)
     keeps_to (making2, progress.Refused fault) told = (λ has. (tt, refl), λ has. inl (tt, refl))
 
+    -- a block that it had made comes out as its map's first table
+    none_known : (x : ℕ) → IsKnownBlock (no_table {K = K}) went.blocks2 x → ⊥
+    none_known x (inl (t, l, known, is)) = omega (arith, l)
+    none_known x (inr (n, l, known, is)) = omega (arith, l)
+
+    first_known : (x len limit : ℕ) → IsKnownBlock (after (spot_of b.hash) (is_incremental b.machine.setting.mode) (Links len limit) no_table) went.blocks2 x → x ≡ went.blocks2.table 0
+    first_known x len limit (inl (t, l, known, is)) = is ∙ ap went.blocks2.table (let e : t ≡ 0 = omega (arith, l) in e)
+    first_known x len limit (inr (n, l, known, is)) = absurd (omega (arith, l))
+
+    led : (x len limit : ℕ) → went.c2 ≡ after (spot_of b.hash) (is_incremental b.machine.setting.mode) (Links len limit) no_table → IsKnownBlock went.c2 went.blocks2 x
+        → word_at went.w2.memory (Root b.machine.setting.root) ≡ Some (x * 2048)
+    led x len limit is known =
+        let map2 = subst (λ (y : Chart K). IsMapIn same b.hash its went.w2 y went.blocks2) is went.map in
+        map2.map.shows.root_there ∙ ap (λ (y : ℕ). Some (y * 2048)) (sym (first_known x len limit (subst (λ (y : Chart K). IsKnownBlock y went.blocks2 x) is known)))
+
+    comes_first : (x : ℕ) (end : NewTable × Progress Table) → LinksLast b.hash b.machine.setting.mode 0 no_table went.c2 end → IsKnownBlock went.c2 went.blocks2 x → IsFirstTable went.w2 (opened b.machine end) x
+    comes_first x (making2, said) (inl e) known = absurd (none_known x (subst (λ (y : Chart K). IsKnownBlock y went.blocks2 x) e known))
+    comes_first x (making2, progress.Done table) (inr l) known = led x l.1.len l.1.limit l.3 known
+    comes_first x (making2, progress.Goes) (inr l) known = absurd (let is = l.2 in cc is)
+    comes_first x (making2, progress.Waits) (inr l) known = absurd (let is = l.2 in cc is)
+    comes_first x (making2, progress.Refused fault) (inr l) known = absurd (let is = l.2 in cc is)
+
+    links_its : (x : ℕ) (end : NewTable × Progress Table) → LinksLast b.hash b.machine.setting.mode 0 no_table went.c2 end → IsOut (went.w2.hand x) → IsOut (w.hand x) ⊎ IsFirstTable went.w2 (opened b.machine end) x
+    links_its x end links out =
+        elim (out_from its i w no_table no_blocks (λ y known. absurd (none_known_before y known)) x its.batch_size went.events went.w2 went.its went.runs out) as (λ _. IsOut (w.hand x) ⊎ IsFirstTable went.w2 (opened b.machine end) x) [
+          | inl was ↦ inl was
+          | inr own ↦ inr (comes_first x end links (went.links.known x own out))
+        ]
+      where
+        none_known_before : (y : ℕ) → IsKnownBlock (no_table {K = K}) no_blocks y → ⊥
+        none_known_before y (inl (t, l, known, is)) = omega (arith, l)
+        none_known_before y (inr (n, l, known, is)) = omega (arith, l)
+
   pub went_tables : (m2 : Mem (Node K V)) (end : NewMap × Progress Setting) → Steps Took value_at w.memory (plan_as (opened b.machine) (new_table_plan making)) m2 end
       → MakingWent V same asks batch_size roots slot w i b m2 end
   went_tables m2 end s =
@@ -252,5 +286,6 @@ module _ {K Q : Type 0} (V : Type 0) (same : K → K → Bool) (asks : Q → K �
         left = left m2 _ went;
         keeps = subst (KeepsIts V same asks batch_size roots slot w went.w2 b.machine) (sym back.2) (keeps_to m2 _ went back.0 went.told.2);
         unused = λ r is. inl (used_stays m2 _ went r 0 is);
+        links = λ x out. subst (λ (e : NewMap × Progress Setting). IsOut (w.hand x) ⊎ IsFirstTable went.w2 e x) (sym back.2) (links_its m2 _ went x back.0 went.told.1 out);
         told = subst (GoesTo V same asks batch_size roots slot w i b went.w2) (sym back.2) (goes_to m2 _ went back.0 (lens_told w i its no_blocks w.memory making (max b.machine.len 8) point.2 point.4 m2 back.0 back.1) went.told.1 went.told.2);
       }

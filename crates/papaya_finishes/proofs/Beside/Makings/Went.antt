@@ -11,8 +11,9 @@ use Rattle.papaya_tables.specs.declared.node.Node.{Node}
 use Rattle.papaya_tables.specs.declared.setting.Setting.{Setting}
 use Rattle.papaya_resize.specs.NewMap.{at_root, with_counter}
 use Rattle.papaya_resize.specs.declared.new_map.NewMap.{NewMap}
+use Rattle.papaya_rule.specs.InWorld.{IsOut}
 use Rattle.papaya_rule.proofs.World.OthersSpared.{keeps_same}
-use Rattle.papaya_finishes.specs.Makings.{Beginning, HasTaken, HasMade, HasRoots, OpeningFacts, MakingFacts, IsMade, KeepsIts, HasComeTo}
+use Rattle.papaya_finishes.specs.Makings.{Beginning, HasTaken, HasMade, HasRoots, OpeningFacts, MakingFacts, IsMade, IsFirstTable, KeepsIts, HasComeTo}
 use Rattle.papaya_finishes.specs.Maps.{Standing}
 use Rattle.papaya_callers.specs.Together.{UnderWay, Together}
 use Rattle.papaya_finishes.proofs.Beside.Makings.Leaves.{IsItsRoot, LeavesOthers}
@@ -50,6 +51,7 @@ module _ {K Q : Type 0} (V : Type 0) (same : K → K → Bool) (asks : Q → K �
     pub left : LeavesOthers i b.machine w w2 batch_size roots
     pub keeps : KeepsIts V same asks batch_size roots slot w w2 b.machine end
     pub unused : (r : ℕ) → word_at w.memory (Used r) ≡ Some 0 → (word_at w2.memory (Used r) ≡ Some 0) ⊎ HasComeTo {Q = Q} V same asks batch_size roots slot end r
+    pub links : (x : ℕ) → IsOut (w2.hand x) → IsOut (w.hand x) ⊎ IsFirstTable w2 end x
     pub told : GoesTo w2 end
 
   module _ (f : MakingFacts w same batch_size roots i b) (free : HasRoots w roots) where
@@ -88,5 +90,6 @@ module _ {K Q : Type 0} (V : Type 0) (same : K → K → Bool) (asks : Q → K �
       left = left_same;
       keeps = subst (KeepsIts V same asks batch_size roots slot w w b.machine) (sym e) keeps;
       unused = λ r is. inl is;
+      links = λ x out. inl out;
       told = subst (GoesTo w) (sym e) told;
     }

@@ -5,6 +5,12 @@ use Rattle.papaya_owned.specs.Owned.{hashed_by}
 use Rattle.papaya_resting.proofs.Done.{comes_as, key_comes_back}
 use Rattle.papaya_resting.proofs.asking.update_or_insert_with.Goals as goal
 
+pub refresh-requires : goal.refresh-requires
+refresh-requires g c = (c.requires.holds.0, c.requires.holds.1)
+
+pub update_or_insert_with-requires : goal.update_or_insert_with-requires
+update_or_insert_with-requires g c = let r = c.requires.holds in record { holds = (r.0, c.refresh.ensures r.0 r.1, r.2, r.3) }
+
 pub returns-clause-comes : goal.returns-clause-comes
 returns-clause-comes g c = λ xs has.
     comes_as g.K.PartialEq.eq (hashed_by g.S.Hasher.Hasher.finish g.S.Hasher.Hasher.write g.S.BuildHasher.build_hasher g.K.Hash.hash_input c.args.hasher.now) c.args.setting c.update_or_insert_with.new.memory c.args.key xs

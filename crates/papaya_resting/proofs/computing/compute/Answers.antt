@@ -4,6 +4,12 @@ use Rattle.papaya_owned.specs.Owned.{hashed_by}
 use Rattle.papaya_resting.proofs.Done.{computes_as, key_of_computing}
 use Rattle.papaya_resting.proofs.computing.compute.Goals as goal
 
+pub refresh-requires : goal.refresh-requires
+refresh-requires g c = (c.requires.holds.0, c.requires.holds.1)
+
+pub compute-requires : goal.compute-requires
+compute-requires g c = let r = c.requires.holds in record { holds = (r.0, c.refresh.ensures r.0 r.1, r.2) }
+
 pub returns-clause-comes : goal.returns-clause-comes
 returns-clause-comes g c = λ xs has.
     computes_as g.K.PartialEq.eq (hashed_by g.S.Hasher.Hasher.finish g.S.Hasher.Hasher.write g.S.BuildHasher.build_hasher g.K.Hash.hash_input c.args.hasher.now) c.args.setting c.compute.new.memory c.args.key xs

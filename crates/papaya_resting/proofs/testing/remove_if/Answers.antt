@@ -5,6 +5,12 @@ use Rattle.papaya_owned.specs.Owned.{hashed_by}
 use Rattle.papaya_resting.proofs.Done.{ends_as}
 use Rattle.papaya_resting.proofs.testing.remove_if.Goals as goal
 
+pub refresh-requires : goal.refresh-requires
+refresh-requires g c = (c.requires.holds.0, c.requires.holds.1)
+
+pub remove_if-requires : goal.remove_if-requires
+remove_if-requires g c = let r = c.requires.holds in record { holds = (r.0, c.refresh.ensures r.0 r.1, r.2) }
+
 pub returns : goal.returns
 returns g c = λ xs has.
     ends_as g.K.PartialEq.eq (hashed_by g.S.Hasher.Hasher.finish g.S.Hasher.Hasher.write g.S.BuildHasher.build_hasher g.K.Hash.hash_input c.args.hasher.now) c.args.setting c.remove_if.new.memory (g.Q.Equivalent.equivalent c.args.asked.now) None xs

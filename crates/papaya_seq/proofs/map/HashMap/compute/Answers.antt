@@ -1,11 +1,18 @@
 -- By what the call comes to in the order in which its pairs were stored.
 use Rattle.std.specs.Prelude.{Some}
+use Rattle.std.proofs.Common.{◌∙◌, sym}
 use Rattle.papaya_asks.specs.Closures.{ComputesAs}
 use Rattle.papaya_asks.specs.declared.refused.RefusedKey.{RefusedKey}
 use Rattle.papaya_owned.specs.Owned.{hashed_by}
 use Rattle.papaya_seq.proofs.Done.{computes_rests, shows_computed, shows_uncomputed, shows_why}
 use Rattle.papaya_seq.proofs.Shows.{counts, seen_first, seen_held}
 use Rattle.papaya_seq.proofs.map.HashMap.compute.Goals as goal
+
+pub compute-requires : goal.compute-requires
+compute-requires g c =
+    let held = c.self.invariant in
+    let first = seen_first _ _ _ _ held.0 held.1 c.self.inside.resting.tables _ _ _ _ c.self.view_is (g.K.PartialEq.eq c.args.key) (g.met.K.Eq.laws.congr c.args.key) in
+    record { holds = (held.0, held.1, λ shown is. c.requires.callable shown (is ∙ sym first)) }
 
 pub invariant_of-self-inside : goal.invariant_of-self-inside
 invariant_of-self-inside g c =

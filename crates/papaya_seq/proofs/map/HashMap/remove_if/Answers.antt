@@ -1,11 +1,18 @@
 -- By what the call comes to in the order in which its pairs were stored.
 use Rattle.std.specs.Prelude.{None}
+use Rattle.std.proofs.Common.{◌∙◌}
 use Rattle.papaya_asks.specs.Closures.{Removing, TestsAs}
 use Rattle.seize_words.specs.declared.fault.Fault.{Fault}
 use Rattle.papaya_owned.specs.Owned.{hashed_by}
 use Rattle.papaya_seq.proofs.Done.{comes_rests, room_alone, shows_changed, shows_unchanged}
 use Rattle.papaya_seq.proofs.Shows.{counts, seen_first, seen_held}
 use Rattle.papaya_seq.proofs.map.HashMap.remove_if.Goals as goal
+
+pub remove_if-requires : goal.remove_if-requires
+remove_if-requires g c =
+    let held = c.self.invariant in
+    let first = seen_first _ _ _ _ held.0 held.1 c.self.inside.resting.tables _ _ _ _ c.self.view_is (g.Q.Equivalent.equivalent c.args.asked.now) (λ x y. g.met.Q.Equivalent.respects_eq c.args.asked.now x y) in
+    record { holds = (held.0, held.1, λ x there. c.requires.callable x (first ∙ there)) }
 
 pub invariant_of-self-inside : goal.invariant_of-self-inside
 invariant_of-self-inside g c =

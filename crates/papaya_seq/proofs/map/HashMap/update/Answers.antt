@@ -1,12 +1,19 @@
 -- By what the call comes to in the order in which its pairs were stored.
 use Rattle.std.specs.Prelude.{Some}
 use Rattle.std.specs.Fn.{FnOnceReturnsAt}
+use Rattle.std.proofs.Common.{◌∙◌}
 use Rattle.papaya_asks.specs.Closures.{Updating}
 use Rattle.papaya_asks.specs.declared.refused.RefusedKey.{RefusedKey}
 use Rattle.papaya_owned.specs.Owned.{hashed_by}
 use Rattle.papaya_seq.proofs.Done.{comes_rests, room_alone, shows_changed, shows_unchanged}
 use Rattle.papaya_seq.proofs.Shows.{counts, seen_first, seen_held}
 use Rattle.papaya_seq.proofs.map.HashMap.update.Goals as goal
+
+pub update-requires : goal.update-requires
+update-requires g c =
+    let held = c.self.invariant in
+    let first = seen_first _ _ _ _ held.0 held.1 c.self.inside.resting.tables _ _ _ _ c.self.view_is (g.K.PartialEq.eq c.args.key) (g.met.K.Eq.laws.congr c.args.key) in
+    record { holds = (held.0, held.1, λ x there. c.requires.callable x (first ∙ there)) }
 
 pub invariant_of-self-inside : goal.invariant_of-self-inside
 invariant_of-self-inside g c =

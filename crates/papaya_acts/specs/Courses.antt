@@ -1,0 +1,28 @@
+-- A list of acts leads to the same by whichever course: the same memory, the same machines under way, and the same answers.
+use Rattle.std.specs.Prelude.{◌≡◌, ℕ, Bool, List, option_map}
+use Rattle.papaya_tables.specs.declared.setting.Setting.{Setting}
+use Rattle.papaya_finishes.specs.Machines.{machine_of}
+use Rattle.papaya_finishes.specs.Maps.{Standing}
+use Rattle.papaya_executor.specs.IsAt.{Scene}
+use Rattle.papaya_acts.specs.Acts.{Act}
+use Rattle.papaya_acts.specs.Leads.{HasNoCall}
+use Rattle.papaya_acts.specs.Lists.{Course, Reached, LedTo}
+
+-- what callers know of a map: its setting, and the hash of its keys
+abbrev pub set_up : {K : Type 0} → Standing K → Setting × (K → ℕ)
+set_up s = (s.setting, s.hash)
+
+-- Of two scenes the memory is the same, what callers know of the maps, the machines of calls, makings and ends, and the rows between calls.
+pub record AreAlike {K V : Type 0} (s t : Scene K V) : Type 0 where
+  pub memory : s.world.memory ≡ t.world.memory
+  pub maps : (m : ℕ) → option_map set_up (s.maps m) ≡ option_map set_up (t.maps m)
+  pub calls : (m i : ℕ) → option_map machine_of (s.calls m i) ≡ option_map machine_of (t.calls m i)
+  pub makers : (i : ℕ) → s.makers i ≡ t.makers i
+  pub enders : (i : ℕ) → option_map (λ f. f.machine) (s.enders i) ≡ option_map (λ f. f.machine) (t.enders i)
+  pub rows : (i : ℕ) → HasNoCall s i → s.world.row i ≡ t.world.row i
+
+-- The promise: where a list of acts leads by one course, and where by another one, is alike, and the same was told.
+abbrev pub CoursesAgree : {K : Type 0} (V : Type 0) (same : K → K → Bool) (hash : K → ℕ) (batch_size roots : ℕ) (slot : ℕ → ℕ) → Type 0
+CoursesAgree {K} V same hash batch_size roots slot =
+    (one other : Course V same hash batch_size roots slot) (acts : List (Act K V)) (x y : Reached V same hash batch_size roots slot)
+    → LedTo V same hash batch_size roots slot one acts x → LedTo V same hash batch_size roots slot other acts y → AreAlike x.0.0 y.0.0 × (x.1 ≡ y.1)

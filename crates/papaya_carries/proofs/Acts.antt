@@ -1,0 +1,126 @@
+-- Whichever act is made, each block behind which something may be put is somebody's then.
+use Rattle.std.specs.Prelude.{◌++◌, Option, Some}
+use Rattle.std.proofs.Common.{◌≡◌, ℕ, Bool, List, [], ◌∷◌, refl, ap, sym, subst}
+use Rattle.std.proofs.lemmas.List.{append-nil}
+use Rattle.seize_words.specs.Mem.{Mem}
+use Rattle.seize.specs.Law.{Ended}
+use Rattle.seize.specs.World.{World, with_at, with_effect}
+use Rattle.seize.specs.declared.progress.Progress.{Progress}
+use Rattle.seize.specs.declared.progress.Progress.TheVariants as progress
+use Rattle.seize.specs.declared.rows.settle.Settled.{Settled}
+use Rattle.seize.specs.declared.rows.settle.Settled.TheVariants as settled
+use Rattle.seize_acts.proofs.Answers.{was_stepped}
+use Rattle.papaya_tables.specs.declared.node.Node.{Node}
+use Rattle.papaya_tables.specs.declared.setting.Setting.{Setting}
+use Rattle.papaya_resize.specs.declared.new_map.NewMap.{NewMap}
+use Rattle.papaya_resize.specs.declared.copier.Copier.{Copier}
+use Rattle.papaya_raw.specs.Machine.{machine_plan, machine_asked}
+use Rattle.papaya_raw.specs.declared.machines.end_map.EndMap.{EndMap}
+use Rattle.papaya_callers.specs.Together.{UnderWay}
+use Rattle.papaya_finishes.specs.Endings.{Finishing, MakingStepsAmong, StepsOfEnding, waiting_by}
+use Rattle.papaya_finishes.specs.FactsEnds.{Deed, taken_by}
+use Rattle.papaya_finishes.specs.Machines.{machine_of}
+use Rattle.papaya_finishes.specs.Makings.{Beginning}
+use Rattle.papaya_finishes.specs.Maps.{Standing, with_call}
+use Rattle.papaya_reclaims.specs.Left.{GoesOnBy}
+use Rattle.papaya_executor.specs.IsAt.{Scene}
+use Rattle.papaya_executor.specs.Replying.{unless_stopped}
+use Rattle.papaya_acts.specs.Acts.{Act, Answer, begun}
+use Rattle.papaya_acts.specs.Acts.{BeginsCall, StepsCall, TellsCall, AsksCall, StopsCall, BeginsMaking, StepsMaking, BeginsEnding, StepsEnding, BeginsRow, StepsRow}
+use Rattle.papaya_acts.specs.Leads.{MayBe, AllStand, Led, MakingCame, EndingCame}
+use Rattle.papaya_acts.proofs.Tests.{none_is}
+use Rattle.papaya_carries.specs.Lists.{AreTheirs, ActsKeepTheirs}
+use Rattle.papaya_carries.specs.Theirs.{copier_of, AllAreTheirs}
+use Rattle.papaya_carries.proofs.Endings.{endings_begin_and_keep_theirs, endings_keep_theirs}
+use Rattle.papaya_carries.proofs.Guards.{changes_keep_theirs, guards_keep_theirs}
+use Rattle.papaya_carries.proofs.Machines.{kind_theirs}
+use Rattle.papaya_carries.proofs.Makings.{makings_keep_theirs}
+use Rattle.papaya_carries.proofs.Owed.{one_some}
+use Rattle.papaya_carries.proofs.Told.{told_on, next_on, not_stopped}
+
+-- an end goes on, with what it has reclaimed by now, and what waits
+pub goes_on_by : {K V Q : Type 0} (same : K → K → Bool) (asks : Q → K → Bool) (batch_size roots : ℕ) (slot : ℕ → ℕ) (w : World (Node K V)) (maps : ℕ → Option (Standing K))
+    (calls : ℕ → ℕ → Option (UnderWay K V Q)) (makers : ℕ → Option (Beginning K)) (enders : ℕ → Option (Finishing K V)) (f : Finishing K V) (machine : EndMap) (deed : Deed) (back : List ℕ)
+    → taken_by deed ≡ back → GoesOnBy V same asks batch_size roots slot w maps calls makers enders f deed (record f { machine = machine; back = f.back ++ back; waits = f.waits ++ waiting_by deed })
+goes_on_by same asks batch_size roots slot w maps calls makers enders f machine deed back taken =
+    record { setting_is = refl; chart_is = refl; blocks_are = refl; back_is = ap (λ (l : List ℕ). f.back ++ l) (sym taken); waits_are = refl }
+
+-- one that has taken nothing has reclaimed what it had
+pub goes_on_same : {K V : Type 0} (f : Finishing K V) (machine : EndMap) (waits : List ℕ)
+    → ◌≡◌ {A = Finishing K V} (record f { machine = machine; back = f.back ++ []; waits = waits }) (record f { machine = machine; waits = waits })
+goes_on_same f machine waits = ap (λ (l : List ℕ). record f { machine = machine; back = l; waits = waits }) (append-nil f.back)
+
+module _ {K V : Type 0} (same : K → K → Bool) (hash : K → ℕ) (batch_size roots : ℕ) (slot : ℕ → ℕ) (s n : Scene K V) (all : AllStand same hash batch_size roots slot s)
+    (stand : AllStand same hash batch_size roots slot n) (theirs : AreTheirs s) where
+  to : (x : Scene K V) → n ≡ x → AreTheirs x → AreTheirs n
+  to x is so = subst AreTheirs (sym is) so
+
+  -- what is under way is another thing, with the copier that was within it
+  changed : (m i : ℕ) (next : Option (UnderWay K V K))
+      → ((u : UnderWay K V K) (p : Copier) → s.calls m i ≡ Some u → copier_of u ≡ Some p → (u2 : UnderWay K V K) × (next ≡ Some u2) × (copier_of u2 ≡ Some p))
+      → AreTheirs (record s { calls = with_call s.calls m i next })
+  changed m i next still =
+      changes_keep_theirs V same same batch_size roots slot s.world s.maps s.calls s.makers s.enders m i next
+      (λ u b here owes. let k = still u owes.0 here owes.1 in (k.0, k.1, (owes.0, k.2, owes.2))) theirs
+
+  of_call : (m i : ℕ) (u : UnderWay K V K) → s.calls m i ≡ Some u → (v : UnderWay K V K) (p : Copier) → s.calls m i ≡ Some v → copier_of v ≡ Some p → copier_of u ≡ Some p
+  of_call m i u here v p there has = subst (λ (x : UnderWay K V K). copier_of x ≡ Some p) (one_some (s.calls m i) v u there here) has
+
+  -- by what a making tells
+  made : (i : ℕ) (b : Beginning K) → s.makers i ≡ Some b → (m2 : Mem (Node K V)) (machine : NewMap) (end : Progress Setting)
+      (did : MakingStepsAmong V same same batch_size roots slot s.world s.maps s.calls s.makers s.enders i b m2 (machine, end)) → MakingCame same hash batch_size roots slot s i b did.step.w2 machine n end → AreTheirs n
+  made i b makes m2 machine progress.Goes did is = to _ is (makings_keep_theirs V same same batch_size roots slot s.world s.maps s.calls s.makers s.enders all theirs i b makes m2 (machine, progress.Goes) did.step)
+  made i b makes m2 machine progress.Waits did never = absurd never
+  made i b makes m2 machine (progress.Done setting) did (standing, is_made, is) =
+      to _ is (makings_keep_theirs V same same batch_size roots slot s.world s.maps s.calls s.makers s.enders all theirs i b makes m2 (machine, progress.Done setting) did.step standing is_made
+      (subst (AllStand same hash batch_size roots slot) is stand).makings.standing)
+  made i b makes m2 machine (progress.Refused fault) did is =
+      to _ is (makings_keep_theirs V same same batch_size roots slot s.world s.maps s.calls s.makers s.enders all theirs i b makes m2 (machine, progress.Refused fault) did.step)
+
+  -- by what an end tells
+  ended : (i : ℕ) (f : Finishing K V) → s.enders i ≡ Some f → (m2 : Mem (Node K V)) (machine : EndMap) (end : Settled (Node K V))
+      (did : StepsOfEnding V same same batch_size roots slot s.world s.maps s.calls s.makers s.enders i f m2 (machine, end)) → EndingCame same hash batch_size roots slot s i f did.w2 did.deed machine n end → AreTheirs n
+  ended i f ends m2 machine end did came = by end did came
+    where
+      goes : (e : Settled (Node K V)) (d : StepsOfEnding V same same batch_size roots slot s.world s.maps s.calls s.makers s.enders i f m2 (machine, e)) (back : List ℕ) → taken_by d.deed ≡ back
+          → AllAreTheirs d.w2 s.maps s.calls (with_at s.enders i (Some (record f { machine = machine; back = f.back ++ back; waits = f.waits ++ waiting_by d.deed })))
+      goes e d back taken =
+          (endings_keep_theirs V same same batch_size roots slot s.world s.maps s.calls s.makers s.enders theirs i f ends m2 (machine, e) d).0
+          (record f { machine = machine; back = f.back ++ back; waits = f.waits ++ waiting_by d.deed })
+          (goes_on_by same same batch_size roots slot s.world s.maps s.calls s.makers s.enders f machine d.deed back taken)
+
+      by : (e : Settled (Node K V)) (d : StepsOfEnding V same same batch_size roots slot s.world s.maps s.calls s.makers s.enders i f m2 (machine, e)) → EndingCame same hash batch_size roots slot s i f d.w2 d.deed machine n e → AreTheirs n
+      by settled.Goes d (none, is) =
+          to _ is (subst (λ (x : Finishing K V). AllAreTheirs d.w2 s.maps s.calls (with_at s.enders i (Some x))) (goes_on_same f machine (f.waits ++ waiting_by d.deed)) (goes settled.Goes d [] none))
+      by settled.Waits d never = absurd never
+      by (settled.Gave value) d (b, was, taken, is) = to _ is (goes (settled.Gave value) d (b ∷ []) taken)
+      by settled.Done d (none, finished, is) =
+          to _ is ((endings_keep_theirs V same same batch_size roots slot s.world s.maps s.calls s.makers s.enders theirs i f ends m2 (machine, settled.Done) d).1 finished)
+
+  pub by_act : (act : Act K V) → MayBe same hash batch_size roots slot act s → (told : Answer K V) → Led same hash batch_size roots slot act s told n → AreTheirs n
+  by_act (BeginsCall i m wanted) may told (standing, stands, none, is) =
+      to _ is (changed m i (Some (begun same slot standing i wanted)) (λ u p here has. absurd (let free = none_is (s.calls m i) (may.0.no_call m) in cc (free, here))))
+  by_act (StepsCall i m g) may told led =
+      to _ led.comes (kind_theirs V same same batch_size roots slot s.world s.maps s.calls s.makers s.enders all theirs m led.standing led.stands i led.memory led.did.w2 led.did.maps2 led.did.next
+      led.call led.here led.machine led.progress
+      (was_stepped s.world.memory g (machine_plan same same led.standing.hash (machine_of led.call)) (led.memory, (led.machine, led.progress)) led.computed) led.did.did)
+  by_act (TellsCall i m reply) may told (standing, stands, u, next, here, machine_is, told_is, kind, is) =
+      to _ is (changed m i (Some next) (λ v p there has. (next, refl, told_on p u next reply machine_is (of_call m i u here v p there has))))
+  by_act (AsksCall i m) may told (u, next, here, machine_is, told_is, is) =
+      to _ is (changed m i (Some next) (λ v p there has. (next, refl, next_on p u next machine_is (of_call m i u here v p there has))))
+  by_act (StopsCall i m) may told (u, here, told_is, is) =
+      to _ is (changed m i (unless_stopped (machine_asked (machine_of u)).1 u)
+      (λ v p there has. let k = of_call m i u here v p there has in (u, not_stopped p u (machine_asked (machine_of u)).1 refl k, k)))
+  by_act (BeginsMaking i map given places power sized) may told (told_is, is) = to _ is theirs
+  by_act (StepsMaking i g) may told (b, makes, m2, machine, end, computed, told_is, did, came) = made i b makes m2 machine end did came
+  by_act (BeginsEnding i m) may told (standing, stands, told_is, is) =
+      to _ is (endings_begin_and_keep_theirs V same same batch_size roots slot s.world s.maps s.calls s.makers s.enders theirs i (none_is (s.enders i) may.0.no_ending) m standing stands
+      (λ j. none_is (s.calls m j) (may.2 j)) (with_effect s.world (Ended standing.setting.counter)) refl)
+  by_act (StepsEnding i g) may told (f, ends, m2, machine, end, computed, told_is, did, came) = ended i f ends m2 machine end did came
+  by_act (BeginsRow i request) may told (w2, happens, maps2, same_maps, told_is, is) =
+      to _ is ((guards_keep_theirs V same same batch_size roots slot s.world s.maps s.calls s.makers s.enders all theirs i (λ m. none_is (s.calls m i) (may.0 m)) w2 maps2 same_maps).0 request may.2 happens)
+  by_act (StepsRow i g) may told (w2, computed, happens, maps2, same_maps, told_is, is) =
+      to _ is ((guards_keep_theirs V same same batch_size roots slot s.world s.maps s.calls s.makers s.enders all theirs i (λ m. none_is (s.calls m i) (may.0 m)) w2 maps2 same_maps).1 happens)
+
+pub acts_keep_theirs : {K : Type 0} (V : Type 0) (same : K → K → Bool) (hash : K → ℕ) (batch_size roots : ℕ) (slot : ℕ → ℕ) → ActsKeepTheirs V same hash batch_size roots slot
+acts_keep_theirs V same hash batch_size roots slot s n all stand act may told led theirs = by_act same hash batch_size roots slot s n all stand theirs act may told led

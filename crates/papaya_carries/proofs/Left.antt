@@ -1,0 +1,131 @@
+-- Whichever act is made, what ended maps have left is behind roots that are nobody's.
+use Rattle.std.specs.Prelude.{◌≢◌, ◌⊎◌, ◌++◌, Option, Some, None}
+use Rattle.std.proofs.Common.{◌≡◌, ℕ, Bool, List, [], ◌∷◌, inl, inr, refl, ap, sym, subst, ◌∙◌}
+use Rattle.std.proofs.lemmas.Bool.{cases_eq}
+use Rattle.seize_words.specs.Mem.{Mem}
+use Rattle.seize.specs.Law.{Ended}
+use Rattle.seize.specs.World.{World, with_at, with_effect}
+use Rattle.seize.specs.declared.progress.Progress.{Progress}
+use Rattle.seize.specs.declared.progress.Progress.TheVariants as progress
+use Rattle.seize.specs.declared.rows.settle.Settled.{Settled}
+use Rattle.seize.specs.declared.rows.settle.Settled.TheVariants as settled
+use Rattle.papaya_tables.specs.declared.node.Node.{Node}
+use Rattle.papaya_tables.specs.declared.setting.Setting.{Setting}
+use Rattle.papaya_resize.specs.declared.new_map.NewMap.{NewMap}
+use Rattle.papaya_raw.specs.declared.machines.end_map.EndMap.{EndMap}
+use Rattle.papaya_callers.proofs.Together.At.{at_other, at_same}
+use Rattle.papaya_finishes.specs.Endings.{Finishing, MakingStepsAmong, StepsOfEnding, waiting_by}
+use Rattle.papaya_finishes.specs.FactsEnds.{taken_by}
+use Rattle.papaya_finishes.specs.Makings.{Beginning}
+use Rattle.papaya_finishes.specs.Maps.{Standing}
+use Rattle.papaya_reclaims.specs.Left.{IsSomebodys, LeftAmong}
+use Rattle.papaya_reclaims.specs.Reclaims.{IsRootOf, RootLeads}
+use Rattle.papaya_reclaims.proofs.Left.Calls.{machines_leave_it, guards_leave_it}
+use Rattle.papaya_reclaims.proofs.Left.Endings.{endings_begin_and_leave_it, endings_leave_it}
+use Rattle.papaya_reclaims.proofs.Left.Makings.{makings_begin_and_leave_it, makings_leave_it}
+use Rattle.papaya_executor.specs.IsAt.{Scene}
+use Rattle.papaya_acts.specs.Acts.{Act, Answer}
+use Rattle.papaya_acts.specs.Acts.{BeginsCall, StepsCall, TellsCall, AsksCall, StopsCall, BeginsMaking, StepsMaking, BeginsEnding, StepsEnding, BeginsRow, StepsRow}
+use Rattle.papaya_acts.specs.Leads.{MayBe, AllStand, Led, MakingCame, EndingCame, making_begun}
+use Rattle.papaya_acts.proofs.Tests.{none_is}
+use Rattle.papaya_carries.specs.Lists.{IsLeft, ActsLeaveIt}
+use Rattle.papaya_carries.proofs.Acts.{goes_on_by, goes_on_same}
+use Rattle.papaya_carries.proofs.Owed.{one_some}
+
+-- a map that came has that root, whatever else is said of it
+module _ {K V : Type 0} (roots : ℕ) (w : World (Node K V)) (maps : ℕ → Option (Standing K)) (makers : ℕ → Option (Beginning K)) (enders : ℕ → Option (Finishing K V)) (k : ℕ) where
+  root_as : (s r : Standing K) → s.setting ≡ r.setting → (root : ℕ) → IsRootOf (with_at maps k (Some s)) root → IsRootOf (with_at maps k (Some r)) root
+  root_as s r e root (m, it, here, is) = by (cases_eq m k)
+    where
+      by : (m ≡ k) ⊎ (m ≢ k) → IsRootOf (with_at maps k (Some r)) root
+      by (inl at) = (
+        k,
+        r,
+        at_same maps k (Some r) k refl,
+        ap (λ (x : Setting). x.root) (sym e) ∙ ap (λ (x : Standing K). x.setting.root) (one_some (with_at maps k (Some s) m) s it (at_same maps k (Some s) m at) here) ∙ is,
+      )
+      by (inr ne) = (m, it, at_other maps k (Some r) m ne ∙ sym (at_other maps k (Some s) m ne) ∙ here, is)
+
+  somebodys_as : (s r : Standing K) → s.setting ≡ r.setting → (root : ℕ) → IsSomebodys (with_at maps k (Some s)) makers enders root → IsSomebodys (with_at maps k (Some r)) makers enders root
+  somebodys_as s r e root (inl is) = inl (root_as s r e root is)
+  somebodys_as s r e root (inr other) = inr other
+
+  left_as : (s r : Standing K) → s.setting ≡ r.setting → (lists : ℕ → List ℕ) → LeftAmong roots w (with_at maps k (Some s)) makers enders lists → LeftAmong roots w (with_at maps k (Some r)) makers enders lists
+  left_as s r e lists left = record {
+    root = λ root below. (elim (left.root root below) as (λ _. IsSomebodys (with_at maps k (Some r)) makers enders root ⊎ RootLeads w root (lists root)) [
+      | inl is ↦ inl (somebodys_as s r e root is)
+      | inr leads ↦ inr leads
+    ]);
+    none = λ root below is. left.none root below (somebodys_as r s (sym e) root is);
+    left = left.left;
+    once = left.once;
+    apart = left.apart;
+  }
+
+module _ {K V : Type 0} (same : K → K → Bool) (hash : K → ℕ) (batch_size roots : ℕ) (slot : ℕ → ℕ) (s n : Scene K V) (all : AllStand same hash batch_size roots slot s)
+    (lists : ℕ → List ℕ) (left : IsLeft V same hash batch_size roots slot s lists) where
+  abbrev Is : Scene K V → (ℕ → List ℕ) → Type 0
+  Is x lists2 = IsLeft V same hash batch_size roots slot x lists2
+
+  abbrev Then : Type 0
+  Then = (lists2 : ℕ → List ℕ) × Is n lists2
+
+  to : (x : Scene K V) → n ≡ x → Is x lists → Then
+  to x is so = (lists, subst (λ (y : Scene K V). Is y lists) (sym is) so)
+
+  made : (i : ℕ) (b : Beginning K) → s.makers i ≡ Some b → (m2 : Mem (Node K V)) (machine : NewMap) (end : Progress Setting)
+      (did : MakingStepsAmong V same same batch_size roots slot s.world s.maps s.calls s.makers s.enders i b m2 (machine, end)) → MakingCame same hash batch_size roots slot s i b did.step.w2 machine n end → Then
+  made i b makes m2 machine progress.Goes did is =
+      to _ is (makings_leave_it V same same batch_size roots slot s.world s.maps s.calls s.makers s.enders lists all left i b makes m2 (machine, progress.Goes) did)
+  made i b makes m2 machine progress.Waits did never = absurd never
+  made i b makes m2 machine (progress.Done setting) did (standing, is_made, is) =
+      to _ is (left_as roots did.step.w2 s.maps (with_at s.makers i None) s.enders b.map did.told.0 standing (did.told.1.setting_is ∙ sym is_made.setting_is) lists
+      (makings_leave_it V same same batch_size roots slot s.world s.maps s.calls s.makers s.enders lists all left i b makes m2 (machine, progress.Done setting) did))
+  made i b makes m2 machine (progress.Refused fault) did is =
+      to _ is (makings_leave_it V same same batch_size roots slot s.world s.maps s.calls s.makers s.enders lists all left i b makes m2 (machine, progress.Refused fault) did)
+
+  ended : (i : ℕ) (f : Finishing K V) → s.enders i ≡ Some f → (m2 : Mem (Node K V)) (machine : EndMap) (end : Settled (Node K V))
+      (did : StepsOfEnding V same same batch_size roots slot s.world s.maps s.calls s.makers s.enders i f m2 (machine, end)) → EndingCame same hash batch_size roots slot s i f did.w2 did.deed machine n end → Then
+  ended i f ends m2 machine end did came = by end did came
+    where
+      goes : (e : Settled (Node K V)) (d : StepsOfEnding V same same batch_size roots slot s.world s.maps s.calls s.makers s.enders i f m2 (machine, e)) (back : List ℕ) → taken_by d.deed ≡ back
+          → LeftAmong roots d.w2 s.maps s.makers (with_at s.enders i (Some (record f { machine = machine; back = f.back ++ back; waits = f.waits ++ waiting_by d.deed }))) lists
+      goes e d back taken =
+          (endings_leave_it V same same batch_size roots slot s.world s.maps s.calls s.makers s.enders lists all left i f ends m2 (machine, e) d).0
+          (record f { machine = machine; back = f.back ++ back; waits = f.waits ++ waiting_by d.deed })
+          (goes_on_by same same batch_size roots slot s.world s.maps s.calls s.makers s.enders f machine d.deed back taken)
+
+      by : (e : Settled (Node K V)) (d : StepsOfEnding V same same batch_size roots slot s.world s.maps s.calls s.makers s.enders i f m2 (machine, e)) → EndingCame same hash batch_size roots slot s i f d.w2 d.deed machine n e → Then
+      by settled.Goes d (none, is) =
+          to _ is (subst (λ (x : Finishing K V). LeftAmong roots d.w2 s.maps s.makers (with_at s.enders i (Some x)) lists) (goes_on_same f machine (f.waits ++ waiting_by d.deed)) (goes settled.Goes d [] none))
+      by settled.Waits d never = absurd never
+      by (settled.Gave value) d (b, was, taken, is) = to _ is (goes (settled.Gave value) d (b ∷ []) taken)
+      by settled.Done d (none, finished, is) = (
+        with_at lists f.setting.root f.waits,
+        subst (λ (y : Scene K V). Is y (with_at lists f.setting.root f.waits)) (sym is)
+            ((endings_leave_it V same same batch_size roots slot s.world s.maps s.calls s.makers s.enders lists all left i f ends m2 (machine, settled.Done) d).1 finished),
+      )
+
+  pub by_act : (act : Act K V) → MayBe same hash batch_size roots slot act s → (told : Answer K V) → Led same hash batch_size roots slot act s told n → Then
+  by_act (BeginsCall i m wanted) may told (standing, stands, none, is) = to _ is left
+  by_act (StepsCall i m g) may told led =
+      to _ led.comes (machines_leave_it V same same batch_size roots slot s.world s.maps s.calls s.makers s.enders lists all left m led.standing led.stands i led.call led.here led.memory led.machine led.progress
+      led.did)
+  by_act (TellsCall i m reply) may told (standing, stands, u, next, here, machine_is, told_is, kind, is) = to _ is left
+  by_act (AsksCall i m) may told (u, next, here, machine_is, told_is, is) = to _ is left
+  by_act (StopsCall i m) may told (u, here, told_is, is) = to _ is left
+  by_act (BeginsMaking i map given places power sized) may told (told_is, is) =
+      to _ is (makings_begin_and_leave_it V same same batch_size roots slot s.world s.maps s.calls s.makers s.enders lists left i (none_is (s.makers i) may.0.no_making) (making_begun hash roots map given places)
+      (λ taken. taken))
+  by_act (StepsMaking i g) may told (b, makes, m2, machine, end, computed, told_is, did, came) = made i b makes m2 machine end did came
+  by_act (BeginsEnding i m) may told (standing, stands, told_is, is) =
+      to _ is (endings_begin_and_leave_it V same same batch_size roots slot s.world s.maps s.calls s.makers s.enders lists all left i (none_is (s.enders i) may.0.no_ending) m standing stands
+      (with_effect s.world (Ended standing.setting.counter)) refl)
+  by_act (StepsEnding i g) may told (f, ends, m2, machine, end, computed, told_is, did, came) = ended i f ends m2 machine end did came
+  by_act (BeginsRow i request) may told (w2, happens, maps2, same_maps, told_is, is) =
+      to _ is ((guards_leave_it V same same batch_size roots slot s.world s.maps s.calls s.makers s.enders lists all left i w2 maps2 same_maps).0 request may.2 happens)
+  by_act (StepsRow i g) may told (w2, computed, happens, maps2, same_maps, told_is, is) =
+      to _ is ((guards_leave_it V same same batch_size roots slot s.world s.maps s.calls s.makers s.enders lists all left i w2 maps2 same_maps).1 happens)
+
+pub acts_leave_it : {K : Type 0} (V : Type 0) (same : K → K → Bool) (hash : K → ℕ) (batch_size roots : ℕ) (slot : ℕ → ℕ) → ActsLeaveIt V same hash batch_size roots slot
+acts_leave_it V same hash batch_size roots slot s n all act may told led lists left = by_act same hash batch_size roots slot s n all lists left act may told led

@@ -1,0 +1,118 @@
+-- Wherever a list of acts has led: each block is somebody's behind which something may be put, any caller may reclaim all where nobody has anything under way,
+-- and nothing else waits then.
+use Rattle.std.specs.Prelude.{Option, Some, None, IsSome, is_some}
+use Rattle.std.proofs.Common.{◌≡◌, ℕ, Bool, List, [], ◌∷◌, inl, inr, refl, ap, sym, subst}
+use Rattle.seize_words.specs.declared.at.At.TheVariants.{Slot}
+use Rattle.seize_words.specs.Mem.{word_at}
+use Rattle.seize.specs.ReclaimAll.{reclaiming_all, clearing}
+use Rattle.seize.specs.World.{at_start}
+use Rattle.seize.specs.declared.rows.reclaim_all.ReclaimAll.{ReclaimAll}
+use Rattle.seize.specs.declared.rows.settle.Settled.{Settled}
+use Rattle.seize.specs.declared.rows.settle.Settled.TheVariants as settled
+use Rattle.seize.specs.declared.states.TheConstants.{HEAD}
+use Rattle.seize_acts.specs.Answers.{Grant}
+use Rattle.papaya_tables.specs.Nodes.{deferred_word}
+use Rattle.papaya_tables.specs.declared.node.Node.{Node}
+use Rattle.papaya_points.proofs.Making.OwnTables.{zero_at}
+use Rattle.papaya_reclaims.specs.Slots.{IsQuiet}
+use Rattle.papaya_reclaims.proofs.Left.Stays.{left_is_left_behind, nothing_is_left}
+use Rattle.papaya_reclaims.proofs.Promised.{reclaiming_begins}
+use Rattle.papaya_executor.specs.IsAt.{Scene, at_first}
+use Rattle.papaya_acts.specs.Acts.{Act}
+use Rattle.papaya_acts.specs.Lists.{Course, Reached, LedTo}
+use Rattle.papaya_acts.specs.Reclaiming.{IsReclaimingAll, ReclaimedOn}
+use Rattle.papaya_carries.specs.Lists.{AreTheirs, IsLeft, ReclaimsTo, OnlyPairsAreLeft, ListsKeepTheirs, ReclaimingBeginsThere, OnlyPairsWaitThere, AllCanBeReclaimedThere}
+use Rattle.papaya_carries.proofs.Acts.{by_act}
+use Rattle.papaya_carries.proofs.Guards.{none_begins}
+use Rattle.papaya_carries.proofs.Left as left
+use Rattle.papaya_carries.proofs.Reclaimed.{reclaiming_comes_to_end}
+use Rattle.papaya_carries.proofs.Reclaiming.{reclaiming_keeps_theirs, nothing_else_waits}
+
+module _ {K : Type 0} (V : Type 0) (same : K → K → Bool) (hash : K → ℕ) (batch_size roots : ℕ) (slot : ℕ → ℕ) where
+  -- at first users have nothing, and all roots are free
+  none_at_first : AreTheirs (at_first {K = K} {V = V} roots)
+  none_at_first =
+      none_begins {Q = K} V same same batch_size roots slot (at_start deferred_word roots) (λ m. None) (λ m i. None) (λ i. None) (λ i. None) (λ b had. had)
+
+  free_at_first : IsLeft V same hash batch_size roots slot (at_first roots) (λ r. [])
+  free_at_first = nothing_is_left K V roots (at_start deferred_word roots) (λ m. None) (λ i. None) (λ i. None) (λ r below. inr (zero_at roots r below, zero_at roots r below))
+
+  -- a step of a caller that reclaims all
+  module _ (i : ℕ) (s : Scene K V) (lists : ℕ → List ℕ) (c : ReclaimAll) (idle : IsReclaimingAll V same batch_size roots slot s i lists c) (theirs : AreTheirs s)
+      (g : Grant) (told : Settled (Node K V)) (v : Scene K V) (lists2 : ℕ → List ℕ) (c2 : ReclaimAll) (on : ReclaimedOn V same batch_size roots slot s i lists c g told v lists2 c2) where
+    abbrev led : Scene K V
+    led = record s { world = on.did.w2; maps = on.did.maps2 }
+
+    led_theirs : AreTheirs (record s { world = on.did.w2; maps = on.did.maps2 })
+    led_theirs = reclaiming_keeps_theirs V same same batch_size roots slot s.world s.maps s.calls s.makers s.enders idle.stand i lists on.memory c2 told on.did theirs
+
+    then_theirs : AreTheirs v
+    then_theirs = subst AreTheirs (sym on.comes) led_theirs
+
+    goes_on : IsReclaimingAll V same batch_size roots slot v i lists2 c2
+    goes_on =
+        subst (λ (x : Scene K V). IsReclaimingAll V same batch_size roots slot x i lists2 c2) (sym on.comes)
+        (subst (λ (l : ℕ → List ℕ). IsReclaimingAll V same batch_size roots slot led i l c2) (sym on.lists_are) on.did.next)
+
+    is_over : told ≡ settled.Done → OnlyPairsAreLeft V same hash batch_size roots slot v
+    is_over done =
+        subst (OnlyPairsAreLeft V same hash batch_size roots slot) (sym on.comes)
+        (on.did.over done, nothing_else_waits V same same batch_size roots slot on.did.w2 on.did.maps2 s.calls s.makers s.enders on.did.next.stand (on.did.over done) led_theirs)
+
+  -- and all of them
+  reclaimed_theirs : (i : ℕ) (s n : Scene K V) (lists : ℕ → List ℕ) (c : ReclaimAll) → IsReclaimingAll V same batch_size roots slot s i lists c → AreTheirs s → (grants : List Grant)
+      → ReclaimsTo V same hash batch_size roots slot i grants s lists c n → OnlyPairsAreLeft V same hash batch_size roots slot n
+  reclaimed_theirs i s n lists c idle theirs [] never = absurd never
+  reclaimed_theirs i s n lists c idle theirs (g ∷ grants) (told, v, lists2, c2, on, inl (done, is)) =
+      subst (OnlyPairsAreLeft V same hash batch_size roots slot) is (is_over i s lists c idle theirs g told v lists2 c2 on done)
+  reclaimed_theirs i s n lists c idle theirs (g ∷ grants) (told, v, lists2, c2, on, inr more) =
+      reclaimed_theirs i v n lists2 c2 (goes_on i s lists c idle theirs g told v lists2 c2 on) (then_theirs i s lists c idle theirs g told v lists2 c2 on) grants more
+
+  module _ (course : Course V same hash batch_size roots slot) where
+    pub lists_keep_theirs : ListsKeepTheirs V same hash batch_size roots slot course
+    lists_keep_theirs [] x led = subst (λ (y : Reached V same hash batch_size roots slot). AreTheirs y.0.0) (sym led) none_at_first
+    lists_keep_theirs (act ∷ acts) x (y, led, may, is) =
+        subst (λ (z : Reached V same hash batch_size roots slot). AreTheirs z.0.0) (sym is)
+        (by_act same hash batch_size roots slot y.0.0 (course.next y.0 act may).0 y.0.1 (course.next y.0 act may).1 (lists_keep_theirs acts y led) act may (course.told y.0 act may)
+        (course.leads y.0 act may))
+
+    left_there : (acts : List (Act K V)) (x : Reached V same hash batch_size roots slot) → LedTo V same hash batch_size roots slot course acts x
+        → (lists : ℕ → List ℕ) × IsLeft V same hash batch_size roots slot x.0.0 lists
+    left_there [] x led =
+        ((λ r. []), subst (λ (y : Reached V same hash batch_size roots slot). IsLeft V same hash batch_size roots slot y.0.0 (λ r. [])) (sym led) free_at_first)
+    left_there (act ∷ acts) x (y, led, may, is) =
+        let before = left_there acts y led in
+        let then = left.by_act same hash batch_size roots slot y.0.0 (course.next y.0 act may).0 y.0.1 before.0 before.1 act may (course.told y.0 act may) (course.leads y.0 act may) in
+        (then.0, subst (λ (z : Reached V same hash batch_size roots slot). IsLeft V same hash batch_size roots slot z.0.0 then.0) (sym is) then.1)
+
+    pub reclaiming_begins_there : ReclaimingBeginsThere V same hash batch_size roots slot course
+    reclaiming_begins_there word acts x led rest =
+        let there = left_there acts x led in
+        let behind = (left_is_left_behind K V roots x.0.0.world x.0.0.maps x.0.0.makers x.0.0.enders there.0 rest.no_makers rest.no_enders).0 there.1 in (
+          there.0,
+          λ i. reclaiming_begins V same same batch_size roots slot x.0.0.maps x.0.0.calls x.0.0.makers x.0.0.enders x.0.0.world i there.0 word
+              (record { together = x.0.1; no_calls = rest.no_calls; no_makers = rest.no_makers; no_enders = rest.no_enders }) rest.rows behind,
+        )
+
+    pub only_pairs_wait_there : OnlyPairsWaitThere V same hash batch_size roots slot course
+    only_pairs_wait_there acts x led i lists c idle grants n to = reclaimed_theirs i x.0.0 n lists c idle (lists_keep_theirs acts x led) grants to
+
+    pub all_can_be_reclaimed_there : AllCanBeReclaimedThere V same hash batch_size roots slot course
+    all_can_be_reclaimed_there word acts x led rest i = by (word_at x.0.0.world.memory (Slot 0 HEAD)) refl
+      where
+        begins : (lists : ℕ → List ℕ) × ((i : ℕ)
+            → (IsSome (word_at x.0.0.world.memory (Slot 0 HEAD)) → IsReclaimingAll V same batch_size roots slot x.0.0 i lists (reclaiming_all batch_size roots))
+            × (IsQuiet x.0.0.world → IsReclaimingAll V same batch_size roots slot x.0.0 i lists (clearing roots))
+            × (word_at x.0.0.world.memory (Slot 0 HEAD) ≡ None → IsQuiet x.0.0.world))
+        begins = reclaiming_begins_there word acts x led rest
+
+        from : (c : ReclaimAll) → IsReclaimingAll V same batch_size roots slot x.0.0 i begins.0 c → (lists : ℕ → List ℕ) × (c : ReclaimAll) × (grants : List Grant) × (n : Scene K V)
+            × ReclaimsTo V same hash batch_size roots slot i grants x.0.0 lists c n × OnlyPairsAreLeft V same hash batch_size roots slot n
+        from c idle =
+            let k = reclaiming_comes_to_end V same hash batch_size roots slot i word x.0.0 begins.0 c idle in
+            (begins.0, c, k.0, k.1, k.2, only_pairs_wait_there acts x led i begins.0 c idle k.0 k.1 k.2)
+
+        by : (o : Option ℕ) → word_at x.0.0.world.memory (Slot 0 HEAD) ≡ o → (lists : ℕ → List ℕ) × (c : ReclaimAll) × (grants : List Grant) × (n : Scene K V)
+            × ReclaimsTo V same hash batch_size roots slot i grants x.0.0 lists c n × OnlyPairsAreLeft V same hash batch_size roots slot n
+        by None is = let k = begins.1 i in from (clearing roots) (k.1 (k.2 is))
+        by (Some head) is = from (reclaiming_all batch_size roots) ((begins.1 i).0 (ap is_some is))

@@ -1,0 +1,95 @@
+-- What is promised of lists of acts: after any of them each block behind which something may be put is somebody's, what ended maps have left is behind roots
+-- that are nobody's, and once a caller has reclaimed all, nothing waits but pairs that are deferred on linked tables.
+use Rattle.std.specs.Prelude.{◌≡◌, ◌⊎◌, ℕ, ◌<◌, ◌^◌, Bool, List, [], ◌∷◌, None, IsSome}
+use Rattle.seize_words.specs.declared.at.At.TheVariants.{Slot}
+use Rattle.seize_words.specs.Mem.{word_at}
+use Rattle.seize.specs.ReclaimAll.{reclaiming_all, clearing}
+use Rattle.seize.specs.declared.rows.reclaim_all.ReclaimAll.{ReclaimAll}
+use Rattle.seize.specs.declared.rows.settle.Settled.{Settled}
+use Rattle.seize.specs.declared.rows.settle.Settled.TheVariants as settled
+use Rattle.seize.specs.declared.states.TheConstants.{HEAD}
+use Rattle.seize_acts.specs.Answers.{Grant}
+use Rattle.papaya_tables.specs.declared.node.Node.{Node}
+use Rattle.papaya_reclaims.specs.Deferred.{OnlyPairsWait}
+use Rattle.papaya_reclaims.specs.Left.{LeftAmong}
+use Rattle.papaya_reclaims.specs.Reclaims.{AllIsReclaimed}
+use Rattle.papaya_reclaims.specs.Slots.{AllRest, IsQuiet}
+use Rattle.papaya_executor.specs.IsAt.{Scene}
+use Rattle.papaya_acts.specs.Acts.{Act, Answer}
+use Rattle.papaya_acts.specs.Leads.{MayBe, AllStand, Led}
+use Rattle.papaya_acts.specs.Lists.{Course, Reached, LedTo}
+use Rattle.papaya_acts.specs.Reclaiming.{IsReclaimingAll, ReclaimedOn}
+use Rattle.papaya_carries.specs.Theirs.{AllAreTheirs}
+
+-- all that a scene has is somebody's
+abbrev pub AreTheirs : {K V : Type 0} → Scene K V → Type 0
+AreTheirs s = AllAreTheirs s.world s.maps s.calls s.enders
+
+-- nobody has a call, makes a map or ends one, and no row is under way
+pub record IsAtRest {K V : Type 0} (s : Scene K V) : Type 0 where
+  pub no_calls : (m i : ℕ) → s.calls m i ≡ None
+  pub no_makers : (i : ℕ) → s.makers i ≡ None
+  pub no_enders : (i : ℕ) → s.enders i ≡ None
+  pub rows : AllRest s.world
+
+module _ {K : Type 0} (V : Type 0) (same : K → K → Bool) (hash : K → ℕ) (batch_size roots : ℕ) (slot : ℕ → ℕ) where
+  -- The promise of one act: where each such block is somebody's, each is then.
+  abbrev pub ActsKeepTheirs : Type 0
+  ActsKeepTheirs =
+      (s n : Scene K V) → AllStand same hash batch_size roots slot s → AllStand same hash batch_size roots slot n → (act : Act K V) → MayBe same hash batch_size roots slot act s
+      → (told : Answer K V) → Led same hash batch_size roots slot act s told n → AreTheirs s → AreTheirs n
+
+  -- these lists are behind the roots that are nobody's, and each other one of these is free
+  abbrev pub IsLeft : Scene K V → (ℕ → List ℕ) → Type 0
+  IsLeft s lists = LeftAmong roots s.world s.maps s.makers s.enders lists
+
+  -- The promise of one act: what ended maps have left stays there, whichever comes to it.
+  abbrev pub ActsLeaveIt : Type 0
+  ActsLeaveIt =
+      (s n : Scene K V) → AllStand same hash batch_size roots slot s → (act : Act K V) → MayBe same hash batch_size roots slot act s
+      → (told : Answer K V) → Led same hash batch_size roots slot act s told n → (lists : ℕ → List ℕ) → IsLeft s lists → (lists2 : ℕ → List ℕ) × IsLeft n lists2
+
+  -- All is reclaimed there, and nothing waits but pairs that are deferred on linked tables of maps that stand, in resizes that are unfinished.
+  abbrev pub OnlyPairsAreLeft : Scene K V → Type 0
+  OnlyPairsAreLeft s = AllIsReclaimed roots s.world s.maps × OnlyPairsWait s.world s.maps
+
+  -- From here a caller that reclaims all has come to its end, in this scene, by steps, of each of which this is what the memory was free to choose.
+  abbrev pub ReclaimsTo : ℕ → List Grant → Scene K V → (ℕ → List ℕ) → ReclaimAll → Scene K V → Type 0
+  ReclaimsTo i [] s lists c n = ⊥
+  ReclaimsTo i (g ∷ grants) s lists c n =
+      (told : Settled (Node K V)) × (v : Scene K V) × (lists2 : ℕ → List ℕ) × (c2 : ReclaimAll) × ReclaimedOn V same batch_size roots slot s i lists c g told v lists2 c2
+      × (((told ≡ settled.Done) × (v ≡ n)) ⊎ ReclaimsTo i grants v lists2 c2 n)
+
+  -- The promise of caller i: where it reclaims all, there are steps by which it comes to its end.
+  abbrev pub ReclaimingComesToEnd : ℕ → Type 0
+  ReclaimingComesToEnd i =
+      batch_size < 2 ^ 64 → (s : Scene K V) (lists : ℕ → List ℕ) (c : ReclaimAll) → IsReclaimingAll V same batch_size roots slot s i lists c
+      → (grants : List Grant) × (n : Scene K V) × ReclaimsTo i grants s lists c n
+
+  module _ (course : Course V same hash batch_size roots slot) where
+    -- The promise: wherever a list of acts has led, each block behind which something may be put is somebody's.
+    abbrev pub ListsKeepTheirs : Type 0
+    ListsKeepTheirs =
+        (acts : List (Act K V)) (x : Reached V same hash batch_size roots slot) → LedTo V same hash batch_size roots slot course acts x → AreTheirs x.0.0
+
+    -- There, if nobody has anything under way, any caller may begin to reclaim all, with what is behind the roots then.
+    abbrev pub ReclaimingBeginsThere : Type 0
+    ReclaimingBeginsThere =
+        batch_size < 2 ^ 64 → (acts : List (Act K V)) (x : Reached V same hash batch_size roots slot) → LedTo V same hash batch_size roots slot course acts x → IsAtRest x.0.0
+        → (lists : ℕ → List ℕ) × ((i : ℕ)
+        → (IsSome (word_at x.0.0.world.memory (Slot 0 HEAD)) → IsReclaimingAll V same batch_size roots slot x.0.0 i lists (reclaiming_all batch_size roots))
+        × (IsQuiet x.0.0.world → IsReclaimingAll V same batch_size roots slot x.0.0 i lists (clearing roots))
+        × (word_at x.0.0.world.memory (Slot 0 HEAD) ≡ None → IsQuiet x.0.0.world))
+
+    -- And once it has come to its end only pairs are left.
+    abbrev pub OnlyPairsWaitThere : Type 0
+    OnlyPairsWaitThere =
+        (acts : List (Act K V)) (x : Reached V same hash batch_size roots slot) → LedTo V same hash batch_size roots slot course acts x
+        → (i : ℕ) (lists : ℕ → List ℕ) (c : ReclaimAll) → IsReclaimingAll V same batch_size roots slot x.0.0 i lists c
+        → (grants : List Grant) (n : Scene K V) → ReclaimsTo i grants x.0.0 lists c n → OnlyPairsAreLeft n
+
+    -- In one piece: there, if nobody has anything under way, any caller can reclaim all, so that only pairs are left.
+    abbrev pub AllCanBeReclaimedThere : Type 0
+    AllCanBeReclaimedThere =
+        batch_size < 2 ^ 64 → (acts : List (Act K V)) (x : Reached V same hash batch_size roots slot) → LedTo V same hash batch_size roots slot course acts x → IsAtRest x.0.0
+        → (i : ℕ) → (lists : ℕ → List ℕ) × (c : ReclaimAll) × (grants : List Grant) × (n : Scene K V) × ReclaimsTo i grants x.0.0 lists c n × OnlyPairsAreLeft n

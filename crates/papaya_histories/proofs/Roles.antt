@@ -1,0 +1,113 @@
+-- What a block is after a step of a call on one key: the pairs that the call looked at are those of their numbers.
+use Rattle.std.specs.Prelude.{◌≡◌, ℕ, ◌<◌, Bool, true, List, Option, Some}
+use Rattle.std.proofs.Common.{refl, ap, sym, subst, ◌∙◌, inl, inr}
+use Rattle.std.proofs.lemmas.Bool.{cases_lt}
+use Rattle.seize_words.specs.Word.{block_in}
+use Rattle.seize.specs.World.{World, with_at}
+use Rattle.papaya_tables.specs.declared.setting.Setting.{Setting}
+use Rattle.papaya_raw.specs.declared.machines.answer.KeyAnswer.{KeyAnswer}
+use Rattle.papaya_raw.specs.declared.machines.answer.KeyAnswer.TheVariants as answers
+use Rattle.papaya_schedules.specs.declared.call.Answer.{Answer}
+use Rattle.papaya_schedules.specs.declared.call.OneKey.{OneKey}
+use Rattle.papaya_schedules.specs.declared.call.Reply.{Reply}
+use Rattle.papaya_points.specs.FactsCalls.{Change, Unchanged, Stored, Replaced, Removed, Tells}
+use Rattle.papaya_tables.specs.declared.node.Node.{Node}
+use Rattle.papaya_raw.specs.declared.machines.answer.Called.{Called}
+use Rattle.papaya_raw.specs.declared.machines.call.KeyCall.{KeyCall}
+use Rattle.papaya_raw.specs.declared.machines.progress.Progress.{Progress}
+use Rattle.papaya_schedules.specs.Moment.{Moment}
+use Rattle.papaya_rule.specs.Chart.{Phase, Holds, Chart}
+use Rattle.papaya_rule.specs.Words.{Blocks, byte_of, place_word}
+use Rattle.papaya_rule.proofs.Laws.{words_name_pairs, bytes_are_few}
+use Rattle.papaya_points.specs.Steps.{AreLawful}
+use Rattle.papaya_callers.specs.Sights.{Sight, IsSight}
+use Rattle.papaya_callers.specs.Together.{CallOnKey, OnKey}
+use Rattle.papaya_callers.proofs.Together.At.{at_same}
+use Rattle.papaya_finishes.specs.Endings.{StepsAmong}
+use Rattle.papaya_finishes.specs.Maps.{Standing}
+use Rattle.papaya_effects.specs.Known.{Known}
+use Rattle.papaya_effects.specs.declared.role.Role.TheVariants as role
+use Rattle.papaya_executor.specs.IsAt.{Scene, IsAt, slot_of}
+use Rattle.papaya_executor.specs.Stepping.{StepLeads}
+use Rattle.papaya_executor.specs.declared.executor.Executor.{Executor}
+use Rattle.papaya_follows.specs.Shows.{Shows}
+use Rattle.papaya_follows.proofs.Onward.{IsLasting}
+use Rattle.papaya_follows.proofs.Steps.{WentTo, made_so, is_inside, is_sight, LeadsThere}
+use Rattle.papaya_moments.specs.Whole.{ShowsWhole}
+use Rattle.papaya_histories.specs.Answers.{IsToldAs}
+use Rattle.papaya_histories.proofs.Steps.{to, led_on, after}
+
+-- a word that names a pair names its block
+pub named_by : {K : Type 0} (same : K → K → Bool) (hash : K → ℕ) → AreLawful same hash → (c : Chart K) (blocks : Blocks) (word n : ℕ) (phase : Phase) (borrowed : Bool) → word ≡ place_word hash c blocks (Holds n phase borrowed)
+    → block_in word ≡ blocks.pair n
+named_by same hash lawful c blocks word n phase borrowed is =
+    ap block_in is ∙ words_name_pairs blocks.pair (λ z. byte_of hash (c.key z)) n phase borrowed (bytes_are_few hash lawful.fits (c.key n))
+
+-- an answer that tells a change is not told as one without
+module _ {K V Q : Type 0} (same : K → K → Bool) (hash : K → ℕ) (asks : Q → K → Bool) (w : World (Node K V)) (i : ℕ) (setting : Setting) (c : Chart K) (seen : Blocks) (keys : K → Bool) (known : Change)
+    (noted : Known) (one : OneKey K V) (replies : List (Option ℕ × Reply V)) (a : Answer V) where
+  pub no_change : (change : Change) (an : KeyAnswer) → Tells same hash asks w i setting c seen keys known change an → IsToldAs noted one replies an a → ⊥
+  no_change Unchanged an tells told = tells
+  no_change (Stored n) (answers.Found word) tells told = tells
+  no_change (Stored n) answers.Absent tells told = tells
+  no_change (Stored n) (answers.Stored word) tells told = told
+  no_change (Stored n) (answers.Replaced before then_there) tells told = told
+  no_change (Stored n) (answers.Removed word) tells told = told
+  no_change (Replaced o n) (answers.Found word) tells told = tells
+  no_change (Replaced o n) answers.Absent tells told = tells
+  no_change (Replaced o n) (answers.Stored word) tells told = told
+  no_change (Replaced o n) (answers.Replaced before then_there) tells told = told
+  no_change (Replaced o n) (answers.Removed word) tells told = told
+  no_change (Removed n) (answers.Found word) tells told = tells
+  no_change (Removed n) answers.Absent tells told = tells
+  no_change (Removed n) (answers.Stored word) tells told = told
+  no_change (Removed n) (answers.Replaced before then_there) tells told = told
+  no_change (Removed n) (answers.Removed word) tells told = told
+
+module _ {K V S : Type 0} (same : K → K → Bool) (hash : K → ℕ) (name : ℕ → List ℕ) (m : Moment K V) (known : Known) (s : Scene K V) (old new : Executor K V S) (at : IsAt same hash old s)
+    (whole : ShowsWhole same name m known s) (shown : Shows same name m known s) (map i : ℕ) (x : CallOnKey K V K) (here : s.calls map i ≡ Some (OnKey x)) (said : Progress (Node K V))
+    (leads : StepLeads same hash i said s old new) where
+  abbrev went : WentTo same hash name m known s old new at shown map i (OnKey x) here said leads
+  went = to same hash name m known s old new at whole shown map i (OnKey x) here said leads
+
+  abbrev st : Standing K
+  st = went.0
+
+  abbrev on : LeadsThere same hash name m known s old new at shown map i (OnKey x) here said leads
+  on = led_on same hash name m known s old new at whole shown map i (OnKey x) here said leads
+
+  abbrev known2 : Known
+  known2 = after same hash name m known s old new at whole shown map i (OnKey x) here said leads
+
+  abbrev sight : Sight
+  sight = st.sights (slot_of i)
+
+  its_sight : IsSight st.chart st.blocks sight
+  its_sight = is_sight same hash m known s old new at name shown map i st went.2 (name i) (made_so same hash name m known s old new at shown map i (OnKey x) here said leads)
+      (is_inside same hash name m known s old new at shown map i (OnKey x) here said leads)
+
+  -- of what it looked at before its step
+  pub roles_before : (n : ℕ) → n < st.chart.stored → sight.pairs n ≡ true → known2.roles (st.blocks.pair n) ≡ role.Pair (on.shows.number map n)
+  roles_before n l seen =
+      let is = (shown.maps map st went.2).pairs.roles n l (its_sight.pairs n l seen) in
+      on.keeps (st.blocks.pair n) (subst IsLasting (sym is) tt) ∙ is ∙ ap role.Pair (sym (on.numbers map st went.2 n l))
+
+  -- and of what it looks at after one that is none of a row
+  module _ (p2 : KeyCall K V K) (end : Called (Node K V)) (step : StepsAmong V same same old.batch_size old.roots slot_of s.world s.maps s.calls s.makers s.enders map st i x new.memory.memory p2 end)
+      (moved : went.4.maps2 ≡ with_at s.maps map (Some (record st { chart = step.step.went.c2; blocks = step.step.blocks2; sights = step.step.sights2 }))) where
+    abbrev pub stands_then : Standing K
+    stands_then = record st { chart = step.step.went.c2; blocks = step.step.blocks2; sights = step.step.sights2 }
+
+    pub stands_is : went.4.maps2 map ≡ Some stands_then
+    stands_is = ap (λ (f : ℕ → Option (Standing K)). f map) moved ∙ at_same s.maps map (Some stands_then) map refl
+
+    pub roles_after : (n : ℕ) → n < step.step.went.c2.stored → step.step.went.blocks2.pair_known n ≡ true → known2.roles (step.step.went.blocks2.pair n) ≡ role.Pair (on.shows.number map n)
+    roles_after n l known_too = elim (cases_lt n st.chart.stored) as (λ _. known2.roles (step.step.went.blocks2.pair n) ≡ role.Pair (on.shows.number map n)) [
+      | inl before ↦
+          let was = step.step.went.blocks_same.pairs_back n before known_too in
+          let grown = step.step.grown.pairs n before in
+          ap known2.roles ((step.step.went.blocks_same.pairs n before was).0 ∙ sym grown.0) ∙ (on.shows.maps map stands_then stands_is).pairs.roles n l (grown.1 ∙ its_sight.pairs n before was)
+      | inr fresh ↦
+          let grown = step.step.grown.new_pairs n fresh in
+          ap known2.roles (sym grown.0) ∙ (on.shows.maps map stands_then stands_is).pairs.roles n l (grown.1 ∙ known_too)
+    ]

@@ -1,0 +1,117 @@
+-- What a step of a call on one key changes of its class: nothing, or the call had changed nothing before and has now.
+use Rattle.std.specs.Prelude.{◌≡◌, ℕ, Bool, List, [], ◌∷◌, ◌++◌, flat_map, Option, Some, None, ◌⊎◌}
+use Rattle.std.proofs.Common.{refl, ap, sym, ◌∙◌, inl, inr}
+use Rattle.papaya_tables.specs.Chunks.{is_incremental}
+use Rattle.papaya_tables.specs.declared.node.Node.{Node}
+use Rattle.papaya_raw.specs.declared.machines.progress.Progress.{Progress}
+use Rattle.papaya_schedules.specs.declared.call.Call.TheVariants.{On}
+use Rattle.papaya_schedules.specs.declared.call.OneKey.{OneKey}
+use Rattle.papaya_schedules.specs.declared.effect.Effect.{Effect}
+use Rattle.papaya_schedules.specs.declared.effect.Effect.TheVariants as effect
+use Rattle.papaya_schedules.specs.Effects.{stored_by, with_effect, with_effects}
+use Rattle.papaya_schedules.specs.Entry.{Entry, acting}
+use Rattle.papaya_schedules.specs.Linearizable.{shift_of}
+use Rattle.papaya_schedules.specs.Moment.{UnderWay as CallThere, Moment}
+use Rattle.papaya_schedules.specs.Views.{call_of, finite_map}
+use Rattle.papaya_rule.specs.Chart.{Chart}
+use Rattle.papaya_points.specs.FactsCalls.{Change, Unchanged, Stored, Replaced, Removed, Changes}
+use Rattle.papaya_callers.specs.Together.{CallOnKey, OnKey, change_told}
+use Rattle.papaya_finishes.specs.Maps.{Standing}
+use Rattle.papaya_effects.specs.Effects.{effects_of}
+use Rattle.papaya_effects.specs.Known.{Known}
+use Rattle.papaya_effects.specs.declared.acting.Acting.TheVariants as acts
+use Rattle.papaya_executor.specs.IsAt.{Scene, IsAt, slot_of}
+use Rattle.papaya_executor.specs.Stepping.{StepLeads}
+use Rattle.papaya_executor.specs.declared.executor.Executor.{Executor}
+use Rattle.papaya_follows.specs.Shows.{Shows}
+use Rattle.papaya_follows.specs.Steps.{TakesNone}
+use Rattle.papaya_follows.proofs.Steps.{WentTo, one_of}
+use Rattle.papaya_hands.proofs.RowSteps.{rows_hand_theirs}
+use Rattle.papaya_moments.specs.Whole.{ShowsWhole}
+use Rattle.papaya_moments.proofs.OnSlots.{stood_same}
+use Rattle.papaya_histories.specs.Due.{ShowsDue}
+use Rattle.papaya_histories.proofs.Changes.{ToldOnce, told_once, none_by, its_shifts, by_row, DidSoHere, NoRow}
+use Rattle.papaya_histories.proofs.Dues.{none_of}
+use Rattle.papaya_histories.proofs.Due.{taken, nothing_due, change_by}
+use Rattle.papaya_histories.proofs.Roles.{stands_then, stands_is}
+use Rattle.papaya_histories.proofs.Steps.{to, v, same_pairs}
+
+-- a moment after effects that shift no pair has the pairs that it had
+module _ {K V : Type 0} where
+  stored_kept : (o : Option (CallThere K V)) (f : Effect) (stored : List (K × V)) → shift_of f ≡ [] → stored_by o f stored ≡ stored
+  stored_kept None f stored none = refl
+  stored_kept (Some c) (effect.Stored n s) stored none = absurd (cc none)
+  stored_kept (Some c) _ stored none = refl
+
+  pub effects_stored : (caller : Option (List ℕ)) (acted : Option ℕ) (effects : List Effect) (m : Moment K V) → flat_map shift_of effects ≡ [] → (with_effects caller acted effects m).stored ≡ m.stored
+  effects_stored caller acted [] m none = refl
+  effects_stored caller acted (f ∷ effects) m none =
+      let two = none_of (shift_of f) (flat_map shift_of effects) none in
+      effects_stored caller acted effects (with_effect caller acted f m) two.1 ∙ stored_kept (acting caller m) f m.stored two.0
+
+  -- effects after effects
+  pub effects_after : (caller : Option (List ℕ)) (acted : Option ℕ) (xs ys : List Effect) (m : Moment K V) → with_effects caller acted (xs ++ ys) m ≡ with_effects caller acted ys (with_effects caller acted xs m)
+  effects_after caller acted [] ys m = refl
+  effects_after caller acted (f ∷ xs) ys m = effects_after caller acted xs ys (with_effect caller acted f m)
+
+module _ {K V S : Type 0} (same : K → K → Bool) (hash : K → ℕ) (name : ℕ → List ℕ) (log : List (Entry K V)) (m : Moment K V) (known : Known) (s : Scene K V) (old new : Executor K V S)
+    (at : IsAt same hash old s) (whole : ShowsWhole same name m known s) (dues : ShowsDue same name log m known s) (map i : ℕ) (z : CallOnKey K V K) (here : s.calls map i ≡ Some (OnKey z))
+    (said : Progress (Node K V)) (leads : StepLeads same hash i said s old new) (c : CallThere K V) (c_is : call_of (name i) m ≡ Some c) (one : OneKey K V) (one_is : c.call ≡ On one)
+    (st2 : Standing K) (st2_is : (leads map (OnKey z) here).4.maps2 map ≡ Some st2) (d : CallThere K V)
+    (d_is : call_of (name i) (v same hash name m known s old new at whole dues.history.shown map i (OnKey z) here said leads) ≡ Some d) where
+  abbrev shown : Shows same name m known s
+  shown = dues.history.shown
+
+  abbrev went : WentTo same hash name m known s old new at shown map i (OnKey z) here said leads
+  went = to same hash name m known s old new at whole shown map i (OnKey z) here said leads
+
+  abbrev effects : List Effect
+  effects = effects_of (acts.Call i map) known new.memory.changed
+
+  abbrev v2 : Moment K V
+  v2 = v same hash name m known s old new at whole shown map i (OnKey z) here said leads
+
+  abbrev DidHere : Type 0
+  DidHere = DidSoHere same hash name m known s old new at whole shown dues.history.asked map i z here said leads c c_is one one_is (taken same hash name log m known s old new at whole dues map i z here said leads c c_is one one_is st2 st2_is d d_is) (nothing_due same hash name log m known s old new at whole dues map i z here said leads c c_is one one_is st2 st2_is d d_is)
+
+  abbrev By : DidHere → Change
+  By did = change_by same hash name log m known s old new at whole dues map i z here said leads c c_is one one_is st2 st2_is d d_is did
+
+  -- nothing, or a first change
+  abbrev pub Kinds : Change → Type 0
+  Kinds change = ((change ≡ z.change) × (flat_map shift_of effects ≡ []) × ((k : K) → finite_map same map v2 k ≡ finite_map same map m k)) ⊎ ((z.change ≡ Unchanged) × ((change ≡ Unchanged) → ⊥))
+
+  first : (c2 : Chart K) (change : Change) → z.change ≡ Unchanged → ((c2.current ≡ went.0.chart.current) → Kinds Unchanged) → Changes same went.0.hash (is_incremental went.0.setting.mode) z.keys went.0.chart c2 change → Kinds change
+  first c2 Unchanged unchanged kept changes = kept changes
+  first c2 (Stored n) unchanged kept changes = inr (unchanged, λ e. cc e)
+  first c2 (Replaced o n) unchanged kept changes = inr (unchanged, λ e. cc e)
+  first c2 (Removed n) unchanged kept changes = inr (unchanged, λ e. cc e)
+
+  kinds : (did : DidHere) → ((NoRow same hash name m known s old new at whole shown dues.history.asked map i z here said leads c c_is one one_is (taken same hash name log m known s old new at whole dues map i z here said leads c c_is one one_is st2 st2_is d d_is) (nothing_due same hash name log m known s old new at whole dues map i z here said leads c c_is one one_is st2 st2_is d d_is) did → ⊥) → TakesNone new.memory.changed) → Kinds (By did)
+  kinds (p2, end, machine_is, told_is, inl (step, moved)) takes = by_told (told_once same hash name m known s old new at whole shown dues.history.asked map i z here said leads c c_is one one_is (taken same hash name log m known s old new at whole dues map i z here said leads c c_is one one_is st2 st2_is d d_is) (nothing_due same hash name log m known s old new at whole dues map i z here said leads c c_is one one_is st2 st2_is d d_is) step.step.went.told)
+    where
+      change : Change
+      change = change_told V same went.0.hash same went.0.setting slot_of step.step.went.told
+
+      kept : step.step.went.c2.current ≡ went.0.chart.current → (flat_map shift_of effects ≡ []) × ((k : K) → finite_map same map v2 k ≡ finite_map same map m k)
+      kept cur = (
+        none_by same hash name m known s old new at whole shown dues.history.asked map i z here said leads c c_is one one_is (taken same hash name log m known s old new at whole dues map i z here said leads c c_is one one_is st2 st2_is d d_is) (nothing_due same hash name log m known s old new at whole dues map i z here said leads c c_is one one_is st2 st2_is d d_is) step.step.went.c2 (its_shifts same hash name m known s old new at whole shown dues.history.asked map i z here said leads c c_is one one_is (taken same hash name log m known s old new at whole dues map i z here said leads c c_is one one_is st2 st2_is d d_is) (nothing_due same hash name log m known s old new at whole dues map i z here said leads c c_is one one_is st2 st2_is d d_is) p2 end step) cur,
+        λ k. same_pairs same hash name m known s old new at whole shown map i (OnKey z) here said leads map (stands_then same hash name m known s old new at whole shown map i z here said leads p2 end step moved.1) (stands_is same hash name m known s old new at whole shown map i z here said leads p2 end step moved.1) went.0 went.2 cur k,
+      )
+
+      by_told : ToldOnce same hash name m known s old new at whole shown dues.history.asked map i z here said leads c c_is one one_is (taken same hash name log m known s old new at whole dues map i z here said leads c c_is one one_is st2 st2_is d d_is) (nothing_due same hash name log m known s old new at whole dues map i z here said leads c c_is one one_is st2 st2_is d d_is) step.step.went.c2 change → Kinds change
+      by_told (inl (e, cur)) = inl (e, (kept cur).0, (kept cur).1)
+      by_told (inr (unchanged, changes)) = first step.step.went.c2 change unchanged (λ cur. inl (sym unchanged, (kept cur).0, (kept cur).1)) changes
+  kinds (p2, end, machine_is, told_is, inr (row, stayed)) takes = inl (
+    refl,
+    by_row same hash name m known s old new at whole shown dues.history.asked map i z here said leads c c_is one one_is (taken same hash name log m known s old new at whole dues map i z here said leads c c_is one one_is st2 st2_is d d_is) (nothing_due same hash name log m known s old new at whole dues map i z here said leads c c_is one one_is st2 st2_is d d_is) (takes (λ no_one. no_one)) (p2, end, machine_is, told_is, inr (row, stayed)) (λ no_one. no_one),
+    λ k. same_pairs same hash name m known s old new at whole shown map i (OnKey z) here said leads map st2 st2_is went.0 went.2 same_chart k,
+  )
+    where
+      same_chart : st2.chart.current ≡ went.0.chart.current
+      same_chart =
+          let it = stood_same (s.maps map) (went.4.maps2 map) (stayed.1 map) st2 st2_is in
+          ap (λ (x : Chart K). x.current) it.2 ∙ ap (λ (x : Standing K). x.chart.current) (one_of it.0 went.0 (sym it.1 ∙ went.2))
+
+  pub step_kinds : Kinds (By went.4.did)
+  step_kinds = kinds went.4.did (λ other. (rows_hand_theirs K V S same hash name m known s old new at whole.all map i (OnKey z) here said leads other).1)

@@ -1,0 +1,14 @@
+-- Calls owe what they mean.
+use Rattle.papaya_histories.proofs.Due.{calls_keep_due}
+use Rattle.papaya_histories.proofs.DueOn.{dues_begin, calls_begin_due, calls_take_due, calls_come_to_due, events_keep_due}
+use Rattle.papaya_histories.proofs.law.calls_keep_due.Goals as goal
+
+pub returns : goal.returns
+returns c d = record {
+  begins = dues_begin _ _;
+  calls = calls_keep_due _ _ _;
+  begun = calls_begin_due _ _ _;
+  told = calls_take_due _ _ _;
+  come_to = calls_come_to_due _ _;
+  events = events_keep_due _ _;
+}

@@ -1,0 +1,42 @@
+-- What a step of a call on one key changes of its map.
+use Rattle.std.specs.Prelude.{◌≡◌, ℕ, Bool, List, flat_map, Option, Some, None}
+use Rattle.papaya_tables.specs.declared.node.Node.{Node}
+use Rattle.papaya_raw.specs.declared.machines.progress.Progress.{Progress}
+use Rattle.papaya_schedules.specs.declared.call.Call.TheVariants.{On}
+use Rattle.papaya_schedules.specs.declared.call.OneKey.{OneKey}
+use Rattle.papaya_schedules.specs.declared.call.OneKey.TheVariants.{Compute, RemoveIf}
+use Rattle.papaya_schedules.specs.declared.call.Reply.{Reply}
+use Rattle.papaya_schedules.specs.declared.call.Reply.TheVariants.{Decides}
+use Rattle.papaya_schedules.specs.Linearizable.{shift_of, ChangesOnce}
+use Rattle.papaya_schedules.specs.Moment.{UnderWay as CallThere, Moment}
+use Rattle.papaya_schedules.specs.Views.{call_of, reply_to}
+use Rattle.papaya_points.specs.FactsCalls.{Unchanged}
+use Rattle.papaya_callers.specs.Together.{CallOnKey, OnKey}
+use Rattle.papaya_effects.specs.Effects.{effects_of}
+use Rattle.papaya_effects.specs.Known.{Known}
+use Rattle.papaya_effects.specs.declared.acting.Acting.TheVariants as acts
+use Rattle.papaya_executor.specs.IsAt.{Scene, IsAt}
+use Rattle.papaya_executor.specs.Stepping.{StepLeads}
+use Rattle.papaya_executor.specs.declared.executor.Executor.{Executor}
+use Rattle.papaya_moments.specs.Whole.{ShowsWhole}
+
+-- a call of this kind takes such a reply: `remove_if` a yes or no, and `compute` what is not
+abbrev pub IsTaken : {K V : Type 0} → OneKey K V → Reply V → Type 0
+IsTaken (RemoveIf k) (Decides keeps) = Unit {0}
+IsTaken (RemoveIf k) _ = ⊥
+IsTaken (Compute k) (Decides keeps) = ⊥
+IsTaken _ _ = Unit {0}
+
+-- so it does the last reply to each question
+abbrev pub AreTaken : {K V : Type 0} → OneKey K V → List (Option ℕ × Reply V) → Type 0
+AreTaken {K} {V} one replies = (question : Option ℕ) (r : Reply V) → reply_to question replies ≡ Some r → IsTaken one r
+
+module _ (K V S : Type 0) (same : K → K → Bool) (hash : K → ℕ) where
+  -- The promise: by a step of a call on one key its class changes once at most, by what the call means just then; if it got such replies alone as it
+  -- takes, and owes no answer as long as it has changed nothing.
+  abbrev pub StepsChangeOnce : Type 0
+  StepsChangeOnce =
+      (name : ℕ → List ℕ) (m : Moment K V) (known : Known) (s : Scene K V) (old new : Executor K V S) → IsAt same hash old s → ShowsWhole same name m known s
+      → (map i : ℕ) (u : CallOnKey K V K) (here : s.calls map i ≡ Some (OnKey u)) (said : Progress (Node K V)) (leads : StepLeads same hash i said s old new)
+      → (c : CallThere K V) → call_of (name i) m ≡ Some c → (one : OneKey K V) → c.call ≡ On one → AreTaken one c.replies → (u.change ≡ Unchanged → c.due ≡ None)
+      → ChangesOnce same one c m (flat_map shift_of (effects_of (acts.Call i map) known new.memory.changed))

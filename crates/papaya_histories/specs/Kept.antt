@@ -1,0 +1,93 @@
+-- Where a run goes on, the history of each map since a call began stays within the moments of the run since then.
+use Rattle.std.specs.Prelude.{◌≡◌, ℕ, Bool, true, List, [], ◌∷◌, length, Option, Some, Ok, ◌⊎◌}
+use Rattle.papaya_tables.specs.declared.node.Node.{Node}
+use Rattle.papaya_runs.specs.Same.{is_same}
+use Rattle.papaya_raw.specs.Machine.{machine_replied}
+use Rattle.papaya_raw.specs.declared.machines.progress.Progress.{Progress}
+use Rattle.papaya_schedules.specs.declared.call.Call.{Call}
+use Rattle.papaya_schedules.specs.declared.call.Reply.{Reply}
+use Rattle.papaya_schedules.specs.declared.outcome.Outcome.{Outcome}
+use Rattle.papaya_schedules.specs.After.{moment}
+use Rattle.papaya_schedules.specs.Beginning.{with_call}
+use Rattle.papaya_schedules.specs.Effects.{with_effects}
+use Rattle.papaya_schedules.specs.Entry.{Entry, ends_call}
+use Rattle.papaya_schedules.specs.Moment.{Asking, UnderWay as CallThere, Moment, start}
+use Rattle.papaya_schedules.specs.Views.{call_of, finite_map}
+use Rattle.papaya_callers.specs.Together.{UnderWay}
+use Rattle.papaya_effects.specs.Effects.{effects_of, known_after}
+use Rattle.papaya_effects.specs.Known.{Known, nothing_known}
+use Rattle.papaya_effects.specs.declared.acting.Acting.TheVariants as acts
+use Rattle.papaya_executor.specs.IsAt.{Scene, IsAt, at_first, slot_of}
+use Rattle.papaya_executor.specs.Replying.{scene_with}
+use Rattle.papaya_executor.specs.Stepping.{StepLeads, scene_after}
+use Rattle.papaya_executor.specs.declared.executor.Executor.{Executor}
+use Rattle.papaya_finishes.specs.Machines.{machine_of, ToldOfKind}
+use Rattle.papaya_finishes.specs.Maps.{Standing}
+use Rattle.papaya_follows.specs.Calling.{NoneNamed, told, come_to}
+use Rattle.papaya_follows.specs.Calls.{IsCalled}
+use Rattle.papaya_hands.specs.Asked.{as_told}
+use Rattle.papaya_hands.specs.Calling.{IsBegunFor, AsksJust}
+use Rattle.papaya_moments.specs.Whole.{ShowsWhole}
+use Rattle.papaya_histories.specs.Histories.{began_of, ShowsHistory, StaysWithin}
+
+module _ {K V : Type 0} (log : List (Entry K V)) (m : Moment K V) where
+  -- no pair has come or gone since the last event of the log
+  abbrev pub HasJustBegun : Type 0
+  HasJustBegun = (m.place ≡ (moment log).place) × (m.stored ≡ (moment log).stored)
+
+  -- A class that has another pair of this map then, or none any more, had what it had at the end of the last event: no class changes twice within one event.
+  abbrev pub ChangesFirst : (K → K → Bool) → ℕ → Moment K V → Type 0
+  ChangesFirst same map v = (k : K) → (finite_map same map v k ≡ finite_map same map m k) ⊎ (finite_map same map m k ≡ finite_map same map (moment log) k)
+
+-- The promises: so it is before all events,
+abbrev pub HistoriesBegin : Type 0 → Type 0 → Type 0
+HistoriesBegin K V = (same : K → K → Bool) (roots : ℕ) (name : ℕ → List ℕ) → ShowsHistory {K = K} {V = V} same name [] start nothing_known (at_first roots)
+
+module _ (K V S : Type 0) (same : K → K → Bool) (hash : K → ℕ) where
+  -- after each step of a call, whoever's, if no class changes twice within one event by it,
+  abbrev pub CallsKeepHistories : Type 0
+  CallsKeepHistories =
+      (name : ℕ → List ℕ) (log : List (Entry K V)) (m : Moment K V) (known : Known) (s : Scene K V) (old new : Executor K V S) → IsAt same hash old s
+      → ShowsWhole same name m known s → ShowsHistory same name log m known s
+      → (map i : ℕ) (u : UnderWay K V K) (here : s.calls map i ≡ Some u) (said : Progress (Node K V)) (leads : StepLeads same hash i said s old new)
+      → ChangesFirst log m same map (with_effects (Some (name i)) (Some map) (effects_of (acts.Call i map) known new.memory.changed) m)
+      → (let to = leads map u here in
+      ShowsHistory same name log (with_effects (Some (name i)) (Some map) (effects_of (acts.Call i map) known new.memory.changed) m) (known_after (acts.Call i map) new.memory.changed known)
+      (scene_after same hash s old new map i to.0 u to.1 said to.4))
+
+  -- where a call begins at this moment of its map, by a name that no call under way has, within the next event,
+  abbrev pub CallsBeginHistories : Type 0
+  CallsBeginHistories =
+      (name : ℕ → List ℕ) (log : List (Entry K V)) (m : Moment K V) (known : Known) (s : Scene K V) (e : Executor K V S) → IsAt same hash e s → (history : ShowsHistory same name log m known s)
+      → (map i : ℕ) (u : UnderWay K V K) (call : Call K V) (guard : List ℕ) (standing : Standing K) → s.maps map ≡ Some standing → ((began : ℕ) → began_of u ≡ Some began → began ≡ standing.chart.now)
+      → NoneNamed name (name i) s → IsCalled same u call → IsBegunFor u call → m.events ≡ length log
+      → StaysWithin same name log m known s history log (with_call (name i) guard call (Some map) m) (scene_with map i u s)
+
+  -- where one that asks takes what it is told,
+  abbrev pub CallsTakeHistories : Type 0
+  CallsTakeHistories =
+      (name : ℕ → List ℕ) (log : List (Entry K V)) (m : Moment K V) (known : Known) (s : Scene K V) (e : Executor K V S) → IsAt same hash e s → (history : ShowsHistory same name log m known s)
+      → (map i : ℕ) (u : UnderWay K V K) → s.calls map i ≡ Some u → (c : CallThere K V) → call_of (name i) m ≡ Some c → (question : Option ℕ) → c.stands ≡ Asking question
+      → (standing : Standing K) → s.maps map ≡ Some standing → (is_told : Reply V) (next : UnderWay K V K)
+      → machine_of next ≡ (machine_replied (machine_of u) (as_told is_told)).0 → (machine_replied (machine_of u) (as_told is_told)).1 ≡ Ok tt
+      → ToldOfKind V same same e.batch_size e.roots slot_of standing i u (as_told is_told) next
+      → StaysWithin same name log m known s history log (told (name i) is_told m) (scene_with map i next s)
+
+module _ (K V : Type 0) (same : K → K → Bool) where
+  -- where one comes to an outcome,
+  abbrev pub CallsComeToHistories : Type 0
+  CallsComeToHistories =
+      (name : ℕ → List ℕ) (log : List (Entry K V)) (m : Moment K V) (known : Known) (s : Scene K V) → (history : ShowsHistory same name log m known s)
+      → (own : List ℕ) (outcome : Outcome V) (steps : ℕ) → (ends_call outcome ≡ true → NoneNamed name own s)
+      → ((map i : ℕ) (u : UnderWay K V K) → s.calls map i ≡ Some u → is_same (name i) own ≡ true → AsksJust known u outcome)
+      → StaysWithin same name log m known s history log (come_to own outcome steps m) s
+
+  -- and where an event is over, and its moment is one of the log.
+  abbrev pub EventsKeepHistories : Type 0
+  EventsKeepHistories =
+      (name : ℕ → List ℕ) (log : List (Entry K V)) (e : Entry K V) (known : Known) (s : Scene K V) → (history : ShowsHistory same name log (moment (e ∷ log)) known s)
+      → StaysWithin same name log (moment (e ∷ log)) known s history (e ∷ log) (moment (e ∷ log)) s
+
+  -- The first step of an event changes no class twice.
+  abbrev pub FirstStepsChangeFirst : Type 0
+  FirstStepsChangeFirst = (log : List (Entry K V)) (m v : Moment K V) (map : ℕ) → HasJustBegun log m → ChangesFirst log m same map v

@@ -1,0 +1,74 @@
+//! What is promised of the history of a map since a call on it began.
+ghost use Rattle.std.specs.Prelude.{ℕ, Bool};
+ghost use Rattle.papaya_histories.specs.Answers.{AnswersWereSo, AnswersAreOwed, RefusalsWereSo};
+ghost use Rattle.papaya_histories.specs.Changes.{StepsChangeOnce};
+ghost use Rattle.papaya_histories.specs.Due.{DuesBegin, CallsKeepDue, CallsBeginDue, CallsTakeDue, CallsComeToDue, EventsKeepDue};
+ghost use Rattle.papaya_histories.specs.Events.{StepsAreLinearizable};
+ghost use Rattle.papaya_histories.specs.Others.{RowsBeginHistories, RowsKeepHistories};
+ghost use Rattle.papaya_histories.specs.Several.{MidstsBegin, MidstsGoOn, MidstsEnd};
+ghost use Rattle.papaya_histories.specs.Kept.{HistoriesBegin, CallsKeepHistories, CallsBeginHistories, CallsTakeHistories, CallsComeToHistories, EventsKeepHistories, FirstStepsChangeFirst};
+
+/// At each moment of a run that shows the executor, the history of a map since a call on it began is within the moments of the run since then: what the class of a
+/// key had at a moment of the map, the finite map has at one of these. So it is before all events; after each step of a call, whoever's, if no class changes twice
+/// within one event, as none does by the first step of one; where a call begins, takes a reply and comes to an outcome; where an event is over; and where a row
+/// begins on a slot, and after each step of it.
+pub fn histories_are_within<K, V, S>()
+    ensures begins { HistoriesBegin K V }
+    ensures calls { (same : K → K → Bool) (hash : K → ℕ) → CallsKeepHistories K V S same hash }
+    ensures begun { (same : K → K → Bool) (hash : K → ℕ) → CallsBeginHistories K V S same hash }
+    ensures told { (same : K → K → Bool) (hash : K → ℕ) → CallsTakeHistories K V S same hash }
+    ensures come_to { (same : K → K → Bool) → CallsComeToHistories K V same }
+    ensures events { (same : K → K → Bool) → EventsKeepHistories K V same }
+    ensures first { (same : K → K → Bool) → FirstStepsChangeFirst K V same }
+    ensures rows_begin { (same : K → K → Bool) (hash : K → ℕ) → RowsBeginHistories K V S same hash }
+    ensures rows { (same : K → K → Bool) (hash : K → ℕ) → RowsKeepHistories K V S same hash }
+{}
+
+/// By a step of a call on one key the class of its key changes once at most, by what the sequential specification says that the call means just then; if it got such
+/// replies alone as it takes, and owes no answer as long as it has changed nothing.
+pub fn steps_change_once<K, V, S>()
+    ensures changes { (same : K → K → Bool) (hash : K → ℕ) → StepsChangeOnce K V S same hash }
+{}
+
+/// What a call on one key answers without a change is what the sequential specification says that it means at a moment of the call between two events, by the last
+/// reply for what the class of its key has there; where no pair of the class has come or gone within the present event.
+pub fn answers_were_so<K, V, S>()
+    ensures answers { (same : K → K → Bool) (hash : K → ℕ) → AnswersWereSo K V S same hash }
+{}
+
+/// After each step of a call, whoever's, a call on one key owes nothing as an answer if it has changed nothing; and if it has, the answer that the sequential
+/// specification says that it means by its change; if no class changes twice within one event. So it is before all events, too, where a call begins, takes a reply
+/// that such a call takes, and comes to an outcome, and where an event is over.
+pub fn calls_keep_due<K, V, S>()
+    ensures begins { (same : K → K → Bool) → DuesBegin K V same }
+    ensures calls { (same : K → K → Bool) (hash : K → ℕ) → CallsKeepDue K V S same hash }
+    ensures begun { (same : K → K → Bool) (hash : K → ℕ) → CallsBeginDue K V S same hash }
+    ensures told { (same : K → K → Bool) (hash : K → ℕ) → CallsTakeDue K V S same hash }
+    ensures come_to { (same : K → K → Bool) → CallsComeToDue K V same }
+    ensures events { (same : K → K → Bool) → EventsKeepDue K V same }
+{}
+
+/// What a call on one key answers that tells a change is the answer that it owes since it has changed its map.
+pub fn answers_are_owed<K, V, S>()
+    ensures answers { (same : K → K → Bool) (hash : K → ℕ) → AnswersAreOwed K V S same hash }
+{}
+
+/// A call on one key that is refused owes no answer; and where it was told to remove what is not there, the sequential specification says that it means to be refused
+/// for that at a moment of the call between two events; where no pair of its key's class has come or gone within the present event.
+pub fn refusals_were_so<K, V, S>()
+    ensures refusals { (same : K → K → Bool) (hash : K → ℕ) → RefusalsWereSo K V S same hash }
+{}
+
+/// An event that is one step of a call on one key, and goes on, waits, is refused, or has answered by it, changes maps and answers as one finite map says: it is linearizable.
+pub fn steps_are_linearizable<K, V, S>()
+    ensures events { (same : K → K → Bool) (hash : K → ℕ) → StepsAreLinearizable K V S same hash }
+{}
+
+/// An event of several steps of a call on one key, one after another, is linearizable, too: so it is in its midst that the class of the key has changed once at most
+/// since the event began, and not as long as the call has changed nothing; at the beginning of an event, and after each step after which the call goes on. And the
+/// event that comes to what its last step came to changes maps and answers as one finite map says.
+pub fn several_are_linearizable<K, V, S>()
+    ensures begins { (same : K → K → Bool) (hash : K → ℕ) → MidstsBegin K V S same hash }
+    ensures goes_on { (same : K → K → Bool) (hash : K → ℕ) → MidstsGoOn K V S same hash }
+    ensures ends { (same : K → K → Bool) (hash : K → ℕ) → MidstsEnd K V S same hash }
+{}

@@ -1,0 +1,248 @@
+-- A call on one key of one owner's map, from question to question: each pair that the map had as it began stands still in its block.
+use Rattle.std.specs.Prelude.{◌≡◌, ℕ, ◌<◌, Bool, true, List, Option, Some, None, Result, Ok, Err}
+use Rattle.std.proofs.Common.{refl, sym, ◌∙◌, ap, subst, arith}
+use denote.Ref.{Bor}
+use Rattle.seize_words.specs.Mem.{Mem, Can, Took, value_at}
+use Rattle.seize_words.specs.Plan.{May, Steps}
+use Rattle.seize_words.specs.declared.fault.Fault.{Fault}
+use Rattle.seize.specs.World.{World}
+use Rattle.seize.specs.declared.progress.Progress.{Progress}
+use Rattle.seize.specs.declared.progress.Progress.TheVariants as progress
+use Rattle.seize_rule.proofs.Rows.Leaving.{steps_back}
+use Rattle.papaya_tables.specs.declared.node.Node.{Node}
+use Rattle.papaya_tables.specs.declared.setting.Setting.{Setting}
+use Rattle.papaya_raw.specs.Call.{call_plan}
+use Rattle.papaya_raw.specs.CallAsks.{replied}
+use Rattle.papaya_raw.specs.declared.machines.answer.Called.{Called}
+use Rattle.papaya_raw.specs.declared.machines.answer.Called.TheVariants as called
+use Rattle.papaya_raw.specs.declared.machines.asking.Asking.{Asking}
+use Rattle.papaya_raw.specs.declared.machines.asking.Reply.{Reply}
+use Rattle.papaya_raw.specs.declared.machines.call.Calling.TheVariants as at
+use Rattle.papaya_raw.specs.declared.machines.call.KeyCall.{KeyCall}
+use Rattle.papaya_rule.specs.Chart.{Chart}
+use Rattle.papaya_rule.specs.Words.{Blocks}
+use Rattle.papaya_callers.specs.Pairs.{Given}
+use Rattle.papaya_callers.specs.Sights.{Sight}
+use Rattle.papaya_callers.specs.Together.{CallOnKey, OnKey as OnKeyOf, IsBegun, begun_at, told_about}
+use Rattle.papaya_whole.proofs.Contents.Runs.{runs_begin}
+use Rattle.papaya_whole.proofs.Keys.Begins.{calls_begin_alone}
+use Rattle.papaya_whole.proofs.Keys.Replies.{replies_lead_on}
+use Rattle.papaya_whole.proofs.Keys.Whole.{calls_go_on_alone}
+use Rattle.papaya_whole.specs.Contents.{HasRun}
+use Rattle.papaya_whole.specs.Owner.{IsAlone}
+use Rattle.papaya_whole.specs.Whole.{StepLeads, then_so}
+use Rattle.papaya_owned.proofs.Owned.Rests.{rests_as}
+use Rattle.papaya_owned.specs.Ending.{GoesOn, Tells, RunsTo, stops, goes}
+use Rattle.papaya_owned.specs.Machines.{on_key_after, on_key_plan, on_key_settled}
+use Rattle.papaya_owned.specs.Owned.{Holds}
+use Rattle.papaya_owned.specs.declared.machines.OnKey.{OnKey}
+use Rattle.papaya_owned.specs.declared.machines.Stop.{Stop}
+use Rattle.papaya_owned.specs.declared.machines.Stop.TheVariants as stop
+use Rattle.papaya_holds.proofs.Calls.Runs.{calls_begin, replies_put_none, answered, none_so}
+use Rattle.papaya_holds.proofs.Calls.Steps.{step_comes}
+use Rattle.papaya_holds.proofs.Calls.Goes.{TellsSo}
+use Rattle.papaya_holds.proofs.Stood.{StandsStill, still_first, stood}
+use Rattle.papaya_holds.specs.Calls.{IsCalling, begun, asked, CallsTakeNoneAway}
+use Rattle.papaya_holds.specs.Came.{NoneCame, CameBy, Owns, HasOnly, HasCome, ComesWith}
+
+module _ {K V Q S : Type 0} (asks : Q → K → Bool) (same : K → K → Bool) (hashes : S → K → ℕ) (b : Bor S) (setting : Setting) (m0 : Mem (Node K V)) (xs : List (K × V)) (h : Holds same (hashes b.now) setting m0 xs) where
+  abbrev hash : K → ℕ
+  hash = hashes b.now
+
+  abbrev slot_of : ℕ → ℕ
+  slot_of i = setting.slot
+
+  abbrev it : KeyCall K V Q → Option (Node K V) → OnKey K V Q S
+  it p unstored = record { call = p; hasher = b; unstored = unstored }
+
+  abbrev AloneIn : World (Node K V) → Chart K → Blocks → (ℕ → Sight) → CallOnKey K V Q → Type 0
+  AloneIn w c blocks sights u = IsAlone same hash asks setting slot_of w c blocks sights (OnKeyOf u)
+
+  abbrev Still : Mem (Node K V) → Type 0
+  Still = StandsStill same hash setting m0 xs h
+
+  -- it is under way, and alone
+  record Course (u : CallOnKey K V Q) (m : Mem (Node K V)) : Type 0 where
+    pub w : World (Node K V)
+    pub c : Chart K
+    pub blocks : Blocks
+    pub sights : ℕ → Sight
+    pub alone : AloneIn w c blocks sights u
+    pub memory : w.memory ≡ m
+    pub runs : HasRun same hash setting u.keys h.world.memory h.chart h.blocks u.change w.memory c blocks
+    pub looks : (n : ℕ) → n < h.chart.stored → h.blocks.pair_known n ≡ true → (blocks.pair_known n ≡ true) × (blocks.pair n ≡ h.blocks.pair n)
+    pub still : Still m
+    pub come : HasCome m0 m u.call
+
+  record Under (x : OnKey K V Q S) (m : Mem (Node K V)) : Type 0 where
+    pub u : CallOnKey K V Q
+    pub unstored : Option (Node K V)
+    pub is : x ≡ it u.call unstored
+    pub course : Course u m
+
+  record AsksAt (x : OnKey K V Q S) (m : Mem (Node K V)) : Type 0 where
+    pub under : Under x m
+    pub asks_at : Asking
+    pub stands : under.u.call.stands ≡ at.Asks asks_at
+
+  -- where a step of its machine leads
+  abbrev Next : OnKey K V Q S → Mem (Node K V) → Progress Stop → Type 0
+  Next x m progress.Goes = Under x m
+  Next x m progress.Waits = ⊥
+  Next x m (progress.Done (stop.Answered answer)) = CameBy m0 m answer × Still m
+  Next x m (progress.Done (stop.Asks about)) = AsksAt x m
+  Next x m (progress.Refused fault) = NoneCame m0 m × Still m
+
+  module _ (u : CallOnKey K V Q) (m : Mem (Node K V)) (here : Course u m) (m2 : Mem (Node K V)) (p2 : KeyCall K V Q) (told : Called (Node K V)) (s : Steps Took value_at m (call_plan asks same hash u.call) m2 (p2, told)) where
+    led : StepLeads same hash asks setting slot_of here.w here.c here.blocks u m2 p2 told
+    led =
+        (calls_go_on_alone same hash asks setting slot_of h.lawful h.initial here.w here.c here.blocks here.sights u here.alone).1 m2 p2 told
+        (subst (λ (y : Mem (Node K V)). Steps Took value_at y (call_plan asks same hash u.call) m2 (p2, told)) (sym here.memory) s)
+
+    may : May Can Took value_at m (call_plan asks same hash u.call)
+    may =
+        subst (λ (y : Mem (Node K V)). May Can Took value_at y (call_plan asks same hash u.call)) here.memory
+        (calls_go_on_alone same hash asks setting slot_of h.lawful h.initial here.w here.c here.blocks here.sights u here.alone).0
+
+    comes : Owns p2 × TellsSo (p2, told) × HasOnly m0 m2 p2
+    comes = step_comes u.call here.come.owns m0 m m2 here.come.only asks same hash (p2, told) may s
+
+    still_then : Still m2
+    still_then n low known =
+        let l = here.looks n low known in
+        let low2 : n < here.c.stored = (let more = here.runs.keeps.stored in omega (arith, low, more)) in
+        ap (value_at m2) (sym l.1) ∙ ap (λ (y : Mem (Node K V)). value_at y (here.blocks.pair n)) (sym led.memory) ∙ (led.looks n low2 l.0).2 ∙ ap (value_at here.w.memory) l.1
+        ∙ ap (λ (y : Mem (Node K V)). value_at y (h.blocks.pair n)) here.memory ∙ here.still n low known
+
+    abbrev next_call : CallOnKey K V Q
+    next_call = then_so u led.change2 p2
+
+    course_of : AloneIn led.w2 led.c2 led.blocks2 led.sights2 next_call → Course next_call m2
+    course_of alone = record {
+      w = led.w2;
+      c = led.c2;
+      blocks = led.blocks2;
+      sights = led.sights2;
+      alone = alone;
+      memory = led.memory;
+      runs = led.runs h.world.memory h.chart h.blocks h.rests.together.ground.map.map.rule here.runs;
+      looks = λ n low known.
+          let l = here.looks n low known in
+          let k = led.looks n (let more = here.runs.keeps.stored in omega (arith, low, more)) l.0 in (k.0, k.1 ∙ l.1);
+      still = still_then;
+      come = record { owns = comes.0; only = comes.2 };
+    }
+
+    under_of : (unstored : Option (Node K V)) → AloneIn led.w2 led.c2 led.blocks2 led.sights2 next_call → Under (it p2 unstored) m2
+    under_of unstored alone = record { u = next_call; unstored = unstored; is = refl; course = course_of alone }
+
+  next_by : (u : CallOnKey K V Q) (unstored : Option (Node K V)) (m : Mem (Node K V)) (here : Course u m) (m2 : Mem (Node K V)) (p2 : KeyCall K V Q) (told : Called (Node K V)) (s : Steps Took value_at m (call_plan asks same hash u.call) m2 (p2, told))
+      → Next (on_key_settled (it p2 unstored) told).0 m2 (on_key_settled (it p2 unstored) told).1
+  unfolding under_of
+  next_by u unstored m here m2 p2 called.Goes s = under_of u m here m2 p2 called.Goes s unstored (led u m here m2 p2 called.Goes s).leads
+  next_by u unstored m here m2 p2 called.Waits s = absurd ((led u m here m2 p2 called.Waits s).leads)
+  next_by u unstored m here m2 p2 (called.Gave value) s = under_of u m here m2 p2 (called.Gave value) s unstored (led u m here m2 p2 (called.Gave value) s).leads.0
+  next_by u unstored m here m2 p2 (called.Unstored value) s = under_of u m here m2 p2 (called.Unstored value) s (Some value) (led u m here m2 p2 (called.Unstored value) s).leads
+  next_by u unstored m here m2 p2 (called.Asks about) s =
+      let l = (led u m here m2 p2 (called.Asks about) s).leads in record { under = under_of u m here m2 p2 (called.Asks about) s unstored l.0; asks_at = l.1; stands = l.2 }
+  next_by u unstored m here m2 p2 (called.Done answer) s =
+      let c = comes u m here m2 p2 (called.Done answer) s in (answered m0 m2 p2.own c.2 answer c.1, still_then u m here m2 p2 (called.Done answer) s)
+  next_by u unstored m here m2 p2 (called.Refused fault) s =
+      let c = comes u m here m2 p2 (called.Refused fault) s in (none_so m0 m2 p2.own c.2 c.1, still_then u m here m2 p2 (called.Refused fault) s)
+
+  next_of : (x : OnKey K V Q S) (m : Mem (Node K V)) (v : Under x m) (m2 : Mem (Node K V)) (x2 : OnKey K V Q S) (told : Progress Stop) → Steps Took value_at m (on_key_plan asks same hashes x) m2 (x2, told) → Next x2 m2 told
+  next_of x m v m2 x2 told s =
+      let d = steps_back (on_key_after (it v.u.call v.unstored)) m m2 (call_plan asks same hash v.u.call) (x2, told)
+      (subst (λ (y : OnKey K V Q S). Steps Took value_at m (on_key_plan asks same hashes y) m2 (x2, told)) v.is s) in
+      subst (λ (e : OnKey K V Q S × Progress Stop). Next e.0 m2 e.1) (sym d.2) (next_by v.u v.unstored m v.course m2 d.0.0 d.0.1 d.1)
+
+  -- where it stops
+  abbrev StopsAt : OnKey K V Q S → Mem (Node K V) → Result Stop Fault → Type 0
+  StopsAt x m (Ok (stop.Answered answer)) = CameBy m0 m answer × Still m
+  StopsAt x m (Ok (stop.Asks about)) = AsksAt x m
+  StopsAt x m (Err fault) = NoneCame m0 m × Still m
+
+  stopped : (x : OnKey K V Q S) (m : Mem (Node K V)) (told : Progress Stop) (result : Result Stop Fault) → Next x m told → Tells told result → StopsAt x m result
+  stopped x m (progress.Done a) (Ok e) next tells = subst (λ (z : Stop). StopsAt x m (Ok z)) (sym tells) (by a next)
+    where
+      by : (a : Stop) → Next x m (progress.Done a) → StopsAt x m (Ok a)
+      by (stop.Answered answer) next = next
+      by (stop.Asks about) next = next
+  stopped x m (progress.Refused f) (Err g) next tells = next
+  stopped x m (progress.Refused f) (Ok e) next tells = absurd tells
+  stopped x m (progress.Done a) (Err g) next tells = absurd tells
+  stopped x m progress.Goes (Ok e) next tells = absurd tells
+  stopped x m progress.Goes (Err g) next tells = absurd tells
+  stopped x m progress.Waits result next tells = absurd next
+
+  goes_on : (x : OnKey K V Q S) (m : Mem (Node K V)) (told : Progress Stop) → GoesOn told → Next x m told → Under x m
+  goes_on x m progress.Goes on next = next
+  goes_on x m progress.Waits on next = absurd next
+  goes_on x m (progress.Done a) on next = absurd on
+  goes_on x m (progress.Refused f) on next = absurd on
+
+  stops_at : (x : OnKey K V Q S) (m : Mem (Node K V)) → Under x m → (x2 : OnKey K V Q S) (m2 : Mem (Node K V)) (result : Result Stop Fault) → RunsTo (on_key_plan asks same hashes) x m x2 m2 result → StopsAt x2 m2 result
+  stops_at x m v x2 m2 result (stops _ _ _ _ told _ s tells) = stopped x2 m2 told result (next_of x m v m2 x2 told s) tells
+  stops_at x m v x2 m2 result (goes _ _ x1 m1 told on s _ _ _ runs) = stops_at x1 m1 (goes_on x1 m1 told on (next_of x m v m1 x1 told s)) x2 m2 result runs
+
+  begins : (keys : K → Bool) (given : Given K V) (call : KeyCall K V Q) → IsBegun V same hash asks setting slot_of 0 keys given call → Under (it call None) m0
+  begins keys given call is = record {
+    u = begun_at V same hash asks setting slot_of h.chart keys given call;
+    unstored = None;
+    is = refl;
+    course = record {
+      w = h.world;
+      c = h.chart;
+      blocks = h.blocks;
+      sights = h.sights;
+      alone = calls_begin_alone same hash asks setting slot_of h.lawful h.world h.chart h.blocks h.sights
+          (rests_as same hash setting h.incremental slot_of same asks h.world h.chart h.blocks h.sights h.rests) keys given call is;
+      memory = h.memory;
+      runs = runs_begin V same hash setting keys h.world.memory h.chart h.blocks h.rests.together.ground.moments;
+      looks = λ n low known. (known, refl);
+      still = still_first same hash setting m0 xs h;
+      come = calls_begin K V Q same hash asks setting slot_of 0 h.lawful keys given call is m0;
+    };
+  }
+
+  -- told anything, it is under way again
+  told_on : (x : OnKey K V Q S) (m : Mem (Node K V)) → AsksAt x m → (told : Reply V) → Under (record x { call = (replied x.call told).0 }) m
+  told_on x m a told =
+      let v = a.under in
+      let c = v.course in
+      let law = replies_lead_on same hash asks setting slot_of h.lawful h.initial c.w c.c c.blocks c.sights v.u c.alone a.asks_at a.stands in
+      record {
+        u = told_about v.u law.0.0 told;
+        unstored = v.unstored;
+        is = ap (λ (y : OnKey K V Q S). record y { call = (replied y.call told).0 }) v.is;
+        course = record {
+          w = c.w;
+          c = c.c;
+          blocks = c.blocks;
+          sights = c.sights;
+          alone = law.3 law.0.0 law.0.1 told;
+          memory = c.memory;
+          runs = c.runs;
+          looks = c.looks;
+          still = c.still;
+          come = replies_put_none K V Q m0 m v.u.call c.come told;
+        };
+      }
+
+  under_way : (x : OnKey K V Q S) (m : Mem (Node K V)) → IsCalling asks same hashes b setting m0 x m → Under x m
+  under_way _ _ (begun keys given call is) = begins keys given call is
+  under_way _ _ (asked x m before x2 m2 about runs told) = told_on x2 m2 (stops_at x m (under_way x m before) x2 m2 (Ok (stop.Asks about)) runs) told
+
+  -- wherever it stops
+  at_stop : (x : OnKey K V Q S) (m : Mem (Node K V)) (result : Result Stop Fault) → StopsAt x m result → ComesWith m0 m x result × Still m
+  at_stop x m (Ok (stop.Answered answer)) s = s
+  at_stop x m (Ok (stop.Asks about)) s = (subst (λ (y : OnKey K V Q S). HasCome m0 m y.call) (sym s.under.is) s.under.course.come, s.under.course.still)
+  at_stop x m (Err fault) s = s
+
+  take_none_away : (x : OnKey K V Q S) (m : Mem (Node K V)) → IsCalling asks same hashes b setting m0 x m → (x2 : OnKey K V Q S) (m2 : Mem (Node K V)) (result : Result Stop Fault)
+      → RunsTo (on_key_plan asks same hashes) x m x2 m2 result → ComesWith m0 m2 x2 result × Still m2
+  take_none_away x m is x2 m2 result runs = at_stop x2 m2 result (stops_at x m (under_way x m is) x2 m2 result runs)
+
+pub calls_take_none_away : (K V Q S : Type 0) → CallsTakeNoneAway K V Q S
+calls_take_none_away K V Q S asks same hashes b setting m0 xs h x m is x2 m2 result runs =
+    let at_end = take_none_away asks same hashes b setting m0 xs h x m is x2 m2 result runs in (at_end.0, stood same (hashes b.now) setting m0 xs h m2 at_end.1)

@@ -1,0 +1,7 @@
+-- Lemmas on what the memory of one owner's map has.
+mod Calls
+mod Lists
+mod Runs
+mod Samples
+mod Stood
+mod Sweeps

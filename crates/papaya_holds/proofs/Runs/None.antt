@@ -1,0 +1,42 @@
+-- Runs of machines that put no pair into a block, and what they leave.
+use Rattle.std.specs.Prelude.{[], Result}
+use Rattle.seize_words.specs.Mem.{Mem}
+use Rattle.seize_words.specs.Plan.{Plan}
+use Rattle.seize_words.specs.declared.fault.Fault.{Fault}
+use Rattle.seize.specs.Leave.{leave_plan}
+use Rattle.seize.specs.declared.progress.Progress.{Progress}
+use Rattle.papaya_tables.specs.Nodes.{deferred_word}
+use Rattle.papaya_tables.specs.declared.node.Node.{Node}
+use Rattle.papaya_resize.specs.NewMap.{new_map_plan}
+use Rattle.papaya_reserves.specs.Reserve.{reserve_plan}
+use Rattle.papaya_sweeps.specs.Sweep.{sweep_plan}
+use Rattle.papaya_owned.specs.Ending.{Ends, RunsTo, stops, goes}
+use Rattle.papaya_owned.specs.Machines.{for_room_after, for_room_plan, refreshes_after, refreshes_plan}
+use Rattle.papaya_owned.proofs.Runs.Steps.{may_step, ends_on}
+use Rattle.papaya_sifts.specs.Sweeping.{over_pairs_after, over_pairs_plan}
+use Rattle.papaya_holds.specs.Came.{NoneCame}
+use Rattle.papaya_holds.specs.Promises.{RoomsPutNone, SweepsPutNone, RefreshesPutNone, MakingsPutNone}
+use Rattle.papaya_holds.proofs.Runs.Machines.{leave_puts, reserve_puts, sweep_puts, map_puts}
+use Rattle.papaya_holds.proofs.Runs.Puts.{PutsNoneBy, puts_as, puts_none}
+
+module _ {K V X A : Type 0} (plan : X → Plan (Node K V) (X × Progress A)) (none : (x : X) → PutsNoneBy (plan x)) where
+  pub runs_put_none : (x : X) (m : Mem (Node K V)) → Ends plan x m → (x2 : X) (m2 : Mem (Node K V)) (result : Result A Fault) → RunsTo plan x m x2 m2 result → NoneCame m m2
+  runs_put_none x m ends x2 m2 result (stops _ _ _ _ told _ s tells) b y there = puts_none m m2 (plan x) (x2, told) (none x) (may_step plan x m ends) s b y there
+  runs_put_none x m ends x2 m2 result (goes _ _ x1 m1 told on s _ _ _ runs) b y there =
+      puts_none m m1 (plan x) (x1, told) (none x) (may_step plan x m ends) s b y (runs_put_none x1 m1 (ends_on plan x m ends m1 x1 told on s) x2 m2 result runs b y there)
+
+pub rooms_put_none : (K V S : Type 0) → RoomsPutNone K V S
+rooms_put_none K V S hashes x m ends x2 m2 result runs =
+    runs_put_none (for_room_plan {K = K} {V = V} hashes) (λ r. puts_as (for_room_after r) (reserve_plan (hashes r.hasher.now) r.reserve) (reserve_puts K V (hashes r.hasher.now) r.reserve)) x m ends x2 m2 result runs
+
+pub sweeps_put_none : (K V S : Type 0) → SweepsPutNone K V S
+sweeps_put_none K V S hashes x m ends x2 m2 result runs =
+    runs_put_none (over_pairs_plan {K = K} {V = V} hashes) (λ u. puts_as (over_pairs_after u) (sweep_plan (hashes u.hasher.now) u.sweep) (sweep_puts K V (hashes u.hasher.now) u.sweep)) x m ends x2 m2 result runs
+
+pub refreshes_put_none : (K V : Type 0) → RefreshesPutNone K V
+refreshes_put_none K V x m ends x2 m2 result runs =
+    runs_put_none (refreshes_plan (deferred_word {K = K} {V = V})) (λ r. puts_as (refreshes_after r) (leave_plan deferred_word r.leave) (leave_puts K V r.leave)) x m ends x2 m2 result runs
+
+pub makings_put_none : (K V : Type 0) → MakingsPutNone K V
+makings_put_none K V x m ends x2 m2 result runs none =
+    ([], tt, λ b y there. absurd (none b y (runs_put_none (new_map_plan {K = K} {V = V}) (map_puts K V) x m ends x2 m2 result runs b y there)))

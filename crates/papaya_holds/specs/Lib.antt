@@ -1,0 +1,6 @@
+pub mod Balances
+pub mod Calls
+pub mod Came
+pub mod Lives
+pub mod Promises
+pub mod Sweeps

@@ -1,0 +1,285 @@
+-- Maps have numbers of their own, whatever happens.
+use Rattle.std.specs.Prelude.{◌≡◌, ℕ, suc, ◌+◌, ◌<◌, ◌==◌, nat_lt, Bool, true, false, not, cond, List, [], ◌∷◌, ◌++◌, filter, find, map, Option, Some, None, option_map, if◌then◌else◌}
+use Rattle.std.specs.List.{All}
+use Rattle.std.specs.Option.{option_or}
+use Rattle.std.proofs.Common.{refl, ap, sym, subst, ◌∙◌, arith}
+use Rattle.std.proofs.lemmas.Bool.{eq-eqb, eqb-true, ne_eqb}
+use Rattle.std.proofs.lemmas.List.Elements.{All-append, All-cons, All-filter, All-map}
+use Rattle.std.proofs.lemmas.List.Folds.{find-append}
+use Rattle.seize_words.specs.declared.at.At.TheVariants.{Root, Used, Slot, Entry, Word}
+use Rattle.seize.specs.declared.states.TheConstants.{FIRST}
+use Rattle.papaya_tables.specs.declared.table_words.TheConstants.{NEXT, DEFERRED}
+use Rattle.papaya_runs.specs.Same.{is_same}
+use Rattle.papaya_schedules.specs.declared.effect.Effect.{Effect}
+use Rattle.papaya_schedules.specs.declared.effect.Effect.TheVariants.{Asked, Linked, Promoted, Retired, Reclaimed, Taken}
+use Rattle.papaya_schedules.specs.declared.effect.Growth.TheVariants.{ABucket}
+use Rattle.papaya_schedules.specs.declared.effect.Spot.{Spot}
+use Rattle.papaya_schedules.specs.declared.effect.Table.{Table}
+use Rattle.papaya_schedules.specs.declared.effect.Thing.TheVariants.{APair, ATable}
+use Rattle.papaya_schedules.specs.Effects.{at_stage, promoted, with_effect, with_effects}
+use Rattle.papaya_schedules.specs.Moment.{MapThere, Stage, IsLinked, IsRetired, IsReclaimed, IsTaken, TableThere, Moment}
+use Rattle.papaya_schedules.specs.Things.{same_table}
+use Rattle.papaya_schedules.specs.Views.{map_at}
+use Rattle.papaya_teller.specs.declared.changed.Changed.{Changed}
+use Rattle.papaya_teller.specs.declared.changed.Changed.TheVariants as changed
+use Rattle.papaya_teller.specs.declared.changed.Kind.{Kind}
+use Rattle.papaya_teller.specs.declared.changed.Kind.TheVariants as kind
+use Rattle.papaya_effects.specs.Effects.{map_of, names_same, named, made_by, taken_by, followed_by, led_to, carried, placed, spot_at, is_place, in_table, in_block, batched, effects_of}
+use Rattle.papaya_effects.specs.Known.{Known}
+use Rattle.papaya_effects.specs.declared.acting.Acting.{Acting}
+use Rattle.papaya_effects.specs.declared.acting.Acting.TheVariants as acts
+use Rattle.papaya_effects.specs.declared.role.Role.{Role}
+use Rattle.papaya_effects.specs.declared.role.Role.TheVariants as role
+use Rattle.papaya_others.proofs.EndBegins.{found_still}
+use Rattle.papaya_others.proofs.RowPlans.{TellsRow, row_tells}
+use Rattle.papaya_moments.specs.Numbers.{NumbersMaps, NumbersBegin, MapsComeByNumber, MapsGo, StepsKeepNumbers, NumbersAreBelow, RowsKeepNumbers}
+
+module _ {X : Type 0} where
+  none_listed : (P : X → Type 0) → All P []
+  none_listed P k d l = absurd (omega (arith, l))
+
+  all_so : (P Q : X → Type 0) → ((x : X) → P x → Q x) → (xs : List X) → All P xs → All Q xs
+  all_so P Q so xs all k d l = so _ (all k d l)
+
+  -- what is found passes the test, and is one of the list
+  pub found_of : (P : X → Type 0) (test : X → Bool) (xs : List X) (x : X) → All P xs → find test xs ≡ Some x → (test x ≡ true) × P x
+  found_of P test [] x all is = absurd (cc is)
+  found_of P test (y ∷ ys) x all is = by (test y) refl (λ later. found_of P test ys x (λ k d l. all (suc k) d (omega (arith, l))) later)
+    where
+      by : (q : Bool) → test y ≡ q → (find test ys ≡ Some x → (test x ≡ true) × P x) → (test x ≡ true) × P x
+      by true e rest =
+          let it : y ≡ x = (let here : cond true (Some y) (find test ys) ≡ Some x = ap (λ z. cond z (Some y) (find test ys)) (sym e) ∙ is in cc here) in
+          (ap test (sym it) ∙ e, subst P it (all 0 y (omega arith)))
+      by false e rest = rest (ap (λ z. cond z (Some y) (find test ys)) (sym e) ∙ is)
+
+  -- what is so of those that are kept
+  kept_so : (P Q : X → Type 0) (keep : X → Bool) → ((x : X) → P x → keep x ≡ true → Q x) → (xs : List X) → All P xs → All Q (filter keep xs)
+  kept_so P Q keep so [] all = none_listed Q
+  kept_so P Q keep so (y ∷ ys) all = by (keep y) refl (kept_so P Q keep so ys (λ k d l. all (suc k) d (omega (arith, l))))
+    where
+      by : (q : Bool) → keep y ≡ q → All Q (filter keep ys) → All Q (if q then y ∷ filter keep ys else filter keep ys)
+      by true e rest = All-cons Q y (filter keep ys) (so y (all 0 y (omega arith)) e) rest
+      by false e rest = rest
+
+  -- where none passes, none is found, or kept
+  none_found : (test : X → Bool) (xs : List X) → All (λ x. test x ≡ false) xs → find test xs ≡ None
+  none_found test [] all = refl
+  none_found test (y ∷ ys) all =
+      ap (λ z. cond z (Some y) (find test ys)) (all 0 y (omega arith)) ∙ none_found test ys (λ k d l. all (suc k) d (omega (arith, l)))
+
+  none_kept : (test : X → Bool) (xs : List X) → All (λ x. test x ≡ false) xs → filter test xs ≡ []
+  none_kept test [] all = refl
+  none_kept test (y ∷ ys) all =
+      ap (λ z. if z then y ∷ filter test ys else filter test ys) (all 0 y (omega arith)) ∙ none_kept test ys (λ k d l. all (suc k) d (omega (arith, l)))
+
+-- a map whose root's table is another one has its number
+module _ (t : Table) where
+  number_same : (f : MapThere) → (promoted t f).number ≡ f.number
+  number_same f = by (f.number == t.map)
+    where
+      by : (q : Bool) → (if q then record f { first = t.turn } else f).number ≡ f.number
+      by true = refl
+      by false = refl
+
+  found_promoted : (number : ℕ) (fs : List MapThere) → find (λ f. f.number == number) (map (promoted t) fs) ≡ option_map (promoted t) (find (λ f. f.number == number) fs)
+  found_promoted number [] = refl
+  found_promoted number (f ∷ fs) =
+      ap (λ n. cond (n == number) (Some (promoted t f)) (find (λ f. f.number == number) (map (promoted t) fs))) (number_same f) ∙ by (f.number == number) (found_promoted number fs)
+    where
+      by : (q : Bool) → find (λ f. f.number == number) (map (promoted t) fs) ≡ option_map (promoted t) (find (λ f. f.number == number) fs)
+          → cond q (Some (promoted t f)) (find (λ f. f.number == number) (map (promoted t) fs)) ≡ option_map (promoted t) (cond q (Some f) (find (λ f. f.number == number) fs))
+      by true rest = refl
+      by false rest = rest
+
+-- and a table at another stage is that table
+stage_same : (t : Table) (stage : Stage) (u : TableThere) → (at_stage t stage u).table ≡ u.table
+stage_same t stage u = by (same_table u.table t)
+  where
+    by : (q : Bool) → (if q then record u { stage = stage } else u).table ≡ u.table
+    by true = refl
+    by false = refl
+
+staged : (t : Table) (stage : Stage) (made : ℕ) (tables : List TableThere) → All (λ u. u.table.map < made) tables → All (λ u. u.table.map < made) (map (at_stage t stage) tables)
+staged t stage made tables all =
+    All-map (λ u. u.table.map < made) (at_stage t stage) tables
+    (all_so (λ u. u.table.map < made) (λ u. (at_stage t stage u).table.map < made) (λ u l. subst (λ (v : Table). v.map < made) (sym (stage_same t stage u)) l) tables all)
+
+-- a table that is linked is of a map that was made
+abbrev LinksMade : ℕ → Effect → Type 0
+LinksMade made (Linked t shape) = t.map < made
+LinksMade made _ = Unit {0}
+
+abbrev AllLinkMade : ℕ → List Effect → Type 0
+AllLinkMade made [] = Unit {0}
+AllLinkMade made (f ∷ effects) = LinksMade made f × AllLinkMade made effects
+
+module _ {K V : Type 0} (caller : Option (List ℕ)) (acted : Option ℕ) where
+  one_kept : (f : Effect) (m : Moment K V) → LinksMade m.made f → NumbersMaps m → NumbersMaps (with_effect caller acted f m)
+  one_kept (Linked t shape) m l n = record {
+    found = n.found;
+    below = n.below;
+    tables = All-append (λ u. u.table.map < m.made) m.tables (record { table = t; shape = shape; stage = IsLinked } ∷ []) n.tables
+        (All-cons (λ u. u.table.map < m.made) (record { table = t; shape = shape; stage = IsLinked }) [] l (none_listed (λ u. u.table.map < m.made)));
+  }
+  one_kept (Promoted t) m l n = record {
+    found = All-map (λ f. find (λ g. g.number == f.number) (map (promoted t) m.maps) ≡ Some f) (promoted t) m.maps
+        (all_so (λ f. map_at f.number m ≡ Some f) (λ f. find (λ g. g.number == (promoted t f).number) (map (promoted t) m.maps) ≡ Some (promoted t f))
+        (λ f is. found_promoted t (promoted t f).number m.maps ∙ ap (λ k. option_map (promoted t) (map_at k m)) (number_same t f) ∙ ap (option_map (promoted t)) is) m.maps n.found);
+    below = All-map (λ f. f.number < m.made) (promoted t) m.maps
+        (all_so (λ f. f.number < m.made) (λ f. (promoted t f).number < m.made) (λ f l. subst (λ k. k < m.made) (sym (number_same t f)) l) m.maps n.below);
+    tables = n.tables;
+  }
+  one_kept (Retired (ATable t)) m l n = record { found = n.found; below = n.below; tables = staged t IsRetired m.made m.tables n.tables }
+  one_kept (Retired (APair k)) m l n = record { found = n.found; below = n.below; tables = n.tables }
+  one_kept (Reclaimed (ATable t)) m l n = record { found = n.found; below = n.below; tables = staged t IsReclaimed m.made m.tables n.tables }
+  one_kept (Reclaimed (APair k)) m l n = record { found = n.found; below = n.below; tables = n.tables }
+  one_kept (Taken t) m l n = record { found = n.found; below = n.below; tables = staged t IsTaken m.made m.tables n.tables }
+  one_kept _ m l n = record { found = n.found; below = n.below; tables = n.tables }
+
+  all_kept : (effects : List Effect) (m : Moment K V) → AllLinkMade m.made effects → NumbersMaps m → NumbersMaps (with_effects caller acted effects m)
+  all_kept [] m l n = n
+  all_kept (f ∷ effects) m l n = all_kept effects (with_effect caller acted f m) l.1 (one_kept f m l.0 n)
+
+-- what steps link is of their map
+module _ (made : ℕ) where
+  by_test : (q : Bool) (a z : List Effect) → AllLinkMade made a → AllLinkMade made z → AllLinkMade made (if q then a else z)
+  by_test true a z l r = l
+  by_test false a z l r = r
+
+  module _ (acting : Acting) where
+    made_links : (k : Kind) → AllLinkMade made (made_by acting k)
+    made_links kind.Pair = (tt, tt)
+    made_links (kind.Table len limit turn) = (tt, tt)
+    made_links kind.Shards = tt
+
+    carried_links : (t : Table) (is : Role) → AllLinkMade made (carried t is)
+    carried_links t (role.Pair n) = (tt, tt)
+    carried_links t _ = tt
+
+    placed_links : (s : Spot) (stored : ℕ) (was is : Role) → AllLinkMade made (placed s stored was is)
+    placed_links s stored (role.Pair n) (role.OwnPair c) = (tt, (tt, tt))
+    placed_links s stored _ (role.OwnPair c) = (tt, tt)
+    placed_links s stored (role.Pair n) role.Free = (tt, tt)
+    placed_links s stored role.Free (role.Pair n) = (tt, tt)
+    placed_links s stored _ _ = tt
+
+    module _ (l : map_of acting < made) where
+      followed_links : (is : Role) → AllLinkMade made (followed_by acting is)
+      followed_links (role.OwnTable turn shape) = (l, tt)
+      followed_links _ = tt
+
+      led_links : (was is : Role) → AllLinkMade made (led_to acting was is)
+      led_links was (role.OwnTable turn shape) = (l, tt)
+      led_links (role.Table t len) (role.Table u other) = (tt, tt)
+      led_links _ _ = tt
+
+      block_links : (r : Role) (field stored : ℕ) (q : Bool) (was is : Role) → AllLinkMade made (in_block acting r field stored q was is)
+      block_links (role.Table t len) field stored q was is =
+          by_test q [] (in_table acting t len field stored was is) tt
+          (by_test (field == NEXT) (followed_by acting is) (if field == DEFERRED then carried t is else (if is_place len field then placed (spot_at t field) stored was is else [])) (followed_links is)
+          (by_test (field == DEFERRED) (carried t is) (if is_place len field then placed (spot_at t field) stored was is else []) (carried_links t is)
+          (by_test (is_place len field) (placed (spot_at t field) stored was is) [] (placed_links (spot_at t field) stored was is) tt)))
+      block_links (role.Counter n) field stored q was is = (tt, tt)
+      block_links _ field stored q was is = tt
+
+  taken_links : (acting : Acting) (r : Role) → AllLinkMade made (taken_by acting r)
+  taken_links acting (role.OwnPair c) = (tt, tt)
+  taken_links acting (role.OwnTable turn shape) = (tt, tt)
+  taken_links (acts.Ending n) (role.Pair k) = (tt, tt)
+  taken_links _ (role.Pair k) = (tt, tt)
+  taken_links (acts.Ending n) (role.Table t len) = (tt, tt)
+  taken_links _ (role.Table t len) = (tt, tt)
+  taken_links acting _ = tt
+
+  batched_links : (acting : Acting) (field : ℕ) (r : Role) → AllLinkMade made (batched acting field r)
+  batched_links (acts.Call c n) field (role.Pair k) = by_test (field == FIRST) (Retired (APair k) ∷ []) [] (tt, tt) tt
+  batched_links (acts.Call c n) field (role.Table t len) = by_test (field == FIRST) (Retired (ATable t) ∷ []) [] (tt, tt) tt
+  batched_links _ field r = tt
+
+  acting_links : (acting : Acting) (known : Known) (told : Changed) → map_of acting < made → AllLinkMade made (effects_of acting known told)
+  acting_links acting known changed.Nothing l = tt
+  acting_links acting known (changed.Wrote (Root r) before after) l =
+      by_test (names_same before after) [] (led_to acting (named known before) (named known after)) tt (led_links acting l (named known before) (named known after))
+  acting_links acting known (changed.Wrote (Word x field) before after) l =
+      block_links acting l (known.roles x) field known.stored (names_same before after) (named known before) (named known after)
+  acting_links acting known (changed.Wrote (Entry x field) before after) l =
+      by_test (names_same before after) [] (batched acting field (known.roles x)) tt (batched_links acting field (known.roles x))
+  acting_links acting known (changed.Wrote (Used r) before after) l = tt
+  acting_links acting known (changed.Wrote (Slot t field) before after) l = tt
+  acting_links acting known (changed.Made k x) l = (tt, made_links acting k)
+  acting_links acting known (changed.Unmade k) l = (tt, tt)
+  acting_links acting known (changed.Took x) l = taken_links acting (known.roles x)
+  acting_links acting known (changed.Roomed bucket had) l = by_test (nat_lt bucket known.buckets) [] (Asked ABucket ∷ []) tt (tt, tt)
+
+  row_links : (known : Known) (told : Changed) → TellsRow told → AllLinkMade made (effects_of acts.Row known told)
+  row_links known changed.Nothing is = tt
+  row_links known (changed.Wrote (Slot t field) before after) is = tt
+  row_links known (changed.Wrote (Entry x field) before after) is = by_test (names_same before after) [] (batched acts.Row field (known.roles x)) tt (batched_links acts.Row field (known.roles x))
+  row_links known (changed.Wrote (Root r) before after) is = absurd is
+  row_links known (changed.Wrote (Used r) before after) is = absurd is
+  row_links known (changed.Wrote (Word x field) before after) is = absurd is
+  row_links known (changed.Made k x) is = absurd is
+  row_links known (changed.Unmade k) is = absurd is
+  row_links known (changed.Took x) is = taken_links acts.Row (known.roles x)
+  row_links known (changed.Roomed bucket had) is = by_test (nat_lt bucket known.buckets) [] (Asked ABucket ∷ []) tt (tt, tt)
+
+pub numbers_begin : (K V : Type 0) → NumbersBegin K V
+numbers_begin K V = record { found = λ k d l. absurd (omega (arith, l)); below = λ k d l. absurd (omega (arith, l)); tables = λ k d l. absurd (omega (arith, l)) }
+
+pub steps_keep_numbers : (K V : Type 0) → StepsKeepNumbers K V
+steps_keep_numbers K V m n caller acted acting known told l = all_kept caller acted (effects_of acting known told) m (acting_links m.made acting known told l) n
+
+pub numbers_are_below : (K V : Type 0) → NumbersAreBelow K V
+numbers_are_below K V m n number there is =
+    let it = found_of (λ f. f.number < m.made) (λ f. f.number == number) m.maps there n.below is in
+    subst (λ k. k < m.made) (eqb-true there.number number it.0) it.1
+
+pub maps_come_by_number : (K V : Type 0) → MapsComeByNumber K V
+maps_come_by_number K V m n there next = (
+  record {
+    found = All-append Then m.maps (there ∷ [])
+        (all_so (λ f. map_at f.number m ≡ Some f) Then (λ f is. find-append (test f.number) m.maps (there ∷ []) ∙ ap (λ o. option_or o (find (test f.number) (there ∷ []))) is) m.maps n.found)
+        (All-cons Then there [] itself (none_listed Then));
+    below = All-append Below m.maps (there ∷ []) (all_so (λ f. f.number < m.made) Below (λ f l. omega (arith, l)) m.maps n.below)
+        (All-cons Below there [] (omega (arith, next)) (none_listed Below));
+    tables = all_so (λ t. t.table.map < m.made) (λ t. t.table.map < m.made + 1) (λ t l. omega (arith, l)) m.tables n.tables;
+  },
+  none_kept (λ t. t.table.map == there.number) m.tables (all_so (λ t. t.table.map < m.made) (λ t. (t.table.map == there.number) ≡ false) (λ t l. ne_eqb t.table.map there.number (λ e. omega (arith, l, e, next))) m.tables n.tables),
+)
+  where
+    test : ℕ → MapThere → Bool
+    test number f = f.number == number
+
+    Then : MapThere → Type 0
+    Then f = find (λ g. g.number == f.number) (m.maps ++ there ∷ []) ≡ Some f
+
+    Below : MapThere → Type 0
+    Below f = f.number < m.made + 1
+
+    none_before : find (test there.number) m.maps ≡ None
+    none_before =
+        none_found (test there.number) m.maps
+        (all_so (λ f. f.number < m.made) (λ f. test there.number f ≡ false) (λ f l. ne_eqb f.number there.number (λ e. omega (arith, l, e, next))) m.maps n.below)
+
+    itself : Then there
+    itself =
+        find-append (test there.number) m.maps (there ∷ []) ∙ ap (λ o. option_or o (find (test there.number) (there ∷ []))) none_before
+        ∙ ap (λ z. cond z (Some there) None) (eq-eqb there.number there.number refl)
+
+pub maps_go : (K V : Type 0) → MapsGo K V
+maps_go K V m n own remains = record {
+  found = kept_so (λ f. map_at f.number m ≡ Some f) (λ f. find (λ g. g.number == f.number) (filter keep m.maps) ≡ Some f) keep
+      (λ f is kept. found_still (λ g. g.number == f.number) keep m.maps f is kept) m.maps n.found;
+  below = All-filter keep (λ f. f.number < m.made) m.maps n.below;
+  tables = n.tables;
+}
+  where
+    keep : MapThere → Bool
+    keep f = not (is_same f.name own)
+
+module _ (K V S : Type 0) (same : K → K → Bool) (hash : K → ℕ) where
+  pub rows_keep_numbers : RowsKeepNumbers K V S same hash
+  rows_keep_numbers m n known s old new i told leads row here =
+      let to = leads row here in
+      all_kept None None (effects_of acts.Row known new.memory.changed) m
+      (row_links m.made known new.memory.changed (row_tells old.memory.memory new.memory.memory new.memory.changed (to.0, told) row to.1)) n

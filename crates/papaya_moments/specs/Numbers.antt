@@ -1,0 +1,60 @@
+-- Numbers of maps: each map that is there has one of its own, and the next one that comes has a higher one than any before.
+use Rattle.std.specs.Prelude.{◌≡◌, ℕ, ◌<◌, Bool, List, [], Option, Some, None}
+use Rattle.std.specs.List.{All}
+use Rattle.papaya_tables.specs.declared.node.Node.{Node}
+use Rattle.papaya_schedules.specs.Beginning.{with_map}
+use Rattle.papaya_schedules.specs.Effects.{with_effects}
+use Rattle.papaya_schedules.specs.Moment.{MapThere, Remains, Moment, start}
+use Rattle.papaya_schedules.specs.Views.{map_at, tables_of}
+use Rattle.papaya_teller.specs.declared.changed.Changed.{Changed}
+use Rattle.papaya_effects.specs.Effects.{map_of, effects_of}
+use Rattle.papaya_effects.specs.Known.{Known}
+use Rattle.papaya_effects.specs.declared.acting.Acting.{Acting}
+use Rattle.papaya_effects.specs.declared.acting.Acting.TheVariants.{Row}
+use Rattle.papaya_executor.specs.IsAt.{Scene, work_of}
+use Rattle.papaya_executor.specs.OnSlots.{RowLeads}
+use Rattle.papaya_executor.specs.declared.executor.Executor.{Executor}
+use Rattle.papaya_executor.specs.declared.row.RowTold.{RowTold}
+use Rattle.papaya_executor.specs.declared.row.SlotRow.{SlotRow}
+use Rattle.papaya_executor.specs.declared.worker.Work.TheVariants.{OnSlot}
+use Rattle.papaya_others.specs.Endings.{without_map}
+
+module _ {K V : Type 0} where
+  -- each map that is there is the one that is found by its number
+  abbrev pub AreFound : Moment K V → Type 0
+  AreFound m = All (λ there. map_at there.number m ≡ Some there) m.maps
+
+  -- so it is, and its number is below that of the next map, and so are those of the maps of all tables
+  pub record NumbersMaps (m : Moment K V) : Type 0 where
+    pub found : AreFound m
+    pub below : All (λ there. there.number < m.made) m.maps
+    pub tables : All (λ t. t.table.map < m.made) m.tables
+
+-- The promises: so it is before all events,
+abbrev pub NumbersBegin : Type 0 → Type 0 → Type 0
+NumbersBegin K V = NumbersMaps {K = K} {V = V} start
+
+-- and where a map comes by the next number, of which there is no table yet,
+abbrev pub MapsComeByNumber : Type 0 → Type 0 → Type 0
+MapsComeByNumber K V =
+    (m : Moment K V) → NumbersMaps m → (there : MapThere) → there.number ≡ m.made → NumbersMaps (with_map there m) × (tables_of there.number m ≡ [])
+
+-- or is there no more.
+abbrev pub MapsGo : Type 0 → Type 0 → Type 0
+MapsGo K V = (m : Moment K V) → NumbersMaps m → (own : List ℕ) (remains : List Remains) → NumbersMaps (without_map own remains m)
+
+-- And so it is after each step of a call, of a making or of an end, on a map that was made; the number of a map that is there is one of those,
+abbrev pub StepsKeepNumbers : Type 0 → Type 0 → Type 0
+StepsKeepNumbers K V =
+    (m : Moment K V) → NumbersMaps m → (caller : Option (List ℕ)) (acted : Option ℕ) (acting : Acting) (known : Known) (told : Changed) → map_of acting < m.made
+    → NumbersMaps (with_effects caller acted (effects_of acting known told) m)
+
+abbrev pub NumbersAreBelow : Type 0 → Type 0 → Type 0
+NumbersAreBelow K V = (m : Moment K V) → NumbersMaps m → (number : ℕ) (there : MapThere) → map_at number m ≡ Some there → number < m.made
+
+module _ (K V S : Type 0) (same : K → K → Bool) (hash : K → ℕ) where
+  -- and after a step of a row on a slot.
+  abbrev pub RowsKeepNumbers : Type 0
+  RowsKeepNumbers =
+      (m : Moment K V) → NumbersMaps m → (known : Known) (s : Scene K V) (old new : Executor K V S) (i : ℕ) (told : RowTold (Node K V)) → RowLeads same hash i told s old new
+      → (row : SlotRow) → work_of old i ≡ Some (OnSlot row) → NumbersMaps (with_effects None None (effects_of Row known new.memory.changed) m)

@@ -1,0 +1,7 @@
+-- What leaves its map is sheltered by the sections that are open, by kind of step.
+pub mod Outs
+pub mod Lasting
+pub mod Within
+pub mod Calls
+pub mod Rows
+pub mod Events

@@ -1,0 +1,52 @@
+-- What is sheltered stays so, where sections go on and hold what they held.
+use Rattle.std.specs.Prelude.{◌≡◌, ℕ, ◌≤◌, true, List, [], ◌∷◌, Some, ◌⊎◌}
+use Rattle.std.specs.List.{AllByRecursion}
+use Rattle.std.proofs.Common.{subst, sym, arith, inl, inr}
+use Rattle.seize.specs.Law.{holds}
+use Rattle.seize.specs.World.{World, IsInside}
+use Rattle.papaya_tables.specs.declared.node.Node.{Node}
+use Rattle.papaya_runs.specs.Present.{Present, guard_of}
+use Rattle.papaya_runs.specs.declared.holders.Guard.{Guard}
+use Rattle.papaya_schedules.specs.declared.effect.Thing.{Thing}
+use Rattle.papaya_schedules.specs.declared.effect.Thing.TheVariants.{APair, ATable}
+use Rattle.papaya_schedules.specs.Moment.{Sheltered}
+use Rattle.papaya_effects.specs.Known.{Known}
+use Rattle.papaya_effects.specs.declared.role.Role.{Role}
+use Rattle.papaya_effects.specs.declared.role.Role.TheVariants as role
+use Rattle.papaya_follows.proofs.Onward.{IsOfMap}
+use Rattle.papaya_promises.specs.Sheltered.{IsOfThing, HasCome, GuardsAreInside, IsSheltered, AreSheltered}
+use Rattle.papaya_promises.proofs.Lists.{all_of}
+
+pub of_map : (x : Thing) (r : Role) → IsOfThing x r → IsOfMap r
+of_map (APair n) r is = subst IsOfMap (sym is) tt
+of_map (ATable t) r is = subst IsOfMap (sym is.1) tt
+
+come_on : (known known2 : Known) → known.stored ≤ known2.stored → (x : Thing) → HasCome known x → HasCome known2 x
+come_on known known2 more (APair n) come = omega (arith, more, come)
+come_on known known2 more (ATable t) come = tt
+
+-- Sections go on and hold what they held, and a block that is such a thing then was it before, or is held at once.
+pub record Lasts {K V : Type 0} (known known2 : Known) (w w2 : World (Node K V)) : Type 0 where
+  pub inside : (s : ℕ) → IsInside (w.uses s) → IsInside (w2.uses s)
+  pub held : (s b : ℕ) → IsInside (w.uses s) → IsOfMap (known2.roles b) → holds s b w.log ≡ true → holds s b w2.log ≡ true
+  pub more : known.stored ≤ known2.stored
+  pub back : (x : Thing) (b : ℕ) → HasCome known x → IsOfThing x (known2.roles b) → (known.roles b ≡ known2.roles b) ⊎ ((s : ℕ) → IsInside (w.uses s) → holds s b w2.log ≡ true)
+
+module _ {K V : Type 0} (there : Present) (known known2 : Known) (w w2 : World (Node K V)) (lasts : Lasts known known2 w w2) where
+  one_lasts : (x : Sheltered) → IsSheltered there w known x → IsSheltered there w2 known2 x
+  one_lasts x (come, g, is, inside, each) = (
+    come_on known known2 lasts.more x.thing come,
+    g,
+    is,
+    lasts.inside g.slot inside,
+    λ b of. elim (lasts.back x.thing b come of) as (λ _. holds g.slot b w2.log ≡ true) [
+      | inl was ↦ lasts.held g.slot b inside (of_map x.thing (known2.roles b) of) (each b (subst (IsOfThing x.thing) (sym was) of))
+      | inr new ↦ new g.slot inside
+    ],
+  )
+
+  pub all_last : (xs : List Sheltered) → AreSheltered there w known xs → AreSheltered there w2 known2 xs
+  all_last xs all = all_of (IsSheltered there w known) (IsSheltered there w2 known2) xs one_lasts all
+
+  pub guards_last : GuardsAreInside there w → GuardsAreInside there w2
+  guards_last inside own g is = lasts.inside g.slot (inside own g is)

@@ -1,0 +1,188 @@
+-- A step of a row on a slot leaves sheltered what is so, and reclaims none of it.
+use Rattle.std.specs.Prelude.{◌≡◌, ◌==◌, ℕ, suc, zero, nat_lt, Bool, true, false, ◌||◌, ◌&&◌, List, [], ◌∷◌, flat_map, Some, None, IsSome, if◌then◌else◌}
+use Rattle.std.specs.List.{AllByRecursion}
+use Rattle.std.proofs.Common.{refl, sym, subst, ap, ◌∙◌, arith, inl}
+use Rattle.seize_words.specs.Mem.{Mem, value_at}
+use Rattle.seize_words.specs.declared.at.At.TheVariants.{Root, Used, Slot, Entry, Word}
+use Rattle.seize.specs.Law.{holds}
+use Rattle.seize.specs.World.{World, Step, IsInside}
+use Rattle.seize_alone.proofs.Histories.NotTaken.{IsHeld, not_taken, kept_value, still_held}
+use Rattle.seize_alone.proofs.Histories.Reached.{Reached}
+use Rattle.seize_alone.proofs.Histories.Uses.{inside_kept}
+use Rattle.papaya_tables.specs.Nodes.{deferred_word}
+use Rattle.papaya_tables.specs.declared.node.Node.{Node}
+use Rattle.papaya_runs.specs.Present.{Present}
+use Rattle.papaya_schedules.specs.declared.effect.Effect.TheVariants.{Asked}
+use Rattle.papaya_schedules.specs.declared.effect.Growth.TheVariants.{ABucket}
+use Rattle.papaya_schedules.specs.declared.effect.Table.{Table}
+use Rattle.papaya_schedules.specs.declared.effect.Thing.{Thing}
+use Rattle.papaya_schedules.specs.declared.effect.Thing.TheVariants.{APair, ATable}
+use Rattle.papaya_schedules.specs.Lists.{is_in}
+use Rattle.papaya_schedules.specs.Model.{thing_back}
+use Rattle.papaya_schedules.specs.Moment.{Sheltered, Moment}
+use Rattle.papaya_schedules.specs.Things.{same_table, same_thing}
+use Rattle.papaya_teller.specs.declared.changed.Changed.{Changed}
+use Rattle.papaya_teller.specs.declared.changed.Changed.TheVariants as changed
+use Rattle.papaya_callers.proofs.Together.Came.{came_reached}
+use Rattle.papaya_effects.specs.Effects.{names_same, taken_by, effects_of, known_after}
+use Rattle.papaya_effects.specs.Known.{Known}
+use Rattle.papaya_effects.specs.declared.acting.Acting.TheVariants.{Row}
+use Rattle.papaya_effects.specs.declared.role.Role.{Role}
+use Rattle.papaya_effects.specs.declared.role.Role.TheVariants as role
+use Rattle.papaya_executor.specs.IsAt.{Scene, IsAt, slot_of, work_of}
+use Rattle.papaya_executor.specs.OnSlots.{RowSteps, HappensAt}
+use Rattle.papaya_executor.specs.declared.executor.Executor.{Executor}
+use Rattle.papaya_executor.specs.declared.row.RowTold.{RowTold}
+use Rattle.papaya_executor.specs.declared.row.SlotRow.{SlotRow}
+use Rattle.papaya_executor.specs.declared.worker.Work.TheVariants as work
+use Rattle.papaya_executor.proofs.OnSlots.{row_at, may_taken}
+use Rattle.papaya_follows.proofs.Onward.{IsOfMap}
+use Rattle.papaya_follows.proofs.Operations.{LeavesBy, operated_leaves}
+use Rattle.papaya_follows.proofs.Told.{roomed_as_many}
+use Rattle.papaya_others.proofs.RowPlans.{TellsRow, row_tells, row_operated}
+use Rattle.papaya_spots.proofs.Calm.{put_back}
+use Rattle.papaya_moments.proofs.OnSlots.{none_some}
+use Rattle.papaya_promises.specs.Shelters.{RowsShelter, NoneIsBack}
+use Rattle.papaya_promises.specs.Sheltered.{IsOfThing, GuardsAreInside, IsSheltered, AreSheltered}
+use Rattle.papaya_promises.proofs.Shelters.Lasting.{Lasts, of_map, all_last, guards_last}
+use Rattle.papaya_promises.proofs.Lists.{all_of}
+
+-- two things that are the same
+
+both_true : (p q : Bool) → (p && q) ≡ true → (p ≡ true) × (q ≡ true)
+both_true true true e = (refl, refl)
+both_true true false e = absurd (cc e)
+both_true false q e = absurd (cc e)
+
+tables_are : (t u : Table) → same_table t u ≡ true → t ≡ u
+tables_are t u e =
+    let both = both_true (t.map == u.map) (t.turn == u.turn) e in
+    let maps : t.map ≡ u.map = grind (arith, both.0) in
+    let turns : t.turn ≡ u.turn = grind (arith, both.1) in
+    ap (λ (x : ℕ). record { map = x; turn = t.turn }) maps ∙ ap (λ (x : ℕ). record { map = u.map; turn = x }) turns
+
+pub things_are : (x y : Thing) → same_thing x y ≡ true → x ≡ y
+things_are (APair n) (APair k) e = (let it : n ≡ k = grind (arith, e) in ap APair it)
+things_are (ATable t) (ATable u) e = ap ATable (tables_are t u e)
+things_are (APair n) (ATable u) e = absurd (cc e)
+things_are (ATable t) (APair k) e = absurd (cc e)
+
+-- a thing that is another one is not the only one of a list
+not_only : (x y : Thing) → (x ≡ y → ⊥) → is_in same_thing x (y ∷ []) ≡ false
+not_only x y other = by (same_thing x y) refl
+  where
+    by : (q : Bool) → same_thing x y ≡ q → (q || false) ≡ false
+    by true e = absurd (other (things_are x y e))
+    by false e = refl
+
+none_back : (xs : List Sheltered) → NoneIsBack [] xs
+none_back [] = tt
+none_back (x ∷ xs) = (refl, none_back xs)
+
+module _ {K V S : Type 0} (same : K → K → Bool) (hash : K → ℕ) (m : Moment K V) (known : Known) (s : Scene K V) (old new : Executor K V S) (at : IsAt same hash old s)
+    (i : ℕ) (row : SlotRow) (here : work_of old i ≡ Some (work.OnSlot row)) (end : SlotRow × RowTold (Node K V))
+    (steps : RowSteps K V row old.memory.memory new.memory.memory new.memory.changed end) (happened : HappensAt same hash (Step i) s old new) where
+  abbrev w : World (Node K V)
+  w = s.world
+
+  abbrev w2 : World (Node K V)
+  w2 = happened.0
+
+  abbrev known2 : Known
+  known2 = known_after Row new.memory.changed known
+
+  left : LeavesBy w.memory w2.memory new.memory.changed
+  left =
+      subst (λ (n : Mem (Node K V)). LeavesBy w.memory n new.memory.changed) (sym happened.4.memory)
+      (subst (λ (n : Mem (Node K V)). LeavesBy n new.memory.memory new.memory.changed) (sym at.memory)
+      (operated_leaves old.memory.memory new.memory.memory new.memory.changed
+      (row_operated old.memory.memory new.memory.memory new.memory.changed end row (may_taken same hash old s at i row here (slot_of i) row (row_at same hash old s at i row here)) steps)))
+
+  reached : Reached deferred_word old.batch_size w
+  reached = came_reached old.batch_size w at.together.makings.standing.came
+
+  tells : TellsRow new.memory.changed
+  tells = row_tells old.memory.memory new.memory.memory new.memory.changed end row steps
+
+  as_many : (told : Changed) → TellsRow told → (known_after Row told known).stored ≡ known.stored
+  as_many changed.Nothing is = refl
+  as_many (changed.Wrote (Slot t field) before now) is = refl
+  as_many (changed.Wrote (Entry b field) before now) is = refl
+  as_many (changed.Wrote (Root r) before now) is = absurd is
+  as_many (changed.Wrote (Used r) before now) is = absurd is
+  as_many (changed.Wrote (Word b field) before now) is = absurd is
+  as_many (changed.Made kind b) is = absurd is
+  as_many (changed.Unmade kind) is = absurd is
+  as_many (changed.Took b) is = refl
+  as_many (changed.Roomed bucket had) is = (roomed_as_many Row known bucket had).1
+
+  -- a block of a map was so
+  was_so : (told : Changed) → TellsRow told → (b : ℕ) → IsOfMap ((known_after Row told known).roles b) → (known_after Row told known).roles b ≡ known.roles b
+  was_so changed.Nothing is b of = refl
+  was_so (changed.Wrote (Slot t field) before now) is b of = refl
+  was_so (changed.Wrote (Entry c field) before now) is b of = refl
+  was_so (changed.Wrote (Root r) before now) is b of = absurd is
+  was_so (changed.Wrote (Used r) before now) is b of = absurd is
+  was_so (changed.Wrote (Word c field) before now) is b of = absurd is
+  was_so (changed.Made kind c) is b of = absurd is
+  was_so (changed.Unmade kind) is b of = absurd is
+  was_so (changed.Took c) is b of = put_back known.roles c role.Free (λ none. none) b of
+  was_so (changed.Roomed bucket had) is b of = ap (λ (f : ℕ → Role). f b) (roomed_as_many Row known bucket had).0
+
+  lasts : Lasts known known2 w w2
+  lasts = record {
+    inside = λ t inside. inside_kept deferred_word old.batch_size w reached i w2 happened.1 t inside;
+    held = λ t b inside of h. still_held deferred_word old.batch_size w reached i w2 happened.1 t b inside h;
+    more = (let e = as_many new.memory.changed tells in omega (arith, e));
+    back = λ x b come of. inl (sym (was_so new.memory.changed tells b (of_map x (known2.roles b) of)));
+  }
+
+  -- a block that a section holds is not taken away
+  not_gone : (t b : ℕ) → new.memory.changed ≡ changed.Took b → holds t b w.log ≡ true → ⊥
+  not_gone t b took held =
+      let it = subst (LeavesBy w.memory w2.memory) took left in
+      none_some (value_at w.memory b) it.0 (sym (kept_value deferred_word old.batch_size w reached i w2 happened.1 b (IsHeld t held)) ∙ it.1)
+
+  module _ (there : Present) where
+    not_it : (b : ℕ) → new.memory.changed ≡ changed.Took b → (y : Thing) → IsOfThing y (known.roles b) → (x : Sheltered) → IsSheltered there w known x → x.thing ≡ y → ⊥
+    not_it b took y of x (come, g, is, inside, each) e = not_gone g.slot b took (each b (subst (λ (z : Thing). IsOfThing z (known.roles b)) (sym e) of))
+
+    taken_back : (b : ℕ) → new.memory.changed ≡ changed.Took b → (r : Role) → known.roles b ≡ r → (xs : List Sheltered) → AreSheltered there w known xs → NoneIsBack (taken_by Row r) xs
+    taken_back b took role.Free is xs all = none_back xs
+    taken_back b took (role.OwnPair c) is xs all = none_back xs
+    taken_back b took (role.OwnTable turn shape) is xs all = none_back xs
+    taken_back b took (role.Counter of) is xs all = none_back xs
+    taken_back b took (role.Pair n) is xs all =
+        all_of (IsSheltered there w known) (λ (x : Sheltered). is_in same_thing x.thing (APair n ∷ []) ≡ false) xs (λ x so. not_only x.thing (APair n) (not_it b took (APair n) is x so)) all
+    taken_back b took (role.Table t len) is xs all =
+        all_of (IsSheltered there w known) (λ (x : Sheltered). is_in same_thing x.thing (ATable t ∷ []) ≡ false) xs (λ x so. not_only x.thing (ATable t) (not_it b took (ATable t) (len, is) x so)) all
+
+    nothing_back : (q : Bool) (xs : List Sheltered) → NoneIsBack (if q then [] else []) xs
+    nothing_back true xs = none_back xs
+    nothing_back false xs = none_back xs
+
+    roomed_back : (q : Bool) (xs : List Sheltered) → NoneIsBack (if q then [] else Asked ABucket ∷ []) xs
+    roomed_back true xs = none_back xs
+    roomed_back false xs = none_back xs
+
+    told_back : (told : Changed) → new.memory.changed ≡ told → TellsRow told → (xs : List Sheltered) → AreSheltered there w known xs → NoneIsBack (effects_of Row known told) xs
+    told_back changed.Nothing is tells_so xs all = none_back xs
+    told_back (changed.Wrote (Slot t field) before now) is tells_so xs all = none_back xs
+    told_back (changed.Wrote (Entry b field) before now) is tells_so xs all = nothing_back (names_same before now) xs
+    told_back (changed.Wrote (Root r) before now) is tells_so xs all = absurd tells_so
+    told_back (changed.Wrote (Used r) before now) is tells_so xs all = absurd tells_so
+    told_back (changed.Wrote (Word b field) before now) is tells_so xs all = absurd tells_so
+    told_back (changed.Made kind b) is tells_so xs all = absurd tells_so
+    told_back (changed.Unmade kind) is tells_so xs all = absurd tells_so
+    told_back (changed.Took b) is tells_so xs all = taken_back b is (known.roles b) refl xs all
+    told_back (changed.Roomed bucket had) is tells_so xs all = roomed_back (nat_lt bucket known.buckets) xs
+
+    pub row_shelters : (xs : List Sheltered) → AreSheltered there w known xs
+        → (GuardsAreInside there w → GuardsAreInside there w2) × AreSheltered there w2 known2 xs × NoneIsBack (effects_of Row known new.memory.changed) xs
+    row_shelters xs all = (guards_last there known known2 w w2 lasts, all_last there known known2 w w2 lasts xs all, told_back new.memory.changed refl tells xs all)
+
+module _ (K V S : Type 0) (same : K → K → Bool) (hash : K → ℕ) where
+  pub rows_shelter : RowsShelter K V S same hash
+  rows_shelter name m known s old new at whole i told leads row here there xs all =
+      let to = leads row here in
+      row_shelters same hash m known s old new at i row here (to.0, told) to.1 to.4 there xs all

@@ -1,0 +1,90 @@
+-- Over a step of a call, of a row or none, sections go on, and hold what they held.
+use Rattle.std.specs.Prelude.{◌≡◌, ℕ, Bool, true, List, [], Some, ◌⊎◌}
+use Rattle.std.proofs.Common.{refl, sym, subst, ap, inl, inr}
+use Rattle.seize.specs.Law.{Deferred, holds}
+use Rattle.seize.specs.World.{World, Use, Event, Begin, Happens, Runs, IsInside, Request, Register', Enter', Leave', LeaveOwned, Refresh, Unregister', Retire, Flush, Defer'}
+use Rattle.seize_moves.proofs.State.Held.{held_on}
+use Rattle.seize_alone.proofs.Histories.NotTaken.{still_held}
+use Rattle.seize_alone.proofs.Histories.Reached.{Reached, happens_reached}
+use Rattle.seize_alone.proofs.Histories.Uses.{inside_kept}
+use Rattle.papaya_tables.specs.Nodes.{deferred_word}
+use Rattle.papaya_tables.specs.declared.node.Node.{Node}
+use Rattle.papaya_tables.specs.declared.setting.Setting.{Setting}
+use Rattle.papaya_raw.specs.declared.machines.progress.Progress.{Progress}
+use Rattle.papaya_rule.specs.InWorld.{AllUsers}
+use Rattle.papaya_schedules.specs.Moment.{Moment}
+use Rattle.papaya_callers.specs.Together.{UnderWay, OnKey, ForRoom, Counting, OverAll, CameAbout, HandsOver, IsOneStep}
+use Rattle.papaya_callers.proofs.Rows.Users.{events_hold}
+use Rattle.papaya_callers.proofs.Together.Came.{came_reached}
+use Rattle.papaya_callers.proofs.Together.Handed.{inside_on}
+use Rattle.papaya_callers.proofs.Together.Users.{events_uses}
+use Rattle.papaya_effects.specs.Known.{Known}
+use Rattle.papaya_executor.specs.IsAt.{Scene, IsAt}
+use Rattle.papaya_executor.specs.Stepping.{StepLeads}
+use Rattle.papaya_executor.specs.declared.executor.Executor.{Executor}
+use Rattle.papaya_follows.specs.Shows.{Shows}
+use Rattle.papaya_follows.proofs.Steps.{WentTo, went_to, DidSo}
+
+-- whoever is within a section is so still, and that holds what it held
+pub record GoOn {K V : Type 0} (w w2 : World (Node K V)) : Type 0 where
+  pub inside : (t : ℕ) → IsInside (w.uses t) → IsInside (w2.uses t)
+  pub held : (t b : ℕ) → IsInside (w.uses t) → holds t b w.log ≡ true → holds t b w2.log ≡ true
+
+module _ {K V : Type 0} where
+  over_events : (size : ℕ) (w w2 : World (Node K V)) → Reached deferred_word size w → (events : List (Event (Node K V))) → AllUsers events → Runs deferred_word size events w w2 → GoOn w w2
+  over_events size w w2 r events users runs = record {
+    inside = λ t inside. subst (λ (f : ℕ → Use). IsInside (f t)) (sym (events_uses size events w w2 users runs)) inside;
+    held = λ t b inside h. events_hold size b t events w w2 r inside users runs h;
+  }
+
+  begun_goes : (setting : Setting) (i : ℕ) (w begun : World (Node K V)) (request : Request) → HandsOver setting i w request → Happens deferred_word setting.batch_size (Begin i request) w begun → GoOn w begun
+  begun_goes setting i w begun (Retire s c) hands h = subst (GoOn w) (sym h.1.2) (record { inside = λ t inside. inside_on w.uses s t inside; held = λ t b inside k. k })
+  begun_goes setting i w begun (Defer' s c d) hands h =
+      subst (GoOn w) (sym h.1.7) (record { inside = λ t inside. inside_on w.uses s t inside; held = λ t b inside k. held_on t b (Deferred c d) w.log tt k })
+  begun_goes setting i w begun (Register' enters) hands h = absurd hands
+  begun_goes setting i w begun (Enter' s) hands h = absurd hands
+  begun_goes setting i w begun (Leave' s) hands h = absurd hands
+  begun_goes setting i w begun (LeaveOwned s) hands h = absurd hands
+  begun_goes setting i w begun (Refresh s) hands h = absurd hands
+  begun_goes setting i w begun (Unregister' s) hands h = absurd hands
+  begun_goes setting i w begun (Flush s) hands h = absurd hands
+
+  over_row : (setting : Setting) (i : ℕ) (w w2 : World (Node K V)) → CameAbout setting.batch_size w → IsOneStep setting i w w2 → GoOn w w2
+  over_row setting i w w2 came (inl step) =
+      let r = came_reached setting.batch_size w came in record {
+        inside = λ t inside. inside_kept deferred_word setting.batch_size w r i w2 step t inside;
+        held = λ t b inside h. still_held deferred_word setting.batch_size w r i w2 step t b inside h;
+      }
+  over_row setting i w w2 came (inr (request, begun, hands, begins, step)) =
+      let r = happens_reached deferred_word setting.batch_size (Begin i request) w begun (came_reached setting.batch_size w came) begins in
+      let first = begun_goes setting i w begun request hands begins in record {
+        inside = λ t inside. inside_kept deferred_word setting.batch_size begun r i w2 step t (first.inside t inside);
+        held = λ t b inside h. still_held deferred_word setting.batch_size begun r i w2 step t b (first.inside t inside) (first.held t b inside h);
+      }
+
+module _ {K V S : Type 0} (same : K → K → Bool) (hash : K → ℕ) (name : ℕ → List ℕ) (m : Moment K V) (known : Known) (s : Scene K V) (old new : Executor K V S) (at : IsAt same hash old s)
+    (shown : Shows same name m known s) (map i : ℕ) (u : UnderWay K V K) (here : s.calls map i ≡ Some u) (told : Progress (Node K V)) (leads : StepLeads same hash i told s old new) where
+  abbrev to : WentTo same hash name m known s old new at shown map i u here told leads
+  to = went_to same hash name m known s old new at shown map i u here told leads
+
+  came : CameAbout to.0.setting.batch_size s.world
+  came = (at.together.makings.standing.each map to.0 to.2).ground.came
+
+  by_events : (w2 : World (Node K V)) → to.4.w2 ≡ w2 → (events : List (Event (Node K V))) → AllUsers events → Runs deferred_word to.0.setting.batch_size events s.world w2 → GoOn s.world to.4.w2
+  by_events w2 is events users runs =
+      subst (GoOn s.world) (sym is) (over_events to.0.setting.batch_size s.world w2 (came_reached to.0.setting.batch_size s.world came) events users runs)
+
+  by_row : (w2 : World (Node K V)) → to.4.w2 ≡ w2 → IsOneStep to.0.setting i s.world w2 → GoOn s.world to.4.w2
+  by_row w2 is step = subst (GoOn s.world) (sym is) (over_row to.0.setting i s.world w2 came step)
+
+  pub call_goes_on : GoOn s.world to.4.w2
+  call_goes_on = by u to.4.did
+    where
+      by : (x : UnderWay K V K) → DidSo same hash name m known s old new at shown map i u here told leads x → GoOn s.world to.4.w2
+      by (OnKey x) (p2, end, machine_is, told_is, inl (step, moved)) = by_events step.step.went.w2 moved.0 step.step.went.events step.step.went.users step.step.went.runs
+      by (OnKey x) (p2, end, machine_is, told_is, inr (row, stayed)) = by_row row.step.w2 stayed.0 row.step.happened
+      by (ForRoom x) (p2, end, machine_is, told_is, inl (step, moved)) = by_events step.step.went.w2 moved.0 step.step.went.events step.step.went.users step.step.went.runs
+      by (ForRoom x) (p2, end, machine_is, told_is, inr (row, stayed)) = by_row row.step.w2 stayed.0 row.step.happened
+      by (Counting x) (p2, end, machine_is, told_is, still, stayed) = by_events s.world stayed.0 [] tt refl
+      by (OverAll x) (p2, end, machine_is, told_is, inl (step, moved)) = by_events step.step.went.w2 moved.0 step.step.went.events step.step.went.users step.step.went.runs
+      by (OverAll x) (p2, end, machine_is, told_is, inr (row, stayed)) = by_row row.step.w2 stayed.0 row.step.happened

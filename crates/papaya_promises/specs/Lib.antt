@@ -1,0 +1,3 @@
+pub mod Sheltered
+pub mod Shelters
+pub mod Weights

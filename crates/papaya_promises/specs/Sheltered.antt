@@ -1,0 +1,38 @@
+-- What left its map while guards were there: their critical sections hold it still.
+use Rattle.std.specs.Prelude.{◌≡◌, ℕ, ◌≤◌, true, List, Some}
+use Rattle.std.specs.List.{AllByRecursion}
+use Rattle.seize.specs.Law.{holds}
+use Rattle.seize.specs.World.{World, IsInside}
+use Rattle.papaya_tables.specs.declared.node.Node.{Node}
+use Rattle.papaya_runs.specs.Present.{Present, guard_of}
+use Rattle.papaya_runs.specs.declared.holders.Guard.{Guard}
+use Rattle.papaya_schedules.specs.declared.effect.Thing.{Thing}
+use Rattle.papaya_schedules.specs.declared.effect.Thing.TheVariants.{APair, ATable}
+use Rattle.papaya_schedules.specs.Moment.{Sheltered}
+use Rattle.papaya_effects.specs.Known.{Known}
+use Rattle.papaya_effects.specs.declared.role.Role.{Role}
+use Rattle.papaya_effects.specs.declared.role.Role.TheVariants as role
+
+-- a block with this role is that thing
+abbrev pub IsOfThing : Thing → Role → Type 0
+IsOfThing (APair n) r = r ≡ role.Pair n
+IsOfThing (ATable t) r = (len : ℕ) × (r ≡ role.Table t len)
+
+-- a pair has a number that was given
+abbrev pub HasCome : Known → Thing → Type 0
+HasCome known (APair n) = n ≤ known.stored
+HasCome known (ATable t) = Unit {0}
+
+module _ {K V : Type 0} (there : Present) (w : World (Node K V)) where
+  -- each guard that is there is within a critical section
+  abbrev pub GuardsAreInside : Type 0
+  GuardsAreInside = (own : List ℕ) (g : Guard) → guard_of own there.guards ≡ Some g → IsInside (w.uses g.slot)
+
+  -- The guard is there, within its section, and that holds each block that is the thing.
+  abbrev pub IsSheltered : Known → Sheltered → Type 0
+  IsSheltered known x =
+      HasCome known x.thing × (g : Guard) × (guard_of x.guard there.guards ≡ Some g) × IsInside (w.uses g.slot)
+      × ((b : ℕ) → IsOfThing x.thing (known.roles b) → holds g.slot b w.log ≡ true)
+
+  abbrev pub AreSheltered : Known → List Sheltered → Type 0
+  AreSheltered known sheltered = AllByRecursion (IsSheltered known) sheltered

@@ -1,0 +1,67 @@
+-- What is promised of what left its map while guards were there: each kind of step leaves it sheltered, and reclaims none of it.
+use Rattle.std.specs.Prelude.{◌≡◌, ℕ, Bool, false, List, [], ◌++◌, Some, flat_map}
+use Rattle.std.specs.List.{AllByRecursion}
+use Rattle.seize.specs.World.{Step}
+use Rattle.seize.specs.declared.rows.settle.Settled.{Settled}
+use Rattle.papaya_tables.specs.declared.node.Node.{Node}
+use Rattle.papaya_raw.specs.declared.machines.progress.Progress.{Progress}
+use Rattle.papaya_runs.specs.Present.{Present}
+use Rattle.papaya_schedules.specs.declared.effect.Effect.{Effect}
+use Rattle.papaya_schedules.specs.After.{after, moment}
+use Rattle.papaya_schedules.specs.Effects.{with_effects}
+use Rattle.papaya_schedules.specs.Entry.{Entry}
+use Rattle.papaya_schedules.specs.Lists.{is_in}
+use Rattle.papaya_schedules.specs.Model.{thing_back}
+use Rattle.papaya_schedules.specs.Moment.{Sheltered, Moment}
+use Rattle.papaya_schedules.specs.Reclaims.{IsProtected}
+use Rattle.papaya_schedules.specs.Things.{same_thing}
+use Rattle.papaya_callers.specs.Together.{UnderWay}
+use Rattle.papaya_effects.specs.Effects.{effects_of, known_after}
+use Rattle.papaya_effects.specs.Known.{Known}
+use Rattle.papaya_effects.specs.declared.acting.Acting.TheVariants as acts
+use Rattle.papaya_executor.specs.IsAt.{Scene, IsAt, work_of}
+use Rattle.papaya_executor.specs.OnSlots.{RowLeads}
+use Rattle.papaya_executor.specs.Stepping.{StepLeads, scene_after}
+use Rattle.papaya_executor.specs.declared.executor.Executor.{Executor}
+use Rattle.papaya_executor.specs.declared.row.RowTold.{RowTold}
+use Rattle.papaya_executor.specs.declared.row.SlotRow.{SlotRow}
+use Rattle.papaya_executor.specs.declared.worker.Work.TheVariants.{OnSlot}
+use Rattle.papaya_others.specs.Rows.{scene_then}
+use Rattle.papaya_moments.specs.Whole.{ShowsWhole}
+use Rattle.papaya_promises.specs.Sheltered.{GuardsAreInside, AreSheltered}
+
+-- none of these things is reclaimed by the effects
+abbrev pub NoneIsBack : List Effect → List Sheltered → Type 0
+NoneIsBack effects sheltered = AllByRecursion (λ x. is_in same_thing x.thing (flat_map thing_back effects) ≡ false) sheltered
+
+-- The promises: what none of two parts reclaims, both do not,
+abbrev pub StepsProtect : Type 0
+StepsProtect = (effects more : List Effect) (sheltered : List Sheltered) → NoneIsBack effects sheltered → NoneIsBack more sheltered → NoneIsBack (effects ++ more) sheltered
+
+-- and an event whose effects reclaim nothing that is sheltered after it is as it is to be.
+abbrev pub EventsAreProtected : Type 0 → Type 0 → Type 0
+EventsAreProtected K V = (log : List (Entry K V)) (e : Entry K V) → NoneIsBack e.effects (after e (moment log)).sheltered → IsProtected log e
+
+module _ (K V S : Type 0) (same : K → K → Bool) (hash : K → ℕ) where
+  -- A step of a call leaves guards within their sections, and shelters what it takes out of its map; it reclaims nothing.
+  abbrev pub CallsShelter : Type 0
+  CallsShelter =
+      (name : ℕ → List ℕ) (m : Moment K V) (known : Known) (s : Scene K V) (old new : Executor K V S) → IsAt same hash old s → ShowsWhole same name m known s
+      → (map i : ℕ) (u : UnderWay K V K) (here : s.calls map i ≡ Some u) (told : Progress (Node K V)) (leads : StepLeads same hash i told s old new)
+      → GuardsAreInside m.there s.world → AreSheltered m.there s.world known m.sheltered
+      → (let to = leads map u here in
+      let effects = effects_of (acts.Call i map) known new.memory.changed in
+      GuardsAreInside m.there to.4.w2
+      × AreSheltered m.there to.4.w2 (known_after (acts.Call i map) new.memory.changed known) (with_effects (Some (name i)) (Some map) effects m).sheltered
+      × (flat_map thing_back effects ≡ []))
+
+  -- A step of a row on a slot leaves each that is within its section there, and leaves sheltered, and reclaims none of, what is sheltered by whom.
+  abbrev pub RowsShelter : Type 0
+  RowsShelter =
+      (name : ℕ → List ℕ) (m : Moment K V) (known : Known) (s : Scene K V) (old new : Executor K V S) → IsAt same hash old s → ShowsWhole same name m known s
+      → (i : ℕ) (told : RowTold (Node K V)) (leads : RowLeads same hash i told s old new) (row : SlotRow) (here : work_of old i ≡ Some (OnSlot row))
+      → (there : Present) (sheltered : List Sheltered) → AreSheltered there s.world known sheltered
+      → (let effects = effects_of acts.Row known new.memory.changed in
+      let then = (scene_then same hash (Step i) s old new (leads row here).4).world in
+      (GuardsAreInside there s.world → GuardsAreInside there then) × AreSheltered there then (known_after acts.Row new.memory.changed known) sheltered
+      × NoneIsBack effects sheltered)
