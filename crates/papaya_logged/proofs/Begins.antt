@@ -1,13 +1,12 @@
 -- The beginning of a call is written down, under the name of its caller.
-use Rattle.std.specs.Prelude.{◌≡◌, ◌<◌, ◌≢◌, ℕ, ◌==◌, Bool, true, false, List, Some, None, length, if◌then◌else◌}
-use Rattle.std.proofs.Common.{refl, sym, subst, ap, arith, ◌∙◌}
+use Rattle.std.specs.Prelude.{◌≡◌, ◌<◌, ◌≢◌, ℕ, Bool, false, List, Some, None, if◌then◌else◌}
+use Rattle.std.proofs.Common.{refl, sym, subst, ap}
 use Rattle.std.proofs.lemmas.Bool.{eq-eqb, ne_eqb}
 use Rattle.papaya_raw.specs.declared.machines.machine.Machine.{Machine}
 use Rattle.papaya_runs.specs.Same.{is_same}
 use Rattle.papaya_schedules.specs.Beginning.{with_call}
 use Rattle.papaya_schedules.specs.Lists.{put}
 use Rattle.papaya_schedules.specs.Moment.{Moment, start}
-use Rattle.papaya_callers.specs.Together.{UnderWay}
 use Rattle.papaya_effects.specs.Known.{Known, known, nothing_known}
 use Rattle.papaya_executor.specs.Beginning.{BeginLeads}
 use Rattle.papaya_executor.specs.IsAt.{Scene, IsAt, HasCall, at_first}
@@ -39,7 +38,7 @@ module _ {K V S : Type 0} (same : K → K → Bool) (hash : K → ℕ) where
       let names = put i own name in
       let leads = begins s shown.is_at standing stands inside u is fresh in
       let agree : (j : ℕ) → HasCall s j → names j ≡ name j =
-          λ j has. kept i j own name (λ e. absurd (cc (has.2, subst (λ x. s.calls has.0 x ≡ None) (sym e) (no_calls_yet same hash old.executor s shown.is_at slot fits has.0)))) in
+      λ j has. kept i j own name (λ e. absurd (cc (has.2, subst (λ x. s.calls has.0 x ≡ None) (sym e) (no_calls_yet same hash old.executor s shown.is_at slot fits has.0)))) in
       let before = renamed same name names m (known old.notes) s agree shown.shows in
       let none : NoneNamed names (names i) s = λ n j x here. subst (λ a. is_same a (names j) ≡ false) (sym (named i own name)) (subst (λ a. is_same own a ≡ false) (sym (agree j (n, x, here))) (apart n j x here)) in
       let after = with_call own guard call (Some map) m in

@@ -29,8 +29,7 @@ module _ {K V S : Type 0} (same : K → K → Bool) (hash : K → ℕ) where
   goes_so old stepped notes i map told before after stepping did noted name m s shown u here =
       let leads = stepping s shown.is_at in
       let to = leads map u here in
-      let effects = effects_of (acts.Call i map) (known old.notes) stepped.memory.changed in
-      (
+      let effects = effects_of (acts.Call i map) (known old.notes) stepped.memory.changed in (
         leads,
         effects,
         did,

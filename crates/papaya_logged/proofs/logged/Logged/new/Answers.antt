@@ -1,7 +1,6 @@
 -- Before all events the first moment shows it.
-use Rattle.std.proofs.Common.{sym, subst}
 use Rattle.papaya_logged.proofs.Begins.{first_shown}
 use Rattle.papaya_logged.proofs.logged.Logged.new.Goals as goal
 
 pub returns-clause-shown : goal.returns-clause-shown
-returns-clause-shown g c = λ same hash name. first_shown same hash name _ _ (c.in_ok-new.ensures.stands same hash) c.nothing.ensures
+returns-clause-shown g c = λ same hash name. first_shown same hash name _ _ (c.in_ok-executor.ensures.stands same hash) c.nothing-notes.ensures

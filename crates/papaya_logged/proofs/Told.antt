@@ -1,0 +1,68 @@
+-- Calls go on by what they are told, or asked, and the moment shows that.
+use Rattle.std.specs.Prelude.{◌≡◌, ℕ, Bool, List, Result, Ok}
+use Rattle.std.proofs.Common.{sym, subst}
+use Rattle.papaya_raw.specs.Machine.{machine_replied}
+use Rattle.papaya_raw.specs.declared.machines.asking.Reply.{Reply as MachineReply}
+use Rattle.papaya_schedules.specs.Moment.{Moment}
+use Rattle.papaya_effects.specs.Known.{known}
+use Rattle.papaya_effects.specs.declared.notes.Notes.{Notes}
+use Rattle.papaya_executor.specs.IsAt.{Scene, IsAt, slot_of}
+use Rattle.papaya_executor.specs.Replying.{ReplyLeads, AskLeads, StopLeads, scene_with, unless_stopped}
+use Rattle.papaya_finishes.specs.Machines.{machine_of, ToldOfKind}
+use Rattle.papaya_finishes.specs.Maps.{with_call}
+use Rattle.papaya_follows.specs.Calling.{told as told_so}
+use Rattle.papaya_hands.specs.Asked.{as_told}
+use Rattle.papaya_moments.proofs.Calls.{calls_take_whole}
+use Rattle.papaya_moments.proofs.Walks.{walks_go_on_whole, walks_stop_whole}
+use Rattle.papaya_moments.specs.Whole.{ShowsWhole}
+use Rattle.papaya_others.specs.Walks.{given_up}
+use Rattle.papaya_logged.specs.Calling.{CallTakes, WalkGoesOn, WalkStops}
+use Rattle.papaya_logged.specs.Shown.{IsShown}
+use Rattle.papaya_logged.specs.declared.logged.Logged.{Logged}
+
+module _ {K V S : Type 0} (same : K → K → Bool) (hash : K → ℕ) (old new : Logged K V S) (noted : new.notes ≡ old.notes) (i : ℕ) where
+  -- with the same notes
+  noted_so : (name : ℕ → List ℕ) (m : Moment K V) (s : Scene K V) → ShowsWhole same name m (known old.notes) s → ShowsWhole same name m (known new.notes) s
+  noted_so name m s shows = subst (λ (n : Notes). ShowsWhole {K = K} {V = V} same name m (known n) s) (sym noted) shows
+
+  pub call_takes : (reply : MachineReply V) (result : Result Unit (MachineReply V)) → ((s : Scene K V) → IsAt same hash old.executor s → ReplyLeads same hash i reply result s old.executor new.executor)
+      → (name : ℕ → List ℕ) (m : Moment K V) (s : Scene K V) → IsShown same hash name m old s → CallTakes same hash name m s i reply result old new
+  call_takes reply result leads name m s shown map u here c there question asks is_told told_as ok =
+      let to = leads s shown.is_at map u here in
+      let taken : (machine_replied (machine_of u) (as_told is_told)).1 ≡ Ok tt = subst (λ (r : MachineReply V). (machine_replied (machine_of u) r).1 ≡ Ok tt) told_as (subst (λ (r : Result Unit (MachineReply V)). r ≡ Ok tt) to.4 ok) in
+      let next_is : machine_of to.1 ≡ (machine_replied (machine_of u) (as_told is_told)).0 = subst (λ (r : MachineReply V). machine_of to.1 ≡ (machine_replied (machine_of u) r).0) told_as to.3 in (
+        to.1,
+        to.3,
+        record {
+          is_at = to.7;
+          shows = noted_so name (told_so (name i) is_told m) (scene_with map i to.1 s)
+              (calls_take_whole K V S same hash name m (known old.notes) s old.executor shown.is_at shown.shows map i u here c there question asks to.0 to.2 is_told to.1 next_is taken
+              (subst (λ (r : MachineReply V). ToldOfKind V same same old.executor.batch_size old.executor.roots slot_of to.0 i u r to.1) told_as to.5));
+        },
+      )
+
+  pub walk_goes_on : (ready : Bool) → ((s : Scene K V) → IsAt same hash old.executor s → AskLeads same hash i ready s old.executor new.executor)
+      → (name : ℕ → List ℕ) (m : Moment K V) (s : Scene K V) → IsShown same hash name m old s → WalkGoesOn same hash name m s i ready old new
+  walk_goes_on ready leads name m s shown map u here is_ready =
+      let asked = subst (λ (q : Bool). AskLeads same hash i q s old.executor new.executor) is_ready (leads s shown.is_at) in
+      let to = asked map u here in (
+        to.0,
+        to.1,
+        record {
+          is_at = to.4;
+          shows = noted_so name m (scene_with map i to.0 s) (walks_go_on_whole K V S same hash name m (known old.notes) s old.executor new.executor shown.shows i asked map u here);
+        },
+      )
+
+  pub walk_stops : (stopped : Bool) → ((s : Scene K V) → IsAt same hash old.executor s → StopLeads same hash i stopped s old.executor new.executor)
+      → (name : ℕ → List ℕ) (m : Moment K V) (s : Scene K V) → IsShown same hash name m old s → WalkStops same hash name m s i stopped old new
+  walk_stops stopped leads name m s shown map u here =
+      let asked = leads s shown.is_at in
+      let to = asked map u here in
+      let after = record s { calls = with_call s.calls map i (unless_stopped stopped u) } in (
+        to.0,
+        λ none. record {
+          is_at = to.2;
+          shows = noted_so name (given_up (name i) stopped m) after (walks_stop_whole K V S same hash name m (known old.notes) s old.executor new.executor shown.shows i stopped asked map u here none);
+        },
+      )

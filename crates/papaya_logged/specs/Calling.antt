@@ -1,0 +1,69 @@
+-- Where the beginning and a step of a call lead, and what they do; where a call goes on by what it is told, or asked.
+use Rattle.std.specs.Prelude.{◌≡◌, ℕ, Bool, true, List, ◌++◌, Option, Some, Result, Ok}
+use Rattle.papaya_tables.specs.declared.node.Node.{Node}
+use Rattle.papaya_raw.specs.Machine.{machine_asked, machine_replied}
+use Rattle.papaya_raw.specs.declared.machines.asking.Reply.{Reply as MachineReply}
+use Rattle.papaya_raw.specs.declared.machines.machine.Machine.{Machine}
+use Rattle.papaya_raw.specs.declared.machines.progress.Progress.{Progress}
+use Rattle.papaya_schedules.specs.Beginning.{with_call}
+use Rattle.papaya_schedules.specs.Lists.{put}
+use Rattle.papaya_schedules.specs.declared.call.Call.{Call}
+use Rattle.papaya_schedules.specs.declared.call.Reply.{Reply}
+use Rattle.papaya_schedules.specs.declared.effect.Effect.{Effect}
+use Rattle.papaya_schedules.specs.Effects.{with_effects}
+use Rattle.papaya_schedules.specs.Moment.{Asking, UnderWay as CallThere, Moment}
+use Rattle.papaya_schedules.specs.Views.{call_of}
+use Rattle.papaya_callers.specs.Together.{UnderWay}
+use Rattle.papaya_executor.specs.Beginning.{Begins}
+use Rattle.papaya_executor.specs.IsAt.{Scene, slot_of, use_at}
+use Rattle.papaya_executor.specs.Replying.{scene_with, unless_stopped}
+use Rattle.papaya_executor.specs.Stepping.{StepLeads, scene_after}
+use Rattle.papaya_executor.specs.declared.row.SlotUse.TheVariants as used
+use Rattle.papaya_finishes.specs.Machines.{machine_of}
+use Rattle.papaya_finishes.specs.Maps.{Standing, with_call as with_call_of}
+use Rattle.papaya_follows.specs.Calling.{NoneNamed, told as told_so}
+use Rattle.papaya_follows.specs.Calls.{IsCalled}
+use Rattle.papaya_hands.specs.Asked.{as_told}
+use Rattle.papaya_hands.specs.Calling.{IsBegunFor}
+use Rattle.papaya_others.specs.Walks.{given_up}
+use Rattle.papaya_logged.specs.Shown.{IsShown}
+use Rattle.papaya_logged.specs.declared.logged.Logged.{Logged}
+
+module _ {K V S : Type 0} (same : K → K → Bool) (hash : K → ℕ) (name : ℕ → List ℕ) (m : Moment K V) (s : Scene K V) where
+  -- A step of a caller's call on a map: what it does follows in the list, and the moment after that shows where the step has led.
+  abbrev pub CallGoesOn : (i map : ℕ) → Progress (Node K V) → (before after : List Effect) → (old new : Logged K V S) → Type 0
+  CallGoesOn i map told before after old new =
+      (u : UnderWay K V K) (here : s.calls map i ≡ Some u)
+      → (leads : StepLeads same hash i told s old.executor new.executor) × (did : List Effect) × (after ≡ before ++ did)
+      × (let to = leads map u here in
+      IsShown same hash name (with_effects (Some (name i)) (Some map) did m) new (scene_after same hash s old.executor new.executor map i to.0 u to.1 told to.4))
+
+  -- A call begins while its slot is entered, on a map that stands, by a name that no call under way has: from then on the moment at which it begins shows that it
+  -- is under way, and the caller has that name.
+  abbrev pub CallBegins : (i map : ℕ) → Machine K V K → (old new : Logged K V S) → Type 0
+  CallBegins i map machine old new =
+      (standing : Standing K) → s.maps map ≡ Some standing → use_at old.executor (slot_of i) ≡ used.Inside
+      → (u : UnderWay K V K) → machine_of u ≡ machine → Begins same standing i u
+      → (own guard : List ℕ) (call : Call K V) → IsCalled same u call → IsBegunFor u call → NoneNamed name own s
+      → IsShown same hash (put i own name) (with_call own guard call (Some map) m) new (scene_with map i u s)
+
+  -- One that asks, and takes what it is told, goes on by that.
+  abbrev pub CallTakes : ℕ → MachineReply V → Result Unit (MachineReply V) → (old new : Logged K V S) → Type 0
+  CallTakes i reply result old new =
+      (map : ℕ) (u : UnderWay K V K) → s.calls map i ≡ Some u → (c : CallThere K V) → call_of (name i) m ≡ Some c → (question : Option ℕ) → c.stands ≡ Asking question
+      → (is_told : Reply V) → reply ≡ as_told is_told → result ≡ Ok tt
+      → (next : UnderWay K V K) × (machine_of next ≡ (machine_replied (machine_of u) reply).0) × IsShown same hash name (told_so (name i) is_told m) new (scene_with map i next s)
+
+  -- A walk that was ready goes on to its next pair,
+  abbrev pub WalkGoesOn : ℕ → Bool → (old new : Logged K V S) → Type 0
+  WalkGoesOn i ready old new =
+      (map : ℕ) (u : UnderWay K V K) → s.calls map i ≡ Some u → ready ≡ true
+      → (next : UnderWay K V K) × (machine_of next ≡ (machine_asked (machine_of u)).0) × IsShown same hash name m new (scene_with map i next s)
+
+  -- or is under way no more, where no other call under way has its name.
+  abbrev pub WalkStops : ℕ → Bool → (old new : Logged K V S) → Type 0
+  WalkStops i stopped old new =
+      (map : ℕ) (u : UnderWay K V K) → s.calls map i ≡ Some u
+      → (let after = record s { calls = with_call_of s.calls map i (unless_stopped stopped u) } in
+      (stopped ≡ (machine_asked (machine_of u)).1)
+      × ((stopped ≡ true → NoneNamed name (name i) after) → IsShown same hash name (given_up (name i) stopped m) new after))

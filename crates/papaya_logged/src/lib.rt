@@ -1,0 +1,5 @@
+//! An executor whose steps are written down as what they do to pairs, tables and blocks, so that a moment of a run shows it.
+#![tactic(auto)]
+
+pub mod calling;
+pub mod logged;

@@ -1,0 +1,69 @@
+//! An executor, with what is noted of its memory.
+ghost use Rattle.std.specs.Prelude.{◌≡◌, ◌++◌, ℕ, Bool, true, List, IfOk, OnOk};
+ghost use Rattle.papaya_schedules.specs.Moment.{start};
+ghost use Rattle.papaya_effects.specs.Effects.{effects_of, known_after, HasNumber};
+ghost use Rattle.papaya_effects.specs.Known.{known};
+ghost use Rattle.papaya_executor.specs.IsAt.{at_first};
+ghost use Rattle.papaya_logged.specs.Shown.{IsShown};
+
+use papaya_effects::acting::Acting;
+use papaya_effects::notes::Notes;
+use papaya_executor::executor::Executor;
+use papaya_schedules::effect::Effect;
+use papaya_teller::changed::Changed;
+use std::alloc::{AllocError, Global};
+
+/// An executor, with what is noted of its memory.
+#[derive(Drop)]
+pub struct Logged<K, V, S> {
+    /// The executor.
+    pub executor: Executor<K, V, S>,
+    /// What each block is, how many pairs were stored, and how many buckets of slots there are.
+    pub notes: Notes,
+}
+
+/// Whether there is a number for what was changed.
+fn has_number(changed: Changed) -> bool
+    ensures { result ≡ true → HasNumber changed }
+{
+    match changed {
+        Changed::Roomed { bucket, .. } => bucket < u64::MAX,
+        Changed::Nothing => true,
+        Changed::Wrote { .. } => true,
+        Changed::Made { .. } => true,
+        Changed::Unmade { .. } => true,
+        Changed::Took { .. } => true,
+    }
+}
+
+impl<K: Drop, V: Drop, S: Drop> Logged<K, V, S> {
+    /// With no map and no caller, and with as many roots. Nothing is noted yet.
+    pub fn new(alloc: Global, hasher: S, batch_size: u64, roots: u64) -> Result<Self, AllocError>
+        ensures shown { IfOk result (λ logged. (same : K → K → Bool) (hash : K → ℕ) (name : ℕ → List ℕ) → IsShown same hash name start logged (at_first roots)) }
+        ensures given { IfOk result (λ logged. (logged.executor.hasher ≡ hasher) × (logged.executor.batch_size ≡ batch_size) × (logged.executor.roots ≡ roots)) }
+    {
+        let executor = Executor::new(alloc, hasher, batch_size, roots)?;
+        let notes = Notes::nothing(alloc);
+        Ok(Logged { executor, notes })
+    }
+}
+
+impl<K, V, S> Logged<K, V, S> {
+    /// Notes what the last operation has changed, and adds to a list what it did. It is refused where the list, or the notes, find no more room.
+    pub(crate) fn note(
+        &mut self,
+        acting: Acting,
+        effects: &mut Vec<Effect>,
+    ) -> Result<(), AllocError>
+        ensures did { OnOk result (effects.new.items ≡ effects.old.items ++ effects_of acting (known self.old.notes) self.old.executor.memory.changed) }
+        ensures known { OnOk result (known self.new.notes ≡ known_after acting self.old.executor.memory.changed (known self.old.notes)) }
+        ensures executor { self.new.executor ≡ self.old.executor }
+    {
+        let changed = self.executor.memory.changed;
+        if self.notes.stored() == u64::MAX || !has_number(changed) {
+            return Err(AllocError);
+        }
+        self.notes.did(acting, changed).add_to(effects)?;
+        self.notes.keep(acting, changed)
+    }
+}
