@@ -22,3 +22,7 @@ pub mod Refusals
 pub mod Steady
 pub mod Several
 pub mod Events
+pub mod Questions
+pub mod Untold
+pub mod MayAsk
+pub mod Says

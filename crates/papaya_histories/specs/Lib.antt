@@ -7,3 +7,5 @@ pub mod Answers
 pub mod Events
 pub mod Others
 pub mod Several
+pub mod Questions
+pub mod Asking
