@@ -26,3 +26,5 @@ pub mod Questions
 pub mod Untold
 pub mod MayAsk
 pub mod Says
+pub mod Asking
+pub mod AskingEvents

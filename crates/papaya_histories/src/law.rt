@@ -1,10 +1,12 @@
 //! What is promised of the history of a map since a call on it began.
 ghost use Rattle.std.specs.Prelude.{ℕ, Bool};
 ghost use Rattle.papaya_histories.specs.Answers.{AnswersWereSo, AnswersAreOwed, RefusalsWereSo};
+ghost use Rattle.papaya_histories.specs.Asking.{QuestionsMayBeAsked, AskingStepsStandThere, AskingCallsAskStill, MidstsAsk, StepsAsk};
 ghost use Rattle.papaya_histories.specs.Changes.{StepsChangeOnce};
 ghost use Rattle.papaya_histories.specs.Due.{DuesBegin, CallsKeepDue, CallsBeginDue, CallsTakeDue, CallsComeToDue, EventsKeepDue};
 ghost use Rattle.papaya_histories.specs.Events.{StepsAreLinearizable};
 ghost use Rattle.papaya_histories.specs.Others.{RowsBeginHistories, RowsKeepHistories};
+ghost use Rattle.papaya_histories.specs.Questions.{QuestionsBegin, EffectsKeepQuestions, CallsBeginQuestions, CallsTakeQuestions, CallsComeToQuestions, RunsKeepQuestions};
 ghost use Rattle.papaya_histories.specs.Several.{MidstsBegin, MidstsGoOn, MidstsEnd};
 ghost use Rattle.papaya_histories.specs.Kept.{HistoriesBegin, CallsKeepHistories, CallsBeginHistories, CallsTakeHistories, CallsComeToHistories, EventsKeepHistories, FirstStepsChangeFirst};
 
@@ -71,4 +73,31 @@ pub fn several_are_linearizable<K, V, S>()
     ensures begins { (same : K → K → Bool) (hash : K → ℕ) → MidstsBegin K V S same hash }
     ensures goes_on { (same : K → K → Bool) (hash : K → ℕ) → MidstsGoOn K V S same hash }
     ensures ends { (same : K → K → Bool) (hash : K → ℕ) → MidstsEnd K V S same hash }
+{}
+
+/// A moment of a run says of each call under way that it has asked just what it got replies to, and what it asks now: before all events, after whatever effects, where
+/// a call begins, takes a reply, or comes to an outcome, and after each event of a run; if a call that asks does not go on by itself.
+pub fn questions_are_noted<K, V>()
+    ensures begins { QuestionsBegin K V }
+    ensures effects { EffectsKeepQuestions K V }
+    ensures begun { CallsBeginQuestions K V }
+    ensures told { CallsTakeQuestions K V }
+    ensures come_to { CallsComeToQuestions K V }
+    ensures runs { RunsKeepQuestions K V }
+{}
+
+/// What a call on one key stands at to ask, and has not asked yet, is what its key's class had at a moment of the call between two events, and the sequential
+/// specification says that it wants a reply for that; it owes no answer; and it has not asked that before, unless it is `remove_if`; where no pair of the class has
+/// come or gone within the present event. A step that says that its call asks has led to where it asks that; and a call that asks says so again by each step.
+pub fn questions_are_so<K, V, S>()
+    ensures asks { (same : K → K → Bool) (hash : K → ℕ) → QuestionsMayBeAsked K V S same hash }
+    ensures stands { (same : K → K → Bool) (hash : K → ℕ) → AskingStepsStandThere K V S same hash }
+    ensures still { (same : K → K → Bool) (hash : K → ℕ) → AskingCallsAskStill K V S same hash }
+{}
+
+/// An event of one or several steps of a call on one key, by which the call asks, for the first time or still, changes maps and asks as one finite map says: it is
+/// linearizable.
+pub fn asking_is_linearizable<K, V, S>()
+    ensures several { (same : K → K → Bool) (hash : K → ℕ) → MidstsAsk K V S same hash }
+    ensures steps { (same : K → K → Bool) (hash : K → ℕ) → StepsAsk K V S same hash }
 {}
