@@ -21,10 +21,10 @@ pub mod Owed
 pub mod Refusals
 pub mod Steady
 pub mod Several
-pub mod Events
 pub mod Questions
 pub mod Untold
 pub mod MayAsk
 pub mod Says
 pub mod Asking
-pub mod AskingEvents
+pub mod AsksRight
+pub mod Events

@@ -1,4 +1,4 @@
--- What a call on one key asks, in the words of a run: when it may, that the machine says so, and that an event by which it asks is linearizable.
+-- What a call on one key asks, in the words of a run: when it may, and that the machine says so.
 use Rattle.std.specs.Prelude.{◌≡◌, ℕ, Bool, List, [], Option, Some, None}
 use Rattle.papaya_tables.specs.declared.node.Node.{Node}
 use Rattle.papaya_raw.specs.declared.machines.progress.Progress.{Progress}
@@ -26,7 +26,6 @@ use Rattle.papaya_moments.specs.Whole.{ShowsWhole}
 use Rattle.papaya_histories.specs.Answers.{NamesPair}
 use Rattle.papaya_histories.specs.Due.{ShowsDue}
 use Rattle.papaya_histories.specs.Questions.{unanswered, ShowsQuestions}
-use Rattle.papaya_histories.specs.Several.{InMidst}
 
 -- what the machine asks is told as this question: about the pair of its word, or about none
 abbrev pub IsToldQuestion : Known → Option ℕ → Option ℕ → Type 0
@@ -57,23 +56,3 @@ module _ (K V S : Type 0) (same : K → K → Bool) (hash : K → ℕ) where
       → (map i : ℕ) (u : CallOnKey K V K) (here : s.calls map i ≡ Some (OnKey u)) (said : Progress (Node K V)) (leads : StepLeads same hash i said s old new)
       → (c : CallThere K V) → call_of (name i) m ≡ Some c → (one : OneKey K V) → c.call ≡ On one → (question : Option ℕ) → c.stands ≡ Asking question
       → (about : Option ℕ) × (said ≡ progress.Asks about) × IsToldQuestion known about question
-
-  -- The promises: an event of one or several steps of a call on one key is linearizable, if at its end the call asks, for the first time or still,
-  abbrev pub MidstsAsk : Type 0
-  MidstsAsk =
-      (name : ℕ → List ℕ) (log : List (Entry K V)) (map i : ℕ) (one : OneKey K V) (c : CallThere K V) → call_of (name i) (moment log) ≡ Some c → c.call ≡ On one → ShowsQuestions (moment log)
-      → (done : List Effect) (m : Moment K V) (known : Known) (s : Scene K V) (u : CallOnKey K V K) (midst : InMidst same name log map i one c done m known s u)
-      → (x : Executor K V S) → IsAt same hash x s → (question : Option ℕ) → AsksThere known u.call.stands question
-      → (e : Entry K V) → caller_of e.event ≡ Some (name i) → at_work e (moment log) ≡ moment log → acted_on e.event (moment log) ≡ Some map
-      → e.effects ≡ done → e.outcome ≡ outcome.Asks question → IsLinearizable same log e
-
-  -- and so is one of a single step that says so.
-  abbrev pub StepsAsk : Type 0
-  StepsAsk =
-      (name : ℕ → List ℕ) (log : List (Entry K V)) (known : Known) (s : Scene K V) (old new : Executor K V S) → IsAt same hash old s
-      → ShowsWhole same name (moment log) known s → ShowsDue same name log (moment log) known s → ShowsQuestions (moment log)
-      → (map i : ℕ) (u : CallOnKey K V K) (here : s.calls map i ≡ Some (OnKey u)) (about : Option ℕ) (leads : StepLeads same hash i (progress.Asks about) s old new)
-      → (c : CallThere K V) → call_of (name i) (moment log) ≡ Some c → (one : OneKey K V) → c.call ≡ On one
-      → (question : Option ℕ) → IsToldQuestion (known_after (acts.Call i map) new.memory.changed known) about question
-      → (e : Entry K V) → caller_of e.event ≡ Some (name i) → at_work e (moment log) ≡ moment log → acted_on e.event (moment log) ≡ Some map
-      → e.effects ≡ effects_of (acts.Call i map) known new.memory.changed → e.outcome ≡ outcome.Asks question → IsLinearizable same log e

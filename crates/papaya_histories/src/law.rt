@@ -1,13 +1,13 @@
 //! What is promised of the history of a map since a call on it began.
 ghost use Rattle.std.specs.Prelude.{ℕ, Bool};
 ghost use Rattle.papaya_histories.specs.Answers.{AnswersWereSo, AnswersAreOwed, RefusalsWereSo};
-ghost use Rattle.papaya_histories.specs.Asking.{QuestionsMayBeAsked, AskingStepsStandThere, AskingCallsAskStill, MidstsAsk, StepsAsk};
+ghost use Rattle.papaya_histories.specs.Asking.{QuestionsMayBeAsked, AskingStepsStandThere, AskingCallsAskStill};
 ghost use Rattle.papaya_histories.specs.Changes.{StepsChangeOnce};
 ghost use Rattle.papaya_histories.specs.Due.{DuesBegin, CallsKeepDue, CallsBeginDue, CallsTakeDue, CallsComeToDue, EventsKeepDue};
 ghost use Rattle.papaya_histories.specs.Events.{StepsAreLinearizable};
 ghost use Rattle.papaya_histories.specs.Others.{RowsBeginHistories, RowsKeepHistories};
 ghost use Rattle.papaya_histories.specs.Questions.{QuestionsBegin, EffectsKeepQuestions, CallsBeginQuestions, CallsTakeQuestions, CallsComeToQuestions, RunsKeepQuestions};
-ghost use Rattle.papaya_histories.specs.Several.{MidstsBegin, MidstsGoOn, MidstsEnd};
+ghost use Rattle.papaya_histories.specs.Several.{MidstsBegin, MidstsGoOn, MidstsEnd, MidstsAskStill};
 ghost use Rattle.papaya_histories.specs.Kept.{HistoriesBegin, CallsKeepHistories, CallsBeginHistories, CallsTakeHistories, CallsComeToHistories, EventsKeepHistories, FirstStepsChangeFirst};
 
 /// At each moment of a run that shows the executor, the history of a map since a call on it began is within the moments of the run since then: what the class of a
@@ -61,18 +61,20 @@ pub fn refusals_were_so<K, V, S>()
     ensures refusals { (same : K → K → Bool) (hash : K → ℕ) → RefusalsWereSo K V S same hash }
 {}
 
-/// An event that is one step of a call on one key, and goes on, waits, is refused, or has answered by it, changes maps and answers as one finite map says: it is linearizable.
+/// An event that is one step of a call on one key, be it one that it begins, and goes on, waits, asks, is refused, or has answered by it, changes maps, answers and asks
+/// as one finite map says: it is linearizable.
 pub fn steps_are_linearizable<K, V, S>()
     ensures events { (same : K → K → Bool) (hash : K → ℕ) → StepsAreLinearizable K V S same hash }
 {}
 
 /// An event of several steps of a call on one key, one after another, is linearizable, too: so it is in its midst that the class of the key has changed once at most
-/// since the event began, and not as long as the call has changed nothing; at the beginning of an event, and after each step after which the call goes on. And the
-/// event that comes to what its last step came to changes maps and answers as one finite map says.
+/// since the event has begun what it begins, and not as long as the call has changed nothing; at the beginning, and after each step after which the call goes on. And
+/// the event that comes to what its last step came to changes maps, answers and asks as one finite map says; by it, a call that asks does not go on by itself.
 pub fn several_are_linearizable<K, V, S>()
     ensures begins { (same : K → K → Bool) (hash : K → ℕ) → MidstsBegin K V S same hash }
     ensures goes_on { (same : K → K → Bool) (hash : K → ℕ) → MidstsGoOn K V S same hash }
     ensures ends { (same : K → K → Bool) (hash : K → ℕ) → MidstsEnd K V S same hash }
+    ensures still { (same : K → K → Bool) (hash : K → ℕ) → MidstsAskStill K V S same hash }
 {}
 
 /// A moment of a run says of each call under way that it has asked just what it got replies to, and what it asks now: before all events, after whatever effects, where
@@ -93,11 +95,4 @@ pub fn questions_are_so<K, V, S>()
     ensures asks { (same : K → K → Bool) (hash : K → ℕ) → QuestionsMayBeAsked K V S same hash }
     ensures stands { (same : K → K → Bool) (hash : K → ℕ) → AskingStepsStandThere K V S same hash }
     ensures still { (same : K → K → Bool) (hash : K → ℕ) → AskingCallsAskStill K V S same hash }
-{}
-
-/// An event of one or several steps of a call on one key, by which the call asks, for the first time or still, changes maps and asks as one finite map says: it is
-/// linearizable.
-pub fn asking_is_linearizable<K, V, S>()
-    ensures several { (same : K → K → Bool) (hash : K → ℕ) → MidstsAsk K V S same hash }
-    ensures steps { (same : K → K → Bool) (hash : K → ℕ) → StepsAsk K V S same hash }
 {}
