@@ -27,4 +27,5 @@ pub mod MayAsk
 pub mod Says
 pub mod Asking
 pub mod AsksRight
+pub mod BeginsCall
 pub mod Events

@@ -20,7 +20,7 @@ use Rattle.papaya_schedules.specs.Views.{number_of, call_of}
 use Rattle.papaya_follows.proofs.Calling.{is_same_is, found_passes, replied_same, come, come_of_same}
 use Rattle.papaya_follows.proofs.Calls.{IsOfSame, changed_same, changed, of_same}
 use Rattle.papaya_follows.proofs.Steps.{one_of}
-use Rattle.papaya_histories.specs.Questions.{unanswered, replied_to, GoesItself, AsksStill, HasAskedJust, EventAsksStill, QuestionsBegin, EffectsKeepQuestions, CallsBeginQuestions, CallsTakeQuestions, CallsComeToQuestions, RunsKeepQuestions}
+use Rattle.papaya_histories.specs.Questions.{unanswered, replied_to, GoesItself, AsksStill, HasAskedJust, EventAsksStill, QuestionsBegin, EffectsKeepQuestions, CallsBeginQuestions, CallsTakeQuestions, CallsComeToQuestions, EventsKeepQuestions, RunsKeepQuestions}
 
 -- one that goes on does not ask
 quiet : (V : Type 0) (stands : Stands) (o : Outcome V) → GoesItself o → AsksStill stands o → unanswered stands ≡ []
@@ -259,6 +259,9 @@ module _ (K V : Type 0) where
 
   pub calls_come_to_questions : CallsComeToQuestions K V
   calls_come_to_questions own o steps m all still = stepped_just own o steps m.calls still all
+
+  pub events_keep_questions : EventsKeepQuestions K V
+  events_keep_questions log e all still = after_just log e still all
 
   pub runs_keep_questions : RunsKeepQuestions K V
   runs_keep_questions [] each = questions_begin

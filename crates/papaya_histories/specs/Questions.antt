@@ -69,6 +69,10 @@ module _ (K V : Type 0) where
       (own : List ℕ) (outcome : Outcome V) (steps : ℕ) (m : Moment K V) → ShowsQuestions m → ((c : CallThere K V) → call_of own m ≡ Some c → AsksStill c.stands outcome)
       → ShowsQuestions (come_to own outcome steps m)
 
-  -- and after each event of a run, if no call that asks goes on by itself.
+  -- and after an event, if no call that asks goes on by itself;
+  abbrev pub EventsKeepQuestions : Type 0
+  EventsKeepQuestions = (log : List (Entry K V)) (e : Entry K V) → ShowsQuestions (moment log) → EventAsksStill log e → ShowsQuestions (moment (e ∷ log))
+
+  -- so it is at each moment of such a run.
   abbrev pub RunsKeepQuestions : Type 0
   RunsKeepQuestions = (log : List (Entry K V)) → AtEachEvent EventAsksStill log → ShowsQuestions (moment log)

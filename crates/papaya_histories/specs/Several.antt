@@ -1,12 +1,13 @@
 -- An event of several steps of a call on one key, one after another: in its midst, and at its end.
 use Rattle.std.specs.Prelude.{◌≡◌, ℕ, Bool, List, [], ◌++◌, length, flat_map, Some, None}
+use Rattle.seize.specs.World.{Rests}
 use Rattle.papaya_tables.specs.declared.node.Node.{Node}
 use Rattle.papaya_raw.specs.declared.machines.progress.Progress.{Progress}
 use Rattle.papaya_schedules.specs.declared.call.Call.TheVariants.{On}
 use Rattle.papaya_schedules.specs.declared.call.OneKey.{OneKey}
 use Rattle.papaya_schedules.specs.declared.effect.Effect.{Effect}
 use Rattle.papaya_schedules.specs.After.{moment}
-use Rattle.papaya_schedules.specs.Beginning.{at_work}
+use Rattle.papaya_schedules.specs.Beginning.{at_work, fresh_call, with_call}
 use Rattle.papaya_schedules.specs.Effects.{with_effects}
 use Rattle.papaya_schedules.specs.Entry.{Entry, caller_of, acted_on}
 use Rattle.papaya_schedules.specs.Linearizable.{shift_of, ChangesOnce, IsLinearizable}
@@ -18,8 +19,13 @@ use Rattle.papaya_effects.specs.Effects.{effects_of, known_after}
 use Rattle.papaya_effects.specs.Known.{Known}
 use Rattle.papaya_effects.specs.declared.acting.Acting.TheVariants as acts
 use Rattle.papaya_executor.specs.IsAt.{Scene, IsAt}
+use Rattle.papaya_executor.specs.Replying.{scene_with}
 use Rattle.papaya_executor.specs.Stepping.{StepLeads, scene_after}
 use Rattle.papaya_executor.specs.declared.executor.Executor.{Executor}
+use Rattle.papaya_finishes.specs.Maps.{Standing}
+use Rattle.papaya_follows.specs.Calling.{NoneNamed}
+use Rattle.papaya_follows.specs.Calls.{IsCalled}
+use Rattle.papaya_hands.specs.Calling.{IsBegunFor}
 use Rattle.papaya_moments.specs.Whole.{ShowsWhole}
 use Rattle.papaya_histories.specs.Due.{ShowsDue}
 use Rattle.papaya_histories.specs.Events.{ComesToIt}
@@ -57,6 +63,18 @@ module _ (K V S : Type 0) (same : K → K → Bool) (hash : K → ℕ) where
       → (known : Known) (s : Scene K V) (e : Executor K V S) → IsAt same hash e s → ShowsWhole same name beginning known s → ShowsDue same name log beginning known s
       → (map i : ℕ) (u : CallOnKey K V K) (here : s.calls map i ≡ Some (OnKey u)) (c : CallThere K V) → call_of (name i) beginning ≡ Some c → (one : OneKey K V) → c.call ≡ On one
       → InMidst same name log beginning map i one c [] beginning known s u
+
+  -- as it does at this moment of its map, by a name that no call under way has,
+  abbrev pub MidstsBeginCalls : Type 0
+  MidstsBeginCalls =
+      (name : ℕ → List ℕ) (log : List (Entry K V)) (known : Known) (s : Scene K V) (old : Executor K V S) → IsAt same hash old s
+      → ShowsWhole same name (moment log) known s → ShowsDue same name log (moment log) known s
+      → (map i : ℕ) (u : CallOnKey K V K) (one : OneKey K V) (guard : List ℕ) (standing : Standing K) → s.maps map ≡ Some standing → u.began ≡ standing.chart.now → u.change ≡ Unchanged
+      → NoneNamed name (name i) s → IsCalled same (OnKey u) (On one) → IsBegunFor (OnKey u) (On one) → s.world.row i ≡ Rests
+      → (new : Executor K V S) → IsAt same hash new (scene_with map i (OnKey u) s)
+      → (let beginning = with_call (name i) guard (On one) (Some map) (moment log) in
+      let c = fresh_call (name i) guard (On one) map (moment log).events in
+      (call_of (name i) beginning ≡ Some c) × InMidst same name log beginning map i one c [] beginning known (scene_with map i (OnKey u) s) u)
 
   -- after each step of the call, where it goes on,
   abbrev pub MidstsGoOn : Type 0

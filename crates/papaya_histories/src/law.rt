@@ -6,8 +6,8 @@ ghost use Rattle.papaya_histories.specs.Changes.{StepsChangeOnce};
 ghost use Rattle.papaya_histories.specs.Due.{DuesBegin, CallsKeepDue, CallsBeginDue, CallsTakeDue, CallsComeToDue, EventsKeepDue};
 ghost use Rattle.papaya_histories.specs.Events.{StepsAreLinearizable};
 ghost use Rattle.papaya_histories.specs.Others.{RowsBeginHistories, RowsKeepHistories};
-ghost use Rattle.papaya_histories.specs.Questions.{QuestionsBegin, EffectsKeepQuestions, CallsBeginQuestions, CallsTakeQuestions, CallsComeToQuestions, RunsKeepQuestions};
-ghost use Rattle.papaya_histories.specs.Several.{MidstsBegin, MidstsGoOn, MidstsEnd, MidstsAskStill};
+ghost use Rattle.papaya_histories.specs.Questions.{QuestionsBegin, EffectsKeepQuestions, CallsBeginQuestions, CallsTakeQuestions, CallsComeToQuestions, EventsKeepQuestions, RunsKeepQuestions};
+ghost use Rattle.papaya_histories.specs.Several.{MidstsBegin, MidstsBeginCalls, MidstsGoOn, MidstsEnd, MidstsAskStill};
 ghost use Rattle.papaya_histories.specs.Kept.{HistoriesBegin, CallsKeepHistories, CallsBeginHistories, CallsTakeHistories, CallsComeToHistories, EventsKeepHistories, FirstStepsChangeFirst};
 
 /// At each moment of a run that shows the executor, the history of a map since a call on it began is within the moments of the run since then: what the class of a
@@ -72,6 +72,7 @@ pub fn steps_are_linearizable<K, V, S>()
 /// the event that comes to what its last step came to changes maps, answers and asks as one finite map says; by it, a call that asks does not go on by itself.
 pub fn several_are_linearizable<K, V, S>()
     ensures begins { (same : K → K → Bool) (hash : K → ℕ) → MidstsBegin K V S same hash }
+    ensures begun { (same : K → K → Bool) (hash : K → ℕ) → MidstsBeginCalls K V S same hash }
     ensures goes_on { (same : K → K → Bool) (hash : K → ℕ) → MidstsGoOn K V S same hash }
     ensures ends { (same : K → K → Bool) (hash : K → ℕ) → MidstsEnd K V S same hash }
     ensures still { (same : K → K → Bool) (hash : K → ℕ) → MidstsAskStill K V S same hash }
@@ -85,6 +86,7 @@ pub fn questions_are_noted<K, V>()
     ensures begun { CallsBeginQuestions K V }
     ensures told { CallsTakeQuestions K V }
     ensures come_to { CallsComeToQuestions K V }
+    ensures events { EventsKeepQuestions K V }
     ensures runs { RunsKeepQuestions K V }
 {}
 
