@@ -44,25 +44,11 @@ use Rattle.papaya_histories.proofs.Answers.{answers_were_so}
 use Rattle.papaya_histories.proofs.Asking.{asking_steps_stand_there, asking_calls_ask_still}
 use Rattle.papaya_histories.proofs.AsksRight.{asks_right}
 use Rattle.papaya_histories.proofs.Found.{map_alike}
+use Rattle.papaya_histories.proofs.OtherCalls.{asks_none}
 use Rattle.papaya_histories.proofs.Logs.{each_of}
 use Rattle.papaya_histories.proofs.Owed.{answers_are_owed, due_none, change_none}
 use Rattle.papaya_histories.proofs.Refusals.{refusals_were_so, change_refused}
 use Rattle.papaya_histories.proofs.Several.{d, d_is, d_same, by, unchanged_before, then_at, worked_then, changes_then, midst_then, midsts_begin}
-
-abbrev IsNoQuestion : {V : Type 0} → Outcome V → Type 0
-IsNoQuestion (outcome.Asks question) = ⊥
-IsNoQuestion _ = Unit {0}
-
-module _ {K V : Type 0} (same : K → K → Bool) (c : CallThere K V) (moments : List (Moment K V)) where
-  -- what is no question asks nothing
-  asks_none : (stands : Stands) (o : Outcome V) → IsNoQuestion o → AsksRight same stands c moments o
-  asks_none (Asking q) o none = tt
-  asks_none Going (outcome.Asks q) none = absurd none
-  asks_none Going _ none = tt
-  asks_none Told (outcome.Asks q) none = absurd none
-  asks_none Told _ none = tt
-  asks_none IsReady (outcome.Asks q) none = absurd none
-  asks_none IsReady _ none = tt
 
 module _ {K V S : Type 0} (same : K → K → Bool) (hash : K → ℕ) (name : ℕ → List ℕ) (log : List (Entry K V)) (beginning : Moment K V) (map i : ℕ) (one : OneKey K V) (c : CallThere K V) (one_is : c.call ≡ On one)
     (done : List Effect) (m : Moment K V) (known : Known) (s : Scene K V) (u : CallOnKey K V K) (midst : InMidst same name log beginning map i one c done m known s u)

@@ -27,5 +27,6 @@ pub mod MayAsk
 pub mod Says
 pub mod Asking
 pub mod AsksRight
+pub mod OtherCalls
 pub mod BeginsCall
 pub mod Events

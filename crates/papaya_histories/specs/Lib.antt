@@ -9,3 +9,4 @@ pub mod Others
 pub mod Several
 pub mod Questions
 pub mod Asking
+pub mod OtherCalls

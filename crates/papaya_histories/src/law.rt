@@ -5,6 +5,7 @@ ghost use Rattle.papaya_histories.specs.Asking.{QuestionsMayBeAsked, AskingSteps
 ghost use Rattle.papaya_histories.specs.Changes.{StepsChangeOnce};
 ghost use Rattle.papaya_histories.specs.Due.{DuesBegin, CallsKeepDue, CallsBeginDue, CallsTakeDue, CallsComeToDue, EventsKeepDue};
 ghost use Rattle.papaya_histories.specs.Events.{StepsAreLinearizable};
+ghost use Rattle.papaya_histories.specs.OtherCalls.{OthersRemoveOnly, RemovalsAdd, OthersAreLinearizable, NoCallsAreLinearizable};
 ghost use Rattle.papaya_histories.specs.Others.{RowsBeginHistories, RowsKeepHistories};
 ghost use Rattle.papaya_histories.specs.Questions.{QuestionsBegin, EffectsKeepQuestions, CallsBeginQuestions, CallsTakeQuestions, CallsComeToQuestions, EventsKeepQuestions, RunsKeepQuestions};
 ghost use Rattle.papaya_histories.specs.Several.{MidstsBegin, MidstsBeginCalls, MidstsGoOn, MidstsEnd, MidstsAskStill};
@@ -97,4 +98,13 @@ pub fn questions_are_so<K, V, S>()
     ensures asks { (same : K → K → Bool) (hash : K → ℕ) → QuestionsMayBeAsked K V S same hash }
     ensures stands { (same : K → K → Bool) (hash : K → ℕ) → AskingStepsStandThere K V S same hash }
     ensures still { (same : K → K → Bool) (hash : K → ℕ) → AskingCallsAskStill K V S same hash }
+{}
+
+/// A step of a reservation, of a counting, or of a walk changes no pair, and one of a clearing removes one at most. So an event of steps of such a call is linearizable;
+/// and so is one that is no step of a call, and by which no pair comes or goes.
+pub fn others_are_linearizable<K, V, S>()
+    ensures steps { (same : K → K → Bool) (hash : K → ℕ) → OthersRemoveOnly K V S same hash }
+    ensures several { (same : K → K → Bool) → RemovalsAdd K V same }
+    ensures events { (same : K → K → Bool) → OthersAreLinearizable K V same }
+    ensures of_no_call { (same : K → K → Bool) → NoCallsAreLinearizable K V same }
 {}
