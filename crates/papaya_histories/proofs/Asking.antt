@@ -1,12 +1,11 @@
 -- The machine says what a call asks, where it stands to ask that, and as long as it does.
-use Rattle.std.specs.Prelude.{◌≡◌, ℕ, Bool, List, Option, Some, None}
+use Rattle.std.specs.Prelude.{◌≡◌, ℕ, Bool, Option, Some, None}
 use Rattle.std.proofs.Common.{refl, ap, sym, subst, ◌∙◌}
 use Rattle.seize_words.specs.Mem.{Mem, value_at}
 use Rattle.seize_words.specs.Plan.{Plan, Then, Turn, Do, Now, Seeing, Sure, then_as, plan_as}
 use Rattle.papaya_tables.specs.declared.node.Node.{Node}
 use Rattle.papaya_raw.specs.Call.{plan_at}
 use Rattle.papaya_raw.specs.Machine.{called}
-use Rattle.papaya_raw.specs.Progress.{of_called}
 use Rattle.papaya_raw.specs.declared.machines.answer.Called.{Called}
 use Rattle.papaya_raw.specs.declared.machines.answer.Called.TheVariants as answer
 use Rattle.papaya_raw.specs.declared.machines.asking.Asking.{Asking as AskingAt}
@@ -25,11 +24,10 @@ use Rattle.papaya_teller.specs.declared.changed.Changed.{Changed}
 use Rattle.papaya_teller.specs.declared.changed.Changed.TheVariants.{Nothing}
 use Rattle.papaya_callers.specs.Together.{CallOnKey, UnderWay, OnKey, ForRoom, Counting, OverAll}
 use Rattle.papaya_effects.specs.Known.{Known}
-use Rattle.papaya_executor.specs.IsAt.{Scene}
-use Rattle.papaya_executor.specs.Stepping.{StepsFrom, StepLeads}
+use Rattle.papaya_executor.specs.Stepping.{StepsFrom}
 use Rattle.papaya_executor.specs.declared.executor.Executor.{Executor}
 use Rattle.papaya_finishes.specs.Machines.{machine_of}
-use Rattle.papaya_hands.specs.Asked.{IsQuestion, IsAskedOn, IsAskedAs, AsksThere}
+use Rattle.papaya_hands.specs.Asked.{IsQuestion, IsAskedAs, AsksThere}
 use Rattle.papaya_histories.specs.Asking.{IsToldQuestion, AskingStepsStandThere, AskingCallsAskStill}
 use Rattle.papaya_histories.proofs.Says.{AsksAt, SaysSo, says_so}
 

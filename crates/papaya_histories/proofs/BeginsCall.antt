@@ -4,7 +4,6 @@ use Rattle.std.proofs.Common.{refl, ap, sym, ◌∙◌, arith}
 use Rattle.seize.specs.World.{with_at}
 use Rattle.papaya_runs.specs.Same.{is_same}
 use Rattle.papaya_schedules.specs.declared.call.Call.TheVariants.{On}
-use Rattle.papaya_schedules.specs.declared.call.OneKey.{OneKey}
 use Rattle.papaya_schedules.specs.After.{moment}
 use Rattle.papaya_schedules.specs.Beginning.{fresh_call, with_call}
 use Rattle.papaya_schedules.specs.Entry.{Entry}
@@ -13,7 +12,6 @@ use Rattle.papaya_schedules.specs.Views.{call_of}
 use Rattle.papaya_points.specs.FactsCalls.{Unchanged}
 use Rattle.papaya_callers.specs.Together.{CallOnKey, UnderWay, OnKey}
 use Rattle.papaya_callers.proofs.Together.At.{at_same}
-use Rattle.papaya_effects.specs.Known.{Known}
 use Rattle.papaya_executor.specs.IsAt.{Scene}
 use Rattle.papaya_executor.specs.Replying.{scene_with}
 use Rattle.papaya_follows.proofs.Calling.{is_same_refl}

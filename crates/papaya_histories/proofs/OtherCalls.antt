@@ -1,12 +1,12 @@
 -- Reservations, countings and walks change no pair, and clearings remove pairs alone; so their events are linearizable.
-use Rattle.std.specs.Prelude.{◌≡◌, ◌≢◌, ℕ, ◌<◌, Bool, true, false, List, [], ◌∷◌, ◌++◌, flat_map, Option, Some, None, ◌⊎◌}
+use Rattle.std.specs.Prelude.{◌≡◌, ℕ, ◌<◌, Bool, true, false, List, [], ◌∷◌, ◌++◌, flat_map, Option, Some, ◌⊎◌}
 use Rattle.std.proofs.Common.{refl, ap, sym, subst, ◌∙◌, arith, inl, inr}
 use Rattle.std.proofs.lemmas.Bool.{cases_eq}
 use Rattle.seize_words.specs.Mem.{Mem}
 use Rattle.seize.specs.World.{World}
 use Rattle.papaya_tables.specs.Chunks.{is_incremental}
 use Rattle.papaya_tables.specs.declared.node.Node.{Node}
-use Rattle.papaya_sweeps.specs.declared.sweep.Purpose.TheVariants.{Walks, Clears, Retains}
+use Rattle.papaya_sweeps.specs.declared.sweep.Purpose.TheVariants.{Walks}
 use Rattle.papaya_raw.specs.declared.machines.progress.Progress.{Progress}
 use Rattle.papaya_schedules.specs.declared.call.Call.{Call}
 use Rattle.papaya_schedules.specs.declared.call.Call.TheVariants as call
@@ -16,8 +16,8 @@ use Rattle.papaya_schedules.specs.declared.outcome.Outcome.TheVariants as outcom
 use Rattle.papaya_schedules.specs.After.{moment, moments_from}
 use Rattle.papaya_schedules.specs.Beginning.{at_work}
 use Rattle.papaya_schedules.specs.Effects.{with_effects, worked}
-use Rattle.papaya_schedules.specs.Entry.{Entry, caller_of, acting, acted_on}
-use Rattle.papaya_schedules.specs.Linearizable.{shift_of, MayRemove, RemovesOnly, Changes, Ends, AsksRight, ActsRight, ActsOf, IsLinearizable}
+use Rattle.papaya_schedules.specs.Entry.{caller_of, acting, acted_on}
+use Rattle.papaya_schedules.specs.Linearizable.{shift_of, RemovesOnly, Changes, Ends, AsksRight, ActsRight, ActsOf}
 use Rattle.papaya_schedules.specs.Moment.{Stands, Going, Asking, Told, IsReady, UnderWay as CallThere, Moment}
 use Rattle.papaya_schedules.specs.Sequential.{Shift, GoesOut}
 use Rattle.papaya_schedules.specs.Views.{call_of}

@@ -11,12 +11,12 @@ use Rattle.papaya_schedules.specs.declared.event.Event.{Event}
 use Rattle.papaya_schedules.specs.declared.event.Event.TheVariants as event
 use Rattle.papaya_schedules.specs.declared.outcome.Outcome.{Outcome}
 use Rattle.papaya_schedules.specs.declared.outcome.Outcome.TheVariants as outcome
-use Rattle.papaya_schedules.specs.After.{asks_on, comes_to, without_call, stepped, replied, calls_on, moment, AtEachEvent}
+use Rattle.papaya_schedules.specs.After.{asks_on, comes_to, without_call, stepped, replied, calls_on, moment}
 use Rattle.papaya_schedules.specs.Beginning.{fresh_call, with_call, begun, at_work}
 use Rattle.papaya_schedules.specs.Effects.{due_for, call_by, calls_by, with_effect, with_effects, worked}
 use Rattle.papaya_schedules.specs.Entry.{Entry, is_busy, ends_call, nameless, caller_of, acting, acted_on, IfCall}
 use Rattle.papaya_schedules.specs.Moment.{Stands, Going, Asking, Told, IsReady, UnderWay as CallThere, Moment}
-use Rattle.papaya_schedules.specs.Views.{number_of, call_of}
+use Rattle.papaya_schedules.specs.Views.{number_of}
 use Rattle.papaya_follows.proofs.Calling.{is_same_is, found_passes, replied_same, come, come_of_same}
 use Rattle.papaya_follows.proofs.Calls.{IsOfSame, changed_same, changed, of_same}
 use Rattle.papaya_follows.proofs.Steps.{one_of}

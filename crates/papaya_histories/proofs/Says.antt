@@ -1,9 +1,7 @@
 -- A step that says that its call asks has led to where it asks that, and one of a call that asks says so.
-use Rattle.std.specs.Prelude.{◌≡◌, ℕ, ◌==◌, Bool, true, false, List, Option, Some, None, Ok, Err, if◌then◌else◌}
-use Rattle.std.proofs.Common.{refl, ap, sym, subst, ◌∙◌}
-use Rattle.seize_words.specs.Mem.{Mem, value_at}
+use Rattle.std.specs.Prelude.{◌≡◌, ℕ, ◌==◌, Bool, true, false, Option, Some, None, Ok, Err, if◌then◌else◌}
+use Rattle.std.proofs.Common.{refl}
 use Rattle.seize_words.specs.Op.{Out, Found, Stored, Exchanged, Made, Taken, Roomed}
-use Rattle.seize_words.specs.Plan.{Plan, Then, Turn, Do, Now, Seeing, Sure, then_as, plan_as}
 use Rattle.seize_words.specs.Word.{block_in}
 use Rattle.seize.specs.declared.progress.Progress.{Progress as Counting}
 use Rattle.seize.specs.declared.progress.Progress.TheVariants as counting
@@ -21,7 +19,7 @@ use Rattle.papaya_tables.specs.declared.table.Table.{Table}
 use Rattle.papaya_tables.specs.declared.trial.Trial.{Trial}
 use Rattle.papaya_resize.specs.Copier.{copier_plan}
 use Rattle.papaya_resize.specs.CopierStates.{copying_all}
-use Rattle.papaya_resize.specs.Dispose.{disposing, dispose_plan}
+use Rattle.papaya_resize.specs.Dispose.{dispose_plan}
 use Rattle.papaya_resize.specs.Lookup.{lookup_plan}
 use Rattle.papaya_resize.specs.NewTable.{new_table_plan}
 use Rattle.papaya_resize.specs.declared.copier.Copier.{Copier}
@@ -33,7 +31,7 @@ use Rattle.papaya_resize.specs.declared.outcome.Outcome.TheVariants as outcome
 use Rattle.papaya_raw.specs.Answers.{ended}
 use Rattle.papaya_raw.specs.Call.{made, makes_of, root_found, next_found, dropped, key_read, pair_read, word_read, word_found, tried, looked, looks_for, first_made, next_made, disposed, helped, copied, plan_at}
 use Rattle.papaya_raw.specs.CallFills.{filled, putting_by, fill_by, emptied, fills_with, given_up, asks_at}
-use Rattle.papaya_raw.specs.CallPoints.{going, standing, over, ending, following_made, storing, burying, at_gap, gap_by, asking_at, pair_by, asking_of, tableless, at_free, at_end, at_last, at_pair, passed, told_of, entering, went_on, changed, counted}
+use Rattle.papaya_raw.specs.CallPoints.{going, standing, over, ending, following_made, storing, burying, at_gap, gap_by, asking_at, pair_by, tableless, at_free, at_end, at_last, at_pair, passed, told_of, entering, went_on, changed, counted}
 use Rattle.papaya_raw.specs.Replies.{value_for, as_own}
 use Rattle.papaya_raw.specs.declared.machines.answer.KeyAnswer.{KeyAnswer}
 use Rattle.papaya_raw.specs.declared.machines.answer.KeyAnswer.TheVariants as answers

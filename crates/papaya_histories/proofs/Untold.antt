@@ -15,7 +15,7 @@ use Rattle.papaya_schedules.specs.declared.call.OneKey.{OneKey}
 use Rattle.papaya_schedules.specs.declared.call.OneKey.TheVariants.{Get, GetKeyValue, ContainsKey, Insert, TryInsert, TryInsertWith, GetOrInsert, GetOrInsertWith, Update, UpdateOrInsert, UpdateOrInsertWith, Compute, Remove, RemoveEntry, RemoveIf}
 use Rattle.papaya_schedules.specs.declared.call.Reply.{Reply}
 use Rattle.papaya_schedules.specs.Lists.{is_in}
-use Rattle.papaya_schedules.specs.Sequential.{Meaning, Wants, means, asks_again}
+use Rattle.papaya_schedules.specs.Sequential.{Wants, means, asks_again}
 use Rattle.papaya_schedules.specs.Things.{same_question}
 use Rattle.papaya_schedules.specs.Views.{reply_to}
 use Rattle.papaya_rule.specs.Chart.{Chart, Holds, Still}

@@ -1,5 +1,5 @@
 -- Reservations, countings, clearings and walks: what their steps change, and that their events are linearizable; so are those of no call.
-use Rattle.std.specs.Prelude.{◌≡◌, ℕ, Bool, List, [], ◌++◌, flat_map, Option, Some, None}
+use Rattle.std.specs.Prelude.{◌≡◌, ℕ, Bool, List, [], ◌++◌, flat_map, Some, None}
 use Rattle.papaya_tables.specs.declared.node.Node.{Node}
 use Rattle.papaya_sweeps.specs.declared.sweep.Purpose.TheVariants.{Walks}
 use Rattle.papaya_raw.specs.declared.machines.progress.Progress.{Progress}
