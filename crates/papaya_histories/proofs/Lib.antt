@@ -28,5 +28,6 @@ pub mod Says
 pub mod Asking
 pub mod AsksRight
 pub mod OtherCalls
+pub mod OtherMidsts
 pub mod BeginsCall
 pub mod Events

@@ -84,7 +84,7 @@ module _ {K : Type 0} (same : K → K → Bool) (hash : K → ℕ) (incremental 
 
 -- by a step of a sweep no pair comes
 module _ {K : Type 0} (o : CallOverAll) (c c2 : Chart K) where
-  less_told : RemovesTold o c c2 → (n : ℕ) → c2.current n ≡ true → c.current n ≡ true
+  pub less_told : RemovesTold o c c2 → (n : ℕ) → c2.current n ≡ true → c.current n ≡ true
   less_told (inl kept) n is = ap (λ (f : ℕ → Bool). f n) (sym kept) ∙ is
   less_told (inr (p, was, cur, why)) n is = elim (cases_eq n p) as (λ _. c.current n ≡ true) [
     | inl e ↦ ap c.current e ∙ was

@@ -10,3 +10,4 @@ pub mod Several
 pub mod Questions
 pub mod Asking
 pub mod OtherCalls
+pub mod OtherMidsts

@@ -6,6 +6,7 @@ ghost use Rattle.papaya_histories.specs.Changes.{StepsChangeOnce};
 ghost use Rattle.papaya_histories.specs.Due.{DuesBegin, CallsKeepDue, CallsBeginDue, CallsTakeDue, CallsComeToDue, EventsKeepDue};
 ghost use Rattle.papaya_histories.specs.Events.{StepsAreLinearizable};
 ghost use Rattle.papaya_histories.specs.OtherCalls.{OthersRemoveOnly, RemovalsAdd, OthersAreLinearizable, NoCallsAreLinearizable};
+ghost use Rattle.papaya_histories.specs.OtherMidsts.{OtherMidstsBegin, OtherMidstsGoOn, OtherMidstsKeepDue, OtherMidstsEnd};
 ghost use Rattle.papaya_histories.specs.Others.{RowsBeginHistories, RowsKeepHistories};
 ghost use Rattle.papaya_histories.specs.Questions.{QuestionsBegin, EffectsKeepQuestions, CallsBeginQuestions, CallsTakeQuestions, CallsComeToQuestions, EventsKeepQuestions, RunsKeepQuestions};
 ghost use Rattle.papaya_histories.specs.Several.{MidstsBegin, MidstsBeginCalls, MidstsGoOn, MidstsEnd, MidstsAskStill};
@@ -107,4 +108,14 @@ pub fn others_are_linearizable<K, V, S>()
     ensures several { (same : K → K → Bool) → RemovalsAdd K V same }
     ensures events { (same : K → K → Bool) → OthersAreLinearizable K V same }
     ensures of_no_call { (same : K → K → Bool) → NoCallsAreLinearizable K V same }
+{}
+
+/// An event of several steps of a reservation, a counting, a clearing or a walk, one after another, is linearizable, too: in its midst each class has what it had at the
+/// beginning, or nothing any more, and the effects remove only what such a call may. So it is at the beginning, and after each step after which the call goes on; what
+/// calls owe is shown after each step, as no class changes twice within the event.
+pub fn other_events_are_linearizable<K, V, S>()
+    ensures begins { (same : K → K → Bool) → OtherMidstsBegin K V same }
+    ensures goes_on { (same : K → K → Bool) (hash : K → ℕ) → OtherMidstsGoOn K V S same hash }
+    ensures dues { (same : K → K → Bool) (hash : K → ℕ) → OtherMidstsKeepDue K V S same hash }
+    ensures ends { (same : K → K → Bool) (hash : K → ℕ) → OtherMidstsEnd K V S same hash }
 {}
