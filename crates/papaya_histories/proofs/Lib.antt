@@ -29,5 +29,6 @@ pub mod Asking
 pub mod AsksRight
 pub mod OtherCalls
 pub mod OtherMidsts
+pub mod Retaining
 pub mod BeginsCall
 pub mod Events

@@ -11,3 +11,4 @@ pub mod Questions
 pub mod Asking
 pub mod OtherCalls
 pub mod OtherMidsts
+pub mod Retaining

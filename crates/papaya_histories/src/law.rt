@@ -9,6 +9,7 @@ ghost use Rattle.papaya_histories.specs.OtherCalls.{OthersRemoveOnly, RemovalsAd
 ghost use Rattle.papaya_histories.specs.OtherMidsts.{OtherMidstsBegin, OtherMidstsGoOn, OtherMidstsKeepDue, OtherMidstsEnd};
 ghost use Rattle.papaya_histories.specs.Others.{RowsBeginHistories, RowsKeepHistories};
 ghost use Rattle.papaya_histories.specs.Questions.{QuestionsBegin, EffectsKeepQuestions, CallsBeginQuestions, CallsTakeQuestions, CallsComeToQuestions, EventsKeepQuestions, RunsKeepQuestions};
+ghost use Rattle.papaya_histories.specs.Retaining.{RetainingsMayAsk};
 ghost use Rattle.papaya_histories.specs.Several.{MidstsBegin, MidstsBeginCalls, MidstsGoOn, MidstsEnd, MidstsAskStill};
 ghost use Rattle.papaya_histories.specs.Kept.{HistoriesBegin, CallsKeepHistories, CallsBeginHistories, CallsTakeHistories, CallsComeToHistories, EventsKeepHistories, FirstStepsChangeFirst};
 
@@ -94,11 +95,13 @@ pub fn questions_are_noted<K, V>()
 
 /// What a call on one key stands at to ask, and has not asked yet, is what its key's class had at a moment of the call between two events, and the sequential
 /// specification says that it wants a reply for that; it owes no answer; and it has not asked that before, unless it is `remove_if`; where no pair of the class has
-/// come or gone within the present event. A step that says that its call asks has led to where it asks that; and a call that asks says so again by each step.
+/// come or gone within the present event. A step that says that its call asks has led to where it asks that; and a call that asks says so again by each step. What a
+/// retaining stands at to ask about is a pair that the map has at a moment of the call between two events, where none has come within the present event.
 pub fn questions_are_so<K, V, S>()
     ensures asks { (same : K → K → Bool) (hash : K → ℕ) → QuestionsMayBeAsked K V S same hash }
     ensures stands { (same : K → K → Bool) (hash : K → ℕ) → AskingStepsStandThere K V S same hash }
     ensures still { (same : K → K → Bool) (hash : K → ℕ) → AskingCallsAskStill K V S same hash }
+    ensures retain { (same : K → K → Bool) (hash : K → ℕ) → RetainingsMayAsk K V S same hash }
 {}
 
 /// A step of a reservation, of a counting, or of a walk changes no pair, and one of a clearing removes one at most. So an event of steps of such a call is linearizable;
