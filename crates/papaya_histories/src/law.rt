@@ -7,7 +7,7 @@ ghost use Rattle.papaya_histories.specs.Due.{DuesBegin, CallsKeepDue, CallsBegin
 ghost use Rattle.papaya_histories.specs.Events.{StepsAreLinearizable};
 ghost use Rattle.papaya_histories.specs.OtherCalls.{OthersRemoveOnly, RemovalsAdd, OthersAreLinearizable, NoCallsAreLinearizable};
 ghost use Rattle.papaya_histories.specs.OtherMidsts.{OtherMidstsBegin, OtherMidstsGoOn, OtherMidstsKeepDue, OtherMidstsEnd};
-ghost use Rattle.papaya_histories.specs.Others.{RowsBeginHistories, RowsKeepHistories};
+ghost use Rattle.papaya_histories.specs.Others.{RowsBeginHistories, RowsKeepHistories, RowsBeginDue, RowsKeepDue};
 ghost use Rattle.papaya_histories.specs.Questions.{QuestionsBegin, EffectsKeepQuestions, CallsBeginQuestions, CallsTakeQuestions, CallsComeToQuestions, EventsKeepQuestions, RunsKeepQuestions};
 ghost use Rattle.papaya_histories.specs.Retaining.{RetainingsMayAsk};
 ghost use Rattle.papaya_histories.specs.Several.{MidstsBegin, MidstsBeginCalls, MidstsGoOn, MidstsEnd, MidstsAskStill};
@@ -43,7 +43,7 @@ pub fn answers_were_so<K, V, S>()
 
 /// After each step of a call, whoever's, a call on one key owes nothing as an answer if it has changed nothing; and if it has, the answer that the sequential
 /// specification says that it means by its change; if no class changes twice within one event. So it is before all events, too, where a call begins, takes a reply
-/// that such a call takes, and comes to an outcome, and where an event is over.
+/// that such a call takes, and comes to an outcome, where an event is over, and where a row begins on a slot, and after each step of it.
 pub fn calls_keep_due<K, V, S>()
     ensures begins { (same : K → K → Bool) → DuesBegin K V same }
     ensures calls { (same : K → K → Bool) (hash : K → ℕ) → CallsKeepDue K V S same hash }
@@ -51,6 +51,8 @@ pub fn calls_keep_due<K, V, S>()
     ensures told { (same : K → K → Bool) (hash : K → ℕ) → CallsTakeDue K V S same hash }
     ensures come_to { (same : K → K → Bool) → CallsComeToDue K V same }
     ensures events { (same : K → K → Bool) → EventsKeepDue K V same }
+    ensures rows_begin { (same : K → K → Bool) (hash : K → ℕ) → RowsBeginDue K V S same hash }
+    ensures rows { (same : K → K → Bool) (hash : K → ℕ) → RowsKeepDue K V S same hash }
 {}
 
 /// What a call on one key answers that tells a change is the answer that it owes since it has changed its map.
