@@ -65,7 +65,7 @@ use Rattle.papaya_histories.proofs.Now.{now_had}
 use Rattle.papaya_histories.proofs.Which.{DidOnce, DidNone, DidStore, DidReplace, DidRemove, did_once, none_shifted}
 
 -- what rows hand over shifts no pair
-hands_shift : (effects : List Effect) → HandsOn effects → flat_map shift_of effects ≡ []
+pub hands_shift : (effects : List Effect) → HandsOn effects → flat_map shift_of effects ≡ []
 hands_shift _ (IsStill effects all) = calm_shifts effects all
 hands_shift _ (PutsBehind n t) = refl
 hands_shift _ (Retires x) = refl

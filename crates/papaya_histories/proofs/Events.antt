@@ -19,7 +19,7 @@ use Rattle.papaya_schedules.specs.declared.outcome.Outcome.TheVariants as outcom
 use Rattle.papaya_schedules.specs.After.{moment, moments_from}
 use Rattle.papaya_schedules.specs.Beginning.{at_work}
 use Rattle.papaya_schedules.specs.Effects.{with_effects, worked}
-use Rattle.papaya_schedules.specs.Entry.{Entry, caller_of, acting, acted_on}
+use Rattle.papaya_schedules.specs.Entry.{Entry, caller_of, acting, acted_on, IfCall}
 use Rattle.papaya_schedules.specs.Linearizable.{shift_of, meaning_at, Changes, ChangesOnce, AnswersDue, EndsOn, Ends, AsksRight, ActsRight, ActsOf, IsLinearizable}
 use Rattle.papaya_schedules.specs.Lists.{OneOf}
 use Rattle.papaya_schedules.specs.Moment.{Stands, Going, Asking, Told, IsReady, UnderWay as CallThere, Moment}
@@ -33,32 +33,25 @@ use Rattle.papaya_effects.specs.declared.acting.Acting.TheVariants as acts
 use Rattle.papaya_executor.specs.IsAt.{Scene, IsAt}
 use Rattle.papaya_executor.specs.Stepping.{StepLeads}
 use Rattle.papaya_executor.specs.declared.executor.Executor.{Executor}
+use Rattle.papaya_follows.proofs.Steps.{one_of}
+use Rattle.papaya_hands.proofs.Replacing.{calls_after}
 use Rattle.papaya_histories.specs.Answers.{IsToldAs, IsToldDone}
 use Rattle.papaya_histories.specs.Events.{ComesToIt, StepsAreLinearizable}
-use Rattle.papaya_histories.specs.Several.{IsSameCall, InMidst, MidstsEnd}
+use Rattle.papaya_histories.specs.Asking.{IsToldQuestion}
+use Rattle.papaya_histories.specs.Questions.{GoesItself, AsksStill, ShowsQuestions, EventAsksStill}
+use Rattle.papaya_histories.specs.Several.{IsSameCall, InMidst, MidstsEnd, MidstsAskStill}
 use Rattle.papaya_histories.proofs.Answers.{answers_were_so}
+use Rattle.papaya_histories.proofs.Asking.{asking_steps_stand_there, asking_calls_ask_still}
+use Rattle.papaya_histories.proofs.AsksRight.{asks_right}
+use Rattle.papaya_histories.proofs.Found.{map_alike}
+use Rattle.papaya_histories.proofs.OtherCalls.{asks_none}
 use Rattle.papaya_histories.proofs.Logs.{each_of}
 use Rattle.papaya_histories.proofs.Owed.{answers_are_owed, due_none, change_none}
 use Rattle.papaya_histories.proofs.Refusals.{refusals_were_so, change_refused}
-use Rattle.papaya_histories.proofs.Several.{d, d_is, d_same, by, unchanged_before, then_at, worked_then, changes_then, midsts_begin}
+use Rattle.papaya_histories.proofs.Several.{d, d_is, d_same, by, unchanged_before, then_at, worked_then, changes_then, midst_then, midsts_begin}
 
-abbrev IsNoQuestion : {V : Type 0} → Outcome V → Type 0
-IsNoQuestion (outcome.Asks question) = ⊥
-IsNoQuestion _ = Unit {0}
-
-module _ {K V : Type 0} (same : K → K → Bool) (c : CallThere K V) (moments : List (Moment K V)) where
-  -- what is no question asks nothing
-  asks_none : (stands : Stands) (o : Outcome V) → IsNoQuestion o → AsksRight same stands c moments o
-  asks_none (Asking q) o none = tt
-  asks_none Going (outcome.Asks q) none = absurd none
-  asks_none Going _ none = tt
-  asks_none Told (outcome.Asks q) none = absurd none
-  asks_none Told _ none = tt
-  asks_none IsReady (outcome.Asks q) none = absurd none
-  asks_none IsReady _ none = tt
-
-module _ {K V S : Type 0} (same : K → K → Bool) (hash : K → ℕ) (name : ℕ → List ℕ) (log : List (Entry K V)) (map i : ℕ) (one : OneKey K V) (c : CallThere K V) (one_is : c.call ≡ On one)
-    (done : List Effect) (m : Moment K V) (known : Known) (s : Scene K V) (u : CallOnKey K V K) (midst : InMidst same name log map i one c done m known s u)
+module _ {K V S : Type 0} (same : K → K → Bool) (hash : K → ℕ) (name : ℕ → List ℕ) (log : List (Entry K V)) (beginning : Moment K V) (map i : ℕ) (one : OneKey K V) (c : CallThere K V) (one_is : c.call ≡ On one)
+    (done : List Effect) (m : Moment K V) (known : Known) (s : Scene K V) (u : CallOnKey K V K) (midst : InMidst same name log beginning map i one c done m known s u)
     (old new : Executor K V S) (at : IsAt same hash old s) where
   abbrev there : CallThere K V
   there = midst.there
@@ -71,17 +64,18 @@ module _ {K V S : Type 0} (same : K → K → Bool) (hash : K → ℕ) (name : �
 
   module _ (said : Progress (Node K V)) (leads : StepLeads same hash i said s old new) where
     abbrev call_then : CallThere K V
-    call_then = d same hash name log map i one c one_is done m known s u midst old new at said leads
+    call_then = d same hash name log beginning map i one c one_is done m known s u midst old new at said leads
 
     abbrev call_is : call_of (name i) (with_effects (Some (name i)) (Some map) (effects_of (acts.Call i map) known new.memory.changed) m) ≡ Some call_then
-    call_is = d_is same hash name log map i one c one_is done m known s u midst old new at said leads
+    call_is = d_is same hash name log beginning map i one c one_is done m known s u midst old new at said leads
 
     call_same : IsSameCall c call_then
-    call_same = d_same same hash name log map i one c one_is done m known s u midst old new at said leads
+    call_same = d_same same hash name log beginning map i one c one_is done m known s u midst old new at said leads
 
     -- where the call has changed nothing, its class has not changed within the event
-    still : by same hash name log map i one c one_is done m known s u midst old new at said leads ≡ Unchanged → finite_map same map m (key_of one) ≡ finite_map same map (moment log) (key_of one)
-    still none = (midst.untouched (unchanged_before same hash name log map i one c one_is done m known s u midst old new at said leads none)).1 (key_of one)
+    still : by same hash name log beginning map i one c one_is done m known s u midst old new at said leads ≡ Unchanged → finite_map same map m (key_of one) ≡ finite_map same map (moment log) (key_of one)
+    still none = (midst.untouched (unchanged_before same hash name log beginning map i one c one_is done m known s u midst old new at said leads none)).1 (key_of one)
+        ∙ map_alike same map (key_of one) (moment log) beginning midst.begins.0 midst.begins.1
 
   abbrev Means : Meaning V → CallThere K V → Moment K V → Type 0
   Means meaning call y = meaning_at same one call y ≡ meaning
@@ -130,67 +124,103 @@ module _ {K V S : Type 0} (same : K → K → Bool) (hash : K → ℕ) (name : �
   refused_right call RemoveNothing so = (so.0, so.1 refl)
   refused_right call _ so = so.0
 
-  -- so it ends right, and asks nothing
-  ends_right : (said : Progress (Node K V)) (leads : StepLeads same hash i said s old new) (o : Outcome V) → ComesToIt known2 one there.replies said o
-      → EndsOn same one (call_then said leads) (moments_from (call_then said leads).begun log) o × IsNoQuestion o
-  ends_right (progress.Done (machine.Key answer)) leads (outcome.Answered a) told = (answered answer leads a told, tt)
-  ends_right progress.Goes leads outcome.Goes told = (tt, tt)
-  ends_right progress.Waits leads outcome.Waits told = (tt, tt)
-  ends_right (progress.Gave value) leads outcome.Goes told = (tt, tt)
-  ends_right (progress.Unstored value) leads outcome.Goes told = (tt, tt)
-  ends_right (progress.Refused fault) leads (outcome.Refused other) told = (
+  -- one that says that it asks may ask that
+  module _ (questions : ShowsQuestions beginning) (about : Option ℕ) (leads : StepLeads same hash i (progress.Asks about) s old new) where
+    asks_then : (question : Option ℕ) → IsToldQuestion known2 about question
+        → AsksRight same (call_then (progress.Asks about) leads).stands (call_then (progress.Asks about) leads) (moments_from (call_then (progress.Asks about) leads).begun log) (outcome.Asks question)
+    asks_then question told =
+        let on = asking_steps_stand_there K V S same hash s old new map i u midst.here about leads in
+        let then = midst_then same hash name log beginning map i one c one_is done m known s u midst old new at (progress.Asks about) leads on.0 on.1 in
+        subst (λ (y : CallThere K V). AsksRight same y.stands y (moments_from y.begun log) (outcome.Asks question))
+        (one_of then.there (call_then (progress.Asks about) leads) (sym then.there_is ∙ call_is (progress.Asks about) leads))
+        (asks_right same hash name log beginning map i one c one_is questions (done ++ effects_of (acts.Call i map) known new.memory.changed) _ known2 _ on.0 then new
+        (leads map (OnKey u) midst.here).5 question (on.2 known2 question told) then.there.stands refl)
+
+  -- so it ends right, and asks right
+  ends_right : ShowsQuestions beginning → (said : Progress (Node K V)) (leads : StepLeads same hash i said s old new) (o : Outcome V) → ComesToIt known2 one there.replies said o
+      → EndsOn same one (call_then said leads) (moments_from (call_then said leads).begun log) o
+      × AsksRight same (call_then said leads).stands (call_then said leads) (moments_from (call_then said leads).begun log) o
+  ends_right questions (progress.Done (machine.Key answer)) leads (outcome.Answered a) told = (answered answer leads a told, asks_none same (call_then _ leads) _ (call_then _ leads).stands (outcome.Answered a) tt)
+  ends_right questions (progress.Asks about) leads (outcome.Asks question) told = (tt, asks_then questions about leads question told)
+  ends_right questions progress.Goes leads outcome.Goes told = (tt, asks_none same (call_then _ leads) _ (call_then _ leads).stands outcome.Goes tt)
+  ends_right questions progress.Waits leads outcome.Waits told = (tt, asks_none same (call_then _ leads) _ (call_then _ leads).stands outcome.Waits tt)
+  ends_right questions (progress.Gave value) leads outcome.Goes told = (tt, asks_none same (call_then _ leads) _ (call_then _ leads).stands outcome.Goes tt)
+  ends_right questions (progress.Unstored value) leads outcome.Goes told = (tt, asks_none same (call_then _ leads) _ (call_then _ leads).stands outcome.Goes tt)
+  ends_right questions (progress.Refused fault) leads (outcome.Refused other) told = (
     subst (λ (f : Fault). EndsOn same one (call_then (progress.Refused fault) leads) (moments_from (call_then (progress.Refused fault) leads).begun log) (outcome.Refused f)) (sym told)
         (refused_right (call_then (progress.Refused fault) leads) fault (was_refused fault leads)),
-    tt,
+    asks_none same (call_then _ leads) _ (call_then _ leads).stands (outcome.Refused other) tt,
   )
-  ends_right _ leads o told = absurd told
+  ends_right questions _ leads o told = absurd told
 
-  module _ (c_is : call_of (name i) (moment log) ≡ Some c) (said : Progress (Node K V)) (leads : StepLeads same hash i said s old new) (e : Entry K V) (is_caller : caller_of e.event ≡ Some (name i))
-      (at_once : at_work e (moment log) ≡ moment log) (acts_on : acted_on e.event (moment log) ≡ Some map)
+  -- what asks does not go on by itself
+  no_going : (replies : List (Option ℕ × Reply V)) (about : Option ℕ) (o : Outcome V) → ComesToIt known2 one replies (progress.Asks about) o → GoesItself o → ⊥
+  no_going replies about (outcome.Asks question) told goes = goes
+  no_going replies about _ told goes = told
+
+  module _ (c_is : call_of (name i) beginning ≡ Some c) (said : Progress (Node K V)) (leads : StepLeads same hash i said s old new) (e : Entry K V) (is_caller : caller_of e.event ≡ Some (name i))
+      (begun : at_work e (moment log) ≡ beginning) (acts_on : acted_on e.event beginning ≡ Some map)
       (effects_are : e.effects ≡ done ++ effects_of (acts.Call i map) known new.memory.changed) (comes : ComesToIt known2 one c.replies said e.outcome) where
     abbrev call : CallThere K V
     call = call_then said leads
 
-    worked_is : worked e (moment log) ≡ then_at same hash name log map i one c one_is done m known s u midst old new at said leads
+    worked_is : worked e (moment log) ≡ then_at same hash name log beginning map i one c one_is done m known s u midst old new at said leads
     worked_is =
-        ap (λ (b : Moment K V). with_effects (caller_of e.event) (acted_on e.event b) e.effects b) at_once
-        ∙ ap (λ (o : Option (List ℕ)). with_effects o (acted_on e.event (moment log)) e.effects (moment log)) is_caller
-        ∙ ap (λ (o : Option ℕ). with_effects (Some (name i)) o e.effects (moment log)) acts_on
-        ∙ ap (λ (l : List Effect). with_effects (Some (name i)) (Some map) l (moment log)) effects_are
-        ∙ sym (worked_then same hash name log map i one c one_is done m known s u midst old new at said leads)
+        ap (λ (b : Moment K V). with_effects (caller_of e.event) (acted_on e.event b) e.effects b) begun
+        ∙ ap (λ (o : Option (List ℕ)). with_effects o (acted_on e.event beginning) e.effects beginning) is_caller
+        ∙ ap (λ (o : Option ℕ). with_effects (Some (name i)) o e.effects beginning) acts_on
+        ∙ ap (λ (l : List Effect). with_effects (Some (name i)) (Some map) l beginning) effects_are
+        ∙ sym (worked_then same hash name log beginning map i one c one_is done m known s u midst old new at said leads)
 
     before : acting (caller_of e.event) (at_work e (moment log)) ≡ Some c
-    before = ap (λ (o : Option (List ℕ)). acting o (at_work e (moment log))) is_caller ∙ ap (call_of (name i)) at_once ∙ c_is
+    before = ap (λ (o : Option (List ℕ)). acting o (at_work e (moment log))) is_caller ∙ ap (call_of (name i)) begun ∙ c_is
 
     then_acting : acting (caller_of e.event) (worked e (moment log)) ≡ Some call
     then_acting =
         ap (λ (o : Option (List ℕ)). acting o (worked e (moment log))) is_caller ∙ ap (call_of (name i)) worked_is
-        ∙ d_is same hash name log map i one c one_is done m known s u midst old new at said leads
+        ∙ d_is same hash name log beginning map i one c one_is done m known s u midst old new at said leads
 
-    ends_so : EndsOn same one call (moments_from call.begun log) e.outcome × IsNoQuestion e.outcome
-    ends_so = ends_right said leads e.outcome (subst (λ (r : List (Option ℕ × Reply V)). ComesToIt known2 one r said e.outcome) (sym midst.same_call.replies) comes)
-
-    right : ActsRight same log e c call
-    right = record {
+    right : ShowsQuestions beginning → ActsRight same log e c call
+    right questions = record {
       changes = subst (λ (x : Call K V). Changes same x c (at_work e (moment log)) (flat_map shift_of e.effects)) (sym one_is)
-          (subst (λ (b : Moment K V). ChangesOnce same one c b (flat_map shift_of e.effects)) (sym at_once)
-          (subst (λ (l : List Effect). ChangesOnce same one c (moment log) (flat_map shift_of l)) (sym effects_are)
-          (changes_then same hash name log map i one c one_is done m known s u midst old new at said leads)));
+          (subst (λ (b : Moment K V). ChangesOnce same one c b (flat_map shift_of e.effects)) (sym begun)
+          (subst (λ (l : List Effect). ChangesOnce same one c beginning (flat_map shift_of l)) (sym effects_are)
+          (changes_then same hash name log beginning map i one c one_is done m known s u midst old new at said leads)));
       ends = subst (λ (x : Call K V). Ends same x call (moments_from call.begun log) e.outcome) (sym ((call_same said leads).call ∙ one_is)) ends_so.0;
-      asks = asks_none same call (moments_from call.begun log) call.stands e.outcome ends_so.1;
+      asks = ends_so.1;
     }
+      where
+        ends_so : EndsOn same one call (moments_from call.begun log) e.outcome × AsksRight same call.stands call (moments_from call.begun log) e.outcome
+        ends_so = ends_right questions said leads e.outcome (subst (λ (r : List (Option ℕ × Reply V)). ComesToIt known2 one r said e.outcome) (sym midst.same_call.replies) comes)
 
-    pub linearizable : IsLinearizable same log e
-    linearizable = subst (λ (x : Option (CallThere K V)). ActsOf same log e x (acting (caller_of e.event) (worked e (moment log)))) (sym before)
-        (subst (λ (x : Option (CallThere K V)). ActsOf same log e (Some c) x) (sym then_acting) right)
+    pub linearizable : ShowsQuestions beginning → IsLinearizable same log e
+    linearizable questions = subst (λ (x : Option (CallThere K V)). ActsOf same log e x (acting (caller_of e.event) (worked e (moment log)))) (sym before)
+        (subst (λ (x : Option (CallThere K V)). ActsOf same log e (Some c) x) (sym then_acting) (right questions))
+
+    -- a call that asks says so by the last step, too
+    still_so : (stands : Stands) → call.stands ≡ stands → AsksStill stands e.outcome
+    still_so (Asking question) is = λ goes.
+        let on = (calls_after (name i) map (name i) (effects_of (acts.Call i map) known new.memory.changed) m there midst.there_is).2.0.stands in
+        let says = asking_calls_ask_still K V S same hash name midst.dues.history.shown.number m known s old new midst.dues.history.asked map i u midst.here said leads there midst.there_is one there_one question (sym on ∙ is) in
+        no_going c.replies says.0 e.outcome (subst (λ (x : Progress (Node K V)). ComesToIt known2 one c.replies x e.outcome) says.1 comes) goes
+    still_so Going is = tt
+    still_so Told is = tt
+    still_so IsReady is = tt
+
+    pub asks_still : EventAsksStill log e
+    asks_still = subst (λ (x : Option (CallThere K V)). IfCall (λ (y : CallThere K V). AsksStill y.stands e.outcome) x) (sym then_acting) (still_so call.stands refl)
 
 module _ (K V S : Type 0) (same : K → K → Bool) (hash : K → ℕ) where
   pub midsts_end : MidstsEnd K V S same hash
-  midsts_end name log map i one c c_is one_is done m known s u midst old new at said leads e is_caller at_once acts_on effects_are comes =
-      linearizable same hash name log map i one c one_is done m known s u midst old new at c_is said leads e is_caller at_once acts_on effects_are comes
+  midsts_end name log beginning map i one c c_is one_is questions done m known s u midst old new at said leads e is_caller begun acts_on effects_are comes =
+      linearizable same hash name log beginning map i one c one_is done m known s u midst old new at c_is said leads e is_caller begun acts_on effects_are comes questions
+
+  pub midsts_ask_still : MidstsAskStill K V S same hash
+  midsts_ask_still name log beginning map i one c c_is one_is done m known s u midst old new at said leads e is_caller begun acts_on effects_are comes =
+      asks_still same hash name log beginning map i one c one_is done m known s u midst old new at c_is said leads e is_caller begun acts_on effects_are comes
 
   -- an event of one step is one at whose beginning it ends
   pub steps_are_linearizable : StepsAreLinearizable K V S same hash
-  steps_are_linearizable name log known s old new at whole dues map i u here said leads c c_is one one_is e is_caller at_once acts_on effects_are comes =
-      midsts_end name log map i one c c_is one_is [] (moment log) known s u (midsts_begin K V S same hash name log known s old at whole dues map i u here c c_is one one_is) old new at said leads e
-      is_caller at_once acts_on effects_are comes
+  steps_are_linearizable name log beginning begins known s old new at whole dues questions map i u here said leads c c_is one one_is e is_caller begun acts_on effects_are comes =
+      midsts_end name log beginning map i one c c_is one_is questions [] beginning known s u
+      (midsts_begin K V S same hash name log beginning begins known s old at whole dues map i u here c c_is one one_is) old new at said leads e is_caller begun acts_on effects_are comes

@@ -21,4 +21,14 @@ pub mod Owed
 pub mod Refusals
 pub mod Steady
 pub mod Several
+pub mod Questions
+pub mod Untold
+pub mod MayAsk
+pub mod Says
+pub mod Asking
+pub mod AsksRight
+pub mod OtherCalls
+pub mod OtherMidsts
+pub mod Retaining
+pub mod BeginsCall
 pub mod Events

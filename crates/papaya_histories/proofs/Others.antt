@@ -1,12 +1,14 @@
--- What is of no call leaves histories within the moments of the run: no pair of a map comes or goes.
+-- What is of no call leaves histories within the moments of the run, and what calls owe: no pair of a map comes or goes.
 use Rattle.std.specs.Prelude.{◌≡◌, ℕ, Bool, List, find, Option, Some, ◌⊎◌}
 use Rattle.std.proofs.Common.{ap, sym, subst, ◌∙◌, arith, inl, inr}
 use Rattle.papaya_runs.specs.Same.{is_same}
+use Rattle.papaya_schedules.specs.declared.call.Call.TheVariants.{On}
+use Rattle.papaya_schedules.specs.declared.call.OneKey.{OneKey}
 use Rattle.papaya_schedules.specs.Entry.{Entry}
 use Rattle.papaya_schedules.specs.Moment.{UnderWay as CallThere, Moment}
 use Rattle.papaya_schedules.specs.Views.{call_of, finite_map}
 use Rattle.papaya_rule.specs.Chart.{Chart}
-use Rattle.papaya_callers.specs.Together.{UnderWay}
+use Rattle.papaya_callers.specs.Together.{CallOnKey, UnderWay, OnKey}
 use Rattle.papaya_finishes.specs.Maps.{Standing}
 use Rattle.papaya_effects.specs.Known.{Known}
 use Rattle.papaya_executor.specs.IsAt.{Scene, IsAt}
@@ -16,9 +18,10 @@ use Rattle.papaya_others.proofs.RowBegins.{rows_begin_shown}
 use Rattle.papaya_others.proofs.Rows.{rows_on_slots_are_shown}
 use Rattle.papaya_moments.proofs.Beside.{IsBeside, StoodSo, StandsNew, asked_beside}
 use Rattle.papaya_moments.proofs.OnSlots.{row_beside, rows_begin_beside}
+use Rattle.papaya_histories.specs.Due.{Owes, ShowsDue}
 use Rattle.papaya_histories.specs.Had.{HadThen}
 use Rattle.papaya_histories.specs.Histories.{began_of, since, IsWithin, ShowsHistory}
-use Rattle.papaya_histories.specs.Others.{RowsBeginHistories, RowsKeepHistories}
+use Rattle.papaya_histories.specs.Others.{RowsBeginHistories, RowsKeepHistories, RowsBeginDue, RowsKeepDue}
 use Rattle.papaya_histories.proofs.Had.{had_on, had_one}
 use Rattle.papaya_histories.proofs.Later.{IsLater, same_later}
 use Rattle.papaya_histories.proofs.Now.{now_had}
@@ -73,7 +76,45 @@ module _ {K V S : Type 0} (same : K → K → Bool) (hash : K → ℕ) (name : �
       within_so n st there j x is c found began began_is (inl stood) = within_then n st there stood j x is c found began began_is
       within_so n st there j x is c found began began_is (inr new_map) = absurd (let none = new_map.0 j in cc (none, is))
 
+-- and calls owe what they owed
+module _ {K V S : Type 0} (same : K → K → Bool) (hash : K → ℕ) (name : ℕ → List ℕ) (log : List (Entry K V)) (m m2 : Moment K V) (known known2 : Known) (s s2 : Scene K V) (old new : Executor K V S)
+    (at : IsAt same hash old s) (at2 : IsAt same hash new s2) (dues : ShowsDue same name log m known s) (after : ShowsAfter same name m known s dues.history.shown m2 known2 s2)
+    (beside : IsBeside m m2 known known2 s s2) where
+  abbrev before : (n j : ℕ) (x : UnderWay K V K) → s2.calls n j ≡ Some x → s.calls n j ≡ Some x
+  before = was_here same hash name log m m2 known known2 s s2 old new at at2 dues.history after beside
+
+  abbrev called : (j : ℕ) (c : CallThere K V) → call_of (name j) m2 ≡ Some c → call_of (name j) m ≡ Some c
+  called = was_called same hash name log m m2 known known2 s s2 old new at at2 dues.history after beside
+
+  owes_so : (n j : ℕ) (u : CallOnKey K V K) → s2.calls n j ≡ Some (OnKey u) → (st : Standing K) → (c : CallThere K V) → call_of (name j) m2 ≡ Some c → (one : OneKey K V) → c.call ≡ On one
+      → StoodSo known known2 s s2 n st ⊎ StandsNew known known2 s s2 n → Owes (after.shows.number n) st.chart.stored one c u.change
+  owes_so n j u is st c found one one_is (inl stood) =
+      subst (λ (f : ℕ → ℕ). Owes f st.chart.stored one c u.change) (sym (after.numbers n stood.0 stood.1))
+      (subst (λ (x : Chart K). Owes (dues.history.shown.number n) x.stored one c u.change) (sym stood.2)
+      (dues.owes n j u (before n j (OnKey u) is) stood.0 stood.1 c (called j c found) one one_is))
+  owes_so n j u is st c found one one_is (inr new_map) = absurd (let none = new_map.0 j in cc (none, is))
+
+  pub beside_due : ShowsDue same name log m2 known2 s2
+  unfolding beside_history
+  beside_due = record {
+    history = beside_history same hash name log m m2 known known2 s s2 old new at at2 dues.history after beside;
+    owes = λ n j u is st there c found one one_is. owes_so n j u is st c found one one_is (beside.stood n st there);
+    taken = λ n j x is c found one one_is. dues.taken n j x (before n j x is) c (called j c found) one one_is;
+  }
+
 module _ (K V S : Type 0) (same : K → K → Bool) (hash : K → ℕ) where
+  pub rows_begin_due : RowsBeginDue K V S same hash
+  rows_begin_due name log m known s old new at dues called i may leads =
+      let to = (leads may).3 in
+      beside_due same hash name log m m known known s _ old new at to.4 dues (rows_begin_shown K V S same hash name m known s old new at dues.history.shown called i may leads)
+      (rows_begin_beside K V S same hash m known s old new called i may leads)
+
+  pub rows_keep_due : RowsKeepDue K V S same hash
+  rows_keep_due name log m known s old new at dues i told leads row here retired =
+      let to = leads row here in
+      beside_due same hash name log m _ known _ s _ old new at to.4.4 dues (rows_on_slots_are_shown K V S same hash name m known s old new at dues.history.shown i told leads row here retired)
+      (row_beside same hash m known s old new at i row here (to.0, told) to.1 to.4)
+
   pub rows_begin_histories : RowsBeginHistories K V S same hash
   rows_begin_histories name log m known s old new at history called i may leads =
       let to = (leads may).3 in

@@ -36,6 +36,7 @@ use Rattle.papaya_histories.specs.Several.{IsSameCall, InMidst, MidstsBegin, Mid
 use Rattle.papaya_histories.proofs.Begun.{effects_begun}
 use Rattle.papaya_histories.proofs.Changes.{changes_once}
 use Rattle.papaya_histories.proofs.Due.{change_by, goes_on, calls_keep_due}
+use Rattle.papaya_histories.proofs.Found.{map_alike}
 use Rattle.papaya_histories.proofs.Keys.{its_call}
 use Rattle.papaya_histories.proofs.Steady.{effects_stored, effects_after, Kinds, step_kinds}
 
@@ -80,8 +81,8 @@ module _ {K V : Type 0} (same : K → K → Bool) (name : ℕ → List ℕ) (log
 pub same_then : {K V : Type 0} (c d e : CallThere K V) → IsSameCall c d → IsSameCall d e → IsSameCall c e
 same_then c d e h k = record { map = k.map ∙ h.map; call = k.call ∙ h.call; replies = k.replies ∙ h.replies; begun = k.begun ∙ h.begun }
 
-module _ {K V S : Type 0} (same : K → K → Bool) (hash : K → ℕ) (name : ℕ → List ℕ) (log : List (Entry K V)) (map i : ℕ) (one : OneKey K V) (c : CallThere K V) (one_is : c.call ≡ On one)
-    (done : List Effect) (m : Moment K V) (known : Known) (s : Scene K V) (u : CallOnKey K V K) (midst : InMidst same name log map i one c done m known s u)
+module _ {K V S : Type 0} (same : K → K → Bool) (hash : K → ℕ) (name : ℕ → List ℕ) (log : List (Entry K V)) (beginning : Moment K V) (map i : ℕ) (one : OneKey K V) (c : CallThere K V) (one_is : c.call ≡ On one)
+    (done : List Effect) (m : Moment K V) (known : Known) (s : Scene K V) (u : CallOnKey K V K) (midst : InMidst same name log beginning map i one c done m known s u)
     (old new : Executor K V S) (at : IsAt same hash old s) (said : Progress (Node K V)) (leads : StepLeads same hash i said s old new) where
   abbrev pub step_effects : List Effect
   step_effects = effects_of (acts.Call i map) known new.memory.changed
@@ -136,25 +137,25 @@ module _ {K V S : Type 0} (same : K → K → Bool) (hash : K → ℕ) (name : �
   all_shifts = flat_map-append shift_of done step_effects
 
   -- its class has changed once at most since the event began
-  pub changes_then : ChangesOnce same one c (moment log) (flat_map shift_of (done ++ step_effects))
-  changes_then = subst (λ (l : List Shift). ChangesOnce same one c (moment log) l) (sym all_shifts) (kind its_kinds)
+  pub changes_then : ChangesOnce same one c beginning (flat_map shift_of (done ++ step_effects))
+  changes_then = subst (λ (l : List Shift). ChangesOnce same one c beginning l) (sym all_shifts) (kind its_kinds)
     where
-      kind : ItsKinds → ChangesOnce same one c (moment log) (flat_map shift_of done ++ flat_map shift_of step_effects)
+      kind : ItsKinds → ChangesOnce same one c beginning (flat_map shift_of done ++ flat_map shift_of step_effects)
       kind (inl (e, none, kept)) =
-          subst (λ (l : List Shift). ChangesOnce same one c (moment log) (flat_map shift_of done ++ l)) (sym none)
-          (subst (λ (l : List Shift). ChangesOnce same one c (moment log) l) (sym (append-nil (flat_map shift_of done))) midst.changes)
+          subst (λ (l : List Shift). ChangesOnce same one c beginning (flat_map shift_of done ++ l)) (sym none)
+          (subst (λ (l : List Shift). ChangesOnce same one c beginning l) (sym (append-nil (flat_map shift_of done))) midst.changes)
       kind (inr (unchanged, first)) =
           let so = midst.untouched unchanged in
-          subst (λ (l : List Shift). ChangesOnce same one c (moment log) (l ++ flat_map shift_of step_effects)) (sym so.0)
-          (once_from same map one c there (moment log) m midst.same_call on_map so.1 so.2 so.3 (flat_map shift_of step_effects) its_changes)
+          subst (λ (l : List Shift). ChangesOnce same one c beginning (l ++ flat_map shift_of step_effects)) (sym so.0)
+          (once_from same map one c there beginning m midst.same_call on_map so.1 so.2 so.3 (flat_map shift_of step_effects) its_changes)
 
   -- and not, as long as the call has changed nothing
   pub untouched_then : by ≡ Unchanged
-      → (flat_map shift_of (done ++ step_effects) ≡ []) × ((k : K) → finite_map same map then_at k ≡ finite_map same map (moment log) k) × (length then_at.stored ≡ length (moment log).stored) × (c.due ≡ None)
+      → (flat_map shift_of (done ++ step_effects) ≡ []) × ((k : K) → finite_map same map then_at k ≡ finite_map same map beginning k) × (length then_at.stored ≡ length beginning.stored) × (c.due ≡ None)
   untouched_then none = kind its_kinds
     where
-      kind : ItsKinds → (flat_map shift_of (done ++ step_effects) ≡ []) × ((k : K) → finite_map same map then_at k ≡ finite_map same map (moment log) k)
-          × (length then_at.stored ≡ length (moment log).stored) × (c.due ≡ None)
+      kind : ItsKinds → (flat_map shift_of (done ++ step_effects) ≡ []) × ((k : K) → finite_map same map then_at k ≡ finite_map same map beginning k)
+          × (length then_at.stored ≡ length beginning.stored) × (c.due ≡ None)
       kind (inl (e, no_shift, kept)) = (let so = midst.untouched (sym e ∙ none) in (
         all_shifts ∙ ap (λ (l : List Shift). l ++ flat_map shift_of step_effects) so.0 ∙ no_shift,
         λ k. kept k ∙ so.1 k,
@@ -176,10 +177,10 @@ module _ {K V S : Type 0} (same : K → K → Bool) (hash : K → ℕ) (name : �
     where
       kind : ItsKinds → (finite_map same map then_at k ≡ finite_map same map m k) ⊎ (finite_map same map m k ≡ finite_map same map (moment log) k)
       kind (inl (e, no_shift, kept)) = inl (kept k)
-      kind (inr (unchanged, first)) = inr ((midst.untouched unchanged).1 k)
+      kind (inr (unchanged, first)) = inr ((midst.untouched unchanged).1 k ∙ map_alike same map k (moment log) beginning midst.begins.0 midst.begins.1)
 
-  pub worked_then : then_at ≡ with_effects (Some (name i)) (Some map) (done ++ step_effects) (moment log)
-  worked_then = ap (λ (x : Moment K V). with_effects (Some (name i)) (Some map) step_effects x) midst.worked ∙ sym (effects_after (Some (name i)) (Some map) done step_effects (moment log))
+  pub worked_then : then_at ≡ with_effects (Some (name i)) (Some map) (done ++ step_effects) beginning
+  worked_then = ap (λ (x : Moment K V). with_effects (Some (name i)) (Some map) step_effects x) midst.worked ∙ sym (effects_after (Some (name i)) (Some map) done step_effects beginning)
 
   module _ (next : CallOnKey K V K) (goes : (leads map (OnKey u) midst.here).4.next ≡ Some (OnKey next)) where
     here_then : (scene_after same hash s old new map i (leads map (OnKey u) midst.here).0 (OnKey u) (leads map (OnKey u) midst.here).1 said (leads map (OnKey u) midst.here).4).calls map i ≡ Some (OnKey next)
@@ -191,12 +192,13 @@ module _ {K V S : Type 0} (same : K → K → Bool) (hash : K → ℕ) (name : �
     change_is = goes_on same hash name log m known s old new at midst.whole midst.dues map i u midst.here said leads there midst.there_is one there_one st2 (leads map (OnKey u) midst.here).4.its_map.4 d d_is next goes
         (leads map (OnKey u) midst.here).4.did
 
-    pub midst_then : InMidst same name log map i one c (done ++ step_effects) then_at (known_after (acts.Call i map) new.memory.changed known)
+    pub midst_then : InMidst same name log beginning map i one c (done ++ step_effects) then_at (known_after (acts.Call i map) new.memory.changed known)
         (scene_after same hash s old new map i (leads map (OnKey u) midst.here).0 (OnKey u) (leads map (OnKey u) midst.here).1 said (leads map (OnKey u) midst.here).4) next
     midst_then = record {
       here = here_then;
       whole = calls_keep_whole K V S same hash name m known s old new at midst.whole map i (OnKey u) midst.here said leads;
       dues = calls_keep_due K V S same hash name log m known s old new at midst.whole midst.dues map i (OnKey u) midst.here said leads first_change;
+      begins = midst.begins;
       worked = worked_then;
       there = d;
       there_is = d_is;
@@ -216,10 +218,11 @@ stands same hash s e at map i x here = by (s.maps map) refl
 
 module _ (K V S : Type 0) (same : K → K → Bool) (hash : K → ℕ) where
   pub midsts_begin : MidstsBegin K V S same hash
-  midsts_begin name log known s e at whole dues map i u here c c_is one one_is = record {
+  midsts_begin name log beginning begins known s e at whole dues map i u here c c_is one one_is = record {
     here = here;
     whole = whole;
     dues = dues;
+    begins = begins;
     worked = refl;
     there = c;
     there_is = c_is;
@@ -235,4 +238,4 @@ module _ (K V S : Type 0) (same : K → K → Bool) (hash : K → ℕ) where
   }
 
   pub midsts_go_on : MidstsGoOn K V S same hash
-  midsts_go_on name log map i one c one_is done m known s u midst old new at said leads next goes = midst_then same hash name log map i one c one_is done m known s u midst old new at said leads next goes
+  midsts_go_on name log beginning map i one c one_is done m known s u midst old new at said leads next goes = midst_then same hash name log beginning map i one c one_is done m known s u midst old new at said leads next goes

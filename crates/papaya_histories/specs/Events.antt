@@ -13,7 +13,7 @@ use Rattle.papaya_schedules.specs.After.{moment}
 use Rattle.papaya_schedules.specs.Beginning.{at_work}
 use Rattle.papaya_schedules.specs.Entry.{Entry, caller_of, acted_on}
 use Rattle.papaya_schedules.specs.Linearizable.{IsLinearizable}
-use Rattle.papaya_schedules.specs.Moment.{UnderWay as CallThere}
+use Rattle.papaya_schedules.specs.Moment.{UnderWay as CallThere, Moment}
 use Rattle.papaya_schedules.specs.Views.{call_of}
 use Rattle.papaya_callers.specs.Together.{CallOnKey, OnKey}
 use Rattle.papaya_effects.specs.Effects.{effects_of, known_after}
@@ -24,11 +24,15 @@ use Rattle.papaya_executor.specs.Stepping.{StepLeads}
 use Rattle.papaya_executor.specs.declared.executor.Executor.{Executor}
 use Rattle.papaya_moments.specs.Whole.{ShowsWhole}
 use Rattle.papaya_histories.specs.Answers.{IsToldAs, IsToldDone}
+use Rattle.papaya_histories.specs.Asking.{IsToldQuestion}
 use Rattle.papaya_histories.specs.Due.{ShowsDue}
+use Rattle.papaya_histories.specs.Kept.{HasJustBegun}
+use Rattle.papaya_histories.specs.Questions.{ShowsQuestions}
 
--- What such a step comes to: it goes on or waits, is refused, or has answered, and that is told by numbers of pairs. A question is none of these.
+-- What such a step comes to: it goes on or waits, asks, is refused, or has answered; and what is asked or answered is told by numbers of pairs.
 abbrev pub ComesToIt : {K V : Type 0} → Known → OneKey K V → List (Option ℕ × Reply V) → Progress (Node K V) → Outcome V → Type 0
 ComesToIt known one replies (progress.Done (Key answer)) (outcome.Answered a) = IsToldAs known one replies answer a ⊎ IsToldDone known one replies answer a
+ComesToIt known one replies (progress.Asks about) (outcome.Asks question) = IsToldQuestion known about question
 ComesToIt known one replies progress.Goes outcome.Goes = Unit {0}
 ComesToIt known one replies progress.Waits outcome.Waits = Unit {0}
 ComesToIt known one replies (progress.Gave value) outcome.Goes = Unit {0}
@@ -37,14 +41,15 @@ ComesToIt known one replies (progress.Refused fault) (outcome.Refused other) = o
 ComesToIt known one replies _ _ = ⊥
 
 module _ (K V S : Type 0) (same : K → K → Bool) (hash : K → ℕ) where
-  -- The promise: an event whose effects are those of one step of a call on one key, and which comes to what that step came to, changes maps and answers as one finite
-  -- map says.
+  -- The promise: an event whose effects are those of one step of a call on one key, since it has begun what it begins, and which comes to what that step came to,
+  -- changes maps, answers and asks as one finite map says.
   abbrev pub StepsAreLinearizable : Type 0
   StepsAreLinearizable =
-      (name : ℕ → List ℕ) (log : List (Entry K V)) (known : Known) (s : Scene K V) (old new : Executor K V S) → IsAt same hash old s
-      → ShowsWhole same name (moment log) known s → ShowsDue same name log (moment log) known s
+      (name : ℕ → List ℕ) (log : List (Entry K V)) (beginning : Moment K V) → HasJustBegun log beginning
+      → (known : Known) (s : Scene K V) (old new : Executor K V S) → IsAt same hash old s
+      → ShowsWhole same name beginning known s → ShowsDue same name log beginning known s → ShowsQuestions beginning
       → (map i : ℕ) (u : CallOnKey K V K) (here : s.calls map i ≡ Some (OnKey u)) (said : Progress (Node K V)) (leads : StepLeads same hash i said s old new)
-      → (c : CallThere K V) → call_of (name i) (moment log) ≡ Some c → (one : OneKey K V) → c.call ≡ On one
-      → (e : Entry K V) → caller_of e.event ≡ Some (name i) → at_work e (moment log) ≡ moment log → acted_on e.event (moment log) ≡ Some map
+      → (c : CallThere K V) → call_of (name i) beginning ≡ Some c → (one : OneKey K V) → c.call ≡ On one
+      → (e : Entry K V) → caller_of e.event ≡ Some (name i) → at_work e (moment log) ≡ beginning → acted_on e.event beginning ≡ Some map
       → e.effects ≡ effects_of (acts.Call i map) known new.memory.changed → ComesToIt (known_after (acts.Call i map) new.memory.changed known) one c.replies said e.outcome
       → IsLinearizable same log e

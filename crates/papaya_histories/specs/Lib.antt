@@ -7,3 +7,8 @@ pub mod Answers
 pub mod Events
 pub mod Others
 pub mod Several
+pub mod Questions
+pub mod Asking
+pub mod OtherCalls
+pub mod OtherMidsts
+pub mod Retaining

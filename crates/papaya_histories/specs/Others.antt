@@ -1,4 +1,4 @@
--- Where a row on a slot begins, and takes its steps, the histories of maps stay within the moments of the run.
+-- Where a row on a slot begins, and takes its steps, the histories of maps stay within the moments of the run, and calls owe what they owed.
 use Rattle.std.specs.Prelude.{◌≡◌, ℕ, Bool, List, Some, None}
 use Rattle.seize.specs.World.{Begin, Step}
 use Rattle.papaya_tables.specs.declared.node.Node.{Node}
@@ -18,6 +18,7 @@ use Rattle.papaya_executor.specs.declared.row.SlotRow.{SlotRow}
 use Rattle.papaya_executor.specs.declared.worker.Work.TheVariants.{OnSlot}
 use Rattle.papaya_others.specs.Gone.{WasRetired}
 use Rattle.papaya_others.specs.Rows.{scene_then}
+use Rattle.papaya_histories.specs.Due.{ShowsDue}
 use Rattle.papaya_histories.specs.Histories.{ShowsHistory}
 
 module _ (K V S : Type 0) (same : K → K → Bool) (hash : K → ℕ) where
@@ -35,4 +36,19 @@ module _ (K V S : Type 0) (same : K → K → Bool) (hash : K → ℕ) where
       → (i : ℕ) (told : RowTold (Node K V)) (leads : RowLeads same hash i told s old new) (row : SlotRow) (here : work_of old i ≡ Some (OnSlot row))
       → AtEachEffect WasRetired None None (effects_of Row known new.memory.changed) m
       → ShowsHistory same name log (with_effects None None (effects_of Row known new.memory.changed) m) (known_after Row new.memory.changed known)
+      (scene_then same hash (Step i) s old new (leads row here).4)
+
+  -- So it is with what calls owe.
+  abbrev pub RowsBeginDue : Type 0
+  RowsBeginDue =
+      (name : ℕ → List ℕ) (log : List (Entry K V)) (m : Moment K V) (known : Known) (s : Scene K V) (old new : Executor K V S) → IsAt same hash old s → ShowsDue same name log m known s
+      → (called : SlotCall) (i : ℕ) (may : MayBegin old (slot_of i) called) (leads : RowBegins same hash called i s old new)
+      → ShowsDue same name log m known (scene_then same hash (Begin i (request_of (slot_of i) called)) s old new (leads may).3)
+
+  abbrev pub RowsKeepDue : Type 0
+  RowsKeepDue =
+      (name : ℕ → List ℕ) (log : List (Entry K V)) (m : Moment K V) (known : Known) (s : Scene K V) (old new : Executor K V S) → IsAt same hash old s → ShowsDue same name log m known s
+      → (i : ℕ) (told : RowTold (Node K V)) (leads : RowLeads same hash i told s old new) (row : SlotRow) (here : work_of old i ≡ Some (OnSlot row))
+      → AtEachEffect WasRetired None None (effects_of Row known new.memory.changed) m
+      → ShowsDue same name log (with_effects None None (effects_of Row known new.memory.changed) m) (known_after Row new.memory.changed known)
       (scene_then same hash (Step i) s old new (leads row here).4)

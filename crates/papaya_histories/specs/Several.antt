@@ -1,12 +1,13 @@
 -- An event of several steps of a call on one key, one after another: in its midst, and at its end.
 use Rattle.std.specs.Prelude.{◌≡◌, ℕ, Bool, List, [], ◌++◌, length, flat_map, Some, None}
+use Rattle.seize.specs.World.{Rests}
 use Rattle.papaya_tables.specs.declared.node.Node.{Node}
 use Rattle.papaya_raw.specs.declared.machines.progress.Progress.{Progress}
 use Rattle.papaya_schedules.specs.declared.call.Call.TheVariants.{On}
 use Rattle.papaya_schedules.specs.declared.call.OneKey.{OneKey}
 use Rattle.papaya_schedules.specs.declared.effect.Effect.{Effect}
 use Rattle.papaya_schedules.specs.After.{moment}
-use Rattle.papaya_schedules.specs.Beginning.{at_work}
+use Rattle.papaya_schedules.specs.Beginning.{at_work, fresh_call, with_call}
 use Rattle.papaya_schedules.specs.Effects.{with_effects}
 use Rattle.papaya_schedules.specs.Entry.{Entry, caller_of, acted_on}
 use Rattle.papaya_schedules.specs.Linearizable.{shift_of, ChangesOnce, IsLinearizable}
@@ -18,11 +19,18 @@ use Rattle.papaya_effects.specs.Effects.{effects_of, known_after}
 use Rattle.papaya_effects.specs.Known.{Known}
 use Rattle.papaya_effects.specs.declared.acting.Acting.TheVariants as acts
 use Rattle.papaya_executor.specs.IsAt.{Scene, IsAt}
+use Rattle.papaya_executor.specs.Replying.{scene_with}
 use Rattle.papaya_executor.specs.Stepping.{StepLeads, scene_after}
 use Rattle.papaya_executor.specs.declared.executor.Executor.{Executor}
+use Rattle.papaya_finishes.specs.Maps.{Standing}
+use Rattle.papaya_follows.specs.Calling.{NoneNamed}
+use Rattle.papaya_follows.specs.Calls.{IsCalled}
+use Rattle.papaya_hands.specs.Calling.{IsBegunFor}
 use Rattle.papaya_moments.specs.Whole.{ShowsWhole}
 use Rattle.papaya_histories.specs.Due.{ShowsDue}
 use Rattle.papaya_histories.specs.Events.{ComesToIt}
+use Rattle.papaya_histories.specs.Kept.{HasJustBegun}
+use Rattle.papaya_histories.specs.Questions.{ShowsQuestions, EventAsksStill}
 
 -- the call is the same one, with the replies that it had
 pub record IsSameCall {K V : Type 0} (c d : CallThere K V) : Type 0 where
@@ -31,47 +39,72 @@ pub record IsSameCall {K V : Type 0} (c d : CallThere K V) : Type 0 where
   pub replies : d.replies ≡ c.replies
   pub begun : d.begun ≡ c.begun
 
--- After so many effects of the event the moment shows the scene, and what calls owe. The class of the call's key has changed once at most, by what the call meant
--- at the beginning of the event; and no class has, nor has a pair come, as long as the call has changed nothing.
-pub record InMidst {K V : Type 0} (same : K → K → Bool) (name : ℕ → List ℕ) (log : List (Entry K V)) (map i : ℕ) (one : OneKey K V) (c : CallThere K V) (done : List Effect)
-    (m : Moment K V) (known : Known) (s : Scene K V) (u : CallOnKey K V K) : Type 0 where
+-- After so many effects of an event, since the moment at which it has begun what it begins, the moment shows the scene, and what calls owe. The class of the call's
+-- key has changed once at most since then, by what the call meant there; and no class has, nor has a pair come, as long as the call has changed nothing.
+pub record InMidst {K V : Type 0} (same : K → K → Bool) (name : ℕ → List ℕ) (log : List (Entry K V)) (beginning : Moment K V) (map i : ℕ) (one : OneKey K V) (c : CallThere K V)
+    (done : List Effect) (m : Moment K V) (known : Known) (s : Scene K V) (u : CallOnKey K V K) : Type 0 where
   pub here : s.calls map i ≡ Some (OnKey u)
   pub whole : ShowsWhole same name m known s
   pub dues : ShowsDue same name log m known s
-  pub worked : m ≡ with_effects (Some (name i)) (Some map) done (moment log)
+  pub begins : HasJustBegun log beginning
+  pub worked : m ≡ with_effects (Some (name i)) (Some map) done beginning
   pub there : CallThere K V
   pub there_is : call_of (name i) m ≡ Some there
   pub same_call : IsSameCall c there
-  pub changes : ChangesOnce same one c (moment log) (flat_map shift_of done)
+  pub changes : ChangesOnce same one c beginning (flat_map shift_of done)
   pub untouched : u.change ≡ Unchanged
-      → (flat_map shift_of done ≡ []) × ((k : K) → finite_map same map m k ≡ finite_map same map (moment log) k) × (length m.stored ≡ length (moment log).stored) × (c.due ≡ None)
+      → (flat_map shift_of done ≡ []) × ((k : K) → finite_map same map m k ≡ finite_map same map beginning k) × (length m.stored ≡ length beginning.stored) × (c.due ≡ None)
 
 module _ (K V S : Type 0) (same : K → K → Bool) (hash : K → ℕ) where
-  -- The promises: so it is at the beginning of an event,
+  -- The promises: so it is at the beginning of an event, which may begin the call, too,
   abbrev pub MidstsBegin : Type 0
   MidstsBegin =
-      (name : ℕ → List ℕ) (log : List (Entry K V)) (known : Known) (s : Scene K V) (e : Executor K V S) → IsAt same hash e s → ShowsWhole same name (moment log) known s → ShowsDue same name log (moment log) known s
-      → (map i : ℕ) (u : CallOnKey K V K) (here : s.calls map i ≡ Some (OnKey u)) (c : CallThere K V) → call_of (name i) (moment log) ≡ Some c → (one : OneKey K V) → c.call ≡ On one
-      → InMidst same name log map i one c [] (moment log) known s u
+      (name : ℕ → List ℕ) (log : List (Entry K V)) (beginning : Moment K V) → HasJustBegun log beginning
+      → (known : Known) (s : Scene K V) (e : Executor K V S) → IsAt same hash e s → ShowsWhole same name beginning known s → ShowsDue same name log beginning known s
+      → (map i : ℕ) (u : CallOnKey K V K) (here : s.calls map i ≡ Some (OnKey u)) (c : CallThere K V) → call_of (name i) beginning ≡ Some c → (one : OneKey K V) → c.call ≡ On one
+      → InMidst same name log beginning map i one c [] beginning known s u
+
+  -- as it does at this moment of its map, by a name that no call under way has,
+  abbrev pub MidstsBeginCalls : Type 0
+  MidstsBeginCalls =
+      (name : ℕ → List ℕ) (log : List (Entry K V)) (known : Known) (s : Scene K V) (old : Executor K V S) → IsAt same hash old s
+      → ShowsWhole same name (moment log) known s → ShowsDue same name log (moment log) known s
+      → (map i : ℕ) (u : CallOnKey K V K) (one : OneKey K V) (guard : List ℕ) (standing : Standing K) → s.maps map ≡ Some standing → u.began ≡ standing.chart.now → u.change ≡ Unchanged
+      → NoneNamed name (name i) s → IsCalled same (OnKey u) (On one) → IsBegunFor (OnKey u) (On one) → s.world.row i ≡ Rests
+      → (new : Executor K V S) → IsAt same hash new (scene_with map i (OnKey u) s)
+      → (let beginning = with_call (name i) guard (On one) (Some map) (moment log) in
+      let c = fresh_call (name i) guard (On one) map (moment log).events in
+      (call_of (name i) beginning ≡ Some c) × InMidst same name log beginning map i one c [] beginning known (scene_with map i (OnKey u) s) u)
 
   -- after each step of the call, where it goes on,
   abbrev pub MidstsGoOn : Type 0
   MidstsGoOn =
-      (name : ℕ → List ℕ) (log : List (Entry K V)) (map i : ℕ) (one : OneKey K V) (c : CallThere K V) → c.call ≡ On one
-      → (done : List Effect) (m : Moment K V) (known : Known) (s : Scene K V) (u : CallOnKey K V K) (midst : InMidst same name log map i one c done m known s u)
+      (name : ℕ → List ℕ) (log : List (Entry K V)) (beginning : Moment K V) (map i : ℕ) (one : OneKey K V) (c : CallThere K V) → c.call ≡ On one
+      → (done : List Effect) (m : Moment K V) (known : Known) (s : Scene K V) (u : CallOnKey K V K) (midst : InMidst same name log beginning map i one c done m known s u)
       → (old new : Executor K V S) → IsAt same hash old s → (said : Progress (Node K V)) (leads : StepLeads same hash i said s old new)
       → (let to = leads map (OnKey u) midst.here in
       (next : CallOnKey K V K) → to.4.next ≡ Some (OnKey next)
-      → InMidst same name log map i one c (done ++ effects_of (acts.Call i map) known new.memory.changed)
+      → InMidst same name log beginning map i one c (done ++ effects_of (acts.Call i map) known new.memory.changed)
       (with_effects (Some (name i)) (Some map) (effects_of (acts.Call i map) known new.memory.changed) m) (known_after (acts.Call i map) new.memory.changed known)
       (scene_after same hash s old new map i to.0 (OnKey u) to.1 said to.4) next)
 
-  -- and an event that comes to what the last of its steps came to is linearizable.
+  -- and an event that comes to what the last of its steps came to is linearizable;
   abbrev pub MidstsEnd : Type 0
   MidstsEnd =
-      (name : ℕ → List ℕ) (log : List (Entry K V)) (map i : ℕ) (one : OneKey K V) (c : CallThere K V) → call_of (name i) (moment log) ≡ Some c → c.call ≡ On one
-      → (done : List Effect) (m : Moment K V) (known : Known) (s : Scene K V) (u : CallOnKey K V K) (midst : InMidst same name log map i one c done m known s u)
+      (name : ℕ → List ℕ) (log : List (Entry K V)) (beginning : Moment K V) (map i : ℕ) (one : OneKey K V) (c : CallThere K V) → call_of (name i) beginning ≡ Some c → c.call ≡ On one
+      → ShowsQuestions beginning
+      → (done : List Effect) (m : Moment K V) (known : Known) (s : Scene K V) (u : CallOnKey K V K) (midst : InMidst same name log beginning map i one c done m known s u)
       → (old new : Executor K V S) → IsAt same hash old s → (said : Progress (Node K V)) (leads : StepLeads same hash i said s old new)
-      → (e : Entry K V) → caller_of e.event ≡ Some (name i) → at_work e (moment log) ≡ moment log → acted_on e.event (moment log) ≡ Some map
+      → (e : Entry K V) → caller_of e.event ≡ Some (name i) → at_work e (moment log) ≡ beginning → acted_on e.event beginning ≡ Some map
       → e.effects ≡ done ++ effects_of (acts.Call i map) known new.memory.changed → ComesToIt (known_after (acts.Call i map) new.memory.changed known) one c.replies said e.outcome
       → IsLinearizable same log e
+
+  -- by it a call that asks does not go on by itself.
+  abbrev pub MidstsAskStill : Type 0
+  MidstsAskStill =
+      (name : ℕ → List ℕ) (log : List (Entry K V)) (beginning : Moment K V) (map i : ℕ) (one : OneKey K V) (c : CallThere K V) → call_of (name i) beginning ≡ Some c → c.call ≡ On one
+      → (done : List Effect) (m : Moment K V) (known : Known) (s : Scene K V) (u : CallOnKey K V K) (midst : InMidst same name log beginning map i one c done m known s u)
+      → (old new : Executor K V S) → IsAt same hash old s → (said : Progress (Node K V)) (leads : StepLeads same hash i said s old new)
+      → (e : Entry K V) → caller_of e.event ≡ Some (name i) → at_work e (moment log) ≡ beginning → acted_on e.event beginning ≡ Some map
+      → e.effects ≡ done ++ effects_of (acts.Call i map) known new.memory.changed → ComesToIt (known_after (acts.Call i map) new.memory.changed known) one c.replies said e.outcome
+      → EventAsksStill log e

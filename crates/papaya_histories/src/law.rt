@@ -1,11 +1,16 @@
 //! What is promised of the history of a map since a call on it began.
 ghost use Rattle.std.specs.Prelude.{ℕ, Bool};
 ghost use Rattle.papaya_histories.specs.Answers.{AnswersWereSo, AnswersAreOwed, RefusalsWereSo};
+ghost use Rattle.papaya_histories.specs.Asking.{QuestionsMayBeAsked, AskingStepsStandThere, AskingCallsAskStill};
 ghost use Rattle.papaya_histories.specs.Changes.{StepsChangeOnce};
 ghost use Rattle.papaya_histories.specs.Due.{DuesBegin, CallsKeepDue, CallsBeginDue, CallsTakeDue, CallsComeToDue, EventsKeepDue};
 ghost use Rattle.papaya_histories.specs.Events.{StepsAreLinearizable};
-ghost use Rattle.papaya_histories.specs.Others.{RowsBeginHistories, RowsKeepHistories};
-ghost use Rattle.papaya_histories.specs.Several.{MidstsBegin, MidstsGoOn, MidstsEnd};
+ghost use Rattle.papaya_histories.specs.OtherCalls.{OthersRemoveOnly, RemovalsAdd, OthersAreLinearizable, NoCallsAreLinearizable};
+ghost use Rattle.papaya_histories.specs.OtherMidsts.{OtherMidstsBegin, OtherMidstsGoOn, OtherMidstsKeepDue, OtherMidstsEnd};
+ghost use Rattle.papaya_histories.specs.Others.{RowsBeginHistories, RowsKeepHistories, RowsBeginDue, RowsKeepDue};
+ghost use Rattle.papaya_histories.specs.Questions.{QuestionsBegin, EffectsKeepQuestions, CallsBeginQuestions, CallsTakeQuestions, CallsComeToQuestions, EventsKeepQuestions, RunsKeepQuestions};
+ghost use Rattle.papaya_histories.specs.Retaining.{RetainingsMayAsk};
+ghost use Rattle.papaya_histories.specs.Several.{MidstsBegin, MidstsBeginCalls, MidstsGoOn, MidstsEnd, MidstsAskStill};
 ghost use Rattle.papaya_histories.specs.Kept.{HistoriesBegin, CallsKeepHistories, CallsBeginHistories, CallsTakeHistories, CallsComeToHistories, EventsKeepHistories, FirstStepsChangeFirst};
 
 /// At each moment of a run that shows the executor, the history of a map since a call on it began is within the moments of the run since then: what the class of a
@@ -38,7 +43,7 @@ pub fn answers_were_so<K, V, S>()
 
 /// After each step of a call, whoever's, a call on one key owes nothing as an answer if it has changed nothing; and if it has, the answer that the sequential
 /// specification says that it means by its change; if no class changes twice within one event. So it is before all events, too, where a call begins, takes a reply
-/// that such a call takes, and comes to an outcome, and where an event is over.
+/// that such a call takes, and comes to an outcome, where an event is over, and where a row begins on a slot, and after each step of it.
 pub fn calls_keep_due<K, V, S>()
     ensures begins { (same : K → K → Bool) → DuesBegin K V same }
     ensures calls { (same : K → K → Bool) (hash : K → ℕ) → CallsKeepDue K V S same hash }
@@ -46,6 +51,8 @@ pub fn calls_keep_due<K, V, S>()
     ensures told { (same : K → K → Bool) (hash : K → ℕ) → CallsTakeDue K V S same hash }
     ensures come_to { (same : K → K → Bool) → CallsComeToDue K V same }
     ensures events { (same : K → K → Bool) → EventsKeepDue K V same }
+    ensures rows_begin { (same : K → K → Bool) (hash : K → ℕ) → RowsBeginDue K V S same hash }
+    ensures rows { (same : K → K → Bool) (hash : K → ℕ) → RowsKeepDue K V S same hash }
 {}
 
 /// What a call on one key answers that tells a change is the answer that it owes since it has changed its map.
@@ -59,16 +66,61 @@ pub fn refusals_were_so<K, V, S>()
     ensures refusals { (same : K → K → Bool) (hash : K → ℕ) → RefusalsWereSo K V S same hash }
 {}
 
-/// An event that is one step of a call on one key, and goes on, waits, is refused, or has answered by it, changes maps and answers as one finite map says: it is linearizable.
+/// An event that is one step of a call on one key, be it one that it begins, and goes on, waits, asks, is refused, or has answered by it, changes maps, answers and asks
+/// as one finite map says: it is linearizable.
 pub fn steps_are_linearizable<K, V, S>()
     ensures events { (same : K → K → Bool) (hash : K → ℕ) → StepsAreLinearizable K V S same hash }
 {}
 
 /// An event of several steps of a call on one key, one after another, is linearizable, too: so it is in its midst that the class of the key has changed once at most
-/// since the event began, and not as long as the call has changed nothing; at the beginning of an event, and after each step after which the call goes on. And the
-/// event that comes to what its last step came to changes maps and answers as one finite map says.
+/// since the event has begun what it begins, and not as long as the call has changed nothing; at the beginning, and after each step after which the call goes on. And
+/// the event that comes to what its last step came to changes maps, answers and asks as one finite map says; by it, a call that asks does not go on by itself.
 pub fn several_are_linearizable<K, V, S>()
     ensures begins { (same : K → K → Bool) (hash : K → ℕ) → MidstsBegin K V S same hash }
+    ensures begun { (same : K → K → Bool) (hash : K → ℕ) → MidstsBeginCalls K V S same hash }
     ensures goes_on { (same : K → K → Bool) (hash : K → ℕ) → MidstsGoOn K V S same hash }
     ensures ends { (same : K → K → Bool) (hash : K → ℕ) → MidstsEnd K V S same hash }
+    ensures still { (same : K → K → Bool) (hash : K → ℕ) → MidstsAskStill K V S same hash }
+{}
+
+/// A moment of a run says of each call under way that it has asked just what it got replies to, and what it asks now: before all events, after whatever effects, where
+/// a call begins, takes a reply, or comes to an outcome, and after each event of a run; if a call that asks does not go on by itself.
+pub fn questions_are_noted<K, V>()
+    ensures begins { QuestionsBegin K V }
+    ensures effects { EffectsKeepQuestions K V }
+    ensures begun { CallsBeginQuestions K V }
+    ensures told { CallsTakeQuestions K V }
+    ensures come_to { CallsComeToQuestions K V }
+    ensures events { EventsKeepQuestions K V }
+    ensures runs { RunsKeepQuestions K V }
+{}
+
+/// What a call on one key stands at to ask, and has not asked yet, is what its key's class had at a moment of the call between two events, and the sequential
+/// specification says that it wants a reply for that; it owes no answer; and it has not asked that before, unless it is `remove_if`; where no pair of the class has
+/// come or gone within the present event. A step that says that its call asks has led to where it asks that; and a call that asks says so again by each step. What a
+/// retaining stands at to ask about is a pair that the map has at a moment of the call between two events, where none has come within the present event.
+pub fn questions_are_so<K, V, S>()
+    ensures asks { (same : K → K → Bool) (hash : K → ℕ) → QuestionsMayBeAsked K V S same hash }
+    ensures stands { (same : K → K → Bool) (hash : K → ℕ) → AskingStepsStandThere K V S same hash }
+    ensures still { (same : K → K → Bool) (hash : K → ℕ) → AskingCallsAskStill K V S same hash }
+    ensures retain { (same : K → K → Bool) (hash : K → ℕ) → RetainingsMayAsk K V S same hash }
+{}
+
+/// A step of a reservation, of a counting, or of a walk changes no pair, and one of a clearing removes one at most. So an event of steps of such a call is linearizable;
+/// and so is one that is no step of a call, and by which no pair comes or goes.
+pub fn others_are_linearizable<K, V, S>()
+    ensures steps { (same : K → K → Bool) (hash : K → ℕ) → OthersRemoveOnly K V S same hash }
+    ensures several { (same : K → K → Bool) → RemovalsAdd K V same }
+    ensures events { (same : K → K → Bool) → OthersAreLinearizable K V same }
+    ensures of_no_call { (same : K → K → Bool) → NoCallsAreLinearizable K V same }
+{}
+
+/// An event of several steps of a reservation, a counting, a clearing or a walk, one after another, is linearizable, too: in its midst each class has what it had at the
+/// beginning, or nothing any more, and the effects remove only what such a call may. So it is at the beginning, and after each step after which the call goes on; what
+/// calls owe is shown after each step, as no class changes twice within the event.
+pub fn other_events_are_linearizable<K, V, S>()
+    ensures begins { (same : K → K → Bool) → OtherMidstsBegin K V same }
+    ensures goes_on { (same : K → K → Bool) (hash : K → ℕ) → OtherMidstsGoOn K V S same hash }
+    ensures dues { (same : K → K → Bool) (hash : K → ℕ) → OtherMidstsKeepDue K V S same hash }
+    ensures ends { (same : K → K → Bool) (hash : K → ℕ) → OtherMidstsEnd K V S same hash }
 {}

@@ -1,6 +1,7 @@
 -- Calls owe what they mean.
 use Rattle.papaya_histories.proofs.Due.{calls_keep_due}
 use Rattle.papaya_histories.proofs.DueOn.{dues_begin, calls_begin_due, calls_take_due, calls_come_to_due, events_keep_due}
+use Rattle.papaya_histories.proofs.Others.{rows_begin_due, rows_keep_due}
 use Rattle.papaya_histories.proofs.law.calls_keep_due.Goals as goal
 
 pub returns : goal.returns
@@ -11,4 +12,6 @@ returns c d = record {
   told = calls_take_due _ _ _;
   come_to = calls_come_to_due _ _;
   events = events_keep_due _ _;
+  rows_begin = rows_begin_due _ _ _;
+  rows = rows_keep_due _ _ _;
 }

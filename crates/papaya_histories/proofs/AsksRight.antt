@@ -1,0 +1,54 @@
+-- In the midst of an event of steps of a call on one key, the call may ask what it stands at to ask.
+use Rattle.std.specs.Prelude.{◌≡◌, ℕ, Bool, List, [], Option, Some}
+use Rattle.std.proofs.Common.{ap, sym, subst, ◌∙◌}
+use Rattle.papaya_schedules.specs.declared.call.Call.{Call}
+use Rattle.papaya_schedules.specs.declared.call.Call.TheVariants.{On}
+use Rattle.papaya_schedules.specs.declared.call.OneKey.{OneKey}
+use Rattle.papaya_schedules.specs.declared.effect.Effect.{Effect}
+use Rattle.papaya_schedules.specs.declared.outcome.Outcome.TheVariants as outcome
+use Rattle.papaya_schedules.specs.After.{moment, moments_from}
+use Rattle.papaya_schedules.specs.Entry.{Entry}
+use Rattle.papaya_schedules.specs.Linearizable.{MayAsk, AsksRight}
+use Rattle.papaya_schedules.specs.Moment.{Stands, Going, Asking, Told, IsReady, UnderWay as CallThere, Moment}
+use Rattle.papaya_schedules.specs.Sequential.{key_of}
+use Rattle.papaya_schedules.specs.Views.{finite_map}
+use Rattle.papaya_callers.specs.Together.{CallOnKey}
+use Rattle.papaya_effects.specs.Known.{Known}
+use Rattle.papaya_executor.specs.IsAt.{Scene, IsAt}
+use Rattle.papaya_executor.specs.declared.executor.Executor.{Executor}
+use Rattle.papaya_hands.specs.Asked.{AsksThere}
+use Rattle.papaya_histories.specs.Questions.{unanswered, ShowsQuestions}
+use Rattle.papaya_histories.specs.Several.{InMidst}
+use Rattle.papaya_histories.proofs.Found.{map_alike}
+use Rattle.papaya_histories.proofs.MayAsk.{may_ask, asks_unchanged}
+use Rattle.papaya_histories.proofs.Questions.{effects_keep_questions}
+
+module _ {K V S : Type 0} (same : K → K → Bool) (hash : K → ℕ) (name : ℕ → List ℕ) (log : List (Entry K V)) (beginning : Moment K V) (map i : ℕ) (one : OneKey K V) (c : CallThere K V)
+    (one_is : c.call ≡ On one) (questions : ShowsQuestions beginning)
+    (done : List Effect) (m : Moment K V) (known : Known) (s : Scene K V) (u : CallOnKey K V K) (midst : InMidst same name log beginning map i one c done m known s u)
+    (x : Executor K V S) (at_x : IsAt same hash x s) (question : Option ℕ) (asks : AsksThere known u.call.stands question) where
+  -- the call as its event comes to its end
+  abbrev there : CallThere K V
+  there = midst.there
+
+  there_one : there.call ≡ On one
+  there_one = midst.same_call.call ∙ one_is
+
+  then_asked : ShowsQuestions m
+  then_asked = subst (λ (y : Moment K V). ShowsQuestions y) (sym midst.worked) (effects_keep_questions K V (Some (name i)) (Some map) done beginning questions)
+
+  -- it has changed nothing
+  still : finite_map same map m (key_of one) ≡ finite_map same map (moment log) (key_of one)
+  still = (midst.untouched (asks_unchanged same hash name log m known s x at_x midst.dues map i u midst.here there midst.there_is one there_one question asks)).1 (key_of one)
+      ∙ map_alike same map (key_of one) (moment log) beginning midst.begins.0 midst.begins.1
+
+  -- so it may ask, if it does not ask already
+  may : unanswered there.stands ≡ [] → MayAsk same there.call there (moments_from there.begun log) question
+  may first = subst (λ (z : Call K V). MayAsk same z there (moments_from there.begun log) question) (sym there_one)
+      (may_ask same hash name log m known s x at_x midst.dues map i u midst.here there midst.there_is one there_one then_asked still first question asks)
+
+  pub asks_right : (stands : Stands) → there.stands ≡ stands → AsksRight same stands there (moments_from there.begun log) (outcome.Asks question)
+  asks_right (Asking q) is = tt
+  asks_right Going is = may (ap unanswered is)
+  asks_right Told is = may (ap unanswered is)
+  asks_right IsReady is = may (ap unanswered is)

@@ -1,0 +1,62 @@
+-- In the midst of an event that begins its call: nothing was done yet.
+use Rattle.std.specs.Prelude.{◌≡◌, ℕ, Bool, List, [], ◌∷◌, length, cond, find, Option, Some}
+use Rattle.std.proofs.Common.{refl, ap, sym, ◌∙◌, arith}
+use Rattle.seize.specs.World.{with_at}
+use Rattle.papaya_runs.specs.Same.{is_same}
+use Rattle.papaya_schedules.specs.declared.call.Call.TheVariants.{On}
+use Rattle.papaya_schedules.specs.After.{moment}
+use Rattle.papaya_schedules.specs.Beginning.{fresh_call, with_call}
+use Rattle.papaya_schedules.specs.Entry.{Entry}
+use Rattle.papaya_schedules.specs.Moment.{UnderWay as CallThere, Moment}
+use Rattle.papaya_schedules.specs.Views.{call_of}
+use Rattle.papaya_points.specs.FactsCalls.{Unchanged}
+use Rattle.papaya_callers.specs.Together.{CallOnKey, UnderWay, OnKey}
+use Rattle.papaya_callers.proofs.Together.At.{at_same}
+use Rattle.papaya_executor.specs.IsAt.{Scene}
+use Rattle.papaya_executor.specs.Replying.{scene_with}
+use Rattle.papaya_follows.proofs.Calling.{is_same_refl}
+use Rattle.papaya_follows.proofs.Steps.{one_of}
+use Rattle.papaya_moments.proofs.Calls.{calls_begin_whole}
+use Rattle.papaya_moments.specs.Whole.{ShowsWhole}
+use Rattle.papaya_histories.specs.Due.{ShowsDue}
+use Rattle.papaya_histories.specs.Several.{MidstsBeginCalls}
+use Rattle.papaya_histories.proofs.DueOn.{calls_begin_due}
+use Rattle.papaya_histories.proofs.Several.{midsts_begin}
+
+-- as many events have come as the log has
+pub events_are : {K V : Type 0} (log : List (Entry K V)) → (moment log).events ≡ length log
+events_are [] = refl
+events_are (e ∷ log) = let rest = events_are log in omega (arith, rest)
+
+module _ (K V S : Type 0) (same : K → K → Bool) (hash : K → ℕ) where
+  pub midsts_begin_calls : MidstsBeginCalls K V S same hash
+  midsts_begin_calls name log known s old at_old whole dues map i u one guard standing there now unchanged apart called begun rests new at_new =
+      (c_is, midsts_begin K V S same hash name log beginning (refl, refl) known _ new at_new whole2 dues2 map i u here c c_is one refl)
+    where
+      beginning : Moment K V
+      beginning = with_call (name i) guard (On one) (Some map) (moment log)
+
+      c : CallThere K V
+      c = fresh_call (name i) guard (On one) map (moment log).events
+
+      c_is : call_of (name i) beginning ≡ Some c
+      c_is = ap (λ q. cond q (Some c) (find (λ (x : CallThere K V). is_same x.caller (name i)) (moment log).calls)) (is_same_refl (name i))
+
+      s2 : Scene K V
+      s2 = scene_with map i (OnKey u) s
+
+      here : s2.calls map i ≡ Some (OnKey u)
+      here =
+          ap (λ (f : ℕ → Option (UnderWay K V K)). f i) (at_same s.calls map (with_at (s.calls map) i (Some (OnKey u))) map refl)
+          ∙ at_same (s.calls map) i (Some (OnKey u)) i refl
+
+      whole2 : ShowsWhole same name beginning known s2
+      whole2 = calls_begin_whole K V same name (moment log) known s whole map i (OnKey u) (On one) guard apart called begun rests
+
+      at_begin : (v : CallOnKey K V K) → ◌≡◌ {A = UnderWay K V K} (OnKey u) (OnKey v) → v.change ≡ Unchanged
+      at_begin v e = let one_call : u ≡ v = cc e in ap (λ (z : CallOnKey K V K). z.change) (sym one_call) ∙ unchanged
+
+      dues2 : ShowsDue same name log beginning known s2
+      dues2 =
+          calls_begin_due K V S same hash name log (moment log) known s old at_old dues map i (OnKey u) (On one) guard standing there
+          (λ began e. sym (one_of u.began began e) ∙ now) at_begin apart called begun (events_are log)

@@ -1,0 +1,248 @@
+-- Reservations, countings and walks change no pair, and clearings remove pairs alone; so their events are linearizable.
+use Rattle.std.specs.Prelude.{◌≡◌, ℕ, ◌<◌, Bool, true, false, List, [], ◌∷◌, ◌++◌, flat_map, Option, Some, ◌⊎◌}
+use Rattle.std.proofs.Common.{refl, ap, sym, subst, ◌∙◌, arith, inl, inr}
+use Rattle.std.proofs.lemmas.Bool.{cases_eq}
+use Rattle.seize_words.specs.Mem.{Mem}
+use Rattle.seize.specs.World.{World}
+use Rattle.papaya_tables.specs.Chunks.{is_incremental}
+use Rattle.papaya_tables.specs.declared.node.Node.{Node}
+use Rattle.papaya_sweeps.specs.declared.sweep.Purpose.TheVariants.{Walks}
+use Rattle.papaya_raw.specs.declared.machines.progress.Progress.{Progress}
+use Rattle.papaya_schedules.specs.declared.call.Call.{Call}
+use Rattle.papaya_schedules.specs.declared.call.Call.TheVariants as call
+use Rattle.papaya_schedules.specs.declared.effect.Effect.{Effect}
+use Rattle.papaya_schedules.specs.declared.outcome.Outcome.{Outcome}
+use Rattle.papaya_schedules.specs.declared.outcome.Outcome.TheVariants as outcome
+use Rattle.papaya_schedules.specs.After.{moment, moments_from}
+use Rattle.papaya_schedules.specs.Beginning.{at_work}
+use Rattle.papaya_schedules.specs.Effects.{with_effects, worked}
+use Rattle.papaya_schedules.specs.Entry.{caller_of, acting, acted_on}
+use Rattle.papaya_schedules.specs.Linearizable.{shift_of, RemovesOnly, Changes, Ends, AsksRight, ActsRight, ActsOf}
+use Rattle.papaya_schedules.specs.Moment.{Stands, Going, Asking, Told, IsReady, UnderWay as CallThere, Moment}
+use Rattle.papaya_schedules.specs.Sequential.{Shift, GoesOut}
+use Rattle.papaya_schedules.specs.Views.{call_of}
+use Rattle.papaya_rule.specs.Chart.{Chart, put}
+use Rattle.papaya_rule.proofs.Laws.{current_is_known}
+use Rattle.papaya_rule.proofs.Moves.Writes.{put_here, put_elsewhere}
+use Rattle.papaya_points.specs.FactsCalls.{Unchanged}
+use Rattle.papaya_callers.specs.OverAll.{CallOverAll, RemovesTold}
+use Rattle.papaya_callers.specs.Together.{UnderWay, OnKey, ForRoom, Counting, OverAll, Together, IsOneStep}
+use Rattle.papaya_finishes.specs.Maps.{Standing}
+use Rattle.papaya_effects.specs.Effects.{effects_of}
+use Rattle.papaya_effects.specs.Known.{Known}
+use Rattle.papaya_effects.specs.declared.acting.Acting.TheVariants as acts
+use Rattle.papaya_executor.specs.IsAt.{Scene, IsAt, slot_of}
+use Rattle.papaya_executor.specs.Stepping.{StepLeads}
+use Rattle.papaya_executor.specs.declared.executor.Executor.{Executor}
+use Rattle.papaya_follows.specs.Shows.{Shows}
+use Rattle.papaya_follows.specs.Steps.{TakesNone}
+use Rattle.papaya_follows.proofs.Operations.{operated_leaves, LeavesBy}
+use Rattle.papaya_follows.proofs.Rows.{one_step_leaves}
+use Rattle.papaya_follows.proofs.RowSteps.{row_done}
+use Rattle.papaya_follows.proofs.Steps.{WentTo, went_to, made_so, is_inside, DidSo, OfNoRow}
+use Rattle.papaya_hands.proofs.Replacing.{calls_after}
+use Rattle.papaya_hands.proofs.RowSteps.{rows_hand_theirs}
+use Rattle.papaya_spots.proofs.Shifts.{Shifts, KeepsAll, StoresOne, ReplacesOne, RemovesOne, calm_shifts}
+use Rattle.papaya_spots.proofs.Steps.{moved_shifts, stayed_calm}
+use Rattle.papaya_moments.specs.Whole.{ShowsWhole}
+use Rattle.papaya_moments.proofs.Calls.{of_row}
+use Rattle.papaya_histories.specs.OtherCalls.{IsNoQuestion, IsOther, IsOnNoKey, OthersRemoveOnly, RemovalsAdd, OthersAreLinearizable, NoCallsAreLinearizable}
+use Rattle.papaya_histories.proofs.Changes.{hands_shift}
+use Rattle.papaya_histories.proofs.Which.{did_once, none_shifted}
+
+module _ {K V : Type 0} (same : K → K → Bool) where
+  -- nothing is what each call may remove
+  none_removed : (its : Call K V) (c : CallThere K V) (done : List Shift) → done ≡ [] → RemovesOnly same its c done
+  none_removed its c done none = subst (RemovesOnly same its c) (sym none) tt
+
+  removals_add : (its : Call K V) (c : CallThere K V) (done more : List Shift) → RemovesOnly same its c done → RemovesOnly same its c more → RemovesOnly same its c (done ++ more)
+  removals_add its c [] more h k = k
+  removals_add its c (f ∷ done) more h k = (h.0, removals_add its c done more h.1 k)
+
+  -- a clearing may remove each pair
+  clears : (c : CallThere K V) (done : List Shift) → (done ≡ []) ⊎ ((q : ℕ) × (done ≡ GoesOut q ∷ [])) → RemovesOnly same call.Clear c done
+  clears c done (inl none) = none_removed call.Clear c done none
+  clears c done (inr (q, is)) = subst (RemovesOnly same call.Clear c) (sym is) (tt, tt)
+
+module _ {K : Type 0} (same : K → K → Bool) (hash : K → ℕ) (incremental : Bool) (c c2 : Chart K) (number : ℕ → ℕ) (stored : ℕ) (effects : List Effect)
+    (there : (n : ℕ) → c.current n ≡ true → n < c.stored) where
+  -- where no pair has come or gone, none is said to have
+  none_kept : Shifts c c2 number stored effects → c2.current ≡ c.current → flat_map shift_of effects ≡ []
+  none_kept shifts kept = none_shifted same hash incremental (λ k. true) c c2 number stored effects Unchanged refl
+      (did_once same hash incremental (λ k. true) c c2 number stored effects there shifts Unchanged kept)
+
+  -- where none has come, one is said to have gone, or none
+  module _ (less : (n : ℕ) → c2.current n ≡ true → c.current n ≡ true) where
+    none_came : c2.current c.stored ≡ true → ⊥
+    none_came now = let l = there c.stored (less c.stored now) in omega (arith, l)
+
+    gone_only : Shifts c c2 number stored effects → (flat_map shift_of effects ≡ []) ⊎ ((q : ℕ) × (flat_map shift_of effects ≡ GoesOut q ∷ []))
+    gone_only (KeepsAll kept none) = inl none
+    gone_only (StoresOne s is cur) = absurd (none_came (ap (λ (f : ℕ → Bool). f c.stored) cur ∙ put_here c.current c.stored true))
+    gone_only (ReplacesOne n s is was cur) = absurd (none_came (ap (λ (f : ℕ → Bool). f c.stored) cur ∙ put_here (put c.current n false) c.stored true))
+    gone_only (RemovesOne n is was cur) = inr (number n, ap (λ (l : List Effect). flat_map shift_of l) is)
+
+-- by a step of a sweep no pair comes
+module _ {K : Type 0} (o : CallOverAll) (c c2 : Chart K) where
+  pub less_told : RemovesTold o c c2 → (n : ℕ) → c2.current n ≡ true → c.current n ≡ true
+  less_told (inl kept) n is = ap (λ (f : ℕ → Bool). f n) (sym kept) ∙ is
+  less_told (inr (p, was, cur, why)) n is = elim (cases_eq n p) as (λ _. c.current n ≡ true) [
+    | inl e ↦ ap c.current e ∙ was
+    | inr ne ↦ sym (put_elsewhere c.current p false n ne) ∙ ap (λ (f : ℕ → Bool). f n) (sym cur) ∙ is
+  ]
+
+  -- and by one of a walk none goes
+  walk_keeps : RemovesTold o c c2 → o.sweep.purpose ≡ Walks → c2.current ≡ c.current
+  walk_keeps (inl kept) walks = kept
+  walk_keeps (inr (p, was, cur, inl clears)) walks = absurd (cc (walks, clears))
+  walk_keeps (inr (p, was, cur, inr (retains, told))) walks = absurd (cc (walks, retains))
+
+module _ {K V S : Type 0} (same : K → K → Bool) (hash : K → ℕ) (name : ℕ → List ℕ) (m : Moment K V) (known : Known) (s : Scene K V) (old new : Executor K V S) (at : IsAt same hash old s)
+    (whole : ShowsWhole same name m known s) (map i : ℕ) (u : UnderWay K V K) (here : s.calls map i ≡ Some u) (said : Progress (Node K V)) (leads : StepLeads same hash i said s old new) where
+  abbrev shown : Shows same name m known s
+  shown = whole.all.shown
+
+  abbrev to : WentTo same hash name m known s old new at shown map i u here said leads
+  to = went_to same hash name m known s old new at shown map i u here said leads
+
+  abbrev st : Standing K
+  st = to.0
+
+  abbrev effects : List Effect
+  effects = effects_of (acts.Call i map) known new.memory.changed
+
+  abbrev Did : UnderWay K V K → Type 0
+  Did x = DidSo same hash name m known s old new at shown map i u here said leads x
+
+  abbrev NoRow : (x : UnderWay K V K) → Did x → Type 0
+  NoRow x did = OfNoRow same hash name m known s old new at shown map i u here said leads x did
+
+  each : Together V same st.hash same st.setting slot_of s.world st.chart st.blocks st.sights (s.calls map)
+  each = at.together.makings.standing.each map st to.2
+
+  there : (n : ℕ) → st.chart.current n ≡ true → n < st.chart.stored
+  there n is = (current_is_known same st.hash st.setting s.world.memory st.chart st.blocks each.ground.map.map.rule each.ground.map.map.shows n is).0
+
+  -- which pairs have come or gone, where the map has moved on
+  abbrev Moved : Chart K → Type 0
+  Moved c2 = Shifts st.chart c2 (shown.number map) known.stored effects
+
+  kept_none : (c2 : Chart K) → Moved c2 → c2.current ≡ st.chart.current → flat_map shift_of effects ≡ []
+  kept_none c2 = none_kept same st.hash (is_incremental st.setting.mode) st.chart c2 (shown.number map) known.stored effects there
+
+  gone_told : (o : CallOverAll) (c2 : Chart K) → Moved c2 → RemovesTold o st.chart c2 → (flat_map shift_of effects ≡ []) ⊎ ((q : ℕ) × (flat_map shift_of effects ≡ GoesOut q ∷ []))
+  gone_told o c2 shifts told = gone_only same st.hash (is_incremental st.setting.mode) st.chart c2 (shown.number map) known.stored effects there (less_told o st.chart c2 told) shifts
+
+  module _ (c : CallThere K V) where
+    by_own : (x : UnderWay K V K) (its : Call K V) → IsOther x its → (did : Did x) → NoRow x did → RemovesOnly same its c (flat_map shift_of effects)
+    by_own (ForRoom r) (call.Reserve n) is (p2, end, machine_is, told_is, inl (step, moved)) own =
+        none_removed same (call.Reserve n) c (flat_map shift_of effects) (kept_none step.step.went.c2
+        (moved_shifts same hash m known s old new at name shown map i st to.2 (name i) (made_so same hash name m known s old new at shown map i u here said leads)
+        (is_inside same hash name m known s old new at shown map i u here said leads) _ step.step.went step.step.blocks2 step.step.grown step.step.sights2) step.step.same_pairs)
+    by_own (ForRoom r) (call.Reserve n) is (p2, end, machine_is, told_is, inr row) own = absurd own
+    by_own (Counting sum) call.Len is (p2, end, machine_is, told_is, still, stayed) own =
+        none_removed same call.Len c (flat_map shift_of effects) (calm_shifts effects
+        (stayed_calm same hash m known s old new at name shown map i st to.2 (name i) (made_so same hash name m known s old new at shown map i u here said leads)
+        (is_inside same hash name m known s old new at shown map i u here said leads) still).calm)
+    by_own (OverAll o) call.Clear is (p2, end, machine_is, told_is, inl (step, moved)) own =
+        clears same c (flat_map shift_of effects) (gone_told o step.step.went.c2
+        (moved_shifts same hash m known s old new at name shown map i st to.2 (name i) (made_so same hash name m known s old new at shown map i u here said leads)
+        (is_inside same hash name m known s old new at shown map i u here said leads) _ step.step.went step.step.blocks2 step.step.grown step.step.sights2) step.step.removes)
+    by_own (OverAll o) call.Clear is (p2, end, machine_is, told_is, inr row) own = absurd own
+    by_own (OverAll o) call.Walk walks (p2, end, machine_is, told_is, inl (step, moved)) own =
+        none_removed same call.Walk c (flat_map shift_of effects) (kept_none step.step.went.c2
+        (moved_shifts same hash m known s old new at name shown map i st to.2 (name i) (made_so same hash name m known s old new at shown map i u here said leads)
+        (is_inside same hash name m known s old new at shown map i u here said leads) _ step.step.went step.step.blocks2 step.step.grown step.step.sights2)
+        (walk_keeps o st.chart step.step.went.c2 step.step.removes walks))
+    by_own (OverAll o) call.Walk walks (p2, end, machine_is, told_is, inr row) own = absurd own
+    by_own _ _ is did own = absurd is
+
+  -- one of a row says of no pair that it has come or gone
+  of_step : TakesNone new.memory.changed → (w2 : World (Node K V)) → w2.memory ≡ new.memory.memory → IsOneStep st.setting i s.world w2 → flat_map shift_of effects ≡ []
+  of_step none w2 memory happened =
+      hands_shift effects (row_done i map m known s.world w2 shown.blocks (one_step_leaves st.setting i s.world w2 each.ground.came happened) new.memory.changed
+      (subst (λ (n : Mem (Node K V)). LeavesBy s.world.memory n new.memory.changed) (sym memory)
+      (operated_leaves s.world.memory new.memory.memory new.memory.changed (made_so same hash name m known s old new at shown map i u here said leads))) none).hands
+
+  by_row : TakesNone new.memory.changed → (x : UnderWay K V K) (did : Did x) → (NoRow x did → ⊥) → flat_map shift_of effects ≡ []
+  by_row none (OnKey x) (p2, end, machine_is, told_is, inl step) other = absurd (other tt)
+  by_row none (OnKey x) (p2, end, machine_is, told_is, inr (row, stayed)) other = of_step none row.step.w2 row.step.memory row.step.happened
+  by_row none (ForRoom r) (p2, end, machine_is, told_is, inl step) other = absurd (other tt)
+  by_row none (ForRoom r) (p2, end, machine_is, told_is, inr (row, stayed)) other = of_step none row.step.w2 row.step.memory row.step.happened
+  by_row none (Counting sum) did other = absurd (other tt)
+  by_row none (OverAll o) (p2, end, machine_is, told_is, inl step) other = absurd (other tt)
+  by_row none (OverAll o) (p2, end, machine_is, told_is, inr (row, stayed)) other = of_step none row.step.w2 row.step.memory row.step.happened
+
+  removes_only : (its : Call K V) → IsOther u its → (c : CallThere K V) → RemovesOnly same its c (flat_map shift_of effects)
+  removes_only its is c = elim (of_row same hash name m known s old new at whole map i u here said leads u to.4.did) as (λ _. RemovesOnly same its c (flat_map shift_of effects)) [
+    | inl own ↦ by_own c u its is to.4.did own
+    | inr other ↦ none_removed same its c (flat_map shift_of effects)
+        (by_row (rows_hand_theirs K V S same hash name m known s old new at whole.all map i u here said leads other).1 u to.4.did other)
+  ]
+
+module _ {K V : Type 0} (same : K → K → Bool) where
+  -- what is no question asks nothing
+  pub asks_none : (c : CallThere K V) (moments : List (Moment K V)) (stands : Stands) (o : Outcome V) → IsNoQuestion o → AsksRight same stands c moments o
+  asks_none c moments (Asking q) o none = tt
+  asks_none c moments Going (outcome.Asks q) none = absurd none
+  asks_none c moments Going _ none = tt
+  asks_none c moments Told (outcome.Asks q) none = absurd none
+  asks_none c moments Told _ none = tt
+  asks_none c moments IsReady (outcome.Asks q) none = absurd none
+  asks_none c moments IsReady _ none = tt
+
+  changes_so : (its : Call K V) (c : CallThere K V) (m : Moment K V) (done : List Shift) → IsOnNoKey its → RemovesOnly same its c done → Changes same its c m done
+  changes_so (call.On one) c m done other only = absurd other
+  changes_so (call.Reserve n) c m done other only = only
+  changes_so call.Clear c m done other only = only
+  changes_so call.Retain c m done other only = only
+  changes_so call.Len c m done other only = only
+  changes_so call.Walk c m done other only = only
+
+  ends_so : (its : Call K V) (c : CallThere K V) (moments : List (Moment K V)) (o : Outcome V) → IsOnNoKey its → Ends same its c moments o
+  ends_so (call.On one) c moments o other = absurd other
+  ends_so (call.Reserve n) c moments o other = tt
+  ends_so call.Clear c moments o other = tt
+  ends_so call.Retain c moments o other = tt
+  ends_so call.Len c moments o other = tt
+  ends_so call.Walk c moments o other = tt
+
+module _ (K V : Type 0) (same : K → K → Bool) where
+  pub no_calls_are_linearizable : NoCallsAreLinearizable K V same
+  no_calls_are_linearizable log e none shifts =
+      subst (λ (o : Option (List ℕ)). ActsOf same log e (acting o (at_work e (moment log))) (acting o (worked e (moment log)))) (sym none) shifts
+
+  pub others_are_linearizable : OthersAreLinearizable K V same
+  others_are_linearizable log e own map c caller c_is acts other only none =
+      subst (λ (x : Option (CallThere K V)). ActsOf same log e x (acting (caller_of e.event) (worked e (moment log)))) (sym before)
+      (subst (λ (x : Option (CallThere K V)). ActsOf same log e (Some c) x) (sym then_is) right)
+    where
+      b : Moment K V
+      b = at_work e (moment log)
+
+      now : (d : CallThere K V) × (call_of own (with_effects (Some own) (Some map) e.effects b) ≡ Some d) × (d.call ≡ c.call)
+      now = let it = calls_after own map own e.effects b c c_is in (it.0, it.1, it.2.0.call)
+
+      worked_is : worked e (moment log) ≡ with_effects (Some own) (Some map) e.effects b
+      worked_is =
+          ap (λ (o : Option (List ℕ)). with_effects o (acted_on e.event b) e.effects b) caller
+          ∙ ap (λ (o : Option ℕ). with_effects (Some own) o e.effects b) acts
+
+      before : acting (caller_of e.event) b ≡ Some c
+      before = ap (λ (o : Option (List ℕ)). acting o b) caller ∙ c_is
+
+      then_is : acting (caller_of e.event) (worked e (moment log)) ≡ Some now.0
+      then_is = ap (λ (o : Option (List ℕ)). acting o (worked e (moment log))) caller ∙ ap (call_of own) worked_is ∙ now.1
+
+      right : ActsRight same log e c now.0
+      right = record {
+        changes = changes_so same c.call c b (flat_map shift_of e.effects) other only;
+        ends = ends_so same now.0.call now.0 (moments_from now.0.begun log) e.outcome (subst (λ (x : Call K V). IsOnNoKey x) (sym now.2) other);
+        asks = asks_none same now.0 (moments_from now.0.begun log) now.0.stands e.outcome none;
+      }
+
+  pub removals_added : RemovalsAdd K V same
+  removals_added its c done more h k = removals_add same its c done more h k
+
+pub others_remove_only : (K V S : Type 0) (same : K → K → Bool) (hash : K → ℕ) → OthersRemoveOnly K V S same hash
+others_remove_only K V S same hash name m known s old new at whole map i u here said leads its is c = removes_only same hash name m known s old new at whole map i u here said leads its is c

@@ -1,0 +1,207 @@
+-- In the midst of an event of several steps of a call on no key that only removes pairs, and at its end.
+use Rattle.std.specs.Prelude.{◌≡◌, ℕ, ◌<◌, Bool, true, List, [], ◌∷◌, ◌++◌, flat_map, Option, Some, None, ◌⊎◌}
+use Rattle.std.proofs.Common.{refl, ap, sym, subst, ◌∙◌, inl, inr}
+use Rattle.std.proofs.lemmas.Grind.{flat_map-append}
+use Rattle.seize.specs.World.{with_at}
+use Rattle.papaya_tables.specs.declared.node.Node.{Node}
+use Rattle.papaya_raw.specs.declared.machines.progress.Progress.{Progress}
+use Rattle.papaya_schedules.specs.declared.call.Call.{Call}
+use Rattle.papaya_schedules.specs.declared.call.Call.TheVariants as call
+use Rattle.papaya_schedules.specs.declared.effect.Effect.{Effect}
+use Rattle.papaya_schedules.specs.After.{moment}
+use Rattle.papaya_schedules.specs.Beginning.{at_work}
+use Rattle.papaya_schedules.specs.Effects.{with_effects}
+use Rattle.papaya_schedules.specs.Entry.{Entry, caller_of, acted_on}
+use Rattle.papaya_schedules.specs.Linearizable.{shift_of, RemovesOnly, IsLinearizable}
+use Rattle.papaya_schedules.specs.Moment.{UnderWay as CallThere, Moment}
+use Rattle.papaya_schedules.specs.Sequential.{Shift}
+use Rattle.papaya_schedules.specs.Views.{call_of, finite_map}
+use Rattle.papaya_rule.specs.Chart.{Chart}
+use Rattle.papaya_rule.proofs.Laws.{current_is_known}
+use Rattle.papaya_callers.specs.Together.{UnderWay, OnKey, ForRoom, Counting, OverAll, Together}
+use Rattle.papaya_callers.proofs.Together.At.{at_same}
+use Rattle.papaya_finishes.specs.Maps.{Standing, IsSameMap}
+use Rattle.papaya_effects.specs.Effects.{effects_of}
+use Rattle.papaya_effects.specs.Known.{Known}
+use Rattle.papaya_effects.specs.declared.acting.Acting.TheVariants as acts
+use Rattle.papaya_executor.specs.IsAt.{Scene, IsAt, slot_of}
+use Rattle.papaya_executor.specs.Stepping.{StepLeads, scene_after}
+use Rattle.papaya_executor.specs.declared.executor.Executor.{Executor}
+use Rattle.papaya_follows.specs.Shows.{Shows}
+use Rattle.papaya_follows.proofs.Steps.{WentTo, DidSo, LeadsThere, one_of}
+use Rattle.papaya_moments.specs.Whole.{ShowsWhole}
+use Rattle.papaya_moments.proofs.Calls.{calls_keep_whole}
+use Rattle.papaya_moments.proofs.OnSlots.{stood_same}
+use Rattle.papaya_histories.specs.Due.{ShowsDue}
+use Rattle.papaya_histories.specs.Had.{Had, HadJust, HadThen}
+use Rattle.papaya_histories.specs.Kept.{ChangesFirst}
+use Rattle.papaya_histories.specs.OtherCalls.{IsNoQuestion, IsOther, IsOnNoKey}
+use Rattle.papaya_histories.specs.OtherMidsts.{InOtherMidst, OtherMidstsBegin, OtherMidstsGoOn, OtherMidstsKeepDue, OtherMidstsEnd}
+use Rattle.papaya_histories.proofs.Due.{calls_keep_due}
+use Rattle.papaya_histories.proofs.Found.{map_alike}
+use Rattle.papaya_histories.proofs.Had.{had_pair}
+use Rattle.papaya_histories.proofs.Later.{IsLater}
+use Rattle.papaya_histories.proofs.Now.{now_had}
+use Rattle.papaya_histories.proofs.OtherCalls.{removals_added, less_told, others_remove_only, others_are_linearizable}
+use Rattle.papaya_histories.proofs.Steps.{to, led_on, moved_chart, maps_later, v, now_then}
+
+-- what such a call is called for is on no key
+on_no_key : {K V : Type 0} (x : UnderWay K V K) (its : Call K V) → IsOther x its → IsOnNoKey its
+on_no_key (OnKey u) its is = absurd is
+on_no_key (ForRoom r) (call.Reserve n) is = tt
+on_no_key (Counting sum) call.Len is = tt
+on_no_key (OverAll o) call.Clear is = tt
+on_no_key (OverAll o) call.Walk is = tt
+on_no_key _ _ is = absurd is
+
+module _ {K V S : Type 0} (same : K → K → Bool) (hash : K → ℕ) (name : ℕ → List ℕ) (m : Moment K V) (known : Known) (s : Scene K V) (old new : Executor K V S) (at : IsAt same hash old s)
+    (whole : ShowsWhole same name m known s) (shown : Shows same name m known s) (map i : ℕ) (u : UnderWay K V K) (here : s.calls map i ≡ Some u) (said : Progress (Node K V))
+    (leads : StepLeads same hash i said s old new) (its : Call K V) (other : IsOther u its) where
+  abbrev went : WentTo same hash name m known s old new at shown map i u here said leads
+  went = to same hash name m known s old new at whole shown map i u here said leads
+
+  abbrev st : Standing K
+  st = went.0
+
+  abbrev on : LeadsThere same hash name m known s old new at shown map i u here said leads
+  on = led_on same hash name m known s old new at whole shown map i u here said leads
+
+  abbrev v2 : Moment K V
+  v2 = v same hash name m known s old new at whole shown map i u here said leads
+
+  -- the map after the step
+  abbrev st2 : Standing K
+  st2 = record st { chart = went.4.its_map.0; blocks = went.4.its_map.1; sights = went.4.its_map.2 }
+
+  st2_is : went.4.maps2 map ≡ Some st2
+  st2_is = went.4.its_map.4
+
+  abbrev Less : Type 0
+  Less = (n : ℕ) → st2.chart.current n ≡ true → st.chart.current n ≡ true
+
+  less_moved : (c2 : Chart K) → st2.chart ≡ c2 → ((n : ℕ) → c2.current n ≡ true → st.chart.current n ≡ true) → Less
+  less_moved c2 is less n now = less n (ap (λ (z : Chart K). z.current n) (sym is) ∙ now)
+
+  less_stayed : IsSameMap (s.maps map) (went.4.maps2 map) → Less
+  less_stayed kept n now =
+      let it = stood_same (s.maps map) (went.4.maps2 map) kept st2 st2_is in
+      ap (λ (z : Standing K). z.chart.current n) (one_of st it.0 (sym went.2 ∙ it.1)) ∙ ap (λ (z : Chart K). z.current n) (sym it.2) ∙ now
+
+  -- no pair has come
+  less_by : (x : UnderWay K V K) → IsOther x its → DidSo same hash name m known s old new at shown map i u here said leads x → Less
+  less_by (OnKey x) is did = absurd is
+  less_by (ForRoom r) is (p2, end, machine_is, told_is, inl (step, moved)) =
+      less_moved step.step.went.c2
+      (moved_chart same hash name m known s old new at whole shown map i u here said leads step.step.went.c2 step.step.blocks2 step.step.sights2 moved.1 st2 st2_is)
+      (λ n now. ap (λ (f : ℕ → Bool). f n) (sym step.step.same_pairs) ∙ now)
+  less_by (ForRoom r) is (p2, end, machine_is, told_is, inr (row, stayed)) = less_stayed (stayed.1 map)
+  less_by (Counting sum) is (p2, end, machine_is, told_is, still, stayed) = less_stayed (stayed.1 map)
+  less_by (OverAll o) is (p2, end, machine_is, told_is, inl (step, moved)) =
+      less_moved step.step.went.c2
+      (moved_chart same hash name m known s old new at whole shown map i u here said leads step.step.went.c2 step.step.blocks2 step.step.sights2 moved.1 st2 st2_is)
+      (less_told o st.chart step.step.went.c2 step.step.removes)
+  less_by (OverAll o) is (p2, end, machine_is, told_is, inr (row, stayed)) = less_stayed (stayed.1 map)
+
+  each : Together V same st.hash same st.setting slot_of s.world st.chart st.blocks st.sights (s.calls map)
+  each = at.together.makings.standing.each map st went.2
+
+  there : (n : ℕ) → st.chart.current n ≡ true → n < st.chart.stored
+  there n is = (current_is_known same st.hash st.setting s.world.memory st.chart st.blocks each.ground.map.map.rule each.ground.map.map.shows n is).0
+
+  later : IsLater st.chart st2.chart
+  later =
+      let it = maps_later same hash name m known s old new at whole shown map i u here said leads map st2 st2_is in
+      subst (λ (z : Standing K). IsLater z.chart st2.chart) (one_of it.0 st (sym it.1 ∙ went.2)) it.2
+
+  -- so each class has what it had, or nothing any more
+  fewer_then : (k : K) → (finite_map same map v2 k ≡ finite_map same map m k) ⊎ (finite_map same map v2 k ≡ None)
+  fewer_then k = by (finite_map same map v2 k) refl
+    where
+      now2 : HadThen same st2 (on.shows.number map) st2.chart.now k (finite_map same map v2 k)
+      now2 = now_then same hash name m known s old new at whole shown map i u here said leads map st2 st2_is k
+
+      now : HadThen same st (shown.number map) st.chart.now k (finite_map same map m k)
+      now = now_had same map (shown.number map) st m known s.world (s.calls map) (at.together.makings.standing.fit map st went.2).0 each (shown.maps map st went.2).pairs shown.blocks k
+
+      has : (q : ℕ) → HadJust same st2 (on.shows.number map) st2.chart.now k (Some q) → finite_map same map m k ≡ Some q
+      has q (n, had, number_is, alone) =
+          let current : st.chart.current n ≡ true = less_by u other went.4.did n (sym ((went.5.together.makings.standing.each map st2 st2_is).ground.moments.now_is n) ∙ had.1) in
+          let l = there n current in
+          had_pair same st (shown.number map) st.chart.now k (finite_map same map m k) now n (l, each.ground.moments.now_is n ∙ current, had.2, sym (later.keys n l) ∙ had.3, had.4)
+          ∙ ap Some (sym (on.numbers map st went.2 n l) ∙ number_is)
+
+      by : (o : Option ℕ) → finite_map same map v2 k ≡ o → (finite_map same map v2 k ≡ finite_map same map m k) ⊎ (finite_map same map v2 k ≡ None)
+      by None e = inr e
+      by (Some q) e = inl (e ∙ sym (has q (subst (λ (o : Option ℕ). HadJust same st2 (on.shows.number map) st2.chart.now k o) e now2.just)))
+
+module _ {K V S : Type 0} (same : K → K → Bool) (hash : K → ℕ) (name : ℕ → List ℕ) (log : List (Entry K V)) (beginning : Moment K V) (map i : ℕ) (c : CallThere K V)
+    (done : List Effect) (m : Moment K V) (known : Known) (s : Scene K V) (u : UnderWay K V K) (midst : InOtherMidst same name log beginning map i c done m known s u)
+    (old new : Executor K V S) (at : IsAt same hash old s) (said : Progress (Node K V)) (leads : StepLeads same hash i said s old new) where
+  abbrev effects : List Effect
+  effects = effects_of (acts.Call i map) known new.memory.changed
+
+  abbrev then_at : Moment K V
+  then_at = with_effects (Some (name i)) (Some map) effects m
+
+  fewer_now : (k : K) → (finite_map same map then_at k ≡ finite_map same map m k) ⊎ (finite_map same map then_at k ≡ None)
+  fewer_now = fewer_then same hash name m known s old new at midst.whole midst.dues.history.shown map i u midst.here said leads c.call midst.other
+
+  -- no class has changed twice
+  first_change : ChangesFirst log m same map then_at
+  first_change k = by (fewer_now k) (midst.fewer k)
+    where
+      by : (finite_map same map then_at k ≡ finite_map same map m k) ⊎ (finite_map same map then_at k ≡ None) → (finite_map same map m k ≡ finite_map same map beginning k) ⊎ (finite_map same map m k ≡ None)
+          → (finite_map same map then_at k ≡ finite_map same map m k) ⊎ (finite_map same map m k ≡ finite_map same map (moment log) k)
+      by (inl kept) before = inl kept
+      by (inr gone) (inl was) = inr (was ∙ map_alike same map k (moment log) beginning midst.begins.0 midst.begins.1)
+      by (inr gone) (inr none) = inl (gone ∙ sym none)
+
+  fewer_so : (k : K) → (finite_map same map then_at k ≡ finite_map same map beginning k) ⊎ (finite_map same map then_at k ≡ None)
+  fewer_so k = by (fewer_now k) (midst.fewer k)
+    where
+      by : (finite_map same map then_at k ≡ finite_map same map m k) ⊎ (finite_map same map then_at k ≡ None) → (finite_map same map m k ≡ finite_map same map beginning k) ⊎ (finite_map same map m k ≡ None)
+          → (finite_map same map then_at k ≡ finite_map same map beginning k) ⊎ (finite_map same map then_at k ≡ None)
+      by (inl kept) (inl was) = inl (kept ∙ was)
+      by (inl kept) (inr none) = inr (kept ∙ none)
+      by (inr gone) before = inr gone
+
+  removes_so : RemovesOnly same c.call c (flat_map shift_of (done ++ effects))
+  removes_so = subst (λ (l : List Shift). RemovesOnly same c.call c l) (sym (flat_map-append shift_of done effects))
+      (removals_added K V same c.call c (flat_map shift_of done) (flat_map shift_of effects) midst.removes
+      (others_remove_only K V S same hash name m known s old new at midst.whole map i u midst.here said leads c.call midst.other c))
+
+module _ (K V : Type 0) (same : K → K → Bool) where
+  pub other_midsts_begin : OtherMidstsBegin K V same
+  other_midsts_begin name log beginning begins known s whole dues map i u here c other = record {
+    here = here;
+    other = other;
+    whole = whole;
+    dues = dues;
+    begins = begins;
+    fewer = λ k. inl refl;
+    removes = tt;
+  }
+
+module _ (K V S : Type 0) (same : K → K → Bool) (hash : K → ℕ) where
+  pub other_midsts_keep_due : OtherMidstsKeepDue K V S same hash
+  other_midsts_keep_due name log beginning map i c done m known s u midst old new at said leads =
+      calls_keep_due K V S same hash name log m known s old new at midst.whole midst.dues map i u midst.here said leads
+      (first_change same hash name log beginning map i c done m known s u midst old new at said leads)
+
+  pub other_midsts_go_on : OtherMidstsGoOn K V S same hash
+  other_midsts_go_on name log beginning map i c done m known s u midst old new at said leads next goes other = record {
+    here = ap (λ (f : ℕ → Option (UnderWay K V K)). f i) (at_same s.calls map (with_at (s.calls map) i (leads map u midst.here).4.next) map refl)
+        ∙ at_same (s.calls map) i (leads map u midst.here).4.next i refl ∙ goes;
+    other = other;
+    whole = calls_keep_whole K V S same hash name m known s old new at midst.whole map i u midst.here said leads;
+    dues = other_midsts_keep_due name log beginning map i c done m known s u midst old new at said leads;
+    begins = midst.begins;
+    fewer = fewer_so same hash name log beginning map i c done m known s u midst old new at said leads;
+    removes = removes_so same hash name log beginning map i c done m known s u midst old new at said leads;
+  }
+
+  pub other_midsts_end : OtherMidstsEnd K V S same hash
+  other_midsts_end name log beginning map i c c_is done m known s u midst old new at said leads e caller begun acts effects_are none =
+      others_are_linearizable K V same log e (name i) map c caller (ap (call_of (name i)) begun ∙ c_is) (ap (acted_on e.event) begun ∙ acts) (on_no_key u c.call midst.other)
+      (subst (λ (l : List Effect). RemovesOnly same c.call c (flat_map shift_of l)) (sym effects_are)
+      (removes_so same hash name log beginning map i c done m known s u midst old new at said leads)) none

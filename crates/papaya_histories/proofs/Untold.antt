@@ -1,0 +1,150 @@
+-- What a call asks, by its kind: it wants a reply for that, and was told nothing of it, unless it is `remove_if`.
+use Rattle.std.specs.Prelude.{◌≡◌, ℕ, ◌<◌, ◌||◌, Bool, true, false, List, [], ◌∷◌, ◌++◌, Option, Some, None, option_map, if◌then◌else◌}
+use Rattle.std.proofs.Common.{refl, ap, sym, ◌∙◌}
+use Rattle.seize_words.specs.Mem.{Mem}
+use Rattle.papaya_tables.specs.declared.node.Node.{Node}
+use Rattle.papaya_raw.specs.declared.machines.answer.Missing.TheVariants as missing
+use Rattle.papaya_raw.specs.declared.machines.answer.There.TheVariants as there
+use Rattle.papaya_raw.specs.declared.machines.asking.Asking.{Asking as AskingAt}
+use Rattle.papaya_raw.specs.declared.machines.asking.Asking.TheVariants as asking
+use Rattle.papaya_raw.specs.declared.machines.asking.Gap.{Gap}
+use Rattle.papaya_raw.specs.declared.machines.asking.Reply.{Reply as MachineReply}
+use Rattle.papaya_raw.specs.declared.machines.call.Calling.TheVariants as at
+use Rattle.papaya_raw.specs.declared.machines.call.KeyCall.{KeyCall}
+use Rattle.papaya_schedules.specs.declared.call.OneKey.{OneKey}
+use Rattle.papaya_schedules.specs.declared.call.OneKey.TheVariants.{Get, GetKeyValue, ContainsKey, Insert, TryInsert, TryInsertWith, GetOrInsert, GetOrInsertWith, Update, UpdateOrInsert, UpdateOrInsertWith, Compute, Remove, RemoveEntry, RemoveIf}
+use Rattle.papaya_schedules.specs.declared.call.Reply.{Reply}
+use Rattle.papaya_schedules.specs.Lists.{is_in}
+use Rattle.papaya_schedules.specs.Sequential.{Wants, means, asks_again}
+use Rattle.papaya_schedules.specs.Things.{same_question}
+use Rattle.papaya_schedules.specs.Views.{reply_to}
+use Rattle.papaya_rule.specs.Chart.{Chart, Holds, Still}
+use Rattle.papaya_rule.specs.Words.{Blocks, place_word}
+use Rattle.papaya_points.specs.FactsCalls.{Change}
+use Rattle.papaya_late.specs.Kinds.{FitsAsking}
+use Rattle.papaya_callers.specs.Asked.{Asked, last_told, told_before}
+use Rattle.papaya_callers.specs.AskedOnce.{IsNew, AskedAt}
+use Rattle.papaya_callers.specs.Kind.{Kind}
+use Rattle.papaya_callers.specs.Pairs.{Given, Begun, IsTold, kind_of, IsOfKind, KeepsGiven}
+use Rattle.papaya_hands.specs.Asked.{as_told, given_by, KnowsFirst}
+use Rattle.papaya_hands.proofs.Replies.{told_since}
+use Rattle.papaya_histories.specs.Questions.{replied_to}
+
+-- what has no reply is none of what has
+unreplied : {V : Type 0} (question : Option ℕ) (replies : List (Option ℕ × Reply V)) → reply_to question replies ≡ None → is_in same_question question (replied_to replies) ≡ false
+unreplied question [] none = refl
+unreplied {V} question (r ∷ replies) none = by (same_question question r.0) refl (λ rest. unreplied question replies rest)
+  where
+    by : (q : Bool) → same_question question r.0 ≡ q → (reply_to question replies ≡ None → is_in same_question question (replied_to replies) ≡ false)
+        → is_in same_question question (replied_to (r ∷ replies)) ≡ false
+    by true e further = absurd (let some : ◌≡◌ {A = Option (Reply V)} (Some r.1) None = ap (λ z. if z then Some r.1 else reply_to question replies) (sym e) ∙ none in cc some)
+    by false e further =
+        ap (λ z. z || is_in same_question question (replied_to replies)) e ∙ further (ap (λ z. if z then Some r.1 else reply_to question replies) (sym e) ∙ none)
+
+none_told : {V : Type 0} (o : Option (Reply V)) → ◌≡◌ {A = Option (MachineReply V)} (option_map as_told o) None → o ≡ None
+none_told None e = refl
+none_told (Some r) e = absurd (cc e)
+
+pub never_asked : {V : Type 0} (question : Option ℕ) (replies : List (Option ℕ × Reply V)) → ◌≡◌ {A = Option (MachineReply V)} (option_map as_told (reply_to question replies)) None
+    → is_in same_question question (replied_to replies) ≡ false
+never_asked question replies none = unreplied question replies (none_told (reply_to question replies) none)
+
+module _ {K V : Type 0} (asked : List (Asked V)) where
+  -- a call that asks where its key is missing wants a reply for none, if it does not know it from the beginning
+  pub wants_none : (one : OneKey K V) → (kind_of (given_by one asked)).absent ≡ missing.Asks → (KnowsFirst one → ⊥) → (n : ℕ) → means one None None n ≡ Wants
+  wants_none (Get k) asks new n = absurd (cc asks)
+  wants_none (GetKeyValue k) asks new n = absurd (cc asks)
+  wants_none (ContainsKey k) asks new n = absurd (cc asks)
+  wants_none (Insert k v) asks new n = absurd (cc asks)
+  wants_none (TryInsert k v) asks new n = absurd (cc asks)
+  wants_none (TryInsertWith k) asks new n = refl
+  wants_none (GetOrInsert k v) asks new n = absurd (cc asks)
+  wants_none (GetOrInsertWith k) asks new n = refl
+  wants_none (Update k) asks new n = absurd (cc asks)
+  wants_none (UpdateOrInsert k v) asks new n = absurd (new tt)
+  wants_none (UpdateOrInsertWith k) asks new n = refl
+  wants_none (Compute k) asks new n = refl
+  wants_none (Remove k) asks new n = absurd (cc asks)
+  wants_none (RemoveEntry k) asks new n = absurd (cc asks)
+  wants_none (RemoveIf k) asks new n = absurd (cc asks)
+
+  -- and one that asks where its key is there wants one for the pair
+  pub wants_pair : (one : OneKey K V) → (kind_of (given_by one asked)).present ≡ there.Asks → (p n : ℕ) → means one None (Some p) n ≡ Wants
+  wants_pair (Get k) asks p n = absurd (cc asks)
+  wants_pair (GetKeyValue k) asks p n = absurd (cc asks)
+  wants_pair (ContainsKey k) asks p n = absurd (cc asks)
+  wants_pair (Insert k v) asks p n = absurd (cc asks)
+  wants_pair (TryInsert k v) asks p n = absurd (cc asks)
+  wants_pair (TryInsertWith k) asks p n = absurd (cc asks)
+  wants_pair (GetOrInsert k v) asks p n = absurd (cc asks)
+  wants_pair (GetOrInsertWith k) asks p n = absurd (cc asks)
+  wants_pair (Update k) asks p n = refl
+  wants_pair (UpdateOrInsert k v) asks p n = refl
+  wants_pair (UpdateOrInsertWith k) asks p n = refl
+  wants_pair (Compute k) asks p n = refl
+  wants_pair (Remove k) asks p n = absurd (cc asks)
+  wants_pair (RemoveEntry k) asks p n = absurd (cc asks)
+  wants_pair (RemoveIf k) asks p n = refl
+
+-- what a call keeps where it asks
+module _ {K V Q : Type 0} (hash : K → ℕ) (m : Mem (Node K V)) (c : Chart K) (seen : Blocks) (keys : K → Bool) (change : Change) (p : KeyCall K V Q) where
+  abbrev pub Keeps : Given K V → AskingAt → Type 0
+  Keeps given it = KeepsGiven hash m c seen keys given change p (at.Asks it)
+
+  -- it is of a kind that asks there
+  pub fits_it : (given : Given K V) (it : AskingAt) → Keeps given it → FitsAsking (kind_of given).present (kind_of given).absent (kind_of given).takes it
+  fits_it (Begun kind pair) it keeps = let is : IsOfKind kind p (at.Asks it) = keeps.2 in is.4
+  fits_it (IsTold kind its asked) it keeps = let is : IsOfKind kind p (at.Asks it) = keeps.2 in is.4
+
+  -- where its key is missing, it was told nothing of that
+  module _ (asked : List (Asked V)) (gap : Gap) where
+    of_gap : (kind : Kind) (its : Option K) (told : List (Asked V)) → Keeps (IsTold kind its told) (asking.Absent gap) → last_told None told ≡ None
+    of_gap kind its told keeps = keeps.0.0.absent_first keeps.0.1
+
+    pub untold_none : (one : OneKey K V) → Keeps (given_by one asked) (asking.Absent gap) → (kind_of (given_by one asked)).absent ≡ missing.Asks → (KnowsFirst one → ⊥) → last_told None asked ≡ None
+    untold_none (Get k) keeps asks new = absurd (cc asks)
+    untold_none (GetKeyValue k) keeps asks new = absurd (cc asks)
+    untold_none (ContainsKey k) keeps asks new = absurd (cc asks)
+    untold_none (Insert k v) keeps asks new = absurd (cc asks)
+    untold_none (TryInsert k v) keeps asks new = absurd (cc asks)
+    untold_none (TryInsertWith k) keeps asks new = of_gap _ _ asked keeps
+    untold_none (GetOrInsert k v) keeps asks new = absurd (cc asks)
+    untold_none (GetOrInsertWith k) keeps asks new = of_gap _ _ asked keeps
+    untold_none (Update k) keeps asks new = absurd (cc asks)
+    untold_none (UpdateOrInsert k v) keeps asks new = absurd (new tt)
+    untold_none (UpdateOrInsertWith k) keeps asks new = of_gap _ _ asked keeps
+    untold_none (Compute k) keeps asks new = of_gap _ _ asked keeps
+    untold_none (Remove k) keeps asks new = absurd (cc asks)
+    untold_none (RemoveEntry k) keeps asks new = absurd (cc asks)
+    untold_none (RemoveIf k) keeps asks new = absurd (cc asks)
+
+  -- where the pair of a word is there, it was told nothing of that one
+  abbrev pub IsUntold : List (Asked V) → ℕ → Type 0
+  IsUntold asked word =
+      (n : ℕ) × (n < c.stored) × (seen.pair_known n ≡ true) × (borrowed : Bool) × (word ≡ place_word hash c seen (Holds n Still borrowed)) × (last_told (Some n) asked ≡ None)
+
+  module _ (asked : List (Asked V)) (word : ℕ) where
+    by_new : (told : List (Asked V)) → IsNew hash c seen keys told word → IsUntold told word
+    by_new told (n, of_keys, borrowed, word_is, none) = (n, of_keys.0, of_keys.1, borrowed, word_is, none)
+
+    of_pair : (kind : Kind) (key : K) (told : List (Asked V)) → Keeps (IsTold kind (Some key) told) (asking.Present word) → IsUntold told word
+    of_pair kind key told keeps = let asked_at : AskedAt hash c seen keys told p.replies (at.Asks (asking.Present word)) = keeps.1 in by_new told asked_at.1
+
+    pub untold_pair : (one : OneKey K V) → Keeps (given_by one asked) (asking.Present word) → (kind_of (given_by one asked)).present ≡ there.Asks → asks_again one ≡ false → IsUntold asked word
+    untold_pair (Get k) keeps asks once = absurd (cc asks)
+    untold_pair (GetKeyValue k) keeps asks once = absurd (cc asks)
+    untold_pair (ContainsKey k) keeps asks once = absurd (cc asks)
+    untold_pair (Insert k v) keeps asks once = absurd (cc asks)
+    untold_pair (TryInsert k v) keeps asks once = absurd (cc asks)
+    untold_pair (TryInsertWith k) keeps asks once = absurd (cc asks)
+    untold_pair (GetOrInsert k v) keeps asks once = absurd (cc asks)
+    untold_pair (GetOrInsertWith k) keeps asks once = absurd (cc asks)
+    untold_pair (Update k) keeps asks once = of_pair _ _ asked keeps
+    untold_pair (UpdateOrInsert k v) keeps asks once =
+        let it = of_pair _ _ (asked ++ told_before (Some v)) keeps in
+        (it.0, it.1, it.2, it.3, it.4, sym (told_since (Some it.0) asked (told_before (Some v)) refl) ∙ it.5)
+    untold_pair (UpdateOrInsertWith k) keeps asks once = of_pair _ _ asked keeps
+    untold_pair (Compute k) keeps asks once = of_pair _ _ asked keeps
+    untold_pair (Remove k) keeps asks once = absurd (cc asks)
+    untold_pair (RemoveEntry k) keeps asks once = absurd (cc asks)
+    untold_pair (RemoveIf k) keeps asks once = absurd (cc once)

@@ -1,0 +1,6 @@
+-- Events of several steps of other calls are linearizable.
+use Rattle.papaya_histories.proofs.OtherMidsts.{other_midsts_begin, other_midsts_go_on, other_midsts_keep_due, other_midsts_end}
+use Rattle.papaya_histories.proofs.law.other_events_are_linearizable.Goals as goal
+
+pub returns : goal.returns
+returns c d = record { begins = other_midsts_begin _ _; goes_on = other_midsts_go_on _ _ _; dues = other_midsts_keep_due _ _ _; ends = other_midsts_end _ _ _ }

@@ -1,0 +1,26 @@
+-- What a retaining asks about: a pair that the map has at a moment of the call.
+use Rattle.std.specs.Prelude.{◌≡◌, ℕ, Bool, List, Some, None, ◌⊎◌}
+use Rattle.papaya_sweeps.specs.declared.sweep.Sweeping.TheVariants as at
+use Rattle.papaya_schedules.specs.declared.call.Call.TheVariants.{Retain}
+use Rattle.papaya_schedules.specs.After.{moment, moments_from}
+use Rattle.papaya_schedules.specs.Entry.{Entry}
+use Rattle.papaya_schedules.specs.Linearizable.{MayAsk}
+use Rattle.papaya_schedules.specs.Moment.{UnderWay as CallThere, Moment}
+use Rattle.papaya_schedules.specs.Views.{call_of, finite_map}
+use Rattle.papaya_callers.specs.OverAll.{CallOverAll}
+use Rattle.papaya_callers.specs.Together.{OverAll}
+use Rattle.papaya_effects.specs.Known.{Known}
+use Rattle.papaya_executor.specs.IsAt.{Scene, IsAt}
+use Rattle.papaya_executor.specs.declared.executor.Executor.{Executor}
+use Rattle.papaya_histories.specs.Answers.{NamesPair}
+use Rattle.papaya_histories.specs.Histories.{ShowsHistory}
+
+module _ (K V S : Type 0) (same : K → K → Bool) (hash : K → ℕ) where
+  -- The promise: about the pair of the word at which it stands to ask, a retaining may ask; where each class has what it had at the end of the last event, or nothing any
+  -- more.
+  abbrev pub RetainingsMayAsk : Type 0
+  RetainingsMayAsk =
+      (name : ℕ → List ℕ) (log : List (Entry K V)) (m : Moment K V) (known : Known) (s : Scene K V) (e : Executor K V S) → IsAt same hash e s → ShowsHistory same name log m known s
+      → (map i : ℕ) (o : CallOverAll) → s.calls map i ≡ Some (OverAll o) → (c : CallThere K V) → call_of (name i) m ≡ Some c
+      → ((k : K) → (finite_map same map m k ≡ finite_map same map (moment log) k) ⊎ (finite_map same map m k ≡ None))
+      → (word q : ℕ) → o.sweep.stands ≡ at.Asks word → NamesPair known word q → MayAsk same Retain c (moments_from c.begun log) (Some q)
