@@ -1,3 +1,5 @@
 pub mod Sheltered
 pub mod Shelters
+pub mod Others
+pub mod Guards
 pub mod Weights

@@ -42,7 +42,7 @@ use Rattle.papaya_follows.specs.Blocks.{HasRole}
 use Rattle.papaya_follows.specs.Finds.{FindsMap}
 use Rattle.papaya_follows.specs.Maps.{ShowsPairs}
 use Rattle.papaya_follows.specs.Steps.{TakesNone}
-use Rattle.papaya_follows.proofs.Alike.{is_calm, AllCalm, put_here}
+use Rattle.papaya_follows.proofs.Alike.{put_here}
 use Rattle.papaya_follows.proofs.Going.{ComesToBe}
 use Rattle.papaya_follows.proofs.Onward.{IsLasting, KeepsRoles}
 use Rattle.papaya_follows.proofs.Operations.{LeavesBy, operated_leaves}
@@ -58,20 +58,10 @@ use Rattle.papaya_promises.specs.Shelters.{CallsShelter}
 use Rattle.papaya_promises.specs.Sheltered.{IsOfThing, HasCome, GuardsAreInside, IsSheltered, AreSheltered}
 use Rattle.papaya_promises.proofs.Shelters.Lasting.{Lasts, of_map, all_last, guards_last}
 use Rattle.papaya_promises.proofs.Lists.{all_append, all_of, passed_all, IsFound, all_found, all_shelter}
-use Rattle.papaya_promises.proofs.Shelters.Outs.{KeepsIn, OutFirst, AreFew, TakesOwn, effects_few, keep_all}
+use Rattle.papaya_promises.proofs.Shelters.Outs.{KeepsIn, OutFirst, AreFew, TakesOwn, calm_keep, effects_few, keep_all}
 use Rattle.papaya_promises.proofs.Shelters.Within.{GoOn, call_goes_on}
 
 -- what a row within a call does takes nothing out of a map
-
-calm_keeps : (f : Effect) → is_calm f ≡ true → KeepsIn f
-calm_keeps (Promoted t) e = absurd (cc e)
-calm_keeps (Replaced n) e = absurd (cc e)
-calm_keeps (Removed n) e = absurd (cc e)
-calm_keeps _ e = tt
-
-calm_keep : (effects : List Effect) → AllCalm effects → AllByRecursion KeepsIn effects
-calm_keep [] all = tt
-calm_keep (f ∷ effects) all = (calm_keeps f all.0, calm_keep effects all.1)
 
 hands_keep : (effects : List Effect) → HandsOn effects → AllByRecursion KeepsIn effects
 hands_keep effects (IsStill still all) = calm_keep still all
