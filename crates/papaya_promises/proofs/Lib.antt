@@ -1,3 +1,4 @@
 pub mod Lists
 pub mod Shelters
+pub mod Guards
 pub mod Weights
