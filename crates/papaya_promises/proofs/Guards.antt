@@ -25,7 +25,7 @@ use Rattle.papaya_promises.proofs.Lists.{all_of}
 one_guard : (a b : Guard) → Some a ≡ Some b → a ≡ b
 one_guard a b e = cc e
 
-no_guard : {A : Type 0} (g : Guard) → None ≡ Some g → A
+pub no_guard : {A : Type 0} (g : Guard) → None ≡ Some g → A
 no_guard g e = absurd (cc e)
 
 -- guards by name, where those of one name are there no more
@@ -131,7 +131,7 @@ module _ {K V : Type 0} (w : World (Node K V)) (known : Known) (there : Present)
     )
 
     -- one more is there
-    enters_stay : (guard : List ℕ) (slot : ℕ) → IsInside (w.uses slot) → Stay (enters_slot guard slot there) xs
+    pub enters_stay : (guard : List ℕ) (slot : ℕ) → IsInside (w.uses slot) → Stay (enters_slot guard slot there) xs
     enters_stay guard slot in_it = (guards, all_of (IsSheltered there w known) (IsSheltered (enters_slot guard slot there) w known) xs still all)
       where
         new : Guard
@@ -153,7 +153,7 @@ module _ {K V : Type 0} (w : World (Node K V)) (known : Known) (there : Present)
             by None e false f = no_guard g f
 
     -- one was forgotten
-    forgets_stay : (name : List ℕ) → Stay (forgets name there) xs
+    pub forgets_stay : (name : List ℕ) → Stay (forgets name there) xs
     forgets_stay name = (guards, all_of (IsSheltered there w known) (IsSheltered (forgets name there) w known) xs still all)
       where
         still : (x : Sheltered) → IsSheltered there w known x → IsSheltered (forgets name there) w known x

@@ -1,4 +1,5 @@
 pub mod Lists
 pub mod Shelters
 pub mod Guards
+pub mod Protected
 pub mod Weights

@@ -2,4 +2,5 @@ pub mod Sheltered
 pub mod Shelters
 pub mod Others
 pub mod Guards
+pub mod Protected
 pub mod Weights

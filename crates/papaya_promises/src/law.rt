@@ -2,6 +2,7 @@
 ghost use Rattle.std.specs.Prelude.{ℕ, Bool};
 ghost use Rattle.papaya_promises.specs.Guards.{GuardsComeAndGo, OthersStayInside, OneIsInsideAgain};
 ghost use Rattle.papaya_promises.specs.Others.{MakingsShelter, EndingsShelter, RowsBeginShelter, SectionsGoOn};
+ghost use Rattle.papaya_promises.specs.Protected.{EventsBeginProtected, EventsEndProtected, IdleEventsAreProtected, CallsProtect, MakingsProtect, EndingsProtect, RowsBeginProtect, RowsProtect};
 ghost use Rattle.papaya_promises.specs.Shelters.{CallsShelter, RowsShelter, StepsProtect, EventsAreProtected};
 ghost use Rattle.papaya_promises.specs.Weights.{OperationsAreSingle, PartsAddUp, GrantsAddUp};
 
@@ -22,6 +23,20 @@ pub fn sections_shelter<K, V, S>()
     ensures guards { GuardsComeAndGo K V }
     ensures others { OthersStayInside K V }
     ensures again { OneIsInsideAgain K V }
+{}
+
+/// In the midst of an event the guards are within their sections whose sections it does not end, and what left its map in these is sheltered and was not reclaimed. So it is where the
+/// event begins, after each step of a call, of a making, of an end, or of a row on a slot, and where such a row begins; where it ends, it reclaims nothing in a critical section that it
+/// does not end, in which it left its map, and all sections of the moment hold what they shelter. So they do after an event that does nothing to pairs and blocks.
+pub fn events_are_protected<K, V, S>()
+    ensures begins { EventsBeginProtected K V }
+    ensures calls { (same : K → K → Bool) (hash : K → ℕ) → CallsProtect K V S same hash }
+    ensures makings { (same : K → K → Bool) (hash : K → ℕ) → MakingsProtect K V S same hash }
+    ensures endings { (same : K → K → Bool) (hash : K → ℕ) → EndingsProtect K V S same hash }
+    ensures rows_begin { (same : K → K → Bool) (hash : K → ℕ) → RowsBeginProtect K V S same hash }
+    ensures rows { (same : K → K → Bool) (hash : K → ℕ) → RowsProtect K V S same hash }
+    ensures ends { EventsEndProtected K V }
+    ensures idle { IdleEventsAreProtected K V }
 {}
 
 /// An operation, whoever makes it, does one thing at most to pairs, tables and blocks, and so an event does no more than it makes steps. What it

@@ -75,7 +75,7 @@ not_only x y other = by (same_thing x y) refl
     by true e = absurd (other (things_are x y e))
     by false e = refl
 
-none_back : (xs : List Sheltered) → NoneIsBack [] xs
+pub none_back : (xs : List Sheltered) → NoneIsBack [] xs
 none_back [] = tt
 none_back (x ∷ xs) = (refl, none_back xs)
 
