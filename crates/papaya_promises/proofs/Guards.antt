@@ -1,16 +1,17 @@
 -- Guards come and go: those that are there are within their sections, which shelter what they did.
-use Rattle.std.specs.Prelude.{◌≡◌, ℕ, Bool, true, false, cond, not, List, [], ◌∷◌, ◌++◌, filter, find, Option, Some, None, option_map}
+use Rattle.std.specs.Prelude.{◌≡◌, ◌==◌, ℕ, ◌+◌, Bool, true, false, cond, not, List, [], ◌∷◌, ◌++◌, filter, find, Option, Some, None, option_map}
 use Rattle.std.specs.List.{AllByRecursion}
 use Rattle.std.specs.Option.{option_or}
-use Rattle.std.proofs.Common.{refl, ap, sym, subst, ◌∙◌}
+use Rattle.std.proofs.Common.{refl, ap, sym, subst, ◌∙◌, arith}
+use Rattle.std.proofs.lemmas.Bool.{eq-eqb}
 use Rattle.std.proofs.lemmas.List.Folds.{find-append}
 use Rattle.seize.specs.Law.{holds}
 use Rattle.seize.specs.World.{World, IsInside}
 use Rattle.papaya_tables.specs.declared.node.Node.{Node}
-use Rattle.papaya_runs.specs.Present.{Present, guard_of, slot_of_registration, enters_slot, drops, forgotten_as, forgotten_if, forgets}
+use Rattle.papaya_runs.specs.Present.{Present, guard_of, guards_on, slot_of_registration, enters_slot, drops, forgotten_as, forgotten_if, forgets}
 use Rattle.papaya_runs.specs.Same.{is_same}
 use Rattle.papaya_runs.specs.declared.holders.Guard.{Guard}
-use Rattle.papaya_runs.proofs.Laws.{same_tells}
+use Rattle.papaya_runs.proofs.Laws.{same_tells, drops_counts}
 use Rattle.papaya_schedules.specs.declared.event.Event.{Event}
 use Rattle.papaya_schedules.specs.declared.event.Event.TheVariants.{Register, Unregister, Enter, Own, Refresh, DropGuard, Forget, ReclaimAll, Close}
 use Rattle.papaya_schedules.specs.declared.outcome.Outcome.{Outcome}
@@ -18,7 +19,9 @@ use Rattle.papaya_schedules.specs.declared.outcome.Outcome.TheVariants.{Done, Sl
 use Rattle.papaya_schedules.specs.After.{there_on, unsheltered, sheltered_on}
 use Rattle.papaya_schedules.specs.Moment.{Sheltered}
 use Rattle.papaya_effects.specs.Known.{Known}
-use Rattle.papaya_promises.specs.Guards.{EntersInside, GuardsComeAndGo, OthersStayInside, OneIsInsideAgain}
+use Rattle.papaya_executor.specs.IsAt.{IsUsedAs}
+use Rattle.papaya_executor.specs.declared.row.SlotUse.{SlotUse}
+use Rattle.papaya_promises.specs.Guards.{EntersInside, GuardsComeAndGo, OthersStayInside, OneIsInsideAgain, UsedSlotsAreInside, FreeSlotsHaveNobody, OnlyGuardsLeaveNobody}
 use Rattle.papaya_promises.specs.Sheltered.{IsOfThing, GuardsAreInside, IsSheltered, AreSheltered}
 use Rattle.papaya_promises.proofs.Lists.{all_of}
 
@@ -196,6 +199,32 @@ module _ {K V : Type 0} (w : World (Node K V)) (known : Known) (there : Present)
   again_sheltered xs all =
       all_of (IsSheltered (drops guard there) w known) (IsSheltered there w known) xs
       (λ x. elsewhere w known (drops guard there) there x (λ h is. (h, (was_there x.guard guard there.guards h is).1, refl))) all
+
+-- slots without guards
+
+free_has_nobody : (slot : ℕ) (guards : List Guard) → guards_on slot guards ≡ 0 → (own : List ℕ) (g : Guard) → guard_of own guards ≡ Some g → g.slot ≡ slot → ⊥
+free_has_nobody slot [] none own g is on = no_guard g is
+free_has_nobody slot (x ∷ guards) none own g is on = by (is_same x.name own) is (free_has_nobody slot guards (omega (arith, none)) own g)
+  where
+    by : (q : Bool) → cond q (Some x) (guard_of own guards) ≡ Some g → (guard_of own guards ≡ Some g → g.slot ≡ slot → ⊥) → ⊥
+    by true e later =
+        let here : x.slot ≡ slot = ap (λ (y : Guard). y.slot) (one_guard x g e) ∙ on in
+        let counted : ◌≡◌ {A = ℕ} (cond (x.slot == slot) 1 0) 1 = ap (λ (q : Bool). cond q 1 0) (eq-eqb x.slot slot here) in
+        absurd (omega (arith, none, counted))
+    by false e later = later e on
+
+pub free_slots_have_nobody : FreeSlotsHaveNobody
+free_slots_have_nobody slot there none = free_has_nobody slot there.guards none
+
+pub only_guards_leave_nobody : OnlyGuardsLeaveNobody
+only_guards_leave_nobody there names guard g is one =
+    let counts = (drops_counts guard there.guards).1 g is (names.guards guard) g.slot in
+    let counted : ◌≡◌ {A = ℕ} (cond (g.slot == g.slot) 1 0) 1 = ap (λ (q : Bool). cond q 1 0) (eq-eqb g.slot g.slot refl) in
+    free_has_nobody g.slot (drops guard there).guards (omega (arith, counts, counted, one))
+
+module _ (K V S : Type 0) (same : K → K → Bool) (hash : K → ℕ) where
+  pub used_slots_are_inside : UsedSlotsAreInside K V S same hash
+  used_slots_are_inside s e at slot is = (let it = subst (λ (u : SlotUse). IsUsedAs u (s.world.uses slot)) is (at.uses slot) in subst IsInside (sym it.1) tt)
 
 module _ (K V : Type 0) where
   pub guards_come_and_go : GuardsComeAndGo K V

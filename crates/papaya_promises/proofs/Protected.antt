@@ -34,7 +34,7 @@ use Rattle.papaya_effects.specs.declared.role.Role.{Role}
 use Rattle.papaya_effects.specs.declared.role.Role.TheVariants as role
 use Rattle.papaya_others.proofs.RowPlans.{TellsRow, row_tells}
 use Rattle.papaya_promises.specs.Guards.{EntersInside}
-use Rattle.papaya_promises.specs.Protected.{is_of_slots, there_in, HasSpared, InMidst, EndsInside, EventsBeginProtected, EventsEndProtected, IdleEventsAreProtected, CallsProtect, MakingsProtect, EndingsProtect, RowsBeginProtect, RowsProtect}
+use Rattle.papaya_promises.specs.Protected.{is_of_slots, there_in, HasSpared, InMidst, EndsInside, EventsBeginProtected, EventsEndProtected, AllIsEndedProtected, IdleEventsAreProtected, CallsProtect, MakingsProtect, EndingsProtect, RowsBeginProtect, RowsProtect}
 use Rattle.papaya_promises.specs.Sheltered.{GuardsAreInside, AreSheltered, SectionsHold}
 use Rattle.papaya_promises.specs.Shelters.{NoneIsBack}
 use Rattle.papaya_promises.proofs.Guards.{drops_stay, enters_stay, forgets_stay, no_guard, guards_come_and_go, one_is_inside_again}
@@ -222,6 +222,10 @@ module _ (K V : Type 0) where
       let it = begins_in w known b.there b.sheltered e.event (subst (λ (p : Present). GuardsAreInside p w) (sym before.0) hold.0)
       (subst (AreSheltered b.there w known) (sym before.1) (subst (λ (p : Present). AreSheltered p w known m.sheltered) (sym before.0) hold.1)) in
       record { inside = it.0; sheltered = it.1; spared = nothing_spared (is_of_slots e.event) (sheltered_on e.event Done b.sheltered) }
+
+  pub all_is_ended_protected : AllIsEndedProtected K V
+  all_is_ended_protected done m known w =
+      (record { inside = λ own g is. no_guard g is; sheltered = tt; spared = tt }, record { inside = λ own g is. no_guard g is; sheltered = tt; spared = tt })
 
   pub events_end_protected : EventsEndProtected K V
   events_end_protected log e known w midst so =

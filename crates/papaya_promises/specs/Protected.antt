@@ -97,13 +97,17 @@ module _ (K V : Type 0) where
   abbrev pub EventsBeginProtected : Type 0
   EventsBeginProtected = (m : Moment K V) (known : Known) (w : World (Node K V)) → SectionsHold m known w → (e : Entry K V) → InMidst e.event [] (at_work e m) known w
 
-  -- and where it ends it is protected, and the sections hold what they do,
+  -- and where it ends it is protected, and the sections hold what they do.
   abbrev pub EventsEndProtected : Type 0
   EventsEndProtected =
       (log : List (Entry K V)) (e : Entry K V) (known : Known) (w : World (Node K V)) → InMidst e.event e.effects (worked e (moment log)) known w
       → EndsInside w e.event e.outcome (moment log).there → IsProtected log e × SectionsHold (after e (moment log)) known w
 
-  -- as they do after an event that does nothing to pairs and blocks.
+  -- Where everything is reclaimed it is so, whatever is done.
+  abbrev pub AllIsEndedProtected : Type 0
+  AllIsEndedProtected = (done : List Effect) (m : Moment K V) (known : Known) (w : World (Node K V)) → InMidst ReclaimAll done m known w × InMidst Close done m known w
+
+  -- The sections hold what they do after an event, too, that does nothing to pairs and blocks.
   abbrev pub IdleEventsAreProtected : Type 0
   IdleEventsAreProtected =
       (log : List (Entry K V)) (e : Entry K V) (known : Known) (w : World (Node K V)) → e.effects ≡ [] → SectionsHold (moment log) known w

@@ -1,8 +1,8 @@
 //! What is promised of a run, by single steps.
 ghost use Rattle.std.specs.Prelude.{ℕ, Bool};
-ghost use Rattle.papaya_promises.specs.Guards.{GuardsComeAndGo, OthersStayInside, OneIsInsideAgain};
+ghost use Rattle.papaya_promises.specs.Guards.{SectionsHoldAtFirst, GuardsComeAndGo, OthersStayInside, OneIsInsideAgain, UsedSlotsAreInside, FreeSlotsHaveNobody, OnlyGuardsLeaveNobody};
 ghost use Rattle.papaya_promises.specs.Others.{MakingsShelter, EndingsShelter, RowsBeginShelter, SectionsGoOn};
-ghost use Rattle.papaya_promises.specs.Protected.{EventsBeginProtected, EventsEndProtected, IdleEventsAreProtected, CallsProtect, MakingsProtect, EndingsProtect, RowsBeginProtect, RowsProtect};
+ghost use Rattle.papaya_promises.specs.Protected.{EventsBeginProtected, EventsEndProtected, AllIsEndedProtected, IdleEventsAreProtected, CallsProtect, MakingsProtect, EndingsProtect, RowsBeginProtect, RowsProtect};
 ghost use Rattle.papaya_promises.specs.Shelters.{CallsShelter, RowsShelter, StepsProtect, EventsAreProtected};
 ghost use Rattle.papaya_promises.specs.Weights.{OperationsAreSingle, PartsAddUp, GrantsAddUp};
 
@@ -19,10 +19,14 @@ pub fn sections_shelter<K, V, S>()
     ensures rows_begin { (same : K → K → Bool) (hash : K → ℕ) → RowsBeginShelter K V S same hash }
     ensures makings { (same : K → K → Bool) (hash : K → ℕ) → MakingsShelter K V S same hash }
     ensures endings { (same : K → K → Bool) (hash : K → ℕ) → EndingsShelter K V S same hash }
+    ensures begins { SectionsHoldAtFirst K V }
     ensures goes_on { SectionsGoOn K V }
     ensures guards { GuardsComeAndGo K V }
     ensures others { OthersStayInside K V }
     ensures again { OneIsInsideAgain K V }
+    ensures used { (same : K → K → Bool) (hash : K → ℕ) → UsedSlotsAreInside K V S same hash }
+    ensures free { FreeSlotsHaveNobody }
+    ensures only { OnlyGuardsLeaveNobody }
 {}
 
 /// In the midst of an event the guards are within their sections whose sections it does not end, and what left its map in these is sheltered and was not reclaimed. So it is where the
@@ -36,6 +40,7 @@ pub fn events_are_protected<K, V, S>()
     ensures rows_begin { (same : K → K → Bool) (hash : K → ℕ) → RowsBeginProtect K V S same hash }
     ensures rows { (same : K → K → Bool) (hash : K → ℕ) → RowsProtect K V S same hash }
     ensures ends { EventsEndProtected K V }
+    ensures all { AllIsEndedProtected K V }
     ensures idle { IdleEventsAreProtected K V }
 {}
 
