@@ -21,7 +21,7 @@ use Rattle.papaya_schedules.specs.Moment.{Sheltered}
 use Rattle.papaya_effects.specs.Known.{Known}
 use Rattle.papaya_executor.specs.IsAt.{IsUsedAs}
 use Rattle.papaya_executor.specs.declared.row.SlotUse.{SlotUse}
-use Rattle.papaya_promises.specs.Guards.{EntersInside, GuardsComeAndGo, OthersStayInside, OneIsInsideAgain, UsedSlotsAreInside, FreeSlotsHaveNobody, OnlyGuardsLeaveNobody}
+use Rattle.papaya_promises.specs.Guards.{EntersInside, GuardsComeAndGo, OthersStayInside, OneIsInsideAgain, UsedSlotsAreInside, OnlyGuardsLeaveNobody}
 use Rattle.papaya_promises.specs.Sheltered.{IsOfThing, GuardsAreInside, IsSheltered, AreSheltered}
 use Rattle.papaya_promises.proofs.Lists.{all_of}
 
@@ -212,9 +212,6 @@ free_has_nobody slot (x ∷ guards) none own g is on = by (is_same x.name own) i
         let counted : ◌≡◌ {A = ℕ} (cond (x.slot == slot) 1 0) 1 = ap (λ (q : Bool). cond q 1 0) (eq-eqb x.slot slot here) in
         absurd (omega (arith, none, counted))
     by false e later = later e on
-
-pub free_slots_have_nobody : FreeSlotsHaveNobody
-free_slots_have_nobody slot there none = free_has_nobody slot there.guards none
 
 pub only_guards_leave_nobody : OnlyGuardsLeaveNobody
 only_guards_leave_nobody there names guard g is one =

@@ -52,11 +52,7 @@ module _ (K V : Type 0) where
 abbrev pub UsedSlotsAreInside : (K V S : Type 0) → (K → K → Bool) → (K → ℕ) → Type 0
 UsedSlotsAreInside K V S same hash = (s : Scene K V) (e : Executor K V S) → IsAt same hash e s → (slot : ℕ) → use_at e slot ≡ used.Inside → IsInside (s.world.uses slot)
 
--- A slot on which no guard is has nobody,
-abbrev pub FreeSlotsHaveNobody : Type 0
-FreeSlotsHaveNobody = (slot : ℕ) (there : Present) → guards_on slot there.guards ≡ 0 → NobodyOn slot there
-
--- and so has that of the only guard on it, without that one.
+-- The slot of the only guard on it has nobody without that one.
 abbrev pub OnlyGuardsLeaveNobody : Type 0
 OnlyGuardsLeaveNobody =
     (there : Present) → HaveNames there → (guard : List ℕ) (g : Guard) → guard_of guard there.guards ≡ Some g → guards_on g.slot there.guards ≡ 1 → NobodyOn g.slot (drops guard there)

@@ -38,11 +38,12 @@ use Rattle.papaya_promises.specs.Sheltered.{GuardsAreInside, AreSheltered, Secti
 abbrev pub NobodyOn : ℕ → Present → Type 0
 NobodyOn slot there = (own : List ℕ) (g : Guard) → guard_of own there.guards ≡ Some g → g.slot ≡ slot → ⊥
 
--- a row that begins so takes no guard out of its section
+-- a row that ends the section of this slot ends no guard's
 abbrev pub SparesGuards : SlotCall → ℕ → Present → Type 0
-SparesGuards (call.Register enters) slot there = Unit {0}
-SparesGuards call.Flush slot there = Unit {0}
-SparesGuards _ slot there = NobodyOn slot there
+SparesGuards call.Leave slot there = NobodyOn slot there
+SparesGuards call.LeaveOwned slot there = NobodyOn slot there
+SparesGuards call.Refresh slot there = NobodyOn slot there
+SparesGuards _ slot there = Unit {0}
 
 module _ (K V S : Type 0) (same : K → K → Bool) (hash : K → ℕ) where
   -- The promises: a step of the making of a map leaves guards within their sections, and sheltered what is so; it reclaims nothing.
@@ -69,7 +70,7 @@ module _ (K V S : Type 0) (same : K → K → Bool) (hash : K → ℕ) where
       × AreSheltered m.there to.2.w2 (known_after (acts.Ending map) new.memory.changed known) (with_effects None (Some map) effects m).sheltered
       × (flat_map thing_back effects ≡ []))
 
-  -- Where a row begins on a slot, all of them go on that have guards, if it spares those.
+  -- Where a row begins on a slot, they do so, too, if it ends the section of none of them.
   abbrev pub RowsBeginShelter : Type 0
   RowsBeginShelter =
       (s : Scene K V) (old new : Executor K V S) (called : SlotCall) (i : ℕ) (may : MayBegin old (slot_of i) called) (leads : RowBegins same hash called i s old new)

@@ -144,7 +144,7 @@ module _ (K V S : Type 0) (same : K → K → Bool) (hash : K → ℕ) where
       let effects = effects_of (acts.Ending map) known new.memory.changed in
       InMidst event (done ++ effects) (with_effects None (Some map) effects m) (known_after (acts.Ending map) new.memory.changed known) to.2.w2)
 
-  -- where a row begins on a slot that has none of those guards, if it changes how the slot is used,
+  -- where a row begins on a slot that has none of those guards, if it ends its section,
   abbrev pub RowsBeginProtect : Type 0
   RowsBeginProtect =
       (m : Moment K V) (known : Known) (s : Scene K V) (old new : Executor K V S) (called : SlotCall) (i : ℕ) (may : MayBegin old (slot_of i) called) (leads : RowBegins same hash called i s old new)

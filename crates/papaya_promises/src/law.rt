@@ -1,6 +1,6 @@
 //! What is promised of a run, by single steps.
 ghost use Rattle.std.specs.Prelude.{ℕ, Bool};
-ghost use Rattle.papaya_promises.specs.Guards.{SectionsHoldAtFirst, GuardsComeAndGo, OthersStayInside, OneIsInsideAgain, UsedSlotsAreInside, FreeSlotsHaveNobody, OnlyGuardsLeaveNobody};
+ghost use Rattle.papaya_promises.specs.Guards.{SectionsHoldAtFirst, GuardsComeAndGo, OthersStayInside, OneIsInsideAgain, UsedSlotsAreInside, OnlyGuardsLeaveNobody};
 ghost use Rattle.papaya_promises.specs.Others.{MakingsShelter, EndingsShelter, RowsBeginShelter, SectionsGoOn};
 ghost use Rattle.papaya_promises.specs.Protected.{EventsBeginProtected, EventsEndProtected, AllIsEndedProtected, IdleEventsAreProtected, CallsProtect, MakingsProtect, EndingsProtect, RowsBeginProtect, RowsProtect};
 ghost use Rattle.papaya_promises.specs.Shelters.{CallsShelter, RowsShelter, StepsProtect, EventsAreProtected};
@@ -8,7 +8,7 @@ ghost use Rattle.papaya_promises.specs.Weights.{OperationsAreSingle, PartsAddUp,
 
 /// What a call takes out of its map, while guards are there, is sheltered: the critical section of each of them holds its block, until it ends. So it is after each
 /// step of a call, of a making and of an end of a map, which reclaim nothing, and after each step of a row on a slot, which reclaims nothing that is sheltered; where
-/// a row begins on a slot without a guard that it takes out of its section; and where a call begins, is told or comes to an outcome, and a map comes or goes. It is
+/// a row begins on a slot whose section it ends for no guard that is there; and where a call begins, is told or comes to an outcome, and a map comes or goes. It is
 /// so of the guards that are there after an event by which they come or go, if one that enters is within a section: of all others while one has none, and of that
 /// one, too, once it has one again. An event whose steps reclaim nothing that is sheltered after it reclaims nothing in a critical section in which it left its map.
 pub fn sections_shelter<K, V, S>()
@@ -25,7 +25,6 @@ pub fn sections_shelter<K, V, S>()
     ensures others { OthersStayInside K V }
     ensures again { OneIsInsideAgain K V }
     ensures used { (same : K → K → Bool) (hash : K → ℕ) → UsedSlotsAreInside K V S same hash }
-    ensures free { FreeSlotsHaveNobody }
     ensures only { OnlyGuardsLeaveNobody }
 {}
 

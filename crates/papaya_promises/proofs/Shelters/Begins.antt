@@ -2,7 +2,7 @@
 use Rattle.std.specs.Prelude.{◌≡◌, ℕ, Bool, true, false, List, Option, Some, None}
 use Rattle.std.proofs.Common.{refl, ap, sym, subst}
 use Rattle.seize.specs.Law.{Effect as Happened, holds}
-use Rattle.seize.specs.World.{World, Use, Changing, IsInside, Begins, with_at}
+use Rattle.seize.specs.World.{World, Use, Outside, Changing, IsInside, Begins, with_at}
 use Rattle.papaya_tables.specs.Nodes.{deferred_word}
 use Rattle.papaya_tables.specs.declared.node.Node.{Node}
 use Rattle.papaya_runs.specs.Present.{Present, guard_of}
@@ -35,14 +35,18 @@ module _ {K V : Type 0} (size slot i : ℕ) (w w2 : World (Node K V)) where
     others_go : NobodyOn slot there → w2.uses ≡ with_at w.uses slot Changing → GuardsGoOn
     others_go none uses own g is inside = other_inside uses g.slot (none own g is) inside
 
-    begun_inside : (called : SlotCall) → Begins deferred_word size i (request_of slot called) w w2 → SparesGuards called slot there → GuardsGoOn
-    begun_inside (call.Register enters) h spares = λ own g is inside. subst (λ (u : World (Node K V)). IsInside (u.uses g.slot)) (sym h) inside
-    begun_inside call.Enter h spares = others_go spares (ap (λ (u : World (Node K V)). u.uses) h.1)
-    begun_inside call.Leave h spares = others_go spares (ap (λ (u : World (Node K V)). u.uses) h.1)
-    begun_inside call.LeaveOwned h spares = others_go spares (ap (λ (u : World (Node K V)). u.uses) h.1)
-    begun_inside call.Refresh h spares = others_go spares (ap (λ (u : World (Node K V)). u.uses) h.1)
-    begun_inside call.Unregister h spares = others_go spares (ap (λ (u : World (Node K V)). u.uses) h.1)
-    begun_inside call.Flush h spares = λ own g is inside. subst (λ (u : World (Node K V)). IsInside (u.uses g.slot)) (sym h.1) (inside_on w.uses slot g.slot inside)
+    -- none of them is on a slot that is outside
+    outside_has_nobody : w.uses slot ≡ Outside 0 → GuardsAreInside there w → NobodyOn slot there
+    outside_has_nobody outside inside own g is on = subst IsInside outside (subst (λ (t : ℕ). IsInside (w.uses t)) on (inside own g is))
+
+    begun_inside : (called : SlotCall) → Begins deferred_word size i (request_of slot called) w w2 → SparesGuards called slot there → GuardsAreInside there w → GuardsGoOn
+    begun_inside (call.Register enters) h spares all = λ own g is inside. subst (λ (u : World (Node K V)). IsInside (u.uses g.slot)) (sym h) inside
+    begun_inside call.Enter h spares all = others_go (outside_has_nobody h.0 all) (ap (λ (u : World (Node K V)). u.uses) h.1)
+    begun_inside call.Leave h spares all = others_go spares (ap (λ (u : World (Node K V)). u.uses) h.1)
+    begun_inside call.LeaveOwned h spares all = others_go spares (ap (λ (u : World (Node K V)). u.uses) h.1)
+    begun_inside call.Refresh h spares all = others_go spares (ap (λ (u : World (Node K V)). u.uses) h.1)
+    begun_inside call.Unregister h spares all = others_go (outside_has_nobody h.0 all) (ap (λ (u : World (Node K V)). u.uses) h.1)
+    begun_inside call.Flush h spares all = λ own g is inside. subst (λ (u : World (Node K V)). IsInside (u.uses g.slot)) (sym h.1) (inside_on w.uses slot g.slot inside)
 
   begun_log : (called : SlotCall) → Begins deferred_word size i (request_of slot called) w w2 → w2.log ≡ w.log
   begun_log (call.Register enters) h = ap (λ (u : World (Node K V)). u.log) h
@@ -53,24 +57,24 @@ module _ {K V : Type 0} (size slot i : ℕ) (w w2 : World (Node K V)) where
   begun_log call.Unregister h = ap (λ (u : World (Node K V)). u.log) h.1
   begun_log call.Flush h = ap (λ (u : World (Node K V)). u.log) h.1
 
-  module _ (there : Present) (called : SlotCall) (h : Begins deferred_word size i (request_of slot called) w w2) (spares : SparesGuards called slot there) (known : Known) where
+  module _ (there : Present) (called : SlotCall) (h : Begins deferred_word size i (request_of slot called) w w2) (spares : SparesGuards called slot there) (inside : GuardsAreInside there w) (known : Known) where
     one_goes_on : (x : Sheltered) → IsSheltered there w known x → IsSheltered there w2 known x
-    one_goes_on x (come, g, is, inside, each) = (
+    one_goes_on x (come, g, is, in_it, each) = (
       come,
       g,
       is,
-      begun_inside there called h spares x.guard g is inside,
+      begun_inside there called h spares inside x.guard g is in_it,
       λ b of. subst (λ (log : List Happened). holds g.slot b log ≡ true) (sym (begun_log called h)) (each b of),
     )
 
-    begun_shelters : GuardsAreInside there w → (xs : List Sheltered) → AreSheltered there w known xs → GuardsAreInside there w2 × AreSheltered there w2 known xs
-    begun_shelters inside xs all =
-        (λ own g is. begun_inside there called h spares own g is (inside own g is), all_of (IsSheltered there w known) (IsSheltered there w2 known) xs one_goes_on all)
+    begun_shelters : (xs : List Sheltered) → AreSheltered there w known xs → GuardsAreInside there w2 × AreSheltered there w2 known xs
+    begun_shelters xs all =
+        (λ own g is. begun_inside there called h spares inside own g is (inside own g is), all_of (IsSheltered there w known) (IsSheltered there w2 known) xs one_goes_on all)
 
 module _ (K V S : Type 0) (same : K → K → Bool) (hash : K → ℕ) where
   pub rows_begin_shelter : RowsBeginShelter K V S same hash
   rows_begin_shelter s old new called i may leads there spares inside known xs all =
-      let to = (leads may).3 in begun_shelters old.batch_size (slot_of i) i s.world to.0 there called to.1.1 spares known inside xs all
+      let to = (leads may).3 in begun_shelters old.batch_size (slot_of i) i s.world to.0 there called to.1.1 spares inside known xs all
 
 module _ {K V : Type 0} (m : Moment K V) (known : Known) (w : World (Node K V)) (hold : SectionsHold m known w) where
   begins : (own guard : List ℕ) (call : Call K V) (map : Option ℕ) → SectionsHold (with_call own guard call map m) known w
