@@ -27,7 +27,7 @@ use Rattle.papaya_schedules.specs.Things.{same_thing}
 use Rattle.papaya_schedules.specs.Views.{number_of}
 use Rattle.papaya_teller.specs.declared.changed.Changed.{Changed}
 use Rattle.papaya_teller.specs.declared.changed.Changed.TheVariants as changed
-use Rattle.papaya_effects.specs.Effects.{names_same, taken_by, effects_of, known_after}
+use Rattle.papaya_effects.specs.Effects.{names_same, taken_by, effects_of}
 use Rattle.papaya_effects.specs.Known.{Known}
 use Rattle.papaya_effects.specs.declared.acting.Acting.TheVariants as acts
 use Rattle.papaya_effects.specs.declared.role.Role.{Role}

@@ -1,6 +1,6 @@
 -- Where a row begins on a slot, and where nothing happens to slots and blocks, what is sheltered stays so.
 use Rattle.std.specs.Prelude.{◌≡◌, ℕ, Bool, true, false, List, Option, Some, None}
-use Rattle.std.proofs.Common.{refl, ap, sym, subst}
+use Rattle.std.proofs.Common.{ap, sym, subst}
 use Rattle.seize.specs.Law.{Effect as Happened, holds}
 use Rattle.seize.specs.World.{World, Use, Outside, Changing, IsInside, Begins, with_at}
 use Rattle.papaya_tables.specs.Nodes.{deferred_word}

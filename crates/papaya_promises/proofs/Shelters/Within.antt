@@ -1,6 +1,6 @@
 -- Over a step of a call, of a row or none, sections go on, and hold what they held.
-use Rattle.std.specs.Prelude.{◌≡◌, ℕ, Bool, true, List, [], Some, ◌⊎◌}
-use Rattle.std.proofs.Common.{refl, sym, subst, ap, inl, inr}
+use Rattle.std.specs.Prelude.{◌≡◌, ℕ, Bool, true, List, [], Some}
+use Rattle.std.proofs.Common.{refl, sym, subst, inl, inr}
 use Rattle.seize.specs.Law.{Deferred, holds}
 use Rattle.seize.specs.World.{World, Use, Event, Begin, Happens, Runs, IsInside, Request, Register', Enter', Leave', LeaveOwned, Refresh, Unregister', Retire, Flush, Defer'}
 use Rattle.seize_moves.proofs.State.Held.{held_on}
