@@ -45,14 +45,18 @@ module _ (K V : Type 0) where
   -- and of that one, too, once its section is open again.
   abbrev pub OneIsInsideAgain : Type 0
   OneIsInsideAgain =
-      (w : World (Node K V)) (known : Known) (there : Present) (sheltered : List Sheltered) (guard : List ℕ) (g : Guard) → guard_of guard there.guards ≡ Some g → IsInside (w.uses g.slot)
-      → GuardsAreInside (drops guard there) w → AreSheltered (drops guard there) w known sheltered → GuardsAreInside there w × AreSheltered there w known sheltered
+      (w : World (Node K V)) (known : Known) (there : Present) (sheltered : List Sheltered) (guard : List ℕ)
+      → (g : Guard) → guard_of guard there.guards ≡ Some g → IsInside (w.uses g.slot)
+      → GuardsAreInside (drops guard there) w → AreSheltered (drops guard there) w known sheltered
+      → GuardsAreInside there w × AreSheltered there w known sheltered
 
 -- A slot is within a section that the executor has so.
 abbrev pub UsedSlotsAreInside : (K V S : Type 0) → (K → K → Bool) → (K → ℕ) → Type 0
-UsedSlotsAreInside K V S same hash = (s : Scene K V) (e : Executor K V S) → IsAt same hash e s → (slot : ℕ) → use_at e slot ≡ used.Inside → IsInside (s.world.uses slot)
+UsedSlotsAreInside K V S same hash =
+    (s : Scene K V) (e : Executor K V S) → IsAt same hash e s → (slot : ℕ) → use_at e slot ≡ used.Inside → IsInside (s.world.uses slot)
 
 -- The slot of the only guard on it has nobody without that one.
 abbrev pub OnlyGuardsLeaveNobody : Type 0
 OnlyGuardsLeaveNobody =
-    (there : Present) → HaveNames there → (guard : List ℕ) (g : Guard) → guard_of guard there.guards ≡ Some g → guards_on g.slot there.guards ≡ 1 → NobodyOn g.slot (drops guard there)
+    (there : Present) → HaveNames there → (guard : List ℕ) (g : Guard) → guard_of guard there.guards ≡ Some g → guards_on g.slot there.guards ≡ 1
+    → NobodyOn g.slot (drops guard there)

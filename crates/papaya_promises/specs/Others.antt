@@ -49,9 +49,10 @@ module _ (K V S : Type 0) (same : K → K → Bool) (hash : K → ℕ) where
   -- The promises: a step of the making of a map leaves guards within their sections, and sheltered what is so; it reclaims nothing.
   abbrev pub MakingsShelter : Type 0
   MakingsShelter =
-      (name : ℕ → List ℕ) (m : Moment K V) (known : Known) (s : Scene K V) (old new : Executor K V S) → IsAt same hash old s → ShowsWhole same name m known s
-      → (i : ℕ) (told : Progress Setting) (leads : MakingLeads same hash i told s old new) (b : Beginning K) (here : s.makers i ≡ Some b) (of : Option ℕ) → IsNewFor b.map told m
-      → SectionsHold m known s.world
+      (name : ℕ → List ℕ) (m : Moment K V) (known : Known) (s : Scene K V) (old new : Executor K V S) → IsAt same hash old s
+      → ShowsWhole same name m known s
+      → (i : ℕ) (told : Progress Setting) (leads : MakingLeads same hash i told s old new) (b : Beginning K) (here : s.makers i ≡ Some b) (of : Option ℕ)
+      → IsNewFor b.map told m → SectionsHold m known s.world
       → (let to = leads b here in
       let effects = effects_of (acts.Making b.map) known new.memory.changed in
       GuardsAreInside m.there to.2.step.w2
@@ -61,9 +62,10 @@ module _ (K V S : Type 0) (same : K → K → Bool) (hash : K → ℕ) where
   -- So does one of the end of a map, which takes blocks away.
   abbrev pub EndingsShelter : Type 0
   EndingsShelter =
-      (name : ℕ → List ℕ) (m : Moment K V) (known : Known) (s : Scene K V) (old new : Executor K V S) → IsAt same hash old s → ShowsWhole same name m known s
-      → (i : ℕ) (told : Settled (Node K V)) (leads : EndingLeads same hash i told s old new) (f : Finishing K V) (here : s.enders i ≡ Some f) (map : ℕ) → s.maps map ≡ None
-      → SectionsHold m known s.world
+      (name : ℕ → List ℕ) (m : Moment K V) (known : Known) (s : Scene K V) (old new : Executor K V S) → IsAt same hash old s
+      → ShowsWhole same name m known s
+      → (i : ℕ) (told : Settled (Node K V)) (leads : EndingLeads same hash i told s old new) (f : Finishing K V) (here : s.enders i ≡ Some f) (map : ℕ)
+      → s.maps map ≡ None → SectionsHold m known s.world
       → (let to = leads f here in
       let effects = effects_of (acts.Ending map) known new.memory.changed in
       GuardsAreInside m.there to.2.w2
@@ -73,8 +75,9 @@ module _ (K V S : Type 0) (same : K → K → Bool) (hash : K → ℕ) where
   -- Where a row begins on a slot, they do so, too, if it ends the section of none of them.
   abbrev pub RowsBeginShelter : Type 0
   RowsBeginShelter =
-      (s : Scene K V) (old new : Executor K V S) (called : SlotCall) (i : ℕ) (may : MayBegin old (slot_of i) called) (leads : RowBegins same hash called i s old new)
-      → (there : Present) → SparesGuards called (slot_of i) there → GuardsAreInside there s.world → (known : Known) (sheltered : List Sheltered) → AreSheltered there s.world known sheltered
+      (s : Scene K V) (old new : Executor K V S) (called : SlotCall) (i : ℕ) (may : MayBegin old (slot_of i) called)
+      → (leads : RowBegins same hash called i s old new) → (there : Present) → SparesGuards called (slot_of i) there → GuardsAreInside there s.world
+      → (known : Known) (sheltered : List Sheltered) → AreSheltered there s.world known sheltered
       → (let then = (leads may).3.0 in GuardsAreInside there then × AreSheltered there then known sheltered)
 
 module _ {K V : Type 0} (m : Moment K V) (known : Known) (w : World (Node K V)) where

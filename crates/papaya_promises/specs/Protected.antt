@@ -1,4 +1,4 @@
--- What is promised of an event as it goes on: guards whose sections it does not end are within these, and what left its map there is sheltered and not reclaimed.
+-- What is promised of an event as it goes on: what left its map in sections that it does not end is sheltered by these, and not reclaimed.
 use Rattle.std.specs.Prelude.{◌≡◌, ℕ, Bool, true, false, List, [], ◌++◌, Option, Some, None, flat_map}
 use Rattle.seize.specs.World.{World, Step, IsInside}
 use Rattle.seize.specs.declared.progress.Progress.{Progress as Making}
@@ -95,7 +95,8 @@ module _ {K V : Type 0} where
 module _ (K V : Type 0) where
   -- The promises: so it is where an event begins,
   abbrev pub EventsBeginProtected : Type 0
-  EventsBeginProtected = (m : Moment K V) (known : Known) (w : World (Node K V)) → SectionsHold m known w → (e : Entry K V) → InMidst e.event [] (at_work e m) known w
+  EventsBeginProtected =
+      (m : Moment K V) (known : Known) (w : World (Node K V)) → SectionsHold m known w → (e : Entry K V) → InMidst e.event [] (at_work e m) known w
 
   -- and where it ends it is protected, and the sections hold what they do.
   abbrev pub EventsEndProtected : Type 0
@@ -105,7 +106,8 @@ module _ (K V : Type 0) where
 
   -- Where everything is reclaimed it is so, whatever is done.
   abbrev pub AllIsEndedProtected : Type 0
-  AllIsEndedProtected = (done : List Effect) (m : Moment K V) (known : Known) (w : World (Node K V)) → InMidst ReclaimAll done m known w × InMidst Close done m known w
+  AllIsEndedProtected =
+      (done : List Effect) (m : Moment K V) (known : Known) (w : World (Node K V)) → InMidst ReclaimAll done m known w × InMidst Close done m known w
 
   -- The sections hold what they do after an event, too, that does nothing to pairs and blocks.
   abbrev pub IdleEventsAreProtected : Type 0
@@ -117,7 +119,8 @@ module _ (K V S : Type 0) (same : K → K → Bool) (hash : K → ℕ) where
   -- It goes on so by a step of a call,
   abbrev pub CallsProtect : Type 0
   CallsProtect =
-      (name : ℕ → List ℕ) (m : Moment K V) (known : Known) (s : Scene K V) (old new : Executor K V S) → IsAt same hash old s → ShowsWhole same name m known s
+      (name : ℕ → List ℕ) (m : Moment K V) (known : Known) (s : Scene K V) (old new : Executor K V S) → IsAt same hash old s
+      → ShowsWhole same name m known s
       → (map i : ℕ) (u : UnderWay K V K) (here : s.calls map i ≡ Some u) (told : Progress (Node K V)) (leads : StepLeads same hash i told s old new)
       → (event : Event K V) → is_of_slots event ≡ false → (done : List Effect) → InMidst event done m known s.world
       → (let to = leads map u here in
@@ -127,9 +130,10 @@ module _ (K V S : Type 0) (same : K → K → Bool) (hash : K → ℕ) where
   -- of a making,
   abbrev pub MakingsProtect : Type 0
   MakingsProtect =
-      (name : ℕ → List ℕ) (m : Moment K V) (known : Known) (s : Scene K V) (old new : Executor K V S) → IsAt same hash old s → ShowsWhole same name m known s
-      → (i : ℕ) (told : Making Setting) (leads : MakingLeads same hash i told s old new) (b : Beginning K) (here : s.makers i ≡ Some b) (of : Option ℕ) → IsNewFor b.map told m
-      → (event : Event K V) → is_of_slots event ≡ false → (done : List Effect) → InMidst event done m known s.world
+      (name : ℕ → List ℕ) (m : Moment K V) (known : Known) (s : Scene K V) (old new : Executor K V S) → IsAt same hash old s
+      → ShowsWhole same name m known s
+      → (i : ℕ) (told : Making Setting) (leads : MakingLeads same hash i told s old new) (b : Beginning K) (here : s.makers i ≡ Some b) (of : Option ℕ)
+      → IsNewFor b.map told m → (event : Event K V) → is_of_slots event ≡ false → (done : List Effect) → InMidst event done m known s.world
       → (let to = leads b here in
       let effects = effects_of (acts.Making b.map) known new.memory.changed in
       InMidst event (done ++ effects) (with_effects None of effects m) (known_after (acts.Making b.map) new.memory.changed known) to.2.step.w2)
@@ -137,9 +141,10 @@ module _ (K V S : Type 0) (same : K → K → Bool) (hash : K → ℕ) where
   -- and of an end;
   abbrev pub EndingsProtect : Type 0
   EndingsProtect =
-      (name : ℕ → List ℕ) (m : Moment K V) (known : Known) (s : Scene K V) (old new : Executor K V S) → IsAt same hash old s → ShowsWhole same name m known s
-      → (i : ℕ) (told : Settled (Node K V)) (leads : EndingLeads same hash i told s old new) (f : Finishing K V) (here : s.enders i ≡ Some f) (map : ℕ) → s.maps map ≡ None
-      → (event : Event K V) → is_of_slots event ≡ false → (done : List Effect) → InMidst event done m known s.world
+      (name : ℕ → List ℕ) (m : Moment K V) (known : Known) (s : Scene K V) (old new : Executor K V S) → IsAt same hash old s
+      → ShowsWhole same name m known s
+      → (i : ℕ) (told : Settled (Node K V)) (leads : EndingLeads same hash i told s old new) (f : Finishing K V) (here : s.enders i ≡ Some f) (map : ℕ)
+      → s.maps map ≡ None → (event : Event K V) → is_of_slots event ≡ false → (done : List Effect) → InMidst event done m known s.world
       → (let to = leads f here in
       let effects = effects_of (acts.Ending map) known new.memory.changed in
       InMidst event (done ++ effects) (with_effects None (Some map) effects m) (known_after (acts.Ending map) new.memory.changed known) to.2.w2)
@@ -147,15 +152,17 @@ module _ (K V S : Type 0) (same : K → K → Bool) (hash : K → ℕ) where
   -- where a row begins on a slot that has none of those guards, if it ends its section,
   abbrev pub RowsBeginProtect : Type 0
   RowsBeginProtect =
-      (m : Moment K V) (known : Known) (s : Scene K V) (old new : Executor K V S) (called : SlotCall) (i : ℕ) (may : MayBegin old (slot_of i) called) (leads : RowBegins same hash called i s old new)
-      → (event : Event K V) → SparesGuards called (slot_of i) (there_in event m.there) → (done : List Effect) → InMidst event done m known s.world
-      → InMidst event done m known (leads may).3.0
+      (m : Moment K V) (known : Known) (s : Scene K V) (old new : Executor K V S) (called : SlotCall) (i : ℕ) (may : MayBegin old (slot_of i) called)
+      → (leads : RowBegins same hash called i s old new) → (event : Event K V) → SparesGuards called (slot_of i) (there_in event m.there)
+      → (done : List Effect) → InMidst event done m known s.world → InMidst event done m known (leads may).3.0
 
   -- and by a step of it.
   abbrev pub RowsProtect : Type 0
   RowsProtect =
-      (name : ℕ → List ℕ) (m : Moment K V) (known : Known) (s : Scene K V) (old new : Executor K V S) → IsAt same hash old s → ShowsWhole same name m known s
+      (name : ℕ → List ℕ) (m : Moment K V) (known : Known) (s : Scene K V) (old new : Executor K V S) → IsAt same hash old s
+      → ShowsWhole same name m known s
       → (i : ℕ) (told : RowTold (Node K V)) (leads : RowLeads same hash i told s old new) (row : SlotRow) (here : work_of old i ≡ Some (OnSlot row))
       → (event : Event K V) → is_of_slots event ≡ true → (done : List Effect) → InMidst event done m known s.world
       → (let effects = effects_of acts.Row known new.memory.changed in
-      InMidst event (done ++ effects) (with_effects None None effects m) (known_after acts.Row new.memory.changed known) (scene_then same hash (Step i) s old new (leads row here).4).world)
+      InMidst event (done ++ effects) (with_effects None None effects m) (known_after acts.Row new.memory.changed known)
+      (scene_then same hash (Step i) s old new (leads row here).4).world)
