@@ -3,3 +3,4 @@ pub mod Shelters
 pub mod Guards
 pub mod Protected
 pub mod Weights
+mod Samples

@@ -1,5 +1,6 @@
 -- What is promised of what left its map, where anything else happens than a step of a call or of a row: it is sheltered still.
 use Rattle.std.specs.Prelude.{◌≡◌, ℕ, Bool, List, [], Option, Some, None, flat_map}
+use Rattle.seize_words.specs.Mem.{Mem}
 use Rattle.seize.specs.Law.{Ended}
 use Rattle.seize.specs.World.{World, with_effect}
 use Rattle.seize.specs.declared.progress.Progress.{Progress}
@@ -88,11 +89,12 @@ module _ {K V : Type 0} (m : Moment K V) (known : Known) (w : World (Node K V)) 
     pub comes_to : (own : List ℕ) (outcome : Outcome V) (steps : ℕ) → SectionsHold (come_to own outcome steps m) known w
     pub stops : (own : List ℕ) (stopped : Bool) → SectionsHold (given_up own stopped m) known w
 
-  -- where a map comes, where its owner ends, as its end begins, and where that is over.
+  -- where a map comes, where its owner ends, as its end begins, and where that is over; whatever the memory has.
   pub record HoldByMaps : Type 0 where
     pub comes : (there : MapThere) → SectionsHold (with_map there m) known w
     pub ends : (owner : ℕ) → SectionsHold m known (with_effect w (Ended owner))
     pub over : (own : List ℕ) (remains : List Remains) → SectionsHold (without_map own remains m) known w
+    pub has : (memory : Mem (Node K V)) → SectionsHold m known (record w { memory = memory })
 
 -- The promise: so it is.
 abbrev pub SectionsGoOn : Type 0 → Type 0 → Type 0

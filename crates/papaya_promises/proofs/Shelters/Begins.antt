@@ -89,7 +89,7 @@ module _ {K V : Type 0} (m : Moment K V) (known : Known) (w : World (Node K V)) 
   hold_by_calls = record { begins = begins; takes = λ own reply. (hold.0, hold.1); comes_to = λ own outcome steps. (hold.0, hold.1); stops = stops }
 
   hold_by_maps : HoldByMaps m known w
-  hold_by_maps = record { comes = λ there. (hold.0, hold.1); ends = λ owner. (hold.0, hold.1); over = λ own remains. (hold.0, hold.1) }
+  hold_by_maps = record { comes = λ there. (hold.0, hold.1); ends = λ owner. (hold.0, hold.1); over = λ own remains. (hold.0, hold.1); has = λ memory. (hold.0, hold.1) }
 
 pub sections_go_on : (K V : Type 0) → SectionsGoOn K V
 sections_go_on K V m known w hold = (hold_by_calls m known w hold, hold_by_maps m known w hold)
