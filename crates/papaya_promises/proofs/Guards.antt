@@ -21,12 +21,10 @@ use Rattle.papaya_schedules.specs.Moment.{Sheltered}
 use Rattle.papaya_effects.specs.Known.{Known}
 use Rattle.papaya_executor.specs.IsAt.{IsUsedAs}
 use Rattle.papaya_executor.specs.declared.row.SlotUse.{SlotUse}
+use Rattle.papaya_follows.proofs.Steps.{one_of}
 use Rattle.papaya_promises.specs.Guards.{EntersInside, GuardsComeAndGo, OthersStayInside, OneIsInsideAgain, UsedSlotsAreInside, OnlyGuardsLeaveNobody}
 use Rattle.papaya_promises.specs.Sheltered.{GuardsAreInside, IsSheltered, AreSheltered}
 use Rattle.papaya_promises.proofs.Lists.{all_of}
-
-one_guard : (a b : Guard) → Some a ≡ Some b → a ≡ b
-one_guard a b e = cc e
 
 pub no_guard : {A : Type 0} (g : Guard) → None ≡ Some g → A
 no_guard g e = absurd (cc e)
@@ -151,8 +149,8 @@ module _ {K V : Type 0} (w : World (Node K V)) (known : Known) (there : Present)
         guards own g is = by (guard_of own there.guards) refl (is_same guard own) (sym (found own) ∙ is)
           where
             by : (o : Option Guard) → guard_of own there.guards ≡ o → (q : Bool) → option_or o (cond q (Some new) None) ≡ Some g → IsInside (w.uses g.slot)
-            by (Some y) e q f = subst (λ (z : Guard). IsInside (w.uses z.slot)) (one_guard y g f) (inside own y e)
-            by None e true f = subst (λ (z : Guard). IsInside (w.uses z.slot)) (one_guard new g f) in_it
+            by (Some y) e q f = subst (λ (z : Guard). IsInside (w.uses z.slot)) (one_of y g f) (inside own y e)
+            by None e true f = subst (λ (z : Guard). IsInside (w.uses z.slot)) (one_of new g f) in_it
             by None e false f = no_guard g f
 
     -- one was forgotten
@@ -168,7 +166,7 @@ module _ {K V : Type 0} (w : World (Node K V)) (known : Known) (there : Present)
           where
             by : (o : Option Guard) → guard_of own there.guards ≡ o → option_map (forgotten_as name) o ≡ Some g → IsInside (w.uses g.slot)
             by (Some y) e f =
-                subst (λ (z : Guard). IsInside (w.uses z.slot)) (one_guard (forgotten_as name y) g f)
+                subst (λ (z : Guard). IsInside (w.uses z.slot)) (one_of (forgotten_as name y) g f)
                 (subst (λ (t : ℕ). IsInside (w.uses t)) (sym (forgotten_same name y).1) (inside own y e))
             by None e f = no_guard g f
 
@@ -191,7 +189,7 @@ module _ {K V : Type 0} (w : World (Node K V)) (known : Known) (there : Present)
       where
         by : (q : Bool) → is_same own guard ≡ q → IsInside (w.uses h.slot)
         by true e =
-            subst (λ (z : Guard). IsInside (w.uses z.slot)) (one_guard g h (sym is_g ∙ sym (ap (λ (x : List ℕ). guard_of x there.guards) ((same_tells own guard).0 e)) ∙ is)) in_it
+            subst (λ (z : Guard). IsInside (w.uses z.slot)) (one_of g h (sym is_g ∙ sym (ap (λ (x : List ℕ). guard_of x there.guards) ((same_tells own guard).0 e)) ∙ is)) in_it
         by false e = inside own h (as_before own guard e there.guards ∙ is)
 
 module _ {K V : Type 0} (w : World (Node K V)) (known : Known) (there : Present) (guard : List ℕ) where
@@ -208,7 +206,7 @@ free_has_nobody slot (x ∷ guards) none own g is on = by (is_same x.name own) i
   where
     by : (q : Bool) → cond q (Some x) (guard_of own guards) ≡ Some g → (guard_of own guards ≡ Some g → g.slot ≡ slot → ⊥) → ⊥
     by true e later =
-        let here : x.slot ≡ slot = ap (λ (y : Guard). y.slot) (one_guard x g e) ∙ on in
+        let here : x.slot ≡ slot = ap (λ (y : Guard). y.slot) (one_of x g e) ∙ on in
         let counted : ◌≡◌ {A = ℕ} (cond (x.slot == slot) 1 0) 1 = ap (λ (q : Bool). cond q 1 0) (eq-eqb x.slot slot here) in
         absurd (omega (arith, none, counted))
     by false e later = later e on

@@ -9,8 +9,6 @@ use Rattle.papaya_tables.specs.declared.node.Node.{Node}
 use Rattle.papaya_runs.specs.Present.{Present, slot_of_registration}
 use Rattle.papaya_schedules.specs.declared.call.Call.{Call}
 use Rattle.papaya_schedules.specs.declared.effect.Effect.{Effect}
-use Rattle.papaya_schedules.specs.declared.effect.Effect.TheVariants.{Asked}
-use Rattle.papaya_schedules.specs.declared.effect.Growth.TheVariants.{ABucket}
 use Rattle.papaya_schedules.specs.declared.effect.Thing.{Thing}
 use Rattle.papaya_schedules.specs.declared.event.Event.{Event}
 use Rattle.papaya_schedules.specs.declared.event.Event.TheVariants.{Register, Unregister, Enter, Own, Refresh, Flush, DropGuard, Forget, ReclaimAll, Close, MakeMap, Begin, OneCall}
@@ -43,7 +41,7 @@ use Rattle.papaya_promises.proofs.Shelters.Calls.{calls_shelter}
 use Rattle.papaya_promises.proofs.Shelters.Ends.{endings_shelter}
 use Rattle.papaya_promises.proofs.Shelters.Events.{steps_protect, events_are_protected}
 use Rattle.papaya_promises.proofs.Shelters.Makings.{makings_shelter}
-use Rattle.papaya_promises.proofs.Shelters.Outs.{KeepsIn, keep_all}
+use Rattle.papaya_promises.proofs.Shelters.Outs.{KeepsIn, room_keeps, keep_all}
 use Rattle.papaya_promises.proofs.Shelters.Rows.{none_back, rows_shelter}
 
 -- what work begins, and what it does, leaves who is there
@@ -106,10 +104,6 @@ nothing_keeps : (q : Bool) → AllByRecursion KeepsIn (if q then [] else [])
 nothing_keeps true = tt
 nothing_keeps false = tt
 
-roomed_keeps : (q : Bool) → AllByRecursion KeepsIn (if q then [] else Asked ABucket ∷ [])
-roomed_keeps true = tt
-roomed_keeps false = (tt, tt)
-
 row_keeps_in : (known : Known) (told : Changed) → TellsRow told → AllByRecursion KeepsIn (effects_of acts.Row known told)
 row_keeps_in known changed.Nothing is = tt
 row_keeps_in known (changed.Wrote (SlotWord t field) before now) is = tt
@@ -120,7 +114,7 @@ row_keeps_in known (changed.Wrote (Word b field) before now) is = absurd is
 row_keeps_in known (changed.Made kind b) is = absurd is
 row_keeps_in known (changed.Unmade kind) is = absurd is
 row_keeps_in known (changed.Took b) is = taken_keeps (known.roles b)
-row_keeps_in known (changed.Roomed bucket had) is = roomed_keeps (nat_lt bucket known.buckets)
+row_keeps_in known (changed.Roomed bucket had) is = room_keeps (nat_lt bucket known.buckets)
 
 -- work that is none of rows ends no section
 as_it_is : {K V : Type 0} (event : Event K V) → is_of_slots event ≡ false → (there : Present) (xs : List Sheltered) → (there_in event there ≡ there) × (sheltered_on event Done xs ≡ xs)

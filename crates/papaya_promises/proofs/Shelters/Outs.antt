@@ -62,6 +62,10 @@ pub calm_keep : (effects : List Effect) → AllCalm effects → AllByRecursion K
 calm_keep [] all = tt
 calm_keep (f ∷ effects) all = (calm_keeps f all.0, calm_keep effects all.1)
 
+pub room_keeps : (q : Bool) → AllByRecursion KeepsIn (if q then [] else Asked ABucket ∷ [])
+room_keeps true = tt
+room_keeps false = (tt, tt)
+
 calm_back : (f : Effect) → is_calm f ≡ true → thing_back f ≡ []
 calm_back (Reclaimed x) e = absurd (cc e)
 calm_back _ e = refl
