@@ -65,20 +65,20 @@ there_in ReclaimAll there = nobody
 there_in Close there = nobody
 there_in _ there = there
 
--- rows have reclaimed nothing of this so far, and other work nothing at all
+-- so far rows have reclaimed nothing that is sheltered, and other work has reclaimed nothing at all
 abbrev pub HasSpared : Bool → List Effect → List Sheltered → Type 0
 HasSpared true done sheltered = NoneIsBack done sheltered
 HasSpared false done sheltered = flat_map thing_back done ≡ []
 
 module _ {K V : Type 0} where
-  -- So it is in the midst of the event, once it has done this and the moment so far is this one.
+  -- In the midst of an event, once it has done this: those guards are within their sections, which shelter what they do, and none of that was reclaimed.
   pub record InMidst (event : Event K V) (done : List Effect) (m : Moment K V) (known : Known) (w : World (Node K V)) : Type 0 where
     pub inside : GuardsAreInside (there_in event m.there) w
     pub sheltered : AreSheltered (there_in event m.there) w known (sheltered_on event Done m.sheltered)
     pub spared : HasSpared (is_of_slots event) done (sheltered_on event Done m.sheltered)
 
   module _ (w : World (Node K V)) where
-    -- as it ends, a guard that has entered is within a section, and one that was refreshed within a new one; one that ends sections was done
+    -- as it ends, a guard that has entered is within a section, and one that was refreshed within a new one; an event that ends sections was done
     abbrev pub EndsInside : Event K V → Outcome V → Present → Type 0
     EndsInside (Enter guard registration) Done there = IsInside (w.uses (slot_of_registration registration there))
     EndsInside (Own guard) (Slot s) there = IsInside (w.uses s)
