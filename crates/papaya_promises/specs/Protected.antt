@@ -16,7 +16,7 @@ use Rattle.papaya_schedules.specs.declared.outcome.Outcome.TheVariants.{Done, Sl
 use Rattle.papaya_schedules.specs.After.{sheltered_on, after, moment}
 use Rattle.papaya_schedules.specs.Beginning.{at_work}
 use Rattle.papaya_schedules.specs.Effects.{with_effects, worked}
-use Rattle.papaya_schedules.specs.Entry.{Entry}
+use Rattle.papaya_schedules.specs.Entry.{Entry, caller_of, acted_on}
 use Rattle.papaya_schedules.specs.Model.{thing_back}
 use Rattle.papaya_schedules.specs.Moment.{Sheltered, Moment}
 use Rattle.papaya_schedules.specs.Reclaims.{IsProtected}
@@ -103,6 +103,13 @@ module _ (K V : Type 0) where
   EventsEndProtected =
       (log : List (Entry K V)) (e : Entry K V) (known : Known) (w : World (Node K V)) → InMidst e.event e.effects (worked e (moment log)) known w
       → EndsInside w e.event e.outcome (moment log).there → IsProtected log e × SectionsHold (after e (moment log)) known w
+
+  -- So does one that takes steps of a call, where the moment so far has the effects of these.
+  abbrev pub CallEventsEndProtected : Type 0
+  CallEventsEndProtected =
+      (log : List (Entry K V)) (e : Entry K V) (begun m : Moment K V) (own : List ℕ) (map : ℕ) (known : Known) (w : World (Node K V))
+      → at_work e (moment log) ≡ begun → caller_of e.event ≡ Some own → acted_on e.event begun ≡ Some map → m ≡ with_effects (Some own) (Some map) e.effects begun
+      → InMidst e.event e.effects m known w → IsProtected log e × SectionsHold (after e (moment log)) known w
 
   -- Where everything is reclaimed it is so, whatever is done.
   abbrev pub AllIsEndedProtected : Type 0
