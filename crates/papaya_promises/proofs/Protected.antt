@@ -32,7 +32,7 @@ use Rattle.papaya_effects.specs.declared.role.Role.{Role}
 use Rattle.papaya_effects.specs.declared.role.Role.TheVariants as role
 use Rattle.papaya_others.proofs.RowPlans.{TellsRow, row_tells}
 use Rattle.papaya_promises.specs.Guards.{EntersInside}
-use Rattle.papaya_promises.specs.Protected.{is_of_slots, there_in, HasSpared, InMidst, EndsInside, EventsBeginProtected, EventsEndProtected, CallEventsEndProtected, AllIsEndedProtected, IdleEventsAreProtected, CallsProtect, MakingsProtect, EndingsProtect, RowsBeginProtect, RowsProtect}
+use Rattle.papaya_promises.specs.Protected.{is_of_slots, there_in, HasSpared, InMidst, EndsInside, EventsBeginProtected, EventsEndProtected, CallEventsEndProtected, SlotEventsEndProtected, AllIsEndedProtected, IdleEventsAreProtected, CallsProtect, MakingsProtect, EndingsProtect, RowsBeginProtect, RowsProtect}
 use Rattle.papaya_promises.specs.Sheltered.{GuardsAreInside, AreSheltered, SectionsHold}
 use Rattle.papaya_promises.specs.Shelters.{NoneIsBack}
 use Rattle.papaya_promises.proofs.Guards.{drops_stay, enters_stay, forgets_stay, no_guard, guards_come_and_go, one_is_inside_again}
@@ -216,6 +216,22 @@ of_callers w (Go caller refuse) outcome own there is = tt
 of_callers w (Next caller) outcome own there is = tt
 of_callers w _ outcome own there is = absurd (cc is)
 
+-- and one of rows begins nothing, and acts on no map
+abbrev ActsOnNone : {K V : Type 0} → Event K V → Type 0
+ActsOnNone {K} {V} event = (caller_of event ≡ None) × ((outcome : Outcome V) (m : Moment K V) → begun event outcome m ≡ m) × ((m : Moment K V) → acted_on event m ≡ None)
+
+of_slots : {K V : Type 0} (event : Event K V) → is_of_slots event ≡ true → ActsOnNone event
+of_slots (Register registration) is = (refl, λ outcome m. refl, λ m. refl)
+of_slots (Unregister registration) is = (refl, λ outcome m. refl, λ m. refl)
+of_slots (Enter guard registration) is = (refl, λ outcome m. refl, λ m. refl)
+of_slots (Own guard) is = (refl, λ outcome m. refl, λ m. refl)
+of_slots (Refresh guard) is = (refl, λ outcome m. refl, λ m. refl)
+of_slots (Flush guard) is = (refl, λ outcome m. refl, λ m. refl)
+of_slots (DropGuard guard) is = (refl, λ outcome m. refl, λ m. refl)
+of_slots ReclaimAll is = (refl, λ outcome m. refl, λ m. refl)
+of_slots Close is = (refl, λ outcome m. refl, λ m. refl)
+of_slots _ is = absurd (cc is)
+
 module _ (K V : Type 0) where
   pub events_begin_protected : EventsBeginProtected K V
   events_begin_protected m known w hold e =
@@ -249,6 +265,17 @@ module _ (K V : Type 0) where
           ap (λ (b : Moment K V). with_effects (caller_of e.event) (acted_on e.event b) e.effects b) begins
           ∙ ap (λ (o : Option (List ℕ)). with_effects o (acted_on e.event begun_so) e.effects begun_so) caller
           ∙ ap (λ (o : Option ℕ). with_effects (Some own) o e.effects begun_so) acted ∙ sym is
+
+  pub slot_events_end_protected : SlotEventsEndProtected K V
+  slot_events_end_protected log e m known w on is midst so =
+      events_end_protected log e known w (subst (λ (v : Moment K V). InMidst e.event e.effects v known w) (sym worked_is) midst) so
+    where
+      worked_is : worked e (moment log) ≡ m
+      worked_is =
+          let acts_on = of_slots e.event on in
+          ap (λ (b : Moment K V). with_effects (caller_of e.event) (acted_on e.event b) e.effects b) (acts_on.1 e.outcome (moment log))
+          ∙ ap (λ (o : Option (List ℕ)). with_effects o (acted_on e.event (moment log)) e.effects (moment log)) acts_on.0
+          ∙ ap (λ (o : Option ℕ). with_effects None o e.effects (moment log)) (acts_on.2 (moment log)) ∙ sym is
 
   pub idle_events_are_protected : IdleEventsAreProtected K V
   idle_events_are_protected log e known w none hold so =
