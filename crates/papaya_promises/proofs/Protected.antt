@@ -11,7 +11,7 @@ use Rattle.papaya_schedules.specs.declared.call.Call.{Call}
 use Rattle.papaya_schedules.specs.declared.effect.Effect.{Effect}
 use Rattle.papaya_schedules.specs.declared.effect.Thing.{Thing}
 use Rattle.papaya_schedules.specs.declared.event.Event.{Event}
-use Rattle.papaya_schedules.specs.declared.event.Event.TheVariants.{Register, Unregister, Enter, Own, Refresh, Flush, DropGuard, Forget, ReclaimAll, Close, MakeMap, Begin, OneCall, Step, Go, Next}
+use Rattle.papaya_schedules.specs.declared.event.Event.TheVariants.{Register, Unregister, Enter, Own, Refresh, Flush, DropGuard, Forget, ReclaimAll, Close, MakeMap, Begin, OneCall}
 use Rattle.papaya_schedules.specs.declared.outcome.Outcome.{Outcome}
 use Rattle.papaya_schedules.specs.declared.outcome.Outcome.TheVariants.{Done, Slot, Goes}
 use Rattle.papaya_schedules.specs.After.{there_on, unsheltered, sheltered_on, after, moment}
@@ -32,7 +32,7 @@ use Rattle.papaya_effects.specs.declared.role.Role.{Role}
 use Rattle.papaya_effects.specs.declared.role.Role.TheVariants as role
 use Rattle.papaya_others.proofs.RowPlans.{TellsRow, row_tells}
 use Rattle.papaya_promises.specs.Guards.{EntersInside}
-use Rattle.papaya_promises.specs.Protected.{is_of_slots, there_in, HasSpared, InMidst, EndsInside, EventsBeginProtected, EventsEndProtected, CallEventsEndProtected, SlotEventsEndProtected, AllIsEndedProtected, IdleEventsAreProtected, CallsProtect, MakingsProtect, EndingsProtect, RowsBeginProtect, RowsProtect}
+use Rattle.papaya_promises.specs.Protected.{is_of_slots, there_in, HasSpared, InMidst, EndsInside, EventsBeginProtected, EventsEndProtected, OtherEventsEndProtected, SlotEventsEndProtected, AllIsEndedProtected, IdleEventsAreProtected, CallsProtect, MakingsProtect, EndingsProtect, RowsBeginProtect, RowsProtect}
 use Rattle.papaya_promises.specs.Sheltered.{GuardsAreInside, AreSheltered, SectionsHold}
 use Rattle.papaya_promises.specs.Shelters.{NoneIsBack}
 use Rattle.papaya_promises.proofs.Guards.{drops_stay, enters_stay, forgets_stay, no_guard, guards_come_and_go, one_is_inside_again}
@@ -208,13 +208,18 @@ module _ {K V : Type 0} (w : World (Node K V)) (known : Known) (there : Present)
   same_left Close _ so = absurd so
   same_left _ _ so = refl
 
--- an event that takes steps of a call ends no section
-of_callers : {K V : Type 0} (w : World (Node K V)) (event : Event K V) (outcome : Outcome V) (own : List ℕ) (there : Present) → caller_of event ≡ Some own → EndsInside w event outcome there
-of_callers w (OneCall guard map call) outcome own there is = tt
-of_callers w (Step caller refuse) outcome own there is = tt
-of_callers w (Go caller refuse) outcome own there is = tt
-of_callers w (Next caller) outcome own there is = tt
-of_callers w _ outcome own there is = absurd (cc is)
+-- an event that is none of rows ends no section
+of_others : {K V : Type 0} (w : World (Node K V)) (event : Event K V) (outcome : Outcome V) (there : Present) → is_of_slots event ≡ false → EndsInside w event outcome there
+of_others w (Register registration) outcome there out = absurd (cc out)
+of_others w (Unregister registration) outcome there out = absurd (cc out)
+of_others w (Enter guard registration) outcome there out = absurd (cc out)
+of_others w (Own guard) outcome there out = absurd (cc out)
+of_others w (Refresh guard) outcome there out = absurd (cc out)
+of_others w (Flush guard) outcome there out = absurd (cc out)
+of_others w (DropGuard guard) outcome there out = absurd (cc out)
+of_others w ReclaimAll outcome there out = absurd (cc out)
+of_others w Close outcome there out = absurd (cc out)
+of_others w _ outcome there out = tt
 
 -- and one of rows begins nothing, and acts on no map
 abbrev ActsOnNone : {K V : Type 0} → Event K V → Type 0
@@ -255,16 +260,15 @@ module _ (K V : Type 0) where
         ends_in w known v.there v.sheltered e.event e.outcome ends midst.inside midst.sheltered,
       )
 
-  pub call_events_end_protected : CallEventsEndProtected K V
-  call_events_end_protected log e begun_so m own map known w begins caller acted is midst =
-      events_end_protected log e known w (subst (λ (v : Moment K V). InMidst e.event e.effects v known w) (sym worked_is) midst)
-      (of_callers w e.event e.outcome own (moment log).there caller)
+  pub other_events_end_protected : OtherEventsEndProtected K V
+  other_events_end_protected log e begun_so m caller map known w out begins called acted is midst =
+      events_end_protected log e known w (subst (λ (v : Moment K V). InMidst e.event e.effects v known w) (sym worked_is) midst) (of_others w e.event e.outcome (moment log).there out)
     where
       worked_is : worked e (moment log) ≡ m
       worked_is =
           ap (λ (b : Moment K V). with_effects (caller_of e.event) (acted_on e.event b) e.effects b) begins
-          ∙ ap (λ (o : Option (List ℕ)). with_effects o (acted_on e.event begun_so) e.effects begun_so) caller
-          ∙ ap (λ (o : Option ℕ). with_effects (Some own) o e.effects begun_so) acted ∙ sym is
+          ∙ ap (λ (o : Option (List ℕ)). with_effects o (acted_on e.event begun_so) e.effects begun_so) called
+          ∙ ap (λ (o : Option ℕ). with_effects caller o e.effects begun_so) acted ∙ sym is
 
   pub slot_events_end_protected : SlotEventsEndProtected K V
   slot_events_end_protected log e m known w on is midst so =

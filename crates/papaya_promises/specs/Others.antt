@@ -52,8 +52,8 @@ module _ (K V S : Type 0) (same : K → K → Bool) (hash : K → ℕ) where
   MakingsShelter =
       (name : ℕ → List ℕ) (m : Moment K V) (known : Known) (s : Scene K V) (old new : Executor K V S) → IsAt same hash old s
       → ShowsWhole same name m known s
-      → (i : ℕ) (told : Progress Setting) (leads : MakingLeads same hash i told s old new) (b : Beginning K) (here : s.makers i ≡ Some b) (of : Option ℕ)
-      → IsNewFor b.map told m → SectionsHold m known s.world
+      → (i : ℕ) (told : Progress Setting) (leads : MakingLeads same hash i told s old new) (b : Beginning K) (here : s.makers i ≡ Some b)
+      → (of : Option ℕ) → IsNewFor b.map told m → SectionsHold m known s.world
       → (let to = leads b here in
       let effects = effects_of (acts.Making b.map) known new.memory.changed in
       GuardsAreInside m.there to.2.step.w2

@@ -104,14 +104,15 @@ module _ (K V : Type 0) where
       (log : List (Entry K V)) (e : Entry K V) (known : Known) (w : World (Node K V)) → InMidst e.event e.effects (worked e (moment log)) known w
       → EndsInside w e.event e.outcome (moment log).there → IsProtected log e × SectionsHold (after e (moment log)) known w
 
-  -- So does one that takes steps of a call, where the moment so far has the effects of these,
-  abbrev pub CallEventsEndProtected : Type 0
-  CallEventsEndProtected =
-      (log : List (Entry K V)) (e : Entry K V) (begun m : Moment K V) (own : List ℕ) (map : ℕ) (known : Known) (w : World (Node K V))
-      → at_work e (moment log) ≡ begun → caller_of e.event ≡ Some own → acted_on e.event begun ≡ Some map → m ≡ with_effects (Some own) (Some map) e.effects begun
-      → InMidst e.event e.effects m known w → IsProtected log e × SectionsHold (after e (moment log)) known w
+  -- So does one whose work is none of rows, where the moment so far has its effects,
+  abbrev pub OtherEventsEndProtected : Type 0
+  OtherEventsEndProtected =
+      (log : List (Entry K V)) (e : Entry K V) (begun m : Moment K V) (caller : Option (List ℕ)) (map : Option ℕ) (known : Known) (w : World (Node K V))
+      → is_of_slots e.event ≡ false → at_work e (moment log) ≡ begun → caller_of e.event ≡ caller → acted_on e.event begun ≡ map
+      → m ≡ with_effects caller map e.effects begun → InMidst e.event e.effects m known w
+      → IsProtected log e × SectionsHold (after e (moment log)) known w
 
-  -- and one whose work is rows on slots.
+  -- and one whose work is.
   abbrev pub SlotEventsEndProtected : Type 0
   SlotEventsEndProtected =
       (log : List (Entry K V)) (e : Entry K V) (m : Moment K V) (known : Known) (w : World (Node K V)) → is_of_slots e.event ≡ true

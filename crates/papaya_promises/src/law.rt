@@ -3,8 +3,9 @@ ghost use Rattle.std.specs.Prelude.{ℕ, Bool};
 ghost use Rattle.papaya_promises.specs.Guards.{SectionsHoldAtFirst, GuardsComeAndGo, OthersStayInside, OneIsInsideAgain};
 ghost use Rattle.papaya_promises.specs.Guards.{UsedSlotsAreInside, OnlyGuardsLeaveNobody};
 ghost use Rattle.papaya_promises.specs.Others.{MakingsShelter, EndingsShelter, RowsBeginShelter, SectionsGoOn};
-ghost use Rattle.papaya_promises.specs.Protected.{EventsBeginProtected, EventsEndProtected, AllIsEndedProtected, IdleEventsAreProtected};
-ghost use Rattle.papaya_promises.specs.Protected.{CallsProtect, CallEventsEndProtected, MakingsProtect, EndingsProtect, RowsBeginProtect, RowsProtect, SlotEventsEndProtected};
+ghost use Rattle.papaya_promises.specs.Protected.{EventsBeginProtected, EventsEndProtected, OtherEventsEndProtected, SlotEventsEndProtected};
+ghost use Rattle.papaya_promises.specs.Protected.{AllIsEndedProtected, IdleEventsAreProtected};
+ghost use Rattle.papaya_promises.specs.Protected.{CallsProtect, MakingsProtect, EndingsProtect, RowsBeginProtect, RowsProtect};
 ghost use Rattle.papaya_promises.specs.Shelters.{CallsShelter, RowsShelter, StepsProtect, EventsAreProtected};
 ghost use Rattle.papaya_promises.specs.Weights.{OperationsAreSingle, PartsAddUp, GrantsAddUp};
 
@@ -43,7 +44,7 @@ pub fn events_are_protected<K, V, S>()
     ensures rows_begin { (same : K → K → Bool) (hash : K → ℕ) → RowsBeginProtect K V S same hash }
     ensures rows { (same : K → K → Bool) (hash : K → ℕ) → RowsProtect K V S same hash }
     ensures ends { EventsEndProtected K V }
-    ensures calls_end { CallEventsEndProtected K V }
+    ensures others_end { OtherEventsEndProtected K V }
     ensures slots_end { SlotEventsEndProtected K V }
     ensures all { AllIsEndedProtected K V }
     ensures idle { IdleEventsAreProtected K V }

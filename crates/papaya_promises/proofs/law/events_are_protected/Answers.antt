@@ -1,5 +1,5 @@
 -- Events reclaim nothing that is sheltered.
-use Rattle.papaya_promises.proofs.Protected.{events_begin_protected, calls_protect, makings_protect, endings_protect, rows_begin_protect, rows_protect, events_end_protected, call_events_end_protected, slot_events_end_protected, all_is_ended_protected, idle_events_are_protected}
+use Rattle.papaya_promises.proofs.Protected.{events_begin_protected, calls_protect, makings_protect, endings_protect, rows_begin_protect, rows_protect, events_end_protected, other_events_end_protected, slot_events_end_protected, all_is_ended_protected, idle_events_are_protected}
 use Rattle.papaya_promises.proofs.law.events_are_protected.Goals as goal
 
 pub returns : goal.returns
@@ -11,7 +11,7 @@ returns c d = record {
   rows_begin = rows_begin_protect _ _ _;
   rows = rows_protect _ _ _;
   ends = events_end_protected _ _;
-  calls_end = call_events_end_protected _ _;
+  others_end = other_events_end_protected _ _;
   slots_end = slot_events_end_protected _ _;
   all = all_is_ended_protected _ _;
   idle = idle_events_are_protected _ _;
