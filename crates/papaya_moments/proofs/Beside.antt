@@ -4,6 +4,7 @@ use Rattle.std.specs.Int.{IsPowerOfTwo}
 use Rattle.std.proofs.Common.{refl, ap, sym, subst, ◌∙◌, inl, inr}
 use Rattle.seize_words.specs.Mem.{value_at}
 use Rattle.seize_words.specs.Word.{block_in}
+use Rattle.seize.specs.World.{InUse}
 use Rattle.papaya_tables.specs.declared.node.Node.{Node}
 use Rattle.papaya_runs.specs.Same.{is_same}
 use Rattle.papaya_raw.specs.declared.machines.asking.Asking.{Asking as AskingAt}
@@ -40,7 +41,7 @@ module _ {K V : Type 0} (known known2 : Known) (s s2 : Scene K V) where
     pub len : ℕ
     pub table : Table
     pub is : known2.roles b ≡ role.Table table len
-    pub used : IsInUse (s2.world.hand b)
+    pub used : (owner : ℕ) × (s2.world.hand b ≡ InUse owner)
     pub place : (st : Standing K) → s2.maps table.map ≡ Some st → (table.turn < st.chart.past) × (st.chart.first ≤ table.turn → b ≡ st.blocks.table table.turn)
 
   -- the map stood so, with its tables in the same blocks
@@ -89,7 +90,7 @@ module _ {K V : Type 0} (same : K → K → Bool) (name : ℕ → List ℕ) (m m
           | inl was ↦
               beside.hands b (some_is b _ had.1)
               (hands.tables b len t there (sym was ∙ is) (ap (λ (fs : List MapThere). find (λ f. f.number == t.map) fs) (sym beside.maps) ∙ at_map) from)
-          | inr came ↦ came.used
+          | inr came ↦ subst IsInUse (sym came.used.1) tt
         ]
 
     born_so : (n map : ℕ) → m2.place n ≡ InMap map → (n ≤ length m2.stored) × ((m2.born n).map ≡ map)

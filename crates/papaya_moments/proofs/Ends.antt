@@ -108,8 +108,7 @@ module _ {K V : Type 0} (map : ℕ) (m : Moment K V) where
 module _ {K V S : Type 0} (same : K → K → Bool) (hash : K → ℕ) (name : ℕ → List ℕ) (m : Moment K V) (known : Known) (s : Scene K V) (old new : Executor K V S) (at : IsAt same hash old s)
     (whole : ShowsWhole same name m known s) (i : ℕ) (f : Finishing K V) (here : s.enders i ≡ Some f) (end : EndMap) (said : Settled (Node K V)) (steps : EndingStepsFrom f.machine old new end said)
     (did : StepsOfEnding V same same old.batch_size old.roots slot_of s.world s.maps s.calls s.makers s.enders i f new.memory.memory (end, said))
-    (map : ℕ) (not_there : s.maps map ≡ None) (comes : EndingComesTo same hash s new i f end did.w2 did.deed said)
-    (waits : AtEachEffect WaitsOn None (Some map) (effects_of (Ending map) known new.memory.changed) m) where
+    (map : ℕ) (not_there : s.maps map ≡ None) (comes : EndingComesTo same hash s new i f end did.w2 did.deed said) where
   abbrev w : World (Node K V)
   w = s.world
 
@@ -131,7 +130,7 @@ module _ {K V S : Type 0} (same : K → K → Bool) (hash : K → ℕ) (name : �
   leaves : LeavesBy w.memory w2.memory told
   leaves = left same hash name m known s old new at whole.all.shown i f here end said steps did map not_there
 
-  says : (AllCalm (does told) × ((then_known told).roles ≡ known.roles)) ⊎ ((b : ℕ) × (told ≡ changed.Took b))
+  pub says : (AllCalm (does told) × ((then_known told).roles ≡ known.roles)) ⊎ ((b : ℕ) × (told ≡ changed.Took b))
   says = says_or_takes same hash name m known s old new at whole.all.shown i f here end said steps did map not_there comes told refl leaves
 
   end_alone : IsAlone m (then_at told)
@@ -143,7 +142,7 @@ module _ {K V S : Type 0} (same : K → K → Bool) (hash : K → ℕ) (name : �
   took : (b : ℕ) → told ≡ changed.Took b → value_at w2.memory b ≡ None
   took b is = (subst (LeavesBy w.memory w2.memory) is leaves).1
 
-  end_keeps : Keeps known w2 (then_known told)
+  pub end_keeps : Keeps known w2 (then_known told)
   end_keeps = elim says as (λ _. Keeps known w2 (then_known told)) [
     | inl it ↦ same_roles known w2 (then_known told) it.1
     | inr it ↦ subst (λ (x : Changed). Keeps known w2 (then_known x)) (sym it.1) (
@@ -192,17 +191,6 @@ module _ {K V S : Type 0} (same : K → K → Bool) (hash : K → ℕ) (name : �
       table_gone m (with_effects None (Some map) (taken_by (Ending map) (role.Table t len)) m) known b len t e whole.blocks Left refl IsTaken refl refl refl may.0
   taken_blocks b (role.Counter of) e may = other_gone m m known b whole.blocks (λ z. subst IsOfMap e z) (record { place = λ k. refl; tables = λ t. refl })
 
-  end_blocks : ShowsUnreclaimed (then_at told) (then_known told)
-  end_blocks = elim says as (λ _. ShowsUnreclaimed (then_at told) (then_known told)) [
-    | inl it ↦
-        let a = same_calm map m (does told) it.0 in
-        unreclaimed_same m (then_at told) known (then_known told)
-        (record { place = λ k. ap (λ (g : ℕ → Place). is_unreclaimed (g k)) a.place; tables = λ t. ap (list_any (λ u. same_table u.table t && is_there u.stage)) a.tables })
-        (λ b of. ap (λ (g : ℕ → Role). g b) it.1) (λ b of. ap (λ (g : ℕ → Role). g b) it.1) whole.blocks
-    | inr it ↦
-        subst (λ (x : Changed). AtEachEffect WaitsOn None (Some map) (does x) m → ShowsUnreclaimed (then_at x) (then_known x)) (sym it.1) (taken_blocks it.0 (known.roles it.0) refl) waits
-  ]
-
   end_aside : AllAside (does told)
   end_aside = elim says as (λ _. AllAside (does told)) [
     | inl it ↦ calm_aside (does told) it.0
@@ -221,29 +209,42 @@ module _ {K V S : Type 0} (same : K → K → Bool) (hash : K → ℕ) (name : �
   end_places : ShowsPlaces (then_at told) (then_known told) s.maps
   end_places = places_stay None (Some map) (does told) m known (then_known told) s.maps s.maps end_aside end_pairs (λ n. same_maps (s.maps n)) whole.places
 
-  -- so all is shown of a scene that has come so far
-  whole_at : (s2 : Scene K V) → s2.world ≡ w2 → s2.calls ≡ s.calls → s2.maps ≡ s.maps → IsAt same hash new s2 → ShowsRows s2
-      → ShowsAfter same name m known s whole.all.shown (then_at told) (then_known told) s2 → NotesCounters (then_known told) s2 → ShowsWhole same name (then_at told) (then_known told) s2
-  whole_at s2 world calls maps at_new rows after counters = record {
-    all = record {
-      shown = after.shows;
-      asked = asked_beside same name m (then_at told) known (then_known told) s s2 whole.all.shown after (end_beside s2 world calls maps) hash new at_new whole.all.asked;
-      hands = hands_beside same name m (then_at told) known (then_known told) s s2 whole.all.shown after (end_beside s2 world calls maps) whole.all.hands;
-      rows = rows;
-    };
-    places = subst (λ (g : ℕ → Option (Standing K)). ShowsPlaces (then_at told) (then_known told) g) (sym maps) end_places;
-    blocks = end_blocks;
-    outside = effects_leave_outside K V None (Some map) (does told) m end_numbers whole.outside;
-    counters = counters;
-  }
+  -- what waits behind a table that ends with its map is not reclaimed
+  module _ (waits : AtEachEffect WaitsOn None (Some map) (does told) m) where
+    end_blocks : ShowsUnreclaimed (then_at told) (then_known told)
+    end_blocks = elim says as (λ _. ShowsUnreclaimed (then_at told) (then_known told)) [
+      | inl it ↦
+          let a = same_calm map m (does told) it.0 in
+          unreclaimed_same m (then_at told) known (then_known told)
+          (record { place = λ k. ap (λ (g : ℕ → Place). is_unreclaimed (g k)) a.place; tables = λ t. ap (list_any (λ u. same_table u.table t && is_there u.stage)) a.tables })
+          (λ b of. ap (λ (g : ℕ → Role). g b) it.1) (λ b of. ap (λ (g : ℕ → Role). g b) it.1) whole.blocks
+      | inr it ↦
+          subst (λ (x : Changed). AtEachEffect WaitsOn None (Some map) (does x) m → ShowsUnreclaimed (then_at x) (then_known x)) (sym it.1) (taken_blocks it.0 (known.roles it.0) refl) waits
+    ]
 
-  pub end_keeps_whole : (t : Settled (Node K V)) (it : EndingComesTo same hash s new i f end w2 did.deed t) → ShowsRows (record s { world = w2 })
-      → ShowsAfter same name m known s whole.all.shown (then_at told) (then_known told) (ending_after same hash s new i f end w2 did.deed t it)
-      → NotesCounters (then_known told) (ending_after same hash s new i f end w2 did.deed t it) → ShowsWhole same name (then_at told) (then_known told) (ending_after same hash s new i f end w2 did.deed t it)
-  end_keeps_whole settled.Goes it rows after counters = whole_at _ refl refl refl it.1 (record { none = rows.none; one = rows.one }) after counters
-  end_keeps_whole settled.Waits it rows after counters = absurd it
-  end_keeps_whole (settled.Gave value) it rows after counters = whole_at _ refl refl refl it.3 (record { none = rows.none; one = rows.one }) after counters
-  end_keeps_whole settled.Done it rows after counters = whole_at _ refl refl refl it.2 (record { none = rows.none; one = rows.one }) after counters
+    -- so all is shown of a scene that has come so far
+    whole_at : (s2 : Scene K V) → s2.world ≡ w2 → s2.calls ≡ s.calls → s2.maps ≡ s.maps → IsAt same hash new s2 → ShowsRows s2
+        → ShowsAfter same name m known s whole.all.shown (then_at told) (then_known told) s2 → NotesCounters (then_known told) s2 → ShowsWhole same name (then_at told) (then_known told) s2
+    whole_at s2 world calls maps at_new rows after counters = record {
+      all = record {
+        shown = after.shows;
+        asked = asked_beside same name m (then_at told) known (then_known told) s s2 whole.all.shown after (end_beside s2 world calls maps) hash new at_new whole.all.asked;
+        hands = hands_beside same name m (then_at told) known (then_known told) s s2 whole.all.shown after (end_beside s2 world calls maps) whole.all.hands;
+        rows = rows;
+      };
+      places = subst (λ (g : ℕ → Option (Standing K)). ShowsPlaces (then_at told) (then_known told) g) (sym maps) end_places;
+      blocks = end_blocks;
+      outside = effects_leave_outside K V None (Some map) (does told) m end_numbers whole.outside;
+      counters = counters;
+    }
+
+    pub end_keeps_whole : (t : Settled (Node K V)) (it : EndingComesTo same hash s new i f end w2 did.deed t) → ShowsRows (record s { world = w2 })
+        → ShowsAfter same name m known s whole.all.shown (then_at told) (then_known told) (ending_after same hash s new i f end w2 did.deed t it)
+        → NotesCounters (then_known told) (ending_after same hash s new i f end w2 did.deed t it) → ShowsWhole same name (then_at told) (then_known told) (ending_after same hash s new i f end w2 did.deed t it)
+    end_keeps_whole settled.Goes it rows after counters = whole_at _ refl refl refl it.1 (record { none = rows.none; one = rows.one }) after counters
+    end_keeps_whole settled.Waits it rows after counters = absurd it
+    end_keeps_whole (settled.Gave value) it rows after counters = whole_at _ refl refl refl it.3 (record { none = rows.none; one = rows.one }) after counters
+    end_keeps_whole settled.Done it rows after counters = whole_at _ refl refl refl it.2 (record { none = rows.none; one = rows.one }) after counters
 
 ends_with : {K V : Type 0} (map : ℕ) (f : Effect) (v : Moment K V) → IsOfIts map v f → WaitOutside v → EndsWith v map f
 ends_with map (Taken t) v of_map outside = (of_map, each_waits_outside _ _ v outside t)
@@ -253,7 +254,7 @@ module _ (K V S : Type 0) (same : K → K → Bool) (hash : K → ℕ) where
   pub endings_keep_whole : EndingsKeepWhole K V S same hash
   endings_keep_whole name m known s old new at whole i told leads f here map not_there of_map waits =
       let to = leads f here in
-      let finds = end_numbers same hash name m known s old new at whole i f here to.0 told to.1 to.2 map not_there to.3 waits in
+      let finds = end_numbers same hash name m known s old new at whole i f here to.0 told to.1 to.2 map not_there to.3 in
       let ends = with_outside None (Some map) (IsOfIts map) (λ v effect. EndsWith v map effect) (ends_with map) (effects_of (Ending map) known new.memory.changed) m finds whole.outside of_map in
       end_keeps_whole same hash name m known s old new at whole i f here to.0 told to.1 to.2 map not_there to.3 waits told to.3
       (endings_go_aside K V S same hash s old new at whole.all.rows i told leads f here)

@@ -315,7 +315,7 @@ module _ {K V S : Type 0} (same : K → K → Bool) (hash : K → ℕ) (name : �
       let some : IsSome {T = Node K V} None = subst (λ (o : Option (Node K V)). IsSome o) (sym kept ∙ l.1) l.0 in cc some
   none_taken (changed.Roomed bucket had) l none = tt
 
-  one_taken : (x : Changed) → LeavesBy w.memory w2.memory x → (b : ℕ) (value : Node K V) → value_at w.memory b ≡ Some value → value_at w2.memory b ≡ None → x ≡ changed.Took b
+  pub one_taken : (x : Changed) → LeavesBy w.memory w2.memory x → (b : ℕ) (value : Node K V) → value_at w.memory b ≡ Some value → value_at w2.memory b ≡ None → x ≡ changed.Took b
   one_taken changed.Nothing l b value is gone = absurd (let there = ((l b).there value is).1 in cc (there, gone))
   one_taken (changed.Wrote a before after) l b value is gone = absurd (let kept = l.2 b in cc (kept, is, gone))
   one_taken (changed.Made kind x) l b value is gone = elim (cases_eq b x) as (λ _. changed.Made kind x ≡ changed.Took b) [

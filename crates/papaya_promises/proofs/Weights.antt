@@ -1,5 +1,5 @@
 -- An operation does one thing at most, and what it makes it has asked for.
-use Rattle.std.specs.Prelude.{◌≡◌, ◌==◌, ℕ, ◌+◌, ◌≤◌, nat_lt, Bool, true, false, List, [], ◌∷◌, ◌++◌, sum_by, if◌then◌else◌}
+use Rattle.std.specs.Prelude.{◌≡◌, ◌==◌, ℕ, nat_lt, Bool, true, false, List, [], ◌∷◌, ◌++◌, if◌then◌else◌}
 use Rattle.std.proofs.Common.{refl, arith}
 use Rattle.std.proofs.lemmas.List.Sums.{sum_by-append}
 use Rattle.seize_words.specs.Word.{block_in}
@@ -21,7 +21,7 @@ use Rattle.papaya_teller.specs.declared.changed.Kind.TheVariants as kind
 use Rattle.papaya_effects.specs.Effects.{names_same, spot_at, is_place, made_by, taken_by, followed_by, led_to, carried, placed, in_table, in_block, batched, written_by, effects_of}
 use Rattle.papaya_effects.specs.Known.{Known}
 use Rattle.papaya_effects.specs.declared.acting.Acting.{Acting}
-use Rattle.papaya_effects.specs.declared.acting.Acting.TheVariants.{Call, Making, Ending, Row}
+use Rattle.papaya_effects.specs.declared.acting.Acting.TheVariants.{Call, Ending}
 use Rattle.papaya_effects.specs.declared.role.Role.{Role}
 use Rattle.papaya_effects.specs.declared.role.Role.TheVariants as role
 use Rattle.papaya_promises.specs.Weights.{AreDoneBy, OperationsAreSingle, PartsAddUp, GrantsAddUp}

@@ -1,3 +1,6 @@
 pub mod Sheltered
 pub mod Shelters
+pub mod Others
+pub mod Guards
+pub mod Protected
 pub mod Weights

@@ -8,7 +8,7 @@ use Rattle.papaya_runs.specs.Present.{Present, guard_of}
 use Rattle.papaya_runs.specs.declared.holders.Guard.{Guard}
 use Rattle.papaya_schedules.specs.declared.effect.Thing.{Thing}
 use Rattle.papaya_schedules.specs.declared.effect.Thing.TheVariants.{APair, ATable}
-use Rattle.papaya_schedules.specs.Moment.{Sheltered}
+use Rattle.papaya_schedules.specs.Moment.{Sheltered, Moment}
 use Rattle.papaya_effects.specs.Known.{Known}
 use Rattle.papaya_effects.specs.declared.role.Role.{Role}
 use Rattle.papaya_effects.specs.declared.role.Role.TheVariants as role
@@ -36,3 +36,7 @@ module _ {K V : Type 0} (there : Present) (w : World (Node K V)) where
 
   abbrev pub AreSheltered : Known → List Sheltered → Type 0
   AreSheltered known sheltered = AllByRecursion (IsSheltered known) sheltered
+
+-- So it is of all guards of a moment, and of all that left its map while they were there: their sections hold it.
+abbrev pub SectionsHold : {K V : Type 0} → Moment K V → Known → World (Node K V) → Type 0
+SectionsHold m known w = GuardsAreInside m.there w × AreSheltered m.there w known m.sheltered

@@ -2,7 +2,6 @@
 use Rattle.std.specs.Prelude.{◌≡◌, ℕ, Bool, false, List, [], ◌++◌, Some, flat_map}
 use Rattle.std.specs.List.{AllByRecursion}
 use Rattle.seize.specs.World.{Step}
-use Rattle.seize.specs.declared.rows.settle.Settled.{Settled}
 use Rattle.papaya_tables.specs.declared.node.Node.{Node}
 use Rattle.papaya_raw.specs.declared.machines.progress.Progress.{Progress}
 use Rattle.papaya_runs.specs.Present.{Present}
@@ -21,7 +20,7 @@ use Rattle.papaya_effects.specs.Known.{Known}
 use Rattle.papaya_effects.specs.declared.acting.Acting.TheVariants as acts
 use Rattle.papaya_executor.specs.IsAt.{Scene, IsAt, work_of}
 use Rattle.papaya_executor.specs.OnSlots.{RowLeads}
-use Rattle.papaya_executor.specs.Stepping.{StepLeads, scene_after}
+use Rattle.papaya_executor.specs.Stepping.{StepLeads}
 use Rattle.papaya_executor.specs.declared.executor.Executor.{Executor}
 use Rattle.papaya_executor.specs.declared.row.RowTold.{RowTold}
 use Rattle.papaya_executor.specs.declared.row.SlotRow.{SlotRow}

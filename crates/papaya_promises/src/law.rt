@@ -1,20 +1,57 @@
 //! What is promised of a run, by single steps.
 ghost use Rattle.std.specs.Prelude.{ℕ, Bool};
+ghost use Rattle.papaya_promises.specs.Guards.{SectionsHoldAtFirst, GuardsComeAndGo, OthersStayInside, OneIsInsideAgain};
+ghost use Rattle.papaya_promises.specs.Guards.{UsedSlotsAreInside, OnlyGuardsLeaveNobody};
+ghost use Rattle.papaya_promises.specs.Others.{MakingsShelter, EndingsShelter, RowsBeginShelter, SectionsGoOn};
+ghost use Rattle.papaya_promises.specs.Protected.{EventsBeginProtected, EventsEndProtected, OtherEventsEndProtected, SlotEventsEndProtected};
+ghost use Rattle.papaya_promises.specs.Protected.{AllIsEndedProtected, IdleEventsAreProtected};
+ghost use Rattle.papaya_promises.specs.Protected.{CallsProtect, MakingsProtect, EndingsProtect, RowsBeginProtect, RowsProtect};
 ghost use Rattle.papaya_promises.specs.Shelters.{CallsShelter, RowsShelter, StepsProtect, EventsAreProtected};
 ghost use Rattle.papaya_promises.specs.Weights.{OperationsAreSingle, PartsAddUp, GrantsAddUp};
 
-/// What a call takes out of its map, while guards are there, is sheltered: the critical section of each of them holds its block, until it ends. So it is after each
-/// step of a call, which reclaims nothing, and after each step of a row on a slot, which reclaims nothing that is sheltered. An event
-/// whose steps reclaim nothing that is sheltered after it reclaims nothing in a critical section in which it left its map.
+/// What a call takes out of its map, while guards are there, is sheltered: the critical section of each of them holds its block, until it ends. So it is
+/// after each step of a call, of a making and of an end of a map, which reclaim nothing, and after each step of a row on a slot, which reclaims nothing that
+/// is sheltered; where a row begins on a slot whose section it ends for no guard that is there; and where a call begins, is told or comes to an outcome, and
+/// a map comes or goes. It is so of the guards that are there after an event by which they come or go, if one that enters is within a section: of all others
+/// while one has none, and of that one, too, once it has one again. An event whose steps reclaim nothing that is sheltered after it reclaims nothing in a
+/// critical section in which it left its map.
 pub fn sections_shelter<K, V, S>()
     ensures calls { (same : K → K → Bool) (hash : K → ℕ) → CallsShelter K V S same hash }
     ensures parts { StepsProtect }
     ensures events { EventsAreProtected K V }
     ensures rows { (same : K → K → Bool) (hash : K → ℕ) → RowsShelter K V S same hash }
+    ensures rows_begin { (same : K → K → Bool) (hash : K → ℕ) → RowsBeginShelter K V S same hash }
+    ensures makings { (same : K → K → Bool) (hash : K → ℕ) → MakingsShelter K V S same hash }
+    ensures endings { (same : K → K → Bool) (hash : K → ℕ) → EndingsShelter K V S same hash }
+    ensures begins { SectionsHoldAtFirst K V }
+    ensures goes_on { SectionsGoOn K V }
+    ensures guards { GuardsComeAndGo K V }
+    ensures others { OthersStayInside K V }
+    ensures again { OneIsInsideAgain K V }
+    ensures used { (same : K → K → Bool) (hash : K → ℕ) → UsedSlotsAreInside K V S same hash }
+    ensures only { OnlyGuardsLeaveNobody }
 {}
 
-/// An operation, whoever makes it, does one thing at most to pairs, tables and blocks, and so an event does no more than it makes steps. What it
-/// makes it has asked for.
+/// In the midst of an event the guards are within their sections whose sections it does not end, and what left its map in these is sheltered and was not
+/// reclaimed. So it is where the event begins, after each step of a call, of a making, of an end, or of a row on a slot, and where such a row begins; where
+/// it ends, it reclaims nothing in a critical section that it does not end, in which it left its map, and all sections of the moment hold what they shelter.
+/// So they do after an event that does nothing to pairs and blocks.
+pub fn events_are_protected<K, V, S>()
+    ensures begins { EventsBeginProtected K V }
+    ensures calls { (same : K → K → Bool) (hash : K → ℕ) → CallsProtect K V S same hash }
+    ensures makings { (same : K → K → Bool) (hash : K → ℕ) → MakingsProtect K V S same hash }
+    ensures endings { (same : K → K → Bool) (hash : K → ℕ) → EndingsProtect K V S same hash }
+    ensures rows_begin { (same : K → K → Bool) (hash : K → ℕ) → RowsBeginProtect K V S same hash }
+    ensures rows { (same : K → K → Bool) (hash : K → ℕ) → RowsProtect K V S same hash }
+    ensures ends { EventsEndProtected K V }
+    ensures others_end { OtherEventsEndProtected K V }
+    ensures slots_end { SlotEventsEndProtected K V }
+    ensures all { AllIsEndedProtected K V }
+    ensures idle { IdleEventsAreProtected K V }
+{}
+
+/// An operation, whoever makes it, does one thing at most to pairs, tables and blocks, and so an event does no more than it makes steps. What it makes it has
+/// asked for.
 pub fn operations_are_single()
     ensures single { OperationsAreSingle }
     ensures parts { PartsAddUp }

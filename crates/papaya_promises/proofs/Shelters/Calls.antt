@@ -1,5 +1,5 @@
 -- A step of a call shelters what it takes out of its map.
-use Rattle.std.specs.Prelude.{◌≡◌, ℕ, ◌+◌, ◌<◌, ◌≤◌, nat_lt, Bool, true, false, List, [], ◌∷◌, ◌++◌, flat_map, Option, Some, ◌⊎◌, if◌then◌else◌}
+use Rattle.std.specs.Prelude.{◌≡◌, ℕ, ◌≤◌, nat_lt, Bool, true, List, [], ◌∷◌, flat_map, Some, ◌⊎◌}
 use Rattle.std.specs.List.{AllByRecursion}
 use Rattle.std.proofs.Common.{refl, sym, subst, ap, ◌∙◌, arith, inl, inr}
 use Rattle.std.proofs.lemmas.Bool.{eq-eqb}
@@ -16,8 +16,7 @@ use Rattle.papaya_rule.specs.InWorld.{IsMapIn}
 use Rattle.papaya_rule.proofs.Laws.{current_is_known}
 use Rattle.papaya_runs.specs.declared.holders.Guard.{Guard}
 use Rattle.papaya_schedules.specs.declared.effect.Effect.{Effect}
-use Rattle.papaya_schedules.specs.declared.effect.Effect.TheVariants.{Asked, Promoted, Replaced, Removed}
-use Rattle.papaya_schedules.specs.declared.effect.Growth.TheVariants.{ABucket}
+use Rattle.papaya_schedules.specs.declared.effect.Effect.TheVariants.{Promoted, Replaced, Removed}
 use Rattle.papaya_schedules.specs.declared.effect.Thing.{Thing}
 use Rattle.papaya_schedules.specs.declared.effect.Thing.TheVariants.{APair, ATable}
 use Rattle.papaya_schedules.specs.Effects.{out_by, shelter, with_effect, with_effects, AtEachEffect}
@@ -42,7 +41,7 @@ use Rattle.papaya_follows.specs.Blocks.{HasRole}
 use Rattle.papaya_follows.specs.Finds.{FindsMap}
 use Rattle.papaya_follows.specs.Maps.{ShowsPairs}
 use Rattle.papaya_follows.specs.Steps.{TakesNone}
-use Rattle.papaya_follows.proofs.Alike.{is_calm, AllCalm, put_here}
+use Rattle.papaya_follows.proofs.Alike.{put_here}
 use Rattle.papaya_follows.proofs.Going.{ComesToBe}
 use Rattle.papaya_follows.proofs.Onward.{IsLasting, KeepsRoles}
 use Rattle.papaya_follows.proofs.Operations.{LeavesBy, operated_leaves}
@@ -58,29 +57,15 @@ use Rattle.papaya_promises.specs.Shelters.{CallsShelter}
 use Rattle.papaya_promises.specs.Sheltered.{IsOfThing, HasCome, GuardsAreInside, IsSheltered, AreSheltered}
 use Rattle.papaya_promises.proofs.Shelters.Lasting.{Lasts, of_map, all_last, guards_last}
 use Rattle.papaya_promises.proofs.Lists.{all_append, all_of, passed_all, IsFound, all_found, all_shelter}
-use Rattle.papaya_promises.proofs.Shelters.Outs.{KeepsIn, OutFirst, AreFew, TakesOwn, effects_few, keep_all}
+use Rattle.papaya_promises.proofs.Shelters.Outs.{KeepsIn, OutFirst, AreFew, TakesOwn, calm_keep, room_keeps, effects_few, keep_all}
 use Rattle.papaya_promises.proofs.Shelters.Within.{GoOn, call_goes_on}
 
 -- what a row within a call does takes nothing out of a map
-
-calm_keeps : (f : Effect) → is_calm f ≡ true → KeepsIn f
-calm_keeps (Promoted t) e = absurd (cc e)
-calm_keeps (Replaced n) e = absurd (cc e)
-calm_keeps (Removed n) e = absurd (cc e)
-calm_keeps _ e = tt
-
-calm_keep : (effects : List Effect) → AllCalm effects → AllByRecursion KeepsIn effects
-calm_keep [] all = tt
-calm_keep (f ∷ effects) all = (calm_keeps f all.0, calm_keep effects all.1)
 
 hands_keep : (effects : List Effect) → HandsOn effects → AllByRecursion KeepsIn effects
 hands_keep effects (IsStill still all) = calm_keep still all
 hands_keep effects (Puts n t) = (tt, tt)
 hands_keep effects (Retires x) = (tt, tt)
-
-room_keeps : (q : Bool) → AllByRecursion KeepsIn (if q then [] else Asked ABucket ∷ [])
-room_keeps true = tt
-room_keeps false = (tt, tt)
 
 module _ {K V : Type 0} (caller map : ℕ) (m : Moment K V) (known : Known) (w w2 : World (Node K V)) (roles : (b : ℕ) → HasRole w m.stored b (known.roles b)) (leaves : RowLeaves w w2) where
   row_keeps : (told : Changed) → TakesNone told → LeavesBy w.memory w2.memory told → AllByRecursion KeepsIn (effects_of (acts.Call caller map) known told)

@@ -1,17 +1,19 @@
 -- Which effects of a step take something out of a map: the first one at most. A step of a call reclaims nothing but what was its own.
-use Rattle.std.specs.Prelude.{◌≡◌, ◌==◌, ℕ, nat_lt, Bool, true, false, List, [], ◌∷◌, ◌++◌, flat_map, Option, Some, if◌then◌else◌}
+use Rattle.std.specs.Prelude.{◌≡◌, ◌==◌, ℕ, nat_lt, Bool, true, false, List, [], ◌∷◌, ◌++◌, flat_map, Option, if◌then◌else◌}
 use Rattle.std.specs.List.{AllByRecursion}
 use Rattle.std.proofs.Common.{refl, ap, ◌∙◌}
+use Rattle.std.proofs.lemmas.List.Concat.{flat_map-cons}
 use Rattle.seize_words.specs.Word.{block_in}
 use Rattle.seize_words.specs.declared.at.At.{At}
 use Rattle.seize_words.specs.declared.at.At.TheVariants.{Root, Used, Slot, Entry, Word}
 use Rattle.seize.specs.declared.states.TheConstants.{FIRST}
 use Rattle.papaya_tables.specs.declared.table_words.TheConstants.{NEXT, DEFERRED}
 use Rattle.papaya_schedules.specs.declared.effect.Effect.{Effect}
-use Rattle.papaya_schedules.specs.declared.effect.Effect.TheVariants.{Asked, Promoted, Replaced, Removed}
+use Rattle.papaya_schedules.specs.declared.effect.Effect.TheVariants.{Asked, Promoted, Replaced, Removed, Reclaimed}
 use Rattle.papaya_schedules.specs.declared.effect.Growth.TheVariants.{ABlock, ABucket}
 use Rattle.papaya_schedules.specs.declared.effect.Spot.{Spot}
 use Rattle.papaya_schedules.specs.declared.effect.Table.{Table}
+use Rattle.papaya_schedules.specs.declared.effect.Thing.{Thing}
 use Rattle.papaya_schedules.specs.Effects.{out_by, shelter, with_effect, with_effects}
 use Rattle.papaya_schedules.specs.Model.{thing_back}
 use Rattle.papaya_schedules.specs.Moment.{Sheltered, Moment}
@@ -25,6 +27,7 @@ use Rattle.papaya_effects.specs.declared.acting.Acting.{Acting}
 use Rattle.papaya_effects.specs.declared.acting.Acting.TheVariants.{Call}
 use Rattle.papaya_effects.specs.declared.role.Role.{Role}
 use Rattle.papaya_effects.specs.declared.role.Role.TheVariants as role
+use Rattle.papaya_follows.proofs.Alike.{is_calm, AllCalm}
 use Rattle.papaya_promises.proofs.Lists.{none_shelter}
 
 -- it takes nothing out of a map
@@ -44,6 +47,36 @@ ReclaimNone effects = flat_map thing_back effects ≡ []
 
 abbrev pub AreFew : List Effect → Type 0
 AreFew effects = OutFirst effects × ReclaimNone effects
+
+-- they take nothing out, and reclaim nothing
+abbrev pub TakeNothing : List Effect → Type 0
+TakeNothing effects = AllByRecursion KeepsIn effects × ReclaimNone effects
+
+calm_keeps : (f : Effect) → is_calm f ≡ true → KeepsIn f
+calm_keeps (Promoted t) e = absurd (cc e)
+calm_keeps (Replaced n) e = absurd (cc e)
+calm_keeps (Removed n) e = absurd (cc e)
+calm_keeps _ e = tt
+
+pub calm_keep : (effects : List Effect) → AllCalm effects → AllByRecursion KeepsIn effects
+calm_keep [] all = tt
+calm_keep (f ∷ effects) all = (calm_keeps f all.0, calm_keep effects all.1)
+
+pub room_keeps : (q : Bool) → AllByRecursion KeepsIn (if q then [] else Asked ABucket ∷ [])
+room_keeps true = tt
+room_keeps false = (tt, tt)
+
+calm_back : (f : Effect) → is_calm f ≡ true → thing_back f ≡ []
+calm_back (Reclaimed x) e = absurd (cc e)
+calm_back _ e = refl
+
+calm_none : (effects : List Effect) → AllCalm effects → ReclaimNone effects
+calm_none [] all = refl
+calm_none (f ∷ effects) all =
+    flat_map-cons thing_back f effects ∙ ap (λ (xs : List Thing). xs ++ flat_map thing_back effects) (calm_back f all.0) ∙ calm_none effects all.1
+
+pub calm_nothing : (effects : List Effect) → AllCalm effects → TakeNothing effects
+calm_nothing effects all = (calm_keep effects all, calm_none effects all)
 
 module _ (acting : Acting) where
   followed_few : (r : Role) → AreFew (followed_by acting r)

@@ -1,12 +1,11 @@
 -- A step of a row on a slot leaves sheltered what is so, and reclaims none of it.
-use Rattle.std.specs.Prelude.{◌≡◌, ◌==◌, ℕ, suc, zero, nat_lt, Bool, true, false, ◌||◌, ◌&&◌, List, [], ◌∷◌, flat_map, Some, None, IsSome, if◌then◌else◌}
-use Rattle.std.specs.List.{AllByRecursion}
+use Rattle.std.specs.Prelude.{◌≡◌, ◌==◌, ℕ, nat_lt, Bool, true, false, ◌||◌, ◌&&◌, List, [], ◌∷◌, Some, if◌then◌else◌}
 use Rattle.std.proofs.Common.{refl, sym, subst, ap, ◌∙◌, arith, inl}
 use Rattle.seize_words.specs.Mem.{Mem, value_at}
 use Rattle.seize_words.specs.declared.at.At.TheVariants.{Root, Used, Slot, Entry, Word}
 use Rattle.seize.specs.Law.{holds}
-use Rattle.seize.specs.World.{World, Step, IsInside}
-use Rattle.seize_alone.proofs.Histories.NotTaken.{IsHeld, not_taken, kept_value, still_held}
+use Rattle.seize.specs.World.{World, Step}
+use Rattle.seize_alone.proofs.Histories.NotTaken.{IsHeld, kept_value, still_held}
 use Rattle.seize_alone.proofs.Histories.Reached.{Reached}
 use Rattle.seize_alone.proofs.Histories.Uses.{inside_kept}
 use Rattle.papaya_tables.specs.Nodes.{deferred_word}
@@ -18,7 +17,6 @@ use Rattle.papaya_schedules.specs.declared.effect.Table.{Table}
 use Rattle.papaya_schedules.specs.declared.effect.Thing.{Thing}
 use Rattle.papaya_schedules.specs.declared.effect.Thing.TheVariants.{APair, ATable}
 use Rattle.papaya_schedules.specs.Lists.{is_in}
-use Rattle.papaya_schedules.specs.Model.{thing_back}
 use Rattle.papaya_schedules.specs.Moment.{Sheltered, Moment}
 use Rattle.papaya_schedules.specs.Things.{same_table, same_thing}
 use Rattle.papaya_teller.specs.declared.changed.Changed.{Changed}
@@ -75,7 +73,7 @@ not_only x y other = by (same_thing x y) refl
     by true e = absurd (other (things_are x y e))
     by false e = refl
 
-none_back : (xs : List Sheltered) → NoneIsBack [] xs
+pub none_back : (xs : List Sheltered) → NoneIsBack [] xs
 none_back [] = tt
 none_back (x ∷ xs) = (refl, none_back xs)
 

@@ -1,6 +1,6 @@
 -- Over a step of a call, of a row or none, sections go on, and hold what they held.
-use Rattle.std.specs.Prelude.{◌≡◌, ℕ, Bool, true, List, [], Some, ◌⊎◌}
-use Rattle.std.proofs.Common.{refl, sym, subst, ap, inl, inr}
+use Rattle.std.specs.Prelude.{◌≡◌, ℕ, Bool, true, List, [], Some}
+use Rattle.std.proofs.Common.{refl, sym, subst, inl, inr}
 use Rattle.seize.specs.Law.{Deferred, holds}
 use Rattle.seize.specs.World.{World, Use, Event, Begin, Happens, Runs, IsInside, Request, Register', Enter', Leave', LeaveOwned, Refresh, Unregister', Retire, Flush, Defer'}
 use Rattle.seize_moves.proofs.State.Held.{held_on}
@@ -31,7 +31,7 @@ pub record GoOn {K V : Type 0} (w w2 : World (Node K V)) : Type 0 where
   pub held : (t b : ℕ) → IsInside (w.uses t) → holds t b w.log ≡ true → holds t b w2.log ≡ true
 
 module _ {K V : Type 0} where
-  over_events : (size : ℕ) (w w2 : World (Node K V)) → Reached deferred_word size w → (events : List (Event (Node K V))) → AllUsers events → Runs deferred_word size events w w2 → GoOn w w2
+  pub over_events : (size : ℕ) (w w2 : World (Node K V)) → Reached deferred_word size w → (events : List (Event (Node K V))) → AllUsers events → Runs deferred_word size events w w2 → GoOn w w2
   over_events size w w2 r events users runs = record {
     inside = λ t inside. subst (λ (f : ℕ → Use). IsInside (f t)) (sym (events_uses size events w w2 users runs)) inside;
     held = λ t b inside h. events_hold size b t events w w2 r inside users runs h;

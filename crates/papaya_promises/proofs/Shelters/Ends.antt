@@ -1,0 +1,123 @@
+-- A step of the end of a map leaves sheltered what is so, and reclaims nothing that was retired.
+use Rattle.std.specs.Prelude.{◌≡◌, ℕ, zero, suc, Bool, true, List, [], flat_map, Some, None}
+use Rattle.std.proofs.Common.{refl, ap, sym, subst, ◌∙◌, arith, inl, inr}
+use Rattle.seize_words.specs.Mem.{value_at}
+use Rattle.seize.specs.Law.{holds}
+use Rattle.seize.specs.World.{World, Use, IsInside, times}
+use Rattle.seize.specs.declared.rows.settle.Settled.{Settled}
+use Rattle.papaya_tables.specs.declared.node.Node.{Node}
+use Rattle.papaya_raw.specs.declared.machines.end_map.EndMap.{EndMap}
+use Rattle.papaya_schedules.specs.declared.effect.Effect.{Effect}
+use Rattle.papaya_schedules.specs.Effects.{with_effects}
+use Rattle.papaya_schedules.specs.Model.{thing_back}
+use Rattle.papaya_schedules.specs.Moment.{Moment}
+use Rattle.papaya_teller.specs.declared.changed.Changed.{Changed}
+use Rattle.papaya_effects.specs.Effects.{taken_by, effects_of, known_after}
+use Rattle.papaya_effects.specs.Known.{Known}
+use Rattle.papaya_effects.specs.declared.acting.Acting.{Acting}
+use Rattle.papaya_effects.specs.declared.acting.Acting.TheVariants as acts
+use Rattle.papaya_effects.specs.declared.role.Role.{Role}
+use Rattle.papaya_effects.specs.declared.role.Role.TheVariants as role
+use Rattle.papaya_executor.specs.Ending.{EndingStepsFrom, EndingComesTo}
+use Rattle.papaya_executor.specs.IsAt.{Scene, IsAt, slot_of}
+use Rattle.papaya_executor.specs.declared.executor.Executor.{Executor}
+use Rattle.papaya_finishes.specs.Endings.{Finishing, StepsOfEnding}
+use Rattle.papaya_finishes.specs.FactsEnds.{taken_by as taken_of}
+use Rattle.papaya_follows.specs.Blocks.{HasRole}
+use Rattle.papaya_follows.proofs.Alike.{put_here}
+use Rattle.papaya_follows.proofs.Onward.{IsOfMap}
+use Rattle.papaya_others.proofs.Ends.{left, one_taken}
+use Rattle.papaya_moments.specs.Whole.{ShowsWhole}
+use Rattle.papaya_moments.proofs.Ends.{says, end_keeps}
+use Rattle.papaya_promises.specs.Others.{EndingsShelter}
+use Rattle.papaya_promises.specs.Sheltered.{GuardsAreInside, AreSheltered, SectionsHold}
+use Rattle.papaya_promises.proofs.Shelters.Lasting.{Lasts, of_map, all_last, guards_last}
+use Rattle.papaya_promises.proofs.Shelters.Noted.{more_noted}
+use Rattle.papaya_promises.proofs.Shelters.Outs.{TakeNothing, calm_nothing, keep_all}
+
+module _ {K V S : Type 0} (same : K → K → Bool) (hash : K → ℕ) (name : ℕ → List ℕ) (m : Moment K V) (known : Known) (s : Scene K V) (old new : Executor K V S) (at : IsAt same hash old s)
+    (whole : ShowsWhole same name m known s) (i : ℕ) (f : Finishing K V) (here : s.enders i ≡ Some f) (end : EndMap) (said : Settled (Node K V)) (steps : EndingStepsFrom f.machine old new end said)
+    (did : StepsOfEnding V same same old.batch_size old.roots slot_of s.world s.maps s.calls s.makers s.enders i f new.memory.memory (end, said))
+    (map : ℕ) (not_there : s.maps map ≡ None) (comes : EndingComesTo same hash s new i f end did.w2 did.deed said) where
+  abbrev w : World (Node K V)
+  w = s.world
+
+  abbrev w2 : World (Node K V)
+  w2 = did.w2
+
+  abbrev told : Changed
+  told = new.memory.changed
+
+  abbrev its : Acting
+  its = acts.Ending map
+
+  abbrev effects : List Effect
+  effects = effects_of its known told
+
+  abbrev known2 : Known
+  known2 = known_after its told known
+
+  abbrev v : Moment K V
+  v = with_effects None (Some map) effects m
+
+  -- what ends with its map was not retired
+  taken_takes : (r : Role) → TakeNothing (taken_by its r)
+  taken_takes role.Free = (tt, refl)
+  taken_takes (role.OwnPair c) = ((tt, tt), refl)
+  taken_takes (role.OwnTable turn shape) = ((tt, tt), refl)
+  taken_takes (role.Pair n) = ((tt, tt), refl)
+  taken_takes (role.Table t len) = ((tt, tt), refl)
+  taken_takes (role.Counter of) = (tt, refl)
+
+  take_nothing : TakeNothing effects
+  take_nothing = elim (says same hash name m known s old new at whole i f here end said steps did map not_there comes) as (λ _. TakeNothing effects) [
+    | inl it ↦ calm_nothing effects it.0
+    | inr it ↦ subst (λ (x : Changed). TakeNothing (effects_of its known x)) (sym it.1) (taken_takes (known.roles it.0))
+  ]
+
+  -- a block that is of a map after it is there
+  is_there : (x : ℕ) (r : Role) → HasRole w m.stored x r → IsOfMap r → (value : Node K V) × (value_at w.memory x ≡ Some value)
+  is_there x (role.Pair n) has of = (_, has.3)
+  is_there x (role.Table t len) has of = (_, has.1)
+  is_there x role.Free has of = absurd of
+  is_there x (role.OwnPair c) has of = absurd of
+  is_there x (role.OwnTable turn shape) has of = absurd of
+  is_there x (role.Counter map) has of = absurd of
+
+  was : (x : ℕ) → IsOfMap (known2.roles x) → known2.roles x ≡ known.roles x
+  was x of = (end_keeps same hash name m known s old new at whole i f here end said steps did map not_there comes).0 x of
+
+  not_gone : (x : ℕ) → IsOfMap (known2.roles x) → value_at w2.memory x ≡ None → ⊥
+  not_gone x of gone =
+      let it = is_there x (known.roles x) (whole.all.shown.blocks.roles x) (subst IsOfMap (was x of) of) in
+      let took = one_taken same hash name m known s old new at whole.all.shown i f here end said steps did map not_there told
+      (left same hash name m known s old new at whole.all.shown i f here end said steps did map not_there) x it.0 it.1 gone in
+      let free : known2.roles x ≡ role.Free = ap (λ (y : Changed). (known_after its y known).roles x) took ∙ put_here x role.Free known.roles x refl in
+      subst IsOfMap free of
+
+  held : (t x : ℕ) → IsOfMap (known2.roles x) → holds t x w.log ≡ true → holds t x w2.log ≡ true
+  held t x of h = by (times x (taken_of did.deed)) refl
+    where
+      by : (n : ℕ) → times x (taken_of did.deed) ≡ n → holds t x w2.log ≡ true
+      by zero e = did.spares.held t x e ∙ h
+      by (suc n) e = absurd (not_gone x of (did.spares.gone x (omega (arith, e))))
+
+  lasts : Lasts known known2 w w2
+  lasts = record {
+    inside = λ t inside. subst (λ (f : ℕ → Use). IsInside (f t)) (sym did.spares.uses) inside;
+    held = λ t x inside of h. held t x of h;
+    more = more_noted its known told;
+    back = λ y x come of. inl (sym (was x (of_map y (known2.roles x) of)));
+  }
+
+  pub ending_shelters : SectionsHold m known w → GuardsAreInside m.there w2 × AreSheltered m.there w2 known2 v.sheltered × (flat_map thing_back effects ≡ [])
+  ending_shelters hold = (
+    guards_last m.there known known2 w w2 lasts hold.0,
+    subst (AreSheltered m.there w2 known2) (sym (keep_all None (Some map) effects m take_nothing.0)) (all_last m.there known known2 w w2 lasts m.sheltered hold.1),
+    take_nothing.1,
+  )
+
+module _ (K V S : Type 0) (same : K → K → Bool) (hash : K → ℕ) where
+  pub endings_shelter : EndingsShelter K V S same hash
+  endings_shelter name m known s old new at whole i told leads f here map not_there =
+      let to = leads f here in ending_shelters same hash name m known s old new at whole i f here to.0 told to.1 to.2 map not_there to.3

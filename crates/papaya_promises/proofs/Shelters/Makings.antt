@@ -1,0 +1,173 @@
+-- A step of the making of a map leaves sheltered what is so, and reclaims nothing.
+use Rattle.std.specs.Prelude.{◌≡◌, ℕ, Bool, true, false, List, [], ◌∷◌, flat_map, Option, Some, None, ◌⊎◌, if◌then◌else◌}
+use Rattle.std.proofs.Common.{refl, ap, sym, subst, inl, inr}
+use Rattle.seize_words.specs.Mem.{value_at}
+use Rattle.seize_words.specs.Word.{block_in}
+use Rattle.seize_words.specs.declared.at.At.TheVariants.{Root, Used, Slot, Entry, Word}
+use Rattle.seize.specs.Law.{holds, is_somewhere}
+use Rattle.seize.specs.World.{World, IsInside, InUse}
+use Rattle.seize.specs.declared.progress.Progress.{Progress}
+use Rattle.seize.specs.declared.progress.Progress.TheVariants as progress
+use Rattle.seize_moves.proofs.State.Logs.{reached_held}
+use Rattle.seize_alone.proofs.Histories.Reached.{Reached, runs_reached}
+use Rattle.seize_alone.proofs.Histories.Uses.{inside_open}
+use Rattle.papaya_tables.specs.Nodes.{deferred_word}
+use Rattle.papaya_tables.specs.declared.node.Node.{Node}
+use Rattle.papaya_tables.specs.declared.setting.Setting.{Setting}
+use Rattle.papaya_resize.specs.declared.new_map.NewMap.{NewMap}
+use Rattle.papaya_schedules.specs.declared.effect.Effect.{Effect}
+use Rattle.papaya_schedules.specs.declared.effect.Effect.TheVariants.{Asked}
+use Rattle.papaya_schedules.specs.declared.effect.Growth.TheVariants.{ABlock}
+use Rattle.papaya_schedules.specs.Effects.{with_effects}
+use Rattle.papaya_schedules.specs.Model.{thing_back}
+use Rattle.papaya_schedules.specs.Moment.{Moment}
+use Rattle.papaya_teller.specs.declared.changed.Changed.{Changed}
+use Rattle.papaya_teller.specs.declared.changed.Changed.TheVariants as changed
+use Rattle.papaya_teller.specs.declared.changed.Kind.{Kind}
+use Rattle.papaya_teller.specs.declared.changed.Kind.TheVariants as kind
+use Rattle.papaya_callers.proofs.Rows.Defers.{used_stands}
+use Rattle.papaya_callers.proofs.Together.Came.{came_reached}
+use Rattle.papaya_effects.specs.Effects.{names_same, named, made_by, taken_by, led_to, effects_of, known_after}
+use Rattle.papaya_effects.specs.Known.{Known}
+use Rattle.papaya_effects.specs.declared.acting.Acting.{Acting}
+use Rattle.papaya_effects.specs.declared.acting.Acting.TheVariants as acts
+use Rattle.papaya_effects.specs.declared.role.Role.{Role}
+use Rattle.papaya_effects.specs.declared.role.Role.TheVariants as role
+use Rattle.papaya_executor.specs.IsAt.{Scene, IsAt, slot_of}
+use Rattle.papaya_executor.specs.Making.{MakingStepsFrom, MakingComesTo}
+use Rattle.papaya_executor.specs.declared.executor.Executor.{Executor}
+use Rattle.papaya_finishes.specs.Endings.{MakingStepsAmong}
+use Rattle.papaya_finishes.specs.Makings.{Beginning}
+use Rattle.papaya_follows.proofs.Operations.{LeavesBy}
+use Rattle.papaya_others.specs.Makings.{making_after}
+use Rattle.papaya_others.proofs.Leads.{word_says}
+use Rattle.papaya_others.proofs.MakingPlans.{TellsMaking}
+use Rattle.papaya_others.proofs.Makes.{no_table_word, tells, left}
+use Rattle.papaya_moments.specs.Whole.{ShowsWhole}
+use Rattle.papaya_moments.proofs.Beside.{IsBeside}
+use Rattle.papaya_moments.proofs.Makings.{not_of_map, before_free}
+use Rattle.papaya_moments.proofs.MakingSteps.{makings_go_beside}
+use Rattle.papaya_promises.specs.Others.{MakingsShelter}
+use Rattle.papaya_promises.specs.Sheltered.{GuardsAreInside, AreSheltered, SectionsHold}
+use Rattle.papaya_promises.proofs.Shelters.Lasting.{Lasts, of_map, all_last, guards_last}
+use Rattle.papaya_promises.proofs.Shelters.Noted.{more_noted}
+use Rattle.papaya_promises.proofs.Shelters.Outs.{TakeNothing, calm_nothing, keep_all}
+use Rattle.papaya_promises.proofs.Shelters.Within.{GoOn, over_events}
+
+module _ {K V S : Type 0} (same : K → K → Bool) (hash : K → ℕ) (name : ℕ → List ℕ) (m : Moment K V) (known : Known) (s : Scene K V) (old new : Executor K V S) (at : IsAt same hash old s)
+    (whole : ShowsWhole same name m known s) (i : ℕ) (b : Beginning K) (here : s.makers i ≡ Some b) (end : NewMap) (said : Progress Setting) (steps : MakingStepsFrom b.machine old new end said)
+    (did : MakingStepsAmong V same same old.batch_size old.roots slot_of s.world s.maps s.calls s.makers s.enders i b new.memory.memory (end, said)) (of : Option ℕ) where
+  abbrev w : World (Node K V)
+  w = s.world
+
+  abbrev w2 : World (Node K V)
+  w2 = did.step.w2
+
+  abbrev told : Changed
+  told = new.memory.changed
+
+  abbrev its : Acting
+  its = acts.Making b.map
+
+  abbrev effects : List Effect
+  effects = effects_of its known told
+
+  abbrev known2 : Known
+  known2 = known_after its told known
+
+  abbrev v : Moment K V
+  v = with_effects None of effects m
+
+  -- what it does takes nothing out of a map, and reclaims nothing
+
+  root_takes : (q : Bool) (r : Role) → TakeNothing (if q then [] else led_to its role.Free r)
+  root_takes true r = (tt, refl)
+  root_takes false role.Free = (tt, refl)
+  root_takes false (role.OwnPair c) = (tt, refl)
+  root_takes false (role.OwnTable turn shape) = ((tt, tt), refl)
+  root_takes false (role.Pair n) = (tt, refl)
+  root_takes false (role.Table t len) = (tt, refl)
+  root_takes false (role.Counter map) = (tt, refl)
+
+  made_takes : (k : Kind) → TakeNothing (Asked ABlock ∷ made_by its k)
+  made_takes kind.Pair = ((tt, (tt, tt)), refl)
+  made_takes (kind.Table len limit turn) = ((tt, (tt, tt)), refl)
+  made_takes kind.Shards = ((tt, tt), refl)
+
+  taken_takes : (x : ℕ) → value_at w2.memory x ≡ None → (r : Role) → known.roles x ≡ r → TakeNothing (taken_by its r)
+  taken_takes x gone role.Free e = (tt, refl)
+  taken_takes x gone (role.OwnPair c) e = ((tt, tt), refl)
+  taken_takes x gone (role.OwnTable turn shape) e = ((tt, tt), refl)
+  taken_takes x gone (role.Pair n) e = absurd (not_of_map same hash name m known s old new at whole.all.shown whole.blocks i b here end said steps did of x gone (role.Pair n) e tt)
+  taken_takes x gone (role.Table t len) e = absurd (not_of_map same hash name m known s old new at whole.all.shown whole.blocks i b here end said steps did of x gone (role.Table t len) e tt)
+  taken_takes x gone (role.Counter map) e = (tt, refl)
+
+  takes : (x : Changed) → TellsMaking w i b.machine.setting.root x → LeavesBy w.memory w2.memory x → TakeNothing (effects_of its known x)
+  takes changed.Nothing so l = (tt, refl)
+  takes (changed.Wrote (Root r) before after) so l =
+      subst (λ (y : Role). TakeNothing (if names_same before after then [] else led_to its y (named known after)))
+      (sym (before_free same hash name m known s old new at whole.all.shown whole.blocks i b here end said steps did of r before after so l))
+      (root_takes (names_same before after) (named known after))
+  takes (changed.Wrote (Used r) before after) so l = (tt, refl)
+  takes (changed.Wrote (Slot t field) before after) so l = absurd so
+  takes (changed.Wrote (Entry x field) before after) so l = absurd so
+  takes (changed.Wrote (Word x field) before after) so l =
+      calm_nothing (effects_of its known (changed.Wrote (Word x field) before after))
+      (word_says its known field (block_in after) (known.roles x) (names_same before after) (named known before) (named known after)
+      (no_table_word same hash name m known s old new at whole.all.shown i b here end said steps did of x (names_same before after) so)).0
+  takes (changed.Made k x) so l = made_takes k
+  takes (changed.Unmade k) so l = ((tt, tt), refl)
+  takes (changed.Took x) so l = taken_takes x l.1 (known.roles x) refl
+  takes (changed.Roomed bucket had) so l = absurd so
+
+  take_nothing : TakeNothing effects
+  take_nothing = takes told (tells same hash name m known s old new at whole.all.shown i b here end said steps did of) (left same hash name m known s old new at whole.all.shown i b here end said steps did of)
+
+  -- sections go on
+
+  reached : Reached deferred_word old.batch_size w
+  reached = came_reached old.batch_size w at.together.makings.standing.came
+
+  reached2 : Reached deferred_word old.batch_size w2
+  reached2 = runs_reached deferred_word old.batch_size did.step.events w w2 reached did.step.runs
+
+  goes : GoOn w w2
+  goes = over_events old.batch_size w w2 reached did.step.events did.step.users did.step.runs
+
+  -- the first table of its map is held at once
+  used_held : (x o t : ℕ) → w2.hand x ≡ InUse o → IsInside (w.uses t) → holds t x w2.log ≡ true
+  used_held x o t used inside =
+      reached_held t x w2.log (ap is_somewhere (used_stands deferred_word old.batch_size w2 reached2 x used)) (inside_open deferred_word old.batch_size w2 reached2 t (goes.inside t inside))
+
+  module _ (s2 : Scene K V) (world : s2.world ≡ w2) (beside : IsBeside m v known known2 s s2) where
+    lasts : Lasts known known2 w w2
+    lasts = record {
+      inside = goes.inside;
+      held = λ t x inside is_of h. goes.held t x inside h;
+      more = more_noted its known told;
+      back = λ x y come is_of. elim (beside.back y (of_map x (known2.roles y) is_of)) as (λ _. (known.roles y ≡ known2.roles y) ⊎ ((t : ℕ) → IsInside (w.uses t) → holds t y w2.log ≡ true)) [
+        | inl was ↦ inl (sym was)
+        | inr came ↦ inr (λ t inside. used_held y came.used.0 t (subst (λ (u : World (Node K V)). u.hand y ≡ InUse came.used.0) world came.used.1) inside)
+      ];
+    }
+
+    pub making_shelters : SectionsHold m known w → GuardsAreInside m.there w2 × AreSheltered m.there w2 known2 v.sheltered × (flat_map thing_back effects ≡ [])
+    making_shelters hold = (
+      guards_last m.there known known2 w w2 lasts hold.0,
+      subst (AreSheltered m.there w2 known2) (sym (keep_all None of effects m take_nothing.0)) (all_last m.there known known2 w w2 lasts m.sheltered hold.1),
+      take_nothing.1,
+    )
+
+  pub comes_there : (t : Progress Setting) (comes : MakingComesTo same hash s old new i b end w2 t) → (making_after same hash s old new i b end w2 t comes).world ≡ w2
+  comes_there progress.Goes comes = refl
+  comes_there progress.Waits comes = absurd comes
+  comes_there (progress.Done setting) comes = refl
+  comes_there (progress.Refused fault) comes = refl
+
+module _ (K V S : Type 0) (same : K → K → Bool) (hash : K → ℕ) where
+  pub makings_shelter : MakingsShelter K V S same hash
+  makings_shelter name m known s old new at whole i told leads b here of is_new =
+      let to = leads b here in
+      making_shelters same hash name m known s old new at whole i b here to.0 told to.1 to.2 of (making_after same hash s old new i b to.0 to.2.step.w2 told to.3)
+      (comes_there same hash name m known s old new at whole i b here to.0 told to.1 to.2 of told to.3)
+      (makings_go_beside K V S same hash name m known s old new at whole i told leads b here of is_new)

@@ -1,0 +1,62 @@
+-- What is promised of guards that come and go: those that are there are within sections, and these shelter what they do.
+use Rattle.std.specs.Prelude.{◌≡◌, ℕ, Bool, List, Some}
+use Rattle.seize.specs.World.{World, IsInside}
+use Rattle.papaya_tables.specs.declared.node.Node.{Node}
+use Rattle.papaya_runs.specs.Present.{Present, HaveNames, guard_of, guards_on, slot_of_registration, drops}
+use Rattle.papaya_runs.specs.declared.holders.Guard.{Guard}
+use Rattle.papaya_schedules.specs.declared.event.Event.{Event}
+use Rattle.papaya_schedules.specs.declared.event.Event.TheVariants.{Enter, Own}
+use Rattle.papaya_schedules.specs.declared.outcome.Outcome.{Outcome}
+use Rattle.papaya_schedules.specs.declared.outcome.Outcome.TheVariants.{Done, Slot}
+use Rattle.papaya_schedules.specs.After.{there_on, unsheltered, sheltered_on}
+use Rattle.papaya_schedules.specs.Moment.{Sheltered, start}
+use Rattle.papaya_effects.specs.Known.{Known, nothing_known}
+use Rattle.papaya_executor.specs.IsAt.{Scene, IsAt, at_first, use_at}
+use Rattle.papaya_executor.specs.declared.executor.Executor.{Executor}
+use Rattle.papaya_executor.specs.declared.row.SlotUse.TheVariants as used
+use Rattle.papaya_promises.specs.Others.{NobodyOn}
+use Rattle.papaya_promises.specs.Sheltered.{GuardsAreInside, AreSheltered, SectionsHold}
+
+module _ {K V : Type 0} (w : World (Node K V)) where
+  -- a guard that enters has a slot that is within a section
+  abbrev pub EntersInside : Event K V → Outcome V → Present → Type 0
+  EntersInside (Enter guard registration) Done there = IsInside (w.uses (slot_of_registration registration there))
+  EntersInside (Own guard) (Slot s) there = IsInside (w.uses s)
+  EntersInside _ _ there = Unit {0}
+
+module _ (K V : Type 0) where
+  -- The promises: so it is before all events,
+  abbrev pub SectionsHoldAtFirst : Type 0
+  SectionsHoldAtFirst = (roots : ℕ) → SectionsHold {K = K} {V = V} start nothing_known (at_first {K = K} {V = V} roots).world
+
+  -- after an event by which guards come or go,
+  abbrev pub GuardsComeAndGo : Type 0
+  GuardsComeAndGo =
+      (w : World (Node K V)) (known : Known) (there : Present) (sheltered : List Sheltered) → GuardsAreInside there w → AreSheltered there w known sheltered
+      → (event : Event K V) (outcome : Outcome V) → EntersInside w event outcome there
+      → GuardsAreInside (there_on event outcome there) w × AreSheltered (there_on event outcome there) w known (sheltered_on event outcome sheltered)
+
+  -- and of all others, while one is without a section,
+  abbrev pub OthersStayInside : Type 0
+  OthersStayInside =
+      (w : World (Node K V)) (known : Known) (there : Present) (sheltered : List Sheltered) → GuardsAreInside there w → AreSheltered there w known sheltered
+      → (guard : List ℕ) → GuardsAreInside (drops guard there) w × AreSheltered (drops guard there) w known (unsheltered guard sheltered)
+
+  -- and of that one, too, once its section is open again.
+  abbrev pub OneIsInsideAgain : Type 0
+  OneIsInsideAgain =
+      (w : World (Node K V)) (known : Known) (there : Present) (sheltered : List Sheltered) (guard : List ℕ)
+      → (g : Guard) → guard_of guard there.guards ≡ Some g → IsInside (w.uses g.slot)
+      → GuardsAreInside (drops guard there) w → AreSheltered (drops guard there) w known sheltered
+      → GuardsAreInside there w × AreSheltered there w known sheltered
+
+-- A slot is within a section that the executor has so.
+abbrev pub UsedSlotsAreInside : (K V S : Type 0) → (K → K → Bool) → (K → ℕ) → Type 0
+UsedSlotsAreInside K V S same hash =
+    (s : Scene K V) (e : Executor K V S) → IsAt same hash e s → (slot : ℕ) → use_at e slot ≡ used.Inside → IsInside (s.world.uses slot)
+
+-- The slot of the only guard on it has nobody without that one.
+abbrev pub OnlyGuardsLeaveNobody : Type 0
+OnlyGuardsLeaveNobody =
+    (there : Present) → HaveNames there → (guard : List ℕ) (g : Guard) → guard_of guard there.guards ≡ Some g → guards_on g.slot there.guards ≡ 1
+    → NobodyOn g.slot (drops guard there)

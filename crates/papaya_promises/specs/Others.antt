@@ -1,0 +1,101 @@
+-- What is promised of what left its map, where anything else happens than a step of a call or of a row: it is sheltered still.
+use Rattle.std.specs.Prelude.{◌≡◌, ℕ, Bool, List, [], Option, Some, None, flat_map}
+use Rattle.seize_words.specs.Mem.{Mem}
+use Rattle.seize.specs.Law.{Ended}
+use Rattle.seize.specs.World.{World, with_effect}
+use Rattle.seize.specs.declared.progress.Progress.{Progress}
+use Rattle.seize.specs.declared.rows.settle.Settled.{Settled}
+use Rattle.papaya_tables.specs.declared.node.Node.{Node}
+use Rattle.papaya_tables.specs.declared.setting.Setting.{Setting}
+use Rattle.papaya_runs.specs.Present.{Present, guard_of}
+use Rattle.papaya_runs.specs.declared.holders.Guard.{Guard}
+use Rattle.papaya_schedules.specs.declared.call.Call.{Call}
+use Rattle.papaya_schedules.specs.declared.call.Reply.{Reply}
+use Rattle.papaya_schedules.specs.declared.outcome.Outcome.{Outcome}
+use Rattle.papaya_schedules.specs.Beginning.{with_call, with_map}
+use Rattle.papaya_schedules.specs.Effects.{with_effects}
+use Rattle.papaya_schedules.specs.Model.{thing_back}
+use Rattle.papaya_schedules.specs.Moment.{MapThere, Remains, Sheltered, Moment}
+use Rattle.papaya_effects.specs.Effects.{effects_of, known_after}
+use Rattle.papaya_effects.specs.Known.{Known}
+use Rattle.papaya_effects.specs.declared.acting.Acting.TheVariants as acts
+use Rattle.papaya_finishes.specs.Endings.{Finishing}
+use Rattle.papaya_finishes.specs.Makings.{Beginning}
+use Rattle.papaya_executor.specs.Ending.{EndingLeads}
+use Rattle.papaya_executor.specs.IsAt.{Scene, IsAt, slot_of}
+use Rattle.papaya_executor.specs.Making.{MakingLeads}
+use Rattle.papaya_executor.specs.OnSlots.{MayBegin, RowBegins}
+use Rattle.papaya_executor.specs.declared.executor.Executor.{Executor}
+use Rattle.papaya_executor.specs.declared.row.SlotCall.{SlotCall}
+use Rattle.papaya_executor.specs.declared.row.SlotCall.TheVariants as call
+use Rattle.papaya_follows.specs.Calling.{told as told_so, come_to}
+use Rattle.papaya_others.specs.Endings.{without_map}
+use Rattle.papaya_others.specs.Walks.{given_up}
+use Rattle.papaya_moments.specs.Makings.{IsNewFor}
+use Rattle.papaya_moments.specs.Whole.{ShowsWhole}
+use Rattle.papaya_promises.specs.Sheltered.{GuardsAreInside, AreSheltered, SectionsHold}
+
+-- no guard that is there is on this slot
+abbrev pub NobodyOn : ℕ → Present → Type 0
+NobodyOn slot there = (own : List ℕ) (g : Guard) → guard_of own there.guards ≡ Some g → g.slot ≡ slot → ⊥
+
+-- a row that ends the section of this slot ends no guard's
+abbrev pub SparesGuards : SlotCall → ℕ → Present → Type 0
+SparesGuards call.Leave slot there = NobodyOn slot there
+SparesGuards call.LeaveOwned slot there = NobodyOn slot there
+SparesGuards call.Refresh slot there = NobodyOn slot there
+SparesGuards _ slot there = Unit {0}
+
+module _ (K V S : Type 0) (same : K → K → Bool) (hash : K → ℕ) where
+  -- The promises: a step of the making of a map leaves guards within their sections, and sheltered what is so; it reclaims nothing.
+  abbrev pub MakingsShelter : Type 0
+  MakingsShelter =
+      (name : ℕ → List ℕ) (m : Moment K V) (known : Known) (s : Scene K V) (old new : Executor K V S) → IsAt same hash old s
+      → ShowsWhole same name m known s
+      → (i : ℕ) (told : Progress Setting) (leads : MakingLeads same hash i told s old new) (b : Beginning K) (here : s.makers i ≡ Some b)
+      → (of : Option ℕ) → IsNewFor b.map told m → SectionsHold m known s.world
+      → (let to = leads b here in
+      let effects = effects_of (acts.Making b.map) known new.memory.changed in
+      GuardsAreInside m.there to.2.step.w2
+      × AreSheltered m.there to.2.step.w2 (known_after (acts.Making b.map) new.memory.changed known) (with_effects None of effects m).sheltered
+      × (flat_map thing_back effects ≡ []))
+
+  -- So does one of the end of a map, which takes blocks away.
+  abbrev pub EndingsShelter : Type 0
+  EndingsShelter =
+      (name : ℕ → List ℕ) (m : Moment K V) (known : Known) (s : Scene K V) (old new : Executor K V S) → IsAt same hash old s
+      → ShowsWhole same name m known s
+      → (i : ℕ) (told : Settled (Node K V)) (leads : EndingLeads same hash i told s old new) (f : Finishing K V) (here : s.enders i ≡ Some f) (map : ℕ)
+      → s.maps map ≡ None → SectionsHold m known s.world
+      → (let to = leads f here in
+      let effects = effects_of (acts.Ending map) known new.memory.changed in
+      GuardsAreInside m.there to.2.w2
+      × AreSheltered m.there to.2.w2 (known_after (acts.Ending map) new.memory.changed known) (with_effects None (Some map) effects m).sheltered
+      × (flat_map thing_back effects ≡ []))
+
+  -- Where a row begins on a slot, they do so, too, if it ends the section of none of them.
+  abbrev pub RowsBeginShelter : Type 0
+  RowsBeginShelter =
+      (s : Scene K V) (old new : Executor K V S) (called : SlotCall) (i : ℕ) (may : MayBegin old (slot_of i) called)
+      → (leads : RowBegins same hash called i s old new) → (there : Present) → SparesGuards called (slot_of i) there → GuardsAreInside there s.world
+      → (known : Known) (sheltered : List Sheltered) → AreSheltered there s.world known sheltered
+      → (let then = (leads may).3.0 in GuardsAreInside there then × AreSheltered there then known sheltered)
+
+module _ {K V : Type 0} (m : Moment K V) (known : Known) (w : World (Node K V)) where
+  -- They hold what they held where a call begins, is told a reply or comes to an outcome, and where one is given up;
+  pub record HoldByCalls : Type 0 where
+    pub begins : (own guard : List ℕ) (call : Call K V) (map : Option ℕ) → SectionsHold (with_call own guard call map m) known w
+    pub takes : (own : List ℕ) (reply : Reply V) → SectionsHold (told_so own reply m) known w
+    pub comes_to : (own : List ℕ) (outcome : Outcome V) (steps : ℕ) → SectionsHold (come_to own outcome steps m) known w
+    pub stops : (own : List ℕ) (stopped : Bool) → SectionsHold (given_up own stopped m) known w
+
+  -- where a map comes, where its owner ends, as its end begins, and where that is over; whatever the memory has.
+  pub record HoldByMaps : Type 0 where
+    pub comes : (there : MapThere) → SectionsHold (with_map there m) known w
+    pub ends : (owner : ℕ) → SectionsHold m known (with_effect w (Ended owner))
+    pub over : (own : List ℕ) (remains : List Remains) → SectionsHold (without_map own remains m) known w
+    pub has : (memory : Mem (Node K V)) → SectionsHold m known (record w { memory = memory })
+
+-- The promise: so it is.
+abbrev pub SectionsGoOn : Type 0 → Type 0 → Type 0
+SectionsGoOn K V = (m : Moment K V) (known : Known) (w : World (Node K V)) → SectionsHold m known w → HoldByCalls m known w × HoldByMaps m known w
