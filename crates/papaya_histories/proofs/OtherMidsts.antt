@@ -1,5 +1,5 @@
 -- In the midst of an event of several steps of a call on no key that only removes pairs, and at its end.
-use Rattle.std.specs.Prelude.{◌≡◌, ℕ, ◌<◌, Bool, true, List, [], ◌∷◌, ◌++◌, flat_map, Option, Some, None, ◌⊎◌}
+use Rattle.std.specs.Prelude.{◌≡◌, ℕ, ◌<◌, Bool, true, List, ◌++◌, flat_map, Option, Some, None, ◌⊎◌}
 use Rattle.std.proofs.Common.{refl, ap, sym, subst, ◌∙◌, inl, inr}
 use Rattle.std.proofs.lemmas.Grind.{flat_map-append}
 use Rattle.seize.specs.World.{with_at}
@@ -9,10 +9,9 @@ use Rattle.papaya_schedules.specs.declared.call.Call.{Call}
 use Rattle.papaya_schedules.specs.declared.call.Call.TheVariants as call
 use Rattle.papaya_schedules.specs.declared.effect.Effect.{Effect}
 use Rattle.papaya_schedules.specs.After.{moment}
-use Rattle.papaya_schedules.specs.Beginning.{at_work}
 use Rattle.papaya_schedules.specs.Effects.{with_effects}
-use Rattle.papaya_schedules.specs.Entry.{Entry, caller_of, acted_on}
-use Rattle.papaya_schedules.specs.Linearizable.{shift_of, RemovesOnly, IsLinearizable}
+use Rattle.papaya_schedules.specs.Entry.{Entry, acted_on}
+use Rattle.papaya_schedules.specs.Linearizable.{shift_of, RemovesOnly}
 use Rattle.papaya_schedules.specs.Moment.{UnderWay as CallThere, Moment}
 use Rattle.papaya_schedules.specs.Sequential.{Shift}
 use Rattle.papaya_schedules.specs.Views.{call_of, finite_map}
@@ -25,17 +24,16 @@ use Rattle.papaya_effects.specs.Effects.{effects_of}
 use Rattle.papaya_effects.specs.Known.{Known}
 use Rattle.papaya_effects.specs.declared.acting.Acting.TheVariants as acts
 use Rattle.papaya_executor.specs.IsAt.{Scene, IsAt, slot_of}
-use Rattle.papaya_executor.specs.Stepping.{StepLeads, scene_after}
+use Rattle.papaya_executor.specs.Stepping.{StepLeads}
 use Rattle.papaya_executor.specs.declared.executor.Executor.{Executor}
 use Rattle.papaya_follows.specs.Shows.{Shows}
 use Rattle.papaya_follows.proofs.Steps.{WentTo, DidSo, LeadsThere, one_of}
 use Rattle.papaya_moments.specs.Whole.{ShowsWhole}
 use Rattle.papaya_moments.proofs.Calls.{calls_keep_whole}
 use Rattle.papaya_moments.proofs.OnSlots.{stood_same}
-use Rattle.papaya_histories.specs.Due.{ShowsDue}
-use Rattle.papaya_histories.specs.Had.{Had, HadJust, HadThen}
+use Rattle.papaya_histories.specs.Had.{HadJust, HadThen}
 use Rattle.papaya_histories.specs.Kept.{ChangesFirst}
-use Rattle.papaya_histories.specs.OtherCalls.{IsNoQuestion, IsOther, IsOnNoKey}
+use Rattle.papaya_histories.specs.OtherCalls.{IsOther, IsOnNoKey}
 use Rattle.papaya_histories.specs.OtherMidsts.{InOtherMidst, OtherMidstsBegin, OtherMidstsGoOn, OtherMidstsKeepDue, OtherMidstsEnd}
 use Rattle.papaya_histories.proofs.Due.{calls_keep_due}
 use Rattle.papaya_histories.proofs.Found.{map_alike}
