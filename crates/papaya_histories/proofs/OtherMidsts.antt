@@ -41,6 +41,7 @@ use Rattle.papaya_histories.proofs.Had.{had_pair}
 use Rattle.papaya_histories.proofs.Later.{IsLater}
 use Rattle.papaya_histories.proofs.Now.{now_had}
 use Rattle.papaya_histories.proofs.OtherCalls.{removals_added, less_told, others_remove_only, others_are_linearizable}
+use Rattle.papaya_histories.proofs.Walks.{others_stay}
 use Rattle.papaya_histories.proofs.Steps.{to, led_on, moved_chart, maps_later, v, now_then}
 
 -- what such a call is called for is on no key
@@ -187,10 +188,10 @@ module _ (K V S : Type 0) (same : K → K → Bool) (hash : K → ℕ) where
       (first_change same hash name log beginning map i c done m known s u midst old new at said leads)
 
   pub other_midsts_go_on : OtherMidstsGoOn K V S same hash
-  other_midsts_go_on name log beginning map i c done m known s u midst old new at said leads next goes other = record {
+  other_midsts_go_on name log beginning map i c done m known s u midst old new at said leads next goes = record {
     here = ap (λ (f : ℕ → Option (UnderWay K V K)). f i) (at_same s.calls map (with_at (s.calls map) i (leads map u midst.here).4.next) map refl)
         ∙ at_same (s.calls map) i (leads map u midst.here).4.next i refl ∙ goes;
-    other = other;
+    other = others_stay K V S same hash s old new map i u midst.here said leads c.call midst.other next goes;
     whole = calls_keep_whole K V S same hash name m known s old new at midst.whole map i u midst.here said leads;
     dues = other_midsts_keep_due name log beginning map i c done m known s u midst old new at said leads;
     begins = midst.begins;
