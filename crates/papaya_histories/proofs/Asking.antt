@@ -38,12 +38,12 @@ module _ {T A B : Type 0} (P : A → Type 0) (Q : B → Type 0) (f : A → B) (t
   always_then (Seeing block rest) so = λ value. always_then (rest value) (so value)
   always_then (Sure fact rest) so = always_then rest so
 
-  always_turned : (plan : Plan T A) → AlwaysOf P plan → AlwaysOf Q (plan_as f plan)
+  pub always_turned : (plan : Plan T A) → AlwaysOf P plan → AlwaysOf Q (plan_as f plan)
   always_turned (Turn rest) so = always_then rest so
   always_turned (Do op rest) so = λ out. always_then (rest out) (so out)
 
 -- is so of the one to which a step has come, whose operation is told
-always_told : {K V R : Type 0} (P : R → Type 0) (m n : Mem (Node K V)) (before told : Changed) (plan : Plan (Node K V) R) (end : R) → AlwaysOf P plan → StepsTold K V R m before plan n told end → P end
+pub always_told : {K V R : Type 0} (P : R → Type 0) (m n : Mem (Node K V)) (before told : Changed) (plan : Plan (Node K V) R) (end : R) → AlwaysOf P plan → StepsTold K V R m before plan n told end → P end
 always_told P m n before told (Turn rest) end always s = always_ends P (value_at n) rest end always s.1
 always_told P m n before told (Do op rest) end always s = always_ends P (value_at n) (rest s.0) end (always s.0) s.2
 

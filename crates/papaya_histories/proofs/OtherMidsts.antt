@@ -1,5 +1,5 @@
 -- In the midst of an event of several steps of a call on no key that only removes pairs, and at its end.
-use Rattle.std.specs.Prelude.{◌≡◌, ℕ, ◌<◌, Bool, true, List, [], ◌∷◌, ◌++◌, flat_map, Option, Some, None, ◌⊎◌}
+use Rattle.std.specs.Prelude.{◌≡◌, ℕ, ◌<◌, Bool, true, List, ◌++◌, flat_map, Option, Some, None, ◌⊎◌}
 use Rattle.std.proofs.Common.{refl, ap, sym, subst, ◌∙◌, inl, inr}
 use Rattle.std.proofs.lemmas.Grind.{flat_map-append}
 use Rattle.seize.specs.World.{with_at}
@@ -9,10 +9,9 @@ use Rattle.papaya_schedules.specs.declared.call.Call.{Call}
 use Rattle.papaya_schedules.specs.declared.call.Call.TheVariants as call
 use Rattle.papaya_schedules.specs.declared.effect.Effect.{Effect}
 use Rattle.papaya_schedules.specs.After.{moment}
-use Rattle.papaya_schedules.specs.Beginning.{at_work}
 use Rattle.papaya_schedules.specs.Effects.{with_effects}
-use Rattle.papaya_schedules.specs.Entry.{Entry, caller_of, acted_on}
-use Rattle.papaya_schedules.specs.Linearizable.{shift_of, RemovesOnly, IsLinearizable}
+use Rattle.papaya_schedules.specs.Entry.{Entry, acted_on}
+use Rattle.papaya_schedules.specs.Linearizable.{shift_of, RemovesOnly}
 use Rattle.papaya_schedules.specs.Moment.{UnderWay as CallThere, Moment}
 use Rattle.papaya_schedules.specs.Sequential.{Shift}
 use Rattle.papaya_schedules.specs.Views.{call_of, finite_map}
@@ -25,17 +24,16 @@ use Rattle.papaya_effects.specs.Effects.{effects_of}
 use Rattle.papaya_effects.specs.Known.{Known}
 use Rattle.papaya_effects.specs.declared.acting.Acting.TheVariants as acts
 use Rattle.papaya_executor.specs.IsAt.{Scene, IsAt, slot_of}
-use Rattle.papaya_executor.specs.Stepping.{StepLeads, scene_after}
+use Rattle.papaya_executor.specs.Stepping.{StepLeads}
 use Rattle.papaya_executor.specs.declared.executor.Executor.{Executor}
 use Rattle.papaya_follows.specs.Shows.{Shows}
 use Rattle.papaya_follows.proofs.Steps.{WentTo, DidSo, LeadsThere, one_of}
 use Rattle.papaya_moments.specs.Whole.{ShowsWhole}
 use Rattle.papaya_moments.proofs.Calls.{calls_keep_whole}
 use Rattle.papaya_moments.proofs.OnSlots.{stood_same}
-use Rattle.papaya_histories.specs.Due.{ShowsDue}
-use Rattle.papaya_histories.specs.Had.{Had, HadJust, HadThen}
+use Rattle.papaya_histories.specs.Had.{HadJust, HadThen}
 use Rattle.papaya_histories.specs.Kept.{ChangesFirst}
-use Rattle.papaya_histories.specs.OtherCalls.{IsNoQuestion, IsOther, IsOnNoKey}
+use Rattle.papaya_histories.specs.OtherCalls.{IsOther, IsOnNoKey}
 use Rattle.papaya_histories.specs.OtherMidsts.{InOtherMidst, OtherMidstsBegin, OtherMidstsGoOn, OtherMidstsKeepDue, OtherMidstsEnd}
 use Rattle.papaya_histories.proofs.Due.{calls_keep_due}
 use Rattle.papaya_histories.proofs.Found.{map_alike}
@@ -43,6 +41,7 @@ use Rattle.papaya_histories.proofs.Had.{had_pair}
 use Rattle.papaya_histories.proofs.Later.{IsLater}
 use Rattle.papaya_histories.proofs.Now.{now_had}
 use Rattle.papaya_histories.proofs.OtherCalls.{removals_added, less_told, others_remove_only, others_are_linearizable}
+use Rattle.papaya_histories.proofs.Walks.{others_stay}
 use Rattle.papaya_histories.proofs.Steps.{to, led_on, moved_chart, maps_later, v, now_then}
 
 -- what such a call is called for is on no key
@@ -189,10 +188,10 @@ module _ (K V S : Type 0) (same : K → K → Bool) (hash : K → ℕ) where
       (first_change same hash name log beginning map i c done m known s u midst old new at said leads)
 
   pub other_midsts_go_on : OtherMidstsGoOn K V S same hash
-  other_midsts_go_on name log beginning map i c done m known s u midst old new at said leads next goes other = record {
+  other_midsts_go_on name log beginning map i c done m known s u midst old new at said leads next goes = record {
     here = ap (λ (f : ℕ → Option (UnderWay K V K)). f i) (at_same s.calls map (with_at (s.calls map) i (leads map u midst.here).4.next) map refl)
         ∙ at_same (s.calls map) i (leads map u midst.here).4.next i refl ∙ goes;
-    other = other;
+    other = others_stay K V S same hash s old new map i u midst.here said leads c.call midst.other next goes;
     whole = calls_keep_whole K V S same hash name m known s old new at midst.whole map i u midst.here said leads;
     dues = other_midsts_keep_due name log beginning map i c done m known s u midst old new at said leads;
     begins = midst.begins;

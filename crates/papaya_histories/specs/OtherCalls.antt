@@ -48,6 +48,12 @@ module _ (K V S : Type 0) (same : K → K → Bool) (hash : K → ℕ) where
       → (map i : ℕ) (u : UnderWay K V K) (here : s.calls map i ≡ Some u) (said : Progress (Node K V)) (leads : StepLeads same hash i said s old new)
       → (call : Call K V) → IsOther u call → (c : CallThere K V) → RemovesOnly same call c (flat_map shift_of (effects_of (acts.Call i map) known new.memory.changed))
 
+  -- One that goes on is such a call still.
+  abbrev pub OthersStay : Type 0
+  OthersStay =
+      (s : Scene K V) (old new : Executor K V S) (map i : ℕ) (u : UnderWay K V K) (here : s.calls map i ≡ Some u) (said : Progress (Node K V)) (leads : StepLeads same hash i said s old new)
+      → (call : Call K V) → IsOther u call → (next : UnderWay K V K) → (leads map u here).4.next ≡ Some next → IsOther next call
+
 module _ (K V : Type 0) (same : K → K → Bool) where
   -- So do several steps,
   abbrev pub RemovalsAdd : Type 0

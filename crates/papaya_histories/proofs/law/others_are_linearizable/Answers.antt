@@ -1,6 +1,13 @@
 -- Events of other calls are linearizable.
 use Rattle.papaya_histories.proofs.OtherCalls.{others_remove_only, removals_added, others_are_linearizable, no_calls_are_linearizable}
+use Rattle.papaya_histories.proofs.Walks.{others_stay}
 use Rattle.papaya_histories.proofs.law.others_are_linearizable.Goals as goal
 
 pub returns : goal.returns
-returns c d = record { steps = others_remove_only _ _ _; several = removals_added _ _; events = others_are_linearizable _ _; of_no_call = no_calls_are_linearizable _ _ }
+returns c d = record {
+  steps = others_remove_only _ _ _;
+  stays = others_stay _ _ _;
+  several = removals_added _ _;
+  events = others_are_linearizable _ _;
+  of_no_call = no_calls_are_linearizable _ _;
+}
