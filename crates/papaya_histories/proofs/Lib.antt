@@ -33,3 +33,4 @@ pub mod OtherMidsts
 pub mod Retaining
 pub mod BeginsCall
 pub mod Events
+mod Samples

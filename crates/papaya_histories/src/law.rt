@@ -106,8 +106,8 @@ pub fn questions_are_so<K, V, S>()
     ensures retain { (same : K → K → Bool) (hash : K → ℕ) → RetainingsMayAsk K V S same hash }
 {}
 
-/// A step of a reservation, of a counting, or of a walk changes no pair, and one of a clearing removes one at most; and where it goes on, it is such a call still. So an event of steps of such a call is linearizable;
-/// and so is one that is no step of a call, and by which no pair comes or goes.
+/// A step of a reservation, of a counting, or of a walk changes no pair, and one of a clearing removes one at most; and where it goes on, it is such a call still. So an
+/// event of steps of such a call is linearizable; and so is one that is no step of a call, and by which no pair comes or goes.
 pub fn others_are_linearizable<K, V, S>()
     ensures steps { (same : K → K → Bool) (hash : K → ℕ) → OthersRemoveOnly K V S same hash }
     ensures stays { (same : K → K → Bool) (hash : K → ℕ) → OthersStay K V S same hash }
