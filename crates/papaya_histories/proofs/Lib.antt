@@ -28,6 +28,7 @@ pub mod Says
 pub mod Asking
 pub mod AsksRight
 pub mod OtherCalls
+pub mod RowsShift
 pub mod Walks
 pub mod OtherMidsts
 pub mod Retaining
