@@ -28,8 +28,10 @@ pub mod Says
 pub mod Asking
 pub mod AsksRight
 pub mod OtherCalls
+pub mod RowsShift
 pub mod Walks
 pub mod OtherMidsts
 pub mod Retaining
 pub mod BeginsCall
 pub mod Events
+mod Samples

@@ -1,9 +1,10 @@
 -- Where a row on a slot begins, and takes its steps, the histories of maps stay within the moments of the run, and calls owe what they owed.
-use Rattle.std.specs.Prelude.{◌≡◌, ℕ, Bool, List, Some, None}
+use Rattle.std.specs.Prelude.{◌≡◌, ℕ, Bool, List, [], flat_map, Some, None}
 use Rattle.seize.specs.World.{Begin, Step}
 use Rattle.papaya_tables.specs.declared.node.Node.{Node}
 use Rattle.papaya_schedules.specs.Effects.{with_effects, AtEachEffect}
 use Rattle.papaya_schedules.specs.Entry.{Entry}
+use Rattle.papaya_schedules.specs.Linearizable.{shift_of}
 use Rattle.papaya_schedules.specs.Moment.{Moment}
 use Rattle.papaya_effects.specs.Effects.{effects_of, known_after}
 use Rattle.papaya_effects.specs.Known.{Known}
@@ -52,3 +53,9 @@ module _ (K V S : Type 0) (same : K → K → Bool) (hash : K → ℕ) where
       → AtEachEffect WasRetired None None (effects_of Row known new.memory.changed) m
       → ShowsDue same name log (with_effects None None (effects_of Row known new.memory.changed) m) (known_after Row new.memory.changed known)
       (scene_then same hash (Step i) s old new (leads row here).4)
+
+  -- and by a step of a row on a slot no pair comes or goes.
+  abbrev pub RowsShiftNone : Type 0
+  RowsShiftNone =
+      (known : Known) (s : Scene K V) (old new : Executor K V S) (i : ℕ) (told : RowTold (Node K V)) → RowLeads same hash i told s old new → (row : SlotRow) → work_of old i ≡ Some (OnSlot row)
+      → flat_map shift_of (effects_of Row known new.memory.changed) ≡ []

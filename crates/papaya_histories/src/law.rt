@@ -7,7 +7,7 @@ ghost use Rattle.papaya_histories.specs.Due.{DuesBegin, CallsKeepDue, CallsBegin
 ghost use Rattle.papaya_histories.specs.Events.{StepsAreLinearizable};
 ghost use Rattle.papaya_histories.specs.OtherCalls.{OthersRemoveOnly, OthersStay, RemovalsAdd, OthersAreLinearizable, NoCallsAreLinearizable};
 ghost use Rattle.papaya_histories.specs.OtherMidsts.{OtherMidstsBegin, OtherMidstsGoOn, OtherMidstsKeepDue, OtherMidstsEnd};
-ghost use Rattle.papaya_histories.specs.Others.{RowsBeginHistories, RowsKeepHistories, RowsBeginDue, RowsKeepDue};
+ghost use Rattle.papaya_histories.specs.Others.{RowsBeginHistories, RowsKeepHistories, RowsBeginDue, RowsKeepDue, RowsShiftNone};
 ghost use Rattle.papaya_histories.specs.Questions.{QuestionsBegin, EffectsKeepQuestions, CallsBeginQuestions, CallsTakeQuestions, CallsComeToQuestions, EventsKeepQuestions, RunsKeepQuestions};
 ghost use Rattle.papaya_histories.specs.Retaining.{RetainingsMayAsk};
 ghost use Rattle.papaya_histories.specs.Several.{MidstsBegin, MidstsBeginCalls, MidstsGoOn, MidstsEnd, MidstsAskStill};
@@ -106,13 +106,14 @@ pub fn questions_are_so<K, V, S>()
     ensures retain { (same : K → K → Bool) (hash : K → ℕ) → RetainingsMayAsk K V S same hash }
 {}
 
-/// A step of a reservation, of a counting, or of a walk changes no pair, and one of a clearing removes one at most; and where it goes on, it is such a call still. So an event of steps of such a call is linearizable;
-/// and so is one that is no step of a call, and by which no pair comes or goes.
+/// A step of a reservation, of a counting, or of a walk changes no pair, and one of a clearing removes one at most; and where it goes on, it is such a call still. So an
+/// event of steps of such a call is linearizable; and so is one that is no step of a call, and by which no pair comes or goes, as by a step of a row on a slot.
 pub fn others_are_linearizable<K, V, S>()
     ensures steps { (same : K → K → Bool) (hash : K → ℕ) → OthersRemoveOnly K V S same hash }
     ensures stays { (same : K → K → Bool) (hash : K → ℕ) → OthersStay K V S same hash }
     ensures several { (same : K → K → Bool) → RemovalsAdd K V same }
     ensures events { (same : K → K → Bool) → OthersAreLinearizable K V same }
+    ensures rows { (same : K → K → Bool) (hash : K → ℕ) → RowsShiftNone K V S same hash }
     ensures of_no_call { (same : K → K → Bool) → NoCallsAreLinearizable K V same }
 {}
 
