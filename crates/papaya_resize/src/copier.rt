@@ -176,6 +176,7 @@ impl Copier {
     }
 
     /// Goes on once its range is counted.
+    #[inline(always)]
     fn go_on(&mut self)
         ensures { self.new ≡ behind self.old }
     {
@@ -190,6 +191,7 @@ impl Copier {
     }
 
     /// Goes on where each place is claimed.
+    #[inline(always)]
     fn none_left(&mut self)
         ensures { self.new ≡ none_left self.old }
     {
@@ -202,6 +204,7 @@ impl Copier {
     }
 
     /// Goes on with the next place of its range, if there is one.
+    #[inline(always)]
     fn next_place(&mut self)
         ensures { self.new ≡ next_place self.old }
     {
@@ -216,6 +219,7 @@ impl Copier {
     }
 
     /// Goes on once a place is done.
+    #[inline(always)]
     fn place_done(&mut self)
         ensures { self.new ≡ place_done self.old }
     {
@@ -224,6 +228,7 @@ impl Copier {
     }
 
     /// One step: at most one operation. The hasher gives the hash of the key of each pair that is copied.
+    #[inline(always)]
     pub fn step<K: Drop, V: Drop, S: Hashes<K>, M: Memory<Node<K, V>>>(
         &mut self,
         memory: &mut M,
@@ -253,10 +258,10 @@ impl Copier {
             } => self.puts(memory, word, hash, table, probe),
             Copying::Covers { word } => self.covers(memory, word),
             Copying::Passes { word, hash, table } => self.passes(memory, word, hash, table),
-            Copying::Grows { word, hash, making } => self.grows(memory, word, hash, making),
+            Copying::Grows { .. } => self.grows(memory),
             Copying::Aborts => self.aborts(memory),
             Copying::Replaces => self.replaces(memory),
-            Copying::Remakes { making } => self.remakes(memory, making),
+            Copying::Remakes { .. } => self.remakes(memory),
             Copying::Counts => self.counts(memory),
             Copying::Tallies { word, fault } => self.tallies(memory, word, fault),
             Copying::Unmarks { word, fault } => self.unmarks(memory, word, fault),
@@ -264,7 +269,7 @@ impl Copier {
             Copying::Promotes => self.promotes(memory),
             Copying::Announces => self.announces(memory),
             Copying::Succeeds { table } => self.succeeds(memory, table),
-            Copying::Retires { settle, rest } => self.retires(memory, settle, rest),
+            Copying::Retires { .. } => self.retires(memory),
             Copying::Over => Outcome::Done(self.target),
             Copying::Refused(fault) => Outcome::Refused(fault),
         }

@@ -2,8 +2,7 @@
 ghost use Rattle.std.specs.Prelude.{◌≡◌};
 ghost use Rattle.papaya_resize.specs.Dispose.{disposing, standing, settled, deferred, reads, walks, dispose_plan};
 ghost use Rattle.papaya_resize.specs.declared.dispose.Disposing.TheVariants as at;
-ghost use Rattle.seize.specs.Defer.{defer_plan};
-ghost use Rattle.seize_words.specs.Plan.{May, Steps, plan_as};
+ghost use Rattle.seize_words.specs.Plan.{May, Steps};
 
 use papaya_tables::marks::{BORROWED, has, link_of};
 use papaya_tables::table_words::{DEFERRED, NEXT};
@@ -123,20 +122,23 @@ impl Dispose {
         Settled::Goes
     }
 
-    /// Takes a step of the putting, which nothing refuses.
-    fn defers<T, M: Memory<T>>(&mut self, memory: &mut M, mut defer: Defer) -> Settled<T>
-        requires { May M.can M.took M.shown memory.old (plan_as (deferred {T = T} self.old) (defer_plan defer)) }
-        ensures { Steps M.took M.shown memory.old (plan_as (deferred {T = T} self.old) (defer_plan defer)) memory.new (self.new, result) }
+    /// Takes a step of the putting, which nothing refuses, where it stands.
+    fn defers<K, V, M: Memory<Node<K, V>>>(&mut self, memory: &mut M) -> Settled<Node<K, V>>
+        requires deferring { (defer : Defer) × (self.old.stands ≡ at.Defers defer) }
+        requires may { May M.can M.took M.shown memory.old (dispose_plan self.old) }
+        ensures { Steps M.took M.shown memory.old (dispose_plan self.old) memory.new (self.new, result) }
     {
+        let Disposing::Defers(defer) = &mut self.stands else {
+            unreachable!()
+        };
         let progress = defer.step(memory);
-        self.deferred(defer, progress)
+        self.deferred(progress)
     }
 
     /// Goes on after a step of the putting.
-    fn deferred<T>(&mut self, defer: Defer, progress: Progress<()>) -> Settled<T>
-        ensures { (self.new, result) ≡ deferred self.old (defer, progress) }
+    fn deferred<T>(&mut self, progress: Progress<()>) -> Settled<T>
+        ensures { (begun : Dispose) (defer : Defer) → self.old ≡ standing begun (at.Defers defer) → (self.new, result) ≡ deferred begun (defer, progress) }
     {
-        self.stands = Disposing::Defers(defer);
         match progress {
             Progress::Goes => Settled::Goes,
             Progress::Waits => Settled::Waits,
@@ -158,7 +160,7 @@ impl<K, V> Machine<Node<K, V>> for Dispose {
             Disposing::Settles(_) => self.settles(memory),
             Disposing::Reads => self.reads(memory),
             Disposing::Walks { table } => self.walks(memory, table),
-            Disposing::Defers(defer) => self.defers(memory, defer),
+            Disposing::Defers(_) => self.defers(memory),
             Disposing::Over => Settled::Done,
         }
     }

@@ -11,6 +11,7 @@ use seize_words::{At, Link, Memory};
 
 impl Copier {
     /// Reads the root.
+    #[inline(always)]
     pub(super) fn begins<K, V, M: Memory<Node<K, V>>>(
         &mut self,
         memory: &mut M,
@@ -25,6 +26,7 @@ impl Copier {
     }
 
     /// Reads which table follows. Where none does, there is nothing to copy.
+    #[inline(always)]
     pub(super) fn follows<K, V, M: Memory<Node<K, V>>>(
         &mut self,
         memory: &mut M,
@@ -43,6 +45,7 @@ impl Copier {
     }
 
     /// Reads the status of the table that is copied into. Where nothing is left to be claimed, the others are waited for.
+    #[inline(always)]
     pub(super) fn asks<K, V, M: Memory<Node<K, V>>>(
         &mut self,
         memory: &mut M,
@@ -65,6 +68,7 @@ impl Copier {
     }
 
     /// Reads how many places are claimed: a claim past the table's end is not raised further.
+    #[inline(always)]
     pub(super) fn sees<K, V, M: Memory<Node<K, V>>>(
         &mut self,
         memory: &mut M,
@@ -82,6 +86,7 @@ impl Copier {
     }
 
     /// Claims a chunk.
+    #[inline(always)]
     pub(super) fn claims<K, V, M: Memory<Node<K, V>>>(
         &mut self,
         memory: &mut M,
@@ -100,6 +105,7 @@ impl Copier {
     }
 
     /// How many places are claimed at once.
+    #[inline(always)]
     fn chunk(&self) -> u64
         ensures { result ≡ chunk self.now }
     {
@@ -107,6 +113,7 @@ impl Copier {
     }
 
     /// Takes the places from a claim on, a chunk cut at the table's end.
+    #[inline(always)]
     fn claim_from(&mut self, claim: u64)
         requires { claim < self.old.source.len }
         ensures { self.new ≡ range_claimed self.old claim }

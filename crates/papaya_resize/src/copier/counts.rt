@@ -11,6 +11,7 @@ use seize_words::{Fault, Memory};
 
 impl Copier {
     /// Adds the places done to the count. Where that makes it full, the next table is promoted.
+    #[inline(always)]
     pub(super) fn counts<K, V, M: Memory<Node<K, V>>>(
         &mut self,
         memory: &mut M,
@@ -32,6 +33,7 @@ impl Copier {
     }
 
     /// Goes on where a pair could have no place: what is done is counted first, since a marked place is never counted again.
+    #[inline(always)]
     pub(super) fn refuse(&mut self, word: u64, fault: Fault)
         ensures { self.new ≡ refusing self.old word fault }
     {
@@ -43,6 +45,7 @@ impl Copier {
     }
 
     /// Adds the places done to the count, which can't be full: the place of the pair is not done.
+    #[inline(always)]
     pub(super) fn tallies<K, V, M: Memory<Node<K, V>>>(
         &mut self,
         memory: &mut M,
@@ -58,6 +61,7 @@ impl Copier {
     }
 
     /// Goes on once they are counted.
+    #[inline(always)]
     fn tallied(&mut self, word: u64, fault: Fault)
         ensures { self.new ≡ record self.old { done = 0; stands = Copying.Unmarks word fault } }
     {
@@ -66,6 +70,7 @@ impl Copier {
     }
 
     /// Takes the mark back.
+    #[inline(always)]
     pub(super) fn unmarks<K, V, M: Memory<Node<K, V>>>(
         &mut self,
         memory: &mut M,
@@ -81,6 +86,7 @@ impl Copier {
     }
 
     /// Sets the claim to 0: another caller comes to the place, whose mark is gone.
+    #[inline(always)]
     pub(super) fn unclaims<K, V, M: Memory<Node<K, V>>>(
         &mut self,
         memory: &mut M,
@@ -95,6 +101,7 @@ impl Copier {
     }
 
     /// Ends without its copy.
+    #[inline(always)]
     pub(super) fn give_up(&mut self, fault: Fault)
         ensures { self.new ≡ given_up self.old fault }
     {

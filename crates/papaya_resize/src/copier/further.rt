@@ -1,7 +1,9 @@
 //! A further table is looked for, where a pair has no place in one.
-ghost use Rattle.std.specs.Prelude.{◌≡◌};
-ghost use Rattle.seize_words.specs.Plan.{May, Steps, plan_as};
-ghost use Rattle.papaya_resize.specs.NewTable.{new_table_plan};
+ghost use Rattle.std.specs.Prelude.{◌≡◌, ℕ};
+ghost use Rattle.seize_words.specs.Plan.{May, Steps};
+ghost use Rattle.papaya_resize.specs.Copier.{copier_plan};
+ghost use Rattle.papaya_resize.specs.CopierStates.{standing};
+ghost use Rattle.papaya_resize.specs.declared.copier.Copying.TheVariants as at;
 ghost use Rattle.papaya_resize.specs.CopierFurther.{anew, passes, grown, aborts, replaces, remade};
 
 use crate::copier::{Copier, Copying};
@@ -15,6 +17,7 @@ use seize_words::{Link, Memory};
 
 impl Copier {
     /// Reads which table follows one that has no place for a pair.
+    #[inline(always)]
     pub(super) fn passes<K, V, M: Memory<Node<K, V>>>(
         &mut self,
         memory: &mut M,
@@ -39,32 +42,34 @@ impl Copier {
         Outcome::Goes
     }
 
-    /// Takes a step of the making of a table for a pair. Where it is refused, the pair stays where it is.
+    /// Takes a step of the making of a table for a pair, where it stands. Where it is refused, the pair stays where it is.
+    #[inline(always)]
     pub(super) fn grows<K: Drop, V: Drop, M: Memory<Node<K, V>>>(
         &mut self,
         memory: &mut M,
-        word: u64,
-        hash: u64,
-        mut making: NewTable,
     ) -> Outcome<Node<K, V>, Table>
-        requires { May M.can M.took M.shown memory.old (plan_as (grown {K = K} {V = V} self.old word hash) (new_table_plan making)) }
-        ensures { Steps M.took M.shown memory.old (plan_as (grown {K = K} {V = V} self.old word hash) (new_table_plan making)) memory.new (self.new, result) }
+        requires making { (word : ℕ) × (hash : ℕ) × (making : NewTable) × (self.old.stands ≡ at.Grows word hash making) }
+        requires may { (hashes : K → ℕ) × May M.can M.took M.shown memory.old (copier_plan {V = V} hashes self.old) }
+        ensures { (hashes : K → ℕ) → Steps M.took M.shown memory.old (copier_plan {V = V} hashes self.old) memory.new (self.new, result) }
     {
+        let Copying::Grows { word, hash, making } = &mut self.stands else {
+            unreachable!()
+        };
+        let (word, hash) = (*word, *hash);
         let progress = making.step(memory);
-        self.grown(word, hash, making, progress)
+        self.grown(word, hash, progress)
     }
 
     /// Goes on after a step of that making.
+    #[inline(always)]
     fn grown<K, V>(
         &mut self,
         word: u64,
         hash: u64,
-        making: NewTable,
         progress: Progress<Table>,
     ) -> Outcome<Node<K, V>, Table>
-        ensures { (self.new, result) ≡ grown self.old word hash (making, progress) }
+        ensures { (begun : Copier) (making : NewTable) → self.old ≡ standing begun (at.Grows word hash making) → (self.new, result) ≡ grown begun word hash (making, progress) }
     {
-        self.stands = Copying::Grows { word, hash, making };
         match progress {
             Progress::Goes => Outcome::Goes,
             Progress::Waits => Outcome::Waits,
@@ -80,6 +85,7 @@ impl Copier {
     }
 
     /// Says that a pair has no place in the table that is copied into.
+    #[inline(always)]
     pub(super) fn aborts<K, V, M: Memory<Node<K, V>>>(
         &mut self,
         memory: &mut M,
@@ -93,6 +99,7 @@ impl Copier {
     }
 
     /// Reads which table follows one that was aborted.
+    #[inline(always)]
     pub(super) fn replaces<K, V, M: Memory<Node<K, V>>>(
         &mut self,
         memory: &mut M,
@@ -112,28 +119,28 @@ impl Copier {
         Outcome::Goes
     }
 
-    /// Takes a step of the making of another table to copy into. Where it is refused, so is the call.
+    /// Takes a step of the making of another table to copy into, where it stands. Where it is refused, so is the call.
+    #[inline(always)]
     pub(super) fn remakes<K: Drop, V: Drop, M: Memory<Node<K, V>>>(
         &mut self,
         memory: &mut M,
-        mut making: NewTable,
     ) -> Outcome<Node<K, V>, Table>
-        requires { May M.can M.took M.shown memory.old (plan_as (remade {K = K} {V = V} self.old) (new_table_plan making)) }
-        ensures { Steps M.took M.shown memory.old (plan_as (remade {K = K} {V = V} self.old) (new_table_plan making)) memory.new (self.new, result) }
+        requires making { (making : NewTable) × (self.old.stands ≡ at.Remakes making) }
+        requires may { (hashes : K → ℕ) × May M.can M.took M.shown memory.old (copier_plan {V = V} hashes self.old) }
+        ensures { (hashes : K → ℕ) → Steps M.took M.shown memory.old (copier_plan {V = V} hashes self.old) memory.new (self.new, result) }
     {
+        let Copying::Remakes { making } = &mut self.stands else {
+            unreachable!()
+        };
         let progress = making.step(memory);
-        self.remade(making, progress)
+        self.remade(progress)
     }
 
     /// Goes on after a step of that making.
-    fn remade<K, V>(
-        &mut self,
-        making: NewTable,
-        progress: Progress<Table>,
-    ) -> Outcome<Node<K, V>, Table>
-        ensures { (self.new, result) ≡ remade self.old (making, progress) }
+    #[inline(always)]
+    fn remade<K, V>(&mut self, progress: Progress<Table>) -> Outcome<Node<K, V>, Table>
+        ensures { (begun : Copier) (making : NewTable) → self.old ≡ standing begun (at.Remakes making) → (self.new, result) ≡ remade begun (making, progress) }
     {
-        self.stands = Copying::Remakes { making };
         match progress {
             Progress::Goes => Outcome::Goes,
             Progress::Waits => Outcome::Waits,
@@ -149,6 +156,7 @@ impl Copier {
     }
 
     /// Begins the copying anew, into another table.
+    #[inline(always)]
     fn begin_anew(&mut self, table: Table)
         ensures { self.new ≡ anew self.old table }
     {

@@ -10,6 +10,7 @@ use papaya_tables::{Hashes, Node, Probe, Table};
 use seize_words::{Link, Memory};
 
 /// The hash of the key of a pair, and 0 of a value of another kind.
+#[inline(always)]
 fn key_hash<K, V, S: Hashes<K>>(value: &Node<K, V>, hasher: &S) -> u64
     ensures { result ≡ key_hash (S.hash hasher.now) value.now }
 {
@@ -22,6 +23,7 @@ fn key_hash<K, V, S: Hashes<K>>(value: &Node<K, V>, hasher: &S) -> u64
 impl Copier {
     /// Whether the word of a place, as it was before the mark, is copied by this caller. In incremental mode the first one that
     /// marks a place copies it. In blocking mode a place may be marked from a copying that was given up.
+    #[inline(always)]
     fn is_mine(&self, word: u64) -> bool
         ensures { result ≡ is_mine self.now word }
     {
@@ -29,6 +31,7 @@ impl Copier {
     }
 
     /// Whether another caller is copying the pair, and it is to be waited for.
+    #[inline(always)]
     fn is_awaited(&self, word: u64) -> bool
         ensures { result ≡ is_awaited self.now word }
     {
@@ -36,6 +39,7 @@ impl Copier {
     }
 
     /// Begins to look for a place for a pair in a table.
+    #[inline(always)]
     pub(super) fn probe(&mut self, word: u64, hash: u64, table: Table)
         ensures { self.new ≡ probing self.old word hash table }
     {
@@ -48,6 +52,7 @@ impl Copier {
     }
 
     /// Marks a place.
+    #[inline(always)]
     pub(super) fn marks<K, V, S: Hashes<K>, M: Memory<Node<K, V>>>(
         &mut self,
         memory: &mut M,
@@ -73,6 +78,7 @@ impl Copier {
     }
 
     /// Marks a place as copied.
+    #[inline(always)]
     pub(super) fn covers<K, V, M: Memory<Node<K, V>>>(
         &mut self,
         memory: &mut M,

@@ -11,6 +11,7 @@ use seize_words::Memory;
 
 impl Copier {
     /// The word of a copied pair. In incremental mode it says that the pair stands in an older table, too.
+    #[inline(always)]
     fn copied_word(&self, word: u64) -> u64
         ensures { result ≡ copied_word self.now word }
     {
@@ -23,6 +24,7 @@ impl Copier {
 
     /// Goes on with the next try, if there is one. Without one a further table is looked at, or in blocking mode the copying into
     /// this table is given up.
+    #[inline(always)]
     fn next_try(&mut self, word: u64, hash: u64, table: Table, probe: Probe)
         ensures { self.new ≡ next_try self.old word hash table probe }
     {
@@ -46,6 +48,7 @@ impl Copier {
     }
 
     /// Goes on once a pair stands in its new place.
+    #[inline(always)]
     fn pair_put(&mut self, word: u64)
         ensures { self.new ≡ pair_put self.old word }
     {
@@ -57,6 +60,7 @@ impl Copier {
     }
 
     /// Reads a place of the pair's key.
+    #[inline(always)]
     pub(super) fn probes<K, V, M: Memory<Node<K, V>>>(
         &mut self,
         memory: &mut M,
@@ -83,6 +87,7 @@ impl Copier {
     }
 
     /// Puts the pair into a place that was empty.
+    #[inline(always)]
     pub(super) fn puts<K, V, M: Memory<Node<K, V>>>(
         &mut self,
         memory: &mut M,

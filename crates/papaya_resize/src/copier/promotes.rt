@@ -1,8 +1,9 @@
 //! The next table becomes the root, and the tables before it are retired.
-ghost use Rattle.std.specs.Prelude.{◌≡◌};
-ghost use Rattle.seize_words.specs.Plan.{May, Steps, plan_as};
-ghost use Rattle.seize.specs.Settle.{settle_plan};
-ghost use Rattle.papaya_tables.specs.Nodes.{deferred_word};
+ghost use Rattle.std.specs.Prelude.{◌≡◌, ℕ};
+ghost use Rattle.seize_words.specs.Plan.{May, Steps};
+ghost use Rattle.papaya_resize.specs.Copier.{copier_plan};
+ghost use Rattle.papaya_resize.specs.CopierStates.{standing};
+ghost use Rattle.papaya_resize.specs.declared.copier.Copying.TheVariants as at;
 ghost use Rattle.papaya_resize.specs.CopierPromotes.{table_retired, promotes, announces, succeeds, retired};
 
 use crate::copier::{Copier, Copying};
@@ -15,6 +16,7 @@ use seize_words::{At, Link, Memory};
 
 impl Copier {
     /// Makes the next table the root.
+    #[inline(always)]
     pub(super) fn promotes<K, V, M: Memory<Node<K, V>>>(
         &mut self,
         memory: &mut M,
@@ -31,6 +33,7 @@ impl Copier {
     }
 
     /// Says in its status that the next table is the root.
+    #[inline(always)]
     pub(super) fn announces<K, V, M: Memory<Node<K, V>>>(
         &mut self,
         memory: &mut M,
@@ -46,6 +49,7 @@ impl Copier {
     }
 
     /// Reads which table comes after one that is to be retired, before that one is gone.
+    #[inline(always)]
     pub(super) fn succeeds<K, V, M: Memory<Node<K, V>>>(
         &mut self,
         memory: &mut M,
@@ -67,30 +71,33 @@ impl Copier {
         Outcome::Goes
     }
 
-    /// Takes a step of the retirement of a table.
+    /// Takes a step of the retirement of a table, where it stands.
+    #[inline(always)]
     pub(super) fn retires<K, V, M: Memory<Node<K, V>>>(
         &mut self,
         memory: &mut M,
-        mut settle: Settle,
-        rest: u64,
     ) -> Outcome<Node<K, V>, Table>
-        requires { May M.can M.took M.shown memory.old (plan_as (retired self.old rest) (settle_plan deferred_word settle)) }
-        ensures { Steps M.took M.shown memory.old (plan_as (retired self.old rest) (settle_plan deferred_word settle)) memory.new (self.new, result) }
+        requires retiring { (settle : Settle) × (rest : ℕ) × (self.old.stands ≡ at.Retires settle rest) }
+        requires may { (hashes : K → ℕ) × May M.can M.took M.shown memory.old (copier_plan {V = V} hashes self.old) }
+        ensures { (hashes : K → ℕ) → Steps M.took M.shown memory.old (copier_plan {V = V} hashes self.old) memory.new (self.new, result) }
     {
+        let Copying::Retires { settle, rest } = &mut self.stands else {
+            unreachable!()
+        };
+        let rest = *rest;
         let progress = settle.step(memory);
-        self.retired(settle, rest, progress)
+        self.retired(rest, progress)
     }
 
     /// Goes on after a step of that retirement.
+    #[inline(always)]
     fn retired<K, V>(
         &mut self,
-        settle: Settle,
         rest: u64,
         progress: Settled<Node<K, V>>,
     ) -> Outcome<Node<K, V>, Table>
-        ensures { (self.new, result) ≡ retired self.old rest (settle, progress) }
+        ensures { (begun : Copier) (settle : Settle) → self.old ≡ standing begun (at.Retires settle rest) → (self.new, result) ≡ retired begun rest (settle, progress) }
     {
-        self.stands = Copying::Retires { settle, rest };
         match progress {
             Settled::Goes => Outcome::Goes,
             Settled::Waits => Outcome::Waits,
@@ -103,6 +110,7 @@ impl Copier {
     }
 
     /// Goes on once a table is retired.
+    #[inline(always)]
     fn go_behind(&mut self, rest: u64)
         ensures { self.new ≡ table_retired self.old rest }
     {

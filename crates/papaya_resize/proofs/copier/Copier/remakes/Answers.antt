@@ -1,18 +1,17 @@
 -- A step of the making is the copying's, with its outcome turned.
-use Rattle.seize_words.proofs.Plans.{may_as}
+use Rattle.std.proofs.Common.{refl, subst, sym}
+use Rattle.seize_words.specs.Plan.{Steps}
 use Rattle.seize.proofs.StepsInto.{steps_into}
 use Rattle.papaya_resize.specs.NewTable.{new_table_plan}
+use Rattle.papaya_resize.specs.declared.copier.Copying.{Copying}
+use Rattle.papaya_resize.specs.Copier.{plan_at}
 use Rattle.papaya_resize.specs.CopierFurther.{remade}
 use Rattle.papaya_resize.proofs.copier.Copier.remakes.Goals as goal
 
-pub step-progress-requires : goal.step-progress-requires
-step-progress-requires g c =
-    may_as (remade {K = g.row.K.Denot} {V = g.row.V.Denot} c.args.self.now) g.M.Look.can g.M.Look.took g.M.Look.shown c.args.memory.now
-    (new_table_plan {K = g.row.K.Denot} {V = g.row.V.Denot} c.args.making) c.requires
-
 pub returns : goal.returns
-returns g c =
-    steps_into (remade {K = g.row.K.Denot} {V = g.row.V.Denot} c.args.self.now)
-    g.M.Look.can g.M.Look.took g.M.Look.shown c.args.memory.now c.step-progress.new.memory
-    (new_table_plan {K = g.row.K.Denot} {V = g.row.V.Denot} c.args.making) (c.step-progress.new.self, c.step-progress.result)
-    _ c.remade.ensures c.step-progress.ensures
+returns g c = λ hashes.
+    subst (λ (stands : Copying). Steps g.M.Look.took g.M.Look.shown c.args.memory.now (plan_at {K = g.row.K.Denot} {V = g.row.V.Denot} hashes c.args.self.now stands)
+    c.step-progress.new.memory (c.remade.new.self, c.remade.result)) (sym c.in-Remakes.is)
+    (steps_into (remade {K = g.row.K.Denot} {V = g.row.V.Denot} c.args.self.now) g.M.Look.can g.M.Look.took g.M.Look.shown c.args.memory.now c.step-progress.new.memory
+    (new_table_plan {K = g.row.K.Denot} {V = g.row.V.Denot} c.in-Remakes.making) (c.step-progress.new.self, c.step-progress.result) _
+    (c.remade.ensures c.args.self.now c.step-progress.new.self refl) c.step-progress.ensures)
