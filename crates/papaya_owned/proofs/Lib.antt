@@ -1,6 +1,8 @@
 -- Lemmas on what one owner runs to its end.
+mod Inner
 pub mod Lookups
 pub mod Owned
 pub mod Passing
 pub mod Runs
+mod Stores
 pub mod Walks

@@ -1,11 +1,12 @@
 -- A try of a call on a key that passes a word which can be none of the key.
-use Rattle.std.specs.Prelude.{◌≡◌, ◌==◌, ℕ, Bool, true, false, Option, Some, None, IfSome, if◌then◌else◌}
+use Rattle.std.specs.Prelude.{◌≡◌, ◌==◌, ℕ, Bool, true, false, Option, Some, None, IfSome, IsSome, if◌then◌else◌}
 use Rattle.std.proofs.Common.{refl, sym, ◌∙◌, ap, subst}
 use Rattle.std.proofs.lemmas.Bool.{true≢false}
-use Rattle.seize_words.specs.Mem.{Mem, Took, value_at, word_at}
+use Rattle.seize_words.specs.Mem.{Mem, Can, Took, value_at, word_at}
 use Rattle.seize_words.specs.Op.{Found}
-use Rattle.seize_words.specs.Plan.{Now, Steps, Ends, then_as, plan_as}
+use Rattle.seize_words.specs.Plan.{Now, May, Steps, Ends, then_as, plan_as}
 use Rattle.seize_words.specs.Word.{block_in}
+use Rattle.seize_words.specs.declared.at.At.{At}
 use Rattle.seize.specs.declared.progress.Progress.TheVariants as progress
 use Rattle.papaya_tables.specs.Chunks.{is_incremental}
 use Rattle.papaya_tables.specs.Finding.{finding, may_name, shut, vacant}
@@ -68,10 +69,18 @@ module _ {K V Q S : Type 0} (asks : Q → K → Bool) (same : K → K → Bool) 
       by true e = absurd (true≢false e)
       by false e = ends
 
-module _ {K V Q S : Type 0} (asks : Q → K → Bool) (same : K → K → Bool) (hashes : S → K → ℕ) (m : Mem (Node K V)) (u : OnKey K V Q S) (trial : Trial) (w : ℕ) where
+module _ {K V Q S : Type 0} (asks : Q → K → Bool) (same : K → K → Bool) (hashes : S → K → ℕ) (m : Mem (Node K V)) (u : OnKey K V Q S) (trial : Trial) where
   -- if there is a next one
-  pub passes_if : u.call.stands ≡ at.Probes → word_at m (place_tried trial) ≡ Some w → may_name u.call.hash w ≡ false
+  pub passes_if : (w : ℕ) → u.call.stands ≡ at.Probes → word_at m (place_tried trial) ≡ Some w → may_name u.call.hash w ≡ false
       → finding u.call.setting.mode Looks w false ≡ is.Passed → (next : Option Trial) → next ≡ next_trial trial
       → IfSome next (λ n. Steps Took value_at m (on_key_plan asks same hashes (at_trial u trial)) m (at_trial u n, progress.Goes))
-  passes_if stands found other so None is = tt
-  passes_if stands found other so (Some n) is = passes asks same hashes m (at_trial u trial) w n stands found other so (sym is)
+  passes_if w stands found other so None is = tt
+  passes_if w stands found other so (Some n) is = passes asks same hashes m (at_trial u trial) w n stands found other so (sym is)
+
+  -- its word can be read, by the names of its memory and its place
+  pub try_can : u.call.stands ≡ at.Probes → May Can Took value_at m (on_key_plan asks same hashes (at_trial u trial))
+      → (m0 : Mem (Node K V)) (at0 : At) → m0 ≡ m → at0 ≡ place_tried trial → IsSome (word_at m0 at0)
+  try_can stands may m0 at0 is so =
+      subst (λ (x : Mem (Node K V)). IsSome (word_at x at0)) (sym is)
+      (subst (λ a. IsSome (word_at m a)) (sym so)
+      (subst (λ (s : Calling). May Can Took value_at m (plan_as (on_key_after (at_trial u trial)) (plan_at asks same (hashes u.hasher.now) (at_trial u trial).call s))) stands may).0)

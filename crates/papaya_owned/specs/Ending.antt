@@ -32,7 +32,11 @@ module _ {T X A : Type 0} (plan : X → Plan T (X × Progress A)) where
     goes : (x : X) (m : Mem T) (x1 : X) (m1 : Mem T) (told : Progress A) → GoesOn told → Steps Took value_at m (plan x) m1 (x1, told)
         → (x2 : X) (m2 : Mem T) (result : Result A Fault) → RunsTo x1 m1 x2 m2 result → RunsTo x m x2 m2 result
 
-  -- Some steps that go on and leave this memory as it is lead from the one to the other.
-  pub data Leads : Mem T → X → X → Type 0 where
-    none_taken : (m : Mem T) (x : X) → Leads m x x
-    one_more : (m : Mem T) (x y z : X) → Leads m x y → Steps Took value_at m (plan y) m (z, progress.Goes) → Leads m x z
+  -- Some steps that go on lead from the one to the other, and from this memory to that.
+  pub data Leads : X → Mem T → X → Mem T → Type 0 where
+    none_taken : (x : X) (m : Mem T) → Leads x m x m
+    one_more : (x : X) (m : Mem T) (y : X) (n : Mem T) → Leads x m y n → (told : Progress A) → GoesOn told → (z : X) (k : Mem T) → Steps Took value_at n (plan y) k (z, told) → Leads x m z k
+
+  -- some steps that go on lead to one that comes to this
+  abbrev pub Strides : X → Mem T → Mem T → X × Progress A → Type 0
+  Strides x m m2 end = (y : X) × (n : Mem T) × Leads x m y n × Steps Took value_at n (plan y) m2 end

@@ -1,8 +1,10 @@
 pub mod Ending
+pub mod Inside
 pub mod Looking
 pub mod Machines
 pub mod Owned
 pub mod Rooms
 pub mod Standing
+pub mod Storing
 pub mod Tries
 pub mod Within

@@ -1,51 +1,55 @@
-//! Tries of a call on a key, by themselves: those that pass a word which can be none of the key.
+//! Steps of a call on a key, several at once: tries that pass a word which can be none of the key, and steps of machines within it.
 ghost use Rattle.std.specs.Prelude.{◌≡◌, IfSome};
 ghost use Rattle.seize_words.specs.Mem.{Can, Took, value_at};
 ghost use Rattle.seize_words.specs.Plan.{May, Steps};
 ghost use Rattle.seize.specs.declared.progress.Progress.TheVariants as progress;
-ghost use Rattle.papaya_owned.specs.Ending.{Ends, Leads};
+ghost use Rattle.papaya_owned.specs.Ending.{Ends, Leads, Strides};
 ghost use Rattle.papaya_owned.specs.Machines.{at_trial, on_key_plan};
 ghost use Rattle.papaya_raw.specs.declared.machines.call.Calling.TheVariants as at;
 
 use crate::machines::{OnKey, Stop};
 use crate::skims::Skims;
-use papaya_raw::machines::Calling;
-use papaya_tables::{Aim, Equivalent, Finding, Hashes, Node, Trial, may_be, seen};
+use papaya_raw::machines::{Calling, Disposing};
+use papaya_tables::{Aim, Equivalent, Finding, Hashes, Node, ResizeMode, Trial, may_be, seen};
+use seize::{Machine, Progress};
 use seize_words::{Look, Plain};
 use std::hash::Hash;
 
-/// The try after one, where that passes such a word.
+/// The try after one of a call with this hash, where that passes such a word.
 fn next_try<K: Eq + Hash + Drop, V: Drop, Q: Equivalent<K>, S: Hashes<K>>(
-    machine: &OnKey<'_, K, V, Q, S>,
     memory: &Plain<Node<K, V>>,
+    hash: u64,
+    mode: ResizeMode,
     trial: Trial,
 ) -> Option<Trial>
-    requires probing { machine.now.call.stands ≡ at.Probes }
-    requires may { May Can Took value_at memory.now (on_key_plan Q.Equivalent.equivalent K.eq S.hash (at_trial machine.now trial)) }
-    ensures { IfSome result (λ next. Steps Took value_at memory.now (on_key_plan Q.Equivalent.equivalent K.eq S.hash (at_trial machine.now trial)) memory.now (at_trial machine.now next, progress.Goes)) }
+    requires { (u : OnKey K V Q S) × (u.call.stands ≡ at.Probes) × May Can Took value_at memory.now (on_key_plan Q.Equivalent.equivalent K.eq S.hash (at_trial u trial)) }
+    ensures { (u : OnKey K V Q S) → u.call.stands ≡ at.Probes → u.call.hash ≡ hash → u.call.setting.mode ≡ mode
+        → IfSome result (λ next. Steps Took value_at memory.now (on_key_plan Q.Equivalent.equivalent K.eq S.hash (at_trial u trial)) memory.now (at_trial u next, progress.Goes)) }
 {
     let word = memory.look().load(trial.at());
-    if may_be(machine.call.hash, word) {
+    if may_be(hash, word) {
         return None;
     }
-    match seen(machine.call.setting.mode, Aim::Looks, word, false) {
+    match seen(mode, Aim::Looks, word, false) {
         Finding::Passed => trial.next(),
         Finding::Free | Finding::Moved | Finding::Copying | Finding::There => None,
     }
 }
 
-/// The try up to which all pass such words.
-fn last_try<K: Eq + Hash + Drop, V: Drop, Q: Equivalent<K>, S: Hashes<K>>(
-    machine: &OnKey<'_, K, V, Q, S>,
+/// The try from this one on up to which all pass such words.
+pub(crate) fn last_try<K: Eq + Hash + Drop, V: Drop, Q: Equivalent<K>, S: Hashes<K>>(
     memory: &Plain<Node<K, V>>,
+    hash: u64,
+    mode: ResizeMode,
+    first: Trial,
 ) -> Trial
-    requires probing { machine.now.call.stands ≡ at.Probes }
-    requires ends { Ends (on_key_plan Q.Equivalent.equivalent K.eq S.hash) machine.now memory.now }
-    ensures { Leads (on_key_plan Q.Equivalent.equivalent K.eq S.hash) memory.now machine.now (at_trial machine.now result) }
+    requires { (u : OnKey K V Q S) × (u.call.stands ≡ at.Probes) × (u.call.hash ≡ hash) × (u.call.setting.mode ≡ mode) × Ends (on_key_plan Q.Equivalent.equivalent K.eq S.hash) (at_trial u first) memory.now }
+    ensures { (u : OnKey K V Q S) → u.call.stands ≡ at.Probes → u.call.hash ≡ hash → u.call.setting.mode ≡ mode
+        → Leads (on_key_plan Q.Equivalent.equivalent K.eq S.hash) (at_trial u first) memory.now (at_trial u result) memory.now }
 {
-    let mut trial = machine.call.trial;
-    for _ in 0..trial.table.limit {
-        match next_try(machine, memory, trial) {
+    let mut trial = first;
+    for _ in 0..first.table.limit {
+        match next_try::<K, V, Q, S>(memory, hash, mode, trial) {
             Some(next) => trial = next,
             None => return trial,
         }
@@ -53,11 +57,31 @@ fn last_try<K: Eq + Hash + Drop, V: Drop, Q: Equivalent<K>, S: Hashes<K>>(
     trial
 }
 
+impl<K: Eq + Hash + Drop, V: Drop, Q: Equivalent<K>, S: Hashes<K>> OnKey<'_, K, V, Q, S> {
+    /// Makes the tries that pass such words, and one more.
+    fn probes(&mut self, memory: &mut Plain<Node<K, V>>) -> Progress<Stop>
+        requires probing { self.old.call.stands ≡ at.Probes }
+        requires ends { Ends (on_key_plan Q.Equivalent.equivalent K.eq S.hash) self.old memory.old }
+        ensures { Strides (on_key_plan Q.Equivalent.equivalent K.eq S.hash) self.old memory.old memory.new (self.new, result) }
+    {
+        let (hash, mode, first) = (self.call.hash, self.call.setting.mode, self.call.trial);
+        let last = last_try::<K, V, Q, S>(memory, hash, mode, first);
+        self.call.trial = last;
+        self.step(memory)
+    }
+}
+
 impl<K: Eq + Hash + Drop, V: Drop, Q: Equivalent<K>, S: Hashes<K>> Skims<Node<K, V>, Stop>
     for OnKey<'_, K, V, Q, S> {
-    fn skim(&mut self, memory: &Plain<Node<K, V>>) {
-        if let Calling::Probes = self.call.stands {
-            self.call.trial = last_try(self, memory);
+    fn skim(&mut self, memory: &mut Plain<Node<K, V>>) -> Progress<Stop> {
+        match self.call.stands {
+            Calling::Probes => self.probes(memory),
+            Calling::Helps { .. } => self.helps(memory),
+            Calling::Disposes { dispose, answer } => match dispose.stands {
+                Disposing::Settles(settle) => self.disposes(memory, dispose, answer, settle),
+                _ => self.step(memory),
+            },
+            _ => self.step(memory),
         }
     }
 }

@@ -2,6 +2,7 @@
 #![tactic(auto)]
 
 mod calls;
+mod inside;
 pub mod law;
 mod looking;
 mod machines;
@@ -10,6 +11,7 @@ mod most_looks;
 mod rooms;
 mod running;
 mod skims;
+mod storing;
 mod tries;
 
 pub use looking::{find, pair_at};
@@ -17,3 +19,4 @@ pub use machines::{ForRoom, OnKey, Refreshes, Stop};
 pub use rooms::make_room;
 pub use running::{run, run_skimming};
 pub use skims::Skims;
+pub use storing::store;

@@ -46,7 +46,7 @@ pub fn run<T, A, M: Machine<T, Progress = Progress<A>>>(
     }
 }
 
-/// Takes the steps of a machine until it has ended, and those that it takes by themselves in that way.
+/// Takes the steps of a machine until it has ended, several at once where it can.
 pub fn run_skimming<T, A, M: Machine<T, Progress = Progress<A>> + Skims<T, A>>(
     machine: &mut M,
     memory: &mut Plain<T>,
@@ -56,8 +56,7 @@ pub fn run_skimming<T, A, M: Machine<T, Progress = Progress<A>> + Skims<T, A>>(
 {
     let mut left = most(machine, memory);
     loop {
-        machine.skim(memory);
-        match machine.step(memory) {
+        match machine.skim(memory) {
             Progress::Goes | Progress::Waits => {}
             Progress::Done(answer) => return Ok(answer),
             Progress::Refused(fault) => return Err(fault),

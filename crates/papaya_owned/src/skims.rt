@@ -1,13 +1,13 @@
-//! What takes steps that only read by themselves.
+//! What takes several steps at once.
 use seize::{Machine, Progress};
 use seize_words::Plain;
 
-/// A machine that takes some of its steps by themselves: those that only read, and go on.
+/// A machine that takes some of its steps at once, over the memory of one owner.
 pub trait Skims<T, A>: Machine<T, Progress = Progress<A>> {
-    ghost use Rattle.papaya_owned.specs.Ending.{Ends, Leads};
+    ghost use Rattle.papaya_owned.specs.Ending.{Ends, Strides};
 
-    /// Takes its next steps, as long as they are such.
-    fn skim(&mut self, memory: &Plain<T>)
-        requires { Ends Self.plan self.old memory.now }
-        ensures { Leads Self.plan memory.now self.old self.new };
+    /// Takes one step or several: all but the last one go on, and it answers what the last one tells.
+    fn skim(&mut self, memory: &mut Plain<T>) -> Progress<A>
+        requires { Ends Self.plan self.old memory.old }
+        ensures { Strides Self.plan self.old memory.old memory.new (self.new, result) };
 }

@@ -5,13 +5,13 @@ use Rattle.papaya_owned.proofs.Runs.Steps.{may_step}
 use Rattle.papaya_owned.proofs.calls.last_try.Goals as goal
 
 pub loop-init : goal.loop-init
-loop-init g c = record { leads = none_taken _ _ }
+loop-init g c = record { leads = λ u probing of_hash of_mode. none_taken _ _ }
 
-pub next_try-requires-clause-may : goal.next_try-requires-clause-may
-next_try-requires-clause-may g c = may_step _ _ _ (ends_along _ _ _ _ c.loop.invariant.leads c.requires.ends)
+pub next_try-requires : goal.next_try-requires
+next_try-requires g c = let r = c.requires in (r.0, r.1, may_step _ _ _ (ends_along _ _ _ _ _ (c.loop.invariant.leads r.0 r.1 r.2 r.3) r.4))
 
 pub loop-preserved : goal.loop-preserved
-loop-preserved g c = record { leads = one_more _ _ _ _ c.loop.invariant.leads c.in-Some.ensures }
+loop-preserved g c = record { leads = λ u probing of_hash of_mode. one_more _ _ _ _ (c.loop.invariant.leads u probing of_hash of_mode) _ tt _ _ (c.in-Some.ensures u probing of_hash of_mode) }
 
 pub returns-in-None : goal.returns-in-None
 returns-in-None g c = c.loop.invariant.leads
