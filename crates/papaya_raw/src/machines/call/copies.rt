@@ -1,7 +1,6 @@
 //! A call helps a resize, or sees it through.
 ghost use Rattle.std.specs.Prelude.{◌≡◌};
-ghost use Rattle.seize_words.specs.Plan.{May, Steps, plan_as};
-ghost use Rattle.papaya_resize.specs.Copier.{copier_plan};
+ghost use Rattle.seize_words.specs.Plan.{May, Steps};
 ghost use Rattle.papaya_raw.specs.CallPoints.{standing};
 ghost use Rattle.papaya_raw.specs.Call.{call_plan, helped, copied};
 ghost use Rattle.papaya_raw.specs.declared.machines.call.Calling.TheVariants as at;
@@ -31,6 +30,23 @@ impl<K: Eq + Hash + Drop, V: Drop, Q: Equivalent<K>> KeyCall<K, V, Q> {
         let progress = copier.step(memory, hasher);
         self.after_help(goal, progress)
     }
+
+    /// Takes a step of the copying of a whole table, where it stands.
+    pub(super) fn copies<S: Hashes<K>, M: Memory<Node<K, V>>>(
+        &mut self,
+        memory: &mut M,
+        hasher: &S,
+    ) -> Called<Node<K, V>>
+        requires copying { (copier : Copier) × (self.old.stands ≡ at.Copies copier) }
+        requires may { May M.can M.took M.shown memory.old (call_plan Q.Equivalent.equivalent K.eq (S.hash hasher.now) self.old) }
+        ensures { Steps M.took M.shown memory.old (call_plan Q.Equivalent.equivalent K.eq (S.hash hasher.now) self.old) memory.new (self.new, result) }
+    {
+        let Calling::Copies(copier) = &mut self.stands else {
+            unreachable!()
+        };
+        let progress = copier.step(memory, hasher);
+        self.copied(progress)
+    }
 }
 
 impl<K: Drop, V: Drop, Q> KeyCall<K, V, Q> {
@@ -51,25 +67,10 @@ impl<K: Drop, V: Drop, Q> KeyCall<K, V, Q> {
         }
     }
 
-    /// Takes a step of the copying of a whole table.
-    pub(super) fn copies<S: Hashes<K>, M: Memory<Node<K, V>>>(
-        &mut self,
-        memory: &mut M,
-        hasher: &S,
-        mut copier: Copier,
-    ) -> Called<Node<K, V>>
-        requires { May M.can M.took M.shown memory.old (plan_as (copied self.old) (copier_plan (S.hash hasher.now) copier)) }
-        ensures { Steps M.took M.shown memory.old (plan_as (copied self.old) (copier_plan (S.hash hasher.now) copier)) memory.new (self.new, result) }
-    {
-        let progress = copier.step(memory, hasher);
-        self.copied(copier, progress)
-    }
-
     /// Goes on after a step of the copying.
-    fn copied(&mut self, copier: Copier, progress: Outcome<Node<K, V>, Table>) -> Called<Node<K, V>>
-        ensures { (self.new, result) ≡ copied self.old (copier, progress) }
+    fn copied(&mut self, progress: Outcome<Node<K, V>, Table>) -> Called<Node<K, V>>
+        ensures { (begun : KeyCall K V Q) (copier : Copier) → self.old ≡ standing begun (at.Copies copier) → (self.new, result) ≡ copied begun (copier, progress) }
     {
-        self.stands = Calling::Copies(copier);
         match progress {
             Outcome::Goes => Called::Goes,
             Outcome::Waits => Called::Waits,

@@ -1,9 +1,9 @@
 //! From table to table.
-ghost use Rattle.std.specs.Prelude.{◌≡◌};
-ghost use Rattle.seize_words.specs.Plan.{May, MaySee, Steps, Ends, plan_as};
-ghost use Rattle.papaya_resize.specs.NewTable.{new_table_plan};
-ghost use Rattle.papaya_raw.specs.CallPoints.{tableless, at_last, entering, went_on};
-ghost use Rattle.papaya_raw.specs.Call.{roots, nexts, first_made, next_made, firsts, allocs};
+ghost use Rattle.std.specs.Prelude.{◌≡◌, ℕ};
+ghost use Rattle.seize_words.specs.Plan.{May, MaySee, Steps, Ends};
+ghost use Rattle.papaya_raw.specs.CallPoints.{tableless, at_last, entering, went_on, standing};
+ghost use Rattle.papaya_raw.specs.Call.{roots, nexts, first_made, next_made, call_plan};
+ghost use Rattle.papaya_raw.specs.declared.machines.call.Calling.TheVariants as at;
 
 use crate::machines::answer::{Called, End, KeyAnswer, Missing};
 use crate::machines::asking::Gap;
@@ -11,9 +11,10 @@ use crate::machines::call::{Calling, KeyCall};
 use papaya_resize::{Copier, NewTable};
 use papaya_tables::lengths::FIRST_LEN;
 use papaya_tables::table_words::NEXT;
-use papaya_tables::{Node, Table, Trial};
+use papaya_tables::{Equivalent, Node, Table, Trial};
 use seize::{Machine, Progress};
 use seize_words::{At, Link, Memory};
+use std::hash::Hash;
 
 impl<K, V, Q> KeyCall<K, V, Q> {
     /// Reads the root.
@@ -95,25 +96,39 @@ impl<K, V, Q> KeyCall<K, V, Q> {
     }
 }
 
-impl<K: Drop, V: Drop, Q> KeyCall<K, V, Q> {
-    /// Takes a step of the making of the first table.
-    pub(super) fn firsts<M: Memory<Node<K, V>>>(
-        &mut self,
-        memory: &mut M,
-        mut making: NewTable,
-    ) -> Called<Node<K, V>>
-        requires { May M.can M.took M.shown memory.old (plan_as (first_made self.old) (new_table_plan making)) }
-        ensures { Steps M.took M.shown memory.old (plan_as (first_made self.old) (new_table_plan making)) memory.new (self.new, result) }
+impl<K: Eq + Hash + Drop, V: Drop, Q: Equivalent<K>> KeyCall<K, V, Q> {
+    /// Takes a step of the making of the first table, where it stands.
+    pub(super) fn firsts<M: Memory<Node<K, V>>>(&mut self, memory: &mut M) -> Called<Node<K, V>>
+        requires making { (making : NewTable) × (self.old.stands ≡ at.Firsts making) }
+        requires may { (hashes : K → ℕ) × May M.can M.took M.shown memory.old (call_plan Q.Equivalent.equivalent K.eq hashes self.old) }
+        ensures { (hashes : K → ℕ) → Steps M.took M.shown memory.old (call_plan Q.Equivalent.equivalent K.eq hashes self.old) memory.new (self.new, result) }
     {
+        let Calling::Firsts(making) = &mut self.stands else {
+            unreachable!()
+        };
         let progress = making.step(memory);
-        self.first_made(making, progress)
+        self.first_made(progress)
     }
 
-    /// Goes on after a step of that making.
-    fn first_made(&mut self, making: NewTable, progress: Progress<Table>) -> Called<Node<K, V>>
-        ensures { (self.new, result) ≡ first_made self.old (making, progress) }
+    /// Takes a step of the making of the next table, where it stands.
+    pub(super) fn allocs<M: Memory<Node<K, V>>>(&mut self, memory: &mut M) -> Called<Node<K, V>>
+        requires making { (making : NewTable) × (self.old.stands ≡ at.Allocs making) }
+        requires may { (hashes : K → ℕ) × May M.can M.took M.shown memory.old (call_plan Q.Equivalent.equivalent K.eq hashes self.old) }
+        ensures { (hashes : K → ℕ) → Steps M.took M.shown memory.old (call_plan Q.Equivalent.equivalent K.eq hashes self.old) memory.new (self.new, result) }
     {
-        self.stands = Calling::Firsts(making);
+        let Calling::Allocs(making) = &mut self.stands else {
+            unreachable!()
+        };
+        let progress = making.step(memory);
+        self.next_made(progress)
+    }
+}
+
+impl<K: Drop, V: Drop, Q> KeyCall<K, V, Q> {
+    /// Goes on after a step of the making of the first table.
+    fn first_made(&mut self, progress: Progress<Table>) -> Called<Node<K, V>>
+        ensures { (begun : KeyCall K V Q) (making : NewTable) → self.old ≡ standing begun (at.Firsts making) → (self.new, result) ≡ first_made begun (making, progress) }
+    {
         match progress {
             Progress::Goes => Called::Goes,
             Progress::Waits => Called::Waits,
@@ -122,24 +137,10 @@ impl<K: Drop, V: Drop, Q> KeyCall<K, V, Q> {
         }
     }
 
-    /// Takes a step of the making of the next table.
-    pub(super) fn allocs<M: Memory<Node<K, V>>>(
-        &mut self,
-        memory: &mut M,
-        mut making: NewTable,
-    ) -> Called<Node<K, V>>
-        requires { May M.can M.took M.shown memory.old (plan_as (next_made self.old) (new_table_plan making)) }
-        ensures { Steps M.took M.shown memory.old (plan_as (next_made self.old) (new_table_plan making)) memory.new (self.new, result) }
+    /// Goes on after a step of the making of the next table.
+    fn next_made(&mut self, progress: Progress<Table>) -> Called<Node<K, V>>
+        ensures { (begun : KeyCall K V Q) (making : NewTable) → self.old ≡ standing begun (at.Allocs making) → (self.new, result) ≡ next_made begun (making, progress) }
     {
-        let progress = making.step(memory);
-        self.next_made(making, progress)
-    }
-
-    /// Goes on after a step of that making.
-    fn next_made(&mut self, making: NewTable, progress: Progress<Table>) -> Called<Node<K, V>>
-        ensures { (self.new, result) ≡ next_made self.old (making, progress) }
-    {
-        self.stands = Calling::Allocs(making);
         match progress {
             Progress::Goes => Called::Goes,
             Progress::Waits => Called::Waits,

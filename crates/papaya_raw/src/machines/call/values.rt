@@ -2,7 +2,7 @@
 ghost use Rattle.std.specs.Prelude.{◌≡◌, ℕ};
 ghost use Rattle.seize_words.specs.Plan.{May, Steps};
 ghost use Rattle.papaya_raw.specs.CallPoints.{word_to, standing};
-ghost use Rattle.papaya_raw.specs.Call.{makes, drops, looks, looked, disposed, call_plan};
+ghost use Rattle.papaya_raw.specs.Call.{makes, drops, looked, disposed, call_plan};
 ghost use Rattle.papaya_raw.specs.declared.machines.call.Calling.TheVariants as at;
 
 use crate::machines::answer::{Called, End, KeyAnswer};
@@ -85,28 +85,26 @@ impl<K: Eq + Hash, V, Q: Equivalent<K>> KeyCall<K, V, Q> {
         self.disposed(answer, progress)
     }
 
-    /// Takes a step of the lookup.
-    #[tactic(auto, using(seize_words::proofs::Plans::may_as))]
-    pub(super) fn looks<M: Memory<Node<K, V>>>(
-        &mut self,
-        memory: &mut M,
-        mut lookup: Lookup,
-    ) -> Called<Node<K, V>>
-        requires { May M.can M.took M.shown memory.old (looks Q.Equivalent.equivalent self.old lookup) }
-        ensures { Steps M.took M.shown memory.old (looks Q.Equivalent.equivalent self.old lookup) memory.new (self.new, result) }
+    /// Takes a step of the lookup, where it stands.
+    pub(super) fn looks<M: Memory<Node<K, V>>>(&mut self, memory: &mut M) -> Called<Node<K, V>>
+        requires looking { (lookup : Lookup) × (self.old.stands ≡ at.Looks lookup) }
+        requires may { (hashes : K → ℕ) × May M.can M.took M.shown memory.old (call_plan Q.Equivalent.equivalent K.eq hashes self.old) }
+        ensures { (hashes : K → ℕ) → Steps M.took M.shown memory.old (call_plan Q.Equivalent.equivalent K.eq hashes self.old) memory.new (self.new, result) }
     {
         let Some(asked) = &self.asked else {
             return self.tell(KeyAnswer::Absent);
         };
+        let Calling::Looks(lookup) = &mut self.stands else {
+            unreachable!()
+        };
         let progress = lookup.step(memory, asked);
-        self.looked(lookup, progress)
+        self.looked(progress)
     }
 
     /// Goes on after a step of the lookup.
-    fn looked(&mut self, lookup: Lookup, progress: Progress<Option<u64>>) -> Called<Node<K, V>>
-        ensures { (self.new, result) ≡ looked self.old (lookup, progress) }
+    fn looked(&mut self, progress: Progress<Option<u64>>) -> Called<Node<K, V>>
+        ensures { (begun : KeyCall K V Q) (lookup : Lookup) → self.old ≡ standing begun (at.Looks lookup) → (self.new, result) ≡ looked begun (lookup, progress) }
     {
-        self.stands = Calling::Looks(lookup);
         match progress {
             Progress::Goes => Called::Goes,
             Progress::Waits => Called::Waits,

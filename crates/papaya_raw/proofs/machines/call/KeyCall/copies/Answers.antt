@@ -1,17 +1,17 @@
 -- A step of the copying is the call's, with its outcome turned.
-use Rattle.seize_words.proofs.Plans.{may_as}
+use Rattle.std.proofs.Common.{refl, subst, sym}
+use Rattle.seize_words.specs.Plan.{Steps}
 use Rattle.seize.proofs.StepsInto.{steps_into}
 use Rattle.papaya_resize.specs.Copier.{copier_plan}
-use Rattle.papaya_raw.specs.Call.{copied}
+use Rattle.papaya_raw.specs.declared.machines.call.Calling.{Calling}
+use Rattle.papaya_raw.specs.Call.{plan_at, copied}
 use Rattle.papaya_raw.proofs.machines.call.KeyCall.copies.Goals as goal
-
-pub step-progress-requires : goal.step-progress-requires
-step-progress-requires g c =
-    may_as (copied c.args.self.now) g.M.Look.can g.M.Look.took g.M.Look.shown c.args.memory.now
-    (copier_plan (g.S.Hashes.hash c.args.hasher.now) c.args.copier) c.requires
 
 pub returns : goal.returns
 returns g c =
-    steps_into (copied c.args.self.now) g.M.Look.can g.M.Look.took g.M.Look.shown c.args.memory.now c.step-progress.new.memory
-    (copier_plan (g.S.Hashes.hash c.args.hasher.now) c.args.copier) (c.step-progress.new.self, c.step-progress.result)
-    _ c.copied.ensures c.step-progress.ensures
+    subst (λ (stands : Calling). Steps g.M.Look.took g.M.Look.shown c.args.memory.now
+    (plan_at g.Q.Equivalent.equivalent g.K.PartialEq.eq (g.S.Hashes.hash c.args.hasher.now) c.args.self.now stands) c.step-progress.new.memory
+    (c.copied.new.self, c.copied.result)) (sym c.in-Copies.is)
+    (steps_into (copied c.args.self.now) g.M.Look.can g.M.Look.took g.M.Look.shown c.args.memory.now c.step-progress.new.memory
+    (copier_plan (g.S.Hashes.hash c.args.hasher.now) c.in-Copies.copier) (c.step-progress.new.self, c.step-progress.result) _
+    (c.copied.ensures c.args.self.now c.step-progress.new.self refl) c.step-progress.ensures)
