@@ -1,6 +1,6 @@
 -- The steps of a call that stores a pair of its own, up to an empty place.
 use Rattle.std.specs.Prelude.{◌≡◌, ◌≢◌, ◌==◌, ℕ, Bool, true, false, IsSome, Option, Some, None, Result, Ok, Err, if◌then◌else◌}
-use Rattle.std.proofs.Common.{refl, ◌∙◌, sym, ap, subst}
+use Rattle.std.proofs.Common.{refl, sym, ap}
 use Rattle.std.proofs.lemmas.Bool.{eqb-true, false_from_ne_true, true≢false}
 use denote.Ref.{Bor}
 use Rattle.seize_words.specs.Mem.{Mem, Took, value_at, word_at}

@@ -141,7 +141,16 @@ fn from_try<K: Eq + Hash + Drop, V: Drop, S: Hashes<K>>(
 {
     match put(memory, setting, hasher, hash, own, trial) {
         Some(stop) => (Ok(stop), None),
-        None => go_on(memory, setting, hasher, hash, there, own, trial, Calling::Probes),
+        None => go_on(
+            memory,
+            setting,
+            hasher,
+            hash,
+            there,
+            own,
+            trial,
+            Calling::Probes,
+        ),
     }
 }
 
@@ -161,7 +170,16 @@ fn from_root<K: Eq + Hash + Drop, V: Drop, S: Hashes<K>>(
         Some(trial) => from_try(memory, setting, hasher, hash, there, own, trial),
         None => {
             let none = no_trial();
-            go_on(memory, setting, hasher, hash, there, own, none, Calling::Roots)
+            go_on(
+                memory,
+                setting,
+                hasher,
+                hash,
+                there,
+                own,
+                none,
+                Calling::Roots,
+            )
         }
     }
 }

@@ -1,11 +1,21 @@
 -- Changes of a map for one owner.
-use Rattle.std.specs.Prelude.{◌≡◌, ℕ, Bool, true, false, List, [], ◌∷◌, Some, None, Result, Ok, is_some, if◌then◌else◌}
-use Rattle.std.proofs.Common.{refl, sym, ap, subst, inl, inr}
-use Rattle.seize_words.specs.Mem.{Mem}
+use Rattle.std.specs.Prelude.{◌≡◌, ◌≤◌, ◌<◌, ℕ, Bool, true, false, List, [], ◌∷◌, Some, None, Result, Ok, IsSome, is_some, nat_lt, if◌then◌else◌}
+use Rattle.std.proofs.Common.{refl, sym, ap, subst, inl, inr, arith}
+use Rattle.std.proofs.lemmas.Bool.{lt-ltb, ltb-true, false_from_ne_true, true≢false, false≢true}
+use Rattle.seize_words.specs.Mem.{Mem, Took, value_at, word_at}
+use Rattle.seize_words.specs.Op.{Swap, Found}
+use Rattle.seize_words.specs.Plan.{Plan, Now, Steps, Ends as Comes, then_as}
+use Rattle.seize_words.specs.declared.at.At.TheVariants.{Slot}
 use Rattle.seize_words.specs.declared.fault.Fault.{Fault}
-use Rattle.seize.specs.Leave.{leaving}
+use Rattle.seize.specs.Leave.{leaving, counted_down, standing}
+use Rattle.seize.specs.Settle.{counting_down}
+use Rattle.seize.specs.declared.progress.Progress.{Progress}
+use Rattle.seize.specs.declared.progress.Progress.TheVariants as progress
 use Rattle.seize.specs.declared.rows.leave.Leave.{Leave}
-use Rattle.seize.specs.declared.states.TheConstants.{ACTIVE}
+use Rattle.seize.specs.declared.rows.leave.Leaving.TheVariants as leave_at
+use Rattle.seize.specs.declared.rows.settle.Settle.{Settle}
+use Rattle.seize.specs.declared.rows.settle.Settled.TheVariants.{Goes}
+use Rattle.seize.specs.declared.states.TheConstants.{ACTIVE, HEAD}
 use Rattle.papaya_tables.specs.Nodes.{deferred_word}
 use Rattle.papaya_tables.specs.declared.node.Node.{Node}
 use Rattle.papaya_tables.specs.declared.setting.Setting.{Setting}
@@ -13,8 +23,8 @@ use Rattle.papaya_callers.specs.Kind.{Kind, removes}
 use Rattle.papaya_late.specs.Faults.{IsRoom}
 use Rattle.papaya_late.specs.Kinds.{FaultFits}
 use Rattle.papaya_raw.specs.declared.machines.asking.Takes.TheVariants as replies
-use Rattle.papaya_owned.specs.Ending.{Ends, RunsTo}
-use Rattle.papaya_owned.specs.Machines.{refreshes_plan}
+use Rattle.papaya_owned.specs.Ending.{Ends, RunsTo, stops, goes}
+use Rattle.papaya_owned.specs.Machines.{refreshes_plan, refreshes_after}
 use Rattle.papaya_owned.specs.Owned.{Holds, EndsBy, found_by, left_by}
 use Rattle.papaya_owned.specs.declared.machines.Refreshes.{Refreshes}
 use Rattle.papaya_owned.specs.declared.machines.Stop.{Stop}
@@ -24,6 +34,7 @@ use Rattle.papaya_resting.specs.Calls.{has_removed}
 use Rattle.papaya_resting.specs.Lasts.{IsPairOf, RestsWith, words_of_stop}
 use Rattle.papaya_resting.specs.declared.last.Last.{Last}
 use Rattle.papaya_owned.proofs.Owned.Refreshes.{refreshing_ends, refreshed, begins_refreshing}
+use Rattle.papaya_owned.proofs.Runs.Steps.{ends_on, may_step}
 
 module _ {K V : Type 0} (same : K → K → Bool) (hash : K → ℕ) (setting : Setting) (m : Mem (Node K V)) (xs : List (K × V)) (h : Holds same hash setting m xs) (leave : Leave)
     (is : leave ≡ leaving setting.slot setting.batch_size ACTIVE false) where
@@ -36,6 +47,57 @@ module _ {K V : Type 0} (same : K → K → Bool) (hash : K → ℕ) (setting : 
   refresh_holds x m2 result runs =
       refreshed same hash setting m xs h (record { leave = leaving setting.slot setting.batch_size ACTIVE false }) m x m2 result
       (subst (λ (y : Leave). RunsTo (refreshes_plan (deferred_word {K = K} {V = V})) (record { leave = y }) m x m2 result) is runs) (begins_refreshing same hash setting m xs h)
+
+-- the slot's list is taken: its head was this one
+module _ {K V : Type 0} (same : K → K → Bool) (hash : K → ℕ) (setting : Setting) (m n : Mem (Node K V)) (xs : List (K × V)) (h : Holds same hash setting m xs) where
+  abbrev plan_of : Refreshes → Plan (Node K V) (Refreshes × Progress Unit)
+  plan_of = refreshes_plan (deferred_word {K = K} {V = V})
+
+  abbrev begun : Leave
+  begun = leaving setting.slot setting.batch_size ACTIVE false
+
+  ends : Ends plan_of (record { leave = begun }) m
+  ends = refresh_ends same hash setting m xs h begun refl
+
+  pub head_can : IsSome (word_at m (Slot setting.slot HEAD))
+  head_can = (may_step plan_of (record { leave = begun }) m ends).0
+
+  module _ (head : ℕ) (took : Took m (Swap (Slot setting.slot HEAD) ACTIVE) (Found head) n) where
+    -- which names no entry
+    pub none_waits : head ≤ ACTIVE → Holds same hash setting n xs
+    none_waits le =
+        refresh_holds same hash setting m xs h begun refl (record { leave = standing begun leave_at.Over }) n (Ok tt)
+        (goes (record { leave = begun }) m (record { leave = standing begun leave_at.Over }) n progress.Goes tt
+        (Found head, took, by (nat_lt ACTIVE head) (false_from_ne_true (nat_lt ACTIVE head) (λ e. let l = ltb-true ACTIVE head e in omega (arith, l, le))))
+        (record { leave = standing begun leave_at.Over }) n (Ok tt)
+        (stops (record { leave = standing begun leave_at.Over }) n (record { leave = standing begun leave_at.Over }) n (progress.Done tt) (Ok tt) (refl, refl) refl))
+      where
+        by : (b : Bool) → b ≡ false
+            → Comes (value_at n) (then_as (refreshes_after {T = Node K V} (record { leave = begun })) (if b then Now (standing begun (leave_at.Settles (counting_down setting.slot setting.batch_size head)), Goes) else Now (counted_down begun, Goes)))
+            (record { leave = standing begun leave_at.Over }, progress.Goes)
+        by true e = absurd (true≢false e)
+        by false e = refl
+
+    -- or one, and is to be counted down
+    module _ (some : ACTIVE < head) (settle : Settle) (is : settle ≡ counting_down setting.slot setting.batch_size head) where
+      abbrev counting : Settle → Refreshes
+      counting s = record { leave = standing begun (leave_at.Settles s) }
+
+      taken : Steps Took value_at m (plan_of (record { leave = begun })) n (counting settle, progress.Goes)
+      taken = (Found head, took, by (nat_lt ACTIVE head) (lt-ltb ACTIVE head some))
+        where
+          by : (b : Bool) → b ≡ true
+              → Comes (value_at n) (then_as (refreshes_after {T = Node K V} (record { leave = begun })) (if b then Now (standing begun (leave_at.Settles (counting_down setting.slot setting.batch_size head)), Goes) else Now (counted_down begun, Goes)))
+              (counting settle, progress.Goes)
+          by true e = ap (λ s. (counting s, progress.Goes)) is
+          by false e = absurd (false≢true e)
+
+      pub counting_ends : Ends plan_of (counting settle) n
+      counting_ends = ends_on plan_of (record { leave = begun }) m ends n (counting settle) progress.Goes tt taken
+
+      pub counted_holds : (x : Refreshes) (m2 : Mem (Node K V)) (result : Result Unit Fault) → RunsTo plan_of (counting settle) n x m2 result → Holds same hash setting m2 xs
+      counted_holds x m2 result runs =
+          refresh_holds same hash setting m xs h begun refl x m2 result (goes (record { leave = begun }) m (counting settle) n progress.Goes tt taken x m2 result runs)
 
 -- where there is none of these keys, none is taken out
 module _ {K V : Type 0} (keys : K → Bool) where

@@ -9,8 +9,9 @@ use crate::last::{Last, told_at};
 use papaya_owned::{Refreshes, Stop, run};
 use papaya_raw::machines::KeyAnswer;
 use papaya_tables::{Equivalent, Node, Setting};
-use seize::rows::Leave;
-use seize_words::{Fault, Plain};
+use seize::rows::{Leave, Leaving, Settle};
+use seize::states::{ACTIVE, HEAD};
+use seize_words::{At, Fault, Memory, Plain};
 use std::hash::{BuildHasher, Hash};
 
 /// Ends the owner's section, and begins the next one: what is out of the map may be given back, once enough of it waits.
@@ -23,7 +24,18 @@ pub fn refresh<K: Eq + Hash + Drop, V: Drop, S: BuildHasher>(
     ensures { (xs : List (K × V)) → Holds K.eq (hashed_by S.Hasher.finish S.Hasher.write S.build_hasher K.hash_input _hasher.now) setting memory.old xs
         → Holds K.eq (hashed_by S.Hasher.finish S.Hasher.write S.build_hasher K.hash_input _hasher.now) setting memory.new xs }
 {
-    let leave = Leave::refresh(setting.slot, setting.batch_size);
+    let head = memory.swap(At::Slot(setting.slot, HEAD), ACTIVE);
+    if head <= ACTIVE {
+        return;
+    }
+    let settle = Settle::count_down(setting.slot, setting.batch_size, head);
+    let leave = Leave {
+        slot: setting.slot,
+        batch_size: setting.batch_size,
+        becomes: ACTIVE,
+        frees: false,
+        stands: Leaving::Settles(settle),
+    };
     let mut machine = Refreshes { leave };
     let _ = run(&mut machine, memory);
 }

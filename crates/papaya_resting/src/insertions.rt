@@ -4,14 +4,15 @@ ghost use Rattle.papaya_callers.specs.Kind.{Kind};
 ghost use Rattle.papaya_late.specs.Faults.{IsRoom};
 ghost use Rattle.papaya_tables.specs.declared.node.Node.TheVariants as node;
 ghost use Rattle.papaya_owned.specs.Owned.{Holds, EndsBy, ComesBack, found_by, hashed_by, left_by};
+ghost use Rattle.papaya_owned.specs.Storing.{storing};
 ghost use Rattle.papaya_resting.specs.Calls.{StoresPair, has_found, has_replaced};
 ghost use Rattle.papaya_resting.specs.Lasts.{RestsWith};
 
 use crate::changes::refresh;
 use crate::last::{Last, told_at};
 use papaya_asks::Refused;
-use papaya_owned::{OnKey, Stop, run_skimming};
-use papaya_raw::machines::{KeyAnswer, KeyCall};
+use papaya_owned::Stop;
+use papaya_raw::machines::{KeyAnswer, There};
 use papaya_tables::{Hashes, Node, Setting};
 use seize_words::{Fault, Plain};
 use std::hash::{BuildHasher, Hash};
@@ -21,23 +22,20 @@ fn store<K: Eq + Hash + Drop, V: Drop, S: BuildHasher>(
     memory: &mut Plain<Node<K, V>>,
     setting: Setting,
     hasher: &S,
-    call: KeyCall<K, V, K>,
+    hash: u64,
+    there: There,
+    key: K,
+    value: V,
 ) -> (Result<Stop, Fault>, Option<Node<K, V>>)
     requires map { (xs : List (K × V)) × Holds K.eq (hashed_by S.Hasher.finish S.Hasher.write S.build_hasher K.hash_input hasher.now) setting memory.old xs }
-    requires call { (kind : Kind) × (key : K) × (value : V) × StoresPair (hashed_by S.Hasher.finish S.Hasher.write S.build_hasher K.hash_input hasher.now) setting key value kind call }
-    ensures ends { (xs : List (K × V)) (kind : Kind) (key : K) (value : V) → Holds K.eq (hashed_by S.Hasher.finish S.Hasher.write S.build_hasher K.hash_input hasher.now) setting memory.old xs
-        → StoresPair (hashed_by S.Hasher.finish S.Hasher.write S.build_hasher K.hash_input hasher.now) setting key value kind call
-        → EndsBy K.eq (hashed_by S.Hasher.finish S.Hasher.write S.build_hasher K.hash_input hasher.now) setting memory.new kind (Some (node.Pair key value)) (K.eq key) xs result.0 }
-    ensures back { (xs : List (K × V)) (kind : Kind) (key : K) (value : V) → Holds K.eq (hashed_by S.Hasher.finish S.Hasher.write S.build_hasher K.hash_input hasher.now) setting memory.old xs
-        → StoresPair (hashed_by S.Hasher.finish S.Hasher.write S.build_hasher K.hash_input hasher.now) setting key value kind call → ComesBack (Some (node.Pair key value)) result.0 result.1 }
+    requires call { (kind : Kind) × (k : K) × (v : V) × StoresPair (hashed_by S.Hasher.finish S.Hasher.write S.build_hasher K.hash_input hasher.now) setting k v kind (storing setting hasher hash there key value).call }
+    ensures ends { (xs : List (K × V)) (kind : Kind) (k : K) (v : V) → Holds K.eq (hashed_by S.Hasher.finish S.Hasher.write S.build_hasher K.hash_input hasher.now) setting memory.old xs
+        → StoresPair (hashed_by S.Hasher.finish S.Hasher.write S.build_hasher K.hash_input hasher.now) setting k v kind (storing setting hasher.entry hash there key value).call
+        → EndsBy K.eq (hashed_by S.Hasher.finish S.Hasher.write S.build_hasher K.hash_input hasher.now) setting memory.new kind (Some (node.Pair k v)) (K.eq k) xs result.0 }
+    ensures back { (xs : List (K × V)) (kind : Kind) (k : K) (v : V) → Holds K.eq (hashed_by S.Hasher.finish S.Hasher.write S.build_hasher K.hash_input hasher.now) setting memory.old xs
+        → StoresPair (hashed_by S.Hasher.finish S.Hasher.write S.build_hasher K.hash_input hasher.now) setting k v kind (storing setting hasher.entry hash there key value).call → ComesBack (Some (node.Pair k v)) result.0 result.1 }
 {
-    let mut machine: OnKey<'_, K, V, K, S> = OnKey {
-        call,
-        hasher,
-        unstored: None,
-    };
-    let end = run_skimming(&mut machine, memory);
-    (end, machine.unstored)
+    papaya_owned::store(memory, setting, hasher, hash, there, key, value)
 }
 
 /// Whether a call has replaced a pair.
@@ -102,8 +100,7 @@ pub fn insert<K: Eq + Hash + Drop, V: Drop, S: BuildHasher>(
     refresh(memory, setting, hasher);
     *last = Last::NONE;
     let hash = hasher.hash_of(&key);
-    let call = KeyCall::insert(setting, hash, key, value);
-    match store(memory, setting, hasher, call) {
+    match store(memory, setting, hasher, hash, There::Puts, key, value) {
         (Ok(stop), _) => {
             *last = told_at(stop);
             Ok(replaced(stop))
@@ -135,8 +132,7 @@ pub fn try_insert<K: Eq + Hash + Drop, V: Drop, S: BuildHasher>(
     refresh(memory, setting, hasher);
     *last = Last::NONE;
     let hash = hasher.hash_of(&key);
-    let call = KeyCall::try_insert(setting, hash, key, value);
-    match store(memory, setting, hasher, call) {
+    match store(memory, setting, hasher, hash, There::Answers, key, value) {
         (Ok(stop), back) => {
             *last = told_at(stop);
             Ok(tried(stop, back))

@@ -1,8 +1,8 @@
 -- What is so of a machine is so, too, where some steps that go on have led from there.
 use Rattle.std.specs.Prelude.{◌≡◌, ◌<◌, ◌≤◌, ℕ, true, Result}
 use Rattle.std.proofs.Common.{sym, ◌∙◌, ap, subst, arith}
-use Rattle.seize_words.specs.Mem.{Mem, Took, value_at}
-use Rattle.seize_words.specs.Plan.{Plan, Steps}
+use Rattle.seize_words.specs.Mem.{Mem}
+use Rattle.seize_words.specs.Plan.{Plan}
 use Rattle.seize_words.specs.declared.fault.Fault.{Fault}
 use Rattle.seize.specs.declared.progress.Progress.{Progress}
 use Rattle.papaya_owned.specs.Ending.{Ends, GoesOn, Tells, Leads, Strides, none_taken, one_more, RunsTo, goes, stops}

@@ -21,9 +21,12 @@ loop-preserved g c = record {
 }
 
 pub returns-then-has_ended-clause-over : goal.returns-then-has_ended-clause-over
-returns-then-has_ended-clause-over g c = λ u answer dispose ended.
-    (retiring u answer dispose _, _, c.loop.invariant.leads u answer dispose,
-    settles_over g.Q.Equivalent.equivalent g.K.PartialEq.eq g.S.Hashes.hash _ u answer dispose _ _ _ c.step-told.result (sym c.has_ended.ensures ∙ c.if-has_ended.true) c.step-told.ensures)
+returns-then-has_ended-clause-over g c = λ u answer dispose ended. (
+  retiring u answer dispose _,
+  _,
+  c.loop.invariant.leads u answer dispose,
+  settles_over g.Q.Equivalent.equivalent g.K.PartialEq.eq g.S.Hashes.hash _ u answer dispose _ _ _ c.step-told.result (sym c.has_ended.ensures ∙ c.if-has_ended.true) c.step-told.ensures,
+)
 
 pub step-last-requires : goal.step-last-requires
 step-last-requires g c =
@@ -31,11 +34,17 @@ step-last-requires g c =
     settle_may g.Q.Equivalent.equivalent g.K.PartialEq.eq g.S.Hashes.hash _ r.0 r.1 r.2 _ (ends_along _ _ _ _ _ (c.loop.invariant.leads r.0 r.1 r.2) r.3)
 
 pub returns-clause-over : goal.returns-clause-over
-returns-clause-over g c = λ u answer dispose ended.
-    (retiring u answer dispose _, _, c.loop.invariant.leads u answer dispose,
-    settles_over g.Q.Equivalent.equivalent g.K.PartialEq.eq g.S.Hashes.hash _ u answer dispose _ _ _ c.step-last.result (sym c.has_ended-2.ensures ∙ ended) c.step-last.ensures)
+returns-clause-over g c = λ u answer dispose ended. (
+  retiring u answer dispose _,
+  _,
+  c.loop.invariant.leads u answer dispose,
+  settles_over g.Q.Equivalent.equivalent g.K.PartialEq.eq g.S.Hashes.hash _ u answer dispose _ _ _ c.step-last.result (sym c.has_ended-2.ensures ∙ ended) c.step-last.ensures,
+)
 
 pub returns-clause-on : goal.returns-clause-on
-returns-clause-on g c = λ u answer dispose on.
-    (retiring u answer dispose _, _, c.loop.invariant.leads u answer dispose,
-    settles_on g.Q.Equivalent.equivalent g.K.PartialEq.eq g.S.Hashes.hash _ u answer dispose _ _ _ c.step-last.result (sym c.has_ended-2.ensures ∙ on) c.step-last.ensures)
+returns-clause-on g c = λ u answer dispose on. (
+  retiring u answer dispose _,
+  _,
+  c.loop.invariant.leads u answer dispose,
+  settles_on g.Q.Equivalent.equivalent g.K.PartialEq.eq g.S.Hashes.hash _ u answer dispose _ _ _ c.step-last.result (sym c.has_ended-2.ensures ∙ on) c.step-last.ensures,
+)

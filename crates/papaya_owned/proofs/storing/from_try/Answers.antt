@@ -1,5 +1,5 @@
 -- It puts its block into an empty place, or goes on as it stands.
-use Rattle.std.specs.Prelude.{IfSome, Some, Ok, None}
+use Rattle.std.specs.Prelude.{IfSome, Ok, None}
 use Rattle.std.proofs.Common.{sym, subst}
 use Rattle.papaya_raw.specs.declared.machines.call.Calling.TheVariants as at
 use Rattle.papaya_owned.specs.Ending.{Ends}

@@ -1,9 +1,18 @@
--- It comes to its end, and the map has the same pairs.
-use Rattle.papaya_resting.proofs.Removals.{refresh_ends, refresh_holds}
+-- The list of the slot is taken, and counted down, if there is one: the map has the same pairs.
+use Rattle.papaya_resting.proofs.Removals.{head_can, none_waits, counting_ends, counted_holds}
 use Rattle.papaya_resting.proofs.changes.refresh.Goals as goal
 
+pub swap-head-requires : goal.swap-head-requires
+swap-head-requires g c = let r = c.requires in head_can _ _ c.args.setting c.args.memory.now c.args.memory.now r.0 r.1
+
+pub returns-then-head-le-ACTIVE : goal.returns-then-head-le-ACTIVE
+returns-then-head-le-ACTIVE g c = λ xs has. none_waits _ _ c.args.setting c.args.memory.now c.swap-head.new.self xs has c.swap-head.result c.swap-head.ensures c.if-head-le-ACTIVE.true
+
 pub run-requires : goal.run-requires
-run-requires g c = let r = c.requires in refresh_ends _ _ _ _ r.0 r.1 _ c.refresh-leave.ensures
+run-requires g c =
+    let r = c.requires in
+    counting_ends _ _ c.args.setting c.args.memory.now c.swap-head.new.self r.0 r.1 c.swap-head.result c.swap-head.ensures c.if-head-le-ACTIVE.false _ c.count_down-settle.ensures
 
 pub returns : goal.returns
-returns g c = λ xs has. refresh_holds _ _ _ _ xs has _ c.refresh-leave.ensures _ _ _ c.run.ensures
+returns g c = λ xs has.
+    counted_holds _ _ c.args.setting c.args.memory.now c.swap-head.new.self xs has c.swap-head.result c.swap-head.ensures c.if-head-le-ACTIVE.false _ c.count_down-settle.ensures _ _ _ c.run.ensures

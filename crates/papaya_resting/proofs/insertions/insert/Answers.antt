@@ -10,7 +10,7 @@ use Rattle.papaya_resting.proofs.Stores.{stored_so, refused_so, back_so, inserts
 use Rattle.papaya_resting.proofs.insertions.insert.Goals as goal
 
 pub store-requires-clause-call : goal.store-requires-clause-call
-store-requires-clause-call g c = (inserts, c.args.key, c.args.value, inserts_this (hashed_by g.S.Hasher.Hasher.finish g.S.Hasher.Hasher.write g.S.BuildHasher.build_hasher g.K.Hash.hash_input c.args.hasher.now) c.args.setting c.args.key c.args.value _ _ c.hash_of-hash.ensures c.insert-call.ensures)
+store-requires-clause-call g c = (inserts, c.args.key, c.args.value, inserts_this (hashed_by g.S.Hasher.Hasher.finish g.S.Hasher.Hasher.write g.S.BuildHasher.build_hasher g.K.Hash.hash_input c.args.hasher.now) c.args.setting c.args.key c.args.value _ _ c.hash_of-hash.ensures refl)
 
 pub refused-requires : goal.refused-requires
 refused-requires g c =
@@ -19,14 +19,14 @@ refused-requires g c =
       c.args.value,
       back_so (Some (node.Pair c.args.key c.args.value)) c.store.result.0 c.store.result.1
           (c.store.ensures.back r.0 inserts c.args.key c.args.value (c.refresh.ensures r.0 r.1)
-          (inserts_this (hashed_by g.S.Hasher.Hasher.finish g.S.Hasher.Hasher.write g.S.BuildHasher.build_hasher g.K.Hash.hash_input c.args.hasher.now) c.args.setting c.args.key c.args.value _ _ c.hash_of-hash.ensures c.insert-call.ensures)) c.in-Err-default.fault c.in-Err-default.is-0,
+          (inserts_this (hashed_by g.S.Hasher.Hasher.finish g.S.Hasher.Hasher.write g.S.BuildHasher.build_hasher g.K.Hash.hash_input c.args.hasher.now) c.args.setting c.args.key c.args.value _ _ c.hash_of-hash.ensures refl)) c.in-Err-default.fault c.in-Err-default.is-0,
     )
 
 pub returns-in-Err-default-clause-refused : goal.returns-in-Err-default-clause-refused
 returns-in-Err-default-clause-refused g c = λ xs has. record {
   holds = (refused_so g.K.PartialEq.eq (hashed_by g.S.Hasher.Hasher.finish g.S.Hasher.Hasher.write g.S.BuildHasher.build_hasher g.K.Hash.hash_input c.args.hasher.now) c.args.setting c.store.new.memory (g.K.PartialEq.eq c.args.key)
       xs c.args.key c.args.value inserts c.store.result.0 (c.store.ensures.ends xs inserts c.args.key c.args.value (c.refresh.ensures xs has)
-      (inserts_this (hashed_by g.S.Hasher.Hasher.finish g.S.Hasher.Hasher.write g.S.BuildHasher.build_hasher g.K.Hash.hash_input c.args.hasher.now) c.args.setting c.args.key c.args.value _ _ c.hash_of-hash.ensures c.insert-call.ensures)) c.in-Err-default.fault c.in-Err-default.is-0).1;
+      (inserts_this (hashed_by g.S.Hasher.Hasher.finish g.S.Hasher.Hasher.write g.S.BuildHasher.build_hasher g.K.Hash.hash_input c.args.hasher.now) c.args.setting c.args.key c.args.value _ _ c.hash_of-hash.ensures refl)) c.in-Err-default.fault c.in-Err-default.is-0).1;
   taken_is = tt;
   met_is = tt;
 }
@@ -37,7 +37,7 @@ returns-in-Err-default-clause-fault g c =
     subst IsRoom (sym c.refused.ensures.fault) (room_of inserts c.in-Err-default.fault refl
     (refused_so g.K.PartialEq.eq (hashed_by g.S.Hasher.Hasher.finish g.S.Hasher.Hasher.write g.S.BuildHasher.build_hasher g.K.Hash.hash_input c.args.hasher.now) c.args.setting c.store.new.memory (g.K.PartialEq.eq c.args.key)
     r.0 c.args.key c.args.value inserts c.store.result.0 (c.store.ensures.ends r.0 inserts c.args.key c.args.value (c.refresh.ensures r.0 r.1)
-    (inserts_this (hashed_by g.S.Hasher.Hasher.finish g.S.Hasher.Hasher.write g.S.BuildHasher.build_hasher g.K.Hash.hash_input c.args.hasher.now) c.args.setting c.args.key c.args.value _ _ c.hash_of-hash.ensures c.insert-call.ensures)) c.in-Err-default.fault c.in-Err-default.is-0).0)
+    (inserts_this (hashed_by g.S.Hasher.Hasher.finish g.S.Hasher.Hasher.write g.S.BuildHasher.build_hasher g.K.Hash.hash_input c.args.hasher.now) c.args.setting c.args.key c.args.value _ _ c.hash_of-hash.ensures refl)) c.in-Err-default.fault c.in-Err-default.is-0).0)
 
 pub returns-in-Err-default-clause-back : goal.returns-in-Err-default-clause-back
 returns-in-Err-default-clause-back g c =
@@ -45,17 +45,17 @@ returns-in-Err-default-clause-back g c =
     same_pair c.store.result.1 c.args.key c.refused.result.key c.args.value c.refused.result.value
     (back_so (Some (node.Pair c.args.key c.args.value)) c.store.result.0 c.store.result.1
     (c.store.ensures.back r.0 inserts c.args.key c.args.value (c.refresh.ensures r.0 r.1)
-    (inserts_this (hashed_by g.S.Hasher.Hasher.finish g.S.Hasher.Hasher.write g.S.BuildHasher.build_hasher g.K.Hash.hash_input c.args.hasher.now) c.args.setting c.args.key c.args.value _ _ c.hash_of-hash.ensures c.insert-call.ensures)) c.in-Err-default.fault c.in-Err-default.is-0) c.refused.ensures.pair
+    (inserts_this (hashed_by g.S.Hasher.Hasher.finish g.S.Hasher.Hasher.write g.S.BuildHasher.build_hasher g.K.Hash.hash_input c.args.hasher.now) c.args.setting c.args.key c.args.value _ _ c.hash_of-hash.ensures refl)) c.in-Err-default.fault c.in-Err-default.is-0) c.refused.ensures.pair
 
 pub returns-in-Ok-default-clause-some : goal.returns-in-Ok-default-clause-some
 returns-in-Ok-default-clause-some g c = λ xs has.
     c.replaced.ensures
     ∙ (stored_so g.K.PartialEq.eq (hashed_by g.S.Hasher.Hasher.finish g.S.Hasher.Hasher.write g.S.BuildHasher.build_hasher g.K.Hash.hash_input c.args.hasher.now) c.args.setting c.store.new.memory (g.K.PartialEq.eq c.args.key)
     xs c.args.key c.args.value c.store.result.0 (c.store.ensures.ends xs inserts c.args.key c.args.value (c.refresh.ensures xs has)
-    (inserts_this (hashed_by g.S.Hasher.Hasher.finish g.S.Hasher.Hasher.write g.S.BuildHasher.build_hasher g.K.Hash.hash_input c.args.hasher.now) c.args.setting c.args.key c.args.value _ _ c.hash_of-hash.ensures c.insert-call.ensures)) c.in-Ok-default.stop c.in-Ok-default.is-0 _ c.told_at.ensures).0
+    (inserts_this (hashed_by g.S.Hasher.Hasher.finish g.S.Hasher.Hasher.write g.S.BuildHasher.build_hasher g.K.Hash.hash_input c.args.hasher.now) c.args.setting c.args.key c.args.value _ _ c.hash_of-hash.ensures refl)) c.in-Ok-default.stop c.in-Ok-default.is-0 _ c.told_at.ensures).0
 
 pub returns-in-Ok-default-clause-stored : goal.returns-in-Ok-default-clause-stored
 returns-in-Ok-default-clause-stored g c = λ xs has.
     (stored_so g.K.PartialEq.eq (hashed_by g.S.Hasher.Hasher.finish g.S.Hasher.Hasher.write g.S.BuildHasher.build_hasher g.K.Hash.hash_input c.args.hasher.now) c.args.setting c.store.new.memory (g.K.PartialEq.eq c.args.key)
     xs c.args.key c.args.value c.store.result.0 (c.store.ensures.ends xs inserts c.args.key c.args.value (c.refresh.ensures xs has)
-    (inserts_this (hashed_by g.S.Hasher.Hasher.finish g.S.Hasher.Hasher.write g.S.BuildHasher.build_hasher g.K.Hash.hash_input c.args.hasher.now) c.args.setting c.args.key c.args.value _ _ c.hash_of-hash.ensures c.insert-call.ensures)) c.in-Ok-default.stop c.in-Ok-default.is-0 _ c.told_at.ensures).1
+    (inserts_this (hashed_by g.S.Hasher.Hasher.finish g.S.Hasher.Hasher.write g.S.BuildHasher.build_hasher g.K.Hash.hash_input c.args.hasher.now) c.args.setting c.args.key c.args.value _ _ c.hash_of-hash.ensures refl)) c.in-Ok-default.stop c.in-Ok-default.is-0 _ c.told_at.ensures).1

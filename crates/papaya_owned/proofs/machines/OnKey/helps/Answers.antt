@@ -1,11 +1,9 @@
 -- The steps of the copying are those of the call.
-use Rattle.std.proofs.Common.{refl, sym, ap, subst}
-use Rattle.seize_words.specs.Mem.{Mem}
+use Rattle.std.proofs.Common.{refl, sym, subst}
 use Rattle.papaya_raw.specs.declared.machines.call.Calling.{Calling}
 use Rattle.papaya_owned.specs.Ending.{Ends, Strides}
 use Rattle.papaya_owned.specs.Inside.{helping}
 use Rattle.papaya_owned.specs.Machines.{on_key_plan}
-use Rattle.papaya_owned.specs.declared.machines.OnKey.{OnKey}
 use Rattle.papaya_owned.proofs.Inner.{helps_into}
 use Rattle.papaya_owned.proofs.machines.OnKey.helps.Goals as goal
 
@@ -23,7 +21,10 @@ returns g c =
     let plan = on_key_plan {V = g.row.V.Denot} g.Q.Equivalent.equivalent g.K.PartialEq.eq g.S.Hashes.hash in
     let e = c.copies-told.ensures c.args.self.now c.in-Helps.goal refl in
     subst (λ (stands : Calling). Strides plan (record c.args.self.now { call = record c.args.self.now.call { stands = stands } }) c.args.memory.now c.copies-told.new.memory (c.helped.new.self, c.helped.result))
-    (sym c.in-Helps.is)
-    (helping c.args.self.now c.in-Helps.goal e.0, e.1, e.2,
-    helps_into g.Q.Equivalent.equivalent g.K.PartialEq.eq g.S.Hashes.hash e.1 c.args.self.now c.in-Helps.goal e.0 c.copies-told.new.memory _ c.copies-told.result _
-    (c.helped.ensures c.args.self.now c.copies-told.new.copier refl) e.3)
+    (sym c.in-Helps.is) (
+      helping c.args.self.now c.in-Helps.goal e.0,
+      e.1,
+      e.2,
+      helps_into g.Q.Equivalent.equivalent g.K.PartialEq.eq g.S.Hashes.hash e.1 c.args.self.now c.in-Helps.goal e.0 c.copies-told.new.memory _ c.copies-told.result _
+          (c.helped.ensures c.args.self.now c.copies-told.new.copier refl) e.3,
+    )
