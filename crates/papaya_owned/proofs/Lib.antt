@@ -4,5 +4,4 @@ pub mod Lookups
 pub mod Owned
 pub mod Passing
 pub mod Runs
-mod Stores
 pub mod Walks

@@ -5,6 +5,5 @@ pub mod Machines
 pub mod Owned
 pub mod Rooms
 pub mod Standing
-pub mod Storing
 pub mod Tries
 pub mod Within

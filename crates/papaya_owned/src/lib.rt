@@ -11,12 +11,11 @@ mod most_looks;
 mod rooms;
 mod running;
 mod skims;
-mod storing;
 mod tries;
 
+pub use calls::last_try;
 pub use looking::{find, pair_at};
 pub use machines::{ForRoom, OnKey, Refreshes, Stop};
 pub use rooms::make_room;
 pub use running::{run, run_skimming};
 pub use skims::Skims;
-pub use storing::store;

@@ -6,3 +6,4 @@ pub mod Makes
 mod Removals
 mod Reservations
 mod Stores
+mod Straight

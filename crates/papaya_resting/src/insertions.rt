@@ -4,7 +4,7 @@ ghost use Rattle.papaya_callers.specs.Kind.{Kind};
 ghost use Rattle.papaya_late.specs.Faults.{IsRoom};
 ghost use Rattle.papaya_tables.specs.declared.node.Node.TheVariants as node;
 ghost use Rattle.papaya_owned.specs.Owned.{Holds, EndsBy, ComesBack, found_by, hashed_by, left_by};
-ghost use Rattle.papaya_owned.specs.Storing.{storing};
+ghost use Rattle.papaya_resting.specs.Storing.{storing};
 ghost use Rattle.papaya_resting.specs.Calls.{StoresPair, has_found, has_replaced};
 ghost use Rattle.papaya_resting.specs.Lasts.{RestsWith};
 
@@ -35,7 +35,7 @@ fn store<K: Eq + Hash + Drop, V: Drop, S: BuildHasher>(
     ensures back { (xs : List (K × V)) (kind : Kind) (k : K) (v : V) → Holds K.eq (hashed_by S.Hasher.finish S.Hasher.write S.build_hasher K.hash_input hasher.now) setting memory.old xs
         → StoresPair (hashed_by S.Hasher.finish S.Hasher.write S.build_hasher K.hash_input hasher.now) setting k v kind (storing setting hasher.entry hash there key value).call → ComesBack (Some (node.Pair k v)) result.0 result.1 }
 {
-    papaya_owned::store(memory, setting, hasher, hash, there, key, value)
+    crate::storing::store(memory, setting, hasher, hash, there, key, value)
 }
 
 /// Whether a call has replaced a pair.

@@ -11,6 +11,7 @@ mod last;
 mod lookups;
 mod making;
 mod rooms;
+mod storing;
 mod sweeps;
 mod testing;
 

@@ -4,8 +4,8 @@ use Rattle.std.proofs.Common.{sym, subst}
 use Rattle.papaya_raw.specs.declared.machines.call.Calling.TheVariants as at
 use Rattle.papaya_owned.specs.Ending.{Ends}
 use Rattle.papaya_owned.specs.Machines.{on_key_plan}
-use Rattle.papaya_owned.specs.Storing.{StoresTo, with_own}
-use Rattle.papaya_owned.proofs.storing.from_try.Goals as goal
+use Rattle.papaya_resting.specs.Storing.{StoresTo, with_own}
+use Rattle.papaya_resting.proofs.storing.from_try.Goals as goal
 
 pub put-requires : goal.put-requires
 put-requires g c = (c.args.there, c.requires)

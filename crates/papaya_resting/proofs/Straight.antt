@@ -32,7 +32,7 @@ use Rattle.papaya_raw.specs.declared.machines.call.Calling.TheVariants as at
 use Rattle.papaya_raw.specs.declared.machines.call.KeyCall.{KeyCall}
 use Rattle.papaya_owned.specs.Ending.{Ends, Leads, none_taken, one_more, stops, goes}
 use Rattle.papaya_owned.specs.Machines.{on_key_after, on_key_plan}
-use Rattle.papaya_owned.specs.Storing.{StoresTo, storing, with_own}
+use Rattle.papaya_resting.specs.Storing.{StoresTo, storing, with_own}
 use Rattle.papaya_owned.specs.declared.machines.OnKey.{OnKey}
 use Rattle.papaya_owned.specs.declared.machines.Stop.{Stop}
 use Rattle.papaya_owned.specs.declared.machines.Stop.TheVariants as stop

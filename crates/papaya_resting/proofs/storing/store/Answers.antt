@@ -4,9 +4,9 @@ use Rattle.papaya_raw.specs.CallPoints.{untried}
 use Rattle.papaya_raw.specs.declared.machines.call.Calling.TheVariants as at
 use Rattle.papaya_owned.specs.Ending.{Ends}
 use Rattle.papaya_owned.specs.Machines.{on_key_plan}
-use Rattle.papaya_owned.specs.Storing.{StoresTo, with_own}
-use Rattle.papaya_owned.proofs.Stores.{made_ends, made_on, not_made}
-use Rattle.papaya_owned.proofs.storing.store.Goals as goal
+use Rattle.papaya_resting.specs.Storing.{StoresTo, with_own}
+use Rattle.papaya_resting.proofs.Straight.{made_ends, made_on, not_made}
+use Rattle.papaya_resting.proofs.storing.store.Goals as goal
 
 pub from_root-requires : goal.from_root-requires
 from_root-requires g c =

@@ -5,10 +5,10 @@ use Rattle.papaya_raw.specs.CallPoints.{untried}
 use Rattle.papaya_raw.specs.declared.machines.call.Calling.TheVariants as at
 use Rattle.papaya_owned.specs.Ending.{Ends, Leads}
 use Rattle.papaya_owned.specs.Machines.{on_key_plan}
-use Rattle.papaya_owned.specs.Storing.{StoresTo, with_own}
+use Rattle.papaya_resting.specs.Storing.{StoresTo, with_own}
 use Rattle.papaya_owned.proofs.Runs.Leading.{ends_along}
-use Rattle.papaya_owned.proofs.Stores.{led_on}
-use Rattle.papaya_owned.proofs.storing.from_root.Goals as goal
+use Rattle.papaya_resting.proofs.Straight.{led_on}
+use Rattle.papaya_resting.proofs.storing.from_root.Goals as goal
 
 pub first_place-requires : goal.first_place-requires
 first_place-requires g c = (c.args.there, c.args.own, c.requires)

@@ -8,11 +8,11 @@ use Rattle.papaya_raw.specs.CallPoints.{untried}
 use Rattle.papaya_raw.specs.declared.machines.call.Calling.TheVariants as at
 use Rattle.papaya_owned.specs.Ending.{Ends, Leads}
 use Rattle.papaya_owned.specs.Machines.{on_key_plan}
-use Rattle.papaya_owned.specs.Storing.{with_own}
+use Rattle.papaya_resting.specs.Storing.{with_own}
 use Rattle.papaya_owned.proofs.Lookups.Tries.{found_at}
 use Rattle.papaya_owned.proofs.Runs.Leading.{ends_along, leads_on}
-use Rattle.papaya_owned.proofs.Stores.{root_can, root_sees, enters}
-use Rattle.papaya_owned.proofs.storing.first_place.Goals as goal
+use Rattle.papaya_resting.proofs.Straight.{root_can, root_sees, enters}
+use Rattle.papaya_resting.proofs.storing.first_place.Goals as goal
 
 pub load-link-requires : goal.load-link-requires
 load-link-requires g c =

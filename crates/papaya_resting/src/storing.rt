@@ -2,14 +2,12 @@
 ghost use Rattle.std.specs.Prelude.{◌≡◌, ℕ, IfSome, Ok, None};
 ghost use Rattle.papaya_owned.specs.Ending.{Ends, Leads};
 ghost use Rattle.papaya_owned.specs.Machines.{on_key_plan};
-ghost use Rattle.papaya_owned.specs.Storing.{StoresTo, storing, with_own};
+ghost use Rattle.papaya_resting.specs.Storing.{StoresTo, storing, with_own};
 ghost use Rattle.papaya_raw.specs.CallPoints.{untried, word_to};
 ghost use Rattle.papaya_raw.specs.declared.machines.answer.There.{There};
 ghost use Rattle.papaya_raw.specs.declared.machines.call.Calling.TheVariants as at;
 
-use crate::calls::last_try;
-use crate::machines::{OnKey, Stop};
-use crate::running::run_skimming;
+use papaya_owned::{OnKey, Stop, last_try, run_skimming};
 use papaya_raw::machines::{Calling, KeyAnswer, KeyCall, Missing, Replies, Takes, There, Told};
 use papaya_resize::count;
 use papaya_tables::{Hashes, Node, Probe, Setting, Table, Trial, h2};
@@ -186,7 +184,7 @@ fn from_root<K: Eq + Hash + Drop, V: Drop, S: Hashes<K>>(
 
 /// Runs a call that stores a pair to its end, from its beginning, and answers that pair, too, where it was not stored. `there` says what
 /// becomes of a pair of its key.
-pub fn store<K: Eq + Hash + Drop, V: Drop, S: Hashes<K>>(
+pub(crate) fn store<K: Eq + Hash + Drop, V: Drop, S: Hashes<K>>(
     memory: &mut Plain<Node<K, V>>,
     setting: Setting,
     hasher: &S,

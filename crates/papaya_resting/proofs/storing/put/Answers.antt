@@ -3,8 +3,8 @@ use Rattle.std.specs.Prelude.{IsSome, Ok}
 use Rattle.std.proofs.Common.{sym, ◌∙◌, subst}
 use Rattle.seize_words.specs.Mem.{Took, word_at}
 use Rattle.seize_words.specs.Op.{Load, Exchange, Found, Exchanged}
-use Rattle.papaya_owned.proofs.Stores.{place_can, shard_can, stored_there}
-use Rattle.papaya_owned.proofs.storing.put.Goals as goal
+use Rattle.papaya_resting.proofs.Straight.{place_can, shard_can, stored_there}
+use Rattle.papaya_resting.proofs.storing.put.Goals as goal
 
 pub load-word-requires : goal.load-word-requires
 load-word-requires g c =
