@@ -175,9 +175,9 @@ impl<T: Defers + LeftOver> Machine<T> for ReclaimAll {
         match self.stands {
             Reclaiming::Heads { slot } => self.heads(memory, slot),
             Reclaiming::Retakes { slot } => self.retakes(memory, slot),
-            Reclaiming::Leaves { slot, leave } => self.leaves(memory, slot, leave),
+            Reclaiming::Leaves { .. } => self.leaves(memory),
             Reclaiming::Batches { slot } => self.batches(memory, slot),
-            Reclaiming::Flushes { slot, settle } => self.flushes(memory, slot, settle),
+            Reclaiming::Flushes { .. } => self.flushes(memory),
             Reclaiming::Frees { slot } => self.frees(memory, slot),
             Reclaiming::Roots { root } => self.roots(memory, root),
             Reclaiming::Nexts { root, block } => self.nexts(memory, root, block),

@@ -190,6 +190,7 @@ pub enum Settled<T> {
 
 impl Settle {
     /// Retires a block to the slot's batch. The next link of the block is 0.
+    #[inline(always)]
     pub fn retire(slot: u64, batch_size: u64, block: u64) -> Self
         ensures { result ≡ retiring slot batch_size block }
     {
@@ -199,6 +200,7 @@ impl Settle {
     }
 
     /// Tries the slot's batch, at any length above 0.
+    #[inline(always)]
     pub fn flush(slot: u64, batch_size: u64) -> Self
         ensures { result ≡ flushing slot batch_size }
     {
@@ -208,6 +210,7 @@ impl Settle {
     }
 
     /// Counts down a list that was taken from the slot: a head that names an entry.
+    #[inline(always)]
     pub fn count_down(slot: u64, batch_size: u64, list: u64) -> Self
         ensures { result ≡ counting_down slot batch_size list }
     {
@@ -217,6 +220,7 @@ impl Settle {
     }
 
     /// Nothing to do.
+    #[inline(always)]
     fn rest(slot: u64, batch_size: u64, stands: Settling) -> Self
         ensures { result ≡ resting slot batch_size stands }
     {
@@ -237,6 +241,7 @@ impl Settle {
     }
 
     /// Goes on after a piece of work.
+    #[inline(always)]
     fn go_on(&mut self)
         ensures { self.new ≡ onward self.old }
     {
@@ -254,6 +259,7 @@ impl Settle {
     }
 
     /// Goes on with the slot's batch: there is a block to be retired, or the batch is to be tried.
+    #[inline(always)]
     fn go_on_with_batch(&mut self)
         ensures { self.new ≡ with_batch self.old }
     {
@@ -272,6 +278,7 @@ impl Settle {
     }
 
     /// Begins a try of the batch.
+    #[inline(always)]
     fn scan(&mut self)
         ensures { self.new ≡ scanning self.old }
     {
@@ -283,6 +290,7 @@ impl Settle {
     }
 
     /// The values that a batch has put are to be retired, and whatever was pending stands behind them.
+    #[inline(always)]
     fn retire_put(&mut self)
         ensures { self.new ≡ with_put self.old }
     {
@@ -295,6 +303,7 @@ impl Settle {
 
 impl Settling {
     /// The scan of the slot behind one, if there is one.
+    #[inline(always)]
     fn behind(slot: u64, block: u64, marks: u64) -> Self
         ensures { result ≡ behind slot block marks }
     {
@@ -310,6 +319,7 @@ impl Settling {
     }
 
     /// The push of the next block, if one is left behind this one.
+    #[inline(always)]
     fn pushed(block: u64, left: u64, pushed: u64) -> Self
         ensures { result ≡ pushed_of block left pushed }
     {
@@ -332,6 +342,7 @@ impl<T: Defers> Machine<T> for Settle {
 
     ghost plan = { settle_plan T.defers };
 
+    #[inline(always)]
     fn step<M: Memory<T>>(&mut self, memory: &mut M) -> Settled<T> {
         match self.stands {
             Settling::Sees => self.sees(memory),

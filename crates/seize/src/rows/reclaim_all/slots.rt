@@ -1,7 +1,8 @@
 //! Each slot is taken and leaves, each batch is flushed, and each slot is given up.
-ghost use Rattle.std.specs.Prelude.{◌≡◌, true};
+ghost use Rattle.std.specs.Prelude.{◌≡◌, ℕ, Bool, true};
 ghost use Rattle.seize_words.specs.Plan.{May, Steps};
-ghost use Rattle.seize.specs.ReclaimAll.{standing, next_head, next_batch, within, heads, retakes, leaves, batches, flushes, frees};
+ghost use Rattle.seize.specs.ReclaimAll.{standing, next_head, next_batch, within, heads, retakes, batches, frees, reclaim_all_plan};
+ghost use Rattle.seize.specs.declared.rows.reclaim_all.Reclaiming.TheVariants as at;
 
 use crate::machine::Machine;
 use crate::rows::enter::Unregister;
@@ -45,25 +46,25 @@ impl ReclaimAll {
         Settled::Goes
     }
 
-    /// Takes a step of the leaving of a slot.
-    pub(super) fn leaves<T: Defers, M: Memory<T>>(
-        &mut self,
-        memory: &mut M,
-        slot: u64,
-        mut leave: Leave,
-    ) -> Settled<T>
-        requires { May M.can M.took M.shown memory.old (leaves T.defers self.old slot leave) }
-        ensures { Steps M.took M.shown memory.old (leaves T.defers self.old slot leave) memory.new (self.new, result) }
+    /// Takes a step of the leaving of a slot, where it stands.
+    pub(super) fn leaves<T: Defers, M: Memory<T>>(&mut self, memory: &mut M) -> Settled<T>
+        requires leaving { (slot : ℕ) × (leave : Leave) × (self.old.stands ≡ at.Leaves slot leave) }
+        requires may { (left_over : T → Bool) × May M.can M.took M.shown memory.old (reclaim_all_plan T.defers left_over self.old) }
+        ensures { (left_over : T → Bool) → Steps M.took M.shown memory.old (reclaim_all_plan T.defers left_over self.old) memory.new (self.new, result) }
     {
+        let Reclaiming::Leaves { slot, leave } = &mut self.stands else {
+            unreachable!()
+        };
+        let slot = *slot;
         let progress = leave.step(memory);
-        self.left(slot, leave, progress)
+        self.left(slot, progress)
     }
 
     /// Goes on after a step of the leaving.
-    fn left<T>(&mut self, slot: u64, leave: Leave, progress: Settled<T>) -> Settled<T>
-        ensures { (self.new, result) ≡ within (λ row. standing self.old (Reclaiming.Leaves slot row)) (next_head self.old slot) (leave, progress) }
+    fn left<T>(&mut self, slot: u64, progress: Settled<T>) -> Settled<T>
+        ensures { (begun : ReclaimAll) (leave : Leave) → self.old ≡ standing begun (at.Leaves slot leave)
+            → (self.new, result) ≡ within (λ row. standing begun (at.Leaves slot row)) (next_head begun slot) (leave, progress) }
     {
-        self.stands = Reclaiming::Leaves { slot, leave };
         match progress {
             Settled::Goes => Settled::Goes,
             Settled::Waits => Settled::Waits,
@@ -92,26 +93,25 @@ impl ReclaimAll {
         Settled::Goes
     }
 
-    /// Takes a step of the flush of a batch.
-    pub(super) fn flushes<T: Defers, M: Memory<T>>(
-        &mut self,
-        memory: &mut M,
-        slot: u64,
-        mut settle: Settle,
-    ) -> Settled<T>
-        requires { May M.can M.took M.shown memory.old (flushes T.defers self.old slot settle) }
-        ensures { Steps M.took M.shown memory.old (flushes T.defers self.old slot settle) memory.new (self.new, result) }
+    /// Takes a step of the flush of a batch, where it stands.
+    pub(super) fn flushes<T: Defers, M: Memory<T>>(&mut self, memory: &mut M) -> Settled<T>
+        requires flushing { (slot : ℕ) × (settle : Settle) × (self.old.stands ≡ at.Flushes slot settle) }
+        requires may { (left_over : T → Bool) × May M.can M.took M.shown memory.old (reclaim_all_plan T.defers left_over self.old) }
+        ensures { (left_over : T → Bool) → Steps M.took M.shown memory.old (reclaim_all_plan T.defers left_over self.old) memory.new (self.new, result) }
     {
+        let Reclaiming::Flushes { slot, settle } = &mut self.stands else {
+            unreachable!()
+        };
+        let slot = *slot;
         let progress = settle.step(memory);
-        self.flushed(slot, settle, progress)
+        self.flushed(slot, progress)
     }
 
     /// Goes on after a step of the flush: behind it another round is needed.
-    fn flushed<T>(&mut self, slot: u64, settle: Settle, progress: Settled<T>) -> Settled<T>
-        ensures { let behind = next_batch (record self.old { again = true }) slot in
-            (self.new, result) ≡ within (λ row. standing self.old (Reclaiming.Flushes slot row)) behind (settle, progress) }
+    fn flushed<T>(&mut self, slot: u64, progress: Settled<T>) -> Settled<T>
+        ensures { (begun : ReclaimAll) (settle : Settle) → self.old ≡ standing begun (at.Flushes slot settle)
+            → (self.new, result) ≡ within (λ row. standing begun (at.Flushes slot row)) (next_batch (record begun { again = true }) slot) (settle, progress) }
     {
-        self.stands = Reclaiming::Flushes { slot, settle };
         match progress {
             Settled::Goes => Settled::Goes,
             Settled::Waits => Settled::Waits,

@@ -8,6 +8,7 @@ use seize_words::{At, Link, Memory};
 
 impl Settle {
     /// Reads the slot's batch word, and waits where another row holds the batch.
+    #[inline(always)]
     pub(super) fn sees<T, M: Memory<T>>(&mut self, memory: &mut M) -> Settled<T>
         requires { May M.can M.took M.shown memory.old (sees self.old) }
         ensures { Steps M.took M.shown memory.old (sees self.old) memory.new (self.new, result) }
@@ -22,6 +23,7 @@ impl Settle {
     }
 
     /// Takes hold of the batch.
+    #[inline(always)]
     pub(super) fn holds<T, M: Memory<T>>(&mut self, memory: &mut M) -> Settled<T>
         requires { May M.can M.took M.shown memory.old (holds self.old) }
         ensures { Steps M.took M.shown memory.old (holds self.old) memory.new (self.new, result) }
@@ -40,6 +42,7 @@ impl Settle {
     }
 
     /// Takes the first of the pending blocks. Where no batch is open it is the first of one.
+    #[inline(always)]
     pub(super) fn pops<T, M: Memory<T>>(&mut self, memory: &mut M) -> Settled<T>
         requires { May M.can M.took M.shown memory.old (pops self.old) }
         ensures { Steps M.took M.shown memory.old (pops self.old) memory.new (self.new, result) }
@@ -56,6 +59,7 @@ impl Settle {
     }
 
     /// Reads the first block of the open batch.
+    #[inline(always)]
     pub(super) fn firsts<T, M: Memory<T>>(&mut self, memory: &mut M, block: u64) -> Settled<T>
         requires { May M.can M.took M.shown memory.old (firsts self.old block) }
         ensures { Steps M.took M.shown memory.old (firsts self.old block) memory.new (self.new, result) }
@@ -70,6 +74,7 @@ impl Settle {
     }
 
     /// Writes into a block which batch it is of.
+    #[inline(always)]
     pub(super) fn batches<T, M: Memory<T>>(&mut self, memory: &mut M, block: u64) -> Settled<T>
         requires { May M.can M.took M.shown memory.old (batches self.old block) }
         ensures { Steps M.took M.shown memory.old (batches self.old block) memory.new (self.new, result) }
@@ -80,6 +85,7 @@ impl Settle {
     }
 
     /// Makes a block the end of its batch.
+    #[inline(always)]
     pub(super) fn ends<T, M: Memory<T>>(&mut self, memory: &mut M, block: u64) -> Settled<T>
         requires { May M.can M.took M.shown memory.old (ends self.old block) }
         ensures { Steps M.took M.shown memory.old (ends self.old block) memory.new (self.new, result) }
@@ -94,6 +100,7 @@ impl Settle {
     }
 
     /// Puts a block behind the last one.
+    #[inline(always)]
     pub(super) fn appends<T, M: Memory<T>>(&mut self, memory: &mut M, block: u64) -> Settled<T>
         requires { May M.can M.took M.shown memory.old (appends self.old block) }
         ensures { Steps M.took M.shown memory.old (appends self.old block) memory.new (self.new, result) }
@@ -104,6 +111,7 @@ impl Settle {
     }
 
     /// Counts a block into the batch, and tries the batch where it is long enough.
+    #[inline(always)]
     pub(super) fn counts<T, M: Memory<T>>(&mut self, memory: &mut M, block: u64) -> Settled<T>
         requires { May M.can M.took M.shown memory.old (counts self.old block) }
         ensures { Steps M.took M.shown memory.old (counts self.old block) memory.new (self.new, result) }
@@ -119,6 +127,7 @@ impl Settle {
     }
 
     /// Gives the batch up.
+    #[inline(always)]
     pub(super) fn gives<T, M: Memory<T>>(&mut self, memory: &mut M) -> Settled<T>
         requires { May M.can M.took M.shown memory.old (gives self.old) }
         ensures { Steps M.took M.shown memory.old (gives self.old) memory.new (self.new, result) }

@@ -8,6 +8,7 @@ use seize_words::{At, Link, Memory};
 
 impl Settle {
     /// Reads which block comes after the one that is reclaimed, and whether that one holds further values.
+    #[inline(always)]
     pub(super) fn nexts<T: Defers, M: Memory<T>>(&mut self, memory: &mut M) -> Settled<T>
         requires { May M.can M.took M.shown memory.old (nexts T.defers self.old) }
         ensures { Steps M.took M.shown memory.old (nexts T.defers self.old) memory.new (self.new, result) }
@@ -21,6 +22,7 @@ impl Settle {
     }
 
     /// Reads the head of the block's further values.
+    #[inline(always)]
     pub(super) fn drains<T, M: Memory<T>>(
         &mut self,
         memory: &mut M,
@@ -44,6 +46,7 @@ impl Settle {
     }
 
     /// Puts further values behind those that the batch has put so far.
+    #[inline(always)]
     pub(super) fn joins<T, M: Memory<T>>(
         &mut self,
         memory: &mut M,
@@ -60,6 +63,7 @@ impl Settle {
     }
 
     /// Goes on to the last of the values put.
+    #[inline(always)]
     pub(super) fn tails<T, M: Memory<T>>(&mut self, memory: &mut M, next: u64) -> Settled<T>
         requires { May M.can M.took M.shown memory.old (tails self.old next) }
         ensures { Steps M.took M.shown memory.old (tails self.old next) memory.new (self.new, result) }
@@ -75,6 +79,7 @@ impl Settle {
     }
 
     /// Reclaims the block. What its batch has put is retired once the batch is over.
+    #[inline(always)]
     pub(super) fn takes<T, M: Memory<T>>(&mut self, memory: &mut M, next: u64) -> Settled<T>
         requires { May M.can M.took M.shown memory.old (takes self.old next) }
         ensures { Steps M.took M.shown memory.old (takes self.old next) memory.new (self.new, result) }
@@ -92,6 +97,7 @@ impl Settle {
     }
 
     /// Puts the pending blocks behind the values that the batch has put.
+    #[inline(always)]
     pub(super) fn puts<T, M: Memory<T>>(&mut self, memory: &mut M) -> Settled<T>
         requires { May M.can M.took M.shown memory.old (puts self.old) }
         ensures { Steps M.took M.shown memory.old (puts self.old) memory.new (self.new, result) }
@@ -102,6 +108,7 @@ impl Settle {
     }
 
     /// Reads the next entry of the list. After the countdown the entry may be gone.
+    #[inline(always)]
     pub(super) fn lists<T, M: Memory<T>>(&mut self, memory: &mut M) -> Settled<T>
         requires { May M.can M.took M.shown memory.old (lists self.old) }
         ensures { Steps M.took M.shown memory.old (lists self.old) memory.new (self.new, result) }
@@ -112,6 +119,7 @@ impl Settle {
     }
 
     /// Reads the batch of the list's first entry.
+    #[inline(always)]
     pub(super) fn owns<T, M: Memory<T>>(&mut self, memory: &mut M, next: u64) -> Settled<T>
         requires { May M.can M.took M.shown memory.old (owns self.old next) }
         ensures { Steps M.took M.shown memory.old (owns self.old next) memory.new (self.new, result) }
@@ -122,6 +130,7 @@ impl Settle {
     }
 
     /// Counts a batch down. Where that makes its counter 0 it is reclaimed.
+    #[inline(always)]
     pub(super) fn downs<T, M: Memory<T>>(
         &mut self,
         memory: &mut M,

@@ -9,6 +9,7 @@ use seize_words::{At, Link, Memory};
 impl Settle {
     /// Reads the head of a slot. Where more slots are active than the batch has entries the try is given up.
     /// Slots are taken in ascending order, so none was taken behind one that never was.
+    #[inline(always)]
     pub(super) fn scans<T, M: Memory<T>>(
         &mut self,
         memory: &mut M,
@@ -33,6 +34,7 @@ impl Settle {
     }
 
     /// Marks a block with an active slot.
+    #[inline(always)]
     pub(super) fn marks<T, M: Memory<T>>(
         &mut self,
         memory: &mut M,
@@ -49,6 +51,7 @@ impl Settle {
     }
 
     /// Goes on to the next block that can be marked, and the next slot.
+    #[inline(always)]
     pub(super) fn marked<T, M: Memory<T>>(
         &mut self,
         memory: &mut M,
@@ -65,6 +68,7 @@ impl Settle {
     }
 
     /// Closes the batch: each active slot has a mark.
+    #[inline(always)]
     pub(super) fn closes<T, M: Memory<T>>(&mut self, memory: &mut M, marks: u64) -> Settled<T>
         requires { May M.can M.took M.shown memory.old (closes self.old marks) }
         ensures { Steps M.took M.shown memory.old (closes self.old marks) memory.new (self.new, result) }
@@ -84,6 +88,7 @@ impl Settle {
     }
 
     /// Reads the slot that a block is marked with.
+    #[inline(always)]
     pub(super) fn reads<T, M: Memory<T>>(
         &mut self,
         memory: &mut M,
@@ -106,6 +111,7 @@ impl Settle {
     }
 
     /// Links a block to the head that it is to follow.
+    #[inline(always)]
     pub(super) fn links<T, M: Memory<T>>(
         &mut self,
         memory: &mut M,
@@ -130,6 +136,7 @@ impl Settle {
     }
 
     /// Pushes a block on a slot's list. A slot that is no longer active needs none.
+    #[inline(always)]
     pub(super) fn pushes<T, M: Memory<T>>(
         &mut self,
         memory: &mut M,
@@ -162,6 +169,7 @@ impl Settle {
     }
 
     /// Goes on to the next block that is to be pushed.
+    #[inline(always)]
     pub(super) fn pushed<T, M: Memory<T>>(
         &mut self,
         memory: &mut M,
@@ -182,6 +190,7 @@ impl Settle {
     }
 
     /// Adds the number of blocks pushed to the counter. Where that makes it 0 each slot has counted down, or none had to.
+    #[inline(always)]
     pub(super) fn sums<T, M: Memory<T>>(&mut self, memory: &mut M, pushed: u64) -> Settled<T>
         requires { May M.can M.took M.shown memory.old (sums self.old pushed) }
         ensures { Steps M.took M.shown memory.old (sums self.old pushed) memory.new (self.new, result) }
