@@ -91,6 +91,7 @@ impl<T> Plain<T> {
         Lent { memory: self }
     }
 
+    #[inline(always)]
     pub(crate) fn word(&self, at: At) -> u64
         requires { IsSome (word_at self.now at) }
         ensures { word_at self.now at ≡ Some result }
@@ -104,6 +105,7 @@ impl<T> Plain<T> {
         }
     }
 
+    #[inline(always)]
     pub(crate) fn value_of(&self, block: u64) -> &T
         requires { IsSome (value_at self.now block) }
         ensures { value_at self.now block ≡ Some result.now }
@@ -111,6 +113,7 @@ impl<T> Plain<T> {
         &self.blocks.block(block - 1).value
     }
 
+    #[inline(always)]
     fn set_word(&mut self, at: At, word: u64)
         requires { IsSome (word_at self.old at) }
         ensures { self.new ≡ with_word self.old at word }
@@ -141,38 +144,45 @@ impl<T> Look<T> for Plain<T> {
 
     ghost shown = { value_at };
 
+    #[inline(always)]
     fn load(&mut self, at: At) -> u64 {
         self.word(at)
     }
 
+    #[inline(always)]
     fn value(&self, block: u64) -> &T {
         self.value_of(block)
     }
 }
 
 impl<T> Memory<T> for Plain<T> {
+    #[inline(always)]
     fn store(&mut self, at: At, word: u64) {
         self.set_word(at, word);
     }
 
+    #[inline(always)]
     fn swap(&mut self, at: At, word: u64) -> u64 {
         let found = self.word(at);
         self.set_word(at, word);
         found
     }
 
+    #[inline(always)]
     fn add(&mut self, at: At, by: u64) -> u64 {
         let found = self.word(at);
         self.set_word(at, found.wrapping_add(by));
         found
     }
 
+    #[inline(always)]
     fn or(&mut self, at: At, bits: u64) -> u64 {
         let found = self.word(at);
         self.set_word(at, found | bits);
         found
     }
 
+    #[inline(always)]
     fn exchange(&mut self, at: At, old: u64, new: u64) -> Result<u64, u64> {
         let found = self.word(at);
         if found == old {
