@@ -131,6 +131,7 @@ pub struct Copier {
 
 impl Copier {
     /// Copies a chunk of the root, if a table follows it.
+    #[inline(always)]
     pub fn help(setting: Setting) -> Self
         ensures { result ≡ helping setting }
     {
@@ -154,6 +155,7 @@ impl Copier {
     }
 
     /// Copies a whole table into the one that follows it, until that one, or one behind it, is the root. It answers this one.
+    #[inline(always)]
     pub fn all(setting: Setting, source: Table, target: Table) -> Self
         ensures { result ≡ copying_all setting source target }
     {
