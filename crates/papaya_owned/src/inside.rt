@@ -40,6 +40,7 @@ fn has_ended<T: Drop>(told: Settled<T>) -> bool
 }
 
 /// Takes steps of the retirement of a pair, up to its end, or so many, and answers whether it has ended.
+#[inline(always)]
 fn retires<K: Eq + Hash + Drop, V: Drop, Q: Equivalent<K>, S: Hashes<K>>(
     settle: &mut Settle,
     memory: &mut Plain<Node<K, V>>,
@@ -71,6 +72,7 @@ fn takes_more<T, A>(told: &Outcome<T, A>) -> bool
 }
 
 /// Takes steps of a copying, up to its end, or so many, and answers what the last one tells.
+#[inline(always)]
 fn copies<K: Eq + Hash + Drop, V: Drop, Q: Equivalent<K>, S: Hashes<K>>(
     copier: &mut Copier,
     memory: &mut Plain<Node<K, V>>,
@@ -114,6 +116,7 @@ impl<K: Eq + Hash + Drop, V: Drop, Q: Equivalent<K>, S: Hashes<K>> OnKey<'_, K, 
     }
 
     /// Takes steps of its help with a resize.
+    #[inline(always)]
     pub(crate) fn helps(&mut self, memory: &mut Plain<Node<K, V>>) -> Progress<Stop>
         requires helping { (copier : Copier) × (goal : Table) × (self.old.call.stands ≡ at.Helps copier goal) }
         requires ends { Ends (on_key_plan Q.Equivalent.equivalent K.eq S.hash) self.old memory.old }
@@ -129,6 +132,7 @@ impl<K: Eq + Hash + Drop, V: Drop, Q: Equivalent<K>, S: Hashes<K>> OnKey<'_, K, 
     }
 
     /// Takes steps of the retirement of the pair that was there, where its disposal stands there.
+    #[inline(always)]
     pub(crate) fn disposes(
         &mut self,
         memory: &mut Plain<Node<K, V>>,

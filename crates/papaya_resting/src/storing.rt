@@ -68,6 +68,7 @@ fn put<K: Eq + Hash + Drop, V: Drop, S: Hashes<K>>(
 }
 
 /// Runs such a call to its end from where it stands.
+#[inline(always)]
 fn go_on<K: Eq + Hash + Drop, V: Drop, S: Hashes<K>>(
     memory: &mut Plain<Node<K, V>>,
     setting: Setting,
@@ -125,6 +126,7 @@ fn no_trial() -> Trial
 }
 
 /// Runs such a call to its end from this try on.
+#[inline(always)]
 fn from_try<K: Eq + Hash + Drop, V: Drop, S: Hashes<K>>(
     memory: &mut Plain<Node<K, V>>,
     setting: Setting,
@@ -153,6 +155,7 @@ fn from_try<K: Eq + Hash + Drop, V: Drop, S: Hashes<K>>(
 }
 
 /// Runs such a call to its end from the root on.
+#[inline(always)]
 fn from_root<K: Eq + Hash + Drop, V: Drop, S: Hashes<K>>(
     memory: &mut Plain<Node<K, V>>,
     setting: Setting,
