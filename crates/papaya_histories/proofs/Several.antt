@@ -38,7 +38,8 @@ use Rattle.papaya_histories.proofs.Changes.{changes_once}
 use Rattle.papaya_histories.proofs.Due.{change_by, goes_on, calls_keep_due}
 use Rattle.papaya_histories.proofs.Found.{map_alike}
 use Rattle.papaya_histories.proofs.Keys.{its_call}
-use Rattle.papaya_histories.proofs.Steady.{effects_stored, effects_after, Kinds, step_kinds}
+use Rattle.papaya_moments.proofs.After.{effects_after}
+use Rattle.papaya_histories.proofs.Steady.{effects_stored, Kinds, step_kinds}
 
 -- what a call has changed by a step it has changed since the beginning of the event, where nothing had changed before
 module _ {K V : Type 0} (same : K → K → Bool) (map : ℕ) (one : OneKey K V) (c d : CallThere K V) (m v : Moment K V) (same_call : IsSameCall c d) (on_map : c.map ≡ map)

@@ -1,5 +1,5 @@
 -- What a step of a call on one key changes of its class: nothing, or the call had changed nothing before and has now.
-use Rattle.std.specs.Prelude.{◌≡◌, ℕ, Bool, List, [], ◌∷◌, ◌++◌, flat_map, Option, Some, None, ◌⊎◌}
+use Rattle.std.specs.Prelude.{◌≡◌, ℕ, Bool, List, [], ◌∷◌, flat_map, Option, Some, None, ◌⊎◌}
 use Rattle.std.proofs.Common.{refl, ap, sym, ◌∙◌, inl, inr}
 use Rattle.papaya_tables.specs.Chunks.{is_incremental}
 use Rattle.papaya_tables.specs.declared.node.Node.{Node}
@@ -48,11 +48,6 @@ module _ {K V : Type 0} where
   effects_stored caller acted (f ∷ effects) m none =
       let two = none_of (shift_of f) (flat_map shift_of effects) none in
       effects_stored caller acted effects (with_effect caller acted f m) two.1 ∙ stored_kept (acting caller m) f m.stored two.0
-
-  -- effects after effects
-  pub effects_after : (caller : Option (List ℕ)) (acted : Option ℕ) (xs ys : List Effect) (m : Moment K V) → with_effects caller acted (xs ++ ys) m ≡ with_effects caller acted ys (with_effects caller acted xs m)
-  effects_after caller acted [] ys m = refl
-  effects_after caller acted (f ∷ xs) ys m = effects_after caller acted xs ys (with_effect caller acted f m)
 
 module _ {K V S : Type 0} (same : K → K → Bool) (hash : K → ℕ) (name : ℕ → List ℕ) (log : List (Entry K V)) (m : Moment K V) (known : Known) (s : Scene K V) (old new : Executor K V S)
     (at : IsAt same hash old s) (whole : ShowsWhole same name m known s) (dues : ShowsDue same name log m known s) (map i : ℕ) (z : CallOnKey K V K) (here : s.calls map i ≡ Some (OnKey z))

@@ -1,2 +1,4 @@
 pub mod Shown
 pub mod Calling
+pub mod OnSlots
+pub mod Ended

@@ -3,3 +3,4 @@
 
 pub mod calling;
 pub mod logged;
+pub mod on_slots;

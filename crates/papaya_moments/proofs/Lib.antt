@@ -1,3 +1,4 @@
+pub mod After
 pub mod Beside
 pub mod OnSlots
 pub mod Ends

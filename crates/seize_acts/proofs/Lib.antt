@@ -1,3 +1,4 @@
+pub mod Among
 pub mod Answers
 pub mod Begun
 pub mod Ends

@@ -166,6 +166,36 @@ module _ (T : Type 0) where
   defer_goes c (deferring.Pushes head) = push_goes c
   defer_goes c deferring.Over = tt
 
+-- a leaving row waits within its settling, and nowhere else
+module _ {T : Type 0} (defers : T → Option ℕ) (c d : Leave) (mem m : Mem T) where
+  abbrev pub WaitsWithin : Leaving → Type 0
+  WaitsWithin p = (settle s2 : Settle) × (p ≡ leaving.Settles settle) × Steps Took value_at mem (settle_plan defers settle) m (s2, settled.Waits) × (d ≡ leave.standing c (leaving.Settles s2))
+
+  no_wait : (e : Leave × Settled T) → e.1 ≡ settled.Waits → e.1 ≡ settled.Goes → ⊥
+  no_wait e a b = cc (a, b)
+
+  abbrev end : Leave × Settled T
+  end = (d, settled.Waits)
+
+  pub leave_waits : (p : Leaving) → Steps Took value_at mem (leave.plan_at defers c p) m (d, settled.Waits) → WaitsWithin p
+  leave_waits leaving.Swaps st = let k = swapped mem (leave.list_taken c) (Slot c.slot HEAD) c.becomes m (d, settled.Waits) st in absurd (one k.0 (nat_lt ACTIVE k.0) k.3)
+    where
+      one : (head : ℕ) (t : Bool)
+          → Ends (value_at (with_word mem (Slot c.slot HEAD) c.becomes)) (if t then Now (leave.standing c (leaving.Settles (counting_down c.slot c.batch_size head)), settled.Goes) else Now (leave.counted_down c, settled.Goes)) end → ⊥
+      one head true q = no_wait (d, settled.Waits) refl (ap (λ (z : Leave × Settled T). z.1) q)
+      one head false q = no_wait (d, settled.Waits) refl (ap (λ (z : Leave × Settled T). z.1) q)
+  leave_waits (leaving.Settles settle) st = let b = steps_back (leave.settled c) mem m (settle_plan defers settle) (d, settled.Waits) st in inner b.0.0 b.0.1 b.1 b.2
+    where
+      inner : (s2 : Settle) (o : Settled T) → Steps Took value_at mem (settle_plan defers settle) m (s2, o) → (d, settled.Waits) ≡ leave.settled c (s2, o) → WaitsWithin (leaving.Settles settle)
+      inner s2 settled.Goes st q = absurd (no_wait (d, settled.Waits) refl (ap (λ (z : Leave × Settled T). z.1) q))
+      inner s2 (settled.Gave value) st q = absurd (let z = ap (λ (z : Leave × Settled T). z.1) q in cc z)
+      inner s2 settled.Done st q = absurd (no_wait (d, settled.Waits) refl (ap (λ (z : Leave × Settled T). z.1) q))
+      inner s2 settled.Waits st q = (settle, s2, refl, st, ap (λ (z : Leave × Settled T). z.0) q)
+  leave_waits leaving.Frees st =
+      let k = stored {R = Leave × Settled T} mem (λ out. Now (leave.standing c leaving.Over, settled.Goes)) (Slot c.slot HEAD) FREE m (d, settled.Waits) st in
+      absurd (no_wait (d, settled.Waits) refl (ap (λ (z : Leave × Settled T). z.1) k.1))
+  leave_waits leaving.Over st = absurd (let z = ap (λ (z : Leave × Settled T). z.1) st.1 in cc z)
+
 module _ {T : Type 0} {size : ℕ} (defers : T → Option ℕ) (w : World T) (good : Good defers (LAST_SLOT + 1) size w) (held : HeldByRows w) where
   fits_at : (i : ℕ) (row : Row) → w.row i ≡ row → FitsRow (LAST_SLOT + 1) i (view defers w.memory) good.state good.extra (length w.memory.slots) row
   fits_at i row is = subst (λ (r : Row). FitsRow (LAST_SLOT + 1) i (view defers w.memory) good.state good.extra (length w.memory.slots) r) is (good.rows i)
@@ -232,40 +262,15 @@ module _ {T : Type 0} {size : ℕ} (defers : T → Option ℕ) (w : World T) (go
   row_waits i g (Settles c) is h =
       let k = settle_waits i c h.1 h.0 (fits_at i (Settles c) is) (was_stepped w.memory g (settle_plan defers c) (h.0, (h.1, settled.Waits)) h.2) in
       (c.slot, refl, another i c.slot k.0 (λ has. k.1 c.slot (sym (ap (has_batch c.slot) is) ∙ has)))
-  row_waits i g (Leaves c) is h = by c.stands refl (was_stepped w.memory g (leave_plan defers c) (h.0, (h.1, settled.Waits)) h.2)
-    where
-      end : Leave × Settled T
-      end = (h.1, settled.Waits)
-
-      no_wait : (e : Leave × Settled T) → e.1 ≡ settled.Waits → e.1 ≡ settled.Goes → ⊥
-      no_wait e a b = cc (a, b)
-
-      by : (p : Leaving) → c.stands ≡ p → Steps Took value_at w.memory (leave.plan_at defers c p) h.0 (h.1, settled.Waits) → Found' i (Leaves c)
-      by leaving.Swaps e st =
-          let d = swapped w.memory (leave.list_taken c) (Slot c.slot HEAD) c.becomes h.0 (h.1, settled.Waits) st in absurd (one d.0 (nat_lt ACTIVE d.0) d.3)
-        where
-          one : (head : ℕ) (t : Bool)
-              → Ends (value_at (with_word w.memory (Slot c.slot HEAD) c.becomes)) (if t then Now (leave.standing c (leaving.Settles (counting_down c.slot c.batch_size head)), settled.Goes) else Now (leave.counted_down c, settled.Goes)) end → ⊥
-          one head true q = no_wait (h.1, settled.Waits) refl (ap (λ (z : Leave × Settled T). z.1) q)
-          one head false q = no_wait (h.1, settled.Waits) refl (ap (λ (z : Leave × Settled T). z.1) q)
-      by (leaving.Settles settle) e st = let b = steps_back (leave.settled c) w.memory h.0 (settle_plan defers settle) (h.1, settled.Waits) st in inner b.0.0 b.0.1 b.1 b.2
-        where
-          inner : (d : Settle) (o : Settled T) → Steps Took value_at w.memory (settle_plan defers settle) h.0 (d, o) → (h.1, settled.Waits) ≡ leave.settled c (d, o) → Found' i (Leaves c)
-          inner d settled.Goes st q = absurd (no_wait (h.1, settled.Waits) refl (ap (λ (z : Leave × Settled T). z.1) q))
-          inner d (settled.Gave value) st q = absurd (let z = ap (λ (z : Leave × Settled T). z.1) q in cc z)
-          inner d settled.Done st q = absurd (no_wait (h.1, settled.Waits) refl (ap (λ (z : Leave × Settled T). z.1) q))
-          inner d settled.Waits st q =
-              let f = settles_in i c settle is e in
-              let k = settle_waits i settle d h.0 f.1 st in (
-                c.slot,
-                refl,
-                another i c.slot (subst (λ (t : ℕ). words_of w.memory (Slot t BATCH) ≡ HELD) f.0 k.0)
-                    (λ has. k.1 c.slot (sym (ap (leaving_has c.slot) e) ∙ sym (ap (has_batch c.slot) is) ∙ has)),
-              )
-      by leaving.Frees e st =
-          let d = stored {R = Leave × Settled T} w.memory (λ out. Now (leave.standing c leaving.Over, settled.Goes)) (Slot c.slot HEAD) FREE h.0 (h.1, settled.Waits) st in
-          absurd (no_wait (h.1, settled.Waits) refl (ap (λ (z : Leave × Settled T). z.1) d.1))
-      by leaving.Over e st = absurd (let z = ap (λ (z : Leave × Settled T). z.1) st.1 in cc z)
+  row_waits i g (Leaves c) is h =
+      let l = leave_waits defers c h.1 w.memory h.0 c.stands (was_stepped w.memory g (leave_plan defers c) (h.0, (h.1, settled.Waits)) h.2) in
+      let f = settles_in i c l.0 is l.2 in
+      let k = settle_waits i l.0 l.1 h.0 f.1 l.3 in (
+        c.slot,
+        refl,
+        another i c.slot (subst (λ (t : ℕ). words_of w.memory (Slot t BATCH) ≡ HELD) f.0 k.0)
+            (λ has. k.1 c.slot (sym (ap (leaving_has c.slot) l.2) ∙ sym (ap (has_batch c.slot) is) ∙ has)),
+      )
   row_waits i g (Defers s c) is h =
       absurd (plan_outcome NoWait w.memory h.0 (defer.defer_plan c) (h.1, progress.Waits) (defer_goes T c c.stands) (was_stepped w.memory g (defer.defer_plan c) (h.0, (h.1, progress.Waits)) h.2))
   row_waits i g (Frees c) is h =

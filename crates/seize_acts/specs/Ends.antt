@@ -1,6 +1,6 @@
 -- When a row comes to its end.
 use Rattle.std.specs.Prelude.{◌≡◌, ℕ, zero, suc, List, Option, Some, ◌⊎◌}
-use Rattle.seize.specs.World.{World, Rests, at_start}
+use Rattle.seize.specs.World.{World, Rests, Event, Runs, Steps', at_start}
 use Rattle.seize_acts.specs.Answers.{Grant}
 use Rattle.seize_acts.specs.Acts.{Act, Step, AllDid, became}
 
@@ -19,3 +19,14 @@ module _ {T : Type 0} (defers : T → Option ℕ) where
   LoneRowsEnd =
       (batch_size roots i : ℕ) (acts : List (Act T)) (w : World T) → AllDid defers batch_size acts (at_start defers roots) w
       → ((j : ℕ) → (j ≡ i → ⊥) → w.row j ≡ Rests) → (steps : ℕ) × RestsWithin batch_size steps i w
+
+  -- While nobody else steps, the row of this caller rests after so many steps, unless one of them waits: it leaves the row and the memory as they were.
+  abbrev pub RestsOrWaitsWithin : ℕ → ℕ → World T → Type 0
+  RestsOrWaitsWithin zero i w = w.row i ≡ Rests
+  RestsOrWaitsWithin (suc steps) i w =
+      (n : World T) → Steps' defers i (w.row i) w n → ((n.row i ≡ w.row i) × (n.memory ≡ w.memory)) ⊎ RestsOrWaitsWithin steps i n
+
+  -- so does each row that is under way, whatever rows others have stopped in the midst of
+  abbrev pub RowsRestOrWait : Type 0
+  RowsRestOrWait =
+      (batch_size roots i : ℕ) (events : List (Event T)) (w : World T) → Runs defers batch_size events (at_start defers roots) w → (steps : ℕ) × RestsOrWaitsWithin steps i w

@@ -1,5 +1,6 @@
--- A settling row that runs alone has less left with each step.
+-- A settling row has less left with each step, unless it waits.
 pub mod Alone
+pub mod Among
 mod Deferred
 pub mod Measure
 pub mod Most

@@ -1,79 +1,56 @@
--- A settling row that runs alone, step by step: what it relies on is there again, and less is left.
+-- A settling row that runs alone never waits.
 use Rattle.std.specs.Prelude.{Option}
-use Rattle.std.proofs.Common.{◌≡◌, ℕ, ◌+◌, ◌<◌, Bool, true, false, length, refl, arith, ap, sym, subst, ◌∙◌}
+use Rattle.std.proofs.Common.{◌≡◌, ℕ, ◌+◌, true, false, refl, subst}
 use Rattle.seize_words.specs.Mem.{Mem, Can, Took, value_at}
 use Rattle.seize_words.specs.Plan.{Steps, May}
 use Rattle.seize.specs.declared.states.TheConstants.{LAST_SLOT}
 use Rattle.seize.specs.declared.rows.settle.Settle.{Settle}
 use Rattle.seize.specs.declared.rows.settle.Settling.{Settling}
 use Rattle.seize.specs.declared.rows.settle.Settled.{Settled}
+use Rattle.seize.specs.declared.rows.settle.Settled.TheVariants.{Goes, Waits, Gave, Done}
 use Rattle.seize.specs.Settle.{plan_at, settle_plan}
-use Rattle.seize_moves.proofs.State.Ghost.{State, is_never}
-use Rattle.seize_moves.proofs.State.Rule.{Inv}
+use Rattle.seize_moves.proofs.State.Ghost.{State}
 use Rattle.seize_rule.proofs.Words.View.{view}
-use Rattle.seize_rule.proofs.Words.Shows.{Extra, Shows}
-use Rattle.seize_rule.proofs.Points.Stepped.{HasWords, IsGoing}
-use Rattle.seize_rule.proofs.Points.Known.{Fits}
-use Rattle.seize_rule.proofs.Words.There.{Stocked}
-use Rattle.seize_rule.proofs.Words.Room.{HasRoom, room_heads}
-use Rattle.seize_rule.proofs.Words.Kept.{plan_lasts, settle_quiet}
-use Rattle.seize_rule.proofs.Points.May.{may_at}
-use Rattle.seize_rule.proofs.Points.Settle.{is_over, settle_steps}
-use Rattle.seize_rule.proofs.Rows.Settled.{never_emptied}
-use Rattle.seize_ends.proofs.Settling.Measure.{ends}
-use Rattle.seize_ends.proofs.Settling.Moves.{Below}
-use Rattle.seize_ends.proofs.Settling.Steps.{settle_ends}
-use Rattle.seize_ends.proofs.Batches.Free.{plan_long, live_below}
-use Rattle.seize_ends.proofs.Batches.Held.{HoldsAlone, holds_alone}
+use Rattle.seize_rule.proofs.Words.Shows.{Extra}
+use Rattle.seize_rule.proofs.Points.Known.{FitsAt, bare}
+use Rattle.seize_rule.proofs.Points.Settle.{is_over}
+use Rattle.seize_ends.proofs.Settling.Among.{Among, AfterStep, may_step, among_on}
+use Rattle.seize_ends.proofs.Settling.Most.{Lowers, is_going}
+use Rattle.seize_ends.proofs.Batches.Held.{GoesOn, HoldsAlone, holds_alone, waits_held}
 
 -- what a settling row relies on in a memory, and nobody else holds a batch
 pub record Alone {T : Type 0} (defers : T → Option ℕ) (n bound i : ℕ) (mem : Mem T) (m : State) (x : Extra) (c : Settle) : Type 0 where
-  pub inv : Inv n m
-  pub shows : Shows n (view defers mem) m x
-  pub fits : Fits n i (view defers mem) m x c
-  pub room : HasRoom n m.head mem
-  pub stocked : Stocked defers mem
+  pub among : Among defers n bound i mem m x c
   pub alone : HoldsAlone (view defers mem) c
-  pub bounded : bound ≡ length mem.blocks + 1  -- above the blocks that live
 
 module _ {T : Type 0} (defers : T → Option ℕ) (n bound i : ℕ) (last : n ≡ LAST_SLOT + 1) (mem : Mem T) (m : State) (x : Extra) (c : Settle) (r : Alone defers n bound i mem m x c) where
-  words : HasWords defers n mem m.head
-  words = record {
-    entries = λ b k l live. r.stocked.entries b k live l;
-    lists = r.stocked.lists;
-    slots = λ t k l h. r.room.bucketed.there t k (r.room.enough t t h (omega arith) (taken t h)) l;
-    behind = λ t k l h lt. r.room.bucketed.there (t + 1) k (r.room.enough t (t + 1) h (omega arith) lt) l;
-  }
+  -- it sees no batch that is held
+  goes_further : (mem2 : Mem T) (d : Settle) (o : Settled T) → Steps Took value_at mem (settle_plan defers c) mem2 (d, o) → GoesOn o
+  goes_further mem2 d Goes st = tt
+  goes_further mem2 d Waits st =
+      let k = waits_held defers mem mem2 c d c.stands st in
+      not_held (subst (λ (p : Settling). FitsAt n i (view defers mem) m x (bare c) p) k.1 r.among.fits).retiring.holds (r.alone c.slot k.0).1
     where
-      taken : (t : ℕ) → is_never (m.head t) ≡ false → t < n
-      taken t h = grind (arith, r.inv.slots.outside t)
+      not_held : c.held ≡ false → c.held ≡ true → ⊥
+      not_held a b = cc (a, b)
+  goes_further mem2 d (Gave value) st = tt
+  goes_further mem2 d Done st = tt
 
-  pub may_step : May Can Took value_at mem (settle_plan defers c)
-  may_step = may_at defers n i mem m x c r.inv r.shows words c.stands r.fits
-
-  pub below_lives : Below bound m.life
-  below_lives b h = subst (λ (k : ℕ). b < k) (sym r.bounded) (live_below mem b (r.shows.lists.lived b ∙ h))
-
+  -- after a step that is not its last
   pub alone_on : (mem2 : Mem T) (end : Settle × Settled T) → is_over c.stands ≡ false → Steps Took value_at mem (settle_plan defers c) mem2 end
-      → (m2 : State) × (x2 : Extra) × Alone defers n bound i mem2 m2 x2 end.0 × (ends n bound i m2 (view defers mem2) end.0 < ends n bound i m (view defers mem) c) × IsGoing end.1
+      → (after : AfterStep defers n bound i last mem m x c r.among mem2 end) × Alone defers n bound i mem2 after.m2 after.x2 end.0
   alone_on mem2 end o st =
-      let w = settle_steps defers n i mem mem2 m x c end last words r.inv r.shows c.stands refl o r.fits st in
-      let lasts = plan_lasts defers n m.head mem r.stocked r.room (settle_plan defers c) mem2 end (settle_quiet defers c c.stands) may_step st in
-      let may : (p : Settling) → c.stands ≡ p → May Can Took value_at mem (plan_at defers c p) = (λ p e. subst (λ (q : Settling). May Can Took value_at mem (plan_at defers c q)) e may_step) in (
-        w.0.m2,
-        w.0.x2,
-        record {
-          inv = w.0.moved.inv;
-          shows = w.0.written.shows;
-          fits = w.0.fits;
-          room = room_heads n m.head w.0.m2.head mem2 (λ u e. never_emptied (w.0.m2.head u) (m.head u) (w.0.aside.heads u) e) lasts.1;
-          stocked = lasts.0.stocked;
-          alone = holds_alone defers n i mem mem2 m x c end may r.alone w.0.slot_is c.stands refl r.fits st;
-          bounded = r.bounded ∙ ap (λ k. k + 1) (sym (plan_long mem (settle_plan defers c) mem2 end (settle_quiet defers c c.stands) st));
-        },
-        settle_ends defers n bound i mem mem2 m x c end r.inv r.shows below_lives (λ e k. not_free c.held e (r.alone c.slot k).1) w o r.fits st,
-        w.1,
+      let after = among_on defers n bound i last mem m x c r.among mem2 end o (goes_further mem2 end.0 end.1 st) st in
+      let may : (p : Settling) → c.stands ≡ p → May Can Took value_at mem (plan_at defers c p) =
+      (λ p e. subst (λ (q : Settling). May Can Took value_at mem (plan_at defers c q)) e (may_step defers n bound i last mem m x c r.among)) in (
+        after,
+        record { among = after.among; alone = holds_alone defers n i mem mem2 m x c end may r.alone after.slot_is c.stands refl r.among.fits st },
       )
-    where
-      not_free : (t : Bool) → t ≡ false → t ≡ true → ⊥
-      not_free t a b = cc (a, b)
+
+-- so it lasts, whatever its steps say that are not its last
+pub alone_lowers : {T : Type 0} (defers : T → Option ℕ) (n i : ℕ) → n ≡ LAST_SLOT + 1 → Lowers defers n i is_going (λ bound. Alone defers n bound i)
+alone_lowers defers n i last = record {
+  stops = refl;
+  among = λ bound mem m x c r. r.among;
+  on = λ bound mem m x c r mem2 end o st going. (let h = alone_on defers n bound i last mem m x c r mem2 end o st in (h.0.m2, h.0.x2, h.1, h.0.less));
+}

@@ -1,4 +1,4 @@
--- A settling row that runs alone takes no more steps than a number of its memory and its machine, and each step lowers how many it still takes.
+-- A settling row takes no more steps, until it ends or waits, than a number of its memory and its machine, and each step lowers how many it still takes.
 use Rattle.std.specs.Prelude.{Option, ◌/◌}
 use Rattle.std.proofs.Common.{◌≡◌, ℕ, zero, suc, ◌+◌, ◌*◌, ◌<◌, ◌≤◌, Bool, true, false, cond, eqb, List, [], ◌∷◌, length, refl, arith, ap, subst}
 use Rattle.seize_words.specs.Mem.{Mem, Took, value_at}
@@ -21,7 +21,8 @@ use Rattle.seize_rule.proofs.Points.Settle.{is_over}
 use Rattle.seize_ends.proofs.Settling.Measure.{weight, sum_of, behind_of, point, ahead_of, ends, sum_le, sum_count}
 use Rattle.seize_ends.proofs.Settling.Moves.{Below}
 use Rattle.seize_ends.proofs.Settling.Deferred.{blocks_long}
-use Rattle.seize_ends.proofs.Settling.Alone.{Alone, below_lives, alone_on}
+use Rattle.seize_ends.proofs.Settling.Among.{Among, among_on, below_lives}
+use Rattle.seize_ends.proofs.Batches.Held.{GoesOn}
 use Rattle.seize_ends.proofs.Rows.Run.{EndsWithin, to_go, to_go_falls}
 
 -- lists of different numbers below a number
@@ -169,12 +170,46 @@ is_going Waits = true
 is_going (Gave value) = true
 is_going Done = false
 
+-- and does not wait
+abbrev pub goes_further : {T : Type 0} → Settled T → Bool
+goes_further Goes = true
+goes_further Waits = false
+goes_further (Gave value) = true
+goes_further Done = false
+
+-- how many steps a settling row takes, as long as its steps say so
+abbrev pub settle_steps_left : {T : Type 0} → (T → Option ℕ) → (Settled T → Bool) → Mem T → Settle → ℕ
+settle_steps_left defers goes mem c = to_go (settle_plan defers) goes (suc (most (LAST_SLOT + 1) (length mem.blocks + 1) c)) mem c
+
 -- How many steps a settling row takes that runs alone.
 abbrev pub settle_to_go : {T : Type 0} → (T → Option ℕ) → Mem T → Settle → ℕ
-settle_to_go defers mem c = to_go (settle_plan defers) is_going (suc (most (LAST_SLOT + 1) (length mem.blocks + 1) c)) mem c
+settle_to_go defers mem c = settle_steps_left defers is_going mem c
+
+-- What a settling row relies on lasts while its steps say that it goes on, and each of them lowers what is left.
+pub record Lowers {T : Type 0} (defers : T → Option ℕ) (n i : ℕ) (goes : Settled T → Bool) (Known : ℕ → Mem T → State → Extra → Settle → Type 0) : Type 0 where
+  pub stops : goes Done ≡ false
+  pub among : (bound : ℕ) (mem : Mem T) (m : State) (x : Extra) (c : Settle) → Known bound mem m x c → Among defers n bound i mem m x c
+  pub on : (bound : ℕ) (mem : Mem T) (m : State) (x : Extra) (c : Settle) → Known bound mem m x c
+      → (mem2 : Mem T) (end : Settle × Settled T) → is_over c.stands ≡ false → Steps Took value_at mem (settle_plan defers c) mem2 end → goes end.1 ≡ true
+      → (m2 : State) × (x2 : Extra) × Known bound mem2 m2 x2 end.0 × (ends n bound i m2 (view defers mem2) end.0 < ends n bound i m (view defers mem) c)
+
+further_on : {T : Type 0} (o : Settled T) → goes_further o ≡ true → GoesOn o
+further_on Goes e = tt
+further_on Waits e = absurd (cc e)
+further_on (Gave value) e = tt
+further_on Done e = absurd (cc e)
+
+-- so it is, whatever rows others have under way, while it does not wait
+pub among_lowers : {T : Type 0} (defers : T → Option ℕ) (n i : ℕ) → n ≡ LAST_SLOT + 1 → Lowers defers n i goes_further (λ bound. Among defers n bound i)
+among_lowers defers n i last = record {
+  stops = refl;
+  among = λ bound mem m x c r. r;
+  on = λ bound mem m x c r mem2 end o st going.
+      (let h = among_on defers n bound i last mem m x c r mem2 end o (further_on end.1 going) st in (h.m2, h.x2, h.among, h.less));
+}
 
 module _ {T : Type 0} (defers : T → Option ℕ) (n bound i : ℕ) (last : n ≡ LAST_SLOT + 1) where
-  pub ends_most : (mem : Mem T) (m : State) (x : Extra) (c : Settle) (r : Alone defers n bound i mem m x c) → ends n bound i m (view defers mem) c ≤ most n bound c
+  pub ends_most : (mem : Mem T) (m : State) (x : Extra) (c : Settle) (r : Among defers n bound i mem m x c) → ends n bound i m (view defers mem) c ≤ most n bound c
   ends_most mem m x c r =
       let below = below_lives defers n bound i last mem m x c r in
       let a = sum_le (λ b. 10 * n + 16) (λ b. weight n (m.life b)) bound (λ b. weight_le n (m.life b)) in
@@ -186,46 +221,52 @@ module _ {T : Type 0} (defers : T → Option ℕ) (n bound i : ℕ) (last : n �
       all : (s l h p q : ℕ) → s ≤ bound * (10 * n + 16) → l ≤ bound → p ≤ q → s + 6 * l + (h + p) ≤ bound * (10 * n + 22) + (h + q)
       all s l h p q a b z = omega (arith, a, b, z)
 
+module _ {T : Type 0} (defers : T → Option ℕ) (goes : Settled T → Bool) (stops : goes Done ≡ false) where
   -- its last step ends it
-  pub not_over : (mem mem2 : Mem T) (c : Settle) (end : Settle × Settled T) → Steps Took value_at mem (settle_plan defers c) mem2 end → is_going end.1 ≡ true → is_over c.stands ≡ false
+  pub not_over : (mem mem2 : Mem T) (c : Settle) (end : Settle × Settled T) → Steps Took value_at mem (settle_plan defers c) mem2 end → goes end.1 ≡ true → is_over c.stands ≡ false
   not_over mem mem2 c end st going = one (is_over c.stands) refl
     where
       over_is : (p : Settling) → is_over p ≡ true → p ≡ at.Over
       over_is p e = grind arith
 
       done : (mem2 ≡ mem) × (end ≡ (c, Done)) → ⊥
-      done h = let a = ap (λ (q : Settle × Settled T). is_going q.1) h.1 in cc (a, going)
+      done h = let a = ap (λ (q : Settle × Settled T). goes q.1) h.1 in cc (a, stops, going)
 
       one : (t : Bool) → is_over c.stands ≡ t → t ≡ false
       one true e = absurd (done (subst (λ (p : Settling). Steps Took value_at mem (plan_at defers c p) mem2 end) (over_is c.stands e) st))
       one false e = refl
 
+module _ {T : Type 0} (defers : T → Option ℕ) (n i : ℕ) (last : n ≡ LAST_SLOT + 1) (goes : Settled T → Bool) (Known : ℕ → Mem T → State → Extra → Settle → Type 0)
+    (lowers : Lowers defers n i goes Known) where
   -- it goes on for no more steps than its number says
-  pub ends_within : (k : ℕ) (mem : Mem T) (m : State) (x : Extra) (c : Settle) → Alone defers n bound i mem m x c → ends n bound i m (view defers mem) c ≤ k
-      → EndsWithin (settle_plan defers) is_going (suc k) mem c
-  ends_within zero mem m x c r le mem2 end st going =
-      let h = alone_on defers n bound i last mem m x c r mem2 end (not_over mem mem2 c end st going) st in
+  pub ends_within : (k bound : ℕ) (mem : Mem T) (m : State) (x : Extra) (c : Settle) → Known bound mem m x c → ends n bound i m (view defers mem) c ≤ k
+      → EndsWithin (settle_plan defers) goes (suc k) mem c
+  ends_within zero bound mem m x c r le mem2 end st going =
+      let h = lowers.on bound mem m x c r mem2 end (not_over defers goes lowers.stops mem mem2 c end st going) st going in
       absurd (let a = h.3 in omega (arith, a, le))
-  ends_within (suc k) mem m x c r le mem2 end st going =
-      let h = alone_on defers n bound i last mem m x c r mem2 end (not_over mem mem2 c end st going) st in
-      ends_within k mem2 h.0 h.1 end.0 h.2 (let a = h.3 in omega (arith, a, le))
+  ends_within (suc k) bound mem m x c r le mem2 end st going =
+      let h = lowers.on bound mem m x c r mem2 end (not_over defers goes lowers.stops mem mem2 c end st going) st going in
+      ends_within k bound mem2 h.0 h.1 end.0 h.2 (let a = h.3 in omega (arith, a, le))
 
-module _ {T : Type 0} (defers : T → Option ℕ) (bound i : ℕ) (mem mem2 : Mem T) (m : State) (x : Extra) (c : Settle) (end : Settle × Settled T) where
+module _ {T : Type 0} (defers : T → Option ℕ) (i : ℕ) (goes : Settled T → Bool) (Known : ℕ → Mem T → State → Extra → Settle → Type 0)
+    (lowers : Lowers defers (LAST_SLOT + 1) i goes Known) (bound : ℕ) (mem mem2 : Mem T) (m : State) (x : Extra) (c : Settle) (end : Settle × Settled T) where
   -- each step after which it goes on lowers how many it still takes
-  pub settle_falls : Alone defers (LAST_SLOT + 1) bound i mem m x c → Steps Took value_at mem (settle_plan defers c) mem2 end → is_going end.1 ≡ true
-      → settle_to_go defers mem2 end.0 < settle_to_go defers mem c
+  pub settle_falls : Known bound mem m x c → Steps Took value_at mem (settle_plan defers c) mem2 end → goes end.1 ≡ true
+      → settle_steps_left defers goes mem2 end.0 < settle_steps_left defers goes mem c
   settle_falls r st going =
       let n = LAST_SLOT + 1 in
-      let h = alone_on defers n bound i refl mem m x c r mem2 end (not_over defers n bound i refl mem mem2 c end st going) st in
+      let h = lowers.on bound mem m x c r mem2 end (not_over defers goes lowers.stops mem mem2 c end st going) st going in
       let r2 = h.2 in
-      let a = ends_most defers n bound i refl mem m x c r in
-      let b = ends_most defers n bound i refl mem2 h.0 h.1 end.0 r2 in
-      let most1 : most n bound c ≡ most n (length mem.blocks + 1) c = ap (λ k. most n k c) r.bounded in
-      let most2 : most n bound end.0 ≡ most n (length mem2.blocks + 1) end.0 = ap (λ k. most n k end.0) r2.bounded in
-      to_go_falls (settle_plan defers) is_going (suc (ends n bound i m (view defers mem) c)) (suc (most n (length mem.blocks + 1) c))
+      let among = lowers.among bound mem m x c r in
+      let among2 = lowers.among bound mem2 h.0 h.1 end.0 r2 in
+      let a = ends_most defers n bound i refl mem m x c among in
+      let b = ends_most defers n bound i refl mem2 h.0 h.1 end.0 among2 in
+      let most1 : most n bound c ≡ most n (length mem.blocks + 1) c = ap (λ k. most n k c) among.bounded in
+      let most2 : most n bound end.0 ≡ most n (length mem2.blocks + 1) end.0 = ap (λ k. most n k end.0) among2.bounded in
+      to_go_falls (settle_plan defers) goes (suc (ends n bound i m (view defers mem) c)) (suc (most n (length mem.blocks + 1) c))
       (suc (ends n bound i h.0 (view defers mem2) end.0)) (suc (most n (length mem2.blocks + 1) end.0)) mem mem2 c end (settle_quiet defers c c.stands)
-      (ends_within defers n bound i refl (ends n bound i m (view defers mem) c) mem m x c r (omega arith)) (up _ _ _ a most1)
-      (ends_within defers n bound i refl (ends n bound i h.0 (view defers mem2) end.0) mem2 h.0 h.1 end.0 r2 (omega arith)) (up _ _ _ b most2) st going
+      (ends_within defers n i refl goes Known lowers (ends n bound i m (view defers mem) c) bound mem m x c r (omega arith)) (up _ _ _ a most1)
+      (ends_within defers n i refl goes Known lowers (ends n bound i h.0 (view defers mem2) end.0) bound mem2 h.0 h.1 end.0 r2 (omega arith)) (up _ _ _ b most2) st going
     where
       up : (a b d : ℕ) → a ≤ b → b ≡ d → suc a ≤ suc d
       up a b d l e = omega (arith, l, e)

@@ -19,6 +19,7 @@ use Rattle.seize_rule.proofs.Words.Named.{words_of, word_found}
 use Rattle.seize_rule.proofs.Words.View.{View, view}
 use Rattle.seize_rule.proofs.Words.Shows.{Extra}
 use Rattle.seize_rule.proofs.Points.Known.{Holds, Pops, bare}
+use Rattle.seize_ends.proofs.Batches.Held.{GoesOn}
 use Rattle.seize_ends.proofs.Settling.Measure.{point, ahead_of, here, onward_here}
 
 abbrev pick : Bool → ℕ → ℕ → ℕ
@@ -63,15 +64,15 @@ module _ {T : Type 0} (defers : T → Option ℕ) (n i : ℕ) (mem mem2 : Mem T)
 
   -- the batch is held
 
-  pub sees_falls : ((view defers mem).batches c.slot ≡ 1 → ⊥) → Steps Took value_at mem (plans.sees c) mem2 end → after < before at.Sees
-  sees_falls free st =
+  pub sees_falls : GoesOn end.1 → Steps Took value_at mem (plans.sees c) mem2 end → after < before at.Sees
+  sees_falls further st =
       let d = loaded mem (plans.seen c) (Slot c.slot BATCH) mem2 end st in
       let word : (view defers mem).batches c.slot ≡ d.0 = word_found mem (Slot c.slot BATCH) d.0 d.1 in
       one d.0 (d.0 == HELD) refl word d.2 d.3
     where
       one : (w : ℕ) (t : Bool) → (w == HELD) ≡ t → (view defers mem).batches c.slot ≡ w → mem2 ≡ mem
           → Ends (value_at mem) (if t then Now (c, Waits) else Now (record c { last = w; stands = at.Holds }, Goes)) end → after < before at.Sees
-      one w true q word same e = absurd (free (word ∙ eqb-true w HELD q))
+      one w true q word same e = absurd (subst (λ (o : Settled T). GoesOn o) (ap (λ (r : Settle × Settled T). r.1) e) further)
       one w false q word same e =
           let k = pick_same ((view defers mem2).batches c.slot) w 2 4 (ap (λ (q : Mem T). (view defers q).batches c.slot) same ∙ word) in
           to (before at.Sees) (record c { last = w; stands = at.Holds }) Goes e (omega (arith, k))

@@ -1,9 +1,8 @@
--- Every step of a settling row that runs alone, save its last, lowers what is left of its work.
+-- Every step of a settling row, save its last, lowers what is left of its work, unless it waits.
 use Rattle.std.specs.Prelude.{◌/◌, Option}
 use Rattle.std.proofs.Common.{◌≡◌, ℕ, ◌+◌, ◌<◌, ◌++◌, false, arith}
 use Rattle.seize_words.specs.Mem.{Mem, Took, value_at}
 use Rattle.seize_words.specs.Plan.{Steps}
-use Rattle.seize.specs.declared.states.TheConstants.{HELD}
 use Rattle.seize.specs.declared.rows.settle.Settle.{Settle}
 use Rattle.seize.specs.declared.rows.settle.Settling.{Settling}
 use Rattle.seize.specs.declared.rows.settle.Settling.TheVariants as at
@@ -18,13 +17,14 @@ use Rattle.seize_rule.proofs.Points.Told.{part, part_at, Told}
 use Rattle.seize_rule.proofs.Points.Stepped.{Went}
 use Rattle.seize_rule.proofs.Points.Known.{FitsAt, Fits, bare}
 use Rattle.seize_rule.proofs.Points.Settle.{is_over}
+use Rattle.seize_ends.proofs.Batches.Held.{GoesOn}
 use Rattle.seize_ends.proofs.Settling.Measure.{weighs, here, ends}
 use Rattle.seize_ends.proofs.Settling.Moves.{Below, not_more, retired_less, taken_less}
 use Rattle.seize_ends.proofs.Settling.Points.{at_point, sees_falls, holds_falls, pops_falls, firsts_falls, batches_falls, ends_falls, appends_falls, counts_falls, scans_falls, marks_falls, marked_falls, closes_falls, reads_falls, links_falls, pushes_falls, pushed_falls, sums_falls, nexts_falls, takes_falls, puts_falls, lists_falls, owns_falls, gives_falls}
 use Rattle.seize_ends.proofs.Settling.Deferred.{drains_ends, joins_ends, tails_ends, downs_ends}
 
 module _ {T : Type 0} (defers : T → Option ℕ) (n bound i : ℕ) (mem mem2 : Mem T) (m : State) (x : Extra) (c : Settle) (end : Settle × Settled T)
-    (inv : Inv n m) (v : Shows n (view defers mem) m x) (below : Below bound m.life) (free : c.held ≡ false → (view defers mem).batches c.slot ≡ HELD → ⊥)
+    (inv : Inv n m) (v : Shows n (view defers mem) m x) (below : Below bound m.life) (further : GoesOn end.1)
     (m2 : State) (x2 : Extra) (v2 : Shows n (view defers mem2) m2 x2) (fits2 : Fits n i (view defers mem2) m2 x2 end.0) where
   abbrev Falls : Settling → Type 0
   Falls p = weighs n bound i m2 + here n (view defers mem2) (m2.puts i) end.0 < weighs n bound i m + at_point n (view defers mem) (m.puts i) c p
@@ -35,7 +35,7 @@ module _ {T : Type 0} (defers : T → Option ℕ) (n bound i : ℕ) (mem mem2 : 
 
   falls_at : (p : Settling) → is_over p ≡ false → FitsAt n i (view defers mem) m x (bare c) p → Told n i c (part_at c.flushing p) m end.0 m2 → m2.log ≡ settle_effects c p ++ m.log
       → Steps Took value_at mem (plan_at defers c p) mem2 end → Falls p
-  falls_at at.Sees o r told log st = by_point at.Sees told (sees_falls defers n i mem mem2 m x c end (m.puts i) (m2.puts i) (free r.retiring.holds) st)
+  falls_at at.Sees o r told log st = by_point at.Sees told (sees_falls defers n i mem mem2 m x c end (m.puts i) (m2.puts i) further st)
   falls_at at.Holds o r told log st = by_point at.Holds told (holds_falls defers n i mem mem2 m x c end (m.puts i) (m2.puts i) r st)
   falls_at at.Pops o r told log st = by_point at.Pops told (pops_falls defers n i mem mem2 m x c end (m.puts i) (m2.puts i) r st)
   falls_at (at.Firsts block) o r told log st = by_point (at.Firsts block) told (firsts_falls defers n i mem mem2 m x c end (m.puts i) (m2.puts i) block st)
@@ -79,9 +79,9 @@ module _ {T : Type 0} (defers : T → Option ℕ) (n bound i : ℕ) (mem mem2 : 
   falls_at at.Over o r told log st = absurd (cc o)
 
 module _ {T : Type 0} (defers : T → Option ℕ) (n bound i : ℕ) (mem mem2 : Mem T) (m : State) (x : Extra) (c : Settle) (end : Settle × Settled T)
-    (inv : Inv n m) (v : Shows n (view defers mem) m x) (below : Below bound m.life) (free : c.held ≡ false → (view defers mem).batches c.slot ≡ HELD → ⊥) where
+    (inv : Inv n m) (v : Shows n (view defers mem) m x) (below : Below bound m.life) (further : GoesOn end.1) where
   -- a step that went as its point says
   pub settle_ends : (w : Went defers n i c (part c) mem m x (settle_effects c c.stands) mem2 end) → is_over c.stands ≡ false → Fits n i (view defers mem) m x c
       → Steps Took value_at mem (settle_plan defers c) mem2 end → ends n bound i w.0.m2 (view defers mem2) end.0 < ends n bound i m (view defers mem) c
   settle_ends w o r st =
-      falls_at defers n bound i mem mem2 m x c end inv v below free w.0.m2 w.0.x2 w.0.written.shows w.0.fits c.stands o r w.0.told w.0.logged st
+      falls_at defers n bound i mem mem2 m x c end inv v below further w.0.m2 w.0.x2 w.0.written.shows w.0.fits c.stands o r w.0.told w.0.logged st

@@ -1,0 +1,70 @@
+-- The beginning of a row on a slot is written down, and a step of it.
+use Rattle.std.specs.Prelude.{◌≡◌, ℕ, Bool, List, ◌++◌, None}
+use Rattle.std.proofs.Common.{subst, sym}
+use Rattle.seize.specs.World.{Event, Begin, Step}
+use Rattle.papaya_tables.specs.declared.node.Node.{Node}
+use Rattle.papaya_schedules.specs.declared.effect.Effect.{Effect}
+use Rattle.papaya_schedules.specs.Effects.{with_effects}
+use Rattle.papaya_schedules.specs.Moment.{Moment}
+use Rattle.papaya_effects.specs.Effects.{effects_of, known_after}
+use Rattle.papaya_effects.specs.Known.{Known, known}
+use Rattle.papaya_effects.specs.declared.notes.Notes.{Notes}
+use Rattle.papaya_effects.specs.declared.acting.Acting.TheVariants as acts
+use Rattle.papaya_executor.specs.IsAt.{Scene, IsAt, slot_of}
+use Rattle.papaya_executor.specs.OnSlots.{RowBegins, RowLeads}
+use Rattle.papaya_executor.specs.Rows.{request_of}
+use Rattle.papaya_executor.specs.declared.executor.Executor.{Executor}
+use Rattle.papaya_executor.specs.declared.row.RowTold.{RowTold}
+use Rattle.papaya_executor.specs.declared.row.SlotCall.{SlotCall}
+use Rattle.papaya_others.specs.Rows.{scene_then}
+use Rattle.papaya_moments.proofs.OnSlots.{rows_begin_whole, rows_keep_whole}
+use Rattle.papaya_moments.specs.Whole.{ShowsWhole}
+use Rattle.papaya_logged.specs.OnSlots.{OnSlotBegins, OnSlotGoesOn, OnSlotSteps}
+use Rattle.papaya_logged.specs.Shown.{IsShown}
+use Rattle.papaya_logged.specs.declared.logged.Logged.{Logged}
+
+module _ {K V S : Type 0} (same : K → K → Bool) (hash : K → ℕ) where
+  pub on_slot_begins : (old new : Logged K V S) (called : SlotCall) (i : ℕ)
+      → ((s : Scene K V) → IsAt same hash old.executor s → RowBegins same hash called i s old.executor new.executor)
+      → new.notes ≡ old.notes
+      → (name : ℕ → List ℕ) (m : Moment K V) (s : Scene K V) → IsShown same hash name m old s → OnSlotBegins same hash name m s called i old new
+  on_slot_begins old new called i begins noted name m s shown may =
+      let leads = begins s shown.is_at in
+      let event : Event (Node K V) = Begin i (request_of (slot_of i) called) in (
+        leads,
+        record {
+          is_at = (leads may).3.4;
+          shows = subst (λ (n : Notes). ShowsWhole {K = K} {V = V} same name m (known n) (scene_then same hash event s old.executor new.executor (leads may).3)) (sym noted)
+              (rows_begin_whole K V S same hash name m (known old.notes) s old.executor new.executor shown.is_at shown.shows called i may leads);
+        },
+      )
+
+  on_slot_so : (old : Logged K V S) (stepped : Executor K V S) (notes : Notes) (i : ℕ) (told : RowTold (Node K V))
+      → ((s : Scene K V) → IsAt same hash old.executor s → RowLeads same hash i told s old.executor stepped)
+      → known notes ≡ known_after acts.Row stepped.memory.changed (known old.notes)
+      → (name : ℕ → List ℕ) (m : Moment K V) (s : Scene K V) → IsShown same hash name m old s
+      → OnSlotGoesOn same hash name m s i told (effects_of acts.Row (known old.notes) stepped.memory.changed) old (record { executor = stepped; notes = notes })
+  on_slot_so old stepped notes i told stepping noted name m s shown row here =
+      let leads = stepping s shown.is_at in
+      let effects = effects_of acts.Row (known old.notes) stepped.memory.changed in (
+        leads,
+        λ retired unreclaimed. record {
+          is_at = (leads row here).4.4;
+          shows = subst (λ (k : Known). ShowsWhole {K = K} {V = V} same name (with_effects None None effects m) k (scene_then same hash (Step i) s old.executor stepped (leads row here).4)) (sym noted)
+              (rows_keep_whole K V S same hash name m (known old.notes) s old.executor stepped shown.is_at shown.shows i told leads row here retired unreclaimed);
+        },
+      )
+
+-- The executor has taken the step, and then its memory was noted: the executor stayed as it was.
+pub on_slot_steps : {K V S : Type 0} (old new : Logged K V S) (stepped : Executor K V S) (i : ℕ) (told : RowTold (Node K V)) (before after : List Effect)
+    → ((same : K → K → Bool) (hash : K → ℕ) (s : Scene K V) → IsAt same hash old.executor s → RowLeads same hash i told s old.executor stepped)
+    → after ≡ before ++ effects_of acts.Row (known old.notes) stepped.memory.changed
+    → known new.notes ≡ known_after acts.Row stepped.memory.changed (known old.notes)
+    → new.executor ≡ stepped → OnSlotSteps i told before after old new
+on_slot_steps {K} {V} {S} old new stepped i told before after stepping did noted executor =
+    let effects = effects_of acts.Row (known old.notes) stepped.memory.changed in (
+      effects,
+      did,
+      λ same hash name m s shown. subst (λ (e : Executor K V S). OnSlotGoesOn same hash name m s i told effects old (record { executor = e; notes = new.notes })) (sym executor)
+          (on_slot_so same hash old stepped new.notes i told (stepping same hash) noted name m s shown),
+    )

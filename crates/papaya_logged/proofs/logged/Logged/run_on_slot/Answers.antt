@@ -1,0 +1,83 @@
+-- Each step may be taken, leads on, and leaves less to go, until the row has come so far.
+use Rattle.std.proofs.Common.{sym, ◌∙◌}
+use Rattle.papaya_logged.proofs.Runs.{ends_at_first, ends_now, ran_none, ran_on, run_goes, still_there}
+use Rattle.papaya_logged.proofs.logged.Logged.run_on_slot.Goals as goal
+
+pub loop-told-init : goal.loop-told-init
+loop-told-init g c = record { ran = ran_none c.args.self.now c.args.effects.now.items; used = ends_at_first c.args.caller c.args.self.now; under = (c.requires.4, c.requires.5) }
+
+pub step_on_slot-requires : goal.step_on_slot-requires
+step_on_slot-requires g c =
+    let r = c.requires in
+    let i = c.loop-told.invariant in
+    let t = still_there r.0 r.1 r.2 _ _ _ _ r.3 i.ran in
+    (r.0, r.1, t.0, t.1, i.under.0, i.under.1)
+
+pub returns-then-has_come-clause-comes : goal.returns-then-has_come-clause-comes
+returns-then-has_come-clause-comes g c =
+    let r = c.requires in
+    let i = c.loop-told.invariant in
+    let t = still_there r.0 r.1 r.2 _ _ _ _ r.3 i.ran in
+    let to = c.in_ok-told.ensures.steps r.0 r.1 t.0 t.1 i.under.0 i.under.1 in
+    (sym c.has_come.ensures ∙ c.if-has_come.true, (to.0, to.2))
+
+pub returns-then-has_come-clause-used : goal.returns-then-has_come-clause-used
+returns-then-has_come-clause-used g c =
+    let r = c.requires in
+    let i = c.loop-told.invariant in
+    let t = still_there r.0 r.1 r.2 _ _ _ _ r.3 i.ran in
+    λ row here ended. ends_now c.args.caller r.0 r.1 t.0 c.args.self.now c.loop-told.self c.step_on_slot.new.self c.in_ok-told.told i.under.0 i.under.1 (c.in_ok-told.ensures.steps r.0 r.1 t.0 t.1) i.used row here ended
+
+pub returns-then-has_come-clause-ran : goal.returns-then-has_come-clause-ran
+returns-then-has_come-clause-ran g c =
+    let i = c.loop-told.invariant in
+    let e = c.in_ok-told.ensures in
+    ran_on _ _ _ _ _ _ c.args.caller c.in_ok-told.told i.under.0 i.under.1 i.ran e.leads e.steps
+
+pub loop-told-smaller-else-has_come : goal.loop-told-smaller-else-has_come
+loop-told-smaller-else-has_come g c =
+    let r = c.requires in
+    let i = c.loop-told.invariant in
+    let e = c.in_ok-told.ensures in
+    let on = run_goes r.0 r.1 r.2 _ _ _ c.args.caller _ _ _ c.in_ok-told.told r.3 i.under.0 i.under.1 i.ran i.used e.leads e.steps (sym c.has_come.ensures ∙ c.if-has_come.false) in
+    on.less
+
+pub loop-told-preserved-else-has_come : goal.loop-told-preserved-else-has_come
+loop-told-preserved-else-has_come g c =
+    let r = c.requires in
+    let i = c.loop-told.invariant in
+    let e = c.in_ok-told.ensures in
+    let on = run_goes r.0 r.1 r.2 _ _ _ c.args.caller _ _ _ c.in_ok-told.told r.3 i.under.0 i.under.1 i.ran i.used e.leads e.steps (sym c.has_come.ensures ∙ c.if-has_come.false) in
+    record { ran = on.ran; used = on.used; under = on.under }
+
+pub loop-told-smaller-else-has_come-2 : goal.loop-told-smaller-else-has_come-2
+loop-told-smaller-else-has_come-2 g c =
+    let r = c.requires in
+    let i = c.loop-told.invariant in
+    let e = c.in_ok-told.ensures in
+    let on = run_goes r.0 r.1 r.2 _ _ _ c.args.caller _ _ _ c.in_ok-told.told r.3 i.under.0 i.under.1 i.ran i.used e.leads e.steps (sym c.has_come.ensures ∙ c.if-has_come.false) in
+    on.less
+
+pub loop-told-preserved-else-has_come-2 : goal.loop-told-preserved-else-has_come-2
+loop-told-preserved-else-has_come-2 g c =
+    let r = c.requires in
+    let i = c.loop-told.invariant in
+    let e = c.in_ok-told.ensures in
+    let on = run_goes r.0 r.1 r.2 _ _ _ c.args.caller _ _ _ c.in_ok-told.told r.3 i.under.0 i.under.1 i.ran i.used e.leads e.steps (sym c.has_come.ensures ∙ c.if-has_come.false) in
+    record { ran = on.ran; used = on.used; under = on.under }
+
+pub loop-told-smaller : goal.loop-told-smaller
+loop-told-smaller g c =
+    let r = c.requires in
+    let i = c.loop-told.invariant in
+    let e = c.in_ok-told.ensures in
+    let on = run_goes r.0 r.1 r.2 _ _ _ c.args.caller _ _ _ c.in_ok-told.told r.3 i.under.0 i.under.1 i.ran i.used e.leads e.steps (sym c.has_come.ensures ∙ c.if-has_come.false) in
+    on.less
+
+pub loop-told-preserved : goal.loop-told-preserved
+loop-told-preserved g c =
+    let r = c.requires in
+    let i = c.loop-told.invariant in
+    let e = c.in_ok-told.ensures in
+    let on = run_goes r.0 r.1 r.2 _ _ _ c.args.caller _ _ _ c.in_ok-told.told r.3 i.under.0 i.under.1 i.ran i.used e.leads e.steps (sym c.has_come.ensures ∙ c.if-has_come.false) in
+    record { ran = on.ran; used = on.used; under = on.under }

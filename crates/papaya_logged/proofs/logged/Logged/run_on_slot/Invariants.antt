@@ -1,0 +1,20 @@
+-- What a run keeps from step to step, and what each step lowers.
+use Rattle.std.specs.Prelude.{◌≡◌, Some}
+use Rattle.papaya_executor.specs.IsAt.{work_of}
+use Rattle.papaya_executor.specs.declared.row.SlotRow.{SlotRow}
+use Rattle.papaya_executor.specs.declared.worker.Work.TheVariants.{OnSlot}
+use Rattle.papaya_logged.specs.OnSlots.{OnSlotRan}
+use Rattle.papaya_logged.proofs.RowsFall.{steps_left_of}
+use Rattle.papaya_logged.proofs.Runs.{EndsAs}
+use Rattle.papaya_logged.proofs.logged.Logged.run_on_slot.Given as goal
+
+-- the row is under way, and what it did stands in the list
+abbrev pub invariant-loop-told : goal.invariant-loop-told
+invariant-loop-told g l = record {
+  ran : OnSlotRan l.fn.effects.items l.effects.items l.fn.self l.self;
+  used : EndsAs l.fn.self l.self l.fn.caller;
+  under : (row : SlotRow) × (work_of l.self.executor l.fn.caller ≡ Some (OnSlot row));
+}
+
+abbrev pub decreases-loop-told : goal.decreases-loop-told
+decreases-loop-told g l = steps_left_of l.self.executor.memory.memory (work_of l.self.executor l.fn.caller)

@@ -1,0 +1,69 @@
+-- Where the beginning of a row on a slot leads, and where a step of it does, and what that does.
+use Rattle.std.specs.Prelude.{◌≡◌, ℕ, Bool, true, false, List, ◌++◌, Option, Some, None}
+use Rattle.seize.specs.World.{World, Begin, Step}
+use Rattle.papaya_tables.specs.declared.node.Node.{Node}
+use Rattle.papaya_schedules.specs.declared.effect.Effect.{Effect}
+use Rattle.papaya_schedules.specs.Effects.{with_effects, AtEachEffect}
+use Rattle.papaya_schedules.specs.Moment.{Moment}
+use Rattle.papaya_executor.specs.IsAt.{Scene, IsAt, slot_of, work_of}
+use Rattle.papaya_executor.specs.OnSlots.{MayBegin, RowBegins, RowLeads, row_on}
+use Rattle.papaya_executor.specs.Rows.{request_of}
+use Rattle.papaya_executor.specs.declared.row.RowTold.{RowTold}
+use Rattle.papaya_executor.specs.declared.row.RowTold.TheVariants as told
+use Rattle.papaya_executor.specs.declared.row.SlotCall.{SlotCall}
+use Rattle.papaya_executor.specs.declared.row.SlotRow.{SlotRow}
+use Rattle.papaya_executor.specs.declared.worker.Work.TheVariants.{OnSlot}
+use Rattle.papaya_finishes.specs.Maps.{Standing}
+use Rattle.papaya_others.specs.Rows.{scene_then}
+use Rattle.papaya_spots.specs.OnSlots.{WaitUnreclaimed}
+use Rattle.papaya_moments.specs.OnSlots.{HadRetired}
+use Rattle.papaya_logged.specs.Shown.{IsShown}
+use Rattle.papaya_logged.specs.declared.logged.Logged.{Logged}
+
+module _ {K V S : Type 0} (same : K → K → Bool) (hash : K → ℕ) (name : ℕ → List ℕ) (m : Moment K V) (s : Scene K V) where
+  -- A row that may begin on the caller's slot is under way, and the moment shows that, as it is.
+  abbrev pub OnSlotBegins : SlotCall → ℕ → (old new : Logged K V S) → Type 0
+  OnSlotBegins called i old new =
+      (may : MayBegin old.executor (slot_of i) called)
+      → (leads : RowBegins same hash called i s old.executor new.executor)
+      × IsShown same hash name m new (scene_then same hash (Begin i (request_of (slot_of i) called)) s old.executor new.executor (leads may).3)
+
+  -- A step of a caller's row, which did this. If a table that it reclaims was retired, and what waits behind that is not reclaimed, the moment after it shows where the
+  -- step has led.
+  abbrev pub OnSlotGoesOn : ℕ → RowTold (Node K V) → List Effect → (old new : Logged K V S) → Type 0
+  OnSlotGoesOn i said did old new =
+      (row : SlotRow) (here : work_of old.executor i ≡ Some (OnSlot row))
+      → (leads : RowLeads same hash i said s old.executor new.executor)
+      × (AtEachEffect HadRetired None None did m → AtEachEffect WaitUnreclaimed None None did m
+      → IsShown same hash name (with_effects None None did m) new (scene_then same hash (Step i) s old.executor new.executor (leads row here).4))
+
+  -- Steps of a row, which did this: the same of all of it. Others have under way what they had.
+  abbrev pub OnSlotRuns : List Effect → Logged K V S → Type 0
+  OnSlotRuns did new =
+      AtEachEffect HadRetired None None did m → AtEachEffect WaitUnreclaimed None None did m
+      → (w : World (Node K V)) × (maps : ℕ → Option (Standing K)) × IsShown same hash name (with_effects None None did m) new (record s { world = w; maps = maps })
+
+-- a row has ended, or waits
+abbrev pub has_come : {T : Type 0} → RowTold T → Bool
+has_come told.Goes = false
+has_come (told.Gave value) = false
+has_come _ = true
+
+module _ {K V S : Type 0} where
+  -- What it does follows in the list, whatever shows the executor.
+  abbrev pub OnSlotSteps : ℕ → RowTold (Node K V) → (before after : List Effect) → (old new : Logged K V S) → Type 0
+  OnSlotSteps i said before after old new =
+      (did : List Effect) × (after ≡ before ++ did)
+      × ((same : K → K → Bool) (hash : K → ℕ) (name : ℕ → List ℕ) (m : Moment K V) (s : Scene K V) → IsShown same hash name m old s → OnSlotGoesOn same hash name m s i said did old new)
+
+  -- So it does step by step, and the executor stays there.
+  abbrev pub OnSlotRan : (before after : List Effect) → (old new : Logged K V S) → Type 0
+  OnSlotRan before after old new =
+      (did : List Effect) × (after ≡ before ++ did)
+      × ((same : K → K → Bool) (hash : K → ℕ) (s : Scene K V) → IsAt same hash old.executor s
+      → (w : World (Node K V)) × (maps : ℕ → Option (Standing K)) × IsAt same hash new.executor (record s { world = w; maps = maps }))
+      × ((same : K → K → Bool) (hash : K → ℕ) (name : ℕ → List ℕ) (m : Moment K V) (s : Scene K V) → IsShown same hash name m old s → OnSlotRuns same hash name m s did new)
+
+  -- This was told of the last step of the row, which ended it, unless it waits: then it is under way still.
+  abbrev pub OnSlotComes : ℕ → RowTold (Node K V) → Logged K V S → Type 0
+  OnSlotComes i said new = (has_come said ≡ true) × ((row : SlotRow) × (work_of new.executor i ≡ row_on row said))

@@ -1,0 +1,83 @@
+//! Rows on slots begin, and take steps.
+ghost use Rattle.std.specs.Prelude.{◌≡◌, ◌<◌, ◌+◌, ◌*◌, ℕ, Bool, true, List, length, Some, IfOk, IfErr};
+ghost use Rattle.papaya_schedules.specs.Moment.{Moment};
+ghost use Rattle.papaya_executor.specs.Beginning.{IsRefused};
+ghost use Rattle.papaya_executor.specs.IsAt.{Scene, IsAt, work_of};
+ghost use Rattle.papaya_executor.specs.OnSlots.{RowLeads};
+ghost use Rattle.papaya_executor.specs.declared.row.SlotRow.{SlotRow};
+ghost use Rattle.papaya_executor.specs.declared.worker.TheConstants.{SLOTS};
+ghost use Rattle.papaya_executor.specs.declared.worker.Work.TheVariants.{OnSlot};
+ghost use Rattle.papaya_logged.specs.Ended.{has_ended, uses_ended};
+ghost use Rattle.papaya_logged.specs.OnSlots.{OnSlotBegins, OnSlotSteps, OnSlotRan, OnSlotComes, has_come};
+ghost use Rattle.papaya_logged.specs.Shown.{IsShown};
+
+use crate::logged::Logged;
+use papaya_effects::acting::Acting;
+use papaya_executor::row::{RowTold, SlotCall};
+use papaya_executor::worker::SLOTS;
+use papaya_raw::Node;
+use papaya_schedules::effect::Effect;
+use std::alloc::AllocError;
+
+/// Whether a row has ended, or waits.
+fn has_come<T>(told: &RowTold<T>) -> bool
+    ensures { result ≡ has_come told.now }
+{
+    match told {
+        RowTold::Goes | RowTold::Gave(_) => false,
+        RowTold::Waits | RowTold::Done | RowTold::Registered(_) | RowTold::Refused(_) => true,
+    }
+}
+
+impl<K: Drop, V: Drop, S> Logged<K, V, S> {
+    /// Begins what a caller in this slot does with it, and answers with the number of the caller. A registering finds a slot of its own, whichever this one is. On an
+    /// error nothing has begun.
+    pub fn begin_on_slot(&mut self, slot: u64, called: SlotCall) -> Result<u64, AllocError>
+        requires { slot < SLOTS }
+        ensures number { IfOk result (λ caller. caller ≡ length self.old.executor.workers.items * SLOTS + slot) }
+        ensures leads { IfOk result (λ caller. (same : K → K → Bool) (hash : K → ℕ) (name : ℕ → List ℕ) (m : Moment K V) (s : Scene K V) → IsShown same hash name m self.old s
+            → OnSlotBegins same hash name m s called caller self.old self.new) }
+        ensures refused { IfErr result (λ error. IsRefused self.old.executor self.new.executor × (self.new.notes ≡ self.old.notes)) }
+    {
+        let caller = self.executor.begin_on_slot(slot, called)?;
+        Ok(caller)
+    }
+
+    /// Takes the next step of the row that a caller has under way on its slot: at most one operation. What it does is added to the list. It is refused where the
+    /// list, or the notes, find no more room: then the executor has gone on, and it is written down no more.
+    pub fn step_on_slot(
+        &mut self,
+        caller: u64,
+        effects: &mut Vec<Effect>,
+    ) -> Result<RowTold<Node<K, V>>, AllocError>
+        requires { (same : K → K → Bool) × (hash : K → ℕ) × (s : Scene K V) × IsAt same hash self.old.executor s × (row : SlotRow) × (work_of self.old.executor caller ≡ Some (OnSlot row)) }
+        ensures leads { IfOk result (λ told. OnSlotSteps caller told effects.old.items effects.new.items self.old self.new) }
+        ensures steps { IfOk result (λ told. (same : K → K → Bool) (hash : K → ℕ) (s : Scene K V) → IsAt same hash self.old.executor s
+            → RowLeads same hash caller told s self.old.executor self.new.executor) }
+    {
+        let told = self.executor.step_on_slot(caller);
+        self.note(Acting::Row, effects)?;
+        Ok(told)
+    }
+
+    /// Takes steps of the row that a caller has under way on its slot, until it ends, or waits for a batch that another row has in hand, and answers what the last step
+    /// told. What the steps do is added to the list, in their order, and what they reclaim is dropped. It is refused as a step is.
+    pub fn run_on_slot(
+        &mut self,
+        caller: u64,
+        effects: &mut Vec<Effect>,
+    ) -> Result<RowTold<Node<K, V>>, AllocError>
+        requires { (same : K → K → Bool) × (hash : K → ℕ) × (s : Scene K V) × IsAt same hash self.old.executor s × (row : SlotRow) × (work_of self.old.executor caller ≡ Some (OnSlot row)) }
+        ensures comes { IfOk result (λ told. OnSlotComes caller told self.new) }
+        ensures used { IfOk result (λ told. (row : SlotRow) → work_of self.old.executor caller ≡ Some (OnSlot row) → has_ended told ≡ true
+            → self.new.executor.slots.items ≡ uses_ended row told self.old.executor.slots.items) }
+        ensures ran { IfOk result (λ told. OnSlotRan effects.old.items effects.new.items self.old self.new) }
+    {
+        loop {
+            let told = self.step_on_slot(caller, effects)?;
+            if has_come(&told) {
+                return Ok(told);
+            }
+        }
+    }
+}
