@@ -1,7 +1,2 @@
--- Lemmas on maps for one owner.
-mod Done
-mod Kept
-mod Members
+-- Lemmas on sets for one owner.
 mod Sets
-mod Shows
-mod Walked

@@ -8,11 +8,9 @@ use Rattle.std.specs.Map.{keys_of}
 use Rattle.std.proofs.Common.{◌≡◌, Bool, true, false, cond, not, List, [], ◌∷◌, ◌++◌, find, filter, map, Option, Some, is_some, is_none, option_map, refl, ap, sym, subst, ◌∙◌}
 use Rattle.std.proofs.lemmas.List.{map-append}
 use Rattle.std.proofs.lemmas.List.Sorted.{IsPermutation-trans, IsPermutation-append_left, IsPermutation-map}
-use Rattle.papaya_owned.specs.Owned.{found_by, left_by}
-use Rattle.papaya_pairs.specs.Puts.{IsCloneOf, PutsClones, put, put_all}
-use Rattle.papaya_sifts.specs.Retaining.{AskedAlong, KeepsOf}
+use Rattle.papaya_seq_map.specs.Given.{AskedAlong, IsCloneOf, KeepsOf, PutsClones, found_by, left_by, put, put_all}
 use Rattle.papaya_seq.specs.Sets.{KeepsElements, PutsElementClones, left_in, put_in, put_all_in}
-use Rattle.papaya_pairs.proofs.Orders.{kept_in_any_order}
+use Rattle.papaya_seq_map.proofs.Given.{kept_in_any_order}
 
 -- what was not there is new
 pub new_so : {X : Type 0} (was : Bool) (o : Option X) → was ≡ is_some o → not was ≡ is_none o

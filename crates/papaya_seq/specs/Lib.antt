@@ -1,5 +1,2 @@
-pub mod Json
-pub mod Maps
 pub mod Sets
-pub mod Lent
 pub mod Pairs

@@ -1,2 +1,2 @@
 -- The two words in which the calls of a map speak of its pairs: the pair of a key, and all pairs but that one.
-pub use Rattle.papaya_owned.specs.Owned.{found_by, left_by}
+pub use Rattle.papaya_seq_map.specs.Given.{found_by, left_by}

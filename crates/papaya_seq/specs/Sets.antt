@@ -6,8 +6,8 @@ use Rattle.std.specs.Iterator.{Drains, Yields}
 use Rattle.std.specs.List.{AllZip, FoldsTo}
 use Rattle.std.specs.List.Sorted.{IsPermutation}
 use Rattle.std.specs.Map.{keys_of}
-use Rattle.papaya_asks.specs.declared.refused.RefusedKey.{RefusedKey}
-use Rattle.papaya_seq.specs.Maps.{Map}
+use Rattle.papaya_seq_map.specs.Given.{RefusedKey}
+use Rattle.papaya_seq_map.specs.Maps.{Map}
 
 -- The value of a set: its elements, its hasher, and two elements that can be looked at until the next change. Which order the elements are in, a walk tells alone.
 pub record Set (K S : Type 0) : Type 0 where

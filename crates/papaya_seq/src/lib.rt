@@ -1,32 +1,10 @@
-//! A hash map for one owner: its calls run the map's machines to the end, over a memory and a collector of its own.
+//! A hash map and a hash set for one owner. The map stands in a crate of its own, and is given on.
 #![tactic(auto)]
 
-mod asking;
-mod changes;
-mod clones;
-mod computing;
-mod counting;
-mod equal;
-mod extending;
-mod formatting;
-mod insertions;
-mod json;
-mod last;
-mod lookups;
-mod making;
-mod map;
-mod requests;
-mod rooms;
 mod set;
-mod sweeps;
-mod testing;
-mod walks;
 
-pub use map::HashMap;
-pub use papaya_asks::{Operation, Refused, RefusedKey};
-pub use papaya_pairs::law;
-pub use papaya_resting::{Change, Compute};
-pub use papaya_shown::{Keys, Pairs, Values};
-pub use papaya_tables::Equivalent;
-pub use seize_words::Fault;
+pub use papaya_seq_map::{
+    Change, Compute, Equivalent, Fault, HashMap, Keys, Operation, Pairs, Refused, RefusedKey,
+    Values, law,
+};
 pub use set::HashSet;

@@ -12,7 +12,7 @@ mod making;
 mod requests;
 mod sweeps;
 
-use crate::map::HashMap;
+use papaya_seq_map::HashMap;
 use std::hash::{BuildHasher, Hash};
 use std::marker::Model;
 

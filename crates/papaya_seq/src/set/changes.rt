@@ -1,11 +1,11 @@
 //! An element is put into a set for one owner, or removed from it, or room is made for more.
 ghost use Rattle.std.specs.Prelude.{◌≡◌, None, Some, is_none, is_some, find, IfOk, IfErr, OnOk, OnErr, MatchResult};
 ghost use Rattle.std.specs.List.Sorted.{IsPermutation};
-ghost use Rattle.papaya_late.specs.Faults.{IsRoom};
+ghost use Rattle.papaya_seq_map.specs.Given.{IsRoom};
 ghost use Rattle.papaya_seq.specs.Sets.{LastTookOut, left_in, put_in};
 
 use super::HashSet;
-use papaya_asks::RefusedKey;
+use papaya_seq_map::{RefusedKey, take};
 use papaya_tables::Equivalent;
 use seize_words::Fault;
 use std::hash::{BuildHasher, Hash};
@@ -41,7 +41,7 @@ impl<K: Eq + Hash + Drop, S: BuildHasher> HashSet<K, S> {
         ensures fault { IfErr result IsRoom }
         ensures hasher { self.new.hasher ≡ self.old.hasher }
     {
-        self.map.take(asked)
+        take(&mut self.map, asked)
     }
 
     /// Makes room for so many further elements beside those that it has. No element changes, only their order may. The faults are

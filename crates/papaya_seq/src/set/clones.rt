@@ -1,8 +1,7 @@
 //! Sets for one owner with clones of the elements of another set, or of an array.
 ghost use Rattle.std.specs.Prelude.{◌≡◌, [], IfOk, IfErr, OnOk};
 ghost use Rattle.std.specs.List.Sorted.{IsPermutation};
-ghost use Rattle.papaya_late.specs.Faults.{IsRoom};
-ghost use Rattle.papaya_pairs.specs.Puts.{ClonesAreSame};
+ghost use Rattle.papaya_seq_map.specs.Given.{ClonesAreSame, IsRoom};
 ghost use Rattle.papaya_seq.specs.Sets.{PutsElementClones, put_in, put_all_in};
 
 use super::HashSet;

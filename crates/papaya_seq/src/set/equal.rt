@@ -1,7 +1,7 @@
 //! Equality of sets for one owner: the same elements, in whatever order.
 ghost use Rattle.std.specs.Prelude.{true};
 ghost use Rattle.std.specs.Cmp.{equiv};
-ghost use Rattle.papaya_pairs.specs.Equals.{agree, agree_turned, agree_through, agree_itself, with_no_values};
+ghost use Rattle.papaya_seq_map.specs.Given.{agree, agree_itself, agree_through, agree_turned, with_no_values};
 
 use super::HashSet;
 use std::hash::{BuildHasher, Hash};

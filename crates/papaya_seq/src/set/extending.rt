@@ -2,11 +2,11 @@
 ghost use Rattle.std.specs.Prelude.{◌≡◌, List, [], IfOk, IfErr};
 ghost use Rattle.std.specs.Iterator.{Drains, IsFiniteIterable};
 ghost use Rattle.std.specs.List.Sorted.{IsPermutation};
-ghost use Rattle.papaya_late.specs.Faults.{IsRoom};
+ghost use Rattle.papaya_seq_map.specs.Given.{IsRoom};
 ghost use Rattle.papaya_seq.specs.Sets.{PutsElements, put_all_in};
 
 use super::HashSet;
-use papaya_asks::RefusedKey;
+use papaya_seq_map::RefusedKey;
 use seize_words::Fault;
 use std::alloc::Global;
 use std::hash::{BuildHasher, Hash};

@@ -1,11 +1,11 @@
 //! How a set for one owner is made.
 ghost use Rattle.std.specs.Prelude.{◌≡◌, [], None, IfOk, IfErr, OnOk};
 ghost use Rattle.seize_words.specs.declared.fault.Fault.TheVariants.{Memory};
-ghost use Rattle.papaya_owned.specs.Rooms.{AreTooMany, IsUnmade};
+ghost use Rattle.papaya_seq_map.specs.Given.{AreTooMany, IsUnmade};
 ghost use Rattle.papaya_seq.specs.Sets.{LastTookOut};
 
 use super::HashSet;
-use crate::map::HashMap;
+use papaya_seq_map::HashMap;
 use seize_words::Fault;
 use std::alloc::Global;
 use std::hash::{BuildHasher, Hash};

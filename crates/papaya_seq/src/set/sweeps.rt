@@ -1,7 +1,7 @@
 //! What goes over all elements of a set for one owner, and removes them.
 ghost use Rattle.std.specs.Prelude.{◌≡◌, None, Bool, List, [], IfErr, OnOk, OnErr, filter};
 ghost use Rattle.std.specs.List.Sorted.{IsPermutation};
-ghost use Rattle.papaya_late.specs.Faults.{IsRoom};
+ghost use Rattle.papaya_seq_map.specs.Given.{IsRoom};
 ghost use Rattle.papaya_seq.specs.Sets.{AnswersByTestOf, KeepsElements, LastTookOut};
 
 use super::HashSet;

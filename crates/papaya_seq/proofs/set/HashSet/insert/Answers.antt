@@ -3,7 +3,7 @@ use Rattle.std.specs.Prelude.{◌≡◌, None, Some, find, is_none, is_some, opt
 use Rattle.std.specs.List.Sorted.{IsPermutation}
 use Rattle.std.specs.Map.{keys_of}
 use Rattle.std.proofs.Common.{◌∙◌, ap, sym, subst}
-use Rattle.papaya_pairs.specs.Puts.{put}
+use Rattle.papaya_seq_map.specs.Given.{put}
 use Rattle.papaya_seq.specs.Sets.{Set, put_in}
 use Rattle.papaya_seq.proofs.Sets.{key_found, keys_are_found, keys_in_order, keys_put, new_so}
 use Rattle.papaya_seq.proofs.set.HashSet.insert.Goals.{in-Ok, in-Err}

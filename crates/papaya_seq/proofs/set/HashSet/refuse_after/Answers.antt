@@ -1,6 +1,6 @@
 -- The map shows the same pairs.
 use Rattle.std.proofs.Common.{◌∙◌, ap}
-use Rattle.papaya_seq.specs.Maps.{Map}
+use Rattle.papaya_seq_map.specs.Maps.{Map}
 use Rattle.papaya_seq.specs.Sets.{set_of}
 use Rattle.papaya_seq.proofs.set.HashSet.refuse_after.Goals as goal
 

@@ -1,0 +1,176 @@
+-- What the words of a map that rests show: its tables can be counted, and their pairs are those of the map, in some order.
+use Rattle.std.specs.Prelude.{is_some, IsTrue, IfOk, OnOk, OnErr, None}
+use Rattle.std.specs.List.{IsDistinct}
+use Rattle.std.specs.List.Sorted.{IsPermutation}
+use Rattle.std.specs.Map.{keys_of}
+use Rattle.std.proofs.Common.{◌≡◌, ℕ, Bool, List, [], ◌++◌, Option, Some, Result, Ok, Err, length, filter, ap, sym, subst, ◌∙◌}
+use Rattle.std.proofs.lemmas.List.Sorted.{IsPermutation-refl, IsPermutation-sym, IsPermutation-trans, IsPermutation-append_left, length_permutation}
+use Rattle.seize_words.specs.declared.at.At.TheVariants.{Root}
+use Rattle.seize_words.specs.Mem.{Mem, word_at}
+use Rattle.papaya_tables.specs.declared.node.Node.{Node}
+use Rattle.papaya_tables.specs.declared.setting.Setting.{Setting}
+use Rattle.papaya_tables.specs.Chunks.{is_incremental}
+use Rattle.papaya_rule.specs.Words.{root_word}
+use Rattle.papaya_whole.proofs.Contents.Below.{one_each_below}
+use Rattle.papaya_shown.specs.Chain.{CountsTables, HasTables, counts_tables_prop, pairs_from_root, pairs_on, root_link, word_or_none}
+use Rattle.papaya_shown.specs.Shown.{NoneMoves, Stands, pairs_stored}
+use Rattle.papaya_shown.proofs.Chains.{root_counts, all_shown}
+use denote.Ref.{Bor}
+use Rattle.std.specs.Fn.{Mut}
+use Rattle.papaya_owned.specs.Owned.{Holds, found_by}
+use Rattle.papaya_sifts.specs.Retaining.{AnswersByTest, KeepsOf}
+use Rattle.papaya_sifts.proofs.Over.Questions.{keeps_by_test}
+use Rattle.papaya_owned.proofs.Walks.{holds_stands, holds_moves_none, holds_pairs}
+use Rattle.papaya_resting.specs.Lasts.{pair_in}
+use Rattle.papaya_resting.specs.declared.last.Last.{Last}
+use Rattle.papaya_seq_map.specs.Maps.{Map, pairs_shown}
+use Rattle.papaya_pairs.specs.Orders.{IsOneClass}
+use Rattle.papaya_pairs.proofs.Orders.{apart_each, apart_same, found_same, keeps_same, kept_in_any_order, none_left}
+
+module _ {K V : Type 0} (same : K → K → Bool) (hash : K → ℕ) (setting : Setting) (m : Mem (Node K V)) (xs : List (K × V)) (h : Holds same hash setting m xs) where
+  stands : Stands same hash m setting h.chart h.blocks
+  stands = holds_stands same hash setting m xs h
+
+  first_there : word_at m (Root setting.root) ≡ Some (root_word hash h.chart h.blocks)
+  first_there = stands.map.shows.root_there
+
+  first_is : root_word hash h.chart h.blocks ≡ root_link m setting
+  first_is = sym (ap word_or_none first_there)
+
+  pub counts : CountsTables m (root_link m setting)
+  counts = subst (CountsTables m) first_is (root_counts same hash m setting h.chart h.blocks stands (root_word hash h.chart h.blocks) first_there)
+
+  -- no two of its keys are equal
+  pub keys_apart : IsDistinct same (keys_of xs)
+  keys_apart = apart_each same xs (one_each_below same hash h.lawful setting h.world h.chart h.blocks h.rests.together.ground.map h.chart.stored xs h.are)
+
+  module _ (tables : CountsTables m (root_link m setting)) where
+    abbrev pairs : List (K × V)
+    pairs = pairs_shown m setting tables
+
+    pub shown : IsPermutation pairs xs
+    unfolding pairs_shown
+    shown =
+        subst (IsPermutation (pairs_from_root m setting tables.0)) (sym (holds_pairs same hash setting m xs h))
+        (subst (λ link. IsPermutation (pairs_on m (is_incremental setting.mode) tables.0 link) (pairs_stored m h.chart h.blocks h.chart.stored)) first_is
+        (all_shown same hash m setting h.chart h.blocks stands (root_word hash h.chart h.blocks) first_there h.incremental
+        (subst (λ b. NoneMoves b h.chart) (sym h.incremental) (holds_moves_none same hash setting m xs h h.incremental)) tables.0 (subst (HasTables m tables.0) (sym first_is) tables.1)))
+
+    pub shown_as : (ys : List (K × V)) → IsPermutation xs ys → IsPermutation pairs ys
+    shown_as ys order = IsPermutation-trans pairs xs ys shown order
+
+    -- as a caller sees it
+    module _ {S : Type 0} (hasher : S) (taken met : Option (K × V)) (map : Map K V S) (is : ◌≡◌ {A = Map K V S} (record { pairs = pairs; hasher = hasher; taken = taken; met = met }) map) where
+      its_pairs : pairs ≡ map.pairs
+      its_pairs = ap (λ (x : Map K V S). x.pairs) is
+
+      pub seen : IsPermutation map.pairs xs
+      seen = subst (λ ys. IsPermutation ys xs) its_pairs shown
+
+      pub seen_held : IsPermutation xs map.pairs
+      seen_held = IsPermutation-sym map.pairs xs seen
+
+      pub seen_as_many : length xs ≡ length map.pairs
+      seen_as_many = length_permutation map.pairs xs seen
+
+      pub seen_apart : IsDistinct same (keys_of map.pairs)
+      seen_apart = apart_same same h.lawful.lawful.classes xs map.pairs keys_apart seen_held
+
+      module _ (keys : K → Bool) (class : IsOneClass same keys) where
+        -- what is found among them, in whatever order they are
+        pub seen_found : (ys : List (K × V)) → IsPermutation map.pairs ys → found_by keys ys ≡ found_by keys xs
+        seen_found ys order = found_same same h.lawful.lawful.classes keys class xs ys keys_apart (IsPermutation-trans xs map.pairs ys seen_held order)
+
+        pub seen_first : found_by keys map.pairs ≡ found_by keys xs
+        seen_first = seen_found map.pairs (IsPermutation-refl map.pairs)
+
+-- what a walk has to come is what the words show
+pub all_shown_as : {K V : Type 0} (m : Mem (Node K V)) (setting : Setting) (tables : CountsTables m (root_link m setting)) (xs : List (K × V)) → xs ≡ pairs_from_root m setting tables.0
+    → xs ≡ pairs_shown m setting tables
+unfolding pairs_shown
+all_shown_as m setting tables xs is = is
+
+-- after a change
+module _ {K V : Type 0} (same : K → K → Bool) (hash : K → ℕ) (setting : Setting) (m : Mem (Node K V)) where
+  -- whatever it has come to, the map rests with some pairs
+  abbrev pub Rests : Type 0
+  Rests = (xs : List (K × V)) × Holds same hash setting m xs
+
+  pub either_rests : {T E : Type 0} (r : Result T E) (ys zs : List (K × V)) → OnOk r (Holds same hash setting m ys) → OnErr r (Holds same hash setting m zs) → Rests
+  either_rests (Ok x) ys zs done refused = (ys, done)
+  either_rests (Err e) ys zs done refused = (zs, refused)
+
+  pub each_rests : {T F E : Type 0} (A B : Type 0) (r : Result (Result T F) E) (ys zs : List (K × V)) → IfOk r (λ tried. OnOk tried (A × Holds same hash setting m ys))
+      → IfOk r (λ tried. OnErr tried (B × Holds same hash setting m zs)) → OnErr r (Holds same hash setting m zs) → Rests
+  each_rests A B (Ok (Ok x)) ys zs stored found refused = (ys, stored.1)
+  each_rests A B (Ok (Err f)) ys zs stored found refused = (zs, found.1)
+  each_rests A B (Err e) ys zs stored found refused = (zs, refused)
+
+  pub some_rest : {T E : Type 0} (P : List (K × V) → Type 0) (r : Result T E) (zs : List (K × V)) → OnOk r ((ys : List (K × V)) × P ys × Holds same hash setting m ys)
+      → OnErr r (Holds same hash setting m zs) → Rests
+  some_rest P (Ok x) zs done refused = (done.0, done.2)
+  some_rest P (Err e) zs done refused = (zs, refused)
+
+  -- and its words show them
+  module _ (tables : CountsTables m (root_link m setting)) where
+    pub shows_done : {T E : Type 0} (r : Result T E) (ys zs : List (K × V)) → IsPermutation ys zs → OnOk r (Holds same hash setting m ys) → OnOk r (IsPermutation (pairs_shown m setting tables) zs)
+    shows_done (Ok x) ys zs order h = shown_as same hash setting m ys h tables zs order
+    shows_done (Err e) ys zs order none = tt
+
+    pub shows_refused : {T E : Type 0} (r : Result T E) (ys zs : List (K × V)) → IsPermutation ys zs → OnErr r (Holds same hash setting m ys)
+        → OnErr r (IsPermutation (pairs_shown m setting tables) zs)
+    shows_refused (Ok x) ys zs order none = tt
+    shows_refused (Err e) ys zs order h = shown_as same hash setting m ys h tables zs order
+
+    pub shows_none : {T E : Type 0} (r : Result T E) → OnOk r (Holds same hash setting m []) → OnOk r (pairs_shown m setting tables ≡ [])
+    shows_none (Ok x) h = none_left (pairs_shown m setting tables) (shown same hash setting m [] h tables)
+    shows_none (Err e) none = tt
+
+    pub shows_stored : {T F E : Type 0} (keys : K → Bool) (xs zs more : List (K × V)) → found_by keys zs ≡ found_by keys xs → IsPermutation xs zs → (r : Result (Result T F) E)
+        → IfOk r (λ tried. OnOk tried ((found_by keys xs ≡ None) × Holds same hash setting m (xs ++ more)))
+        → IfOk r (λ tried. OnOk tried ((found_by keys zs ≡ None) × IsPermutation (pairs_shown m setting tables) (zs ++ more)))
+    shows_stored keys xs zs more is order (Ok (Ok x)) d = (is ∙ d.0, shown_as same hash setting m (xs ++ more) d.1 tables (zs ++ more) (IsPermutation-append_left more xs zs order))
+    shows_stored keys xs zs more is order (Ok (Err f)) d = tt
+    shows_stored keys xs zs more is order (Err e) d = tt
+
+    pub shows_found : {T F E : Type 0} (keys : K → Bool) (xs zs : List (K × V)) → found_by keys zs ≡ found_by keys xs → IsPermutation xs zs → (r : Result (Result T F) E)
+        → IfOk r (λ tried. OnErr tried (IsTrue (is_some (found_by keys xs)) × Holds same hash setting m xs))
+        → IfOk r (λ tried. OnErr tried (IsTrue (is_some (found_by keys zs)) × IsPermutation (pairs_shown m setting tables) zs))
+    shows_found keys xs zs is order (Ok (Ok x)) d = tt
+    shows_found keys xs zs is order (Ok (Err f)) d = (subst (λ o. IsTrue (is_some o)) (sym is) d.0, shown_as same hash setting m xs d.1 tables zs order)
+    shows_found keys xs zs is order (Err e) d = tt
+
+    module _ {F : Type 0} (g : Mut F (Bor K × (Bor V × Unit {0})) Bool) (f : F) (xs zs : List (K × V)) (order : IsPermutation xs zs) where
+      pub shows_kept : {T E : Type 0} (r : Result T E) → OnOk r ((kept : List (K × V)) × KeepsOf g f xs kept × Holds same hash setting m kept)
+          → OnOk r ((kept : List (K × V)) × KeepsOf g f zs kept × IsPermutation (pairs_shown m setting tables) kept)
+      shows_kept (Ok x) d = let k = keeps_same g f xs zs d.0 order d.1 in (k.0, k.1, shown_as same hash setting m d.0 d.2 tables k.0 k.2)
+      shows_kept (Err e) none = tt
+
+      pub shows_passing : {T E : Type 0} (test : K → V → Bool) → AnswersByTest g test → (r : Result T E) → OnOk r ((kept : List (K × V)) × KeepsOf g f xs kept × Holds same hash setting m kept)
+          → OnOk r (IsPermutation (pairs_shown m setting tables) (filter (λ x. test x.0 x.1) zs))
+      shows_passing test so (Ok x) d =
+          shown_as same hash setting m d.0 d.2 tables (filter (λ x. test x.0 x.1) zs)
+          (subst (λ kept. IsPermutation kept (filter (λ x. test x.0 x.1) zs)) (sym (keeps_by_test g test so f xs d.0 d.1)) (kept_in_any_order (λ x. test x.0 x.1) xs zs order))
+      shows_passing test so (Err e) none = tt
+
+-- what was told of a call is so of the pairs in another order
+pub told_same : {K V E : Type 0} (keys : K → Bool) (xs zs : List (K × V)) → found_by keys zs ≡ found_by keys xs → (r : Result Bool E) → IfOk r (λ was. was ≡ is_some (found_by keys xs))
+    → IfOk r (λ was. was ≡ is_some (found_by keys zs))
+told_same keys xs zs is (Ok was) so = so ∙ sym (ap is_some is)
+told_same keys xs zs is (Err e) none = tt
+
+-- the same memory shows the same pairs
+module _ {K V S : Type 0} (setting : Setting) (m : Mem (Node K V)) (hasher : S) (last : Last) (tables : CountsTables m (root_link m setting)) where
+  abbrev map_in : (w : Mem (Node K V)) → CountsTables w (root_link w setting) → Map K V S
+  map_in w counted = record { pairs = pairs_shown w setting counted; hasher = hasher; taken = pair_in w last.taken; met = pair_in w last.met }
+
+  AsBefore : Mem (Node K V) → Type 0
+  AsBefore w = (counted : CountsTables w (root_link w setting)) → map_in w counted ≡ map_in m tables
+
+  in_it : AsBefore m
+  unfolding AsBefore
+  in_it counted = ap (map_in m) (counts_tables_prop m (root_link m setting) counted tables)
+
+  pub as_before : (w : Mem (Node K V)) → w ≡ m → (counted : CountsTables w (root_link w setting)) → map_in w counted ≡ map_in m tables
+  unfolding AsBefore
+  as_before w is = subst AsBefore (sym is) in_it

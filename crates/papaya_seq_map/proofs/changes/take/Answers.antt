@@ -1,0 +1,41 @@
+-- By what the removal comes to in the order in which its pairs were stored.
+use Rattle.papaya_pairs.proofs.Orders.{left_same}
+use Rattle.papaya_seq_map.proofs.Kept.{either_rested, either_shown, holds_err, holds_ok}
+use Rattle.papaya_seq_map.proofs.Shows.{counts, seen_first, seen_held, shows_done, shows_refused, told_same}
+use Rattle.papaya_seq_map.proofs.changes.take.Goals as goal
+
+pub remove-requires : goal.remove-requires
+remove-requires g c = c.map.invariant
+
+pub invariant_of-map-inside : goal.invariant_of-map-inside
+invariant_of-map-inside g c =
+    let held = c.map.invariant in
+    let rests = either_rested _ _ _ _ _ c.remove.result _ _ _ _ _ _ (c.remove.ensures.removed held.0 held.1) (c.remove.ensures.refused held.0 held.1) in
+    record { tables = counts _ _ _ _ rests.pairs rests.holds; takes = rests.takes; meets = rests.meets }
+
+pub invariant_of-map : goal.invariant_of-map
+invariant_of-map g c =
+    let held = c.map.invariant in
+    let rests = either_rested _ _ _ _ _ c.remove.result _ _ _ _ _ _ (c.remove.ensures.removed held.0 held.1) (c.remove.ensures.refused held.0 held.1) in
+    (rests.pairs, rests.holds)
+
+pub returns-clause-some : goal.returns-clause-some
+returns-clause-some g c =
+    let held = c.map.invariant in
+    told_same (g.Q.Equivalent.equivalent c.args.asked.now) held.0 _ (seen_first _ _ _ _ held.0 held.1 c.map.inside.resting.tables _ _ _ _ c.map.view_is (g.Q.Equivalent.equivalent c.args.asked.now) (λ x y. g.met.Q.Equivalent.respects_eq c.args.asked.now x y)) c.remove.result (c.remove.ensures.some held.0 held.1)
+
+pub returns-clause-removed : goal.returns-clause-removed
+returns-clause-removed g c =
+    let held = c.map.invariant in
+    shows_done _ _ _ _ _ c.remove.result _ _ (left_same (g.Q.Equivalent.equivalent c.args.asked.now) held.0 _ (seen_held _ _ _ _ held.0 held.1 c.map.inside.resting.tables _ _ _ _ c.map.view_is)) (holds_ok _ _ _ _ _ c.remove.result _ _ _ (c.remove.ensures.removed held.0 held.1))
+
+pub returns-clause-refused : goal.returns-clause-refused
+returns-clause-refused g c =
+    let held = c.map.invariant in
+    shows_refused _ _ _ _ _ c.remove.result held.0 _ (seen_held _ _ _ _ held.0 held.1 c.map.inside.resting.tables _ _ _ _ c.map.view_is) (holds_err _ _ _ _ _ c.remove.result _ _ _ (c.remove.ensures.refused held.0 held.1))
+
+pub returns-clause-last : goal.returns-clause-last
+returns-clause-last g c =
+    let held = c.map.invariant in
+    either_shown _ _ _ _ _ c.remove.result _ _ _ _ _ _ (c.remove.ensures.removed held.0 held.1) (c.remove.ensures.refused held.0 held.1) _
+    (seen_first _ _ _ _ held.0 held.1 c.map.inside.resting.tables _ _ _ _ c.map.view_is (g.Q.Equivalent.equivalent c.args.asked.now) (λ x y. g.met.Q.Equivalent.respects_eq c.args.asked.now x y))

@@ -1,0 +1,27 @@
+-- One more was put, or one was refused.
+use Rattle.std.proofs.Common.{[], ◌∷◌, ◌++◌, ◌∙◌, sym, subst}
+use Rattle.std.proofs.iter.Next.{Yields-more}
+use Rattle.std.proofs.lemmas.List.Sorted.{IsPermutation-trans}
+use Rattle.std.specs.Iterator.{Yields}
+use Rattle.papaya_pairs.proofs.Puts.{puts_more}
+use Rattle.papaya_pairs.specs.Puts.{put_all}
+use Rattle.papaya_seq_map.proofs.map.HashMap.extend.Goals as goal
+
+pub loop-key-preserved : goal.loop-key-preserved
+loop-key-preserved g c = (
+  puts_more g.K.PartialEq.eq c.args.self.now.pairs c.loop-key.yielded c.loop-key.self.pairs c.insert.new.self.pairs (c.in-Some.key, c.in-Some.value) c.loop-key.invariant.0 c.in-Ok.ensures.stored,
+  c.in-Ok.ensures.hasher ∙ c.loop-key.invariant.1,
+)
+
+pub returns-in-Err-clause-put : goal.returns-in-Err-clause-put
+returns-in-Err-clause-put g c =
+    let it = c.into_iter-key-iterator in
+    let xs = c.loop-key.yielded in
+    let back = c.in-Err.ensures.back in
+    let more = Yields-more g.I.IntoIter.Iterator.next_gives it.result xs c.loop-key.key-iterator (c.in-Some.key, c.in-Some.value) c.next.new.self c.loop-key.yielded_by c.in-Some.ensures.steps in (
+      it.result,
+      xs,
+      it.ensures.into_iter_gives,
+      IsPermutation-trans c.insert.new.self.pairs c.loop-key.self.pairs (put_all g.K.PartialEq.eq c.args.self.now.pairs xs) c.in-Err.ensures.refused c.loop-key.invariant.0,
+      (c.next.new.self, subst (λ (x : g.row.K.Denot × g.row.V.Denot). Yields g.I.IntoIter.Iterator.next_gives it.result (xs ++ (x ∷ [])) c.next.new.self) (λ i. (sym back.0 i, sym back.1 i)) more),
+    )

@@ -1,0 +1,41 @@
+-- By what the insertion comes to in the order in which its pairs were stored.
+use Rattle.papaya_seq_map.proofs.Kept.{either_rested, either_shown, holds_err, holds_ok}
+use Rattle.papaya_seq_map.proofs.Shows.{counts, seen_first, seen_held, shows_done, shows_refused, told_same}
+use Rattle.papaya_seq_map.proofs.map.HashMap.insert.Goals as goal
+use Rattle.papaya_pairs.proofs.Orders.{left_and}
+
+pub insert-requires : goal.insert-requires
+insert-requires g c = c.self.invariant
+
+pub invariant_of-self-inside : goal.invariant_of-self-inside
+invariant_of-self-inside g c =
+    let held = c.self.invariant in
+    let rests = either_rested _ _ _ _ _ c.insert.result _ _ _ _ _ _ (c.insert.ensures.stored held.0 held.1) (c.insert.ensures.refused held.0 held.1) in
+    record { tables = counts _ _ _ _ rests.pairs rests.holds; takes = rests.takes; meets = rests.meets }
+
+pub invariant_of-self : goal.invariant_of-self
+invariant_of-self g c =
+    let held = c.self.invariant in
+    let rests = either_rested _ _ _ _ _ c.insert.result _ _ _ _ _ _ (c.insert.ensures.stored held.0 held.1) (c.insert.ensures.refused held.0 held.1) in
+    (rests.pairs, rests.holds)
+
+pub returns-clause-some : goal.returns-clause-some
+returns-clause-some g c =
+    let held = c.self.invariant in
+    told_same (g.K.PartialEq.eq c.args.key) held.0 _ (seen_first _ _ _ _ held.0 held.1 c.self.inside.resting.tables _ _ _ _ c.self.view_is (g.K.PartialEq.eq c.args.key) (g.met.K.Eq.laws.congr c.args.key)) c.insert.result (c.insert.ensures.some held.0 held.1)
+
+pub returns-clause-stored : goal.returns-clause-stored
+returns-clause-stored g c =
+    let held = c.self.invariant in
+    shows_done _ _ _ _ _ c.insert.result _ _ (left_and (g.K.PartialEq.eq c.args.key) held.0 _ _ (seen_held _ _ _ _ held.0 held.1 c.self.inside.resting.tables _ _ _ _ c.self.view_is)) (holds_ok _ _ _ _ _ c.insert.result _ _ _ (c.insert.ensures.stored held.0 held.1))
+
+pub returns-clause-refused : goal.returns-clause-refused
+returns-clause-refused g c =
+    let held = c.self.invariant in
+    shows_refused _ _ _ _ _ c.insert.result held.0 _ (seen_held _ _ _ _ held.0 held.1 c.self.inside.resting.tables _ _ _ _ c.self.view_is) (holds_err _ _ _ _ _ c.insert.result _ _ _ (c.insert.ensures.refused held.0 held.1))
+
+pub returns-clause-last : goal.returns-clause-last
+returns-clause-last g c =
+    let held = c.self.invariant in
+    either_shown _ _ _ _ _ c.insert.result _ _ _ _ _ _ (c.insert.ensures.stored held.0 held.1) (c.insert.ensures.refused held.0 held.1) _
+    (seen_first _ _ _ _ held.0 held.1 c.self.inside.resting.tables _ _ _ _ c.self.view_is (g.K.PartialEq.eq c.args.key) (g.met.K.Eq.laws.congr c.args.key))

@@ -1,0 +1,14 @@
+-- The one shard says it, and its words show as many pairs.
+use Rattle.std.proofs.Common.{◌∙◌}
+use Rattle.papaya_seq_map.proofs.Shows.{seen_as_many, seen_apart}
+use Rattle.papaya_seq_map.proofs.map.HashMap.len.Goals as goal
+
+pub count-requires : goal.count-requires
+count-requires g c = c.self.invariant
+
+pub returns : goal.returns
+returns g c =
+    let held = c.self.invariant in record {
+      len = c.count.ensures held.0 held.1 ∙ seen_as_many _ _ _ _ held.0 held.1 c.self.inside.resting.tables _ _ _ _ c.self.view_is;
+      apart = seen_apart _ _ _ _ held.0 held.1 c.self.inside.resting.tables _ _ _ _ c.self.view_is;
+    }

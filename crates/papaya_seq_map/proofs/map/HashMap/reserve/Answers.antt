@@ -1,0 +1,24 @@
+-- No pair has changed.
+use Rattle.papaya_resting.proofs.Lasts.{none_in, none_named}
+use Rattle.papaya_seq_map.proofs.Shows.{counts, seen_held, shown_as}
+use Rattle.papaya_seq_map.proofs.map.HashMap.reserve.Goals as goal
+
+pub reserve-requires : goal.reserve-requires
+reserve-requires g c = c.self.invariant
+
+pub invariant_of-self-inside : goal.invariant_of-self-inside
+invariant_of-self-inside g c = record { tables = c.self.inside.resting.tables; takes = none_named _; meets = none_named _ }
+
+pub invariant_of-self-inside-2 : goal.invariant_of-self-inside-2
+invariant_of-self-inside-2 g c = let held = c.self.invariant in record { tables = counts _ _ _ _ held.0 (c.reserve.ensures.holds held.0 held.1); takes = none_named _; meets = none_named _ }
+
+pub invariant_of-self : goal.invariant_of-self
+invariant_of-self g c = let held = c.self.invariant in (held.0, c.reserve.ensures.holds held.0 held.1)
+
+pub returns-clause-pairs : goal.returns-clause-pairs
+returns-clause-pairs g c =
+    let held = c.self.invariant in
+    shown_as _ _ _ _ held.0 (c.reserve.ensures.holds held.0 held.1) _ _ (seen_held _ _ _ _ held.0 held.1 c.self.inside.resting.tables _ _ _ _ c.self.view_is)
+
+pub returns-clause-last : goal.returns-clause-last
+returns-clause-last g c = (none_in _, none_in _)

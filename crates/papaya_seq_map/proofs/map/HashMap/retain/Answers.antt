@@ -1,0 +1,40 @@
+-- By what the retaining comes to in the order in which its pairs were stored.
+use Rattle.papaya_sifts.specs.Retaining.{KeepsOf}
+use Rattle.papaya_resting.proofs.Lasts.{none_in, none_named}
+use Rattle.papaya_seq_map.proofs.Shows.{counts, seen_held, shows_kept, shows_passing, shows_refused, some_rest}
+use Rattle.papaya_seq_map.proofs.map.HashMap.retain.Goals as goal
+
+pub retain-requires-clause-holds : goal.retain-requires-clause-holds
+retain-requires-clause-holds g c = c.self.invariant
+
+pub invariant_of-self-inside : goal.invariant_of-self-inside
+invariant_of-self-inside g c = record { tables = c.self.inside.resting.tables; takes = none_named _; meets = none_named _ }
+
+pub invariant_of-self-inside-2 : goal.invariant_of-self-inside-2
+invariant_of-self-inside-2 g c =
+    let held = c.self.invariant in
+    let rests = some_rest _ _ _ _ (KeepsOf g.F.FnMut c.args.keep held.0) c.retain.result _ (c.retain.ensures.done held.0 held.1) (c.retain.ensures.refused held.0 held.1) in
+    record { tables = counts _ _ _ _ rests.0 rests.1; takes = none_named _; meets = none_named _ }
+
+pub invariant_of-self : goal.invariant_of-self
+invariant_of-self g c =
+    let held = c.self.invariant in
+    some_rest _ _ _ _ (KeepsOf g.F.FnMut c.args.keep held.0) c.retain.result _ (c.retain.ensures.done held.0 held.1) (c.retain.ensures.refused held.0 held.1)
+
+pub returns-clause-done : goal.returns-clause-done
+returns-clause-done g c =
+    let held = c.self.invariant in
+    shows_kept _ _ _ _ _ g.F.FnMut c.args.keep held.0 _ (seen_held _ _ _ _ held.0 held.1 c.self.inside.resting.tables _ _ _ _ c.self.view_is) c.retain.result (c.retain.ensures.done held.0 held.1)
+
+pub returns-clause-by_test : goal.returns-clause-by_test
+returns-clause-by_test g c = λ test so.
+    let held = c.self.invariant in
+    shows_passing _ _ _ _ _ g.F.FnMut c.args.keep held.0 _ (seen_held _ _ _ _ held.0 held.1 c.self.inside.resting.tables _ _ _ _ c.self.view_is) test so c.retain.result (c.retain.ensures.done held.0 held.1)
+
+pub returns-clause-refused : goal.returns-clause-refused
+returns-clause-refused g c =
+    let held = c.self.invariant in
+    shows_refused _ _ _ _ _ c.retain.result held.0 _ (seen_held _ _ _ _ held.0 held.1 c.self.inside.resting.tables _ _ _ _ c.self.view_is) (c.retain.ensures.refused held.0 held.1)
+
+pub returns-clause-last : goal.returns-clause-last
+returns-clause-last g c = (none_in _, none_in _)

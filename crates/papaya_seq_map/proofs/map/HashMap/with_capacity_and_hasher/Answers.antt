@@ -1,0 +1,32 @@
+-- Nothing has happened to its memory before.
+use Rattle.seize_alone.specs.Alone.{nothing_yet, registered}
+use Rattle.std.proofs.Common.{true, inr}
+use Rattle.std.proofs.lemmas.Result.{err_from_is_err_and}
+use Rattle.papaya_resting.proofs.Makes.{nothing_happened, slot_refused, taken_inside}
+use Rattle.papaya_resting.proofs.Lasts.{none_in, none_named}
+use Rattle.papaya_pairs.proofs.Orders.{none_left}
+use Rattle.papaya_seq_map.proofs.Shows.{counts, shown}
+use Rattle.papaya_seq_map.proofs.map.HashMap.with_capacity_and_hasher.Goals as goal
+
+pub register-requires : goal.register-requires
+register-requires g c = (32, 1, nothing_yet, nothing_happened {K = g.row.K.Denot} {V = g.row.V.Denot} c.in_ok-memory.memory c.in_ok-memory.ensures)
+
+pub begin-requires-clause-history : goal.begin-requires-clause-history
+begin-requires-clause-history g c =
+    let t = c.in_ok-slot.ensures.told 32 1 nothing_yet (nothing_happened {K = g.row.K.Denot} {V = g.row.V.Denot} c.in_ok-memory.memory c.in_ok-memory.ensures) in
+    (registered true c.in_ok-slot.slot nothing_yet, t.1, taken_inside c.in_ok-slot.slot)
+
+-- it has no pair
+pub invariant_of-result : goal.invariant_of-result
+invariant_of-result g c = record { tables = counts _ _ _ _ _ c.in_ok-setting.ensures.held; takes = none_named _; meets = none_named _ }
+
+pub returns-clause-pairs : goal.returns-clause-pairs
+returns-clause-pairs g c = none_left _ (shown _ _ _ _ _ c.in_ok-setting.ensures.held _)
+
+pub returns-in_err-slot-clause-fault : goal.returns-in_err-slot-clause-fault
+returns-in_err-slot-clause-fault g c =
+    let t = c.in_err-slot.ensures.told 32 1 nothing_yet (nothing_happened {K = g.row.K.Denot} {V = g.row.V.Denot} c.in_ok-memory.memory c.in_ok-memory.ensures) in
+    let p = err_from_is_err_and c.from_residual-in_err-slot.result c.from_residual-in_err-slot.ensures.1 in rw (p.1, p.2) (inr (slot_refused c.register.new.memory _ t.0, c.in_ok-places.ensures.few))
+
+pub returns-clause-last : goal.returns-clause-last
+returns-clause-last g c = (none_in _, none_in _)

@@ -1,0 +1,4 @@
+pub mod Json
+pub mod Maps
+pub mod Lent
+pub mod Given

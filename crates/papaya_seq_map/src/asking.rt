@@ -1,0 +1,114 @@
+//! Calls on a map for one owner that update a value, or store one, by closures. Each begins with a refresh.
+ghost use Rattle.std.specs.Prelude.{◌≡◌, None, Some, IfOk, IfErr, OnErr};
+ghost use Rattle.std.specs.Fn.{FnOnceReturns, FnOnceReturnsAt, FnOnceTakesAt};
+ghost use Rattle.std.specs.Option.{ForNone, ForSome};
+ghost use Rattle.papaya_asks.specs.Closures.{Updating, UpdatingOrStoring, Storing};
+ghost use Rattle.papaya_late.specs.Faults.{IsRoom};
+ghost use Rattle.papaya_owned.specs.Owned.{found_by};
+ghost use Rattle.papaya_resting.specs.Asking.{HasDone};
+ghost use Rattle.papaya_seq_map.specs.Maps.{HasNow};
+
+use crate::map::HashMap;
+use papaya_asks::{Refused, RefusedKey};
+use papaya_resting::Change;
+use std::hash::{BuildHasher, Hash};
+
+impl<K: Eq + Hash + Drop, V: Drop, S: BuildHasher> HashMap<K, V, S> {
+    /// Replaces the value of a key by one that is made of it, if the key is there. The closure is called where it is, and else not at all. It answers
+    /// `Replaced` or `Missing`. The faults are `Fault::Capacity` and `Fault::Memory`; then no pair has changed, and the key comes back.
+    pub fn update<F: FnOnce(&V) -> V>(&mut self, key: K, make: F) -> Result<Change, RefusedKey<K>>
+        requires callable { ForSome (found_by (K.eq key) self.old.pairs) (λ x. FnOnceTakesAt F.FnOnce make x.1) }
+        ensures done { IfOk result (λ done. HasDone (K.eq key) (Some key) (Updating (FnOnceReturnsAt F.FnOnce make)) self.old.pairs (HasNow self.new) done) }
+        ensures refused { OnErr result (HasNow self.new self.old.pairs None None) }
+        ensures fault { IfErr result (λ r. IsRoom r.fault) }
+        ensures back { IfErr result (λ r. r.key ≡ key) }
+        ensures hasher { self.new.hasher ≡ self.old.hasher }
+    {
+        papaya_resting::update(
+            &mut self.resting.memory,
+            self.resting.setting,
+            &self.hasher,
+            &mut self.resting.last,
+            key,
+            make,
+        )
+    }
+
+    /// Replaces the value of a key by one that is made of it, if the key is there, and else stores one that is begun. The closure that is called is the
+    /// one of the two. It answers `Replaced` or `Stored`. The faults are `Fault::Capacity` and `Fault::Memory`; then no pair has changed, and the key comes back.
+    pub fn update_or_insert_with<B: FnOnce() -> V, F: FnOnce(&V) -> V>(
+        &mut self,
+        key: K,
+        begin: B,
+        make: F,
+    ) -> Result<Change, RefusedKey<K>>
+        requires begins { ForNone (found_by (K.eq key) self.old.pairs) (B.pre begin) }
+        requires makes { ForSome (found_by (K.eq key) self.old.pairs) (λ x. FnOnceTakesAt F.FnOnce make x.1) }
+        ensures done { IfOk result (λ done. HasDone (K.eq key) (Some key) (UpdatingOrStoring (FnOnceReturnsAt F.FnOnce make) (λ value. FnOnceReturns B.FnOnce begin tt value)) self.old.pairs (HasNow self.new) done) }
+        ensures refused { OnErr result (HasNow self.new self.old.pairs None None) }
+        ensures fault { IfErr result (λ r. IsRoom r.fault) }
+        ensures back { IfErr result (λ r. r.key ≡ key) }
+        ensures hasher { self.new.hasher ≡ self.old.hasher }
+    {
+        papaya_resting::update_or_insert_with(
+            &mut self.resting.memory,
+            self.resting.setting,
+            &self.hasher,
+            &mut self.resting.last,
+            key,
+            begin,
+            make,
+        )
+    }
+
+    /// Stores a value that is begun, if its key is not there yet. The closure is called where it is not, and else not at all. It answers `Stored` or
+    /// `Kept`. The faults are `Fault::Capacity` and `Fault::Memory`; then no pair has changed, and the key comes back.
+    pub fn try_insert_with<B: FnOnce() -> V>(
+        &mut self,
+        key: K,
+        begin: B,
+    ) -> Result<Change, RefusedKey<K>>
+        requires callable { ForNone (found_by (K.eq key) self.old.pairs) (B.pre begin) }
+        ensures done { IfOk result (λ done. HasDone (K.eq key) (Some key) (Storing (λ value. FnOnceReturns B.FnOnce begin tt value)) self.old.pairs (HasNow self.new) done) }
+        ensures refused { OnErr result (HasNow self.new self.old.pairs None None) }
+        ensures fault { IfErr result (λ r. IsRoom r.fault) }
+        ensures back { IfErr result (λ r. r.key ≡ key) }
+        ensures hasher { self.new.hasher ≡ self.old.hasher }
+    {
+        papaya_resting::try_insert_with(
+            &mut self.resting.memory,
+            self.resting.setting,
+            &self.hasher,
+            &mut self.resting.last,
+            key,
+            begin,
+        )
+    }
+
+    /// Replaces the value of a key by one that is made of it, if the key is there, and else stores this one. The closure is called where the key is there,
+    /// and else not at all. It answers `Replaced` or `Stored`. The faults are `Fault::Capacity` and `Fault::Memory`; then no pair has changed, and the key and
+    /// this value come back.
+    pub fn update_or_insert<F: FnOnce(&V) -> V>(
+        &mut self,
+        key: K,
+        value: V,
+        make: F,
+    ) -> Result<Change, Refused<K, V>>
+        requires callable { ForSome (found_by (K.eq key) self.old.pairs) (λ x. FnOnceTakesAt F.FnOnce make x.1) }
+        ensures done { IfOk result (λ done. HasDone (K.eq key) (Some key) (UpdatingOrStoring (FnOnceReturnsAt F.FnOnce make) (λ new. new ≡ value)) self.old.pairs (HasNow self.new) done) }
+        ensures refused { OnErr result (HasNow self.new self.old.pairs None None) }
+        ensures fault { IfErr result (λ r. IsRoom r.fault) }
+        ensures back { IfErr result (λ r. (r.key ≡ key) × (r.value ≡ value)) }
+        ensures hasher { self.new.hasher ≡ self.old.hasher }
+    {
+        papaya_resting::update_or_insert(
+            &mut self.resting.memory,
+            self.resting.setting,
+            &self.hasher,
+            &mut self.resting.last,
+            key,
+            value,
+            make,
+        )
+    }
+}

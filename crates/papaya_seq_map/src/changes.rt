@@ -1,0 +1,68 @@
+//! Removals from a map for one owner. Each change begins with a refresh.
+ghost use Rattle.std.specs.Prelude.{◌≡◌, None, is_some, option_map, IfErr, IfOk, OnOk, OnErr, MatchResult};
+ghost use Rattle.std.specs.Borrow.{sem};
+ghost use Rattle.std.specs.List.Sorted.{IsPermutation};
+ghost use Rattle.std.specs.Option.{option_copied};
+ghost use Rattle.papaya_late.specs.Faults.{IsRoom};
+ghost use Rattle.papaya_owned.specs.Owned.{found_by, left_by};
+ghost use Rattle.papaya_seq_map.specs.Maps.{HasNow, LastTook};
+
+use crate::map::HashMap;
+use papaya_tables::Equivalent;
+use seize_words::Fault;
+use std::hash::{BuildHasher, Hash};
+
+/// Removes the pair of a key, and answers whether there was one, which `taken` shows until the next change. The faults are `Fault::Capacity` and
+/// `Fault::Memory`; then no pair has changed.
+pub fn take<K: Eq + Hash + Drop, V: Drop, S: BuildHasher, Q: Equivalent<K>>(
+    map: &mut HashMap<K, V, S>,
+    asked: &Q,
+) -> Result<bool, Fault>
+    ensures some { IfOk result (λ was. was ≡ is_some (found_by (Q.Equivalent.equivalent asked.now) map.old.pairs)) }
+    ensures removed { OnOk result (IsPermutation map.new.pairs (left_by (Q.Equivalent.equivalent asked.now) map.old.pairs)) }
+    ensures refused { OnErr result (IsPermutation map.new.pairs map.old.pairs) }
+    ensures last { MatchResult result (λ _. LastTook map.new (found_by (Q.Equivalent.equivalent asked.now) map.old.pairs) None) (λ _. LastTook map.new None None) }
+    ensures fault { IfErr result IsRoom }
+    ensures hasher { map.new.hasher ≡ map.old.hasher }
+{
+    papaya_resting::remove(
+        &mut map.resting.memory,
+        map.resting.setting,
+        &map.hasher,
+        &mut map.resting.last,
+        asked,
+    )
+}
+
+impl<K: Eq + Hash + Drop, V: Drop, S: BuildHasher> HashMap<K, V, S> {
+    ghost use Rattle.papaya_seq_map.specs.Lent.{EndsSo};
+
+    /// Removes the pair of a key, and answers its value, which can be looked at until the next change, if the key was in the map. The faults are
+    /// `Fault::Capacity` and `Fault::Memory`; then no pair has changed.
+    pub fn remove<Q: Equivalent<K>>(&mut self, asked: &Q) -> Result<Option<&V>, Fault>
+        ensures* after { sem 𝓛 (EndsSo K.row V.row S.row S.Hasher.row K.Hash S.BuildHasher S.Hasher.Hasher self.entry (λ map. MatchResult result (λ _. HasNow map (left_by (Q.Equivalent.equivalent asked.now) self.old.pairs) (found_by (Q.Equivalent.equivalent asked.now) self.old.pairs) None) (λ _. HasNow map self.old.pairs None None) × (map.hasher ≡ self.old.hasher))) }
+        ensures value { IfOk result (λ was. option_copied was ≡ option_map (λ x. x.1) (found_by (Q.Equivalent.equivalent asked.now) self.old.pairs)) }
+        ensures fault { IfErr result IsRoom }
+    {
+        match take(self, asked) {
+            Ok(_) => match self.taken() {
+                Some((_, value)) => Ok(Some(value)),
+                None => Ok(None),
+            },
+            Err(fault) => Err(fault),
+        }
+    }
+
+    /// Removes the pair of a key, and answers it, to be looked at until the next change, if the key was in the map. The faults are
+    /// `Fault::Capacity` and `Fault::Memory`; then no pair has changed.
+    pub fn remove_entry<Q: Equivalent<K>>(&mut self, asked: &Q) -> Result<Option<(&K, &V)>, Fault>
+        ensures* after { sem 𝓛 (EndsSo K.row V.row S.row S.Hasher.row K.Hash S.BuildHasher S.Hasher.Hasher self.entry (λ map. MatchResult result (λ _. HasNow map (left_by (Q.Equivalent.equivalent asked.now) self.old.pairs) (found_by (Q.Equivalent.equivalent asked.now) self.old.pairs) None) (λ _. HasNow map self.old.pairs None None) × (map.hasher ≡ self.old.hasher))) }
+        ensures pair { IfOk result (λ was. option_map (λ x. (x.0.now, x.1.now)) was ≡ found_by (Q.Equivalent.equivalent asked.now) self.old.pairs) }
+        ensures fault { IfErr result IsRoom }
+    {
+        match take(self, asked) {
+            Ok(_) => Ok(self.taken()),
+            Err(fault) => Err(fault),
+        }
+    }
+}

@@ -1,0 +1,95 @@
+//! JSON of a map for one owner: it is written as the object of its pairs, and read of one.
+ghost use Rattle.std.specs.Prelude.{List, [], ◌∷◌, ◌++◌, ◌⊎◌, IfOk, IfErr, OnOk};
+ghost use Rattle.std.specs.List.{All};
+ghost use Rattle.std.specs.List.Sorted.{IsPermutation};
+ghost use Rattle.serde_json.specs.Data.{object};
+ghost use Rattle.serde_json.specs.View.{view, members_view};
+ghost use Rattle.papaya_forms.specs.Objects.{IsObjectOf};
+ghost use Rattle.papaya_owned.specs.Owned.{left_by};
+ghost use Rattle.papaya_seq_map.specs.Json.{FirstFault, IsNoPair, IsPairOf, IsRefusal, IsUnread};
+
+use crate::map::HashMap;
+use papaya_forms::{JsonFault, JsonForm, object_of};
+use serde_json::Value;
+use serde_json::value::Map;
+use std::alloc::{AllocError, Global};
+use std::hash::{BuildHasher, Hash};
+
+/// The pair that a member of an object stands for: the key of its name, then the value of what it has.
+fn pair_of<K: JsonForm + Drop, V: JsonForm + Drop>(
+    alloc: Global,
+    name: &str,
+    value: &Value,
+) -> Result<(K, V), JsonFault>
+    ensures pair { IfOk result (λ x. IsPairOf K.JsonForm.in_range K.JsonForm.key_text V.JsonForm.in_range V.JsonForm.json_value name.now (view value.now) x) }
+    ensures fault { IfErr result (λ why. IsNoPair K.JsonForm.in_range K.JsonForm.key_text V.JsonForm.in_range V.JsonForm.json_value why name.now (view value.now) ⊎ IsRefusal why) }
+{
+    let key = K::from_key_text(alloc, name)?;
+    let value = V::from_value(alloc, value)?;
+    Ok((key, value))
+}
+
+/// Stores the pair that a member of an object stands for.
+fn store_member<K: JsonForm + Hash + Drop, V: JsonForm + Drop, S: BuildHasher>(
+    alloc: Global,
+    map: &mut HashMap<K, V, S>,
+    name: &str,
+    value: &Value,
+) -> Result<(), JsonFault>
+    ensures stored { OnOk result ((x : K × V) × IsPairOf K.JsonForm.in_range K.JsonForm.key_text V.JsonForm.in_range V.JsonForm.json_value name.now (view value.now) x
+        × IsPermutation map.new.pairs (left_by (K.eq x.0) map.old.pairs ++ (x ∷ []))) }
+    ensures fault { IfErr result (λ why. IsNoPair K.JsonForm.in_range K.JsonForm.key_text V.JsonForm.in_range V.JsonForm.json_value why name.now (view value.now) ⊎ IsRefusal why) }
+{
+    let (key, value) = pair_of(alloc, name, value)?;
+    match map.insert(key, value) {
+        Ok(_) => Ok(()),
+        Err(refused) => Err(JsonFault::Refused(refused.fault)),
+    }
+}
+
+/// The map of the pairs that these members stand for.
+fn map_of<K: JsonForm + Hash + Drop, V: JsonForm + Drop, S: BuildHasher + Default + Drop>(
+    alloc: Global,
+    members: &Map<String, Value>,
+) -> Result<HashMap<K, V, S>, JsonFault>
+    ensures pairs { IfOk result (λ map. IsObjectOf K.JsonForm.key_text V.JsonForm.json_value map.pairs (object (members_view members.now.entries))) }
+    ensures in_range { IfOk result (λ map. All (λ x. K.JsonForm.in_range x.0 × V.JsonForm.in_range x.1) map.pairs) }
+    ensures fault { IfErr result (λ why. FirstFault K.JsonForm.in_range K.JsonForm.key_text V.JsonForm.in_range V.JsonForm.json_value why (members_view members.now.entries) ⊎ IsRefusal why) }
+{
+    let mut map = match HashMap::new(alloc) {
+        Ok(map) => map,
+        Err(fault) => return Err(JsonFault::Refused(fault)),
+    };
+    for (name, value) in members.iter() {
+        store_member(alloc, &mut map, name.as_str(), value)?;
+    }
+    Ok(map)
+}
+
+impl<K: JsonForm + Hash, V: JsonForm, S: BuildHasher> HashMap<K, V, S> {
+    /// The object that has the map's pairs for its members, each key's text for a name.
+    pub fn to_value(&self, alloc: Global) -> Result<Value, AllocError>
+        ensures { IfOk result (λ written. IsObjectOf K.JsonForm.key_text V.JsonForm.json_value self.now.pairs (view written)) }
+    {
+        object_of(alloc, self.iter())
+    }
+}
+
+impl<K: JsonForm + Hash + Drop, V: JsonForm + Drop, S: BuildHasher + Default + Drop> HashMap<
+    K,
+    V,
+    S,
+> {
+    /// The map that is written as this value. The members are read in the value's order, the name of each before its value, and the first fault
+    /// counts: `BadKey`, `BadElement`, or `Refused`, where memory or the length of a table was refused. What is no object is `NotAnObject`.
+    pub fn from_value(alloc: Global, value: &Value) -> Result<Self, JsonFault>
+        ensures pairs { IfOk result (λ map. IsObjectOf K.JsonForm.key_text V.JsonForm.json_value map.pairs (view value.now)) }
+        ensures in_range { IfOk result (λ map. All (λ x. K.JsonForm.in_range x.0 × V.JsonForm.in_range x.1) map.pairs) }
+        ensures fault { IfErr result (λ why. IsUnread K.JsonForm.in_range K.JsonForm.key_text V.JsonForm.in_range V.JsonForm.json_value why (view value.now)) }
+    {
+        match value.as_object() {
+            Some(members) => map_of(alloc, members),
+            None => Err(JsonFault::NotAnObject),
+        }
+    }
+}

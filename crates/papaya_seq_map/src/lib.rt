@@ -1,0 +1,31 @@
+//! A hash map for one owner: its calls run the map's machines to the end, over a memory and a collector of its own.
+#![tactic(auto)]
+
+mod asking;
+mod changes;
+mod clones;
+mod computing;
+mod counting;
+mod equal;
+mod extending;
+mod formatting;
+mod insertions;
+mod json;
+mod last;
+mod lookups;
+mod making;
+mod map;
+mod requests;
+mod rooms;
+mod sweeps;
+mod testing;
+mod walks;
+
+pub use changes::take;
+pub use map::HashMap;
+pub use papaya_asks::{Operation, Refused, RefusedKey};
+pub use papaya_pairs::law;
+pub use papaya_resting::{Change, Compute};
+pub use papaya_shown::{Keys, Pairs, Values};
+pub use papaya_tables::Equivalent;
+pub use seize_words::Fault;

@@ -1,0 +1,49 @@
+//! A hash map for one owner.
+ghost use Rattle.std.specs.Prelude.{◌≡◌, true};
+ghost use Rattle.papaya_resting.specs.Lasts.{is_named};
+ghost use Rattle.papaya_shown.specs.Chain.{CountsTables, counts_tables_prop, root_link};
+
+use papaya_resting::Last;
+use papaya_tables::{Node, Setting};
+use seize_words::Plain;
+use std::hash::{BuildHasher, Hash};
+use std::marker::Model;
+
+/// The memory of a map between its calls, with its setting, and the words of the pairs that the last change took out of it, and met. Only proofs
+/// read how many tables it has.
+#[derive(Drop)]
+pub(crate) struct Resting<K, V> {
+    pub(crate) memory: Plain<Node<K, V>>,
+    pub(crate) setting: Setting,
+    pub(crate) last: Last,
+    pub(crate) ghost tables: { CountsTables memory (root_link memory setting) } by { counts_tables_prop memory (root_link memory setting) },
+    pub(crate) ghost takes: { is_named memory last.taken ≡ true },
+    pub(crate) ghost meets: { is_named memory last.met ≡ true },
+}
+
+/// A hash map for one owner.
+///
+/// It has its memory and its collector for itself. Each change begins with a refresh of its one section: what changes before it took out of
+/// the map may be given back then, once enough of it waits, and no earlier. So the pair that the last change took out of the map can be looked
+/// at until the next one, by `taken`, and the one that it met at its key or put there, by `met`.
+///
+/// A contract sees its pairs, its hasher, and these two pairs. The pairs are in the order in which a walk shows them; a change may put them in
+/// any other order.
+#[derive(Drop)]
+pub struct HashMap<K: Eq + Hash, V, S: BuildHasher> {
+    pub(crate) resting: Resting<K, V>,
+    pub(crate) hasher: S,
+}
+
+impl<K: Eq + Hash, V, S: BuildHasher> Model for HashMap<K, V, S> {
+    ghost use Rattle.std.specs.Prelude.{List};
+    ghost use Rattle.papaya_owned.specs.Owned.{Holds, hashed_by};
+    ghost use Rattle.papaya_resting.specs.Lasts.{pair_in};
+    ghost use Rattle.papaya_seq_map.specs.Maps.{Map, pairs_shown};
+
+    ghost Value = { Map K V S };
+
+    ghost view = { λ m. record { pairs = pairs_shown m.resting.memory m.resting.setting m.resting.tables; hasher = m.hasher; taken = pair_in m.resting.memory m.resting.last.taken; met = pair_in m.resting.memory m.resting.last.met } };
+
+    ghost invariant = { λ m. (xs : List (K × V)) × Holds K.eq (hashed_by S.Hasher.finish S.Hasher.write S.build_hasher K.hash_input m.hasher) m.resting.setting m.resting.memory xs };
+}

@@ -1,0 +1,29 @@
+//! Room for further pairs in a map for one owner. It begins with a refresh, as a change does.
+ghost use Rattle.std.specs.Prelude.{◌≡◌, None, IfErr};
+ghost use Rattle.std.specs.List.Sorted.{IsPermutation};
+ghost use Rattle.papaya_late.specs.Faults.{IsRoom};
+ghost use Rattle.papaya_seq_map.specs.Maps.{LastTook};
+
+use crate::map::HashMap;
+use papaya_resting::Last;
+use seize_words::Fault;
+use std::hash::{BuildHasher, Hash};
+
+impl<K: Eq + Hash + Drop, V: Drop, S: BuildHasher> HashMap<K, V, S> {
+    /// Makes room for so many further pairs beside those that it has. No pair changes, only their order may. The faults are `Fault::Capacity`, where
+    /// that is too many, or the map has had too many tables, and `Fault::Memory`.
+    pub fn reserve(&mut self, additional: u64) -> Result<(), Fault>
+        ensures pairs { IsPermutation self.new.pairs self.old.pairs }
+        ensures fault { IfErr result IsRoom }
+        ensures last { LastTook self.new None None }
+        ensures hasher { self.new.hasher ≡ self.old.hasher }
+    {
+        self.resting.last = Last::NONE;
+        papaya_resting::reserve(
+            &mut self.resting.memory,
+            self.resting.setting,
+            &self.hasher,
+            additional,
+        )
+    }
+}

@@ -1,0 +1,46 @@
+//! What goes over all pairs of a map for one owner, and removes them. Each change begins with a refresh.
+ghost use Rattle.std.specs.Prelude.{◌≡◌, None, Bool, List, [], IfErr, OnOk, OnErr, filter};
+ghost use Rattle.std.specs.List.Sorted.{IsPermutation};
+ghost use Rattle.papaya_late.specs.Faults.{IsRoom};
+ghost use Rattle.papaya_sifts.specs.Retaining.{AnswersByTest, KeepsOf};
+ghost use Rattle.papaya_seq_map.specs.Maps.{LastTook};
+
+use crate::map::HashMap;
+use papaya_resting::Last;
+use seize_words::Fault;
+use std::hash::{BuildHasher, Hash};
+
+impl<K: Eq + Hash + Drop, V: Drop, S: BuildHasher> HashMap<K, V, S> {
+    /// Removes all pairs. The faults are `Fault::Capacity` and `Fault::Memory`, where a growth that was under way could not be seen through; then
+    /// no pair has changed.
+    pub fn clear(&mut self) -> Result<(), Fault>
+        ensures done { OnOk result (self.new.pairs ≡ []) }
+        ensures refused { OnErr result (IsPermutation self.new.pairs self.old.pairs) }
+        ensures last { LastTook self.new None None }
+        ensures fault { IfErr result IsRoom }
+        ensures hasher { self.new.hasher ≡ self.old.hasher }
+    {
+        self.resting.last = Last::NONE;
+        papaya_resting::clear(&mut self.resting.memory, self.resting.setting, &self.hasher)
+    }
+
+    /// Keeps just the pairs for which the closure answers `true`. It is called with each pair once, in which order is not said. The faults are
+    /// `Fault::Capacity` and `Fault::Memory`, where a growth that was under way could not be seen through; then no pair has changed.
+    pub fn retain<F: FnMut(&K, &V) -> bool>(&mut self, keep: F) -> Result<(), Fault>
+        requires callable { F.IsAlwaysCallable keep }
+        ensures done { OnOk result ((kept : List (K × V)) × KeepsOf F.FnMut keep self.old.pairs kept × IsPermutation self.new.pairs kept) }
+        ensures by_test { (test : K → V → Bool) → AnswersByTest F.FnMut test → OnOk result (IsPermutation self.new.pairs (filter (λ x. test x.0 x.1) self.old.pairs)) }
+        ensures refused { OnErr result (IsPermutation self.new.pairs self.old.pairs) }
+        ensures last { LastTook self.new None None }
+        ensures fault { IfErr result IsRoom }
+        ensures hasher { self.new.hasher ≡ self.old.hasher }
+    {
+        self.resting.last = Last::NONE;
+        papaya_resting::retain(
+            &mut self.resting.memory,
+            self.resting.setting,
+            &self.hasher,
+            keep,
+        )
+    }
+}
