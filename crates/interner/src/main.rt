@@ -24,6 +24,19 @@ fn number_of(numbers: &Numbers, word: &str) -> Option<u64>
     numbers.get(&TextRef::new(word)).copied()
 }
 
+/// Gives a word the next number. After a fault each word has the number that it had.
+fn add(numbers: &mut Numbers, alloc: Global, word: &str) -> Result<u64, Fault>
+    ensures next { IfOk result (λ number. number ≡ length numbers.old.pairs) }
+    ensures stored { OnOk result (IsPermutation numbers.new.pairs (left_by (bytes_eq word.now) numbers.old.pairs ++ ((word.now, length numbers.old.pairs) ∷ []))) }
+    ensures refused { OnErr result (IsPermutation numbers.new.pairs numbers.old.pairs) }
+{
+    let next = numbers.len();
+    match numbers.insert(Text::new(alloc, word)?, next) {
+        Ok(_) => Ok(next),
+        Err(refused) => Err(refused.fault),
+    }
+}
+
 /// The number of this word: the one that it has, or else the next one, which it then has. After a fault each word has the number that it had.
 fn intern(numbers: &mut Numbers, alloc: Global, word: &str) -> Result<u64, Fault>
     ensures known { (number : ℕ) → number_of word.now numbers.old.pairs ≡ Some number → (result ≡ Ok number) × (numbers.new.pairs ≡ numbers.old.pairs) }
@@ -31,13 +44,9 @@ fn intern(numbers: &mut Numbers, alloc: Global, word: &str) -> Result<u64, Fault
     ensures stored { number_of word.now numbers.old.pairs ≡ None → OnOk result (IsPermutation numbers.new.pairs (left_by (bytes_eq word.now) numbers.old.pairs ++ ((word.now, length numbers.old.pairs) ∷ []))) }
     ensures refused { OnErr result (IsPermutation numbers.new.pairs numbers.old.pairs) }
 {
-    if let Some(number) = number_of(numbers, word) {
-        return Ok(number);
-    }
-    let next = numbers.len();
-    match numbers.insert(Text::new(alloc, word)?, next) {
-        Ok(_) => Ok(next),
-        Err(refused) => Err(refused.fault),
+    match number_of(numbers, word) {
+        Some(number) => Ok(number),
+        None => add(numbers, alloc, word),
     }
 }
 
