@@ -17,7 +17,7 @@ returns-clause-some g c =
 
 pub returns-clause-removed : goal.returns-clause-removed
 returns-clause-removed g c =
-    let test = g.Q.Equivalent.equivalent c.args.asked.now in let old = c.self.inside.map.pairs in let new = c.take.new.self.pairs in
+    let test = g.Q.Equivalent.equivalent c.args.asked.now in let old = c.self.inside.map.pairs in let new = c.take.new.map.pairs in
     on_ok_weaker c.take.result
     (λ order.
     subst (λ (x : Set g.row.K.Denot g.row.S.Denot). IsPermutation (keys_of new) (left_in test x.elements)) c.self.view_is
@@ -25,7 +25,7 @@ returns-clause-removed g c =
 
 pub returns-clause-refused : goal.returns-clause-refused
 returns-clause-refused g c =
-    let new = c.take.new.self.pairs in
+    let new = c.take.new.map.pairs in
     on_err_weaker c.take.result
     (λ order. subst (λ (x : Set g.row.K.Denot g.row.S.Denot). IsPermutation (keys_of new) x.elements) c.self.view_is (keys_in_order new c.self.inside.map.pairs order)) c.take.ensures.refused
 
@@ -34,5 +34,5 @@ returns-clause-last g c =
     let test = g.Q.Equivalent.equivalent c.args.asked.now in
     let key = option_map (λ (x : g.row.K.Denot × Unit {0}). x.0) in
     MatchResult-weaker c.take.result c.take.ensures.last
-    (λ _ so. (key_found test c.self.inside.map.pairs c.take.new.self.taken so.0 ∙ ap (λ (x : Set g.row.K.Denot g.row.S.Denot). find test x.elements) c.self.view_is, ap key so.1))
+    (λ _ so. (key_found test c.self.inside.map.pairs c.take.new.map.taken so.0 ∙ ap (λ (x : Set g.row.K.Denot g.row.S.Denot). find test x.elements) c.self.view_is, ap key so.1))
     (λ _ so. (ap key so.0, ap key so.1))
