@@ -71,19 +71,40 @@ fn read_back(alloc: Global, text: &str) -> io::Result<Numbers> {
     Numbers::from_value(alloc, &value).map_err(|_| io::Error::other("what was written is no map"))
 }
 
+/// Prints each line of the input in numbers.
+fn print_lines<R: Input + Print>(rt: &R, alloc: Global, numbers: &mut Numbers) -> io::Result<()> {
+    for line in rt.lines(alloc) {
+        let line = line?;
+        println!(rt; "{}", in_numbers(numbers, alloc, line.as_str())?)?;
+    }
+    Ok(())
+}
+
+/// Whether a text of JSON has just these numbers.
+fn is_of(alloc: Global, text: &str, numbers: &Numbers) -> io::Result<bool> {
+    let read = read_back(alloc, text)?;
+    Ok(read == *numbers)
+}
+
+/// Prints all numbers as JSON, which is read back.
+fn print_all<R: Print>(rt: &R, alloc: Global, numbers: &Numbers) -> io::Result<()> {
+    let text = numbers.to_value(alloc)?.to_string(alloc)?;
+    println!(rt; "{text}")?;
+    if !is_of(alloc, text.as_str(), numbers)? {
+        return Err(io::Error::other("other numbers were read back"));
+    }
+    println!(rt; "{} words read back", numbers.len())?;
+    Ok(())
+}
+
+/// Prints the lines in numbers, and then all of these.
+fn run<R: Input + Print>(rt: &R, alloc: Global, numbers: &mut Numbers) -> io::Result<()> {
+    print_lines(rt, alloc, numbers)?;
+    print_all(rt, alloc, numbers)
+}
+
 fn main(rt: HostRuntime) -> io::Result<()> {
     let alloc = rt.alloc();
     let mut numbers = Numbers::new(alloc).map_err(|fault| io::Error::other(fault.name()))?;
-    for line in rt.lines(alloc) {
-        let line = line?;
-        println!(rt; "{}", in_numbers(&mut numbers, alloc, line.as_str())?)?;
-    }
-    let text = numbers.to_value(alloc)?.to_string(alloc)?;
-    println!(rt; "{text}")?;
-    let again = read_back(alloc, text.as_str())?;
-    if again != numbers {
-        return Err(io::Error::other("other numbers were read back"));
-    }
-    println!(rt; "{} words read back", again.len())?;
-    Ok(())
+    run(&rt, alloc, &mut numbers)
 }

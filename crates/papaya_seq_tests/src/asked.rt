@@ -163,17 +163,18 @@ const ROWS: [Row; 19] = [
 ];
 
 /// Whether the calls do so, one after another.
-fn goes_so(alloc: Global, by: KeyHash) -> Result<bool, Fault> {
-    let mut map = HashMap::with_hasher(alloc, by)?;
-    if !fills(&mut map, 8) {
-        return Ok(false);
-    }
+fn does_so<S: BuildHasher>(map: &mut HashMap<u64, u64, S>) -> bool {
     for (call, expected, key, value) in ROWS {
-        if called(&mut map, call) != expected || map.get(&key).copied() != value {
-            return Ok(false);
+        if called(map, call) != expected || map.get(&key).copied() != value {
+            return false;
         }
     }
-    Ok(true)
+    true
+}
+
+fn goes_so(alloc: Global, by: KeyHash) -> Result<bool, Fault> {
+    let mut map = HashMap::with_hasher(alloc, by)?;
+    Ok(fills(&mut map, 8) && does_so(&mut map))
 }
 
 #[test]

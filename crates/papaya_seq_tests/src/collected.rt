@@ -58,18 +58,32 @@ fn extended(alloc: Global, given: &[(u64, u64)]) -> Result<Numbers, Fault> {
     }
 }
 
+/// Whether a map is like another one, and both have these pairs.
+fn is_like(map: &Numbers, other: &Numbers, pairs: &[(u64, u64)]) -> bool {
+    has(map, pairs) && has(other, pairs) && map == other
+}
+
+fn is_cloned(alloc: Global, map: &Numbers, pairs: &[(u64, u64)]) -> Result<bool, Fault> {
+    let again = map.clone(alloc)?;
+    Ok(is_like(&again, map, pairs))
+}
+
 /// Whether a map that was collected from these pairs has these, and its clone too.
 fn is_made(alloc: Global, given: &[(u64, u64)], pairs: &[(u64, u64)]) -> Result<bool, Fault> {
     let collected: Numbers = HashMap::try_collect(alloc, given.iter().copied())?;
-    let again = collected.clone(alloc)?;
-    Ok(has(&collected, pairs) && has(&again, pairs) && again == collected)
+    is_cloned(alloc, &collected, pairs)
 }
 
-/// Whether one that was extended by them equals one that was made of an array.
+/// Whether a map equals one that is made of an array.
+fn is_of_array(alloc: Global, map: &Numbers, given: &[(u64, u64)]) -> Result<bool, Fault> {
+    let array: Numbers = HashMap::from_array(alloc, given)?;
+    Ok(*map == array)
+}
+
+/// Whether one that was extended by them does.
 fn is_same(alloc: Global, given: &[(u64, u64)]) -> Result<bool, Fault> {
     let extended = extended(alloc, given)?;
-    let array: Numbers = HashMap::from_array(alloc, given)?;
-    Ok(extended == array)
+    is_of_array(alloc, &extended, given)
 }
 
 #[test]
@@ -80,16 +94,26 @@ fn maps_are_made_of_other_pairs(rt: HostRuntime) {
     }
 }
 
-/// Whether a map of these pairs is written in one of these ways.
-fn is_written(alloc: Global, given: &[(u64, u64)], texts: &[&str]) -> Result<bool, Fault> {
-    let map: Numbers = HashMap::from_array(alloc, given)?;
-    let text = format!(in alloc; "{map:?}")?;
+/// Whether a text is one of these.
+pub(crate) fn is_one_of(text: &str, texts: &[&str]) -> bool {
     for expected in texts {
-        if text.as_str() == *expected {
-            return Ok(true);
+        if text == *expected {
+            return true;
         }
     }
-    Ok(false)
+    false
+}
+
+/// Whether a map is written in one of these ways.
+fn has_text(alloc: Global, map: &Numbers, texts: &[&str]) -> Result<bool, Fault> {
+    let text = format!(in alloc; "{map:?}")?;
+    Ok(is_one_of(text.as_str(), texts))
+}
+
+/// Whether one of these pairs is.
+fn is_written(alloc: Global, given: &[(u64, u64)], texts: &[&str]) -> Result<bool, Fault> {
+    let map: Numbers = HashMap::from_array(alloc, given)?;
+    has_text(alloc, &map, texts)
 }
 
 #[test]

@@ -37,12 +37,18 @@ fn beside<K: Eq + Hash + Drop, V: Drop, S: BuildHasher>(
 }
 
 /// What is found of a key that is stored twice, and whether a third one is there that was not stored.
+fn found<S: BuildHasher>(
+    map: &mut HashMap<u64, u64, S>,
+) -> Result<(Option<u64>, Option<u64>, bool), Fault> {
+    let first = stored(map, 7, 70)?;
+    let second = stored(map, 7, 71)?;
+    let third = beside(map, 8, 80, &9)?;
+    Ok((first, second, third))
+}
+
 fn twice(alloc: Global) -> Result<(Option<u64>, Option<u64>, bool), Fault> {
     let mut map = HashMap::with_hasher(alloc, KeyHash::Key)?;
-    let first = stored(&mut map, 7, 70)?;
-    let second = stored(&mut map, 7, 71)?;
-    let third = beside(&mut map, 8, 80, &9)?;
-    Ok((first, second, third))
+    found(&mut map)
 }
 
 #[test]

@@ -24,12 +24,16 @@ impl<K: Eq + Hash + Drop, V: Drop, S: BuildHasher> Numbered<K, V, S> {
 }
 
 /// How many there are of three, two of which have the same key and number.
-fn stores(alloc: Global) -> Result<u64, Fault> {
-    let values: HashMap<(u64, u64), u64, BuildHasherDefault<DefaultHasher>> = HashMap::new(alloc)?;
-    let mut numbered = Numbered { values };
+fn stored<S: BuildHasher>(numbered: &mut Numbered<u64, u64, S>) -> Result<u64, Fault> {
     numbered.store(1, 2, 3)?;
     numbered.store(2, 1, 4)?;
     numbered.store(1, 2, 5)
+}
+
+fn stores(alloc: Global) -> Result<u64, Fault> {
+    let values: HashMap<(u64, u64), u64, BuildHasherDefault<DefaultHasher>> = HashMap::new(alloc)?;
+    let mut numbered = Numbered { values };
+    stored(&mut numbered)
 }
 
 #[test]

@@ -2,6 +2,7 @@
 
 use crate::asked::{self, closes};
 use crate::calls::{Call, called, copied};
+use crate::filled::fills;
 use papaya_runs::key_hash::KeyHash;
 use papaya_seq::{Fault, HashMap};
 use std::alloc::Global;
@@ -51,24 +52,30 @@ const ASKED: [(asked::Call, Pair, Pair); 14] = [
 ];
 
 /// Whether each call lends so.
+fn lends_rows<S: BuildHasher>(map: &mut HashMap<u64, u64, S>) -> bool {
+    for (call, taken, met) in ROWS {
+        let _ = called(map, call);
+        if !lends(map, taken, met) {
+            return false;
+        }
+    }
+    true
+}
+
+/// Whether each call by a closure does.
+fn lends_asked<S: BuildHasher>(map: &mut HashMap<u64, u64, S>) -> bool {
+    for (call, taken, met) in ASKED {
+        closes(map, call);
+        if !lends(map, taken, met) {
+            return false;
+        }
+    }
+    true
+}
+
 fn goes_so(alloc: Global, by: KeyHash) -> Result<bool, Fault> {
     let mut map = HashMap::with_hasher(alloc, by)?;
-    if !lends(&map, None, None) {
-        return Ok(false);
-    }
-    for (call, taken, met) in ROWS {
-        let _ = called(&mut map, call);
-        if !lends(&map, taken, met) {
-            return Ok(false);
-        }
-    }
-    for (call, taken, met) in ASKED {
-        closes(&mut map, call);
-        if !lends(&map, taken, met) {
-            return Ok(false);
-        }
-    }
-    Ok(true)
+    Ok(lends(&map, None, None) && lends_rows(&mut map) && lends_asked(&mut map))
 }
 
 #[test]
@@ -78,22 +85,28 @@ fn what_a_change_took_and_met_is_lent(rt: HostRuntime) {
     }
 }
 
-/// Whether removals answer what they have removed, and nothing is lent once all are gone, or a call was refused.
+/// Whether removals answer what they have removed.
+fn removes<S: BuildHasher>(map: &mut HashMap<u64, u64, S>) -> Result<bool, Fault> {
+    let removed = map.remove(&3)?.copied() == Some(30) && map.remove(&3)?.is_none();
+    let entry = copied(map.remove_entry(&4)?) == Some((4, 40));
+    Ok(removed && entry && lends(map, Some((4, 40)), None))
+}
+
+/// Whether nothing is lent once a call was refused, and once all are gone.
+fn lends_none<S: BuildHasher>(map: &mut HashMap<u64, u64, S>) -> Result<bool, Fault> {
+    map.refuse_after(0);
+    let _ = called(map, Call::Insert(5, 55));
+    let refused = lends(map, None, None);
+    map.refuse_after(u64::MAX);
+    let _ = called(map, Call::Insert(5, 55));
+    let again = lends(map, Some((5, 50)), Some((5, 55)));
+    map.clear()?;
+    Ok(refused && again && lends(map, None, None))
+}
+
 fn answers_so(alloc: Global) -> Result<bool, Fault> {
     let mut map = HashMap::with_hasher(alloc, KeyHash::Key)?;
-    for key in 0..8 {
-        let _ = called(&mut map, Call::Insert(key, key.wrapping_mul(10)));
-    }
-    let removed = map.remove(&3)?.copied() == Some(30) && map.remove(&3)?.is_none();
-    let entry = copied(map.remove_entry(&4)?) == Some((4, 40)) && lends(&map, Some((4, 40)), None);
-    map.refuse_after(0);
-    let _ = called(&mut map, Call::Insert(5, 55));
-    let refused = lends(&map, None, None);
-    map.refuse_after(u64::MAX);
-    let _ = called(&mut map, Call::Insert(5, 55));
-    let again = lends(&map, Some((5, 50)), Some((5, 55)));
-    map.clear()?;
-    Ok(removed && entry && refused && again && lends(&map, None, None))
+    Ok(fills(&mut map, 8) && removes(&mut map)? && lends_none(&mut map)?)
 }
 
 #[test]

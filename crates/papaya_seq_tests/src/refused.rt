@@ -93,14 +93,18 @@ fn is_refused<S: BuildHasher>(map: &mut HashMap<u64, u64, S>, row: Row) -> bool 
 }
 
 /// Whether it is refused so, and answers where its requests are met.
-fn answers_then(alloc: Global, row: Row) -> Result<bool, Fault> {
-    let (capacity, keys, call, requests, _, answer) = row;
-    let mut map = HashMap::with_capacity_and_hasher(alloc, capacity, KeyHash::Key)?;
-    if !fills(&mut map, keys) || !is_refused(&mut map, row) {
-        return Ok(false);
+fn goes_so<S: BuildHasher>(map: &mut HashMap<u64, u64, S>, row: Row) -> bool {
+    let (_, keys, call, requests, _, answer) = row;
+    if !fills(map, keys) || !is_refused(map, row) {
+        return false;
     }
     map.refuse_after(requests);
-    Ok(called(&mut map, call) == answer)
+    called(map, call) == answer
+}
+
+fn answers_then(alloc: Global, row: Row) -> Result<bool, Fault> {
+    let mut map = HashMap::with_capacity_and_hasher(alloc, row.0, KeyHash::Key)?;
+    Ok(goes_so(&mut map, row))
 }
 
 #[test]

@@ -1,5 +1,6 @@
 //! Sets: elements are put, removed, sifted and cleared, and sets are made of other elements.
 
+use crate::collected::is_one_of;
 use papaya_runs::key_hash::KeyHash;
 use papaya_seq::{Fault, HashSet};
 use std::alloc::Global;
@@ -34,16 +35,19 @@ fn fills<S: BuildHasher>(set: &mut HashSet<u64, S>) -> bool {
     is_new(set, 3) == Some(false) && set.len() == 8
 }
 
-/// They are put, the even ones are kept, one is removed, and then all.
-fn goes_so(alloc: Global, by: KeyHash) -> Result<bool, Fault> {
-    let mut set = HashSet::with_hasher(alloc, by)?;
-    let filled = fills(&mut set);
+/// The even ones are kept, one is removed, and then all.
+fn empties<S: BuildHasher>(set: &mut HashSet<u64, S>) -> Result<bool, Fault> {
     set.retain(|element| *element % 2 == 0)?;
-    let kept = set.len() == 4 && sum(&set) == 12;
+    let kept = set.len() == 4 && sum(set) == 12;
     let known = set.contains(&2) && !set.contains(&3) && set.get(&4) == Some(&4);
     let removed = set.remove(&2)? && !set.remove(&2)? && !set.contains(&2);
     set.clear()?;
-    Ok(filled && kept && known && removed && set.is_empty())
+    Ok(kept && known && removed && set.is_empty())
+}
+
+fn goes_so(alloc: Global, by: KeyHash) -> Result<bool, Fault> {
+    let mut set = HashSet::with_hasher(alloc, by)?;
+    Ok(fills(&mut set) && empties(&mut set)?)
 }
 
 #[test]
@@ -53,20 +57,36 @@ fn elements_are_put_removed_sifted_and_cleared(rt: HostRuntime) {
     }
 }
 
+/// Whether a set is like another one, and both have so many elements of this sum.
+fn is_like(set: &Numbers, other: &Numbers, len: u64, total: u64) -> bool {
+    other.len() == len && sum(other) == total && sum(set) == total && set == other
+}
+
+fn is_cloned(alloc: Global, set: &Numbers, len: u64, total: u64) -> Result<bool, Fault> {
+    let again = set.clone(alloc)?;
+    Ok(is_like(&again, set, len, total))
+}
+
 /// Whether a set that was collected from these elements has so many of this sum, and its clone too.
 fn is_made(alloc: Global, given: &[u64], len: u64, total: u64) -> Result<bool, Fault> {
     let collected: Numbers = HashSet::try_collect(alloc, given.iter().copied())?;
-    let again = collected.clone(alloc)?;
-    let has = collected.len() == len && sum(&collected) == total && sum(&again) == total;
-    Ok(has && again == collected)
+    is_cloned(alloc, &collected, len, total)
 }
 
-/// Whether one that was extended by them equals one that was made of an array.
+/// Whether a set equals one that is made of an array.
+fn is_of_array(alloc: Global, set: &Numbers, given: &[u64]) -> Result<bool, Fault> {
+    let array: Numbers = HashSet::from_array(alloc, given)?;
+    Ok(*set == array)
+}
+
+/// Whether one that is extended by them does.
+fn is_extended(alloc: Global, set: &mut Numbers, given: &[u64]) -> Result<bool, Fault> {
+    Ok(set.extend(given.iter().copied()).is_ok() && is_of_array(alloc, set, given)?)
+}
+
 fn is_same(alloc: Global, given: &[u64]) -> Result<bool, Fault> {
     let mut extended: Numbers = HashSet::with_capacity(alloc, 20)?;
-    let done = extended.extend(given.iter().copied()).is_ok();
-    let array: Numbers = HashSet::from_array(alloc, given)?;
-    Ok(done && extended == array)
+    is_extended(alloc, &mut extended, given)
 }
 
 #[test]
@@ -81,16 +101,16 @@ fn sets_are_made_of_other_elements(rt: HostRuntime) {
     }
 }
 
-/// Whether a set of these elements is written in one of these ways.
+/// Whether a set is written in one of these ways.
+fn has_text(alloc: Global, set: &Numbers, texts: &[&str]) -> Result<bool, Fault> {
+    let text = format!(in alloc; "{set:?}")?;
+    Ok(is_one_of(text.as_str(), texts))
+}
+
+/// Whether one of these elements is.
 fn is_written(alloc: Global, given: &[u64], texts: &[&str]) -> Result<bool, Fault> {
     let set: Numbers = HashSet::from_array(alloc, given)?;
-    let text = format!(in alloc; "{set:?}")?;
-    for expected in texts {
-        if text.as_str() == *expected {
-            return Ok(true);
-        }
-    }
-    Ok(false)
+    has_text(alloc, &set, texts)
 }
 
 #[test]

@@ -47,20 +47,26 @@ const ROWS: [(Change, Option<u64>, Option<u64>); 11] = [
     (Change::Clear, None, None),
 ];
 
-/// Whether each change is made, and lends so, and a refused one lends nothing.
-fn goes_so(alloc: Global, by: KeyHash) -> Result<bool, Fault> {
-    let mut set = HashSet::with_hasher(alloc, by)?;
-    if !lends(&set, None, None) {
-        return Ok(false);
-    }
+/// Whether each change is made, and lends so.
+fn lends_rows<S: BuildHasher>(set: &mut HashSet<u64, S>) -> bool {
     for (change, taken, met) in ROWS {
-        if !makes(&mut set, change) || !lends(&set, taken, met) {
-            return Ok(false);
+        if !makes(set, change) || !lends(set, taken, met) {
+            return false;
         }
     }
-    let put = makes(&mut set, Change::Insert(7)) && lends(&set, None, Some(7));
+    true
+}
+
+/// Whether a change that is refused lends nothing.
+fn lends_none<S: BuildHasher>(set: &mut HashSet<u64, S>) -> bool {
+    let put = makes(set, Change::Insert(7)) && lends(set, None, Some(7));
     set.refuse_after(0);
-    Ok(put && !makes(&mut set, Change::Insert(7)) && lends(&set, None, None))
+    put && !makes(set, Change::Insert(7)) && lends(set, None, None)
+}
+
+fn goes_so(alloc: Global, by: KeyHash) -> Result<bool, Fault> {
+    let mut set = HashSet::with_hasher(alloc, by)?;
+    Ok(lends(&set, None, None) && lends_rows(&mut set) && lends_none(&mut set))
 }
 
 #[test]

@@ -105,17 +105,21 @@ fn a_refused_call_on_a_set_changes_nothing(rt: HostRuntime) {
 
 /// Where a set with room for so many is extended by the elements from 0 to 49 and so many requests are met: the element that was refused, if one was.
 /// Then just those that came before it are in the set, and all are once it is extended again.
-fn stops(alloc: Global, capacity: u64, met: u64) -> Result<Option<Option<u64>>, Fault> {
-    let mut set = HashSet::with_capacity_and_hasher(alloc, capacity, KeyHash::Key)?;
+fn stops_at<S: BuildHasher>(set: &mut HashSet<u64, S>, met: u64) -> Option<Option<u64>> {
     set.refuse_after(met);
     let back = match set.extend(0..50) {
         Ok(()) => None,
         Err(refused) => Some(refused.key),
     };
-    let stays = has(&set, back.unwrap_or(50));
+    let stays = has(set, back.unwrap_or(50));
     set.refuse_after(u64::MAX);
-    let again = set.extend(0..50).is_ok() && has(&set, 50);
-    Ok(if stays && again { Some(back) } else { None })
+    let again = set.extend(0..50).is_ok() && has(set, 50);
+    if stays && again { Some(back) } else { None }
+}
+
+fn stops(alloc: Global, capacity: u64, met: u64) -> Result<Option<Option<u64>>, Fault> {
+    let mut set = HashSet::with_capacity_and_hasher(alloc, capacity, KeyHash::Key)?;
+    Ok(stops_at(&mut set, met))
 }
 
 #[test]

@@ -34,13 +34,17 @@ fn empties<S: BuildHasher>(map: &mut HashMap<u64, u64, S>) -> bool {
 }
 
 /// How many pairs are left of eight, where those with even keys are kept, and what a walk shows before and after; then that none is left.
+fn goes_so<S: BuildHasher>(map: &mut HashMap<u64, u64, S>) -> bool {
+    let filled = fills(map, 8) && sums(map) == (28, 280);
+    let kept = keeps_even(map) && map.len() == 4 && sums(map) == (12, 120);
+    let known = map.contains_key(&2) && !map.contains_key(&3);
+    let emptied = empties(map) && map.is_empty() && sums(map) == (0, 0);
+    filled && kept && known && emptied
+}
+
 fn sifts(alloc: Global, by: KeyHash) -> Result<bool, Fault> {
     let mut map = HashMap::with_hasher(alloc, by)?;
-    let filled = fills(&mut map, 8) && sums(&map) == (28, 280);
-    let kept = keeps_even(&mut map) && map.len() == 4 && sums(&map) == (12, 120);
-    let known = map.contains_key(&2) && !map.contains_key(&3);
-    let emptied = empties(&mut map) && map.is_empty() && sums(&map) == (0, 0);
-    Ok(filled && kept && known && emptied)
+    Ok(goes_so(&mut map))
 }
 
 #[test]

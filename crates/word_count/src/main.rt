@@ -39,25 +39,44 @@ fn count(counts: &mut Counts, alloc: Global, word: &str) -> Result<bool, Fault>
     }
 }
 
-fn main(rt: HostRuntime) -> io::Result<()> {
-    let alloc = rt.alloc();
-    let mut words = Vec::new(alloc);
-    let mut counts = match Counts::new(alloc) {
-        Ok(counts) => counts,
-        Err(fault) => return Err(io::Error::other(fault.name())),
-    };
+/// Counts the words of the input, and lists each as it comes first.
+fn read<R: Input>(
+    rt: &R,
+    alloc: Global,
+    counts: &mut Counts,
+    words: &mut Vec<String>,
+) -> io::Result<()> {
     for line in rt.lines(alloc) {
         for word in line?.as_str().split_whitespace() {
-            match count(&mut counts, alloc, word) {
+            match count(counts, alloc, word) {
                 Ok(true) => words.push(String::from_str(alloc, word)?)?,
                 Ok(false) => {}
                 Err(fault) => return Err(io::Error::other(fault.name())),
             }
         }
     }
-    for word in words.iter() {
-        println!(rt; "{word} {}", count_of(&counts, word.as_str()))?;
+    Ok(())
+}
+
+/// Prints these words with their counts, and how many there are.
+fn print<R: Print>(rt: &R, counts: &Counts, words: &[String]) -> io::Result<()> {
+    for word in words {
+        println!(rt; "{word} {}", count_of(counts, word.as_str()))?;
     }
     println!(rt; "{} words", counts.len())?;
     Ok(())
+}
+
+/// Reads all words, and prints them.
+fn run<R: Input + Print>(rt: &R, alloc: Global, counts: &mut Counts) -> io::Result<()> {
+    let mut words = Vec::new(alloc);
+    read(rt, alloc, counts, &mut words)?;
+    print(rt, counts, words.as_slice())
+}
+
+fn main(rt: HostRuntime) -> io::Result<()> {
+    match Counts::new(rt.alloc()) {
+        Ok(mut counts) => run(&rt, rt.alloc(), &mut counts),
+        Err(fault) => Err(io::Error::other(fault.name())),
+    }
 }
