@@ -59,13 +59,21 @@ const ROWS: [(Kind, &str, Result<&str, JsonFault>); 14] = [
     (Kind::Texts, "[]", Err(JsonFault::NotAnObject)),
 ];
 
+/// The text of what is written of a map.
+fn text_of<K: JsonForm + Hash, V: JsonForm>(
+    alloc: Global,
+    map: &Map<K, V>,
+) -> Result<String, JsonFault> {
+    Ok(map.to_value(alloc)?.to_string(alloc)?)
+}
+
 /// The text of what is written of the map that this is read as.
 fn written<K: JsonForm + Hash + Drop, V: JsonForm + Drop>(
     alloc: Global,
     value: &Value,
 ) -> Result<String, JsonFault> {
     let map: Map<K, V> = HashMap::from_value(alloc, value)?;
-    Ok(map.to_value(alloc)?.to_string(alloc)?)
+    text_of(alloc, &map)
 }
 
 /// Whether this text is read and written so.

@@ -63,13 +63,18 @@ fn comes_back<K: JsonForm + Hash + Drop, S: BuildHasher + Default + Drop>(
     Ok(read == *set)
 }
 
-/// The text of what is written of the set that this is read as.
-fn written<K: JsonForm + Hash + Drop>(alloc: Global, value: &Value) -> Result<String, JsonFault> {
-    let set: Set<K> = HashSet::from_value(alloc, value)?;
-    if !comes_back(alloc, &set)? {
+/// The text of what is written of a set, which is read back.
+fn text_of<K: JsonForm + Hash + Drop>(alloc: Global, set: &Set<K>) -> Result<String, JsonFault> {
+    if !comes_back(alloc, set)? {
         return Err(JsonFault::BadElement);
     }
     Ok(set.to_value(alloc)?.to_string(alloc)?)
+}
+
+/// The text of what is written of the set that this is read as.
+fn written<K: JsonForm + Hash + Drop>(alloc: Global, value: &Value) -> Result<String, JsonFault> {
+    let set: Set<K> = HashSet::from_value(alloc, value)?;
+    text_of(alloc, &set)
 }
 
 /// Whether this text is read and written so.

@@ -198,13 +198,18 @@ fn is_made(map: &mut Numbers, call: Call) -> bool {
 }
 
 /// Whether it is, and the map is then as it should be.
-pub(crate) fn goes_so(alloc: Global, row: Row) -> bool {
+fn is_so(map: &mut Numbers, row: Row) -> bool {
     let (call, _, len, three, eight) = row;
-    let Some(mut map) = filled(alloc) else {
-        return false;
-    };
-    is_made(&mut map, call)
+    is_made(map, call)
         && map.len() == len
         && map.get(&3).copied() == three
         && map.get(&8).copied() == eight
+}
+
+/// Whether it is so of a map that is filled.
+pub(crate) fn goes_so(alloc: Global, row: Row) -> bool {
+    match filled(alloc) {
+        Some(mut map) => is_so(&mut map, row),
+        None => false,
+    }
 }

@@ -61,18 +61,25 @@ fn is_as_made(maker: Maker, map: &Numbers) -> bool {
     }
 }
 
-/// Whether a map is made at once, or was refused for want of memory, and is made then.
-pub(crate) fn is_made(alloc: Global, maker: Maker) -> bool {
-    let Some(original) = filled(alloc) else {
-        return false;
-    };
-    let so = match made(alloc, maker, &original) {
-        Ok(map) => is_as_made(maker, &map),
-        Err(Fault::Memory) => match made(alloc, maker, &original) {
-            Ok(map) => is_as_made(maker, &map),
-            Err(_) => false,
-        },
-        Err(_) => false,
+/// Why a map is not made, or that it is, and has its pairs.
+fn tried(alloc: Global, maker: Maker, original: &Numbers) -> Result<bool, Fault> {
+    let map = made(alloc, maker, original)?;
+    Ok(is_as_made(maker, &map))
+}
+
+/// Whether a map is made at once, or was refused for want of memory, and is made then; and the other one is as it was.
+fn is_so(alloc: Global, maker: Maker, original: &Numbers) -> bool {
+    let so = match tried(alloc, maker, original) {
+        Err(Fault::Memory) => tried(alloc, maker, original) == Ok(true),
+        first => first == Ok(true),
     };
     so && original.len() == PAIRS
+}
+
+/// Whether it is so beside a map that is filled.
+pub(crate) fn is_made(alloc: Global, maker: Maker) -> bool {
+    match filled(alloc) {
+        Some(original) => is_so(alloc, maker, &original),
+        None => false,
+    }
 }

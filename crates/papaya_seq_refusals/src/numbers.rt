@@ -31,15 +31,19 @@ fn stores(map: &mut Numbers, key: u64) -> bool {
     }
 }
 
+fn fills(map: &mut Numbers) -> bool {
+    for key in 0..PAIRS {
+        if !stores(map, key) {
+            return false;
+        }
+    }
+    true
+}
+
 /// A map with ten times the key for each of the keys from 0 to 7.
 pub(crate) fn filled(alloc: Global) -> Option<Numbers> {
     let mut map = begun(alloc)?;
-    for key in 0..PAIRS {
-        if !stores(&mut map, key) {
-            return None;
-        }
-    }
-    Some(map)
+    if fills(&mut map) { Some(map) } else { None }
 }
 
 /// Whether a map is as that one was.

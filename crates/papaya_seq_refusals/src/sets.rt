@@ -57,25 +57,34 @@ pub(crate) const ROWS: [Row; 7] = [
     (Call::Clear, "clear", 0, false, false),
 ];
 
-/// A set with room for six, and then these elements. It is asked for again where it is refused: one request alone is.
-fn filled(alloc: Global) -> Option<Numbers> {
-    let mut set = match Numbers::with_capacity(alloc, 6) {
-        Ok(set) => set,
+/// A set with room for six. It is asked for again where it is refused: one request alone is.
+fn begun(alloc: Global) -> Option<Numbers> {
+    match Numbers::with_capacity(alloc, 6) {
+        Ok(set) => Some(set),
         Err(_) => match Numbers::with_capacity(alloc, 6) {
-            Ok(set) => set,
-            Err(_) => return None,
+            Ok(set) => Some(set),
+            Err(_) => None,
         },
-    };
+    }
+}
+
+fn fills(set: &mut Numbers) -> bool {
     for element in GIVEN {
         let stored = match set.insert(element) {
             Ok(_) => true,
             Err(refused) => set.insert(refused.key).is_ok(),
         };
         if !stored {
-            return None;
+            return false;
         }
     }
-    Some(set)
+    true
+}
+
+/// A set with these elements.
+fn filled(alloc: Global) -> Option<Numbers> {
+    let mut set = begun(alloc)?;
+    if fills(&mut set) { Some(set) } else { None }
 }
 
 /// Whether a set is as that one was.
@@ -110,20 +119,27 @@ fn is_as_made(maker: Maker, set: &Numbers) -> bool {
     }
 }
 
-/// Whether a set is made at once, or was refused for want of memory, and is made then.
+/// Why a set is not made, or that it is, and has its elements.
+fn tried(alloc: Global, maker: Maker, original: &Numbers) -> Result<bool, Fault> {
+    let set = made(alloc, maker, original)?;
+    Ok(is_as_made(maker, &set))
+}
+
+/// Whether a set is made at once, or was refused for want of memory, and is made then; and the other one is as it was.
+fn is_beside(alloc: Global, maker: Maker, original: &Numbers) -> bool {
+    let so = match tried(alloc, maker, original) {
+        Err(Fault::Memory) => tried(alloc, maker, original) == Ok(true),
+        first => first == Ok(true),
+    };
+    so && is_filled(original)
+}
+
+/// Whether it is so beside a set that is filled.
 pub(crate) fn is_made(alloc: Global, maker: Maker) -> bool {
-    let Some(original) = filled(alloc) else {
-        return false;
-    };
-    let so = match made(alloc, maker, &original) {
-        Ok(set) => is_as_made(maker, &set),
-        Err(Fault::Memory) => match made(alloc, maker, &original) {
-            Ok(set) => is_as_made(maker, &set),
-            Err(_) => false,
-        },
-        Err(_) => false,
-    };
-    so && is_filled(&original)
+    match filled(alloc) {
+        Some(original) => is_beside(alloc, maker, &original),
+        None => false,
+    }
 }
 
 fn changed(set: &mut Numbers, call: Call) -> Result<(), Fault> {
@@ -147,15 +163,20 @@ fn changed(set: &mut Numbers, call: Call) -> Result<(), Fault> {
 }
 
 /// Whether a change is made at once, or was refused for want of memory, with all elements as before, and is made then; and the set is then as it should be.
-pub(crate) fn goes_so(alloc: Global, row: Row) -> bool {
+fn is_so(set: &mut Numbers, row: Row) -> bool {
     let (call, _, len, three, eight) = row;
-    let Some(mut set) = filled(alloc) else {
-        return false;
-    };
-    let so = match changed(&mut set, call) {
+    let so = match changed(set, call) {
         Ok(()) => true,
-        Err(Fault::Memory) => is_filled(&set) && changed(&mut set, call).is_ok(),
+        Err(Fault::Memory) => is_filled(set) && changed(set, call).is_ok(),
         Err(_) => false,
     };
     so && set.len() == len && set.contains(&3) == three && set.contains(&8) == eight
+}
+
+/// Whether it is so of a set that is filled.
+pub(crate) fn goes_so(alloc: Global, row: Row) -> bool {
+    match filled(alloc) {
+        Some(mut set) => is_so(&mut set, row),
+        None => false,
+    }
 }

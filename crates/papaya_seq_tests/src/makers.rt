@@ -5,13 +5,17 @@ use std::hash::{BuildHasherDefault, DefaultHasher};
 
 type Numbers = HashMap<u64, u64, BuildHasherDefault<DefaultHasher>>;
 
-/// Makes a map, and whether it is empty.
+/// Makes a map, with room for so many pairs where it is said.
+fn made(alloc: Global, capacity: Option<u64>) -> Result<Numbers, Fault> {
+    match capacity {
+        Some(capacity) => HashMap::with_capacity(alloc, capacity),
+        None => HashMap::new(alloc),
+    }
+}
+
+/// Whether a map that is made is empty.
 fn begins(alloc: Global, capacity: Option<u64>) -> Result<bool, Fault> {
-    let Some(capacity) = capacity else {
-        let map: Numbers = HashMap::new(alloc)?;
-        return Ok(map.is_empty());
-    };
-    let map: Numbers = HashMap::with_capacity(alloc, capacity)?;
+    let map = made(alloc, capacity)?;
     Ok(map.is_empty())
 }
 
