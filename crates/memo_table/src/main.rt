@@ -5,6 +5,7 @@ ghost use Rattle.std.specs.Prelude.{◌≡◌, ◌%◌, ◌^◌, IfOk, IfSome};
 ghost use Rattle.memo_table.specs.Fibonacci.{fibonacci, AreRight};
 
 use papaya_seq::{Fault, HashMap};
+use std::alloc::Global;
 use std::hash::{BuildHasherDefault, FoldHasher};
 use std::io;
 
@@ -61,20 +62,26 @@ fn place(line: &str) -> Option<u64> {
     }
 }
 
-fn main(rt: HostRuntime) -> io::Result<()> {
-    let mut memo = match Memo::new(rt.alloc()) {
-        Ok(memo) => memo,
-        Err(fault) => return Err(io::Error::other(fault.name())),
-    };
-    for line in rt.lines(rt.alloc()) {
+/// Prints the number at each place that is read, and how many are known then.
+fn print_numbers<R: Input + Print>(rt: &R, alloc: Global, memo: &mut Memo) -> io::Result<()>
+    requires { AreRight memo.old.pairs }
+{
+    for line in rt.lines(alloc) {
         let Some(n) = place(line?.as_str()) else {
             return Err(io::Error::other("a line has a number of at most 1000"));
         };
-        match fibonacci(&mut memo, n) {
+        match fibonacci(memo, n) {
             Ok(number) => println!(rt; "{n}: {number}")?,
             Err(fault) => return Err(io::Error::other(fault.name())),
         }
     }
     println!(rt; "{} known", memo.len())?;
     Ok(())
+}
+
+fn main(rt: HostRuntime) -> io::Result<()> {
+    match Memo::new(rt.alloc()) {
+        Ok(mut memo) => print_numbers(&rt, rt.alloc(), &mut memo),
+        Err(fault) => Err(io::Error::other(fault.name())),
+    }
 }
