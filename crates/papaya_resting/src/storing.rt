@@ -3,23 +3,18 @@ ghost use Rattle.std.specs.Prelude.{◌≡◌, ℕ, IfSome, Ok, None};
 ghost use Rattle.papaya_owned.specs.Ending.{Ends, Leads};
 ghost use Rattle.papaya_owned.specs.Machines.{on_key_plan};
 ghost use Rattle.papaya_resting.specs.Storing.{StoresTo, storing, with_own};
-ghost use Rattle.papaya_raw.specs.CallPoints.{untried, word_to};
+ghost use Rattle.papaya_raw.specs.CallPoints.{untried};
 ghost use Rattle.papaya_raw.specs.declared.machines.answer.There.{There};
 ghost use Rattle.papaya_raw.specs.declared.machines.call.Calling.TheVariants as at;
 
 use papaya_owned::{OnKey, Stop, last_try, run_skimming};
-use papaya_raw::machines::{Calling, KeyAnswer, KeyCall, Missing, Replies, Takes, There, Told};
+use papaya_raw::machines::{
+    Calling, KeyAnswer, KeyCall, Missing, Replies, Takes, There, Told, link_to,
+};
 use papaya_resize::count;
-use papaya_tables::{Hashes, Node, Probe, Setting, Table, Trial, h2};
+use papaya_tables::{Hashes, Node, Probe, Setting, Table, Trial};
 use seize_words::{At, Fault, Link, Look, Memory, Plain};
 use std::hash::Hash;
-
-/// The word that links to a block of this number, by a hash.
-fn link_to(block: u64, hash: u64) -> u64
-    ensures { result ≡ word_to block hash }
-{
-    Link::to(block).wrapping_add(u64::from(h2(hash)) * 8)
-}
 
 /// The try of a call that stands at the root up to which all pass words that can be none of the key, if the map has a table.
 fn first_place<K: Eq + Hash + Drop, V: Drop, S: Hashes<K>>(

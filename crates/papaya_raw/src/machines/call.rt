@@ -20,6 +20,8 @@ mod tables;
 mod tries;
 mod values;
 
+pub use values::link_to;
+
 /// Where a call on one key stands. A pair is named by the word that links to it.
 #[derive(Clone, Copy)]
 pub enum Calling {

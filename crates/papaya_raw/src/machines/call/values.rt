@@ -15,7 +15,7 @@ use seize_words::{Fault, Link, Memory};
 use std::hash::Hash;
 
 /// The word that links to a block of this number, by a hash.
-pub(super) fn link_to(block: u64, hash: u64) -> u64
+pub fn link_to(block: u64, hash: u64) -> u64
     ensures { result ≡ word_to block hash }
 {
     Link::to(block).wrapping_add(u64::from(h2(hash)) * 8)
