@@ -4,7 +4,7 @@ use Rattle.std.specs.List.Sorted.{IsPermutation}
 use Rattle.std.proofs.Common.{ap, sym, ◌∙◌}
 use Rattle.std.proofs.lemmas.Bool.{eqb-true}
 use Rattle.papaya_seq.specs.Pairs.{found_by, left_by}
-use Rattle.papaya_pairs.specs.Each.{put_are_so, value_is_so}
+use Rattle.papaya_seq.specs.Each.{put_are_so, value_is_so}
 use Rattle.memo_table.specs.Fibonacci.{fibonacci, IsRight, AreRight}
 
 -- the number that is found at a place, if one is, is the one at this place

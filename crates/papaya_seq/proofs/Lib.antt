@@ -1,2 +1,3 @@
 -- Lemmas on sets for one owner.
 mod Sets
+pub mod Given

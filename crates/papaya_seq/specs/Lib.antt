@@ -1,2 +1,3 @@
 pub mod Sets
 pub mod Pairs
+pub mod Each

@@ -9,7 +9,6 @@ mod json;
 mod last;
 mod lookups;
 mod making;
-mod requests;
 mod sweeps;
 
 use papaya_seq_map::HashMap;

@@ -158,19 +158,3 @@ pub told_same : {K V E : Type 0} (keys : K → Bool) (xs zs : List (K × V)) →
     → IfOk r (λ was. was ≡ is_some (found_by keys zs))
 told_same keys xs zs is (Ok was) so = so ∙ sym (ap is_some is)
 told_same keys xs zs is (Err e) none = tt
-
--- the same memory shows the same pairs
-module _ {K V S : Type 0} (setting : Setting) (m : Mem (Node K V)) (hasher : S) (last : Last) (tables : CountsTables m (root_link m setting)) where
-  abbrev map_in : (w : Mem (Node K V)) → CountsTables w (root_link w setting) → Map K V S
-  map_in w counted = record { pairs = pairs_shown w setting counted; hasher = hasher; taken = pair_in w last.taken; met = pair_in w last.met }
-
-  AsBefore : Mem (Node K V) → Type 0
-  AsBefore w = (counted : CountsTables w (root_link w setting)) → map_in w counted ≡ map_in m tables
-
-  in_it : AsBefore m
-  unfolding AsBefore
-  in_it counted = ap (map_in m) (counts_tables_prop m (root_link m setting) counted tables)
-
-  pub as_before : (w : Mem (Node K V)) → w ≡ m → (counted : CountsTables w (root_link w setting)) → map_in w counted ≡ map_in m tables
-  unfolding AsBefore
-  as_before w is = subst AsBefore (sym is) in_it

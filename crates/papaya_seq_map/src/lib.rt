@@ -15,7 +15,6 @@ mod last;
 mod lookups;
 mod making;
 mod map;
-mod requests;
 mod rooms;
 mod sweeps;
 mod testing;

@@ -1,4 +1,4 @@
-//! Calls by closures, and a reservation: what each does with the pair of a key, with memory and without.
+//! Calls by closures, and a reservation: what each does with the pair of a key.
 
 use crate::filled::fills;
 use papaya_runs::key_hash::KeyHash;
@@ -8,7 +8,7 @@ use std::hash::BuildHasher;
 
 /// A call.
 #[derive(Clone, Copy)]
-pub(crate) enum Call {
+enum Call {
     /// Adds ten to the value of a key.
     Update(u64),
     /// Adds ten to the value of a key, or stores this one.
@@ -126,11 +126,6 @@ fn called<S: BuildHasher>(map: &mut HashMap<u64, u64, S>, call: Call) -> Did {
     }
 }
 
-/// Makes a call, whatever it does.
-pub(crate) fn closes<S: BuildHasher>(map: &mut HashMap<u64, u64, S>, call: Call) {
-    let _ = called(map, call);
-}
-
 /// A call, what it does, a key, and its value then.
 type Row = (Call, Did, u64, Option<u64>);
 
@@ -181,53 +176,5 @@ fn goes_so(alloc: Global, by: KeyHash) -> Result<bool, Fault> {
 fn closures_are_asked_by_the_pair_of_a_key(rt: HostRuntime) {
     for by in [KeyHash::Key, KeyHash::Zero] {
         assert!(rt; goes_so(rt.alloc(), by) == Ok(true));
-    }
-}
-
-/// Calls that need memory, where the keys from 0 to 7 have ten times the key: what each does with it, and the value of a key before and then.
-const IN_NEED: [(Call, Did, u64, Option<u64>, Option<u64>); 6] = [
-    (Call::Update(3), Did::Replaced, 3, Some(30), Some(40)),
-    (Call::UpdateOrInsert(8, 5), Did::Stored, 8, None, Some(5)),
-    (
-        Call::UpdateOrInsertWith(8, 5),
-        Did::Stored,
-        8,
-        None,
-        Some(5),
-    ),
-    (Call::TryInsertWith(8, 5), Did::Stored, 8, None, Some(5)),
-    (Call::Put(3, 5), Did::Replaced, 3, Some(30), Some(5)),
-    (Call::Reserve(1000), Did::HasRoom, 3, Some(30), Some(30)),
-];
-
-/// Whether a call that is refused at one request after another leaves the value of a key as it was, and then does so.
-fn goes_on<S: BuildHasher>(
-    map: &mut HashMap<u64, u64, S>,
-    row: (Call, Did, u64, Option<u64>, Option<u64>),
-) -> bool {
-    let (call, expected, key, before, after) = row;
-    for met in 0..8 {
-        map.refuse_after(met);
-        let did = called(map, call);
-        if did != Did::Refused(Fault::Memory) {
-            return met > 0 && did == expected && map.get(&key).copied() == after;
-        }
-        if map.get(&key).copied() != before || map.len() != 8 {
-            return false;
-        }
-    }
-    false
-}
-
-/// Whether it does so in a map of eight pairs whose table has no place left.
-fn needs(alloc: Global, row: (Call, Did, u64, Option<u64>, Option<u64>)) -> Result<bool, Fault> {
-    let mut map = HashMap::with_capacity_and_hasher(alloc, 6, KeyHash::Key)?;
-    Ok(fills(&mut map, 8) && goes_on(&mut map, row))
-}
-
-#[test]
-fn a_call_by_closures_is_refused_and_made_again(rt: HostRuntime) {
-    for row in IN_NEED {
-        assert!(rt; needs(rt.alloc(), row) == Ok(true), "key {}", row.2);
     }
 }

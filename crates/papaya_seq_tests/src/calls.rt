@@ -66,7 +66,7 @@ fn removed<S: BuildHasher>(map: &mut HashMap<u64, u64, S>, key: u64) -> Answer {
 }
 
 /// A pair that was found.
-pub(crate) fn copied(found: Option<(&u64, &u64)>) -> Option<(u64, u64)> {
+fn copied(found: Option<(&u64, &u64)>) -> Option<(u64, u64)> {
     match found {
         Some((key, value)) => Some((*key, *value)),
         None => None,

@@ -122,34 +122,3 @@ fn maps_are_written_pair_by_pair(rt: HostRuntime) {
         assert!(rt; is_written(rt.alloc(), given, texts) == Ok(true));
     }
 }
-
-/// What comes back where so many of three pairs are stored and the next is refused, and how many there are then.
-fn refused(
-    map: &mut Numbers,
-    given: &[(u64, u64)],
-    stored: u64,
-) -> (Option<(Fault, u64, u64)>, u64) {
-    map.refuse_after(stored);
-    let back = match map.extend(given.iter().copied()) {
-        Ok(()) => None,
-        Err(refused) => Some((refused.fault, refused.key, refused.value)),
-    };
-    (back, map.len())
-}
-
-/// The same, and how many there are after a second try.
-fn is_refused(alloc: Global, stored: u64, back: (u64, u64)) -> Result<bool, Fault> {
-    let mut map: Numbers = HashMap::with_capacity(alloc, 100)?;
-    let given = [(1, 10), (2, 20), (3, 30)];
-    let first = refused(&mut map, given.as_slice(), stored);
-    map.refuse_after(3);
-    let again = map.extend(given.iter().copied()).is_ok();
-    Ok(first == (Some((Fault::Memory, back.0, back.1)), stored) && again && map.len() == 3)
-}
-
-#[test]
-fn what_came_before_a_refused_pair_stays(rt: HostRuntime) {
-    for (stored, back) in [(0, (1, 10)), (1, (2, 20)), (2, (3, 30))] {
-        assert!(rt; is_refused(rt.alloc(), stored, back) == Ok(true));
-    }
-}

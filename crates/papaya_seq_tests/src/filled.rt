@@ -19,7 +19,7 @@ pub(crate) fn fills<S: BuildHasher>(map: &mut HashMap<u64, u64, S>, keys: u64) -
 }
 
 /// Whether each of so many keys, from 0 on, has ten times the key, and there are no further ones.
-pub(crate) fn is_filled<S: BuildHasher>(map: &mut HashMap<u64, u64, S>, keys: u64) -> bool {
+fn is_filled<S: BuildHasher>(map: &mut HashMap<u64, u64, S>, keys: u64) -> bool {
     for key in 0..keys {
         if called(map, Get(key)) != Value(Some(key.wrapping_mul(10))) {
             return false;

@@ -14,20 +14,12 @@ mod found_again;
 #[cfg(test)]
 mod held;
 #[cfg(test)]
-mod lent;
-#[cfg(test)]
 mod makers;
 #[cfg(test)]
 mod one_hash;
 #[cfg(test)]
-mod refused;
-#[cfg(test)]
 mod rows;
 #[cfg(test)]
 mod sets;
-#[cfg(test)]
-mod sets_lent;
-#[cfg(test)]
-mod sets_refused;
 #[cfg(test)]
 mod swept;

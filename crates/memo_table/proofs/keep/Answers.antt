@@ -1,5 +1,5 @@
 -- The new pair is right, and the others were.
-use Rattle.papaya_pairs.specs.Each.{ordered_are_so}
+use Rattle.papaya_seq.specs.Each.{ordered_are_so}
 use Rattle.memo_table.specs.Fibonacci.{IsRight}
 use Rattle.memo_table.proofs.Memos.{put_right}
 use Rattle.memo_table.proofs.keep.Goals as goal

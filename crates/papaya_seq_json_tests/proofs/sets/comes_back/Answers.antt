@@ -1,7 +1,7 @@
 -- By the law of sets that one array has.
 use Rattle.std.proofs.Common.{◌∙◌}
 use Rattle.std.proofs.lemmas.List.Elements.{All-contains}
-use Rattle.papaya_pairs.proofs.ReadBack.{one_array_one_set}
+use Rattle.papaya_seq.proofs.Given.{one_array_one_set}
 use Rattle.papaya_seq_json_tests.proofs.sets.comes_back.Goals as goal
 
 pub returns : goal.returns
