@@ -28,10 +28,15 @@ pub mod Says
 pub mod Asking
 pub mod AsksRight
 pub mod OtherCalls
-pub mod RowsShift
-pub mod Walks
-pub mod OtherMidsts
-pub mod Retaining
+pub mod NoShifts
+pub mod Sweeps
+pub mod AsCalled
+pub mod AsCalledOn
+pub mod Elsewhere
+pub mod Stays
 pub mod BeginsCall
+pub mod Retaining
+pub mod OtherMidsts
+pub mod OtherEvents
 pub mod Events
 mod Samples

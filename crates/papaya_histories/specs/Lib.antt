@@ -12,3 +12,5 @@ pub mod Asking
 pub mod OtherCalls
 pub mod OtherMidsts
 pub mod Retaining
+pub mod AsCalled
+pub mod Elsewhere

@@ -1,12 +1,14 @@
 //! What is promised of the history of a map since a call on it began.
 ghost use Rattle.std.specs.Prelude.{ℕ, Bool};
+ghost use Rattle.papaya_histories.specs.AsCalled.{AsCalledBegins, CallsBeginAsCalled, CallsComeToAsCalled, CallsKeepAsCalled, CallsTakeAsCalled};
+ghost use Rattle.papaya_histories.specs.Elsewhere.{HistoriesStay, DuesStay, AsCalledStays, MakingsShiftNone, EndingsShiftNone};
 ghost use Rattle.papaya_histories.specs.Answers.{AnswersWereSo, AnswersAreOwed, RefusalsWereSo};
 ghost use Rattle.papaya_histories.specs.Asking.{QuestionsMayBeAsked, AskingStepsStandThere, AskingCallsAskStill};
 ghost use Rattle.papaya_histories.specs.Changes.{StepsChangeOnce};
 ghost use Rattle.papaya_histories.specs.Due.{DuesBegin, CallsKeepDue, CallsBeginDue, CallsTakeDue, CallsComeToDue, EventsKeepDue};
 ghost use Rattle.papaya_histories.specs.Events.{StepsAreLinearizable};
-ghost use Rattle.papaya_histories.specs.OtherCalls.{OthersRemoveOnly, OthersStay, RemovalsAdd, OthersAreLinearizable, NoCallsAreLinearizable};
-ghost use Rattle.papaya_histories.specs.OtherMidsts.{OtherMidstsBegin, OtherMidstsGoOn, OtherMidstsKeepDue, OtherMidstsEnd};
+ghost use Rattle.papaya_histories.specs.OtherCalls.{OthersRemoveOnly, RemovalsAdd, OthersAreLinearizable, NoCallsAreLinearizable};
+ghost use Rattle.papaya_histories.specs.OtherMidsts.{OtherMidstsBegin, OtherMidstsBeginCalls, OtherMidstsGoOn, OtherMidstsKeepDue, OtherMidstsEnd, OtherMidstsAskStill};
 ghost use Rattle.papaya_histories.specs.Others.{RowsBeginHistories, RowsKeepHistories, RowsBeginDue, RowsKeepDue, RowsShiftNone};
 ghost use Rattle.papaya_histories.specs.Questions.{QuestionsBegin, EffectsKeepQuestions, CallsBeginQuestions, CallsTakeQuestions, CallsComeToQuestions, EventsKeepQuestions, RunsKeepQuestions};
 ghost use Rattle.papaya_histories.specs.Retaining.{RetainingsMayAsk};
@@ -15,8 +17,9 @@ ghost use Rattle.papaya_histories.specs.Kept.{HistoriesBegin, CallsKeepHistories
 
 /// At each moment of a run that shows the executor, the history of a map since a call on it began is within the moments of the run since then: what the class of a
 /// key had at a moment of the map, the finite map has at one of these. So it is before all events; after each step of a call, whoever's, if no class changes twice
-/// within one event, as none does by the first step of one; where a call begins, takes a reply and comes to an outcome; where an event is over; and where a row
-/// begins on a slot, and after each step of it.
+/// within one event, as none does by the first step of one; where a call begins, takes a reply and comes to an outcome; where an event is over; where a row
+/// begins on a slot, and after each step of it; and elsewhere: where the making or the end of a map begins, after each step of it, where its map comes or is there no
+/// more, and where a walk is given up.
 pub fn histories_are_within<K, V, S>()
     ensures begins { HistoriesBegin K V }
     ensures calls { (same : K → K → Bool) (hash : K → ℕ) → CallsKeepHistories K V S same hash }
@@ -27,6 +30,7 @@ pub fn histories_are_within<K, V, S>()
     ensures first { (same : K → K → Bool) → FirstStepsChangeFirst K V same }
     ensures rows_begin { (same : K → K → Bool) (hash : K → ℕ) → RowsBeginHistories K V S same hash }
     ensures rows { (same : K → K → Bool) (hash : K → ℕ) → RowsKeepHistories K V S same hash }
+    ensures elsewhere { (same : K → K → Bool) (hash : K → ℕ) → HistoriesStay K V S same hash }
 {}
 
 /// By a step of a call on one key the class of its key changes once at most, by what the sequential specification says that the call means just then; if it got such
@@ -43,7 +47,7 @@ pub fn answers_were_so<K, V, S>()
 
 /// After each step of a call, whoever's, a call on one key owes nothing as an answer if it has changed nothing; and if it has, the answer that the sequential
 /// specification says that it means by its change; if no class changes twice within one event. So it is before all events, too, where a call begins, takes a reply
-/// that such a call takes, and comes to an outcome, where an event is over, and where a row begins on a slot, and after each step of it.
+/// that such a call takes, and comes to an outcome, where an event is over, where a row begins on a slot, and after each step of it, and elsewhere.
 pub fn calls_keep_due<K, V, S>()
     ensures begins { (same : K → K → Bool) → DuesBegin K V same }
     ensures calls { (same : K → K → Bool) (hash : K → ℕ) → CallsKeepDue K V S same hash }
@@ -53,6 +57,7 @@ pub fn calls_keep_due<K, V, S>()
     ensures events { (same : K → K → Bool) → EventsKeepDue K V same }
     ensures rows_begin { (same : K → K → Bool) (hash : K → ℕ) → RowsBeginDue K V S same hash }
     ensures rows { (same : K → K → Bool) (hash : K → ℕ) → RowsKeepDue K V S same hash }
+    ensures elsewhere { (same : K → K → Bool) (hash : K → ℕ) → DuesStay K V S same hash }
 {}
 
 /// What a call on one key answers that tells a change is the answer that it owes since it has changed its map.
@@ -106,23 +111,39 @@ pub fn questions_are_so<K, V, S>()
     ensures retain { (same : K → K → Bool) (hash : K → ℕ) → RetainingsMayAsk K V S same hash }
 {}
 
-/// A step of a reservation, of a counting, or of a walk changes no pair, and one of a clearing removes one at most; and where it goes on, it is such a call still. So an
-/// event of steps of such a call is linearizable; and so is one that is no step of a call, and by which no pair comes or goes, as by a step of a row on a slot.
+/// A sweep is for what was called, was told last of a pair what the last reply about it is, and asks at a moment what it stands at to ask; a reservation and a counting
+/// ask nothing. So it is before all events, where a call begins, takes a reply and comes to an outcome, after each step of a call, whoever's, and elsewhere.
+pub fn calls_are_as_called<K, V, S>()
+    ensures begins { (same : K → K → Bool) → AsCalledBegins K V same }
+    ensures calls { (same : K → K → Bool) (hash : K → ℕ) → CallsKeepAsCalled K V S same hash }
+    ensures begun { (same : K → K → Bool) → CallsBeginAsCalled K V same }
+    ensures told { (same : K → K → Bool) (hash : K → ℕ) → CallsTakeAsCalled K V S same hash }
+    ensures come_to { (same : K → K → Bool) → CallsComeToAsCalled K V same }
+    ensures elsewhere { (same : K → K → Bool) (hash : K → ℕ) → AsCalledStays K V S same hash }
+{}
+
+/// A step of a reservation, of a counting, or of a walk changes no pair, one of a clearing removes one at most, and one of a retaining one at most about which the last
+/// reply was no. An event by which such a call removes only what it may, and asks what it may, is linearizable; and so is one that is no step of a call, and by which no
+/// pair comes or goes, as by steps of rows on slots, and of makings and ends of maps.
 pub fn others_are_linearizable<K, V, S>()
     ensures steps { (same : K → K → Bool) (hash : K → ℕ) → OthersRemoveOnly K V S same hash }
-    ensures stays { (same : K → K → Bool) (hash : K → ℕ) → OthersStay K V S same hash }
     ensures several { (same : K → K → Bool) → RemovalsAdd K V same }
     ensures events { (same : K → K → Bool) → OthersAreLinearizable K V same }
     ensures rows { (same : K → K → Bool) (hash : K → ℕ) → RowsShiftNone K V S same hash }
+    ensures makings { (same : K → K → Bool) (hash : K → ℕ) → MakingsShiftNone K V S same hash }
+    ensures endings { (same : K → K → Bool) (hash : K → ℕ) → EndingsShiftNone K V S same hash }
     ensures of_no_call { (same : K → K → Bool) → NoCallsAreLinearizable K V same }
 {}
 
-/// An event of several steps of a reservation, a counting, a clearing or a walk, one after another, is linearizable, too: in its midst each class has what it had at the
-/// beginning, or nothing any more, and the effects remove only what such a call may. So it is at the beginning, and after each step after which the call goes on; what
-/// calls owe is shown after each step, as no class changes twice within the event.
+/// An event of several steps of a reservation, a counting, a clearing, a retaining or a walk, one after another, is linearizable, too: in its midst each class has what it
+/// had at the beginning, or nothing any more, and the effects remove only what such a call may. So it is at the beginning, also where the event begins the call, and
+/// after each step after which the call goes on; what calls owe is shown after each step, as no class changes twice within the event. And the event that asks what its
+/// last step says changes maps and asks as one finite map says; by it, a call that asks does not go on by itself.
 pub fn other_events_are_linearizable<K, V, S>()
     ensures begins { (same : K → K → Bool) → OtherMidstsBegin K V same }
+    ensures begun { (same : K → K → Bool) (hash : K → ℕ) → OtherMidstsBeginCalls K V S same hash }
     ensures goes_on { (same : K → K → Bool) (hash : K → ℕ) → OtherMidstsGoOn K V S same hash }
     ensures dues { (same : K → K → Bool) (hash : K → ℕ) → OtherMidstsKeepDue K V S same hash }
     ensures ends { (same : K → K → Bool) (hash : K → ℕ) → OtherMidstsEnd K V S same hash }
+    ensures still { (same : K → K → Bool) (hash : K → ℕ) → OtherMidstsAskStill K V S same hash }
 {}

@@ -1,0 +1,107 @@
+-- What stays so of a moment of a run that shows all, where anything else happens than a step of a call: on a slot, to a map that is being made or ends, or to a walk
+-- that is given up.
+use Rattle.std.specs.Prelude.{◌≡◌, ℕ, Bool, true, false, List, [], flat_map, Option, Some, None}
+use Rattle.seize.specs.World.{Begin, Step, with_at}
+use Rattle.seize.specs.declared.rows.settle.Settled.{Settled}
+use Rattle.papaya_tables.specs.declared.node.Node.{Node}
+use Rattle.papaya_tables.specs.declared.setting.Setting.{Setting}
+use Rattle.papaya_runs.specs.Same.{is_same}
+use Rattle.seize.specs.declared.progress.Progress.{Progress}
+use Rattle.papaya_schedules.specs.Beginning.{with_map}
+use Rattle.papaya_schedules.specs.Effects.{with_effects, AtEachEffect}
+use Rattle.papaya_schedules.specs.Entry.{Entry}
+use Rattle.papaya_schedules.specs.Linearizable.{shift_of}
+use Rattle.papaya_schedules.specs.Moment.{MapThere, Remains, Moment}
+use Rattle.papaya_schedules.specs.Views.{map_at, tables_of}
+use Rattle.papaya_callers.specs.Together.{UnderWay}
+use Rattle.papaya_effects.specs.Effects.{effects_of, known_after}
+use Rattle.papaya_effects.specs.Known.{Known}
+use Rattle.papaya_effects.specs.declared.acting.Acting.TheVariants.{Row, Making, Ending}
+use Rattle.papaya_executor.specs.Ending.{EndingLeads, ending_begun}
+use Rattle.papaya_executor.specs.IsAt.{Scene, IsAt, slot_of, work_of}
+use Rattle.papaya_executor.specs.Making.{MakingLeads}
+use Rattle.papaya_executor.specs.OnSlots.{MayBegin, RowBegins, RowLeads}
+use Rattle.papaya_executor.specs.Replying.{StopLeads, unless_stopped}
+use Rattle.papaya_executor.specs.Rows.{request_of}
+use Rattle.papaya_executor.specs.declared.executor.Executor.{Executor}
+use Rattle.papaya_executor.specs.declared.row.RowTold.{RowTold}
+use Rattle.papaya_executor.specs.declared.row.SlotCall.{SlotCall}
+use Rattle.papaya_executor.specs.declared.row.SlotRow.{SlotRow}
+use Rattle.papaya_executor.specs.declared.worker.Work.TheVariants.{OnSlot}
+use Rattle.papaya_finishes.specs.Endings.{Finishing}
+use Rattle.papaya_finishes.specs.Makings.{Beginning}
+use Rattle.papaya_finishes.specs.Maps.{Standing, with_call}
+use Rattle.papaya_follows.specs.Calling.{NoneNamed}
+use Rattle.papaya_others.specs.Endings.{ending_after, without_map}
+use Rattle.papaya_others.specs.Makings.{making_after}
+use Rattle.papaya_others.specs.Rows.{scene_then}
+use Rattle.papaya_others.specs.Walks.{given_up}
+use Rattle.papaya_moments.specs.Endings.{IsOfIts}
+use Rattle.papaya_moments.specs.Makings.{IsNewFor}
+use Rattle.papaya_moments.specs.OnSlots.{HadRetired}
+use Rattle.papaya_moments.specs.Whole.{ShowsWhole}
+use Rattle.papaya_histories.specs.AsCalled.{ShowsAsCalled}
+use Rattle.papaya_histories.specs.Due.{ShowsDue}
+use Rattle.papaya_histories.specs.Histories.{ShowsHistory}
+
+module _ {K V : Type 0} (S : Type 0) (same : K → K → Bool) (hash : K → ℕ) (name : ℕ → List ℕ) (P : Moment K V → Known → Scene K V → Type 0) where
+  pub record StaysElsewhere : Type 0 where
+    -- it stays so where a row begins on a slot, and after a step of it: a table that it reclaims was retired;
+    pub rows_begin : (m : Moment K V) (known : Known) (s : Scene K V) (old new : Executor K V S) → IsAt same hash old s → ShowsWhole same name m known s → P m known s
+        → (called : SlotCall) (i : ℕ) (may : MayBegin old (slot_of i) called) (leads : RowBegins same hash called i s old new)
+        → P m known (scene_then same hash (Begin i (request_of (slot_of i) called)) s old new (leads may).3)
+    pub rows : (m : Moment K V) (known : Known) (s : Scene K V) (old new : Executor K V S) → IsAt same hash old s → ShowsWhole same name m known s → P m known s
+        → (i : ℕ) (told : RowTold (Node K V)) (leads : RowLeads same hash i told s old new) (row : SlotRow) (here : work_of old i ≡ Some (OnSlot row))
+        → AtEachEffect HadRetired None None (effects_of Row known new.memory.changed) m
+        → P (with_effects None None (effects_of Row known new.memory.changed) m) (known_after Row new.memory.changed known) (scene_then same hash (Step i) s old new (leads row here).4)
+    -- where the making of a map begins, where its map comes by a number of which there is no table, and after a step of it, while its map is there as a new one;
+    pub makings_begin : (m : Moment K V) (known : Known) (s : Scene K V) (old new : Executor K V S) → IsAt same hash old s → ShowsWhole same name m known s → P m known s
+        → (i : ℕ) (b : Beginning K) → IsAt same hash new (record s { makers = with_at s.makers i (Some b) }) → P m known (record s { makers = with_at s.makers i (Some b) })
+    pub maps_come : (m : Moment K V) (known : Known) (s : Scene K V) (old : Executor K V S) → IsAt same hash old s → ShowsWhole same name m known s → P m known s
+        → (there : MapThere) → tables_of there.number m ≡ [] → P (with_map there m) known s
+    pub makings : (m : Moment K V) (known : Known) (s : Scene K V) (old new : Executor K V S) → IsAt same hash old s → ShowsWhole same name m known s → P m known s
+        → (i : ℕ) (told : Progress Setting) (leads : MakingLeads same hash i told s old new) (b : Beginning K) (here : s.makers i ≡ Some b) (of : Option ℕ) → IsNewFor b.map told m
+        → P (with_effects None of (effects_of (Making b.map) known new.memory.changed) m) (known_after (Making b.map) new.memory.changed known)
+        (making_after same hash s old new i b (leads b here).0 (leads b here).2.step.w2 told (leads b here).3)
+    -- where the end of a map begins, after a step of it, where a table that ends with the map is one of it, and once it is over, where no map that stands has its name;
+    pub endings_begin : (m : Moment K V) (known : Known) (s : Scene K V) (old new : Executor K V S) → IsAt same hash old s → ShowsWhole same name m known s → P m known s
+        → (map i : ℕ) (standing : Standing K) → s.maps map ≡ Some standing → IsAt same hash new (ending_begun map i standing s) → P m known (ending_begun map i standing s)
+    pub endings : (m : Moment K V) (known : Known) (s : Scene K V) (old new : Executor K V S) → IsAt same hash old s → ShowsWhole same name m known s → P m known s
+        → (i : ℕ) (told : Settled (Node K V)) (leads : EndingLeads same hash i told s old new) (f : Finishing K V) (here : s.enders i ≡ Some f) (map : ℕ) → s.maps map ≡ None
+        → AtEachEffect (IsOfIts map) None (Some map) (effects_of (Ending map) known new.memory.changed) m
+        → P (with_effects None (Some map) (effects_of (Ending map) known new.memory.changed) m) (known_after (Ending map) new.memory.changed known)
+        (ending_after same hash s new i f (leads f here).0 (leads f here).2.w2 (leads f here).2.deed told (leads f here).3)
+    pub endings_over : (m : Moment K V) (known : Known) (s : Scene K V) (old : Executor K V S) → IsAt same hash old s → ShowsWhole same name m known s → P m known s
+        → (own : List ℕ) (remains : List Remains) → ((map : ℕ) (standing : Standing K) (there : MapThere) → s.maps map ≡ Some standing → map_at map m ≡ Some there → is_same there.name own ≡ false)
+        → P (without_map own remains m) known s
+    -- and where a walk is given up: no call that is under way then has its name.
+    pub walks_stop : (m : Moment K V) (known : Known) (s : Scene K V) (old new : Executor K V S) → IsAt same hash old s → ShowsWhole same name m known s → P m known s
+        → (i : ℕ) (stopped : Bool) → StopLeads same hash i stopped s old new → (map : ℕ) (u : UnderWay K V K) → s.calls map i ≡ Some u
+        → (let after = record s { calls = with_call s.calls map i (unless_stopped stopped u) } in (stopped ≡ true → NoneNamed name (name i) after) → P (given_up (name i) stopped m) known after)
+
+module _ (K V S : Type 0) (same : K → K → Bool) (hash : K → ℕ) where
+  -- The promises: so do the histories of maps,
+  abbrev pub HistoriesStay : Type 0
+  HistoriesStay = (name : ℕ → List ℕ) (log : List (Entry K V)) → StaysElsewhere S same hash name (ShowsHistory same name log)
+
+  -- what calls owe,
+  abbrev pub DuesStay : Type 0
+  DuesStay = (name : ℕ → List ℕ) (log : List (Entry K V)) → StaysElsewhere S same hash name (ShowsDue same name log)
+
+  -- and what those on no key are called for, told and ask.
+  abbrev pub AsCalledStays : Type 0
+  AsCalledStays = (name : ℕ → List ℕ) → StaysElsewhere S same hash name (ShowsAsCalled same name)
+
+  -- By a step of the making of a map no pair comes or goes,
+  abbrev pub MakingsShiftNone : Type 0
+  MakingsShiftNone =
+      (name : ℕ → List ℕ) (m : Moment K V) (known : Known) (s : Scene K V) (old new : Executor K V S) → IsAt same hash old s → ShowsWhole same name m known s
+      → (i : ℕ) (told : Progress Setting) → MakingLeads same hash i told s old new → (b : Beginning K) → s.makers i ≡ Some b
+      → flat_map shift_of (effects_of (Making b.map) known new.memory.changed) ≡ []
+
+  -- nor by one of the end of a map.
+  abbrev pub EndingsShiftNone : Type 0
+  EndingsShiftNone =
+      (name : ℕ → List ℕ) (m : Moment K V) (known : Known) (s : Scene K V) (old new : Executor K V S) → IsAt same hash old s → ShowsWhole same name m known s
+      → (i : ℕ) (told : Settled (Node K V)) → EndingLeads same hash i told s old new → (f : Finishing K V) → s.enders i ≡ Some f → (map : ℕ) → s.maps map ≡ None
+      → flat_map shift_of (effects_of (Ending map) known new.memory.changed) ≡ []
