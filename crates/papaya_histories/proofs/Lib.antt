@@ -28,6 +28,7 @@ pub mod Says
 pub mod Asking
 pub mod AsksRight
 pub mod OtherCalls
+pub mod Idle
 pub mod NoShifts
 pub mod Sweeps
 pub mod AsCalled
@@ -38,5 +39,7 @@ pub mod BeginsCall
 pub mod Retaining
 pub mod OtherMidsts
 pub mod OtherEvents
+pub mod Words
+pub mod HasWords
 pub mod Events
 mod Samples

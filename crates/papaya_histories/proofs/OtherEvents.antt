@@ -59,14 +59,14 @@ use Rattle.papaya_histories.proofs.Sweeps.{SweepsOn, sweeps_on, asks_still}
 
 -- a reservation and a counting say of nothing that they ask it
 module _ {T : Type 0} where
-  room_asks_none : (end : Ending T Unit) (about : Option ℕ) → of_outcome end ≡ progress.Asks about → ⊥
+  pub room_asks_none : (end : Ending T Unit) (about : Option ℕ) → of_outcome end ≡ progress.Asks about → ⊥
   room_asks_none rooms.Goes about e = absurd (cc e)
   room_asks_none rooms.Waits about e = absurd (cc e)
   room_asks_none (rooms.Gave value) about e = absurd (cc e)
   room_asks_none (rooms.Done it) about e = absurd (cc e)
   room_asks_none (rooms.Refused fault) about e = absurd (cc e)
 
-  counting_asks_none : (end : Counted ℕ) (about : Option ℕ) → of_counting {T = T} end ≡ progress.Asks about → ⊥
+  pub counting_asks_none : (end : Counted ℕ) (about : Option ℕ) → of_counting {T = T} end ≡ progress.Asks about → ⊥
   counting_asks_none counts.Goes about e = absurd (cc e)
   counting_asks_none counts.Waits about e = absurd (cc e)
   counting_asks_none (counts.Done count) about e = absurd (cc e)

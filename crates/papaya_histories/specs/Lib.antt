@@ -14,3 +14,4 @@ pub mod OtherMidsts
 pub mod Retaining
 pub mod AsCalled
 pub mod Elsewhere
+pub mod Words

@@ -1,9 +1,12 @@
 -- Reservations, countings, clearings, retainings and walks: what their steps change, and that their events are linearizable; so are those of no call.
 use Rattle.std.specs.Prelude.{◌≡◌, ℕ, Bool, List, [], ◌++◌, flat_map, Some, None}
+use Rattle.seize_words.specs.declared.fault.Fault.TheVariants.{Busy}
 use Rattle.papaya_tables.specs.declared.node.Node.{Node}
 use Rattle.papaya_raw.specs.declared.machines.progress.Progress.{Progress}
 use Rattle.papaya_schedules.specs.declared.call.Call.{Call}
 use Rattle.papaya_schedules.specs.declared.call.Call.TheVariants.{On}
+use Rattle.papaya_schedules.specs.declared.outcome.Outcome.{Outcome}
+use Rattle.papaya_schedules.specs.declared.outcome.Outcome.TheVariants.{Asks, Answered, Refused}
 use Rattle.papaya_schedules.specs.After.{moment, moments_from}
 use Rattle.papaya_schedules.specs.Beginning.{at_work}
 use Rattle.papaya_schedules.specs.Effects.{worked}
@@ -26,6 +29,14 @@ use Rattle.papaya_histories.specs.AsCalled.{ShowsAsCalled}
 abbrev pub IsOnNoKey : {K V : Type 0} → Call K V → Type 0
 IsOnNoKey (On one) = ⊥
 IsOnNoKey _ = Unit {0}
+
+-- by it no call has come to an end, and none asks
+abbrev pub IsIdle : {V : Type 0} → Outcome V → Type 0
+IsIdle (Answered a) = ⊥
+IsIdle (Refused Busy) = Unit {0}
+IsIdle (Refused fault) = ⊥
+IsIdle (Asks question) = ⊥
+IsIdle _ = Unit {0}
 
 module _ (K V S : Type 0) (same : K → K → Bool) (hash : K → ℕ) where
   -- The promises: a step of such a call changes no pair, but that one of a clearing may remove a pair, and one of a retaining a pair about which the last reply was no.
@@ -50,3 +61,7 @@ module _ (K V : Type 0) (same : K → K → Bool) where
   -- and one that is no step of a call, and by which no pair comes or goes.
   abbrev pub NoCallsAreLinearizable : Type 0
   NoCallsAreLinearizable = (log : List (Entry K V)) (e : Entry K V) → caller_of e.event ≡ None → flat_map shift_of e.effects ≡ [] → IsLinearizable same log e
+
+  -- So is one that does nothing, and by which no call has come to an end or asks.
+  abbrev pub IdleAreLinearizable : Type 0
+  IdleAreLinearizable = (log : List (Entry K V)) (e : Entry K V) → e.effects ≡ [] → IsIdle e.outcome → IsLinearizable same log e

@@ -7,12 +7,13 @@ ghost use Rattle.papaya_histories.specs.Asking.{QuestionsMayBeAsked, AskingSteps
 ghost use Rattle.papaya_histories.specs.Changes.{StepsChangeOnce};
 ghost use Rattle.papaya_histories.specs.Due.{DuesBegin, CallsKeepDue, CallsBeginDue, CallsTakeDue, CallsComeToDue, EventsKeepDue};
 ghost use Rattle.papaya_histories.specs.Events.{StepsAreLinearizable};
-ghost use Rattle.papaya_histories.specs.OtherCalls.{OthersRemoveOnly, RemovalsAdd, OthersAreLinearizable, NoCallsAreLinearizable};
+ghost use Rattle.papaya_histories.specs.OtherCalls.{OthersRemoveOnly, RemovalsAdd, OthersAreLinearizable, NoCallsAreLinearizable, IdleAreLinearizable};
 ghost use Rattle.papaya_histories.specs.OtherMidsts.{OtherMidstsBegin, OtherMidstsBeginCalls, OtherMidstsGoOn, OtherMidstsKeepDue, OtherMidstsEnd, OtherMidstsAskStill};
 ghost use Rattle.papaya_histories.specs.Others.{RowsBeginHistories, RowsKeepHistories, RowsBeginDue, RowsKeepDue, RowsShiftNone};
 ghost use Rattle.papaya_histories.specs.Questions.{QuestionsBegin, EffectsKeepQuestions, CallsBeginQuestions, CallsTakeQuestions, CallsComeToQuestions, EventsKeepQuestions, RunsKeepQuestions};
 ghost use Rattle.papaya_histories.specs.Retaining.{RetainingsMayAsk};
 ghost use Rattle.papaya_histories.specs.Several.{MidstsBegin, MidstsBeginCalls, MidstsGoOn, MidstsEnd, MidstsAskStill};
+ghost use Rattle.papaya_histories.specs.Words.{QuestionsHaveWords, StepsHaveWords};
 ghost use Rattle.papaya_histories.specs.Kept.{HistoriesBegin, CallsKeepHistories, CallsBeginHistories, CallsTakeHistories, CallsComeToHistories, EventsKeepHistories, FirstStepsChangeFirst};
 
 /// At each moment of a run that shows the executor, the history of a map since a call on it began is within the moments of the run since then: what the class of a
@@ -124,7 +125,7 @@ pub fn calls_are_as_called<K, V, S>()
 
 /// A step of a reservation, of a counting, or of a walk changes no pair, one of a clearing removes one at most, and one of a retaining one at most about which the last
 /// reply was no. An event by which such a call removes only what it may, and asks what it may, is linearizable; and so is one that is no step of a call, and by which no
-/// pair comes or goes, as by steps of rows on slots, and of makings and ends of maps.
+/// pair comes or goes, as by steps of rows on slots, and of makings and ends of maps; and one that does nothing, and by which no call has come to an end or asks.
 pub fn others_are_linearizable<K, V, S>()
     ensures steps { (same : K → K → Bool) (hash : K → ℕ) → OthersRemoveOnly K V S same hash }
     ensures several { (same : K → K → Bool) → RemovalsAdd K V same }
@@ -133,6 +134,7 @@ pub fn others_are_linearizable<K, V, S>()
     ensures makings { (same : K → K → Bool) (hash : K → ℕ) → MakingsShiftNone K V S same hash }
     ensures endings { (same : K → K → Bool) (hash : K → ℕ) → EndingsShiftNone K V S same hash }
     ensures of_no_call { (same : K → K → Bool) → NoCallsAreLinearizable K V same }
+    ensures idle { (same : K → K → Bool) → IdleAreLinearizable K V same }
 {}
 
 /// An event of several steps of a reservation, a counting, a clearing, a retaining or a walk, one after another, is linearizable, too: in its midst each class has what it
@@ -146,4 +148,11 @@ pub fn other_events_are_linearizable<K, V, S>()
     ensures dues { (same : K → K → Bool) (hash : K → ℕ) → OtherMidstsKeepDue K V S same hash }
     ensures ends { (same : K → K → Bool) (hash : K → ℕ) → OtherMidstsEnd K V S same hash }
     ensures still { (same : K → K → Bool) (hash : K → ℕ) → OtherMidstsAskStill K V S same hash }
+{}
+
+/// Whatever a call on one key comes to by a step is an outcome: an answer tells what it means, by the last reply for the pair that its key's class had, or for none, or
+/// what it means by its change; and what it, or a retaining, asks is about none, or about a pair of the run.
+pub fn steps_have_words<K, V, S>()
+    ensures questions { (same : K → K → Bool) (hash : K → ℕ) → QuestionsHaveWords K V S same hash }
+    ensures steps { (same : K → K → Bool) (hash : K → ℕ) → StepsHaveWords K V S same hash }
 {}

@@ -1,4 +1,5 @@
 -- Events of other calls are linearizable.
+use Rattle.papaya_histories.proofs.Idle.{idle_are_linearizable}
 use Rattle.papaya_histories.proofs.NoShifts.{rows_shift_none, makings_shift_none, endings_shift_none}
 use Rattle.papaya_histories.proofs.OtherCalls.{others_remove_only, removals_added, others_are_linearizable, no_calls_are_linearizable}
 use Rattle.papaya_histories.proofs.law.others_are_linearizable.Goals as goal
@@ -12,4 +13,5 @@ returns c d = record {
   makings = makings_shift_none _ _ _;
   endings = endings_shift_none _ _ _;
   of_no_call = no_calls_are_linearizable _ _;
+  idle = idle_are_linearizable _ _;
 }
