@@ -19,7 +19,6 @@ use Rattle.papaya_schedules.specs.declared.outcome.Outcome.TheVariants as outcom
 use Rattle.papaya_schedules.specs.After.{asks_on, comes_to, replied}
 use Rattle.papaya_schedules.specs.Beginning.{fresh_call, with_call}
 use Rattle.papaya_schedules.specs.Moment.{Stands, Going, Asking, Told, IsReady, UnderWay as CallThere, Moment}
-use Rattle.papaya_schedules.specs.Things.{same_question}
 use Rattle.papaya_schedules.specs.Views.{call_of, reply_to}
 use Rattle.papaya_points.specs.Steps.{AreLawful}
 use Rattle.papaya_late.specs.Covers.{NamesPair as NamesIn}
@@ -62,7 +61,7 @@ module _ {K V : Type 0} (number : ℕ → ℕ) (stored : ℕ) (known : Known) wh
   fresh_as_called (Counting sum) its caller guard map events begun = λ q stands. absurd (let no : Going ≡ Asking q = stands in cc no)
   fresh_as_called (OverAll o) its caller guard map events begun = record {
     purpose = begun.0;
-    last = subst (λ (v : Option Verdict). IsLastTold {V = V} number stored v []) (sym begun.1) tt;
+    last = subst (λ (v : Option Verdict). IsLastTold number stored {V = V} v []) (sym begun.1) tt;
     asks = λ q stands. absurd (let no : Going ≡ Asking q = stands in cc no);
   }
 
@@ -99,11 +98,11 @@ module _ (K V : Type 0) (same : K → K → Bool) where
 module _ {K V : Type 0} where
   -- it asks what it asked, or what it is said to ask
   asked_or_said : (question q : Option ℕ) (c : CallThere K V) (stands : Stands) → c.stands ≡ stands → (asks_on question c stands).stands ≡ Asking q
-      → (c.stands ≡ Asking q) ⊎ (outcome.Asks {V = V} question ≡ outcome.Asks q)
+      → (c.stands ≡ Asking q) ⊎ (◌≡◌ {A = Outcome V} (outcome.Asks question) (outcome.Asks q))
   asked_or_said question q c (Asking p) is e = inl e
-  asked_or_said question q c Going is e = inr (let same_one : Asking question ≡ Asking q = e in ap outcome.Asks (cc same_one))
-  asked_or_said question q c Told is e = inr (let same_one : Asking question ≡ Asking q = e in ap outcome.Asks (cc same_one))
-  asked_or_said question q c IsReady is e = inr (let same_one : Asking question ≡ Asking q = e in ap outcome.Asks (cc same_one))
+  asked_or_said question q c Going is e = inr (let same_one : Asking question ≡ Asking q = e in let its : question ≡ q = cc same_one in ap outcome.Asks its)
+  asked_or_said question q c Told is e = inr (let same_one : Asking question ≡ Asking q = e in let its : question ≡ q = cc same_one in ap outcome.Asks its)
+  asked_or_said question q c IsReady is e = inr (let same_one : Asking question ≡ Asking q = e in let its : question ≡ q = cc same_one in ap outcome.Asks its)
 
   comes_asking : (o : Outcome V) (q : Option ℕ) (c : CallThere K V) → (comes_to o c).stands ≡ Asking q → (c.stands ≡ Asking q) ⊎ (o ≡ outcome.Asks q)
   comes_asking outcome.Done q c e = inl e

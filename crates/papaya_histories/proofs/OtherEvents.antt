@@ -78,7 +78,7 @@ asks_or_none (outcome.Asks question) = inl (question, refl)
 asks_or_none _ = inr tt
 
 -- what asks does not go on by itself
-no_going : {K V : Type 0} (known : Known) (about : Option ℕ) (o : Outcome V) → AsksAsSaid {K} {V} known (progress.Asks about) o → GoesItself o → ⊥
+no_going : {K V : Type 0} (known : Known) (about : Option ℕ) (o : Outcome V) → AsksAsSaid {K = K} {V = V} known (progress.Asks about) o → GoesItself o → ⊥
 no_going known about (outcome.Asks question) as goes = goes
 no_going known about _ as goes = as
 

@@ -47,11 +47,11 @@ clears_as_a_walk : (o : CallOverAll) → o.sweep.purpose ≡ Clears → IsBegunA
 clears_as_a_walk o clears begun = let walks = begun.0 in cc (clears, walks)
 
 -- a call that was told to keep pair 3 was told nothing else of it last
-keeps_three : IsLastTold {V = ℕ} (λ n. n) 4 (verdict 3 true) ((Some 3, Decides true) ∷ []) × (IsLastTold {V = ℕ} (λ n. n) 4 (verdict 3 false) ((Some 3, Decides true) ∷ []) → ⊥)
+keeps_three : IsLastTold (λ n. n) 4 {V = ℕ} (verdict 3 true) ((Some 3, Decides true) ∷ []) × (IsLastTold (λ n. n) 4 {V = ℕ} (verdict 3 false) ((Some 3, Decides true) ∷ []) → ⊥)
 keeps_three = ((omega arith, refl), λ last. let no = last.1 in cc no)
 
 -- nor was it told of a pair that was never stored
-keeps_a_later_one : IsLastTold {V = ℕ} (λ n. n) 3 (verdict 3 true) ((Some 3, Decides true) ∷ []) → ⊥
+keeps_a_later_one : IsLastTold (λ n. n) 3 {V = ℕ} (verdict 3 true) ((Some 3, Decides true) ∷ []) → ⊥
 keeps_a_later_one last = let l = last.0 in omega (arith, l)
 
 -- what a step says that it asks is no going on
