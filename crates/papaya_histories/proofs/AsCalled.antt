@@ -1,5 +1,5 @@
 -- Calls on no key stay as the moment says by steps of calls, whoever takes them.
-use Rattle.std.specs.Prelude.{◌≡◌, ℕ, ◌<◌, ◌≤◌, Bool, List, Option, Some, None, ◌⊎◌}
+use Rattle.std.specs.Prelude.{◌≡◌, ℕ, ◌<◌, ◌≤◌, Bool, List, Option, Some, None}
 use Rattle.std.proofs.Common.{refl, ap, sym, subst, ◌∙◌, arith, inl, inr}
 use Rattle.seize_words.specs.Word.{block_in}
 use Rattle.seize.specs.World.{World}
@@ -10,7 +10,6 @@ use Rattle.papaya_sweeps.specs.declared.sweep.Sweeping.TheVariants as at
 use Rattle.papaya_raw.specs.declared.machines.machine.Machine.{Machine}
 use Rattle.papaya_raw.specs.declared.machines.machine.Machine.TheVariants as kinds
 use Rattle.papaya_raw.specs.declared.machines.progress.Progress.{Progress}
-use Rattle.papaya_schedules.specs.declared.call.Call.{Call}
 use Rattle.papaya_schedules.specs.declared.call.Reply.{Reply}
 use Rattle.papaya_schedules.specs.declared.call.Reply.TheVariants.{Decides}
 use Rattle.papaya_schedules.specs.declared.effect.Effect.{Effect}
@@ -45,7 +44,7 @@ module _ (number number2 : ℕ → ℕ) (stored stored2 : ℕ) (more : stored �
   pub last_kept : {V : Type 0} (v : Option Verdict) (replies : List (Option ℕ × Reply V)) → IsLastTold number stored v replies → IsLastTold number2 stored2 v replies
   last_kept None replies h = tt
   last_kept {V} (Some v) replies h =
-      let l = h.0 in (omega (arith, l, more), subst (λ (z : ℕ). reply_to (Some z) replies ≡ Some (Decides {V = V} v.keeps)) (sym (numbers v.about h.0)) h.1)
+      let l = h.0 in (omega (arith, l, more), subst (λ (z : ℕ). ◌≡◌ {A = Option (Reply V)} (reply_to (Some z) replies) (Some (Decides v.keeps))) (sym (numbers v.about h.0)) h.1)
 
   module _ (known known2 : Known) {K V : Type 0} where
     -- a sweep that goes on

@@ -1,10 +1,10 @@
 -- Calls on no key are as the moment says before all events, and between the steps of calls: where one begins, is told a reply, or has come to an outcome.
-use Rattle.std.specs.Prelude.{◌≡◌, ℕ, ◌+◌, ◌<◌, nat_lt, Bool, true, false, ◌&&◌, cond, List, [], ◌∷◌, find, Option, Some, None, Ok, if◌then◌else◌, ◌⊎◌}
+use Rattle.std.specs.Prelude.{◌≡◌, ℕ, ◌+◌, nat_lt, Bool, true, false, ◌&&◌, cond, List, [], ◌∷◌, find, Option, Some, None, Ok, if◌then◌else◌, ◌⊎◌}
 use Rattle.std.proofs.Common.{refl, ap, sym, subst, ◌∙◌, inl, inr}
 use Rattle.std.proofs.lemmas.Bool.{eq-eqb}
 use Rattle.seize_words.specs.Word.{block_in}
 use Rattle.papaya_runs.specs.Same.{is_same}
-use Rattle.papaya_sweeps.specs.SweepPoints.{removes, past, further, reply_at, after_reply}
+use Rattle.papaya_sweeps.specs.SweepPoints.{removes, past, reply_at, after_reply}
 use Rattle.papaya_sweeps.specs.declared.sweep.Sweep.{Sweep}
 use Rattle.papaya_sweeps.specs.declared.sweep.Sweeping.{Sweeping}
 use Rattle.papaya_sweeps.specs.declared.sweep.Sweeping.TheVariants as at
@@ -22,7 +22,7 @@ use Rattle.papaya_schedules.specs.Moment.{Stands, Going, Asking, Told, IsReady, 
 use Rattle.papaya_schedules.specs.Views.{call_of, reply_to}
 use Rattle.papaya_points.specs.Steps.{AreLawful}
 use Rattle.papaya_late.specs.Covers.{NamesPair as NamesIn}
-use Rattle.papaya_callers.specs.OverAll.{Verdict, CallOverAll, verdict, told_of}
+use Rattle.papaya_callers.specs.OverAll.{Verdict, CallOverAll, told_of}
 use Rattle.papaya_callers.specs.Sights.{seen_by, IsSight}
 use Rattle.papaya_callers.specs.Together.{UnderWay, OnKey, ForRoom, Counting, OverAll, Together}
 use Rattle.papaya_effects.specs.Known.{Known}
@@ -32,7 +32,7 @@ use Rattle.papaya_executor.specs.Replying.{scene_with}
 use Rattle.papaya_executor.specs.declared.executor.Executor.{Executor}
 use Rattle.papaya_finishes.specs.Machines.{machine_of, ToldOfKind}
 use Rattle.papaya_finishes.specs.Maps.{Standing}
-use Rattle.papaya_follows.specs.Calling.{NoneNamed, told, come_to}
+use Rattle.papaya_follows.specs.Calling.{told, come_to}
 use Rattle.papaya_follows.specs.Shows.{Shows}
 use Rattle.papaya_follows.proofs.Calling.{is_same_refl, replied_same, come, begins_with, told_with, come_with}
 use Rattle.papaya_follows.proofs.Calls.{found}
@@ -41,9 +41,7 @@ use Rattle.papaya_hands.specs.Asked.{as_told}
 use Rattle.papaya_hands.proofs.Asking.{which}
 use Rattle.papaya_hands.proofs.Beginning.{runs_begin_so}
 use Rattle.papaya_hands.proofs.Calling.{caller_is}
-use Rattle.papaya_moments.specs.Whole.{ShowsWhole}
 use Rattle.papaya_histories.specs.AsCalled.{purpose_of, SweepAsks, IsLastTold, IsSweptAs, IsAsCalled, ShowsAsCalled, IsBegunAs, AsksAsCalled, AsCalledBegins, CallsBeginAsCalled, CallsComeToAsCalled, CallsTakeAsCalled}
-use Rattle.papaya_histories.specs.Asking.{IsToldQuestion}
 use Rattle.papaya_histories.proofs.Calling.{came_so}
 use Rattle.papaya_histories.proofs.DueOn.{comes_owed}
 use Rattle.papaya_histories.proofs.Roles.{named_by}
@@ -126,8 +124,8 @@ module _ {K V : Type 0} (number : ℕ → ℕ) (stored : ℕ) (known : Known) (o
 
   pub comes_as_called : (x : UnderWay K V K) → AsksAsCalled known x o → IsAsCalled number stored known x c → IsAsCalled number stored known x (come o steps c)
   comes_as_called (OnKey u) just h = tt
-  comes_as_called (ForRoom r) just h = comes_quiet (ForRoom r) (λ q no. no) just h
-  comes_as_called (Counting sum) just h = comes_quiet (Counting sum) (λ q no. no) just h
+  comes_as_called (ForRoom r) just h = comes_quiet (ForRoom r) (λ q asks. asks) just h
+  comes_as_called (Counting sum) just h = comes_quiet (Counting sum) (λ q asks. asks) just h
   comes_as_called (OverAll v) just h =
       let kept = comes_owed o (record c { steps = c.steps + steps }) in
       record {
@@ -135,7 +133,7 @@ module _ {K V : Type 0} (number : ℕ → ℕ) (stored : ℕ) (known : Known) (o
         last = subst (λ (r : List (Option ℕ × Reply V)). IsLastTold number stored v.told r) (sym kept.1) h.last;
         asks = λ q e. elim (comes_asking o q (record c { steps = c.steps + steps }) e) as (λ _. SweepAsks known v.sweep.stands q) [
           | inl was ↦ h.asks q was
-          | inr asks ↦ subst (AsksAsCalled known (OverAll {K = K} {V = V} {Q = K} v)) asks just
+          | inr asks ↦ subst (λ (y : Outcome V). AsksAsCalled {K = K} known (OverAll v) y) asks just
         ];
       }
 
@@ -257,10 +255,10 @@ module _ {K V S : Type 0} (same : K → K → Bool) (hash : K → ℕ) (name : �
   own_told_as (OnKey u) next here machine taken (inr is) = subst (λ (x : UnderWay K V K). IsAsCalled number stored known x after) (sym is) tt
   own_told_as (ForRoom r) next here machine taken is = subst (λ (x : UnderWay K V K). IsAsCalled number stored known x after) (sym is) no_more
   own_told_as (Counting sum) next here machine taken is = subst (λ (x : UnderWay K V K). IsAsCalled number stored known x after) (sym is) no_more
-  own_told_as (OverAll o) next here machine taken (inl (word, n, stands, names, inl (yes, is))) =
-      subst (λ (x : UnderWay K V K). IsAsCalled number stored known x after) (sym is) (swept_told o here word n stands names true (yes_is is_told yes))
-  own_told_as (OverAll o) next here machine taken (inl (word, n, stands, names, inr (no, is))) =
-      subst (λ (x : UnderWay K V K). IsAsCalled number stored known x after) (sym is) (swept_told o here word n stands names false (no_is is_told no))
+  own_told_as (OverAll o) next here machine taken (inl (word, n, stands, names, inl (agrees, is))) =
+      subst (λ (x : UnderWay K V K). IsAsCalled number stored known x after) (sym is) (swept_told o here word n stands names true (yes_is is_told agrees))
+  own_told_as (OverAll o) next here machine taken (inl (word, n, stands, names, inr (denies, is))) =
+      subst (λ (x : UnderWay K V K). IsAsCalled number stored known x after) (sym is) (swept_told o here word n stands names false (no_is is_told denies))
   own_told_as (OverAll o) next here machine taken (inr is) =
       let asks = (h o here).asks question c_asks in
       let same_sweep : (sweep_replied o.sweep (as_told is_told)).0 ≡ o.sweep = (let one = sym machine ∙ ap machine_of is in cc one) in

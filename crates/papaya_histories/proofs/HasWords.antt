@@ -4,7 +4,6 @@ use Rattle.std.specs.Int.{IsPowerOfTwo}
 use Rattle.std.proofs.Common.{refl, ap, sym, subst, ◌∙◌, inl, inr}
 use Rattle.seize_words.specs.Mem.{Mem}
 use Rattle.seize.specs.World.{World, with_at}
-use Rattle.papaya_tables.specs.Chunks.{is_incremental}
 use Rattle.papaya_tables.specs.declared.node.Node.{Node}
 use Rattle.papaya_sweeps.specs.declared.sweep.Sweeping.{Sweeping}
 use Rattle.papaya_sweeps.specs.declared.sweep.Sweeping.TheVariants as sweeping
@@ -89,8 +88,8 @@ module _ {K V S : Type 0} (same : K → K → Bool) (hash : K → ℕ) (name : �
   each : Together V same there.hash same there.setting slot_of s.world there.chart there.blocks there.sights (s.calls map)
   each = at_e.together.makings.standing.each map there there_is
 
-  fits : AreLawful same there.hash × IsPowerOfTwo there.setting.initial × (there.setting.batch_size ≡ e.batch_size)
-  fits = at_e.together.makings.standing.fit map there there_is
+  lawful : AreLawful same there.hash × IsPowerOfTwo there.setting.initial × (there.setting.batch_size ≡ e.batch_size)
+  lawful = at_e.together.makings.standing.fit map there there_is
 
   abbrev seen : Blocks
   seen = seen_by there.blocks (there.sights (slot_of i))
@@ -101,7 +100,7 @@ module _ {K V S : Type 0} (same : K → K → Bool) (hash : K → ℕ) (name : �
   names : (word n : ℕ) (borrowed : Bool) → n < there.chart.stored → seen.pair_known n ≡ true → word ≡ place_word there.hash there.chart seen (Holds n Still borrowed) → Named word
   names word n borrowed l known_too is = (
     shown.number map n,
-    ap known.roles (named_by same there.hash fits.0 there.chart seen word n Still borrowed is)
+    ap known.roles (named_by same there.hash lawful.0 there.chart seen word n Still borrowed is)
         ∙ (shown.maps map there there_is).pairs.roles n l ((each.ground.sight (slot_of i) (each.inside i x here)).0.pairs n l known_too),
   )
 
@@ -109,7 +108,7 @@ module _ {K V S : Type 0} (same : K → K → Bool) (hash : K → ℕ) (name : �
   key_names u is word stands_at = by about.0 about.1
     where
       about : (q : Option ℕ) × AsksAbout V same there.hash same there.setting slot_of there.chart seen (asking.Present word) q
-      about = (replies_stand_together same there.hash same there.setting slot_of fits.0 fits.1 s.world there.chart there.blocks there.sights (s.calls map) each i u (here ∙ ap Some is) (asking.Present word) stands_at).0
+      about = (replies_stand_together same there.hash same there.setting slot_of lawful.0 lawful.1 s.world there.chart there.blocks there.sights (s.calls map) each i u (here ∙ ap Some is) (asking.Present word) stands_at).0
 
       by : (q : Option ℕ) → AsksAbout V same there.hash same there.setting slot_of there.chart seen (asking.Present word) q → Named word
       by None asks = absurd asks
@@ -122,7 +121,7 @@ module _ {K V S : Type 0} (same : K → K → Bool) (hash : K → ℕ) (name : �
   ]
     where
       by : SweepingFacts same there.hash s.world i (in_slot there.setting (slot_of i)) there.chart seen o.began o.sweep (sweeping.Asks word) → Named word
-      by (retains, (n, borrowed, l, known_too, word_is), place) = names word n borrowed l known_too word_is
+      by (retains, (n, borrowed, l, known_too, word_is), t, place) = names word n borrowed l known_too word_is
 
 module _ {K V S : Type 0} (same : K → K → Bool) (hash : K → ℕ) (name : ℕ → List ℕ) (m : Moment K V) (known : Known) (s : Scene K V) (old new : Executor K V S) (at_old : IsAt same hash old s)
     (whole : ShowsWhole same name m known s) (shown : Shows same name m known s) (map i : ℕ) (u : UnderWay K V K) (here : s.calls map i ≡ Some u) (about : Option ℕ)
@@ -182,7 +181,7 @@ module _ {K V S : Type 0} (same : K → K → Bool) (hash : K → ℕ) (name : �
   has_question : (x : UnderWay K V K) → StepsFrom same hash (machine_of x) old new (leads map u here).1 asks → DidSo same hash name m known s old new at_old shown map i u here asks leads x → Question
   has_question (OnKey x) steps did = by_key x steps
   has_question (ForRoom r) steps (p2, end, machine_is, told_is, did) = absurd (room_asks_none end about (sym told_is))
-  has_question (Counting sum) steps (sum2, end, machine_is, told_is, did) = absurd (counting_asks_none end about (sym told_is))
+  has_question (Counting sum) steps (sum2, end, machine_is, told_is, still, stayed) = absurd (counting_asks_none end about (sym told_is))
   has_question (OverAll o) steps did = by_sweep o steps
 
   pub question_of : Question
@@ -250,26 +249,35 @@ module _ {K V S : Type 0} (same : K → K → Bool) (hash : K → ℕ) (name : �
     -- where it tells a change it tells what it means by that
     done_by : (w : World (Node K V)) (change : Change) (an : KeyAnswer) → Tells same st.hash same w i (in_slot st.setting (slot_of i)) c2 looks z.keys change change an → Owes number2 st2.chart.stored one d change
         → (a : Answer V) × IsToldDone noted one c.replies an a
-    done_by w (Stored n) (answers.Stored word) (there, word_is) (l, a, value, meaning, due) = (a, (
-      number2 n,
-      name_it word n Still false there.0 there.1 word_is,
-      value,
-      subst (λ (r : List (Option ℕ × Reply V)). means one (reply_to None r) None (number2 n) ≡ Answers a (Puts value)) replies_are meaning,
-    ))
-    done_by w (Replaced o n) (answers.Replaced before then_there) (old_there, new_there, borrowed, old_is, new_is) (l, l2, a, value, meaning, due) = (a, (
-      number2 o,
-      number2 n,
-      name_it before o Still borrowed old_there.0 old_there.1 old_is,
-      name_it then_there n Still false new_there.0 new_there.1 new_is,
-      value,
-      subst (λ (r : List (Option ℕ × Reply V)). means one (reply_to (Some (number2 o)) r) (Some (number2 o)) (number2 n) ≡ Answers a (Puts value)) replies_are meaning,
-    ))
-    done_by w (Removed o) (answers.Removed word) (there, borrowed, word_is) (l, a, fresh, meaning, due) = (a, (
-      number2 o,
-      name_it word o Still borrowed there.0 there.1 word_is,
-      λ next. takes_any (number2 o) fresh next a one (reply_to (Some (number2 o)) c.replies)
-          (subst (λ (r : List (Option ℕ × Reply V)). means one (reply_to (Some (number2 o)) r) (Some (number2 o)) fresh ≡ Answers a Takes) replies_are meaning),
-    ))
+    done_by w (Stored n) (answers.Stored word) (there, word_is) (l, a, value, meaning, due) = (
+      a,
+      (
+        number2 n,
+        name_it word n Still false there.0 there.1 word_is,
+        value,
+        subst (λ (r : List (Option ℕ × Reply V)). means one (reply_to None r) None (number2 n) ≡ Answers a (Puts value)) replies_are meaning,
+      ),
+    )
+    done_by w (Replaced o n) (answers.Replaced before then_there) (old_there, new_there, borrowed, old_is, new_is) (l, l2, a, value, meaning, due) = (
+      a,
+      (
+        number2 o,
+        number2 n,
+        name_it before o Still borrowed old_there.0 old_there.1 old_is,
+        name_it then_there n Still false new_there.0 new_there.1 new_is,
+        value,
+        subst (λ (r : List (Option ℕ × Reply V)). means one (reply_to (Some (number2 o)) r) (Some (number2 o)) (number2 n) ≡ Answers a (Puts value)) replies_are meaning,
+      ),
+    )
+    done_by w (Removed o) (answers.Removed word) (there, borrowed, word_is) (l, a, fresh, meaning, due) = (
+      a,
+      (
+        number2 o,
+        name_it word o Still borrowed there.0 there.1 word_is,
+        λ next. takes_any (number2 o) fresh next a one (reply_to (Some (number2 o)) c.replies)
+            (subst (λ (r : List (Option ℕ × Reply V)). means one (reply_to (Some (number2 o)) r) (Some (number2 o)) fresh ≡ Answers a Takes) replies_are meaning),
+      ),
+    )
     done_by w _ _ tells owes = absurd tells
 
     -- what it was told to leave so

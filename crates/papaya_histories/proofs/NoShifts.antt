@@ -1,5 +1,5 @@
 -- By a step of a row on a slot, of a making or of an end of a map no pair comes or goes.
-use Rattle.std.specs.Prelude.{◌≡◌, ℕ, nat_lt, Bool, true, false, List, [], ◌∷◌, flat_map, Option, Some, None, if◌then◌else◌, ◌⊎◌}
+use Rattle.std.specs.Prelude.{◌≡◌, ℕ, nat_lt, Bool, true, false, List, [], ◌∷◌, flat_map, Some, None, if◌then◌else◌}
 use Rattle.std.proofs.Common.{refl, sym, subst, inl, inr}
 use Rattle.seize_words.specs.Word.{block_in}
 use Rattle.seize_words.specs.declared.at.At.TheVariants.{Root, Used, Slot, Entry, Word}

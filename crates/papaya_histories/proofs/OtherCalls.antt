@@ -11,8 +11,6 @@ use Rattle.papaya_sweeps.specs.declared.sweep.Purpose.TheVariants.{Walks, Retain
 use Rattle.papaya_raw.specs.declared.machines.progress.Progress.{Progress}
 use Rattle.papaya_schedules.specs.declared.call.Call.{Call}
 use Rattle.papaya_schedules.specs.declared.call.Call.TheVariants as call
-use Rattle.papaya_schedules.specs.declared.call.Reply.{Reply}
-use Rattle.papaya_schedules.specs.declared.call.Reply.TheVariants.{Decides}
 use Rattle.papaya_schedules.specs.declared.effect.Effect.{Effect}
 use Rattle.papaya_schedules.specs.declared.outcome.Outcome.{Outcome}
 use Rattle.papaya_schedules.specs.declared.outcome.Outcome.TheVariants as outcome
@@ -28,7 +26,7 @@ use Rattle.papaya_rule.specs.Chart.{Chart, put}
 use Rattle.papaya_rule.proofs.Laws.{current_is_known}
 use Rattle.papaya_rule.proofs.Moves.Writes.{put_here, put_elsewhere}
 use Rattle.papaya_points.specs.FactsCalls.{Unchanged}
-use Rattle.papaya_callers.specs.OverAll.{Verdict, CallOverAll, verdict, RemovesTold}
+use Rattle.papaya_callers.specs.OverAll.{Verdict, CallOverAll, RemovesTold}
 use Rattle.papaya_callers.specs.Together.{UnderWay, OnKey, ForRoom, Counting, OverAll, Together, IsOneStep}
 use Rattle.papaya_finishes.specs.Maps.{Standing}
 use Rattle.papaya_effects.specs.Effects.{effects_of}

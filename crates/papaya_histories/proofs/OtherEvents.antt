@@ -78,9 +78,9 @@ asks_or_none (outcome.Asks question) = inl (question, refl)
 asks_or_none _ = inr tt
 
 -- what asks does not go on by itself
-no_going : {K V : Type 0} (known : Known) (about : Option ℕ) (o : Outcome V) → AsksAsSaid {K = K} {V = V} known (progress.Asks about) o → GoesItself o → ⊥
-no_going known about (outcome.Asks question) as goes = goes
-no_going known about _ as goes = as
+no_going : (K : Type 0) {V : Type 0} (known : Known) (about : Option ℕ) (o : Outcome V) → AsksAsSaid {K = K} {V = V} known (progress.Asks about) o → GoesItself o → ⊥
+no_going K known about (outcome.Asks question) as_said goes = goes
+no_going K known about _ as_said goes = as_said
 
 module _ {K V S : Type 0} (same : K → K → Bool) (hash : K → ℕ) (name : ℕ → List ℕ) (log : List (Entry K V)) (beginning : Moment K V) (map i : ℕ) (c : CallThere K V)
     (done : List Effect) (m : Moment K V) (known : Known) (s : Scene K V) (u : UnderWay K V K) (midst : InOtherMidst same name log beginning map i c done m known s u)
@@ -123,9 +123,9 @@ module _ {K V S : Type 0} (same : K → K → Bool) (hash : K → ℕ) (name : �
     fewer_then : (k : K) → (finite_map same map then_at k ≡ finite_map same map (moment log) k) ⊎ (finite_map same map then_at k ≡ None)
     fewer_then k = elim (fewer_so same hash name log beginning map i c done m known s u midst old new at_old (progress.Asks about) leads k)
         as (λ _. (finite_map same map then_at k ≡ finite_map same map (moment log) k) ⊎ (finite_map same map then_at k ≡ None)) [
-      | inl kept ↦ inl (kept ∙ map_alike same map k (moment log) beginning midst.begins.0 midst.begins.1)
-      | inr gone ↦ inr gone
-    ]
+          | inl kept ↦ inl (kept ∙ map_alike same map k (moment log) beginning midst.begins.0 midst.begins.1)
+          | inr gone ↦ inr gone
+        ]
 
     -- only a sweep says that it asks, and stands there
     abbrev AsksThere : Type 0
@@ -153,7 +153,7 @@ module _ {K V S : Type 0} (same : K → K → Bool) (hash : K → ℕ) (name : �
         by : (x : UnderWay K V K) → ((y : CallOnKey K V K) → x ≡ OnKey y → ⊥) → StepsFrom same hash (machine_of x) old new (leads map u midst.here).1 (progress.Asks about) → DidIt x → AsksThere
         by (OnKey x) none steps did = absurd (none x refl)
         by (ForRoom r) none steps (p2, end, machine_is, told_is, did) = absurd (room_asks_none end about (sym told_is))
-        by (Counting sum) none steps (sum2, end, machine_is, told_is, did) = absurd (counting_asks_none end about (sym told_is))
+        by (Counting sum) none steps (sum2, end, machine_is, told_is, still, stayed) = absurd (counting_asks_none end about (sym told_is))
         by (OverAll o) none steps did = sweep_asks o steps
 
     -- so it is a retaining, and may ask that
@@ -261,7 +261,7 @@ module _ {K V S : Type 0} (same : K → K → Bool) (hash : K → ℕ) (name : �
         by (OverAll o) none steps h =
             let at_word = h.asks question asks in
             let says = (asks_still same hash old new o.sweep (leads map u midst.here).1 said steps at_word.0 at_word.1).1 in
-            no_going known2 (Some at_word.0) e.outcome (subst (λ (x : Progress (Node K V)). AsksAsSaid known2 x e.outcome) says as_said) goes
+            no_going K known2 (Some at_word.0) e.outcome (subst (λ (x : Progress (Node K V)). AsksAsSaid known2 x e.outcome) says as_said) goes
 
     still_so : (its : Stands) → call_at_end.stands ≡ its → AsksStill its e.outcome
     still_so (Asking question) is = still_asks question (sym (d_stands same hash name log beginning map i c done m known s u midst old new at_old said leads) ∙ is)

@@ -1,5 +1,5 @@
 -- In the midst of an event of several steps of a call on no key that only removes pairs, and at its end.
-use Rattle.std.specs.Prelude.{◌≡◌, ℕ, ◌<◌, Bool, true, List, [], ◌++◌, cond, find, flat_map, Option, Some, None, ◌⊎◌}
+use Rattle.std.specs.Prelude.{◌≡◌, ℕ, ◌<◌, Bool, true, List, ◌++◌, cond, find, flat_map, Option, Some, None, ◌⊎◌}
 use Rattle.std.proofs.Common.{refl, ap, sym, subst, ◌∙◌, inl, inr}
 use Rattle.std.proofs.lemmas.Grind.{flat_map-append}
 use Rattle.seize.specs.World.{with_at}
@@ -19,7 +19,6 @@ use Rattle.papaya_schedules.specs.Sequential.{Shift}
 use Rattle.papaya_schedules.specs.Views.{call_of, finite_map}
 use Rattle.papaya_rule.specs.Chart.{Chart}
 use Rattle.papaya_rule.proofs.Laws.{current_is_known}
-use Rattle.papaya_points.specs.FactsCalls.{Unchanged}
 use Rattle.papaya_callers.specs.Together.{CallOnKey, UnderWay, OnKey, ForRoom, Counting, OverAll, Together}
 use Rattle.papaya_callers.proofs.Together.At.{at_same}
 use Rattle.papaya_finishes.specs.Maps.{Standing, IsSameMap}
@@ -161,31 +160,32 @@ module _ {K V S : Type 0} (same : K → K → Bool) (hash : K → ℕ) (name : �
   abbrev pub then_at : Moment K V
   then_at = with_effects (Some (name i)) (Some map) effects m
 
-  abbrev there : CallThere K V
-  there = midst.there
+  -- the call as the step begins
+  abbrev pub its_call : CallThere K V
+  its_call = midst.there
 
-  pub there_other : IsOnNoKey there.call
+  pub there_other : IsOnNoKey its_call.call
   there_other = subst (λ (x : Call K V). IsOnNoKey x) (sym midst.same_call.call) midst.other
 
-  pub there_called : IsCalled same u there.call
+  pub there_called : IsCalled same u its_call.call
   there_called =
-      let was = midst.dues.history.shown.calls map i u midst.here in subst (λ (x : CallThere K V). IsCalled same u x.call) (one_of was.0 there (sym was.1 ∙ midst.there_is)) was.3
+      let was = midst.dues.history.shown.calls map i u midst.here in subst (λ (x : CallThere K V). IsCalled same u x.call) (one_of was.0 its_call (sym was.1 ∙ midst.there_is)) was.3
 
   -- the call after the step
   abbrev pub d : CallThere K V
-  d = (calls_after (name i) map (name i) effects m there midst.there_is).0
+  d = (calls_after (name i) map (name i) effects m its_call midst.there_is).0
 
   pub d_is : call_of (name i) then_at ≡ Some d
-  d_is = (calls_after (name i) map (name i) effects m there midst.there_is).1
+  d_is = (calls_after (name i) map (name i) effects m its_call midst.there_is).1
 
   pub d_same : IsSameCall c d
-  d_same = same_then c there d midst.same_call (call_then same name log map i effects m there midst.there_is d d_is)
+  d_same = same_then c its_call d midst.same_call (call_then same name log map i effects m its_call midst.there_is d d_is)
 
-  pub d_stands : d.stands ≡ there.stands
-  d_stands = (calls_after (name i) map (name i) effects m there midst.there_is).2.0.stands
+  pub d_stands : d.stands ≡ its_call.stands
+  d_stands = (calls_after (name i) map (name i) effects m its_call midst.there_is).2.0.stands
 
   fewer_now : (k : K) → (finite_map same map then_at k ≡ finite_map same map m k) ⊎ (finite_map same map then_at k ≡ None)
-  fewer_now = fewer_then same hash name m known s old new at midst.whole midst.dues.history.shown map i u midst.here said leads there.call there_called there_other
+  fewer_now = fewer_then same hash name m known s old new at midst.whole midst.dues.history.shown map i u midst.here said leads its_call.call there_called there_other
 
   -- no class has changed twice
   pub first_change : ChangesFirst log m same map then_at
@@ -209,9 +209,9 @@ module _ {K V S : Type 0} (same : K → K → Bool) (hash : K → ℕ) (name : �
   pub removes_so : RemovesOnly same c.call c (flat_map shift_of (done ++ effects))
   removes_so = subst (λ (l : List Shift). RemovesOnly same c.call c l) (sym (flat_map-append shift_of done effects))
       (removals_added K V same c.call c (flat_map shift_of done) (flat_map shift_of effects) midst.removes
-      (removes_same same c.call c there midst.same_call.replies (flat_map shift_of effects)
-      (subst (λ (x : Call K V). RemovesOnly same x there (flat_map shift_of effects)) midst.same_call.call
-      (others_remove_only K V S same hash name m known s old new at midst.whole midst.called map i u midst.here said leads there midst.there_is there_other))))
+      (removes_same same c.call c its_call midst.same_call.replies (flat_map shift_of effects)
+      (subst (λ (x : Call K V). RemovesOnly same x its_call (flat_map shift_of effects)) midst.same_call.call
+      (others_remove_only K V S same hash name m known s old new at midst.whole midst.called map i u midst.here said leads its_call midst.there_is there_other))))
 
   pub worked_then : then_at ≡ with_effects (Some (name i)) (Some map) (done ++ effects) beginning
   worked_then = ap (λ (x : Moment K V). with_effects (Some (name i)) (Some map) effects x) midst.worked ∙ sym (effects_after (Some (name i)) (Some map) done effects beginning)

@@ -1,5 +1,5 @@
 -- A sweep keeps its purpose; where it says that it asks about a pair it stands there; and one that asks stays, and says so.
-use Rattle.std.specs.Prelude.{◌≡◌, ℕ, ◌==◌, ◌&&◌, Bool, true, false, Option, Some, Ok, Err, if◌then◌else◌}
+use Rattle.std.specs.Prelude.{◌≡◌, ℕ, ◌==◌, ◌&&◌, Bool, true, false, Some, Ok, Err, if◌then◌else◌}
 use Rattle.std.proofs.Common.{refl, ap, subst}
 use Rattle.seize_words.specs.Op.{Out, Found, Stored, Exchanged, Made, Taken, Roomed}
 use Rattle.seize_words.specs.Plan.{plan_as}
@@ -8,6 +8,7 @@ use Rattle.seize.specs.declared.rows.settle.Settled.{Settled}
 use Rattle.seize.specs.declared.rows.settle.Settled.TheVariants as settled
 use Rattle.papaya_tables.specs.Chunks.{is_incremental}
 use Rattle.papaya_tables.specs.Marks.{has_mark}
+use Rattle.papaya_tables.specs.Nodes.{table_seen}
 use Rattle.papaya_tables.specs.declared.marks.TheConstants.{COPYING}
 use Rattle.papaya_tables.specs.declared.node.Node.{Node}
 use Rattle.papaya_tables.specs.declared.table.Table.{Table}
@@ -18,7 +19,7 @@ use Rattle.papaya_resize.specs.declared.dispose.Dispose.{Dispose}
 use Rattle.papaya_resize.specs.declared.outcome.Outcome.{Outcome}
 use Rattle.papaya_resize.specs.declared.outcome.Outcome.TheVariants as outcome
 use Rattle.papaya_sweeps.specs.Sweep.{word_found, tried, disposed, root_read, next_read, copied, plan_at}
-use Rattle.papaya_sweeps.specs.SweepPoints.{removes, standing, beginning, tableless, entering, further, told, telling, at_pair, seen}
+use Rattle.papaya_sweeps.specs.SweepPoints.{removes, beginning, tableless, entering, further, told, telling, at_pair, seen}
 use Rattle.papaya_sweeps.specs.declared.sweep.Purpose.{Purpose}
 use Rattle.papaya_sweeps.specs.declared.sweep.Purpose.TheVariants.{Walks, Clears, Retains}
 use Rattle.papaya_sweeps.specs.declared.sweep.Sweep.{Sweep}
@@ -100,7 +101,7 @@ module _ (K V : Type 0) (p : Sweep) where
   tried_keeps word (Roomed r) = (refl, tt)
 
   root_keeps : (out : Out (Node K V)) → Always Keeps (root_read p out)
-  root_keeps (Found root) = always_if Keeps (root == 0) _ _ (telling_keeps (tableless p) refl) (λ value. telling_keeps _ (entering_keeps _))
+  root_keeps (Found root) = always_if Keeps (root == 0) _ _ (telling_keeps (tableless p) refl) (λ value. telling_keeps (entering p (table_seen root value)) (entering_keeps (table_seen root value)))
   root_keeps Stored = (refl, tt)
   root_keeps (Exchanged r) = (refl, tt)
   root_keeps (Made r) = (refl, tt)

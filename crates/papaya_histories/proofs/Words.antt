@@ -1,5 +1,5 @@
 -- An answer without a change has words, by what a call of its kind means where it is told to leave all as it is.
-use Rattle.std.specs.Prelude.{◌≡◌, ℕ, ◌<◌, Bool, true, false, List, [], ◌∷◌, Option, Some, None, option_map, ◌⊎◌, if◌then◌else◌}
+use Rattle.std.specs.Prelude.{◌≡◌, ℕ, ◌<◌, Bool, true, false, List, [], ◌∷◌, Option, Some, None, option_map, if◌then◌else◌}
 use Rattle.std.proofs.Common.{refl, ap, sym, subst, ◌∙◌, inl, inr}
 use Rattle.std.proofs.lemmas.Bool.{eqb-true}
 use Rattle.papaya_raw.specs.declared.machines.asking.Reply.{Reply as MachineReply}
@@ -65,6 +65,12 @@ module _ {K V : Type 0} where
   LeavesMissing (Begun kind pair) = Unit {0}
   LeavesMissing (IsTold kind its told) = LeavesNone told kind.absent kind.takes
 
+module _ {V : Type 0} (number : ℕ → ℕ) (stored : ℕ) (apart : (n o : ℕ) → n < stored → o < stored → number n ≡ number o → n ≡ o)
+    (asked : List (Asked V)) (replies : List (Option ℕ × Reply V)) (are : AreReplies number stored asked replies) where
+  -- of a pair with this number, if it was stored by then
+  reply_is : (n q : ℕ) → (n < stored → number n ≡ q) → (r : MachineReply V) → last_told (Some n) asked ≡ Some r → ◌≡◌ {A = Option (MachineReply V)} (option_map as_told (reply_to (Some q) replies)) (Some r)
+  reply_is n q same r e = let l = told_stored number stored asked replies are n r e in sym (told_as number stored apart (Some n) (Some q) (l, same l) asked replies are) ∙ e
+
 module _ {K V : Type 0} (number : ℕ → ℕ) (stored : ℕ) (apart : (n o : ℕ) → n < stored → o < stored → number n ≡ number o → n ≡ o)
     (asked : List (Asked V)) (replies : List (Option ℕ × Reply V)) (are : AreReplies number stored asked replies) where
   -- it means to leave this pair, or that there is none, as it is
@@ -73,10 +79,6 @@ module _ {K V : Type 0} (number : ℕ → ℕ) (stored : ℕ) (apart : (n o : �
 
   abbrev pub MissesIt : OneKey K V → Type 0
   MissesIt one = (a : Answer V) × ((new : ℕ) → means one (reply_to None replies) None new ≡ Answers a Leaves)
-
-  -- of a pair with this number, if it was stored by then
-  reply_is : (n q : ℕ) → (n < stored → number n ≡ q) → (r : MachineReply V) → last_told (Some n) asked ≡ Some r → ◌≡◌ {A = Option (MachineReply V)} (option_map as_told (reply_to (Some q) replies)) (Some r)
-  reply_is n q same r e = let l = told_stored number stored asked replies are n r e in sym (told_as number stored apart (Some n) (Some q) (l, same l) asked replies are) ∙ e
 
   pub finds_it : (n q : ℕ) → (n < stored → number n ≡ q) → (one : OneKey K V) → MayFind (kind_of (given_by one asked)).present (kind_of (given_by one asked)).absent (kind_of (given_by one asked)).takes
       → LeavesIt n (given_by one asked) → FindsIt one q
@@ -96,14 +98,14 @@ module _ {K V : Type 0} (number : ℕ → ℕ) (stored : ℕ) (apart : (n o : �
   finds_it n q same (UpdateOrInsertWith k) (inl may) leaves = absurd (cc may)
   finds_it n q same (UpdateOrInsertWith k) (inr (may, more)) leaves = absurd (more refl)
   finds_it n q same (Compute k) may leaves =
-      let is = aborted_by (reply_to (Some q) replies) (reply_is n q same reply.Abort leaves) in
+      let is = aborted_by (reply_to (Some q) replies) (reply_is number stored apart asked replies are n q same reply.Abort leaves) in
       (answer.Aborted is.0, λ new. ap (λ (o : Option (Reply V)). means {K = K} (Compute k) o (Some q) new) is.1)
   finds_it n q same (Remove k) (inl may) leaves = absurd (cc may)
   finds_it n q same (Remove k) (inr (may, more)) leaves = absurd (cc may)
   finds_it n q same (RemoveEntry k) (inl may) leaves = absurd (cc may)
   finds_it n q same (RemoveEntry k) (inr (may, more)) leaves = absurd (cc may)
   finds_it n q same (RemoveIf k) may leaves =
-      let is = denied_by (reply_to (Some q) replies) (reply_is n q same reply.No leaves) in
+      let is = denied_by (reply_to (Some q) replies) (reply_is number stored apart asked replies are n q same reply.No leaves) in
       (answer.Kept q, λ new. ap (λ (o : Option (Reply V)). means {K = K} (RemoveIf k) o (Some q) new) is)
 
   pub misses_it : (one : OneKey K V) → MayMiss (kind_of (given_by one asked)).present (kind_of (given_by one asked)).absent (kind_of (given_by one asked)).takes
@@ -133,6 +135,14 @@ module _ {K V : Type 0} (number : ℕ → ℕ) (stored : ℕ) (apart : (n o : �
   misses_it (RemoveEntry k) may leaves = (answer.Absent, λ new. refl)
   misses_it (RemoveIf k) may leaves = (answer.Absent, λ new. refl)
 
+-- a reply that is to be stored removes none
+put_no : {V : Type 0} (a : Answer V) (r : Option (Reply V)) (b : Answer V) → puts_reply r b ≡ Answers a Takes → ⊥
+put_no a None b e = cc e
+put_no a (Some (Gives v)) b e = cc e
+put_no a (Some Removes) b e = cc e
+put_no a (Some (Aborts w)) b e = cc e
+put_no a (Some (Decides d)) b e = cc e
+
 -- to remove a pair means so whichever pair would be stored next
 module _ {K V : Type 0} (p new new2 : ℕ) (a : Answer V) where
   abbrev Same : OneKey K V → Option (Reply V) → Type 0
@@ -145,13 +155,6 @@ module _ {K V : Type 0} (p new new2 : ℕ) (a : Answer V) where
   computes_any k (Some (Aborts w)) e = absurd (cc e)
   computes_any k (Some (Decides b)) e = absurd (cc e)
 
-  put_no : (r : Option (Reply V)) (b : Answer V) → puts_reply r b ≡ Answers a Takes → ⊥
-  put_no None b e = cc e
-  put_no (Some (Gives v)) b e = cc e
-  put_no (Some Removes) b e = cc e
-  put_no (Some (Aborts w)) b e = cc e
-  put_no (Some (Decides d)) b e = cc e
-
   pub takes_any : (one : OneKey K V) (r : Option (Reply V)) → Same one r
   takes_any (Get k) r e = absurd (cc e)
   takes_any (GetKeyValue k) r e = absurd (cc e)
@@ -161,9 +164,9 @@ module _ {K V : Type 0} (p new new2 : ℕ) (a : Answer V) where
   takes_any (TryInsertWith k) r e = absurd (cc e)
   takes_any (GetOrInsert k v) r e = absurd (cc e)
   takes_any (GetOrInsertWith k) r e = absurd (cc e)
-  takes_any (Update k) r e = absurd (put_no r (answer.Stored new) e)
-  takes_any (UpdateOrInsert k v) r e = absurd (put_no r (answer.Stored new) e)
-  takes_any (UpdateOrInsertWith k) r e = absurd (put_no r (answer.Stored new) e)
+  takes_any (Update k) r e = absurd (put_no a r (answer.Stored new) e)
+  takes_any (UpdateOrInsert k v) r e = absurd (put_no a r (answer.Stored new) e)
+  takes_any (UpdateOrInsertWith k) r e = absurd (put_no a r (answer.Stored new) e)
   takes_any (Compute k) r e = computes_any k r e
   takes_any (Remove k) r e = e
   takes_any (RemoveEntry k) r e = e

@@ -90,7 +90,7 @@ module _ (K V S : Type 0) (same : K → K → Bool) (hash : K → ℕ) where
 
   -- and what those on no key are called for, told and ask.
   abbrev pub AsCalledStays : Type 0
-  AsCalledStays = (name : ℕ → List ℕ) → StaysElsewhere S same hash name (ShowsAsCalled same name)
+  AsCalledStays = (name : ℕ → List ℕ) → StaysElsewhere {V = V} S same hash name (ShowsAsCalled same name)
 
   -- By a step of the making of a map no pair comes or goes,
   abbrev pub MakingsShiftNone : Type 0
