@@ -11,10 +11,15 @@ use Rattle.seize.specs.declared.rows.settle.Settled.TheVariants as settled
 use Rattle.papaya_tables.specs.declared.node.Node.{Node}
 use Rattle.papaya_tables.specs.declared.setting.Setting.{Setting}
 use Rattle.papaya_resize.specs.declared.new_map.NewMap.{NewMap}
+use Rattle.papaya_sweeps.specs.SweepPoints.{after_next}
+use Rattle.papaya_sweeps.specs.declared.sweep.Sweeping.{Sweeping}
+use Rattle.papaya_sweeps.specs.declared.sweep.Sweeping.TheVariants as at
+use Rattle.papaya_raw.specs.Machine.{is_ready}
 use Rattle.papaya_raw.specs.declared.machines.end_map.EndMap.{EndMap}
 use Rattle.papaya_schedules.specs.declared.outcome.Outcome.TheVariants.{Refused}
 use Rattle.papaya_schedules.specs.Moment.{Moment}
-use Rattle.papaya_callers.specs.Together.{UnderWay}
+use Rattle.papaya_callers.specs.OverAll.{CallOverAll, gone_on}
+use Rattle.papaya_callers.specs.Together.{UnderWay, OverAll}
 use Rattle.papaya_callers.proofs.Together.At.{at_other, at_same}
 use Rattle.papaya_effects.specs.Effects.{effects_of}
 use Rattle.papaya_effects.specs.Known.{Known}
@@ -22,7 +27,7 @@ use Rattle.papaya_effects.specs.declared.acting.Acting.TheVariants.{Row, Ending}
 use Rattle.papaya_executor.specs.Ending.{EndingComesTo, ending_begun}
 use Rattle.papaya_executor.specs.IsAt.{Scene, IsAt}
 use Rattle.papaya_executor.specs.Making.{MakingComesTo}
-use Rattle.papaya_executor.specs.Replying.{unless_stopped}
+use Rattle.papaya_executor.specs.Replying.{scene_with, unless_stopped}
 use Rattle.papaya_executor.specs.declared.executor.Executor.{Executor}
 use Rattle.papaya_finishes.specs.Endings.{Finishing}
 use Rattle.papaya_finishes.specs.FactsEnds.{Deed}
@@ -79,6 +84,20 @@ new_so map m progress.Waits is = tt
 new_so map m (progress.Done setting) is = is
 new_so map m (progress.Refused fault) is = tt
 
+-- what is asked for its next pair is ready
+ready_is : (stands : Sweeping) → true ≡ is_ready stands → stands ≡ at.Ready
+ready_is at.Ready e = refl
+ready_is at.Reads e = absurd (cc e)
+ready_is at.Follows e = absurd (cc e)
+ready_is (at.Copies copier) e = absurd (cc e)
+ready_is at.Words e = absurd (cc e)
+ready_is (at.Asks word) e = absurd (cc e)
+ready_is (at.Tries word) e = absurd (cc e)
+ready_is (at.Counts removed) e = absurd (cc e)
+ready_is (at.Disposes dispose) e = absurd (cc e)
+ready_is at.Over e = absurd (cc e)
+ready_is (at.Refused fault) e = absurd (cc e)
+
 module _ {K V : Type 0} (S : Type 0) (same : K → K → Bool) (hash : K → ℕ) (name : ℕ → List ℕ) (P : Moment K V → Known → Scene K V → Type 0) where
   -- it stays so beside what is of no call,
   abbrev pub StaysBeside : Type 0
@@ -92,6 +111,12 @@ module _ {K V : Type 0} (S : Type 0) (same : K → K → Bool) (hash : K → ℕ
       (m m2 : Moment K V) (known : Known) (s s2 : Scene K V) → P m known s → m2.place ≡ m.place → m2.stored ≡ m.stored → m2.calls ≡ m.calls
       → ((shown : Shows same name m known s) → ShowsAfter same name m known s shown m2 known s2) → ((n j : ℕ) (x : UnderWay K V K) → s2.calls n j ≡ Some x → s.calls n j ≡ Some x)
       → s2.maps ≡ s.maps → P m2 known s2
+
+  -- and where a walk that is ready goes on
+  abbrev pub StaysWalking : Type 0
+  StaysWalking =
+      (m : Moment K V) (known : Known) (s : Scene K V) → P m known s → (map i : ℕ) (o : CallOverAll) → s.calls map i ≡ Some (OverAll o) → o.sweep.stands ≡ at.Ready
+      → P m known (scene_with map i (OverAll (gone_on o (after_next o.sweep))) s)
 
   abbrev pub StaysGivenUp : Type 0
   StaysGivenUp = (m : Moment K V) (known : Known) (s : Scene K V) → P m known s → (own : List ℕ) → NoneNamed name own s → P (come_to own (Refused Memory) 0 m) known s
@@ -111,8 +136,8 @@ module _ {K V : Type 0} (S : Type 0) (same : K → K → Bool) (hash : K → ℕ
     stood = λ n st is. inl (st, fewer n st is, refl, λ t. refl);
   }
 
-  pub stays_elsewhere : StaysBeside → StaysBetween → StaysGivenUp → StaysElsewhere S same hash name P
-  stays_elsewhere beside between gives_up = record {
+  pub stays_elsewhere : StaysBeside → StaysBetween → StaysWalking → StaysGivenUp → StaysElsewhere S same hash name P
+  stays_elsewhere beside between walking gives_up = record {
     rows_begin = λ m known s old new at_old whole so called i may leads.
         beside m m known known s _ old new at_old (leads may).3.4 so (λ shown. rows_begin_shown K V S same hash name m known s old new at_old shown called i may leads)
         (rows_begin_beside K V S same hash m known s old new called i may leads);
@@ -140,6 +165,8 @@ module _ {K V : Type 0} (S : Type 0) (same : K → K → Bool) (hash : K → ℕ
         (end_beside same hash name m known s old new at_old whole i f here to.0 told to.1 to.2 map not_there to.3 _ it.0 it.1 it.2));
     endings_over = λ m known s old at_old whole so own remains others.
         between m (without_map own remains m) known s s so refl refl refl (λ shown. endings_are_over K V same name m known s shown own remains others) (λ n j x is. is) refl;
+    walks = λ m known s old new at_old whole so i leads map o here is_next.
+        subst (λ (x : UnderWay K V K). P m known (scene_with map i x s)) (sym is_next) (walking m known s so map i o here (ready_is o.sweep.stands (leads map (OverAll o) here).2));
     walks_stop = λ m known s old new at_old whole so i stopped leads map u here none. stops m known s so i stopped map u here none;
   }
     where

@@ -34,6 +34,8 @@ pub mod Sweeps
 pub mod AsCalled
 pub mod AsCalledOn
 pub mod Elsewhere
+pub mod WalksOn
+pub mod WalksThere
 pub mod Stays
 pub mod BeginsCall
 pub mod Retaining

@@ -43,6 +43,7 @@ use Rattle.papaya_histories.proofs.Elsewhere.{stays_elsewhere}
 use Rattle.papaya_histories.proofs.Found.{map_alike}
 use Rattle.papaya_histories.proofs.Others.{beside_history, beside_due}
 use Rattle.papaya_histories.proofs.Roles.{named_by}
+use Rattle.papaya_histories.proofs.WalksOn.{walk_history, walk_due, walk_as_called}
 use Rattle.papaya_histories.proofs.Within.{within_alike}
 
 -- the same pairs were stored and lie where they lay, and no call comes
@@ -156,16 +157,19 @@ module _ (K V S : Type 0) (same : K → K → Bool) (hash : K → ℕ) where
   histories_stay name log = stays_elsewhere S same hash name (ShowsHistory same name log)
       (λ m m2 known known2 s s2 old new at_old at_new history after beside. beside_history same hash name log m m2 known known2 s s2 old new at_old at_new beside history (after history.shown))
       (λ m m2 known s s2 history place stored calls after fewer maps. between_history same name m m2 known s s2 calls fewer maps place stored log history (after history.shown))
+      (λ m known s history map i o here ready. walk_history same name m known s map i o here log history)
       (λ m known s history own none. (calls_come_to_histories K V same name log m known s history own (Refused Memory) 0 (λ ends. none) (λ n j u is named. refused_just known u)).0)
 
   pub dues_stay : DuesStay K V S same hash
   dues_stay name log = stays_elsewhere S same hash name (ShowsDue same name log)
       (λ m m2 known known2 s s2 old new at_old at_new dues after beside. beside_due same hash name log m m2 known known2 s s2 old new at_old at_new beside dues (after dues.history.shown))
       (λ m m2 known s s2 dues place stored calls after fewer maps. between_due same name m m2 known s s2 calls fewer maps place stored log dues (after dues.history.shown))
+      (λ m known s dues map i o here ready. walk_due same name m known s map i o here log dues)
       (λ m known s dues own none. calls_come_to_due K V same name log m known s dues own (Refused Memory) 0 (λ ends. none) (λ n j u is named. refused_just known u))
 
   pub as_called_stays : AsCalledStays K V S same hash
   as_called_stays name = stays_elsewhere S same hash name (ShowsAsCalled same name)
       (λ m m2 known known2 s s2 old new at_old at_new all after beside. beside_as_called same hash name m m2 known known2 s s2 new at_new beside all (after all.shown))
       (λ m m2 known s s2 all place stored calls after fewer maps. between_as_called same name m m2 known s s2 calls fewer maps all (after all.shown))
+      (λ m known s all map i o here ready. walk_as_called same name m known s map i o here ready all)
       (λ m known s all own none. calls_come_to_as_called K V same name m known s all own (Refused Memory) 0 (λ ends. none) (λ n j u is named. refused_as_called known u))

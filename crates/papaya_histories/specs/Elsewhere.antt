@@ -13,7 +13,9 @@ use Rattle.papaya_schedules.specs.Entry.{Entry}
 use Rattle.papaya_schedules.specs.Linearizable.{shift_of}
 use Rattle.papaya_schedules.specs.Moment.{MapThere, Remains, Moment}
 use Rattle.papaya_schedules.specs.Views.{map_at, tables_of}
-use Rattle.papaya_callers.specs.Together.{UnderWay}
+use Rattle.papaya_sweeps.specs.SweepPoints.{after_next}
+use Rattle.papaya_callers.specs.OverAll.{CallOverAll, gone_on}
+use Rattle.papaya_callers.specs.Together.{UnderWay, OverAll}
 use Rattle.papaya_effects.specs.Effects.{effects_of, known_after}
 use Rattle.papaya_effects.specs.Known.{Known}
 use Rattle.papaya_effects.specs.declared.acting.Acting.TheVariants.{Row, Making, Ending}
@@ -21,7 +23,7 @@ use Rattle.papaya_executor.specs.Ending.{EndingLeads, ending_begun}
 use Rattle.papaya_executor.specs.IsAt.{Scene, IsAt, slot_of, work_of}
 use Rattle.papaya_executor.specs.Making.{MakingLeads}
 use Rattle.papaya_executor.specs.OnSlots.{MayBegin, RowBegins, RowLeads}
-use Rattle.papaya_executor.specs.Replying.{StopLeads, unless_stopped}
+use Rattle.papaya_executor.specs.Replying.{AskLeads, StopLeads, scene_with, unless_stopped}
 use Rattle.papaya_executor.specs.Rows.{request_of}
 use Rattle.papaya_executor.specs.declared.executor.Executor.{Executor}
 use Rattle.papaya_executor.specs.declared.row.RowTold.{RowTold}
@@ -74,6 +76,10 @@ module _ {K V : Type 0} (S : Type 0) (same : K → K → Bool) (hash : K → ℕ
     pub endings_over : (m : Moment K V) (known : Known) (s : Scene K V) (old : Executor K V S) → IsAt same hash old s → ShowsWhole same name m known s → P m known s
         → (own : List ℕ) (remains : List Remains) → ((map : ℕ) (standing : Standing K) (there : MapThere) → s.maps map ≡ Some standing → map_at map m ≡ Some there → is_same there.name own ≡ false)
         → P (without_map own remains m) known s
+    -- where a walk that is ready goes on to its next pair as the walk that it was;
+    pub walks : (m : Moment K V) (known : Known) (s : Scene K V) (old new : Executor K V S) → IsAt same hash old s → ShowsWhole same name m known s → P m known s
+        → (i : ℕ) (leads : AskLeads same hash i true s old new) (map : ℕ) (o : CallOverAll) (here : s.calls map i ≡ Some (OverAll o)) → (leads map (OverAll o) here).0 ≡ OverAll (gone_on o (after_next o.sweep))
+        → P m known (scene_with map i (leads map (OverAll o) here).0 s)
     -- and where a walk is given up: no call that is under way then has its name.
     pub walks_stop : (m : Moment K V) (known : Known) (s : Scene K V) (old new : Executor K V S) → IsAt same hash old s → ShowsWhole same name m known s → P m known s
         → (i : ℕ) (stopped : Bool) → StopLeads same hash i stopped s old new → (map : ℕ) (u : UnderWay K V K) → s.calls map i ≡ Some u
@@ -91,6 +97,13 @@ module _ (K V S : Type 0) (same : K → K → Bool) (hash : K → ℕ) where
   -- and what those on no key are called for, told and ask.
   abbrev pub AsCalledStays : Type 0
   AsCalledStays = (name : ℕ → List ℕ) → StaysElsewhere {V = V} S same hash name (ShowsAsCalled same name)
+
+  -- A walk that is ready goes on as the walk that it was,
+  abbrev pub WalksGoOnThere : Type 0
+  WalksGoOnThere =
+      (s : Scene K V) (old new : Executor K V S) → IsAt same hash old s → (i : ℕ) → AskLeads same hash i true s old new
+      → (leads : AskLeads same hash i true s old new)
+      × ((map : ℕ) (o : CallOverAll) (here : s.calls map i ≡ Some (OverAll o)) → (leads map (OverAll o) here).0 ≡ OverAll (gone_on o (after_next o.sweep)))
 
   -- By a step of the making of a map no pair comes or goes,
   abbrev pub MakingsShiftNone : Type 0

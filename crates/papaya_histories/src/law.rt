@@ -1,7 +1,7 @@
 //! What is promised of the history of a map since a call on it began.
 ghost use Rattle.std.specs.Prelude.{ℕ, Bool};
 ghost use Rattle.papaya_histories.specs.AsCalled.{AsCalledBegins, CallsBeginAsCalled, CallsComeToAsCalled, CallsKeepAsCalled, CallsTakeAsCalled};
-ghost use Rattle.papaya_histories.specs.Elsewhere.{HistoriesStay, DuesStay, AsCalledStays, MakingsShiftNone, EndingsShiftNone};
+ghost use Rattle.papaya_histories.specs.Elsewhere.{HistoriesStay, DuesStay, AsCalledStays, WalksGoOnThere, MakingsShiftNone, EndingsShiftNone};
 ghost use Rattle.papaya_histories.specs.Answers.{AnswersWereSo, AnswersAreOwed, RefusalsWereSo};
 ghost use Rattle.papaya_histories.specs.Asking.{QuestionsMayBeAsked, AskingStepsStandThere, AskingCallsAskStill};
 ghost use Rattle.papaya_histories.specs.Changes.{StepsChangeOnce};
@@ -20,7 +20,7 @@ ghost use Rattle.papaya_histories.specs.Kept.{HistoriesBegin, CallsKeepHistories
 /// key had at a moment of the map, the finite map has at one of these. So it is before all events; after each step of a call, whoever's, if no class changes twice
 /// within one event, as none does by the first step of one; where a call begins, takes a reply and comes to an outcome; where an event is over; where a row
 /// begins on a slot, and after each step of it; and elsewhere: where the making or the end of a map begins, after each step of it, where its map comes or is there no
-/// more, and where a walk is given up.
+/// more, and where a walk goes on, or is given up.
 pub fn histories_are_within<K, V, S>()
     ensures begins { HistoriesBegin K V }
     ensures calls { (same : K → K → Bool) (hash : K → ℕ) → CallsKeepHistories K V S same hash }
@@ -113,7 +113,8 @@ pub fn questions_are_so<K, V, S>()
 {}
 
 /// A sweep is for what was called, was told last of a pair what the last reply about it is, and asks at a moment what it stands at to ask; a reservation and a counting
-/// ask nothing. So it is before all events, where a call begins, takes a reply and comes to an outcome, after each step of a call, whoever's, and elsewhere.
+/// ask nothing. So it is before all events, where a call begins, takes a reply and comes to an outcome, after each step of a call, whoever's, and elsewhere. A walk that
+/// is ready goes on to its next pair as the walk that it was, since it began when it began.
 pub fn calls_are_as_called<K, V, S>()
     ensures begins { (same : K → K → Bool) → AsCalledBegins K V same }
     ensures calls { (same : K → K → Bool) (hash : K → ℕ) → CallsKeepAsCalled K V S same hash }
@@ -121,6 +122,7 @@ pub fn calls_are_as_called<K, V, S>()
     ensures told { (same : K → K → Bool) (hash : K → ℕ) → CallsTakeAsCalled K V S same hash }
     ensures come_to { (same : K → K → Bool) → CallsComeToAsCalled K V same }
     ensures elsewhere { (same : K → K → Bool) (hash : K → ℕ) → AsCalledStays K V S same hash }
+    ensures walks { (same : K → K → Bool) (hash : K → ℕ) → WalksGoOnThere K V S same hash }
 {}
 
 /// A step of a reservation, of a counting, or of a walk changes no pair, one of a clearing removes one at most, and one of a retaining one at most about which the last

@@ -2,6 +2,7 @@
 use Rattle.papaya_histories.proofs.AsCalled.{calls_keep_as_called}
 use Rattle.papaya_histories.proofs.AsCalledOn.{as_called_begins, calls_begin_as_called, calls_come_to_as_called, calls_take_as_called}
 use Rattle.papaya_histories.proofs.Stays.{as_called_stays}
+use Rattle.papaya_histories.proofs.WalksThere.{walks_go_on_there}
 use Rattle.papaya_histories.proofs.law.calls_are_as_called.Goals as goal
 
 pub returns : goal.returns
@@ -12,4 +13,5 @@ returns c d = record {
   told = calls_take_as_called _ _ _;
   come_to = calls_come_to_as_called _ _;
   elsewhere = as_called_stays _ _ _;
+  walks = walks_go_on_there _ _ _;
 }
