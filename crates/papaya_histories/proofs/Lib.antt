@@ -13,6 +13,7 @@ pub mod Meanings
 pub mod Which
 pub mod Roles
 pub mod Changes
+pub mod Fits
 pub mod Answers
 pub mod Dues
 pub mod Due

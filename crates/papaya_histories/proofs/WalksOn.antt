@@ -2,14 +2,13 @@
 use Rattle.std.specs.Prelude.{◌≡◌, ℕ, Bool, List, Option, Some, ◌⊎◌}
 use Rattle.std.proofs.Common.{refl, ap, sym, subst, ◌∙◌, inl, inr}
 use Rattle.papaya_sweeps.specs.SweepPoints.{next_at, after_next}
-use Rattle.papaya_sweeps.specs.declared.sweep.Purpose.{Purpose}
 use Rattle.papaya_sweeps.specs.declared.sweep.Sweeping.{Sweeping}
 use Rattle.papaya_sweeps.specs.declared.sweep.Sweeping.TheVariants as at
 use Rattle.papaya_schedules.specs.declared.call.Call.{Call}
 use Rattle.papaya_schedules.specs.declared.call.Call.TheVariants.{On}
 use Rattle.papaya_schedules.specs.declared.call.OneKey.{OneKey}
 use Rattle.papaya_schedules.specs.Entry.{Entry}
-use Rattle.papaya_schedules.specs.Moment.{Asking, UnderWay as CallThere, Moment}
+use Rattle.papaya_schedules.specs.Moment.{UnderWay as CallThere, Moment}
 use Rattle.papaya_schedules.specs.Views.{call_of}
 use Rattle.papaya_callers.specs.OverAll.{CallOverAll, gone_on}
 use Rattle.papaya_callers.specs.Together.{CallOnKey, UnderWay, OnKey, OverAll}
@@ -23,8 +22,7 @@ use Rattle.papaya_follows.proofs.Steps.{one_of}
 use Rattle.papaya_hands.specs.Asked.{IsAsked, ShowsAsked}
 use Rattle.papaya_hands.proofs.Asking.{which}
 use Rattle.papaya_others.proofs.Walks.{fewer_calls}
-use Rattle.papaya_histories.specs.AsCalled.{SweepAsks, IsSweptAs, IsAsCalled, ShowsAsCalled}
-use Rattle.papaya_histories.specs.Changes.{AreTaken}
+use Rattle.papaya_histories.specs.AsCalled.{IsSweptAs, IsAsCalled, ShowsAsCalled}
 use Rattle.papaya_histories.specs.Due.{Owes, ShowsDue}
 use Rattle.papaya_histories.specs.Histories.{began_of, ShowsHistory, StaysWithin}
 use Rattle.papaya_histories.proofs.Calling.{calls_changed}

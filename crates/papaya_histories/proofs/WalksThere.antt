@@ -4,7 +4,6 @@ use Rattle.std.proofs.Common.{refl, ap, sym, subst, ◌∙◌, inl, inr}
 use Rattle.std.proofs.Math.Path.{fun_ext}
 use Rattle.std.proofs.lemmas.Bool.{cases_eq}
 use Rattle.seize.specs.World.{with_at}
-use Rattle.papaya_tables.specs.declared.node.Node.{Node}
 use Rattle.papaya_sweeps.specs.SweepPoints.{after_next}
 use Rattle.papaya_raw.specs.Machine.{machine_asked}
 use Rattle.papaya_raw.specs.declared.machines.machine.Machine.TheVariants as kinds
@@ -20,7 +19,7 @@ use Rattle.papaya_finishes.proofs.Beside.Makings.CallSteps.{no_maker, makings_wi
 use Rattle.papaya_finishes.proofs.Beside.Maps.All.{maps_with_call}
 use Rattle.papaya_finishes.proofs.Beside.Maps.Steps.{no_other}
 use Rattle.papaya_executor.specs.IsAt.{Scene, IsAt, slot_of}
-use Rattle.papaya_executor.specs.Replying.{AskLeads, scene_with}
+use Rattle.papaya_executor.specs.Replying.{scene_with}
 use Rattle.papaya_executor.specs.declared.executor.Executor.{Executor}
 use Rattle.papaya_histories.specs.Elsewhere.{WalksGoOnThere}
 use Rattle.papaya_histories.proofs.Several.{stands}

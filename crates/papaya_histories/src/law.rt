@@ -4,7 +4,7 @@ ghost use Rattle.papaya_histories.specs.AsCalled.{AsCalledBegins, CallsBeginAsCa
 ghost use Rattle.papaya_histories.specs.Elsewhere.{HistoriesStay, DuesStay, AsCalledStays, WalksGoOnThere, MakingsShiftNone, EndingsShiftNone};
 ghost use Rattle.papaya_histories.specs.Answers.{AnswersWereSo, AnswersAreOwed, RefusalsWereSo};
 ghost use Rattle.papaya_histories.specs.Asking.{QuestionsMayBeAsked, AskingStepsStandThere, AskingCallsAskStill};
-ghost use Rattle.papaya_histories.specs.Changes.{StepsChangeOnce};
+ghost use Rattle.papaya_histories.specs.Changes.{StepsChangeOnce, FitRepliesAreTaken};
 ghost use Rattle.papaya_histories.specs.Due.{DuesBegin, CallsKeepDue, CallsBeginDue, CallsTakeDue, CallsComeToDue, EventsKeepDue};
 ghost use Rattle.papaya_histories.specs.Events.{StepsAreLinearizable};
 ghost use Rattle.papaya_histories.specs.OtherCalls.{OthersRemoveOnly, RemovalsAdd, OthersAreLinearizable, NoCallsAreLinearizable, IdleAreLinearizable};
@@ -35,9 +35,10 @@ pub fn histories_are_within<K, V, S>()
 {}
 
 /// By a step of a call on one key the class of its key changes once at most, by what the sequential specification says that the call means just then; if it got such
-/// replies alone as it takes, and owes no answer as long as it has changed nothing.
+/// replies alone as it takes, as each is of the kind that it asks for, and owes no answer as long as it has changed nothing.
 pub fn steps_change_once<K, V, S>()
     ensures changes { (same : K → K → Bool) (hash : K → ℕ) → StepsChangeOnce K V S same hash }
+    ensures fits { FitRepliesAreTaken K V }
 {}
 
 /// What a call on one key answers without a change is what the sequential specification says that it means at a moment of the call between two events, by the last
