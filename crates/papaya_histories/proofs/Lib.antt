@@ -45,4 +45,5 @@ pub mod OtherEvents
 pub mod Words
 pub mod HasWords
 pub mod Events
+pub mod InEvent
 mod Samples

@@ -15,3 +15,4 @@ pub mod Retaining
 pub mod AsCalled
 pub mod Elsewhere
 pub mod Words
+pub mod InEvent

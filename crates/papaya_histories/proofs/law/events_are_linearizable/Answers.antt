@@ -1,0 +1,13 @@
+-- Events of calls are linearizable, whatever their kind.
+use Rattle.papaya_histories.proofs.InEvent.{events_begin, events_begin_calls, events_go_on, events_keep_all, events_have_words, events_end}
+use Rattle.papaya_histories.proofs.law.events_are_linearizable.Goals as goal
+
+pub returns : goal.returns
+returns c d = record {
+  begins = events_begin _ _ _;
+  begun = events_begin_calls _ _ _;
+  goes_on = events_go_on _ _ _;
+  keeps = events_keep_all _ _ _;
+  words = events_have_words _ _ _;
+  ends = events_end _ _ _;
+}
