@@ -3,7 +3,7 @@ use Rattle.std.specs.Prelude.{◌≡◌, ℕ, Bool, true, false, List, Option, S
 use Rattle.std.proofs.Common.{refl, ap, sym, subst, ◌∙◌, inl, inr}
 use Rattle.std.proofs.lemmas.Bool.{cases_eq}
 use Rattle.seize_words.specs.declared.fault.Fault.TheVariants.{Memory}
-use Rattle.seize.specs.World.{World, with_at}
+use Rattle.seize.specs.World.{World, Hand, with_at}
 use Rattle.seize.specs.declared.progress.Progress.{Progress}
 use Rattle.seize.specs.declared.progress.Progress.TheVariants as progress
 use Rattle.seize.specs.declared.rows.settle.Settled.{Settled}
@@ -121,9 +121,9 @@ module _ {K V : Type 0} (S : Type 0) (same : K → K → Bool) (hash : K → ℕ
   abbrev pub StaysGivenUp : Type 0
   StaysGivenUp = (m : Moment K V) (known : Known) (s : Scene K V) → P m known s → (own : List ℕ) → NoneNamed name own s → P (come_to own (Refused Memory) 0 m) known s
 
-  -- nothing has changed
-  same_beside : (m : Moment K V) (known : Known) (s s2 : Scene K V) → s2.world ≡ s.world → s2.calls ≡ s.calls → ((n : ℕ) (st : Standing K) → s2.maps n ≡ Some st → s.maps n ≡ Some st) → IsBeside m m known known s s2
-  same_beside m known s s2 world calls fewer = record {
+  -- calls are as they were, blocks are in the hands in which they were, and each map that stands stood so
+  same_beside : (m : Moment K V) (known : Known) (s s2 : Scene K V) → s2.world.hand ≡ s.world.hand → s2.calls ≡ s.calls → ((n : ℕ) (st : Standing K) → s2.maps n ≡ Some st → s.maps n ≡ Some st) → IsBeside m m known known s s2
+  same_beside m known s s2 hand calls fewer = record {
     stored = refl;
     born = refl;
     calls = refl;
@@ -131,7 +131,7 @@ module _ {K V : Type 0} (S : Type 0) (same : K → K → Bool) (hash : K → ℕ
     place = λ n x e. e;
     back = λ b of. inl refl;
     roles = λ b some of. refl;
-    hands = λ b some used. subst (λ (w : World (Node K V)). IsInUse (w.hand b)) (sym world) used;
+    hands = λ b some used. subst (λ (f : ℕ → Hand). IsInUse (f b)) (sym hand) used;
     same_calls = calls;
     stood = λ n st is. inl (st, fewer n st is, refl, λ t. refl);
   }
@@ -171,18 +171,7 @@ module _ {K V : Type 0} (S : Type 0) (same : K → K → Bool) (hash : K → ℕ
   }
     where
       ending_beside : (m : Moment K V) (known : Known) (s : Scene K V) (map i : ℕ) (standing : Standing K) → IsBeside m m known known s (ending_begun map i standing s)
-      ending_beside m known s map i standing = record {
-        stored = refl;
-        born = refl;
-        calls = refl;
-        maps = refl;
-        place = λ n x e. e;
-        back = λ b of. inl refl;
-        roles = λ b some of. refl;
-        hands = λ b some used. used;
-        same_calls = refl;
-        stood = λ n st is. inl (st, fewer n st is, refl, λ t. refl);
-      }
+      ending_beside m known s map i standing = same_beside m known s (ending_begun map i standing s) refl refl fewer
         where
           fewer : (n : ℕ) (st : Standing K) → with_at s.maps map None n ≡ Some st → s.maps n ≡ Some st
           fewer n st is = elim (cases_eq n map) as (λ _. s.maps n ≡ Some st) [

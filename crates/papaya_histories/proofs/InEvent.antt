@@ -162,9 +162,11 @@ module _ (K V S : Type 0) (same : K → K → Bool) (hash : K → ℕ) where
 
     others_begin : (x : UnderWay K V K) (its : Call K V) → IsOther same x → BeganNow x → IsCalled same x its → IsBegunAs x its → Begins x its
     others_begin x its other now called begun_as =
-        let it = other_midsts_begin_calls K V S same hash name log known s old at_old whole dues all map i x its guard standing there now apart called (on_none same x its other called) begun_as rests in
-        (it.0, of_other same name log (with_call (name i) guard its (Some map) (moment log)) map i (fresh_call (name i) guard its map (moment log).events) [] (with_call (name i) guard its (Some map) (moment log))
-        known (scene_with map i x s) x other it.1)
+        let it = other_midsts_begin_calls K V S same hash name log known s old at_old whole dues all map i x its guard standing there now apart called (on_none same x its other called) begun_as rests in (
+          it.0,
+          of_other same name log (with_call (name i) guard its (Some map) (moment log)) map i (fresh_call (name i) guard its map (moment log).events) [] (with_call (name i) guard its (Some map) (moment log))
+              known (scene_with map i x s) x other it.1,
+        )
 
     key_begins : (x : CallOnKey K V K) (one : OneKey K V) → BeganNow (OnKey x) → x.change ≡ Unchanged → IsCalled same (OnKey x) (call.On one) → IsBegunFor (OnKey x) (call.On one) → (new : Executor K V S)
         → IsAt same hash new (scene_with map i (OnKey x) s) → Begins (OnKey x) (call.On one)

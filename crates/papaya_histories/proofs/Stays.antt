@@ -27,9 +27,9 @@ use Rattle.papaya_executor.specs.declared.executor.Executor.{Executor}
 use Rattle.papaya_finishes.specs.Maps.{Standing}
 use Rattle.papaya_follows.proofs.Onward.{IsOfMap}
 use Rattle.papaya_hands.specs.Asked.{IsAsked, ShowsAsked}
-use Rattle.papaya_hands.specs.Calling.{AsksJust}
 use Rattle.papaya_hands.proofs.Replacing.{same_on}
 use Rattle.papaya_others.specs.After.{ShowsAfter}
+use Rattle.papaya_moments.proofs.Walks.{asks_nothing}
 use Rattle.papaya_moments.proofs.Beside.{IsBeside, StoodSo, StandsNew}
 use Rattle.papaya_histories.specs.AsCalled.{SweepAsks, IsAsCalled, ShowsAsCalled, AsksAsCalled}
 use Rattle.papaya_histories.specs.Due.{Owes, ShowsDue}
@@ -140,12 +140,6 @@ module _ {K V S : Type 0} (same : K → K → Bool) (hash : K → ℕ) (name : �
           (all.each n j x (was_here n j x is) so.0 so.1 c (ap (λ (cs : List (CallThere K V)). find (λ y. is_same y.caller (name j)) cs) (sym beside.calls) ∙ found))
 
 -- a call that is refused asks nothing
-refused_just : {K V : Type 0} (known : Known) (u : UnderWay K V K) → AsksJust known u (Refused Memory)
-refused_just known (OnKey u) = tt
-refused_just known (ForRoom r) = tt
-refused_just known (Counting sum) = tt
-refused_just known (OverAll o) = tt
-
 refused_as_called : {K V : Type 0} (known : Known) (u : UnderWay K V K) → AsksAsCalled known u (Refused Memory)
 refused_as_called known (OnKey u) = tt
 refused_as_called known (ForRoom r) = tt
@@ -158,14 +152,14 @@ module _ (K V S : Type 0) (same : K → K → Bool) (hash : K → ℕ) where
       (λ m m2 known known2 s s2 old new at_old at_new history after beside. beside_history same hash name log m m2 known known2 s s2 old new at_old at_new beside history (after history.shown))
       (λ m m2 known s s2 history place stored calls after fewer maps. between_history same name m m2 known s s2 calls fewer maps place stored log history (after history.shown))
       (λ m known s history map i o here ready. walk_history same name m known s map i o here log history)
-      (λ m known s history own none. (calls_come_to_histories K V same name log m known s history own (Refused Memory) 0 (λ ends. none) (λ n j u is named. refused_just known u)).0)
+      (λ m known s history own none. (calls_come_to_histories K V same name log m known s history own (Refused Memory) 0 (λ ends. none) (λ n j u is named. asks_nothing known u)).0)
 
   pub dues_stay : DuesStay K V S same hash
   dues_stay name log = stays_elsewhere S same hash name (ShowsDue same name log)
       (λ m m2 known known2 s s2 old new at_old at_new dues after beside. beside_due same hash name log m m2 known known2 s s2 old new at_old at_new beside dues (after dues.history.shown))
       (λ m m2 known s s2 dues place stored calls after fewer maps. between_due same name m m2 known s s2 calls fewer maps place stored log dues (after dues.history.shown))
       (λ m known s dues map i o here ready. walk_due same name m known s map i o here log dues)
-      (λ m known s dues own none. calls_come_to_due K V same name log m known s dues own (Refused Memory) 0 (λ ends. none) (λ n j u is named. refused_just known u))
+      (λ m known s dues own none. calls_come_to_due K V same name log m known s dues own (Refused Memory) 0 (λ ends. none) (λ n j u is named. asks_nothing known u))
 
   pub as_called_stays : AsCalledStays K V S same hash
   as_called_stays name = stays_elsewhere S same hash name (ShowsAsCalled same name)
