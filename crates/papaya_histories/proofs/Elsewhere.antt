@@ -150,7 +150,7 @@ module _ {K V : Type 0} (S : Type 0) (same : K → K → Bool) (hash : K → ℕ
     makings_begin = λ m known s old new at_old whole so i b at_new.
         beside m m known known s (record s { makers = with_at s.makers i (Some b) }) old new at_old at_new so (λ shown. makings_begin_shown K V same name m known s shown i b)
         (same_beside m known s (record s { makers = with_at s.makers i (Some b) }) refl refl (λ n st is. is));
-    maps_come = λ m known s old at_old whole so there none. between m _ known s s so refl refl refl (λ shown. maps_are_there K V same name m known s shown there) (λ n j x is. is) refl;
+    maps_come = λ m known s old new at_old whole so there none. between m _ known s s so refl refl refl (λ shown. maps_are_there K V same name m known s shown there) (λ n j x is. is) refl;
     makings = λ m known s old new at_old whole so i told leads b here of is_new. (let to = leads b here in
         beside m _ known _ s _ old new at_old (making_at same hash s old new i b to.0 to.2.step.w2 told to.3) so
         (λ shown. makings_are_shown K V S same hash name m known s old new at_old shown i told leads b here of (whole.counters i b here) (new_so b.map m told is_new))
@@ -163,7 +163,7 @@ module _ {K V : Type 0} (S : Type 0) (same : K → K → Bool) (hash : K → ℕ
         let ends = with_outside None (Some map) (IsOfIts map) (λ v effect. EndsWith v map effect) (ends_with map) (effects_of (Ending map) known new.memory.changed) m finds whole.outside of_map in
         beside m _ known _ s _ old new at_old it.3 so (λ shown. (endings_are_shown K V S same hash name m known s old new at_old shown i told leads f here map not_there ends).1)
         (end_beside same hash name m known s old new at_old whole i f here to.0 told to.1 to.2 map not_there to.3 _ it.0 it.1 it.2));
-    endings_over = λ m known s old at_old whole so own remains others.
+    endings_over = λ m known s old new at_old whole so own remains others.
         between m (without_map own remains m) known s s so refl refl refl (λ shown. endings_are_over K V same name m known s shown own remains others) (λ n j x is. is) refl;
     walks = λ m known s old new at_old whole so i leads map o here is_next.
         subst (λ (x : UnderWay K V K). P m known (scene_with map i x s)) (sym is_next) (walking m known s so map i o here (ready_is o.sweep.stands (leads map (OverAll o) here).2));

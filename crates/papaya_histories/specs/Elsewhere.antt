@@ -47,43 +47,47 @@ use Rattle.papaya_histories.specs.Due.{ShowsDue}
 use Rattle.papaya_histories.specs.Histories.{ShowsHistory}
 
 module _ {K V : Type 0} (S : Type 0) (same : K → K → Bool) (hash : K → ℕ) (name : ℕ → List ℕ) (P : Moment K V → Known → Scene K V → Type 0) where
+  -- from a moment that shows all of a scene in which an executor is, and at which it is so
+  abbrev pub From : (Moment K V → Known → Scene K V → Executor K V S → Executor K V S → Type 0) → Type 0
+  From Then =
+      (m : Moment K V) (known : Known) (s : Scene K V) (old new : Executor K V S) → IsAt same hash old s → ShowsWhole same name m known s → P m known s
+      → Then m known s old new
+
   pub record StaysElsewhere : Type 0 where
-    -- it stays so where a row begins on a slot, and after a step of it: a table that it reclaims was retired;
-    pub rows_begin : (m : Moment K V) (known : Known) (s : Scene K V) (old new : Executor K V S) → IsAt same hash old s → ShowsWhole same name m known s → P m known s
-        → (called : SlotCall) (i : ℕ) (may : MayBegin old (slot_of i) called) (leads : RowBegins same hash called i s old new)
-        → P m known (scene_then same hash (Begin i (request_of (slot_of i) called)) s old new (leads may).3)
-    pub rows : (m : Moment K V) (known : Known) (s : Scene K V) (old new : Executor K V S) → IsAt same hash old s → ShowsWhole same name m known s → P m known s
-        → (i : ℕ) (told : RowTold (Node K V)) (leads : RowLeads same hash i told s old new) (row : SlotRow) (here : work_of old i ≡ Some (OnSlot row))
+    -- It stays so where a row begins on a slot, and after a step of it: a table that it reclaims was retired.
+    pub rows_begin : From (λ m known s old new. (called : SlotCall) (i : ℕ) (may : MayBegin old (slot_of i) called) (leads : RowBegins same hash called i s old new)
+        → P m known (scene_then same hash (Begin i (request_of (slot_of i) called)) s old new (leads may).3))
+    pub rows : From (λ m known s old new. (i : ℕ) (told : RowTold (Node K V)) (leads : RowLeads same hash i told s old new)
+        → (row : SlotRow) (here : work_of old i ≡ Some (OnSlot row))
         → AtEachEffect HadRetired None None (effects_of Row known new.memory.changed) m
-        → P (with_effects None None (effects_of Row known new.memory.changed) m) (known_after Row new.memory.changed known) (scene_then same hash (Step i) s old new (leads row here).4)
-    -- where the making of a map begins, where its map comes by a number of which there is no table, and after a step of it, while its map is there as a new one;
-    pub makings_begin : (m : Moment K V) (known : Known) (s : Scene K V) (old new : Executor K V S) → IsAt same hash old s → ShowsWhole same name m known s → P m known s
-        → (i : ℕ) (b : Beginning K) → IsAt same hash new (record s { makers = with_at s.makers i (Some b) }) → P m known (record s { makers = with_at s.makers i (Some b) })
-    pub maps_come : (m : Moment K V) (known : Known) (s : Scene K V) (old : Executor K V S) → IsAt same hash old s → ShowsWhole same name m known s → P m known s
-        → (there : MapThere) → tables_of there.number m ≡ [] → P (with_map there m) known s
-    pub makings : (m : Moment K V) (known : Known) (s : Scene K V) (old new : Executor K V S) → IsAt same hash old s → ShowsWhole same name m known s → P m known s
-        → (i : ℕ) (told : Progress Setting) (leads : MakingLeads same hash i told s old new) (b : Beginning K) (here : s.makers i ≡ Some b) (of : Option ℕ) → IsNewFor b.map told m
+        → P (with_effects None None (effects_of Row known new.memory.changed) m) (known_after Row new.memory.changed known)
+        (scene_then same hash (Step i) s old new (leads row here).4))
+    -- It does where the making of a map begins, where its map comes by a number of which there is no table, and after a step of it, while its map is new.
+    pub makings_begin : From (λ m known s old new. (i : ℕ) (b : Beginning K)
+        → (let begun = record s { makers = with_at s.makers i (Some b) } in IsAt same hash new begun → P m known begun))
+    pub maps_come : From (λ m known s old new. (there : MapThere) → tables_of there.number m ≡ [] → P (with_map there m) known s)
+    pub makings : From (λ m known s old new. (i : ℕ) (told : Progress Setting) (leads : MakingLeads same hash i told s old new)
+        → (b : Beginning K) (here : s.makers i ≡ Some b) (of : Option ℕ) → IsNewFor b.map told m
         → P (with_effects None of (effects_of (Making b.map) known new.memory.changed) m) (known_after (Making b.map) new.memory.changed known)
-        (making_after same hash s old new i b (leads b here).0 (leads b here).2.step.w2 told (leads b here).3)
-    -- where the end of a map begins, after a step of it, where a table that ends with the map is one of it, and once it is over, where no map that stands has its name;
-    pub endings_begin : (m : Moment K V) (known : Known) (s : Scene K V) (old new : Executor K V S) → IsAt same hash old s → ShowsWhole same name m known s → P m known s
-        → (map i : ℕ) (standing : Standing K) → s.maps map ≡ Some standing → IsAt same hash new (ending_begun map i standing s) → P m known (ending_begun map i standing s)
-    pub endings : (m : Moment K V) (known : Known) (s : Scene K V) (old new : Executor K V S) → IsAt same hash old s → ShowsWhole same name m known s → P m known s
-        → (i : ℕ) (told : Settled (Node K V)) (leads : EndingLeads same hash i told s old new) (f : Finishing K V) (here : s.enders i ≡ Some f) (map : ℕ) → s.maps map ≡ None
+        (making_after same hash s old new i b (leads b here).0 (leads b here).2.step.w2 told (leads b here).3))
+    -- It does where the end of a map begins, and after a step of it, by which tables of that map end alone; and once it is over, where no map that stands has its name.
+    pub endings_begin : From (λ m known s old new. (map i : ℕ) (standing : Standing K) → s.maps map ≡ Some standing
+        → IsAt same hash new (ending_begun map i standing s) → P m known (ending_begun map i standing s))
+    pub endings : From (λ m known s old new. (i : ℕ) (told : Settled (Node K V)) (leads : EndingLeads same hash i told s old new)
+        → (f : Finishing K V) (here : s.enders i ≡ Some f) (map : ℕ) → s.maps map ≡ None
         → AtEachEffect (IsOfIts map) None (Some map) (effects_of (Ending map) known new.memory.changed) m
         → P (with_effects None (Some map) (effects_of (Ending map) known new.memory.changed) m) (known_after (Ending map) new.memory.changed known)
-        (ending_after same hash s new i f (leads f here).0 (leads f here).2.w2 (leads f here).2.deed told (leads f here).3)
-    pub endings_over : (m : Moment K V) (known : Known) (s : Scene K V) (old : Executor K V S) → IsAt same hash old s → ShowsWhole same name m known s → P m known s
-        → (own : List ℕ) (remains : List Remains) → ((map : ℕ) (standing : Standing K) (there : MapThere) → s.maps map ≡ Some standing → map_at map m ≡ Some there → is_same there.name own ≡ false)
-        → P (without_map own remains m) known s
-    -- where a walk that is ready goes on to its next pair as the walk that it was;
-    pub walks : (m : Moment K V) (known : Known) (s : Scene K V) (old new : Executor K V S) → IsAt same hash old s → ShowsWhole same name m known s → P m known s
-        → (i : ℕ) (leads : AskLeads same hash i true s old new) (map : ℕ) (o : CallOverAll) (here : s.calls map i ≡ Some (OverAll o)) → (leads map (OverAll o) here).0 ≡ OverAll (gone_on o (after_next o.sweep))
-        → P m known (scene_with map i (leads map (OverAll o) here).0 s)
-    -- and where a walk is given up: no call that is under way then has its name.
-    pub walks_stop : (m : Moment K V) (known : Known) (s : Scene K V) (old new : Executor K V S) → IsAt same hash old s → ShowsWhole same name m known s → P m known s
-        → (i : ℕ) (stopped : Bool) → StopLeads same hash i stopped s old new → (map : ℕ) (u : UnderWay K V K) → s.calls map i ≡ Some u
-        → (let after = record s { calls = with_call s.calls map i (unless_stopped stopped u) } in (stopped ≡ true → NoneNamed name (name i) after) → P (given_up (name i) stopped m) known after)
+        (ending_after same hash s new i f (leads f here).0 (leads f here).2.w2 (leads f here).2.deed told (leads f here).3))
+    pub endings_over : From (λ m known s old new. (own : List ℕ) (remains : List Remains)
+        → ((map : ℕ) (standing : Standing K) (there : MapThere) → s.maps map ≡ Some standing → map_at map m ≡ Some there → is_same there.name own ≡ false)
+        → P (without_map own remains m) known s)
+    -- It does where a walk that is ready goes on to its next pair as the walk that it was, and where one is given up: no call that is under way then has its name.
+    pub walks : From (λ m known s old new. (i : ℕ) (leads : AskLeads same hash i true s old new) (map : ℕ) (o : CallOverAll) (here : s.calls map i ≡ Some (OverAll o))
+        → (leads map (OverAll o) here).0 ≡ OverAll (gone_on o (after_next o.sweep)) → P m known (scene_with map i (leads map (OverAll o) here).0 s))
+    pub walks_stop : From (λ m known s old new. (i : ℕ) (stopped : Bool) → StopLeads same hash i stopped s old new
+        → (map : ℕ) (u : UnderWay K V K) → s.calls map i ≡ Some u
+        → (let after = record s { calls = with_call s.calls map i (unless_stopped stopped u) } in
+        (stopped ≡ true → NoneNamed name (name i) after) → P (given_up (name i) stopped m) known after))
 
 module _ (K V S : Type 0) (same : K → K → Bool) (hash : K → ℕ) where
   -- The promises: so do the histories of maps,
