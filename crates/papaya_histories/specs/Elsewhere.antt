@@ -1,5 +1,4 @@
--- What stays so of a moment of a run that shows all, where anything else happens than a step of a call: on a slot, to a map that is being made or ends, or to a walk
--- that is given up.
+-- What stays so where anything else happens than a step of a call: on a slot, to a map that is made or ends, or to a walk that goes on or is given up.
 use Rattle.std.specs.Prelude.{◌≡◌, ℕ, Bool, true, false, List, [], flat_map, Option, Some, None}
 use Rattle.seize.specs.World.{Begin, Step, with_at}
 use Rattle.seize.specs.declared.rows.settle.Settled.{Settled}
@@ -55,7 +54,8 @@ module _ {K V : Type 0} (S : Type 0) (same : K → K → Bool) (hash : K → ℕ
 
   pub record StaysElsewhere : Type 0 where
     -- It stays so where a row begins on a slot, and after a step of it: a table that it reclaims was retired.
-    pub rows_begin : From (λ m known s old new. (called : SlotCall) (i : ℕ) (may : MayBegin old (slot_of i) called) (leads : RowBegins same hash called i s old new)
+    pub rows_begin : From (λ m known s old new. (called : SlotCall) (i : ℕ) (may : MayBegin old (slot_of i) called)
+        → (leads : RowBegins same hash called i s old new)
         → P m known (scene_then same hash (Begin i (request_of (slot_of i) called)) s old new (leads may).3))
     pub rows : From (λ m known s old new. (i : ℕ) (told : RowTold (Node K V)) (leads : RowLeads same hash i told s old new)
         → (row : SlotRow) (here : work_of old i ≡ Some (OnSlot row))
@@ -70,7 +70,7 @@ module _ {K V : Type 0} (S : Type 0) (same : K → K → Bool) (hash : K → ℕ
         → (b : Beginning K) (here : s.makers i ≡ Some b) (of : Option ℕ) → IsNewFor b.map told m
         → P (with_effects None of (effects_of (Making b.map) known new.memory.changed) m) (known_after (Making b.map) new.memory.changed known)
         (making_after same hash s old new i b (leads b here).0 (leads b here).2.step.w2 told (leads b here).3))
-    -- It does where the end of a map begins, and after a step of it, by which tables of that map end alone; and once it is over, where no map that stands has its name.
+    -- It does where the end of a map begins, after a step of it, by which tables of that map end alone, and once it is over: no map that stands has its name.
     pub endings_begin : From (λ m known s old new. (map i : ℕ) (standing : Standing K) → s.maps map ≡ Some standing
         → IsAt same hash new (ending_begun map i standing s) → P m known (ending_begun map i standing s))
     pub endings : From (λ m known s old new. (i : ℕ) (told : Settled (Node K V)) (leads : EndingLeads same hash i told s old new)
@@ -81,8 +81,9 @@ module _ {K V : Type 0} (S : Type 0) (same : K → K → Bool) (hash : K → ℕ
     pub endings_over : From (λ m known s old new. (own : List ℕ) (remains : List Remains)
         → ((map : ℕ) (standing : Standing K) (there : MapThere) → s.maps map ≡ Some standing → map_at map m ≡ Some there → is_same there.name own ≡ false)
         → P (without_map own remains m) known s)
-    -- It does where a walk that is ready goes on to its next pair as the walk that it was, and where one is given up: no call that is under way then has its name.
-    pub walks : From (λ m known s old new. (i : ℕ) (leads : AskLeads same hash i true s old new) (map : ℕ) (o : CallOverAll) (here : s.calls map i ≡ Some (OverAll o))
+    -- It does where a walk that is ready goes on to its next pair as the walk that it was, and where one is given up: no call that is there then has its name.
+    pub walks : From (λ m known s old new. (i : ℕ) (leads : AskLeads same hash i true s old new)
+        → (map : ℕ) (o : CallOverAll) (here : s.calls map i ≡ Some (OverAll o))
         → (leads map (OverAll o) here).0 ≡ OverAll (gone_on o (after_next o.sweep)) → P m known (scene_with map i (leads map (OverAll o) here).0 s))
     pub walks_stop : From (λ m known s old new. (i : ℕ) (stopped : Bool) → StopLeads same hash i stopped s old new
         → (map : ℕ) (u : UnderWay K V K) → s.calls map i ≡ Some u

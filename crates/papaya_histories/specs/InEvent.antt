@@ -47,11 +47,13 @@ ComesSo known _ replies said outcome = AsksAsSaid known said outcome
 module _ {K V : Type 0} (same : K → K → Bool) (name : ℕ → List ℕ) (log : List (Entry K V)) (beginning : Moment K V) (map i : ℕ) (c : CallThere K V) where
   -- In the midst of an event, after so many effects, since the moment at which it has begun what it begins.
   abbrev pub InEvent : List Effect → Moment K V → Known → Scene K V → UnderWay K V K → Type 0
-  InEvent done m known s (OnKey u) = (one : OneKey K V) × (c.call ≡ On one) × InMidst same name log beginning map i one c done m known s u × ShowsAsCalled same name m known s
+  InEvent done m known s (OnKey u) = (one : OneKey K V) × (c.call ≡ On one)
+      × InMidst same name log beginning map i one c done m known s u × ShowsAsCalled same name m known s
   InEvent done m known s u = InOtherMidst same name log beginning map i c done m known s u
 
   -- its call is under way
-  abbrev pub here_of : (done : List Effect) (m : Moment K V) (known : Known) (s : Scene K V) (u : UnderWay K V K) → InEvent done m known s u → s.calls map i ≡ Some u
+  abbrev pub here_of : (done : List Effect) (m : Moment K V) (known : Known) (s : Scene K V) (u : UnderWay K V K) → InEvent done m known s u
+      → s.calls map i ≡ Some u
   here_of done m known s (OnKey u) midst = midst.2.here
   here_of done m known s u midst = midst.here
 
@@ -70,8 +72,10 @@ module _ (K V S : Type 0) (same : K → K → Bool) (hash : K → ℕ) where
   EventsBeginCalls =
       (name : ℕ → List ℕ) (log : List (Entry K V)) (known : Known) (s : Scene K V) (old : Executor K V S) → IsAt same hash old s
       → ShowsWhole same name (moment log) known s → ShowsDue same name log (moment log) known s → ShowsAsCalled same name (moment log) known s
-      → (map i : ℕ) (u : UnderWay K V K) (call : Call K V) (guard : List ℕ) (standing : Standing K) → s.maps map ≡ Some standing → ((began : ℕ) → began_of u ≡ Some began → began ≡ standing.chart.now)
-      → ((v : CallOnKey K V K) → u ≡ OnKey v → v.change ≡ Unchanged) → NoneNamed name (name i) s → IsCalled same u call → IsBegunFor u call → IsBegunAs u call → s.world.row i ≡ Rests
+      → (map i : ℕ) (u : UnderWay K V K) (call : Call K V) (guard : List ℕ) (standing : Standing K) → s.maps map ≡ Some standing
+      → ((began : ℕ) → began_of u ≡ Some began → began ≡ standing.chart.now)
+      → ((v : CallOnKey K V K) → u ≡ OnKey v → v.change ≡ Unchanged) → NoneNamed name (name i) s → IsCalled same u call → IsBegunFor u call → IsBegunAs u call
+      → s.world.row i ≡ Rests
       → (new : Executor K V S) → IsAt same hash new (scene_with map i u s)
       → (let beginning = with_call (name i) guard call (Some map) (moment log) in
       let c = fresh_call (name i) guard call map (moment log).events in
@@ -81,19 +85,22 @@ module _ (K V S : Type 0) (same : K → K → Bool) (hash : K → ℕ) where
   abbrev pub EventsGoOn : Type 0
   EventsGoOn =
       (name : ℕ → List ℕ) (log : List (Entry K V)) (beginning : Moment K V) (map i : ℕ) (c : CallThere K V)
-      → (done : List Effect) (m : Moment K V) (known : Known) (s : Scene K V) (u : UnderWay K V K) (midst : InEvent same name log beginning map i c done m known s u)
+      → (done : List Effect) (m : Moment K V) (known : Known) (s : Scene K V) (u : UnderWay K V K)
+      → (midst : InEvent same name log beginning map i c done m known s u)
       → (old new : Executor K V S) → IsAt same hash old s → (said : Progress (Node K V)) (leads : StepLeads same hash i said s old new)
       → (let to = leads map u (here_of same name log beginning map i c done m known s u midst) in
       (next : UnderWay K V K) → to.4.next ≡ Some next
       → InEvent same name log beginning map i c (done ++ effects_of (acts.Call i map) known new.memory.changed)
-      (with_effects (Some (name i)) (Some map) (effects_of (acts.Call i map) known new.memory.changed) m) (known_after (acts.Call i map) new.memory.changed known)
+      (with_effects (Some (name i)) (Some map) (effects_of (acts.Call i map) known new.memory.changed) m)
+      (known_after (acts.Call i map) new.memory.changed known)
       (scene_after same hash s old new map i to.0 u to.1 said to.4) next)
 
   -- after the last one, too, the moment shows all of the scene, what calls owe, and what those on no key are called for, told and ask;
   abbrev pub EventsKeepAll : Type 0
   EventsKeepAll =
       (name : ℕ → List ℕ) (log : List (Entry K V)) (beginning : Moment K V) (map i : ℕ) (c : CallThere K V)
-      → (done : List Effect) (m : Moment K V) (known : Known) (s : Scene K V) (u : UnderWay K V K) (midst : InEvent same name log beginning map i c done m known s u)
+      → (done : List Effect) (m : Moment K V) (known : Known) (s : Scene K V) (u : UnderWay K V K)
+      → (midst : InEvent same name log beginning map i c done m known s u)
       → (old new : Executor K V S) → IsAt same hash old s → (said : Progress (Node K V)) (leads : StepLeads same hash i said s old new)
       → (let to = leads map u (here_of same name log beginning map i c done m known s u midst) in
       let m2 = with_effects (Some (name i)) (Some map) (effects_of (acts.Call i map) known new.memory.changed) m in
@@ -112,9 +119,11 @@ module _ (K V S : Type 0) (same : K → K → Bool) (hash : K → ℕ) where
   -- and the event that comes to that changes maps, answers and asks as one finite map says, and by it a call that asks does not go on by itself.
   abbrev pub EventsEnd : Type 0
   EventsEnd =
-      (name : ℕ → List ℕ) (log : List (Entry K V)) (beginning : Moment K V) (map i : ℕ) (c : CallThere K V) → call_of (name i) beginning ≡ Some c → ShowsQuestions beginning
+      (name : ℕ → List ℕ) (log : List (Entry K V)) (beginning : Moment K V) (map i : ℕ) (c : CallThere K V) → call_of (name i) beginning ≡ Some c
+      → ShowsQuestions beginning
       → (done : List Effect) (m : Moment K V) (known : Known) (s : Scene K V) (u : UnderWay K V K) → InEvent same name log beginning map i c done m known s u
       → (old new : Executor K V S) → IsAt same hash old s → (said : Progress (Node K V)) → StepLeads same hash i said s old new
       → (e : Entry K V) → caller_of e.event ≡ Some (name i) → at_work e (moment log) ≡ beginning → acted_on e.event beginning ≡ Some map
-      → e.effects ≡ done ++ effects_of (acts.Call i map) known new.memory.changed → ComesSo (known_after (acts.Call i map) new.memory.changed known) c.call c.replies said e.outcome
+      → e.effects ≡ done ++ effects_of (acts.Call i map) known new.memory.changed
+      → ComesSo (known_after (acts.Call i map) new.memory.changed known) c.call c.replies said e.outcome
       → IsLinearizable same log e × EventAsksStill log e

@@ -39,24 +39,29 @@ IsIdle (Asks question) = ⊥
 IsIdle _ = Unit {0}
 
 module _ (K V S : Type 0) (same : K → K → Bool) (hash : K → ℕ) where
-  -- The promises: a step of such a call changes no pair, but that one of a clearing may remove a pair, and one of a retaining a pair about which the last reply was no.
+  -- The promises: a step of such a call changes no pair, but one of a clearing may remove one, and one of a retaining one about which the last reply was no.
   abbrev pub OthersRemoveOnly : Type 0
   OthersRemoveOnly =
-      (name : ℕ → List ℕ) (m : Moment K V) (known : Known) (s : Scene K V) (old new : Executor K V S) → IsAt same hash old s → ShowsWhole same name m known s → ShowsAsCalled same name m known s
+      (name : ℕ → List ℕ) (m : Moment K V) (known : Known) (s : Scene K V) (old new : Executor K V S) → IsAt same hash old s → ShowsWhole same name m known s
+      → ShowsAsCalled same name m known s
       → (map i : ℕ) (u : UnderWay K V K) (here : s.calls map i ≡ Some u) (said : Progress (Node K V)) (leads : StepLeads same hash i said s old new)
-      → (c : CallThere K V) → call_of (name i) m ≡ Some c → IsOnNoKey c.call → RemovesOnly same c.call c (flat_map shift_of (effects_of (acts.Call i map) known new.memory.changed))
+      → (c : CallThere K V) → call_of (name i) m ≡ Some c → IsOnNoKey c.call
+      → RemovesOnly same c.call c (flat_map shift_of (effects_of (acts.Call i map) known new.memory.changed))
 
 module _ (K V : Type 0) (same : K → K → Bool) where
   -- So do several steps,
   abbrev pub RemovalsAdd : Type 0
-  RemovalsAdd = (call : Call K V) (c : CallThere K V) (done more : List Shift) → RemovesOnly same call c done → RemovesOnly same call c more → RemovesOnly same call c (done ++ more)
+  RemovalsAdd = (call : Call K V) (c : CallThere K V) (done more : List Shift) → RemovesOnly same call c done → RemovesOnly same call c more
+      → RemovesOnly same call c (done ++ more)
 
   -- and an event by which a call on no key removes only what it may, and asks what it may, is linearizable,
   abbrev pub OthersAreLinearizable : Type 0
   OthersAreLinearizable =
-      (log : List (Entry K V)) (e : Entry K V) (own : List ℕ) (map : ℕ) (c : CallThere K V) → caller_of e.event ≡ Some own → call_of own (at_work e (moment log)) ≡ Some c
+      (log : List (Entry K V)) (e : Entry K V) (own : List ℕ) (map : ℕ) (c : CallThere K V) → caller_of e.event ≡ Some own
+      → call_of own (at_work e (moment log)) ≡ Some c
       → acted_on e.event (at_work e (moment log)) ≡ Some map → IsOnNoKey c.call → RemovesOnly same c.call c (flat_map shift_of e.effects)
-      → ((d : CallThere K V) → call_of own (worked e (moment log)) ≡ Some d → AsksRight same d.stands d (moments_from d.begun log) e.outcome) → IsLinearizable same log e
+      → ((d : CallThere K V) → call_of own (worked e (moment log)) ≡ Some d → AsksRight same d.stands d (moments_from d.begun log) e.outcome)
+      → IsLinearizable same log e
 
   -- and one that is no step of a call, and by which no pair comes or goes.
   abbrev pub NoCallsAreLinearizable : Type 0

@@ -43,10 +43,10 @@ AsksAsSaid known (progress.Asks about) _ = ⊥
 AsksAsSaid known _ (outcome.Asks question) = ⊥
 AsksAsSaid known _ _ = Unit {0}
 
--- After so many effects of an event, since the moment at which it has begun what it begins, the moment shows the scene, what calls owe, and what those on no key were
--- called for, told and ask. Each class has what it had there, or nothing any more; and the effects remove only what such a call may.
-pub record InOtherMidst {K V : Type 0} (same : K → K → Bool) (name : ℕ → List ℕ) (log : List (Entry K V)) (beginning : Moment K V) (map i : ℕ) (c : CallThere K V) (done : List Effect)
-    (m : Moment K V) (known : Known) (s : Scene K V) (u : UnderWay K V K) : Type 0 where
+-- After so many effects of an event, since the moment at which it has begun what it begins, the moment shows the scene, what calls owe, and what those on no
+-- key were called for, told and ask. Each class has what it had there, or nothing any more; and the effects remove only what such a call may.
+pub record InOtherMidst {K V : Type 0} (same : K → K → Bool) (name : ℕ → List ℕ) (log : List (Entry K V)) (beginning : Moment K V) (map i : ℕ) (c : CallThere K V)
+    (done : List Effect) (m : Moment K V) (known : Known) (s : Scene K V) (u : UnderWay K V K) : Type 0 where
   pub here : s.calls map i ≡ Some u
   pub other : IsOnNoKey c.call
   pub whole : ShowsWhole same name m known s
@@ -65,7 +65,8 @@ module _ (K V : Type 0) (same : K → K → Bool) where
   abbrev pub OtherMidstsBegin : Type 0
   OtherMidstsBegin =
       (name : ℕ → List ℕ) (log : List (Entry K V)) (beginning : Moment K V) → HasJustBegun log beginning
-      → (known : Known) (s : Scene K V) → ShowsWhole same name beginning known s → ShowsDue same name log beginning known s → ShowsAsCalled same name beginning known s
+      → (known : Known) (s : Scene K V) → ShowsWhole same name beginning known s → ShowsDue same name log beginning known s
+      → ShowsAsCalled same name beginning known s
       → (map i : ℕ) (u : UnderWay K V K) → s.calls map i ≡ Some u → (c : CallThere K V) → call_of (name i) beginning ≡ Some c → IsOnNoKey c.call
       → InOtherMidst same name log beginning map i c [] beginning known s u
 
@@ -75,7 +76,8 @@ module _ (K V S : Type 0) (same : K → K → Bool) (hash : K → ℕ) where
   OtherMidstsBeginCalls =
       (name : ℕ → List ℕ) (log : List (Entry K V)) (known : Known) (s : Scene K V) (old : Executor K V S) → IsAt same hash old s
       → ShowsWhole same name (moment log) known s → ShowsDue same name log (moment log) known s → ShowsAsCalled same name (moment log) known s
-      → (map i : ℕ) (u : UnderWay K V K) (call : Call K V) (guard : List ℕ) (standing : Standing K) → s.maps map ≡ Some standing → ((began : ℕ) → began_of u ≡ Some began → began ≡ standing.chart.now)
+      → (map i : ℕ) (u : UnderWay K V K) (call : Call K V) (guard : List ℕ) (standing : Standing K) → s.maps map ≡ Some standing
+      → ((began : ℕ) → began_of u ≡ Some began → began ≡ standing.chart.now)
       → NoneNamed name (name i) s → IsCalled same u call → IsOnNoKey call → IsBegunAs u call → s.world.row i ≡ Rests
       → (let beginning = with_call (name i) guard call (Some map) (moment log) in
       let c = fresh_call (name i) guard call map (moment log).events in
@@ -85,38 +87,46 @@ module _ (K V S : Type 0) (same : K → K → Bool) (hash : K → ℕ) where
   abbrev pub OtherMidstsGoOn : Type 0
   OtherMidstsGoOn =
       (name : ℕ → List ℕ) (log : List (Entry K V)) (beginning : Moment K V) (map i : ℕ) (c : CallThere K V)
-      → (done : List Effect) (m : Moment K V) (known : Known) (s : Scene K V) (u : UnderWay K V K) (midst : InOtherMidst same name log beginning map i c done m known s u)
+      → (done : List Effect) (m : Moment K V) (known : Known) (s : Scene K V) (u : UnderWay K V K)
+      → (midst : InOtherMidst same name log beginning map i c done m known s u)
       → (old new : Executor K V S) → IsAt same hash old s → (said : Progress (Node K V)) (leads : StepLeads same hash i said s old new)
       → (let to = leads map u midst.here in
       (next : UnderWay K V K) → to.4.next ≡ Some next
       → InOtherMidst same name log beginning map i c (done ++ effects_of (acts.Call i map) known new.memory.changed)
-      (with_effects (Some (name i)) (Some map) (effects_of (acts.Call i map) known new.memory.changed) m) (known_after (acts.Call i map) new.memory.changed known)
+      (with_effects (Some (name i)) (Some map) (effects_of (acts.Call i map) known new.memory.changed) m)
+      (known_after (acts.Call i map) new.memory.changed known)
       (scene_after same hash s old new map i to.0 u to.1 said to.4) next)
 
   -- after the last one what calls owe is shown, and the history of each map is within the run,
   abbrev pub OtherMidstsKeepDue : Type 0
   OtherMidstsKeepDue =
       (name : ℕ → List ℕ) (log : List (Entry K V)) (beginning : Moment K V) (map i : ℕ) (c : CallThere K V)
-      → (done : List Effect) (m : Moment K V) (known : Known) (s : Scene K V) (u : UnderWay K V K) (midst : InOtherMidst same name log beginning map i c done m known s u)
+      → (done : List Effect) (m : Moment K V) (known : Known) (s : Scene K V) (u : UnderWay K V K)
+      → (midst : InOtherMidst same name log beginning map i c done m known s u)
       → (old new : Executor K V S) → IsAt same hash old s → (said : Progress (Node K V)) (leads : StepLeads same hash i said s old new)
       → (let to = leads map u midst.here in
-      ShowsDue same name log (with_effects (Some (name i)) (Some map) (effects_of (acts.Call i map) known new.memory.changed) m) (known_after (acts.Call i map) new.memory.changed known)
+      ShowsDue same name log (with_effects (Some (name i)) (Some map) (effects_of (acts.Call i map) known new.memory.changed) m)
+      (known_after (acts.Call i map) new.memory.changed known)
       (scene_after same hash s old new map i to.0 u to.1 said to.4))
 
   -- and an event that asks what the last of its steps says is linearizable;
   abbrev pub OtherMidstsEnd : Type 0
   OtherMidstsEnd =
       (name : ℕ → List ℕ) (log : List (Entry K V)) (beginning : Moment K V) (map i : ℕ) (c : CallThere K V) → call_of (name i) beginning ≡ Some c
-      → (done : List Effect) (m : Moment K V) (known : Known) (s : Scene K V) (u : UnderWay K V K) (midst : InOtherMidst same name log beginning map i c done m known s u)
+      → (done : List Effect) (m : Moment K V) (known : Known) (s : Scene K V) (u : UnderWay K V K)
+      → (midst : InOtherMidst same name log beginning map i c done m known s u)
       → (old new : Executor K V S) → IsAt same hash old s → (said : Progress (Node K V)) (leads : StepLeads same hash i said s old new)
       → (e : Entry K V) → caller_of e.event ≡ Some (name i) → at_work e (moment log) ≡ beginning → acted_on e.event beginning ≡ Some map
-      → e.effects ≡ done ++ effects_of (acts.Call i map) known new.memory.changed → AsksAsSaid (known_after (acts.Call i map) new.memory.changed known) said e.outcome → IsLinearizable same log e
+      → e.effects ≡ done ++ effects_of (acts.Call i map) known new.memory.changed
+      → AsksAsSaid (known_after (acts.Call i map) new.memory.changed known) said e.outcome → IsLinearizable same log e
 
   -- by it a call that asks does not go on by itself.
   abbrev pub OtherMidstsAskStill : Type 0
   OtherMidstsAskStill =
       (name : ℕ → List ℕ) (log : List (Entry K V)) (beginning : Moment K V) (map i : ℕ) (c : CallThere K V) → call_of (name i) beginning ≡ Some c
-      → (done : List Effect) (m : Moment K V) (known : Known) (s : Scene K V) (u : UnderWay K V K) (midst : InOtherMidst same name log beginning map i c done m known s u)
+      → (done : List Effect) (m : Moment K V) (known : Known) (s : Scene K V) (u : UnderWay K V K)
+      → (midst : InOtherMidst same name log beginning map i c done m known s u)
       → (old new : Executor K V S) → IsAt same hash old s → (said : Progress (Node K V)) (leads : StepLeads same hash i said s old new)
       → (e : Entry K V) → caller_of e.event ≡ Some (name i) → at_work e (moment log) ≡ beginning → acted_on e.event beginning ≡ Some map
-      → e.effects ≡ done ++ effects_of (acts.Call i map) known new.memory.changed → AsksAsSaid (known_after (acts.Call i map) new.memory.changed known) said e.outcome → EventAsksStill log e
+      → e.effects ≡ done ++ effects_of (acts.Call i map) known new.memory.changed
+      → AsksAsSaid (known_after (acts.Call i map) new.memory.changed known) said e.outcome → EventAsksStill log e
