@@ -80,11 +80,11 @@ module _ {K V : Type 0} (same : K → K → Bool) where
   on_none (OverAll o) call.Walk other is = tt
   on_none _ _ other is = absurd is
 
-  comes_of_key : (known : Known) (replies : List (Option ℕ × Reply V)) (said : Progress (Node K V)) (o : Outcome V) (its : Call K V) (one : OneKey K V) → its ≡ call.On one → ComesSo known its replies said o
+  pub comes_of_key : (known : Known) (replies : List (Option ℕ × Reply V)) (said : Progress (Node K V)) (o : Outcome V) (its : Call K V) (one : OneKey K V) → its ≡ call.On one → ComesSo known its replies said o
       → ComesToIt known one replies said o
   comes_of_key known replies said o its one e comes = subst (λ (x : Call K V). ComesSo known x replies said o) e comes
 
-  comes_of_none : (known : Known) (replies : List (Option ℕ × Reply V)) (said : Progress (Node K V)) (o : Outcome V) (its : Call K V) → IsOnNoKey its → ComesSo known its replies said o → AsksAsSaid known said o
+  pub comes_of_none : (known : Known) (replies : List (Option ℕ × Reply V)) (said : Progress (Node K V)) (o : Outcome V) (its : Call K V) → IsOnNoKey its → ComesSo known its replies said o → AsksAsSaid known said o
   comes_of_none known replies said o (call.On one) other comes = absurd other
   comes_of_none known replies said o (call.Reserve n) other comes = comes
   comes_of_none known replies said o call.Clear other comes = comes

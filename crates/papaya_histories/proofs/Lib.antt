@@ -46,4 +46,5 @@ pub mod Words
 pub mod HasWords
 pub mod Events
 pub mod InEvent
+pub mod AsksThere
 mod Samples

@@ -73,7 +73,7 @@ module _ {T : Type 0} where
   counting_asks_none (counts.Refused fault) about e = absurd (cc e)
 
 -- an event asks, or does not
-asks_or_none : {V : Type 0} (o : Outcome V) → ((question : Option ℕ) × (o ≡ outcome.Asks question)) ⊎ IsNoQuestion o
+pub asks_or_none : {V : Type 0} (o : Outcome V) → ((question : Option ℕ) × (o ≡ outcome.Asks question)) ⊎ IsNoQuestion o
 asks_or_none (outcome.Asks question) = inl (question, refl)
 asks_or_none _ = inr tt
 
@@ -155,6 +155,10 @@ module _ {K V S : Type 0} (same : K → K → Bool) (hash : K → ℕ) (name : �
         by (ForRoom r) none steps (p2, end, machine_is, told_is, did) = absurd (room_asks_none end about (sym told_is))
         by (Counting sum) none steps (sum2, end, machine_is, told_is, still, stayed) = absurd (counting_asks_none end about (sym told_is))
         by (OverAll o) none steps did = sweep_asks o steps
+
+    pub asks_next : (o : CallOverAll) × ((leads map u midst.here).4.next ≡ Some (OverAll o)) × (word : ℕ) × (about ≡ Some word) × (o.sweep.stands ≡ at.Asks word)
+    unfolding next
+    asks_next = let it = asks_there in (it.0, (leads map u midst.here).4.goes_on.1 ∙ ap Some it.1, it.2, it.3, it.4)
 
     -- so it is a retaining, and may ask that
     module _ (o : CallOverAll) (next_is : next ≡ OverAll o) (word : ℕ) (stands_at : o.sweep.stands ≡ at.Asks word) where

@@ -28,9 +28,9 @@ use Rattle.papaya_executor.specs.declared.executor.Executor.{Executor}
 use Rattle.papaya_finishes.specs.Maps.{Standing}
 use Rattle.papaya_follows.specs.Calling.{NoneNamed}
 use Rattle.papaya_follows.specs.Calls.{IsCalled}
-use Rattle.papaya_hands.specs.Calling.{IsBegunFor}
+use Rattle.papaya_hands.specs.Calling.{IsBegunFor, AsksJust}
 use Rattle.papaya_moments.specs.Whole.{ShowsWhole}
-use Rattle.papaya_histories.specs.AsCalled.{ShowsAsCalled, IsBegunAs}
+use Rattle.papaya_histories.specs.AsCalled.{ShowsAsCalled, IsBegunAs, AsksAsCalled}
 use Rattle.papaya_histories.specs.Due.{ShowsDue}
 use Rattle.papaya_histories.specs.Events.{ComesToIt}
 use Rattle.papaya_histories.specs.Histories.{began_of}
@@ -127,3 +127,15 @@ module _ (K V S : Type 0) (same : K → K → Bool) (hash : K → ℕ) where
       → e.effects ≡ done ++ effects_of (acts.Call i map) known new.memory.changed
       → ComesSo (known_after (acts.Call i map) new.memory.changed known) c.call c.replies said e.outcome
       → IsLinearizable same log e × EventAsksStill log e
+
+  -- A call that is under way after such a step asks there just what that comes to, if it asks.
+  abbrev pub EventsAskThere : Type 0
+  EventsAskThere =
+      (name : ℕ → List ℕ) (log : List (Entry K V)) (beginning : Moment K V) (map i : ℕ) (c : CallThere K V)
+      → (done : List Effect) (m : Moment K V) (known : Known) (s : Scene K V) (u : UnderWay K V K)
+      → (midst : InEvent same name log beginning map i c done m known s u)
+      → (old new : Executor K V S) → IsAt same hash old s → (said : Progress (Node K V)) (leads : StepLeads same hash i said s old new)
+      → (let to = leads map u (here_of same name log beginning map i c done m known s u midst) in
+      let known2 = known_after (acts.Call i map) new.memory.changed known in
+      (outcome : Outcome V) → ComesSo known2 c.call c.replies said outcome
+      → (next : UnderWay K V K) → to.4.next ≡ Some next → AsksJust known2 next outcome × AsksAsCalled known2 next outcome)

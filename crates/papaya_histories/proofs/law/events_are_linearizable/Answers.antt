@@ -1,4 +1,5 @@
 -- Events of calls are linearizable, whatever their kind.
+use Rattle.papaya_histories.proofs.AsksThere.{events_ask_there}
 use Rattle.papaya_histories.proofs.InEvent.{events_begin, events_begin_calls, events_go_on, events_keep_all, events_have_words, events_end}
 use Rattle.papaya_histories.proofs.law.events_are_linearizable.Goals as goal
 
@@ -10,4 +11,5 @@ returns c d = record {
   keeps = events_keep_all _ _ _;
   words = events_have_words _ _ _;
   ends = events_end _ _ _;
+  asks = events_ask_there _ _ _;
 }
