@@ -44,6 +44,7 @@ use Rattle.papaya_others.specs.Endings.{ending_after, without_map}
 use Rattle.papaya_others.specs.Gone.{WasRetired, EndsWith}
 use Rattle.papaya_others.specs.Makings.{WasNew, making_after}
 use Rattle.papaya_others.specs.Walks.{given_up}
+use Rattle.papaya_others.proofs.Elsewhere.{shown_elsewhere}
 use Rattle.papaya_others.proofs.EndBegins.{endings_begin_shown, endings_are_over}
 use Rattle.papaya_others.proofs.Ends.{endings_are_shown}
 use Rattle.papaya_others.proofs.MakeBegins.{makings_begin_shown, maps_are_there}
@@ -51,6 +52,7 @@ use Rattle.papaya_others.proofs.Makes.{makings_are_shown}
 use Rattle.papaya_others.proofs.RowBegins.{rows_begin_shown}
 use Rattle.papaya_others.proofs.RowPlans.{row_tells}
 use Rattle.papaya_others.proofs.Rows.{rows_on_slots_are_shown}
+use Rattle.papaya_others.proofs.Stays.{same_maps}
 use Rattle.papaya_others.proofs.Walks.{fewer_calls, with_calls}
 use Rattle.papaya_spots.proofs.OnSlots.{row_beside as finds_numbers}
 use Rattle.papaya_moments.specs.Endings.{IsOfIts}
@@ -167,6 +169,8 @@ module _ {K V : Type 0} (S : Type 0) (same : K → K → Bool) (hash : K → ℕ
         between m (without_map own remains m) known s s so refl refl refl (λ shown. endings_are_over K V same name m known s shown own remains others) (λ n j x is. is) refl;
     walks = λ m known s old new at_old whole so i leads map o here is_next.
         subst (λ (x : UnderWay K V K). P m known (scene_with map i x s)) (sym is_next) (walking m known s so map i o here (ready_is o.sweep.stands (leads map (OverAll o) here).2));
+    alike = λ m m2 known s so like. between m m2 known s s so like.place like.stored like.calls
+        (λ shown. shown_elsewhere K V same name m m2 known s s shown like (record { memory = refl; hand = refl; maps = λ n. same_maps (s.maps n); calls = refl })) (λ n j x is. is) refl;
     walks_stop = λ m known s old new at_old whole so i stopped leads map u here none. stops m known s so i stopped map u here none;
   }
     where

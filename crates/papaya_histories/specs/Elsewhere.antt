@@ -33,6 +33,7 @@ use Rattle.papaya_finishes.specs.Endings.{Finishing}
 use Rattle.papaya_finishes.specs.Makings.{Beginning}
 use Rattle.papaya_finishes.specs.Maps.{Standing, with_call}
 use Rattle.papaya_follows.specs.Calling.{NoneNamed}
+use Rattle.papaya_others.specs.Elsewhere.{HasSame}
 use Rattle.papaya_others.specs.Endings.{ending_after, without_map}
 use Rattle.papaya_others.specs.Makings.{making_after}
 use Rattle.papaya_others.specs.Rows.{scene_then}
@@ -89,6 +90,8 @@ module _ {K V : Type 0} (S : Type 0) (same : K → K → Bool) (hash : K → ℕ
         → (map : ℕ) (u : UnderWay K V K) → s.calls map i ≡ Some u
         → (let after = record s { calls = with_call s.calls map i (unless_stopped stopped u) } in
         (stopped ≡ true → NoneNamed name (name i) after) → P (given_up (name i) stopped m) known after))
+    -- And it does at another moment that has the same pairs, maps, tables and calls.
+    pub alike : (m m2 : Moment K V) (known : Known) (s : Scene K V) → P m known s → HasSame m m2 → P m2 known s
 
 module _ (K V S : Type 0) (same : K → K → Bool) (hash : K → ℕ) where
   -- The promises: so do the histories of maps,

@@ -21,7 +21,7 @@ ghost use Rattle.papaya_histories.specs.Kept.{HistoriesBegin, CallsKeepHistories
 /// key had at a moment of the map, the finite map has at one of these. So it is before all events; after each step of a call, whoever's, if no class changes twice
 /// within one event, as none does by the first step of one; where a call begins, takes a reply and comes to an outcome; where an event is over; where a row
 /// begins on a slot, and after each step of it; and elsewhere: where the making or the end of a map begins, after each step of it, where its map comes or is there no
-/// more, and where a walk goes on, or is given up.
+/// more, and where a walk goes on, or is given up; and at each moment that has the same pairs, maps, tables and calls.
 pub fn histories_are_within<K, V, S>()
     ensures begins { HistoriesBegin K V }
     ensures calls { (same : K → K → Bool) (hash : K → ℕ) → CallsKeepHistories K V S same hash }
