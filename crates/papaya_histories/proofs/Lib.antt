@@ -47,4 +47,5 @@ pub mod HasWords
 pub mod Events
 pub mod InEvent
 pub mod AsksThere
+pub mod Over
 mod Samples

@@ -1,5 +1,5 @@
 -- An event of several steps of a call, whatever its kind, one after another: in its midst, and at its end.
-use Rattle.std.specs.Prelude.{◌≡◌, ℕ, Bool, List, [], ◌++◌, Option, Some}
+use Rattle.std.specs.Prelude.{◌≡◌, ℕ, Bool, List, [], ◌∷◌, ◌++◌, Option, Some}
 use Rattle.seize.specs.World.{Rests}
 use Rattle.papaya_tables.specs.declared.node.Node.{Node}
 use Rattle.papaya_raw.specs.declared.machines.progress.Progress.{Progress}
@@ -12,7 +12,7 @@ use Rattle.papaya_schedules.specs.declared.outcome.Outcome.{Outcome}
 use Rattle.papaya_schedules.specs.After.{moment}
 use Rattle.papaya_schedules.specs.Beginning.{at_work, fresh_call, with_call}
 use Rattle.papaya_schedules.specs.Effects.{with_effects}
-use Rattle.papaya_schedules.specs.Entry.{Entry, caller_of, acted_on}
+use Rattle.papaya_schedules.specs.Entry.{Entry, ends_call, caller_of, acted_on}
 use Rattle.papaya_schedules.specs.Linearizable.{IsLinearizable}
 use Rattle.papaya_schedules.specs.Moment.{UnderWay as CallThere, Moment}
 use Rattle.papaya_schedules.specs.Views.{call_of}
@@ -23,7 +23,7 @@ use Rattle.papaya_effects.specs.Known.{Known}
 use Rattle.papaya_effects.specs.declared.acting.Acting.TheVariants as acts
 use Rattle.papaya_executor.specs.IsAt.{Scene, IsAt}
 use Rattle.papaya_executor.specs.Replying.{scene_with}
-use Rattle.papaya_executor.specs.Stepping.{StepLeads, scene_after}
+use Rattle.papaya_executor.specs.Stepping.{StepLeads, has_ended, scene_after}
 use Rattle.papaya_executor.specs.declared.executor.Executor.{Executor}
 use Rattle.papaya_finishes.specs.Maps.{Standing}
 use Rattle.papaya_follows.specs.Calling.{NoneNamed}
@@ -139,3 +139,19 @@ module _ (K V S : Type 0) (same : K → K → Bool) (hash : K → ℕ) where
       let known2 = known_after (acts.Call i map) new.memory.changed known in
       (outcome : Outcome V) → ComesSo known2 c.call c.replies said outcome
       → (next : UnderWay K V K) → to.4.next ≡ Some next → AsksJust known2 next outcome × AsksAsCalled known2 next outcome)
+
+  -- And once such an event is over, by which its call has ended just where its last step says so, the moment after it shows what calls owe, and what those on no key are
+  -- called for, told and ask.
+  abbrev pub EventsAreOver : Type 0
+  EventsAreOver =
+      (name : ℕ → List ℕ) (log : List (Entry K V)) (beginning : Moment K V) (map i : ℕ) (c : CallThere K V)
+      → (done : List Effect) (m : Moment K V) (known : Known) (s : Scene K V) (u : UnderWay K V K)
+      → (midst : InEvent same name log beginning map i c done m known s u)
+      → (old new : Executor K V S) → IsAt same hash old s → (said : Progress (Node K V)) (leads : StepLeads same hash i said s old new)
+      → (e : Entry K V) → caller_of e.event ≡ Some (name i) → at_work e (moment log) ≡ beginning → acted_on e.event beginning ≡ Some map
+      → e.effects ≡ done ++ effects_of (acts.Call i map) known new.memory.changed
+      → ComesSo (known_after (acts.Call i map) new.memory.changed known) c.call c.replies said e.outcome → ends_call e.outcome ≡ has_ended said
+      → (let to = leads map u (here_of same name log beginning map i c done m known s u midst) in
+      let known2 = known_after (acts.Call i map) new.memory.changed known in
+      let s2 = scene_after same hash s old new map i to.0 u to.1 said to.4 in
+      ShowsDue same name (e ∷ log) (moment (e ∷ log)) known2 s2 × ShowsAsCalled same name (moment (e ∷ log)) known2 s2)

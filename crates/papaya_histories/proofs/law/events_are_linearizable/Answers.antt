@@ -1,6 +1,7 @@
 -- Events of calls are linearizable, whatever their kind.
 use Rattle.papaya_histories.proofs.AsksThere.{events_ask_there}
 use Rattle.papaya_histories.proofs.InEvent.{events_begin, events_begin_calls, events_go_on, events_keep_all, events_have_words, events_end}
+use Rattle.papaya_histories.proofs.Over.{events_are_over}
 use Rattle.papaya_histories.proofs.law.events_are_linearizable.Goals as goal
 
 pub returns : goal.returns
@@ -12,4 +13,5 @@ returns c d = record {
   words = events_have_words _ _ _;
   ends = events_end _ _ _;
   asks = events_ask_there _ _ _;
+  over = events_are_over _ _ _;
 }
