@@ -29,23 +29,11 @@ pub mod Says
 pub mod Asking
 pub mod AsksRight
 pub mod OtherCalls
-pub mod Idle
-pub mod NoShifts
-pub mod Sweeps
-pub mod AsCalled
-pub mod AsCalledOn
-pub mod Elsewhere
-pub mod WalksOn
-pub mod WalksThere
-pub mod Stays
 pub mod BeginsCall
 pub mod Retaining
 pub mod OtherMidsts
-pub mod OtherEvents
-pub mod Words
-pub mod HasWords
 pub mod Events
-pub mod InEvent
-pub mod AsksThere
-pub mod Over
+pub mod NoKey
+pub mod Aside
+pub mod AnyCall
 mod Samples

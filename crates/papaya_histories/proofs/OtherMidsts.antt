@@ -46,8 +46,8 @@ use Rattle.papaya_histories.specs.Kept.{ChangesFirst}
 use Rattle.papaya_histories.specs.OtherCalls.{IsOnNoKey}
 use Rattle.papaya_histories.specs.OtherMidsts.{InOtherMidst, OtherMidstsBegin, OtherMidstsBeginCalls, OtherMidstsGoOn, OtherMidstsKeepDue}
 use Rattle.papaya_histories.specs.Several.{IsSameCall}
-use Rattle.papaya_histories.proofs.AsCalled.{calls_keep_as_called}
-use Rattle.papaya_histories.proofs.AsCalledOn.{calls_begin_as_called}
+use Rattle.papaya_histories.proofs.NoKey.AsCalled.{calls_keep_as_called}
+use Rattle.papaya_histories.proofs.NoKey.AsCalledOn.{calls_begin_as_called}
 use Rattle.papaya_histories.proofs.BeginsCall.{events_are}
 use Rattle.papaya_histories.proofs.Due.{calls_keep_due}
 use Rattle.papaya_histories.proofs.DueOn.{calls_begin_due}

@@ -1,7 +1,7 @@
 -- Events of calls are linearizable, whatever their kind.
-use Rattle.papaya_histories.proofs.AsksThere.{events_ask_there}
-use Rattle.papaya_histories.proofs.InEvent.{events_begin, events_begin_calls, events_go_on, events_keep_all, events_have_words, events_end}
-use Rattle.papaya_histories.proofs.Over.{events_are_over}
+use Rattle.papaya_histories.proofs.AnyCall.AsksThere.{events_ask_there}
+use Rattle.papaya_histories.proofs.AnyCall.InEvent.{events_begin, events_begin_calls, events_go_on, events_keep_all, events_have_words, events_end}
+use Rattle.papaya_histories.proofs.AnyCall.Over.{events_are_over}
 use Rattle.papaya_histories.proofs.law.events_are_linearizable.Goals as goal
 
 pub returns : goal.returns

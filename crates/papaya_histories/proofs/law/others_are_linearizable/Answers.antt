@@ -1,6 +1,6 @@
 -- Events of other calls are linearizable.
-use Rattle.papaya_histories.proofs.Idle.{idle_are_linearizable}
-use Rattle.papaya_histories.proofs.NoShifts.{rows_shift_none, makings_shift_none, endings_shift_none}
+use Rattle.papaya_histories.proofs.NoKey.Idle.{idle_are_linearizable}
+use Rattle.papaya_histories.proofs.Aside.NoShifts.{rows_shift_none, makings_shift_none, endings_shift_none}
 use Rattle.papaya_histories.proofs.OtherCalls.{others_remove_only, removals_added, others_are_linearizable, no_calls_are_linearizable}
 use Rattle.papaya_histories.proofs.law.others_are_linearizable.Goals as goal
 

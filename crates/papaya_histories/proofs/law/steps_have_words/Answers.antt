@@ -1,5 +1,5 @@
 -- Steps have words.
-use Rattle.papaya_histories.proofs.HasWords.{questions_have_words, steps_have_words}
+use Rattle.papaya_histories.proofs.AnyCall.HasWords.{questions_have_words, steps_have_words}
 use Rattle.papaya_histories.proofs.law.steps_have_words.Goals as goal
 
 pub returns : goal.returns

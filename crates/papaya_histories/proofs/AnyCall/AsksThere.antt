@@ -28,9 +28,9 @@ use Rattle.papaya_histories.specs.InEvent.{ComesSo, EventsAskThere}
 use Rattle.papaya_histories.specs.OtherMidsts.{AsksAsSaid, InOtherMidst}
 use Rattle.papaya_histories.specs.Several.{InMidst}
 use Rattle.papaya_histories.proofs.Asking.{asking_steps_stand_there}
-use Rattle.papaya_histories.proofs.InEvent.{comes_of_key, comes_of_none}
+use Rattle.papaya_histories.proofs.AnyCall.InEvent.{comes_of_key, comes_of_none}
 use Rattle.papaya_histories.proofs.OtherCalls.{IsNoQuestion}
-use Rattle.papaya_histories.proofs.OtherEvents.{asks_next, asks_or_none}
+use Rattle.papaya_histories.proofs.NoKey.OtherEvents.{asks_next, asks_or_none}
 
 module _ {K V : Type 0} (known : Known) where
   abbrev AsksSo : UnderWay K V K → Outcome V → Type 0

@@ -49,13 +49,13 @@ use Rattle.papaya_histories.specs.Asking.{IsToldQuestion}
 use Rattle.papaya_histories.specs.Due.{ShowsDue}
 use Rattle.papaya_histories.specs.OtherMidsts.{AsksAsSaid, InOtherMidst, OtherMidstsEnd, OtherMidstsAskStill}
 use Rattle.papaya_histories.specs.Questions.{GoesItself, AsksStill, EventAsksStill}
-use Rattle.papaya_histories.proofs.AsCalled.{calls_keep_as_called}
+use Rattle.papaya_histories.proofs.NoKey.AsCalled.{calls_keep_as_called}
 use Rattle.papaya_histories.proofs.Found.{map_alike}
 use Rattle.papaya_histories.proofs.OtherCalls.{IsNoQuestion, asks_none, others_are_linearizable}
 use Rattle.papaya_histories.proofs.OtherMidsts.{on_no_key, there_other, there_called, d, d_is, d_stands, fewer_so, removes_so, worked_then, other_midsts_keep_due}
 use Rattle.papaya_histories.proofs.Retaining.{retainings_may_ask}
 use Rattle.papaya_histories.proofs.Several.{stands}
-use Rattle.papaya_histories.proofs.Sweeps.{SweepsOn, sweeps_on, asks_still}
+use Rattle.papaya_histories.proofs.NoKey.Sweeps.{SweepsOn, sweeps_on, asks_still}
 
 -- a reservation and a counting say of nothing that they ask it
 module _ {T : Type 0} where

@@ -35,15 +35,15 @@ use Rattle.papaya_histories.specs.AsCalled.{SweepAsks, IsAsCalled, ShowsAsCalled
 use Rattle.papaya_histories.specs.Due.{Owes, ShowsDue}
 use Rattle.papaya_histories.specs.Elsewhere.{HistoriesStay, DuesStay, AsCalledStays}
 use Rattle.papaya_histories.specs.Histories.{since, IsWithin, ShowsHistory}
-use Rattle.papaya_histories.proofs.AsCalled.{as_called_kept}
-use Rattle.papaya_histories.proofs.AsCalledOn.{calls_come_to_as_called}
+use Rattle.papaya_histories.proofs.NoKey.AsCalled.{as_called_kept}
+use Rattle.papaya_histories.proofs.NoKey.AsCalledOn.{calls_come_to_as_called}
 use Rattle.papaya_histories.proofs.Calling.{calls_come_to_histories}
 use Rattle.papaya_histories.proofs.DueOn.{calls_come_to_due}
-use Rattle.papaya_histories.proofs.Elsewhere.{stays_elsewhere}
+use Rattle.papaya_histories.proofs.Aside.Elsewhere.{stays_elsewhere}
 use Rattle.papaya_histories.proofs.Found.{map_alike}
 use Rattle.papaya_histories.proofs.Others.{beside_history, beside_due}
 use Rattle.papaya_histories.proofs.Roles.{named_by}
-use Rattle.papaya_histories.proofs.WalksOn.{walk_history, walk_due, walk_as_called}
+use Rattle.papaya_histories.proofs.Aside.WalksOn.{walk_history, walk_due, walk_as_called}
 use Rattle.papaya_histories.proofs.Within.{within_alike}
 
 -- the same pairs were stored and lie where they lay, and no call comes

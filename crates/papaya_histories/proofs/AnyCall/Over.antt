@@ -31,11 +31,11 @@ use Rattle.papaya_moments.proofs.After.{effects_after}
 use Rattle.papaya_histories.specs.AsCalled.{ShowsAsCalled, AsksAsCalled}
 use Rattle.papaya_histories.specs.Due.{ShowsDue}
 use Rattle.papaya_histories.specs.InEvent.{InEvent, here_of, EventsAreOver}
-use Rattle.papaya_histories.proofs.AsCalledOn.{calls_come_to_as_called}
-use Rattle.papaya_histories.proofs.AsksThere.{events_ask_there}
+use Rattle.papaya_histories.proofs.NoKey.AsCalledOn.{calls_come_to_as_called}
+use Rattle.papaya_histories.proofs.AnyCall.AsksThere.{events_ask_there}
 use Rattle.papaya_histories.proofs.DueOn.{calls_come_to_due, events_keep_due}
-use Rattle.papaya_histories.proofs.InEvent.{events_keep_all}
-use Rattle.papaya_histories.proofs.Stays.{dues_stay, as_called_stays}
+use Rattle.papaya_histories.proofs.AnyCall.InEvent.{events_keep_all}
+use Rattle.papaya_histories.proofs.Aside.Stays.{dues_stay, as_called_stays}
 
 -- an event of a call comes to its outcome, and leaves maps
 module _ {K V : Type 0} where

@@ -47,13 +47,13 @@ use Rattle.papaya_histories.specs.OtherCalls.{IsOnNoKey}
 use Rattle.papaya_histories.specs.OtherMidsts.{AsksAsSaid, InOtherMidst}
 use Rattle.papaya_histories.specs.Questions.{ShowsQuestions, EventAsksStill}
 use Rattle.papaya_histories.specs.Several.{InMidst}
-use Rattle.papaya_histories.proofs.AsCalled.{calls_keep_as_called}
-use Rattle.papaya_histories.proofs.AsCalledOn.{calls_begin_as_called}
+use Rattle.papaya_histories.proofs.NoKey.AsCalled.{calls_keep_as_called}
+use Rattle.papaya_histories.proofs.NoKey.AsCalledOn.{calls_begin_as_called}
 use Rattle.papaya_histories.proofs.BeginsCall.{midsts_begin_calls}
 use Rattle.papaya_histories.proofs.Due.{calls_keep_due}
 use Rattle.papaya_histories.proofs.Events.{midsts_end, midsts_ask_still}
-use Rattle.papaya_histories.proofs.HasWords.{questions_have_words, steps_have_words}
-use Rattle.papaya_histories.proofs.OtherEvents.{other_midsts_end, other_midsts_ask_still}
+use Rattle.papaya_histories.proofs.AnyCall.HasWords.{questions_have_words, steps_have_words}
+use Rattle.papaya_histories.proofs.NoKey.OtherEvents.{other_midsts_end, other_midsts_ask_still}
 use Rattle.papaya_histories.proofs.OtherMidsts.{other_midsts_begin, other_midsts_begin_calls, other_midsts_go_on, other_midsts_keep_due}
 use Rattle.papaya_histories.proofs.Several.{first_change, midsts_begin, midsts_go_on}
 

@@ -38,7 +38,7 @@ use Rattle.papaya_hands.proofs.Replacing.{IsOn, calls_after}
 use Rattle.papaya_moments.specs.Whole.{ShowsWhole}
 use Rattle.papaya_histories.specs.AsCalled.{purpose_of, SweepAsks, IsLastTold, IsSweptAs, IsAsCalled, ShowsAsCalled, CallsKeepAsCalled}
 use Rattle.papaya_histories.proofs.Steps.{to, led_on}
-use Rattle.papaya_histories.proofs.Sweeps.{SweepsOn, sweeps_on, asks_still}
+use Rattle.papaya_histories.proofs.NoKey.Sweeps.{SweepsOn, sweeps_on, asks_still}
 
 module _ (number number2 : ℕ → ℕ) (stored stored2 : ℕ) (more : stored ≤ stored2) (numbers : (n : ℕ) → n < stored → number2 n ≡ number n) where
   pub last_kept : {V : Type 0} (v : Option Verdict) (replies : List (Option ℕ × Reply V)) → IsLastTold number stored v replies → IsLastTold number2 stored2 v replies

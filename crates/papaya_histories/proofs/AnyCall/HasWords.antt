@@ -68,13 +68,13 @@ use Rattle.papaya_histories.specs.Words.{QuestionsHaveWords, StepsHaveWords}
 use Rattle.papaya_histories.proofs.Answers.{ended}
 use Rattle.papaya_histories.proofs.Asking.{goes_there}
 use Rattle.papaya_histories.proofs.Due.{change_by, owes_then_by, was_there}
-use Rattle.papaya_histories.proofs.OtherEvents.{room_asks_none, counting_asks_none}
+use Rattle.papaya_histories.proofs.NoKey.OtherEvents.{room_asks_none, counting_asks_none}
 use Rattle.papaya_histories.proofs.Roles.{named_by, roles_before, roles_after}
 use Rattle.papaya_histories.proofs.Several.{stands}
 use Rattle.papaya_histories.proofs.Says.{AsksAt}
 use Rattle.papaya_histories.proofs.Steps.{to, led_on, v, after}
-use Rattle.papaya_histories.proofs.Sweeps.{SweepsOn, sweeps_on}
-use Rattle.papaya_histories.proofs.Words.{LeavesIt, LeavesMissing, finds_it, misses_it, takes_any}
+use Rattle.papaya_histories.proofs.NoKey.Sweeps.{SweepsOn, sweeps_on}
+use Rattle.papaya_histories.proofs.AnyCall.Words.{LeavesIt, LeavesMissing, finds_it, misses_it, takes_any}
 
 -- In a scene, what a call asks about is a pair of the run.
 module _ {K V S : Type 0} (same : K → K → Bool) (hash : K → ℕ) (name : ℕ → List ℕ) (m : Moment K V) (known : Known) (s : Scene K V) (e : Executor K V S) (at_e : IsAt same hash e s)
