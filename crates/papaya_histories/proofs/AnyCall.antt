@@ -3,4 +3,6 @@ pub mod Words
 pub mod HasWords
 pub mod InEvent
 pub mod AsksThere
+pub mod Lasts
+pub mod Whole
 pub mod Over

@@ -140,8 +140,8 @@ module _ (K V S : Type 0) (same : K → K → Bool) (hash : K → ℕ) where
       (outcome : Outcome V) → ComesSo known2 c.call c.replies said outcome
       → (next : UnderWay K V K) → to.4.next ≡ Some next → AsksJust known2 next outcome × AsksAsCalled known2 next outcome)
 
-  -- And once such an event is over, by which its call has ended just where its last step says so, the moment after it shows what calls owe, and what those on no key are
-  -- called for, told and ask.
+  -- And once such an event is over, by which its call has ended just where its last step says so, the moment after it shows all of the scene, what calls owe, and
+  -- what those on no key are called for, told and ask.
   abbrev pub EventsAreOver : Type 0
   EventsAreOver =
       (name : ℕ → List ℕ) (log : List (Entry K V)) (beginning : Moment K V) (map i : ℕ) (c : CallThere K V)
@@ -154,4 +154,5 @@ module _ (K V S : Type 0) (same : K → K → Bool) (hash : K → ℕ) where
       → (let to = leads map u (here_of same name log beginning map i c done m known s u midst) in
       let known2 = known_after (acts.Call i map) new.memory.changed known in
       let s2 = scene_after same hash s old new map i to.0 u to.1 said to.4 in
-      ShowsDue same name (e ∷ log) (moment (e ∷ log)) known2 s2 × ShowsAsCalled same name (moment (e ∷ log)) known2 s2)
+      ShowsWhole same name (moment (e ∷ log)) known2 s2 × ShowsDue same name (e ∷ log) (moment (e ∷ log)) known2 s2
+      × ShowsAsCalled same name (moment (e ∷ log)) known2 s2)

@@ -164,8 +164,8 @@ pub fn steps_have_words<K, V, S>()
 /// An event of one or several steps of a call, of whatever kind, one after another, is linearizable: it is in its midst at the beginning, also where it begins the call,
 /// and after each step after which the call goes on; after the last one, too, the moment shows all of the scene, what calls owe, and what those on no key are called
 /// for, told and ask. What that step says has words; and the event that comes to that changes maps, answers and asks as one finite map says. By it, a call that asks
-/// does not go on by itself, and one that is under way then asks just that, if it asks. Once it is over, the moment after it shows what calls owe, and what those on no
-/// key are called for, told and ask, too.
+/// does not go on by itself, and one that is under way then asks just that, if it asks. Once it is over, the moment after it shows all of the scene, what calls owe, and
+/// what those on no key are called for, told and ask.
 pub fn events_are_linearizable<K, V, S>()
     ensures begins { (same : K → K → Bool) (hash : K → ℕ) → EventsBegin K V S same hash }
     ensures begun { (same : K → K → Bool) (hash : K → ℕ) → EventsBeginCalls K V S same hash }

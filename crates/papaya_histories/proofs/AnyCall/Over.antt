@@ -1,4 +1,4 @@
--- Once an event of steps of a call is over, the moment after it shows what calls owe, and what those on no key are called for, told and ask.
+-- Once an event of steps of a call is over, the moment after it shows all of the scene, what calls owe, and what those on no key are called for, told and ask.
 use Rattle.std.specs.Prelude.{◌≡◌, ℕ, Bool, true, false, List, ◌∷◌, Option, Some, None}
 use Rattle.std.proofs.Common.{refl, ap, sym, ◌∙◌, inl, inr}
 use Rattle.papaya_tables.specs.declared.node.Node.{Node}
@@ -7,13 +7,11 @@ use Rattle.papaya_raw.specs.declared.machines.machine.Machine.{Machine}
 use Rattle.papaya_raw.specs.declared.machines.progress.Progress.{Progress}
 use Rattle.papaya_raw.specs.declared.machines.progress.Progress.TheVariants as progress
 use Rattle.papaya_schedules.specs.declared.effect.Effect.{Effect}
-use Rattle.papaya_schedules.specs.declared.event.Event.{Event}
-use Rattle.papaya_schedules.specs.declared.event.Event.TheVariants as event
 use Rattle.papaya_schedules.specs.declared.outcome.Outcome.{Outcome}
-use Rattle.papaya_schedules.specs.After.{stepped, calls_on, maps_on, moment}
+use Rattle.papaya_schedules.specs.After.{stepped, moment}
 use Rattle.papaya_schedules.specs.Effects.{with_effects, worked}
 use Rattle.papaya_schedules.specs.Entry.{Entry, ends_call, caller_of, acted_on}
-use Rattle.papaya_schedules.specs.Moment.{MapThere, UnderWay as CallThere, Moment}
+use Rattle.papaya_schedules.specs.Moment.{UnderWay as CallThere, Moment}
 use Rattle.papaya_callers.specs.Together.{UnderWay, OnKey, ForRoom, Counting, OverAll}
 use Rattle.papaya_effects.specs.Effects.{effects_of, known_after}
 use Rattle.papaya_effects.specs.Known.{Known}
@@ -27,7 +25,9 @@ use Rattle.papaya_follows.proofs.Calling.{apart_back}
 use Rattle.papaya_hands.specs.Calling.{AsksJust}
 use Rattle.papaya_hands.proofs.Asking.{which}
 use Rattle.papaya_others.specs.Elsewhere.{HasSame}
+use Rattle.papaya_moments.specs.Whole.{ShowsWhole}
 use Rattle.papaya_moments.proofs.After.{effects_after}
+use Rattle.papaya_moments.proofs.Calls.{calls_come_to_whole}
 use Rattle.papaya_histories.specs.AsCalled.{ShowsAsCalled, AsksAsCalled}
 use Rattle.papaya_histories.specs.Due.{ShowsDue}
 use Rattle.papaya_histories.specs.InEvent.{InEvent, here_of, EventsAreOver}
@@ -35,24 +35,11 @@ use Rattle.papaya_histories.proofs.NoKey.AsCalledOn.{calls_come_to_as_called}
 use Rattle.papaya_histories.proofs.AnyCall.AsksThere.{events_ask_there}
 use Rattle.papaya_histories.proofs.DueOn.{calls_come_to_due, events_keep_due}
 use Rattle.papaya_histories.proofs.AnyCall.InEvent.{events_keep_all}
+use Rattle.papaya_histories.proofs.AnyCall.Lasts.{calls_over, maps_over}
+use Rattle.papaya_histories.proofs.AnyCall.Whole.{whole_over}
 use Rattle.papaya_histories.proofs.Aside.Stays.{dues_stay, as_called_stays}
 
--- an event of a call comes to its outcome, and leaves maps
 module _ {K V : Type 0} where
-  calls_over : (ev : Event K V) (o : Outcome V) (steps : ℕ) (cs : List (CallThere K V)) (own : List ℕ) → caller_of ev ≡ Some own → calls_on ev o steps cs ≡ stepped (Some own) o steps cs
-  calls_over (event.OneCall guard of its) o steps cs own e = ap (λ (x : Option (List ℕ)). stepped x o steps cs) e
-  calls_over (event.Step caller refuse) o steps cs own e = ap (λ (x : Option (List ℕ)). stepped x o steps cs) e
-  calls_over (event.Go caller refuse) o steps cs own e = ap (λ (x : Option (List ℕ)). stepped x o steps cs) e
-  calls_over (event.Next caller) o steps cs own e = ap (λ (x : Option (List ℕ)). stepped x o steps cs) e
-  calls_over _ o steps cs own e = absurd (cc e)
-
-  maps_over : (ev : Event K V) (o : Outcome V) (maps : List MapThere) (own : List ℕ) → caller_of ev ≡ Some own → maps_on ev o maps ≡ maps
-  maps_over (event.OneCall guard of its) o maps own e = refl
-  maps_over (event.Step caller refuse) o maps own e = refl
-  maps_over (event.Go caller refuse) o maps own e = refl
-  maps_over (event.Next caller) o maps own e = refl
-  maps_over _ o maps own e = absurd (cc e)
-
   like_over : (log : List (Entry K V)) (e : Entry K V) (own : List ℕ) (m2 : Moment K V) → caller_of e.event ≡ Some own → worked e (moment log) ≡ m2 → HasSame (come_to own e.outcome e.steps m2) (moment (e ∷ log))
   like_over log e own m2 caller is = record {
     place = ap (λ (y : Moment K V). y.place) is;
@@ -106,6 +93,10 @@ module _ {K V S : Type 0} (same : K → K → Bool) (hash : K → ℕ) (name : �
     ]
 
     module _ (is_caller : caller_of e.event ≡ Some (name i)) (worked_is : worked e (moment log) ≡ m2) where
+      pub all_over : ShowsWhole same name m2 known2 s2 → ShowsWhole same name (moment (e ∷ log)) known2 s2
+      all_over whole2 = whole_over same name log e (name i) m2 is_caller worked_is known2 s2
+          (calls_come_to_whole K V same name m2 known2 s2 whole2 (name i) e.outcome e.steps none_named (λ n j x is named. (asks_just n j x is named).0))
+
       pub due_over : ShowsDue same name log m2 known2 s2 → ShowsDue same name (e ∷ log) (moment (e ∷ log)) known2 s2
       due_over dues2 = events_keep_due K V same name log e known2 s2
           ((dues_stay K V S same hash name log).alike (come_to (name i) e.outcome e.steps m2) (moment (e ∷ log)) known2 s2
@@ -135,6 +126,9 @@ module _ {K V : Type 0} (same : K → K → Bool) (name : ℕ → List ℕ) (log
 module _ (K V S : Type 0) (same : K → K → Bool) (hash : K → ℕ) where
   pub events_are_over : EventsAreOver K V S same hash
   events_are_over name log beginning map i c done m known s u midst old new at_old said leads e is_caller begun acts_on effects_are comes ends = (
+    all_over same hash name log m known s (dues_of same name log beginning map i c done m known s u midst) map i u
+        (here_of same name log beginning map i c done m known s u midst) old new said leads e ends asks is_caller worked_is
+        (events_keep_all K V S same hash name log beginning map i c done m known s u midst old new at_old said leads).0,
     due_over same hash name log m known s (dues_of same name log beginning map i c done m known s u midst) map i u
         (here_of same name log beginning map i c done m known s u midst) old new said leads e ends asks is_caller worked_is
         (events_keep_all K V S same hash name log beginning map i c done m known s u midst old new at_old said leads).1,
