@@ -2,6 +2,7 @@
 use Rattle.std.specs.Prelude.{◌≡◌, ℕ, Bool, List, [], ◌∷◌, ◌++◌, Option, Some}
 use Rattle.seize.specs.World.{Rests}
 use Rattle.papaya_tables.specs.declared.node.Node.{Node}
+use Rattle.papaya_runs.specs.Present.{Present}
 use Rattle.papaya_raw.specs.declared.machines.progress.Progress.{Progress}
 use Rattle.papaya_schedules.specs.declared.call.Call.{Call}
 use Rattle.papaya_schedules.specs.declared.call.Call.TheVariants.{On}
@@ -14,7 +15,7 @@ use Rattle.papaya_schedules.specs.Beginning.{at_work, fresh_call, with_call}
 use Rattle.papaya_schedules.specs.Effects.{with_effects}
 use Rattle.papaya_schedules.specs.Entry.{Entry, ends_call, caller_of, acted_on}
 use Rattle.papaya_schedules.specs.Linearizable.{IsLinearizable}
-use Rattle.papaya_schedules.specs.Moment.{UnderWay as CallThere, Moment}
+use Rattle.papaya_schedules.specs.Moment.{Remains, Sheltered, UnderWay as CallThere, Moment}
 use Rattle.papaya_schedules.specs.Views.{call_of}
 use Rattle.papaya_points.specs.FactsCalls.{Unchanged}
 use Rattle.papaya_callers.specs.Together.{CallOnKey, UnderWay, OnKey}
@@ -156,3 +157,20 @@ module _ (K V S : Type 0) (same : K → K → Bool) (hash : K → ℕ) where
       let s2 = scene_after same hash s old new map i to.0 u to.1 said to.4 in
       ShowsWhole same name (moment (e ∷ log)) known2 s2 × ShowsDue same name (e ∷ log) (moment (e ∷ log)) known2 s2
       × ShowsAsCalled same name (moment (e ∷ log)) known2 s2)
+
+module _ (K V : Type 0) (same : K → K → Bool) where
+  -- Whatever else changes, a moment shows what it shows: how many events came, who is there, what is sheltered and what remains.
+  abbrev pub AllStaysShown : Type 0
+  AllStaysShown =
+      (name : ℕ → List ℕ) (m : Moment K V) (known : Known) (s : Scene K V) → ShowsWhole same name m known s
+      → (events : ℕ) (is_mapped is_closed is_alone : Bool) (there : Present) (slots : ℕ) (sheltered : List Sheltered) (remains : List Remains)
+      → ShowsWhole same name (record m {
+        events = events;
+        is_mapped = is_mapped;
+        is_closed = is_closed;
+        is_alone = is_alone;
+        there = there;
+        slots = slots;
+        sheltered = sheltered;
+        remains = remains;
+      }) known s

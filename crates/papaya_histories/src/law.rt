@@ -14,7 +14,7 @@ ghost use Rattle.papaya_histories.specs.Questions.{QuestionsBegin, EffectsKeepQu
 ghost use Rattle.papaya_histories.specs.Retaining.{RetainingsMayAsk};
 ghost use Rattle.papaya_histories.specs.Several.{MidstsBegin, MidstsBeginCalls, MidstsGoOn, MidstsEnd, MidstsAskStill};
 ghost use Rattle.papaya_histories.specs.Words.{QuestionsHaveWords, StepsHaveWords};
-ghost use Rattle.papaya_histories.specs.InEvent.{EventsBegin, EventsBeginCalls, EventsGoOn, EventsKeepAll, EventsHaveWords, EventsEnd, EventsAskThere, EventsAreOver};
+ghost use Rattle.papaya_histories.specs.InEvent.{EventsBegin, EventsBeginCalls, EventsGoOn, EventsKeepAll, EventsHaveWords, EventsEnd, EventsAskThere, EventsAreOver, AllStaysShown};
 ghost use Rattle.papaya_histories.specs.Kept.{HistoriesBegin, CallsKeepHistories, CallsBeginHistories, CallsTakeHistories, CallsComeToHistories, EventsKeepHistories, FirstStepsChangeFirst};
 
 /// At each moment of a run that shows the executor, the history of a map since a call on it began is within the moments of the run since then: what the class of a
@@ -165,7 +165,7 @@ pub fn steps_have_words<K, V, S>()
 /// and after each step after which the call goes on; after the last one, too, the moment shows all of the scene, what calls owe, and what those on no key are called
 /// for, told and ask. What that step says has words; and the event that comes to that changes maps, answers and asks as one finite map says. By it, a call that asks
 /// does not go on by itself, and one that is under way then asks just that, if it asks. Once it is over, the moment after it shows all of the scene, what calls owe, and
-/// what those on no key are called for, told and ask.
+/// what those on no key are called for, told and ask. A moment shows what it shows, however many events came, whoever is there, whatever is sheltered or remains.
 pub fn events_are_linearizable<K, V, S>()
     ensures begins { (same : K → K → Bool) (hash : K → ℕ) → EventsBegin K V S same hash }
     ensures begun { (same : K → K → Bool) (hash : K → ℕ) → EventsBeginCalls K V S same hash }
@@ -175,4 +175,5 @@ pub fn events_are_linearizable<K, V, S>()
     ensures ends { (same : K → K → Bool) (hash : K → ℕ) → EventsEnd K V S same hash }
     ensures asks { (same : K → K → Bool) (hash : K → ℕ) → EventsAskThere K V S same hash }
     ensures over { (same : K → K → Bool) (hash : K → ℕ) → EventsAreOver K V S same hash }
+    ensures still_shown { (same : K → K → Bool) → AllStaysShown K V same }
 {}

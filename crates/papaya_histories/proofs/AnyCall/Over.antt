@@ -7,7 +7,6 @@ use Rattle.papaya_raw.specs.declared.machines.machine.Machine.{Machine}
 use Rattle.papaya_raw.specs.declared.machines.progress.Progress.{Progress}
 use Rattle.papaya_raw.specs.declared.machines.progress.Progress.TheVariants as progress
 use Rattle.papaya_schedules.specs.declared.effect.Effect.{Effect}
-use Rattle.papaya_schedules.specs.declared.outcome.Outcome.{Outcome}
 use Rattle.papaya_schedules.specs.After.{stepped, moment}
 use Rattle.papaya_schedules.specs.Effects.{with_effects, worked}
 use Rattle.papaya_schedules.specs.Entry.{Entry, ends_call, caller_of, acted_on}

@@ -1,5 +1,5 @@
 -- What a moment shows of all, it shows, too, once other things of it have changed: how many events came, who is there, what is sheltered and what remains.
-use Rattle.std.specs.Prelude.{◌≡◌, ℕ, ◌+◌, Bool, ◌&&◌, List, ◌∷◌, Option, Some}
+use Rattle.std.specs.Prelude.{◌≡◌, ℕ, ◌+◌, Bool, ◌&&◌, List, ◌∷◌, Some}
 use Rattle.std.proofs.Common.{refl, sym, subst}
 use Rattle.papaya_runs.specs.Present.{Present}
 use Rattle.papaya_schedules.specs.After.{there_on, slots_on, sheltered_on, stepped, calls_on, maps_on, remains_on, closed_on, mapped_on, is_alone_on, moment}
@@ -14,6 +14,7 @@ use Rattle.papaya_others.proofs.Elsewhere.{shown_elsewhere}
 use Rattle.papaya_others.proofs.Stays.{same_maps}
 use Rattle.papaya_moments.specs.Whole.{ShowsWhole}
 use Rattle.papaya_moments.proofs.MapsCome.{asked_still}
+use Rattle.papaya_histories.specs.InEvent.{AllStaysShown}
 use Rattle.papaya_histories.proofs.AnyCall.Lasts.{calls_over, maps_over}
 
 module _ {K V : Type 0} (m : Moment K V) (events : ℕ) (is_mapped is_closed is_alone : Bool) (there : Present) (slots : ℕ) (sheltered : List Sheltered) (remains : List Remains) where
@@ -79,3 +80,7 @@ module _ {K V : Type 0} (same : K → K → Bool) (name : ℕ → List ℕ) (log
       (whole_still (come_to own e.outcome e.steps m2) ((moment log).events + 1) (mapped_on e.event (moment log).is_mapped) (closed_on e.event e.outcome (moment log).is_closed)
       ((moment log).is_alone && is_alone_on e (moment log)) (there_on e.event e.outcome m2.there) (slots_on e.outcome (moment log).slots) (sheltered_on e.event e.outcome m2.sheltered)
       (remains_on e.event e.outcome e.effects (moment log)) same name known s whole)))
+
+pub all_stays_shown : (K V : Type 0) (same : K → K → Bool) → AllStaysShown K V same
+all_stays_shown K V same name m known s whole events is_mapped is_closed is_alone there slots sheltered remains =
+    whole_still m events is_mapped is_closed is_alone there slots sheltered remains same name known s whole
