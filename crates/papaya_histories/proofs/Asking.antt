@@ -78,7 +78,7 @@ module _ {K V S : Type 0} (same : K → K → Bool) (hash : K → ℕ) (old new 
       (always_turned SaysSo MachineSaysSo called as_said (plan_at same same hash u.call u.call.stands) (says_so u.call same same hash)) steps
 
   -- where it goes on as a call that is under way
-  goes_there : (about : Option ℕ) → said ≡ progress.Asks about → (x : UnderWay K V K) → machine_of x ≡ machine → (next : CallOnKey K V K) × (x ≡ OnKey next) × AsksAt about next.call.stands
+  pub goes_there : (about : Option ℕ) → said ≡ progress.Asks about → (x : UnderWay K V K) → machine_of x ≡ machine → (next : CallOnKey K V K) × (x ≡ OnKey next) × AsksAt about next.call.stands
   goes_there about is x machine_is = by x (subst (λ (z : Progress (Node K V)). MachineSaysSo (machine_of x, z)) is (subst (λ (z : Machine K V K). MachineSaysSo (z, said)) (sym machine_is) said_so))
     where
       by : (y : UnderWay K V K) → MachineSaysSo (machine_of y, progress.Asks about) → (next : CallOnKey K V K) × (y ≡ OnKey next) × AsksAt about next.call.stands

@@ -190,22 +190,22 @@ module _ (K V S : Type 0) (same : K → K → Bool) (hash : K → ℕ) where
 -- a call that has come to an outcome, and goes on, or is another one
 module _ {K V : Type 0} (same : K → K → Bool) (name : ℕ → List ℕ) (m : Moment K V) (s : Scene K V) (own : List ℕ) (o : Outcome V) (steps : ℕ) (ended : ends_call o ≡ true → NoneNamed name own s) where
   pub came_so : (n j : ℕ) (x : UnderWay K V K) → s.calls n j ≡ Some x → (c : CallThere K V) → call_of (name j) m ≡ Some c → (d : CallThere K V) → call_of (name j) (come_to own o steps m) ≡ Some d
-      → (d ≡ c) ⊎ (d ≡ come o steps c)
+      → (d ≡ c) ⊎ ((d ≡ come o steps c) × (is_same (name j) own ≡ true))
   came_so n j x is c c_is d d_is = by (ends_call o) refl
     where
       found_then : (q : Bool) → ends_call o ≡ q → find (λ y. is_same y.caller (name j)) (if q then without_call own m.calls else map (λ y. if is_same y.caller own then come o steps y else y) m.calls) ≡ Some d
       found_then q e = sym (ap (λ z. find (λ y. is_same y.caller (name j)) (if z then without_call own m.calls else map (λ y. if is_same y.caller own then come o steps y else y) m.calls)) e) ∙ d_is
 
-      by_name : (q : Bool) → d ≡ (if q then come o steps c else c) → (d ≡ c) ⊎ (d ≡ come o steps c)
-      by_name true e = inr e
-      by_name false e = inl e
+      by_name : (q : Bool) → is_same c.caller own ≡ q → d ≡ (if q then come o steps c else c) → (d ≡ c) ⊎ ((d ≡ come o steps c) × (is_same (name j) own ≡ true))
+      by_name true named e = inr (e, ap (λ (l : List ℕ). is_same l own) (sym (caller_is (name j) m c c_is)) ∙ named)
+      by_name false named e = inl e
 
-      by : (q : Bool) → ends_call o ≡ q → (d ≡ c) ⊎ (d ≡ come o steps c)
+      by : (q : Bool) → ends_call o ≡ q → (d ≡ c) ⊎ ((d ≡ come o steps c) × (is_same (name j) own ≡ true))
       by true e =
           let kept : not (is_same c.caller own) ≡ true = ap (λ (l : List ℕ). not (is_same l own)) (caller_is (name j) m c c_is) ∙ ap not (apart_back own (name j) (ended e n j x is)) in
           inl (one_of d c (sym (found_then true e) ∙ found_kept (λ y. is_same y.caller (name j)) (λ y. not (is_same y.caller own)) m.calls c c_is kept))
       by false e =
-          by_name (is_same c.caller own) (one_of d (if is_same c.caller own then come o steps c else c) (sym (found_then false e) ∙ found (come o steps) (come_of_same o steps) own (name j) m.calls c c_is))
+          by_name (is_same c.caller own) refl (one_of d (if is_same c.caller own then come o steps c else c) (sym (found_then false e) ∙ found (come o steps) (come_of_same o steps) own (name j) m.calls c c_is))
 
 module _ (K V : Type 0) (same : K → K → Bool) where
   pub calls_come_to_histories : CallsComeToHistories K V same
@@ -220,6 +220,6 @@ module _ (K V : Type 0) (same : K → K → Bool) where
           → (y : UnderWay K V K) × (s.calls n j ≡ Some y) × (began_of x ≡ began_of y) × (c : CallThere K V) × (call_of (name j) m ≡ Some c) × (d.begun ≡ c.begun)
       as_before n j x is d d_is = let was = history.shown.calls n j x is in (x, is, refl, was.0, was.1, same_event was.0 (came_so same name m s own o steps ended n j x is was.0 was.1 d d_is))
         where
-          same_event : (c : CallThere K V) → (d ≡ c) ⊎ (d ≡ come o steps c) → d.begun ≡ c.begun
+          same_event : (c : CallThere K V) → (d ≡ c) ⊎ ((d ≡ come o steps c) × (is_same (name j) own ≡ true)) → d.begun ≡ c.begun
           same_event c (inl e) = ap (λ (y : CallThere K V). y.begun) e
-          same_event c (inr e) = ap (λ (y : CallThere K V). y.begun) e ∙ comes_begun o (record c { steps = c.steps + steps })
+          same_event c (inr (e, named)) = ap (λ (y : CallThere K V). y.begun) e ∙ comes_begun o (record c { steps = c.steps + steps })

@@ -40,7 +40,7 @@ use Rattle.papaya_histories.proofs.Due.{owes_on, same_change}
 
 module _ {K V : Type 0} where
   -- what a call owes, was told and was called with
-  abbrev IsAsOwed : CallThere K V → CallThere K V → Type 0
+  abbrev pub IsAsOwed : CallThere K V → CallThere K V → Type 0
   IsAsOwed c d = (d.due ≡ c.due) × (d.replies ≡ c.replies) × (d.call ≡ c.call)
 
   asks_owed : (question : Option ℕ) (c : CallThere K V) (stands : Stands) → IsAsOwed c (asks_on question c stands)
@@ -49,7 +49,7 @@ module _ {K V : Type 0} where
   asks_owed question c Told = (refl, refl, refl)
   asks_owed question c IsReady = (refl, refl, refl)
 
-  comes_owed : (o : Outcome V) (c : CallThere K V) → IsAsOwed c (comes_to o c)
+  pub comes_owed : (o : Outcome V) (c : CallThere K V) → IsAsOwed c (comes_to o c)
   comes_owed outcome.Done c = (refl, refl, refl)
   comes_owed (outcome.Slot n) c = (refl, refl, refl)
   comes_owed outcome.Goes c = (refl, refl, refl)
@@ -61,9 +61,9 @@ module _ {K V : Type 0} where
   comes_owed (outcome.Shape tables) c = (refl, refl, refl)
   comes_owed (outcome.Refused fault) c = (refl, refl, refl)
 
-  came_owed : (o : Outcome V) (steps : ℕ) (c d : CallThere K V) → (d ≡ c) ⊎ (d ≡ come o steps c) → IsAsOwed c d
+  came_owed : {Own : Type 0} (o : Outcome V) (steps : ℕ) (c d : CallThere K V) → (d ≡ c) ⊎ ((d ≡ come o steps c) × Own) → IsAsOwed c d
   came_owed o steps c d (inl e) = (ap (λ (z : CallThere K V). z.due) e, ap (λ (z : CallThere K V). z.replies) e, ap (λ (z : CallThere K V). z.call) e)
-  came_owed o steps c d (inr e) =
+  came_owed o steps c d (inr (e, own)) =
       let it = comes_owed o (record c { steps = c.steps + steps }) in
       (ap (λ (z : CallThere K V). z.due) e ∙ it.0, ap (λ (z : CallThere K V). z.replies) e ∙ it.1, ap (λ (z : CallThere K V). z.call) e ∙ it.2)
 

@@ -13,6 +13,7 @@ pub mod Meanings
 pub mod Which
 pub mod Roles
 pub mod Changes
+pub mod Fits
 pub mod Answers
 pub mod Dues
 pub mod Due
@@ -28,10 +29,11 @@ pub mod Says
 pub mod Asking
 pub mod AsksRight
 pub mod OtherCalls
-pub mod RowsShift
-pub mod Walks
-pub mod OtherMidsts
-pub mod Retaining
 pub mod BeginsCall
+pub mod Retaining
+pub mod OtherMidsts
 pub mod Events
+pub mod NoKey
+pub mod Aside
+pub mod AnyCall
 mod Samples

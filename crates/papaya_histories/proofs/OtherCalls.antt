@@ -1,4 +1,4 @@
--- Reservations, countings and walks change no pair, and clearings remove pairs alone; so their events are linearizable.
+-- Reservations, countings and walks change no pair, clearings and retainings remove pairs alone; so their events are linearizable.
 use Rattle.std.specs.Prelude.{◌≡◌, ℕ, ◌<◌, Bool, true, false, List, [], ◌∷◌, ◌++◌, flat_map, Option, Some, ◌⊎◌}
 use Rattle.std.proofs.Common.{refl, ap, sym, subst, ◌∙◌, arith, inl, inr}
 use Rattle.std.proofs.lemmas.Bool.{cases_eq}
@@ -6,7 +6,8 @@ use Rattle.seize_words.specs.Mem.{Mem}
 use Rattle.seize.specs.World.{World}
 use Rattle.papaya_tables.specs.Chunks.{is_incremental}
 use Rattle.papaya_tables.specs.declared.node.Node.{Node}
-use Rattle.papaya_sweeps.specs.declared.sweep.Purpose.TheVariants.{Walks}
+use Rattle.papaya_sweeps.specs.declared.sweep.Purpose.{Purpose}
+use Rattle.papaya_sweeps.specs.declared.sweep.Purpose.TheVariants.{Walks, Retains}
 use Rattle.papaya_raw.specs.declared.machines.progress.Progress.{Progress}
 use Rattle.papaya_schedules.specs.declared.call.Call.{Call}
 use Rattle.papaya_schedules.specs.declared.call.Call.TheVariants as call
@@ -17,15 +18,15 @@ use Rattle.papaya_schedules.specs.After.{moment, moments_from}
 use Rattle.papaya_schedules.specs.Beginning.{at_work}
 use Rattle.papaya_schedules.specs.Effects.{with_effects, worked}
 use Rattle.papaya_schedules.specs.Entry.{caller_of, acting, acted_on}
-use Rattle.papaya_schedules.specs.Linearizable.{shift_of, RemovesOnly, Changes, Ends, AsksRight, ActsRight, ActsOf}
+use Rattle.papaya_schedules.specs.Linearizable.{shift_of, MayRemove, RemovesOnly, Changes, Ends, AsksRight, ActsRight, ActsOf}
 use Rattle.papaya_schedules.specs.Moment.{Stands, Going, Asking, Told, IsReady, UnderWay as CallThere, Moment}
-use Rattle.papaya_schedules.specs.Sequential.{Shift, GoesOut}
-use Rattle.papaya_schedules.specs.Views.{call_of}
+use Rattle.papaya_schedules.specs.Sequential.{Shift, ComesIn, GivesWay, GoesOut}
+use Rattle.papaya_schedules.specs.Views.{call_of, reply_to}
 use Rattle.papaya_rule.specs.Chart.{Chart, put}
 use Rattle.papaya_rule.proofs.Laws.{current_is_known}
 use Rattle.papaya_rule.proofs.Moves.Writes.{put_here, put_elsewhere}
 use Rattle.papaya_points.specs.FactsCalls.{Unchanged}
-use Rattle.papaya_callers.specs.OverAll.{CallOverAll, RemovesTold}
+use Rattle.papaya_callers.specs.OverAll.{Verdict, CallOverAll, RemovesTold}
 use Rattle.papaya_callers.specs.Together.{UnderWay, OnKey, ForRoom, Counting, OverAll, Together, IsOneStep}
 use Rattle.papaya_finishes.specs.Maps.{Standing}
 use Rattle.papaya_effects.specs.Effects.{effects_of}
@@ -34,19 +35,21 @@ use Rattle.papaya_effects.specs.declared.acting.Acting.TheVariants as acts
 use Rattle.papaya_executor.specs.IsAt.{Scene, IsAt, slot_of}
 use Rattle.papaya_executor.specs.Stepping.{StepLeads}
 use Rattle.papaya_executor.specs.declared.executor.Executor.{Executor}
+use Rattle.papaya_follows.specs.Calls.{IsCalled}
 use Rattle.papaya_follows.specs.Shows.{Shows}
 use Rattle.papaya_follows.specs.Steps.{TakesNone}
 use Rattle.papaya_follows.proofs.Operations.{operated_leaves, LeavesBy}
 use Rattle.papaya_follows.proofs.Rows.{one_step_leaves}
 use Rattle.papaya_follows.proofs.RowSteps.{row_done}
-use Rattle.papaya_follows.proofs.Steps.{WentTo, went_to, made_so, is_inside, DidSo, OfNoRow}
+use Rattle.papaya_follows.proofs.Steps.{WentTo, went_to, made_so, is_inside, DidSo, OfNoRow, one_of}
 use Rattle.papaya_hands.proofs.Replacing.{calls_after}
 use Rattle.papaya_hands.proofs.RowSteps.{rows_hand_theirs}
 use Rattle.papaya_spots.proofs.Shifts.{Shifts, KeepsAll, StoresOne, ReplacesOne, RemovesOne, calm_shifts}
 use Rattle.papaya_spots.proofs.Steps.{moved_shifts, stayed_calm}
 use Rattle.papaya_moments.specs.Whole.{ShowsWhole}
 use Rattle.papaya_moments.proofs.Calls.{of_row}
-use Rattle.papaya_histories.specs.OtherCalls.{IsNoQuestion, IsOther, IsOnNoKey, OthersRemoveOnly, RemovalsAdd, OthersAreLinearizable, NoCallsAreLinearizable}
+use Rattle.papaya_histories.specs.AsCalled.{purpose_of, IsLastTold, IsAsCalled, ShowsAsCalled}
+use Rattle.papaya_histories.specs.OtherCalls.{IsOnNoKey, OthersRemoveOnly, RemovalsAdd, OthersAreLinearizable, NoCallsAreLinearizable}
 use Rattle.papaya_histories.proofs.Changes.{hands_shift}
 use Rattle.papaya_histories.proofs.Which.{did_once, none_shifted}
 
@@ -58,6 +61,23 @@ module _ {K V : Type 0} (same : K → K → Bool) where
   removals_add : (its : Call K V) (c : CallThere K V) (done more : List Shift) → RemovesOnly same its c done → RemovesOnly same its c more → RemovesOnly same its c (done ++ more)
   removals_add its c [] more h k = k
   removals_add its c (f ∷ done) more h k = (h.0, removals_add its c done more h.1 k)
+
+  -- by the same replies it may remove the same
+  may_same : (its : Call K V) (c d : CallThere K V) → d.replies ≡ c.replies → (f : Shift) → MayRemove same its d f → MayRemove same its c f
+  may_same call.Clear c d e (GoesOut n) h = tt
+  may_same call.Clear c d e (ComesIn n) h = h
+  may_same call.Clear c d e (GivesWay n) h = h
+  may_same call.Retain c d e (GoesOut n) h = ap (reply_to (Some n)) (sym e) ∙ h
+  may_same call.Retain c d e (ComesIn n) h = h
+  may_same call.Retain c d e (GivesWay n) h = h
+  may_same (call.On one) c d e f h = h
+  may_same (call.Reserve n) c d e f h = h
+  may_same call.Len c d e f h = h
+  may_same call.Walk c d e f h = h
+
+  pub removes_same : (its : Call K V) (c d : CallThere K V) → d.replies ≡ c.replies → (done : List Shift) → RemovesOnly same its d done → RemovesOnly same its c done
+  removes_same its c d e [] h = tt
+  removes_same its c d e (f ∷ done) h = (may_same its c d e f h.0, removes_same its c d e done h.1)
 
   -- a clearing may remove each pair
   clears : (c : CallThere K V) (done : List Shift) → (done ≡ []) ⊎ ((q : ℕ) × (done ≡ GoesOut q ∷ [])) → RemovesOnly same call.Clear c done
@@ -82,6 +102,20 @@ module _ {K : Type 0} (same : K → K → Bool) (hash : K → ℕ) (incremental 
     gone_only (ReplacesOne n s is was cur) = absurd (none_came (ap (λ (f : ℕ → Bool). f c.stored) cur ∙ put_here (put c.current n false) c.stored true))
     gone_only (RemovesOne n is was cur) = inr (number n, ap (λ (l : List Effect). flat_map shift_of l) is)
 
+    -- the very one that has gone
+    module _ (p : ℕ) (had : c.current p ≡ true) (gone : c2.current ≡ put c.current p false) where
+      not_there : c2.current p ≡ false
+      not_there = ap (λ (f : ℕ → Bool). f p) gone ∙ put_here c.current p false
+
+      gone_that : Shifts c c2 number stored effects → flat_map shift_of effects ≡ GoesOut (number p) ∷ []
+      gone_that (KeepsAll kept none) = absurd (let yes : c2.current p ≡ true = ap (λ (f : ℕ → Bool). f p) kept ∙ had in cc (yes, not_there))
+      gone_that (StoresOne s is cur) = absurd (none_came (ap (λ (f : ℕ → Bool). f c.stored) cur ∙ put_here c.current c.stored true))
+      gone_that (ReplacesOne n s is was cur) = absurd (none_came (ap (λ (f : ℕ → Bool). f c.stored) cur ∙ put_here (put c.current n false) c.stored true))
+      gone_that (RemovesOne n is was cur) = elim (cases_eq p n) as (λ _. flat_map shift_of effects ≡ GoesOut (number p) ∷ []) [
+        | inl e ↦ ap (λ (l : List Effect). flat_map shift_of l) is ∙ ap (λ (z : ℕ). GoesOut (number z) ∷ []) (sym e)
+        | inr ne ↦ absurd (let yes : c2.current p ≡ true = ap (λ (f : ℕ → Bool). f p) cur ∙ put_elsewhere c.current n false p ne ∙ had in cc (yes, not_there))
+      ]
+
 -- by a step of a sweep no pair comes
 module _ {K : Type 0} (o : CallOverAll) (c c2 : Chart K) where
   pub less_told : RemovesTold o c c2 → (n : ℕ) → c2.current n ≡ true → c.current n ≡ true
@@ -98,9 +132,10 @@ module _ {K : Type 0} (o : CallOverAll) (c c2 : Chart K) where
   walk_keeps (inr (p, was, cur, inr (retains, told))) walks = absurd (cc (walks, retains))
 
 module _ {K V S : Type 0} (same : K → K → Bool) (hash : K → ℕ) (name : ℕ → List ℕ) (m : Moment K V) (known : Known) (s : Scene K V) (old new : Executor K V S) (at : IsAt same hash old s)
-    (whole : ShowsWhole same name m known s) (map i : ℕ) (u : UnderWay K V K) (here : s.calls map i ≡ Some u) (said : Progress (Node K V)) (leads : StepLeads same hash i said s old new) where
+    (whole : ShowsWhole same name m known s) (all : ShowsAsCalled same name m known s) (map i : ℕ) (u : UnderWay K V K) (here : s.calls map i ≡ Some u) (said : Progress (Node K V))
+    (leads : StepLeads same hash i said s old new) where
   abbrev shown : Shows same name m known s
-  shown = whole.all.shown
+  shown = all.shown
 
   abbrev to : WentTo same hash name m known s old new at shown map i u here said leads
   to = went_to same hash name m known s old new at shown map i u here said leads
@@ -134,28 +169,52 @@ module _ {K V S : Type 0} (same : K → K → Bool) (hash : K → ℕ) (name : �
   gone_told o c2 shifts told = gone_only same st.hash (is_incremental st.setting.mode) st.chart c2 (shown.number map) known.stored effects there (less_told o st.chart c2 told) shifts
 
   module _ (c : CallThere K V) where
-    by_own : (x : UnderWay K V K) (its : Call K V) → IsOther x its → (did : Did x) → NoRow x did → RemovesOnly same its c (flat_map shift_of effects)
-    by_own (ForRoom r) (call.Reserve n) is (p2, end, machine_is, told_is, inl (step, moved)) own =
+    -- a retaining may remove the pair about which it was told no
+    retains : (o : CallOverAll) (c2 : Chart K) → IsLastTold (shown.number map) st.chart.stored o.told c.replies → o.sweep.purpose ≡ Retains → Moved c2 → RemovesTold o st.chart c2
+        → RemovesOnly same call.Retain c (flat_map shift_of effects)
+    retains o c2 last retaining shifts (inl kept) = none_removed same call.Retain c (flat_map shift_of effects) (kept_none c2 shifts kept)
+    retains o c2 last retaining shifts (inr (p, was, cur, inl clears)) = absurd (cc (retaining, clears))
+    retains o c2 last retaining shifts (inr (p, was, cur, inr (its, told))) =
+        let reply = subst (λ (v : Option Verdict). IsLastTold (shown.number map) st.chart.stored v c.replies) told last in
+        subst (RemovesOnly same call.Retain c)
+        (sym (gone_that same st.hash (is_incremental st.setting.mode) st.chart c2 (shown.number map) known.stored effects there (less_told o st.chart c2 (inr (p, was, cur, inr (its, told)))) p was cur shifts))
+        (reply.1, tt)
+
+    abbrev So : UnderWay K V K → Type 0
+    So x = IsAsCalled (shown.number map) st.chart.stored known x c
+
+    -- its purpose is that of the call
+    for_its : (o : CallOverAll) (its : Call K V) (purpose : Purpose) → c.call ≡ its → So (OverAll o) → purpose_of its ≡ Some purpose → o.sweep.purpose ≡ purpose
+    for_its o its purpose e so is = one_of o.sweep.purpose purpose (sym so.purpose ∙ ap purpose_of e ∙ is)
+
+    by_own : (x : UnderWay K V K) (its : Call K V) → c.call ≡ its → IsCalled same x its → IsOnNoKey its → So x → (did : Did x) → NoRow x did → RemovesOnly same its c (flat_map shift_of effects)
+    by_own (OnKey x) (call.On one) e is other so did own = absurd other
+    by_own (ForRoom r) (call.Reserve n) e is other so (p2, end, machine_is, told_is, inl (step, moved)) own =
         none_removed same (call.Reserve n) c (flat_map shift_of effects) (kept_none step.step.went.c2
         (moved_shifts same hash m known s old new at name shown map i st to.2 (name i) (made_so same hash name m known s old new at shown map i u here said leads)
         (is_inside same hash name m known s old new at shown map i u here said leads) _ step.step.went step.step.blocks2 step.step.grown step.step.sights2) step.step.same_pairs)
-    by_own (ForRoom r) (call.Reserve n) is (p2, end, machine_is, told_is, inr row) own = absurd own
-    by_own (Counting sum) call.Len is (p2, end, machine_is, told_is, still, stayed) own =
+    by_own (ForRoom r) (call.Reserve n) e is other so (p2, end, machine_is, told_is, inr row) own = absurd own
+    by_own (Counting sum) call.Len e is other so (p2, end, machine_is, told_is, still, stayed) own =
         none_removed same call.Len c (flat_map shift_of effects) (calm_shifts effects
         (stayed_calm same hash m known s old new at name shown map i st to.2 (name i) (made_so same hash name m known s old new at shown map i u here said leads)
         (is_inside same hash name m known s old new at shown map i u here said leads) still).calm)
-    by_own (OverAll o) call.Clear is (p2, end, machine_is, told_is, inl (step, moved)) own =
+    by_own (OverAll o) call.Clear e is other so (p2, end, machine_is, told_is, inl (step, moved)) own =
         clears same c (flat_map shift_of effects) (gone_told o step.step.went.c2
         (moved_shifts same hash m known s old new at name shown map i st to.2 (name i) (made_so same hash name m known s old new at shown map i u here said leads)
         (is_inside same hash name m known s old new at shown map i u here said leads) _ step.step.went step.step.blocks2 step.step.grown step.step.sights2) step.step.removes)
-    by_own (OverAll o) call.Clear is (p2, end, machine_is, told_is, inr row) own = absurd own
-    by_own (OverAll o) call.Walk walks (p2, end, machine_is, told_is, inl (step, moved)) own =
+    by_own (OverAll o) call.Clear e is other so (p2, end, machine_is, told_is, inr row) own = absurd own
+    by_own (OverAll o) call.Retain e is other so (p2, end, machine_is, told_is, inl (step, moved)) own =
+        retains o step.step.went.c2 so.last (for_its o call.Retain Retains e so refl)
+        (moved_shifts same hash m known s old new at name shown map i st to.2 (name i) (made_so same hash name m known s old new at shown map i u here said leads)
+        (is_inside same hash name m known s old new at shown map i u here said leads) _ step.step.went step.step.blocks2 step.step.grown step.step.sights2) step.step.removes
+    by_own (OverAll o) call.Retain e is other so (p2, end, machine_is, told_is, inr row) own = absurd own
+    by_own (OverAll o) call.Walk e is other so (p2, end, machine_is, told_is, inl (step, moved)) own =
         none_removed same call.Walk c (flat_map shift_of effects) (kept_none step.step.went.c2
         (moved_shifts same hash m known s old new at name shown map i st to.2 (name i) (made_so same hash name m known s old new at shown map i u here said leads)
         (is_inside same hash name m known s old new at shown map i u here said leads) _ step.step.went step.step.blocks2 step.step.grown step.step.sights2)
-        (walk_keeps o st.chart step.step.went.c2 step.step.removes walks))
-    by_own (OverAll o) call.Walk walks (p2, end, machine_is, told_is, inr row) own = absurd own
-    by_own _ _ is did own = absurd is
+        (walk_keeps o st.chart step.step.went.c2 step.step.removes (for_its o call.Walk Walks e so refl)))
+    by_own (OverAll o) call.Walk e is other so (p2, end, machine_is, told_is, inr row) own = absurd own
+    by_own _ _ e is other so did own = absurd is
 
   -- one of a row says of no pair that it has come or gone
   of_step : TakesNone new.memory.changed → (w2 : World (Node K V)) → w2.memory ≡ new.memory.memory → IsOneStep st.setting i s.world w2 → flat_map shift_of effects ≡ []
@@ -173,12 +232,19 @@ module _ {K V S : Type 0} (same : K → K → Bool) (hash : K → ℕ) (name : �
   by_row none (OverAll o) (p2, end, machine_is, told_is, inl step) other = absurd (other tt)
   by_row none (OverAll o) (p2, end, machine_is, told_is, inr (row, stayed)) other = of_step none row.step.w2 row.step.memory row.step.happened
 
-  removes_only : (its : Call K V) → IsOther u its → (c : CallThere K V) → RemovesOnly same its c (flat_map shift_of effects)
-  removes_only its is c = elim (of_row same hash name m known s old new at whole map i u here said leads u to.4.did) as (λ _. RemovesOnly same its c (flat_map shift_of effects)) [
-    | inl own ↦ by_own c u its is to.4.did own
-    | inr other ↦ none_removed same its c (flat_map shift_of effects)
-        (by_row (rows_hand_theirs K V S same hash name m known s old new at whole.all map i u here said leads other).1 u to.4.did other)
+  removes_only : (c : CallThere K V) → call_of (name i) m ≡ Some c → IsOnNoKey c.call → RemovesOnly same c.call c (flat_map shift_of effects)
+  removes_only c c_is other = elim (of_row same hash name m known s old new at whole map i u here said leads u to.4.did) as (λ _. RemovesOnly same c.call c (flat_map shift_of effects)) [
+    | inl own ↦ by_own c u c.call refl called other (all.each map i u here st to.2 c c_is) to.4.did own
+    | inr row ↦ none_removed same c.call c (flat_map shift_of effects)
+        (by_row (rows_hand_theirs K V S same hash name m known s old new at whole.all map i u here said leads row).1 u to.4.did row)
   ]
+    where
+      called : IsCalled same u c.call
+      called = let was = shown.calls map i u here in subst (λ (x : CallThere K V). IsCalled same u x.call) (one_of was.0 c (sym was.1 ∙ c_is)) was.3
+
+abbrev pub IsNoQuestion : {V : Type 0} → Outcome V → Type 0
+IsNoQuestion (outcome.Asks question) = ⊥
+IsNoQuestion _ = Unit {0}
 
 module _ {K V : Type 0} (same : K → K → Bool) where
   -- what is no question asks nothing
@@ -213,7 +279,7 @@ module _ (K V : Type 0) (same : K → K → Bool) where
       subst (λ (o : Option (List ℕ)). ActsOf same log e (acting o (at_work e (moment log))) (acting o (worked e (moment log)))) (sym none) shifts
 
   pub others_are_linearizable : OthersAreLinearizable K V same
-  others_are_linearizable log e own map c caller c_is acts other only none =
+  others_are_linearizable log e own map c caller c_is acts other only asks =
       subst (λ (x : Option (CallThere K V)). ActsOf same log e x (acting (caller_of e.event) (worked e (moment log)))) (sym before)
       (subst (λ (x : Option (CallThere K V)). ActsOf same log e (Some c) x) (sym then_is) right)
     where
@@ -238,11 +304,12 @@ module _ (K V : Type 0) (same : K → K → Bool) where
       right = record {
         changes = changes_so same c.call c b (flat_map shift_of e.effects) other only;
         ends = ends_so same now.0.call now.0 (moments_from now.0.begun log) e.outcome (subst (λ (x : Call K V). IsOnNoKey x) (sym now.2) other);
-        asks = asks_none same now.0 (moments_from now.0.begun log) now.0.stands e.outcome none;
+        asks = asks now.0 (ap (call_of own) worked_is ∙ now.1);
       }
 
   pub removals_added : RemovalsAdd K V same
   removals_added its c done more h k = removals_add same its c done more h k
 
 pub others_remove_only : (K V S : Type 0) (same : K → K → Bool) (hash : K → ℕ) → OthersRemoveOnly K V S same hash
-others_remove_only K V S same hash name m known s old new at whole map i u here said leads its is c = removes_only same hash name m known s old new at whole map i u here said leads its is c
+others_remove_only K V S same hash name m known s old new at whole all map i u here said leads c c_is other =
+    removes_only same hash name m known s old new at whole all map i u here said leads c c_is other

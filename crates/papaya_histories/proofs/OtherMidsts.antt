@@ -1,61 +1,79 @@
 -- In the midst of an event of several steps of a call on no key that only removes pairs, and at its end.
-use Rattle.std.specs.Prelude.{◌≡◌, ℕ, ◌<◌, Bool, true, List, ◌++◌, flat_map, Option, Some, None, ◌⊎◌}
+use Rattle.std.specs.Prelude.{◌≡◌, ℕ, ◌<◌, Bool, true, List, ◌++◌, cond, find, flat_map, Option, Some, None, ◌⊎◌}
 use Rattle.std.proofs.Common.{refl, ap, sym, subst, ◌∙◌, inl, inr}
 use Rattle.std.proofs.lemmas.Grind.{flat_map-append}
 use Rattle.seize.specs.World.{with_at}
 use Rattle.papaya_tables.specs.declared.node.Node.{Node}
 use Rattle.papaya_raw.specs.declared.machines.progress.Progress.{Progress}
+use Rattle.papaya_runs.specs.Same.{is_same}
 use Rattle.papaya_schedules.specs.declared.call.Call.{Call}
 use Rattle.papaya_schedules.specs.declared.call.Call.TheVariants as call
 use Rattle.papaya_schedules.specs.declared.effect.Effect.{Effect}
 use Rattle.papaya_schedules.specs.After.{moment}
+use Rattle.papaya_schedules.specs.Beginning.{fresh_call, with_call}
 use Rattle.papaya_schedules.specs.Effects.{with_effects}
-use Rattle.papaya_schedules.specs.Entry.{Entry, acted_on}
+use Rattle.papaya_schedules.specs.Entry.{Entry}
 use Rattle.papaya_schedules.specs.Linearizable.{shift_of, RemovesOnly}
 use Rattle.papaya_schedules.specs.Moment.{UnderWay as CallThere, Moment}
 use Rattle.papaya_schedules.specs.Sequential.{Shift}
 use Rattle.papaya_schedules.specs.Views.{call_of, finite_map}
 use Rattle.papaya_rule.specs.Chart.{Chart}
 use Rattle.papaya_rule.proofs.Laws.{current_is_known}
-use Rattle.papaya_callers.specs.Together.{UnderWay, OnKey, ForRoom, Counting, OverAll, Together}
+use Rattle.papaya_callers.specs.Together.{CallOnKey, UnderWay, OnKey, ForRoom, Counting, OverAll, Together}
 use Rattle.papaya_callers.proofs.Together.At.{at_same}
 use Rattle.papaya_finishes.specs.Maps.{Standing, IsSameMap}
 use Rattle.papaya_effects.specs.Effects.{effects_of}
 use Rattle.papaya_effects.specs.Known.{Known}
 use Rattle.papaya_effects.specs.declared.acting.Acting.TheVariants as acts
 use Rattle.papaya_executor.specs.IsAt.{Scene, IsAt, slot_of}
+use Rattle.papaya_executor.specs.Replying.{scene_with}
 use Rattle.papaya_executor.specs.Stepping.{StepLeads}
 use Rattle.papaya_executor.specs.declared.executor.Executor.{Executor}
+use Rattle.papaya_follows.specs.Calls.{IsCalled}
 use Rattle.papaya_follows.specs.Shows.{Shows}
+use Rattle.papaya_follows.proofs.Calling.{is_same_refl}
 use Rattle.papaya_follows.proofs.Steps.{WentTo, DidSo, LeadsThere, one_of}
+use Rattle.papaya_hands.specs.Calling.{IsBegunFor}
+use Rattle.papaya_hands.proofs.Replacing.{calls_after}
 use Rattle.papaya_moments.specs.Whole.{ShowsWhole}
-use Rattle.papaya_moments.proofs.Calls.{calls_keep_whole}
+use Rattle.papaya_moments.proofs.After.{effects_after}
+use Rattle.papaya_moments.proofs.Calls.{calls_keep_whole, calls_begin_whole}
 use Rattle.papaya_moments.proofs.OnSlots.{stood_same}
+use Rattle.papaya_histories.specs.AsCalled.{ShowsAsCalled}
+use Rattle.papaya_histories.specs.Due.{ShowsDue}
 use Rattle.papaya_histories.specs.Had.{HadJust, HadThen}
 use Rattle.papaya_histories.specs.Kept.{ChangesFirst}
-use Rattle.papaya_histories.specs.OtherCalls.{IsOther, IsOnNoKey}
-use Rattle.papaya_histories.specs.OtherMidsts.{InOtherMidst, OtherMidstsBegin, OtherMidstsGoOn, OtherMidstsKeepDue, OtherMidstsEnd}
+use Rattle.papaya_histories.specs.OtherCalls.{IsOnNoKey}
+use Rattle.papaya_histories.specs.OtherMidsts.{InOtherMidst, OtherMidstsBegin, OtherMidstsBeginCalls, OtherMidstsGoOn, OtherMidstsKeepDue}
+use Rattle.papaya_histories.specs.Several.{IsSameCall}
+use Rattle.papaya_histories.proofs.NoKey.AsCalled.{calls_keep_as_called}
+use Rattle.papaya_histories.proofs.NoKey.AsCalledOn.{calls_begin_as_called}
+use Rattle.papaya_histories.proofs.BeginsCall.{events_are}
 use Rattle.papaya_histories.proofs.Due.{calls_keep_due}
+use Rattle.papaya_histories.proofs.DueOn.{calls_begin_due}
 use Rattle.papaya_histories.proofs.Found.{map_alike}
 use Rattle.papaya_histories.proofs.Had.{had_pair}
 use Rattle.papaya_histories.proofs.Later.{IsLater}
 use Rattle.papaya_histories.proofs.Now.{now_had}
-use Rattle.papaya_histories.proofs.OtherCalls.{removals_added, less_told, others_remove_only, others_are_linearizable}
-use Rattle.papaya_histories.proofs.Walks.{others_stay}
+use Rattle.papaya_histories.proofs.OtherCalls.{removals_added, removes_same, less_told, others_remove_only}
+use Rattle.papaya_histories.proofs.Several.{call_then, same_then}
 use Rattle.papaya_histories.proofs.Steps.{to, led_on, moved_chart, maps_later, v, now_then}
 
--- what such a call is called for is on no key
-on_no_key : {K V : Type 0} (x : UnderWay K V K) (its : Call K V) → IsOther x its → IsOnNoKey its
-on_no_key (OnKey u) its is = absurd is
-on_no_key (ForRoom r) (call.Reserve n) is = tt
-on_no_key (Counting sum) call.Len is = tt
-on_no_key (OverAll o) call.Clear is = tt
-on_no_key (OverAll o) call.Walk is = tt
-on_no_key _ _ is = absurd is
+-- what is called for on no key is no call on a key
+pub on_no_key : {K V : Type 0} (same : K → K → Bool) (u : UnderWay K V K) (its : Call K V) → IsCalled same u its → IsOnNoKey its → (x : CallOnKey K V K) → u ≡ OnKey x → ⊥
+on_no_key same (OnKey u) (call.On one) is other x e = absurd other
+on_no_key same (OnKey u) (call.Reserve n) is other x e = absurd is
+on_no_key same (OnKey u) call.Clear is other x e = absurd is
+on_no_key same (OnKey u) call.Retain is other x e = absurd is
+on_no_key same (OnKey u) call.Len is other x e = absurd is
+on_no_key same (OnKey u) call.Walk is other x e = absurd is
+on_no_key same (ForRoom r) its is other x e = absurd (cc e)
+on_no_key same (Counting sum) its is other x e = absurd (cc e)
+on_no_key same (OverAll o) its is other x e = absurd (cc e)
 
 module _ {K V S : Type 0} (same : K → K → Bool) (hash : K → ℕ) (name : ℕ → List ℕ) (m : Moment K V) (known : Known) (s : Scene K V) (old new : Executor K V S) (at : IsAt same hash old s)
     (whole : ShowsWhole same name m known s) (shown : Shows same name m known s) (map i : ℕ) (u : UnderWay K V K) (here : s.calls map i ≡ Some u) (said : Progress (Node K V))
-    (leads : StepLeads same hash i said s old new) (its : Call K V) (other : IsOther u its) where
+    (leads : StepLeads same hash i said s old new) (its : Call K V) (called : IsCalled same u its) (other : IsOnNoKey its) where
   abbrev went : WentTo same hash name m known s old new at shown map i u here said leads
   went = to same hash name m known s old new at whole shown map i u here said leads
 
@@ -87,19 +105,19 @@ module _ {K V S : Type 0} (same : K → K → Bool) (hash : K → ℕ) (name : �
       ap (λ (z : Standing K). z.chart.current n) (one_of st it.0 (sym went.2 ∙ it.1)) ∙ ap (λ (z : Chart K). z.current n) (sym it.2) ∙ now
 
   -- no pair has come
-  less_by : (x : UnderWay K V K) → IsOther x its → DidSo same hash name m known s old new at shown map i u here said leads x → Less
-  less_by (OnKey x) is did = absurd is
-  less_by (ForRoom r) is (p2, end, machine_is, told_is, inl (step, moved)) =
+  less_by : (x : UnderWay K V K) → ((y : CallOnKey K V K) → x ≡ OnKey y → ⊥) → DidSo same hash name m known s old new at shown map i u here said leads x → Less
+  less_by (OnKey x) none did = absurd (none x refl)
+  less_by (ForRoom r) none (p2, end, machine_is, told_is, inl (step, moved)) =
       less_moved step.step.went.c2
       (moved_chart same hash name m known s old new at whole shown map i u here said leads step.step.went.c2 step.step.blocks2 step.step.sights2 moved.1 st2 st2_is)
       (λ n now. ap (λ (f : ℕ → Bool). f n) (sym step.step.same_pairs) ∙ now)
-  less_by (ForRoom r) is (p2, end, machine_is, told_is, inr (row, stayed)) = less_stayed (stayed.1 map)
-  less_by (Counting sum) is (p2, end, machine_is, told_is, still, stayed) = less_stayed (stayed.1 map)
-  less_by (OverAll o) is (p2, end, machine_is, told_is, inl (step, moved)) =
+  less_by (ForRoom r) none (p2, end, machine_is, told_is, inr (row, stayed)) = less_stayed (stayed.1 map)
+  less_by (Counting sum) none (p2, end, machine_is, told_is, still, stayed) = less_stayed (stayed.1 map)
+  less_by (OverAll o) none (p2, end, machine_is, told_is, inl (step, moved)) =
       less_moved step.step.went.c2
       (moved_chart same hash name m known s old new at whole shown map i u here said leads step.step.went.c2 step.step.blocks2 step.step.sights2 moved.1 st2 st2_is)
       (less_told o st.chart step.step.went.c2 step.step.removes)
-  less_by (OverAll o) is (p2, end, machine_is, told_is, inr (row, stayed)) = less_stayed (stayed.1 map)
+  less_by (OverAll o) none (p2, end, machine_is, told_is, inr (row, stayed)) = less_stayed (stayed.1 map)
 
   each : Together V same st.hash same st.setting slot_of s.world st.chart st.blocks st.sights (s.calls map)
   each = at.together.makings.standing.each map st went.2
@@ -124,7 +142,7 @@ module _ {K V S : Type 0} (same : K → K → Bool) (hash : K → ℕ) (name : �
 
       has : (q : ℕ) → HadJust same st2 (on.shows.number map) st2.chart.now k (Some q) → finite_map same map m k ≡ Some q
       has q (n, had, number_is, alone) =
-          let current : st.chart.current n ≡ true = less_by u other went.4.did n (sym ((went.5.together.makings.standing.each map st2 st2_is).ground.moments.now_is n) ∙ had.1) in
+          let current : st.chart.current n ≡ true = less_by u (on_no_key same u its called other) went.4.did n (sym ((went.5.together.makings.standing.each map st2 st2_is).ground.moments.now_is n) ∙ had.1) in
           let l = there n current in
           had_pair same st (shown.number map) st.chart.now k (finite_map same map m k) now n (l, each.ground.moments.now_is n ∙ current, had.2, sym (later.keys n l) ∙ had.3, had.4)
           ∙ ap Some (sym (on.numbers map st went.2 n l) ∙ number_is)
@@ -136,17 +154,41 @@ module _ {K V S : Type 0} (same : K → K → Bool) (hash : K → ℕ) (name : �
 module _ {K V S : Type 0} (same : K → K → Bool) (hash : K → ℕ) (name : ℕ → List ℕ) (log : List (Entry K V)) (beginning : Moment K V) (map i : ℕ) (c : CallThere K V)
     (done : List Effect) (m : Moment K V) (known : Known) (s : Scene K V) (u : UnderWay K V K) (midst : InOtherMidst same name log beginning map i c done m known s u)
     (old new : Executor K V S) (at : IsAt same hash old s) (said : Progress (Node K V)) (leads : StepLeads same hash i said s old new) where
-  abbrev effects : List Effect
+  abbrev pub effects : List Effect
   effects = effects_of (acts.Call i map) known new.memory.changed
 
-  abbrev then_at : Moment K V
+  abbrev pub then_at : Moment K V
   then_at = with_effects (Some (name i)) (Some map) effects m
 
+  -- the call as the step begins
+  abbrev pub its_call : CallThere K V
+  its_call = midst.there
+
+  pub there_other : IsOnNoKey its_call.call
+  there_other = subst (λ (x : Call K V). IsOnNoKey x) (sym midst.same_call.call) midst.other
+
+  pub there_called : IsCalled same u its_call.call
+  there_called =
+      let was = midst.dues.history.shown.calls map i u midst.here in subst (λ (x : CallThere K V). IsCalled same u x.call) (one_of was.0 its_call (sym was.1 ∙ midst.there_is)) was.3
+
+  -- the call after the step
+  abbrev pub d : CallThere K V
+  d = (calls_after (name i) map (name i) effects m its_call midst.there_is).0
+
+  pub d_is : call_of (name i) then_at ≡ Some d
+  d_is = (calls_after (name i) map (name i) effects m its_call midst.there_is).1
+
+  pub d_same : IsSameCall c d
+  d_same = same_then c its_call d midst.same_call (call_then same name log map i effects m its_call midst.there_is d d_is)
+
+  pub d_stands : d.stands ≡ its_call.stands
+  d_stands = (calls_after (name i) map (name i) effects m its_call midst.there_is).2.0.stands
+
   fewer_now : (k : K) → (finite_map same map then_at k ≡ finite_map same map m k) ⊎ (finite_map same map then_at k ≡ None)
-  fewer_now = fewer_then same hash name m known s old new at midst.whole midst.dues.history.shown map i u midst.here said leads c.call midst.other
+  fewer_now = fewer_then same hash name m known s old new at midst.whole midst.dues.history.shown map i u midst.here said leads its_call.call there_called there_other
 
   -- no class has changed twice
-  first_change : ChangesFirst log m same map then_at
+  pub first_change : ChangesFirst log m same map then_at
   first_change k = by (fewer_now k) (midst.fewer k)
     where
       by : (finite_map same map then_at k ≡ finite_map same map m k) ⊎ (finite_map same map then_at k ≡ None) → (finite_map same map m k ≡ finite_map same map beginning k) ⊎ (finite_map same map m k ≡ None)
@@ -155,7 +197,7 @@ module _ {K V S : Type 0} (same : K → K → Bool) (hash : K → ℕ) (name : �
       by (inr gone) (inl was) = inr (was ∙ map_alike same map k (moment log) beginning midst.begins.0 midst.begins.1)
       by (inr gone) (inr none) = inl (gone ∙ sym none)
 
-  fewer_so : (k : K) → (finite_map same map then_at k ≡ finite_map same map beginning k) ⊎ (finite_map same map then_at k ≡ None)
+  pub fewer_so : (k : K) → (finite_map same map then_at k ≡ finite_map same map beginning k) ⊎ (finite_map same map then_at k ≡ None)
   fewer_so k = by (fewer_now k) (midst.fewer k)
     where
       by : (finite_map same map then_at k ≡ finite_map same map m k) ⊎ (finite_map same map then_at k ≡ None) → (finite_map same map m k ≡ finite_map same map beginning k) ⊎ (finite_map same map m k ≡ None)
@@ -164,19 +206,29 @@ module _ {K V S : Type 0} (same : K → K → Bool) (hash : K → ℕ) (name : �
       by (inl kept) (inr none) = inr (kept ∙ none)
       by (inr gone) before = inr gone
 
-  removes_so : RemovesOnly same c.call c (flat_map shift_of (done ++ effects))
+  pub removes_so : RemovesOnly same c.call c (flat_map shift_of (done ++ effects))
   removes_so = subst (λ (l : List Shift). RemovesOnly same c.call c l) (sym (flat_map-append shift_of done effects))
       (removals_added K V same c.call c (flat_map shift_of done) (flat_map shift_of effects) midst.removes
-      (others_remove_only K V S same hash name m known s old new at midst.whole map i u midst.here said leads c.call midst.other c))
+      (removes_same same c.call c its_call midst.same_call.replies (flat_map shift_of effects)
+      (subst (λ (x : Call K V). RemovesOnly same x its_call (flat_map shift_of effects)) midst.same_call.call
+      (others_remove_only K V S same hash name m known s old new at midst.whole midst.called map i u midst.here said leads its_call midst.there_is there_other))))
+
+  pub worked_then : then_at ≡ with_effects (Some (name i)) (Some map) (done ++ effects) beginning
+  worked_then = ap (λ (x : Moment K V). with_effects (Some (name i)) (Some map) effects x) midst.worked ∙ sym (effects_after (Some (name i)) (Some map) done effects beginning)
 
 module _ (K V : Type 0) (same : K → K → Bool) where
   pub other_midsts_begin : OtherMidstsBegin K V same
-  other_midsts_begin name log beginning begins known s whole dues map i u here c other = record {
+  other_midsts_begin name log beginning begins known s whole dues called map i u here c c_is other = record {
     here = here;
     other = other;
     whole = whole;
     dues = dues;
+    called = called;
     begins = begins;
+    worked = refl;
+    there = c;
+    there_is = c_is;
+    same_call = record { map = refl; call = refl; replies = refl; begun = refl };
     fewer = λ k. inl refl;
     removes = tt;
   }
@@ -191,16 +243,51 @@ module _ (K V S : Type 0) (same : K → K → Bool) (hash : K → ℕ) where
   other_midsts_go_on name log beginning map i c done m known s u midst old new at said leads next goes = record {
     here = ap (λ (f : ℕ → Option (UnderWay K V K)). f i) (at_same s.calls map (with_at (s.calls map) i (leads map u midst.here).4.next) map refl)
         ∙ at_same (s.calls map) i (leads map u midst.here).4.next i refl ∙ goes;
-    other = others_stay K V S same hash s old new map i u midst.here said leads c.call midst.other next goes;
+    other = midst.other;
     whole = calls_keep_whole K V S same hash name m known s old new at midst.whole map i u midst.here said leads;
     dues = other_midsts_keep_due name log beginning map i c done m known s u midst old new at said leads;
+    called = calls_keep_as_called K V S same hash name m known s old new at midst.whole midst.called map i u midst.here said leads;
     begins = midst.begins;
+    worked = worked_then same hash name log beginning map i c done m known s u midst old new at said leads;
+    there = d same hash name log beginning map i c done m known s u midst old new at said leads;
+    there_is = d_is same hash name log beginning map i c done m known s u midst old new at said leads;
+    same_call = d_same same hash name log beginning map i c done m known s u midst old new at said leads;
     fewer = fewer_so same hash name log beginning map i c done m known s u midst old new at said leads;
     removes = removes_so same hash name log beginning map i c done m known s u midst old new at said leads;
   }
 
-  pub other_midsts_end : OtherMidstsEnd K V S same hash
-  other_midsts_end name log beginning map i c c_is done m known s u midst old new at said leads e caller begun acts effects_are none =
-      others_are_linearizable K V same log e (name i) map c caller (ap (call_of (name i)) begun ∙ c_is) (ap (acted_on e.event) begun ∙ acts) (on_no_key u c.call midst.other)
-      (subst (λ (l : List Effect). RemovesOnly same c.call c (flat_map shift_of l)) (sym effects_are)
-      (removes_so same hash name log beginning map i c done m known s u midst old new at said leads)) none
+  -- as it begins its call
+  pub other_midsts_begin_calls : OtherMidstsBeginCalls K V S same hash
+  other_midsts_begin_calls name log known s old at_old whole dues all map i u its guard standing there now apart called other begun rests =
+      (c_is, other_midsts_begin K V same name log beginning (refl, refl) known s2 whole2 dues2 all2 map i u here c c_is other)
+    where
+      beginning : Moment K V
+      beginning = with_call (name i) guard its (Some map) (moment log)
+
+      c : CallThere K V
+      c = fresh_call (name i) guard its map (moment log).events
+
+      c_is : call_of (name i) beginning ≡ Some c
+      c_is = ap (λ q. cond q (Some c) (find (λ (x : CallThere K V). is_same x.caller (name i)) (moment log).calls)) (is_same_refl (name i))
+
+      s2 : Scene K V
+      s2 = scene_with map i u s
+
+      here : s2.calls map i ≡ Some u
+      here = ap (λ (f : ℕ → Option (UnderWay K V K)). f i) (at_same s.calls map (with_at (s.calls map) i (Some u)) map refl) ∙ at_same (s.calls map) i (Some u) i refl
+
+      begun_for : (x : UnderWay K V K) → IsCalled same x its → IsBegunFor x its
+      begun_for (OnKey x) is = absurd (on_no_key same (OnKey x) its is other x refl)
+      begun_for (ForRoom r) is = tt
+      begun_for (Counting sum) is = tt
+      begun_for (OverAll o) is = tt
+
+      whole2 : ShowsWhole same name beginning known s2
+      whole2 = calls_begin_whole K V same name (moment log) known s whole map i u its guard apart called (begun_for u called) rests
+
+      dues2 : ShowsDue same name log beginning known s2
+      dues2 = calls_begin_due K V S same hash name log (moment log) known s old at_old dues map i u its guard standing there now (λ x e. absurd (on_no_key same u its called other x e)) apart called
+          (begun_for u called) (events_are log)
+
+      all2 : ShowsAsCalled same name beginning known s2
+      all2 = calls_begin_as_called K V same name (moment log) known s all map i u its guard apart called begun

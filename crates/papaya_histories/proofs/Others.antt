@@ -18,6 +18,7 @@ use Rattle.papaya_others.proofs.RowBegins.{rows_begin_shown}
 use Rattle.papaya_others.proofs.Rows.{rows_on_slots_are_shown}
 use Rattle.papaya_moments.proofs.Beside.{IsBeside, StoodSo, StandsNew, asked_beside}
 use Rattle.papaya_moments.proofs.OnSlots.{row_beside, rows_begin_beside}
+use Rattle.papaya_hands.specs.Asked.{ShowsAsked}
 use Rattle.papaya_histories.specs.Due.{Owes, ShowsDue}
 use Rattle.papaya_histories.specs.Had.{HadThen}
 use Rattle.papaya_histories.specs.Histories.{began_of, since, IsWithin, ShowsHistory}
@@ -29,12 +30,10 @@ use Rattle.papaya_histories.proofs.Within.{within_on}
 
 module _ {K V S : Type 0} (same : K → K → Bool) (hash : K → ℕ) (name : ℕ → List ℕ) (log : List (Entry K V)) (m m2 : Moment K V) (known known2 : Known) (s s2 : Scene K V) (old new : Executor K V S)
     (at : IsAt same hash old s) (at2 : IsAt same hash new s2) (history : ShowsHistory same name log m known s) (after : ShowsAfter same name m known s history.shown m2 known2 s2)
-    (beside : IsBeside m m2 known known2 s s2) where
-  was_here : (n j : ℕ) (x : UnderWay K V K) → s2.calls n j ≡ Some x → s.calls n j ≡ Some x
-  was_here n j x is = subst (λ (f : ℕ → ℕ → Option (UnderWay K V K)). f n j ≡ Some x) beside.same_calls is
-
+    (calls : m2.calls ≡ m.calls) (was_here : (n j : ℕ) (x : UnderWay K V K) → s2.calls n j ≡ Some x → s.calls n j ≡ Some x)
+    (stand : (n : ℕ) (st : Standing K) → s2.maps n ≡ Some st → StoodSo known known2 s s2 n st ⊎ StandsNew known known2 s s2 n) where
   was_called : (j : ℕ) (c : CallThere K V) → call_of (name j) m2 ≡ Some c → call_of (name j) m ≡ Some c
-  was_called j c found = ap (λ (cs : List (CallThere K V)). find (λ x. is_same x.caller (name j)) cs) (sym beside.calls) ∙ found
+  was_called j c found = ap (λ (cs : List (CallThere K V)). find (λ x. is_same x.caller (name j)) cs) (sym calls) ∙ found
 
   -- of a map that stood so
   module _ (n : ℕ) (st : Standing K) (there : s2.maps n ≡ Some st) (stood : StoodSo known known2 s s2 n st) where
@@ -62,12 +61,12 @@ module _ {K V S : Type 0} (same : K → K → Bool) (hash : K → ℕ) (name : �
         within_on same n stood.0 st (history.shown.number n) (after.shows.number n) later (λ o l. numbers o) log m m2 c.begun (history.begun n j x (was_here n j x is) c (was_called j c found))
         (λ k. inl (same_then k)) now_then began (history.within n j x (was_here n j x is) stood.0 stood.1 c (was_called j c found) began began_is)
 
-  pub beside_history : ShowsHistory same name log m2 known2 s2
-  beside_history = record {
+  pub aside_history : ShowsAsked name after.shows.number m2 known2 s2 → ShowsHistory same name log m2 known2 s2
+  aside_history asked = record {
     shown = after.shows;
-    asked = asked_beside same name m m2 known known2 s s2 history.shown after beside hash new at2 history.asked;
+    asked = asked;
     begun = λ n j x is c found. history.begun n j x (was_here n j x is) c (was_called j c found);
-    within = λ n j x is st there c found began began_is. within_so n st there j x is c found began began_is (beside.stood n st there);
+    within = λ n j x is st there c found began began_is. within_so n st there j x is c found began began_is (stand n st there);
   }
     where
       -- on a new one no call is under way
@@ -79,50 +78,64 @@ module _ {K V S : Type 0} (same : K → K → Bool) (hash : K → ℕ) (name : �
 -- and calls owe what they owed
 module _ {K V S : Type 0} (same : K → K → Bool) (hash : K → ℕ) (name : ℕ → List ℕ) (log : List (Entry K V)) (m m2 : Moment K V) (known known2 : Known) (s s2 : Scene K V) (old new : Executor K V S)
     (at : IsAt same hash old s) (at2 : IsAt same hash new s2) (dues : ShowsDue same name log m known s) (after : ShowsAfter same name m known s dues.history.shown m2 known2 s2)
-    (beside : IsBeside m m2 known known2 s s2) where
-  abbrev before : (n j : ℕ) (x : UnderWay K V K) → s2.calls n j ≡ Some x → s.calls n j ≡ Some x
-  before = was_here same hash name log m m2 known known2 s s2 old new at at2 dues.history after beside
-
+    (calls : m2.calls ≡ m.calls) (was_here : (n j : ℕ) (x : UnderWay K V K) → s2.calls n j ≡ Some x → s.calls n j ≡ Some x)
+    (stand : (n : ℕ) (st : Standing K) → s2.maps n ≡ Some st → StoodSo known known2 s s2 n st ⊎ StandsNew known known2 s s2 n) where
   abbrev called : (j : ℕ) (c : CallThere K V) → call_of (name j) m2 ≡ Some c → call_of (name j) m ≡ Some c
-  called = was_called same hash name log m m2 known known2 s s2 old new at at2 dues.history after beside
+  called = was_called same hash name log m m2 known known2 s s2 old new at at2 dues.history after calls was_here stand
 
   owes_so : (n j : ℕ) (u : CallOnKey K V K) → s2.calls n j ≡ Some (OnKey u) → (st : Standing K) → (c : CallThere K V) → call_of (name j) m2 ≡ Some c → (one : OneKey K V) → c.call ≡ On one
       → StoodSo known known2 s s2 n st ⊎ StandsNew known known2 s s2 n → Owes (after.shows.number n) st.chart.stored one c u.change
   owes_so n j u is st c found one one_is (inl stood) =
       subst (λ (f : ℕ → ℕ). Owes f st.chart.stored one c u.change) (sym (after.numbers n stood.0 stood.1))
       (subst (λ (x : Chart K). Owes (dues.history.shown.number n) x.stored one c u.change) (sym stood.2)
-      (dues.owes n j u (before n j (OnKey u) is) stood.0 stood.1 c (called j c found) one one_is))
+      (dues.owes n j u (was_here n j (OnKey u) is) stood.0 stood.1 c (called j c found) one one_is))
   owes_so n j u is st c found one one_is (inr new_map) = absurd (let none = new_map.0 j in cc (none, is))
 
-  pub beside_due : ShowsDue same name log m2 known2 s2
-  unfolding beside_history
-  beside_due = record {
-    history = beside_history same hash name log m m2 known known2 s s2 old new at at2 dues.history after beside;
-    owes = λ n j u is st there c found one one_is. owes_so n j u is st c found one one_is (beside.stood n st there);
-    taken = λ n j x is c found one one_is. dues.taken n j x (before n j x is) c (called j c found) one one_is;
+  pub aside_due : ShowsAsked name after.shows.number m2 known2 s2 → ShowsDue same name log m2 known2 s2
+  unfolding aside_history
+  aside_due asked = record {
+    history = aside_history same hash name log m m2 known known2 s s2 old new at at2 dues.history after calls was_here stand asked;
+    owes = λ n j u is st there c found one one_is. owes_so n j u is st c found one one_is (stand n st there);
+    taken = λ n j x is c found one one_is. dues.taken n j x (was_here n j x is) c (called j c found) one one_is;
   }
+
+-- where what is of no call leaves all as it was
+module _ {K V S : Type 0} (same : K → K → Bool) (hash : K → ℕ) (name : ℕ → List ℕ) (log : List (Entry K V)) (m m2 : Moment K V) (known known2 : Known) (s s2 : Scene K V) (old new : Executor K V S)
+    (at : IsAt same hash old s) (at2 : IsAt same hash new s2) (beside : IsBeside m m2 known known2 s s2) where
+  before : (n j : ℕ) (x : UnderWay K V K) → s2.calls n j ≡ Some x → s.calls n j ≡ Some x
+  before n j x is = subst (λ (f : ℕ → ℕ → Option (UnderWay K V K)). f n j ≡ Some x) beside.same_calls is
+
+  pub beside_history : (history : ShowsHistory same name log m known s) → ShowsAfter same name m known s history.shown m2 known2 s2 → ShowsHistory same name log m2 known2 s2
+  beside_history history after =
+      aside_history same hash name log m m2 known known2 s s2 old new at at2 history after beside.calls before beside.stood
+      (asked_beside same name m m2 known known2 s s2 history.shown after beside hash new at2 history.asked)
+
+  pub beside_due : (dues : ShowsDue same name log m known s) → ShowsAfter same name m known s dues.history.shown m2 known2 s2 → ShowsDue same name log m2 known2 s2
+  beside_due dues after =
+      aside_due same hash name log m m2 known known2 s s2 old new at at2 dues after beside.calls before beside.stood
+      (asked_beside same name m m2 known known2 s s2 dues.history.shown after beside hash new at2 dues.history.asked)
 
 module _ (K V S : Type 0) (same : K → K → Bool) (hash : K → ℕ) where
   pub rows_begin_due : RowsBeginDue K V S same hash
   rows_begin_due name log m known s old new at dues called i may leads =
       let to = (leads may).3 in
-      beside_due same hash name log m m known known s _ old new at to.4 dues (rows_begin_shown K V S same hash name m known s old new at dues.history.shown called i may leads)
-      (rows_begin_beside K V S same hash m known s old new called i may leads)
+      beside_due same hash name log m m known known s _ old new at to.4 (rows_begin_beside K V S same hash m known s old new called i may leads) dues
+      (rows_begin_shown K V S same hash name m known s old new at dues.history.shown called i may leads)
 
   pub rows_keep_due : RowsKeepDue K V S same hash
   rows_keep_due name log m known s old new at dues i told leads row here retired =
       let to = leads row here in
-      beside_due same hash name log m _ known _ s _ old new at to.4.4 dues (rows_on_slots_are_shown K V S same hash name m known s old new at dues.history.shown i told leads row here retired)
-      (row_beside same hash m known s old new at i row here (to.0, told) to.1 to.4)
+      beside_due same hash name log m _ known _ s _ old new at to.4.4 (row_beside same hash m known s old new at i row here (to.0, told) to.1 to.4) dues
+      (rows_on_slots_are_shown K V S same hash name m known s old new at dues.history.shown i told leads row here retired)
 
   pub rows_begin_histories : RowsBeginHistories K V S same hash
   rows_begin_histories name log m known s old new at history called i may leads =
       let to = (leads may).3 in
-      beside_history same hash name log m m known known s _ old new at to.4 history (rows_begin_shown K V S same hash name m known s old new at history.shown called i may leads)
-      (rows_begin_beside K V S same hash m known s old new called i may leads)
+      beside_history same hash name log m m known known s _ old new at to.4 (rows_begin_beside K V S same hash m known s old new called i may leads) history
+      (rows_begin_shown K V S same hash name m known s old new at history.shown called i may leads)
 
   pub rows_keep_histories : RowsKeepHistories K V S same hash
   rows_keep_histories name log m known s old new at history i told leads row here retired =
       let to = leads row here in
-      beside_history same hash name log m _ known _ s _ old new at to.4.4 history (rows_on_slots_are_shown K V S same hash name m known s old new at history.shown i told leads row here retired)
-      (row_beside same hash m known s old new at i row here (to.0, told) to.1 to.4)
+      beside_history same hash name log m _ known _ s _ old new at to.4.4 (row_beside same hash m known s old new at i row here (to.0, told) to.1 to.4) history
+      (rows_on_slots_are_shown K V S same hash name m known s old new at history.shown i told leads row here retired)

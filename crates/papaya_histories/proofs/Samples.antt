@@ -1,17 +1,22 @@
 -- What the definitions of questions, and of calls on no key, refuse.
-use Rattle.std.specs.Prelude.{◌≡◌, ℕ, false, [], ◌∷◌, Some, None}
-use Rattle.std.proofs.Common.{refl}
+use Rattle.std.specs.Prelude.{◌≡◌, ℕ, true, false, [], ◌∷◌, Some, None}
+use Rattle.std.proofs.Common.{refl, arith}
+use Rattle.seize_words.specs.declared.fault.Fault.TheVariants.{Busy}
 use Rattle.papaya_sweeps.specs.declared.sweep.Purpose.TheVariants.{Clears}
+use Rattle.papaya_raw.specs.declared.machines.progress.Progress.TheVariants as progress
+use Rattle.papaya_schedules.specs.declared.call.Answer.TheVariants as answer
 use Rattle.papaya_schedules.specs.declared.call.Call.TheVariants.{Len, Walk}
 use Rattle.papaya_schedules.specs.declared.call.Reply.TheVariants.{Decides}
 use Rattle.papaya_schedules.specs.declared.outcome.Outcome.TheVariants as outcome
 use Rattle.papaya_schedules.specs.Beginning.{fresh_call}
 use Rattle.papaya_schedules.specs.Moment.{Asking, Told, UnderWay as CallThere}
-use Rattle.papaya_callers.specs.OverAll.{CallOverAll}
+use Rattle.papaya_callers.specs.OverAll.{CallOverAll, verdict}
 use Rattle.papaya_callers.specs.Together.{OverAll}
 use Rattle.papaya_effects.specs.Known.{Known}
+use Rattle.papaya_histories.specs.AsCalled.{IsLastTold, IsBegunAs}
 use Rattle.papaya_histories.specs.Asking.{IsToldQuestion}
-use Rattle.papaya_histories.specs.OtherCalls.{IsOther}
+use Rattle.papaya_histories.specs.OtherCalls.{IsIdle}
+use Rattle.papaya_histories.specs.OtherMidsts.{AsksAsSaid}
 use Rattle.papaya_histories.specs.Questions.{AsksStill, HasAskedJust}
 
 -- a call that has asked about none, and about pair 3, to which it got a reply
@@ -41,5 +46,24 @@ told_of_a_pair : (known : Known) → IsToldQuestion known None (Some 3) → ⊥
 told_of_a_pair known told = told
 
 -- a sweep that clears is no walk
-clears_as_a_walk : (o : CallOverAll) → o.sweep.purpose ≡ Clears → IsOther {K = ℕ} {V = ℕ} (OverAll o) Walk → ⊥
-clears_as_a_walk o clears walks = cc (clears, walks)
+clears_as_a_walk : (o : CallOverAll) → o.sweep.purpose ≡ Clears → IsBegunAs {K = ℕ} {V = ℕ} (OverAll o) Walk → ⊥
+clears_as_a_walk o clears begun = let walks = begun.0 in cc (clears, walks)
+
+-- a call that was told to keep pair 3 was told nothing else of it last
+keeps_three : IsLastTold (λ n. n) 4 {V = ℕ} (verdict 3 true) ((Some 3, Decides true) ∷ []) × (IsLastTold (λ n. n) 4 {V = ℕ} (verdict 3 false) ((Some 3, Decides true) ∷ []) → ⊥)
+keeps_three = ((omega arith, refl), λ last. let no = last.1 in cc no)
+
+-- nor was it told of a pair that was never stored
+keeps_a_later_one : IsLastTold (λ n. n) 3 {V = ℕ} (verdict 3 true) ((Some 3, Decides true) ∷ []) → ⊥
+keeps_a_later_one last = let l = last.0 in omega (arith, l)
+
+-- a call that has answered is not idle, and one out of turn is
+answers_idly : IsIdle {V = ℕ} (outcome.Answered answer.Absent) → ⊥
+answers_idly idle = idle
+
+waits_its_turn : IsIdle {V = ℕ} (outcome.Refused Busy)
+waits_its_turn = tt
+
+-- what a step says that it asks is no going on
+asks_and_goes : (known : Known) → AsksAsSaid {K = ℕ} {V = ℕ} known (progress.Asks (Some 0)) outcome.Goes → ⊥
+asks_and_goes known as_said = as_said

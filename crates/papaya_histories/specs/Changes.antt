@@ -1,5 +1,5 @@
 -- What a step of a call on one key changes of its map.
-use Rattle.std.specs.Prelude.{◌≡◌, ℕ, Bool, List, flat_map, Option, Some, None}
+use Rattle.std.specs.Prelude.{◌≡◌, ℕ, Bool, true, List, flat_map, Option, Some, None}
 use Rattle.papaya_tables.specs.declared.node.Node.{Node}
 use Rattle.papaya_raw.specs.declared.machines.progress.Progress.{Progress}
 use Rattle.papaya_schedules.specs.declared.call.Call.TheVariants.{On}
@@ -7,6 +7,7 @@ use Rattle.papaya_schedules.specs.declared.call.OneKey.{OneKey}
 use Rattle.papaya_schedules.specs.declared.call.OneKey.TheVariants.{Compute, RemoveIf}
 use Rattle.papaya_schedules.specs.declared.call.Reply.{Reply}
 use Rattle.papaya_schedules.specs.declared.call.Reply.TheVariants.{Decides}
+use Rattle.papaya_schedules.specs.Coming.{fits_key}
 use Rattle.papaya_schedules.specs.Linearizable.{shift_of, ChangesOnce}
 use Rattle.papaya_schedules.specs.Moment.{UnderWay as CallThere, Moment}
 use Rattle.papaya_schedules.specs.Views.{call_of, reply_to}
@@ -40,3 +41,7 @@ module _ (K V S : Type 0) (same : K → K → Bool) (hash : K → ℕ) where
       → (map i : ℕ) (u : CallOnKey K V K) (here : s.calls map i ≡ Some (OnKey u)) (said : Progress (Node K V)) (leads : StepLeads same hash i said s old new)
       → (c : CallThere K V) → call_of (name i) m ≡ Some c → (one : OneKey K V) → c.call ≡ On one → AreTaken one c.replies → (u.change ≡ Unchanged → c.due ≡ None)
       → ChangesOnce same one c m (flat_map shift_of (effects_of (acts.Call i map) known new.memory.changed))
+
+-- The promise: a reply of the kind that the call asks for is one that it takes.
+abbrev pub FitRepliesAreTaken : Type 0 → Type 0 → Type 0
+FitRepliesAreTaken K V = (one : OneKey K V) (r : Reply V) → fits_key one r ≡ true → IsTaken one r

@@ -12,3 +12,7 @@ pub mod Asking
 pub mod OtherCalls
 pub mod OtherMidsts
 pub mod Retaining
+pub mod AsCalled
+pub mod Elsewhere
+pub mod Words
+pub mod InEvent

@@ -1,10 +1,15 @@
--- An event of several steps of a reservation, a counting, a clearing or a walk, one after another: in its midst, and at its end.
+-- An event of several steps of a reservation, a counting, a clearing, a retaining or a walk, one after another: in its midst, and at its end.
 use Rattle.std.specs.Prelude.{◌≡◌, ℕ, Bool, List, [], ◌++◌, flat_map, Some, None, ◌⊎◌}
+use Rattle.seize.specs.World.{Rests}
 use Rattle.papaya_tables.specs.declared.node.Node.{Node}
 use Rattle.papaya_raw.specs.declared.machines.progress.Progress.{Progress}
+use Rattle.papaya_raw.specs.declared.machines.progress.Progress.TheVariants as progress
+use Rattle.papaya_schedules.specs.declared.call.Call.{Call}
 use Rattle.papaya_schedules.specs.declared.effect.Effect.{Effect}
+use Rattle.papaya_schedules.specs.declared.outcome.Outcome.{Outcome}
+use Rattle.papaya_schedules.specs.declared.outcome.Outcome.TheVariants as outcome
 use Rattle.papaya_schedules.specs.After.{moment}
-use Rattle.papaya_schedules.specs.Beginning.{at_work}
+use Rattle.papaya_schedules.specs.Beginning.{at_work, fresh_call, with_call}
 use Rattle.papaya_schedules.specs.Effects.{with_effects}
 use Rattle.papaya_schedules.specs.Entry.{Entry, caller_of, acted_on}
 use Rattle.papaya_schedules.specs.Linearizable.{shift_of, RemovesOnly, IsLinearizable}
@@ -15,22 +20,43 @@ use Rattle.papaya_effects.specs.Effects.{effects_of, known_after}
 use Rattle.papaya_effects.specs.Known.{Known}
 use Rattle.papaya_effects.specs.declared.acting.Acting.TheVariants as acts
 use Rattle.papaya_executor.specs.IsAt.{Scene, IsAt}
+use Rattle.papaya_executor.specs.Replying.{scene_with}
 use Rattle.papaya_executor.specs.Stepping.{StepLeads, scene_after}
 use Rattle.papaya_executor.specs.declared.executor.Executor.{Executor}
+use Rattle.papaya_finishes.specs.Maps.{Standing}
+use Rattle.papaya_follows.specs.Calling.{NoneNamed}
+use Rattle.papaya_follows.specs.Calls.{IsCalled}
 use Rattle.papaya_moments.specs.Whole.{ShowsWhole}
+use Rattle.papaya_histories.specs.AsCalled.{ShowsAsCalled, IsBegunAs}
+use Rattle.papaya_histories.specs.Asking.{IsToldQuestion}
 use Rattle.papaya_histories.specs.Due.{ShowsDue}
+use Rattle.papaya_histories.specs.Histories.{began_of}
 use Rattle.papaya_histories.specs.Kept.{HasJustBegun}
-use Rattle.papaya_histories.specs.OtherCalls.{IsNoQuestion, IsOther}
+use Rattle.papaya_histories.specs.OtherCalls.{IsOnNoKey}
+use Rattle.papaya_histories.specs.Questions.{EventAsksStill}
+use Rattle.papaya_histories.specs.Several.{IsSameCall}
 
--- After so many effects of an event, since the moment at which it has begun what it begins, the moment shows the scene, and what calls owe. Each class has what it
--- had there, or nothing any more; and the effects remove only what such a call may.
-pub record InOtherMidst {K V : Type 0} (same : K → K → Bool) (name : ℕ → List ℕ) (log : List (Entry K V)) (beginning : Moment K V) (map i : ℕ) (c : CallThere K V) (done : List Effect)
-    (m : Moment K V) (known : Known) (s : Scene K V) (u : UnderWay K V K) : Type 0 where
+-- What a step says that its call asks the event asks, by the number of the pair; and it asks nothing else.
+abbrev pub AsksAsSaid : {K V : Type 0} → Known → Progress (Node K V) → Outcome V → Type 0
+AsksAsSaid known (progress.Asks about) (outcome.Asks question) = IsToldQuestion known about question
+AsksAsSaid known (progress.Asks about) _ = ⊥
+AsksAsSaid known _ (outcome.Asks question) = ⊥
+AsksAsSaid known _ _ = Unit {0}
+
+-- After so many effects of an event, since the moment at which it has begun what it begins, the moment shows the scene, what calls owe, and what those on no
+-- key were called for, told and ask. Each class has what it had there, or nothing any more; and the effects remove only what such a call may.
+pub record InOtherMidst {K V : Type 0} (same : K → K → Bool) (name : ℕ → List ℕ) (log : List (Entry K V)) (beginning : Moment K V) (map i : ℕ) (c : CallThere K V)
+    (done : List Effect) (m : Moment K V) (known : Known) (s : Scene K V) (u : UnderWay K V K) : Type 0 where
   pub here : s.calls map i ≡ Some u
-  pub other : IsOther u c.call
+  pub other : IsOnNoKey c.call
   pub whole : ShowsWhole same name m known s
   pub dues : ShowsDue same name log m known s
+  pub called : ShowsAsCalled same name m known s
   pub begins : HasJustBegun log beginning
+  pub worked : m ≡ with_effects (Some (name i)) (Some map) done beginning
+  pub there : CallThere K V
+  pub there_is : call_of (name i) m ≡ Some there
+  pub same_call : IsSameCall c there
   pub fewer : (k : K) → (finite_map same map m k ≡ finite_map same map beginning k) ⊎ (finite_map same map m k ≡ None)
   pub removes : RemovesOnly same c.call c (flat_map shift_of done)
 
@@ -40,36 +66,67 @@ module _ (K V : Type 0) (same : K → K → Bool) where
   OtherMidstsBegin =
       (name : ℕ → List ℕ) (log : List (Entry K V)) (beginning : Moment K V) → HasJustBegun log beginning
       → (known : Known) (s : Scene K V) → ShowsWhole same name beginning known s → ShowsDue same name log beginning known s
-      → (map i : ℕ) (u : UnderWay K V K) → s.calls map i ≡ Some u → (c : CallThere K V) → IsOther u c.call → InOtherMidst same name log beginning map i c [] beginning known s u
+      → ShowsAsCalled same name beginning known s
+      → (map i : ℕ) (u : UnderWay K V K) → s.calls map i ≡ Some u → (c : CallThere K V) → call_of (name i) beginning ≡ Some c → IsOnNoKey c.call
+      → InOtherMidst same name log beginning map i c [] beginning known s u
 
 module _ (K V S : Type 0) (same : K → K → Bool) (hash : K → ℕ) where
+  -- which may begin the call, too, as it does at this moment of its map, by a name that no call under way has,
+  abbrev pub OtherMidstsBeginCalls : Type 0
+  OtherMidstsBeginCalls =
+      (name : ℕ → List ℕ) (log : List (Entry K V)) (known : Known) (s : Scene K V) (old : Executor K V S) → IsAt same hash old s
+      → ShowsWhole same name (moment log) known s → ShowsDue same name log (moment log) known s → ShowsAsCalled same name (moment log) known s
+      → (map i : ℕ) (u : UnderWay K V K) (call : Call K V) (guard : List ℕ) (standing : Standing K) → s.maps map ≡ Some standing
+      → ((began : ℕ) → began_of u ≡ Some began → began ≡ standing.chart.now)
+      → NoneNamed name (name i) s → IsCalled same u call → IsOnNoKey call → IsBegunAs u call → s.world.row i ≡ Rests
+      → (let beginning = with_call (name i) guard call (Some map) (moment log) in
+      let c = fresh_call (name i) guard call map (moment log).events in
+      (call_of (name i) beginning ≡ Some c) × InOtherMidst same name log beginning map i c [] beginning known (scene_with map i u s) u)
+
   -- after each step of the call, where it goes on,
   abbrev pub OtherMidstsGoOn : Type 0
   OtherMidstsGoOn =
       (name : ℕ → List ℕ) (log : List (Entry K V)) (beginning : Moment K V) (map i : ℕ) (c : CallThere K V)
-      → (done : List Effect) (m : Moment K V) (known : Known) (s : Scene K V) (u : UnderWay K V K) (midst : InOtherMidst same name log beginning map i c done m known s u)
+      → (done : List Effect) (m : Moment K V) (known : Known) (s : Scene K V) (u : UnderWay K V K)
+      → (midst : InOtherMidst same name log beginning map i c done m known s u)
       → (old new : Executor K V S) → IsAt same hash old s → (said : Progress (Node K V)) (leads : StepLeads same hash i said s old new)
       → (let to = leads map u midst.here in
       (next : UnderWay K V K) → to.4.next ≡ Some next
       → InOtherMidst same name log beginning map i c (done ++ effects_of (acts.Call i map) known new.memory.changed)
-      (with_effects (Some (name i)) (Some map) (effects_of (acts.Call i map) known new.memory.changed) m) (known_after (acts.Call i map) new.memory.changed known)
+      (with_effects (Some (name i)) (Some map) (effects_of (acts.Call i map) known new.memory.changed) m)
+      (known_after (acts.Call i map) new.memory.changed known)
       (scene_after same hash s old new map i to.0 u to.1 said to.4) next)
 
   -- after the last one what calls owe is shown, and the history of each map is within the run,
   abbrev pub OtherMidstsKeepDue : Type 0
   OtherMidstsKeepDue =
       (name : ℕ → List ℕ) (log : List (Entry K V)) (beginning : Moment K V) (map i : ℕ) (c : CallThere K V)
-      → (done : List Effect) (m : Moment K V) (known : Known) (s : Scene K V) (u : UnderWay K V K) (midst : InOtherMidst same name log beginning map i c done m known s u)
+      → (done : List Effect) (m : Moment K V) (known : Known) (s : Scene K V) (u : UnderWay K V K)
+      → (midst : InOtherMidst same name log beginning map i c done m known s u)
       → (old new : Executor K V S) → IsAt same hash old s → (said : Progress (Node K V)) (leads : StepLeads same hash i said s old new)
       → (let to = leads map u midst.here in
-      ShowsDue same name log (with_effects (Some (name i)) (Some map) (effects_of (acts.Call i map) known new.memory.changed) m) (known_after (acts.Call i map) new.memory.changed known)
+      ShowsDue same name log (with_effects (Some (name i)) (Some map) (effects_of (acts.Call i map) known new.memory.changed) m)
+      (known_after (acts.Call i map) new.memory.changed known)
       (scene_after same hash s old new map i to.0 u to.1 said to.4))
 
-  -- and an event that comes to no question by it is linearizable.
+  -- and an event that asks what the last of its steps says is linearizable;
   abbrev pub OtherMidstsEnd : Type 0
   OtherMidstsEnd =
       (name : ℕ → List ℕ) (log : List (Entry K V)) (beginning : Moment K V) (map i : ℕ) (c : CallThere K V) → call_of (name i) beginning ≡ Some c
-      → (done : List Effect) (m : Moment K V) (known : Known) (s : Scene K V) (u : UnderWay K V K) (midst : InOtherMidst same name log beginning map i c done m known s u)
+      → (done : List Effect) (m : Moment K V) (known : Known) (s : Scene K V) (u : UnderWay K V K)
+      → (midst : InOtherMidst same name log beginning map i c done m known s u)
       → (old new : Executor K V S) → IsAt same hash old s → (said : Progress (Node K V)) (leads : StepLeads same hash i said s old new)
       → (e : Entry K V) → caller_of e.event ≡ Some (name i) → at_work e (moment log) ≡ beginning → acted_on e.event beginning ≡ Some map
-      → e.effects ≡ done ++ effects_of (acts.Call i map) known new.memory.changed → IsNoQuestion e.outcome → IsLinearizable same log e
+      → e.effects ≡ done ++ effects_of (acts.Call i map) known new.memory.changed
+      → AsksAsSaid (known_after (acts.Call i map) new.memory.changed known) said e.outcome → IsLinearizable same log e
+
+  -- by it a call that asks does not go on by itself.
+  abbrev pub OtherMidstsAskStill : Type 0
+  OtherMidstsAskStill =
+      (name : ℕ → List ℕ) (log : List (Entry K V)) (beginning : Moment K V) (map i : ℕ) (c : CallThere K V) → call_of (name i) beginning ≡ Some c
+      → (done : List Effect) (m : Moment K V) (known : Known) (s : Scene K V) (u : UnderWay K V K)
+      → (midst : InOtherMidst same name log beginning map i c done m known s u)
+      → (old new : Executor K V S) → IsAt same hash old s → (said : Progress (Node K V)) (leads : StepLeads same hash i said s old new)
+      → (e : Entry K V) → caller_of e.event ≡ Some (name i) → at_work e (moment log) ≡ beginning → acted_on e.event beginning ≡ Some map
+      → e.effects ≡ done ++ effects_of (acts.Call i map) known new.memory.changed
+      → AsksAsSaid (known_after (acts.Call i map) new.memory.changed known) said e.outcome → EventAsksStill log e

@@ -1,22 +1,27 @@
 //! What is promised of the history of a map since a call on it began.
 ghost use Rattle.std.specs.Prelude.{ℕ, Bool};
+ghost use Rattle.papaya_histories.specs.AsCalled.{AsCalledBegins, CallsBeginAsCalled, CallsComeToAsCalled, CallsKeepAsCalled, CallsTakeAsCalled};
+ghost use Rattle.papaya_histories.specs.Elsewhere.{HistoriesStay, DuesStay, AsCalledStays, WalksGoOnThere, MakingsShiftNone, EndingsShiftNone};
 ghost use Rattle.papaya_histories.specs.Answers.{AnswersWereSo, AnswersAreOwed, RefusalsWereSo};
 ghost use Rattle.papaya_histories.specs.Asking.{QuestionsMayBeAsked, AskingStepsStandThere, AskingCallsAskStill};
-ghost use Rattle.papaya_histories.specs.Changes.{StepsChangeOnce};
+ghost use Rattle.papaya_histories.specs.Changes.{StepsChangeOnce, FitRepliesAreTaken};
 ghost use Rattle.papaya_histories.specs.Due.{DuesBegin, CallsKeepDue, CallsBeginDue, CallsTakeDue, CallsComeToDue, EventsKeepDue};
 ghost use Rattle.papaya_histories.specs.Events.{StepsAreLinearizable};
-ghost use Rattle.papaya_histories.specs.OtherCalls.{OthersRemoveOnly, OthersStay, RemovalsAdd, OthersAreLinearizable, NoCallsAreLinearizable};
-ghost use Rattle.papaya_histories.specs.OtherMidsts.{OtherMidstsBegin, OtherMidstsGoOn, OtherMidstsKeepDue, OtherMidstsEnd};
+ghost use Rattle.papaya_histories.specs.OtherCalls.{OthersRemoveOnly, RemovalsAdd, OthersAreLinearizable, NoCallsAreLinearizable, IdleAreLinearizable};
+ghost use Rattle.papaya_histories.specs.OtherMidsts.{OtherMidstsBegin, OtherMidstsBeginCalls, OtherMidstsGoOn, OtherMidstsKeepDue, OtherMidstsEnd, OtherMidstsAskStill};
 ghost use Rattle.papaya_histories.specs.Others.{RowsBeginHistories, RowsKeepHistories, RowsBeginDue, RowsKeepDue, RowsShiftNone};
 ghost use Rattle.papaya_histories.specs.Questions.{QuestionsBegin, EffectsKeepQuestions, CallsBeginQuestions, CallsTakeQuestions, CallsComeToQuestions, EventsKeepQuestions, RunsKeepQuestions};
 ghost use Rattle.papaya_histories.specs.Retaining.{RetainingsMayAsk};
 ghost use Rattle.papaya_histories.specs.Several.{MidstsBegin, MidstsBeginCalls, MidstsGoOn, MidstsEnd, MidstsAskStill};
+ghost use Rattle.papaya_histories.specs.Words.{QuestionsHaveWords, StepsHaveWords};
+ghost use Rattle.papaya_histories.specs.InEvent.{EventsBegin, EventsBeginCalls, EventsGoOn, EventsKeepAll, EventsHaveWords, EventsEnd, EventsAskThere, EventsAreOver, AllStaysShown};
 ghost use Rattle.papaya_histories.specs.Kept.{HistoriesBegin, CallsKeepHistories, CallsBeginHistories, CallsTakeHistories, CallsComeToHistories, EventsKeepHistories, FirstStepsChangeFirst};
 
 /// At each moment of a run that shows the executor, the history of a map since a call on it began is within the moments of the run since then: what the class of a
 /// key had at a moment of the map, the finite map has at one of these. So it is before all events; after each step of a call, whoever's, if no class changes twice
-/// within one event, as none does by the first step of one; where a call begins, takes a reply and comes to an outcome; where an event is over; and where a row
-/// begins on a slot, and after each step of it.
+/// within one event, as none does by the first step of one; where a call begins, takes a reply and comes to an outcome; where an event is over; where a row
+/// begins on a slot, and after each step of it; and elsewhere: where the making or the end of a map begins, after each step of it, where its map comes or is there no
+/// more, and where a walk goes on, or is given up; and at each moment that has the same pairs, maps, tables and calls.
 pub fn histories_are_within<K, V, S>()
     ensures begins { HistoriesBegin K V }
     ensures calls { (same : K → K → Bool) (hash : K → ℕ) → CallsKeepHistories K V S same hash }
@@ -27,12 +32,14 @@ pub fn histories_are_within<K, V, S>()
     ensures first { (same : K → K → Bool) → FirstStepsChangeFirst K V same }
     ensures rows_begin { (same : K → K → Bool) (hash : K → ℕ) → RowsBeginHistories K V S same hash }
     ensures rows { (same : K → K → Bool) (hash : K → ℕ) → RowsKeepHistories K V S same hash }
+    ensures elsewhere { (same : K → K → Bool) (hash : K → ℕ) → HistoriesStay K V S same hash }
 {}
 
 /// By a step of a call on one key the class of its key changes once at most, by what the sequential specification says that the call means just then; if it got such
-/// replies alone as it takes, and owes no answer as long as it has changed nothing.
+/// replies alone as it takes, as each is of the kind that it asks for, and owes no answer as long as it has changed nothing.
 pub fn steps_change_once<K, V, S>()
     ensures changes { (same : K → K → Bool) (hash : K → ℕ) → StepsChangeOnce K V S same hash }
+    ensures fits { FitRepliesAreTaken K V }
 {}
 
 /// What a call on one key answers without a change is what the sequential specification says that it means at a moment of the call between two events, by the last
@@ -43,7 +50,7 @@ pub fn answers_were_so<K, V, S>()
 
 /// After each step of a call, whoever's, a call on one key owes nothing as an answer if it has changed nothing; and if it has, the answer that the sequential
 /// specification says that it means by its change; if no class changes twice within one event. So it is before all events, too, where a call begins, takes a reply
-/// that such a call takes, and comes to an outcome, where an event is over, and where a row begins on a slot, and after each step of it.
+/// that such a call takes, and comes to an outcome, where an event is over, where a row begins on a slot, and after each step of it, and elsewhere.
 pub fn calls_keep_due<K, V, S>()
     ensures begins { (same : K → K → Bool) → DuesBegin K V same }
     ensures calls { (same : K → K → Bool) (hash : K → ℕ) → CallsKeepDue K V S same hash }
@@ -53,6 +60,7 @@ pub fn calls_keep_due<K, V, S>()
     ensures events { (same : K → K → Bool) → EventsKeepDue K V same }
     ensures rows_begin { (same : K → K → Bool) (hash : K → ℕ) → RowsBeginDue K V S same hash }
     ensures rows { (same : K → K → Bool) (hash : K → ℕ) → RowsKeepDue K V S same hash }
+    ensures elsewhere { (same : K → K → Bool) (hash : K → ℕ) → DuesStay K V S same hash }
 {}
 
 /// What a call on one key answers that tells a change is the answer that it owes since it has changed its map.
@@ -106,23 +114,66 @@ pub fn questions_are_so<K, V, S>()
     ensures retain { (same : K → K → Bool) (hash : K → ℕ) → RetainingsMayAsk K V S same hash }
 {}
 
-/// A step of a reservation, of a counting, or of a walk changes no pair, and one of a clearing removes one at most; and where it goes on, it is such a call still. So an
-/// event of steps of such a call is linearizable; and so is one that is no step of a call, and by which no pair comes or goes, as by a step of a row on a slot.
+/// A sweep is for what was called, was told last of a pair what the last reply about it is, and asks at a moment what it stands at to ask; a reservation and a counting
+/// ask nothing. So it is before all events, where a call begins, takes a reply and comes to an outcome, after each step of a call, whoever's, and elsewhere. A walk that
+/// is ready goes on to its next pair as the walk that it was, since it began when it began.
+pub fn calls_are_as_called<K, V, S>()
+    ensures begins { (same : K → K → Bool) → AsCalledBegins K V same }
+    ensures calls { (same : K → K → Bool) (hash : K → ℕ) → CallsKeepAsCalled K V S same hash }
+    ensures begun { (same : K → K → Bool) → CallsBeginAsCalled K V same }
+    ensures told { (same : K → K → Bool) (hash : K → ℕ) → CallsTakeAsCalled K V S same hash }
+    ensures come_to { (same : K → K → Bool) → CallsComeToAsCalled K V same }
+    ensures elsewhere { (same : K → K → Bool) (hash : K → ℕ) → AsCalledStays K V S same hash }
+    ensures walks { (same : K → K → Bool) (hash : K → ℕ) → WalksGoOnThere K V S same hash }
+{}
+
+/// A step of a reservation, of a counting, or of a walk changes no pair, one of a clearing removes one at most, and one of a retaining one at most about which the last
+/// reply was no. An event by which such a call removes only what it may, and asks what it may, is linearizable; and so is one that is no step of a call, and by which no
+/// pair comes or goes, as by steps of rows on slots, and of makings and ends of maps; and one that does nothing, and by which no call has come to an end or asks.
 pub fn others_are_linearizable<K, V, S>()
     ensures steps { (same : K → K → Bool) (hash : K → ℕ) → OthersRemoveOnly K V S same hash }
-    ensures stays { (same : K → K → Bool) (hash : K → ℕ) → OthersStay K V S same hash }
     ensures several { (same : K → K → Bool) → RemovalsAdd K V same }
     ensures events { (same : K → K → Bool) → OthersAreLinearizable K V same }
     ensures rows { (same : K → K → Bool) (hash : K → ℕ) → RowsShiftNone K V S same hash }
+    ensures makings { (same : K → K → Bool) (hash : K → ℕ) → MakingsShiftNone K V S same hash }
+    ensures endings { (same : K → K → Bool) (hash : K → ℕ) → EndingsShiftNone K V S same hash }
     ensures of_no_call { (same : K → K → Bool) → NoCallsAreLinearizable K V same }
+    ensures idle { (same : K → K → Bool) → IdleAreLinearizable K V same }
 {}
 
-/// An event of several steps of a reservation, a counting, a clearing or a walk, one after another, is linearizable, too: in its midst each class has what it had at the
-/// beginning, or nothing any more, and the effects remove only what such a call may. So it is at the beginning, and after each step after which the call goes on; what
-/// calls owe is shown after each step, as no class changes twice within the event.
+/// An event of several steps of a reservation, a counting, a clearing, a retaining or a walk, one after another, is linearizable, too: in its midst each class has what it
+/// had at the beginning, or nothing any more, and the effects remove only what such a call may. So it is at the beginning, also where the event begins the call, and
+/// after each step after which the call goes on; what calls owe is shown after each step, as no class changes twice within the event. And the event that asks what its
+/// last step says changes maps and asks as one finite map says; by it, a call that asks does not go on by itself.
 pub fn other_events_are_linearizable<K, V, S>()
     ensures begins { (same : K → K → Bool) → OtherMidstsBegin K V same }
+    ensures begun { (same : K → K → Bool) (hash : K → ℕ) → OtherMidstsBeginCalls K V S same hash }
     ensures goes_on { (same : K → K → Bool) (hash : K → ℕ) → OtherMidstsGoOn K V S same hash }
     ensures dues { (same : K → K → Bool) (hash : K → ℕ) → OtherMidstsKeepDue K V S same hash }
     ensures ends { (same : K → K → Bool) (hash : K → ℕ) → OtherMidstsEnd K V S same hash }
+    ensures still { (same : K → K → Bool) (hash : K → ℕ) → OtherMidstsAskStill K V S same hash }
+{}
+
+/// Whatever a call on one key comes to by a step is an outcome: an answer tells what it means, by the last reply for the pair that its key's class had, or for none, or
+/// what it means by its change; and what it, or a retaining, asks is about none, or about a pair of the run.
+pub fn steps_have_words<K, V, S>()
+    ensures questions { (same : K → K → Bool) (hash : K → ℕ) → QuestionsHaveWords K V S same hash }
+    ensures steps { (same : K → K → Bool) (hash : K → ℕ) → StepsHaveWords K V S same hash }
+{}
+
+/// An event of one or several steps of a call, of whatever kind, one after another, is linearizable: it is in its midst at the beginning, also where it begins the call,
+/// and after each step after which the call goes on; after the last one, too, the moment shows all of the scene, what calls owe, and what those on no key are called
+/// for, told and ask. What that step says has words; and the event that comes to that changes maps, answers and asks as one finite map says. By it, a call that asks
+/// does not go on by itself, and one that is under way then asks just that, if it asks. Once it is over, the moment after it shows all of the scene, what calls owe, and
+/// what those on no key are called for, told and ask. A moment shows what it shows, however many events came, whoever is there, whatever is sheltered or remains.
+pub fn events_are_linearizable<K, V, S>()
+    ensures begins { (same : K → K → Bool) (hash : K → ℕ) → EventsBegin K V S same hash }
+    ensures begun { (same : K → K → Bool) (hash : K → ℕ) → EventsBeginCalls K V S same hash }
+    ensures goes_on { (same : K → K → Bool) (hash : K → ℕ) → EventsGoOn K V S same hash }
+    ensures keeps { (same : K → K → Bool) (hash : K → ℕ) → EventsKeepAll K V S same hash }
+    ensures words { (same : K → K → Bool) (hash : K → ℕ) → EventsHaveWords K V S same hash }
+    ensures ends { (same : K → K → Bool) (hash : K → ℕ) → EventsEnd K V S same hash }
+    ensures asks { (same : K → K → Bool) (hash : K → ℕ) → EventsAskThere K V S same hash }
+    ensures over { (same : K → K → Bool) (hash : K → ℕ) → EventsAreOver K V S same hash }
+    ensures still_shown { (same : K → K → Bool) → AllStaysShown K V same }
 {}

@@ -163,7 +163,7 @@ module _ {K V S : Type 0} (same : K → K → Bool) (hash : K → ℕ) (name : �
       by zero e = kept e (times b (left_by did.deed)) refl
       by (suc n) e = absurd (none_some (value_at w2.memory b) some (did.spares.gone b (omega (arith, e))))
 
-  end_beside : (s2 : Scene K V) → s2.world ≡ w2 → s2.calls ≡ s.calls → s2.maps ≡ s.maps → IsBeside m (then_at told) known (then_known told) s s2
+  pub end_beside : (s2 : Scene K V) → s2.world ≡ w2 → s2.calls ≡ s.calls → s2.maps ≡ s.maps → IsBeside m (then_at told) known (then_known told) s s2
   end_beside s2 world calls maps = record {
     stored = end_alone.stored;
     born = end_alone.born;
@@ -246,7 +246,7 @@ module _ {K V S : Type 0} (same : K → K → Bool) (hash : K → ℕ) (name : �
     end_keeps_whole (settled.Gave value) it rows after counters = whole_at _ refl refl refl it.3 (record { none = rows.none; one = rows.one }) after counters
     end_keeps_whole settled.Done it rows after counters = whole_at _ refl refl refl it.2 (record { none = rows.none; one = rows.one }) after counters
 
-ends_with : {K V : Type 0} (map : ℕ) (f : Effect) (v : Moment K V) → IsOfIts map v f → WaitOutside v → EndsWith v map f
+pub ends_with : {K V : Type 0} (map : ℕ) (f : Effect) (v : Moment K V) → IsOfIts map v f → WaitOutside v → EndsWith v map f
 ends_with map (Taken t) v of_map outside = (of_map, each_waits_outside _ _ v outside t)
 ends_with map _ v of_map outside = tt
 

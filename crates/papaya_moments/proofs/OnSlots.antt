@@ -94,7 +94,7 @@ module _ {K V : Type 0} (caller : Option (List ℕ)) (acted : Option ℕ) (Had H
     with_outside effects (with_effect caller acted f v) finds.1 (effects_leave_outside K V caller acted (f ∷ []) v (finds.0, tt) outside) had.1,
   )
 
-was_retired : {K V : Type 0} (f : Effect) (v : Moment K V) → HadRetired v f → WaitOutside v → WasRetired v f
+pub was_retired : {K V : Type 0} (f : Effect) (v : Moment K V) → HadRetired v f → WaitOutside v → WasRetired v f
 was_retired (Reclaimed (ATable t)) v had outside = (had, each_waits_outside _ _ v outside t)
 was_retired (Reclaimed (APair n)) v had outside = tt
 was_retired _ v had outside = tt

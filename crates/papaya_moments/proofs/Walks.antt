@@ -87,7 +87,7 @@ module _ {K V : Type 0} where
   walk_untold (OverAll o) (OnKey y) ready is number stored known c = absurd (cc is)
 
   -- who is refused asks nothing
-  asks_nothing : (known : Known) (u : UnderWay K V K) → AsksJust known u (Refused Memory)
+  pub asks_nothing : (known : Known) (u : UnderWay K V K) → AsksJust known u (Refused Memory)
   asks_nothing known (OnKey u) = tt
   asks_nothing known (ForRoom r) = tt
   asks_nothing known (Counting sum) = tt

@@ -2,6 +2,7 @@
 use Rattle.papaya_histories.proofs.Due.{calls_keep_due}
 use Rattle.papaya_histories.proofs.DueOn.{dues_begin, calls_begin_due, calls_take_due, calls_come_to_due, events_keep_due}
 use Rattle.papaya_histories.proofs.Others.{rows_begin_due, rows_keep_due}
+use Rattle.papaya_histories.proofs.Aside.Stays.{dues_stay}
 use Rattle.papaya_histories.proofs.law.calls_keep_due.Goals as goal
 
 pub returns : goal.returns
@@ -14,4 +15,5 @@ returns c d = record {
   events = events_keep_due _ _;
   rows_begin = rows_begin_due _ _ _;
   rows = rows_keep_due _ _ _;
+  elsewhere = dues_stay _ _ _;
 }

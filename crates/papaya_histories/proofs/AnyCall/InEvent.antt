@@ -1,0 +1,308 @@
+-- An event of several steps of a call, whatever its kind, is linearizable: what was proved of calls on one key, and of all others, in one.
+use Rattle.std.specs.Prelude.{◌≡◌, ℕ, Bool, List, [], ◌++◌, Option, Some}
+use Rattle.std.proofs.Common.{refl, ap, sym, subst, ◌∙◌, inl, inr}
+use Rattle.seize.specs.World.{Rests}
+use Rattle.papaya_tables.specs.declared.node.Node.{Node}
+use Rattle.papaya_raw.specs.declared.machines.progress.Progress.{Progress}
+use Rattle.papaya_raw.specs.declared.machines.progress.Progress.TheVariants as progress
+use Rattle.papaya_schedules.specs.declared.call.Call.{Call}
+use Rattle.papaya_schedules.specs.declared.call.Call.TheVariants as call
+use Rattle.papaya_schedules.specs.declared.call.OneKey.{OneKey}
+use Rattle.papaya_schedules.specs.declared.call.Reply.{Reply}
+use Rattle.papaya_schedules.specs.declared.effect.Effect.{Effect}
+use Rattle.papaya_schedules.specs.declared.outcome.Outcome.{Outcome}
+use Rattle.papaya_schedules.specs.declared.outcome.Outcome.TheVariants as outcome
+use Rattle.papaya_schedules.specs.After.{moment}
+use Rattle.papaya_schedules.specs.Beginning.{at_work, fresh_call, with_call}
+use Rattle.papaya_schedules.specs.Effects.{with_effects}
+use Rattle.papaya_schedules.specs.Entry.{Entry, caller_of, acted_on}
+use Rattle.papaya_schedules.specs.Linearizable.{IsLinearizable}
+use Rattle.papaya_schedules.specs.Moment.{UnderWay as CallThere, Moment}
+use Rattle.papaya_schedules.specs.Views.{call_of}
+use Rattle.papaya_points.specs.FactsCalls.{Unchanged}
+use Rattle.papaya_callers.specs.Together.{CallOnKey, UnderWay, OnKey, ForRoom, Counting, OverAll}
+use Rattle.papaya_effects.specs.Effects.{effects_of, known_after}
+use Rattle.papaya_effects.specs.Known.{Known}
+use Rattle.papaya_effects.specs.declared.acting.Acting.TheVariants as acts
+use Rattle.papaya_executor.specs.IsAt.{Scene, IsAt}
+use Rattle.papaya_executor.specs.Replying.{scene_with}
+use Rattle.papaya_executor.specs.Stepping.{StepLeads, scene_after}
+use Rattle.papaya_executor.specs.declared.executor.Executor.{Executor}
+use Rattle.papaya_finishes.specs.Maps.{Standing}
+use Rattle.papaya_follows.specs.Calling.{NoneNamed}
+use Rattle.papaya_follows.specs.Calls.{IsCalled}
+use Rattle.papaya_follows.specs.Shows.{Shows}
+use Rattle.papaya_follows.specs.Steps.{Did}
+use Rattle.papaya_follows.proofs.Called.{key_goes_on, room_goes_on, counting_goes_on, sweep_goes_on}
+use Rattle.papaya_follows.proofs.Steps.{one_of}
+use Rattle.papaya_hands.specs.Calling.{IsBegunFor}
+use Rattle.papaya_moments.specs.Whole.{ShowsWhole}
+use Rattle.papaya_moments.proofs.Calls.{calls_keep_whole}
+use Rattle.papaya_histories.specs.AsCalled.{ShowsAsCalled, IsBegunAs}
+use Rattle.papaya_histories.specs.Due.{ShowsDue}
+use Rattle.papaya_histories.specs.Events.{ComesToIt}
+use Rattle.papaya_histories.specs.Histories.{began_of}
+use Rattle.papaya_histories.specs.InEvent.{ComesSo, InEvent, EventsBegin, EventsBeginCalls, EventsGoOn, EventsKeepAll, EventsHaveWords, EventsEnd}
+use Rattle.papaya_histories.specs.OtherCalls.{IsOnNoKey}
+use Rattle.papaya_histories.specs.OtherMidsts.{AsksAsSaid, InOtherMidst}
+use Rattle.papaya_histories.specs.Questions.{ShowsQuestions, EventAsksStill}
+use Rattle.papaya_histories.specs.Several.{InMidst}
+use Rattle.papaya_histories.proofs.NoKey.AsCalled.{calls_keep_as_called}
+use Rattle.papaya_histories.proofs.NoKey.AsCalledOn.{calls_begin_as_called}
+use Rattle.papaya_histories.proofs.BeginsCall.{midsts_begin_calls}
+use Rattle.papaya_histories.proofs.Due.{calls_keep_due}
+use Rattle.papaya_histories.proofs.Events.{midsts_end, midsts_ask_still}
+use Rattle.papaya_histories.proofs.AnyCall.HasWords.{questions_have_words, steps_have_words}
+use Rattle.papaya_histories.proofs.NoKey.OtherEvents.{other_midsts_end, other_midsts_ask_still}
+use Rattle.papaya_histories.proofs.OtherMidsts.{other_midsts_begin, other_midsts_begin_calls, other_midsts_go_on, other_midsts_keep_due}
+use Rattle.papaya_histories.proofs.Several.{first_change, midsts_begin, midsts_go_on}
+
+module _ {K V : Type 0} (same : K → K → Bool) where
+  -- a call on one key was called on it, and any other one on none
+  on_a_key : (x : CallOnKey K V K) (its : Call K V) → IsCalled same (OnKey x) its → (one : OneKey K V) × (its ≡ call.On one)
+  on_a_key x (call.On one) is = (one, refl)
+  on_a_key x (call.Reserve n) is = absurd is
+  on_a_key x call.Clear is = absurd is
+  on_a_key x call.Retain is = absurd is
+  on_a_key x call.Len is = absurd is
+  on_a_key x call.Walk is = absurd is
+
+  abbrev IsOther : UnderWay K V K → Type 0
+  IsOther (OnKey x) = ⊥
+  IsOther _ = Unit {0}
+
+  on_none : (u : UnderWay K V K) (its : Call K V) → IsOther u → IsCalled same u its → IsOnNoKey its
+  on_none (OnKey x) its other is = absurd other
+  on_none (ForRoom r) (call.Reserve n) other is = tt
+  on_none (Counting sum) call.Len other is = tt
+  on_none (OverAll o) call.Clear other is = tt
+  on_none (OverAll o) call.Retain other is = tt
+  on_none (OverAll o) call.Walk other is = tt
+  on_none _ _ other is = absurd is
+
+  pub comes_of_key : (known : Known) (replies : List (Option ℕ × Reply V)) (said : Progress (Node K V)) (o : Outcome V) (its : Call K V) (one : OneKey K V) → its ≡ call.On one → ComesSo known its replies said o
+      → ComesToIt known one replies said o
+  comes_of_key known replies said o its one e comes = subst (λ (x : Call K V). ComesSo known x replies said o) e comes
+
+  pub comes_of_none : (known : Known) (replies : List (Option ℕ × Reply V)) (said : Progress (Node K V)) (o : Outcome V) (its : Call K V) → IsOnNoKey its → ComesSo known its replies said o → AsksAsSaid known said o
+  comes_of_none known replies said o (call.On one) other comes = absurd other
+  comes_of_none known replies said o (call.Reserve n) other comes = comes
+  comes_of_none known replies said o call.Clear other comes = comes
+  comes_of_none known replies said o call.Retain other comes = comes
+  comes_of_none known replies said o call.Len other comes = comes
+  comes_of_none known replies said o call.Walk other comes = comes
+
+  so_of_none : (known : Known) (replies : List (Option ℕ × Reply V)) (said : Progress (Node K V)) (o : Outcome V) (its : Call K V) → IsOnNoKey its → AsksAsSaid known said o → ComesSo known its replies said o
+  so_of_none known replies said o (call.On one) other comes = absurd other
+  so_of_none known replies said o (call.Reserve n) other comes = comes
+  so_of_none known replies said o call.Clear other comes = comes
+  so_of_none known replies said o call.Retain other comes = comes
+  so_of_none known replies said o call.Len other comes = comes
+  so_of_none known replies said o call.Walk other comes = comes
+
+  called_so : (name : ℕ → List ℕ) (m : Moment K V) (known : Known) (s : Scene K V) → Shows same name m known s → (map i : ℕ) (u : UnderWay K V K) → s.calls map i ≡ Some u
+      → (c : CallThere K V) → call_of (name i) m ≡ Some c → IsCalled same u c.call
+  called_so name m known s shown map i u here c c_is = let was = shown.calls map i u here in subst (λ (x : CallThere K V). IsCalled same u x.call) (one_of was.0 c (sym was.1 ∙ c_is)) was.3
+
+-- one that goes on is of its kind still
+module _ {K V S : Type 0} (same : K → K → Bool) (hash : K → ℕ) (s : Scene K V) (old new : Executor K V S) (map i : ℕ) (said : Progress (Node K V)) (leads : StepLeads same hash i said s old new) where
+  module _ (u : UnderWay K V K) (here : s.calls map i ≡ Some u) (next : UnderWay K V K) (goes : (leads map u here).4.next ≡ Some next) where
+    abbrev DidIt : UnderWay K V K → Type 0
+    DidIt y =
+        Did same old.batch_size old.roots s.world s.maps s.calls s.makers s.enders map (leads map u here).0 i new.memory.memory (leads map u here).4.w2 (leads map u here).4.maps2 (leads map u here).4.next y
+        (leads map u here).1 said
+
+    key_still : (x : CallOnKey K V K) → DidIt (OnKey x) → (y : CallOnKey K V K) × (next ≡ OnKey y)
+    key_still x (p2, end, machine_is, told_is, inl (step, moved)) = (_, key_goes_on _ end next (sym moved.2 ∙ goes))
+    key_still x (p2, end, machine_is, told_is, inr (row, stayed)) = (_, key_goes_on _ end next (sym stayed.2 ∙ goes))
+
+    other_still : (x : UnderWay K V K) → IsOther same x → DidIt x → IsOther same next
+    other_still (OnKey x) other did = absurd other
+    other_still (ForRoom r) other (p2, end, machine_is, told_is, inl (step, moved)) = subst (IsOther same) (sym (room_goes_on _ end next (sym moved.2 ∙ goes))) tt
+    other_still (ForRoom r) other (p2, end, machine_is, told_is, inr (row, stayed)) = subst (IsOther same) (sym (room_goes_on _ end next (sym stayed.2 ∙ goes))) tt
+    other_still (Counting sum) other (sum2, end, machine_is, told_is, still, stayed) = subst (IsOther same) (sym (counting_goes_on sum2 end next (sym stayed.2 ∙ goes))) tt
+    other_still (OverAll o) other (p2, end, machine_is, told_is, inl (step, moved)) = subst (IsOther same) (sym (sweep_goes_on _ end next (sym moved.2 ∙ goes))) tt
+    other_still (OverAll o) other (p2, end, machine_is, told_is, inr (row, stayed)) = subst (IsOther same) (sym (sweep_goes_on _ end next (sym stayed.2 ∙ goes))) tt
+
+module _ {K V : Type 0} (same : K → K → Bool) (name : ℕ → List ℕ) (log : List (Entry K V)) (beginning : Moment K V) (map i : ℕ) (c : CallThere K V) (done : List Effect) (m : Moment K V) (known : Known)
+    (s : Scene K V) where
+  -- of one on no key it is what it is of such calls
+  of_other : (u : UnderWay K V K) → IsOther same u → InOtherMidst same name log beginning map i c done m known s u → InEvent same name log beginning map i c done m known s u
+  of_other (OnKey x) other midst = absurd other
+  of_other (ForRoom r) other midst = midst
+  of_other (Counting sum) other midst = midst
+  of_other (OverAll o) other midst = midst
+
+module _ (K V S : Type 0) (same : K → K → Bool) (hash : K → ℕ) where
+  pub events_begin : EventsBegin K V S same hash
+  events_begin name log beginning begins known s e at_e whole dues called map i (OnKey x) here c c_is =
+      let on = on_a_key same x c.call (called_so same name beginning known s dues.history.shown map i (OnKey x) here c c_is) in
+      (on.0, on.1, midsts_begin K V S same hash name log beginning begins known s e at_e whole dues map i x here c c_is on.0 on.1, called)
+  events_begin name log beginning begins known s e at_e whole dues called map i (ForRoom r) here c c_is =
+      other_midsts_begin K V same name log beginning begins known s whole dues called map i (ForRoom r) here c c_is
+      (on_none same (ForRoom r) c.call tt (called_so same name beginning known s dues.history.shown map i (ForRoom r) here c c_is))
+  events_begin name log beginning begins known s e at_e whole dues called map i (Counting sum) here c c_is =
+      other_midsts_begin K V same name log beginning begins known s whole dues called map i (Counting sum) here c c_is
+      (on_none same (Counting sum) c.call tt (called_so same name beginning known s dues.history.shown map i (Counting sum) here c c_is))
+  events_begin name log beginning begins known s e at_e whole dues called map i (OverAll o) here c c_is =
+      other_midsts_begin K V same name log beginning begins known s whole dues called map i (OverAll o) here c c_is
+      (on_none same (OverAll o) c.call tt (called_so same name beginning known s dues.history.shown map i (OverAll o) here c c_is))
+
+  module _ (name : ℕ → List ℕ) (log : List (Entry K V)) (known : Known) (s : Scene K V) (old : Executor K V S) (at_old : IsAt same hash old s)
+      (whole : ShowsWhole same name (moment log) known s) (dues : ShowsDue same name log (moment log) known s) (all : ShowsAsCalled same name (moment log) known s)
+      (map i : ℕ) (guard : List ℕ) (standing : Standing K) (there : s.maps map ≡ Some standing) (apart : NoneNamed name (name i) s) (rests : s.world.row i ≡ Rests) where
+    abbrev Begins : UnderWay K V K → Call K V → Type 0
+    Begins x y =
+        (let beginning = with_call (name i) guard y (Some map) (moment log) in
+        let c = fresh_call (name i) guard y map (moment log).events in
+        (call_of (name i) beginning ≡ Some c) × InEvent same name log beginning map i c [] beginning known (scene_with map i x s) x)
+
+    abbrev BeganNow : UnderWay K V K → Type 0
+    BeganNow x = (began : ℕ) → began_of x ≡ Some began → began ≡ standing.chart.now
+
+    others_begin : (x : UnderWay K V K) (its : Call K V) → IsOther same x → BeganNow x → IsCalled same x its → IsBegunAs x its → Begins x its
+    others_begin x its other now called begun_as =
+        let it = other_midsts_begin_calls K V S same hash name log known s old at_old whole dues all map i x its guard standing there now apart called (on_none same x its other called) begun_as rests in (
+          it.0,
+          of_other same name log (with_call (name i) guard its (Some map) (moment log)) map i (fresh_call (name i) guard its map (moment log).events) [] (with_call (name i) guard its (Some map) (moment log))
+              known (scene_with map i x s) x other it.1,
+        )
+
+    key_begins : (x : CallOnKey K V K) (one : OneKey K V) → BeganNow (OnKey x) → x.change ≡ Unchanged → IsCalled same (OnKey x) (call.On one) → IsBegunFor (OnKey x) (call.On one) → (new : Executor K V S)
+        → IsAt same hash new (scene_with map i (OnKey x) s) → Begins (OnKey x) (call.On one)
+    key_begins x one now unchanged called begun new at_new =
+        let it = midsts_begin_calls K V S same hash name log known s old at_old whole dues map i x one guard standing there (now x.began refl) unchanged apart called begun rests new at_new in
+        (it.0, (one, refl, it.1, calls_begin_as_called K V same name (moment log) known s all map i (OnKey x) (call.On one) guard apart called tt))
+
+  pub events_begin_calls : EventsBeginCalls K V S same hash
+  events_begin_calls name log known s old at_old whole dues all map i (OnKey x) its guard standing there now unchanged apart called begun begun_as rests new at_new =
+      let on = on_a_key same x its called in
+      subst (λ (y : Call K V). Begins name log known s old at_old whole dues all map i guard standing there apart rests (OnKey x) y) (sym on.1)
+      (key_begins name log known s old at_old whole dues all map i guard standing there apart rests x on.0 now (unchanged x refl) (subst (λ (y : Call K V). IsCalled same (OnKey x) y) on.1 called)
+      (subst (λ (y : Call K V). IsBegunFor (OnKey x) y) on.1 begun) new at_new)
+  events_begin_calls name log known s old at_old whole dues all map i (ForRoom r) its guard standing there now unchanged apart called begun begun_as rests new at_new =
+      others_begin name log known s old at_old whole dues all map i guard standing there apart rests (ForRoom r) its tt now called begun_as
+  events_begin_calls name log known s old at_old whole dues all map i (Counting sum) its guard standing there now unchanged apart called begun begun_as rests new at_new =
+      others_begin name log known s old at_old whole dues all map i guard standing there apart rests (Counting sum) its tt now called begun_as
+  events_begin_calls name log known s old at_old whole dues all map i (OverAll o) its guard standing there now unchanged apart called begun begun_as rests new at_new =
+      others_begin name log known s old at_old whole dues all map i guard standing there apart rests (OverAll o) its tt now called begun_as
+
+  module _ (name : ℕ → List ℕ) (log : List (Entry K V)) (beginning : Moment K V) (map i : ℕ) (c : CallThere K V) (done : List Effect) (m : Moment K V) (known : Known) (s : Scene K V)
+      (old new : Executor K V S) (at_old : IsAt same hash old s) (said : Progress (Node K V)) (leads : StepLeads same hash i said s old new) where
+    abbrev m2 : Moment K V
+    m2 = with_effects (Some (name i)) (Some map) (effects_of (acts.Call i map) known new.memory.changed) m
+
+    abbrev known2 : Known
+    known2 = known_after (acts.Call i map) new.memory.changed known
+
+    abbrev done2 : List Effect
+    done2 = done ++ effects_of (acts.Call i map) known new.memory.changed
+
+    abbrev scene2 : (u : UnderWay K V K) → s.calls map i ≡ Some u → Scene K V
+    scene2 u here = scene_after same hash s old new map i (leads map u here).0 u (leads map u here).1 said (leads map u here).4
+
+    other_goes_on : (u : UnderWay K V K) → IsOther same u → (midst : InOtherMidst same name log beginning map i c done m known s u) (next : UnderWay K V K) → (leads map u midst.here).4.next ≡ Some next
+        → InEvent same name log beginning map i c done2 m2 known2 (scene2 u midst.here) next
+    other_goes_on u other midst next goes =
+        of_other same name log beginning map i c done2 m2 known2 (scene2 u midst.here) next
+        (other_still same hash s old new map i said leads u midst.here next goes u other (leads map u midst.here).4.did)
+        (other_midsts_go_on K V S same hash name log beginning map i c done m known s u midst old new at_old said leads next goes)
+
+    key_goes : (x : CallOnKey K V K) (one : OneKey K V) (one_is : c.call ≡ call.On one) (midst : InMidst same name log beginning map i one c done m known s x) → ShowsAsCalled same name m known s
+        → (next : UnderWay K V K) → (leads map (OnKey x) midst.here).4.next ≡ Some next → InEvent same name log beginning map i c done2 m2 known2 (scene2 (OnKey x) midst.here) next
+    key_goes x one one_is midst called next goes =
+        let still = key_still same hash s old new map i said leads (OnKey x) midst.here next goes x (leads map (OnKey x) midst.here).4.did in
+        subst (λ (z : UnderWay K V K). InEvent same name log beginning map i c done2 m2 known2 (scene2 (OnKey x) midst.here) z) (sym still.1) (
+          one,
+          one_is,
+          midsts_go_on K V S same hash name log beginning map i one c one_is done m known s x midst old new at_old said leads still.0 (goes ∙ ap Some still.1),
+          calls_keep_as_called K V S same hash name m known s old new at_old midst.whole called map i (OnKey x) midst.here said leads,
+        )
+
+    abbrev All : (u : UnderWay K V K) → s.calls map i ≡ Some u → Type 0
+    All u here = ShowsWhole same name m2 known2 (scene2 u here) × ShowsDue same name log m2 known2 (scene2 u here) × ShowsAsCalled same name m2 known2 (scene2 u here)
+
+    other_keeps : (u : UnderWay K V K) (midst : InOtherMidst same name log beginning map i c done m known s u) → All u midst.here
+    other_keeps u midst = (
+      calls_keep_whole K V S same hash name m known s old new at_old midst.whole map i u midst.here said leads,
+      other_midsts_keep_due K V S same hash name log beginning map i c done m known s u midst old new at_old said leads,
+      calls_keep_as_called K V S same hash name m known s old new at_old midst.whole midst.called map i u midst.here said leads,
+    )
+
+    key_keeps : (x : CallOnKey K V K) (one : OneKey K V) → c.call ≡ call.On one → (midst : InMidst same name log beginning map i one c done m known s x) → ShowsAsCalled same name m known s → All (OnKey x) midst.here
+    key_keeps x one one_is midst called = (
+      calls_keep_whole K V S same hash name m known s old new at_old midst.whole map i (OnKey x) midst.here said leads,
+      calls_keep_due K V S same hash name log m known s old new at_old midst.whole midst.dues map i (OnKey x) midst.here said leads
+          (first_change same hash name log beginning map i one c one_is done m known s x midst old new at_old said leads),
+      calls_keep_as_called K V S same hash name m known s old new at_old midst.whole called map i (OnKey x) midst.here said leads,
+    )
+
+    other_words : (u : UnderWay K V K) → IsOther same u → (midst : InOtherMidst same name log beginning map i c done m known s u) → (x : Progress (Node K V)) → StepLeads same hash i x s old new
+        → (o : Outcome V) × AsksAsSaid (known_after (acts.Call i map) new.memory.changed known) x o
+    other_words u other midst (progress.Asks about) its =
+        let it = questions_have_words K V S same hash name m known s old new at_old midst.whole map i u midst.here about its in (outcome.Asks it.0, it.1)
+    other_words u other midst _ its = (outcome.Goes, tt)
+
+    abbrev Words : Type 0
+    Words = (o : Outcome V) × ComesSo known2 c.call c.replies said o
+
+    other_says : (u : UnderWay K V K) → IsOther same u → InOtherMidst same name log beginning map i c done m known s u → Words
+    other_says u other midst = let it = other_words u other midst said leads in (it.0, so_of_none same known2 c.replies said it.0 c.call midst.other it.1)
+
+    key_says : (x : CallOnKey K V K) (one : OneKey K V) → c.call ≡ call.On one → InMidst same name log beginning map i one c done m known s x → Words
+    key_says x one one_is midst =
+        let it = steps_have_words K V S same hash name log m known s old new at_old midst.whole midst.dues map i x midst.here said leads midst.there midst.there_is one (midst.same_call.call ∙ one_is) in (
+          it.0,
+          subst (λ (y : Call K V). ComesSo known2 y c.replies said it.0) (sym one_is) (subst (λ (r : List (Option ℕ × Reply V)). ComesToIt known2 one r said it.0) midst.same_call.replies it.1),
+        )
+
+  pub events_go_on : EventsGoOn K V S same hash
+  events_go_on name log beginning map i c done m known s (OnKey x) midst old new at_old said leads next goes =
+      key_goes name log beginning map i c done m known s old new at_old said leads x midst.0 midst.1 midst.2 midst.3 next goes
+  events_go_on name log beginning map i c done m known s (ForRoom r) midst old new at_old said leads next goes =
+      other_goes_on name log beginning map i c done m known s old new at_old said leads (ForRoom r) tt midst next goes
+  events_go_on name log beginning map i c done m known s (Counting sum) midst old new at_old said leads next goes =
+      other_goes_on name log beginning map i c done m known s old new at_old said leads (Counting sum) tt midst next goes
+  events_go_on name log beginning map i c done m known s (OverAll o) midst old new at_old said leads next goes =
+      other_goes_on name log beginning map i c done m known s old new at_old said leads (OverAll o) tt midst next goes
+
+  pub events_keep_all : EventsKeepAll K V S same hash
+  events_keep_all name log beginning map i c done m known s (OnKey x) midst old new at_old said leads =
+      key_keeps name log beginning map i c done m known s old new at_old said leads x midst.0 midst.1 midst.2 midst.3
+  events_keep_all name log beginning map i c done m known s (ForRoom r) midst old new at_old said leads = other_keeps name log beginning map i c done m known s old new at_old said leads (ForRoom r) midst
+  events_keep_all name log beginning map i c done m known s (Counting sum) midst old new at_old said leads = other_keeps name log beginning map i c done m known s old new at_old said leads (Counting sum) midst
+  events_keep_all name log beginning map i c done m known s (OverAll o) midst old new at_old said leads = other_keeps name log beginning map i c done m known s old new at_old said leads (OverAll o) midst
+
+  pub events_have_words : EventsHaveWords K V S same hash
+  events_have_words name log beginning map i c done m known s (OnKey x) midst old new at_old said leads = key_says name log beginning map i c done m known s old new at_old said leads x midst.0 midst.1 midst.2
+  events_have_words name log beginning map i c done m known s (ForRoom r) midst old new at_old said leads = other_says name log beginning map i c done m known s old new at_old said leads (ForRoom r) tt midst
+  events_have_words name log beginning map i c done m known s (Counting sum) midst old new at_old said leads = other_says name log beginning map i c done m known s old new at_old said leads (Counting sum) tt midst
+  events_have_words name log beginning map i c done m known s (OverAll o) midst old new at_old said leads = other_says name log beginning map i c done m known s old new at_old said leads (OverAll o) tt midst
+
+  module _ (name : ℕ → List ℕ) (log : List (Entry K V)) (beginning : Moment K V) (map i : ℕ) (c : CallThere K V) (c_is : call_of (name i) beginning ≡ Some c)
+      (done : List Effect) (m : Moment K V) (known : Known) (s : Scene K V) (old new : Executor K V S) (at_old : IsAt same hash old s) (said : Progress (Node K V)) (leads : StepLeads same hash i said s old new)
+      (e : Entry K V) (is_caller : caller_of e.event ≡ Some (name i)) (begun : at_work e (moment log) ≡ beginning) (acts_on : acted_on e.event beginning ≡ Some map)
+      (effects_are : e.effects ≡ done ++ effects_of (acts.Call i map) known new.memory.changed) (comes : ComesSo (known_after (acts.Call i map) new.memory.changed known) c.call c.replies said e.outcome) where
+    other_ends : (u : UnderWay K V K) → InOtherMidst same name log beginning map i c done m known s u → IsLinearizable same log e × EventAsksStill log e
+    other_ends u midst =
+        let as_said = comes_of_none same (known_after (acts.Call i map) new.memory.changed known) c.replies said e.outcome c.call midst.other comes in (
+          other_midsts_end K V S same hash name log beginning map i c c_is done m known s u midst old new at_old said leads e is_caller begun acts_on effects_are as_said,
+          other_midsts_ask_still K V S same hash name log beginning map i c c_is done m known s u midst old new at_old said leads e is_caller begun acts_on effects_are as_said,
+        )
+
+    key_ends : (x : CallOnKey K V K) (one : OneKey K V) → c.call ≡ call.On one → ShowsQuestions beginning → InMidst same name log beginning map i one c done m known s x → IsLinearizable same log e × EventAsksStill log e
+    key_ends x one one_is questions midst =
+        let to_it = comes_of_key same (known_after (acts.Call i map) new.memory.changed known) c.replies said e.outcome c.call one one_is comes in (
+          midsts_end K V S same hash name log beginning map i one c c_is one_is questions done m known s x midst old new at_old said leads e is_caller begun acts_on effects_are to_it,
+          midsts_ask_still K V S same hash name log beginning map i one c c_is one_is done m known s x midst old new at_old said leads e is_caller begun acts_on effects_are to_it,
+        )
+
+  pub events_end : EventsEnd K V S same hash
+  events_end name log beginning map i c c_is questions done m known s (OnKey x) midst old new at_old said leads e is_caller begun acts_on effects_are comes =
+      key_ends name log beginning map i c c_is done m known s old new at_old said leads e is_caller begun acts_on effects_are comes x midst.0 midst.1 questions midst.2
+  events_end name log beginning map i c c_is questions done m known s (ForRoom r) midst old new at_old said leads e is_caller begun acts_on effects_are comes =
+      other_ends name log beginning map i c c_is done m known s old new at_old said leads e is_caller begun acts_on effects_are comes (ForRoom r) midst
+  events_end name log beginning map i c c_is questions done m known s (Counting sum) midst old new at_old said leads e is_caller begun acts_on effects_are comes =
+      other_ends name log beginning map i c c_is done m known s old new at_old said leads e is_caller begun acts_on effects_are comes (Counting sum) midst
+  events_end name log beginning map i c c_is questions done m known s (OverAll o) midst old new at_old said leads e is_caller begun acts_on effects_are comes =
+      other_ends name log beginning map i c c_is done m known s old new at_old said leads e is_caller begun acts_on effects_are comes (OverAll o) midst

@@ -1,0 +1,204 @@
+-- What stays so where what is of no call leaves calls and maps as they were, or lets one go, stays so where rows, makings and ends take steps, and a walk is given up.
+use Rattle.std.specs.Prelude.{◌≡◌, ℕ, Bool, true, false, List, Option, Some, None, ◌⊎◌}
+use Rattle.std.proofs.Common.{refl, ap, sym, subst, ◌∙◌, inl, inr}
+use Rattle.std.proofs.lemmas.Bool.{cases_eq}
+use Rattle.seize_words.specs.declared.fault.Fault.TheVariants.{Memory}
+use Rattle.seize.specs.World.{World, Hand, with_at}
+use Rattle.seize.specs.declared.progress.Progress.{Progress}
+use Rattle.seize.specs.declared.progress.Progress.TheVariants as progress
+use Rattle.seize.specs.declared.rows.settle.Settled.{Settled}
+use Rattle.seize.specs.declared.rows.settle.Settled.TheVariants as settled
+use Rattle.papaya_tables.specs.declared.node.Node.{Node}
+use Rattle.papaya_tables.specs.declared.setting.Setting.{Setting}
+use Rattle.papaya_resize.specs.declared.new_map.NewMap.{NewMap}
+use Rattle.papaya_sweeps.specs.SweepPoints.{after_next}
+use Rattle.papaya_sweeps.specs.declared.sweep.Sweeping.{Sweeping}
+use Rattle.papaya_sweeps.specs.declared.sweep.Sweeping.TheVariants as at
+use Rattle.papaya_raw.specs.Machine.{is_ready}
+use Rattle.papaya_raw.specs.declared.machines.end_map.EndMap.{EndMap}
+use Rattle.papaya_schedules.specs.declared.outcome.Outcome.TheVariants.{Refused}
+use Rattle.papaya_schedules.specs.Moment.{Moment}
+use Rattle.papaya_callers.specs.OverAll.{CallOverAll, gone_on}
+use Rattle.papaya_callers.specs.Together.{UnderWay, OverAll}
+use Rattle.papaya_callers.proofs.Together.At.{at_other, at_same}
+use Rattle.papaya_effects.specs.Effects.{effects_of}
+use Rattle.papaya_effects.specs.Known.{Known}
+use Rattle.papaya_effects.specs.declared.acting.Acting.TheVariants.{Row, Ending}
+use Rattle.papaya_executor.specs.Ending.{EndingComesTo, ending_begun}
+use Rattle.papaya_executor.specs.IsAt.{Scene, IsAt}
+use Rattle.papaya_executor.specs.Making.{MakingComesTo}
+use Rattle.papaya_executor.specs.Replying.{scene_with, unless_stopped}
+use Rattle.papaya_executor.specs.declared.executor.Executor.{Executor}
+use Rattle.papaya_finishes.specs.Endings.{Finishing}
+use Rattle.papaya_finishes.specs.FactsEnds.{Deed}
+use Rattle.papaya_finishes.specs.Makings.{Beginning}
+use Rattle.papaya_finishes.specs.Maps.{Standing, with_call}
+use Rattle.papaya_follows.specs.Calling.{NoneNamed, come_to}
+use Rattle.papaya_follows.specs.Calls.{IsCalled}
+use Rattle.papaya_follows.specs.Shows.{Shows}
+use Rattle.papaya_follows.proofs.Steps.{one_of}
+use Rattle.papaya_hands.specs.Hands.{IsInUse}
+use Rattle.papaya_hands.proofs.Asking.{which}
+use Rattle.papaya_others.specs.After.{ShowsAfter}
+use Rattle.papaya_others.specs.Endings.{ending_after, without_map}
+use Rattle.papaya_others.specs.Gone.{WasRetired, EndsWith}
+use Rattle.papaya_others.specs.Makings.{WasNew, making_after}
+use Rattle.papaya_others.specs.Walks.{given_up}
+use Rattle.papaya_others.proofs.Elsewhere.{shown_elsewhere}
+use Rattle.papaya_others.proofs.EndBegins.{endings_begin_shown, endings_are_over}
+use Rattle.papaya_others.proofs.Ends.{endings_are_shown}
+use Rattle.papaya_others.proofs.MakeBegins.{makings_begin_shown, maps_are_there}
+use Rattle.papaya_others.proofs.Makes.{makings_are_shown}
+use Rattle.papaya_others.proofs.RowBegins.{rows_begin_shown}
+use Rattle.papaya_others.proofs.RowPlans.{row_tells}
+use Rattle.papaya_others.proofs.Rows.{rows_on_slots_are_shown}
+use Rattle.papaya_others.proofs.Stays.{same_maps}
+use Rattle.papaya_others.proofs.Walks.{fewer_calls, with_calls}
+use Rattle.papaya_spots.proofs.OnSlots.{row_beside as finds_numbers}
+use Rattle.papaya_moments.specs.Endings.{IsOfIts}
+use Rattle.papaya_moments.specs.Makings.{IsNewFor}
+use Rattle.papaya_moments.specs.OnSlots.{HadRetired}
+use Rattle.papaya_moments.proofs.Beside.{IsBeside}
+use Rattle.papaya_moments.proofs.Ends.{end_beside, end_numbers, ends_with}
+use Rattle.papaya_moments.proofs.MakingSteps.{makings_go_beside}
+use Rattle.papaya_moments.proofs.OnSlots.{row_beside, rows_begin_beside, was_retired, with_outside}
+use Rattle.papaya_histories.specs.Elsewhere.{StaysElsewhere}
+
+-- where a making, and an end, has come, the executor is there
+module _ {K V S : Type 0} (same : K → K → Bool) (hash : K → ℕ) (s : Scene K V) (old new : Executor K V S) where
+  making_at : (i : ℕ) (b : Beginning K) (end : NewMap) (w2 : World (Node K V)) (told : Progress Setting) (it : MakingComesTo same hash s old new i b end w2 told)
+      → IsAt same hash new (making_after same hash s old new i b end w2 told it)
+  making_at i b end w2 progress.Goes it = it
+  making_at i b end w2 progress.Waits it = absurd it
+  making_at i b end w2 (progress.Done setting) it = it.2
+  making_at i b end w2 (progress.Refused fault) it = it
+
+  ending_at : (i : ℕ) (f : Finishing K V) (end : EndMap) (w2 : World (Node K V)) (deed : Deed) (told : Settled (Node K V)) (it : EndingComesTo same hash s new i f end w2 deed told)
+      → (let s2 = ending_after same hash s new i f end w2 deed told it in (s2.world ≡ w2) × (s2.calls ≡ s.calls) × (s2.maps ≡ s.maps) × IsAt same hash new s2)
+  ending_at i f end w2 deed settled.Goes it = (refl, refl, refl, it.1)
+  ending_at i f end w2 deed settled.Waits it = absurd it
+  ending_at i f end w2 deed (settled.Gave value) it = (refl, refl, refl, it.3)
+  ending_at i f end w2 deed settled.Done it = (refl, refl, refl, it.2)
+
+new_so : {K V : Type 0} (map : ℕ) (m : Moment K V) (told : Progress Setting) → IsNewFor map told m → WasNew map told m
+new_so map m progress.Goes is = tt
+new_so map m progress.Waits is = tt
+new_so map m (progress.Done setting) is = is
+new_so map m (progress.Refused fault) is = tt
+
+-- what is asked for its next pair is ready
+ready_is : (stands : Sweeping) → true ≡ is_ready stands → stands ≡ at.Ready
+ready_is at.Ready e = refl
+ready_is at.Reads e = absurd (cc e)
+ready_is at.Follows e = absurd (cc e)
+ready_is (at.Copies copier) e = absurd (cc e)
+ready_is at.Words e = absurd (cc e)
+ready_is (at.Asks word) e = absurd (cc e)
+ready_is (at.Tries word) e = absurd (cc e)
+ready_is (at.Counts removed) e = absurd (cc e)
+ready_is (at.Disposes dispose) e = absurd (cc e)
+ready_is at.Over e = absurd (cc e)
+ready_is (at.Refused fault) e = absurd (cc e)
+
+module _ {K V : Type 0} (S : Type 0) (same : K → K → Bool) (hash : K → ℕ) (name : ℕ → List ℕ) (P : Moment K V → Known → Scene K V → Type 0) where
+  -- it stays so beside what is of no call,
+  abbrev pub StaysBeside : Type 0
+  StaysBeside =
+      (m m2 : Moment K V) (known known2 : Known) (s s2 : Scene K V) (old new : Executor K V S) → IsAt same hash old s → IsAt same hash new s2 → P m known s
+      → ((shown : Shows same name m known s) → ShowsAfter same name m known s shown m2 known2 s2) → IsBeside m m2 known known2 s s2 → P m2 known2 s2
+
+  -- and where the same pairs were stored, and lie where they lay, no call comes, and each map stands as it stood
+  abbrev pub StaysBetween : Type 0
+  StaysBetween =
+      (m m2 : Moment K V) (known : Known) (s s2 : Scene K V) → P m known s → m2.place ≡ m.place → m2.stored ≡ m.stored → m2.calls ≡ m.calls
+      → ((shown : Shows same name m known s) → ShowsAfter same name m known s shown m2 known s2) → ((n j : ℕ) (x : UnderWay K V K) → s2.calls n j ≡ Some x → s.calls n j ≡ Some x)
+      → s2.maps ≡ s.maps → P m2 known s2
+
+  -- and where a walk that is ready goes on
+  abbrev pub StaysWalking : Type 0
+  StaysWalking =
+      (m : Moment K V) (known : Known) (s : Scene K V) → P m known s → (map i : ℕ) (o : CallOverAll) → s.calls map i ≡ Some (OverAll o) → o.sweep.stands ≡ at.Ready
+      → P m known (scene_with map i (OverAll (gone_on o (after_next o.sweep))) s)
+
+  abbrev pub StaysGivenUp : Type 0
+  StaysGivenUp = (m : Moment K V) (known : Known) (s : Scene K V) → P m known s → (own : List ℕ) → NoneNamed name own s → P (come_to own (Refused Memory) 0 m) known s
+
+  -- calls are as they were, blocks are in the hands in which they were, and each map that stands stood so
+  same_beside : (m : Moment K V) (known : Known) (s s2 : Scene K V) → s2.world.hand ≡ s.world.hand → s2.calls ≡ s.calls → ((n : ℕ) (st : Standing K) → s2.maps n ≡ Some st → s.maps n ≡ Some st) → IsBeside m m known known s s2
+  same_beside m known s s2 hand calls fewer = record {
+    stored = refl;
+    born = refl;
+    calls = refl;
+    maps = refl;
+    place = λ n x e. e;
+    back = λ b of. inl refl;
+    roles = λ b some of. refl;
+    hands = λ b some used. subst (λ (f : ℕ → Hand). IsInUse (f b)) (sym hand) used;
+    same_calls = calls;
+    stood = λ n st is. inl (st, fewer n st is, refl, λ t. refl);
+  }
+
+  pub stays_elsewhere : StaysBeside → StaysBetween → StaysWalking → StaysGivenUp → StaysElsewhere S same hash name P
+  stays_elsewhere beside between walking gives_up = record {
+    rows_begin = λ m known s old new at_old whole so called i may leads.
+        beside m m known known s _ old new at_old (leads may).3.4 so (λ shown. rows_begin_shown K V S same hash name m known s old new at_old shown called i may leads)
+        (rows_begin_beside K V S same hash m known s old new called i may leads);
+    rows = λ m known s old new at_old whole so i told leads row here retired. (let to = leads row here in
+        let tells = row_tells old.memory.memory new.memory.memory new.memory.changed (to.0, told) row to.1 in
+        beside m _ known _ s _ old new at_old to.4.4 so
+        (λ shown. rows_on_slots_are_shown K V S same hash name m known s old new at_old shown i told leads row here
+        (with_outside None None HadRetired WasRetired was_retired (effects_of Row known new.memory.changed) m (finds_numbers m known new.memory.changed tells).0.1 whole.outside retired))
+        (row_beside same hash m known s old new at_old i row here (to.0, told) to.1 to.4));
+    makings_begin = λ m known s old new at_old whole so i b at_new.
+        beside m m known known s (record s { makers = with_at s.makers i (Some b) }) old new at_old at_new so (λ shown. makings_begin_shown K V same name m known s shown i b)
+        (same_beside m known s (record s { makers = with_at s.makers i (Some b) }) refl refl (λ n st is. is));
+    maps_come = λ m known s old new at_old whole so there none. between m _ known s s so refl refl refl (λ shown. maps_are_there K V same name m known s shown there) (λ n j x is. is) refl;
+    makings = λ m known s old new at_old whole so i told leads b here of is_new. (let to = leads b here in
+        beside m _ known _ s _ old new at_old (making_at same hash s old new i b to.0 to.2.step.w2 told to.3) so
+        (λ shown. makings_are_shown K V S same hash name m known s old new at_old shown i told leads b here of (whole.counters i b here) (new_so b.map m told is_new))
+        (makings_go_beside K V S same hash name m known s old new at_old whole i told leads b here of is_new));
+    endings_begin = λ m known s old new at_old whole so map i standing there at_new.
+        beside m m known known s (ending_begun map i standing s) old new at_old at_new so (λ shown. endings_begin_shown K V same name m known s shown map i standing) (ending_beside m known s map i standing);
+    endings = λ m known s old new at_old whole so i told leads f here map not_there of_map. (let to = leads f here in
+        let it = ending_at same hash s old new i f to.0 to.2.w2 to.2.deed told to.3 in
+        let finds = end_numbers same hash name m known s old new at_old whole i f here to.0 told to.1 to.2 map not_there to.3 in
+        let ends = with_outside None (Some map) (IsOfIts map) (λ v effect. EndsWith v map effect) (ends_with map) (effects_of (Ending map) known new.memory.changed) m finds whole.outside of_map in
+        beside m _ known _ s _ old new at_old it.3 so (λ shown. (endings_are_shown K V S same hash name m known s old new at_old shown i told leads f here map not_there ends).1)
+        (end_beside same hash name m known s old new at_old whole i f here to.0 told to.1 to.2 map not_there to.3 _ it.0 it.1 it.2));
+    endings_over = λ m known s old new at_old whole so own remains others.
+        between m (without_map own remains m) known s s so refl refl refl (λ shown. endings_are_over K V same name m known s shown own remains others) (λ n j x is. is) refl;
+    walks = λ m known s old new at_old whole so i leads map o here is_next.
+        subst (λ (x : UnderWay K V K). P m known (scene_with map i x s)) (sym is_next) (walking m known s so map i o here (ready_is o.sweep.stands (leads map (OverAll o) here).2));
+    alike = λ m m2 known s so like. between m m2 known s s so like.place like.stored like.calls
+        (λ shown. shown_elsewhere K V same name m m2 known s s shown like (record { memory = refl; hand = refl; maps = λ n. same_maps (s.maps n); calls = refl })) (λ n j x is. is) refl;
+    walks_stop = λ m known s old new at_old whole so i stopped leads map u here none. stops m known s so i stopped map u here none;
+  }
+    where
+      ending_beside : (m : Moment K V) (known : Known) (s : Scene K V) (map i : ℕ) (standing : Standing K) → IsBeside m m known known s (ending_begun map i standing s)
+      ending_beside m known s map i standing = same_beside m known s (ending_begun map i standing s) refl refl fewer
+        where
+          fewer : (n : ℕ) (st : Standing K) → with_at s.maps map None n ≡ Some st → s.maps n ≡ Some st
+          fewer n st is = elim (cases_eq n map) as (λ _. s.maps n ≡ Some st) [
+            | inl e ↦ absurd (let none = at_same s.maps map None n e in cc (none, is))
+            | inr ne ↦ sym (at_other s.maps map None n ne) ∙ is
+          ]
+
+      stops : (m : Moment K V) (known : Known) (s : Scene K V) → P m known s → (i : ℕ) (stopped : Bool) (map : ℕ) (u : UnderWay K V K) → s.calls map i ≡ Some u
+          → (let after = record s { calls = with_call s.calls map i (unless_stopped stopped u) } in (stopped ≡ true → NoneNamed name (name i) after) → P (given_up (name i) stopped m) known after)
+      stops m known s so i true map u here none =
+          gives_up m known _ (between m m known s (record s { calls = with_call s.calls map i None }) so refl refl refl
+          (λ shown. with_calls same name m known s (with_call s.calls map i None) (fewer_calls same name m s.calls map i u here None (λ x e. absurd (cc e)) shown.calls) shown)
+          (λ n j x is. gone n j x (which s.calls map i None n j x is)) refl) (name i) (none refl)
+        where
+          gone : (n j : ℕ) (x : UnderWay K V K) → ((n ≡ map) × (j ≡ i) × (◌≡◌ {A = Option (UnderWay K V K)} None (Some x))) ⊎ ((n ≡ map → j ≡ i → ⊥) × (s.calls n j ≡ Some x)) → s.calls n j ≡ Some x
+          gone n j x (inl its) = absurd (let none = its.2 in cc none)
+          gone n j x (inr was) = was.1
+      stops m known s so i false map u here none =
+          between m m known s (record s { calls = with_call s.calls map i (Some u) }) so refl refl refl
+          (λ shown. with_calls same name m known s (with_call s.calls map i (Some u)) (fewer_calls same name m s.calls map i u here (Some u)
+          (λ x e its is. subst (λ (y : UnderWay K V K). IsCalled same y its) (one_of u x e) is) shown.calls) shown)
+          (λ n j x is. still n j x (which s.calls map i (Some u) n j x is)) refl
+        where
+          still : (n j : ℕ) (x : UnderWay K V K) → ((n ≡ map) × (j ≡ i) × (◌≡◌ {A = Option (UnderWay K V K)} (Some u) (Some x))) ⊎ ((n ≡ map → j ≡ i → ⊥) × (s.calls n j ≡ Some x)) → s.calls n j ≡ Some x
+          still n j x (inl its) = ap (λ (k : ℕ). s.calls k j) its.0 ∙ ap (s.calls map) its.1 ∙ here ∙ its.2
+          still n j x (inr was) = was.1

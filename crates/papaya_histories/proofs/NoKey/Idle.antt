@@ -1,0 +1,61 @@
+-- An event that does nothing, and by which no call has come to an end or asks, is linearizable.
+use Rattle.std.specs.Prelude.{◌≡◌, Bool, List, [], flat_map, Option, Some, None}
+use Rattle.std.proofs.Common.{refl, sym, subst, inl}
+use Rattle.seize_words.specs.declared.fault.Fault.TheVariants.{Busy}
+use Rattle.papaya_schedules.specs.declared.call.Call.{Call}
+use Rattle.papaya_schedules.specs.declared.call.Call.TheVariants as call
+use Rattle.papaya_schedules.specs.declared.effect.Effect.{Effect}
+use Rattle.papaya_schedules.specs.declared.outcome.Outcome.{Outcome}
+use Rattle.papaya_schedules.specs.declared.outcome.Outcome.TheVariants as outcome
+use Rattle.papaya_schedules.specs.After.{moment, moments_from}
+use Rattle.papaya_schedules.specs.Beginning.{at_work}
+use Rattle.papaya_schedules.specs.Effects.{worked}
+use Rattle.papaya_schedules.specs.Entry.{Entry, caller_of, acting}
+use Rattle.papaya_schedules.specs.Linearizable.{shift_of, Changes, Ends, ActsRight, ActsOf}
+use Rattle.papaya_schedules.specs.Moment.{UnderWay as CallThere, Moment}
+use Rattle.papaya_schedules.specs.Sequential.{Shift}
+use Rattle.papaya_histories.specs.OtherCalls.{IsIdle, IdleAreLinearizable}
+use Rattle.papaya_histories.proofs.OtherCalls.{IsNoQuestion, asks_none}
+
+no_question : {V : Type 0} (o : Outcome V) → IsIdle o → IsNoQuestion o
+no_question (outcome.Asks question) idle = idle
+no_question _ idle = tt
+
+module _ {K V : Type 0} (same : K → K → Bool) where
+  changes_none : (its : Call K V) (c : CallThere K V) (m : Moment K V) → Changes same its c m []
+  changes_none (call.On one) c m = inl refl
+  changes_none (call.Reserve n) c m = tt
+  changes_none call.Clear c m = tt
+  changes_none call.Retain c m = tt
+  changes_none call.Len c m = tt
+  changes_none call.Walk c m = tt
+
+  ends_none : (its : Call K V) (c : CallThere K V) (moments : List (Moment K V)) (o : Outcome V) → IsIdle o → Ends same its c moments o
+  ends_none (call.On one) c moments (outcome.Answered a) idle = absurd idle
+  ends_none (call.On one) c moments (outcome.Refused Busy) idle = tt
+  ends_none (call.On one) c moments (outcome.Refused fault) idle = absurd idle
+  ends_none (call.On one) c moments _ idle = tt
+  ends_none (call.Reserve n) c moments o idle = tt
+  ends_none call.Clear c moments o idle = tt
+  ends_none call.Retain c moments o idle = tt
+  ends_none call.Len c moments o idle = tt
+  ends_none call.Walk c moments o idle = tt
+
+  module _ (log : List (Entry K V)) (e : Entry K V) (none : e.effects ≡ []) (idle : IsIdle e.outcome) where
+    shifts_none : flat_map shift_of e.effects ≡ []
+    shifts_none = subst (λ (l : List Effect). flat_map shift_of l ≡ []) (sym none) refl
+
+    right : (before c : CallThere K V) → ActsRight same log e before c
+    right before c = record {
+      changes = subst (λ (l : List Shift). Changes same before.call before (at_work e (moment log)) l) (sym shifts_none) (changes_none before.call before (at_work e (moment log)));
+      ends = ends_none c.call c (moments_from c.begun log) e.outcome idle;
+      asks = asks_none same c (moments_from c.begun log) c.stands e.outcome (no_question e.outcome idle);
+    }
+
+    acts_none : (before after : Option (CallThere K V)) → ActsOf same log e before after
+    acts_none (Some before) (Some c) = right before c
+    acts_none (Some before) None = shifts_none
+    acts_none None after = shifts_none
+
+pub idle_are_linearizable : (K V : Type 0) (same : K → K → Bool) → IdleAreLinearizable K V same
+idle_are_linearizable K V same log e none idle = acts_none same log e none idle (acting (caller_of e.event) (at_work e (moment log))) (acting (caller_of e.event) (worked e (moment log)))

@@ -1,0 +1,288 @@
+-- An event of steps of a call on no key is linearizable: it removes what it may, and asks what it may.
+use Rattle.std.specs.Prelude.{◌≡◌, ℕ, Bool, List, ◌++◌, flat_map, Option, Some, None, ◌⊎◌}
+use Rattle.std.proofs.Common.{refl, ap, sym, subst, ◌∙◌, inl, inr}
+use Rattle.seize.specs.World.{with_at}
+use Rattle.papaya_tables.specs.declared.node.Node.{Node}
+use Rattle.papaya_sweeps.specs.declared.sweep.Purpose.TheVariants.{Retains}
+use Rattle.papaya_sweeps.specs.declared.sweep.Sweeping.{Sweeping}
+use Rattle.papaya_sweeps.specs.declared.sweep.Sweeping.TheVariants as at
+use Rattle.papaya_raw.specs.Progress.{of_outcome, of_counting}
+use Rattle.papaya_raw.specs.declared.machines.machine.Machine.{Machine}
+use Rattle.papaya_raw.specs.declared.machines.machine.Machine.TheVariants as kinds
+use Rattle.papaya_raw.specs.declared.machines.progress.Progress.{Progress}
+use Rattle.papaya_raw.specs.declared.machines.progress.Progress.TheVariants as progress
+use Rattle.papaya_resize.specs.declared.outcome.Outcome.{Outcome as Ending}
+use Rattle.papaya_resize.specs.declared.outcome.Outcome.TheVariants as rooms
+use Rattle.seize.specs.declared.progress.Progress.{Progress as Counted}
+use Rattle.seize.specs.declared.progress.Progress.TheVariants as counts
+use Rattle.papaya_schedules.specs.declared.call.Call.{Call}
+use Rattle.papaya_schedules.specs.declared.call.Call.TheVariants as call
+use Rattle.papaya_schedules.specs.declared.effect.Effect.{Effect}
+use Rattle.papaya_schedules.specs.declared.outcome.Outcome.{Outcome}
+use Rattle.papaya_schedules.specs.declared.outcome.Outcome.TheVariants as outcome
+use Rattle.papaya_schedules.specs.After.{moment, moments_from}
+use Rattle.papaya_schedules.specs.Beginning.{at_work}
+use Rattle.papaya_schedules.specs.Effects.{with_effects, worked}
+use Rattle.papaya_schedules.specs.Entry.{Entry, caller_of, acting, acted_on, IfCall}
+use Rattle.papaya_schedules.specs.Linearizable.{shift_of, RemovesOnly, MayAsk, AsksRight, IsLinearizable}
+use Rattle.papaya_schedules.specs.Moment.{Stands, Going, Asking, Told, IsReady, UnderWay as CallThere, Moment}
+use Rattle.papaya_schedules.specs.Views.{call_of, finite_map}
+use Rattle.papaya_rule.specs.Words.{Blocks}
+use Rattle.papaya_late.specs.ToldSweeps.{IsRowOfSweep}
+use Rattle.papaya_late.specs.FactsSweeps.{SweepingFacts}
+use Rattle.papaya_callers.specs.OverAll.{CallOverAll}
+use Rattle.papaya_callers.specs.Sights.{seen_by}
+use Rattle.papaya_callers.specs.Together.{CallOnKey, UnderWay, OnKey, ForRoom, Counting, OverAll, Together, in_slot}
+use Rattle.papaya_callers.proofs.Together.At.{at_same}
+use Rattle.papaya_effects.specs.Effects.{effects_of, known_after}
+use Rattle.papaya_effects.specs.Known.{Known}
+use Rattle.papaya_effects.specs.declared.acting.Acting.TheVariants as acts
+use Rattle.papaya_executor.specs.IsAt.{Scene, IsAt, slot_of}
+use Rattle.papaya_executor.specs.Stepping.{StepsFrom, StepLeads, scene_after}
+use Rattle.papaya_executor.specs.declared.executor.Executor.{Executor}
+use Rattle.papaya_finishes.specs.Machines.{machine_of}
+use Rattle.papaya_finishes.specs.Maps.{Standing}
+use Rattle.papaya_follows.specs.Steps.{Did}
+use Rattle.papaya_follows.proofs.Steps.{one_of}
+use Rattle.papaya_histories.specs.AsCalled.{purpose_of, IsAsCalled, ShowsAsCalled}
+use Rattle.papaya_histories.specs.Asking.{IsToldQuestion}
+use Rattle.papaya_histories.specs.Due.{ShowsDue}
+use Rattle.papaya_histories.specs.OtherMidsts.{AsksAsSaid, InOtherMidst, OtherMidstsEnd, OtherMidstsAskStill}
+use Rattle.papaya_histories.specs.Questions.{GoesItself, AsksStill, EventAsksStill}
+use Rattle.papaya_histories.proofs.NoKey.AsCalled.{calls_keep_as_called}
+use Rattle.papaya_histories.proofs.Found.{map_alike}
+use Rattle.papaya_histories.proofs.OtherCalls.{IsNoQuestion, asks_none, others_are_linearizable}
+use Rattle.papaya_histories.proofs.OtherMidsts.{on_no_key, there_other, there_called, d, d_is, d_stands, fewer_so, removes_so, worked_then, other_midsts_keep_due}
+use Rattle.papaya_histories.proofs.Retaining.{retainings_may_ask}
+use Rattle.papaya_histories.proofs.Several.{stands}
+use Rattle.papaya_histories.proofs.NoKey.Sweeps.{SweepsOn, sweeps_on, asks_still}
+
+-- a reservation and a counting say of nothing that they ask it
+module _ {T : Type 0} where
+  pub room_asks_none : (end : Ending T Unit) (about : Option ℕ) → of_outcome end ≡ progress.Asks about → ⊥
+  room_asks_none rooms.Goes about e = absurd (cc e)
+  room_asks_none rooms.Waits about e = absurd (cc e)
+  room_asks_none (rooms.Gave value) about e = absurd (cc e)
+  room_asks_none (rooms.Done it) about e = absurd (cc e)
+  room_asks_none (rooms.Refused fault) about e = absurd (cc e)
+
+  pub counting_asks_none : (end : Counted ℕ) (about : Option ℕ) → of_counting {T = T} end ≡ progress.Asks about → ⊥
+  counting_asks_none counts.Goes about e = absurd (cc e)
+  counting_asks_none counts.Waits about e = absurd (cc e)
+  counting_asks_none (counts.Done count) about e = absurd (cc e)
+  counting_asks_none (counts.Refused fault) about e = absurd (cc e)
+
+-- an event asks, or does not
+pub asks_or_none : {V : Type 0} (o : Outcome V) → ((question : Option ℕ) × (o ≡ outcome.Asks question)) ⊎ IsNoQuestion o
+asks_or_none (outcome.Asks question) = inl (question, refl)
+asks_or_none _ = inr tt
+
+-- what asks does not go on by itself
+no_going : (K : Type 0) {V : Type 0} (known : Known) (about : Option ℕ) (o : Outcome V) → AsksAsSaid {K = K} {V = V} known (progress.Asks about) o → GoesItself o → ⊥
+no_going K known about (outcome.Asks question) as_said goes = goes
+no_going K known about _ as_said goes = as_said
+
+module _ {K V S : Type 0} (same : K → K → Bool) (hash : K → ℕ) (name : ℕ → List ℕ) (log : List (Entry K V)) (beginning : Moment K V) (map i : ℕ) (c : CallThere K V)
+    (done : List Effect) (m : Moment K V) (known : Known) (s : Scene K V) (u : UnderWay K V K) (midst : InOtherMidst same name log beginning map i c done m known s u)
+    (old new : Executor K V S) (at_old : IsAt same hash old s) where
+  abbrev known2 : Known
+  known2 = known_after (acts.Call i map) new.memory.changed known
+
+  module _ (about : Option ℕ) (leads : StepLeads same hash i (progress.Asks about) s old new) where
+    abbrev call_then : CallThere K V
+    call_then = d same hash name log beginning map i c done m known s u midst old new at_old (progress.Asks about) leads
+
+    abbrev then_at : Moment K V
+    then_at = with_effects (Some (name i)) (Some map) (effects_of (acts.Call i map) known new.memory.changed) m
+
+    abbrev s2 : Scene K V
+    s2 = scene_after same hash s old new map i (leads map u midst.here).0 u (leads map u midst.here).1 (progress.Asks about) (leads map u midst.here).4
+
+    abbrev at_new : IsAt same hash new s2
+    at_new = (leads map u midst.here).5
+
+    next : UnderWay K V K
+    next = (leads map u midst.here).4.goes_on.0
+
+    next_here : s2.calls map i ≡ Some next
+    unfolding next
+    next_here = ap (λ (f : ℕ → Option (UnderWay K V K)). f i) (at_same s.calls map (with_at (s.calls map) i (leads map u midst.here).4.next) map refl)
+        ∙ at_same (s.calls map) i (leads map u midst.here).4.next i refl ∙ (leads map u midst.here).4.goes_on.1
+
+    next_machine : machine_of next ≡ (leads map u midst.here).1
+    unfolding next
+    next_machine = (leads map u midst.here).4.goes_on.2
+
+    dues2 : ShowsDue same name log then_at known2 s2
+    dues2 = other_midsts_keep_due K V S same hash name log beginning map i c done m known s u midst old new at_old (progress.Asks about) leads
+
+    called2 : ShowsAsCalled same name then_at known2 s2
+    called2 = calls_keep_as_called K V S same hash name m known s old new at_old midst.whole midst.called map i u midst.here (progress.Asks about) leads
+
+    -- what each class has then
+    fewer_then : (k : K) → (finite_map same map then_at k ≡ finite_map same map (moment log) k) ⊎ (finite_map same map then_at k ≡ None)
+    fewer_then k = elim (fewer_so same hash name log beginning map i c done m known s u midst old new at_old (progress.Asks about) leads k)
+        as (λ _. (finite_map same map then_at k ≡ finite_map same map (moment log) k) ⊎ (finite_map same map then_at k ≡ None)) [
+          | inl kept ↦ inl (kept ∙ map_alike same map k (moment log) beginning midst.begins.0 midst.begins.1)
+          | inr gone ↦ inr gone
+        ]
+
+    -- only a sweep says that it asks, and stands there
+    abbrev AsksThere : Type 0
+    AsksThere = (o : CallOverAll) × (next ≡ OverAll o) × (word : ℕ) × (about ≡ Some word) × (o.sweep.stands ≡ at.Asks word)
+
+    sweep_asks : (o : CallOverAll) → StepsFrom same hash (kinds.Sweep o.sweep) old new (leads map u midst.here).1 (progress.Asks about) → AsksThere
+    sweep_asks o steps = by next refl (subst (λ (z : Machine K V K). SweepsOn o.sweep.purpose (z, progress.Asks about)) (sym next_machine) (sweeps_on same hash old new o.sweep (leads map u midst.here).1 (progress.Asks about) steps))
+      where
+        by : (x : UnderWay K V K) → next ≡ x → SweepsOn o.sweep.purpose (machine_of x, progress.Asks about) → AsksThere
+        by (OverAll q) is so = (q, is, so.1.0, so.1.1, so.1.2)
+        by (OnKey x) is so = absurd so
+        by (ForRoom r) is so = absurd so
+        by (Counting sum) is so = absurd so
+
+    abbrev DidIt : UnderWay K V K → Type 0
+    DidIt x =
+        Did same old.batch_size old.roots s.world s.maps s.calls s.makers s.enders map (leads map u midst.here).0 i new.memory.memory (leads map u midst.here).4.w2 (leads map u midst.here).4.maps2
+        (leads map u midst.here).4.next x (leads map u midst.here).1 (progress.Asks about)
+
+    asks_there : AsksThere
+    asks_there = by u (on_no_key same u midst.there.call
+        (there_called same hash name log beginning map i c done m known s u midst old new at_old (progress.Asks about) leads)
+        (there_other same hash name log beginning map i c done m known s u midst old new at_old (progress.Asks about) leads)) (leads map u midst.here).3 (leads map u midst.here).4.did
+      where
+        by : (x : UnderWay K V K) → ((y : CallOnKey K V K) → x ≡ OnKey y → ⊥) → StepsFrom same hash (machine_of x) old new (leads map u midst.here).1 (progress.Asks about) → DidIt x → AsksThere
+        by (OnKey x) none steps did = absurd (none x refl)
+        by (ForRoom r) none steps (p2, end, machine_is, told_is, did) = absurd (room_asks_none end about (sym told_is))
+        by (Counting sum) none steps (sum2, end, machine_is, told_is, still, stayed) = absurd (counting_asks_none end about (sym told_is))
+        by (OverAll o) none steps did = sweep_asks o steps
+
+    pub asks_next : (o : CallOverAll) × ((leads map u midst.here).4.next ≡ Some (OverAll o)) × (word : ℕ) × (about ≡ Some word) × (o.sweep.stands ≡ at.Asks word)
+    unfolding next
+    asks_next = let it = asks_there in (it.0, (leads map u midst.here).4.goes_on.1 ∙ ap Some it.1, it.2, it.3, it.4)
+
+    -- so it is a retaining, and may ask that
+    module _ (o : CallOverAll) (next_is : next ≡ OverAll o) (word : ℕ) (stands_at : o.sweep.stands ≡ at.Asks word) where
+      here2 : s2.calls map i ≡ Some (OverAll o)
+      here2 = next_here ∙ ap Some next_is
+
+      abbrev st : Standing K
+      st = (stands same hash s2 new at_new map i (OverAll o) here2).0
+
+      st_is : s2.maps map ≡ Some st
+      st_is = (stands same hash s2 new at_new map i (OverAll o) here2).1
+
+      each : Together V same st.hash same st.setting slot_of s2.world st.chart st.blocks st.sights (s2.calls map)
+      each = at_new.together.makings.standing.each map st st_is
+
+      abbrev seen : Blocks
+      seen = seen_by st.blocks (st.sights (slot_of i))
+
+      retaining : o.sweep.purpose ≡ Retains
+      retaining = elim (each.stand i (OverAll o) here2) as (λ _. o.sweep.purpose ≡ Retains) [
+        | inl k ↦ (subst (λ (z : Sweeping). SweepingFacts same st.hash s2.world i (in_slot st.setting (slot_of i)) st.chart seen o.began o.sweep z) stands_at k.1.facts.point).0
+        | inr k ↦ absurd (subst IsRowOfSweep stands_at k.1)
+      ]
+
+      retain_is : (its : Call K V) → purpose_of its ≡ Some Retains → its ≡ call.Retain
+      retain_is call.Retain is = refl
+      retain_is call.Clear is = absurd (cc is)
+      retain_is call.Walk is = absurd (cc is)
+      retain_is (call.On one) is = absurd (cc is)
+      retain_is (call.Reserve n) is = absurd (cc is)
+      retain_is call.Len is = absurd (cc is)
+
+      its_call : call_then.call ≡ call.Retain
+      its_call = retain_is call_then.call ((called2.each map i (OverAll o) here2 st st_is call_then then_is).purpose ∙ ap Some retaining)
+        where
+          then_is : call_of (name i) then_at ≡ Some call_then
+          then_is = d_is same hash name log beginning map i c done m known s u midst old new at_old (progress.Asks about) leads
+
+      may_ask : (question : Option ℕ) → IsToldQuestion known2 (Some word) question → MayAsk same call_then.call call_then (moments_from call_then.begun log) question
+      may_ask None told = absurd told
+      may_ask (Some q) names = subst (λ (x : Call K V). MayAsk same x call_then (moments_from call_then.begun log) (Some q)) (sym its_call)
+          (retainings_may_ask K V S same hash name log then_at known2 s2 new at_new dues2.history map i o here2 call_then
+          (d_is same hash name log beginning map i c done m known s u midst old new at_old (progress.Asks about) leads) fewer_then word q stands_at names)
+
+    may_ask_that : (question : Option ℕ) → IsToldQuestion known2 about question → MayAsk same call_then.call call_then (moments_from call_then.begun log) question
+    may_ask_that question told =
+        let it = asks_there in may_ask it.0 it.1 it.2 it.4 question (subst (λ (z : Option ℕ). IsToldQuestion known2 z question) it.3 told)
+
+    asks_right : (question : Option ℕ) → IsToldQuestion known2 about question → (its : Stands) → AsksRight same its call_then (moments_from call_then.begun log) (outcome.Asks question)
+    asks_right question told (Asking q) = tt
+    asks_right question told Going = may_ask_that question told
+    asks_right question told Told = may_ask_that question told
+    asks_right question told IsReady = may_ask_that question told
+
+  abbrev at_end : (said : Progress (Node K V)) → StepLeads same hash i said s old new → CallThere K V
+  at_end said leads = d same hash name log beginning map i c done m known s u midst old new at_old said leads
+
+  asked : (said : Progress (Node K V)) (leads : StepLeads same hash i said s old new) (question : Option ℕ) → AsksAsSaid known2 said (outcome.Asks question)
+      → AsksRight same (at_end said leads).stands (at_end said leads) (moments_from (at_end said leads).begun log) (outcome.Asks question)
+  asked (progress.Asks about) leads question as_said = asks_right about leads question as_said (at_end (progress.Asks about) leads).stands
+  asked _ leads question as_said = absurd as_said
+
+  module _ (c_is : call_of (name i) beginning ≡ Some c) (said : Progress (Node K V)) (leads : StepLeads same hash i said s old new) (e : Entry K V) (is_caller : caller_of e.event ≡ Some (name i))
+      (begun : at_work e (moment log) ≡ beginning) (acts_on : acted_on e.event beginning ≡ Some map)
+      (effects_are : e.effects ≡ done ++ effects_of (acts.Call i map) known new.memory.changed) (as_said : AsksAsSaid known2 said e.outcome) where
+    abbrev call_at_end : CallThere K V
+    call_at_end = at_end said leads
+
+    end_is : call_of (name i) (worked e (moment log)) ≡ Some call_at_end
+    end_is =
+        ap (call_of (name i)) (
+        ap (λ (b : Moment K V). with_effects (caller_of e.event) (acted_on e.event b) e.effects b) begun
+        ∙ ap (λ (o : Option (List ℕ)). with_effects o (acted_on e.event beginning) e.effects beginning) is_caller
+        ∙ ap (λ (o : Option ℕ). with_effects (Some (name i)) o e.effects beginning) acts_on
+        ∙ ap (λ (l : List Effect). with_effects (Some (name i)) (Some map) l beginning) effects_are
+        ∙ sym (worked_then same hash name log beginning map i c done m known s u midst old new at_old said leads))
+        ∙ d_is same hash name log beginning map i c done m known s u midst old new at_old said leads
+
+    right : AsksRight same call_at_end.stands call_at_end (moments_from call_at_end.begun log) e.outcome
+    right = elim (asks_or_none e.outcome) as (λ _. AsksRight same call_at_end.stands call_at_end (moments_from call_at_end.begun log) e.outcome) [
+      | inl (question, is) ↦
+          subst (λ (o : Outcome V). AsksRight same call_at_end.stands call_at_end (moments_from call_at_end.begun log) o) (sym is) (asked said leads question (subst (λ (o : Outcome V). AsksAsSaid known2 said o) is as_said))
+      | inr none ↦ asks_none same call_at_end (moments_from call_at_end.begun log) call_at_end.stands e.outcome none
+    ]
+
+    pub linearizable : IsLinearizable same log e
+    linearizable = others_are_linearizable K V same log e (name i) map c is_caller (ap (call_of (name i)) begun ∙ c_is) (ap (acted_on e.event) begun ∙ acts_on) midst.other
+        (subst (λ (l : List Effect). RemovesOnly same c.call c (flat_map shift_of l)) (sym effects_are)
+        (removes_so same hash name log beginning map i c done m known s u midst old new at_old said leads))
+        (λ x x_is. subst (λ (y : CallThere K V). AsksRight same y.stands y (moments_from y.begun log) e.outcome) (one_of call_at_end x (sym end_is ∙ x_is)) right)
+
+    -- a call that asks says so by the last step, too
+    still_asks : (question : Option ℕ) → midst.there.stands ≡ Asking question → GoesItself e.outcome → ⊥
+    still_asks question asks goes =
+        by u (on_no_key same u midst.there.call (there_called same hash name log beginning map i c done m known s u midst old new at_old said leads)
+        (there_other same hash name log beginning map i c done m known s u midst old new at_old said leads)) (leads map u midst.here).3
+        (midst.called.each map i u midst.here (leads map u midst.here).0 (leads map u midst.here).2 midst.there midst.there_is)
+      where
+        by : (x : UnderWay K V K) → ((y : CallOnKey K V K) → x ≡ OnKey y → ⊥) → StepsFrom same hash (machine_of x) old new (leads map u midst.here).1 said
+            → IsAsCalled (midst.called.shown.number map) (leads map u midst.here).0.chart.stored known x midst.there → ⊥
+        by (OnKey x) none steps h = none x refl
+        by (ForRoom r) none steps h = h question asks
+        by (Counting sum) none steps h = h question asks
+        by (OverAll o) none steps h =
+            let at_word = h.asks question asks in
+            let says = (asks_still same hash old new o.sweep (leads map u midst.here).1 said steps at_word.0 at_word.1).1 in
+            no_going K known2 (Some at_word.0) e.outcome (subst (λ (x : Progress (Node K V)). AsksAsSaid known2 x e.outcome) says as_said) goes
+
+    still_so : (its : Stands) → call_at_end.stands ≡ its → AsksStill its e.outcome
+    still_so (Asking question) is = still_asks question (sym (d_stands same hash name log beginning map i c done m known s u midst old new at_old said leads) ∙ is)
+    still_so Going is = tt
+    still_so Told is = tt
+    still_so IsReady is = tt
+
+    pub asks_on : EventAsksStill log e
+    asks_on =
+        subst (λ (o : Option (List ℕ)). IfCall (λ (y : CallThere K V). AsksStill y.stands e.outcome) (acting o (worked e (moment log)))) (sym is_caller)
+        (subst (λ (x : Option (CallThere K V)). IfCall (λ (y : CallThere K V). AsksStill y.stands e.outcome) x) (sym end_is) (still_so call_at_end.stands refl))
+
+module _ (K V S : Type 0) (same : K → K → Bool) (hash : K → ℕ) where
+  pub other_midsts_end : OtherMidstsEnd K V S same hash
+  other_midsts_end name log beginning map i c c_is done m known s u midst old new at_old said leads e is_caller begun acts_on effects_are as_said =
+      linearizable same hash name log beginning map i c done m known s u midst old new at_old c_is said leads e is_caller begun acts_on effects_are as_said
+
+  pub other_midsts_ask_still : OtherMidstsAskStill K V S same hash
+  other_midsts_ask_still name log beginning map i c c_is done m known s u midst old new at_old said leads e is_caller begun acts_on effects_are as_said =
+      asks_on same hash name log beginning map i c done m known s u midst old new at_old c_is said leads e is_caller begun acts_on effects_are as_said

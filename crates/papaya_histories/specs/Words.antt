@@ -1,0 +1,39 @@
+-- What a step of a call says has words, in which the event that it is a step of may be told.
+use Rattle.std.specs.Prelude.{◌≡◌, ℕ, Bool, List, Option, Some}
+use Rattle.papaya_tables.specs.declared.node.Node.{Node}
+use Rattle.papaya_raw.specs.declared.machines.progress.Progress.{Progress}
+use Rattle.papaya_raw.specs.declared.machines.progress.Progress.TheVariants.{Asks}
+use Rattle.papaya_schedules.specs.declared.call.Call.TheVariants.{On}
+use Rattle.papaya_schedules.specs.declared.call.OneKey.{OneKey}
+use Rattle.papaya_schedules.specs.declared.outcome.Outcome.{Outcome}
+use Rattle.papaya_schedules.specs.Entry.{Entry}
+use Rattle.papaya_schedules.specs.Moment.{UnderWay as CallThere, Moment}
+use Rattle.papaya_schedules.specs.Views.{call_of}
+use Rattle.papaya_callers.specs.Together.{CallOnKey, UnderWay, OnKey}
+use Rattle.papaya_effects.specs.Effects.{known_after}
+use Rattle.papaya_effects.specs.Known.{Known}
+use Rattle.papaya_effects.specs.declared.acting.Acting.TheVariants as acts
+use Rattle.papaya_executor.specs.IsAt.{Scene, IsAt}
+use Rattle.papaya_executor.specs.Stepping.{StepLeads}
+use Rattle.papaya_executor.specs.declared.executor.Executor.{Executor}
+use Rattle.papaya_moments.specs.Whole.{ShowsWhole}
+use Rattle.papaya_histories.specs.Asking.{IsToldQuestion}
+use Rattle.papaya_histories.specs.Due.{ShowsDue}
+use Rattle.papaya_histories.specs.Events.{ComesToIt}
+
+module _ (K V S : Type 0) (same : K → K → Bool) (hash : K → ℕ) where
+  -- The promises: what any call asks by a step is about none, or about a pair of the run,
+  abbrev pub QuestionsHaveWords : Type 0
+  QuestionsHaveWords =
+      (name : ℕ → List ℕ) (m : Moment K V) (known : Known) (s : Scene K V) (old new : Executor K V S) → IsAt same hash old s → ShowsWhole same name m known s
+      → (map i : ℕ) (u : UnderWay K V K) → s.calls map i ≡ Some u → (about : Option ℕ) → StepLeads same hash i (Asks about) s old new
+      → (question : Option ℕ) × IsToldQuestion (known_after (acts.Call i map) new.memory.changed known) about question
+
+  -- and whatever a call on one key comes to by a step is an outcome.
+  abbrev pub StepsHaveWords : Type 0
+  StepsHaveWords =
+      (name : ℕ → List ℕ) (log : List (Entry K V)) (m : Moment K V) (known : Known) (s : Scene K V) (old new : Executor K V S) → IsAt same hash old s
+      → ShowsWhole same name m known s → ShowsDue same name log m known s
+      → (map i : ℕ) (u : CallOnKey K V K) → s.calls map i ≡ Some (OnKey u) → (said : Progress (Node K V)) → StepLeads same hash i said s old new
+      → (c : CallThere K V) → call_of (name i) m ≡ Some c → (one : OneKey K V) → c.call ≡ On one
+      → (outcome : Outcome V) × ComesToIt (known_after (acts.Call i map) new.memory.changed known) one c.replies said outcome
