@@ -1,0 +1,22 @@
+-- Lemmas on what calls have in hand.
+pub mod Roles
+pub mod Fields
+pub mod Effects
+pub mod Walks
+pub mod Planned
+pub mod Own
+pub mod Words
+pub mod Step
+pub mod Held
+pub mod InHand
+pub mod Machines
+pub mod Ends
+pub mod Kept
+pub mod Calls
+pub mod Between
+pub mod Aside
+pub mod Lasting
+pub mod RowsOnSlots
+pub mod MakingsOfMaps
+pub mod EndsOfMaps
+pub mod Tables

@@ -1,0 +1,6 @@
+pub mod Made
+pub mod Keeping
+pub mod Making
+pub mod Beside
+pub mod Tables
+pub mod TablesBeside
