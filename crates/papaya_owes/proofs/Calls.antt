@@ -1,7 +1,7 @@
 -- A step of a call, of whichever kind: its effects find its block for a pair as they must, and each has what the moment says after it.
 use Rattle.std.specs.Prelude.{◌≡◌, ◌≢◌, ◌<◌, ℕ, ◌+◌, Bool, true, false, List, Option, Some, None, option_map, ◌⊎◌, if◌then◌else◌}
 use Rattle.std.proofs.Common.{refl, ap, sym, subst, ◌∙◌, inl, inr}
-use Rattle.std.proofs.lemmas.Bool.{cases_eq, cases_lt}
+use Rattle.std.proofs.lemmas.Bool.{cases_eq}
 use Rattle.seize_words.specs.Mem.{Mem, Can, Took, value_at}
 use Rattle.seize_words.specs.Plan.{May}
 use Rattle.seize_words.specs.Word.{block_in}
@@ -27,7 +27,6 @@ use Rattle.papaya_callers.specs.OverAll.{CallOverAll}
 use Rattle.papaya_callers.specs.Rooms.{CallForRoom}
 use Rattle.papaya_callers.specs.Sights.{seen_by, IsSight}
 use Rattle.papaya_callers.specs.Together.{CallOnKey, UnderWay, OnKey, ForRoom, Counting, OverAll, IsOneStep, Together}
-use Rattle.papaya_callers.proofs.Together.At.{at_same}
 use Rattle.papaya_effects.specs.Effects.{effects_of, known_after}
 use Rattle.papaya_effects.specs.Known.{Known}
 use Rattle.papaya_effects.specs.declared.acting.Acting.{Acting}
@@ -49,12 +48,12 @@ use Rattle.papaya_follows.proofs.Calling.{is_same_refl}
 use Rattle.papaya_follows.proofs.Operations.{LeavesBy, operated_leaves}
 use Rattle.papaya_follows.proofs.Rows.{one_step_leaves}
 use Rattle.papaya_follows.proofs.RowSteps.{row_done}
-use Rattle.papaya_follows.proofs.Steps.{WentTo, went_to, made_so, DidSo, OfNoRow, one_of}
+use Rattle.papaya_follows.proofs.Steps.{WentTo, went_to, made_so, DidSo, OfNoRow}
 use Rattle.papaya_hands.proofs.Asking.{which}
-use Rattle.papaya_hands.proofs.Calling.{caller_is}
 use Rattle.papaya_hands.proofs.RowSteps.{rows_hand_theirs}
 use Rattle.papaya_moments.specs.Whole.{ShowsWhole}
 use Rattle.papaya_moments.proofs.Calls.{of_row, calls_keep_whole}
+use Rattle.papaya_moments.proofs.Roles.{roles_then}
 use Rattle.papaya_owes.specs.Beside.{NoneOfBlock}
 use Rattle.papaya_owes.specs.Keeping.{FindBlocks, CallsKeepMade}
 use Rattle.papaya_owes.specs.Made.{own_word, OwnsSo, IsItsBlock, HasBlock, NamesBlock, ShowsMade}
@@ -62,7 +61,7 @@ use Rattle.papaya_owes.specs.Making.{making_in_calling, making_in_reserving, mak
 use Rattle.papaya_owes.proofs.Effects.{block_by, effect_block}
 use Rattle.papaya_holds.specs.Came.{Owns}
 use Rattle.papaya_owes.proofs.Ends.{refused_own, answered_own, answer_pair, which_end}
-use Rattle.papaya_owes.proofs.Fields.{all_by, field_after}
+use Rattle.papaya_owes.proofs.Fields.{field_own, field_other}
 use Rattle.papaya_owes.proofs.Held.{IsInHand}
 use Rattle.papaya_owes.proofs.InHand.{free_there, in_hand}
 use Rattle.papaya_owes.proofs.Kept.{calls_beside, calls_its}
@@ -287,21 +286,8 @@ module _ {K V S : Type 0} (same : K → K → Bool) (hash : K → ℕ) (name : �
   -- of the pairs that a call on one key looks at after a step that is none of a row
   module _ (x : CallOnKey K V K) (p2 : KeyCall K V K) (end : Called (Node K V)) (step : StepsAmong V same same old.batch_size old.roots slot_of s.world s.maps s.calls s.makers s.enders map st i x new.memory.memory p2 end)
       (moved : to.4.maps2 ≡ with_at s.maps map (Some (record st { chart = step.step.went.c2; blocks = step.step.blocks2; sights = step.step.sights2 }))) where
-    abbrev st2 : Standing K
-    st2 = record st { chart = step.step.went.c2; blocks = step.step.blocks2; sights = step.step.sights2 }
-
-    st2_is : to.4.maps2 map ≡ Some st2
-    st2_is = ap (λ (f : ℕ → Option (Standing K)). f map) moved ∙ at_same s.maps map (Some st2) map refl
-
     seen_then : (n : ℕ) → n < step.step.went.c2.stored → step.step.went.blocks2.pair_known n ≡ true → known2.roles (step.step.went.blocks2.pair n) ≡ role.Pair (then_shown.number map n)
-    seen_then n l known_too = elim (cases_lt n st.chart.stored) as (λ _. known2.roles (step.step.went.blocks2.pair n) ≡ role.Pair (then_shown.number map n)) [
-      | inl before ↦
-          let was = step.step.went.blocks_same.pairs_back n before known_too in
-          let grown = step.step.grown.pairs n before in
-          ap known2.roles ((step.step.went.blocks_same.pairs n before was).0 ∙ sym grown.0) ∙ (then_shown.maps map st2 st2_is).pairs.roles n l (grown.1 ∙ sight.pairs n before was)
-      | inr fresh ↦
-          let grown = step.step.grown.new_pairs n fresh in ap known2.roles (sym grown.0) ∙ (then_shown.maps map st2 st2_is).pairs.roles n l (grown.1 ∙ known_too)
-    ]
+    seen_then n l known_too = roles_then same old.batch_size old.roots s map i st sight x new.memory.memory p2 end step then_shown moved n l known_too
 
   module _ (x : CallOnKey K V K) (is : s.calls map i ≡ Some (OnKey x)) (steps : Stepped (OnKey x)) (may_x : MayStep (OnKey x)) (owns_x : Owns x.call) (b : ℕ) (its_block : IsItsBlock known2 i b) where
     -- the block that its machine names is no pair's
@@ -364,17 +350,10 @@ module _ {K V S : Type 0} (same : K → K → Bool) (hash : K → ℕ) (name : �
   its_there : (c : CallThere K V) × (call_of (name i) m ≡ Some c)
   its_there = let c = shown.calls map i u here in (c.0, c.1)
 
-  has_field : (j : ℕ) (c : CallThere K V) → call_of (name j) m ≡ Some c → (d : CallThere K V) → call_of (name j) v ≡ Some d
-      → d.has_block ≡ (if is_same c.caller (name i) then all_by block_by effects c.has_block else c.has_block)
-  has_field j c c_is d d_is =
-      let after = field_after (λ (x : CallThere K V). x.has_block) block_by effect_block (name i) map (name j) effects m c c_is in
-      ap (λ (x : CallThere K V). x.has_block) (one_of d after.0 (sym d_is ∙ after.1)) ∙ after.2.1
-
   own_has : (d : CallThere K V) → call_of (name i) v ≡ Some d → HasBlock known2 i d.has_block
   own_has d d_is =
       let c = its_there.0 in
-      let own : is_same c.caller (name i) ≡ true = ap (λ (l : List ℕ). is_same l (name i)) (caller_is (name i) m c its_there.1) ∙ is_same_refl (name i) in
-      subst (HasBlock known2 i) (sym (has_field i c its_there.1 d d_is ∙ ap (λ (q : Bool). if q then all_by block_by effects c.has_block else c.has_block) own))
+      subst (HasBlock known2 i) (sym (field_own (λ (x : CallThere K V). x.has_block) block_by effect_block (name i) map effects m c its_there.1 d d_is))
       (left_all.has c.has_block (made.has map i u here c its_there.1))
 
   -- others have what they had
@@ -391,12 +370,8 @@ module _ {K V S : Type 0} (same : K → K → Bool) (hash : K → ℕ) (name : �
   other_has : (n j : ℕ) (x : UnderWay K V K) → (n ≡ map → j ≡ i → ⊥) → s.calls n j ≡ Some x → (d : CallThere K V) → call_of (name j) v ≡ Some d → HasBlock known2 j d.has_block
   other_has n j x apart was d d_is =
       let c = shown.calls n j x was in
-      subst (HasBlock known2 j) (sym (has_field j c.0 c.1 d d_is ∙ by c.0 (is_same c.0.caller (name i)) (λ e. apart_from n j x apart was (ap (λ (l : List ℕ). is_same l (name i)) (sym (caller_is (name j) m c.0 c.1)) ∙ e))))
+      subst (HasBlock known2 j) (sym (field_other (λ (x : CallThere K V). x.has_block) block_by effect_block (name i) map effects m (name j) (apart_from n j x apart was) c.0 c.1 d d_is))
       (others_has j (not_it n j x apart was) c.0.has_block (made.has n j x was c.0 c.1))
-    where
-      by : (c : CallThere K V) (q : Bool) → (q ≡ true → ⊥) → (if q then all_by block_by effects c.has_block else c.has_block) ≡ c.has_block
-      by c true no = absurd (no refl)
-      by c false no = refl
 
   has_then : (n j : ℕ) (x : UnderWay K V K) → led.calls n j ≡ Some x → (d : CallThere K V) → call_of (name j) v ≡ Some d → HasBlock known2 j d.has_block
   has_then n j x is d d_is = elim (which s.calls map i to.4.next n j x is) as (λ _. HasBlock known2 j d.has_block) [

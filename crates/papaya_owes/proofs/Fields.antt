@@ -6,8 +6,10 @@ use Rattle.papaya_schedules.specs.declared.effect.Effect.{Effect}
 use Rattle.papaya_schedules.specs.Effects.{call_by, with_effect, with_effects}
 use Rattle.papaya_schedules.specs.Moment.{UnderWay as CallThere, Moment}
 use Rattle.papaya_schedules.specs.Views.{call_of}
-use Rattle.papaya_follows.proofs.Calling.{found_passes}
+use Rattle.papaya_follows.proofs.Calling.{found_passes, is_same_refl}
 use Rattle.papaya_follows.proofs.Calls.{changed_same, changed, of_same, found}
+use Rattle.papaya_follows.proofs.Steps.{one_of}
+use Rattle.papaya_hands.proofs.Calling.{caller_is}
 
 -- one effect after another
 abbrev pub all_by : {X : Type 0} → (Effect → X → X) → List Effect → X → X
@@ -42,6 +44,24 @@ module _ {K V X : Type 0} (get : CallThere K V → X) (by : Effect → X → X) 
             ap (λ (z : Bool). if z then all_by by effects (get d) else get d) (ap (λ (l : List ℕ). is_same l own) caller ∙ e)
             ∙ ap get (d_is ∙ ap (λ (z : Bool). if z then call_by m f c else c) e)
             ∙ sym (ap (λ (z : Bool). if z then all_by by (f ∷ effects) (get c) else get c) e)
+
+  -- so each of its own changes the field of a call, one after another, and those of others leave it
+  module _ (own : List ℕ) (acted : ℕ) (effects : List Effect) (m : Moment K V) where
+    pub field_own : (c : CallThere K V) → call_of own m ≡ Some c → (d : CallThere K V) → call_of own (with_effects (Some own) (Some acted) effects m) ≡ Some d → get d ≡ all_by by effects (get c)
+    field_own c c_is d d_is =
+        let after = field_after own acted own effects m c c_is in
+        let its : is_same c.caller own ≡ true = ap (λ (l : List ℕ). is_same l own) (caller_is own m c c_is) ∙ is_same_refl own in
+        ap get (one_of d after.0 (sym d_is ∙ after.1)) ∙ after.2.1 ∙ ap (λ (q : Bool). if q then all_by by effects (get c) else get c) its
+
+    pub field_other : (name : List ℕ) → (is_same name own ≡ true → ⊥) → (c : CallThere K V) → call_of name m ≡ Some c → (d : CallThere K V)
+        → call_of name (with_effects (Some own) (Some acted) effects m) ≡ Some d → get d ≡ get c
+    field_other name apart c c_is d d_is =
+        let after = field_after own acted name effects m c c_is in
+        ap get (one_of d after.0 (sym d_is ∙ after.1)) ∙ after.2.1 ∙ unless (is_same c.caller own) (λ e. apart (ap (λ (l : List ℕ). is_same l own) (sym (caller_is name m c c_is)) ∙ e))
+      where
+        unless : (q : Bool) → (q ≡ true → ⊥) → (if q then all_by by effects (get c) else get c) ≡ get c
+        unless true no = absurd (no refl)
+        unless false no = refl
 
 -- the call of a name after an effect of its own
 module _ {K V : Type 0} (own : List ℕ) (acted : ℕ) where

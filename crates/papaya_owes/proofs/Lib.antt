@@ -20,3 +20,4 @@ pub mod RowsOnSlots
 pub mod MakingsOfMaps
 pub mod EndsOfMaps
 pub mod Tables
+pub mod Short

@@ -74,9 +74,10 @@ module _ {K V : Type 0} where
   abbrev pub IsToMake : Option NewTable → Node K V → Type 0
   IsToMake o value = (n : NewTable) × (table : Table) × (o ≡ Some n) × (n.stands ≡ making.Makes table) × (value ≡ node.Table table.len table.limit table.turn)
 
-  -- an operation makes such a block, or none
+  -- an operation makes such a block, or none, and asks for no bucket
   abbrev pub MakesSo : (Node K V → Type 0) → Op (Node K V) → Type 0
   MakesSo P (Make value words) = P value
+  MakesSo P (Room bucket) = ⊥
   MakesSo P _ = Unit {0}
 
   abbrev pub PlanMakesSo : {R : Type 0} → (Node K V → Type 0) → Plan (Node K V) R → Type 0
@@ -86,9 +87,22 @@ module _ {K V : Type 0} where
   abbrev pub PlanMakes : {R : Type 0} → Option NewTable → Plan (Node K V) R → Type 0
   PlanMakes o plan = PlanMakesSo (IsToMake o) plan
 
+  pub so_as : {A B : Type 0} (P : Node K V → Type 0) (f : A → B) (plan : Plan (Node K V) A) → PlanMakesSo P plan → PlanMakesSo P (plan_as f plan)
+  so_as P f (Turn rest) so = tt
+  so_as P f (Do op rest) so = so
+
+  -- what is made so is made as that as well
+  op_more : (P Q : Node K V → Type 0) → ((value : Node K V) → P value → Q value) → (op : Op (Node K V)) → MakesSo P op → MakesSo Q op
+  op_more P Q more (Make value words) so = more value so
+  op_more P Q more (Room bucket) so = so
+  op_more P Q more _ so = tt
+
+  pub so_more : {R : Type 0} (P Q : Node K V → Type 0) → ((value : Node K V) → P value → Q value) → (plan : Plan (Node K V) R) → PlanMakesSo P plan → PlanMakesSo Q plan
+  so_more P Q more (Turn rest) so = tt
+  so_more P Q more (Do op rest) so = op_more P Q more op so
+
   pub makes_as : {A B : Type 0} (o : Option NewTable) (f : A → B) (plan : Plan (Node K V) A) → PlanMakes o plan → PlanMakes o (plan_as f plan)
-  makes_as o f (Turn rest) so = tt
-  makes_as o f (Do op rest) so = so
+  makes_as o f plan so = so_as (IsToMake o) f plan so
 
   -- what is told as made was made so
   op_made : (P : Node K V → Type 0) (m : Mem (Node K V)) (op : Op (Node K V)) (out : Out (Node K V)) (k : Kind) (b : ℕ) → told_of op out (seen_of m op out) ≡ changed.Made k b → MakesSo P op
@@ -115,6 +129,55 @@ module _ {K V : Type 0} where
       → (k : Kind) (b : ℕ) → told ≡ changed.Made k b → (value : Node K V) × P value × (kind_of value ≡ k)
   plan_made_so P m m2 told (Turn rest) end steps so k b is = absurd (let nothing = steps.2 in cc (nothing, is))
   plan_made_so P m m2 told (Do op rest) end steps so k b is = op_made P m op steps.0 k b (sym steps.1.1 ∙ is) so
+
+  -- a block that was refused was to be made so
+
+  op_unmade : (P : Node K V → Type 0) (m : Mem (Node K V)) (op : Op (Node K V)) (out : Out (Node K V)) (k : Kind) → told_of op out (seen_of m op out) ≡ changed.Unmade k → MakesSo P op
+      → (value : Node K V) × P value
+  op_unmade P m (Load at) out k e so = absurd (cc e)
+  op_unmade P m (Store at word) out k e so = absurd (cc e)
+  op_unmade P m (Swap at word) (Found before) k e so = absurd (cc e)
+  op_unmade P m (Swap at word) _ k e so = absurd (cc e)
+  op_unmade P m (Add at by) (Found before) k e so = absurd (cc e)
+  op_unmade P m (Add at by) _ k e so = absurd (cc e)
+  op_unmade P m (Or at bits) (Found before) k e so = absurd (cc e)
+  op_unmade P m (Or at bits) _ k e so = absurd (cc e)
+  op_unmade P m (Exchange at before word) (Exchanged (Ok found)) k e so = absurd (cc e)
+  op_unmade P m (Exchange at before word) _ k e so = absurd (cc e)
+  op_unmade P m (Make value words) out k e so = (value, so)
+  op_unmade P m (Take x) out k e so = absurd (cc e)
+  op_unmade P m (Rewrite x value) out k e so = absurd (cc e)
+  op_unmade P m (Room bucket) out k e so = absurd so
+
+  pub plan_unmade_so : {R : Type 0} (P : Node K V → Type 0) (m m2 : Mem (Node K V)) (told : Changed) (plan : Plan (Node K V) R) (end : R) → StepsTold K V R m changed.Nothing plan m2 told end → PlanMakesSo P plan
+      → (k : Kind) → told ≡ changed.Unmade k → (value : Node K V) × P value
+  plan_unmade_so P m m2 told (Turn rest) end steps so k is = absurd (let nothing = steps.2 in cc (nothing, is))
+  plan_unmade_so P m m2 told (Do op rest) end steps so k is = op_unmade P m op steps.0 k (sym steps.1.1 ∙ is) so
+
+  -- no bucket was asked for
+
+  op_no_room : (P : Node K V → Type 0) (m : Mem (Node K V)) (op : Op (Node K V)) (out : Out (Node K V)) (bucket : ℕ) (had : Bool) → told_of op out (seen_of m op out) ≡ changed.Roomed bucket had → MakesSo P op → ⊥
+  op_no_room P m (Load at) out bucket had e so = cc e
+  op_no_room P m (Store at word) out bucket had e so = cc e
+  op_no_room P m (Swap at word) (Found before) bucket had e so = cc e
+  op_no_room P m (Swap at word) _ bucket had e so = cc e
+  op_no_room P m (Add at by) (Found before) bucket had e so = cc e
+  op_no_room P m (Add at by) _ bucket had e so = cc e
+  op_no_room P m (Or at bits) (Found before) bucket had e so = cc e
+  op_no_room P m (Or at bits) _ bucket had e so = cc e
+  op_no_room P m (Exchange at before word) (Exchanged (Ok found)) bucket had e so = cc e
+  op_no_room P m (Exchange at before word) _ bucket had e so = cc e
+  op_no_room P m (Make value words) (Made (Ok x)) bucket had e so = cc e
+  op_no_room P m (Make value words) (Made (Err back)) bucket had e so = cc e
+  op_no_room P m (Make value words) _ bucket had e so = cc e
+  op_no_room P m (Take x) out bucket had e so = cc e
+  op_no_room P m (Rewrite x value) out bucket had e so = cc e
+  op_no_room P m (Room other) out bucket had e so = so
+
+  pub plan_no_room : {R : Type 0} (P : Node K V → Type 0) (m m2 : Mem (Node K V)) (told : Changed) (plan : Plan (Node K V) R) (end : R) → StepsTold K V R m changed.Nothing plan m2 told end → PlanMakesSo P plan
+      → (bucket : ℕ) (had : Bool) → told ≡ changed.Roomed bucket had → ⊥
+  plan_no_room P m m2 told (Turn rest) end steps so bucket had is = (let nothing = steps.2 in cc (nothing, is))
+  plan_no_room P m m2 told (Do op rest) end steps so bucket had is = op_no_room P m op steps.0 bucket had (sym steps.1.1 ∙ is) so
 
   pub plan_made : {R : Type 0} (o : Option NewTable) (m m2 : Mem (Node K V)) (told : Changed) (plan : Plan (Node K V) R) (end : R) → StepsTold K V R m changed.Nothing plan m2 told end → PlanMakes o plan
       → (k : Kind) (b : ℕ) → told ≡ changed.Made k b → (value : Node K V) × IsToMake o value × (kind_of value ≡ k)

@@ -4,3 +4,4 @@ pub mod Making
 pub mod Beside
 pub mod Tables
 pub mod TablesBeside
+pub mod Short

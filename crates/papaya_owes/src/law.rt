@@ -2,6 +2,7 @@
 ghost use Rattle.std.specs.Prelude.{ℕ, Bool};
 ghost use Rattle.papaya_owes.specs.Beside.{StaysMade, WalksGoOnMade, WalksStopMade, RowsKeepMade, MakingsKeepMade, EndingsKeepMade};
 ghost use Rattle.papaya_owes.specs.Tables.{CallsKeepTables, CallsBeginTables, CallsTakeTables, CallsComeToTables};
+ghost use Rattle.papaya_owes.specs.Short.{ShortBegins, StaysShort, CallsKeepShort, CallsBeginShort, CallsTakeShort, CallsComeToShort, WalksGoOnShort, WalksStopShort};
 ghost use Rattle.papaya_owes.specs.TablesBeside.{TablesBegin, StaysTables, WalksGoOnTables, WalksStopTables, RowsKeepTables, MakingsBeginTables, MakingsKeepTables, EndingsKeepTables};
 ghost use Rattle.papaya_owes.specs.Keeping.{MadeBegins, CallsKeepMade, CallsBeginMade, CallsBeginOwning, CallsTakeMade, CallsComeToMade};
 
@@ -52,4 +53,18 @@ pub fn others_leave_tables<K, V, S>()
     ensures makings_begin { MakingsBeginTables K V }
     ensures makings { (same : K → K → Bool) (hash : K → ℕ) → MakingsKeepTables K V S same hash }
     ensures endings { (same : K → K → Bool) (hash : K → ℕ) → EndingsKeepTables K V S same hash }
+{}
+
+/// A call under way is short of a growth, by the moment, only where it was refused one: its machine is to be refused for want of memory then. So it is before all events,
+/// and after each step of a call, whoever's; by that the call asks for a growth only where it is short of none, and if it has ended, it is refused for want of memory,
+/// or is short of none. So it is where a call begins, takes a reply and comes to an outcome, where a walk goes on, or is given up, and as long as calls are as they were.
+pub fn calls_are_short_until_refused<K, V, S>()
+    ensures begins { ShortBegins K V }
+    ensures calls { (same : K → K → Bool) (hash : K → ℕ) → CallsKeepShort K V S same hash }
+    ensures begun { CallsBeginShort K V }
+    ensures told { CallsTakeShort K V }
+    ensures come_to { CallsComeToShort K V }
+    ensures stays { StaysShort K V }
+    ensures goes_on { (same : K → K → Bool) (hash : K → ℕ) → WalksGoOnShort K V S same hash }
+    ensures stops { (same : K → K → Bool) (hash : K → ℕ) → WalksStopShort K V S same hash }
 {}

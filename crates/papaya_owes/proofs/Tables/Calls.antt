@@ -1,6 +1,6 @@
 -- A step of a call, of whichever kind: its effects find its table as they must, and each call has the table that the moment says after it.
-use Rattle.std.specs.Prelude.{◌≡◌, ◌<◌, ◌≤◌, ℕ, Bool, true, false, List, length, Option, Some, None, option_map, if◌then◌else◌}
-use Rattle.std.proofs.Common.{refl, ap, sym, subst, ◌∙◌, inl, inr}
+use Rattle.std.specs.Prelude.{◌≡◌, ◌<◌, ◌≤◌, ℕ, Bool, true, List, length, Option, Some, None, option_map}
+use Rattle.std.proofs.Common.{ap, sym, subst, ◌∙◌, inl, inr}
 use Rattle.papaya_tables.specs.declared.node.Node.{Node}
 use Rattle.papaya_tables.specs.declared.table.Table.{Table as Planned}
 use Rattle.papaya_raw.specs.declared.machines.progress.Progress.{Progress}
@@ -19,14 +19,12 @@ use Rattle.papaya_executor.specs.IsAt.{Scene, IsAt}
 use Rattle.papaya_executor.specs.Stepping.{StepLeads, scene_after}
 use Rattle.papaya_executor.specs.declared.executor.Executor.{Executor}
 use Rattle.papaya_finishes.specs.Machines.{machine_of}
-use Rattle.papaya_follows.proofs.Calling.{is_same_refl}
-use Rattle.papaya_follows.proofs.Steps.{WentTo, went_to, one_of}
+use Rattle.papaya_follows.proofs.Steps.{WentTo, went_to}
 use Rattle.papaya_hands.proofs.Asking.{which}
-use Rattle.papaya_hands.proofs.Calling.{caller_is}
 use Rattle.papaya_moments.specs.Whole.{ShowsWhole}
 use Rattle.papaya_owes.specs.Making.{making_of}
 use Rattle.papaya_owes.specs.Tables.{table_made, of_map, ShowsTables, FindTables, CallsKeepTables}
-use Rattle.papaya_owes.proofs.Fields.{all_by, field_after}
+use Rattle.papaya_owes.proofs.Fields.{all_by, field_own, field_other}
 use Rattle.papaya_owes.proofs.Tables.Effects.{table_by, effect_table, tables_kept, none_find, made_find, given_find, linked_find}
 use Rattle.papaya_owes.proofs.Tables.Held.{shape_of}
 use Rattle.papaya_owes.proofs.Tables.Leaves.{TableGoes, Stays, IsMade, IsGivenUp, IsLinked, LeavesTables}
@@ -96,20 +94,12 @@ module _ {K V S : Type 0} (same : K → K → Bool) (hash : K → ℕ) (name : �
   its_there : (c : CallThere K V) × (call_of (name i) m ≡ Some c) × (c.map ≡ map)
   its_there = let c = whole.all.shown.calls map i u here in (c.0, c.1, c.2)
 
-  table_field : (j : ℕ) (c : CallThere K V) → call_of (name j) m ≡ Some c → (d : CallThere K V) → call_of (name j) v ≡ Some d
-      → d.table ≡ (if is_same c.caller (name i) then all_by table_by effects c.table else c.table)
-  table_field j c c_is d d_is =
-      let after = field_after (λ (x : CallThere K V). x.table) table_by effect_table (name i) map (name j) effects m c c_is in
-      ap (λ (x : CallThere K V). x.table) (one_of d after.0 (sym d_is ∙ after.1)) ∙ after.2.1
-
   its_had : its_there.0.table ≡ as_field had
   its_had = tables.tables map i u here its_there.0 its_there.1
 
   own_field : (d : CallThere K V) → call_of (name i) v ≡ Some d → d.table ≡ as_field now
   own_field d d_is =
-      let own : is_same its_there.0.caller (name i) ≡ true = ap (λ (l : List ℕ). is_same l (name i)) (caller_is (name i) m its_there.0 its_there.1) ∙ is_same_refl (name i) in
-      table_field i its_there.0 its_there.1 d d_is ∙ ap (λ (q : Bool). if q then all_by table_by effects its_there.0.table else its_there.0.table) own
-      ∙ field_by left_so.goes its_there.0.table its_had
+      field_own (λ (x : CallThere K V). x.table) table_by effect_table (name i) map effects m its_there.0 its_there.1 d d_is ∙ field_by left_so.goes its_there.0.table its_had
 
   tables_then : (n j : ℕ) (x : UnderWay K V K) → led.calls n j ≡ Some x → (d : CallThere K V) → call_of (name j) v ≡ Some d → d.table ≡ option_map (of_map n) (table_made (making_of (machine_of x)))
   tables_then n j x is d d_is = elim (which s.calls map i to.4.next n j x is) as (λ _. d.table ≡ option_map (of_map n) (table_made (making_of (machine_of x)))) [
@@ -118,17 +108,11 @@ module _ {K V S : Type 0} (same : K → K → Bool) (hash : K → ℕ) (name : �
         ∙ ap (λ (k : ℕ). option_map (of_map k) (table_made (making_of (machine_of x)))) (sym it.0)
     | inr was ↦
         let c = whole.all.shown.calls n j x was.1 in
-        table_field j c.0 c.1 d d_is
-        ∙ by c.0 (is_same c.0.caller (name i)) (λ e. apart was.0 was.1 (ap (λ (l : List ℕ). is_same l (name i)) (sym (caller_is (name j) m c.0 c.1)) ∙ e))
-        ∙ tables.tables n j x was.1 c.0 c.1
+        field_other (λ (y : CallThere K V). y.table) table_by effect_table (name i) map effects m (name j) (apart was.0 was.1) c.0 c.1 d d_is ∙ tables.tables n j x was.1 c.0 c.1
   ]
     where
       apart : (n ≡ map → j ≡ i → ⊥) → s.calls n j ≡ Some x → is_same (name j) (name i) ≡ true → ⊥
       apart other was names = (let both = whole.all.asked.apart n j map i x u was here names in other both.0 both.1)
-
-      by : (c : CallThere K V) (q : Bool) → (q ≡ true → ⊥) → (if q then all_by table_by effects c.table else c.table) ≡ c.table
-      by c true no = absurd (no refl)
-      by c false no = refl
 
   pub step_keeps_tables : FindTables (name i) map effects m × ShowsTables name v known2 led × (to.4.next ≡ None → (c : CallThere K V) → call_of (name i) v ≡ Some c → c.table ≡ None)
   step_keeps_tables = (

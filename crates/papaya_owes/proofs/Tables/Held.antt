@@ -41,6 +41,7 @@ use Rattle.papaya_owes.specs.Tables.{table_in, table_made, HoldsTable}
 use Rattle.papaya_owes.proofs.Held.{IsInHand}
 use Rattle.papaya_owes.proofs.Machines.{call_none, room_none, sweep_none}
 use Rattle.papaya_owes.proofs.Planned.{IsInHands, IsMadeBy, HasLink, IsInTurn, IsItsMaking, key_made, reserve_made, over_all_made, new_made}
+use Rattle.papaya_owes.proofs.Tables.Kinds.{HasUnmade, HasUnmadeSo, has_unmade, row_unmade}
 
 -- a table that was made is one of a making
 pub some_making : (o : Option NewTable) (t : Planned) → table_made o ≡ Some t → (n : NewTable) × (o ≡ Some n) × (table_in n.stands ≡ Some t)
@@ -127,6 +128,18 @@ module _ {K V S : Type 0} (same : K → K → Bool) (hash : K → ℕ) (name : �
         from map j (OverAll x) here n (over_all_made same its.hash its.setting slot_of s.world its.chart (seen_by its.blocks (its.sights (slot_of j))) j n x x.sweep k.1 is)
     | inr k ↦ absurd (let none = sweep_none x.sweep.stands k.1 in cc (none, is))
   ]
+
+  -- where a call is to make its own block, it has the pair for it
+  pub call_unmade : (map j : ℕ) (u : UnderWay K V K) → s.calls map j ≡ Some u → HasUnmadeSo (machine_of u)
+  call_unmade map j (OnKey x) here =
+      let its = standing_is same hash e s at map j (OnKey x) here in
+      elim ((at.together.makings.standing.each map its.0 its.1).stand j (OnKey x) here) as (λ _. HasUnmade x.call x.call.stands) [
+        | inl k ↦ has_unmade same its.0.hash its.0.setting slot_of s.world its.0.chart (seen_by its.0.blocks (its.0.sights (slot_of j))) j x x.call k.1
+        | inr k ↦ row_unmade x.call x.call.stands k.1
+      ]
+  call_unmade map j (ForRoom x) here = tt
+  call_unmade map j (Counting sum) here = tt
+  call_unmade map j (OverAll x) here = tt
 
   -- a table of a call's, and of a making's
 

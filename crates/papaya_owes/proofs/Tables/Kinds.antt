@@ -29,11 +29,11 @@ use Rattle.papaya_teller.specs.declared.changed.Kind.{Kind}
 use Rattle.papaya_teller.specs.declared.changed.Kind.TheVariants as kind
 use Rattle.papaya_callers.specs.Together.{CallOnKey, in_slot, Knows}
 use Rattle.papaya_points.specs.FactsCalls.{Change, CallingFacts}
+use Rattle.papaya_points.specs.Told.{IsRowOfCall}
 use Rattle.papaya_late.specs.LateCalls.{LateCalling}
 use Rattle.seize.specs.World.{World}
-use Rattle.papaya_others.proofs.Outcomes.{told_in}
 use Rattle.papaya_owes.specs.Making.{making_of, making_in_calling, making_in_reserving, making_in_sweeping}
-use Rattle.papaya_owes.proofs.Walks.{IsToMake, PlanMakesSo, IsToOwn, plan_made_so, plan_made, call_makes, reserve_makes, sweep_makes, sum_at}
+use Rattle.papaya_owes.proofs.Walks.{IsToMake, PlanMakesSo, IsToOwn, so_as, so_more, plan_made_so, plan_unmade_so, plan_no_room, call_makes, reserve_makes, sweep_makes, sum_at}
 
 module _ {K V : Type 0} where
   abbrev IsPairKind : Node K V → Type 0
@@ -78,6 +78,10 @@ module _ {K V : Type 0} where
     own_pairs (calling.Over end) own has = absurd own
 
   -- of a call, whichever it is: it makes a block for a pair, or the table of its making
+
+  abbrev pub IsWhich : Machine K V K → Node K V → Type 0
+  IsWhich before value = IsPairKind value ⊎ IsToMake (making_of before) value
+
   abbrev pub MakesWhich : Machine K V K → Kind → Type 0
   MakesWhich before k = (k ≡ kind.Pair) ⊎ ((value : Node K V) × IsToMake (making_of before) value × (kind_of value ≡ k))
 
@@ -85,25 +89,34 @@ module _ {K V : Type 0} where
   HasUnmadeSo (kinds.Key p) = HasUnmade p p.stands
   HasUnmadeSo _ = Unit {0}
 
-  module _ (asks : K → K → Bool) (same : K → K → Bool) (hash : K → ℕ) (m m2 : Mem (Node K V)) (told : Changed) (machine : Machine K V K) (said : Progress (Node K V)) (k : Kind) (b : ℕ)
-      (made : told ≡ changed.Made k b) where
-    pub which_made : (before : Machine K V K) → HasUnmadeSo before → StepsTold K V (Machine K V K × Progress (Node K V)) m changed.Nothing (machine_plan asks same hash before) m2 told (machine, said)
-        → MakesWhich before k
-    which_made (kinds.Key p) has s =
-        let it = told_in m m2 told of_key (call_plan asks same hash p) (machine, said) s in
-        elim (call_makes asks same hash p) as (λ _. MakesWhich (kinds.Key p) k) [
-          | inl own ↦
-              let by = plan_made_so IsPairKind m m2 told (call_plan asks same hash p) it.0 it.2 (own_pairs asks same hash p p.stands own has) k b made in inl (sym by.2 ∙ by.1)
-          | inr so ↦ inr (plan_made (making_in_calling p.stands) m m2 told (call_plan asks same hash p) it.0 it.2 so k b made)
-        ]
-    which_made (kinds.Reserve r) has s =
-        let it = told_in m m2 told of_room (reserve_plan hash r) (machine, said) s in
-        inr (plan_made (making_in_reserving r.stands) m m2 told (reserve_plan hash r) it.0 it.2 (reserve_makes hash r) k b made)
-    which_made (kinds.Sweep c) has s =
-        let it = told_in m m2 told of_sweep (sweep_plan hash c) (machine, said) s in
-        inr (plan_made (making_in_sweeping c.stands) m m2 told (sweep_plan hash c) it.0 it.2 (sweep_makes hash c) k b made)
-    which_made (kinds.Count sum) has s =
-        let it = told_in m m2 told of_sum (sum_plan sum) (machine, said) s in inr (plan_made None m m2 told (sum_plan sum) it.0 it.2 (sum_at None sum sum.stands) k b made)
+  module _ (asks : K → K → Bool) (same : K → K → Bool) (hash : K → ℕ) where
+    pub makes_which : (before : Machine K V K) → HasUnmadeSo before → PlanMakesSo (IsWhich before) (machine_plan asks same hash before)
+    makes_which (kinds.Key p) has =
+        so_as (IsWhich (kinds.Key p)) of_key (call_plan asks same hash p) (elim (call_makes asks same hash p) as (λ _. PlanMakesSo (IsWhich (kinds.Key p)) (call_plan asks same hash p)) [
+          | inl own ↦ so_more IsPairKind (IsWhich (kinds.Key p)) (λ value is. inl is) (call_plan asks same hash p) (own_pairs asks same hash p p.stands own has)
+          | inr so ↦ so_more (IsToMake (making_in_calling p.stands)) (IsWhich (kinds.Key p)) (λ value is. inr is) (call_plan asks same hash p) so
+        ])
+    makes_which (kinds.Reserve r) has =
+        so_as (IsWhich (kinds.Reserve r)) of_room (reserve_plan hash r) (so_more (IsToMake (making_in_reserving r.stands)) (IsWhich (kinds.Reserve r)) (λ value is. inr is) (reserve_plan hash r) (reserve_makes hash r))
+    makes_which (kinds.Sweep c) has =
+        so_as (IsWhich (kinds.Sweep c)) of_sweep (sweep_plan hash c) (so_more (IsToMake (making_in_sweeping c.stands)) (IsWhich (kinds.Sweep c)) (λ value is. inr is) (sweep_plan hash c) (sweep_makes hash c))
+    makes_which (kinds.Count sum) has =
+        so_as (IsWhich (kinds.Count sum)) of_sum (sum_plan sum) (so_more (IsToMake None) (IsWhich (kinds.Count sum)) (λ value is. inr is) (sum_plan sum) (sum_at None sum sum.stands))
+
+    module _ (m m2 : Mem (Node K V)) (told : Changed) (machine : Machine K V K) (said : Progress (Node K V)) (before : Machine K V K) (has : HasUnmadeSo before)
+        (s : StepsTold K V (Machine K V K × Progress (Node K V)) m changed.Nothing (machine_plan asks same hash before) m2 told (machine, said)) where
+      pub which_made : (k : Kind) (b : ℕ) → told ≡ changed.Made k b → MakesWhich before k
+      which_made k b made = by (plan_made_so (IsWhich before) m m2 told (machine_plan asks same hash before) (machine, said) s (makes_which before has) k b made)
+        where
+          by : (value : Node K V) × IsWhich before value × (kind_of value ≡ k) → MakesWhich before k
+          by (value, inl pair, is) = inl (sym is ∙ pair)
+          by (value, inr to_make, is) = inr (value, to_make, is)
+
+      pub which_unmade : (k : Kind) → told ≡ changed.Unmade k → (value : Node K V) × IsWhich before value
+      which_unmade k unmade = plan_unmade_so (IsWhich before) m m2 told (machine_plan asks same hash before) (machine, said) s (makes_which before has) k unmade
+
+      pub no_room : (bucket : ℕ) (had : Bool) → told ≡ changed.Roomed bucket had → ⊥
+      no_room bucket had roomed = plan_no_room (IsWhich before) m m2 told (machine_plan asks same hash before) (machine, said) s (makes_which before has) bucket had roomed
 
 -- a call on one key knows that it has the pair
 module _ {K V : Type 0} (same : K → K → Bool) (hash : K → ℕ) (setting : Setting) (slot : ℕ → ℕ) (w : World (Node K V)) (c : Chart K) (seen : Blocks) (i : ℕ) where
@@ -120,3 +133,8 @@ module _ {K V : Type 0} (same : K → K → Bool) (hash : K → ℕ) (setting : 
     | inl facts ↦ unmade_at u.keys u.change p p.stands facts.point
     | inr late ↦ late_unmade u.keys u.began p p.stands late.1.point
   ]
+
+-- within a row it makes none
+pub row_unmade : {K V : Type 0} (p : KeyCall K V K) (q : Calling) → IsRowOfCall q → HasUnmade p q
+row_unmade p calling.Makes row = absurd row
+row_unmade p _ row = tt

@@ -7,6 +7,7 @@ use Rattle.seize_words.specs.Plan.{Ends}
 use Rattle.seize_words.specs.Word.{block_in}
 use Rattle.seize_words.specs.declared.at.At.{At}
 use Rattle.seize_words.specs.declared.at.At.TheVariants.{Root, Used, Slot, Entry, Word}
+use Rattle.seize_words.specs.declared.fault.Fault.TheVariants.{Memory}
 use Rattle.seize.specs.declared.progress.Progress.{Progress as Counting}
 use Rattle.seize.specs.declared.progress.Progress.TheVariants as progress
 use Rattle.papaya_tables.specs.declared.node.Node.{Node}
@@ -107,3 +108,20 @@ module _ {K V : Type 0} (m m2 : Mem (Node K V)) (told : Changed) (n : NewTable) 
   pub made_with : (u : Planned) → n.stands ≡ making.Makes u → (e : End) → StepsTold K V End m changed.Nothing (new_table_plan n) m2 told e → (k : Kind) (b : ℕ) → told ≡ changed.Made k b → HasMadeTable u b e
   made_with u is e s k b made =
       let there : Told (making.Makes u) e = subst (λ (p : Making). Told p e) is s in made_by_out u k b e there.0 _ there.1.1 there.2 made
+
+  -- A table was refused: the making is.
+
+  refused_by_out : (u : Planned) (k : Kind) (e : End) (out : Out (Node K V)) (words : ℕ)
+      → told ≡ told_of (Make (node.Table u.len u.limit u.turn) words) out (seen_of m (Make (node.Table u.len u.limit u.turn) words) out) → Ends (value_at m2) (tables.made n u out) e
+      → told ≡ changed.Unmade k → e.1 ≡ progress.Refused Memory
+  refused_by_out u k e (Made (Err back)) words is end unmade = ap (λ (x : End). x.1) end
+  refused_by_out u k e (Made (Ok x)) words is end unmade = absurd (let both = sym is ∙ unmade in cc both)
+  refused_by_out u k e (Found found) words is end unmade = absurd (let both = sym is ∙ unmade in cc both)
+  refused_by_out u k e Stored words is end unmade = absurd (let both = sym is ∙ unmade in cc both)
+  refused_by_out u k e (Exchanged r) words is end unmade = absurd (let both = sym is ∙ unmade in cc both)
+  refused_by_out u k e (Taken value) words is end unmade = absurd (let both = sym is ∙ unmade in cc both)
+  refused_by_out u k e (Roomed r) words is end unmade = absurd (let both = sym is ∙ unmade in cc both)
+
+  pub refused_with : (u : Planned) → n.stands ≡ making.Makes u → (e : End) → StepsTold K V End m changed.Nothing (new_table_plan n) m2 told e → (k : Kind) → told ≡ changed.Unmade k → e.1 ≡ progress.Refused Memory
+  refused_with u is e s k unmade =
+      let there : Told (making.Makes u) e = subst (λ (p : Making). Told p e) is s in refused_by_out u k e there.0 _ there.1.1 there.2 unmade

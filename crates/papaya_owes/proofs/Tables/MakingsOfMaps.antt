@@ -47,7 +47,7 @@ use Rattle.papaya_owes.proofs.Planned.{IsMadeBy}
 use Rattle.papaya_owes.proofs.Tables.Aside.{fields_still}
 use Rattle.papaya_owes.proofs.Tables.Goes.{with_table, with_made}
 use Rattle.papaya_owes.proofs.Tables.Held.{OpeningMade, some_making, role_there, maker_made, maker_hands, held_by, noted_by}
-use Rattle.papaya_owes.proofs.Tables.Hosts.{Within, OpeningGoes, opening_within}
+use Rattle.papaya_owes.proofs.Tables.Hosts.{Within, OpeningGoes, Any, opening_within}
 use Rattle.papaya_owes.proofs.Tables.Leaves.{IsOneStep, TableGoes, Stays, IsMade, IsGivenUp, IsLinked, LeavesTables, left_without}
 use Rattle.papaya_owes.proofs.Tables.Roles.{of_table, NoneOfTable, FreeBefore, does_to_tables}
 
@@ -164,14 +164,14 @@ module _ {K V S : Type 0} (same : K → K → Bool) (hash : K → ℕ) (name : �
 
     -- where the step is one of this making, it goes on so
     module _ (n : NewTable) (making_is : making_in_opening b.machine.stands ≡ Some n) where
-      abbrev inner : Within old.memory.memory new.memory.memory told n (OpeningGoes old.memory.memory new.memory.memory told b.machine (end, said))
+      abbrev inner : Within old.memory.memory new.memory.memory told n (OpeningGoes old.memory.memory new.memory.memory told b.machine (end, said)) (Any old.memory.memory new.memory.memory told b.machine (end, said))
       inner = opening_within old.memory.memory new.memory.memory told b.machine (end, said) n making_is steps
 
       its_making : OpeningMade same hash name m known s old at shown i n
       its_making = maker_made same hash name m known s old at shown i b here n making_is
 
       goes_on : inner.0.1 ≡ progress.Goes → now ≡ table_in inner.0.0.stands
-      goes_on goes = let so = inner.2 goes in ap now_of so.1 ∙ ap table_made so.0
+      goes_on goes = let so = inner.2.0 goes in ap now_of so.1 ∙ ap table_made so.0
 
       with_its_table : (p : Planned) → table_in n.stands ≡ Some p → Left
       with_its_table p has =

@@ -10,9 +10,6 @@ use Rattle.papaya_tables.specs.declared.table.Table.{Table as Planned}
 use Rattle.papaya_resize.specs.declared.new_table.Making.{Making}
 use Rattle.papaya_resize.specs.declared.new_table.Making.TheVariants as making
 use Rattle.papaya_resize.specs.declared.new_table.NewTable.{NewTable}
-use Rattle.papaya_raw.specs.declared.machines.call.Calling.{Calling}
-use Rattle.papaya_raw.specs.declared.machines.call.Calling.TheVariants as calling
-use Rattle.papaya_raw.specs.declared.machines.call.KeyCall.{KeyCall}
 use Rattle.papaya_raw.specs.declared.machines.machine.Machine.{Machine}
 use Rattle.papaya_raw.specs.declared.machines.progress.Progress.{Progress}
 use Rattle.papaya_raw.specs.declared.machines.progress.Progress.TheVariants as said_so
@@ -23,18 +20,15 @@ use Rattle.papaya_teller.specs.Changed.{kind_of}
 use Rattle.papaya_teller.specs.declared.changed.Changed.{Changed}
 use Rattle.papaya_teller.specs.declared.changed.Changed.TheVariants as changed
 use Rattle.papaya_teller.specs.declared.changed.Kind.TheVariants as kind
-use Rattle.papaya_points.specs.Told.{IsRowOfCall}
-use Rattle.papaya_callers.specs.Sights.{seen_by}
-use Rattle.papaya_callers.specs.Together.{UnderWay, OnKey, ForRoom, Counting, OverAll, Together}
+use Rattle.papaya_callers.specs.Together.{UnderWay}
 use Rattle.papaya_effects.specs.Effects.{effects_of, known_after}
 use Rattle.papaya_effects.specs.Known.{Known}
 use Rattle.papaya_effects.specs.declared.acting.Acting.{Acting}
 use Rattle.papaya_effects.specs.declared.acting.Acting.TheVariants as acts
-use Rattle.papaya_executor.specs.IsAt.{Scene, IsAt, slot_of}
+use Rattle.papaya_executor.specs.IsAt.{Scene, IsAt}
 use Rattle.papaya_executor.specs.Stepping.{StepLeads, scene_after}
 use Rattle.papaya_executor.specs.declared.executor.Executor.{Executor}
 use Rattle.papaya_finishes.specs.Machines.{machine_of, GoesOnAs}
-use Rattle.papaya_finishes.specs.Maps.{Standing}
 use Rattle.papaya_follows.specs.Shows.{Shows}
 use Rattle.papaya_follows.proofs.Calling.{is_same_refl}
 use Rattle.papaya_follows.proofs.Operations.{LeavesBy, operated_leaves}
@@ -47,9 +41,9 @@ use Rattle.papaya_owes.proofs.Kept.{calls_beside, calls_its}
 use Rattle.papaya_owes.proofs.InHand.{free_there}
 use Rattle.papaya_owes.proofs.Planned.{IsMadeBy}
 use Rattle.papaya_owes.proofs.Tables.Goes.{with_table, with_made}
-use Rattle.papaya_owes.proofs.Tables.Held.{MadeThere, some_making, role_there, call_made, call_hands, held_by, noted_by}
-use Rattle.papaya_owes.proofs.Tables.Hosts.{Within, CallGoes, step_within}
-use Rattle.papaya_owes.proofs.Tables.Kinds.{HasUnmade, HasUnmadeSo, which_made, has_unmade}
+use Rattle.papaya_owes.proofs.Tables.Held.{MadeThere, some_making, role_there, call_made, call_hands, held_by, noted_by, call_unmade}
+use Rattle.papaya_owes.proofs.Tables.Hosts.{Within, CallGoes, CallRefuses, step_within}
+use Rattle.papaya_owes.proofs.Tables.Kinds.{which_made}
 use Rattle.papaya_owes.proofs.Tables.Leaves.{IsOneStep, LeavesTables, left_without}
 use Rattle.papaya_owes.proofs.Tables.Roles.{FreeBefore, does_to_tables}
 
@@ -139,14 +133,14 @@ module _ {K V S : Type 0} (same : K → K → Bool) (hash : K → ℕ) (name : �
 
   -- where the step is one of this making, it goes on so
   module _ (n : NewTable) (making_is : making_of (machine_of u) ≡ Some n) where
-    abbrev inner : Within old.memory.memory new.memory.memory told n (CallGoes old.memory.memory new.memory.memory told same same hash to.1 said)
+    abbrev inner : Within old.memory.memory new.memory.memory told n (CallGoes old.memory.memory new.memory.memory told same same hash to.1 said) (CallRefuses old.memory.memory new.memory.memory told same same hash to.1 said)
     inner = step_within old.memory.memory new.memory.memory told same same hash to.1 said (machine_of u) n making_is to.3
 
     its_making : MadeThere same hash name m known s old at whole.all.shown map i n
     its_making = call_made same hash name m known s old at whole.all.shown map i u here n making_is
 
     goes_on : inner.0.1 ≡ progress.Goes → now ≡ table_in inner.0.0.stands
-    goes_on goes = let so = inner.2 goes in next_is so.1 ∙ ap table_made so.0
+    goes_on goes = let so = inner.2.0 goes in next_is so.1 ∙ ap table_made so.0
 
     with_its_table : (t : Planned) → table_in n.stands ≡ Some t → Left
     with_its_table t has =
@@ -162,31 +156,10 @@ module _ {K V S : Type 0} (same : K → K → Bool) (hash : K → ℕ) (name : �
         with_made its known told s led i had now many one old.memory.memory new.memory.memory n inner.0 inner.1 goes_on its_making.2
         none table stands places b len limit turn made_it kind_is
 
-  -- what a call is to make
-
-  abbrev st : Standing K
-  st = to.0
-
-  each : Together V same st.hash same st.setting slot_of w st.chart st.blocks st.sights (s.calls map)
-  each = at.together.makings.standing.each map st to.2
-
-  row_unmade : (p : KeyCall K V K) (q : Calling) → IsRowOfCall q → HasUnmade p q
-  row_unmade p calling.Makes row = absurd row
-  row_unmade p _ row = tt
-
-  unmade : (x : UnderWay K V K) → s.calls map i ≡ Some x → HasUnmadeSo (machine_of x)
-  unmade (OnKey x) is = elim (each.stand i (OnKey x) is) as (λ _. HasUnmade x.call x.call.stands) [
-    | inl k ↦ has_unmade same st.hash st.setting slot_of w st.chart (seen_by st.blocks (st.sights (slot_of i))) i x x.call k.1
-    | inr k ↦ row_unmade x.call x.call.stands k.1
-  ]
-  unmade (ForRoom x) is = tt
-  unmade (Counting x) is = tt
-  unmade (OverAll x) is = tt
-
   -- a table that it makes
   made_table : had ≡ None → (b len limit turn : ℕ) → told ≡ changed.Made (kind.Table len limit turn) b → Left
   made_table none b len limit turn made_it =
-      elim (which_made same same hash old.memory.memory new.memory.memory told to.1 said (kind.Table len limit turn) b made_it (machine_of u) (unmade u here) to.3) as (λ _. Left) [
+      elim (which_made same same hash old.memory.memory new.memory.memory told to.1 said (machine_of u) (call_unmade same hash name m known s old at whole.all.shown map i u here) to.3 (kind.Table len limit turn) b made_it) as (λ _. Left) [
         | inl pair ↦ absurd (cc pair)
         | inr (value, (n, table, making_is, stands, value_is), kind_is) ↦ made_its n making_is none table stands b len limit turn made_it (ap kind_of (sym value_is) ∙ kind_is)
       ]
