@@ -159,7 +159,7 @@ module _ (K V : Type 0) where
   asked_machine (kinds.Sweep c) o = (tt, refl)
   asked_machine (kinds.Count sum) o = (tt, refl)
 
-  stopped_none : (y : Machine K V K) → true ≡ (machine_asked y).1 → own_word y ≡ 0
+  pub stopped_none : (y : Machine K V K) → true ≡ (machine_asked y).1 → own_word y ≡ 0
   stopped_none (kinds.Key p) e = absurd (cc e)
   stopped_none (kinds.Reserve r) e = refl
   stopped_none (kinds.Sweep c) e = refl

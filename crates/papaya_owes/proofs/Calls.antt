@@ -8,17 +8,19 @@ use Rattle.seize_words.specs.Word.{block_in}
 use Rattle.seize.specs.World.{World, with_at}
 use Rattle.papaya_tables.specs.declared.node.Node.{Node}
 use Rattle.papaya_resize.specs.declared.new_table.NewTable.{NewTable}
-use Rattle.papaya_raw.specs.Machine.{machine_plan}
+use Rattle.papaya_raw.specs.Machine.{machine_plan, called as of_key}
 use Rattle.papaya_raw.specs.Progress.{of_called}
 use Rattle.papaya_raw.specs.declared.machines.answer.Called.{Called}
 use Rattle.papaya_raw.specs.declared.machines.call.KeyCall.{KeyCall}
 use Rattle.papaya_raw.specs.declared.machines.machine.Machine.{Machine}
 use Rattle.papaya_raw.specs.declared.machines.progress.Progress.{Progress}
+use Rattle.papaya_raw.specs.Call.{call_plan}
 use Rattle.papaya_runs.specs.Same.{is_same}
 use Rattle.papaya_schedules.specs.declared.effect.Effect.{Effect}
 use Rattle.papaya_schedules.specs.Effects.{with_effects}
 use Rattle.papaya_schedules.specs.Moment.{UnderWay as CallThere, Moment}
 use Rattle.papaya_schedules.specs.Views.{call_of}
+use Rattle.papaya_schedules.specs.Growing.{has_value_for}
 use Rattle.papaya_teller.specs.declared.changed.Changed.{Changed}
 use Rattle.papaya_teller.specs.declared.changed.Changed.TheVariants as changed
 use Rattle.papaya_teller.specs.declared.changed.Kind.TheVariants as kind
@@ -48,7 +50,8 @@ use Rattle.papaya_follows.proofs.Calling.{is_same_refl}
 use Rattle.papaya_follows.proofs.Operations.{LeavesBy, operated_leaves}
 use Rattle.papaya_follows.proofs.Rows.{one_step_leaves}
 use Rattle.papaya_follows.proofs.RowSteps.{row_done}
-use Rattle.papaya_follows.proofs.Steps.{WentTo, went_to, made_so, DidSo, OfNoRow}
+use Rattle.papaya_follows.proofs.Steps.{WentTo, went_to, made_so, DidSo, OfNoRow, one_of}
+use Rattle.papaya_follows.specs.Calls.{IsCalled}
 use Rattle.papaya_hands.proofs.Asking.{which}
 use Rattle.papaya_hands.proofs.RowSteps.{rows_hand_theirs}
 use Rattle.papaya_moments.specs.Whole.{ShowsWhole}
@@ -65,11 +68,14 @@ use Rattle.papaya_owes.proofs.Fields.{field_own, field_other}
 use Rattle.papaya_owes.proofs.Held.{IsInHand}
 use Rattle.papaya_owes.proofs.InHand.{free_there, in_hand}
 use Rattle.papaya_owes.proofs.Kept.{calls_beside, calls_its}
-use Rattle.papaya_owes.proofs.Machines.{call_none, room_none, sweep_none, came_to, key_machine, key_said, key_tells, key_code, key_owns, key_word, room_word, over_word}
+use Rattle.papaya_owes.proofs.Machines.{call_none, room_none, sweep_none, came_to, key_machine, key_said, key_tells, key_code, key_owns, key_word, room_word, over_word, room_no_pair, over_no_pair}
 use Rattle.papaya_owes.proofs.Planned.{HasPlaces, key_has, reserve_has, over_all_has}
 use Rattle.papaya_owes.proofs.Roles.{own_of, MakesFree, DoesSo, Leaves, Makes, GivesUp, Stores, does_so}
-use Rattle.papaya_owes.proofs.Step.{LeavesMade, left_so, leaves_made}
-use Rattle.papaya_owes.proofs.Words.{WordGoes, KeepsWord}
+use Rattle.papaya_owes.proofs.Step.{LeavesMade, left_so, leaves_made, MakersHaveValues}
+use Rattle.papaya_owes.proofs.Words.{WordGoes, KeepsWord, none_for_pair}
+use Rattle.papaya_owes.proofs.Valued.{HasGiven, call_valued, row_no_own, knows_given}
+use Rattle.papaya_owes.proofs.Walks.{plan_made, call_makes}
+use Rattle.papaya_others.proofs.Outcomes.{told_in}
 
 -- a call that goes on is the machine that it has come to
 pub goes_as_one : {K V : Type 0} (machine : Machine K V K) (said : Progress (Node K V)) (next : Option (UnderWay K V K)) → GoesOnAs machine said next → (x : UnderWay K V K) → next ≡ Some x → machine_of x ≡ machine
@@ -269,12 +275,46 @@ module _ {K V S : Type 0} (same : K → K → Bool) (hash : K → ℕ) (name : �
   word_goes : GoesTo u
   word_goes = goes_by u here to.3 may owns to.4.did
 
+  -- a call that makes a block for a pair has a value for it
+
+  key_values : (x : CallOnKey K V K) → s.calls map i ≡ Some (OnKey x) → Stepped (OnKey x) → Did (OnKey x) → (b : ℕ) → told ≡ changed.Made kind.Pair b → HasGiven x.pair
+  key_values x is steps did b made_one =
+      let it = told_in old.memory.memory new.memory.memory told of_key (call_plan same same hash x.call) (to.1, said) steps in
+      elim (call_makes same same hash x.call) as (λ _. HasGiven x.pair) [
+        | inr so ↦ absurd (
+            let by = plan_made (making_in_calling x.call.stands) old.memory.memory new.memory.memory told (call_plan same same hash x.call) it.0 it.2 so kind.Pair b made_one in
+            none_for_pair (making_in_calling x.call.stands) by.0 by.1 (key_places x is did) by.2
+        )
+        | inl own ↦ elim (each.stand i (OnKey x) is) as (λ _. HasGiven x.pair) [
+            | inl k ↦
+                knows_given same st.hash st.setting slot_of w st.chart (seen_by st.blocks (st.sights (slot_of i))) i x x.call k.1 own hash old.memory.memory new.memory.memory told it.0 kind.Pair b
+                made_one it.2
+            | inr k ↦ absurd (row_no_own x.call.stands k.1 own)
+          ]
+      ]
+
+  values_by : (x : UnderWay K V K) → s.calls map i ≡ Some x → Stepped x → Did x → (b : ℕ) → told ≡ changed.Made kind.Pair b → (c : CallThere K V) → call_of (name i) m ≡ Some c → IsCalled same x c.call
+      → has_value_for c.call c ≡ true
+  values_by (OnKey x) is steps did b made_one c c_is called =
+      call_valued same (shown.number map) st.chart.stored known x c c.call called (whole.all.asked.each map i (OnKey x) is st to.2 c c_is) (key_values x is steps did b made_one)
+  values_by (ForRoom x) is steps did b made_one c c_is called =
+      absurd (room_no_pair same same hash old.memory.memory new.memory.memory told to.1 said x.reserve (room_places x is did) steps b made_one)
+  values_by (Counting x) is steps (sum2, end, machine_is, told_is, still, stayed) b made_one c c_is called = absurd (still_none still b made_one)
+  values_by (OverAll x) is steps did b made_one c c_is called =
+      absurd (over_no_pair same same hash old.memory.memory new.memory.memory told to.1 said x.sweep (sweep_places x is did) steps b made_one)
+
+  values : MakersHaveValues (name i) m i map known told
+  values b made_one c c_is =
+      let there = shown.calls map i u here in
+      let one : there.0 ≡ c = one_of there.0 c (sym there.1 ∙ c_is) in
+      values_by u here to.3 to.4.did b made_one c c_is (subst (λ (y : CallThere K V). IsCalled same u y.call) one there.3)
+
   abbrev Left : Type 0
   Left = LeavesMade (name i) m i map known told (own_word to.1)
 
   left_all : Left
   left_all = elim (of_row same hash name m known s old new at whole map i u here said leads u to.4.did) as (λ _. Left) [
-    | inl own ↦ leaves_made (name i) m i map known told (own_word (machine_of u)) (own_word to.1) word_goes.0 (made.named map i u here).1 (only own) does
+    | inl own ↦ leaves_made (name i) m i map known told (own_word (machine_of u)) (own_word to.1) word_goes.0 (made.named map i u here).1 values (only own) does
     | inr other ↦
         let none = takes other in
         let roles = row_roles none u to.4.did other in

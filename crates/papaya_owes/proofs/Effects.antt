@@ -8,6 +8,7 @@ use Rattle.papaya_schedules.specs.declared.effect.Effect.TheVariants as effect
 use Rattle.papaya_schedules.specs.declared.effect.Growth.TheVariants.{ABlock}
 use Rattle.papaya_schedules.specs.Effects.{due_for, call_by, with_effect}
 use Rattle.papaya_schedules.specs.Entry.{ByCall}
+use Rattle.papaya_schedules.specs.Growing.{has_value_for}
 use Rattle.papaya_schedules.specs.Moment.{UnderWay as CallThere, Moment}
 use Rattle.papaya_schedules.specs.Views.{call_of}
 use Rattle.papaya_owes.specs.Beside.{of_block, NoneOfBlock}
@@ -82,11 +83,11 @@ module _ {K V : Type 0} where
       none_find fs (with_effect (Some own) (Some map) f m) (call_by m f c) (its_effect own map f m c is) none.1,
     )
 
-    pub made_find : (m : Moment K V) (c : CallThere K V) → call_of own m ≡ Some c → c.has_block ≡ false → FindBlocks own map (effect.Asked ABlock ∷ effect.PairMade ∷ []) m
-    made_find m c is none = (
+    pub made_find : (m : Moment K V) (c : CallThere K V) → call_of own m ≡ Some c → c.has_block ≡ false → has_value_for c.call c ≡ true → FindBlocks own map (effect.Asked ABlock ∷ effect.PairMade ∷ []) m
+    made_find m c is none valued = (
       finds_by (effect.Asked ABlock) m c is tt,
       (
-        finds_by effect.PairMade (with_effect (Some own) (Some map) (effect.Asked ABlock) m) (call_by m (effect.Asked ABlock) c) (its_effect own map (effect.Asked ABlock) m c is) (refl, none),
+        finds_by effect.PairMade (with_effect (Some own) (Some map) (effect.Asked ABlock) m) (call_by m (effect.Asked ABlock) c) (its_effect own map (effect.Asked ABlock) m c is) (refl, none, valued),
         tt,
       ),
     )

@@ -6,6 +6,7 @@ pub mod Walks
 pub mod Planned
 pub mod Own
 pub mod Words
+pub mod Valued
 pub mod Step
 pub mod Held
 pub mod InHand
@@ -21,3 +22,4 @@ pub mod MakingsOfMaps
 pub mod EndsOfMaps
 pub mod Tables
 pub mod Short
+pub mod Clear

@@ -108,16 +108,24 @@ module _ {K V : Type 0} (asks : K → K → Bool) (same : K → K → Bool) (has
     pub key_word : WordGoes told p.own (own_word machine)
     key_word = subst (WordGoes told p.own) (ap own_word (sym key_machine)) (call_word asks same hash p o m m2 told came_to.0 has came_to.2)
 
-  -- a machine of another kind has no such block, and makes none
+  -- a machine of another kind makes no such block,
+
+  pub room_no_pair : (c : Reserve) → ((n : NewTable) → making_in_reserving c.stands ≡ Some n → HasPlaces n.stands) → SteppedFrom (kinds.Reserve c) → (b : ℕ) → told ≡ changed.Made kind.Pair b → ⊥
+  room_no_pair c has steps b made =
+      let inner = told_in m m2 told of_room (reserve_plan hash c) (machine, said) steps in
+      let it = plan_made (making_in_reserving c.stands) m m2 told (reserve_plan hash c) inner.0 inner.2 (reserve_makes hash c) kind.Pair b made in
+      none_for_pair (making_in_reserving c.stands) it.0 it.1 has it.2
+
+  pub over_no_pair : (c : Sweep) → ((n : NewTable) → making_in_sweeping c.stands ≡ Some n → HasPlaces n.stands) → SteppedFrom (kinds.Sweep c) → (b : ℕ) → told ≡ changed.Made kind.Pair b → ⊥
+  over_no_pair c has steps b made =
+      let inner = told_in m m2 told of_sweep (sweep_plan hash c) (machine, said) steps in
+      let it = plan_made (making_in_sweeping c.stands) m m2 told (sweep_plan hash c) inner.0 inner.2 (sweep_makes hash c) kind.Pair b made in
+      none_for_pair (making_in_sweeping c.stands) it.0 it.1 has it.2
+
+  -- and has none
   module _ (other : own_word machine ≡ 0) where
     pub room_word : (c : Reserve) → ((n : NewTable) → making_in_reserving c.stands ≡ Some n → HasPlaces n.stands) → SteppedFrom (kinds.Reserve c) → WordGoes told 0 (own_word machine)
-    room_word c has steps = KeepsWord other (λ b made.
-        let inner = told_in m m2 told of_room (reserve_plan hash c) (machine, said) steps in
-        let it = plan_made (making_in_reserving c.stands) m m2 told (reserve_plan hash c) inner.0 inner.2 (reserve_makes hash c) kind.Pair b made in
-        none_for_pair (making_in_reserving c.stands) it.0 it.1 has it.2)
+    room_word c has steps = KeepsWord other (room_no_pair c has steps)
 
     pub over_word : (c : Sweep) → ((n : NewTable) → making_in_sweeping c.stands ≡ Some n → HasPlaces n.stands) → SteppedFrom (kinds.Sweep c) → WordGoes told 0 (own_word machine)
-    over_word c has steps = KeepsWord other (λ b made.
-        let inner = told_in m m2 told of_sweep (sweep_plan hash c) (machine, said) steps in
-        let it = plan_made (making_in_sweeping c.stands) m m2 told (sweep_plan hash c) inner.0 inner.2 (sweep_makes hash c) kind.Pair b made in
-        none_for_pair (making_in_sweeping c.stands) it.0 it.1 has it.2)
+    over_word c has steps = KeepsWord other (over_no_pair c has steps)

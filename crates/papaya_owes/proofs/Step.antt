@@ -6,6 +6,7 @@ use Rattle.seize_words.specs.Word.{block_in}
 use Rattle.papaya_schedules.specs.declared.effect.Effect.{Effect}
 use Rattle.papaya_schedules.specs.declared.effect.Effect.TheVariants as effect
 use Rattle.papaya_schedules.specs.declared.effect.Growth.TheVariants.{ABlock}
+use Rattle.papaya_schedules.specs.Growing.{has_value_for}
 use Rattle.papaya_schedules.specs.Lists.{put}
 use Rattle.papaya_schedules.specs.Moment.{UnderWay as CallThere, Moment}
 use Rattle.papaya_schedules.specs.Views.{call_of}
@@ -63,6 +64,10 @@ module _ {K V : Type 0} (own : List ℕ) (m : Moment K V) (caller map : ℕ) (kn
   has_as : (h q : Bool) → h ≡ q → HasBlock known2 caller q → HasBlock known2 caller h
   has_as h q e has = subst (HasBlock known2 caller) (sym e) has
 
+  -- who makes a block for a pair has a value for it
+  abbrev pub MakersHaveValues : Type 0
+  MakersHaveValues = (b : ℕ) → told ≡ changed.Made kind.Pair b → (c : CallThere K V) → call_of own m ≡ Some c → has_value_for c.call c ≡ true
+
   module _ (word word2 : ℕ) (goes : WordGoes told word word2) (names : NamesBlock known caller word) where
     -- each block is whose it was
     module _ (same : (x : ℕ) → own_of (known2.roles x) ≡ own_of (known.roles x)) (quiet : NoneOfBlock effects) where
@@ -94,7 +99,7 @@ module _ {K V : Type 0} (own : List ℕ) (m : Moment K V) (caller map : ℕ) (kn
       }
 
     -- a block for a pair was made, by a caller that had none
-    module _ (b : ℕ) (made : told ≡ changed.Made kind.Pair b) (free : known.roles b ≡ role.Free) where
+    module _ (valued : MakersHaveValues) (b : ℕ) (made : told ≡ changed.Made kind.Pair b) (free : known.roles b ≡ role.Free) where
       roles_are : known2.roles ≡ put b (role.OwnPair caller) known.roles
       roles_are = ap (λ (t : Changed). (known_after its t known).roles) made
 
@@ -147,7 +152,7 @@ module _ {K V : Type 0} (own : List ℕ) (m : Moment K V) (caller map : ℕ) (kn
         theirs = λ j x ne is. made_theirs j x is;
         has = λ h has. has_as (all_by block_by effects h) true (ap (λ (fs : List Effect). all_by block_by fs h) effects_are) (b, here);
         named = named_made;
-        finds = λ c c_is has. subst (λ (fs : List Effect). FindBlocks own map fs m) (sym effects_are) (made_find own map m c c_is (has_none c.has_block has had_none));
+        finds = λ c c_is has. subst (λ (fs : List Effect). FindBlocks own map fs m) (sym effects_are) (made_find own map m c c_is (has_none c.has_block has had_none) (valued b made c c_is));
       }
 
     -- its block is that of a pair that is stored, or is gone
@@ -180,13 +185,13 @@ module _ {K V : Type 0} (own : List ℕ) (m : Moment K V) (caller map : ℕ) (kn
         finds = λ c c_is has. finds_so c c_is (has_some c.has_block has b mine);
       }
 
-    module _ (only : (j b : ℕ) → known.roles b ≡ role.OwnPair j → (told ≡ changed.Took b) ⊎ (known2.roles b ≡ role.Pair (known.stored + 1)) → j ≡ caller) where
+    module _ (valued : MakersHaveValues) (only : (j b : ℕ) → known.roles b ≡ role.OwnPair j → (told ≡ changed.Took b) ⊎ (known2.roles b ≡ role.Pair (known.stored + 1)) → j ≡ caller) where
       its_own : (j b : ℕ) → known.roles b ≡ role.OwnPair j → j ≡ caller → IsItsBlock known caller b
       its_own j b is e = is ∙ ap role.OwnPair e
 
       pub leaves_made : DoesSo its known told → LeavesMade word2
       leaves_made (Leaves same quiet) = left_so same quiet
-      leaves_made (Makes b made free) = left_made b made free
+      leaves_made (Makes b made free) = left_made valued b made free
       leaves_made (GivesUp b j took was) =
           left_gone b (its_own j b was (only j b was (inl took)))
           (ap (λ (t : Changed). own_of ((known_after its t known).roles b)) took ∙ ap own_of (put_here b role.Free known.roles b refl))

@@ -14,6 +14,7 @@ use Rattle.papaya_schedules.specs.declared.outcome.Outcome.{Outcome}
 use Rattle.papaya_schedules.specs.Beginning.{with_call}
 use Rattle.papaya_schedules.specs.Effects.{with_effects, AtEachEffect}
 use Rattle.papaya_schedules.specs.Entry.{ByCall, acting, ends_call}
+use Rattle.papaya_schedules.specs.Growing.{has_value_for}
 use Rattle.papaya_schedules.specs.Moment.{UnderWay as CallThere, Moment, start}
 use Rattle.papaya_schedules.specs.Views.{call_of}
 use Rattle.papaya_points.specs.Steps.{AreLawful}
@@ -33,9 +34,9 @@ use Rattle.papaya_moments.specs.Whole.{ShowsWhole}
 use Rattle.papaya_owes.specs.Made.{OwnsSo, ShowsMade}
 
 module _ {K V : Type 0} where
-  -- A block for a pair is made on asking for it, by a call that has none; one is given up, and a pair stored, by a call that has one.
+  -- A block for a pair is made on asking for it, by a call that has none, and a value for it; one is given up, and a pair stored, by a call that has one.
   abbrev pub FindsBlock : Effect → CallThere K V → Type 0
-  FindsBlock PairMade c = (c.is_short ≡ true) × (c.has_block ≡ false)
+  FindsBlock PairMade c = (c.is_short ≡ true) × (c.has_block ≡ false) × (has_value_for c.call c ≡ true)
   FindsBlock PairGivenUp c = c.has_block ≡ true
   FindsBlock (Stored n s) c = c.has_block ≡ true
   FindsBlock _ c = Unit {0}

@@ -5,3 +5,4 @@ pub mod Beside
 pub mod Tables
 pub mod TablesBeside
 pub mod Short
+pub mod Clear

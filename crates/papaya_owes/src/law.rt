@@ -4,6 +4,7 @@ ghost use Rattle.papaya_owes.specs.Beside.{StaysMade, WalksGoOnMade, WalksStopMa
 ghost use Rattle.papaya_owes.specs.Tables.{CallsKeepTables, CallsBeginTables, CallsTakeTables, CallsComeToTables};
 ghost use Rattle.papaya_owes.specs.Short.{ShortBegins, StaysShort, CallsKeepShort, CallsBeginShort, CallsTakeShort, CallsComeToShort, WalksGoOnShort, WalksStopShort};
 ghost use Rattle.papaya_owes.specs.TablesBeside.{TablesBegin, StaysTables, WalksGoOnTables, WalksStopTables, RowsKeepTables, MakingsBeginTables, MakingsKeepTables, EndingsKeepTables};
+ghost use Rattle.papaya_owes.specs.Clear.{WalksAreClear};
 ghost use Rattle.papaya_owes.specs.Keeping.{MadeBegins, CallsKeepMade, CallsBeginMade, CallsBeginOwning, CallsTakeMade, CallsComeToMade};
 
 /// At each moment of a run that shows the executor, a call under way has made a block for a pair, and has not stored it, just if the moment says so. It has one such
@@ -67,4 +68,9 @@ pub fn calls_are_short_until_refused<K, V, S>()
     ensures stays { StaysShort K V }
     ensures goes_on { (same : K → K → Bool) (hash : K → ℕ) → WalksGoOnShort K V S same hash }
     ensures stops { (same : K → K → Bool) (hash : K → ℕ) → WalksStopShort K V S same hash }
+{}
+
+/// A walk that is ready has neither a block for a pair nor a table that it has made, and is short of no growth, as a call that has ended.
+pub fn ready_walks_are_clear<K, V>()
+    ensures { WalksAreClear K V }
 {}
