@@ -144,12 +144,12 @@ module _ {K V S : Type 0} (same : K → K → Bool) (hash : K → ℕ) (name : �
 
   -- a block that is made was free
   makes_free : (x : Changed) → LeavesBy w.memory new.memory.memory x → MakesFree its known x
-  makes_free (changed.Made k b) left = free_there w m.stored known shown.blocks.roles b left.0
-  makes_free changed.Nothing left = tt
-  makes_free (changed.Wrote at before after) left = tt
-  makes_free (changed.Unmade k) left = tt
-  makes_free (changed.Took b) left = tt
-  makes_free (changed.Roomed bucket had) left = tt
+  makes_free (changed.Made k b) l = free_there w m.stored known shown.blocks.roles b l.0
+  makes_free changed.Nothing l = tt
+  makes_free (changed.Wrote at before after) l = tt
+  makes_free (changed.Unmade k) l = tt
+  makes_free (changed.Took b) l = tt
+  makes_free (changed.Roomed bucket had) l = tt
 
   does : DoesSo its known told
   does = does_so its known told (makes_free told left)

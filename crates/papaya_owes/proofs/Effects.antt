@@ -11,6 +11,7 @@ use Rattle.papaya_schedules.specs.Entry.{ByCall}
 use Rattle.papaya_schedules.specs.Growing.{has_value_for}
 use Rattle.papaya_schedules.specs.Moment.{UnderWay as CallThere, Moment}
 use Rattle.papaya_schedules.specs.Views.{call_of}
+use Rattle.papaya_schedules.specs.declared.effect.Growth.{Growth}
 use Rattle.papaya_owes.specs.Beside.{of_block, NoneOfBlock}
 use Rattle.papaya_owes.specs.Keeping.{FindsBlock, FindBlocks}
 use Rattle.papaya_owes.proofs.Fields.{all_by, its_effect}
@@ -65,6 +66,15 @@ module _ {K V : Type 0} where
   effect_block m (effect.Ended n) c = refl
   effect_block m (effect.Taken t) c = refl
 
+  -- to ask for a growth leaves it the value
+  value_there : (growth : Growth) (m : Moment K V) (its : Call K V) (c : CallThere K V) → has_value_for its c ≡ has_value_for its (call_by m (effect.Asked growth) c)
+  value_there growth m (call.On one) c = refl
+  value_there growth m (call.Reserve n) c = refl
+  value_there growth m call.Clear c = refl
+  value_there growth m call.Retain c = refl
+  value_there growth m call.Len c = refl
+  value_there growth m call.Walk c = refl
+
   quiet_finds : (f : Effect) (c : CallThere K V) → of_block f ≡ false → FindsBlock f c
   quiet_finds effect.PairMade c e = absurd (cc e)
   quiet_finds effect.PairGivenUp c e = absurd (cc e)
@@ -87,7 +97,7 @@ module _ {K V : Type 0} where
     made_find m c is none valued = (
       finds_by (effect.Asked ABlock) m c is tt,
       (
-        finds_by effect.PairMade (with_effect (Some own) (Some map) (effect.Asked ABlock) m) (call_by m (effect.Asked ABlock) c) (its_effect own map (effect.Asked ABlock) m c is) (refl, none, valued),
+        finds_by effect.PairMade (with_effect (Some own) (Some map) (effect.Asked ABlock) m) (call_by m (effect.Asked ABlock) c) (its_effect own map (effect.Asked ABlock) m c is) (refl, none, sym (value_there ABlock m c.call c) ∙ valued),
         tt,
       ),
     )

@@ -60,8 +60,8 @@ module _ {K V X : Type 0} (get : CallThere K V → X) (by : Effect → X → X) 
         ap get (one_of d after.0 (sym d_is ∙ after.1)) ∙ after.2.1 ∙ unless (is_same c.caller own) (λ e. apart (ap (λ (l : List ℕ). is_same l own) (sym (caller_is name m c c_is)) ∙ e))
       where
         unless : (q : Bool) → (q ≡ true → ⊥) → (if q then all_by by effects (get c) else get c) ≡ get c
-        unless true no = absurd (no refl)
-        unless false no = refl
+        unless true other = absurd (other refl)
+        unless false other = refl
 
 -- the call of a name after an effect of its own
 module _ {K V : Type 0} (own : List ℕ) (acted : ℕ) where

@@ -113,13 +113,13 @@ module _ {K V : Type 0} (asks : K → K → Bool) (same : K → K → Bool) (has
   pub room_no_pair : (c : Reserve) → ((n : NewTable) → making_in_reserving c.stands ≡ Some n → HasPlaces n.stands) → SteppedFrom (kinds.Reserve c) → (b : ℕ) → told ≡ changed.Made kind.Pair b → ⊥
   room_no_pair c has steps b made =
       let inner = told_in m m2 told of_room (reserve_plan hash c) (machine, said) steps in
-      let it = plan_made (making_in_reserving c.stands) m m2 told (reserve_plan hash c) inner.0 inner.2 (reserve_makes hash c) kind.Pair b made in
+      let it = plan_made (making_in_reserving c.stands) m m2 told (reserve_plan hash c) inner.0 inner.2 (reserve_makes K V hash c) kind.Pair b made in
       none_for_pair (making_in_reserving c.stands) it.0 it.1 has it.2
 
   pub over_no_pair : (c : Sweep) → ((n : NewTable) → making_in_sweeping c.stands ≡ Some n → HasPlaces n.stands) → SteppedFrom (kinds.Sweep c) → (b : ℕ) → told ≡ changed.Made kind.Pair b → ⊥
   over_no_pair c has steps b made =
       let inner = told_in m m2 told of_sweep (sweep_plan hash c) (machine, said) steps in
-      let it = plan_made (making_in_sweeping c.stands) m m2 told (sweep_plan hash c) inner.0 inner.2 (sweep_makes hash c) kind.Pair b made in
+      let it = plan_made (making_in_sweeping c.stands) m m2 told (sweep_plan hash c) inner.0 inner.2 (sweep_makes K V hash c) kind.Pair b made in
       none_for_pair (making_in_sweeping c.stands) it.0 it.1 has it.2
 
   -- and has none

@@ -67,7 +67,7 @@ module _ {K V : Type 0} (w : World (Node K V)) (i roots : ℕ) (n : NewMap) wher
   opening_makes : (p : Opening) → PlanMakes {K = K} {V = V} (making_in_opening p) (new_map.plan_at n p) ⊎ (p ≡ opening.Shards)
   opening_makes opening.Takes = inl tt
   opening_makes opening.Shards = inr refl
-  opening_makes (opening.Tables making) = inl (makes_as {K = K} {V = V} (Some making) (new_map.opened n) (new_table.new_table_plan making) (table_makes {K = K} {V = V} making))
+  opening_makes (opening.Tables making) = inl (makes_as {K = K} {V = V} (Some making) (new_map.opened n) (new_table.new_table_plan making) (table_makes K V making))
   opening_makes (opening.Unmakes fault) = inl tt
   opening_makes (opening.Frees fault) = inl tt
   opening_makes opening.Over = inl tt

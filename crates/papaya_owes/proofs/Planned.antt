@@ -112,9 +112,9 @@ module _ {K V : Type 0} (same : K → K → Bool) (hash : K → ℕ) (w : World 
 
   -- another one stands there
   found_before : (link : At) (turn u : ℕ) → IsLinkOf setting c blocks link turn → StandsAs setting c link turn u → u < c.past → turn < c.past
-  found_before link turn u (inl (is, first)) as before = omega (arith, first, before)
-  found_before link turn u (inr (t, is, next, there, seen, aborted)) as before =
-      let same_turn : u ≡ turn = subst (λ (a : At). StandsAs setting c a turn u) is as in omega (arith, same_turn, before)
+  found_before link turn u (inl (is, first)) stands before = omega (arith, first, before)
+  found_before link turn u (inr (t, is, next, there, seen, aborted)) stands before =
+      let same_turn : u ≡ turn = subst (λ (a : At). StandsAs setting c a turn u) is stands in omega (arith, same_turn, before)
 
   in_turn : (link : At) (turn : ℕ) (p : Making) → MakingFacts w caller setting c blocks link turn p → IsLinkOf setting c blocks link turn → IsInTurn c.past p
   in_turn link turn (making.Makes table) facts link_of =

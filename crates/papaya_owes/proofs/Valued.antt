@@ -48,6 +48,31 @@ use Rattle.papaya_follows.specs.Calls.{IsCalled}
 use Rattle.papaya_hands.specs.Asked.{as_told, given_by, AreReplies, IsAskedAs}
 use Rattle.papaya_owes.proofs.Walks.{IsToOwn}
 
+gives : {V : Type 0} (r : Reply V) (value : V) → as_told r ≡ reply.Insert value → is_gift r ≡ true
+gives (Gives w) value e = refl
+gives Removes value e = absurd (cc e)
+gives (Aborts w) value e = absurd (cc e)
+gives (Decides true) value e = absurd (cc e)
+gives (Decides false) value e = absurd (cc e)
+
+either_so : (a b : Bool) → (a ≡ true) ⊎ (b ≡ true) → (a || b) ≡ true
+either_so true b so = refl
+either_so false true so = refl
+either_so false false (inl e) = absurd (cc e)
+either_so false false (inr e) = absurd (cc e)
+
+-- a value that a call was told is a gift
+gift_told : {V : Type 0} (number : ℕ → ℕ) (stored : ℕ) (asked : List (Asked V)) (replies : List (Option ℕ × Reply V)) (about : Option ℕ) (value : V) → AreReplies number stored asked replies
+    → last_told about asked ≡ Some (reply.Insert value) → has_gift replies ≡ true
+gift_told number stored [] replies about value are e = absurd (cc e)
+gift_told number stored (a ∷ asked) [] about value are e = absurd are
+gift_told number stored (a ∷ asked) (r ∷ replies) about value are e = by (is_about a.about about) e (λ later. gift_told number stored asked replies about value are.2 later)
+  where
+    by : (q : Bool) → (if q then Some a.told else last_told about asked) ≡ Some (reply.Insert value) → (last_told about asked ≡ Some (reply.Insert value) → has_gift replies ≡ true)
+        → (is_gift r.1 || has_gift replies) ≡ true
+    by true is further = either_so (is_gift r.1) (has_gift replies) (inl (gives r.1 value (sym are.1 ∙ (let told : a.told ≡ reply.Insert value = cc is in told))))
+    by false is further = either_so (is_gift r.1) (has_gift replies) (inr (further is))
+
 module _ {K V : Type 0} where
   -- it began with a pair, or was told a value for its key
   abbrev pub HasGiven : Given K V → Type 0
@@ -56,30 +81,6 @@ module _ {K V : Type 0} where
       ⊎ ((kind : Kind) × (key : K) × (asked : List (Asked V)) × (about : Option ℕ) × (value : V) × (g ≡ IsTold kind (Some key) asked) × (last_told about asked ≡ Some (reply.Insert value)))
 
   -- by what is called
-
-  gives : (r : Reply V) (value : V) → as_told r ≡ reply.Insert value → is_gift r ≡ true
-  gives (Gives w) value e = refl
-  gives Removes value e = absurd (cc e)
-  gives (Aborts w) value e = absurd (cc e)
-  gives (Decides true) value e = absurd (cc e)
-  gives (Decides false) value e = absurd (cc e)
-
-  either_so : (a b : Bool) → (a ≡ true) ⊎ (b ≡ true) → (a || b) ≡ true
-  either_so true b so = refl
-  either_so false true so = refl
-  either_so false false (inl e) = absurd (cc e)
-  either_so false false (inr e) = absurd (cc e)
-
-  -- a value that the call was told is a gift
-  gift_told : (number : ℕ → ℕ) (stored : ℕ) (asked : List (Asked V)) (replies : List (Option ℕ × Reply V)) (about : Option ℕ) (value : V) → AreReplies number stored asked replies
-      → last_told about asked ≡ Some (reply.Insert value) → has_gift replies ≡ true
-  gift_told number stored [] replies about value are e = absurd (cc e)
-  gift_told number stored (a ∷ asked) [] about value are e = absurd are
-  gift_told number stored (a ∷ asked) (r ∷ replies) about value are e = either_so (is_gift r.1) (has_gift replies) (by (is_about a.about about) e)
-    where
-      by : (q : Bool) → (if q then Some a.told else last_told about asked) ≡ Some (reply.Insert value) → (is_gift r.1 ≡ true) ⊎ (has_gift replies ≡ true)
-      by true is = inl (gives r.1 value (sym are.1 ∙ (let told : a.told ≡ reply.Insert value = cc is in told)))
-      by false is = inr (gift_told number stored asked replies about value are.2 is)
 
   begun_valued : (one : OneKey K V) (asked : List (Asked V)) (kind : Kind) (pair : Node K V) → ◌≡◌ {A = Given K V} (Begun kind (Some pair)) (given_by one asked) → (told : Bool) → has_value one told ≡ true
   begun_valued (Insert k v) asked kind pair e told = refl

@@ -183,8 +183,8 @@ module _ {K V : Type 0} where
       → (k : Kind) (b : ℕ) → told ≡ changed.Made k b → (value : Node K V) × IsToMake o value × (kind_of value ≡ k)
   plan_made o m m2 told plan end steps so k b is = plan_made_so (IsToMake o) m m2 told plan end steps so k b is
 
-  -- each plan, at whatever point
-
+-- each plan, at whatever point
+module _ (K V : Type 0) where
   settle_at : (o : Option NewTable) (c : Settle) (p : Settling) → PlanMakes o (settles.plan_at (deferred_word {K = K} {V = V}) c p)
   settle_at o c settling.Sees = tt
   settle_at o c _ = tt
@@ -271,7 +271,7 @@ IsToOwn _ = ⊥
 
 module _ {K V : Type 0} (asks : K → K → Bool) (same : K → K → Bool) (hash : K → ℕ) (c : KeyCall K V K) where
   looks_at : (lookup : Lookup) (asked : Option K) → PlanMakes None (looks_for asks c lookup asked)
-  looks_at lookup (Some q) = makes_as None (looked c) (lookup_plan (asks q) lookup) (lookup_at None (asks q) lookup lookup.stands)
+  looks_at lookup (Some q) = makes_as None (looked c) (lookup_plan (asks q) lookup) (lookup_at K V None (asks q) lookup lookup.stands)
   looks_at lookup None = tt
 
   call_at : (p : Calling) → IsToOwn p ⊎ PlanMakes (making_in_calling p) (calls.plan_at asks same hash c p)
@@ -282,15 +282,15 @@ module _ {K V : Type 0} (asks : K → K → Bool) (same : K → K → Bool) (has
   call_at (calling.Tries word new) = inr tt
   call_at (calling.Counts removed) = inr tt
   call_at calling.Nexts = inr tt
-  call_at (calling.Firsts n) = inr (makes_as (Some n) (first_made c) (new_table_plan n) (table_makes n))
-  call_at (calling.Allocs n) = inr (makes_as (Some n) (next_made c) (new_table_plan n) (table_makes n))
-  call_at (calling.Helps copier goal) = inr (makes_as (making_in_copying copier.stands) (helped c goal) (copier_plan hash copier) (copier_makes hash copier))
-  call_at (calling.Copies copier) = inr (makes_as (making_in_copying copier.stands) (copied c) (copier_plan hash copier) (copier_makes hash copier))
+  call_at (calling.Firsts n) = inr (makes_as (Some n) (first_made c) (new_table_plan n) (table_makes K V n))
+  call_at (calling.Allocs n) = inr (makes_as (Some n) (next_made c) (new_table_plan n) (table_makes K V n))
+  call_at (calling.Helps copier goal) = inr (makes_as (making_in_copying copier.stands) (helped c goal) (copier_plan hash copier) (copier_makes K V hash copier))
+  call_at (calling.Copies copier) = inr (makes_as (making_in_copying copier.stands) (copied c) (copier_plan hash copier) (copier_makes K V hash copier))
   call_at (calling.Asks (asking.Absent gap)) = inr tt
   call_at (calling.Asks (asking.Present word)) = inr tt
   call_at (calling.Asks (asking.Fills word)) = inl tt
   call_at (calling.Asks (asking.GivesUp word)) = inr tt
-  call_at (calling.Disposes dispose answer) = inr (makes_as None (disposed c answer) (dispose_plan dispose) (dispose_at None dispose dispose.stands))
+  call_at (calling.Disposes dispose answer) = inr (makes_as None (disposed c answer) (dispose_plan dispose) (dispose_at K V None dispose dispose.stands))
   call_at (calling.Drops end) = inr tt
   call_at (calling.Over end) = inr tt
 

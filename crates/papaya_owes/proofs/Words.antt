@@ -33,16 +33,16 @@ module _ (told : Changed) where
     NewWord : (k : Kind) (b : ℕ) → told ≡ changed.Made k b → word ≡ 0 → word2 ≢ 0 → block_in word2 ≡ b → WordGoes word word2
     LosesWord : told ≡ changed.Took (block_in word) → WordGoes word word2
 
-module _ {K V : Type 0} where
-  -- a table that has places is none for a pair
-  places_kind : (len limit turn : ℕ) → 8 ≤ len → kind_of {K = K} {V = V} (node.Table len limit turn) ≡ kind.Pair → ⊥
-  places_kind len limit turn has is =
-      absurd (let table : kind_of {K = K} {V = V} (node.Table len limit turn) ≡ kind.Table len limit turn =
-      ap (λ (q : Bool). if q then kind.Pair else kind.Table len limit turn) (ne_eqb len 0 (λ z. omega (arith, has, z))) in cc (table, is))
+-- a table that has places is none for a pair
+places_kind : (K V : Type 0) (len limit turn : ℕ) → 8 ≤ len → kind_of {K = K} {V = V} (node.Table len limit turn) ≡ kind.Pair → ⊥
+places_kind K V len limit turn has is =
+    absurd (let table : kind_of {K = K} {V = V} (node.Table len limit turn) ≡ kind.Table len limit turn =
+    ap (λ (q : Bool). if q then kind.Pair else kind.Table len limit turn) (ne_eqb len 0 (λ z. omega (arith, has, z))) in cc (table, is))
 
+module _ {K V : Type 0} where
   pub none_for_pair : (o : Option NewTable) (value : Node K V) → IsToMake o value → ((n : NewTable) → o ≡ Some n → HasPlaces n.stands) → kind_of value ≡ kind.Pair → ⊥
   none_for_pair o value (n, table, o_is, stands, value_is) has is =
-      places_kind table.len table.limit table.turn (subst HasPlaces stands (has n o_is)) (ap kind_of (sym value_is) ∙ is)
+      places_kind K V table.len table.limit table.turn (subst HasPlaces stands (has n o_is)) (ap kind_of (sym value_is) ∙ is)
 
   module _ (asks : K → K → Bool) (same : K → K → Bool) (hash : K → ℕ) (p : KeyCall K V K) (o : Owns p) (m m2 : Mem (Node K V)) (told : Changed) (e : KeyCall K V K × Called (Node K V))
       (has : (n : NewTable) → making_in_calling p.stands ≡ Some n → HasPlaces n.stands) where

@@ -137,11 +137,11 @@ module _ {K V : Type 0} (m m2 : Mem (Node K V)) (told : Changed) (k : Kind) (unm
     unmade_so (kinds.Reserve r) s =
         table_refused (kinds.Reserve r) s
         (plan_unmade_so (IsToMake (making_in_reserving r.stands)) m m2 told (machine_plan asks same hash (kinds.Reserve r)) (machine, said) s
-        (so_as (IsToMake (making_in_reserving r.stands)) of_room (reserve_plan hash r) (reserve_makes hash r)) k unmade)
+        (so_as (IsToMake (making_in_reserving r.stands)) of_room (reserve_plan hash r) (reserve_makes K V hash r)) k unmade)
     unmade_so (kinds.Sweep c) s =
         table_refused (kinds.Sweep c) s
         (plan_unmade_so (IsToMake (making_in_sweeping c.stands)) m m2 told (machine_plan asks same hash (kinds.Sweep c)) (machine, said) s
-        (so_as (IsToMake (making_in_sweeping c.stands)) of_sweep (sweep_plan hash c) (sweep_makes hash c)) k unmade)
+        (so_as (IsToMake (making_in_sweeping c.stands)) of_sweep (sweep_plan hash c) (sweep_makes K V hash c)) k unmade)
     unmade_so (kinds.Count sum) s =
         table_refused (kinds.Count sum) s
-        (plan_unmade_so (IsToMake None) m m2 told (machine_plan asks same hash (kinds.Count sum)) (machine, said) s (so_as (IsToMake None) of_sum (sum_plan sum) (sum_at None sum sum.stands)) k unmade)
+        (plan_unmade_so (IsToMake None) m m2 told (machine_plan asks same hash (kinds.Count sum)) (machine, said) s (so_as (IsToMake None) of_sum (sum_plan sum) (sum_at K V None sum sum.stands)) k unmade)

@@ -38,8 +38,8 @@ use Rattle.papaya_owes.proofs.Tables.Makes.{GoesWithTable, Rests, Marks, Gives, 
 use Rattle.papaya_owes.proofs.Tables.Roles.{own_table_of}
 
 -- A table that has places is told as a table, with its turn.
-pub turn_told : {K V : Type 0} (u : Planned) (len limit turn : ℕ) → 8 ≤ u.len → kind_of {K = K} {V = V} (node.Table u.len u.limit u.turn) ≡ kind.Table len limit turn → u.turn ≡ turn
-turn_told u len limit turn places is =
+pub turn_told : (K V : Type 0) (u : Planned) (len limit turn : ℕ) → 8 ≤ u.len → kind_of {K = K} {V = V} (node.Table u.len u.limit u.turn) ≡ kind.Table len limit turn → u.turn ≡ turn
+turn_told K V u len limit turn places is =
     let told : kind.Table u.len u.limit u.turn ≡ kind.Table len limit turn =
     sym (ap (λ (q : Bool). if q then kind.Pair else kind.Table u.len u.limit u.turn) (ne_eqb u.len 0 (λ z. omega (arith, places, z)))) ∙ is in cc told
 
@@ -115,5 +115,5 @@ module _ {K V : Type 0} (its : Acting) (known : Known) (told : Changed) (s t : S
       → kind_of {K = K} {V = V} (node.Table u.len u.limit u.turn) ≡ kind.Table len limit turn → Left
   with_made none u stands places b len limit turn made_it kind_is =
       let it = made_with m m2 told n u stands e step (kind.Table len limit turn) b made_it in
-      left_made its known told s t i had now many one none b len limit turn made_it it.table (goes_on it.goes ∙ it.has) (it.turn ∙ turn_told {K = K} {V = V} u len limit turn places kind_is)
+      left_made its known told s t i had now many one none b len limit turn made_it it.table (goes_on it.goes ∙ it.has) (it.turn ∙ turn_told K V u len limit turn places kind_is)
       (subst (λ (x : ℕ). x ≤ many) (sym it.turn) (subst (IsInTurn many) stands in_turn))

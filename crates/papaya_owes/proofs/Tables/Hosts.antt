@@ -82,16 +82,16 @@ module _ {K V : Type 0} (m m2 : Mem (Node K V)) (told : Changed) where
 
   -- neither
   done_so : (P : NewTable → Type 0) (R : Fault → Type 0) (x : NewTable) (t : Planned) → LeadsTo P R (x, progress.Done t)
-  done_so P R x t = (λ no. absurd (cc no), λ fault no. absurd (cc no))
+  done_so P R x t = (λ e. absurd (cc e), λ fault e. absurd (cc e))
 
   waits_so : (P : NewTable → Type 0) (R : Fault → Type 0) (x : NewTable) → LeadsTo P R (x, progress.Waits)
-  waits_so P R x = (λ no. absurd (cc no), λ fault no. absurd (cc no))
+  waits_so P R x = (λ e. absurd (cc e), λ fault e. absurd (cc e))
 
   goes_so : (P : NewTable → Type 0) (R : Fault → Type 0) (x : NewTable) → P x → LeadsTo P R (x, progress.Goes)
-  goes_so P R x so = (λ yes. so, λ fault no. absurd (cc no))
+  goes_so P R x so = (λ e. so, λ fault e. absurd (cc e))
 
   refused_so : (P : NewTable → Type 0) (R : Fault → Type 0) (x : NewTable) (f : Fault) → R f → LeadsTo P R (x, progress.Refused f)
-  refused_so P R x f so = (λ no. absurd (cc no), λ fault is. let one : f ≡ fault = cc is in subst R one so)
+  refused_so P R x f so = (λ e. absurd (cc e), λ fault is. let one : f ≡ fault = cc is in subst R one so)
 
   -- of a copier
   module _ (hash : K → ℕ) (c : Copier) (end : Copier × Outcome (Node K V) Planned) where

@@ -97,11 +97,11 @@ module _ {K V : Type 0} where
           | inr so ↦ so_more (IsToMake (making_in_calling p.stands)) (IsWhich (kinds.Key p)) (λ value is. inr is) (call_plan asks same hash p) so
         ])
     makes_which (kinds.Reserve r) has =
-        so_as (IsWhich (kinds.Reserve r)) of_room (reserve_plan hash r) (so_more (IsToMake (making_in_reserving r.stands)) (IsWhich (kinds.Reserve r)) (λ value is. inr is) (reserve_plan hash r) (reserve_makes hash r))
+        so_as (IsWhich (kinds.Reserve r)) of_room (reserve_plan hash r) (so_more (IsToMake (making_in_reserving r.stands)) (IsWhich (kinds.Reserve r)) (λ value is. inr is) (reserve_plan hash r) (reserve_makes K V hash r))
     makes_which (kinds.Sweep c) has =
-        so_as (IsWhich (kinds.Sweep c)) of_sweep (sweep_plan hash c) (so_more (IsToMake (making_in_sweeping c.stands)) (IsWhich (kinds.Sweep c)) (λ value is. inr is) (sweep_plan hash c) (sweep_makes hash c))
+        so_as (IsWhich (kinds.Sweep c)) of_sweep (sweep_plan hash c) (so_more (IsToMake (making_in_sweeping c.stands)) (IsWhich (kinds.Sweep c)) (λ value is. inr is) (sweep_plan hash c) (sweep_makes K V hash c))
     makes_which (kinds.Count sum) has =
-        so_as (IsWhich (kinds.Count sum)) of_sum (sum_plan sum) (so_more (IsToMake None) (IsWhich (kinds.Count sum)) (λ value is. inr is) (sum_plan sum) (sum_at None sum sum.stands))
+        so_as (IsWhich (kinds.Count sum)) of_sum (sum_plan sum) (so_more (IsToMake None) (IsWhich (kinds.Count sum)) (λ value is. inr is) (sum_plan sum) (sum_at K V None sum sum.stands))
 
     module _ (m m2 : Mem (Node K V)) (told : Changed) (machine : Machine K V K) (said : Progress (Node K V)) (before : Machine K V K) (has : HasUnmadeSo before)
         (s : StepsTold K V (Machine K V K × Progress (Node K V)) m changed.Nothing (machine_plan asks same hash before) m2 told (machine, said)) where
