@@ -107,14 +107,14 @@ module _ {K V : Type 0} (w : World (Node K V)) (i roots : ℕ) (n : NewMap) wher
   table_takes c (makes.Refused fault) facts x takes = takes
 
   opening_takes : (p : Opening) → OpeningFacts w roots i n p → (x : ℕ) → TakesIn (new_map.plan_at {K = K} {V = V} n p) x → w.hand x ≡ MadeBy i
-  opening_takes opening.Takes facts x takes = absurd takes
-  opening_takes opening.Shards facts x takes = absurd takes
-  opening_takes (opening.Tables making) facts x takes =
-      absurd (table_takes making making.stands facts.2.point x (takes_within {K = K} {V = V} (new_map.opened n) (new_table.new_table_plan making) x takes))
-  opening_takes (opening.Unmakes fault) facts x takes = ap w.hand (sym takes) ∙ facts.1.hand
-  opening_takes (opening.Frees fault) facts x takes = absurd takes
-  opening_takes opening.Over facts x takes = absurd takes
-  opening_takes (opening.Refused fault) facts x takes = absurd takes
+  opening_takes opening.Takes knows x takes = absurd takes
+  opening_takes opening.Shards knows x takes = absurd takes
+  opening_takes (opening.Tables making) knows x takes =
+      absurd (table_takes making making.stands knows.2.point x (takes_within {K = K} {V = V} (new_map.opened n) (new_table.new_table_plan making) x takes))
+  opening_takes (opening.Unmakes fault) knows x takes = ap w.hand (sym takes) ∙ knows.1.hand
+  opening_takes (opening.Frees fault) knows x takes = absurd takes
+  opening_takes opening.Over knows x takes = absurd takes
+  opening_takes (opening.Refused fault) knows x takes = absurd takes
 
   module _ (m m2 : Mem (Node K V)) (told : Changed) (end : NewMap × Progress Setting) where
     abbrev Told : Opening → Type 0

@@ -110,8 +110,8 @@ module _ (K V S : Type 0) (same : K → K → Bool) (hash : K → ℕ) where
       → (is_told : Reply V) → IsAt same hash new (scene_with map i next s) → Shows same name (told (name i) is_told m) known (scene_with map i next s)
       → ShowsTables name (told (name i) is_told m) known (scene_with map i next s)
 
-  -- and where one comes to an outcome.
-  abbrev pub CallsComeToTables : Type 0
-  CallsComeToTables =
-      (name : ℕ → List ℕ) (m : Moment K V) (known : Known) (s : Scene K V) → ShowsWhole same name m known s → ShowsTables name m known s
-      → (own : List ℕ) (outcome : Outcome V) (steps : ℕ) → (ends_call outcome ≡ true → NoneNamed name own s) → ShowsTables name (come_to own outcome steps m) known s
+-- and where one comes to an outcome.
+abbrev pub CallsComeToTables : Type 0 → Type 0 → Type 0
+CallsComeToTables K V =
+    (same : K → K → Bool) (name : ℕ → List ℕ) (m : Moment K V) (known : Known) (s : Scene K V) → ShowsWhole same name m known s → ShowsTables name m known s
+    → (own : List ℕ) (outcome : Outcome V) (steps : ℕ) → (ends_call outcome ≡ true → NoneNamed name own s) → ShowsTables name (come_to own outcome steps m) known s

@@ -40,7 +40,7 @@ pub fn calls_have_their_tables<K, V, S>()
     ensures calls { (same : K → K → Bool) (hash : K → ℕ) → CallsKeepTables K V S same hash }
     ensures begun { (same : K → K → Bool) (hash : K → ℕ) → CallsBeginTables K V S same hash }
     ensures told { (same : K → K → Bool) (hash : K → ℕ) → CallsTakeTables K V S same hash }
-    ensures come_to { (same : K → K → Bool) (hash : K → ℕ) → CallsComeToTables K V S same hash }
+    ensures come_to { CallsComeToTables K V }
 {}
 
 /// A step that is of no call leaves all such tables as they were, but that the making of a map makes and links its own first one: one of a row on a slot, of the making

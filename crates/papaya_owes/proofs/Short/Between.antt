@@ -29,26 +29,26 @@ use Rattle.papaya_others.specs.Walks.{given_up}
 use Rattle.papaya_owes.specs.Short.{fault_in_calling, fault_in_sweeping, fault_of, ShowsShort, ShortBegins, StaysShort, CallsBeginShort, CallsTakeShort, CallsComeToShort, WalksGoOnShort, WalksStopShort}
 use Rattle.papaya_owes.proofs.Kept.{calls_without, HadAsMuch, fresh_has, others_there, told_had, left_had, come_had}
 
-module _ {K V : Type 0} where
-  -- a machine that is to be refused takes no reply, and is no walk that is ready
+-- A machine that is to be refused takes no reply, and is no walk that is ready.
 
+sweep_same : {V : Type 0} (q : Sweeping) (c : Sweep) (reply : MachineReply V) (fault : Fault) → fault_in_sweeping q ≡ Some fault → (sweep_told q c reply).0 ≡ c
+sweep_same (sweeping.Asks word) c reply fault is = absurd (cc is)
+sweep_same _ c reply fault is = refl
+
+asked_same : (q : Sweeping) (c : Sweep) (fault : Fault) → fault_in_sweeping q ≡ Some fault → next_at q c ≡ c
+asked_same sweeping.Ready c fault is = absurd (cc is)
+asked_same _ c fault is = refl
+
+module _ {K V : Type 0} where
   key_same : (q : Calling) (p : KeyCall K V K) (reply : MachineReply V) (fault : Fault) → fault_in_calling q ≡ Some fault → (told_at q p reply).0 ≡ p
   key_same (calling.Asks a) p reply fault is = absurd (cc is)
   key_same _ p reply fault is = refl
-
-  sweep_same : (q : Sweeping) (c : Sweep) (reply : MachineReply V) (fault : Fault) → fault_in_sweeping q ≡ Some fault → (sweep_told q c reply).0 ≡ c
-  sweep_same (sweeping.Asks word) c reply fault is = absurd (cc is)
-  sweep_same _ c reply fault is = refl
 
   replied_fault : (y : Machine K V K) (reply : MachineReply V) (fault : Fault) → fault_of y ≡ Some fault → fault_of (machine_replied y reply).0 ≡ Some fault
   replied_fault (kinds.Key p) reply fault is = ap (λ (x : KeyCall K V K). fault_in_calling x.stands) (key_same p.stands p reply fault is) ∙ is
   replied_fault (kinds.Sweep c) reply fault is = ap (λ (x : Sweep). fault_in_sweeping x.stands) (sweep_same c.stands c reply fault is) ∙ is
   replied_fault (kinds.Reserve r) reply fault is = is
   replied_fault (kinds.Count sum) reply fault is = is
-
-  asked_same : (q : Sweeping) (c : Sweep) (fault : Fault) → fault_in_sweeping q ≡ Some fault → next_at q c ≡ c
-  asked_same sweeping.Ready c fault is = absurd (cc is)
-  asked_same _ c fault is = refl
 
   asked_fault : (y : Machine K V K) (fault : Fault) → fault_of y ≡ Some fault → fault_of (machine_asked y).0 ≡ Some fault
   asked_fault (kinds.Sweep c) fault is = ap (λ (x : Sweep). fault_in_sweeping x.stands) (asked_same c.stands c fault is) ∙ is

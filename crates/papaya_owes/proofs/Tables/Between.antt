@@ -45,6 +45,24 @@ use Rattle.papaya_owes.proofs.Kept.{calls_beside, calls_its, calls_without, HadA
 use Rattle.papaya_owes.proofs.Tables.Held.{shape_of, some_making, its_block, role_there, call_hands, held_by}
 use Rattle.papaya_others.specs.Walks.{given_up}
 
+-- a sweep that makes a table takes no reply; one that is asked for its next pair makes none; and one that is ready has none
+
+sweep_same : {V : Type 0} (q : Sweeping) (c : Sweep) (reply : MachineReply V) (n : NewTable) → making_in_sweeping q ≡ Some n → (sweep_told q c reply).0 ≡ c
+sweep_same (sweeping.Copies copier) c reply n is = refl
+sweep_same _ c reply n is = absurd (cc is)
+
+asked_sweep : (q : Sweeping) (c : Sweep) → c.stands ≡ q → making_in_sweeping (next_at q c).stands ≡ making_in_sweeping q
+asked_sweep sweeping.Ready c is = by (nat_lt c.place c.table.len)
+  where
+    by : (further : Bool) → making_in_sweeping (if further then sweeping.Words else sweeping.Over) ≡ None
+    by true = refl
+    by false = refl
+asked_sweep _ c is = ap making_in_sweeping is
+
+ready_sweep : (q : Sweeping) → true ≡ is_ready q → making_in_sweeping q ≡ None
+ready_sweep sweeping.Ready e = refl
+ready_sweep _ e = absurd (cc e)
+
 module _ {K V : Type 0} where
   -- a machine that makes a table takes no reply
   key_same : (q : Calling) (p : KeyCall K V K) (reply : MachineReply V) (n : NewTable) → making_in_calling q ≡ Some n → (told_at q p reply).0 ≡ p
@@ -54,25 +72,13 @@ module _ {K V : Type 0} where
   key_same (calling.Copies copier) p reply n is = refl
   key_same _ p reply n is = absurd (cc is)
 
-  sweep_same : (q : Sweeping) (c : Sweep) (reply : MachineReply V) (n : NewTable) → making_in_sweeping q ≡ Some n → (sweep_told q c reply).0 ≡ c
-  sweep_same (sweeping.Copies copier) c reply n is = refl
-  sweep_same _ c reply n is = absurd (cc is)
-
   machine_same : (y : Machine K V K) (reply : MachineReply V) (n : NewTable) → making_of y ≡ Some n → (machine_replied y reply).0 ≡ y
   machine_same (kinds.Key p) reply n is = ap kinds.Key (key_same p.stands p reply n is)
   machine_same (kinds.Sweep c) reply n is = ap kinds.Sweep (sweep_same c.stands c reply n is)
   machine_same (kinds.Reserve r) reply n is = refl
   machine_same (kinds.Count sum) reply n is = refl
 
-  -- a walk that is asked for its next pair makes none, and one that is ready has none
-
-  asked_sweep : (q : Sweeping) (c : Sweep) → c.stands ≡ q → making_in_sweeping (next_at q c).stands ≡ making_in_sweeping q
-  asked_sweep sweeping.Ready c is = by (nat_lt c.place c.table.len)
-    where
-      by : (further : Bool) → making_in_sweeping (if further then sweeping.Words else sweeping.Over) ≡ None
-      by true = refl
-      by false = refl
-  asked_sweep _ c is = ap making_in_sweeping is
+  -- nor does a walk that goes on, or is ready
 
   pub asked_making : (y : Machine K V K) → making_of (machine_asked y).0 ≡ making_of y
   asked_making (kinds.Sweep c) = asked_sweep c.stands c refl
@@ -80,14 +86,10 @@ module _ {K V : Type 0} where
   asked_making (kinds.Reserve r) = refl
   asked_making (kinds.Count sum) = refl
 
-  ready_sweep : (q : Sweeping) → true ≡ is_ready q → making_in_sweeping q ≡ None
-  ready_sweep sweeping.Ready e = refl
-  ready_sweep _ e = absurd (cc e)
-
   pub ready_making : (y : Machine K V K) → true ≡ (machine_asked y).1 → making_of y ≡ None
   ready_making (kinds.Sweep c) e = ready_sweep c.stands e
   ready_making (kinds.Key p) e = absurd (cc e)
-  ready_making (kinds.Reserve r) e = refl
+  ready_making (kinds.Reserve r) e = absurd (cc e)
   ready_making (kinds.Count sum) e = refl
 
 module _ {K V : Type 0} (name : ℕ → List ℕ) (m : Moment K V) (known : Known) (s : Scene K V) (tables : ShowsTables name m known s) where
@@ -205,6 +207,12 @@ one_call : {K V : Type 0} (same : K → K → Bool) (name : ℕ → List ℕ) (m
 one_call same name m known s whole of i u here n x is =
     let both = whole.all.asked.apart n i of i x u is here (is_same_refl (name i)) in one_of x u (sym is ∙ ap (λ (k : ℕ). s.calls k i) both.0 ∙ here)
 
+pub calls_come_to_tables : (K V : Type 0) → CallsComeToTables K V
+calls_come_to_tables K V same name m known s whole tables own o steps ended = record {
+  tables = λ n j x is d d_is. has_as_much name m known s tables n j x is d (come_had name m same s.calls whole.all.shown.calls own o steps n j x is (λ e. ended e n j x is) d d_is);
+  whose = tables.whose;
+}
+
 module _ (K V S : Type 0) (same : K → K → Bool) (hash : K → ℕ) where
   pub calls_begin_tables : CallsBeginTables K V S same hash
   calls_begin_tables name m known s old new at whole tables of i u its guard apart at_new shown_new = record {
@@ -233,12 +241,6 @@ module _ (K V S : Type 0) (same : K → K → Bool) (hash : K → ℕ) where
               (λ b call. (let same_call = one_call same name m known s whole of i u here call.0 call.1 call.2 in
               let has : table_made (making_of (machine_of u)) ≡ Some call.3 = ap (λ (y : UnderWay K V K). table_made (making_of (machine_of y))) (sym same_call) ∙ call.4 in cc (e, has)))
               ∙ sym e
-
-  pub calls_come_to_tables : CallsComeToTables K V S same hash
-  calls_come_to_tables name m known s whole tables own o steps ended = record {
-    tables = λ n j x is d d_is. has_as_much name m known s tables n j x is d (come_had name m same s.calls whole.all.shown.calls own o steps n j x is (λ e. ended e n j x is) d d_is);
-    whose = tables.whose;
-  }
 
   goes_tables : (name : ℕ → List ℕ) (m : Moment K V) (known : Known) (s : Scene K V) → ShowsWhole same name m known s → ShowsTables name m known s → (of i : ℕ) (u : UnderWay K V K) → s.calls of i ≡ Some u
       → (next : UnderWay K V K) → table_made (making_of (machine_of next)) ≡ table_made (making_of (machine_of u)) → ShowsTables name m known (scene_with of i next s)

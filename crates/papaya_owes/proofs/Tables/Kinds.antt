@@ -19,6 +19,7 @@ use Rattle.papaya_raw.specs.declared.machines.call.KeyCall.{KeyCall}
 use Rattle.papaya_raw.specs.declared.machines.machine.Machine.{Machine}
 use Rattle.papaya_raw.specs.declared.machines.machine.Machine.TheVariants as kinds
 use Rattle.papaya_raw.specs.declared.machines.progress.Progress.{Progress}
+use Rattle.papaya_raw.specs.Replies.{value_for, as_own}
 use Rattle.papaya_rule.specs.Chart.{Chart}
 use Rattle.papaya_rule.specs.Words.{Blocks}
 use Rattle.papaya_teller.specs.Changed.{kind_of}
@@ -53,7 +54,7 @@ module _ {K V : Type 0} where
   fill_pairs (Some value) q word key = putting_pairs (record q { replies = record q.replies { key = None } }) (q.own == 0) word key value
 
   fills_pairs : (key : Option K) (p : KeyCall K V K) (word : ℕ) → PlanMakesSo IsPairKind (fills_with key p word)
-  fills_pairs (Some key) p word = fill_pairs _ _ word key
+  fills_pairs (Some key) p word = fill_pairs (value_for p.replies word) (record p { replies = as_own p.replies word }) word key
   fills_pairs None p word = tt
 
   module _ (asks : K → K → Bool) (same : K → K → Bool) (hash : K → ℕ) (p : KeyCall K V K) where

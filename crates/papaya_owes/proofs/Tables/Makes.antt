@@ -1,5 +1,5 @@
 -- What a step within the making of a table does: it makes the table, goes on with it, gives it up, or links it; and the call goes on with the making.
-use Rattle.std.specs.Prelude.{◌≡◌, ℕ, Some, Ok, Err}
+use Rattle.std.specs.Prelude.{◌≡◌, ℕ, Some, Ok, Err, ◌+◌, ◌%◌, ◌^◌}
 use Rattle.std.proofs.Common.{refl, ap, sym, subst, ◌∙◌}
 use Rattle.seize_words.specs.Mem.{Mem, Took, value_at}
 use Rattle.seize_words.specs.Op.{Out, Found, Stored, Exchanged, Made, Taken, Roomed, Make, Exchange}
@@ -14,7 +14,7 @@ use Rattle.papaya_tables.specs.declared.node.Node.{Node}
 use Rattle.papaya_tables.specs.declared.node.Node.TheVariants as node
 use Rattle.papaya_tables.specs.declared.status.TheConstants.Status.{PROMOTED}
 use Rattle.papaya_tables.specs.declared.table.Table.{Table as Planned}
-use Rattle.papaya_tables.specs.declared.table_words.TheConstants.{STATUS}
+use Rattle.papaya_tables.specs.declared.table_words.TheConstants.{STATUS, PLACES}
 use Rattle.papaya_resize.specs.NewTable.{new_table_plan, with_block, after_making}
 use Rattle.papaya_resize.specs.NewTable as tables
 use Rattle.papaya_resize.specs.declared.new_table.Making.{Making}
@@ -107,7 +107,7 @@ module _ {K V : Type 0} (m m2 : Mem (Node K V)) (told : Changed) (n : NewTable) 
 
   pub made_with : (u : Planned) → n.stands ≡ making.Makes u → (e : End) → StepsTold K V End m changed.Nothing (new_table_plan n) m2 told e → (k : Kind) (b : ℕ) → told ≡ changed.Made k b → HasMadeTable u b e
   made_with u is e s k b made =
-      let there : Told (making.Makes u) e = subst (λ (p : Making). Told p e) is s in made_by_out u k b e there.0 _ there.1.1 there.2 made
+      let there : Told (making.Makes u) e = subst (λ (p : Making). Told p e) is s in made_by_out u k b e there.0 ((u.len + PLACES) % 2 ^ 64) there.1.1 there.2 made
 
   -- A table was refused: the making is.
 
@@ -124,4 +124,4 @@ module _ {K V : Type 0} (m m2 : Mem (Node K V)) (told : Changed) (n : NewTable) 
 
   pub refused_with : (u : Planned) → n.stands ≡ making.Makes u → (e : End) → StepsTold K V End m changed.Nothing (new_table_plan n) m2 told e → (k : Kind) → told ≡ changed.Unmade k → e.1 ≡ progress.Refused Memory
   refused_with u is e s k unmade =
-      let there : Told (making.Makes u) e = subst (λ (p : Making). Told p e) is s in refused_by_out u k e there.0 _ there.1.1 there.2 unmade
+      let there : Told (making.Makes u) e = subst (λ (p : Making). Told p e) is s in refused_by_out u k e there.0 ((u.len + PLACES) % 2 ^ 64) there.1.1 there.2 unmade

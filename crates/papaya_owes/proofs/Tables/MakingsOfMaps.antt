@@ -106,7 +106,7 @@ module _ {K V S : Type 0} (same : K → K → Bool) (hash : K → ℕ) (name : �
   others_make (progress.Done setting) c j ne = at_other s.makers i None j ne
   others_make (progress.Refused fault) c j ne = at_other s.makers i None j ne
 
-  now_of : Progress Setting → Option Planned
+  abbrev now_of : Progress Setting → Option Planned
   now_of progress.Goes = table_made (making_in_opening end.stands)
   now_of progress.Waits = None
   now_of (progress.Done setting) = None

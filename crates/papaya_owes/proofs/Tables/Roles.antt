@@ -35,9 +35,7 @@ own_table_of _ = None
 
 pub own_table_is : (r : Role) (turn : ℕ) (shape : TableShape) → own_table_of r ≡ Some (turn, shape) → r ≡ role.OwnTable turn shape
 own_table_is (role.OwnTable t s) turn shape e =
-    let t_is : t ≡ turn = cc e in
-    let s_is : s ≡ shape = cc e in
-    ap (λ (x : ℕ). role.OwnTable x s) t_is ∙ ap (role.OwnTable turn) s_is
+    let both : ◌≡◌ {A = ℕ × TableShape} (t, s) (turn, shape) = cc e in ap (λ (x : ℕ × TableShape). role.OwnTable x.0 x.1) both
 own_table_is role.Free turn shape e = absurd (cc e)
 own_table_is (role.OwnPair i) turn shape e = absurd (cc e)
 own_table_is (role.Pair n) turn shape e = absurd (cc e)

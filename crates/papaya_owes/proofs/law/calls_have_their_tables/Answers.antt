@@ -10,5 +10,5 @@ returns c d = record {
   calls = calls_keep_tables _ _ _;
   begun = calls_begin_tables _ _ _;
   told = calls_take_tables _ _ _;
-  come_to = calls_come_to_tables _ _ _;
+  come_to = calls_come_to_tables _ _;
 }
