@@ -284,13 +284,13 @@ module _ {K V S : Type 0} (same : K → K → Bool) (hash : K → ℕ) (name : �
         | inr so ↦ absurd (
             let by = plan_made (making_in_calling x.call.stands) old.memory.memory new.memory.memory told (call_plan same same hash x.call) it.0 it.2 so kind.Pair b made_one in
             none_for_pair (making_in_calling x.call.stands) by.0 by.1 (key_places x is did) by.2
-        )
+            )
         | inl own ↦ elim (each.stand i (OnKey x) is) as (λ _. HasGiven x.pair) [
-            | inl k ↦
-                knows_given same st.hash st.setting slot_of w st.chart (seen_by st.blocks (st.sights (slot_of i))) i x x.call k.1 own hash old.memory.memory new.memory.memory told it.0 kind.Pair b
-                made_one it.2
-            | inr k ↦ absurd (row_no_own x.call.stands k.1 own)
-          ]
+          | inl k ↦
+              knows_given same st.hash st.setting slot_of w st.chart (seen_by st.blocks (st.sights (slot_of i))) i x x.call k.1 own hash old.memory.memory new.memory.memory told it.0 kind.Pair b
+              made_one it.2
+          | inr k ↦ absurd (row_no_own x.call.stands k.1 own)
+        ]
       ]
 
   values_by : (x : UnderWay K V K) → s.calls map i ≡ Some x → Stepped x → Did x → (b : ℕ) → told ≡ changed.Made kind.Pair b → (c : CallThere K V) → call_of (name i) m ≡ Some c → IsCalled same x c.call

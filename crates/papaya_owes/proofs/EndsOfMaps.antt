@@ -1,7 +1,6 @@
 -- A step of the end of a map takes no block for a pair that is not stored: what it takes was in use, or was left over, or is the map's counter.
 use Rattle.std.specs.Prelude.{◌≡◌, ℕ, Bool, List, Some, None, ◌⊎◌}
 use Rattle.std.proofs.Common.{refl, ap, sym, subst, ◌∙◌, inl, inr}
-use Rattle.seize_words.specs.Mem.{Took}
 use Rattle.seize.specs.World.{World}
 use Rattle.seize.specs.declared.rows.settle.Settled.{Settled}
 use Rattle.seize.specs.declared.rows.settle.Settled.TheVariants as settled
@@ -77,7 +76,7 @@ module _ {K V S : Type 0} (same : K → K → Bool) (hash : K → ℕ) (name : �
         let own : (known_after its told known).roles b ≡ role.OwnPair 0 = ap (λ (x : Changed). (known_after its x known).roles b) is ∙ put_here b (role.OwnPair 0) known.roles b refl in
         let as_before : (known_after its told known).roles b ≡ known.roles b = ap (λ (g : ℕ → Role). g b) it.1 in
         cc (free, own, as_before)
-    )
+        )
     | inr it ↦ (let took = it.1 in cc (is, took))
   ]
 

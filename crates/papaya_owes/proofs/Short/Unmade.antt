@@ -115,11 +115,13 @@ module _ {K V : Type 0} (m m2 : Mem (Node K V)) (told : Changed) (k : Kind) (unm
     table_refused : (before : Machine K V K) → Step m m2 told (machine_plan asks same hash before) (machine, said) → (value : Node K V) × IsToMake (making_of before) value → IsRefused
     table_refused before s (value, (n, table, making_is, stands, value_is)) =
         let inner = step_within m m2 told asks same hash machine said before n making_is s in
-        let so = inner.2.1 Memory (refused_with m m2 told n table stands inner.0 inner.1 k unmade) in
-        (so.0, elim so.1 as (λ _. EndsSo Memory said) [
-          | inl e ↦ inl e
-          | inr e ↦ inr (ap (λ (x : Progress (Node K V)). has_ended x) e)
-        ])
+        let so = inner.2.1 Memory (refused_with m m2 told n table stands inner.0 inner.1 k unmade) in (
+          so.0,
+          elim so.1 as (λ _. EndsSo Memory said) [
+            | inl e ↦ inl e
+            | inr e ↦ inr (ap (λ (x : Progress (Node K V)). has_ended x) e)
+          ],
+        )
 
     pub unmade_so : (before : Machine K V K) → Step m m2 told (machine_plan asks same hash before) (machine, said) → IsRefused
     unmade_so (kinds.Key p) s = elim (call_makes asks same hash p) as (λ _. IsRefused) [

@@ -197,7 +197,7 @@ module _ {K V : Type 0} (name : ℕ → List ℕ) (m : Moment K V) (known : Know
           | inl e ↦ absurd (
               let same_call : x ≡ u = only n x (ap (s.calls n) (sym e) ∙ there) in
               let its : table_made (making_of (machine_of u)) ≡ Some t = ap (λ (y : UnderWay K V K). table_made (making_of (machine_of y))) (sym same_call) ∙ has in cc (its, without)
-          )
+              )
           | inr ne ↦ (j, inl (n, x, calls_beside s.calls of i None n j ne ∙ there, t, has, named))
         ]
 

@@ -81,7 +81,7 @@ module _ {K V : Type 0} (its : Acting) (known : Known) (told : Changed) (s t : S
     marks_so before is =
         subst (λ (x : Changed). (effects_of its known x ≡ []) × (known_after its x known ≡ known)) (sym is)
         (subst (λ (r : Role). (in_block its r STATUS known.stored (names_same before PROMOTED) (named known before) (named known PROMOTED) ≡ [])
-            × (in_block_on its r STATUS (names_same before PROMOTED) (block_in PROMOTED) (named known PROMOTED) known ≡ known)) (sym role_is) (refl, refl))
+        × (in_block_on its r STATUS (names_same before PROMOTED) (block_in PROMOTED) (named known PROMOTED) known ≡ known)) (sym role_is) (refl, refl))
 
     gives_up : (found : ℕ) → n.stands ≡ making.Drops p found → told ≡ changed.Took (block_in p.link) → Left
     gives_up found drops took =
@@ -95,7 +95,7 @@ module _ {K V : Type 0} (its : Acting) (known : Known) (told : Changed) (s t : S
         let so = links_so wrote in
         left_gone its known told s t i had now many one p had_is
         (ap (λ (k : Known). own_table_of (k.roles (block_in p.link))) so.1
-            ∙ ap own_table_of (put_here (block_in p.link) (role.Table (table_at its p.turn) p.len) known.roles (block_in p.link) refl))
+        ∙ ap own_table_of (put_here (block_in p.link) (role.Table (table_at its p.turn) p.len) known.roles (block_in p.link) refl))
         (λ x ne. ap (λ (k : Known). k.roles x) so.1 ∙ put_elsewhere (block_in p.link) (role.Table (table_at its p.turn) p.len) known.roles x ne)
         (λ none. IsLinked p so.0 had_is none)
 

@@ -327,11 +327,13 @@ module _ {K V : Type 0} (m m2 : Mem (Node K V)) (told : Changed) where
 
     pub call_refuses : (y : Machine K V K) (z : Progress (Node K V)) (fault : Fault) → ◌≡◌ {A = Machine K V K × Progress (Node K V)} (machine, said) (y, z) → fault_of y ≡ Some fault
         → (z ≡ said_so.Refused fault) ⊎ (z ≡ said_so.Goes) → CallRefuses fault
-    call_refuses y z fault is refused ends_so =
-        (ap (λ (q : Machine K V K × Progress (Node K V)). fault_of q.0) is ∙ refused, elim ends_so as (λ _. (said ≡ said_so.Refused fault) ⊎ (said ≡ said_so.Goes)) [
-          | inl e ↦ inl (ap (λ (q : Machine K V K × Progress (Node K V)). q.1) is ∙ e)
-          | inr e ↦ inr (ap (λ (q : Machine K V K × Progress (Node K V)). q.1) is ∙ e)
-        ])
+    call_refuses y z fault is refused ends_so = (
+      ap (λ (q : Machine K V K × Progress (Node K V)). fault_of q.0) is ∙ refused,
+      elim ends_so as (λ _. (said ≡ said_so.Refused fault) ⊎ (said ≡ said_so.Goes)) [
+        | inl e ↦ inl (ap (λ (q : Machine K V K × Progress (Node K V)). q.1) is ∙ e)
+        | inr e ↦ inr (ap (λ (q : Machine K V K × Progress (Node K V)). q.1) is ∙ e)
+      ],
+    )
 
     pub step_within : (before : Machine K V K) (n : NewTable) → making_of before ≡ Some n → Step (machine_plan asks same hash before) (machine, said) → Within n CallGoes CallRefuses
     step_within (kinds.Key p) n is s =

@@ -159,7 +159,7 @@ module _ {K V : Type 0} (its : Acting) (known : Known) (told : Changed) (s t : S
         | inr ne ↦ absurd (
             let mine = one.now_holds p with_it in
             let noted = one.noted i (block_in p.link) mine in apart_hands (block_in p.link) (before_made (block_in p.link) noted.0 noted.1 ne noted.2) mine
-        )
+            )
       ]
 
       whose_made : (y r : ℕ) (shape : TableShape) → known2.roles y ≡ role.OwnTable r shape → (j : ℕ) × HoldsTable t j y
