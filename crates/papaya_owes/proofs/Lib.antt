@@ -23,3 +23,4 @@ pub mod EndsOfMaps
 pub mod Tables
 pub mod Short
 pub mod Clear
+pub mod Events

@@ -6,3 +6,4 @@ pub mod Tables
 pub mod TablesBeside
 pub mod Short
 pub mod Clear
+pub mod Events
