@@ -1,5 +1,5 @@
--- At the end of an event at which a call has ended, or a walk is ready, the call has made nothing that it has not stored, linked or given up.
-use Rattle.std.specs.Prelude.{◌≡◌, ℕ, Bool, true, false, List, Option, Some, None, ◌⊎◌}
+-- The effects of an event of a call find what it has made as they must, and at the end of one at which a call has ended, or a walk is ready, the call has made nothing that it has not stored, linked or given up.
+use Rattle.std.specs.Prelude.{◌≡◌, ℕ, Bool, true, false, List, Option, Some, None, ◌⊎◌, [], ◌∷◌}
 use Rattle.std.proofs.Common.{refl, ap, sym, subst, ◌∙◌, inl, inr}
 use Rattle.seize_words.specs.declared.fault.Fault.TheVariants.{Memory}
 use Rattle.papaya_tables.specs.declared.node.Node.{Node}
@@ -9,12 +9,15 @@ use Rattle.papaya_raw.specs.declared.machines.progress.Progress.{Progress}
 use Rattle.papaya_raw.specs.declared.machines.progress.Progress.TheVariants as progress
 use Rattle.papaya_schedules.specs.declared.outcome.Outcome.{Outcome}
 use Rattle.papaya_schedules.specs.declared.outcome.Outcome.TheVariants as outcome
-use Rattle.papaya_schedules.specs.Effects.{with_effects, worked}
-use Rattle.papaya_schedules.specs.Entry.{IfCall, acting}
+use Rattle.papaya_schedules.specs.Effects.{with_effects, worked, with_effect}
+use Rattle.papaya_schedules.specs.Entry.{IfCall, acting, ByCall}
 use Rattle.papaya_schedules.specs.Handing.{HasGrown}
 use Rattle.papaya_schedules.specs.Moment.{UnderWay as CallThere, Moment}
 use Rattle.papaya_schedules.specs.Views.{call_of}
 use Rattle.papaya_schedules.specs.After.{moment}
+use Rattle.papaya_schedules.specs.declared.effect.Effect.{Effect}
+use Rattle.papaya_schedules.specs.declared.effect.Effect.TheVariants as effect
+use Rattle.papaya_schedules.specs.Terms.{Terms}
 use Rattle.papaya_callers.specs.Together.{UnderWay}
 use Rattle.papaya_effects.specs.Effects.{effects_of}
 use Rattle.papaya_effects.specs.Known.{Known}
@@ -24,15 +27,44 @@ use Rattle.papaya_executor.specs.Stepping.{StepLeads}
 use Rattle.papaya_executor.specs.declared.executor.Executor.{Executor}
 use Rattle.papaya_follows.proofs.Steps.{WentTo, went_to}
 use Rattle.papaya_moments.specs.Whole.{ShowsWhole}
-use Rattle.papaya_owes.specs.Events.{LeavesNothingMade, EventsLeaveNothingMade}
+use Rattle.papaya_owes.specs.Events.{LeavesNothingMade, EventsLeaveNothingMade, FindsMade, FindMade, StepsFindMade, SeveralFindMade}
 use Rattle.papaya_owes.specs.Made.{ShowsMade}
-use Rattle.papaya_owes.specs.Short.{ShowsShort}
-use Rattle.papaya_owes.specs.Tables.{ShowsTables}
+use Rattle.papaya_owes.specs.Short.{ShowsShort, FindsGrown, FindGrown}
+use Rattle.papaya_owes.specs.Tables.{ShowsTables, FindsTable, FindTables}
 use Rattle.papaya_owes.proofs.Calls.{goes_as_one, step_keeps_made}
 use Rattle.papaya_owes.proofs.Clear.{walks_are_clear}
 use Rattle.papaya_owes.proofs.Kept.{calls_its}
 use Rattle.papaya_owes.proofs.Short.Calls.{step_keeps_short}
 use Rattle.papaya_owes.proofs.Tables.Calls.{step_keeps_tables}
+use Rattle.papaya_owes.specs.Keeping.{FindsBlock, FindBlocks}
+
+-- what an effect finds of blocks, tables and growths it finds of all that the call has made
+finds_made : {K V : Type 0} (terms : Terms) (moments : List (Moment K V)) (m : Moment K V) (f : Effect) (c : CallThere K V) → FindsBlock f c → FindsTable m f c → FindsGrown f c → FindsMade terms moments m f c
+finds_made terms moments m effect.PairMade c block table grown = block
+finds_made terms moments m effect.PairGivenUp c block table grown = block
+finds_made terms moments m (effect.TableMade t) c block table grown = table
+finds_made terms moments m (effect.TableGivenUp t) c block table grown = table
+finds_made terms moments m (effect.Stored n s) c block table grown = block
+finds_made terms moments m (effect.Linked t shape) c block table grown = table
+finds_made terms moments m (effect.Asked growth) c block table grown = grown
+finds_made terms moments m _ c block table grown = tt
+
+module _ {K V : Type 0} (terms : Terms) (moments : List (Moment K V)) (own : List ℕ) (map : ℕ) where
+  by_call : (m : Moment K V) (f : Effect) (o : Option (CallThere K V)) → ByCall (FindsBlock f) o → ByCall (FindsTable m f) o → ByCall (FindsGrown f) o → ByCall (FindsMade terms moments m f) o
+  by_call m f None block table grown = block
+  by_call m f (Some c) block table grown = finds_made terms moments m f c block table grown
+
+  pub all_find : (effects : List Effect) (m : Moment K V) → FindBlocks own map effects m → FindTables own map effects m → FindGrown own map effects m → FindMade terms moments own map effects m
+  all_find [] m blocks tables grown = tt
+  all_find (f ∷ effects) m blocks tables grown = (
+    by_call m f (call_of own m) blocks.0 tables.0 grown.0,
+    all_find effects (with_effect (Some own) (Some map) f m) blocks.1 tables.1 grown.1,
+  )
+
+pub several_find_made : (K V : Type 0) → SeveralFindMade K V
+several_find_made K V terms moments own map [] effects m before after = after
+several_find_made K V terms moments own map (f ∷ done) effects m before after =
+    (before.0, several_find_made K V terms moments own map done effects (with_effect (Some own) (Some map) f m) before.1 after)
 
 -- who is short of no growth has grown, whatever the outcome
 has_grown : {K V : Type 0} (o : Outcome V) (c : CallThere K V) → c.is_short ≡ false → HasGrown o c
@@ -89,3 +121,8 @@ events_leave_nothing_made K V S same hash name m known s old new at whole made t
     subst (λ (who : Option (List ℕ)). IfCall (LeavesNothingMade {K = K} e.outcome) (acting who (worked e (moment log)))) (sym caller)
     (subst (λ (x : Moment K V). IfCall (LeavesNothingMade e.outcome) (call_of (name i) x)) (sym worked_is)
     (event_leaves same hash name m known s old new at whole made tables short map i u here said leads over e.outcome refused))
+
+pub steps_find_made : (K V S : Type 0) (same : K → K → Bool) (hash : K → ℕ) → StepsFindMade K V S same hash
+steps_find_made K V S same hash name m known s old new at whole made tables short map i u here said leads terms moments =
+    all_find terms moments (name i) map (effects_of (acts.Call i map) known new.memory.changed) m (step_keeps_made same hash name m known s old new at whole made map i u here said leads).0
+    (step_keeps_tables same hash name m known s old new at whole tables map i u here said leads).0 (step_keeps_short same hash name m known s old new at whole short map i u here said leads).0

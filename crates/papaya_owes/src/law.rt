@@ -5,7 +5,7 @@ ghost use Rattle.papaya_owes.specs.Tables.{CallsKeepTables, CallsBeginTables, Ca
 ghost use Rattle.papaya_owes.specs.Short.{ShortBegins, StaysShort, CallsKeepShort, CallsBeginShort, CallsTakeShort, CallsComeToShort, WalksGoOnShort, WalksStopShort};
 ghost use Rattle.papaya_owes.specs.TablesBeside.{TablesBegin, StaysTables, WalksGoOnTables, WalksStopTables, RowsKeepTables, MakingsBeginTables, MakingsKeepTables, EndingsKeepTables};
 ghost use Rattle.papaya_owes.specs.Clear.{WalksAreClear};
-ghost use Rattle.papaya_owes.specs.Events.{EventsLeaveNothingMade};
+ghost use Rattle.papaya_owes.specs.Events.{StepsFindMade, SeveralFindMade, EventsLeaveNothingMade};
 ghost use Rattle.papaya_owes.specs.Keeping.{MadeBegins, CallsKeepMade, CallsBeginMade, CallsBeginOwning, CallsTakeMade, CallsComeToMade};
 
 /// At each moment of a run that shows the executor, a call under way has made a block for a pair, and has not stored it, just if the moment says so. It has one such
@@ -76,8 +76,12 @@ pub fn ready_walks_are_clear<K, V>()
     ensures { WalksAreClear K V }
 {}
 
-/// At the end of an event, of one step of a call or of several, at which the call has ended, or is a walk that is ready, the call has neither a block for a pair nor a
-/// table that it has made, and had each growth that it asked for, unless it is refused for want of memory.
-pub fn events_leave_nothing_made<K, V, S>()
-    ensures events { (same : K → K → Bool) (hash : K → ℕ) → EventsLeaveNothingMade K V S same hash }
+/// The effects of an event of a call, of one step or of several, find what the call has made as they must: who makes, or gives up, a block for a pair or a table finds
+/// all that is asked of it; a pair is stored by a call that has a block for it, the table that a call has made is linked, and who asks for a growth is not short of one. At
+/// the end of an event at which the call has ended, or is a walk that is ready, it has neither a block for a pair nor a table that it has made, and had each growth that it
+/// asked for, unless it is refused for want of memory.
+pub fn events_make_nothing_in_vain<K, V, S>()
+    ensures steps { (same : K → K → Bool) (hash : K → ℕ) → StepsFindMade K V S same hash }
+    ensures several { SeveralFindMade K V }
+    ensures ends { (same : K → K → Bool) (hash : K → ℕ) → EventsLeaveNothingMade K V S same hash }
 {}
