@@ -37,6 +37,8 @@ use Rattle.papaya_owes.proofs.Kept.{calls_its}
 use Rattle.papaya_owes.proofs.Short.Calls.{step_keeps_short}
 use Rattle.papaya_owes.proofs.Tables.Calls.{step_keeps_tables}
 use Rattle.papaya_owes.specs.Keeping.{FindsBlock, FindBlocks}
+use Rattle.papaya_owes.proofs.Ready.{ready_so}
+use Rattle.papaya_finishes.specs.Machines.{machine_of}
 
 -- what an effect finds of blocks, tables and growths it finds of all that the call has made
 finds_made : {K V : Type 0} (terms : Terms) (moments : List (Moment K V)) (m : Moment K V) (f : Effect) (c : CallThere K V) → FindsBlock f c → FindsTable m f c → FindsGrown f c → FindsMade terms moments m f c
@@ -101,15 +103,15 @@ module _ {K V S : Type 0} (same : K → K → Bool) (hash : K → ℕ) (name : �
         walks_are_clear K V name v _ _ after_made after_tables after_short map i x (calls_its s.calls map i to.4.next ∙ next)
         (ap (λ (y : Machine K V K). (machine_asked y).1) is_machine ∙ ready) c c_is in (clear.0, clear.1, has_grown o c clear.2)
 
-    leaves_none : (to.4.next ≡ None) ⊎ ((machine_asked to.1).1 ≡ true) → LeavesNothingMade o c
+    leaves_none : (to.4.next ≡ None) ⊎ (said ≡ progress.Ready) → LeavesNothingMade o c
     leaves_none (inl none) = when_ended none
     leaves_none (inr ready) = by to.4.next refl
       where
         by : (next : Option (UnderWay K V K)) → to.4.next ≡ next → LeavesNothingMade o c
         by None none = when_ended none
-        by (Some x) is = when_ready ready x is
+        by (Some x) is = when_ready (ready_so same same hash old.memory.memory new.memory.memory new.memory.changed to.1 said ready (machine_of u) to.3) x is
 
-  event_leaves : (to.4.next ≡ None) ⊎ ((machine_asked to.1).1 ≡ true) → (o : Outcome V) → (said ≡ progress.Refused Memory → o ≡ outcome.Refused Memory) → IfCall (LeavesNothingMade o) (call_of (name i) v)
+  event_leaves : (to.4.next ≡ None) ⊎ (said ≡ progress.Ready) → (o : Outcome V) → (said ≡ progress.Refused Memory → o ≡ outcome.Refused Memory) → IfCall (LeavesNothingMade o) (call_of (name i) v)
   event_leaves over o refused = by (call_of (name i) v) refl
     where
       by : (found : Option (CallThere K V)) → call_of (name i) v ≡ found → IfCall (LeavesNothingMade o) found

@@ -23,4 +23,5 @@ pub mod EndsOfMaps
 pub mod Tables
 pub mod Short
 pub mod Clear
+pub mod Ready
 pub mod Events

@@ -2,7 +2,6 @@
 use Rattle.std.specs.Prelude.{◌≡◌, ℕ, Bool, true, false, List, Some, None, ◌⊎◌, ◌++◌}
 use Rattle.seize_words.specs.declared.fault.Fault.TheVariants.{Memory}
 use Rattle.papaya_tables.specs.declared.node.Node.{Node}
-use Rattle.papaya_raw.specs.Machine.{machine_asked}
 use Rattle.papaya_raw.specs.declared.machines.progress.Progress.{Progress}
 use Rattle.papaya_raw.specs.declared.machines.progress.Progress.TheVariants as progress
 use Rattle.papaya_schedules.specs.declared.outcome.Outcome.{Outcome}
@@ -63,14 +62,14 @@ module _ (K V S : Type 0) (same : K → K → Bool) (hash : K → ℕ) where
       → (map i : ℕ) (u : UnderWay K V K) (here : s.calls map i ≡ Some u) (said : Progress (Node K V)) (leads : StepLeads same hash i said s old new)
       → (terms : Terms) (moments : List (Moment K V)) → FindMade terms moments (name i) map (effects_of (acts.Call i map) known new.memory.changed) m
 
-  -- The promise, of an event whose last effects are those of a step of a call, with which the call has ended, or is a walk that is ready; and which is refused for want of memory if that step was.
+  -- The promise, of an event whose last effects are those of a step of a call, with which the call has ended, or says that it is ready; and which is refused for want of memory if that step was.
   abbrev pub EventsLeaveNothingMade : Type 0
   EventsLeaveNothingMade =
       (name : ℕ → List ℕ) (m : Moment K V) (known : Known) (s : Scene K V) (old new : Executor K V S) → IsAt same hash old s
       → ShowsWhole same name m known s → ShowsMade name m known s → ShowsTables name m known s → ShowsShort name m s
       → (map i : ℕ) (u : UnderWay K V K) (here : s.calls map i ≡ Some u) (said : Progress (Node K V)) (leads : StepLeads same hash i said s old new)
       → (let to = leads map u here in
-      (to.4.next ≡ None) ⊎ ((machine_asked to.1).1 ≡ true)
+      (to.4.next ≡ None) ⊎ (said ≡ progress.Ready)
       → (log : List (Entry K V)) (e : Entry K V) → caller_of e.event ≡ Some (name i) → (said ≡ progress.Refused Memory → e.outcome ≡ outcome.Refused Memory)
       → worked e (moment log) ≡ with_effects (Some (name i)) (Some map) (effects_of (acts.Call i map) known new.memory.changed) m
       → IfCall (LeavesNothingMade e.outcome) (acting (caller_of e.event) (worked e (moment log))))
