@@ -25,7 +25,8 @@ use Rattle.papaya_executor.specs.IsAt.{Scene}
 use Rattle.papaya_follows.proofs.Alike.{is_calm, AllCalm}
 use Rattle.papaya_owes.specs.Beside.{of_block, NoneOfBlock, StaysMade}
 use Rattle.papaya_owes.specs.Made.{OwnsSo, own_word, IsItsBlock, HasBlock, NamesBlock, ShowsMade}
-use Rattle.papaya_owes.proofs.Roles.{own_of, own_is, IsStoring, StoresNew, StoresOver, DoesSo, Leaves, Makes, GivesUp, Stores, pair_back, table_back}
+use Rattle.papaya_owes.proofs.Roles.{own_of, own_is, IsStoring, StoresNew, StoresOver, DoesSo, Leaves, Makes, GivesUp, Stores, no_block}
+use Rattle.papaya_owes.proofs.Quiet.{pair_back, table_back}
 use Rattle.papaya_finishes.specs.Machines.{machine_of}
 
 -- Blocks are as much whose they were.
@@ -101,8 +102,8 @@ pub taken_none : (its : Acting) (r : Role) → NoneStored (taken_by its r)
 taken_none its role.Free = tt
 taken_none its (role.OwnPair j) = (refl, tt)
 taken_none its (role.OwnTable turn shape) = (refl, tt)
-taken_none its (role.Pair n) = (none_is _ (pair_back its n), tt)
-taken_none its (role.Table t len) = (none_is _ (table_back its t), tt)
+taken_none its (role.Pair n) = (none_is _ (pair_back of_block no_block its n), tt)
+taken_none its (role.Table t len) = (none_is _ (table_back of_block no_block its t), tt)
 taken_none its (role.Counter of) = tt
 
 -- What is made, taken and stored is none for a pair: blocks are whose they were, and the effects say nothing of such a block.

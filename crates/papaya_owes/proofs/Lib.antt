@@ -1,4 +1,5 @@
 -- Lemmas on what calls have in hand.
+pub mod Quiet
 pub mod Roles
 pub mod Fields
 pub mod Effects

@@ -52,13 +52,14 @@ use Rattle.papaya_others.proofs.Leads.{word_says}
 use Rattle.papaya_others.proofs.MakingPlans.{TellsMaking}
 use Rattle.papaya_others.proofs.Makes.{no_table_word, facts, tells, left}
 use Rattle.papaya_others.proofs.Quiet.{calls_none}
-use Rattle.papaya_owes.specs.Beside.{NoneOfBlock, MakingsKeepMade}
+use Rattle.papaya_owes.specs.Beside.{of_block, NoneOfBlock, MakingsKeepMade}
 use Rattle.papaya_owes.specs.Made.{ShowsMade}
 use Rattle.papaya_owes.specs.Making.{making_in_opening}
 use Rattle.papaya_owes.proofs.Aside.{LeavesAlone, TakesIn, left_alone, not_storing, none_of, calm_none, taken_none, NoneStored, made_still, plan_took, takes_within}
 use Rattle.papaya_owes.proofs.InHand.{free_there, in_hand}
 use Rattle.papaya_owes.proofs.Planned.{HasPlaces, new_has}
-use Rattle.papaya_owes.proofs.Roles.{MakesFree, none_if, led_none, does_so}
+use Rattle.papaya_owes.proofs.Roles.{MakesFree, no_block, does_so}
+use Rattle.papaya_owes.proofs.Quiet.{none_if, led_none}
 use Rattle.papaya_owes.proofs.Walks.{PlanMakes, plan_made, makes_as, table_makes, IsToMake}
 use Rattle.papaya_owes.proofs.Words.{none_for_pair}
 
@@ -193,7 +194,7 @@ module _ {K V S : Type 0} (same : K → K → Bool) (hash : K → ℕ) (name : �
   stores_none changed.Nothing is = tt
   stores_none (changed.Wrote (Root r) before after) is =
       let leads = led_to its (named known before) (named known after) in
-      none_of (if names_same before after then [] else leads) (none_if (names_same before after) [] leads tt (led_none its known (block_in after) (named known before) (named known after)))
+      none_of (if names_same before after then [] else leads) (none_if of_block (names_same before after) [] leads tt (led_none of_block no_block its (λ turn shape. refl) (named known before) (named known after)))
   stores_none (changed.Wrote (Used r) before after) is = tt
   stores_none (changed.Wrote (Slot t field) before after) is = absurd is
   stores_none (changed.Wrote (Entry x field) before after) is = absurd is

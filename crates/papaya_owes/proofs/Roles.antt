@@ -5,28 +5,26 @@ use Rattle.std.proofs.lemmas.Bool.{cases_eq}
 use Rattle.seize_words.specs.declared.at.At.{At}
 use Rattle.seize_words.specs.declared.at.At.TheVariants.{Root, Used, Slot, Entry, Word}
 use Rattle.seize_words.specs.Word.{block_in}
-use Rattle.seize.specs.declared.states.TheConstants.{FIRST}
 use Rattle.papaya_tables.specs.declared.table_words.TheConstants.{NEXT, DEFERRED}
 use Rattle.papaya_schedules.specs.declared.effect.Effect.{Effect}
 use Rattle.papaya_schedules.specs.declared.effect.Effect.TheVariants as effect
 use Rattle.papaya_schedules.specs.declared.effect.Growth.TheVariants.{ABucket}
 use Rattle.papaya_schedules.specs.declared.effect.Spot.{Spot}
 use Rattle.papaya_schedules.specs.declared.effect.Table.{Table}
-use Rattle.papaya_schedules.specs.declared.effect.Thing.TheVariants.{APair, ATable}
 use Rattle.papaya_teller.specs.declared.changed.Changed.{Changed}
 use Rattle.papaya_teller.specs.declared.changed.Changed.TheVariants as changed
 use Rattle.papaya_teller.specs.declared.changed.Kind.{Kind}
 use Rattle.papaya_teller.specs.declared.changed.Kind.TheVariants as kind
 use Rattle.papaya_schedules.specs.Lists.{put}
-use Rattle.papaya_effects.specs.Effects.{map_of, table_at, pair_taken, table_taken, taken_by, names_same, followed_by, led_to, carried, placed, spot_at, is_place, in_table, in_block, batched, named, written_by, effects_of, linked_on, stored_on, in_table_on, in_block_on, written_on, known_after}
+use Rattle.papaya_effects.specs.Effects.{map_of, table_at, taken_by, names_same, followed_by, led_to, carried, placed, spot_at, is_place, in_table, in_block, named, written_by, effects_of, linked_on, stored_on, in_table_on, in_block_on, written_on, known_after}
 use Rattle.papaya_effects.specs.Known.{Known}
 use Rattle.papaya_effects.specs.declared.acting.Acting.{Acting}
-use Rattle.papaya_effects.specs.declared.acting.Acting.TheVariants as acts
 use Rattle.papaya_effects.specs.declared.role.Role.{Role}
 use Rattle.papaya_effects.specs.declared.role.Role.TheVariants as role
 use Rattle.papaya_follows.proofs.Alike.{put_here, put_elsewhere}
 use Rattle.papaya_follows.proofs.Told.{roomed_as_many}
 use Rattle.papaya_owes.specs.Beside.{of_block, NoneOfBlock}
+use Rattle.papaya_owes.proofs.Quiet.{is_of_map, none_if, placed_none, carried_none, pair_back, table_back, retired_none, followed_none, led_none}
 
 -- whose the block is, if it is for a pair that is not stored
 abbrev pub own_of : Role → Option ℕ
@@ -55,10 +53,6 @@ put_own b r f same x = elim (cases_eq x b) as (λ _. own_of (put b r f x) ≡ ow
 
 -- what effects say
 
-pub none_if : (q : Bool) (a b : List Effect) → NoneOfBlock a → NoneOfBlock b → NoneOfBlock (if q then a else b)
-none_if true a b h k = h
-none_if false a b h k = k
-
 storing_by : (s : Spot) (stored j : ℕ) (was : Role) → IsStoring (placed s stored was (role.OwnPair j))
 storing_by s stored j role.Free = StoresNew (stored + 1) s
 storing_by s stored j (role.OwnPair i) = StoresNew (stored + 1) s
@@ -67,33 +61,12 @@ storing_by s stored j (role.Pair n) = StoresOver n (stored + 1) s
 storing_by s stored j (role.Table t len) = StoresNew (stored + 1) s
 storing_by s stored j (role.Counter map) = StoresNew (stored + 1) s
 
-placed_none : (s : Spot) (stored : ℕ) (was is : Role) → own_of is ≡ None → NoneOfBlock (placed s stored was is)
-placed_none s stored (role.Pair n) (role.OwnPair i) none = absurd (cc none)
-placed_none s stored _ (role.OwnPair i) none = absurd (cc none)
-placed_none s stored (role.Pair n) role.Free none = (refl, tt)
-placed_none s stored role.Free (role.Pair n) none = (refl, tt)
-placed_none s stored _ _ none = tt
-
-carried_none : (t : Table) (is : Role) → NoneOfBlock (carried t is)
-carried_none t role.Free = tt
-carried_none t (role.OwnPair i) = tt
-carried_none t (role.OwnTable turn shape) = tt
-carried_none t (role.Pair n) = (refl, tt)
-carried_none t (role.Table u len) = tt
-carried_none t (role.Counter map) = tt
-
--- what is taken away that was the map's
-pub pair_back : (its : Acting) (n : ℕ) → of_block (pair_taken its n) ≡ false
-pair_back (acts.Call caller map) n = refl
-pair_back (acts.Making map) n = refl
-pair_back (acts.Ending map) n = refl
-pair_back acts.Row n = refl
-
-pub table_back : (its : Acting) (t : Table) → of_block (table_taken its t) ≡ false
-table_back (acts.Call caller map) t = refl
-table_back (acts.Making map) t = refl
-table_back (acts.Ending map) t = refl
-table_back acts.Row t = refl
+-- what the map has is no such block
+pub no_block : (f : Effect) → is_of_map f ≡ true → of_block f ≡ false
+no_block effect.PairMade e = absurd (cc e)
+no_block effect.PairGivenUp e = absurd (cc e)
+no_block (effect.Stored n s) e = absurd (cc e)
+no_block _ e = refl
 
 -- of a link to the block, which is the map's next table, or none
 module _ (its : Acting) (known : Known) (b : ℕ) where
@@ -104,19 +77,6 @@ module _ (its : Acting) (known : Known) (b : ℕ) where
   linked_same (role.Pair n) e x = refl
   linked_same (role.Table t len) e x = refl
   linked_same (role.Counter map) e x = refl
-
-  followed_none : (is : Role) → NoneOfBlock (followed_by its is)
-  followed_none role.Free = tt
-  followed_none (role.OwnPair i) = tt
-  followed_none (role.OwnTable turn shape) = (refl, tt)
-  followed_none (role.Pair n) = tt
-  followed_none (role.Table t len) = tt
-  followed_none (role.Counter map) = tt
-
-  pub led_none : (was is : Role) → NoneOfBlock (led_to its was is)
-  led_none _ (role.OwnTable turn shape) = (refl, tt)
-  led_none (role.Table t len) (role.Table u other) = (refl, tt)
-  led_none _ _ = tt
 
 -- What a word that is written does: it leaves such blocks, or it stores the pair of one.
 module _ (known : Known) where
@@ -129,19 +89,19 @@ module _ (known : Known) where
     placed_so : (s : Spot) (b : ℕ) (was is : Role) → known.roles b ≡ is → WroteSo (placed s known.stored was is) (stored_on b is known)
     placed_so s b was (role.OwnPair j) e =
         StoresOne b j e (put_here b (role.Pair (known.stored + 1)) known.roles b refl) (λ x ne. put_elsewhere b (role.Pair (known.stored + 1)) known.roles x ne) (storing_by s known.stored j was)
-    placed_so s b was role.Free e = LeavesThem (λ x. refl) (placed_none s known.stored was role.Free refl)
-    placed_so s b was (role.OwnTable turn shape) e = LeavesThem (λ x. refl) (placed_none s known.stored was (role.OwnTable turn shape) refl)
-    placed_so s b was (role.Pair n) e = LeavesThem (λ x. refl) (placed_none s known.stored was (role.Pair n) refl)
-    placed_so s b was (role.Table t len) e = LeavesThem (λ x. refl) (placed_none s known.stored was (role.Table t len) refl)
-    placed_so s b was (role.Counter map) e = LeavesThem (λ x. refl) (placed_none s known.stored was (role.Counter map) refl)
+    placed_so s b was role.Free e = LeavesThem (λ x. refl) (placed_none of_block no_block s known.stored was role.Free (λ j is. absurd (cc is)))
+    placed_so s b was (role.OwnTable turn shape) e = LeavesThem (λ x. refl) (placed_none of_block no_block s known.stored was (role.OwnTable turn shape) (λ j is. absurd (cc is)))
+    placed_so s b was (role.Pair n) e = LeavesThem (λ x. refl) (placed_none of_block no_block s known.stored was (role.Pair n) (λ j is. absurd (cc is)))
+    placed_so s b was (role.Table t len) e = LeavesThem (λ x. refl) (placed_none of_block no_block s known.stored was (role.Table t len) (λ j is. absurd (cc is)))
+    placed_so s b was (role.Counter map) e = LeavesThem (λ x. refl) (placed_none of_block no_block s known.stored was (role.Counter map) (λ j is. absurd (cc is)))
 
     -- whichever word of a table it is
     by_word : (t : Table) (s : Spot) (b : ℕ) (was is : Role) → known.roles b ≡ is → (next list place : Bool) → (list ≡ true → place ≡ false)
         → WroteSo (if next then followed_by its is else (if list then carried t is else (if place then placed s known.stored was is else [])))
         (if next then linked_on its b is known else (if place then stored_on b is known else known))
-    by_word t s b was is e true list place apart = LeavesThem (linked_same its known b is e) (followed_none its known b is)
+    by_word t s b was is e true list place apart = LeavesThem (linked_same its known b is e) (followed_none of_block no_block its (λ turn shape. refl) is)
     by_word t s b was is e false true true apart = absurd (let no = apart refl in cc no)
-    by_word t s b was is e false true false apart = LeavesThem (λ x. refl) (carried_none t is)
+    by_word t s b was is e false true false apart = LeavesThem (λ x. refl) (carried_none of_block no_block t is)
     by_word t s b was is e false false true apart = placed_so s b was is e
     by_word t s b was is e false false false apart = LeavesThem (λ x. refl) tt
 
@@ -165,27 +125,13 @@ module _ (known : Known) where
     block_so (role.Table t len) field b q was is e = unless_same q (in_table its t len field known.stored was is) (in_table_on its len field b is known) (table_so t len field b was is e)
     block_so (role.Counter map) field b q was is e = LeavesThem (λ x. refl) (refl, tt)
 
-    retired_none : (q : Bool) (field : ℕ) (r : Role) → NoneOfBlock (if q then [] else batched its field r)
-    retired_none q field r = none_if q [] (batched its field r) tt (by its r)
-      where
-        by : (who : Acting) (r : Role) → NoneOfBlock (batched who field r)
-        by (acts.Call caller map) role.Free = tt
-        by (acts.Call caller map) (role.OwnPair i) = tt
-        by (acts.Call caller map) (role.OwnTable turn shape) = tt
-        by (acts.Call caller map) (role.Pair n) = none_if (field == FIRST) (effect.Retired (APair n) ∷ []) [] (refl, tt) tt
-        by (acts.Call caller map) (role.Table t len) = none_if (field == FIRST) (effect.Retired (ATable t) ∷ []) [] (refl, tt) tt
-        by (acts.Call caller map) (role.Counter of) = tt
-        by (acts.Making map) r = tt
-        by (acts.Ending map) r = tt
-        by acts.Row r = tt
-
     wrote_so : (at : At) (old new : ℕ) → WroteSo (written_by its known at old new) (written_on its at old new known)
     wrote_so (Root r) old new =
         unless_same (names_same old new) (led_to its (named known old) (named known new)) (linked_on its (block_in new) (named known new) known)
-        (LeavesThem (linked_same its known (block_in new) (named known new) refl) (led_none its known (block_in new) (named known old) (named known new)))
+        (LeavesThem (linked_same its known (block_in new) (named known new) refl) (led_none of_block no_block its (λ turn shape. refl) (named known old) (named known new)))
     wrote_so (Used r) old new = LeavesThem (λ x. refl) tt
     wrote_so (Slot s field) old new = LeavesThem (λ x. refl) tt
-    wrote_so (Entry b field) old new = LeavesThem (λ x. refl) (retired_none (names_same old new) field (known.roles b))
+    wrote_so (Entry b field) old new = LeavesThem (λ x. refl) (retired_none of_block no_block its (names_same old new) field (known.roles b))
     wrote_so (Word b field) old new = block_so (known.roles b) field (block_in new) (names_same old new) (named known old) (named known new) refl
 
 -- What an operation does, whoever makes it, where a block that it makes was free.
@@ -222,9 +168,9 @@ module _ (its : Acting) (known : Known) where
   taken_so b (role.OwnTable turn shape) e =
       Leaves (λ x. put_own b role.Free known.roles (sym (ap own_of e)) x) (subst (λ (q : Role). NoneOfBlock (taken_by its q)) (sym e) (refl, tt))
   taken_so b (role.Pair n) e =
-      Leaves (λ x. put_own b role.Free known.roles (sym (ap own_of e)) x) (subst (λ (q : Role). NoneOfBlock (taken_by its q)) (sym e) (pair_back its n, tt))
+      Leaves (λ x. put_own b role.Free known.roles (sym (ap own_of e)) x) (subst (λ (q : Role). NoneOfBlock (taken_by its q)) (sym e) (pair_back of_block no_block its n, tt))
   taken_so b (role.Table t len) e =
-      Leaves (λ x. put_own b role.Free known.roles (sym (ap own_of e)) x) (subst (λ (q : Role). NoneOfBlock (taken_by its q)) (sym e) (table_back its t, tt))
+      Leaves (λ x. put_own b role.Free known.roles (sym (ap own_of e)) x) (subst (λ (q : Role). NoneOfBlock (taken_by its q)) (sym e) (table_back of_block no_block its t, tt))
   taken_so b (role.Counter of) e = Leaves (λ x. put_own b role.Free known.roles (sym (ap own_of e)) x) (subst (λ (q : Role). NoneOfBlock (taken_by its q)) (sym e) tt)
 
   pub does_so : (told : Changed) → MakesFree told → DoesSo told
@@ -234,4 +180,4 @@ module _ (its : Acting) (known : Known) where
   does_so (changed.Unmade k) free = Leaves (λ x. refl) (refl, tt)
   does_so (changed.Took b) free = taken_so b (known.roles b) refl
   does_so (changed.Roomed bucket had) free =
-      Leaves (λ x. ap (λ (f : ℕ → Role). own_of (f x)) (roomed_as_many its known bucket had).0) (none_if (nat_lt bucket known.buckets) [] (effect.Asked ABucket ∷ []) tt (refl, tt))
+      Leaves (λ x. ap (λ (f : ℕ → Role). own_of (f x)) (roomed_as_many its known bucket had).0) (none_if of_block (nat_lt bucket known.buckets) [] (effect.Asked ABucket ∷ []) tt (refl, tt))

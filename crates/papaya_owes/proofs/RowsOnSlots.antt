@@ -25,11 +25,12 @@ use Rattle.papaya_follows.specs.Shows.{Shows}
 use Rattle.papaya_others.specs.Rows.{scene_then}
 use Rattle.papaya_others.proofs.Quiet.{calls_none}
 use Rattle.papaya_others.proofs.RowPlans.{TellsRow, row_tells}
-use Rattle.papaya_owes.specs.Beside.{NoneOfBlock, RowsKeepMade}
+use Rattle.papaya_owes.specs.Beside.{of_block, NoneOfBlock, RowsKeepMade}
 use Rattle.papaya_owes.specs.Made.{ShowsMade}
 use Rattle.papaya_owes.proofs.Aside.{LeavesAlone, NoneStored, left_alone, not_storing, none_of, taken_none, made_still}
 use Rattle.papaya_owes.proofs.InHand.{in_hand}
-use Rattle.papaya_owes.proofs.Roles.{MakesFree, none_if, does_so}
+use Rattle.papaya_owes.proofs.Roles.{MakesFree, does_so}
+use Rattle.papaya_owes.proofs.Quiet.{none_if}
 use Rattle.papaya_owes.proofs.Lasting.{row_keeps_held}
 
 module _ {K V S : Type 0} (same : K → K → Bool) (hash : K → ℕ) (name : ℕ → List ℕ) (m : Moment K V) (known : Known) (s : Scene K V) (old new : Executor K V S) (at : IsAt same hash old s)
@@ -65,7 +66,7 @@ module _ {K V S : Type 0} (same : K → K → Bool) (hash : K → ℕ) (name : �
   stores_none : (x : Changed) → TellsRow x → NoneStored (effects_of Row known x)
   stores_none changed.Nothing is = tt
   stores_none (changed.Wrote (Slot t field) before after) is = tt
-  stores_none (changed.Wrote (Entry b field) before after) is = none_of (effects_of Row known (changed.Wrote (Entry b field) before after)) (none_if (names_same before after) [] [] tt tt)
+  stores_none (changed.Wrote (Entry b field) before after) is = none_of (effects_of Row known (changed.Wrote (Entry b field) before after)) (none_if of_block (names_same before after) [] [] tt tt)
   stores_none (changed.Wrote (Root r) before after) is = absurd is
   stores_none (changed.Wrote (Used r) before after) is = absurd is
   stores_none (changed.Wrote (Word b field) before after) is = absurd is
@@ -73,7 +74,7 @@ module _ {K V S : Type 0} (same : K → K → Bool) (hash : K → ℕ) (name : �
   stores_none (changed.Unmade k) is = absurd is
   stores_none (changed.Took b) is = taken_none Row (known.roles b)
   stores_none (changed.Roomed bucket had) is =
-      none_of (effects_of Row known (changed.Roomed bucket had)) (none_if (nat_lt bucket known.buckets) [] (Asked ABucket ∷ []) tt (refl, tt))
+      none_of (effects_of Row known (changed.Roomed bucket had)) (none_if of_block (nat_lt bucket known.buckets) [] (Asked ABucket ∷ []) tt (refl, tt))
 
   alone : LeavesAlone Row known told
   alone = left_alone Row known told (does_so Row known told (makes_free told tells)) (unmade told tells) untaken

@@ -40,9 +40,13 @@ of_block PairGivenUp = true
 of_block (Stored n s) = true
 of_block _ = false
 
+-- none of the effects is of the kind
+abbrev pub NoneOf : (Effect → Bool) → List Effect → Type 0
+NoneOf of [] = Unit {0}
+NoneOf of (f ∷ fs) = (of f ≡ false) × NoneOf of fs
+
 abbrev pub NoneOfBlock : List Effect → Type 0
-NoneOfBlock [] = Unit {0}
-NoneOfBlock (f ∷ fs) = (of_block f ≡ false) × NoneOfBlock fs
+NoneOfBlock effects = NoneOf of_block effects
 
 module _ (K V : Type 0) where
   -- So it is as long as calls are as they were, of the moment and under way: where a row begins on a slot, where the making or the end of a map begins, and

@@ -3,29 +3,27 @@ use Rattle.std.specs.Prelude.{◌≡◌, ℕ, ◌+◌, ◌==◌, Bool, true, fal
 use Rattle.std.proofs.Common.{refl, ap, sym, subst, ◌∙◌}
 use Rattle.seize_words.specs.declared.at.At.{At}
 use Rattle.seize_words.specs.declared.at.At.TheVariants.{Root, Used, Slot, Entry, Word}
-use Rattle.seize.specs.declared.states.TheConstants.{FIRST}
 use Rattle.papaya_tables.specs.declared.table_words.TheConstants.{NEXT, DEFERRED}
 use Rattle.papaya_schedules.specs.declared.call.Call.{Call}
 use Rattle.papaya_schedules.specs.declared.call.Call.TheVariants as call
 use Rattle.papaya_schedules.specs.declared.effect.Effect.{Effect}
 use Rattle.papaya_schedules.specs.declared.effect.Effect.TheVariants as effect
 use Rattle.papaya_schedules.specs.declared.effect.Growth.TheVariants.{ABlock}
-use Rattle.papaya_schedules.specs.declared.effect.Spot.{Spot}
 use Rattle.papaya_schedules.specs.declared.effect.Table.{Table}
-use Rattle.papaya_schedules.specs.declared.effect.Thing.TheVariants.{APair, ATable}
 use Rattle.papaya_schedules.specs.Effects.{due_for, call_by, with_effect}
 use Rattle.papaya_schedules.specs.Entry.{ByCall}
 use Rattle.papaya_schedules.specs.Moment.{UnderWay as CallThere, Moment}
 use Rattle.papaya_schedules.specs.Views.{call_of}
 use Rattle.papaya_teller.specs.declared.changed.Changed.{Changed}
 use Rattle.papaya_teller.specs.declared.changed.Changed.TheVariants as changed
-use Rattle.papaya_effects.specs.Effects.{pair_taken, table_taken, taken_by, names_same, followed_by, led_to, carried, placed, spot_at, is_place, in_table, in_block, batched, named, written_by, effects_of}
+use Rattle.papaya_effects.specs.Effects.{taken_by, names_same, followed_by, led_to, carried, placed, spot_at, is_place, in_table, in_block, named, written_by, effects_of}
 use Rattle.papaya_effects.specs.Known.{Known}
 use Rattle.papaya_effects.specs.declared.acting.Acting.{Acting}
-use Rattle.papaya_effects.specs.declared.acting.Acting.TheVariants as acts
 use Rattle.papaya_effects.specs.declared.role.Role.{Role}
 use Rattle.papaya_effects.specs.declared.role.Role.TheVariants as role
 use Rattle.papaya_owes.specs.Short.{FindsGrown, FindGrown}
+use Rattle.papaya_owes.specs.Beside.{NoneOf}
+use Rattle.papaya_owes.proofs.Quiet.{is_of_map, none_if, placed_none, carried_none, pair_back, table_back, retired_none, followed_none, led_none}
 use Rattle.papaya_owes.proofs.Fields.{all_by, its_effect}
 
 -- whether a call is short of a growth after an effect
@@ -43,8 +41,7 @@ of_growth (effect.TableMade t) = true
 of_growth _ = false
 
 abbrev pub NoneOfGrowth : List Effect → Type 0
-NoneOfGrowth [] = Unit {0}
-NoneOfGrowth (f ∷ fs) = (of_growth f ≡ false) × NoneOfGrowth fs
+NoneOfGrowth effects = NoneOf of_growth effects
 
 kept_by : (f : Effect) → of_growth f ≡ false → (h : Bool) → short_by f h ≡ h
 kept_by (effect.Asked growth) e h = absurd (cc e)
@@ -123,81 +120,41 @@ NoneAsked (changed.Unmade k) = ⊥
 NoneAsked (changed.Roomed bucket had) = ⊥
 NoneAsked _ = Unit {0}
 
+no_growth : (f : Effect) → is_of_map f ≡ true → of_growth f ≡ false
+no_growth (effect.Asked growth) e = absurd (cc e)
+no_growth effect.PairMade e = absurd (cc e)
+no_growth (effect.TableMade t) e = absurd (cc e)
+no_growth _ e = refl
+
 module _ (its : Acting) where
-  none_if : (q : Bool) (a b : List Effect) → NoneOfGrowth a → NoneOfGrowth b → NoneOfGrowth (if q then a else b)
-  none_if true a b h k = h
-  none_if false a b h k = k
-
-  placed_none : (s : Spot) (stored : ℕ) (was is : Role) → NoneOfGrowth (placed s stored was is)
-  placed_none s stored (role.Pair n) (role.OwnPair i) = (refl, (refl, tt))
-  placed_none s stored _ (role.OwnPair i) = (refl, tt)
-  placed_none s stored (role.Pair n) role.Free = (refl, tt)
-  placed_none s stored role.Free (role.Pair n) = (refl, tt)
-  placed_none s stored _ _ = tt
-
-  carried_none : (t : Table) (is : Role) → NoneOfGrowth (carried t is)
-  carried_none t (role.Pair n) = (refl, tt)
-  carried_none t _ = tt
-
-  followed_none : (is : Role) → NoneOfGrowth (followed_by its is)
-  followed_none (role.OwnTable turn shape) = (refl, tt)
-  followed_none _ = tt
-
-  led_none : (was is : Role) → NoneOfGrowth (led_to its was is)
-  led_none _ (role.OwnTable turn shape) = (refl, tt)
-  led_none (role.Table t len) (role.Table u other) = (refl, tt)
-  led_none _ _ = tt
-
   table_none : (t : Table) (len field stored : ℕ) (was is : Role) → NoneOfGrowth (in_table its t len field stored was is)
   table_none t len field stored was is =
       let at_place = if is_place len field then placed (spot_at t field) stored was is else [] in
-      none_if (field == NEXT) (followed_by its is) (if field == DEFERRED then carried t is else at_place) (followed_none is)
-      (none_if (field == DEFERRED) (carried t is) at_place (carried_none t is) (none_if (is_place len field) (placed (spot_at t field) stored was is) [] (placed_none (spot_at t field) stored was is) tt))
+      none_if of_growth (field == NEXT) (followed_by its is) (if field == DEFERRED then carried t is else at_place) (followed_none of_growth no_growth its (λ turn shape. refl) is)
+      (none_if of_growth (field == DEFERRED) (carried t is) at_place (carried_none of_growth no_growth t is)
+      (none_if of_growth (is_place len field) (placed (spot_at t field) stored was is) [] (placed_none of_growth no_growth (spot_at t field) stored was is (λ j e. refl)) tt))
 
   block_none : (r : Role) (field stored : ℕ) (q : Bool) (was is : Role) → NoneOfGrowth (in_block its r field stored q was is)
-  block_none (role.Table t len) field stored q was is = none_if q [] (in_table its t len field stored was is) tt (table_none t len field stored was is)
+  block_none (role.Table t len) field stored q was is = none_if of_growth q [] (in_table its t len field stored was is) tt (table_none t len field stored was is)
   block_none (role.Counter map) field stored q was is = (refl, tt)
   block_none role.Free field stored q was is = tt
   block_none (role.OwnPair i) field stored q was is = tt
   block_none (role.OwnTable turn shape) field stored q was is = tt
   block_none (role.Pair n) field stored q was is = tt
 
-  batched_none : (who : Acting) (field : ℕ) (r : Role) → NoneOfGrowth (batched who field r)
-  batched_none (acts.Call caller map) field (role.Pair n) = none_if (field == FIRST) (effect.Retired (APair n) ∷ []) [] (refl, tt) tt
-  batched_none (acts.Call caller map) field (role.Table t len) = none_if (field == FIRST) (effect.Retired (ATable t) ∷ []) [] (refl, tt) tt
-  batched_none (acts.Call caller map) field role.Free = tt
-  batched_none (acts.Call caller map) field (role.OwnPair i) = tt
-  batched_none (acts.Call caller map) field (role.OwnTable turn shape) = tt
-  batched_none (acts.Call caller map) field (role.Counter of) = tt
-  batched_none (acts.Making map) field r = tt
-  batched_none (acts.Ending map) field r = tt
-  batched_none acts.Row field r = tt
-
-  pair_back : (who : Acting) (n : ℕ) → of_growth (pair_taken who n) ≡ false
-  pair_back (acts.Call caller map) n = refl
-  pair_back (acts.Making map) n = refl
-  pair_back (acts.Ending map) n = refl
-  pair_back acts.Row n = refl
-
-  table_back : (who : Acting) (t : Table) → of_growth (table_taken who t) ≡ false
-  table_back (acts.Call caller map) t = refl
-  table_back (acts.Making map) t = refl
-  table_back (acts.Ending map) t = refl
-  table_back acts.Row t = refl
-
   taken_none : (r : Role) → NoneOfGrowth (taken_by its r)
   taken_none (role.OwnPair j) = (refl, tt)
   taken_none (role.OwnTable turn shape) = (refl, tt)
-  taken_none (role.Pair n) = (pair_back its n, tt)
-  taken_none (role.Table t len) = (table_back its t, tt)
+  taken_none (role.Pair n) = (pair_back of_growth no_growth its n, tt)
+  taken_none (role.Table t len) = (table_back of_growth no_growth its t, tt)
   taken_none role.Free = tt
   taken_none (role.Counter of) = tt
 
   module _ (known : Known) where
     written_none : (at : At) (old new : ℕ) → NoneOfGrowth (written_by its known at old new)
-    written_none (Root r) old new = none_if (names_same old new) [] (led_to its (named known old) (named known new)) tt (led_none (named known old) (named known new))
+    written_none (Root r) old new = none_if of_growth (names_same old new) [] (led_to its (named known old) (named known new)) tt (led_none of_growth no_growth its (λ turn shape. refl) (named known old) (named known new))
     written_none (Word b field) old new = block_none (known.roles b) field known.stored (names_same old new) (named known old) (named known new)
-    written_none (Entry b field) old new = none_if (names_same old new) [] (batched its field (known.roles b)) tt (batched_none its field (known.roles b))
+    written_none (Entry b field) old new = retired_none of_growth no_growth its (names_same old new) field (known.roles b)
     written_none (Used r) old new = tt
     written_none (Slot s field) old new = tt
 

@@ -5,7 +5,6 @@ use Rattle.std.proofs.lemmas.Bool.{cases_eq}
 use Rattle.seize_words.specs.declared.at.At.{At}
 use Rattle.seize_words.specs.declared.at.At.TheVariants.{Root, Used, Slot, Entry, Word}
 use Rattle.seize_words.specs.Word.{block_in}
-use Rattle.seize.specs.declared.states.TheConstants.{FIRST}
 use Rattle.papaya_tables.specs.declared.table_words.TheConstants.{NEXT, DEFERRED}
 use Rattle.papaya_runs.specs.declared.outcome.TableShape.{TableShape}
 use Rattle.papaya_schedules.specs.declared.effect.Effect.{Effect}
@@ -13,20 +12,20 @@ use Rattle.papaya_schedules.specs.declared.effect.Effect.TheVariants as effect
 use Rattle.papaya_schedules.specs.declared.effect.Growth.TheVariants.{ABucket}
 use Rattle.papaya_schedules.specs.declared.effect.Spot.{Spot}
 use Rattle.papaya_schedules.specs.declared.effect.Table.{Table}
-use Rattle.papaya_schedules.specs.declared.effect.Thing.TheVariants.{APair, ATable}
 use Rattle.papaya_schedules.specs.Lists.{put}
 use Rattle.papaya_teller.specs.declared.changed.Changed.{Changed}
 use Rattle.papaya_teller.specs.declared.changed.Changed.TheVariants as changed
 use Rattle.papaya_teller.specs.declared.changed.Kind.{Kind}
 use Rattle.papaya_teller.specs.declared.changed.Kind.TheVariants as kind
-use Rattle.papaya_effects.specs.Effects.{caller_of, map_of, table_at, pair_taken, table_taken, taken_by, names_same, followed_by, led_to, carried, placed, spot_at, is_place, in_table, in_block, batched, named, written_by, effects_of, linked_on, stored_on, in_table_on, in_block_on, written_on, known_after}
+use Rattle.papaya_effects.specs.Effects.{caller_of, map_of, table_at, taken_by, names_same, followed_by, led_to, carried, placed, spot_at, is_place, in_table, in_block, named, written_by, effects_of, linked_on, stored_on, in_table_on, in_block_on, written_on, known_after}
 use Rattle.papaya_effects.specs.Known.{Known}
 use Rattle.papaya_effects.specs.declared.acting.Acting.{Acting}
-use Rattle.papaya_effects.specs.declared.acting.Acting.TheVariants as acts
 use Rattle.papaya_effects.specs.declared.role.Role.{Role}
 use Rattle.papaya_effects.specs.declared.role.Role.TheVariants as role
 use Rattle.papaya_follows.proofs.Alike.{put_here, put_elsewhere}
 use Rattle.papaya_follows.proofs.Told.{roomed_as_many}
+use Rattle.papaya_owes.specs.Beside.{NoneOf}
+use Rattle.papaya_owes.proofs.Quiet.{is_of_map, none_if, placed_none, carried_none, pair_back, table_back, retired_none}
 
 -- which table a block is that is not linked
 abbrev pub own_table_of : Role → Option (ℕ × TableShape)
@@ -50,8 +49,14 @@ of_table (effect.Linked t shape) = true
 of_table _ = false
 
 abbrev pub NoneOfTable : List Effect → Type 0
-NoneOfTable [] = Unit {0}
-NoneOfTable (f ∷ fs) = (of_table f ≡ false) × NoneOfTable fs
+NoneOfTable effects = NoneOf of_table effects
+
+-- what the map has is no such table
+no_table : (f : Effect) → is_of_map f ≡ true → of_table f ≡ false
+no_table (effect.TableMade t) e = absurd (cc e)
+no_table (effect.TableGivenUp t) e = absurd (cc e)
+no_table (effect.Linked t shape) e = absurd (cc e)
+no_table _ e = refl
 
 -- a block that is another thing from now on is as much a table
 pub put_table : (b : ℕ) (r : Role) (f : ℕ → Role) → own_table_of r ≡ own_table_of (f b) → (x : ℕ) → own_table_of (put b r f x) ≡ own_table_of (f x)
@@ -59,39 +64,6 @@ put_table b r f same x = elim (cases_eq x b) as (λ _. own_table_of (put b r f x
   | inl e ↦ ap own_table_of (put_here b r f x e) ∙ same ∙ ap (λ (y : ℕ). own_table_of (f y)) (sym e)
   | inr ne ↦ ap own_table_of (put_elsewhere b r f x ne)
 ]
-
--- what effects say
-
-pub none_or : (q : Bool) (a b : List Effect) → NoneOfTable a → NoneOfTable b → NoneOfTable (if q then a else b)
-none_or true a b h k = h
-none_or false a b h k = k
-
-placed_none : (s : Spot) (stored : ℕ) (was is : Role) → NoneOfTable (placed s stored was is)
-placed_none s stored (role.Pair n) (role.OwnPair i) = (refl, (refl, tt))
-placed_none s stored role.Free (role.OwnPair i) = (refl, tt)
-placed_none s stored (role.OwnPair j) (role.OwnPair i) = (refl, tt)
-placed_none s stored (role.OwnTable turn shape) (role.OwnPair i) = (refl, tt)
-placed_none s stored (role.Table t len) (role.OwnPair i) = (refl, tt)
-placed_none s stored (role.Counter map) (role.OwnPair i) = (refl, tt)
-placed_none s stored (role.Pair n) role.Free = (refl, tt)
-placed_none s stored role.Free (role.Pair n) = (refl, tt)
-placed_none s stored _ _ = tt
-
-carried_none : (t : Table) (is : Role) → NoneOfTable (carried t is)
-carried_none t (role.Pair n) = (refl, tt)
-carried_none t _ = tt
-
-pair_back : (its : Acting) (n : ℕ) → of_table (pair_taken its n) ≡ false
-pair_back (acts.Call caller map) n = refl
-pair_back (acts.Making map) n = refl
-pair_back (acts.Ending map) n = refl
-pair_back acts.Row n = refl
-
-table_back : (its : Acting) (t : Table) → of_table (table_taken its t) ≡ false
-table_back (acts.Call caller map) t = refl
-table_back (acts.Making map) t = refl
-table_back (acts.Ending map) t = refl
-table_back acts.Row t = refl
 
 -- What a word that is written does: it leaves such tables, or it links one.
 module _ (its : Acting) (known : Known) where
@@ -137,9 +109,9 @@ module _ (its : Acting) (known : Known) where
       → WroteTables (if next then followed_by its is else (if list then carried t is else (if place then placed s known.stored was is else [])))
       (if next then linked_on its b is known else (if place then stored_on b is known else known))
   by_word t s b was is e true list place = followed_so b is e
-  by_word t s b was is e false true true = LeavesThem (stored_same b is e) (carried_none t is)
-  by_word t s b was is e false true false = LeavesThem (λ x. refl) (carried_none t is)
-  by_word t s b was is e false false true = LeavesThem (stored_same b is e) (placed_none s known.stored was is)
+  by_word t s b was is e false true true = LeavesThem (stored_same b is e) (carried_none of_table no_table t is)
+  by_word t s b was is e false true false = LeavesThem (λ x. refl) (carried_none of_table no_table t is)
+  by_word t s b was is e false false true = LeavesThem (stored_same b is e) (placed_none of_table no_table s known.stored was is (λ j e2. refl))
   by_word t s b was is e false false false = LeavesThem (λ x. refl) tt
 
   unless_same : (q : Bool) (effects : List Effect) (known2 : Known) → WroteTables effects known2 → WroteTables (if q then [] else effects) (if q then known else known2)
@@ -156,27 +128,13 @@ module _ (its : Acting) (known : Known) where
       (by_word t (spot_at t field) b was is e (field == NEXT) (field == DEFERRED) (is_place len field))
   block_so (role.Counter map) field b q was is e = LeavesThem (λ x. refl) (refl, tt)
 
-  retired_none : (q : Bool) (field : ℕ) (r : Role) → NoneOfTable (if q then [] else batched its field r)
-  retired_none q field r = none_or q [] (batched its field r) tt (by its r)
-    where
-      by : (who : Acting) (r : Role) → NoneOfTable (batched who field r)
-      by (acts.Call caller map) role.Free = tt
-      by (acts.Call caller map) (role.OwnPair i) = tt
-      by (acts.Call caller map) (role.OwnTable turn shape) = tt
-      by (acts.Call caller map) (role.Pair n) = none_or (field == FIRST) (effect.Retired (APair n) ∷ []) [] (refl, tt) tt
-      by (acts.Call caller map) (role.Table t len) = none_or (field == FIRST) (effect.Retired (ATable t) ∷ []) [] (refl, tt) tt
-      by (acts.Call caller map) (role.Counter of) = tt
-      by (acts.Making map) r = tt
-      by (acts.Ending map) r = tt
-      by acts.Row r = tt
-
   wrote_so : (at : At) (old new : ℕ) → WroteTables (written_by its known at old new) (written_on its at old new known)
   wrote_so (Root r) old new =
       unless_same (names_same old new) (led_to its (named known old) (named known new)) (linked_on its (block_in new) (named known new) known)
       (led_so (block_in new) (named known old) (named known new) refl)
   wrote_so (Used r) old new = LeavesThem (λ x. refl) tt
   wrote_so (Slot s field) old new = LeavesThem (λ x. refl) tt
-  wrote_so (Entry b field) old new = LeavesThem (λ x. refl) (retired_none (names_same old new) field (known.roles b))
+  wrote_so (Entry b field) old new = LeavesThem (λ x. refl) (retired_none of_table no_table its (names_same old new) field (known.roles b))
   wrote_so (Word b field) old new = block_so (known.roles b) field (block_in new) (names_same old new) (named known old) (named known new) refl
 
   -- What an operation does, where a block that it makes was free.
@@ -207,9 +165,9 @@ module _ (its : Acting) (known : Known) where
   taken_so b (role.OwnTable turn shape) e = GivesUp b turn shape refl e
   taken_so b role.Free e = Leaves (λ x. put_table b role.Free known.roles (sym (ap own_table_of e)) x) (subst (λ (q : Role). NoneOfTable (taken_by its q)) (sym e) tt)
   taken_so b (role.OwnPair j) e = Leaves (λ x. put_table b role.Free known.roles (sym (ap own_table_of e)) x) (subst (λ (q : Role). NoneOfTable (taken_by its q)) (sym e) (refl, tt))
-  taken_so b (role.Pair n) e = Leaves (λ x. put_table b role.Free known.roles (sym (ap own_table_of e)) x) (subst (λ (q : Role). NoneOfTable (taken_by its q)) (sym e) (pair_back its n, tt))
+  taken_so b (role.Pair n) e = Leaves (λ x. put_table b role.Free known.roles (sym (ap own_table_of e)) x) (subst (λ (q : Role). NoneOfTable (taken_by its q)) (sym e) (pair_back of_table no_table its n, tt))
   taken_so b (role.Table t len) e =
-      Leaves (λ x. put_table b role.Free known.roles (sym (ap own_table_of e)) x) (subst (λ (q : Role). NoneOfTable (taken_by its q)) (sym e) (table_back its t, tt))
+      Leaves (λ x. put_table b role.Free known.roles (sym (ap own_table_of e)) x) (subst (λ (q : Role). NoneOfTable (taken_by its q)) (sym e) (table_back of_table no_table its t, tt))
   taken_so b (role.Counter of) e = Leaves (λ x. put_table b role.Free known.roles (sym (ap own_table_of e)) x) (subst (λ (q : Role). NoneOfTable (taken_by its q)) (sym e) tt)
 
   pub does_to_tables : (told : Changed) → FreeBefore told → DoesToTables told
@@ -219,4 +177,4 @@ module _ (its : Acting) (known : Known) where
   does_to_tables (changed.Unmade k) free = Leaves (λ x. refl) (refl, tt)
   does_to_tables (changed.Took b) free = taken_so b (known.roles b) refl
   does_to_tables (changed.Roomed bucket had) free =
-      Leaves (λ x. ap (λ (f : ℕ → Role). own_table_of (f x)) (roomed_as_many its known bucket had).0) (none_or (nat_lt bucket known.buckets) [] (effect.Asked ABucket ∷ []) tt (refl, tt))
+      Leaves (λ x. ap (λ (f : ℕ → Role). own_table_of (f x)) (roomed_as_many its known bucket had).0) (none_if of_table (nat_lt bucket known.buckets) [] (effect.Asked ABucket ∷ []) tt (refl, tt))
