@@ -1,5 +1,5 @@
 -- The effects of an event of a call find what it has made as they must, and at the end of one at which a call has ended, or a walk is ready, the call has made nothing that it has not stored, linked or given up.
-use Rattle.std.specs.Prelude.{◌≡◌, ℕ, Bool, true, false, List, Option, Some, None, ◌⊎◌, [], ◌∷◌}
+use Rattle.std.specs.Prelude.{◌≡◌, ℕ, Bool, true, false, List, ◌++◌, Option, Some, None, ◌⊎◌, [], ◌∷◌}
 use Rattle.std.proofs.Common.{refl, ap, sym, subst, ◌∙◌, inl, inr}
 use Rattle.seize_words.specs.declared.fault.Fault.TheVariants.{Memory}
 use Rattle.papaya_tables.specs.declared.node.Node.{Node}
@@ -9,7 +9,7 @@ use Rattle.papaya_raw.specs.declared.machines.progress.Progress.{Progress}
 use Rattle.papaya_raw.specs.declared.machines.progress.Progress.TheVariants as progress
 use Rattle.papaya_schedules.specs.declared.outcome.Outcome.{Outcome}
 use Rattle.papaya_schedules.specs.declared.outcome.Outcome.TheVariants as outcome
-use Rattle.papaya_schedules.specs.Effects.{with_effects, worked, with_effect}
+use Rattle.papaya_schedules.specs.Effects.{with_effects, worked, with_effect, AtEachEffect}
 use Rattle.papaya_schedules.specs.Entry.{IfCall, acting, ByCall}
 use Rattle.papaya_schedules.specs.Handing.{HasGrown}
 use Rattle.papaya_schedules.specs.Moment.{UnderWay as CallThere, Moment}
@@ -63,10 +63,16 @@ module _ {K V : Type 0} (terms : Terms) (moments : List (Moment K V)) (own : Lis
     all_find effects (with_effect (Some own) (Some map) f m) blocks.1 tables.1 grown.1,
   )
 
+-- what each of some effects finds, and each of those after them, each of all finds
+pub several_find : {K V : Type 0} (P : Moment K V → Effect → Type 0) (own : List ℕ) (map : ℕ) (done effects : List Effect) (m : Moment K V)
+    → AtEachEffect P (Some own) (Some map) done m → AtEachEffect P (Some own) (Some map) effects (with_effects (Some own) (Some map) done m)
+    → AtEachEffect P (Some own) (Some map) (done ++ effects) m
+several_find P own map [] effects m before after = after
+several_find P own map (f ∷ done) effects m before after = (before.0, several_find P own map done effects (with_effect (Some own) (Some map) f m) before.1 after)
+
 pub several_find_made : (K V : Type 0) → SeveralFindMade K V
-several_find_made K V terms moments own map [] effects m before after = after
-several_find_made K V terms moments own map (f ∷ done) effects m before after =
-    (before.0, several_find_made K V terms moments own map done effects (with_effect (Some own) (Some map) f m) before.1 after)
+several_find_made K V terms moments own map done effects m before after =
+    several_find (λ (v : Moment K V) (f : Effect). ByCall (FindsMade terms moments v f) (call_of own v)) own map done effects m before after
 
 -- who is short of no growth has grown, whatever the outcome
 has_grown : {K V : Type 0} (o : Outcome V) (c : CallThere K V) → c.is_short ≡ false → HasGrown o c

@@ -44,35 +44,35 @@ calls_without calls of i n j x is = elim (which calls of i None n j x is) as (λ
 ]
 
 module _ {K V : Type 0} where
-  -- a call has made as much as another one: a block for a pair, and a table; and it is as short
+  -- a call has made as much as another one: a block for a pair, and a table; and it is as short, and as it was called
   abbrev pub HasAsMuch : CallThere K V → CallThere K V → Type 0
-  HasAsMuch c d = (d.has_block ≡ c.has_block) × (d.table ≡ c.table) × (d.is_short ≡ c.is_short)
+  HasAsMuch c d = (d.has_block ≡ c.has_block) × (d.table ≡ c.table) × (d.is_short ≡ c.is_short) × (d.call ≡ c.call)
 
   -- what it is told, and what it comes to, leaves that
 
   replied_keeps : (reply : Reply V) (c : CallThere K V) (stands : Stands) → HasAsMuch c (replied reply c stands)
-  replied_keeps reply c Going = (refl, refl, refl)
-  replied_keeps reply c (Asking q) = (refl, refl, refl)
-  replied_keeps reply c Told = (refl, refl, refl)
-  replied_keeps reply c IsReady = (refl, refl, refl)
+  replied_keeps reply c Going = (refl, refl, refl, refl)
+  replied_keeps reply c (Asking q) = (refl, refl, refl, refl)
+  replied_keeps reply c Told = (refl, refl, refl, refl)
+  replied_keeps reply c IsReady = (refl, refl, refl, refl)
 
   asks_keeps : (question : Option ℕ) (c : CallThere K V) (stands : Stands) → HasAsMuch c (asks_on question c stands)
-  asks_keeps question c Going = (refl, refl, refl)
-  asks_keeps question c (Asking q) = (refl, refl, refl)
-  asks_keeps question c Told = (refl, refl, refl)
-  asks_keeps question c IsReady = (refl, refl, refl)
+  asks_keeps question c Going = (refl, refl, refl, refl)
+  asks_keeps question c (Asking q) = (refl, refl, refl, refl)
+  asks_keeps question c Told = (refl, refl, refl, refl)
+  asks_keeps question c IsReady = (refl, refl, refl, refl)
 
   comes_keeps : (o : Outcome V) (c : CallThere K V) → HasAsMuch c (comes_to o c)
-  comes_keeps outcome.Done c = (refl, refl, refl)
-  comes_keeps (outcome.Slot n) c = (refl, refl, refl)
-  comes_keeps outcome.Goes c = (refl, refl, refl)
+  comes_keeps outcome.Done c = (refl, refl, refl, refl)
+  comes_keeps (outcome.Slot n) c = (refl, refl, refl, refl)
+  comes_keeps outcome.Goes c = (refl, refl, refl, refl)
   comes_keeps (outcome.Asks question) c = asks_keeps question c c.stands
-  comes_keeps outcome.Waits c = (refl, refl, refl)
-  comes_keeps outcome.Ready c = (refl, refl, refl)
-  comes_keeps (outcome.Shows n) c = (refl, refl, refl)
-  comes_keeps (outcome.Answered a) c = (refl, refl, refl)
-  comes_keeps (outcome.Shape tables) c = (refl, refl, refl)
-  comes_keeps (outcome.Refused fault) c = (refl, refl, refl)
+  comes_keeps outcome.Waits c = (refl, refl, refl, refl)
+  comes_keeps outcome.Ready c = (refl, refl, refl, refl)
+  comes_keeps (outcome.Shows n) c = (refl, refl, refl, refl)
+  comes_keeps (outcome.Answered a) c = (refl, refl, refl, refl)
+  comes_keeps (outcome.Shape tables) c = (refl, refl, refl, refl)
+  comes_keeps (outcome.Refused fault) c = (refl, refl, refl, refl)
 
   come_keeps : (o : Outcome V) (steps : ℕ) (c : CallThere K V) → HasAsMuch c (come o steps c)
   come_keeps o steps c = comes_keeps o (record c { steps = c.steps + steps })
@@ -93,11 +93,11 @@ module _ {K V : Type 0} (name : ℕ → List ℕ) (m : Moment K V) where
     abbrev among : ℕ → Bool → Option (CallThere K V)
     among j q = cond q (Some fresh) (find (λ y. is_same y.caller (name j)) m.calls)
 
-    pub fresh_has : (j : ℕ) → j ≡ i → (d : CallThere K V) → call_of (name j) begun ≡ Some d → (d.has_block ≡ false) × (d.table ≡ None) × (d.is_short ≡ false)
+    pub fresh_has : (j : ℕ) → j ≡ i → (d : CallThere K V) → call_of (name j) begun ≡ Some d → (d.has_block ≡ false) × (d.table ≡ None) × (d.is_short ≡ false) × (d.call ≡ its)
     fresh_has j e d d_is =
         let first : ◌≡◌ {A = Option (CallThere K V)} (Some fresh) (Some d) =
         sym (ap (among j) (ap (λ (k : ℕ). is_same (name i) (name k)) e ∙ is_same_refl (name i))) ∙ d_is in
-        subst (HasAsMuch fresh) (one_of fresh d first) (refl, refl, refl)
+        subst (HasAsMuch fresh) (one_of fresh d first) (refl, refl, refl, refl)
 
     pub others_there : (j : ℕ) → is_same (name i) (name j) ≡ false → (d : CallThere K V) → call_of (name j) begun ≡ Some d → call_of (name j) m ≡ Some d
     others_there j apart d d_is = sym (ap (among j) apart) ∙ d_is
@@ -110,7 +110,7 @@ module _ {K V : Type 0} (name : ℕ → List ℕ) (m : Moment K V) where
         where
           by : (q : Bool) → HasAsMuch c (if q then change c else c)
           by true = kept c
-          by false = (refl, refl, refl)
+          by false = (refl, refl, refl, refl)
 
       changed_had : (n j : ℕ) (x : UnderWay K V K) → calls n j ≡ Some x → (d : CallThere K V) → find (λ y. is_same y.caller (name j)) (map (changed change is_of own) m.calls) ≡ Some d → HadAsMuch j d
       changed_had n j x is d d_is =
@@ -129,7 +129,7 @@ module _ {K V : Type 0} (name : ℕ → List ℕ) (m : Moment K V) where
         let c = shown n j x is in
         let stays : not (is_same c.0.caller own) ≡ true = ap (λ (l : List ℕ). not (is_same l own)) (caller_is (name j) m c.0 c.1) ∙ ap not (apart_back own (name j) apart) in
         let here = found_kept (λ y. is_same y.caller (name j)) (λ y. not (is_same y.caller own)) m.calls c.0 c.1 stays in
-        (c.0, c.1, subst (HasAsMuch c.0) (one_of c.0 d (sym here ∙ d_is)) (refl, refl, refl))
+        (c.0, c.1, subst (HasAsMuch c.0) (one_of c.0 d (sym here ∙ d_is)) (refl, refl, refl, refl))
 
     pub come_had : (own : List ℕ) (o : Outcome V) (steps : ℕ) (n j : ℕ) (x : UnderWay K V K) → calls n j ≡ Some x → (ends_call o ≡ true → is_same own (name j) ≡ false) → (d : CallThere K V)
         → call_of (name j) (come_to own o steps m) ≡ Some d → HadAsMuch j d

@@ -14,6 +14,7 @@ pub mod InHand
 pub mod Machines
 pub mod Ends
 pub mod Kept
+pub mod Marked
 pub mod Calls
 pub mod Between
 pub mod Aside
@@ -23,6 +24,7 @@ pub mod MakingsOfMaps
 pub mod EndsOfMaps
 pub mod Tables
 pub mod Short
+pub mod Looking
 pub mod Clear
 pub mod Ready
 pub mod Events

@@ -5,5 +5,6 @@ pub mod Beside
 pub mod Tables
 pub mod TablesBeside
 pub mod Short
+pub mod Looking
 pub mod Clear
 pub mod Events

@@ -4,6 +4,7 @@ ghost use Rattle.papaya_owes.specs.Beside.{StaysMade, WalksGoOnMade, WalksStopMa
 ghost use Rattle.papaya_owes.specs.Tables.{CallsKeepTables, CallsBeginTables, CallsTakeTables, CallsComeToTables};
 ghost use Rattle.papaya_owes.specs.Short.{ShortBegins, StaysShort, CallsKeepShort, CallsBeginShort, CallsTakeShort, CallsComeToShort, WalksGoOnShort, WalksStopShort};
 ghost use Rattle.papaya_owes.specs.TablesBeside.{TablesBegin, StaysTables, WalksGoOnTables, WalksStopTables, RowsKeepTables, MakingsBeginTables, MakingsKeepTables, EndingsKeepTables};
+ghost use Rattle.papaya_owes.specs.Looking.{CallsKeepLooking, SeveralFindAtWork, LookingBegins, StaysLooking, CallsBeginLooking, LookupsBegin, CallsTakeLooking, CallsComeToLooking, WalksGoOnLooking, WalksStopLooking};
 ghost use Rattle.papaya_owes.specs.Clear.{WalksAreClear};
 ghost use Rattle.papaya_owes.specs.Events.{StepsFindMade, SeveralFindMade, EventsLeaveNothingMade};
 ghost use Rattle.papaya_owes.specs.Keeping.{MadeBegins, CallsKeepMade, CallsBeginMade, CallsBeginOwning, CallsTakeMade, CallsComeToMade};
@@ -69,6 +70,22 @@ pub fn calls_are_short_until_refused<K, V, S>()
     ensures stays { StaysShort K V }
     ensures goes_on { (same : K → K → Bool) (hash : K → ℕ) → WalksGoOnShort K V S same hash }
     ensures stops { (same : K → K → Bool) (hash : K → ℕ) → WalksStopShort K V S same hash }
+{}
+
+/// A call that only looks, which is a lookup of a key, or asks for the length, has a machine that looks until it is over, and no step of it has an effect: each effect of a
+/// call, of one step or of several, finds that the call does more. So it is before all events, after each step of a call, whoever's, where a call begins, takes a reply
+/// and comes to an outcome, where a walk goes on, or is given up, and as long as calls are as they were.
+pub fn calls_that_look_have_no_effects<K, V, S>()
+    ensures begins { LookingBegins K V }
+    ensures calls { (same : K → K → Bool) (hash : K → ℕ) → CallsKeepLooking K V S same hash }
+    ensures several { SeveralFindAtWork K V }
+    ensures begun { CallsBeginLooking K V }
+    ensures lookups { LookupsBegin K V }
+    ensures told { CallsTakeLooking K V }
+    ensures come_to { CallsComeToLooking K V }
+    ensures stays { StaysLooking K V }
+    ensures goes_on { (same : K → K → Bool) (hash : K → ℕ) → WalksGoOnLooking K V S same hash }
+    ensures stops { (same : K → K → Bool) (hash : K → ℕ) → WalksStopLooking K V S same hash }
 {}
 
 /// A walk that is ready has neither a block for a pair nor a table that it has made, and is short of no growth, as a call that has ended.
