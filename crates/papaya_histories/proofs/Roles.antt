@@ -1,7 +1,6 @@
 -- What a block is after a step of a call on one key: the pairs that the call looked at are those of their numbers.
 use Rattle.std.specs.Prelude.{◌≡◌, ℕ, ◌<◌, Bool, true, List, Option, Some}
-use Rattle.std.proofs.Common.{refl, ap, sym, subst, ◌∙◌, inl, inr}
-use Rattle.std.proofs.lemmas.Bool.{cases_lt}
+use Rattle.std.proofs.Common.{refl, ap, sym, subst, ◌∙◌}
 use Rattle.seize_words.specs.Word.{block_in}
 use Rattle.seize.specs.World.{World, with_at}
 use Rattle.papaya_tables.specs.declared.setting.Setting.{Setting}
@@ -34,6 +33,7 @@ use Rattle.papaya_follows.specs.Shows.{Shows}
 use Rattle.papaya_follows.proofs.Onward.{IsLasting}
 use Rattle.papaya_follows.proofs.Steps.{WentTo, made_so, is_inside, is_sight, LeadsThere}
 use Rattle.papaya_moments.specs.Whole.{ShowsWhole}
+use Rattle.papaya_moments.proofs.Roles.{roles_then}
 use Rattle.papaya_histories.specs.Answers.{IsToldAs}
 use Rattle.papaya_histories.proofs.Steps.{to, led_on, after}
 
@@ -102,12 +102,5 @@ module _ {K V S : Type 0} (same : K → K → Bool) (hash : K → ℕ) (name : �
     stands_is = ap (λ (f : ℕ → Option (Standing K)). f map) moved ∙ at_same s.maps map (Some stands_then) map refl
 
     pub roles_after : (n : ℕ) → n < step.step.went.c2.stored → step.step.went.blocks2.pair_known n ≡ true → known2.roles (step.step.went.blocks2.pair n) ≡ role.Pair (on.shows.number map n)
-    roles_after n l known_too = elim (cases_lt n st.chart.stored) as (λ _. known2.roles (step.step.went.blocks2.pair n) ≡ role.Pair (on.shows.number map n)) [
-      | inl before ↦
-          let was = step.step.went.blocks_same.pairs_back n before known_too in
-          let grown = step.step.grown.pairs n before in
-          ap known2.roles ((step.step.went.blocks_same.pairs n before was).0 ∙ sym grown.0) ∙ (on.shows.maps map stands_then stands_is).pairs.roles n l (grown.1 ∙ its_sight.pairs n before was)
-      | inr fresh ↦
-          let grown = step.step.grown.new_pairs n fresh in
-          ap known2.roles (sym grown.0) ∙ (on.shows.maps map stands_then stands_is).pairs.roles n l (grown.1 ∙ known_too)
-    ]
+    roles_after n l known_too =
+        roles_then same old.batch_size old.roots s map i st its_sight x new.memory.memory p2 end step on.shows moved n l known_too

@@ -1,5 +1,5 @@
 -- Lemmas on what the memory of one owner's map has.
-mod Calls
+pub mod Calls
 mod Lists
 mod Runs
 mod Samples

@@ -9,3 +9,4 @@ pub mod Numbers
 pub mod Over
 pub mod Calls
 pub mod Walks
+pub mod Roles

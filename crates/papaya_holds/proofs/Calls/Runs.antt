@@ -193,7 +193,7 @@ module _ {K V Q : Type 0} (p : KeyCall K V Q) (o : Owns p) where
   asks_at : (stands : Calling) → p.stands ≡ stands → ((r : KeyCall K V Q) → r.there ≡ p.there → OwnsAt r stands) → (r : KeyCall K V Q) → r.there ≡ p.there → r.stands ≡ p.stands → OwnsAt r r.stands
   asks_at stands is so r kind here = subst (OwnsAt r) (sym (here ∙ is)) (so r kind)
 
-  told_so : (stands : Calling) → p.stands ≡ stands → OwnsAt p stands → (told : Reply V) → Stays (told_at stands p told).0
+  pub told_so : (stands : Calling) → p.stands ≡ stands → OwnsAt p stands → (told : Reply V) → Stays (told_at stands p told).0
   told_so (at.Asks (asking.Absent gap)) is some told =
       absent_so some (asks_at (at.Asks (asking.Absent gap)) is (λ r kind e. some (sym kind ∙ e))) p.replies.takes gap told
   told_so (at.Asks (asking.Present word)) is some told =

@@ -1,0 +1,66 @@
+-- A call on one key that has ended names no block of its own any more, but that of the pair which it has stored.
+use Rattle.std.specs.Prelude.{◌≡◌, ◌≢◌, ◌<◌, ℕ, Bool, true, None, ◌⊎◌}
+use Rattle.std.proofs.Common.{refl, subst, inl, inr}
+use Rattle.seize_words.specs.Word.{block_in}
+use Rattle.seize_words.specs.declared.fault.Fault.{Fault}
+use Rattle.seize.specs.World.{World}
+use Rattle.papaya_tables.specs.declared.node.Node.{Node}
+use Rattle.papaya_tables.specs.declared.setting.Setting.{Setting}
+use Rattle.papaya_raw.specs.Progress.{of_called}
+use Rattle.papaya_raw.specs.declared.machines.answer.Called.{Called}
+use Rattle.papaya_raw.specs.declared.machines.answer.Called.TheVariants as called
+use Rattle.papaya_raw.specs.declared.machines.answer.KeyAnswer.{KeyAnswer}
+use Rattle.papaya_raw.specs.declared.machines.call.KeyCall.{KeyCall}
+use Rattle.papaya_rule.specs.Chart.{Chart}
+use Rattle.papaya_rule.specs.Words.{Blocks}
+use Rattle.papaya_points.specs.FactsCalls.{Change}
+use Rattle.papaya_points.specs.Steps.{AreLawful}
+use Rattle.papaya_callers.specs.Together.{CallOnKey, in_slot, next_of, AnswersOnce}
+use Rattle.papaya_effects.specs.Known.{Known}
+use Rattle.papaya_effects.specs.declared.role.Role.TheVariants as role
+use Rattle.papaya_holds.specs.Came.{TellsOwn, Owns}
+use Rattle.papaya_holds.proofs.Calls.Goes.{TellsSo}
+use Rattle.papaya_owes.proofs.Held.{disposes_pair, answered_pair}
+
+module _ {K V : Type 0} where
+  -- one that is refused has none
+  pub refused_own : (r : KeyCall K V K × Called (Node K V)) (fault : Fault) → of_called (called.Refused fault) ≡ of_called r.1 → TellsSo r → r.0.own ≡ 0
+  refused_own (p, called.Refused other) fault e so = so
+  refused_own (p, called.Goes) fault e so = absurd (cc e)
+  refused_own (p, called.Waits) fault e so = absurd (cc e)
+  refused_own (p, called.Gave value) fault e so = absurd (cc e)
+  refused_own (p, called.Unstored value) fault e so = absurd (cc e)
+  refused_own (p, called.Asks about) fault e so = absurd (cc e)
+  refused_own (p, called.Done answer) fault e so = absurd (cc e)
+
+  -- and what one answers tells its block, or that it has none
+  pub answered_own : (r : KeyCall K V K × Called (Node K V)) (answer : KeyAnswer) → of_called (called.Done answer) ≡ of_called r.1 → TellsSo r → TellsOwn r.0.own answer
+  answered_own (p, called.Done other) answer e so = let one : other ≡ answer = cc e in subst (TellsOwn p.own) one so
+  answered_own (p, called.Goes) answer e so = absurd (cc e)
+  answered_own (p, called.Waits) answer e so = absurd (cc e)
+  answered_own (p, called.Gave value) answer e so = absurd (cc e)
+  answered_own (p, called.Unstored value) answer e so = absurd (cc e)
+  answered_own (p, called.Asks about) answer e so = absurd (cc e)
+  answered_own (p, called.Refused fault) answer e so = absurd (cc e)
+
+-- which is then that of a pair
+module _ {K V : Type 0} (same : K → K → Bool) (hash : K → ℕ) (setting : Setting) (slot : ℕ → ℕ) (w : World (Node K V)) (c : Chart K) (seen : Blocks) (i : ℕ) (u : CallOnKey K V K)
+    (lawful : AreLawful same hash) (known : Known) (number : ℕ → ℕ) (roles : (n : ℕ) → n < c.stored → seen.pair_known n ≡ true → known.roles (seen.pair n) ≡ role.Pair (number n))
+    (pairs : (n : ℕ) → n < c.stored → seen.pair_known n ≡ true → 0 < seen.pair n) where
+  pub answer_pair : (p : KeyCall K V K) → Owns p → p.own ≢ 0 → (change : Change) (answer : KeyAnswer) → AnswersOnce V same hash same setting slot w c seen i u change answer → TellsOwn p.own answer
+      → (n : ℕ) × (known.roles (block_in p.own) ≡ role.Pair n)
+  answer_pair p o some change answer (fits, inl (none, so, leaves)) own =
+      answered_pair same hash w i (in_slot setting (slot i)) c seen u.keys p o.code some lawful known number roles pairs u.began answer so own
+  answer_pair p o some change answer (fits, inr (changed, tells, stores)) own =
+      disposes_pair same hash w i (in_slot setting (slot i)) c seen u.keys p o.code some lawful known number roles pairs change change answer tells own
+
+module _ {K V : Type 0} where
+  -- a call on one key has ended with an answer, or with a refusal
+  pub which_end : (u : CallOnKey K V K) (end : Called (Node K V)) → next_of u end ≡ None → ((answer : KeyAnswer) × (end ≡ called.Done answer)) ⊎ ((fault : Fault) × (end ≡ called.Refused fault))
+  which_end u (called.Done answer) e = inl (answer, refl)
+  which_end u (called.Refused fault) e = inr (fault, refl)
+  which_end u called.Goes e = absurd (cc e)
+  which_end u called.Waits e = absurd (cc e)
+  which_end u (called.Gave value) e = absurd (cc e)
+  which_end u (called.Unstored value) e = absurd (cc e)
+  which_end u (called.Asks about) e = absurd (cc e)

@@ -1,0 +1,125 @@
+-- What is in somebody's hands is there still after a step of a row on a slot, and after one of the end of a map.
+use Rattle.std.proofs.Common.{ap, arith, refl, subst, sym, ◌∙◌}
+use Rattle.std.specs.Prelude.{◌≡◌, ◌<◌, ℕ, zero, suc, Bool, false, List, Some, None, ◌⊎◌}
+use Rattle.seize_words.specs.Mem.{Mem, Took, value_at}
+use Rattle.seize_words.specs.Plan.{Steps}
+use Rattle.seize.specs.World.{InUse, LeftTo, Step, World, times}
+use Rattle.seize.specs.declared.rows.settle.Settled.{Settled}
+use Rattle.seize_alone.proofs.Histories.NotTaken.{IsHad, kept_value}
+use Rattle.seize_alone.specs.Alone.{IsOfUsers}
+use Rattle.papaya_tables.specs.Nodes.{deferred_word}
+use Rattle.papaya_tables.specs.declared.node.Node.{Node}
+use Rattle.papaya_tables.specs.declared.node.Node.TheVariants as node
+use Rattle.papaya_raw.specs.EndMap.{end_map_plan}
+use Rattle.papaya_raw.specs.declared.machines.end_map.EndMap.{EndMap}
+use Rattle.papaya_schedules.specs.Moment.{Moment}
+use Rattle.papaya_teller.specs.declared.changed.Changed.{Changed}
+use Rattle.papaya_teller.specs.declared.changed.Changed.TheVariants as changed
+use Rattle.papaya_callers.proofs.Together.Came.{came_reached}
+use Rattle.papaya_effects.specs.Effects.{effects_of, known_after}
+use Rattle.papaya_effects.specs.Known.{Known}
+use Rattle.papaya_effects.specs.declared.acting.Acting.{Acting}
+use Rattle.papaya_effects.specs.declared.acting.Acting.TheVariants as acts
+use Rattle.papaya_executor.proofs.Forgotten.{as_step}
+use Rattle.papaya_executor.proofs.OnSlots.{may_taken, row_at}
+use Rattle.papaya_executor.specs.Ending.{EndingComesTo, EndingStepsFrom}
+use Rattle.papaya_executor.specs.IsAt.{IsAt, Scene, slot_of, work_of}
+use Rattle.papaya_executor.specs.OnSlots.{HappensAt, RowSteps}
+use Rattle.papaya_executor.specs.declared.executor.Executor.{Executor}
+use Rattle.papaya_executor.specs.declared.row.RowTold.{RowTold}
+use Rattle.papaya_executor.specs.declared.row.SlotRow.{SlotRow}
+use Rattle.papaya_executor.specs.declared.worker.Work.TheVariants as work
+use Rattle.papaya_finishes.proofs.Ends.Frames.{that_one}
+use Rattle.papaya_finishes.proofs.Ends.Points.{end_steps}
+use Rattle.papaya_finishes.specs.Endings.{Finishing, FinishingFacts, StepsOfEnding}
+use Rattle.papaya_finishes.specs.FactsEnds.{Deed, EndWent, IsFresh, IsItsDeed, JoinsPair, LeavesTable, Looks, TakesCounter, TakesLeft, TakesPair, WritesRoot, taken_by}
+use Rattle.papaya_follows.proofs.Alike.{AllCalm}
+use Rattle.papaya_follows.proofs.Operations.{LeavesBy, operated_leaves}
+use Rattle.papaya_follows.specs.Shows.{Shows}
+use Rattle.papaya_others.proofs.Ends.{left, says_or_takes}
+use Rattle.papaya_others.proofs.RowPlans.{row_operated}
+use Rattle.papaya_owes.proofs.Held.{IsInHand}
+
+module _ {K V S : Type 0} (same : K → K → Bool) (hash : K → ℕ) (s : Scene K V) (old new : Executor K V S) (at : IsAt same hash old s) (i : ℕ) (row : SlotRow) (here : work_of old i ≡ Some (work.OnSlot row))
+    (end : SlotRow × RowTold (Node K V)) (steps : RowSteps K V row old.memory.memory new.memory.memory new.memory.changed end) (happened : HappensAt same hash (Step i) s old new) where
+  -- what the operation of a row leaves
+  pub row_leaves : LeavesBy s.world.memory happened.0.memory new.memory.changed
+  row_leaves =
+      subst (λ (n : Mem (Node K V)). LeavesBy s.world.memory n new.memory.changed) (sym happened.4.memory)
+      (subst (λ (n : Mem (Node K V)). LeavesBy n new.memory.memory new.memory.changed) (sym at.memory)
+      (operated_leaves old.memory.memory new.memory.memory new.memory.changed
+      (row_operated old.memory.memory new.memory.memory new.memory.changed end row (may_taken same hash old s at i row here (slot_of i) row (row_at same hash old s at i row here)) steps)))
+
+  -- what is in hand is not gone
+  pub row_keeps_held : (b j : ℕ) → IsInHand s.world j b → new.memory.changed ≡ changed.Took b → ⊥
+  row_keeps_held b j held is =
+      (let gone : value_at happened.0.memory b ≡ None = (subst (LeavesBy s.world.memory happened.0.memory) is row_leaves).1 in
+      let had : IsOfUsers (s.world.hand b) = subst IsOfUsers (sym held.hand) tt in
+      let kept = kept_value deferred_word old.batch_size s.world (came_reached old.batch_size s.world at.together.makings.standing.came) i happened.0 happened.1 b (IsHad had) in
+      let there = held.is in cc (gone, kept, there))
+
+module _ {K V S : Type 0} (same : K → K → Bool) (hash : K → ℕ) (name : ℕ → List ℕ) (m : Moment K V) (known : Known) (s : Scene K V) (old new : Executor K V S) (at : IsAt same hash old s)
+    (shown : Shows same name m known s) (i : ℕ) (f : Finishing K V) (here : s.enders i ≡ Some f) (end : EndMap) (said : Settled (Node K V))
+    (steps : EndingStepsFrom f.machine old new end said)
+    (did : StepsOfEnding V same same old.batch_size old.roots slot_of s.world s.maps s.calls s.makers s.enders i f new.memory.memory (end, said))
+    (map : ℕ) (not_there : s.maps map ≡ None) (comes : EndingComesTo same hash s new i f end did.w2 did.deed said) where
+  abbrev w : World (Node K V)
+  w = s.world
+
+  abbrev w2 : World (Node K V)
+  w2 = did.w2
+
+  abbrev told : Changed
+  told = new.memory.changed
+
+  abbrev its : Acting
+  its = acts.Ending map
+
+  facts : FinishingFacts same old.batch_size w i f
+  facts = at.together.facts i f here
+
+  pub ending_leaves : LeavesBy w.memory w2.memory told
+  ending_leaves = left same hash name m known s old new at shown i f here end said steps did map not_there
+
+  pub ending_says : (AllCalm (effects_of its known told) × ((known_after its told known).roles ≡ known.roles)) ⊎ ((b : ℕ) × (told ≡ changed.Took b))
+  ending_says = says_or_takes same hash name m known s old new at shown i f here end said steps did map not_there comes told refl ending_leaves
+
+  -- what it did, by what it knows of its map
+  went : EndWent f.setting f.chart f.blocks facts.lists false i f.hash f.began w facts.past f.back new.memory.memory (end, said)
+  went =
+      (end_steps same f.hash facts.lawful f.setting f.chart f.blocks facts.lists false i f.began facts.stood w f.machine facts.past f.back facts.facts).1 new.memory.memory (end, said)
+      (subst (λ (n : Mem (Node K V)). Steps Took value_at n (end_map_plan {K = K} {V = V} f.machine) new.memory.memory (end, said)) (sym at.memory)
+      (as_step old.memory.memory changed.Nothing (end_map_plan {K = K} {V = V} f.machine) new.memory.memory told (end, said) steps))
+
+  nothing : 0 < 0 → ⊥
+  nothing l = omega (arith, l)
+
+  -- it takes none that is in somebody's hands, but the counter
+  not_held : (b j : ℕ) → IsInHand w j b → (deed : Deed) → IsItsDeed f.setting f.chart f.blocks facts.lists false i w facts.past went.past2 deed
+      → IsFresh f.setting f.chart f.blocks facts.lists false f.back deed → 0 < times b (taken_by deed) → ⊥
+  not_held b j held Looks is fresh some = nothing some
+  not_held b j held (TakesPair x) is fresh some =
+      let used : w.hand b ≡ InUse f.setting.counter = ap w.hand (that_one b x some) ∙ is.1 in
+      let own = held.hand in cc (used, own)
+  not_held b j held (LeavesTable x further) is fresh some = nothing some
+  not_held b j held (JoinsPair x word) is fresh some = nothing some
+  not_held b j held (TakesLeft x) is fresh some =
+      let over : w.hand b ≡ LeftTo i = ap w.hand (that_one b x some) ∙ is.1 in
+      let own = held.hand in cc (over, own)
+  not_held b j held (TakesCounter x) is fresh some =
+      let counter = facts.facts.since.counter (subst (λ (y : ℕ). times y f.back ≡ 0) is.1 fresh) in
+      let shards : value_at w.memory b ≡ Some node.Shards = ap (value_at w.memory) (that_one b x some ∙ is.1) ∙ counter.0 in
+      let value = held.is in
+      held.other (let same_value : held.value ≡ node.Shards = cc (shards, value) in same_value)
+  not_held b j held (WritesRoot place word) is fresh some = nothing some
+
+  -- what is in hand is not gone
+  pub ending_keeps_held : (b j : ℕ) → IsInHand w j b → told ≡ changed.Took b → ⊥
+  ending_keeps_held b j held is = by (times b (taken_by went.deed)) refl
+    where
+      gone : value_at went.w2.memory b ≡ None
+      gone = ap (λ (n : Mem (Node K V)). value_at n b) (went.memory ∙ sym did.memory) ∙ (subst (LeavesBy w.memory w2.memory) is ending_leaves).1
+
+      by : (n : ℕ) → times b (taken_by went.deed) ≡ n → ⊥
+      by zero e = (let kept = went.spares.values b e in let there = held.is in cc (gone, kept, there))
+      by (suc n) e = not_held b j held went.deed went.its went.fresh (omega (arith, e))

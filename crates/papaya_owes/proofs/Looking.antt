@@ -1,0 +1,4 @@
+-- Calls that only look.
+pub mod Leaves
+pub mod Calls
+pub mod Between

@@ -1,0 +1,93 @@
+-- A step of a row on a slot takes no block for a pair that is not stored: it takes what was handed to the collector.
+use Rattle.std.specs.Prelude.{◌≡◌, ℕ, nat_lt, Bool, List, [], ◌∷◌, Some, None}
+use Rattle.std.proofs.Common.{refl, subst}
+use Rattle.seize_words.specs.declared.at.At.TheVariants.{Root, Used, Slot, Entry, Word}
+use Rattle.seize.specs.World.{World, Step}
+use Rattle.papaya_tables.specs.declared.node.Node.{Node}
+use Rattle.papaya_schedules.specs.declared.effect.Effect.TheVariants.{Asked}
+use Rattle.papaya_schedules.specs.declared.effect.Growth.TheVariants.{ABucket}
+use Rattle.papaya_schedules.specs.Effects.{with_effects}
+use Rattle.papaya_schedules.specs.Moment.{Moment}
+use Rattle.papaya_teller.specs.declared.changed.Changed.{Changed}
+use Rattle.papaya_teller.specs.declared.changed.Changed.TheVariants as changed
+use Rattle.papaya_teller.specs.declared.changed.Kind.TheVariants as kind
+use Rattle.papaya_effects.specs.Effects.{names_same, effects_of, known_after}
+use Rattle.papaya_effects.specs.Known.{Known}
+use Rattle.papaya_effects.specs.declared.acting.Acting.TheVariants.{Row}
+use Rattle.papaya_effects.specs.declared.role.Role.TheVariants as role
+use Rattle.papaya_executor.specs.IsAt.{Scene, IsAt, work_of}
+use Rattle.papaya_executor.specs.OnSlots.{RowSteps, HappensAt}
+use Rattle.papaya_executor.specs.declared.executor.Executor.{Executor}
+use Rattle.papaya_executor.specs.declared.row.RowTold.{RowTold}
+use Rattle.papaya_executor.specs.declared.row.SlotRow.{SlotRow}
+use Rattle.papaya_executor.specs.declared.worker.Work.TheVariants as work
+use Rattle.papaya_follows.specs.Shows.{Shows}
+use Rattle.papaya_others.specs.Rows.{scene_then}
+use Rattle.papaya_others.proofs.Quiet.{calls_none}
+use Rattle.papaya_others.proofs.RowPlans.{TellsRow, row_tells}
+use Rattle.papaya_owes.specs.Beside.{of_block, NoneOfBlock, RowsKeepMade}
+use Rattle.papaya_owes.specs.Made.{ShowsMade}
+use Rattle.papaya_owes.proofs.Aside.{LeavesAlone, NoneStored, left_alone, not_storing, none_of, taken_none, made_still}
+use Rattle.papaya_owes.proofs.InHand.{in_hand}
+use Rattle.papaya_owes.proofs.Roles.{MakesFree, does_so}
+use Rattle.papaya_owes.proofs.Quiet.{none_if}
+use Rattle.papaya_owes.proofs.Lasting.{row_keeps_held}
+
+module _ {K V S : Type 0} (same : K → K → Bool) (hash : K → ℕ) (name : ℕ → List ℕ) (m : Moment K V) (known : Known) (s : Scene K V) (old new : Executor K V S) (at : IsAt same hash old s)
+    (shown : Shows same name m known s) (made : ShowsMade name m known s) (i : ℕ) (row : SlotRow) (here : work_of old i ≡ Some (work.OnSlot row)) (end : SlotRow × RowTold (Node K V))
+    (steps : RowSteps K V row old.memory.memory new.memory.memory new.memory.changed end) (happened : HappensAt same hash (Step i) s old new) where
+  abbrev w : World (Node K V)
+  w = s.world
+
+  abbrev w2 : World (Node K V)
+  w2 = happened.0
+
+  abbrev told : Changed
+  told = new.memory.changed
+
+  tells : TellsRow told
+  tells = row_tells old.memory.memory new.memory.memory told end row steps
+
+  -- what a caller has in hand is there still
+  untaken : (b j : ℕ) → told ≡ changed.Took b → known.roles b ≡ role.OwnPair j → ⊥
+  untaken b j is its_block = row_keeps_held same hash s old new at i row here end steps happened b j (in_hand same hash name m known s old at shown made j b its_block) is
+
+  makes_free : (x : Changed) → TellsRow x → MakesFree Row known x
+  makes_free (changed.Made k b) is = absurd is
+  makes_free changed.Nothing is = tt
+  makes_free (changed.Wrote at before after) is = tt
+  makes_free (changed.Unmade k) is = tt
+  makes_free (changed.Took b) is = tt
+  makes_free (changed.Roomed bucket had) is = tt
+
+  unmade : (x : Changed) → TellsRow x → (b : ℕ) → x ≡ changed.Made kind.Pair b → ⊥
+  unmade x is b e = subst TellsRow e is
+
+  stores_none : (x : Changed) → TellsRow x → NoneStored (effects_of Row known x)
+  stores_none changed.Nothing is = tt
+  stores_none (changed.Wrote (Slot t field) before after) is = tt
+  stores_none (changed.Wrote (Entry b field) before after) is = none_of (effects_of Row known (changed.Wrote (Entry b field) before after)) (none_if of_block (names_same before after) [] [] tt tt)
+  stores_none (changed.Wrote (Root r) before after) is = absurd is
+  stores_none (changed.Wrote (Used r) before after) is = absurd is
+  stores_none (changed.Wrote (Word b field) before after) is = absurd is
+  stores_none (changed.Made k b) is = absurd is
+  stores_none (changed.Unmade k) is = absurd is
+  stores_none (changed.Took b) is = taken_none Row (known.roles b)
+  stores_none (changed.Roomed bucket had) is =
+      none_of (effects_of Row known (changed.Roomed bucket had)) (none_if of_block (nat_lt bucket known.buckets) [] (Asked ABucket ∷ []) tt (refl, tt))
+
+  alone : LeavesAlone Row known told
+  alone = left_alone Row known told (does_so Row known told (makes_free told tells)) (unmade told tells) untaken
+      (λ storing. not_storing (effects_of Row known told) storing (stores_none told tells))
+
+  pub row_keeps : NoneOfBlock (effects_of Row known told) × ShowsMade name (with_effects None None (effects_of Row known told) m) (known_after Row told known) (scene_then same hash (Step i) s old new happened)
+  row_keeps = (
+    alone.1,
+    made_still name m (with_effects None None (effects_of Row known told) m) known (known_after Row told known) s (scene_then same hash (Step i) s old new happened) made
+        (calls_none None (effects_of Row known told) m) refl alone.0,
+  )
+
+module _ (K V S : Type 0) (same : K → K → Bool) (hash : K → ℕ) where
+  pub rows_keep_made : RowsKeepMade K V S same hash
+  rows_keep_made name m known s old new at shown made i told leads row here =
+      let to = leads row here in row_keeps same hash name m known s old new at shown made i row here (to.0, told) to.1 to.4

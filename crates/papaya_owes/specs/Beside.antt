@@ -1,0 +1,99 @@
+-- What is promised of the blocks that calls have made for pairs where another one than a call takes a step, and where walks go on or are given up: they are as they were.
+use Rattle.std.specs.Prelude.{◌≡◌, ℕ, Bool, true, false, List, [], ◌∷◌, Option, Some, None}
+use Rattle.seize.specs.World.{Step}
+use Rattle.seize.specs.declared.progress.Progress.{Progress}
+use Rattle.seize.specs.declared.rows.settle.Settled.{Settled}
+use Rattle.papaya_tables.specs.declared.node.Node.{Node}
+use Rattle.papaya_tables.specs.declared.setting.Setting.{Setting}
+use Rattle.papaya_schedules.specs.declared.effect.Effect.{Effect}
+use Rattle.papaya_schedules.specs.declared.effect.Effect.TheVariants.{PairMade, PairGivenUp, Stored}
+use Rattle.papaya_schedules.specs.Effects.{with_effects}
+use Rattle.papaya_schedules.specs.Moment.{Moment}
+use Rattle.papaya_callers.specs.Together.{UnderWay}
+use Rattle.papaya_effects.specs.Effects.{effects_of, known_after}
+use Rattle.papaya_effects.specs.Known.{Known}
+use Rattle.papaya_effects.specs.declared.acting.Acting.TheVariants as acts
+use Rattle.papaya_executor.specs.Ending.{EndingLeads}
+use Rattle.papaya_executor.specs.IsAt.{Scene, IsAt, work_of}
+use Rattle.papaya_executor.specs.Making.{MakingLeads}
+use Rattle.papaya_executor.specs.OnSlots.{RowLeads}
+use Rattle.papaya_executor.specs.Replying.{AskLeads, StopLeads, scene_with, unless_stopped}
+use Rattle.papaya_executor.specs.declared.executor.Executor.{Executor}
+use Rattle.papaya_executor.specs.declared.row.RowTold.{RowTold}
+use Rattle.papaya_executor.specs.declared.row.SlotRow.{SlotRow}
+use Rattle.papaya_executor.specs.declared.worker.Work.TheVariants.{OnSlot}
+use Rattle.papaya_finishes.specs.Endings.{Finishing}
+use Rattle.papaya_finishes.specs.Makings.{Beginning}
+use Rattle.papaya_finishes.specs.Maps.{with_call}
+use Rattle.papaya_follows.specs.Calling.{NoneNamed}
+use Rattle.papaya_follows.specs.Shows.{Shows}
+use Rattle.papaya_others.specs.Endings.{ending_after}
+use Rattle.papaya_others.specs.Makings.{making_after}
+use Rattle.papaya_others.specs.Rows.{scene_then}
+use Rattle.papaya_others.specs.Walks.{given_up}
+use Rattle.papaya_owes.specs.Made.{ShowsMade}
+
+-- the effect says something of a block for a pair that is not stored
+abbrev pub of_block : Effect → Bool
+of_block PairMade = true
+of_block PairGivenUp = true
+of_block (Stored n s) = true
+of_block _ = false
+
+-- none of the effects is of the kind
+abbrev pub NoneOf : (Effect → Bool) → List Effect → Type 0
+NoneOf of [] = Unit {0}
+NoneOf of (f ∷ fs) = (of f ≡ false) × NoneOf of fs
+
+abbrev pub NoneOfBlock : List Effect → Type 0
+NoneOfBlock effects = NoneOf of_block effects
+
+module _ (K V : Type 0) where
+  -- So it is as long as calls are as they were, of the moment and under way: where a row begins on a slot, where the making or the end of a map begins, and
+  -- where a map is there by its number, or not any more.
+  abbrev pub StaysMade : Type 0
+  StaysMade =
+      (name : ℕ → List ℕ) (m v : Moment K V) (known : Known) (s t : Scene K V) → ShowsMade name m known s → v.calls ≡ m.calls → t.calls ≡ s.calls → ShowsMade name v known t
+
+module _ (K V S : Type 0) (same : K → K → Bool) (hash : K → ℕ) where
+  -- A walk goes on to its next pair,
+  abbrev pub WalksGoOnMade : Type 0
+  WalksGoOnMade =
+      (name : ℕ → List ℕ) (m : Moment K V) (known : Known) (s : Scene K V) (old new : Executor K V S) → ShowsMade name m known s
+      → (i : ℕ) (leads : AskLeads same hash i true s old new) (map : ℕ) (u : UnderWay K V K) (here : s.calls map i ≡ Some u) → ShowsMade name m known (scene_with map i (leads map u here).0 s)
+
+  -- or is given up: no call that is under way then has its name.
+  abbrev pub WalksStopMade : Type 0
+  WalksStopMade =
+      (name : ℕ → List ℕ) (m : Moment K V) (known : Known) (s : Scene K V) (old new : Executor K V S) → Shows same name m known s → ShowsMade name m known s
+      → (i : ℕ) (stopped : Bool) → StopLeads same hash i stopped s old new → (map : ℕ) (u : UnderWay K V K) → s.calls map i ≡ Some u
+      → (let after = record s { calls = with_call s.calls map i (unless_stopped stopped u) } in
+      (stopped ≡ true → NoneNamed name (name i) after) → ShowsMade name (given_up (name i) stopped m) known after)
+
+  -- A step of a row on a slot says nothing of such a block, and so it is after it,
+  abbrev pub RowsKeepMade : Type 0
+  RowsKeepMade =
+      (name : ℕ → List ℕ) (m : Moment K V) (known : Known) (s : Scene K V) (old new : Executor K V S) → IsAt same hash old s → Shows same name m known s → ShowsMade name m known s
+      → (i : ℕ) (told : RowTold (Node K V)) (leads : RowLeads same hash i told s old new) (row : SlotRow) (here : work_of old i ≡ Some (OnSlot row))
+      → (let effects = effects_of acts.Row known new.memory.changed in
+      NoneOfBlock effects × ShowsMade name (with_effects None None effects m) (known_after acts.Row new.memory.changed known) (scene_then same hash (Step i) s old new (leads row here).4))
+
+  -- and so does a step of a making, on whichever map its effects are told, if on any,
+  abbrev pub MakingsKeepMade : Type 0
+  MakingsKeepMade =
+      (name : ℕ → List ℕ) (m : Moment K V) (known : Known) (s : Scene K V) (old new : Executor K V S) → IsAt same hash old s → Shows same name m known s → ShowsMade name m known s
+      → (i : ℕ) (told : Progress Setting) (leads : MakingLeads same hash i told s old new) (b : Beginning K) (here : s.makers i ≡ Some b) (of : Option ℕ)
+      → (let to = leads b here in
+      let effects = effects_of (acts.Making b.map) known new.memory.changed in
+      NoneOfBlock effects
+      × ShowsMade name (with_effects None of effects m) (known_after (acts.Making b.map) new.memory.changed known) (making_after same hash s old new i b to.0 to.2.step.w2 told to.3))
+
+  -- and a step of the end of a map, by whose number none stands.
+  abbrev pub EndingsKeepMade : Type 0
+  EndingsKeepMade =
+      (name : ℕ → List ℕ) (m : Moment K V) (known : Known) (s : Scene K V) (old new : Executor K V S) → IsAt same hash old s → Shows same name m known s → ShowsMade name m known s
+      → (i : ℕ) (told : Settled (Node K V)) (leads : EndingLeads same hash i told s old new) (f : Finishing K V) (here : s.enders i ≡ Some f) (map : ℕ) → s.maps map ≡ None
+      → (let to = leads f here in
+      let effects = effects_of (acts.Ending map) known new.memory.changed in
+      NoneOfBlock effects
+      × ShowsMade name (with_effects None (Some map) effects m) (known_after (acts.Ending map) new.memory.changed known) (ending_after same hash s new i f to.0 to.2.w2 to.2.deed told to.3))

@@ -1,0 +1,75 @@
+-- What is promised of an event of a call: what its effects find of what the call has made, and that the call leaves nothing made at its end.
+use Rattle.std.specs.Prelude.{◌≡◌, ℕ, Bool, true, false, List, Some, None, ◌⊎◌, ◌++◌}
+use Rattle.seize_words.specs.declared.fault.Fault.TheVariants.{Memory}
+use Rattle.papaya_tables.specs.declared.node.Node.{Node}
+use Rattle.papaya_raw.specs.declared.machines.progress.Progress.{Progress}
+use Rattle.papaya_raw.specs.declared.machines.progress.Progress.TheVariants as progress
+use Rattle.papaya_schedules.specs.declared.outcome.Outcome.{Outcome}
+use Rattle.papaya_schedules.specs.declared.outcome.Outcome.TheVariants as outcome
+use Rattle.papaya_schedules.specs.After.{moment}
+use Rattle.papaya_schedules.specs.Effects.{with_effects, worked, AtEachEffect}
+use Rattle.papaya_schedules.specs.Entry.{Entry, IfCall, acting, caller_of, ByCall}
+use Rattle.papaya_schedules.specs.Handing.{HasGrown}
+use Rattle.papaya_schedules.specs.Moment.{UnderWay as CallThere, Moment}
+use Rattle.papaya_schedules.specs.declared.effect.Effect.{Effect}
+use Rattle.papaya_schedules.specs.declared.effect.Effect.TheVariants.{Asked, PairMade, PairGivenUp, TableMade, TableGivenUp, Linked, Stored}
+use Rattle.papaya_schedules.specs.Lives.{CallFinds}
+use Rattle.papaya_schedules.specs.Terms.{Terms}
+use Rattle.papaya_callers.specs.Together.{UnderWay}
+use Rattle.papaya_effects.specs.Effects.{effects_of}
+use Rattle.papaya_effects.specs.Known.{Known}
+use Rattle.papaya_effects.specs.declared.acting.Acting.TheVariants as acts
+use Rattle.papaya_executor.specs.IsAt.{Scene, IsAt}
+use Rattle.papaya_executor.specs.Stepping.{StepLeads}
+use Rattle.papaya_executor.specs.declared.executor.Executor.{Executor}
+use Rattle.papaya_moments.specs.Whole.{ShowsWhole}
+use Rattle.papaya_owes.specs.Made.{ShowsMade}
+use Rattle.papaya_owes.specs.Short.{ShowsShort}
+use Rattle.papaya_owes.specs.Tables.{ShowsTables}
+
+module _ {K V : Type 0} (terms : Terms) where
+  -- What an effect finds of what the call has made: who makes, or gives up, a block for a pair or a table finds all that it must; a pair is stored by one that has a
+  -- block for it, and the table that a call has made is linked; and who asks for a growth is not short of one.
+  abbrev pub FindsMade : List (Moment K V) → Moment K V → Effect → CallThere K V → Type 0
+  FindsMade moments m PairMade c = CallFinds terms moments m PairMade c
+  FindsMade moments m PairGivenUp c = CallFinds terms moments m PairGivenUp c
+  FindsMade moments m (TableMade t) c = CallFinds terms moments m (TableMade t) c
+  FindsMade moments m (TableGivenUp t) c = CallFinds terms moments m (TableGivenUp t) c
+  FindsMade moments m (Stored n s) c = c.has_block ≡ true
+  FindsMade moments m (Linked t shape) c = c.table ≡ Some t
+  FindsMade moments m (Asked growth) c = c.is_short ≡ false
+  FindsMade moments m _ c = Unit {0}
+
+  abbrev pub FindMade : List (Moment K V) → List ℕ → ℕ → List Effect → Moment K V → Type 0
+  FindMade moments own map effects m = AtEachEffect (λ v f. ByCall (FindsMade moments v f) (acting (Some own) v)) (Some own) (Some map) effects m
+
+-- It has neither a block for a pair nor a table that it has made, and had each growth that it asked for, unless this is a refusal for want of memory.
+abbrev pub LeavesNothingMade : {K V : Type 0} → Outcome V → CallThere K V → Type 0
+LeavesNothingMade o c = (c.has_block ≡ false) × (c.table ≡ None) × HasGrown o c
+
+-- The promises: so it is for the effects of an event of several steps, if it is for those before and for those of the last step;
+abbrev pub SeveralFindMade : Type 0 → Type 0 → Type 0
+SeveralFindMade K V =
+    (terms : Terms) (moments : List (Moment K V)) (own : List ℕ) (map : ℕ) (done effects : List Effect) (m : Moment K V)
+    → FindMade terms moments own map done m → FindMade terms moments own map effects (with_effects (Some own) (Some map) done m) → FindMade terms moments own map (done ++ effects) m
+
+module _ (K V S : Type 0) (same : K → K → Bool) (hash : K → ℕ) where
+  -- and for those of a step of a call.
+  abbrev pub StepsFindMade : Type 0
+  StepsFindMade =
+      (name : ℕ → List ℕ) (m : Moment K V) (known : Known) (s : Scene K V) (old new : Executor K V S) → IsAt same hash old s
+      → ShowsWhole same name m known s → ShowsMade name m known s → ShowsTables name m known s → ShowsShort name m s
+      → (map i : ℕ) (u : UnderWay K V K) (here : s.calls map i ≡ Some u) (said : Progress (Node K V)) (leads : StepLeads same hash i said s old new)
+      → (terms : Terms) (moments : List (Moment K V)) → FindMade terms moments (name i) map (effects_of (acts.Call i map) known new.memory.changed) m
+
+  -- The promise, of an event whose last effects are those of a step of a call, with which the call has ended, or says that it is ready; and which is refused for want of memory if that step was.
+  abbrev pub EventsLeaveNothingMade : Type 0
+  EventsLeaveNothingMade =
+      (name : ℕ → List ℕ) (m : Moment K V) (known : Known) (s : Scene K V) (old new : Executor K V S) → IsAt same hash old s
+      → ShowsWhole same name m known s → ShowsMade name m known s → ShowsTables name m known s → ShowsShort name m s
+      → (map i : ℕ) (u : UnderWay K V K) (here : s.calls map i ≡ Some u) (said : Progress (Node K V)) (leads : StepLeads same hash i said s old new)
+      → (let to = leads map u here in
+      (to.4.next ≡ None) ⊎ (said ≡ progress.Ready)
+      → (log : List (Entry K V)) (e : Entry K V) → caller_of e.event ≡ Some (name i) → (said ≡ progress.Refused Memory → e.outcome ≡ outcome.Refused Memory)
+      → worked e (moment log) ≡ with_effects (Some (name i)) (Some map) (effects_of (acts.Call i map) known new.memory.changed) m
+      → IfCall (LeavesNothingMade e.outcome) (acting (caller_of e.event) (worked e (moment log))))

@@ -1,0 +1,90 @@
+-- What is promised of the block that a call has made for a pair: what effects find, and that each kind of step leaves it so.
+use Rattle.std.specs.Prelude.{◌≡◌, ℕ, Bool, true, false, List, Some, None}
+use Rattle.papaya_tables.specs.declared.node.Node.{Node}
+use Rattle.papaya_tables.specs.declared.setting.Setting.{Setting}
+use Rattle.papaya_raw.specs.Machine.{machine_replied}
+use Rattle.papaya_raw.specs.declared.machines.asking.Reply.{Reply as MachineReply}
+use Rattle.papaya_raw.specs.declared.machines.call.KeyCall.{KeyCall}
+use Rattle.papaya_raw.specs.declared.machines.progress.Progress.{Progress}
+use Rattle.papaya_schedules.specs.declared.call.Call.{Call}
+use Rattle.papaya_schedules.specs.declared.call.Reply.{Reply}
+use Rattle.papaya_schedules.specs.declared.effect.Effect.{Effect}
+use Rattle.papaya_schedules.specs.declared.effect.Effect.TheVariants.{PairMade, PairGivenUp, Stored}
+use Rattle.papaya_schedules.specs.declared.outcome.Outcome.{Outcome}
+use Rattle.papaya_schedules.specs.Beginning.{with_call}
+use Rattle.papaya_schedules.specs.Effects.{with_effects, AtEachEffect}
+use Rattle.papaya_schedules.specs.Entry.{ByCall, acting, ends_call}
+use Rattle.papaya_schedules.specs.Growing.{has_value_for}
+use Rattle.papaya_schedules.specs.Moment.{UnderWay as CallThere, Moment, start}
+use Rattle.papaya_schedules.specs.Views.{call_of}
+use Rattle.papaya_points.specs.Steps.{AreLawful}
+use Rattle.papaya_callers.specs.Pairs.{Given}
+use Rattle.papaya_callers.specs.Together.{UnderWay, IsBegun}
+use Rattle.papaya_effects.specs.Effects.{effects_of, known_after}
+use Rattle.papaya_effects.specs.Known.{Known, nothing_known}
+use Rattle.papaya_effects.specs.declared.acting.Acting.TheVariants as acts
+use Rattle.papaya_executor.specs.IsAt.{Scene, IsAt, at_first}
+use Rattle.papaya_executor.specs.Replying.{scene_with}
+use Rattle.papaya_executor.specs.Stepping.{StepLeads, scene_after}
+use Rattle.papaya_executor.specs.declared.executor.Executor.{Executor}
+use Rattle.papaya_finishes.specs.Machines.{machine_of}
+use Rattle.papaya_follows.specs.Calling.{NoneNamed, told, come_to}
+use Rattle.papaya_holds.specs.Came.{Owns}
+use Rattle.papaya_moments.specs.Whole.{ShowsWhole}
+use Rattle.papaya_owes.specs.Made.{OwnsSo, ShowsMade}
+
+module _ {K V : Type 0} where
+  -- A block for a pair is made on asking for it, by a call that has none, and a value for it; one is given up, and a pair stored, by a call that has one.
+  abbrev pub FindsBlock : Effect → CallThere K V → Type 0
+  FindsBlock PairMade c = (c.is_short ≡ true) × (c.has_block ≡ false) × (has_value_for c.call c ≡ true)
+  FindsBlock PairGivenUp c = c.has_block ≡ true
+  FindsBlock (Stored n s) c = c.has_block ≡ true
+  FindsBlock _ c = Unit {0}
+
+  -- so it is for each of these effects of the call of this name
+  abbrev pub FindBlocks : List ℕ → ℕ → List Effect → Moment K V → Type 0
+  FindBlocks own map effects m = AtEachEffect (λ v f. ByCall (FindsBlock f) (acting (Some own) v)) (Some own) (Some map) effects m
+
+-- The promises: nobody has such a block as a run begins,
+abbrev pub MadeBegins : Type 0 → Type 0 → Type 0
+MadeBegins K V = (roots : ℕ) (name : ℕ → List ℕ) → ShowsMade {K = K} {V = V} name start nothing_known (at_first roots)
+
+module _ (K V S : Type 0) (same : K → K → Bool) (hash : K → ℕ) where
+  -- The effects of a step of a call find the call's block as they must, it is so after the step, whoever takes it, and a call that has ended by it has none.
+  abbrev pub CallsKeepMade : Type 0
+  CallsKeepMade =
+      (name : ℕ → List ℕ) (m : Moment K V) (known : Known) (s : Scene K V) (old new : Executor K V S) → IsAt same hash old s → ShowsWhole same name m known s → ShowsMade name m known s
+      → (map i : ℕ) (u : UnderWay K V K) (here : s.calls map i ≡ Some u) (said : Progress (Node K V)) (leads : StepLeads same hash i said s old new)
+      → (let to = leads map u here in
+      let effects = effects_of (acts.Call i map) known new.memory.changed in
+      let v = with_effects (Some (name i)) (Some map) effects m in
+      FindBlocks (name i) map effects m
+      × ShowsMade name v (known_after (acts.Call i map) new.memory.changed known) (scene_after same hash s old new map i to.0 u to.1 said to.4)
+      × (to.4.next ≡ None → (c : CallThere K V) → call_of (name i) v ≡ Some c → c.has_block ≡ false))
+
+module _ (K V : Type 0) where
+  -- So it is where a call begins by a name that no call under way has,
+  abbrev pub CallsBeginMade : Type 0
+  CallsBeginMade =
+      (name : ℕ → List ℕ) (m : Moment K V) (known : Known) (s : Scene K V) → ShowsMade name m known s
+      → (map i : ℕ) (u : UnderWay K V K) (call : Call K V) (guard : List ℕ) → NoneNamed name (name i) s → OwnsSo (machine_of u)
+      → ShowsMade name (with_call (name i) guard call (Some map) m) known (scene_with map i u s)
+
+  -- as each call on one key begins,
+  abbrev pub CallsBeginOwning : Type 0
+  CallsBeginOwning =
+      (same : K → K → Bool) (hash : K → ℕ) (setting : Setting) (slot : ℕ → ℕ) (i : ℕ) → AreLawful same hash
+      → (keys : K → Bool) (given : Given K V) (call : KeyCall K V K) → IsBegun V same hash same setting slot i keys given call → Owns call
+
+  -- where one that asks goes on by what it is told,
+  abbrev pub CallsTakeMade : Type 0
+  CallsTakeMade =
+      (same : K → K → Bool) (name : ℕ → List ℕ) (m : Moment K V) (known : Known) (s : Scene K V) → ShowsWhole same name m known s → ShowsMade name m known s
+      → (map i : ℕ) (u : UnderWay K V K) → s.calls map i ≡ Some u → (reply : MachineReply V) (next : UnderWay K V K) → machine_of next ≡ (machine_replied (machine_of u) reply).0
+      → (is_told : Reply V) → ShowsMade name (told (name i) is_told m) known (scene_with map i next s)
+
+  -- and where one comes to an outcome: where that is its end, no call under way has its name any more.
+  abbrev pub CallsComeToMade : Type 0
+  CallsComeToMade =
+      (same : K → K → Bool) (name : ℕ → List ℕ) (m : Moment K V) (known : Known) (s : Scene K V) → ShowsWhole same name m known s → ShowsMade name m known s
+      → (own : List ℕ) (outcome : Outcome V) (steps : ℕ) → (ends_call outcome ≡ true → NoneNamed name own s) → ShowsMade name (come_to own outcome steps m) known s

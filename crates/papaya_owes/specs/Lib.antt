@@ -1,0 +1,10 @@
+pub mod Made
+pub mod Keeping
+pub mod Making
+pub mod Beside
+pub mod Tables
+pub mod TablesBeside
+pub mod Short
+pub mod Looking
+pub mod Clear
+pub mod Events

@@ -1,0 +1,121 @@
+-- What is promised of calls that only look: their machines look until they are over, and no step of one has an effect.
+use Rattle.std.specs.Prelude.{◌≡◌, ℕ, Bool, true, false, List, ◌++◌, Some}
+use Rattle.papaya_tables.specs.declared.node.Node.{Node}
+use Rattle.papaya_tables.specs.declared.setting.Setting.{Setting}
+use Rattle.papaya_raw.specs.Machine.{machine_replied}
+use Rattle.papaya_raw.specs.declared.machines.asking.Reply.{Reply as MachineReply}
+use Rattle.papaya_raw.specs.declared.machines.call.KeyCall.{KeyCall}
+use Rattle.papaya_raw.specs.declared.machines.machine.Machine.{Machine}
+use Rattle.papaya_raw.specs.declared.machines.machine.Machine.TheVariants as kinds
+use Rattle.papaya_raw.specs.declared.machines.progress.Progress.{Progress}
+use Rattle.papaya_schedules.specs.declared.call.Call.{Call}
+use Rattle.papaya_schedules.specs.declared.call.OneKey.{OneKey}
+use Rattle.papaya_schedules.specs.declared.call.Reply.{Reply}
+use Rattle.papaya_schedules.specs.declared.effect.Effect.{Effect}
+use Rattle.papaya_schedules.specs.declared.outcome.Outcome.{Outcome}
+use Rattle.papaya_schedules.specs.Beginning.{with_call}
+use Rattle.papaya_schedules.specs.Effects.{with_effects, AtEachEffect}
+use Rattle.papaya_schedules.specs.Entry.{ByCall, acting, ends_call}
+use Rattle.papaya_schedules.specs.Growing.{only_looks}
+use Rattle.papaya_schedules.specs.Moment.{UnderWay as CallThere, Moment, start}
+use Rattle.papaya_schedules.specs.Sequential.{is_lookup}
+use Rattle.papaya_schedules.specs.Views.{call_of}
+use Rattle.papaya_callers.specs.Asked.{Asked}
+use Rattle.papaya_callers.specs.Together.{UnderWay, IsBegun}
+use Rattle.papaya_effects.specs.Effects.{effects_of}
+use Rattle.papaya_effects.specs.Known.{Known}
+use Rattle.papaya_effects.specs.declared.acting.Acting.TheVariants as acts
+use Rattle.papaya_executor.specs.IsAt.{Scene, IsAt, at_first}
+use Rattle.papaya_executor.specs.Replying.{AskLeads, StopLeads, scene_with, unless_stopped}
+use Rattle.papaya_executor.specs.Stepping.{StepLeads, scene_after}
+use Rattle.papaya_executor.specs.declared.executor.Executor.{Executor}
+use Rattle.papaya_finishes.specs.Machines.{machine_of}
+use Rattle.papaya_finishes.specs.Maps.{with_call as with_in}
+use Rattle.papaya_follows.specs.Calling.{NoneNamed, told, come_to}
+use Rattle.papaya_hands.specs.Asked.{given_by}
+use Rattle.papaya_late.specs.Kinds.{IsLookup}
+use Rattle.papaya_moments.specs.Whole.{ShowsWhole}
+use Rattle.papaya_others.specs.Walks.{given_up}
+
+-- The machine is a lookup, or sums up the counter.
+abbrev pub IsLooking : {K V Q : Type 0} → Machine K V Q → Type 0
+IsLooking (kinds.Key p) = IsLookup p
+IsLooking (kinds.Count sum) = Unit {0}
+IsLooking (kinds.Reserve r) = ⊥
+IsLooking (kinds.Sweep c) = ⊥
+
+-- so is that of each call that only looks, by the moment
+abbrev pub ShowsLooking : {K V : Type 0} → (ℕ → List ℕ) → Moment K V → Scene K V → Type 0
+ShowsLooking {K} {V} name m s = (map i : ℕ) (u : UnderWay K V K) → s.calls map i ≡ Some u → (c : CallThere K V) → call_of (name i) m ≡ Some c → only_looks c.call ≡ true → IsLooking (machine_of u)
+
+module _ {K V : Type 0} where
+  -- each of the effects finds that the call does more than look
+  abbrev pub FindAtWork : List ℕ → ℕ → List Effect → Moment K V → Type 0
+  FindAtWork own map effects m = AtEachEffect (λ v f. ByCall (λ (c : CallThere K V). only_looks c.call ≡ false) (acting (Some own) v)) (Some own) (Some map) effects m
+
+module _ (K V S : Type 0) (same : K → K → Bool) (hash : K → ℕ) where
+  -- The promises: a step of a call has effects only if the call does more than look; and after it, whoever takes it, those that only look are as they must be.
+  abbrev pub CallsKeepLooking : Type 0
+  CallsKeepLooking =
+      (name : ℕ → List ℕ) (m : Moment K V) (known : Known) (s : Scene K V) (old new : Executor K V S) → IsAt same hash old s → ShowsWhole same name m known s → ShowsLooking name m s
+      → (map i : ℕ) (u : UnderWay K V K) (here : s.calls map i ≡ Some u) (said : Progress (Node K V)) (leads : StepLeads same hash i said s old new)
+      → (let to = leads map u here in
+      let effects = effects_of (acts.Call i map) known new.memory.changed in
+      FindAtWork (name i) map effects m
+      × ShowsLooking name (with_effects (Some (name i)) (Some map) effects m) (scene_after same hash s old new map i to.0 u to.1 said to.4))
+
+module _ (K V : Type 0) where
+  -- So it is of the effects of an event of several steps,
+  abbrev pub SeveralFindAtWork : Type 0
+  SeveralFindAtWork =
+      (own : List ℕ) (map : ℕ) (done effects : List Effect) (m : Moment K V)
+      → FindAtWork own map done m → FindAtWork own map effects (with_effects (Some own) (Some map) done m) → FindAtWork own map (done ++ effects) m
+
+  -- and of those that look, as a run begins,
+  abbrev pub LookingBegins : Type 0
+  LookingBegins = (roots : ℕ) (name : ℕ → List ℕ) → ShowsLooking {K = K} {V = V} name start (at_first roots)
+
+  -- as long as calls are as they were,
+  abbrev pub StaysLooking : Type 0
+  StaysLooking = (name : ℕ → List ℕ) (m v : Moment K V) (s t : Scene K V) → ShowsLooking name m s → v.calls ≡ m.calls → t.calls ≡ s.calls → ShowsLooking name v t
+
+  -- where a call begins by a name that no call under way has,
+  abbrev pub CallsBeginLooking : Type 0
+  CallsBeginLooking =
+      (name : ℕ → List ℕ) (m : Moment K V) (s : Scene K V) → ShowsLooking name m s
+      → (map i : ℕ) (u : UnderWay K V K) (call : Call K V) (guard : List ℕ) → NoneNamed name (name i) s → (only_looks call ≡ true → IsLooking (machine_of u))
+      → ShowsLooking name (with_call (name i) guard call (Some map) m) (scene_with map i u s)
+
+  -- as each call on one key that only looks begins,
+  abbrev pub LookupsBegin : Type 0
+  LookupsBegin =
+      (same : K → K → Bool) (hash : K → ℕ) (setting : Setting) (slot : ℕ → ℕ) (i : ℕ) (keys : K → Bool) (one : OneKey K V) (asked : List (Asked V)) (call : KeyCall K V K)
+      → IsBegun V same hash same setting slot i keys (given_by one asked) call → is_lookup one ≡ true → IsLookup call
+
+  -- where one that asks goes on by what it is told,
+  abbrev pub CallsTakeLooking : Type 0
+  CallsTakeLooking =
+      (same : K → K → Bool) (name : ℕ → List ℕ) (m : Moment K V) (known : Known) (s : Scene K V) → ShowsWhole same name m known s → ShowsLooking name m s
+      → (map i : ℕ) (u : UnderWay K V K) → s.calls map i ≡ Some u → (reply : MachineReply V) (next : UnderWay K V K) → machine_of next ≡ (machine_replied (machine_of u) reply).0
+      → (is_told : Reply V) → ShowsLooking name (told (name i) is_told m) (scene_with map i next s)
+
+  -- and where one comes to an outcome.
+  abbrev pub CallsComeToLooking : Type 0
+  CallsComeToLooking =
+      (same : K → K → Bool) (name : ℕ → List ℕ) (m : Moment K V) (known : Known) (s : Scene K V) → ShowsWhole same name m known s → ShowsLooking name m s
+      → (own : List ℕ) (outcome : Outcome V) (steps : ℕ) → (ends_call outcome ≡ true → NoneNamed name own s) → ShowsLooking name (come_to own outcome steps m) s
+
+module _ (K V S : Type 0) (same : K → K → Bool) (hash : K → ℕ) where
+  -- So it is where a walk goes on to its next pair,
+  abbrev pub WalksGoOnLooking : Type 0
+  WalksGoOnLooking =
+      (name : ℕ → List ℕ) (m : Moment K V) (s : Scene K V) (old new : Executor K V S) → ShowsLooking name m s
+      → (i : ℕ) (leads : AskLeads same hash i true s old new) (map : ℕ) (u : UnderWay K V K) (here : s.calls map i ≡ Some u) → ShowsLooking name m (scene_with map i (leads map u here).0 s)
+
+  -- and where one is given up.
+  abbrev pub WalksStopLooking : Type 0
+  WalksStopLooking =
+      (name : ℕ → List ℕ) (m : Moment K V) (known : Known) (s : Scene K V) (old new : Executor K V S) → ShowsWhole same name m known s → ShowsLooking name m s
+      → (i : ℕ) (stopped : Bool) → StopLeads same hash i stopped s old new → (map : ℕ) (u : UnderWay K V K) → s.calls map i ≡ Some u
+      → (let after = record s { calls = with_in s.calls map i (unless_stopped stopped u) } in
+      (stopped ≡ true → NoneNamed name (name i) after) → ShowsLooking name (given_up (name i) stopped m) after)

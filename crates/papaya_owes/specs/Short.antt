@@ -1,0 +1,144 @@
+-- What is promised of a call that has asked for a growth: where it was refused, its machine is to be refused for want of memory, and asks for nothing more.
+use Rattle.std.specs.Prelude.{◌≡◌, ℕ, Bool, true, false, List, Option, Some, None, ◌⊎◌}
+use Rattle.seize_words.specs.declared.fault.Fault.{Fault}
+use Rattle.seize_words.specs.declared.fault.Fault.TheVariants.{Memory}
+use Rattle.papaya_tables.specs.declared.node.Node.{Node}
+use Rattle.papaya_resize.specs.declared.copier.Copying.{Copying}
+use Rattle.papaya_resize.specs.declared.copier.Copying.TheVariants as copying
+use Rattle.papaya_reserves.specs.declared.reserve.Reserving.{Reserving}
+use Rattle.papaya_reserves.specs.declared.reserve.Reserving.TheVariants as reserving
+use Rattle.papaya_sweeps.specs.declared.sweep.Sweeping.{Sweeping}
+use Rattle.papaya_sweeps.specs.declared.sweep.Sweeping.TheVariants as sweeping
+use Rattle.papaya_raw.specs.declared.machines.answer.End.TheVariants as ends
+use Rattle.papaya_raw.specs.declared.machines.call.Calling.{Calling}
+use Rattle.papaya_raw.specs.declared.machines.call.Calling.TheVariants as calling
+use Rattle.papaya_raw.specs.declared.machines.machine.Machine.{Machine}
+use Rattle.papaya_raw.specs.declared.machines.machine.Machine.TheVariants as kinds
+use Rattle.papaya_raw.specs.declared.machines.progress.Progress.{Progress}
+use Rattle.papaya_raw.specs.declared.machines.progress.Progress.TheVariants as progress
+use Rattle.papaya_raw.specs.Machine.{machine_replied}
+use Rattle.papaya_raw.specs.declared.machines.asking.Reply.{Reply as MachineReply}
+use Rattle.papaya_schedules.specs.declared.effect.Effect.{Effect}
+use Rattle.papaya_schedules.specs.declared.effect.Effect.TheVariants.{Asked}
+use Rattle.papaya_schedules.specs.Effects.{with_effects, AtEachEffect}
+use Rattle.papaya_schedules.specs.Entry.{ByCall, acting, ends_call}
+use Rattle.papaya_schedules.specs.Moment.{UnderWay as CallThere, Moment, start}
+use Rattle.papaya_schedules.specs.Views.{call_of}
+use Rattle.papaya_schedules.specs.declared.call.Call.{Call}
+use Rattle.papaya_schedules.specs.declared.call.Reply.{Reply}
+use Rattle.papaya_schedules.specs.declared.outcome.Outcome.{Outcome}
+use Rattle.papaya_schedules.specs.Beginning.{with_call}
+use Rattle.papaya_callers.specs.Together.{UnderWay}
+use Rattle.papaya_effects.specs.Effects.{effects_of}
+use Rattle.papaya_effects.specs.Known.{Known}
+use Rattle.papaya_effects.specs.declared.acting.Acting.TheVariants as acts
+use Rattle.papaya_executor.specs.IsAt.{Scene, IsAt, at_first}
+use Rattle.papaya_executor.specs.Stepping.{StepLeads, scene_after}
+use Rattle.papaya_executor.specs.declared.executor.Executor.{Executor}
+use Rattle.papaya_executor.specs.Replying.{AskLeads, StopLeads, scene_with, unless_stopped}
+use Rattle.papaya_finishes.specs.Machines.{machine_of}
+use Rattle.papaya_finishes.specs.Maps.{with_call as with_in}
+use Rattle.papaya_moments.specs.Whole.{ShowsWhole}
+use Rattle.papaya_follows.specs.Calling.{NoneNamed, told, come_to}
+use Rattle.papaya_others.specs.Walks.{given_up}
+
+-- The fault for which a machine is to be refused, if it is, by where it stands: a copier gives back first what it has marked and claimed,
+abbrev pub fault_in_copying : Copying → Option Fault
+fault_in_copying (copying.Tallies word fault) = Some fault
+fault_in_copying (copying.Unmarks word fault) = Some fault
+fault_in_copying (copying.Unclaims fault) = Some fault
+fault_in_copying (copying.Refused fault) = Some fault
+fault_in_copying _ = None
+
+-- and a call on one key its own block.
+abbrev pub fault_in_calling : Calling → Option Fault
+fault_in_calling (calling.Helps copier goal) = fault_in_copying copier.stands
+fault_in_calling (calling.Copies copier) = fault_in_copying copier.stands
+fault_in_calling (calling.Drops (ends.Refused fault)) = Some fault
+fault_in_calling (calling.Over (ends.Refused fault)) = Some fault
+fault_in_calling _ = None
+
+abbrev pub fault_in_reserving : Reserving → Option Fault
+fault_in_reserving (reserving.Copies copier) = fault_in_copying copier.stands
+fault_in_reserving (reserving.Refused fault) = Some fault
+fault_in_reserving _ = None
+
+abbrev pub fault_in_sweeping : Sweeping → Option Fault
+fault_in_sweeping (sweeping.Copies copier) = fault_in_copying copier.stands
+fault_in_sweeping (sweeping.Refused fault) = Some fault
+fault_in_sweeping _ = None
+
+abbrev pub fault_of : {K V Q : Type 0} → Machine K V Q → Option Fault
+fault_of (kinds.Key p) = fault_in_calling p.stands
+fault_of (kinds.Reserve r) = fault_in_reserving r.stands
+fault_of (kinds.Sweep c) = fault_in_sweeping c.stands
+fault_of (kinds.Count sum) = None
+
+-- a call that has asked for a growth, and had none since, is to be refused for want of memory
+abbrev pub ShowsShort : {K V : Type 0} → (ℕ → List ℕ) → Moment K V → Scene K V → Type 0
+ShowsShort {K} {V} name m s = (map i : ℕ) (u : UnderWay K V K) → s.calls map i ≡ Some u → (c : CallThere K V) → call_of (name i) m ≡ Some c → c.is_short ≡ true → fault_of (machine_of u) ≡ Some Memory
+
+module _ {K V : Type 0} where
+  -- who asks for a growth is not short of one
+  abbrev pub FindsGrown : Effect → CallThere K V → Type 0
+  FindsGrown (Asked growth) c = c.is_short ≡ false
+  FindsGrown _ c = Unit {0}
+
+  abbrev pub FindGrown : List ℕ → ℕ → List Effect → Moment K V → Type 0
+  FindGrown own map effects m = AtEachEffect (λ v f. ByCall (FindsGrown f) (acting (Some own) v)) (Some own) (Some map) effects m
+
+module _ (K V S : Type 0) (same : K → K → Bool) (hash : K → ℕ) where
+  -- The promise: a call asks for a growth in a step only if it is not short of one; so it is after the step, and one that has ended is refused for want of memory, or is not short.
+  abbrev pub CallsKeepShort : Type 0
+  CallsKeepShort =
+      (name : ℕ → List ℕ) (m : Moment K V) (known : Known) (s : Scene K V) (old new : Executor K V S) → IsAt same hash old s → ShowsWhole same name m known s → ShowsShort name m s
+      → (map i : ℕ) (u : UnderWay K V K) (here : s.calls map i ≡ Some u) (said : Progress (Node K V)) (leads : StepLeads same hash i said s old new)
+      → (let to = leads map u here in
+      let effects = effects_of (acts.Call i map) known new.memory.changed in
+      let v = with_effects (Some (name i)) (Some map) effects m in
+      FindGrown (name i) map effects m
+      × ShowsShort name v (scene_after same hash s old new map i to.0 u to.1 said to.4)
+      × (to.4.next ≡ None → (c : CallThere K V) → call_of (name i) v ≡ Some c → (said ≡ progress.Refused Memory) ⊎ (c.is_short ≡ false)))
+
+module _ (K V : Type 0) where
+  -- So it is as a run begins,
+  abbrev pub ShortBegins : Type 0
+  ShortBegins = (roots : ℕ) (name : ℕ → List ℕ) → ShowsShort {K = K} {V = V} name start (at_first roots)
+
+  -- as long as calls are as they were,
+  abbrev pub StaysShort : Type 0
+  StaysShort = (name : ℕ → List ℕ) (m v : Moment K V) (s t : Scene K V) → ShowsShort name m s → v.calls ≡ m.calls → t.calls ≡ s.calls → ShowsShort name v t
+
+  -- where a call begins by a name that no call under way has,
+  abbrev pub CallsBeginShort : Type 0
+  CallsBeginShort =
+      (name : ℕ → List ℕ) (m : Moment K V) (s : Scene K V) → ShowsShort name m s
+      → (map i : ℕ) (u : UnderWay K V K) (call : Call K V) (guard : List ℕ) → NoneNamed name (name i) s → ShowsShort name (with_call (name i) guard call (Some map) m) (scene_with map i u s)
+
+  -- where one that asks goes on by what it is told,
+  abbrev pub CallsTakeShort : Type 0
+  CallsTakeShort =
+      (same : K → K → Bool) (name : ℕ → List ℕ) (m : Moment K V) (known : Known) (s : Scene K V) → ShowsWhole same name m known s → ShowsShort name m s
+      → (map i : ℕ) (u : UnderWay K V K) → s.calls map i ≡ Some u → (reply : MachineReply V) (next : UnderWay K V K) → machine_of next ≡ (machine_replied (machine_of u) reply).0
+      → (is_told : Reply V) → ShowsShort name (told (name i) is_told m) (scene_with map i next s)
+
+  -- and where one comes to an outcome.
+  abbrev pub CallsComeToShort : Type 0
+  CallsComeToShort =
+      (same : K → K → Bool) (name : ℕ → List ℕ) (m : Moment K V) (known : Known) (s : Scene K V) → ShowsWhole same name m known s → ShowsShort name m s
+      → (own : List ℕ) (outcome : Outcome V) (steps : ℕ) → (ends_call outcome ≡ true → NoneNamed name own s) → ShowsShort name (come_to own outcome steps m) s
+
+module _ (K V S : Type 0) (same : K → K → Bool) (hash : K → ℕ) where
+  -- So it is where a walk goes on to its next pair,
+  abbrev pub WalksGoOnShort : Type 0
+  WalksGoOnShort =
+      (name : ℕ → List ℕ) (m : Moment K V) (s : Scene K V) (old new : Executor K V S) → ShowsShort name m s
+      → (i : ℕ) (leads : AskLeads same hash i true s old new) (map : ℕ) (u : UnderWay K V K) (here : s.calls map i ≡ Some u) → ShowsShort name m (scene_with map i (leads map u here).0 s)
+
+  -- and where one is given up.
+  abbrev pub WalksStopShort : Type 0
+  WalksStopShort =
+      (name : ℕ → List ℕ) (m : Moment K V) (known : Known) (s : Scene K V) (old new : Executor K V S) → ShowsWhole same name m known s → ShowsShort name m s
+      → (i : ℕ) (stopped : Bool) → StopLeads same hash i stopped s old new → (map : ℕ) (u : UnderWay K V K) → s.calls map i ≡ Some u
+      → (let after = record s { calls = with_in s.calls map i (unless_stopped stopped u) } in
+      (stopped ≡ true → NoneNamed name (name i) after) → ShowsShort name (given_up (name i) stopped m) after)
