@@ -71,7 +71,7 @@ unfolding held_in
 holds_one = refl
 
 -- A change may not give back what its map had,
-not_given_back : HoldsOn [] ((3, 30) ∷ []) ((3, 30) ∷ []) [] → ⊥
+not_given_back : HoldsOn {X = ℕ × ℕ} [] ((3, 30) ∷ []) ((3, 30) ∷ []) [] → ⊥
 not_given_back (waiting, given, before, after) = absurd (let e = length_permutation [] (((3, 30) ∷ []) ++ waiting) after in omega (arith, e))
 
 -- nor hold what was neither there nor stored.

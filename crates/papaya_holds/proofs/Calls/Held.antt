@@ -289,9 +289,9 @@ module _ {K V Q S : Type 0} (asks : Q → K → Bool) (same : K → K → Bool) 
   StaysApart m result = Still m × ((word : ℕ) → stored_at result ≡ Some word → Apart word)
 
   at_stop : (x : OnKey K V Q S) (m : Mem (Node K V)) (result : Result Stop Fault) → StopsAt x m result → ComesWith m0 m x result × StaysApart m result
-  at_stop x m (Ok (stop.Answered answer)) s = s
-  at_stop x m (Ok (stop.Asks about)) s = (subst (λ (y : OnKey K V Q S). HasCome m0 m y.call) (sym s.under.is) s.under.course.come, s.under.course.still, λ word e. absurd (cc e))
-  at_stop x m (Err fault) s = (s.0, s.1, λ word e. absurd (cc e))
+  at_stop x m (Ok (stop.Answered answer)) s = (s.0, (s.1, s.2))
+  at_stop x m (Ok (stop.Asks about)) s = (subst (λ (y : OnKey K V Q S). HasCome m0 m y.call) (sym s.under.is) s.under.course.come, (s.under.course.still, λ word e. absurd (cc e)))
+  at_stop x m (Err fault) s = (s.0, (s.1, λ word e. absurd (cc e)))
 
   take_none_away : (x : OnKey K V Q S) (m : Mem (Node K V)) → IsCalling asks same hashes b setting m0 x m → (x2 : OnKey K V Q S) (m2 : Mem (Node K V)) (result : Result Stop Fault)
       → RunsTo (on_key_plan asks same hashes) x m x2 m2 result → ComesWith m0 m2 x2 result × StaysApart m2 result

@@ -1,7 +1,7 @@
 -- The pairs that a memory has stand in its blocks, each in one of its own, and no other stands there.
-use Rattle.std.specs.Prelude.{◌≡◌, ℕ, zero, suc, ◌+◌, ◌-◌, ◌<◌, ◌≤◌, List, [], ◌∷◌, ◌++◌, Option, Some, None, IsPermutation, slice_index_or}
+use Rattle.std.specs.Prelude.{◌≡◌, ℕ, zero, suc, ◌+◌, ◌-◌, ◌<◌, ◌≤◌, Bool, if◌then◌else◌, List, [], ◌∷◌, ◌++◌, Option, Some, None, IsPermutation, slice_index_or}
 use Rattle.std.proofs.Common.{refl, sym, ◌∙◌, ap, subst, arith, inl, inr}
-use Rattle.std.proofs.lemmas.Bool.{cases_eq}
+use Rattle.std.proofs.lemmas.Bool.{cases_eq, ne_eqb}
 use Rattle.std.proofs.lemmas.List.{append-nil}
 use Rattle.std.proofs.lemmas.List.Sorted.{IsPermutation-sym}
 use Rattle.seize_words.specs.Mem.{Mem, value_at, value_in}
@@ -78,7 +78,12 @@ module _ {K V : Type 0} where
         by None some = some
 
     first : Reads 0 m.blocks
-    first i = let e : suc (0 + i) ≡ suc i = omega arith in ap (value_at m) e ∙ ap (λ (j : ℕ). value_in (slice_index_or m.blocks j None)) (let f : suc i - 1 ≡ i = omega arith in f)
+    first i =
+        let e : suc (0 + i) ≡ suc i = omega arith in
+        let f : suc i - 1 ≡ i = omega arith in
+        ap (value_at m) e
+        ∙ ap (λ (q : Bool). value_in {T = Node K V} (if q then None else slice_index_or m.blocks (suc i - 1) None)) (ne_eqb (suc i) 0 (λ z. omega (arith, z)))
+        ∙ ap (λ (j : ℕ). value_in {T = Node K V} (slice_index_or m.blocks j None)) f
 
     all_there : (b : ℕ) (x : K × V) → StandsAt m b x → 0 < times b (numbers 0 m.blocks)
     all_there zero x there = absurd (cc there)
