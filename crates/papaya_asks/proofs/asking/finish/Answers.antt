@@ -26,7 +26,7 @@ returns-clause-value g c = λ xs kind key value keys p taken insert.
     finish_pair _ _ _ _ kind _ keys xs _ _ _ p _ taken _ _ c.reply-taken.ensures _ _ refl value insert _ _ c.in-Err.is c.run_skimming.ensures key refl
 
 pub returns-in-Ok-Answered-clause-ran : goal.returns-in-Ok-Answered-clause-ran
-returns-in-Ok-Answered-clause-ran g c = told_answered _ _ _ _ _ _ _ _ c.reply-taken.ensures _ _ _ c.run_skimming.ensures _ _ c.in-Ok-Answered.is c.in-Ok-Answered.field-0-is
+returns-in-Ok-Answered-clause-ran g c = told_answered _ _ _ c.args.machine.now c.args.memory.now c.args.reply _ _ c.reply-taken.ensures _ _ _ c.run_skimming.ensures _ _ c.in-Ok-Answered.is c.in-Ok-Answered.field-0-is
 
 pub returns-clause-ran : goal.returns-clause-ran
-returns-clause-ran g c = told_refused _ _ _ _ _ _ _ _ c.reply-taken.ensures _ _ _ c.run_skimming.ensures _ c.in-Err.is
+returns-clause-ran g c = told_refused _ _ _ c.args.machine.now c.args.memory.now c.args.reply _ _ c.reply-taken.ensures _ _ _ c.run_skimming.ensures _ c.in-Err.is
