@@ -42,5 +42,5 @@ returns-clause-last g c =
     (seen_first _ _ _ _ held.0 held.1 c.map.inside.resting.tables _ _ _ _ c.map.view_is (g.Q.Equivalent.equivalent c.args.asked.now) (λ x y. g.met.Q.Equivalent.respects_eq c.args.asked.now x y))
 
 pub returns-clause-keeps : goal.returns-clause-keeps
-returns-clause-keeps g c = 
+returns-clause-keeps g c =
     let held = c.map.invariant in seen_keeps _ _ _ _ held.0 held.1 c.map.inside.resting.tables _ _ _ _ c.map.view_is [] _ (c.remove.ensures.keeps held.0 held.1)

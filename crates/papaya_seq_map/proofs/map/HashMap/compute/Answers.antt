@@ -52,5 +52,5 @@ returns-clause-fault g c =
     (ComputesAs g.F.FnOnce c.args.decide) (λ (e : RefusedKey _). e.fault) c.compute.result (c.compute.ensures.comes held.0 held.1)
 
 pub returns-clause-keeps : goal.returns-clause-keeps
-returns-clause-keeps g c = 
+returns-clause-keeps g c =
     let held = c.self.invariant in seen_keeps _ _ _ _ held.0 held.1 c.self.inside.resting.tables _ _ _ _ c.self.view_is _ _ (c.compute.ensures.keeps held.0 held.1)

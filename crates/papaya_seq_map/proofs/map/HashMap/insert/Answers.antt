@@ -41,5 +41,5 @@ returns-clause-last g c =
     (seen_first _ _ _ _ held.0 held.1 c.self.inside.resting.tables _ _ _ _ c.self.view_is (g.K.PartialEq.eq c.args.key) (g.met.K.Eq.laws.congr c.args.key))
 
 pub returns-clause-keeps : goal.returns-clause-keeps
-returns-clause-keeps g c = 
+returns-clause-keeps g c =
     let held = c.self.invariant in seen_keeps _ _ _ _ held.0 held.1 c.self.inside.resting.tables _ _ _ _ c.self.view_is _ _ (c.insert.ensures.keeps held.0 held.1)

@@ -51,5 +51,5 @@ returns-clause-fault g c =
     (Removing (TestsAs g.F.FnOnce c.args.test)) (λ (e : Fault). e) c.remove_if.result (c.remove_if.ensures.comes held.0 held.1) (λ x. x)
 
 pub returns-clause-keeps : goal.returns-clause-keeps
-returns-clause-keeps g c = 
+returns-clause-keeps g c =
     let held = c.self.invariant in seen_keeps _ _ _ _ held.0 held.1 c.self.inside.resting.tables _ _ _ _ c.self.view_is [] _ (c.remove_if.ensures.keeps held.0 held.1)

@@ -41,5 +41,5 @@ pub returns-clause-last : goal.returns-clause-last
 returns-clause-last g c = (none_in _, none_in _)
 
 pub returns-clause-keeps : goal.returns-clause-keeps
-returns-clause-keeps g c = 
+returns-clause-keeps g c =
     let held = c.self.invariant in seen_keeps _ _ _ _ held.0 held.1 c.self.inside.resting.tables _ _ _ _ c.self.view_is [] _ (c.retain.ensures.keeps held.0 held.1)

@@ -52,5 +52,5 @@ returns-clause-fault g c =
     (UpdatingOrStoring (FnOnceReturnsAt g.F.FnOnce c.args.make) (λ new. new ≡ c.args.value)) (λ (e : Refused _ _). e.fault) c.update_or_insert.result (c.update_or_insert.ensures.comes held.0 held.1) (λ x. x)
 
 pub returns-clause-keeps : goal.returns-clause-keeps
-returns-clause-keeps g c = 
+returns-clause-keeps g c =
     let held = c.self.invariant in seen_keeps _ _ _ _ held.0 held.1 c.self.inside.resting.tables _ _ _ _ c.self.view_is _ _ (c.update_or_insert.ensures.keeps held.0 held.1)
