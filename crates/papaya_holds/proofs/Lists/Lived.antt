@@ -3,7 +3,7 @@ use Rattle.std.specs.Prelude.{◌≡◌, List, [], ◌∷◌, ◌++◌, IsPermut
 use Rattle.std.proofs.Common.{sym, ◌∙◌, ap, subst}
 use Rattle.std.proofs.lemmas.List.{append-nil, append_assoc}
 use Rattle.std.proofs.lemmas.List.Sorted.{IsPermutation-refl, IsPermutation-sym, IsPermutation-trans, IsPermutation-append_left, IsPermutation-append_right, IsPermutation-to_front}
-use Rattle.papaya_holds.specs.Held.{Balanced, HoldsOn, IsLife, begun, changed, KeptBalances, LivesHold}
+use Rattle.papaya_holds.specs.Held.{Balanced, begun, changed, KeptBalances, LivesHold}
 
 pub kept_balances : (X : Type 0) → KeptBalances X
 kept_balances X stored had before after (waiting, given, was, is) = (
