@@ -68,6 +68,11 @@ module _ {K V : Type 0} where
         (keys_in_order after.held (stored ++ (before.pairs ++ waiting)) is),
   )
 
+  -- the elements of a set are among what is held
+  pub keys_among : {S : Type 0} (map : Map K V S) → (waiting : List (K × V)) × IsPermutation map.held (map.pairs ++ waiting) → (waiting : List K) × IsPermutation (keys_of map.held) (keys_of map.pairs ++ waiting)
+  keys_among map (waiting, is) =
+      (keys_of waiting, subst (IsPermutation (keys_of map.held)) (map-append (λ (x : K × V). x.0) map.pairs waiting) (keys_in_order map.held (map.pairs ++ waiting) is))
+
   keys_kept : (test : K → Bool) (xs : List (K × V)) → keys_of (filter (λ x. test x.0) xs) ≡ filter test (keys_of xs)
   keys_kept test [] = refl
   keys_kept test (x ∷ xs) = by (test x.0) (keys_kept test xs)
