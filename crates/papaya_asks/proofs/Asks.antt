@@ -6,6 +6,7 @@ pub mod Ends
 pub mod Finished
 pub mod Finishes
 pub mod Questions
+pub mod Ran
 pub mod Refusals
 pub mod Removes
 pub mod Replied

@@ -23,6 +23,7 @@ use Rattle.papaya_callers.specs.Kind.{Kind}
 use Rattle.papaya_callers.specs.Pairs.{IsTold}
 use Rattle.papaya_callers.specs.Together.{IsBegun}
 use Rattle.papaya_late.specs.Faults.{IsRoom}
+use Rattle.papaya_asks.specs.declared.lent.Lent.{Lent}
 use Rattle.papaya_owned.specs.Ending.{RunsTo}
 use Rattle.papaya_owned.specs.Machines.{on_key_plan}
 use Rattle.papaya_owned.specs.Owned.{Holds, IsPairAt, IsWordOf, found_by, left_by}
@@ -116,6 +117,10 @@ abbrev pub StartsAs : {K V Q S : Type 0} → (Q → K → Bool) → (K → K →
 StartsAs asks same hashes setting kind its keys xs b x m (Ok (stop.Answered answer)) = AnswersAs same (hashes b.now) setting m keys xs its (Unasked kind) answer
 StartsAs asks same hashes setting kind its keys xs b x m (Ok (stop.Asks asked)) = Pauses asks same hashes setting kind its keys xs x m asked × (x.hasher ≡ b) × IsWordOf keys m xs asked × AsksOf kind asked
 StartsAs {K} asks same hashes setting kind its keys xs b x m (Err fault) = IsRoom fault × Holds same (hashes b.now) setting m xs × ((k : K) → its ≡ Some k → HasKeyBack x k)
+
+-- what stands for keys, lent, passes the keys that it passes by itself
+abbrev pub by_lent : {K Q : Type 0} → (Q → K → Bool) → Lent K Q → K → Bool
+by_lent asks x key = asks x.asked.now key
 
 -- Where a call has come to a question, and is told what it takes, it is refused for this alone.
 abbrev pub ToldCallsRefuse : (K V Q S : Type 0) → Type 0

@@ -3,6 +3,7 @@ use Rattle.std.specs.Prelude.{◌≡◌, ℕ, Bool, true, false, List, Result, O
 use Rattle.std.specs.Fn.{Once, FnOnceReturns}
 use denote.Ref.{Bor}
 use Rattle.seize_words.specs.Mem.{Mem}
+use Rattle.seize_words.specs.declared.fault.Fault.{Fault}
 use Rattle.papaya_tables.specs.declared.node.Node.{Node}
 use Rattle.papaya_tables.specs.declared.setting.Setting.{Setting}
 use Rattle.papaya_raw.specs.declared.machines.answer.KeyAnswer.{KeyAnswer}
@@ -10,6 +11,8 @@ use Rattle.papaya_raw.specs.declared.machines.asking.Reply.{Reply}
 use Rattle.papaya_raw.specs.declared.machines.asking.Reply.TheVariants as reply
 use Rattle.papaya_asks.specs.Asking.{AnswersAs, RefusedAs}
 use Rattle.papaya_owned.specs.Owned.{found_by}
+use Rattle.papaya_owned.specs.declared.machines.Stop.{Stop}
+use Rattle.papaya_owned.specs.declared.machines.Stop.TheVariants as stop
 use Rattle.papaya_asks.specs.declared.computing.Computed.{Computed}
 use Rattle.papaya_asks.specs.declared.computing.Computed.TheVariants as computed
 use Rattle.papaya_asks.specs.declared.computing.Operation.{Operation}
@@ -82,3 +85,9 @@ module _ {K V : Type 0} (same : K → K → Bool) (hash : K → ℕ) (setting : 
   ComputesTo Gives (Ok (computed.Aborted end answer)) =
       Gives (found_by (same key) xs) (operation.Abort end) × AnswersAs same hash setting m (same key) xs (Some key) (λ about said. said ≡ reply.Abort) answer
   ComputesTo Gives (Err r) = RefusedAs same hash setting m (same key) xs (Some key) (Computing Gives) r.fault × (r.key ≡ key)
+
+-- how a computing's call has stopped
+abbrev pub computing_stop : {K T : Type 0} → Result (Computed T) (RefusedKey K) → Result Stop Fault
+computing_stop (Ok (computed.Changed answer)) = Ok (stop.Answered answer)
+computing_stop (Ok (computed.Aborted end answer)) = Ok (stop.Answered answer)
+computing_stop (Err r) = Err r.fault

@@ -7,6 +7,9 @@ ghost use Rattle.papaya_raw.specs.CallAsks.{replied};
 ghost use Rattle.papaya_raw.specs.declared.machines.asking.Reply.TheVariants as replies;
 ghost use Rattle.papaya_raw.specs.declared.machines.asking.Told.TheVariants as tells;
 ghost use Rattle.papaya_asks.specs.Asking.{IsTaken, EndsAs, Pauses, StartsAs, ToldThis, HasKeyBack, HasPairBack};
+ghost use Rattle.papaya_owned.specs.Calling.{StopsTold, stop_by};
+ghost use Rattle.papaya_owned.specs.Ending.{RunsTo};
+ghost use Rattle.papaya_owned.specs.Machines.{on_key_plan};
 ghost use Rattle.papaya_owned.specs.Owned.{Holds};
 
 use papaya_owned::{OnKey, Stop, run_skimming};
@@ -25,9 +28,10 @@ pub(crate) fn start<K: Eq + Hash + Drop, V: Drop, Q: Equivalent<K>, S: Hashes<K>
     requires fresh { machine.old.unstored ≡ None }
     requires begun { (xs : List (K × V)) × (kind : Kind) × (its : Option K) × (keys : K → Bool) × Holds K.eq (S.hash machine.old.hasher.now) _setting memory.old xs
         × IsBegun V K.eq (S.hash machine.old.hasher.now) Q.Equivalent.equivalent _setting (λ i. _setting.slot) 0 keys (IsTold kind its []) machine.old.call }
-    ensures { (xs : List (K × V)) (kind : Kind) (its : Option K) (keys : K → Bool) → Holds K.eq (S.hash machine.old.hasher.now) _setting memory.old xs
+    ensures starts { (xs : List (K × V)) (kind : Kind) (its : Option K) (keys : K → Bool) → Holds K.eq (S.hash machine.old.hasher.now) _setting memory.old xs
         → IsBegun V K.eq (S.hash machine.old.hasher.now) Q.Equivalent.equivalent _setting (λ i. _setting.slot) 0 keys (IsTold kind its []) machine.old.call
         → StartsAs Q.Equivalent.equivalent K.eq S.hash _setting kind its keys xs machine.old.hasher machine.new memory.new result }
+    ensures ran { RunsTo (on_key_plan Q.Equivalent.equivalent K.eq S.hash) machine.old memory.old machine.new memory.new result }
 {
     run_skimming(machine, memory)
 }
@@ -47,6 +51,7 @@ pub(crate) fn finish<K: Eq + Hash + Drop, V: Drop, Q: Equivalent<K>, S: Hashes<K
         → IsTaken kind.takes asked reply → IfErr result (λ fault. HasKeyBack machine.new key) }
     ensures value { (xs : List (K × V)) (kind : Kind) (key : K) (value : V) (keys : K → Bool) → Pauses Q.Equivalent.equivalent K.eq S.hash _setting kind (Some key) keys xs machine.old memory.old None
         → IsTaken kind.takes None reply → reply ≡ replies.Insert value → IfErr result (λ fault. HasPairBack machine.new key value) }
+    ensures ran { StopsTold Q.Equivalent.equivalent K.eq S.hash machine.old memory.old reply memory.new (stop_by (λ fault. fault) result) }
 {
     let _taken = machine.call.reply(reply);
     match run_skimming(machine, memory) {

@@ -3,8 +3,9 @@ ghost use Rattle.std.specs.Prelude.{◌≡◌, List, None, if◌then◌else◌};
 ghost use Rattle.std.specs.Option.{ForSome};
 ghost use Rattle.papaya_raw.specs.declared.machines.asking.Reply.TheVariants as replies;
 ghost use Rattle.papaya_callers.specs.Kind.{removes};
-ghost use Rattle.papaya_asks.specs.Asking.{EndsAs};
+ghost use Rattle.papaya_asks.specs.Asking.{EndsAs, by_lent};
 ghost use Rattle.papaya_asks.specs.Closures.{TestsAs, TestTakes, Removing};
+ghost use Rattle.papaya_owned.specs.Calling.{HasStopped, stop_by};
 ghost use Rattle.papaya_owned.specs.Owned.{Holds, EndsBy, found_by, hashed_by};
 
 use crate::asking::{finish, start};
@@ -24,8 +25,9 @@ pub fn remove<K: Eq + Hash + Drop, V: Drop, Q: Equivalent<K>, S: BuildHasher>(
     asked: &Q,
 ) -> Result<Stop, Fault>
     requires { (xs : List (K × V)) × Holds K.eq (hashed_by S.Hasher.finish S.Hasher.write S.build_hasher K.hash_input hasher.now) setting memory.old xs }
-    ensures { (xs : List (K × V)) → Holds K.eq (hashed_by S.Hasher.finish S.Hasher.write S.build_hasher K.hash_input hasher.now) setting memory.old xs
+    ensures comes { (xs : List (K × V)) → Holds K.eq (hashed_by S.Hasher.finish S.Hasher.write S.build_hasher K.hash_input hasher.now) setting memory.old xs
         → EndsBy K.eq (hashed_by S.Hasher.finish S.Hasher.write S.build_hasher K.hash_input hasher.now) setting memory.new removes None (Q.Equivalent.equivalent asked.now) xs result }
+    ensures ran { HasStopped (by_lent Q.Equivalent.equivalent) K.eq (hashed_by S.Hasher.finish S.Hasher.write S.build_hasher K.hash_input) hasher.entry setting memory.old memory.new result }
 {
     let hash = hasher.hash_of(asked);
     let lent = Lent {
@@ -64,8 +66,9 @@ pub fn remove_if<
 ) -> Result<KeyAnswer, Fault>
     requires holds { (xs : List (K × V)) × Holds K.eq (hashed_by S.Hasher.finish S.Hasher.write S.build_hasher K.hash_input hasher.now) setting memory.old xs
         × ForSome (found_by (Q.Equivalent.equivalent asked.now) xs) (TestTakes F.FnOnce test) }
-    ensures { (xs : List (K × V)) → Holds K.eq (hashed_by S.Hasher.finish S.Hasher.write S.build_hasher K.hash_input hasher.now) setting memory.old xs
+    ensures comes { (xs : List (K × V)) → Holds K.eq (hashed_by S.Hasher.finish S.Hasher.write S.build_hasher K.hash_input hasher.now) setting memory.old xs
         → EndsAs K.eq (hashed_by S.Hasher.finish S.Hasher.write S.build_hasher K.hash_input hasher.now) setting memory.new (Q.Equivalent.equivalent asked.now) xs None (Removing (TestsAs F.FnOnce test)) result }
+    ensures ran { HasStopped (by_lent Q.Equivalent.equivalent) K.eq (hashed_by S.Hasher.finish S.Hasher.write S.build_hasher K.hash_input) hasher.entry setting memory.old memory.new (stop_by (λ fault. fault) result) }
 {
     let hash = hasher.hash_of(asked);
     let lent = Lent {

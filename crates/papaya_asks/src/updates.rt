@@ -5,6 +5,7 @@ ghost use Rattle.std.specs.Option.{ForNone, ForSome};
 ghost use Rattle.papaya_callers.specs.Kind.{Kind};
 ghost use Rattle.papaya_asks.specs.Asking.{IsTaken, Pauses, ToldThis};
 ghost use Rattle.papaya_asks.specs.Closures.{ComesTo, ComesToWith, Updating, UpdatingOrStoring, Storing};
+ghost use Rattle.papaya_owned.specs.Calling.{HasStopped, StopsTold, stop_by};
 ghost use Rattle.papaya_owned.specs.Owned.{Holds, found_by, hashed_by};
 ghost use Rattle.papaya_raw.specs.declared.machines.asking.Reply.TheVariants as replies;
 ghost use Rattle.papaya_raw.specs.declared.machines.asking.Takes.TheVariants as takes;
@@ -26,8 +27,9 @@ pub(crate) fn replied<K: Eq + Hash + Drop, V: Drop, S: Hashes<K>>(
 ) -> Result<KeyAnswer, RefusedKey<K>>
     requires { (xs : List (K × V)) × (kind : Kind) × (key : K) × (asked : Option ℕ)
         × Pauses K.eq K.eq S.hash setting kind (Some key) (K.eq key) xs machine.old memory.old asked × IsTaken kind.takes asked reply }
-    ensures { (xs : List (K × V)) (kind : Kind) (key : K) (asked : Option ℕ) → Pauses K.eq K.eq S.hash setting kind (Some key) (K.eq key) xs machine.old memory.old asked → IsTaken kind.takes asked reply
+    ensures comes { (xs : List (K × V)) (kind : Kind) (key : K) (asked : Option ℕ) → Pauses K.eq K.eq S.hash setting kind (Some key) (K.eq key) xs machine.old memory.old asked → IsTaken kind.takes asked reply
         → ComesTo K.eq (S.hash machine.old.hasher.now) setting memory.new key xs (ToldThis (K.eq key) xs reply) result }
+    ensures ran { StopsTold K.eq K.eq S.hash machine.old memory.old reply memory.new (stop_by (λ r. r.fault) result) }
 {
     match finish(memory, setting, machine, reply) {
         Ok(answer) => Ok(answer),
@@ -48,8 +50,9 @@ pub fn update<K: Eq + Hash + Drop, V: Drop, S: BuildHasher, F: FnOnce(&V) -> V>(
 ) -> Result<KeyAnswer, RefusedKey<K>>
     requires holds { (xs : List (K × V)) × Holds K.eq (hashed_by S.Hasher.finish S.Hasher.write S.build_hasher K.hash_input hasher.now) setting memory.old xs
         × ForSome (found_by (K.eq key) xs) (λ x. FnOnceTakesAt F.FnOnce make x.1) }
-    ensures { (xs : List (K × V)) → Holds K.eq (hashed_by S.Hasher.finish S.Hasher.write S.build_hasher K.hash_input hasher.now) setting memory.old xs
+    ensures comes { (xs : List (K × V)) → Holds K.eq (hashed_by S.Hasher.finish S.Hasher.write S.build_hasher K.hash_input hasher.now) setting memory.old xs
         → ComesTo K.eq (hashed_by S.Hasher.finish S.Hasher.write S.build_hasher K.hash_input hasher.now) setting memory.new key xs (Updating (FnOnceReturnsAt F.FnOnce make)) result }
+    ensures ran { HasStopped K.eq K.eq (hashed_by S.Hasher.finish S.Hasher.write S.build_hasher K.hash_input) hasher.entry setting memory.old memory.new (stop_by (λ r. r.fault) result) }
 {
     let hash = hasher.hash_of(&key);
     let call = KeyCall::update(setting, hash, key);
@@ -89,9 +92,10 @@ pub fn update_or_insert_with<
 ) -> Result<KeyAnswer, RefusedKey<K>>
     requires holds { (xs : List (K × V)) × Holds K.eq (hashed_by S.Hasher.finish S.Hasher.write S.build_hasher K.hash_input hasher.now) setting memory.old xs
         × ForNone (found_by (K.eq key) xs) (B.pre begin) × ForSome (found_by (K.eq key) xs) (λ x. FnOnceTakesAt F.FnOnce make x.1) }
-    ensures { (xs : List (K × V)) → Holds K.eq (hashed_by S.Hasher.finish S.Hasher.write S.build_hasher K.hash_input hasher.now) setting memory.old xs
+    ensures comes { (xs : List (K × V)) → Holds K.eq (hashed_by S.Hasher.finish S.Hasher.write S.build_hasher K.hash_input hasher.now) setting memory.old xs
         → ComesTo K.eq (hashed_by S.Hasher.finish S.Hasher.write S.build_hasher K.hash_input hasher.now) setting memory.new key xs
         (UpdatingOrStoring (FnOnceReturnsAt F.FnOnce make) (λ value. FnOnceReturns B.FnOnce begin tt value)) result }
+    ensures ran { HasStopped K.eq K.eq (hashed_by S.Hasher.finish S.Hasher.write S.build_hasher K.hash_input) hasher.entry setting memory.old memory.new (stop_by (λ r. r.fault) result) }
 {
     let hash = hasher.hash_of(&key);
     let call = KeyCall::update_or_insert_with(setting, hash, key);
@@ -129,9 +133,10 @@ pub fn update_or_insert<K: Eq + Hash + Drop, V: Drop, S: BuildHasher, F: FnOnce(
 ) -> Result<KeyAnswer, Refused<K, V>>
     requires holds { (xs : List (K × V)) × Holds K.eq (hashed_by S.Hasher.finish S.Hasher.write S.build_hasher K.hash_input hasher.now) setting memory.old xs
         × ForSome (found_by (K.eq key) xs) (λ x. FnOnceTakesAt F.FnOnce make x.1) }
-    ensures { (xs : List (K × V)) → Holds K.eq (hashed_by S.Hasher.finish S.Hasher.write S.build_hasher K.hash_input hasher.now) setting memory.old xs
+    ensures comes { (xs : List (K × V)) → Holds K.eq (hashed_by S.Hasher.finish S.Hasher.write S.build_hasher K.hash_input hasher.now) setting memory.old xs
         → ComesToWith K.eq (hashed_by S.Hasher.finish S.Hasher.write S.build_hasher K.hash_input hasher.now) setting memory.new key xs value
         (UpdatingOrStoring (FnOnceReturnsAt F.FnOnce make) (λ new. new ≡ value)) result }
+    ensures ran { HasStopped K.eq K.eq (hashed_by S.Hasher.finish S.Hasher.write S.build_hasher K.hash_input) hasher.entry setting memory.old memory.new (stop_by (λ r. r.fault) result) }
 {
     let hash = hasher.hash_of(&key);
     let call = KeyCall::update_or_insert_with(setting, hash, key);
@@ -169,8 +174,9 @@ fn stored<K: Eq + Hash + Drop, V: Drop, S: Hashes<K>>(
     value: V,
 ) -> Result<KeyAnswer, Refused<K, V>>
     requires { (xs : List (K × V)) × (kind : Kind) × (key : K) × Pauses K.eq K.eq S.hash setting kind (Some key) (K.eq key) xs machine.old memory.old None × (kind.takes ≡ takes.Values) }
-    ensures { (xs : List (K × V)) (kind : Kind) (key : K) → Pauses K.eq K.eq S.hash setting kind (Some key) (K.eq key) xs machine.old memory.old None → kind.takes ≡ takes.Values
+    ensures comes { (xs : List (K × V)) (kind : Kind) (key : K) → Pauses K.eq K.eq S.hash setting kind (Some key) (K.eq key) xs machine.old memory.old None → kind.takes ≡ takes.Values
         → ComesToWith K.eq (S.hash machine.old.hasher.now) setting memory.new key xs value (ToldThis (K.eq key) xs (replies.Insert value)) result }
+    ensures ran { StopsTold K.eq K.eq S.hash machine.old memory.old (replies.Insert value) memory.new (stop_by (λ r. r.fault) result) }
 {
     match finish(memory, setting, machine, Reply::Insert(value)) {
         Ok(answer) => Ok(answer),
@@ -191,8 +197,9 @@ pub fn insert_with<K: Eq + Hash + Drop, V: Drop, S: BuildHasher, B: FnOnce() -> 
 ) -> Result<KeyAnswer, RefusedKey<K>>
     requires holds { (xs : List (K × V)) × Holds K.eq (hashed_by S.Hasher.finish S.Hasher.write S.build_hasher K.hash_input hasher.now) setting memory.old xs
         × ForNone (found_by (K.eq key) xs) (B.pre begin) }
-    ensures { (xs : List (K × V)) → Holds K.eq (hashed_by S.Hasher.finish S.Hasher.write S.build_hasher K.hash_input hasher.now) setting memory.old xs
+    ensures comes { (xs : List (K × V)) → Holds K.eq (hashed_by S.Hasher.finish S.Hasher.write S.build_hasher K.hash_input hasher.now) setting memory.old xs
         → ComesTo K.eq (hashed_by S.Hasher.finish S.Hasher.write S.build_hasher K.hash_input hasher.now) setting memory.new key xs (Storing (λ value. FnOnceReturns B.FnOnce begin tt value)) result }
+    ensures ran { HasStopped K.eq K.eq (hashed_by S.Hasher.finish S.Hasher.write S.build_hasher K.hash_input) hasher.entry setting memory.old memory.new (stop_by (λ r. r.fault) result) }
 {
     let hash = hasher.hash_of(&key);
     let call = KeyCall::try_insert_with(setting, hash, key);

@@ -10,6 +10,7 @@ use Rattle.papaya_tables.specs.declared.node.Node.TheVariants as node
 use Rattle.papaya_finishes.proofs.Ends.CountedBlocks.{some_of_first}
 use Rattle.papaya_holds.specs.Balances.{HasJust, Balances}
 use Rattle.papaya_holds.specs.Came.{NoneCame, HandsOut, StayInPlace}
+use Rattle.papaya_holds.specs.Held.{HoldsOn, held_in}
 
 -- a memory without blocks
 abbrev bare : Mem (Node ℕ ℕ)
@@ -63,3 +64,17 @@ not_twice (w ∷ waiting, given, just, same) = let e = length_permutation ((3, 3
 not_twice ([], given, ([], stand, each), same) = stand
 not_twice ([], given, (b ∷ [], stand, each), same) = let k = here 1 b (each 1 (3, 30) refl) in let l = here 2 b (each 2 (3, 30) refl) in absurd (omega (arith, k, l))
 not_twice ([], given, (b ∷ c ∷ blocks, stand, each), same) = stand.2
+
+-- A memory holds the pair of its block.
+holds_one : held_in one ≡ (3, 30) ∷ []
+unfolding held_in
+holds_one = refl
+
+-- A change may not give back what its map had,
+not_given_back : HoldsOn {X = ℕ × ℕ} [] ((3, 30) ∷ []) ((3, 30) ∷ []) [] → ⊥
+not_given_back (waiting, given, before, after) = absurd (let e = length_permutation [] (((3, 30) ∷ []) ++ waiting) after in omega (arith, e))
+
+-- nor hold what was neither there nor stored.
+not_of_nothing : HoldsOn {X = ℕ × ℕ} [] [] [] ((3, 30) ∷ []) → ⊥
+not_of_nothing (w ∷ waiting, given, before, after) = absurd (let e = length_permutation [] ((w ∷ waiting) ++ given) before in omega (arith, e))
+not_of_nothing ([], given, before, after) = absurd (let e = length_permutation ((3, 30) ∷ []) [] after in omega (arith, e))

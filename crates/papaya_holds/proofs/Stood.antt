@@ -1,16 +1,19 @@
 -- What could be looked at as the map rested stands still in its block: then so do all pairs of the map, each in a block of its own.
-use Rattle.std.specs.Prelude.{◌≡◌, ℕ, ◌<◌, Bool, true, List}
+use Rattle.std.specs.Prelude.{◌≡◌, ◌≢◌, ℕ, ◌<◌, Bool, true, List, Some, Result}
 use Rattle.std.proofs.Common.{refl, sym, ap}
 use Rattle.seize_words.specs.Mem.{Mem, value_at}
+use Rattle.seize_words.specs.Word.{block_in}
+use Rattle.seize_words.specs.declared.fault.Fault.{Fault}
 use Rattle.papaya_tables.specs.declared.node.Node.{Node}
 use Rattle.papaya_tables.specs.declared.setting.Setting.{Setting}
 use Rattle.papaya_rule.proofs.World.Hands.{current_known}
 use Rattle.papaya_rule.specs.InWorld.{IsMapIn}
 use Rattle.papaya_whole.proofs.Contents.Below.{below_stays}
-use Rattle.papaya_owned.proofs.Owned.Standing.{blocks_below, standing_below}
+use Rattle.papaya_owned.proofs.Owned.Standing.{blocks_below, none_there, standing_below}
 use Rattle.papaya_owned.specs.Owned.{Holds}
 use Rattle.papaya_owned.specs.Standing.{Standing}
-use Rattle.papaya_holds.specs.Came.{StayInPlace}
+use Rattle.papaya_owned.specs.declared.machines.Stop.{Stop}
+use Rattle.papaya_holds.specs.Came.{StayBeside, StayInPlace, stored_at}
 
 module _ {K V : Type 0} (same : K → K → Bool) (hash : K → ℕ) (setting : Setting) (m0 : Mem (Node K V)) (xs : List (K × V)) (h : Holds same hash setting m0 xs) where
   abbrev pub StandsStill : Mem (Node K V) → Type 0
@@ -32,6 +35,17 @@ module _ {K V : Type 0} (same : K → K → Bool) (hash : K → ℕ) (setting : 
       standing_below h.chart h.blocks.pair m h.blocks (λ o now. refl) apart h.chart.stored xs
       (below_stays same h.world.memory m h.chart h.chart h.blocks h.blocks h.chart.stored xs (λ o low. refl)
       (λ o low now. let k = current_known same hash setting h.world h.chart h.blocks map.map.rule map.map.shows o now in still o k.0 k.1) h.are)
+
+  -- and none in the block of what was stored
+  pub stood_beside : (m : Mem (Node K V)) → StandsStill m → (result : Result Stop Fault)
+      → ((word : ℕ) → stored_at result ≡ Some word → (n : ℕ) → n < h.chart.stored → h.blocks.pair_known n ≡ true → block_in word ≢ h.blocks.pair n) → StayBeside m0 m xs result
+  stood_beside m still result beside = (
+    blocks_below h.chart h.blocks.pair h.chart.stored,
+    stand_in m0 still_first,
+    stand_in m still,
+    λ word is. none_there h.chart h.blocks.pair (block_in word) h.chart.stored
+        (λ o low now. let k = current_known same hash setting h.world h.chart h.blocks map.map.rule map.map.shows o now in beside word is o k.0 k.1),
+  )
 
   -- in the same blocks
   pub stood : (m : Mem (Node K V)) → StandsStill m → StayInPlace m0 m xs

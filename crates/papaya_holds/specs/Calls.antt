@@ -1,36 +1,23 @@
 -- Calls on one key of one owner's map, from question to question: what came to its memory by them, and what stood there.
-use Rattle.std.specs.Prelude.{ℕ, Bool, List, Option, None, Result, Ok}
+use Rattle.std.specs.Prelude.{ℕ, Bool, List, Result}
 use denote.Ref.{Bor}
 use Rattle.seize_words.specs.Mem.{Mem}
 use Rattle.seize_words.specs.declared.fault.Fault.{Fault}
 use Rattle.papaya_tables.specs.declared.node.Node.{Node}
 use Rattle.papaya_tables.specs.declared.setting.Setting.{Setting}
-use Rattle.papaya_raw.specs.CallAsks.{replied}
-use Rattle.papaya_raw.specs.declared.machines.asking.Reply.{Reply}
-use Rattle.papaya_raw.specs.declared.machines.call.KeyCall.{KeyCall}
-use Rattle.papaya_callers.specs.Pairs.{Given}
-use Rattle.papaya_callers.specs.Together.{IsBegun}
+use Rattle.papaya_owned.specs.Calling.{IsCalling}
 use Rattle.papaya_owned.specs.Ending.{RunsTo}
 use Rattle.papaya_owned.specs.Machines.{on_key_plan}
 use Rattle.papaya_owned.specs.Owned.{Holds}
 use Rattle.papaya_owned.specs.declared.machines.OnKey.{OnKey}
 use Rattle.papaya_owned.specs.declared.machines.Stop.{Stop}
-use Rattle.papaya_owned.specs.declared.machines.Stop.TheVariants as stop
-use Rattle.papaya_holds.specs.Came.{StayInPlace, ComesWith}
-
-module _ {K V Q S : Type 0} (asks : Q → K → Bool) (same : K → K → Bool) (hashes : S → K → ℕ) (b : Bor S) (setting : Setting) (m0 : Mem (Node K V)) where
-  -- A call on one key, begun on this memory, has come here: it was run from question to question, and told something each time.
-  pub data IsCalling : OnKey K V Q S → Mem (Node K V) → Type 0 where
-    begun : (keys : K → Bool) (given : Given K V) (call : KeyCall K V Q) → IsBegun V same (hashes b.now) asks setting (λ i. setting.slot) 0 keys given call
-        → IsCalling (record { call = call; hasher = b; unstored = None }) m0
-    asked : (x : OnKey K V Q S) (m : Mem (Node K V)) → IsCalling x m → (x2 : OnKey K V Q S) (m2 : Mem (Node K V)) (about : Option ℕ) → RunsTo (on_key_plan asks same hashes) x m x2 m2 (Ok (stop.Asks about))
-        → (told : Reply V) → IsCalling (record x2 { call = (replied x2.call told).0 }) m2
+use Rattle.papaya_holds.specs.Came.{ComesWith, StayBeside}
 
 -- Wherever it stops next, no pair has come but what it tells as stored, and each pair that the map had as it began stands still in the block in which it stood
--- then, also where it was replaced or removed.
+-- then, also where it was replaced or removed. What was stored is in none of these blocks.
 abbrev pub CallsTakeNoneAway : (K V Q S : Type 0) → Type 0
 CallsTakeNoneAway K V Q S =
     (asks : Q → K → Bool) (same : K → K → Bool) (hashes : S → K → ℕ) (b : Bor S) (setting : Setting) (m0 : Mem (Node K V)) (xs : List (K × V)) → Holds same (hashes b.now) setting m0 xs
     → (x : OnKey K V Q S) (m : Mem (Node K V)) → IsCalling asks same hashes b setting m0 x m
     → (x2 : OnKey K V Q S) (m2 : Mem (Node K V)) (result : Result Stop Fault) → RunsTo (on_key_plan asks same hashes) x m x2 m2 result
-    → ComesWith m0 m2 x2 result × StayInPlace m0 m2 xs
+    → ComesWith m0 m2 x2 result × StayBeside m0 m2 xs result

@@ -1,8 +1,9 @@
 -- Which pairs a memory has, block by block, and which of them have come since it was another one.
-use Rattle.std.specs.Prelude.{◌≡◌, ◌≢◌, ℕ, ◌<◌, ◌^◌, ◌⊎◌, List, Some, Result, Ok, Err}
+use Rattle.std.specs.Prelude.{◌≡◌, ◌≢◌, ℕ, ◌<◌, ◌^◌, ◌⊎◌, List, Option, Some, None, Result, Ok, Err}
 use Rattle.seize_words.specs.Mem.{Mem, value_at}
 use Rattle.seize_words.specs.Word.{block_in}
 use Rattle.seize_words.specs.declared.fault.Fault.{Fault}
+use Rattle.seize.specs.World.{times}
 use Rattle.seize.specs.declared.rows.settle.Settled.{Settled}
 use Rattle.seize.specs.declared.rows.settle.Settled.TheVariants as settled
 use Rattle.papaya_tables.specs.declared.marks.TheConstants.{TOMBSTONE}
@@ -21,6 +22,16 @@ use Rattle.papaya_owned.specs.Standing.{Standing}
 use Rattle.papaya_owned.specs.declared.machines.OnKey.{OnKey}
 use Rattle.papaya_owned.specs.declared.machines.Stop.{Stop}
 use Rattle.papaya_owned.specs.declared.machines.Stop.TheVariants as stop
+
+-- the word of the pair that a call on one key has stored, if it has stored one
+abbrev pub stored_by : KeyAnswer → Option ℕ
+stored_by (answers.Stored word) = Some word
+stored_by (answers.Replaced old new) = Some new
+stored_by _ = None
+
+abbrev pub stored_at : Result Stop Fault → Option ℕ
+stored_at (Ok (stop.Answered answer)) = stored_by answer
+stored_at _ = None
 
 module _ {K V : Type 0} where
   -- this pair stands in this block
@@ -43,6 +54,10 @@ module _ {K V : Type 0} where
     -- each of these pairs stood in a block of its own, and stands there still
     abbrev pub StayInPlace : List (K × V) → Type 0
     StayInPlace xs = (blocks : List ℕ) × Standing m0 blocks xs × Standing m blocks xs
+
+    -- and by how a call on one key has stopped, what it tells as stored stands in none of these blocks
+    abbrev pub StayBeside : List (K × V) → Result Stop Fault → Type 0
+    StayBeside xs result = (blocks : List ℕ) × Standing m0 blocks xs × Standing m blocks xs × ((word : ℕ) → stored_at result ≡ Some word → times (block_in word) blocks ≡ 0)
 
     -- By the answer of a call on one key: where it tells the word of a pair that was stored, that pair alone has come.
     abbrev pub CameBy : KeyAnswer → Type 0

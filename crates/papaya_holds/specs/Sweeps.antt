@@ -1,27 +1,17 @@
 -- Sweeps over the map of one owner: what stood in its memory as they began stands there until their ends.
-use Rattle.std.specs.Prelude.{ℕ, Bool, List, Result, Ok}
+use Rattle.std.specs.Prelude.{ℕ, Bool, List, Result}
 use denote.Ref.{Bor}
 use Rattle.seize_words.specs.Mem.{Mem}
 use Rattle.seize_words.specs.declared.fault.Fault.{Fault}
 use Rattle.papaya_tables.specs.declared.node.Node.{Node}
 use Rattle.papaya_tables.specs.declared.setting.Setting.{Setting}
-use Rattle.papaya_sweeps.specs.SweepPoints.{sweeping, after_reply}
 use Rattle.papaya_sweeps.specs.declared.sweep.Purpose.{Purpose}
-use Rattle.papaya_callers.specs.Together.{in_slot}
 use Rattle.papaya_owned.specs.Ending.{RunsTo}
 use Rattle.papaya_owned.specs.Owned.{Holds}
-use Rattle.papaya_sifts.specs.Sweeping.{over_pairs_plan}
+use Rattle.papaya_sifts.specs.Sweeping.{IsSweeping, over_pairs_plan}
 use Rattle.papaya_sifts.specs.declared.sweeping.OverPairs.{OverPairs}
 use Rattle.papaya_sifts.specs.declared.sweeping.Pause.{Pause}
-use Rattle.papaya_sifts.specs.declared.sweeping.Pause.TheVariants as pause
 use Rattle.papaya_holds.specs.Came.{NoneCame, StayInPlace}
-
-module _ {K V S : Type 0} (hashes : S → K → ℕ) (b : Bor S) (setting : Setting) (purpose : Purpose) (m0 : Mem (Node K V)) where
-  -- A sweep for this purpose, begun on this memory, has come here: it was run from question to question, and told each time whether to keep the pair.
-  pub data IsSweeping : OverPairs S → Mem (Node K V) → Type 0 where
-    begun : IsSweeping (record { sweep = sweeping (in_slot setting setting.slot) purpose; hasher = b }) m0
-    asked : (x : OverPairs S) (m : Mem (Node K V)) → IsSweeping x m → (x2 : OverPairs S) (m2 : Mem (Node K V)) (word : ℕ) → RunsTo (over_pairs_plan {K = K} {V = V} hashes) x m x2 m2 (Ok (pause.Asks word))
-        → (keeps : Bool) → IsSweeping (record x2 { sweep = after_reply x2.sweep keeps }) m2
 
 -- Wherever it stops next, no pair has come, and each pair that the map had as it began stands still in the block in which it stood then, also where it was
 -- removed.

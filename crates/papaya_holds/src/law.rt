@@ -1,5 +1,6 @@
 //! What is promised of the pairs in the memory of a map for one owner.
 ghost use Rattle.papaya_holds.specs.Calls.{CallsTakeNoneAway};
+ghost use Rattle.papaya_holds.specs.Held.{KeptBalances, LivesHold};
 ghost use Rattle.papaya_holds.specs.Lives.{LivesBalance};
 ghost use Rattle.papaya_holds.specs.Promises.{AnswersBalance, CallsBegin, CallsStoreAlone, MakingsPutNone, RefreshesPutNone, RepliesPutNone, RoomsPutNone, RowsHandOut, SweepsPutNone, WhatLeavesBalances};
 ghost use Rattle.papaya_holds.specs.Sweeps.{SweepsTakeNoneAway};
@@ -31,4 +32,11 @@ pub fn pairs_balance<K, V, Q, S>()
 pub fn changes_take_nothing_away<K, V, Q, S>()
     ensures calls { CallsTakeNoneAway K V Q S }
     ensures sweeps { SweepsTakeNoneAway K V S }
+{}
+
+/// A change that holds on to what its map had balances: what was held before, and what was stored, is held now, or was given back, each as often. Over the whole
+/// life of a map, by calls that do so, all that it held at first, and that was ever stored since, is held, or was given back.
+pub fn what_is_kept_balances<X>()
+    ensures kept { KeptBalances X }
+    ensures lives { LivesHold X }
 {}

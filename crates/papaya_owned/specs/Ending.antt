@@ -40,3 +40,7 @@ module _ {T X A : Type 0} (plan : X → Plan T (X × Progress A)) where
   -- some steps that go on lead to one that comes to this
   abbrev pub Strides : X → Mem T → Mem T → X × Progress A → Type 0
   Strides x m m2 end = (y : X) × (n : Mem T) × Leads x m y n × Steps Took value_at n (plan y) m2 end
+
+  -- It was run to its end, from this memory on.
+  abbrev pub HasEnded : Mem T → Mem T → Type 0
+  HasEnded m m2 = (x : X) × (y : X) × (result : Result A Fault) × Ends x m × RunsTo x m y m2 result

@@ -1,3 +1,4 @@
+pub mod Calling
 pub mod Ending
 pub mod Inside
 pub mod Looking

@@ -1,9 +1,9 @@
 -- A map is made.
-use Rattle.std.specs.Prelude.{◌≡◌, ℕ, ◌<◌, ◌^◌, max, nat_le, if◌then◌else◌, Bool, true, false, [], ◌∷◌, Some, Result, Ok, Err, IfOk, IfErr}
+use Rattle.std.specs.Prelude.{◌≡◌, ℕ, ◌<◌, ◌^◌, max, nat_le, if◌then◌else◌, Bool, true, false, [], ◌∷◌, ◌==◌, None, Some, Result, Ok, Err, IfOk, IfErr}
 use Rattle.std.specs.Int.{IsPowerOfTwo}
-use Rattle.std.proofs.Common.{refl, sym, ◌∙◌, subst, arith}
+use Rattle.std.proofs.Common.{refl, sym, ◌∙◌, ap, subst, arith}
 use Rattle.std.proofs.lemmas.Bool.{leb-true, leb-false}
-use Rattle.seize_words.specs.Mem.{Mem, word_at}
+use Rattle.seize_words.specs.Mem.{Mem, value_at, value_in, word_at}
 use Rattle.seize_words.specs.declared.at.At.TheVariants.{Root, Used}
 use Rattle.seize_words.specs.declared.fault.Fault.{Fault}
 use Rattle.seize_words.specs.declared.fault.Fault.TheVariants as fault
@@ -74,6 +74,13 @@ many_told places number why is = by (nat_le places (2 ^ 48)) refl is
 -- nothing has happened, and then the slot was taken
 pub nothing_happened : {K V : Type 0} (m : Mem (Node K V)) → m ≡ record { roots = 0 ∷ []; used = 0 ∷ []; slots = []; blocks = []; choices = [] } → IsHistory deferred_word 32 1 m nothing_yet
 nothing_happened {K} {V} m e = subst (λ (x : Mem (Node K V)). IsHistory deferred_word 32 1 x nothing_yet) (sym e) (histories_begin (deferred_word {K = K} {V = V}) 32 1)
+
+pub nothing_there : {K V : Type 0} (m : Mem (Node K V)) → m ≡ record { roots = 0 ∷ []; used = 0 ∷ []; slots = []; blocks = []; choices = [] } → (b : ℕ) → value_at m b ≡ None
+nothing_there {K} {V} m e b = ap (λ (x : Mem (Node K V)). value_at x b) e ∙ by (b == 0)
+  where
+    by : (t : Bool) → value_in {T = Node K V} (if t then None else None) ≡ None
+    by true = refl
+    by false = refl
 
 pub taken_inside : (slot : ℕ) → IsInside ((registered true slot nothing_yet).uses slot)
 taken_inside slot = subst IsInside (sym (with_here (λ s. Vacant) slot (Inside 0))) tt

@@ -35,6 +35,8 @@ use Rattle.papaya_resting.specs.Lasts.{IsPairOf, RestsWith, words_of_stop}
 use Rattle.papaya_resting.specs.declared.last.Last.{Last}
 use Rattle.papaya_owned.proofs.Owned.Refreshes.{refreshing_ends, refreshed, begins_refreshing}
 use Rattle.papaya_owned.proofs.Runs.Steps.{ends_on, may_step}
+use Rattle.papaya_holds.specs.Came.{NoneCame}
+use Rattle.papaya_holds.proofs.Runs.None.{refreshes_put_none}
 
 module _ {K V : Type 0} (same : K → K → Bool) (hash : K → ℕ) (setting : Setting) (m : Mem (Node K V)) (xs : List (K × V)) (h : Holds same hash setting m xs) (leave : Leave)
     (is : leave ≡ leaving setting.slot setting.batch_size ACTIVE false) where
@@ -64,9 +66,8 @@ module _ {K V : Type 0} (same : K → K → Bool) (hash : K → ℕ) (setting : 
 
   module _ (head : ℕ) (took : Took m (Swap (Slot setting.slot HEAD) ACTIVE) (Found head) n) where
     -- which names no entry
-    pub none_waits : head ≤ ACTIVE → Holds same hash setting n xs
-    none_waits le =
-        refresh_holds same hash setting m xs h begun refl (record { leave = standing begun leave_at.Over }) n (Ok tt)
+    passed : head ≤ ACTIVE → RunsTo plan_of (record { leave = begun }) m (record { leave = standing begun leave_at.Over }) n (Ok tt)
+    passed le =
         (goes (record { leave = begun }) m (record { leave = standing begun leave_at.Over }) n progress.Goes tt
         (Found head, took, by (nat_lt ACTIVE head) (false_from_ne_true (nat_lt ACTIVE head) (λ e. let l = ltb-true ACTIVE head e in omega (arith, l, le))))
         (record { leave = standing begun leave_at.Over }) n (Ok tt)
@@ -77,6 +78,12 @@ module _ {K V : Type 0} (same : K → K → Bool) (hash : K → ℕ) (setting : 
             (record { leave = standing begun leave_at.Over }, progress.Goes)
         by true e = absurd (true≢false e)
         by false e = refl
+
+    pub none_waits : head ≤ ACTIVE → Holds same hash setting n xs
+    none_waits le = refresh_holds same hash setting m xs h begun refl (record { leave = standing begun leave_at.Over }) n (Ok tt) (passed le)
+
+    pub none_came : head ≤ ACTIVE → NoneCame m n
+    none_came le = refreshes_put_none K V (record { leave = begun }) m ends (record { leave = standing begun leave_at.Over }) n (Ok tt) (passed le)
 
     -- or one, and is to be counted down
     module _ (some : ACTIVE < head) (settle : Settle) (is : settle ≡ counting_down setting.slot setting.batch_size head) where
@@ -98,6 +105,10 @@ module _ {K V : Type 0} (same : K → K → Bool) (hash : K → ℕ) (setting : 
       pub counted_holds : (x : Refreshes) (m2 : Mem (Node K V)) (result : Result Unit Fault) → RunsTo plan_of (counting settle) n x m2 result → Holds same hash setting m2 xs
       counted_holds x m2 result runs =
           refresh_holds same hash setting m xs h begun refl x m2 result (goes (record { leave = begun }) m (counting settle) n progress.Goes tt taken x m2 result runs)
+
+      pub counted_none : (x : Refreshes) (m2 : Mem (Node K V)) (result : Result Unit Fault) → RunsTo plan_of (counting settle) n x m2 result → NoneCame m m2
+      counted_none x m2 result runs =
+          refreshes_put_none K V (record { leave = begun }) m ends x m2 result (goes (record { leave = begun }) m (counting settle) n progress.Goes tt taken x m2 result runs)
 
 -- where there is none of these keys, none is taken out
 module _ {K V : Type 0} (keys : K → Bool) where

@@ -1,4 +1,5 @@
 pub mod Asking
 pub mod Calls
+pub mod Held
 pub mod Lasts
 pub mod Storing

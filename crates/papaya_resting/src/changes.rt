@@ -1,6 +1,8 @@
 //! Refreshes of the owner's section, and removals. Each change begins with a refresh.
-ghost use Rattle.std.specs.Prelude.{◌≡◌, List, None, is_some, IfErr, IfOk, OnOk, OnErr};
+ghost use Rattle.std.specs.Prelude.{◌≡◌, List, [], None, is_some, IfErr, IfOk, OnOk, OnErr};
 ghost use Rattle.papaya_late.specs.Faults.{IsRoom};
+ghost use Rattle.papaya_holds.specs.Came.{NoneCame};
+ghost use Rattle.papaya_holds.specs.Held.{HoldsOn, held_in};
 ghost use Rattle.papaya_owned.specs.Owned.{Holds, found_by, hashed_by, left_by};
 ghost use Rattle.papaya_resting.specs.Calls.{has_removed};
 ghost use Rattle.papaya_resting.specs.Lasts.{RestsWith};
@@ -21,8 +23,9 @@ pub fn refresh<K: Eq + Hash + Drop, V: Drop, S: BuildHasher>(
     _hasher: &S,
 )
     requires { (xs : List (K × V)) × Holds K.eq (hashed_by S.Hasher.finish S.Hasher.write S.build_hasher K.hash_input _hasher.now) setting memory.old xs }
-    ensures { (xs : List (K × V)) → Holds K.eq (hashed_by S.Hasher.finish S.Hasher.write S.build_hasher K.hash_input _hasher.now) setting memory.old xs
+    ensures holds { (xs : List (K × V)) → Holds K.eq (hashed_by S.Hasher.finish S.Hasher.write S.build_hasher K.hash_input _hasher.now) setting memory.old xs
         → Holds K.eq (hashed_by S.Hasher.finish S.Hasher.write S.build_hasher K.hash_input _hasher.now) setting memory.new xs }
+    ensures none { NoneCame memory.old memory.new }
 {
     let head = memory.swap(At::Slot(setting.slot, HEAD), ACTIVE);
     if head <= ACTIVE {
@@ -62,6 +65,8 @@ pub fn remove<K: Eq + Hash + Drop, V: Drop, Q: Equivalent<K>, S: BuildHasher>(
     ensures refused { (xs : List (K × V)) → Holds K.eq (hashed_by S.Hasher.finish S.Hasher.write S.build_hasher K.hash_input hasher.now) setting memory.old xs
         → OnErr result (RestsWith K.eq (hashed_by S.Hasher.finish S.Hasher.write S.build_hasher K.hash_input hasher.now) setting memory.new last.new xs None None) }
     ensures fault { IfErr result IsRoom }
+    ensures keeps { (xs : List (K × V)) → Holds K.eq (hashed_by S.Hasher.finish S.Hasher.write S.build_hasher K.hash_input hasher.now) setting memory.old xs
+        → HoldsOn [] xs (held_in memory.old) (held_in memory.new) }
 {
     refresh(memory, setting, hasher);
     *last = Last::NONE;

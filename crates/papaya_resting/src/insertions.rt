@@ -3,9 +3,12 @@ ghost use Rattle.std.specs.Prelude.{◌≡◌, true, false, List, [], ◌∷◌,
 ghost use Rattle.papaya_callers.specs.Kind.{Kind};
 ghost use Rattle.papaya_late.specs.Faults.{IsRoom};
 ghost use Rattle.papaya_tables.specs.declared.node.Node.TheVariants as node;
+ghost use Rattle.papaya_holds.specs.Held.{HoldsOn, held_in};
+ghost use Rattle.papaya_owned.specs.Calling.{HasStopped};
 ghost use Rattle.papaya_owned.specs.Owned.{Holds, EndsBy, ComesBack, found_by, hashed_by, left_by};
 ghost use Rattle.papaya_resting.specs.Storing.{storing};
 ghost use Rattle.papaya_resting.specs.Calls.{StoresPair, has_found, has_replaced};
+ghost use Rattle.papaya_resting.specs.Held.{if_stored, if_tried};
 ghost use Rattle.papaya_resting.specs.Lasts.{RestsWith};
 
 use crate::changes::refresh;
@@ -34,6 +37,8 @@ fn store<K: Eq + Hash + Drop, V: Drop, S: BuildHasher>(
         → EndsBy K.eq (hashed_by S.Hasher.finish S.Hasher.write S.build_hasher K.hash_input hasher.now) setting memory.new kind (Some (node.Pair k v)) (K.eq k) xs result.0 }
     ensures back { (xs : List (K × V)) (kind : Kind) (k : K) (v : V) → Holds K.eq (hashed_by S.Hasher.finish S.Hasher.write S.build_hasher K.hash_input hasher.now) setting memory.old xs
         → StoresPair (hashed_by S.Hasher.finish S.Hasher.write S.build_hasher K.hash_input hasher.now) setting k v kind (storing setting hasher.entry hash there key value).call → ComesBack (Some (node.Pair k v)) result.0 result.1 }
+    ensures ran { (kind : Kind) (k : K) (v : V) → StoresPair (hashed_by S.Hasher.finish S.Hasher.write S.build_hasher K.hash_input hasher.now) setting k v kind (storing setting hasher.entry hash there key value).call
+        → HasStopped K.eq K.eq (hashed_by S.Hasher.finish S.Hasher.write S.build_hasher K.hash_input) hasher.entry setting memory.old memory.new result.0 }
 {
     crate::storing::store(memory, setting, hasher, hash, there, key, value)
 }
@@ -96,6 +101,8 @@ pub fn insert<K: Eq + Hash + Drop, V: Drop, S: BuildHasher>(
         → OnErr result (RestsWith K.eq (hashed_by S.Hasher.finish S.Hasher.write S.build_hasher K.hash_input hasher.now) setting memory.new last.new xs None None) }
     ensures back { IfErr result (λ r. (r.key ≡ key) × (r.value ≡ value)) }
     ensures fault { IfErr result (λ r. IsRoom r.fault) }
+    ensures keeps { (xs : List (K × V)) → Holds K.eq (hashed_by S.Hasher.finish S.Hasher.write S.build_hasher K.hash_input hasher.now) setting memory.old xs
+        → HoldsOn (if_stored result (key, value)) xs (held_in memory.old) (held_in memory.new) }
 {
     refresh(memory, setting, hasher);
     *last = Last::NONE;
@@ -128,6 +135,8 @@ pub fn try_insert<K: Eq + Hash + Drop, V: Drop, S: BuildHasher>(
         → OnErr result (RestsWith K.eq (hashed_by S.Hasher.finish S.Hasher.write S.build_hasher K.hash_input hasher.now) setting memory.new last.new xs None None) }
     ensures back { IfErr result (λ r. (r.key ≡ key) × (r.value ≡ value)) }
     ensures fault { IfErr result (λ r. IsRoom r.fault) }
+    ensures keeps { (xs : List (K × V)) → Holds K.eq (hashed_by S.Hasher.finish S.Hasher.write S.build_hasher K.hash_input hasher.now) setting memory.old xs
+        → HoldsOn (if_tried result (key, value)) xs (held_in memory.old) (held_in memory.new) }
 {
     refresh(memory, setting, hasher);
     *last = Last::NONE;

@@ -1,13 +1,14 @@
 //! How a map is made in a memory in which nothing else has happened.
-ghost use Rattle.std.specs.Prelude.{◌≡◌, max, [], IfOk, IfErr, OnOk, Some};
+ghost use Rattle.std.specs.Prelude.{◌≡◌, ℕ, max, [], IfOk, IfErr, OnOk, None, Some};
 ghost use Rattle.std.specs.Int.{IsPowerOfTwo};
-ghost use Rattle.seize_words.specs.Mem.{word_at};
+ghost use Rattle.seize_words.specs.Mem.{value_at, word_at};
 ghost use Rattle.seize_words.specs.declared.at.At.TheVariants.{Root, Used};
 ghost use Rattle.seize_words.specs.declared.fault.Fault.TheVariants.{Capacity, Memory};
 ghost use Rattle.seize.specs.World.{IsInside};
 ghost use Rattle.seize_alone.specs.Alone.{History, IsHistory};
 ghost use Rattle.papaya_tables.specs.Lengths.{IsTableLen};
 ghost use Rattle.papaya_tables.specs.Nodes.{deferred_word};
+ghost use Rattle.papaya_holds.specs.Held.{held_in};
 ghost use Rattle.papaya_owned.specs.Owned.{Holds, hashed_by};
 ghost use Rattle.papaya_owned.specs.Rooms.{AreTooMany};
 
@@ -48,6 +49,7 @@ pub fn begin<K: Eq + Hash + Drop, V: Drop, S: BuildHasher>(
     requires table { IsTableLen (max places 8) }
     ensures held { IfOk result (λ setting. Holds K.eq (hashed_by S.Hasher.finish S.Hasher.write S.build_hasher K.hash_input _hasher.now) setting memory.new []) }
     ensures fault { IfErr result (λ fault. fault ≡ Memory) }
+    ensures bare { ((b : ℕ) → value_at memory.old b ≡ None) → held_in memory.new ≡ [] }
 {
     let setting = Setting {
         slot,

@@ -1,6 +1,7 @@
 //! What goes over all pairs, and removes them, each after a refresh.
 ghost use Rattle.std.specs.Prelude.{List, [], IfErr, OnOk, OnErr};
 ghost use Rattle.papaya_late.specs.Faults.{IsRoom};
+ghost use Rattle.papaya_holds.specs.Held.{HoldsOn, held_in};
 ghost use Rattle.papaya_owned.specs.Owned.{Holds, hashed_by};
 ghost use Rattle.papaya_sifts.specs.Retaining.{KeepsOf};
 
@@ -23,6 +24,8 @@ pub fn clear<K: Eq + Hash + Drop, V: Drop, S: BuildHasher>(
     ensures refused { (xs : List (K × V)) → Holds K.eq (hashed_by S.Hasher.finish S.Hasher.write S.build_hasher K.hash_input hasher.now) setting memory.old xs
         → OnErr result (Holds K.eq (hashed_by S.Hasher.finish S.Hasher.write S.build_hasher K.hash_input hasher.now) setting memory.new xs) }
     ensures fault { IfErr result IsRoom }
+    ensures keeps { (xs : List (K × V)) → Holds K.eq (hashed_by S.Hasher.finish S.Hasher.write S.build_hasher K.hash_input hasher.now) setting memory.old xs
+        → HoldsOn [] xs (held_in memory.old) (held_in memory.new) }
 {
     refresh(memory, setting, hasher);
     empty(memory, setting, hasher)
@@ -42,6 +45,8 @@ pub fn retain<K: Eq + Hash + Drop, V: Drop, S: BuildHasher, F: FnMut(&K, &V) -> 
     ensures refused { (xs : List (K × V)) → Holds K.eq (hashed_by S.Hasher.finish S.Hasher.write S.build_hasher K.hash_input hasher.now) setting memory.old xs
         → OnErr result (Holds K.eq (hashed_by S.Hasher.finish S.Hasher.write S.build_hasher K.hash_input hasher.now) setting memory.new xs) }
     ensures fault { IfErr result IsRoom }
+    ensures keeps { (xs : List (K × V)) → Holds K.eq (hashed_by S.Hasher.finish S.Hasher.write S.build_hasher K.hash_input hasher.now) setting memory.old xs
+        → HoldsOn [] xs (held_in memory.old) (held_in memory.new) }
 {
     refresh(memory, setting, hasher);
     let pairs = count(memory, setting, hasher);

@@ -9,7 +9,8 @@ use Rattle.std.proofs.Common.{◌≡◌, Bool, true, false, cond, not, List, [],
 use Rattle.std.proofs.lemmas.List.{map-append}
 use Rattle.std.proofs.lemmas.List.Sorted.{IsPermutation-trans, IsPermutation-append_left, IsPermutation-map}
 use Rattle.papaya_seq_map.specs.Given.{AskedAlong, IsCloneOf, KeepsOf, PutsClones, found_by, left_by, put, put_all}
-use Rattle.papaya_seq.specs.Sets.{KeepsElements, PutsElementClones, left_in, put_in, put_all_in}
+use Rattle.papaya_seq_map.specs.Maps.{Keeps, Map}
+use Rattle.papaya_seq.specs.Sets.{KeepsElements, KeepsIn, PutsElementClones, left_in, put_in, put_all_in, set_of}
 use Rattle.papaya_seq_map.proofs.Given.{kept_in_any_order}
 
 -- what was not there is new
@@ -55,6 +56,22 @@ module _ {K V : Type 0} where
 
   pub keys_in_order : (xs ys : List (K × V)) → IsPermutation xs ys → IsPermutation (keys_of xs) (keys_of ys)
   keys_in_order xs ys order = IsPermutation-map (λ x. x.0) xs ys order
+
+  -- what is kept of what was held
+  pub keys_held : {S : Type 0} (stored : List (K × V)) (before after : Map K V S) → Keeps stored before after → KeepsIn (keys_of stored) (set_of before) (set_of after)
+  keys_held stored before after (waiting, given, was, is) = (
+    keys_of waiting,
+    keys_of given,
+    subst (IsPermutation (keys_of before.held)) (map-append (λ (x : K × V). x.0) before.pairs (waiting ++ given) ∙ ap (λ l. keys_of before.pairs ++ l) (map-append (λ (x : K × V). x.0) waiting given))
+        (keys_in_order before.held (before.pairs ++ (waiting ++ given)) was),
+    subst (IsPermutation (keys_of after.held)) (map-append (λ (x : K × V). x.0) stored (before.pairs ++ waiting) ∙ ap (λ l. keys_of stored ++ l) (map-append (λ (x : K × V). x.0) before.pairs waiting))
+        (keys_in_order after.held (stored ++ (before.pairs ++ waiting)) is),
+  )
+
+  -- the elements of a set are among what is held
+  pub keys_among : {S : Type 0} (map : Map K V S) → (waiting : List (K × V)) × IsPermutation map.held (map.pairs ++ waiting) → (waiting : List K) × IsPermutation (keys_of map.held) (keys_of map.pairs ++ waiting)
+  keys_among map (waiting, is) =
+      (keys_of waiting, subst (IsPermutation (keys_of map.held)) (map-append (λ (x : K × V). x.0) map.pairs waiting) (keys_in_order map.held (map.pairs ++ waiting) is))
 
   keys_kept : (test : K → Bool) (xs : List (K × V)) → keys_of (filter (λ x. test x.0) xs) ≡ filter test (keys_of xs)
   keys_kept test [] = refl

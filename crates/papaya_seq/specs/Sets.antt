@@ -6,7 +6,7 @@ use Rattle.std.specs.Iterator.{Drains, Yields}
 use Rattle.std.specs.List.{AllZip, FoldsTo}
 use Rattle.std.specs.List.Sorted.{IsPermutation}
 use Rattle.std.specs.Map.{keys_of}
-use Rattle.papaya_seq_map.specs.Given.{RefusedKey}
+use Rattle.papaya_seq_map.specs.Given.{HoldsOn, RefusedKey}
 use Rattle.papaya_seq_map.specs.Maps.{Map}
 
 -- The value of a set: its elements, its hasher, and two elements that can be looked at until the next change. Which order the elements are in, a walk tells alone.
@@ -17,14 +17,21 @@ pub record Set (K S : Type 0) : Type 0 where
   pub taken : Option K
   -- the element that the last change put in
   pub met : Option K
+  -- all elements that its memory has: those of the set, and those that left it and were not given back
+  pub held : List K
 
 -- the set of a map's keys
 abbrev pub set_of : {K V S : Type 0} → Map K V S → Set K S
-set_of m = record { elements = keys_of m.pairs; hasher = m.hasher; taken = option_map (λ x. x.0) m.taken; met = option_map (λ x. x.0) m.met }
+set_of m = record { elements = keys_of m.pairs; hasher = m.hasher; taken = option_map (λ x. x.0) m.taken; met = option_map (λ x. x.0) m.met; held = keys_of m.held }
 
 -- the last change took this element out of the set, or none, and put this one in, or none
 abbrev pub LastTookOut : {K S : Type 0} → Set K S → Option K → Option K → Type 0
 LastTookOut set taken met = (set.taken ≡ taken) × (set.met ≡ met)
+
+-- A change has stored these elements. What the set had before it is held still, also what left the set by it; of what was held beside that some waits still, and
+-- the rest was given back. Nothing else is held but what was stored.
+abbrev pub KeepsIn : {K S : Type 0} → List K → Set K S → Set K S → Type 0
+KeepsIn stored before after = HoldsOn stored before.elements before.held after.held
 
 -- all elements but those that pass
 abbrev pub left_in : {K : Type 0} → (K → Bool) → List K → List K

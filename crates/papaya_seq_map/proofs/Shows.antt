@@ -4,7 +4,7 @@ use Rattle.std.specs.List.{IsDistinct}
 use Rattle.std.specs.List.Sorted.{IsPermutation}
 use Rattle.std.specs.Map.{keys_of}
 use Rattle.std.proofs.Common.{◌≡◌, ℕ, Bool, List, [], ◌++◌, Option, Some, Result, Ok, Err, length, filter, ap, sym, subst, ◌∙◌}
-use Rattle.std.proofs.lemmas.List.Sorted.{IsPermutation-refl, IsPermutation-sym, IsPermutation-trans, IsPermutation-append_left, length_permutation}
+use Rattle.std.proofs.lemmas.List.Sorted.{IsPermutation-refl, IsPermutation-sym, IsPermutation-trans, IsPermutation-append_left, IsPermutation-append_right, length_permutation}
 use Rattle.seize_words.specs.declared.at.At.TheVariants.{Root}
 use Rattle.seize_words.specs.Mem.{Mem, word_at}
 use Rattle.papaya_tables.specs.declared.node.Node.{Node}
@@ -12,17 +12,16 @@ use Rattle.papaya_tables.specs.declared.setting.Setting.{Setting}
 use Rattle.papaya_tables.specs.Chunks.{is_incremental}
 use Rattle.papaya_rule.specs.Words.{root_word}
 use Rattle.papaya_whole.proofs.Contents.Below.{one_each_below}
-use Rattle.papaya_shown.specs.Chain.{CountsTables, HasTables, counts_tables_prop, pairs_from_root, pairs_on, root_link, word_or_none}
+use Rattle.papaya_shown.specs.Chain.{CountsTables, HasTables, pairs_from_root, pairs_on, root_link, word_or_none}
 use Rattle.papaya_shown.specs.Shown.{NoneMoves, Stands, pairs_stored}
 use Rattle.papaya_shown.proofs.Chains.{root_counts, all_shown}
 use denote.Ref.{Bor}
 use Rattle.std.specs.Fn.{Mut}
+use Rattle.papaya_holds.specs.Held.{HoldsOn}
 use Rattle.papaya_owned.specs.Owned.{Holds, found_by}
 use Rattle.papaya_sifts.specs.Retaining.{AnswersByTest, KeepsOf}
 use Rattle.papaya_sifts.proofs.Over.Questions.{keeps_by_test}
 use Rattle.papaya_owned.proofs.Walks.{holds_stands, holds_moves_none, holds_pairs}
-use Rattle.papaya_resting.specs.Lasts.{pair_in}
-use Rattle.papaya_resting.specs.declared.last.Last.{Last}
 use Rattle.papaya_seq_map.specs.Maps.{Map, pairs_shown}
 use Rattle.papaya_pairs.specs.Orders.{IsOneClass}
 use Rattle.papaya_pairs.proofs.Orders.{apart_each, apart_same, found_same, keeps_same, kept_in_any_order, none_left}
@@ -60,7 +59,7 @@ module _ {K V : Type 0} (same : K → K → Bool) (hash : K → ℕ) (setting : 
     shown_as ys order = IsPermutation-trans pairs xs ys shown order
 
     -- as a caller sees it
-    module _ {S : Type 0} (hasher : S) (taken met : Option (K × V)) (map : Map K V S) (is : ◌≡◌ {A = Map K V S} (record { pairs = pairs; hasher = hasher; taken = taken; met = met }) map) where
+    module _ {S : Type 0} {held : List (K × V)} (hasher : S) (taken met : Option (K × V)) (map : Map K V S) (is : ◌≡◌ {A = Map K V S} (record { pairs = pairs; hasher = hasher; taken = taken; met = met; held = held }) map) where
       its_pairs : pairs ≡ map.pairs
       its_pairs = ap (λ (x : Map K V S). x.pairs) is
 
@@ -69,6 +68,23 @@ module _ {K V : Type 0} (same : K → K → Bool) (hash : K → ℕ) (setting : 
 
       pub seen_held : IsPermutation xs map.pairs
       seen_held = IsPermutation-sym map.pairs xs seen
+
+      its_held : held ≡ map.held
+      its_held = ap (λ (x : Map K V S). x.held) is
+
+      -- what is kept of what was held
+      pub seen_keeps : (stored after : List (K × V)) → HoldsOn stored xs held after → HoldsOn stored map.pairs map.held after
+      seen_keeps stored after (waiting, given, before, later) = (
+        waiting,
+        given,
+        IsPermutation-trans map.held (xs ++ (waiting ++ given)) (map.pairs ++ (waiting ++ given)) (subst (λ (l : List (K × V)). IsPermutation l (xs ++ (waiting ++ given))) its_held before)
+            (IsPermutation-append_left (waiting ++ given) xs map.pairs seen_held),
+        IsPermutation-trans after (stored ++ (xs ++ waiting)) (stored ++ (map.pairs ++ waiting)) later
+            (IsPermutation-append_right stored (xs ++ waiting) (map.pairs ++ waiting) (IsPermutation-append_left waiting xs map.pairs seen_held)),
+      )
+
+      pub seen_among : HoldsOn [] xs held held → (waiting : List (K × V)) × IsPermutation map.held (map.pairs ++ waiting)
+      seen_among on = let k = seen_keeps [] held on in (k.0 ++ k.1, k.2)
 
       pub seen_as_many : length xs ≡ length map.pairs
       seen_as_many = length_permutation map.pairs xs seen

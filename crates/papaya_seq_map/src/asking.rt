@@ -6,7 +6,8 @@ ghost use Rattle.papaya_asks.specs.Closures.{Updating, UpdatingOrStoring, Storin
 ghost use Rattle.papaya_late.specs.Faults.{IsRoom};
 ghost use Rattle.papaya_owned.specs.Owned.{found_by};
 ghost use Rattle.papaya_resting.specs.Asking.{HasDone};
-ghost use Rattle.papaya_seq_map.specs.Maps.{HasNow};
+ghost use Rattle.papaya_resting.specs.Held.{stored_in};
+ghost use Rattle.papaya_seq_map.specs.Maps.{HasNow, Keeps};
 
 use crate::map::HashMap;
 use papaya_asks::{Refused, RefusedKey};
@@ -23,6 +24,7 @@ impl<K: Eq + Hash + Drop, V: Drop, S: BuildHasher> HashMap<K, V, S> {
         ensures fault { IfErr result (λ r. IsRoom r.fault) }
         ensures back { IfErr result (λ r. r.key ≡ key) }
         ensures hasher { self.new.hasher ≡ self.old.hasher }
+        ensures keeps { Keeps (stored_in result self.new.met) self.old self.new }
     {
         papaya_resting::update(
             &mut self.resting.memory,
@@ -49,6 +51,7 @@ impl<K: Eq + Hash + Drop, V: Drop, S: BuildHasher> HashMap<K, V, S> {
         ensures fault { IfErr result (λ r. IsRoom r.fault) }
         ensures back { IfErr result (λ r. r.key ≡ key) }
         ensures hasher { self.new.hasher ≡ self.old.hasher }
+        ensures keeps { Keeps (stored_in result self.new.met) self.old self.new }
     {
         papaya_resting::update_or_insert_with(
             &mut self.resting.memory,
@@ -74,6 +77,7 @@ impl<K: Eq + Hash + Drop, V: Drop, S: BuildHasher> HashMap<K, V, S> {
         ensures fault { IfErr result (λ r. IsRoom r.fault) }
         ensures back { IfErr result (λ r. r.key ≡ key) }
         ensures hasher { self.new.hasher ≡ self.old.hasher }
+        ensures keeps { Keeps (stored_in result self.new.met) self.old self.new }
     {
         papaya_resting::try_insert_with(
             &mut self.resting.memory,
@@ -100,6 +104,7 @@ impl<K: Eq + Hash + Drop, V: Drop, S: BuildHasher> HashMap<K, V, S> {
         ensures fault { IfErr result (λ r. IsRoom r.fault) }
         ensures back { IfErr result (λ r. (r.key ≡ key) × (r.value ≡ value)) }
         ensures hasher { self.new.hasher ≡ self.old.hasher }
+        ensures keeps { Keeps (stored_in result self.new.met) self.old self.new }
     {
         papaya_resting::update_or_insert(
             &mut self.resting.memory,

@@ -1,11 +1,11 @@
 //! Removals from a map for one owner. Each change begins with a refresh.
-ghost use Rattle.std.specs.Prelude.{◌≡◌, None, is_some, option_map, IfErr, IfOk, OnOk, OnErr, MatchResult};
+ghost use Rattle.std.specs.Prelude.{◌≡◌, [], None, is_some, option_map, IfErr, IfOk, OnOk, OnErr, MatchResult};
 ghost use Rattle.std.specs.Borrow.{sem};
 ghost use Rattle.std.specs.List.Sorted.{IsPermutation};
 ghost use Rattle.std.specs.Option.{option_copied};
 ghost use Rattle.papaya_late.specs.Faults.{IsRoom};
 ghost use Rattle.papaya_owned.specs.Owned.{found_by, left_by};
-ghost use Rattle.papaya_seq_map.specs.Maps.{HasNow, LastTook};
+ghost use Rattle.papaya_seq_map.specs.Maps.{HasNow, Keeps, LastTook};
 
 use crate::map::HashMap;
 use papaya_tables::Equivalent;
@@ -24,6 +24,7 @@ pub fn take<K: Eq + Hash + Drop, V: Drop, S: BuildHasher, Q: Equivalent<K>>(
     ensures last { MatchResult result (λ _. LastTook map.new (found_by (Q.Equivalent.equivalent asked.now) map.old.pairs) None) (λ _. LastTook map.new None None) }
     ensures fault { IfErr result IsRoom }
     ensures hasher { map.new.hasher ≡ map.old.hasher }
+    ensures keeps { Keeps [] map.old map.new }
 {
     papaya_resting::remove(
         &mut map.resting.memory,
@@ -40,7 +41,7 @@ impl<K: Eq + Hash + Drop, V: Drop, S: BuildHasher> HashMap<K, V, S> {
     /// Removes the pair of a key, and answers its value, which can be looked at until the next change, if the key was in the map. The faults are
     /// `Fault::Capacity` and `Fault::Memory`; then no pair has changed.
     pub fn remove<Q: Equivalent<K>>(&mut self, asked: &Q) -> Result<Option<&V>, Fault>
-        ensures* after { sem 𝓛 (EndsSo K.row V.row S.row S.Hasher.row K.Hash S.BuildHasher S.Hasher.Hasher self.entry (λ map. MatchResult result (λ _. HasNow map (left_by (Q.Equivalent.equivalent asked.now) self.old.pairs) (found_by (Q.Equivalent.equivalent asked.now) self.old.pairs) None) (λ _. HasNow map self.old.pairs None None) × (map.hasher ≡ self.old.hasher))) }
+        ensures* after { sem 𝓛 (EndsSo K.row V.row S.row S.Hasher.row K.Hash S.BuildHasher S.Hasher.Hasher self.entry (λ map. MatchResult result (λ _. HasNow map (left_by (Q.Equivalent.equivalent asked.now) self.old.pairs) (found_by (Q.Equivalent.equivalent asked.now) self.old.pairs) None) (λ _. HasNow map self.old.pairs None None) × (map.hasher ≡ self.old.hasher) × Keeps [] self.old map)) }
         ensures value { IfOk result (λ was. option_copied was ≡ option_map (λ x. x.1) (found_by (Q.Equivalent.equivalent asked.now) self.old.pairs)) }
         ensures fault { IfErr result IsRoom }
     {
@@ -56,7 +57,7 @@ impl<K: Eq + Hash + Drop, V: Drop, S: BuildHasher> HashMap<K, V, S> {
     /// Removes the pair of a key, and answers it, to be looked at until the next change, if the key was in the map. The faults are
     /// `Fault::Capacity` and `Fault::Memory`; then no pair has changed.
     pub fn remove_entry<Q: Equivalent<K>>(&mut self, asked: &Q) -> Result<Option<(&K, &V)>, Fault>
-        ensures* after { sem 𝓛 (EndsSo K.row V.row S.row S.Hasher.row K.Hash S.BuildHasher S.Hasher.Hasher self.entry (λ map. MatchResult result (λ _. HasNow map (left_by (Q.Equivalent.equivalent asked.now) self.old.pairs) (found_by (Q.Equivalent.equivalent asked.now) self.old.pairs) None) (λ _. HasNow map self.old.pairs None None) × (map.hasher ≡ self.old.hasher))) }
+        ensures* after { sem 𝓛 (EndsSo K.row V.row S.row S.Hasher.row K.Hash S.BuildHasher S.Hasher.Hasher self.entry (λ map. MatchResult result (λ _. HasNow map (left_by (Q.Equivalent.equivalent asked.now) self.old.pairs) (found_by (Q.Equivalent.equivalent asked.now) self.old.pairs) None) (λ _. HasNow map self.old.pairs None None) × (map.hasher ≡ self.old.hasher) × Keeps [] self.old map)) }
         ensures pair { IfOk result (λ was. option_map (λ x. (x.0.now, x.1.now)) was ≡ found_by (Q.Equivalent.equivalent asked.now) self.old.pairs) }
         ensures fault { IfErr result IsRoom }
     {

@@ -3,7 +3,8 @@ ghost use Rattle.std.specs.Prelude.{◌≡◌, None, Some, IfOk, IfErr, OnErr};
 ghost use Rattle.papaya_asks.specs.Closures.{Computing, ComputesAs, ComputingTakes};
 ghost use Rattle.papaya_owned.specs.Owned.{found_by};
 ghost use Rattle.papaya_resting.specs.Asking.{HasComputed, IsRefusedFor};
-ghost use Rattle.papaya_seq_map.specs.Maps.{HasNow};
+ghost use Rattle.papaya_resting.specs.Held.{stored_computing};
+ghost use Rattle.papaya_seq_map.specs.Maps.{HasNow, Keeps};
 
 use crate::map::HashMap;
 use papaya_asks::{Operation, RefusedKey};
@@ -25,6 +26,7 @@ impl<K: Eq + Hash + Drop, V: Drop, S: BuildHasher> HashMap<K, V, S> {
         ensures fault { IfErr result (λ r. IsRefusedFor (K.eq key) (Computing (ComputesAs F.FnOnce decide)) self.old.pairs r.fault) }
         ensures back { IfErr result (λ r. r.key ≡ key) }
         ensures hasher { self.new.hasher ≡ self.old.hasher }
+        ensures keeps { Keeps (stored_computing result self.new.met) self.old self.new }
     {
         papaya_resting::compute(
             &mut self.resting.memory,

@@ -1,16 +1,18 @@
 //! How many pairs a map for one owner has.
-ghost use Rattle.std.specs.Prelude.{◌≡◌, ◌==◌, length};
+ghost use Rattle.std.specs.Prelude.{◌≡◌, ◌==◌, ◌++◌, List, length};
 ghost use Rattle.std.specs.List.{IsDistinct};
+ghost use Rattle.std.specs.List.Sorted.{IsPermutation};
 ghost use Rattle.std.specs.Map.{keys_of};
 
 use crate::map::HashMap;
 use std::hash::{BuildHasher, Hash};
 
 impl<K: Eq + Hash, V, S: BuildHasher> HashMap<K, V, S> {
-    /// How many pairs it has. No two of them have equal keys.
+    /// How many pairs it has. No two of them have equal keys, and all are held, beside those that wait.
     pub fn len(&self) -> u64
         ensures len { result ≡ length self.now.pairs }
         ensures apart { IsDistinct K.eq (keys_of self.now.pairs) }
+        ensures held { (waiting : List (K × V)) × IsPermutation self.now.held (self.now.pairs ++ waiting) }
     {
         papaya_resting::count(&self.resting.memory, self.resting.setting, &self.hasher)
     }

@@ -2,6 +2,7 @@
 ghost use Rattle.std.specs.Prelude.{◌≡◌, List, [], IfOk, IfErr};
 ghost use Rattle.std.specs.Iterator.{Drains, IsFiniteIterable};
 ghost use Rattle.std.specs.List.Sorted.{IsPermutation};
+ghost use Rattle.papaya_holds.specs.Held.{Balanced};
 ghost use Rattle.papaya_late.specs.Faults.{IsRoom};
 ghost use Rattle.papaya_pairs.specs.Puts.{PutsItems, put_all};
 
@@ -17,6 +18,7 @@ impl<K: Eq + Hash + Drop, V: Drop, S: BuildHasher> HashMap<K, V, S> {
     pub fn extend<I: IntoIterator<Item = (K, V)>>(&mut self, items: I) -> Result<(), Refused<K, V>>
         requires { IsFiniteIterable I.into_iter_gives I.IntoIter.can_next I.IntoIter.remaining items }
         ensures put { PutsItems K.eq I.into_iter_gives I.IntoIter.next_gives items self.old.pairs self.new.pairs result }
+        ensures balances { (stored : List (K × V)) × IsPermutation self.new.pairs (put_all K.eq self.old.pairs stored) × Balanced stored self.old.held self.new.held }
         ensures fault { IfErr result (λ r. IsRoom r.fault) }
         ensures hasher { self.new.hasher ≡ self.old.hasher }
     {

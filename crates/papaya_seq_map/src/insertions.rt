@@ -3,7 +3,8 @@ ghost use Rattle.std.specs.Prelude.{◌≡◌, [], ◌∷◌, ◌++◌, None, So
 ghost use Rattle.std.specs.List.Sorted.{IsPermutation};
 ghost use Rattle.papaya_late.specs.Faults.{IsRoom};
 ghost use Rattle.papaya_owned.specs.Owned.{found_by, left_by};
-ghost use Rattle.papaya_seq_map.specs.Maps.{LastTook};
+ghost use Rattle.papaya_resting.specs.Held.{if_stored, if_tried};
+ghost use Rattle.papaya_seq_map.specs.Maps.{Keeps, LastTook};
 
 use crate::map::HashMap;
 use papaya_asks::Refused;
@@ -21,6 +22,7 @@ impl<K: Eq + Hash + Drop, V: Drop, S: BuildHasher> HashMap<K, V, S> {
         ensures back { IfErr result (λ r. (r.key ≡ key) × (r.value ≡ value)) }
         ensures fault { IfErr result (λ r. IsRoom r.fault) }
         ensures hasher { self.new.hasher ≡ self.old.hasher }
+        ensures keeps { Keeps (if_stored result (key, value)) self.old self.new }
     {
         papaya_resting::insert(
             &mut self.resting.memory,
@@ -43,6 +45,7 @@ impl<K: Eq + Hash + Drop, V: Drop, S: BuildHasher> HashMap<K, V, S> {
         ensures back { IfErr result (λ r. (r.key ≡ key) × (r.value ≡ value)) }
         ensures fault { IfErr result (λ r. IsRoom r.fault) }
         ensures hasher { self.new.hasher ≡ self.old.hasher }
+        ensures keeps { Keeps (if_tried result (key, value)) self.old self.new }
     {
         papaya_resting::try_insert(
             &mut self.resting.memory,

@@ -16,6 +16,7 @@ impl<K: Eq + Hash + Drop, V: Drop, S: BuildHasher + Default + Drop> HashMap<K, V
     pub fn new(alloc: Global) -> Result<Self, Fault>
         ensures pairs { IfOk result (λ map. map.pairs ≡ []) }
         ensures last { IfOk result (λ map. LastTook map None None) }
+        ensures held { IfOk result (λ map. map.held ≡ []) }
         ensures fault { IfErr result (λ fault. fault ≡ Memory) }
     {
         HashMap::with_hasher(alloc, S::default())
@@ -25,6 +26,7 @@ impl<K: Eq + Hash + Drop, V: Drop, S: BuildHasher + Default + Drop> HashMap<K, V
     pub fn with_capacity(alloc: Global, capacity: u64) -> Result<Self, Fault>
         ensures pairs { IfOk result (λ map. map.pairs ≡ []) }
         ensures last { IfOk result (λ map. LastTook map None None) }
+        ensures held { IfOk result (λ map. map.held ≡ []) }
         ensures few { OnOk result (AreTooMany capacity → ⊥) }
         ensures fault { IfErr result (IsUnmade capacity) }
     {
@@ -37,6 +39,7 @@ impl<K: Eq + Hash + Drop, V: Drop, S: BuildHasher + Drop> HashMap<K, V, S> {
     pub fn with_hasher(alloc: Global, hasher: S) -> Result<Self, Fault>
         ensures pairs { IfOk result (λ map. map.pairs ≡ []) }
         ensures last { IfOk result (λ map. LastTook map None None) }
+        ensures held { IfOk result (λ map. map.held ≡ []) }
         ensures fault { IfErr result (λ fault. fault ≡ Memory) }
         ensures hasher { IfOk result (λ map. map.hasher ≡ hasher) }
     {
@@ -48,6 +51,7 @@ impl<K: Eq + Hash + Drop, V: Drop, S: BuildHasher + Drop> HashMap<K, V, S> {
     pub fn with_capacity_and_hasher(alloc: Global, capacity: u64, hasher: S) -> Result<Self, Fault>
         ensures pairs { IfOk result (λ map. map.pairs ≡ []) }
         ensures last { IfOk result (λ map. LastTook map None None) }
+        ensures held { IfOk result (λ map. map.held ≡ []) }
         ensures few { OnOk result (AreTooMany capacity → ⊥) }
         ensures fault { IfErr result (IsUnmade capacity) }
         ensures hasher { IfOk result (λ map. map.hasher ≡ hasher) }

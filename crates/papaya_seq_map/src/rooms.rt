@@ -1,8 +1,8 @@
 //! Room for further pairs in a map for one owner. It begins with a refresh, as a change does.
-ghost use Rattle.std.specs.Prelude.{◌≡◌, None, IfErr};
+ghost use Rattle.std.specs.Prelude.{◌≡◌, [], None, IfErr};
 ghost use Rattle.std.specs.List.Sorted.{IsPermutation};
 ghost use Rattle.papaya_late.specs.Faults.{IsRoom};
-ghost use Rattle.papaya_seq_map.specs.Maps.{LastTook};
+ghost use Rattle.papaya_seq_map.specs.Maps.{Keeps, LastTook};
 
 use crate::map::HashMap;
 use papaya_resting::Last;
@@ -17,6 +17,7 @@ impl<K: Eq + Hash + Drop, V: Drop, S: BuildHasher> HashMap<K, V, S> {
         ensures fault { IfErr result IsRoom }
         ensures last { LastTook self.new None None }
         ensures hasher { self.new.hasher ≡ self.old.hasher }
+        ensures keeps { Keeps [] self.old self.new }
     {
         self.resting.last = Last::NONE;
         papaya_resting::reserve(

@@ -3,7 +3,7 @@ ghost use Rattle.std.specs.Prelude.{◌≡◌, None, Bool, List, [], IfErr, OnOk
 ghost use Rattle.std.specs.List.Sorted.{IsPermutation};
 ghost use Rattle.papaya_late.specs.Faults.{IsRoom};
 ghost use Rattle.papaya_sifts.specs.Retaining.{AnswersByTest, KeepsOf};
-ghost use Rattle.papaya_seq_map.specs.Maps.{LastTook};
+ghost use Rattle.papaya_seq_map.specs.Maps.{Keeps, LastTook};
 
 use crate::map::HashMap;
 use papaya_resting::Last;
@@ -19,6 +19,7 @@ impl<K: Eq + Hash + Drop, V: Drop, S: BuildHasher> HashMap<K, V, S> {
         ensures last { LastTook self.new None None }
         ensures fault { IfErr result IsRoom }
         ensures hasher { self.new.hasher ≡ self.old.hasher }
+        ensures keeps { Keeps [] self.old self.new }
     {
         self.resting.last = Last::NONE;
         papaya_resting::clear(&mut self.resting.memory, self.resting.setting, &self.hasher)
@@ -34,6 +35,7 @@ impl<K: Eq + Hash + Drop, V: Drop, S: BuildHasher> HashMap<K, V, S> {
         ensures last { LastTook self.new None None }
         ensures fault { IfErr result IsRoom }
         ensures hasher { self.new.hasher ≡ self.old.hasher }
+        ensures keeps { Keeps [] self.old self.new }
     {
         self.resting.last = Last::NONE;
         papaya_resting::retain(

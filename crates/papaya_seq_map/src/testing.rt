@@ -1,11 +1,11 @@
 //! Removals from a map for one owner that a test decides. Each begins with a refresh.
-ghost use Rattle.std.specs.Prelude.{◌≡◌, None, IfOk, IfErr, OnErr};
+ghost use Rattle.std.specs.Prelude.{◌≡◌, [], None, IfOk, IfErr, OnErr};
 ghost use Rattle.std.specs.Option.{ForSome};
 ghost use Rattle.papaya_asks.specs.Closures.{Removing, TestsAs, TestTakes};
 ghost use Rattle.papaya_late.specs.Faults.{IsRoom};
 ghost use Rattle.papaya_owned.specs.Owned.{found_by};
 ghost use Rattle.papaya_resting.specs.Asking.{HasDone};
-ghost use Rattle.papaya_seq_map.specs.Maps.{HasNow};
+ghost use Rattle.papaya_seq_map.specs.Maps.{HasNow, Keeps};
 
 use crate::map::HashMap;
 use papaya_resting::Change;
@@ -26,6 +26,7 @@ impl<K: Eq + Hash + Drop, V: Drop, S: BuildHasher> HashMap<K, V, S> {
         ensures refused { OnErr result (HasNow self.new self.old.pairs None None) }
         ensures fault { IfErr result IsRoom }
         ensures hasher { self.new.hasher ≡ self.old.hasher }
+        ensures keeps { Keeps [] self.old self.new }
     {
         papaya_resting::remove_if(
             &mut self.resting.memory,

@@ -1,5 +1,6 @@
 -- What a step of a sweep's machine does, and what a whole sweep comes to.
 use Rattle.std.specs.Prelude.{ℕ, Bool, List, [], Result, Ok, Err}
+use denote.Ref.{Bor}
 use Rattle.seize_words.specs.Mem.{Mem}
 use Rattle.seize_words.specs.Plan.{Plan, plan_as}
 use Rattle.seize_words.specs.declared.fault.Fault.{Fault}
@@ -8,9 +9,13 @@ use Rattle.seize.specs.declared.progress.Progress.TheVariants as progress
 use Rattle.papaya_tables.specs.declared.node.Node.{Node}
 use Rattle.papaya_tables.specs.declared.setting.Setting.{Setting}
 use Rattle.papaya_sweeps.specs.Sweep.{sweep_plan}
+use Rattle.papaya_sweeps.specs.SweepPoints.{sweeping, after_reply}
+use Rattle.papaya_sweeps.specs.declared.sweep.Purpose.{Purpose}
 use Rattle.papaya_sweeps.specs.declared.sweep.Sweep.{Sweep}
 use Rattle.papaya_sweeps.specs.declared.sweep.Swept.{Swept}
 use Rattle.papaya_sweeps.specs.declared.sweep.Swept.TheVariants as swept
+use Rattle.papaya_callers.specs.Together.{in_slot}
+use Rattle.papaya_owned.specs.Ending.{RunsTo}
 use Rattle.papaya_owned.specs.Owned.{Holds}
 use Rattle.papaya_sifts.specs.declared.sweeping.OverPairs.{OverPairs}
 use Rattle.papaya_sifts.specs.declared.sweeping.Pause.{Pause}
@@ -31,6 +36,19 @@ module _ {K V S : Type 0} where
 
   abbrev pub over_pairs_plan : (S → K → ℕ) → OverPairs S → Plan (Node K V) (OverPairs S × Progress Pause)
   over_pairs_plan hashes u = plan_as (over_pairs_after u) (sweep_plan (hashes u.hasher.now) u.sweep)
+
+module _ {K V S : Type 0} (hashes : S → K → ℕ) (b : Bor S) (setting : Setting) (purpose : Purpose) (m0 : Mem (Node K V)) where
+  -- A sweep for this purpose, begun on this memory, has come here: it was run from question to question, and told each time whether to keep the pair.
+  pub data IsSweeping : OverPairs S → Mem (Node K V) → Type 0 where
+    begun : IsSweeping (record { sweep = sweeping (in_slot setting setting.slot) purpose; hasher = b }) m0
+    asked : (x : OverPairs S) (m : Mem (Node K V)) → IsSweeping x m → (x2 : OverPairs S) (m2 : Mem (Node K V)) (word : ℕ) → RunsTo (over_pairs_plan {K = K} {V = V} hashes) x m x2 m2 (Ok (pause.Asks word))
+        → (keeps : Bool) → IsSweeping (record x2 { sweep = after_reply x2.sweep keeps }) m2
+
+-- It has stopped, with whatever result.
+abbrev pub HasSwept : {K V S : Type 0} → (S → K → ℕ) → Bor S → Setting → Mem (Node K V) → Mem (Node K V) → Type 0
+HasSwept {K} {V} {S} hashes b setting m0 m =
+    (purpose : Purpose) × (x : OverPairs S) × (n : Mem (Node K V)) × IsSweeping hashes b setting purpose m0 x n × (y : OverPairs S) × (result : Result Pause Fault)
+    × RunsTo (over_pairs_plan {K = K} {V = V} hashes) x n y m result
 
 -- What a clearing has come to: the map has no pair, or it was refused, and has the same pairs.
 abbrev pub ClearedBy : {K V : Type 0} → (K → K → Bool) → (K → ℕ) → Setting → Mem (Node K V) → List (K × V) → Result Pause Fault → Type 0

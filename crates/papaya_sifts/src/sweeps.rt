@@ -3,6 +3,7 @@ ghost use Rattle.std.specs.Prelude.{◌≡◌, List, [], IfErr, OnOk, OnErr, len
 ghost use Rattle.papaya_late.specs.Faults.{IsRoom};
 ghost use Rattle.papaya_owned.specs.Owned.{Holds};
 ghost use Rattle.papaya_sifts.specs.Retaining.{KeepsOf};
+ghost use Rattle.papaya_sifts.specs.Sweeping.{HasSwept};
 
 use crate::sweeping::{OverPairs, Pause};
 use papaya_owned::{pair_at, run};
@@ -22,6 +23,7 @@ pub fn empty<K: Eq + Hash + Drop, V: Drop, S: Hashes<K>>(
     ensures done { (xs : List (K × V)) → Holds K.eq (S.hash hasher.now) setting memory.old xs → OnOk result (Holds K.eq (S.hash hasher.now) setting memory.new []) }
     ensures refused { (xs : List (K × V)) → Holds K.eq (S.hash hasher.now) setting memory.old xs → OnErr result (Holds K.eq (S.hash hasher.now) setting memory.new xs) }
     ensures fault { IfErr result IsRoom }
+    ensures ran { HasSwept S.hash hasher.entry setting memory.old memory.new }
 {
     let sweep = Sweep::clear(setting);
     let mut machine = OverPairs { sweep, hasher };
@@ -47,6 +49,7 @@ pub fn sift<K: Eq + Hash + Drop, V: Drop, S: Hashes<K>, F: FnMut(&K, &V) -> bool
         → OnOk result ((kept : List (K × V)) × KeepsOf F.FnMut keep xs kept × Holds K.eq (S.hash hasher.now) setting memory.new kept) }
     ensures refused { (xs : List (K × V)) → Holds K.eq (S.hash hasher.now) setting memory.old xs → OnErr result (Holds K.eq (S.hash hasher.now) setting memory.new xs) }
     ensures fault { IfErr result IsRoom }
+    ensures ran { HasSwept S.hash hasher.entry setting memory.old memory.new }
 {
     let sweep = Sweep::retain(setting);
     let mut machine = OverPairs { sweep, hasher };

@@ -11,7 +11,8 @@ use Rattle.papaya_raw.specs.declared.machines.call.KeyCall.{KeyCall}
 use Rattle.papaya_rule.specs.Maps.{IsClass}
 use Rattle.papaya_callers.specs.Kind.{removes}
 use Rattle.papaya_callers.specs.Pairs.{Begun}
-use Rattle.papaya_callers.specs.Together.{Removes}
+use Rattle.papaya_callers.specs.Together.{IsBegun, Removes}
+use Rattle.papaya_owned.specs.Calling.{HasStopped}
 use Rattle.papaya_owned.specs.Ending.{Ends, RunsTo}
 use Rattle.papaya_owned.specs.Machines.{on_key_plan}
 use Rattle.papaya_owned.specs.Owned.{Holds, EndsBy}
@@ -20,6 +21,7 @@ use Rattle.papaya_owned.specs.declared.machines.Stop.{Stop}
 use Rattle.papaya_owned.proofs.Owned.Answered as by
 use Rattle.papaya_owned.proofs.Owned.Calls.{ends_by_keys}
 use Rattle.papaya_owned.proofs.Owned.Keys.{under_ends, comes_to}
+use Rattle.papaya_asks.proofs.Asks.Ran.{stopped_there}
 
 module _ {K V Q S : Type 0} (same : K → K → Bool) (asks : Q → K → Bool) (hashes : S → K → ℕ) (b : Bor S) (setting : Setting) (m : Mem (Node K V)) (xs : List (K × V)) (h : Holds same (hashes b.now) setting m xs)
     (q : Q) (code : ℕ) (class : IsClass same (hashes b.now) (asks q) code) (fits : code < 2 ^ 64) (call : KeyCall K V Q) (is : call ≡ removing setting code q) where
@@ -37,3 +39,9 @@ module _ {K V Q S : Type 0} (same : K → K → Bool) (asks : Q → K → Bool) 
   remove_by x m2 result runs =
       ends_by_keys same asks hashes b setting m xs h (asks q) removes None class.one (λ may. absurd (elim may as (λ _. ⊥) [ inl p ↦ cc p | inr p ↦ cc p ])) m2 result
       (comes_to same asks hashes b setting h.lawful h.initial h.world.memory h.chart h.blocks h.rests.together.ground.map.map.rule (asks q) (Begun removes None) _ m x m2 result runs under)
+
+  pub remove_stopped : (x : OnKey K V Q S) (m2 : Mem (Node K V)) (result : Result Stop Fault) → RunsTo (on_key_plan asks same hashes) (record { call = call; hasher = b; unstored = None }) m x m2 result
+      → HasStopped asks same hashes b setting m m2 result
+  remove_stopped x m2 result runs =
+      stopped_there asks same hashes b setting m (asks q) (Begun removes None) call
+      (subst (IsBegun V same (hashes b.now) asks setting (λ i. setting.slot) 0 (asks q) (Begun removes None)) (sym is) (Removes q code fits class)) x m2 result runs

@@ -1,20 +1,24 @@
 -- A call on one key of one owner's map, from question to question: each pair that the map had as it began stands still in its block.
-use Rattle.std.specs.Prelude.{◌≡◌, ℕ, ◌<◌, Bool, true, List, Option, Some, None, Result, Ok, Err}
-use Rattle.std.proofs.Common.{refl, sym, ◌∙◌, ap, subst, arith}
+use Rattle.std.specs.Prelude.{◌≡◌, ◌≢◌, ℕ, ◌<◌, Bool, true, List, Option, Some, None, Result, Ok, Err}
+use Rattle.std.proofs.Common.{refl, sym, ◌∙◌, ap, subst, arith, inl, inr}
 use denote.Ref.{Bor}
 use Rattle.seize_words.specs.Mem.{Mem, Can, Took, value_at}
 use Rattle.seize_words.specs.Plan.{May, Steps}
+use Rattle.seize_words.specs.Word.{block_in}
 use Rattle.seize_words.specs.declared.fault.Fault.{Fault}
 use Rattle.seize.specs.World.{World}
 use Rattle.seize.specs.declared.progress.Progress.{Progress}
 use Rattle.seize.specs.declared.progress.Progress.TheVariants as progress
 use Rattle.seize_rule.proofs.Rows.Leaving.{steps_back}
 use Rattle.papaya_tables.specs.declared.node.Node.{Node}
+use Rattle.papaya_tables.specs.declared.node.Node.TheVariants as node
 use Rattle.papaya_tables.specs.declared.setting.Setting.{Setting}
 use Rattle.papaya_raw.specs.Call.{call_plan}
 use Rattle.papaya_raw.specs.CallAsks.{replied}
 use Rattle.papaya_raw.specs.declared.machines.answer.Called.{Called}
 use Rattle.papaya_raw.specs.declared.machines.answer.Called.TheVariants as called
+use Rattle.papaya_raw.specs.declared.machines.answer.KeyAnswer.{KeyAnswer}
+use Rattle.papaya_raw.specs.declared.machines.answer.KeyAnswer.TheVariants as answers
 use Rattle.papaya_raw.specs.declared.machines.asking.Asking.{Asking}
 use Rattle.papaya_raw.specs.declared.machines.asking.Reply.{Reply}
 use Rattle.papaya_raw.specs.declared.machines.call.Calling.TheVariants as at
@@ -23,7 +27,7 @@ use Rattle.papaya_rule.specs.Chart.{Chart}
 use Rattle.papaya_rule.specs.Words.{Blocks}
 use Rattle.papaya_callers.specs.Pairs.{Given}
 use Rattle.papaya_callers.specs.Sights.{Sight}
-use Rattle.papaya_callers.specs.Together.{CallOnKey, OnKey as OnKeyOf, IsBegun, begun_at, told_about}
+use Rattle.papaya_callers.specs.Together.{CallOnKey, OnKey as OnKeyOf, IsBegun, Gets, Removes, Inserts, TriesToInsert, Computes, Updates, UpdatesOrInserts, TriesToInsertWith, RemovesIf, begun_at, told_about}
 use Rattle.papaya_whole.proofs.Contents.Runs.{runs_begin}
 use Rattle.papaya_whole.proofs.Keys.Begins.{calls_begin_alone}
 use Rattle.papaya_whole.proofs.Keys.Replies.{replies_lead_on}
@@ -32,18 +36,19 @@ use Rattle.papaya_whole.specs.Contents.{HasRun}
 use Rattle.papaya_whole.specs.Owner.{IsAlone}
 use Rattle.papaya_whole.specs.Whole.{StepLeads, then_so}
 use Rattle.papaya_owned.proofs.Owned.Rests.{rests_as}
+use Rattle.papaya_owned.specs.Calling.{IsCalling, begun, asked}
 use Rattle.papaya_owned.specs.Ending.{GoesOn, Tells, RunsTo, stops, goes}
 use Rattle.papaya_owned.specs.Machines.{on_key_after, on_key_plan, on_key_settled}
 use Rattle.papaya_owned.specs.Owned.{Holds}
 use Rattle.papaya_owned.specs.declared.machines.OnKey.{OnKey}
 use Rattle.papaya_owned.specs.declared.machines.Stop.{Stop}
 use Rattle.papaya_owned.specs.declared.machines.Stop.TheVariants as stop
-use Rattle.papaya_holds.proofs.Calls.Runs.{calls_begin, replies_put_none, answered, none_so}
-use Rattle.papaya_holds.proofs.Calls.Steps.{step_comes}
+use Rattle.papaya_holds.proofs.Calls.Runs.{calls_begin, replies_put_none, replies_keep_own, answered, none_so}
+use Rattle.papaya_holds.proofs.Calls.Steps.{OwnComes, step_comes}
 use Rattle.papaya_holds.proofs.Calls.Goes.{TellsSo}
-use Rattle.papaya_holds.proofs.Stood.{StandsStill, still_first, stood}
-use Rattle.papaya_holds.specs.Calls.{IsCalling, begun, asked, CallsTakeNoneAway}
-use Rattle.papaya_holds.specs.Came.{NoneCame, CameBy, Owns, HasOnly, HasCome, ComesWith}
+use Rattle.papaya_holds.proofs.Stood.{StandsStill, still_first, stood_beside}
+use Rattle.papaya_holds.specs.Calls.{CallsTakeNoneAway}
+use Rattle.papaya_holds.specs.Came.{NoneCame, CameBy, TellsOwn, Owns, HasOnly, HasCome, ComesWith, stored_at, stored_by}
 
 module _ {K V Q S : Type 0} (asks : Q → K → Bool) (same : K → K → Bool) (hashes : S → K → ℕ) (b : Bor S) (setting : Setting) (m0 : Mem (Node K V)) (xs : List (K × V)) (h : Holds same (hashes b.now) setting m0 xs) where
   abbrev hash : K → ℕ
@@ -61,6 +66,16 @@ module _ {K V Q S : Type 0} (asks : Q → K → Bool) (same : K → K → Bool) 
   abbrev Still : Mem (Node K V) → Type 0
   Still = StandsStill same hash setting m0 xs h
 
+  -- no pair that could be looked at as the map rested stands in the block of this word
+  abbrev Apart : ℕ → Type 0
+  Apart word = (n : ℕ) → n < h.chart.stored → h.blocks.pair_known n ≡ true → block_in word ≢ h.blocks.pair n
+
+  -- in its block stands nothing
+  none_apart : (m : Mem (Node K V)) → Still m → (word : ℕ) → value_at m (block_in word) ≡ None → Apart word
+  none_apart m still word none n low known is =
+      let p = h.rests.together.ground.map.map.shows.pairs n low known in
+      let e : ◌≡◌ {A = Option (Node K V)} None (Some (node.Pair p.0 p.1)) = sym none ∙ ap (value_at m) is ∙ still n low known ∙ p.2 in cc e
+
   -- it is under way, and alone
   record Course (u : CallOnKey K V Q) (m : Mem (Node K V)) : Type 0 where
     pub w : World (Node K V)
@@ -73,6 +88,21 @@ module _ {K V Q S : Type 0} (asks : Q → K → Bool) (same : K → K → Bool) 
     pub looks : (n : ℕ) → n < h.chart.stored → h.blocks.pair_known n ≡ true → (blocks.pair_known n ≡ true) × (blocks.pair n ≡ h.blocks.pair n)
     pub still : Still m
     pub come : HasCome m0 m u.call
+    pub apart : Apart u.call.own
+
+  -- so of the word that it tells as stored
+  abbrev StoresApart : KeyAnswer → Type 0
+  StoresApart answer = (word : ℕ) → stored_by answer ≡ Some word → Apart word
+
+  same_word : (told word own : ℕ) → told ≡ own → ◌≡◌ {A = Option ℕ} (Some told) (Some word) → Apart own → Apart word
+  same_word told word own is e apart = subst Apart (let f : told ≡ word = cc e in sym is ∙ f) apart
+
+  stores_apart : (own : ℕ) → Apart own → (answer : KeyAnswer) → TellsOwn own answer → StoresApart answer
+  stores_apart own apart answers.Absent tells word e = absurd (cc e)
+  stores_apart own apart (answers.Found found) tells word e = absurd (cc e)
+  stores_apart own apart (answers.Stored told) tells word e = same_word told word own tells e apart
+  stores_apart own apart (answers.Replaced old new) tells word e = same_word new word own tells e apart
+  stores_apart own apart (answers.Removed removed) tells word e = absurd (cc e)
 
   record Under (x : OnKey K V Q S) (m : Mem (Node K V)) : Type 0 where
     pub u : CallOnKey K V Q
@@ -89,7 +119,7 @@ module _ {K V Q S : Type 0} (asks : Q → K → Bool) (same : K → K → Bool) 
   abbrev Next : OnKey K V Q S → Mem (Node K V) → Progress Stop → Type 0
   Next x m progress.Goes = Under x m
   Next x m progress.Waits = ⊥
-  Next x m (progress.Done (stop.Answered answer)) = CameBy m0 m answer × Still m
+  Next x m (progress.Done (stop.Answered answer)) = CameBy m0 m answer × Still m × StoresApart answer
   Next x m (progress.Done (stop.Asks about)) = AsksAt x m
   Next x m (progress.Refused fault) = NoneCame m0 m × Still m
 
@@ -104,7 +134,7 @@ module _ {K V Q S : Type 0} (asks : Q → K → Bool) (same : K → K → Bool) 
         subst (λ (y : Mem (Node K V)). May Can Took value_at y (call_plan asks same hash u.call)) here.memory
         (calls_go_on_alone same hash asks setting slot_of h.lawful h.initial here.w here.c here.blocks here.sights u here.alone).0
 
-    comes : Owns p2 × TellsSo (p2, told) × HasOnly m0 m2 p2
+    comes : Owns p2 × TellsSo (p2, told) × HasOnly m0 m2 p2 × OwnComes m u.call.own p2.own
     comes = step_comes u.call here.come.owns m0 m m2 here.come.only asks same hash (p2, told) may s
 
     still_then : Still m2
@@ -113,6 +143,12 @@ module _ {K V Q S : Type 0} (asks : Q → K → Bool) (same : K → K → Bool) 
         let low2 : n < here.c.stored = (let more = here.runs.keeps.stored in omega (arith, low, more)) in
         ap (value_at m2) (sym l.1) ∙ ap (λ (y : Mem (Node K V)). value_at y (here.blocks.pair n)) (sym led.memory) ∙ (led.looks n low2 l.0).2 ∙ ap (value_at here.w.memory) l.1
         ∙ ap (λ (y : Mem (Node K V)). value_at y (h.blocks.pair n)) here.memory ∙ here.still n low known
+
+    apart_then : Apart p2.own
+    apart_then = elim comes.3 as (λ _. Apart p2.own) [
+      | inl same ↦ subst Apart (sym same) here.apart
+      | inr none ↦ none_apart m here.still p2.own none
+    ]
 
     abbrev next_call : CallOnKey K V Q
     next_call = then_so u led.change2 p2
@@ -131,6 +167,7 @@ module _ {K V Q S : Type 0} (asks : Q → K → Bool) (same : K → K → Bool) 
           let k = led.looks n (let more = here.runs.keeps.stored in omega (arith, low, more)) l.0 in (k.0, k.1 ∙ l.1);
       still = still_then;
       come = record { owns = comes.0; only = comes.2 };
+      apart = apart_then;
     }
 
     under_of : (unstored : Option (Node K V)) → AloneIn led.w2 led.c2 led.blocks2 led.sights2 next_call → Under (it p2 unstored) m2
@@ -146,7 +183,7 @@ module _ {K V Q S : Type 0} (asks : Q → K → Bool) (same : K → K → Bool) 
   next_by u unstored m here m2 p2 (called.Asks about) s =
       let l = (led u m here m2 p2 (called.Asks about) s).leads in record { under = under_of u m here m2 p2 (called.Asks about) s unstored l.0; asks_at = l.1; stands = l.2 }
   next_by u unstored m here m2 p2 (called.Done answer) s =
-      let c = comes u m here m2 p2 (called.Done answer) s in (answered m0 m2 p2.own c.2 answer c.1, still_then u m here m2 p2 (called.Done answer) s)
+      let c = comes u m here m2 p2 (called.Done answer) s in (answered m0 m2 p2.own c.2 answer c.1, still_then u m here m2 p2 (called.Done answer) s, stores_apart p2.own (apart_then u m here m2 p2 (called.Done answer) s) answer c.1)
   next_by u unstored m here m2 p2 (called.Refused fault) s =
       let c = comes u m here m2 p2 (called.Refused fault) s in (none_so m0 m2 p2.own c.2 c.1, still_then u m here m2 p2 (called.Refused fault) s)
 
@@ -158,7 +195,7 @@ module _ {K V Q S : Type 0} (asks : Q → K → Bool) (same : K → K → Bool) 
 
   -- where it stops
   abbrev StopsAt : OnKey K V Q S → Mem (Node K V) → Result Stop Fault → Type 0
-  StopsAt x m (Ok (stop.Answered answer)) = CameBy m0 m answer × Still m
+  StopsAt x m (Ok (stop.Answered answer)) = CameBy m0 m answer × Still m × StoresApart answer
   StopsAt x m (Ok (stop.Asks about)) = AsksAt x m
   StopsAt x m (Err fault) = NoneCame m0 m × Still m
 
@@ -185,6 +222,18 @@ module _ {K V Q S : Type 0} (asks : Q → K → Bool) (same : K → K → Bool) 
   stops_at x m v x2 m2 result (stops _ _ _ _ told _ s tells) = stopped x2 m2 told result (next_of x m v m2 x2 told s) tells
   stops_at x m v x2 m2 result (goes _ _ x1 m1 told on s _ _ _ runs) = stops_at x1 m1 (goes_on x1 m1 told on (next_of x m v m1 x1 told s)) x2 m2 result runs
 
+  -- a call that begins has no block of its own
+  begins_bare : (keys : K → Bool) (given : Given K V) (call : KeyCall K V Q) → IsBegun V same hash asks setting slot_of 0 keys given call → call.own ≡ 0
+  begins_bare _ _ _ (Gets q code few class) = refl
+  begins_bare _ _ _ (Removes q code few class) = refl
+  begins_bare _ _ _ (Inserts key value) = refl
+  begins_bare _ _ _ (TriesToInsert key value) = refl
+  begins_bare _ _ _ (Computes key) = refl
+  begins_bare _ _ _ (Updates key) = refl
+  begins_bare _ _ _ (UpdatesOrInserts key absent) = refl
+  begins_bare _ _ _ (TriesToInsertWith key) = refl
+  begins_bare _ _ _ (RemovesIf q code few class) = refl
+
   begins : (keys : K → Bool) (given : Given K V) (call : KeyCall K V Q) → IsBegun V same hash asks setting slot_of 0 keys given call → Under (it call None) m0
   begins keys given call is = record {
     u = begun_at V same hash asks setting slot_of h.chart keys given call;
@@ -202,6 +251,7 @@ module _ {K V Q S : Type 0} (asks : Q → K → Bool) (same : K → K → Bool) 
       looks = λ n low known. (known, refl);
       still = still_first same hash setting m0 xs h;
       come = calls_begin K V Q same hash asks setting slot_of 0 h.lawful keys given call is m0;
+      apart = subst Apart (sym (begins_bare keys given call is)) (none_apart m0 (still_first same hash setting m0 xs h) 0 refl);
     };
   }
 
@@ -226,6 +276,7 @@ module _ {K V Q S : Type 0} (asks : Q → K → Bool) (same : K → K → Bool) 
           looks = c.looks;
           still = c.still;
           come = replies_put_none K V Q m0 m v.u.call c.come told;
+          apart = subst Apart (sym (replies_keep_own v.u.call c.come.owns told)) c.apart;
         };
       }
 
@@ -234,15 +285,19 @@ module _ {K V Q S : Type 0} (asks : Q → K → Bool) (same : K → K → Bool) 
   under_way _ _ (asked x m before x2 m2 about runs told) = told_on x2 m2 (stops_at x m (under_way x m before) x2 m2 (Ok (stop.Asks about)) runs) told
 
   -- wherever it stops
-  at_stop : (x : OnKey K V Q S) (m : Mem (Node K V)) (result : Result Stop Fault) → StopsAt x m result → ComesWith m0 m x result × Still m
-  at_stop x m (Ok (stop.Answered answer)) s = s
-  at_stop x m (Ok (stop.Asks about)) s = (subst (λ (y : OnKey K V Q S). HasCome m0 m y.call) (sym s.under.is) s.under.course.come, s.under.course.still)
-  at_stop x m (Err fault) s = s
+  abbrev StaysApart : Mem (Node K V) → Result Stop Fault → Type 0
+  StaysApart m result = Still m × ((word : ℕ) → stored_at result ≡ Some word → Apart word)
+
+  at_stop : (x : OnKey K V Q S) (m : Mem (Node K V)) (result : Result Stop Fault) → StopsAt x m result → ComesWith m0 m x result × StaysApart m result
+  at_stop x m (Ok (stop.Answered answer)) s = (s.0, (s.1, s.2))
+  at_stop x m (Ok (stop.Asks about)) s = (subst (λ (y : OnKey K V Q S). HasCome m0 m y.call) (sym s.under.is) s.under.course.come, (s.under.course.still, λ word e. absurd (cc e)))
+  at_stop x m (Err fault) s = (s.0, (s.1, λ word e. absurd (cc e)))
 
   take_none_away : (x : OnKey K V Q S) (m : Mem (Node K V)) → IsCalling asks same hashes b setting m0 x m → (x2 : OnKey K V Q S) (m2 : Mem (Node K V)) (result : Result Stop Fault)
-      → RunsTo (on_key_plan asks same hashes) x m x2 m2 result → ComesWith m0 m2 x2 result × Still m2
+      → RunsTo (on_key_plan asks same hashes) x m x2 m2 result → ComesWith m0 m2 x2 result × StaysApart m2 result
   take_none_away x m is x2 m2 result runs = at_stop x2 m2 result (stops_at x m (under_way x m is) x2 m2 result runs)
 
 pub calls_take_none_away : (K V Q S : Type 0) → CallsTakeNoneAway K V Q S
 calls_take_none_away K V Q S asks same hashes b setting m0 xs h x m is x2 m2 result runs =
-    let at_end = take_none_away asks same hashes b setting m0 xs h x m is x2 m2 result runs in (at_end.0, stood same (hashes b.now) setting m0 xs h m2 at_end.1)
+    let at_end = take_none_away asks same hashes b setting m0 xs h x m is x2 m2 result runs in
+    (at_end.0, stood_beside same (hashes b.now) setting m0 xs h m2 at_end.1.0 result at_end.1.1)

@@ -12,7 +12,7 @@ use Rattle.seize.specs.declared.progress.Progress.TheVariants as progress
 use Rattle.seize_rule.proofs.Rows.Leaving.{steps_back}
 use Rattle.papaya_tables.specs.declared.node.Node.{Node}
 use Rattle.papaya_raw.specs.Call.{call_plan}
-use Rattle.papaya_raw.specs.CallAsks.{with_absent, with_present, absent_told, present_told, told_at}
+use Rattle.papaya_raw.specs.CallAsks.{with_absent, with_present, absent_told, present_told, replied, told_at}
 use Rattle.papaya_raw.specs.CallPoints.{standing}
 use Rattle.papaya_raw.specs.declared.machines.answer.Called.{Called}
 use Rattle.papaya_raw.specs.declared.machines.answer.Called.TheVariants as called
@@ -214,6 +214,9 @@ module _ {K V Q : Type 0} (p : KeyCall K V Q) (o : Owns p) where
   told_so (at.Disposes dispose answer) is some told = as_it_is
   told_so (at.Drops end) is some told = as_it_is
   told_so (at.Over end) is some told = as_it_is
+
+pub replies_keep_own : {K V Q : Type 0} (p : KeyCall K V Q) → Owns p → (told : Reply V) → (replied p told).0.own ≡ p.own
+replies_keep_own p o told = (told_so p o p.stands refl o.point told).1
 
 pub replies_put_none : (K V Q : Type 0) → RepliesPutNone K V Q
 replies_put_none K V Q m0 m p h told =

@@ -2,7 +2,7 @@
 use Rattle.std.specs.Prelude.{◌==◌, ◌^◌, ◌<◌, Option, Some, None, Ok}
 use Rattle.std.proofs.Common.{◌≡◌, ◌≢◌, ℕ, Bool, true, false, ◌⊎◌, inl, inr, refl, sym, ◌∙◌, ap, subst, arith, eqb-true}
 use Rattle.std.proofs.lemmas.Bool.{eqb-false}
-use Rattle.seize_words.specs.Mem.{Mem, Can, Took, IsFreeNumber, value_at, with_block, with_value, after as mem_after}
+use Rattle.seize_words.specs.Mem.{Mem, Can, Took, IsFreeNumber, value_at, value_in, with_block, with_value, after as mem_after}
 use Rattle.seize_words.specs.Op.{Out, Make, Found, Stored, Exchanged, Made, Taken, Roomed}
 use Rattle.seize_words.specs.Plan.{May, Steps, Ends}
 use Rattle.seize_words.specs.Word.{block_in}
@@ -45,10 +45,21 @@ module _ (b hash : ℕ) (few : hash < 2 ^ 64) (some : 0 < b) (small : b < 2 ^ 53
 pub live_word : (b hash : ℕ) → word_to b hash ≢ TOMBSTONE
 live_word b hash e = absurd (omega (arith, e))
 
+-- the word of a call's own block after a step: it is as it was, or nothing stood in its block before
+abbrev pub OwnComes : {T : Type 0} → Mem T → ℕ → ℕ → Type 0
+OwnComes m before after = (after ≡ before) ⊎ (value_at m (block_in after) ≡ None)
+
 module _ {K V Q : Type 0} (p : KeyCall K V Q) (o : Owns p) (m0 m m2 : Mem (Node K V)) (only : HasOnly m0 m p) where
   -- it goes on so
   abbrev pub Comes : KeyCall K V Q × Called (Node K V) → Type 0
-  Comes e = Owns e.0 × TellsSo e × HasOnly m0 m2 e.0
+  Comes e = Owns e.0 × TellsSo e × HasOnly m0 m2 e.0 × OwnComes m p.own e.0.own
+
+  -- what it has not made itself is as it was
+  kept : (r : KeyCall K V Q) → r.own ≡ p.own → OwnComes m p.own r.own
+  kept r is = inl is
+
+  gone : OwnComes m p.own 0
+  gone = inr refl
 
   only_same : NoneCame m m2 → (r : KeyCall K V Q) → r.own ≡ p.own → HasOnly m0 m2 r
   only_same none r is b x here = elim (only b x (none b x here)) as (λ _. StandsAt m0 b x ⊎ ((r.own ≢ 0) × (b ≡ block_in r.own))) [
@@ -57,7 +68,7 @@ module _ {K V Q : Type 0} (p : KeyCall K V Q) (o : Owns p) (m0 m m2 : Mem (Node 
   ]
 
   same_own : NoneCame m m2 → (e : KeyCall K V Q × Called (Node K V)) → GoesWith p.own e → Comes e
-  same_own none e g = (g.0, g.1, only_same none e.0 g.2)
+  same_own none e g = (g.0, g.1, only_same none e.0 g.2, kept e.0 g.2)
 
   -- its own block is made
   module _ (value : Node K V) (b : ℕ) (is : IsFreeNumber m b × (b < 2 ^ 53)) (later : m2 ≡ mem_after m (Make value 0) (Made (Ok b))) (none : p.own ≡ 0) where
@@ -70,6 +81,10 @@ module _ {K V Q : Type 0} (p : KeyCall K V Q) (o : Owns p) (m0 m m2 : Mem (Node 
       | inr its ↦
           inr (subst (λ (w : ℕ). (w ≢ 0) × (c ≡ block_in w)) (sym own) (some_word b p.hash o.code is.0.1 is.1, its ∙ sym (names_block b p.hash o.code is.0.1 is.1)))
     ]
+
+    -- nothing stood in it
+    fresh_made : (r : KeyCall K V Q) → r.own ≡ word_to b p.hash → OwnComes m p.own r.own
+    fresh_made r own = inr (ap (value_at m) (ap block_in own ∙ names_block b p.hash o.code is.0.1 is.1) ∙ ap value_in is.0.0)
 
   -- its own block gets another pair
   only_rewritten : (value new : Node K V) → value_at m (block_in p.own) ≡ Some value → m2 ≡ with_value m (block_in p.own) new → p.own ≢ 0 → (r : KeyCall K V Q) → r.own ≡ p.own → HasOnly m0 m2 r
@@ -97,10 +112,10 @@ module _ {K V Q : Type 0} (p : KeyCall K V Q) (o : Owns p) (m0 m m2 : Mem (Node 
   makes_so a (Some value) e s = elim (made_by_step m (made p) value 0 m2 e s) as (λ _. Comes e) [
     | inl d ↦
         subst Comes (sym d.3)
-        (record { code = o.code; live = live_word d.0 p.hash; removes = λ r. absurd (a.1 r); point = tt }, tt, only_made value d.0 d.1 d.2 a.0 (record p { unmade = None; own = word_to d.0 p.hash; stands = at.Roots }) refl)
+        (record { code = o.code; live = live_word d.0 p.hash; removes = λ r. absurd (a.1 r); point = tt }, tt, only_made value d.0 d.1 d.2 a.0 (record p { unmade = None; own = word_to d.0 p.hash; stands = at.Roots }) refl, fresh_made value d.0 d.1 d.2 a.0 (record p { unmade = None; own = word_to d.0 p.hash; stands = at.Roots }) refl)
     | inr d ↦
         subst Comes (sym d.3)
-        (record { code = o.code; live = o.live; removes = o.removes; point = a.0 }, tt, only_same (as_it_was m m2 d.2) (record p { unmade = None; stands = at.Over (ends.Refused Memory) }) refl)
+        (record { code = o.code; live = o.live; removes = o.removes; point = a.0 }, tt, only_same (as_it_was m m2 d.2) (record p { unmade = None; stands = at.Over (ends.Refused Memory) }) refl, kept (record p { unmade = None; stands = at.Over (ends.Refused Memory) }) refl)
   ]
 
   -- it puts a pair into its own block, which is made where there is none
@@ -125,10 +140,11 @@ module _ {K V Q : Type 0} (p : KeyCall K V Q) (o : Owns p) (m0 m m2 : Mem (Node 
             },
             tt,
             only_made (node.Pair key value) d.0 d.1 d.2 (sym own ∙ eqb-true q.own 0 none) (record q { own = word_to d.0 q.hash; stands = at.Tries word (word_to d.0 q.hash) }) (ap (word_to d.0) hash),
+            fresh_made (node.Pair key value) d.0 d.1 d.2 (sym own ∙ eqb-true q.own 0 none) (record q { own = word_to d.0 q.hash; stands = at.Tries word (word_to d.0 q.hash) }) (ap (word_to d.0) hash),
           )
       | inr d ↦
           subst Comes (sym d.3)
-          (owns_at (standing q (at.Over (ends.Refused Memory))) refl refl refl (eqb-true q.own 0 none), tt, only_same (as_it_was m m2 d.2) (standing q (at.Over (ends.Refused Memory))) own)
+          (owns_at (standing q (at.Over (ends.Refused Memory))) refl refl refl (eqb-true q.own 0 none), tt, only_same (as_it_was m m2 d.2) (standing q (at.Over (ends.Refused Memory))) own, kept (standing q (at.Over (ends.Refused Memory))) own)
     ]
     puts_so false has word key value e s =
         let d = rewritten m (filled q word) (block_in q.own) (node.Pair key value) m2 e s in
@@ -137,13 +153,14 @@ module _ {K V Q : Type 0} (p : KeyCall K V Q) (o : Owns p) (m0 m m2 : Mem (Node 
           tt,
           only_rewritten d.0 (node.Pair key value) (ap (λ (w : ℕ). value_at m (block_in w)) (sym own) ∙ d.1) (d.2 ∙ ap (λ (w : ℕ). with_value m (block_in w) (node.Pair key value)) own)
               (λ z. eqb-false q.own 0 has (own ∙ z)) (standing q (at.Tries word q.own)) own,
+          kept (standing q (at.Tries word q.own)) own,
         )
 
   filled_so : p.there ≢ there.Removes → (value : Option V) (word : ℕ) (key : K) (e : KeyCall K V Q × Called (Node K V))
       → Steps Took value_at m (fill_by value (record p { replies = as_own p.replies word }) word key) m2 e → Comes e
   filled_so some None word key e s =
       subst Comes (sym s.1)
-      (record { code = o.code; live = o.live; removes = o.removes; point = tt }, tt, only_same (as_it_was m m2 s.0) (record p { replies = as_own p.replies word; stands = at.Probes }) refl)
+      (record { code = o.code; live = o.live; removes = o.removes; point = tt }, tt, only_same (as_it_was m m2 s.0) (record p { replies = as_own p.replies word; stands = at.Probes }) refl, kept (record p { replies = as_own p.replies word; stands = at.Probes }) refl)
   filled_so some (Some value) word key e s =
       puts_so (record p { replies = record (as_own p.replies word) { key = None } }) refl refl refl some (p.own == 0) refl word key value e s
 
@@ -171,13 +188,14 @@ module _ {K V Q : Type 0} (p : KeyCall K V Q) (o : Owns p) (m0 m m2 : Mem (Node 
         record { code = o.code; live = nothing_live; removes = λ r. absurd (some r); point = inr refl },
         tt,
         only_gone (node.Pair key value) there is (standing (taken_back (record p { own = 0 }) key value) (at.Tries word TOMBSTONE)),
+        gone,
       )
   gives_up_so some word (node.Table len limit turn) there is shown e ends =
       subst Comes (sym ends)
-      (record { code = o.code; live = nothing_live; removes = λ r. absurd (some r); point = inr refl }, tt, only_gone (node.Table len limit turn) there is (record p { own = 0; stands = at.Tries word TOMBSTONE }))
+      (record { code = o.code; live = nothing_live; removes = λ r. absurd (some r); point = inr refl }, tt, only_gone (node.Table len limit turn) there is (record p { own = 0; stands = at.Tries word TOMBSTONE }), gone)
   gives_up_so some word node.Shards there is shown e ends =
       subst Comes (sym ends)
-      (record { code = o.code; live = nothing_live; removes = λ r. absurd (some r); point = inr refl }, tt, only_gone node.Shards there is (record p { own = 0; stands = at.Tries word TOMBSTONE }))
+      (record { code = o.code; live = nothing_live; removes = λ r. absurd (some r); point = inr refl }, tt, only_gone node.Shards there is (record p { own = 0; stands = at.Tries word TOMBSTONE }), gone)
 
   module _ (asks : Q → K → Bool) (same : K → K → Bool) (hash : K → ℕ) (e : KeyCall K V Q × Called (Node K V)) where
     -- a point at which it keeps its own block, and puts no pair
@@ -209,8 +227,8 @@ module _ {K V Q : Type 0} (p : KeyCall K V Q) (o : Owns p) (m0 m m2 : Mem (Node 
         (puts_as (helped p goal) (copier_plan hash copier) (copier_puts K V hash copier)) may s
     from (at.Copies copier) a may s =
         at_point (at.Copies copier) (always_plan_as (GoesWith p.own) (copied p) (copied_so p o) (copier_plan hash copier)) (puts_as (copied p) (copier_plan hash copier) (copier_puts K V hash copier)) may s
-    from (at.Asks (asking.Absent gap)) a may s = subst Comes (sym s.1) (o, tt, only_same (as_it_was m m2 s.0) p refl)
-    from (at.Asks (asking.Present word)) a may s = subst Comes (sym s.1) (o, tt, only_same (as_it_was m m2 s.0) p refl)
+    from (at.Asks (asking.Absent gap)) a may s = subst Comes (sym s.1) (o, tt, only_same (as_it_was m m2 s.0) p refl, kept p refl)
+    from (at.Asks (asking.Present word)) a may s = subst Comes (sym s.1) (o, tt, only_same (as_it_was m m2 s.0) p refl, kept p refl)
     from (at.Asks (asking.Fills word)) a may s = fills_so a p.replies.key word e may s
     from (at.Asks (asking.GivesUp word)) a may s = let d = taken m (given_up p word) (block_in p.own) m2 e s in gives_up_so a word d.0 d.1 d.2 _ e d.3
     from (at.Disposes dispose answer) a may s =
@@ -219,7 +237,7 @@ module _ {K V Q : Type 0} (p : KeyCall K V Q) (o : Owns p) (m0 m m2 : Mem (Node 
     from (at.Drops end) a may s =
         let d = taken m (dropped p end) (block_in p.own) m2 e s in
         subst Comes (sym d.3)
-        (record { code = o.code; live = nothing_live; removes = λ r. ((o.removes r).0, refl); point = a }, tt, only_gone d.0 d.1 d.2 (record p { own = 0; stands = at.Over end }))
+        (record { code = o.code; live = nothing_live; removes = λ r. ((o.removes r).0, refl); point = a }, tt, only_gone d.0 d.1 d.2 (record p { own = 0; stands = at.Over end }), gone)
     from (at.Over end) a may s = at_point (at.Over end) (told_over p o end a) tt may s
 
     pub step_comes : May Can Took value_at m (plan_at asks same hash p p.stands) → Steps Took value_at m (plan_at asks same hash p p.stands) m2 e → Comes e

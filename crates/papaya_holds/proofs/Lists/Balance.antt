@@ -32,10 +32,10 @@ module _ {K V : Type 0} (m : Mem (Node K V)) (before : List (K × V)) (blocks : 
 module _ {K V : Type 0} (m0 m : Mem (Node K V)) (before : List (K × V)) (had : HasJust m0 before) (blocks : List ℕ) (xs : List (K × V)) (these : Standing m blocks xs) where
   -- no pair has come
   module _ (none : NoneCame m0 m) where
-    abbrev still : ℕ → Bool
+    abbrev pub still : ℕ → Bool
     still b = has_pair (value_at m b)
 
-    stays : (b : ℕ) (x : K × V) → still b ≡ true → StandsAt m0 b x → StandsAt m b x
+    pub stays : (b : ℕ) (x : K × V) → still b ≡ true → StandsAt m0 b x → StandsAt m b x
     stays b x is was = let y = stands_if (value_at m b) is in y.1 ∙ sym (none b y.0 y.1) ∙ was
 
     pub none_balances : Balances m before [] xs
@@ -47,20 +47,20 @@ module _ {K V : Type 0} (m0 m : Mem (Node K V)) (before : List (K × V)) (had : 
 
   -- one has
   module _ (c : ℕ) (but : NoneCameBut m0 m c) (x : K × V) (here : StandsAt m c x) where
-    abbrev others : ℕ → Bool
+    abbrev pub others : ℕ → Bool
     others b = cond (b == c) false (has_pair (value_at m b))
 
     both : (q h : Bool) → cond q false h ≡ true → (q ≡ false) × (h ≡ true)
     both true h e = absurd (cc e)
     both false h e = (refl, e)
 
-    was_there : (b : ℕ) (y : K × V) → (b == c) ≡ false → StandsAt m b y → StandsAt m0 b y
+    pub was_there : (b : ℕ) (y : K × V) → (b == c) ≡ false → StandsAt m b y → StandsAt m0 b y
     was_there b y other there = elim (but b y there) as (λ _. StandsAt m0 b y) [
       | inl was ↦ was
       | inr same ↦ absurd (let e : true ≡ false = sym (eq-eqb b c same) ∙ other in cc e)
     ]
 
-    stays_so : (b : ℕ) (y : K × V) → others b ≡ true → StandsAt m0 b y → StandsAt m b y
+    pub stays_so : (b : ℕ) (y : K × V) → others b ≡ true → StandsAt m0 b y → StandsAt m b y
     stays_so b y is was =
         let p = both (b == c) (has_pair (value_at m b)) is in let z = stands_if (value_at m b) p.1 in z.1 ∙ sym (was_there b z.0 p.0 z.1) ∙ was
 

@@ -29,7 +29,7 @@ none_of_none : (q : Bool) → ◌≡◌ {A = ℕ} 0 (cond q 0 0)
 none_of_none true = refl
 none_of_none false = refl
 
-none_there : (q : Bool) (n : ℕ) → n ≡ 0 → cond q n 0 ≡ 0
+pub none_there : (q : Bool) (n : ℕ) → n ≡ 0 → cond q n 0 ≡ 0
 none_there true n none = none
 none_there false n none = refl
 

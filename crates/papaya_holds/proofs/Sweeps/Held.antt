@@ -29,7 +29,7 @@ use Rattle.papaya_whole.proofs.Sweeps.ToldOn.{sweeps_told_alone}
 use Rattle.papaya_whole.specs.Owner.{IsAlone}
 use Rattle.papaya_owned.specs.Ending.{GoesOn, Tells, RunsTo, stops, goes}
 use Rattle.papaya_owned.specs.Owned.{Holds}
-use Rattle.papaya_sifts.specs.Sweeping.{over_pairs_after, over_pairs_plan, over_pairs_settled}
+use Rattle.papaya_sifts.specs.Sweeping.{IsSweeping, begun, asked, over_pairs_after, over_pairs_plan, over_pairs_settled}
 use Rattle.papaya_sifts.specs.declared.sweeping.OverPairs.{OverPairs}
 use Rattle.papaya_sifts.specs.declared.sweeping.Pause.{Pause}
 use Rattle.papaya_sifts.specs.declared.sweeping.Pause.TheVariants as pause
@@ -38,7 +38,7 @@ use Rattle.papaya_holds.proofs.Runs.Puts.{puts_none}
 use Rattle.papaya_holds.proofs.Stood.{StandsStill, still_first, stood}
 use Rattle.papaya_holds.proofs.Sweeps.Looks.{Led, led_on}
 use Rattle.papaya_holds.specs.Came.{NoneCame, StayInPlace}
-use Rattle.papaya_holds.specs.Sweeps.{IsSweeping, begun, asked, SweepsTakeNoneAway}
+use Rattle.papaya_holds.specs.Sweeps.{SweepsTakeNoneAway}
 
 module _ {K V S : Type 0} (same : K → K → Bool) (hashes : S → K → ℕ) (b : Bor S) (setting : Setting) (m0 : Mem (Node K V)) (xs : List (K × V)) (h : Holds same (hashes b.now) setting m0 xs) where
   abbrev hash : K → ℕ

@@ -1,8 +1,8 @@
 //! An element is put into a set for one owner, or removed from it, or room is made for more.
-ghost use Rattle.std.specs.Prelude.{◌≡◌, None, Some, is_none, is_some, find, IfOk, IfErr, OnOk, OnErr, MatchResult};
+ghost use Rattle.std.specs.Prelude.{◌≡◌, [], None, Some, is_none, is_some, find, IfOk, IfErr, OnOk, OnErr, MatchResult};
 ghost use Rattle.std.specs.List.Sorted.{IsPermutation};
-ghost use Rattle.papaya_seq_map.specs.Given.{IsRoom};
-ghost use Rattle.papaya_seq.specs.Sets.{LastTookOut, left_in, put_in};
+ghost use Rattle.papaya_seq_map.specs.Given.{IsRoom, if_stored};
+ghost use Rattle.papaya_seq.specs.Sets.{KeepsIn, LastTookOut, left_in, put_in};
 
 use super::HashSet;
 use papaya_seq_map::{RefusedKey, take};
@@ -21,6 +21,7 @@ impl<K: Eq + Hash + Drop, S: BuildHasher> HashSet<K, S> {
         ensures back { IfErr result (λ r. r.key ≡ element) }
         ensures fault { IfErr result (λ r. IsRoom r.fault) }
         ensures hasher { self.new.hasher ≡ self.old.hasher }
+        ensures keeps { KeepsIn (if_stored result element) self.old self.new }
     {
         match self.map.insert(element, ()) {
             Ok(was) => Ok(!was),
@@ -40,6 +41,7 @@ impl<K: Eq + Hash + Drop, S: BuildHasher> HashSet<K, S> {
         ensures last { MatchResult result (λ _. LastTookOut self.new (find (Q.Equivalent.equivalent asked.now) self.old.elements) None) (λ _. LastTookOut self.new None None) }
         ensures fault { IfErr result IsRoom }
         ensures hasher { self.new.hasher ≡ self.old.hasher }
+        ensures keeps { KeepsIn [] self.old self.new }
     {
         take(&mut self.map, asked)
     }
@@ -51,6 +53,7 @@ impl<K: Eq + Hash + Drop, S: BuildHasher> HashSet<K, S> {
         ensures last { LastTookOut self.new None None }
         ensures fault { IfErr result IsRoom }
         ensures hasher { self.new.hasher ≡ self.old.hasher }
+        ensures keeps { KeepsIn [] self.old self.new }
     {
         self.map.reserve(additional)
     }

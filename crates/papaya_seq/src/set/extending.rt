@@ -2,7 +2,7 @@
 ghost use Rattle.std.specs.Prelude.{◌≡◌, List, [], IfOk, IfErr};
 ghost use Rattle.std.specs.Iterator.{Drains, IsFiniteIterable};
 ghost use Rattle.std.specs.List.Sorted.{IsPermutation};
-ghost use Rattle.papaya_seq_map.specs.Given.{IsRoom};
+ghost use Rattle.papaya_seq_map.specs.Given.{Balanced, IsRoom};
 ghost use Rattle.papaya_seq.specs.Sets.{PutsElements, put_all_in};
 
 use super::HashSet;
@@ -17,6 +17,7 @@ impl<K: Eq + Hash + Drop, S: BuildHasher> HashSet<K, S> {
     pub fn extend<I: IntoIterator<Item = K>>(&mut self, items: I) -> Result<(), RefusedKey<K>>
         requires { IsFiniteIterable I.into_iter_gives I.IntoIter.can_next I.IntoIter.remaining items }
         ensures put { PutsElements K.eq I.into_iter_gives I.IntoIter.next_gives items self.old.elements self.new.elements result }
+        ensures balances { (stored : List K) × IsPermutation self.new.elements (put_all_in K.eq self.old.elements stored) × Balanced stored self.old.held self.new.held }
         ensures fault { IfErr result (λ r. IsRoom r.fault) }
         ensures hasher { self.new.hasher ≡ self.old.hasher }
     {

@@ -1,6 +1,7 @@
 //! What a set for one owner has. Nothing here takes memory, or completes a resize.
-ghost use Rattle.std.specs.Prelude.{◌≡◌, ◌==◌, length, is_some, find};
+ghost use Rattle.std.specs.Prelude.{◌≡◌, ◌==◌, ◌++◌, List, length, is_some, find};
 ghost use Rattle.std.specs.List.{IsDistinct};
+ghost use Rattle.std.specs.List.Sorted.{IsPermutation};
 ghost use Rattle.std.specs.Option.{option_copied};
 ghost use Rattle.papaya_shown.specs.Coming.{can_go_on};
 ghost use Rattle.papaya_shown.specs.Columns.{keys_to_come};
@@ -11,10 +12,11 @@ use papaya_tables::Equivalent;
 use std::hash::{BuildHasher, Hash};
 
 impl<K: Eq + Hash, S: BuildHasher> HashSet<K, S> {
-    /// How many elements it has. No two of them are equal.
+    /// How many elements it has. No two of them are equal, and all are held, beside those that wait.
     pub fn len(&self) -> u64
         ensures len { result ≡ length self.now.elements }
         ensures apart { IsDistinct K.eq self.now.elements }
+        ensures held { (waiting : List K) × IsPermutation self.now.held (self.now.elements ++ waiting) }
     {
         self.map.len()
     }

@@ -15,6 +15,7 @@ impl<K: Eq + Hash + Drop, S: BuildHasher + Default + Drop> HashSet<K, S> {
     pub fn new(alloc: Global) -> Result<Self, Fault>
         ensures elements { IfOk result (λ set. set.elements ≡ []) }
         ensures last { IfOk result (λ set. LastTookOut set None None) }
+        ensures held { IfOk result (λ set. set.held ≡ []) }
         ensures fault { IfErr result (λ fault. fault ≡ Memory) }
     {
         HashSet::with_hasher(alloc, S::default())
@@ -24,6 +25,7 @@ impl<K: Eq + Hash + Drop, S: BuildHasher + Default + Drop> HashSet<K, S> {
     pub fn with_capacity(alloc: Global, capacity: u64) -> Result<Self, Fault>
         ensures elements { IfOk result (λ set. set.elements ≡ []) }
         ensures last { IfOk result (λ set. LastTookOut set None None) }
+        ensures held { IfOk result (λ set. set.held ≡ []) }
         ensures few { OnOk result (AreTooMany capacity → ⊥) }
         ensures fault { IfErr result (IsUnmade capacity) }
     {
@@ -36,6 +38,7 @@ impl<K: Eq + Hash + Drop, S: BuildHasher + Drop> HashSet<K, S> {
     pub fn with_hasher(alloc: Global, hasher: S) -> Result<Self, Fault>
         ensures elements { IfOk result (λ set. set.elements ≡ []) }
         ensures last { IfOk result (λ set. LastTookOut set None None) }
+        ensures held { IfOk result (λ set. set.held ≡ []) }
         ensures fault { IfErr result (λ fault. fault ≡ Memory) }
         ensures hasher { IfOk result (λ set. set.hasher ≡ hasher) }
     {
@@ -47,6 +50,7 @@ impl<K: Eq + Hash + Drop, S: BuildHasher + Drop> HashSet<K, S> {
     pub fn with_capacity_and_hasher(alloc: Global, capacity: u64, hasher: S) -> Result<Self, Fault>
         ensures elements { IfOk result (λ set. set.elements ≡ []) }
         ensures last { IfOk result (λ set. LastTookOut set None None) }
+        ensures held { IfOk result (λ set. set.held ≡ []) }
         ensures few { OnOk result (AreTooMany capacity → ⊥) }
         ensures fault { IfErr result (IsUnmade capacity) }
         ensures hasher { IfOk result (λ set. set.hasher ≡ hasher) }

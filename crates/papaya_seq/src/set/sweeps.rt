@@ -2,7 +2,7 @@
 ghost use Rattle.std.specs.Prelude.{◌≡◌, None, Bool, List, [], IfErr, OnOk, OnErr, filter};
 ghost use Rattle.std.specs.List.Sorted.{IsPermutation};
 ghost use Rattle.papaya_seq_map.specs.Given.{IsRoom};
-ghost use Rattle.papaya_seq.specs.Sets.{AnswersByTestOf, KeepsElements, LastTookOut};
+ghost use Rattle.papaya_seq.specs.Sets.{AnswersByTestOf, KeepsElements, KeepsIn, LastTookOut};
 
 use super::HashSet;
 use seize_words::Fault;
@@ -17,6 +17,7 @@ impl<K: Eq + Hash + Drop, S: BuildHasher> HashSet<K, S> {
         ensures last { LastTookOut self.new None None }
         ensures fault { IfErr result IsRoom }
         ensures hasher { self.new.hasher ≡ self.old.hasher }
+        ensures keeps { KeepsIn [] self.old self.new }
     {
         self.map.clear()
     }
@@ -31,6 +32,7 @@ impl<K: Eq + Hash + Drop, S: BuildHasher> HashSet<K, S> {
         ensures last { LastTookOut self.new None None }
         ensures fault { IfErr result IsRoom }
         ensures hasher { self.new.hasher ≡ self.old.hasher }
+        ensures keeps { KeepsIn [] self.old self.new }
     {
         self.map.retain(move |element, _| keep(element))
     }

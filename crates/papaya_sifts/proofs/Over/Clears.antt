@@ -12,7 +12,8 @@ use Rattle.papaya_sweeps.specs.declared.sweep.Sweep.{Sweep}
 use Rattle.papaya_late.specs.Faults.{IsRoom, RoomInSweeping}
 use Rattle.papaya_owned.specs.Ending.{Ends, RunsTo}
 use Rattle.papaya_owned.specs.Owned.{Holds}
-use Rattle.papaya_sifts.specs.Sweeping.{ClearedBy, over_pairs_plan}
+use Rattle.papaya_sifts.specs.Sweeping.{ClearedBy, HasSwept, IsSweeping, over_pairs_plan}
+use Rattle.papaya_sifts.specs.Sweeping as sweeps
 use Rattle.papaya_sifts.specs.declared.sweeping.OverPairs.{OverPairs}
 use Rattle.papaya_sifts.specs.declared.sweeping.Pause.{Pause}
 use Rattle.papaya_sifts.specs.declared.sweeping.Pause.TheVariants as pause
@@ -58,3 +59,8 @@ module _ {K V S : Type 0} (same : K → K → Bool) (hashes : S → K → ℕ) (
   -- and it is for room
   pub clearing_faults : (x : OverPairs S) (m : Mem (Node K V)) (fault : Fault) → RunsTo (over_pairs_plan {V = V} hashes) (record { sweep = p; hasher = b }) m0 x m (Err fault) → IsRoom fault
   clearing_faults x m fault runs = (runs_room hashes (record { sweep = p; hasher = b }) m0 x m (Err fault) runs (subst (λ (y : Sweep). RoomInSweeping y.stands) (sym is) tt)).1
+
+  -- a sweep has stopped
+  pub clearing_ran : (x : OverPairs S) (m : Mem (Node K V)) (result : Result Pause Fault) → RunsTo (over_pairs_plan {V = V} hashes) (record { sweep = p; hasher = b }) m0 x m result → HasSwept hashes b setting m0 m
+  clearing_ran x m result runs =
+      (Clears, record { sweep = p; hasher = b }, m0, subst (λ (y : Sweep). IsSweeping hashes b setting Clears m0 (record { sweep = y; hasher = b }) m0) (sym is) sweeps.begun, x, result, runs)

@@ -23,7 +23,8 @@ use Rattle.papaya_whole.proofs.Contents.Numbered.{all_those}
 use Rattle.papaya_owned.specs.Ending.{Ends, RunsTo}
 use Rattle.papaya_owned.specs.Owned.{Holds, NamesAPair}
 use Rattle.papaya_sifts.specs.Retaining.{AskedAbout, AskedAlong, KeepsOf}
-use Rattle.papaya_sifts.specs.Sweeping.{over_pairs_plan}
+use Rattle.papaya_sifts.specs.Sweeping.{HasSwept, IsSweeping, over_pairs_plan}
+use Rattle.papaya_sifts.specs.Sweeping as sweeps
 use Rattle.papaya_sifts.specs.declared.sweeping.OverPairs.{OverPairs}
 use Rattle.papaya_sifts.specs.declared.sweeping.Pause.{Pause}
 use Rattle.papaya_sifts.specs.declared.sweeping.Pause.TheVariants as pause
@@ -102,6 +103,9 @@ module _ {F K V S : Type 0} (g : Mut F (Bor K × (Bor V × Unit {0})) Bool) (f0 
     kept_are = pairs_kept said.done ns;
   }
 
+  abbrev IsSince : OverPairs S → Mem (Node K V) → Type 0
+  IsSince = IsSweeping hashes b setting Retains m0
+
   -- it is under way, and was not told about so many pairs yet
   pub record Sifting (x : OverPairs S) (m : Mem (Node K V)) (left : ℕ) (f : F) : Type 0 where
     pub said : Said
@@ -109,6 +113,7 @@ module _ {F K V S : Type 0} (g : Mut F (Bor K × (Bor V × Unit {0})) Bool) (f0 
     pub left_is : left ≡ unasked said.asked ns
     pub heard : Heard said f
     pub room : RoomInSweeping x.sweep.stands
+    pub since : IsSince x m
 
   -- it asks about the pair of this word
   pub record Asking (x : OverPairs S) (m : Mem (Node K V)) (left word : ℕ) (f : F) : Type 0 where
@@ -117,6 +122,7 @@ module _ {F K V S : Type 0} (g : Mut F (Bor K × (Bor V × Unit {0})) Bool) (f0 
     pub left_is : left ≡ unasked said.asked ns
     pub heard : Heard said f
     pub room : RoomInSweeping x.sweep.stands
+    pub since : (keeps : Bool) → IsSince (record x { sweep = after_reply x.sweep keeps }) m
 
   all_left : length xs ≡ unasked [] ns
   all_left =
@@ -131,6 +137,7 @@ module _ {F K V S : Type 0} (g : Mut F (Bor K × (Bor V × Unit {0})) Bool) (f0 
     left_is = all ∙ all_left;
     heard = heard_begins;
     room = subst (λ (y : Sweep). RoomInSweeping y.stands) (sym is) tt;
+    since = subst (λ (y : Sweep). IsSince (record { sweep = y; hasher = b }) m0) (sym is) sweeps.begun;
   }
 
   module _ (x : OverPairs S) (m : Mem (Node K V)) (left : ℕ) (f : F) (s : Sifting x m left f) where
@@ -151,6 +158,7 @@ module _ {F K V S : Type 0} (g : Mut F (Bor K × (Bor V × Unit {0})) Bool) (f0 
       left_is = s.left_is;
       heard = s.heard;
       room = (runs_room hashes x m x2 m2 (Ok end) runs s.room).0;
+      since = sweeps.asked x m s.since x2 m2 word (subst (λ (e : Pause). RunsTo (over_pairs_plan {V = V} hashes) x m x2 m2 (Ok e)) is runs);
     }
 
     pub sifting_done : (x2 : OverPairs S) (m2 : Mem (Node K V)) (end : Pause) → end ≡ pause.Ended → RunsTo (over_pairs_plan {V = V} hashes) x m x2 m2 (Ok end)
@@ -172,6 +180,9 @@ module _ {F K V S : Type 0} (g : Mut F (Bor K × (Bor V × Unit {0})) Bool) (f0 
     pub sifting_faults : (x2 : OverPairs S) (m2 : Mem (Node K V)) (fault : Fault) → RunsTo (over_pairs_plan {V = V} hashes) x m x2 m2 (Err fault) → IsRoom fault
     sifting_faults x2 m2 fault runs = (runs_room hashes x m x2 m2 (Err fault) runs s.room).1
 
+    pub sifting_ran : (x2 : OverPairs S) (m2 : Mem (Node K V)) (result : Result Pause Fault) → RunsTo (over_pairs_plan {V = V} hashes) x m x2 m2 result → HasSwept hashes b setting m0 m2
+    sifting_ran x2 m2 result runs = (Retains, x, m, s.since, x2, result, runs)
+
   module _ (x : OverPairs S) (m : Mem (Node K V)) (left word : ℕ) (f : F) (a : Asking x m left word f) where
     abbrev pub asked_about : Question same hashes b setting m0 xs h a.said m word
     asked_about = question same hashes b setting m0 xs h a.said x m word a.asks
@@ -192,4 +203,5 @@ module _ {F K V S : Type 0} (g : Mut F (Bor K × (Bor V × Unit {0})) Bool) (f0 
       left_is = let l = a.left_is in let fewer = asked_about.fewer in omega (arith, l, fewer, less_is);
       heard = heard_then a.said f a.heard m word asked_about keeps f2 asked;
       room = subst (λ (y : Sweep). RoomInSweeping y.stands) (sym is) ((told_sweeps_refuse_room x.sweep a.room).1 keeps);
+      since = subst (λ (y : Sweep). IsSince (record x { sweep = y }) m) (sym is) (a.since keeps);
     }

@@ -1,6 +1,7 @@
 -- It comes to its end, and what that is.
 use Rattle.std.proofs.Common.{refl}
 use Rattle.papaya_asks.proofs.Asks.Finished.{finish_ends, finish_answered, finish_asks, finish_refused, finish_key, finish_pair}
+use Rattle.papaya_asks.proofs.Asks.Ran.{told_answered, told_refused}
 use Rattle.papaya_asks.proofs.asking.finish.Goals as goal
 
 pub run_skimming-requires : goal.run_skimming-requires
@@ -23,3 +24,9 @@ returns-clause-key g c = λ xs kind key keys asked p taken. finish_key _ _ _ _ k
 pub returns-clause-value : goal.returns-clause-value
 returns-clause-value g c = λ xs kind key value keys p taken insert.
     finish_pair _ _ _ _ kind _ keys xs _ _ _ p _ taken _ _ c.reply-taken.ensures _ _ refl value insert _ _ c.in-Err.is c.run_skimming.ensures key refl
+
+pub returns-in-Ok-Answered-clause-ran : goal.returns-in-Ok-Answered-clause-ran
+returns-in-Ok-Answered-clause-ran g c = told_answered _ _ _ c.args.machine.now c.args.memory.now c.args.reply _ _ c.reply-taken.ensures _ _ _ c.run_skimming.ensures _ _ c.in-Ok-Answered.is c.in-Ok-Answered.field-0-is
+
+pub returns-clause-ran : goal.returns-clause-ran
+returns-clause-ran g c = told_refused _ _ _ c.args.machine.now c.args.memory.now c.args.reply _ _ c.reply-taken.ensures _ _ _ c.run_skimming.ensures _ c.in-Err.is

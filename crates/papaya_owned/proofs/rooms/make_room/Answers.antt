@@ -5,5 +5,8 @@ use Rattle.papaya_owned.proofs.rooms.make_room.Goals as goal
 pub run-requires : goal.run-requires
 run-requires g c = let r = c.requires in making_room_ends {S = g.row.S.Denot} _ _ c.args.hasher c.args.setting _ r.0 r.1 _ _ c.new-reserve.ensures
 
-pub returns : goal.returns
-returns g c = λ xs has. making_room_by {S = g.row.S.Denot} _ _ c.args.hasher c.args.setting _ xs has _ _ c.new-reserve.ensures _ _ _ c.run.ensures
+pub returns-clause-room : goal.returns-clause-room
+returns-clause-room g c = λ xs has. making_room_by {S = g.row.S.Denot} _ _ c.args.hasher c.args.setting _ xs has _ _ c.new-reserve.ensures _ _ _ c.run.ensures
+
+pub returns-clause-ran : goal.returns-clause-ran
+returns-clause-ran g c = let r = c.requires in (_, _, _, making_room_ends {S = g.row.S.Denot} _ _ c.args.hasher c.args.setting _ r.0 r.1 _ _ c.new-reserve.ensures, c.run.ensures)

@@ -3,21 +3,27 @@ use Rattle.std.specs.Fn.{FnOnceReturns}
 use Rattle.papaya_asks.specs.Closures.{Storing}
 use Rattle.papaya_owned.specs.Owned.{hashed_by}
 use Rattle.papaya_resting.proofs.Done.{comes_as, key_comes_back}
+use Rattle.papaya_asks.specs.declared.refused.RefusedKey.{RefusedKey}
+use Rattle.papaya_resting.proofs.Keeps.{change_holds_on}
 use Rattle.papaya_resting.proofs.asking.try_insert_with.Goals as goal
 
 pub refresh-requires : goal.refresh-requires
 refresh-requires g c = (c.requires.holds.0, c.requires.holds.1)
 
 pub insert_with-requires : goal.insert_with-requires
-insert_with-requires g c = let r = c.requires.holds in record { holds = (r.0, c.refresh.ensures r.0 r.1, r.2) }
+insert_with-requires g c = let r = c.requires.holds in record { holds = (r.0, c.refresh.ensures.holds r.0 r.1, r.2) }
 
 pub returns-clause-comes : goal.returns-clause-comes
 returns-clause-comes g c = λ xs has.
     comes_as g.K.PartialEq.eq (hashed_by g.S.Hasher.Hasher.finish g.S.Hasher.Hasher.write g.S.BuildHasher.build_hasher g.K.Hash.hash_input c.args.hasher.now) c.args.setting c.insert_with.new.memory c.args.key xs
-    (Storing (λ value. FnOnceReturns g.B.FnOnce c.args.begin tt value)) c.insert_with.result (c.insert_with.ensures xs (c.refresh.ensures xs has)) c.ended.new.last c.ended.ensures.words c.ended.result c.ended.ensures.done
+    (Storing (λ value. FnOnceReturns g.B.FnOnce c.args.begin tt value)) c.insert_with.result (c.insert_with.ensures.comes xs (c.refresh.ensures.holds xs has)) c.ended.new.last c.ended.ensures.words c.ended.result c.ended.ensures.done
 
 pub returns-clause-back : goal.returns-clause-back
 returns-clause-back g c =
     let r = c.requires in
     key_comes_back g.K.PartialEq.eq (hashed_by g.S.Hasher.Hasher.finish g.S.Hasher.Hasher.write g.S.BuildHasher.build_hasher g.K.Hash.hash_input c.args.hasher.now) c.args.setting c.insert_with.new.memory c.args.key r.holds.0
-    (Storing (λ value. FnOnceReturns g.B.FnOnce c.args.begin tt value)) c.insert_with.result (c.insert_with.ensures r.holds.0 (c.refresh.ensures r.holds.0 r.holds.1)) c.ended.result c.ended.ensures.done
+    (Storing (λ value. FnOnceReturns g.B.FnOnce c.args.begin tt value)) c.insert_with.result (c.insert_with.ensures.comes r.holds.0 (c.refresh.ensures.holds r.holds.0 r.holds.1)) c.ended.result c.ended.ensures.done
+
+pub returns-clause-keeps : goal.returns-clause-keeps
+returns-clause-keeps g c = λ xs has.
+    change_holds_on _ _ c.refresh.ensures.none g.K.PartialEq.eq (hashed_by g.S.Hasher.Hasher.finish g.S.Hasher.Hasher.write g.S.BuildHasher.build_hasher g.K.Hash.hash_input) c.args.hasher c.args.setting xs (c.refresh.ensures.holds xs has) _ _ (λ (e : RefusedKey _). e.fault) c.insert_with.result c.insert_with.ensures.ran c.ended.new.last c.ended.ensures.words c.ended.result c.ended.ensures.done

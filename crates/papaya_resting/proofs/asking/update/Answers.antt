@@ -3,21 +3,27 @@ use Rattle.std.specs.Fn.{FnOnceReturnsAt}
 use Rattle.papaya_asks.specs.Closures.{Updating}
 use Rattle.papaya_owned.specs.Owned.{hashed_by}
 use Rattle.papaya_resting.proofs.Done.{comes_as, key_comes_back}
+use Rattle.papaya_asks.specs.declared.refused.RefusedKey.{RefusedKey}
+use Rattle.papaya_resting.proofs.Keeps.{change_holds_on}
 use Rattle.papaya_resting.proofs.asking.update.Goals as goal
 
 pub refresh-requires : goal.refresh-requires
 refresh-requires g c = (c.requires.holds.0, c.requires.holds.1)
 
 pub update-requires : goal.update-requires
-update-requires g c = let r = c.requires.holds in record { holds = (r.0, c.refresh.ensures r.0 r.1, r.2) }
+update-requires g c = let r = c.requires.holds in record { holds = (r.0, c.refresh.ensures.holds r.0 r.1, r.2) }
 
 pub returns-clause-comes : goal.returns-clause-comes
 returns-clause-comes g c = λ xs has.
     comes_as g.K.PartialEq.eq (hashed_by g.S.Hasher.Hasher.finish g.S.Hasher.Hasher.write g.S.BuildHasher.build_hasher g.K.Hash.hash_input c.args.hasher.now) c.args.setting c.update.new.memory c.args.key xs
-    (Updating (FnOnceReturnsAt g.F.FnOnce c.args.make)) c.update.result (c.update.ensures xs (c.refresh.ensures xs has)) c.ended.new.last c.ended.ensures.words c.ended.result c.ended.ensures.done
+    (Updating (FnOnceReturnsAt g.F.FnOnce c.args.make)) c.update.result (c.update.ensures.comes xs (c.refresh.ensures.holds xs has)) c.ended.new.last c.ended.ensures.words c.ended.result c.ended.ensures.done
 
 pub returns-clause-back : goal.returns-clause-back
 returns-clause-back g c =
     let r = c.requires in
     key_comes_back g.K.PartialEq.eq (hashed_by g.S.Hasher.Hasher.finish g.S.Hasher.Hasher.write g.S.BuildHasher.build_hasher g.K.Hash.hash_input c.args.hasher.now) c.args.setting c.update.new.memory c.args.key r.holds.0
-    (Updating (FnOnceReturnsAt g.F.FnOnce c.args.make)) c.update.result (c.update.ensures r.holds.0 (c.refresh.ensures r.holds.0 r.holds.1)) c.ended.result c.ended.ensures.done
+    (Updating (FnOnceReturnsAt g.F.FnOnce c.args.make)) c.update.result (c.update.ensures.comes r.holds.0 (c.refresh.ensures.holds r.holds.0 r.holds.1)) c.ended.result c.ended.ensures.done
+
+pub returns-clause-keeps : goal.returns-clause-keeps
+returns-clause-keeps g c = λ xs has.
+    change_holds_on _ _ c.refresh.ensures.none g.K.PartialEq.eq (hashed_by g.S.Hasher.Hasher.finish g.S.Hasher.Hasher.write g.S.BuildHasher.build_hasher g.K.Hash.hash_input) c.args.hasher c.args.setting xs (c.refresh.ensures.holds xs has) _ _ (λ (e : RefusedKey _). e.fault) c.update.result c.update.ensures.ran c.ended.new.last c.ended.ensures.words c.ended.result c.ended.ensures.done

@@ -3,21 +3,30 @@ use Rattle.std.proofs.Common.{◌∙◌, refl}
 use Rattle.papaya_callers.specs.Kind.{removes}
 use Rattle.papaya_owned.specs.Owned.{hashed_by}
 use Rattle.papaya_resting.proofs.Removals.{removed_so, room_of}
+use Rattle.papaya_resting.proofs.Keeps.{refused, removal_holds_on}
 use Rattle.papaya_resting.proofs.changes.remove.Goals as goal
 
 pub returns-in-Ok-clause-some : goal.returns-in-Ok-clause-some
 returns-in-Ok-clause-some g c = λ xs has.
     c.removed.ensures
     ∙ (removed_so g.K.PartialEq.eq (hashed_by g.S.Hasher.Hasher.finish g.S.Hasher.Hasher.write g.S.BuildHasher.build_hasher g.K.Hash.hash_input c.args.hasher.now) c.args.setting c.remove.new.memory
-    (g.Q.Equivalent.equivalent c.args.asked.now) xs c.in-Ok.stop (c.in-Ok.ensures xs (c.refresh.ensures xs has)) _ c.told_at.ensures).0
+    (g.Q.Equivalent.equivalent c.args.asked.now) xs c.in-Ok.stop (c.in-Ok.ensures.comes xs (c.refresh.ensures.holds xs has)) _ c.told_at.ensures).0
 
 pub returns-in-Ok-clause-removed : goal.returns-in-Ok-clause-removed
 returns-in-Ok-clause-removed g c = λ xs has.
     (removed_so g.K.PartialEq.eq (hashed_by g.S.Hasher.Hasher.finish g.S.Hasher.Hasher.write g.S.BuildHasher.build_hasher g.K.Hash.hash_input c.args.hasher.now) c.args.setting c.remove.new.memory
-    (g.Q.Equivalent.equivalent c.args.asked.now) xs c.in-Ok.stop (c.in-Ok.ensures xs (c.refresh.ensures xs has)) _ c.told_at.ensures).1
+    (g.Q.Equivalent.equivalent c.args.asked.now) xs c.in-Ok.stop (c.in-Ok.ensures.comes xs (c.refresh.ensures.holds xs has)) _ c.told_at.ensures).1
 
 pub returns-in-Err-clause-refused : goal.returns-in-Err-clause-refused
-returns-in-Err-clause-refused g c = λ xs has. record { holds = (c.in-Err.ensures xs (c.refresh.ensures xs has)).1; taken_is = tt; met_is = tt }
+returns-in-Err-clause-refused g c = λ xs has. record { holds = (c.in-Err.ensures.comes xs (c.refresh.ensures.holds xs has)).1; taken_is = tt; met_is = tt }
 
 pub returns-in-Err-clause-fault : goal.returns-in-Err-clause-fault
-returns-in-Err-clause-fault g c = let r = c.requires in room_of removes _ refl (c.in-Err.ensures r.0 (c.refresh.ensures r.0 r.1)).0
+returns-in-Err-clause-fault g c = let r = c.requires in room_of removes _ refl (c.in-Err.ensures.comes r.0 (c.refresh.ensures.holds r.0 r.1)).0
+
+pub returns-in-Ok-clause-keeps : goal.returns-in-Ok-clause-keeps
+returns-in-Ok-clause-keeps g c = λ xs has.
+    removal_holds_on _ _ c.refresh.ensures.none g.K.PartialEq.eq (hashed_by g.S.Hasher.Hasher.finish g.S.Hasher.Hasher.write g.S.BuildHasher.build_hasher g.K.Hash.hash_input) c.args.hasher c.args.setting xs (c.refresh.ensures.holds xs has) _ _ (g.Q.Equivalent.equivalent c.args.asked.now) c.in-Ok.stop (c.in-Ok.ensures.comes xs (c.refresh.ensures.holds xs has)) c.in-Ok.ensures.ran
+
+pub returns-in-Err-clause-keeps : goal.returns-in-Err-clause-keeps
+returns-in-Err-clause-keeps g c = λ xs has.
+    refused _ _ c.refresh.ensures.none g.K.PartialEq.eq (hashed_by g.S.Hasher.Hasher.finish g.S.Hasher.Hasher.write g.S.BuildHasher.build_hasher g.K.Hash.hash_input) c.args.hasher c.args.setting xs (c.refresh.ensures.holds xs has) _ _ _ _ refl c.in-Err.ensures.ran

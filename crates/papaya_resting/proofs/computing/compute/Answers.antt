@@ -2,21 +2,26 @@
 use Rattle.papaya_asks.specs.Closures.{ComputesAs}
 use Rattle.papaya_owned.specs.Owned.{hashed_by}
 use Rattle.papaya_resting.proofs.Done.{computes_as, key_of_computing}
+use Rattle.papaya_resting.proofs.Keeps.{computing_holds_on}
 use Rattle.papaya_resting.proofs.computing.compute.Goals as goal
 
 pub refresh-requires : goal.refresh-requires
 refresh-requires g c = (c.requires.holds.0, c.requires.holds.1)
 
 pub compute-requires : goal.compute-requires
-compute-requires g c = let r = c.requires.holds in record { holds = (r.0, c.refresh.ensures r.0 r.1, r.2) }
+compute-requires g c = let r = c.requires.holds in record { holds = (r.0, c.refresh.ensures.holds r.0 r.1, r.2) }
 
 pub returns-clause-comes : goal.returns-clause-comes
 returns-clause-comes g c = λ xs has.
     computes_as g.K.PartialEq.eq (hashed_by g.S.Hasher.Hasher.finish g.S.Hasher.Hasher.write g.S.BuildHasher.build_hasher g.K.Hash.hash_input c.args.hasher.now) c.args.setting c.compute.new.memory c.args.key xs
-    (ComputesAs g.F.FnOnce c.args.decide) c.compute.result (c.compute.ensures xs (c.refresh.ensures xs has)) c.computed.new.last c.computed.ensures.words c.computed.result c.computed.ensures.done
+    (ComputesAs g.F.FnOnce c.args.decide) c.compute.result (c.compute.ensures.comes xs (c.refresh.ensures.holds xs has)) c.computed.new.last c.computed.ensures.words c.computed.result c.computed.ensures.done
 
 pub returns-clause-back : goal.returns-clause-back
 returns-clause-back g c =
     let r = c.requires in
     key_of_computing g.K.PartialEq.eq (hashed_by g.S.Hasher.Hasher.finish g.S.Hasher.Hasher.write g.S.BuildHasher.build_hasher g.K.Hash.hash_input c.args.hasher.now) c.args.setting c.compute.new.memory c.args.key r.holds.0
-    (ComputesAs g.F.FnOnce c.args.decide) c.compute.result (c.compute.ensures r.holds.0 (c.refresh.ensures r.holds.0 r.holds.1)) c.computed.result c.computed.ensures.done
+    (ComputesAs g.F.FnOnce c.args.decide) c.compute.result (c.compute.ensures.comes r.holds.0 (c.refresh.ensures.holds r.holds.0 r.holds.1)) c.computed.result c.computed.ensures.done
+
+pub returns-clause-keeps : goal.returns-clause-keeps
+returns-clause-keeps g c = λ xs has.
+    computing_holds_on _ _ c.refresh.ensures.none g.K.PartialEq.eq (hashed_by g.S.Hasher.Hasher.finish g.S.Hasher.Hasher.write g.S.BuildHasher.build_hasher g.K.Hash.hash_input) c.args.hasher c.args.setting xs (c.refresh.ensures.holds xs has) _ _ c.args.key (ComputesAs g.F.FnOnce c.args.decide) c.compute.result (c.compute.ensures.comes xs (c.refresh.ensures.holds xs has)) c.compute.ensures.ran c.computed.new.last c.computed.ensures.words c.computed.result c.computed.ensures.done

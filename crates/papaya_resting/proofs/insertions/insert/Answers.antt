@@ -7,6 +7,7 @@ use Rattle.papaya_late.specs.Faults.{IsRoom}
 use Rattle.papaya_owned.specs.Owned.{hashed_by}
 use Rattle.papaya_resting.proofs.Removals.{room_of}
 use Rattle.papaya_resting.proofs.Stores.{stored_so, refused_so, back_so, inserts_this, same_pair}
+use Rattle.papaya_resting.proofs.Keeps.{insertion_holds_on, refused}
 use Rattle.papaya_resting.proofs.insertions.insert.Goals as goal
 
 pub store-requires-clause-call : goal.store-requires-clause-call
@@ -18,14 +19,14 @@ refused-requires g c =
       c.args.key,
       c.args.value,
       back_so (Some (node.Pair c.args.key c.args.value)) c.store.result.0 c.store.result.1
-          (c.store.ensures.back r.0 inserts c.args.key c.args.value (c.refresh.ensures r.0 r.1)
+          (c.store.ensures.back r.0 inserts c.args.key c.args.value (c.refresh.ensures.holds r.0 r.1)
           (inserts_this (hashed_by g.S.Hasher.Hasher.finish g.S.Hasher.Hasher.write g.S.BuildHasher.build_hasher g.K.Hash.hash_input c.args.hasher.now) c.args.setting c.args.key c.args.value _ _ c.hash_of-hash.ensures refl)) c.in-Err-default.fault c.in-Err-default.is-0,
     )
 
 pub returns-in-Err-default-clause-refused : goal.returns-in-Err-default-clause-refused
 returns-in-Err-default-clause-refused g c = λ xs has. record {
   holds = (refused_so g.K.PartialEq.eq (hashed_by g.S.Hasher.Hasher.finish g.S.Hasher.Hasher.write g.S.BuildHasher.build_hasher g.K.Hash.hash_input c.args.hasher.now) c.args.setting c.store.new.memory (g.K.PartialEq.eq c.args.key)
-      xs c.args.key c.args.value inserts c.store.result.0 (c.store.ensures.ends xs inserts c.args.key c.args.value (c.refresh.ensures xs has)
+      xs c.args.key c.args.value inserts c.store.result.0 (c.store.ensures.ends xs inserts c.args.key c.args.value (c.refresh.ensures.holds xs has)
       (inserts_this (hashed_by g.S.Hasher.Hasher.finish g.S.Hasher.Hasher.write g.S.BuildHasher.build_hasher g.K.Hash.hash_input c.args.hasher.now) c.args.setting c.args.key c.args.value _ _ c.hash_of-hash.ensures refl)) c.in-Err-default.fault c.in-Err-default.is-0).1;
   taken_is = tt;
   met_is = tt;
@@ -36,7 +37,7 @@ returns-in-Err-default-clause-fault g c =
     let r = c.requires in
     subst IsRoom (sym c.refused.ensures.fault) (room_of inserts c.in-Err-default.fault refl
     (refused_so g.K.PartialEq.eq (hashed_by g.S.Hasher.Hasher.finish g.S.Hasher.Hasher.write g.S.BuildHasher.build_hasher g.K.Hash.hash_input c.args.hasher.now) c.args.setting c.store.new.memory (g.K.PartialEq.eq c.args.key)
-    r.0 c.args.key c.args.value inserts c.store.result.0 (c.store.ensures.ends r.0 inserts c.args.key c.args.value (c.refresh.ensures r.0 r.1)
+    r.0 c.args.key c.args.value inserts c.store.result.0 (c.store.ensures.ends r.0 inserts c.args.key c.args.value (c.refresh.ensures.holds r.0 r.1)
     (inserts_this (hashed_by g.S.Hasher.Hasher.finish g.S.Hasher.Hasher.write g.S.BuildHasher.build_hasher g.K.Hash.hash_input c.args.hasher.now) c.args.setting c.args.key c.args.value _ _ c.hash_of-hash.ensures refl)) c.in-Err-default.fault c.in-Err-default.is-0).0)
 
 pub returns-in-Err-default-clause-back : goal.returns-in-Err-default-clause-back
@@ -44,18 +45,26 @@ returns-in-Err-default-clause-back g c =
     let r = c.requires in
     same_pair c.store.result.1 c.args.key c.refused.result.key c.args.value c.refused.result.value
     (back_so (Some (node.Pair c.args.key c.args.value)) c.store.result.0 c.store.result.1
-    (c.store.ensures.back r.0 inserts c.args.key c.args.value (c.refresh.ensures r.0 r.1)
+    (c.store.ensures.back r.0 inserts c.args.key c.args.value (c.refresh.ensures.holds r.0 r.1)
     (inserts_this (hashed_by g.S.Hasher.Hasher.finish g.S.Hasher.Hasher.write g.S.BuildHasher.build_hasher g.K.Hash.hash_input c.args.hasher.now) c.args.setting c.args.key c.args.value _ _ c.hash_of-hash.ensures refl)) c.in-Err-default.fault c.in-Err-default.is-0) c.refused.ensures.pair
 
 pub returns-in-Ok-default-clause-some : goal.returns-in-Ok-default-clause-some
 returns-in-Ok-default-clause-some g c = λ xs has.
     c.replaced.ensures
     ∙ (stored_so g.K.PartialEq.eq (hashed_by g.S.Hasher.Hasher.finish g.S.Hasher.Hasher.write g.S.BuildHasher.build_hasher g.K.Hash.hash_input c.args.hasher.now) c.args.setting c.store.new.memory (g.K.PartialEq.eq c.args.key)
-    xs c.args.key c.args.value c.store.result.0 (c.store.ensures.ends xs inserts c.args.key c.args.value (c.refresh.ensures xs has)
+    xs c.args.key c.args.value c.store.result.0 (c.store.ensures.ends xs inserts c.args.key c.args.value (c.refresh.ensures.holds xs has)
     (inserts_this (hashed_by g.S.Hasher.Hasher.finish g.S.Hasher.Hasher.write g.S.BuildHasher.build_hasher g.K.Hash.hash_input c.args.hasher.now) c.args.setting c.args.key c.args.value _ _ c.hash_of-hash.ensures refl)) c.in-Ok-default.stop c.in-Ok-default.is-0 _ c.told_at.ensures).0
 
 pub returns-in-Ok-default-clause-stored : goal.returns-in-Ok-default-clause-stored
 returns-in-Ok-default-clause-stored g c = λ xs has.
     (stored_so g.K.PartialEq.eq (hashed_by g.S.Hasher.Hasher.finish g.S.Hasher.Hasher.write g.S.BuildHasher.build_hasher g.K.Hash.hash_input c.args.hasher.now) c.args.setting c.store.new.memory (g.K.PartialEq.eq c.args.key)
-    xs c.args.key c.args.value c.store.result.0 (c.store.ensures.ends xs inserts c.args.key c.args.value (c.refresh.ensures xs has)
+    xs c.args.key c.args.value c.store.result.0 (c.store.ensures.ends xs inserts c.args.key c.args.value (c.refresh.ensures.holds xs has)
     (inserts_this (hashed_by g.S.Hasher.Hasher.finish g.S.Hasher.Hasher.write g.S.BuildHasher.build_hasher g.K.Hash.hash_input c.args.hasher.now) c.args.setting c.args.key c.args.value _ _ c.hash_of-hash.ensures refl)) c.in-Ok-default.stop c.in-Ok-default.is-0 _ c.told_at.ensures).1
+
+pub returns-in-Err-default-clause-keeps : goal.returns-in-Err-default-clause-keeps
+returns-in-Err-default-clause-keeps g c = λ xs has.
+    refused _ _ c.refresh.ensures.none g.K.PartialEq.eq (hashed_by g.S.Hasher.Hasher.finish g.S.Hasher.Hasher.write g.S.BuildHasher.build_hasher g.K.Hash.hash_input) c.args.hasher c.args.setting xs (c.refresh.ensures.holds xs has) _ _ c.store.result.0 _ c.in-Err-default.is-0 (c.store.ensures.ran inserts c.args.key c.args.value (inserts_this ((hashed_by g.S.Hasher.Hasher.finish g.S.Hasher.Hasher.write g.S.BuildHasher.build_hasher g.K.Hash.hash_input) c.args.hasher.now) c.args.setting c.args.key c.args.value _ _ c.hash_of-hash.ensures refl))
+
+pub returns-in-Ok-default-clause-keeps : goal.returns-in-Ok-default-clause-keeps
+returns-in-Ok-default-clause-keeps g c = λ xs has.
+    insertion_holds_on _ _ c.refresh.ensures.none g.K.PartialEq.eq (hashed_by g.S.Hasher.Hasher.finish g.S.Hasher.Hasher.write g.S.BuildHasher.build_hasher g.K.Hash.hash_input) c.args.hasher c.args.setting xs (c.refresh.ensures.holds xs has) _ _ c.args.key c.args.value c.store.result.0 (c.store.ensures.ends xs inserts c.args.key c.args.value (c.refresh.ensures.holds xs has) (inserts_this ((hashed_by g.S.Hasher.Hasher.finish g.S.Hasher.Hasher.write g.S.BuildHasher.build_hasher g.K.Hash.hash_input) c.args.hasher.now) c.args.setting c.args.key c.args.value _ _ c.hash_of-hash.ensures refl)) (c.store.ensures.ran inserts c.args.key c.args.value (inserts_this ((hashed_by g.S.Hasher.Hasher.finish g.S.Hasher.Hasher.write g.S.BuildHasher.build_hasher g.K.Hash.hash_input) c.args.hasher.now) c.args.setting c.args.key c.args.value _ _ c.hash_of-hash.ensures refl)) c.in-Ok-default.stop c.in-Ok-default.is-0

@@ -3,7 +3,8 @@ use Rattle.std.proofs.Common.{subst}
 use Rattle.papaya_owned.specs.Owned.{ComesBack, hashed_by}
 use Rattle.std.specs.Prelude.{Some}
 use Rattle.papaya_tables.specs.declared.node.Node.TheVariants as node
-use Rattle.papaya_resting.proofs.Stores.{insertion_ends, insertion_by, insertion_back}
+use Rattle.papaya_owned.specs.Owned.{hashed_by}
+use Rattle.papaya_resting.proofs.Stores.{insertion_ends, insertion_by, insertion_back, insertion_ran}
 use Rattle.papaya_resting.proofs.insertions.store.Goals as goal
 
 pub store-requires : goal.store-requires
@@ -22,3 +23,7 @@ returns-clause-back g c = λ xs kind key value has stores.
     subst (ComesBack (Some (node.Pair key value)) c.store.result.0) c.store.ensures.2
     (insertion_back g.K.PartialEq.eq (hashed_by g.S.Hasher.Hasher.finish g.S.Hasher.Hasher.write g.S.BuildHasher.build_hasher g.K.Hash.hash_input) c.args.hasher c.args.setting _ xs has key value kind
     _ stores _ _ _ c.store.ensures.1)
+
+pub returns-clause-ran : goal.returns-clause-ran
+returns-clause-ran g c = λ kind key value stores.
+    insertion_ran g.K.PartialEq.eq (hashed_by g.S.Hasher.Hasher.finish g.S.Hasher.Hasher.write g.S.BuildHasher.build_hasher g.K.Hash.hash_input) c.args.hasher c.args.setting _ key value kind _ stores _ _ _ c.store.ensures.1

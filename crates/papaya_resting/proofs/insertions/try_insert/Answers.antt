@@ -8,6 +8,7 @@ use Rattle.papaya_owned.specs.Owned.{hashed_by}
 use Rattle.papaya_resting.proofs.Removals.{room_of}
 use Rattle.std.proofs.lemmas.Result.{on_ok_weaker, on_err_weaker}
 use Rattle.papaya_resting.proofs.Stores.{tried_so, back_found, refused_so, back_so, tries_this, same_pair, value_back}
+use Rattle.papaya_resting.proofs.Keeps.{refused, try_holds_on}
 use Rattle.papaya_resting.proofs.insertions.try_insert.Goals as goal
 
 pub store-requires-clause-call : goal.store-requires-clause-call
@@ -19,14 +20,14 @@ refused-requires g c =
       c.args.key,
       c.args.value,
       back_so (Some (node.Pair c.args.key c.args.value)) c.store.result.0 c.store.result.1
-          (c.store.ensures.back r.0 tries_to_insert c.args.key c.args.value (c.refresh.ensures r.0 r.1)
+          (c.store.ensures.back r.0 tries_to_insert c.args.key c.args.value (c.refresh.ensures.holds r.0 r.1)
           (tries_this (hashed_by g.S.Hasher.Hasher.finish g.S.Hasher.Hasher.write g.S.BuildHasher.build_hasher g.K.Hash.hash_input c.args.hasher.now) c.args.setting c.args.key c.args.value _ _ c.hash_of-hash.ensures refl)) c.in-Err-default.fault c.in-Err-default.is-0,
     )
 
 pub returns-in-Err-default-clause-refused : goal.returns-in-Err-default-clause-refused
 returns-in-Err-default-clause-refused g c = λ xs has. record {
   holds = (refused_so g.K.PartialEq.eq (hashed_by g.S.Hasher.Hasher.finish g.S.Hasher.Hasher.write g.S.BuildHasher.build_hasher g.K.Hash.hash_input c.args.hasher.now) c.args.setting c.store.new.memory (g.K.PartialEq.eq c.args.key)
-      xs c.args.key c.args.value tries_to_insert c.store.result.0 (c.store.ensures.ends xs tries_to_insert c.args.key c.args.value (c.refresh.ensures xs has)
+      xs c.args.key c.args.value tries_to_insert c.store.result.0 (c.store.ensures.ends xs tries_to_insert c.args.key c.args.value (c.refresh.ensures.holds xs has)
       (tries_this (hashed_by g.S.Hasher.Hasher.finish g.S.Hasher.Hasher.write g.S.BuildHasher.build_hasher g.K.Hash.hash_input c.args.hasher.now) c.args.setting c.args.key c.args.value _ _ c.hash_of-hash.ensures refl)) c.in-Err-default.fault c.in-Err-default.is-0).1;
   taken_is = tt;
   met_is = tt;
@@ -37,7 +38,7 @@ returns-in-Err-default-clause-fault g c =
     let r = c.requires in
     subst IsRoom (sym c.refused.ensures.fault) (room_of tries_to_insert c.in-Err-default.fault refl
     (refused_so g.K.PartialEq.eq (hashed_by g.S.Hasher.Hasher.finish g.S.Hasher.Hasher.write g.S.BuildHasher.build_hasher g.K.Hash.hash_input c.args.hasher.now) c.args.setting c.store.new.memory (g.K.PartialEq.eq c.args.key)
-    r.0 c.args.key c.args.value tries_to_insert c.store.result.0 (c.store.ensures.ends r.0 tries_to_insert c.args.key c.args.value (c.refresh.ensures r.0 r.1)
+    r.0 c.args.key c.args.value tries_to_insert c.store.result.0 (c.store.ensures.ends r.0 tries_to_insert c.args.key c.args.value (c.refresh.ensures.holds r.0 r.1)
     (tries_this (hashed_by g.S.Hasher.Hasher.finish g.S.Hasher.Hasher.write g.S.BuildHasher.build_hasher g.K.Hash.hash_input c.args.hasher.now) c.args.setting c.args.key c.args.value _ _ c.hash_of-hash.ensures refl)) c.in-Err-default.fault c.in-Err-default.is-0).0)
 
 pub returns-in-Err-default-clause-back : goal.returns-in-Err-default-clause-back
@@ -45,7 +46,7 @@ returns-in-Err-default-clause-back g c =
     let r = c.requires in
     same_pair c.store.result.1 c.args.key c.refused.result.key c.args.value c.refused.result.value
     (back_so (Some (node.Pair c.args.key c.args.value)) c.store.result.0 c.store.result.1
-    (c.store.ensures.back r.0 tries_to_insert c.args.key c.args.value (c.refresh.ensures r.0 r.1)
+    (c.store.ensures.back r.0 tries_to_insert c.args.key c.args.value (c.refresh.ensures.holds r.0 r.1)
     (tries_this (hashed_by g.S.Hasher.Hasher.finish g.S.Hasher.Hasher.write g.S.BuildHasher.build_hasher g.K.Hash.hash_input c.args.hasher.now) c.args.setting c.args.key c.args.value _ _ c.hash_of-hash.ensures refl)) c.in-Err-default.fault c.in-Err-default.is-0) c.refused.ensures.pair
 
 pub tried-requires : goal.tried-requires
@@ -53,20 +54,20 @@ tried-requires g c = λ found. let r = c.requires in (
   c.args.key,
   c.args.value,
   back_found (Some (node.Pair c.args.key c.args.value)) c.store.result.0 c.store.result.1
-      (c.store.ensures.back r.0 tries_to_insert c.args.key c.args.value (c.refresh.ensures r.0 r.1)
+      (c.store.ensures.back r.0 tries_to_insert c.args.key c.args.value (c.refresh.ensures.holds r.0 r.1)
       (tries_this (hashed_by g.S.Hasher.Hasher.finish g.S.Hasher.Hasher.write g.S.BuildHasher.build_hasher g.K.Hash.hash_input c.args.hasher.now) c.args.setting c.args.key c.args.value _ _ c.hash_of-hash.ensures refl)) c.in-Ok-default.stop c.in-Ok-default.is-0 found,
 )
 
 pub returns-in-Ok-default-clause-stored : goal.returns-in-Ok-default-clause-stored
 returns-in-Ok-default-clause-stored g c = λ xs has.
     on_ok_weaker c.tried.result ((tried_so g.K.PartialEq.eq (hashed_by g.S.Hasher.Hasher.finish g.S.Hasher.Hasher.write g.S.BuildHasher.build_hasher g.K.Hash.hash_input c.args.hasher.now) c.args.setting c.store.new.memory (g.K.PartialEq.eq c.args.key)
-    xs c.args.key c.args.value c.store.result.0 (c.store.ensures.ends xs tries_to_insert c.args.key c.args.value (c.refresh.ensures xs has)
+    xs c.args.key c.args.value c.store.result.0 (c.store.ensures.ends xs tries_to_insert c.args.key c.args.value (c.refresh.ensures.holds xs has)
     (tries_this (hashed_by g.S.Hasher.Hasher.finish g.S.Hasher.Hasher.write g.S.BuildHasher.build_hasher g.K.Hash.hash_input c.args.hasher.now) c.args.setting c.args.key c.args.value _ _ c.hash_of-hash.ensures refl)) c.in-Ok-default.stop c.in-Ok-default.is-0 _ c.told_at.ensures).0) c.tried.ensures.stored
 
 pub returns-in-Ok-default-clause-found : goal.returns-in-Ok-default-clause-found
 returns-in-Ok-default-clause-found g c = λ xs has.
     on_err_weaker c.tried.result ((tried_so g.K.PartialEq.eq (hashed_by g.S.Hasher.Hasher.finish g.S.Hasher.Hasher.write g.S.BuildHasher.build_hasher g.K.Hash.hash_input c.args.hasher.now) c.args.setting c.store.new.memory (g.K.PartialEq.eq c.args.key)
-    xs c.args.key c.args.value c.store.result.0 (c.store.ensures.ends xs tries_to_insert c.args.key c.args.value (c.refresh.ensures xs has)
+    xs c.args.key c.args.value c.store.result.0 (c.store.ensures.ends xs tries_to_insert c.args.key c.args.value (c.refresh.ensures.holds xs has)
     (tries_this (hashed_by g.S.Hasher.Hasher.finish g.S.Hasher.Hasher.write g.S.BuildHasher.build_hasher g.K.Hash.hash_input c.args.hasher.now) c.args.setting c.args.key c.args.value _ _ c.hash_of-hash.ensures refl)) c.in-Ok-default.stop c.in-Ok-default.is-0 _ c.told_at.ensures).1) c.tried.ensures.found
 
 pub returns-in-Ok-default-clause-kept : goal.returns-in-Ok-default-clause-kept
@@ -74,5 +75,13 @@ returns-in-Ok-default-clause-kept g c =
     let r = c.requires in
     value_back c.store.result.1 c.args.key c.args.value _ c.tried.result c.tried.ensures.found c.tried.ensures.back (λ found.
     back_found (Some (node.Pair c.args.key c.args.value)) c.store.result.0 c.store.result.1
-    (c.store.ensures.back r.0 tries_to_insert c.args.key c.args.value (c.refresh.ensures r.0 r.1)
+    (c.store.ensures.back r.0 tries_to_insert c.args.key c.args.value (c.refresh.ensures.holds r.0 r.1)
     (tries_this (hashed_by g.S.Hasher.Hasher.finish g.S.Hasher.Hasher.write g.S.BuildHasher.build_hasher g.K.Hash.hash_input c.args.hasher.now) c.args.setting c.args.key c.args.value _ _ c.hash_of-hash.ensures refl)) c.in-Ok-default.stop c.in-Ok-default.is-0 found)
+
+pub returns-in-Err-default-clause-keeps : goal.returns-in-Err-default-clause-keeps
+returns-in-Err-default-clause-keeps g c = λ xs has.
+    refused _ _ c.refresh.ensures.none g.K.PartialEq.eq (hashed_by g.S.Hasher.Hasher.finish g.S.Hasher.Hasher.write g.S.BuildHasher.build_hasher g.K.Hash.hash_input) c.args.hasher c.args.setting xs (c.refresh.ensures.holds xs has) _ _ c.store.result.0 _ c.in-Err-default.is-0 (c.store.ensures.ran tries_to_insert c.args.key c.args.value (tries_this ((hashed_by g.S.Hasher.Hasher.finish g.S.Hasher.Hasher.write g.S.BuildHasher.build_hasher g.K.Hash.hash_input) c.args.hasher.now) c.args.setting c.args.key c.args.value _ _ c.hash_of-hash.ensures refl))
+
+pub returns-in-Ok-default-clause-keeps : goal.returns-in-Ok-default-clause-keeps
+returns-in-Ok-default-clause-keeps g c = λ xs has.
+    try_holds_on _ _ c.refresh.ensures.none g.K.PartialEq.eq (hashed_by g.S.Hasher.Hasher.finish g.S.Hasher.Hasher.write g.S.BuildHasher.build_hasher g.K.Hash.hash_input) c.args.hasher c.args.setting xs (c.refresh.ensures.holds xs has) _ _ c.args.key c.args.value c.store.result.0 (c.store.ensures.ends xs tries_to_insert c.args.key c.args.value (c.refresh.ensures.holds xs has) (tries_this ((hashed_by g.S.Hasher.Hasher.finish g.S.Hasher.Hasher.write g.S.BuildHasher.build_hasher g.K.Hash.hash_input) c.args.hasher.now) c.args.setting c.args.key c.args.value _ _ c.hash_of-hash.ensures refl)) (c.store.ensures.ran tries_to_insert c.args.key c.args.value (tries_this ((hashed_by g.S.Hasher.Hasher.finish g.S.Hasher.Hasher.write g.S.BuildHasher.build_hasher g.K.Hash.hash_input) c.args.hasher.now) c.args.setting c.args.key c.args.value _ _ c.hash_of-hash.ensures refl)) c.in-Ok-default.stop c.in-Ok-default.is-0 c.tried.result c.tried.ensures.stored c.tried.ensures.found

@@ -1,6 +1,7 @@
 -- It comes to its end, and rests then.
 use Rattle.papaya_owned.proofs.Owned.Lawful.{are_lawful}
 use Rattle.papaya_resting.proofs.Makes.{begins_ends, begins_holds, begins_refused}
+use Rattle.papaya_holds.proofs.Changes.{making_holds_none}
 use Rattle.papaya_resting.proofs.making.begin.Goals as goal
 
 pub run-requires : goal.run-requires
@@ -23,3 +24,16 @@ returns-clause-fault g c =
     begins_refused {V = g.row.V.Denot} g.K.PartialEq.eq _
     (are_lawful g.K.PartialEq.eq g.S.Hasher.Hasher.finish g.S.Hasher.Hasher.write g.S.BuildHasher.build_hasher g.K.Hash.hash_input c.args._hasher.now g.met.K.Eq.laws g.met.K.Hash.respects_eq)
     c.args.slot c.args.places c.max.result c.max.ensures r.initial r.table _ r.history.0 r.history.1 r.history.2 r.root r.used _ c.new-opening.ensures _ _ _ c.run.ensures
+
+pub returns-clause-bare : goal.returns-clause-bare
+returns-clause-bare g c = λ bare.
+    let r = c.requires in
+    making_holds_none _ _ bare (
+      _,
+      _,
+      _,
+      begins_ends {V = g.row.V.Denot} g.K.PartialEq.eq _
+          (are_lawful g.K.PartialEq.eq g.S.Hasher.Hasher.finish g.S.Hasher.Hasher.write g.S.BuildHasher.build_hasher g.K.Hash.hash_input c.args._hasher.now g.met.K.Eq.laws g.met.K.Hash.respects_eq)
+          c.args.slot c.args.places c.max.result c.max.ensures r.initial r.table _ r.history.0 r.history.1 r.history.2 r.root r.used _ c.new-opening.ensures,
+      c.run.ensures,
+    )

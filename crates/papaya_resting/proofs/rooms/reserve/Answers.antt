@@ -1,12 +1,18 @@
 -- By what the reservation comes to, after the refresh.
+use Rattle.papaya_owned.specs.Owned.{hashed_by}
 use Rattle.papaya_resting.proofs.Reservations.{room_holds, room_there, room_fault}
+use Rattle.papaya_holds.proofs.Changes.{room_holds_on}
 use Rattle.papaya_resting.proofs.rooms.reserve.Goals as goal
 
 pub returns-clause-holds : goal.returns-clause-holds
-returns-clause-holds g c = λ xs has. room_holds _ _ _ _ _ xs _ (c.make_room.ensures xs (c.refresh.ensures xs has))
+returns-clause-holds g c = λ xs has. room_holds _ _ _ _ _ xs _ (c.make_room.ensures.room xs (c.refresh.ensures.holds xs has))
 
 pub returns-clause-room : goal.returns-clause-room
-returns-clause-room g c = λ xs has. room_there _ _ _ _ _ xs _ (c.make_room.ensures xs (c.refresh.ensures xs has))
+returns-clause-room g c = λ xs has. room_there _ _ _ _ _ xs _ (c.make_room.ensures.room xs (c.refresh.ensures.holds xs has))
 
 pub returns-clause-fault : goal.returns-clause-fault
-returns-clause-fault g c = let r = c.requires in room_fault _ _ _ _ _ r.0 _ (c.make_room.ensures r.0 (c.refresh.ensures r.0 r.1))
+returns-clause-fault g c = let r = c.requires in room_fault _ _ _ _ _ r.0 _ (c.make_room.ensures.room r.0 (c.refresh.ensures.holds r.0 r.1))
+
+pub returns-clause-keeps : goal.returns-clause-keeps
+returns-clause-keeps g c = λ xs has.
+    room_holds_on _ _ c.refresh.ensures.none g.K.PartialEq.eq (hashed_by g.S.Hasher.Hasher.finish g.S.Hasher.Hasher.write g.S.BuildHasher.build_hasher g.K.Hash.hash_input) c.args.hasher c.args.setting xs (c.refresh.ensures.holds xs has) _ c.make_room.ensures.ran (room_holds _ _ _ _ _ xs _ (c.make_room.ensures.room xs (c.refresh.ensures.holds xs has)))

@@ -1,8 +1,14 @@
 -- By what the retaining comes to, after the refresh.
+use Rattle.papaya_holds.proofs.Changes.{sweep_holds_on}
+use Rattle.papaya_owned.specs.Owned.{hashed_by}
 use Rattle.papaya_resting.proofs.sweeps.retain.Goals as goal
 
 pub returns-clause-done : goal.returns-clause-done
-returns-clause-done g c = λ xs has. c.sift.ensures.done xs (c.refresh.ensures xs has)
+returns-clause-done g c = λ xs has. c.sift.ensures.done xs (c.refresh.ensures.holds xs has)
 
 pub returns-clause-refused : goal.returns-clause-refused
-returns-clause-refused g c = λ xs has. c.sift.ensures.refused xs (c.refresh.ensures xs has)
+returns-clause-refused g c = λ xs has. c.sift.ensures.refused xs (c.refresh.ensures.holds xs has)
+
+pub returns-clause-keeps : goal.returns-clause-keeps
+returns-clause-keeps g c = λ xs has.
+    sweep_holds_on _ _ c.refresh.ensures.none g.K.PartialEq.eq (hashed_by g.S.Hasher.Hasher.finish g.S.Hasher.Hasher.write g.S.BuildHasher.build_hasher g.K.Hash.hash_input) c.args.hasher c.args.setting xs (c.refresh.ensures.holds xs has) _ c.sift.ensures.ran

@@ -3,15 +3,20 @@ use Rattle.std.specs.Prelude.{None}
 use Rattle.papaya_asks.specs.Closures.{Removing, TestsAs}
 use Rattle.papaya_owned.specs.Owned.{hashed_by}
 use Rattle.papaya_resting.proofs.Done.{ends_as}
+use Rattle.papaya_resting.proofs.Keeps.{chosen_holds_on}
 use Rattle.papaya_resting.proofs.testing.remove_if.Goals as goal
 
 pub refresh-requires : goal.refresh-requires
 refresh-requires g c = (c.requires.holds.0, c.requires.holds.1)
 
 pub remove_if-requires : goal.remove_if-requires
-remove_if-requires g c = let r = c.requires.holds in record { holds = (r.0, c.refresh.ensures r.0 r.1, r.2) }
+remove_if-requires g c = let r = c.requires.holds in record { holds = (r.0, c.refresh.ensures.holds r.0 r.1, r.2) }
 
-pub returns : goal.returns
-returns g c = λ xs has.
+pub returns-clause-comes : goal.returns-clause-comes
+returns-clause-comes g c = λ xs has.
     ends_as g.K.PartialEq.eq (hashed_by g.S.Hasher.Hasher.finish g.S.Hasher.Hasher.write g.S.BuildHasher.build_hasher g.K.Hash.hash_input c.args.hasher.now) c.args.setting c.remove_if.new.memory (g.Q.Equivalent.equivalent c.args.asked.now) None xs
-    (Removing (TestsAs g.F.FnOnce c.args.test)) c.remove_if.result (c.remove_if.ensures xs (c.refresh.ensures xs has)) c.ended.new.last c.ended.ensures.words c.ended.result c.ended.ensures.done
+    (Removing (TestsAs g.F.FnOnce c.args.test)) c.remove_if.result (c.remove_if.ensures.comes xs (c.refresh.ensures.holds xs has)) c.ended.new.last c.ended.ensures.words c.ended.result c.ended.ensures.done
+
+pub returns-clause-keeps : goal.returns-clause-keeps
+returns-clause-keeps g c = λ xs has.
+    chosen_holds_on _ _ c.refresh.ensures.none g.K.PartialEq.eq (hashed_by g.S.Hasher.Hasher.finish g.S.Hasher.Hasher.write g.S.BuildHasher.build_hasher g.K.Hash.hash_input) c.args.hasher c.args.setting xs (c.refresh.ensures.holds xs has) _ _ (g.Q.Equivalent.equivalent c.args.asked.now) (Removing (TestsAs g.F.FnOnce c.args.test)) c.remove_if.result (c.remove_if.ensures.comes xs (c.refresh.ensures.holds xs has)) c.remove_if.ensures.ran

@@ -1,7 +1,8 @@
 -- By what the removal comes to in the order in which its pairs were stored.
+use Rattle.std.specs.Prelude.{[]}
 use Rattle.papaya_pairs.proofs.Orders.{left_same}
 use Rattle.papaya_seq_map.proofs.Kept.{either_rested, either_shown, holds_err, holds_ok}
-use Rattle.papaya_seq_map.proofs.Shows.{counts, seen_first, seen_held, shows_done, shows_refused, told_same}
+use Rattle.papaya_seq_map.proofs.Shows.{counts, seen_first, seen_held, seen_keeps, shows_done, shows_refused, told_same}
 use Rattle.papaya_seq_map.proofs.changes.take.Goals as goal
 
 pub remove-requires : goal.remove-requires
@@ -39,3 +40,7 @@ returns-clause-last g c =
     let held = c.map.invariant in
     either_shown _ _ _ _ _ c.remove.result _ _ _ _ _ _ (c.remove.ensures.removed held.0 held.1) (c.remove.ensures.refused held.0 held.1) _
     (seen_first _ _ _ _ held.0 held.1 c.map.inside.resting.tables _ _ _ _ c.map.view_is (g.Q.Equivalent.equivalent c.args.asked.now) (λ x y. g.met.Q.Equivalent.respects_eq c.args.asked.now x y))
+
+pub returns-clause-keeps : goal.returns-clause-keeps
+returns-clause-keeps g c =
+    let held = c.map.invariant in seen_keeps _ _ _ _ held.0 held.1 c.map.inside.resting.tables _ _ _ _ c.map.view_is [] _ (c.remove.ensures.keeps held.0 held.1)

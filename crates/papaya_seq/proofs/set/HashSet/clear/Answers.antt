@@ -1,11 +1,11 @@
 -- By the map's keys.
-use Rattle.std.specs.Prelude.{option_map}
+use Rattle.std.specs.Prelude.{[], option_map}
 use Rattle.std.specs.List.Sorted.{IsPermutation}
 use Rattle.std.specs.Map.{keys_of}
 use Rattle.std.proofs.Common.{ap, subst}
 use Rattle.std.proofs.lemmas.Result.{on_err_weaker}
-use Rattle.papaya_seq.specs.Sets.{Set}
-use Rattle.papaya_seq.proofs.Sets.{keys_in_order}
+use Rattle.papaya_seq.specs.Sets.{KeepsIn, Set, set_of}
+use Rattle.papaya_seq.proofs.Sets.{keys_held, keys_in_order}
 use Rattle.papaya_seq.proofs.set.HashSet.clear.Goals as goal
 
 pub returns-clause-refused : goal.returns-clause-refused
@@ -17,3 +17,7 @@ returns-clause-refused g c =
 pub returns-clause-last : goal.returns-clause-last
 returns-clause-last g c =
     let key = option_map (λ (x : g.row.K.Denot × Unit {0}). x.0) in (ap key c.clear.ensures.last.0, ap key c.clear.ensures.last.1)
+
+pub returns-clause-keeps : goal.returns-clause-keeps
+returns-clause-keeps g c =
+    subst (λ (x : Set g.row.K.Denot g.row.S.Denot). KeepsIn [] x (set_of c.clear.new.self)) c.self.view_is (keys_held [] c.self.inside.map c.clear.new.self c.clear.ensures.keeps)

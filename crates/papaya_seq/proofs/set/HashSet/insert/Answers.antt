@@ -1,11 +1,11 @@
 -- By the map's keys.
-use Rattle.std.specs.Prelude.{◌≡◌, None, Some, find, is_none, is_some, option_map, IfOk, OnOk, OnErr, MatchResult}
+use Rattle.std.specs.Prelude.{◌≡◌, [], ◌∷◌, None, Some, find, is_none, is_some, option_map, IfOk, OnOk, OnErr, MatchResult}
 use Rattle.std.specs.List.Sorted.{IsPermutation}
 use Rattle.std.specs.Map.{keys_of}
 use Rattle.std.proofs.Common.{◌∙◌, ap, sym, subst}
-use Rattle.papaya_seq_map.specs.Given.{put}
-use Rattle.papaya_seq.specs.Sets.{Set, put_in}
-use Rattle.papaya_seq.proofs.Sets.{key_found, keys_are_found, keys_in_order, keys_put, new_so}
+use Rattle.papaya_seq_map.specs.Given.{if_stored, put}
+use Rattle.papaya_seq.specs.Sets.{KeepsIn, Set, put_in, set_of}
+use Rattle.papaya_seq.proofs.Sets.{key_found, keys_are_found, keys_held, keys_in_order, keys_put, new_so}
 use Rattle.papaya_seq.proofs.set.HashSet.insert.Goals.{in-Ok, in-Err}
 use Rattle.papaya_seq.proofs.set.HashSet.insert.Goals as goal
 
@@ -55,4 +55,16 @@ returns-clause-last g c =
       | in-Err w ↦
           subst (λ r. MatchResult r (λ _. (taken ≡ find test c.args.self.now.elements) × (met ≡ Some c.args.element)) (λ _. (taken ≡ None) × (met ≡ None))) (sym w.result-is)
           (ap key w.in-Err.ensures.last.0, ap key w.in-Err.ensures.last.1)
+    ]
+
+pub returns-clause-keeps : goal.returns-clause-keeps
+returns-clause-keeps g c =
+    let old = c.self.inside.map in let new = c.insert.new.self in let x = c.args.element in
+    elim c.match-insert.branch [
+      | in-Ok w ↦
+          subst (λ r. KeepsIn (if_stored r x) c.args.self.now (set_of new)) (sym w.result-is)
+          (subst (λ (s : Set g.row.K.Denot g.row.S.Denot). KeepsIn (x ∷ []) s (set_of new)) c.self.view_is (keys_held ((x, tt) ∷ []) old new w.in-Ok.ensures.keeps))
+      | in-Err w ↦
+          subst (λ r. KeepsIn (if_stored r x) c.args.self.now (set_of new)) (sym w.result-is)
+          (subst (λ (s : Set g.row.K.Denot g.row.S.Denot). KeepsIn [] s (set_of new)) c.self.view_is (keys_held [] old new w.in-Err.ensures.keeps))
     ]

@@ -1,12 +1,12 @@
 -- By the map's keys.
-use Rattle.std.specs.Prelude.{find, is_some, option_map}
+use Rattle.std.specs.Prelude.{[], find, is_some, option_map}
 use Rattle.std.specs.List.Sorted.{IsPermutation}
 use Rattle.std.specs.Map.{keys_of}
 use Rattle.std.proofs.Common.{◌∙◌, ap, sym, subst}
 use Rattle.std.proofs.lemmas.Result.{IfOk-weaker, MatchResult-weaker, on_ok_weaker, on_err_weaker}
 use Rattle.papaya_seq_map.specs.Given.{left_by}
-use Rattle.papaya_seq.specs.Sets.{Set, left_in}
-use Rattle.papaya_seq.proofs.Sets.{key_found, keys_are_found, keys_in_order, keys_left}
+use Rattle.papaya_seq.specs.Sets.{KeepsIn, Set, left_in, set_of}
+use Rattle.papaya_seq.proofs.Sets.{key_found, keys_are_found, keys_held, keys_in_order, keys_left}
 use Rattle.papaya_seq.proofs.set.HashSet.remove.Goals as goal
 
 pub returns-clause-some : goal.returns-clause-some
@@ -36,3 +36,7 @@ returns-clause-last g c =
     MatchResult-weaker c.take.result c.take.ensures.last
     (λ _ so. (key_found test c.self.inside.map.pairs c.take.new.map.taken so.0 ∙ ap (λ (x : Set g.row.K.Denot g.row.S.Denot). find test x.elements) c.self.view_is, ap key so.1))
     (λ _ so. (ap key so.0, ap key so.1))
+
+pub returns-clause-keeps : goal.returns-clause-keeps
+returns-clause-keeps g c =
+    subst (λ (x : Set g.row.K.Denot g.row.S.Denot). KeepsIn [] x (set_of c.take.new.map)) c.self.view_is (keys_held [] c.self.inside.map c.take.new.map c.take.ensures.keeps)

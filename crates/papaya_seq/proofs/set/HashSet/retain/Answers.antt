@@ -1,12 +1,12 @@
 -- The map asks the closure about the keys alone.
 use denote.Param.Always.{always_mut, mut_by, mut_next}
-use Rattle.std.specs.Prelude.{filter, option_map}
+use Rattle.std.specs.Prelude.{[], filter, option_map}
 use Rattle.std.specs.List.Sorted.{IsPermutation}
 use Rattle.std.specs.Map.{keys_of}
 use Rattle.std.proofs.Common.{ap, of_calls, refl, subst}
 use Rattle.std.proofs.lemmas.Result.{on_ok_weaker, on_err_weaker}
-use Rattle.papaya_seq.specs.Sets.{KeepsElements, Set}
-use Rattle.papaya_seq.proofs.Sets.{kept_in_order, keys_in_order, keys_kept_of}
+use Rattle.papaya_seq.specs.Sets.{KeepsElements, KeepsIn, Set, set_of}
+use Rattle.papaya_seq.proofs.Sets.{kept_in_order, keys_held, keys_in_order, keys_kept_of}
 use Rattle.papaya_seq.proofs.set.HashSet.retain.Goals as goal
 
 pub retain-requires : goal.retain-requires
@@ -39,3 +39,7 @@ returns-clause-refused g c =
 pub returns-clause-last : goal.returns-clause-last
 returns-clause-last g c =
     let key = option_map (λ (x : g.row.K.Denot × Unit {0}). x.0) in (ap key c.retain.ensures.last.0, ap key c.retain.ensures.last.1)
+
+pub returns-clause-keeps : goal.returns-clause-keeps
+returns-clause-keeps g c =
+    subst (λ (x : Set g.row.K.Denot g.row.S.Denot). KeepsIn [] x (set_of c.retain.new.self)) c.self.view_is (keys_held [] c.self.inside.map c.retain.new.self c.retain.ensures.keeps)

@@ -1,6 +1,7 @@
 -- By what the clearing comes to.
+use Rattle.std.specs.Prelude.{[]}
 use Rattle.papaya_resting.proofs.Lasts.{none_in, none_named}
-use Rattle.papaya_seq_map.proofs.Shows.{counts, either_rests, seen_held, shows_none, shows_refused}
+use Rattle.papaya_seq_map.proofs.Shows.{counts, either_rests, seen_held, seen_keeps, shows_none, shows_refused}
 use Rattle.papaya_seq_map.proofs.map.HashMap.clear.Goals as goal
 
 pub clear-requires : goal.clear-requires
@@ -32,3 +33,7 @@ returns-clause-refused g c =
 
 pub returns-clause-last : goal.returns-clause-last
 returns-clause-last g c = (none_in _, none_in _)
+
+pub returns-clause-keeps : goal.returns-clause-keeps
+returns-clause-keeps g c =
+    let held = c.self.invariant in seen_keeps _ _ _ _ held.0 held.1 c.self.inside.resting.tables _ _ _ _ c.self.view_is [] _ (c.clear.ensures.keeps held.0 held.1)

@@ -1,6 +1,6 @@
 -- By what the insertion comes to in the order in which its pairs were stored.
 use Rattle.papaya_seq_map.proofs.Kept.{either_rested, either_shown, holds_err, holds_ok}
-use Rattle.papaya_seq_map.proofs.Shows.{counts, seen_first, seen_held, shows_done, shows_refused, told_same}
+use Rattle.papaya_seq_map.proofs.Shows.{counts, seen_first, seen_held, seen_keeps, shows_done, shows_refused, told_same}
 use Rattle.papaya_seq_map.proofs.map.HashMap.insert.Goals as goal
 use Rattle.papaya_pairs.proofs.Orders.{left_and}
 
@@ -39,3 +39,7 @@ returns-clause-last g c =
     let held = c.self.invariant in
     either_shown _ _ _ _ _ c.insert.result _ _ _ _ _ _ (c.insert.ensures.stored held.0 held.1) (c.insert.ensures.refused held.0 held.1) _
     (seen_first _ _ _ _ held.0 held.1 c.self.inside.resting.tables _ _ _ _ c.self.view_is (g.K.PartialEq.eq c.args.key) (g.met.K.Eq.laws.congr c.args.key))
+
+pub returns-clause-keeps : goal.returns-clause-keeps
+returns-clause-keeps g c =
+    let held = c.self.invariant in seen_keeps _ _ _ _ held.0 held.1 c.self.inside.resting.tables _ _ _ _ c.self.view_is _ _ (c.insert.ensures.keeps held.0 held.1)

@@ -1,6 +1,7 @@
 -- The one shard says it, and its words show as many pairs.
 use Rattle.std.proofs.Common.{◌∙◌}
-use Rattle.papaya_seq_map.proofs.Shows.{seen_as_many, seen_apart}
+use Rattle.papaya_holds.proofs.Changes.{holds_its_own}
+use Rattle.papaya_seq_map.proofs.Shows.{seen_among, seen_as_many, seen_apart}
 use Rattle.papaya_seq_map.proofs.map.HashMap.len.Goals as goal
 
 pub count-requires : goal.count-requires
@@ -10,5 +11,6 @@ pub returns : goal.returns
 returns g c =
     let held = c.self.invariant in record {
       len = c.count.ensures held.0 held.1 ∙ seen_as_many _ _ _ _ held.0 held.1 c.self.inside.resting.tables _ _ _ _ c.self.view_is;
+      held = seen_among _ _ _ _ held.0 held.1 c.self.inside.resting.tables _ _ _ _ c.self.view_is (holds_its_own _ _ _ _ held.0 held.1);
       apart = seen_apart _ _ _ _ held.0 held.1 c.self.inside.resting.tables _ _ _ _ c.self.view_is;
     }

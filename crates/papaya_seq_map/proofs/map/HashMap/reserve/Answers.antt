@@ -1,6 +1,7 @@
 -- No pair has changed.
+use Rattle.std.specs.Prelude.{[]}
 use Rattle.papaya_resting.proofs.Lasts.{none_in, none_named}
-use Rattle.papaya_seq_map.proofs.Shows.{counts, seen_held, shown_as}
+use Rattle.papaya_seq_map.proofs.Shows.{counts, seen_held, seen_keeps, shown_as}
 use Rattle.papaya_seq_map.proofs.map.HashMap.reserve.Goals as goal
 
 pub reserve-requires : goal.reserve-requires
@@ -22,3 +23,7 @@ returns-clause-pairs g c =
 
 pub returns-clause-last : goal.returns-clause-last
 returns-clause-last g c = (none_in _, none_in _)
+
+pub returns-clause-keeps : goal.returns-clause-keeps
+returns-clause-keeps g c =
+    let held = c.self.invariant in seen_keeps _ _ _ _ held.0 held.1 c.self.inside.resting.tables _ _ _ _ c.self.view_is [] _ (c.reserve.ensures.keeps held.0 held.1)

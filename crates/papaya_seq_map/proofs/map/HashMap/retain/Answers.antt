@@ -1,7 +1,8 @@
 -- By what the retaining comes to in the order in which its pairs were stored.
+use Rattle.std.specs.Prelude.{[]}
 use Rattle.papaya_sifts.specs.Retaining.{KeepsOf}
 use Rattle.papaya_resting.proofs.Lasts.{none_in, none_named}
-use Rattle.papaya_seq_map.proofs.Shows.{counts, seen_held, shows_kept, shows_passing, shows_refused, some_rest}
+use Rattle.papaya_seq_map.proofs.Shows.{counts, seen_held, seen_keeps, shows_kept, shows_passing, shows_refused, some_rest}
 use Rattle.papaya_seq_map.proofs.map.HashMap.retain.Goals as goal
 
 pub retain-requires-clause-holds : goal.retain-requires-clause-holds
@@ -38,3 +39,7 @@ returns-clause-refused g c =
 
 pub returns-clause-last : goal.returns-clause-last
 returns-clause-last g c = (none_in _, none_in _)
+
+pub returns-clause-keeps : goal.returns-clause-keeps
+returns-clause-keeps g c =
+    let held = c.self.invariant in seen_keeps _ _ _ _ held.0 held.1 c.self.inside.resting.tables _ _ _ _ c.self.view_is [] _ (c.retain.ensures.keeps held.0 held.1)

@@ -1,6 +1,6 @@
 -- By what the insertion comes to in the order in which its pairs were stored.
 use Rattle.papaya_seq_map.proofs.Kept.{each_rested, each_shown, holds_err, holds_found, holds_stored}
-use Rattle.papaya_seq_map.proofs.Shows.{counts, seen_first, seen_held, shows_found, shows_refused, shows_stored}
+use Rattle.papaya_seq_map.proofs.Shows.{counts, seen_first, seen_held, seen_keeps, shows_found, shows_refused, shows_stored}
 use Rattle.papaya_seq_map.proofs.map.HashMap.try_insert.Goals as goal
 
 pub try_insert-requires : goal.try_insert-requires
@@ -38,3 +38,7 @@ returns-clause-last g c =
     let held = c.self.invariant in
     each_shown _ _ _ _ _ _ _ c.try_insert.result _ _ _ _ _ _ _ _ _ (c.try_insert.ensures.stored held.0 held.1) (c.try_insert.ensures.found held.0 held.1) (c.try_insert.ensures.refused held.0 held.1) _
     (seen_first _ _ _ _ held.0 held.1 c.self.inside.resting.tables _ _ _ _ c.self.view_is (g.K.PartialEq.eq c.args.key) (g.met.K.Eq.laws.congr c.args.key))
+
+pub returns-clause-keeps : goal.returns-clause-keeps
+returns-clause-keeps g c =
+    let held = c.self.invariant in seen_keeps _ _ _ _ held.0 held.1 c.self.inside.resting.tables _ _ _ _ c.self.view_is _ _ (c.try_insert.ensures.keeps held.0 held.1)

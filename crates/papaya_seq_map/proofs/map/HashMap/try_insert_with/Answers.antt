@@ -6,7 +6,7 @@ use Rattle.papaya_asks.specs.Closures.{Storing}
 use Rattle.papaya_asks.specs.declared.refused.RefusedKey.{RefusedKey}
 use Rattle.papaya_owned.specs.Owned.{hashed_by}
 use Rattle.papaya_seq_map.proofs.Done.{comes_rests, room_alone, shows_changed, shows_unchanged}
-use Rattle.papaya_seq_map.proofs.Shows.{counts, seen_first, seen_held}
+use Rattle.papaya_seq_map.proofs.Shows.{counts, seen_first, seen_held, seen_keeps}
 use Rattle.papaya_seq_map.proofs.map.HashMap.try_insert_with.Goals as goal
 
 pub try_insert_with-requires : goal.try_insert_with-requires
@@ -50,3 +50,7 @@ returns-clause-fault g c =
     let held = c.self.invariant in
     room_alone g.K.PartialEq.eq (hashed_by g.S.Hasher.Hasher.finish g.S.Hasher.Hasher.write g.S.BuildHasher.build_hasher g.K.Hash.hash_input c.self.inside.hasher) c.self.inside.resting.setting c.try_insert_with.new.memory c.try_insert_with.new.last (g.K.PartialEq.eq c.args.key) (Some c.args.key) held.0
     (Storing (λ value. FnOnceReturns g.B.FnOnce c.args.begin tt value)) (λ (e : RefusedKey _). e.fault) c.try_insert_with.result (c.try_insert_with.ensures.comes held.0 held.1) (λ x. x)
+
+pub returns-clause-keeps : goal.returns-clause-keeps
+returns-clause-keeps g c =
+    let held = c.self.invariant in seen_keeps _ _ _ _ held.0 held.1 c.self.inside.resting.tables _ _ _ _ c.self.view_is _ _ (c.try_insert_with.ensures.keeps held.0 held.1)

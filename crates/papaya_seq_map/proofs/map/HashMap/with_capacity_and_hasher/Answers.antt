@@ -1,8 +1,8 @@
 -- Nothing has happened to its memory before.
 use Rattle.seize_alone.specs.Alone.{nothing_yet, registered}
-use Rattle.std.proofs.Common.{true, inr}
+use Rattle.std.proofs.Common.{◌∙◌, refl, true, inr}
 use Rattle.std.proofs.lemmas.Result.{err_from_is_err_and}
-use Rattle.papaya_resting.proofs.Makes.{nothing_happened, slot_refused, taken_inside}
+use Rattle.papaya_resting.proofs.Makes.{nothing_happened, nothing_there, slot_refused, taken_inside}
 use Rattle.papaya_resting.proofs.Lasts.{none_in, none_named}
 use Rattle.papaya_pairs.proofs.Orders.{none_left}
 use Rattle.papaya_seq_map.proofs.Shows.{counts, shown}
@@ -30,3 +30,6 @@ returns-in_err-slot-clause-fault g c =
 
 pub returns-clause-last : goal.returns-clause-last
 returns-clause-last g c = (none_in _, none_in _)
+
+pub returns-clause-held : goal.returns-clause-held
+returns-clause-held g c = c.in_ok-setting.ensures.bare (λ b. c.in_ok-slot.ensures.spares.values b refl ∙ nothing_there {K = g.row.K.Denot} {V = g.row.V.Denot} c.in_ok-memory.memory c.in_ok-memory.ensures b)
