@@ -1,0 +1,11 @@
+pub mod Alike
+pub mod Turns
+pub mod Numbers
+pub mod RowSteps
+pub mod Follows
+pub mod OnSlots
+pub mod Handing
+pub mod Calls
+pub mod Quiet
+pub mod Rows
+pub mod Makings

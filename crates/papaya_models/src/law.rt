@@ -1,0 +1,52 @@
+//! What is promised of the waiting sets, where calls come one after another.
+ghost use Rattle.std.specs.Prelude.{Option, ℕ, Bool};
+ghost use Rattle.papaya_models.specs.Calls.{CallsFollow, HandingIsByModel, InsidesFollow, MoreThingsFollow, RowsWithinBegin, RowsWithinEnd, RowsWithinGoOn};
+ghost use Rattle.papaya_models.specs.Follows.{FollowsAtFirst, IdleEventsFollow};
+ghost use Rattle.papaya_models.specs.OnSlots.{SlotEventsBegin, SlotEventsGoOn, SlotEventsEnd};
+ghost use Rattle.papaya_models.specs.Others.{MakingsFollow, MapsAreByModel};
+ghost use Rattle.papaya_models.specs.Rows.{EventsAreRows};
+ghost use Rattle.papaya_models.specs.Turns.{TurnsBegin, RowsBegin, RowsGoOn, RowsEnd, EventsFollow, UsersFollow};
+
+/// Rows run to their ends, one after another, while users make, link and unlink blocks between them: so it is at first, a row is under way once it has begun, and
+/// goes on so with each of its steps, and once its caller rests it has reclaimed what the waiting sets say of it, in that order. What happens between rows
+/// changes the sets by what is left over alone.
+pub fn rows_run_in_turn<T>()
+    ensures at_first { (defers : T → Option ℕ) (batch_size roots : ℕ) → TurnsBegin T defers batch_size roots }
+    ensures begins { (defers : T → Option ℕ) (batch_size roots : ℕ) → RowsBegin T defers batch_size roots }
+    ensures goes_on { (defers : T → Option ℕ) (batch_size roots : ℕ) → RowsGoOn T defers batch_size roots }
+    ensures ends { (defers : T → Option ℕ) (batch_size roots : ℕ) → RowsEnd T defers batch_size roots }
+    ensures between { (defers : T → Option ℕ) (batch_size roots : ℕ) → EventsFollow T defers batch_size roots }
+    ensures users { (defers : T → Option ℕ) (batch_size roots : ℕ) → UsersFollow T defers batch_size roots }
+{}
+
+/// Calls hand over what has left their maps. After a step of a call that is none of a row the waiting sets are alike still; one that begins a row within the call
+/// is in the midst of it, and goes on so, and once the row has run, and was told as what it is, the sets are alike again. Further things that come change
+/// nothing. A slot within a section is active in the sets of the model, and an event that hands over under such a slot, and reclaims nothing, is by the model.
+pub fn calls_follow_the_model<K, V, S>()
+    ensures more { MoreThingsFollow K V }
+    ensures calls { (same : K → K → Bool) (hash : K → ℕ) → CallsFollow K V S same hash }
+    ensures rows_begin { (same : K → K → Bool) (hash : K → ℕ) → RowsWithinBegin K V S same hash }
+    ensures rows_go_on { (same : K → K → Bool) (hash : K → ℕ) → RowsWithinGoOn K V S same hash }
+    ensures rows_end { RowsWithinEnd K V }
+    ensures insides { InsidesFollow K V }
+    ensures by_model { HandingIsByModel K V }
+{}
+
+/// The waiting sets of blocks are those of the model, by the things that are noted in the blocks. So it is before all events, and after an event that does
+/// nothing to them. An event that is a row on a slot begins so, and goes on with each step of the row; where the row has ended, the event has reclaimed what
+/// the model reclaims, in that order, and the sets are those of the model again. Which row an event of guards and registrations is, clause `rows` says.
+pub fn events_follow_the_model<K, V, S>()
+    ensures at_first { FollowsAtFirst K V }
+    ensures idle { IdleEventsFollow K V }
+    ensures begins { SlotEventsBegin K V }
+    ensures goes_on { (same : K → K → Bool) (hash : K → ℕ) → SlotEventsGoOn K V S same hash }
+    ensures ends { SlotEventsEnd K V }
+    ensures rows { EventsAreRows K V }
+{}
+
+/// A making of a map leaves the sets alike with each of its steps, and an event that hands nothing over and reclaims nothing is by the model, as the making of a
+/// map is, and its end.
+pub fn maps_follow_the_model<K, V, S>()
+    ensures makings { (same : K → K → Bool) (hash : K → ℕ) → MakingsFollow K V S same hash }
+    ensures by_model { MapsAreByModel K V }
+{}
