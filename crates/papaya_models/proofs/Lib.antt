@@ -9,3 +9,5 @@ pub mod Calls
 pub mod Quiet
 pub mod Rows
 pub mod Makings
+pub mod Ends
+pub mod EndsOver

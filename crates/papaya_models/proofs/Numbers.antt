@@ -20,19 +20,18 @@ use Rattle.papaya_promises.proofs.Shelters.Rows.{things_are}
 use Rattle.papaya_models.specs.Alike.{IsOneToOne}
 use Rattle.papaya_models.specs.Numbers.{things_of, HasNumber, EachIsOnce, IsOfRow, AreOfRow}
 
--- two things with one number
-
-numbers_once : (things : List Thing) (x y : Thing) → is_in same_thing x things ≡ true → is_in same_thing y things ≡ true → number_in things x ≡ number_in things y → x ≡ y
-numbers_once [] x y p q e = absurd (cc p)
-numbers_once (z ∷ things) x y p q e = by (same_thing x z) (same_thing y z) refl refl p q e (numbers_once things x y)
+-- two things with one number, of which one came into a map
+pub numbers_once : (things : List Thing) (x y : Thing) → is_in same_thing x things ≡ true → number_in things x ≡ number_in things y → x ≡ y
+numbers_once [] x y p e = absurd (cc p)
+numbers_once (z ∷ things) x y p e = by (same_thing x z) (same_thing y z) refl refl p e (numbers_once things x y)
   where
-    by : (a b : Bool) → same_thing x z ≡ a → same_thing y z ≡ b → (a || is_in same_thing x things) ≡ true → (b || is_in same_thing y things) ≡ true
+    by : (a b : Bool) → same_thing x z ≡ a → same_thing y z ≡ b → (a || is_in same_thing x things) ≡ true
         → (if a then 0 else suc (number_in things x)) ≡ (if b then 0 else suc (number_in things y))
-        → (is_in same_thing x things ≡ true → is_in same_thing y things ≡ true → number_in things x ≡ number_in things y → x ≡ y) → x ≡ y
-    by true true i j p q e ih = things_are x z i ∙ sym (things_are y z j)
-    by true false i j p q e ih = absurd (omega (arith, e))
-    by false true i j p q e ih = absurd (omega (arith, e))
-    by false false i j p q e ih = ih p q (omega (arith, e))
+        → (is_in same_thing x things ≡ true → number_in things x ≡ number_in things y → x ≡ y) → x ≡ y
+    by true true i j p e ih = things_are x z i ∙ sym (things_are y z j)
+    by true false i j p e ih = absurd (omega (arith, e))
+    by false true i j p e ih = absurd (omega (arith, e))
+    by false false i j p e ih = ih p (omega (arith, e))
 
 -- others that come behind them change no number
 
@@ -57,7 +56,7 @@ module _ (more : List Thing) where
 
 -- a role is that of one thing
 
-one_thing : (x y : Thing) (r : Role) → IsOfThing x r → IsOfThing y r → x ≡ y
+pub one_thing : (x y : Thing) (r : Role) → IsOfThing x r → IsOfThing y r → x ≡ y
 one_thing (APair n) (APair k) r p q = ap APair (cc (p, q))
 one_thing (APair n) (ATable t) r p q = absurd (let a = q.1 in cc (p, a))
 one_thing (ATable t) (APair n) r p q = absurd (let a = p.1 in cc (a, q))
@@ -73,7 +72,7 @@ has_one known things once = record {
       let same = one_thing p.0 q.0 (known.roles b) p.1 q.1 in
       sym p.3 ∙ ap (number_in things) same ∙ q.3;
   right = λ b d n p q.
-      let same = numbers_once things p.0 q.0 p.2 q.2 (p.3 ∙ sym q.3) in
+      let same = numbers_once things p.0 q.0 p.2 (p.3 ∙ sym q.3) in
       once b d q.0 (subst (λ (x : Thing). IsOfThing x (known.roles b)) same p.1) q.1;
 }
 

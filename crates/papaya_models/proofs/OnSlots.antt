@@ -93,7 +93,7 @@ both_more {Y = Y} f done effects back taken p q =
     flat_map-append f done effects ∙ ap (λ (xs : List Y). xs ++ flat_map f effects) p ∙ ap (λ (xs : List Y). back ++ xs) q
 
 -- noted as at first, or free
-noted_still : (r first after : Role) → (r ≡ first) ⊎ (r ≡ role.Free) → (after ≡ r) ⊎ (after ≡ role.Free) → (after ≡ first) ⊎ (after ≡ role.Free)
+pub noted_still : (r first after : Role) → (r ≡ first) ⊎ (r ≡ role.Free) → (after ≡ r) ⊎ (after ≡ role.Free) → (after ≡ first) ⊎ (after ≡ role.Free)
 noted_still r first after (inl p) (inl q) = inl (q ∙ p)
 noted_still r first after (inr p) (inl q) = inr (q ∙ p)
 noted_still r first after p (inr q) = inr q

@@ -1,5 +1,5 @@
 -- Rows that run to their ends one after another, as they begin, go on and end, and what happens between them.
-use Rattle.std.specs.Prelude.{Option, IsSome}
+use Rattle.std.specs.Prelude.{Option, Some, None, IsSome}
 use Rattle.std.proofs.Common.{◌≡◌, ◌≤◌, ◌<◌, ◌^◌, ◌+◌, ℕ, suc, true, List, [], ◌∷◌, ◌++◌, refl, ap, sym, subst}
 use Rattle.std.proofs.Math.Path.{fun_ext}
 use Rattle.std.proofs.lemmas.List.{append-nil}
@@ -8,7 +8,7 @@ use Rattle.seize.specs.WaitingSets.{Change, Sets, at_start as sets_at_start}
 use Rattle.seize.specs.World.{World, Row, Rests, Request, Steps', Event, Begin, Step, Ends, LeavesOver, Relinks, Clears, Happens, Runs, Hand, Handed, IsInside, at_start}
 use Rattle.seize.specs.declared.states.TheConstants.{LAST_SLOT}
 use Rattle.seize_words.specs.Mem.{value_at}
-use Rattle.seize_waiting.specs.Held.{count}
+use Rattle.seize_waiting.specs.Held.{count, Every}
 use Rattle.seize_moves.proofs.State.Ghost.{Life, IsFree, IsOwned, IsLinked, IsUnlinked, IsDeferring, IsDeferred, IsPending, IsIn, IsDoomed, IsLeft}
 use Rattle.seize_rule.proofs.Points.Aside.{HandFits, is_handed}
 use Rattle.seize_rule.proofs.Words.Shows.{lives}
@@ -18,7 +18,7 @@ use Rattle.seize_sets.proofs.Turns.All.{rows_follow, turns_shown, start_shown}
 use Rattle.seize_sets.proofs.Turns.Append.{turns_append}
 use Rattle.seize_sets.proofs.Turns.Begins.{Shown}
 use Rattle.seize_alone.specs.Alone.{History, IsHistory, at_rest}
-use Rattle.seize_alone.proofs.Laws.{waiting_was_handed, carriers_are_there, insides_are_active}
+use Rattle.seize_alone.proofs.Laws.{waiting_was_handed, carriers_are_there, carriers_have_lists, insides_are_active}
 use Rattle.seize_alone.proofs.Whole.Register.{steps_more, steps_end}
 use Rattle.papaya_rule.specs.InWorld.{AllUsers}
 use Rattle.papaya_models.specs.Alike.{AllAre}
@@ -121,6 +121,10 @@ module _ {T : Type 0} (defers : T → Option ℕ) (batch_size roots : ℕ) where
     all_there =
         all_are (λ b. IsSome (value_at w.memory b)) (sets_of batch_size before) shown.models.unused
         (λ b ne. there b (waiting_was_handed defers batch_size roots w.memory so_far history small b ne)) (carriers_are_there defers batch_size roots w.memory so_far history small)
+
+    -- the values behind which others wait have lists
+    pub all_have_lists : Every (λ f. (value : T) → value_at w.memory f.behind ≡ Some value → defers value ≡ None → ⊥) (sets_of batch_size before).further
+    all_have_lists = carriers_have_lists defers batch_size roots w.memory so_far history small
 
     -- a slot within a section is active in them
     pub inside_active : (s : ℕ) → IsInside (w.uses s) → 1 ≤ count s (sets_of batch_size before).active

@@ -6,3 +6,4 @@ pub mod OnSlots
 pub mod Calls
 pub mod Rows
 pub mod Others
+pub mod Ends

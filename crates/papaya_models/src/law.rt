@@ -1,6 +1,7 @@
 //! What is promised of the waiting sets, where calls come one after another.
 ghost use Rattle.std.specs.Prelude.{Option, ℕ, Bool};
 ghost use Rattle.papaya_models.specs.Calls.{CallsFollow, HandingIsByModel, InsidesFollow, MoreThingsFollow, RowsWithinBegin, RowsWithinEnd, RowsWithinGoOn};
+ghost use Rattle.papaya_models.specs.Ends.{EndsBegin, EndsEnd, EndsGoOn};
 ghost use Rattle.papaya_models.specs.Follows.{FollowsAtFirst, IdleEventsFollow};
 ghost use Rattle.papaya_models.specs.OnSlots.{SlotEventsBegin, SlotEventsGoOn, SlotEventsEnd};
 ghost use Rattle.papaya_models.specs.Others.{MakingsFollow, MapsAreByModel};
@@ -44,9 +45,13 @@ pub fn events_follow_the_model<K, V, S>()
     ensures rows { EventsAreRows K V }
 {}
 
-/// A making of a map leaves the sets alike with each of its steps, and an event that hands nothing over and reclaims nothing is by the model, as the making of a
-/// map is, and its end.
+/// A making of a map leaves the sets alike with each of its steps. Where a map ends, what is behind a table leaves the waiting sets of blocks as that is left over,
+/// and those of the model as it is told that the table was taken; once the end is over, and no table is left over, the sets are alike again. An event that hands
+/// nothing over and reclaims nothing is by the model, as the making of a map is, and its end.
 pub fn maps_follow_the_model<K, V, S>()
     ensures makings { (same : K → K → Bool) (hash : K → ℕ) → MakingsFollow K V S same hash }
+    ensures ends_begin { EndsBegin K V }
+    ensures ends_go_on { (same : K → K → Bool) (hash : K → ℕ) → EndsGoOn K V S same hash }
+    ensures ends_end { EndsEnd K V }
     ensures by_model { MapsAreByModel K V }
 {}
