@@ -11,3 +11,4 @@ pub mod Rows
 pub mod Makings
 pub mod Ends
 pub mod EndsOver
+pub mod Reclaims

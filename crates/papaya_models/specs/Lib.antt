@@ -7,3 +7,4 @@ pub mod Calls
 pub mod Rows
 pub mod Others
 pub mod Ends
+pub mod Reclaims

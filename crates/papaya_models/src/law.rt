@@ -5,12 +5,13 @@ ghost use Rattle.papaya_models.specs.Ends.{EndsBegin, EndsEnd, EndsGoOn};
 ghost use Rattle.papaya_models.specs.Follows.{FollowsAtFirst, IdleEventsFollow};
 ghost use Rattle.papaya_models.specs.OnSlots.{SlotEventsBegin, SlotEventsGoOn, SlotEventsEnd};
 ghost use Rattle.papaya_models.specs.Others.{MakingsFollow, MapsAreByModel};
+ghost use Rattle.papaya_models.specs.Reclaims.{ReclaimingFollows, SlotsReclaim};
 ghost use Rattle.papaya_models.specs.Rows.{EventsAreRows};
 ghost use Rattle.papaya_models.specs.Turns.{TurnsBegin, RowsBegin, RowsGoOn, RowsEnd, EventsFollow, UsersFollow};
 
 /// Rows run to their ends, one after another, while users make, link and unlink blocks between them: so it is at first, a row is under way once it has begun, and
 /// goes on so with each of its steps, and once its caller rests it has reclaimed what the waiting sets say of it, in that order. What happens between rows
-/// changes the sets by what is left over alone.
+/// changes the sets by what is left over alone. A caller that reclaims all, alone, has reclaimed what the sets say, in that order, as it has done with slots.
 pub fn rows_run_in_turn<T>()
     ensures at_first { (defers : T → Option ℕ) (batch_size roots : ℕ) → TurnsBegin T defers batch_size roots }
     ensures begins { (defers : T → Option ℕ) (batch_size roots : ℕ) → RowsBegin T defers batch_size roots }
@@ -18,6 +19,7 @@ pub fn rows_run_in_turn<T>()
     ensures ends { (defers : T → Option ℕ) (batch_size roots : ℕ) → RowsEnd T defers batch_size roots }
     ensures between { (defers : T → Option ℕ) (batch_size roots : ℕ) → EventsFollow T defers batch_size roots }
     ensures users { (defers : T → Option ℕ) (batch_size roots : ℕ) → UsersFollow T defers batch_size roots }
+    ensures reclaims { (defers : T → Option ℕ) (left_over : T → Bool) → SlotsReclaim T defers left_over }
 {}
 
 /// Calls hand over what has left their maps. After a step of a call that is none of a row the waiting sets are alike still; one that begins a row within the call
@@ -36,6 +38,7 @@ pub fn calls_follow_the_model<K, V, S>()
 /// The waiting sets of blocks are those of the model, by the things that are noted in the blocks. So it is before all events, and after an event that does
 /// nothing to them. An event that is a row on a slot begins so, and goes on with each step of the row; where the row has ended, the event has reclaimed what
 /// the model reclaims, in that order, and the sets are those of the model again. Which row an event of guards and registrations is, clause `rows` says.
+/// Where all is reclaimed, the work on slots reclaims what the model reclaims, in that order.
 pub fn events_follow_the_model<K, V, S>()
     ensures at_first { FollowsAtFirst K V }
     ensures idle { IdleEventsFollow K V }
@@ -43,6 +46,7 @@ pub fn events_follow_the_model<K, V, S>()
     ensures goes_on { (same : K → K → Bool) (hash : K → ℕ) → SlotEventsGoOn K V S same hash }
     ensures ends { SlotEventsEnd K V }
     ensures rows { EventsAreRows K V }
+    ensures reclaiming { ReclaimingFollows K V }
 {}
 
 /// A making of a map leaves the sets alike with each of its steps. Where a map ends, what is behind a table leaves the waiting sets of blocks as that is left over,

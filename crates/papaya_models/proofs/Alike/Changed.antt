@@ -231,7 +231,7 @@ module _ (R : ℕ → ℕ → Type 0) (one : IsOneToOne R) where
   ended_alike n k w v h r = record { opens = h.opens; closes = h.closes; actives = h.actives; used = h.used; puts = rest_alike R one n k w.further v.further r h.puts }
 
   -- what a change leaves, and what it reclaims
-  changed_alike : (batch_size : ℕ) (c d : Change) (w v : Sets) → SetsAlike R w v → ChangeAlike R c d → AfterAlike R (changed batch_size c w) (changed batch_size d v)
+  pub changed_alike : (batch_size : ℕ) (c d : Change) (w v : Sets) → SetsAlike R w v → ChangeAlike R c d → AfterAlike R (changed batch_size c w) (changed batch_size d v)
   changed_alike batch_size c d w v h l = by c l
     where
       told : (c e : Change) → d ≡ e → AfterAlike R (changed batch_size c w) (changed batch_size e v) → AfterAlike R (changed batch_size c w) (changed batch_size d v)

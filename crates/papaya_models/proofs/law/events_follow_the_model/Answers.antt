@@ -1,6 +1,7 @@
 -- Events reclaim what the model reclaims.
 use Rattle.papaya_models.proofs.Follows.{follows_at_first, idle_events_follow}
 use Rattle.papaya_models.proofs.OnSlots.{slot_events_begin, slot_events_go_on, slot_events_end}
+use Rattle.papaya_models.proofs.Reclaims.{reclaiming_follows}
 use Rattle.papaya_models.proofs.Rows.{events_are_rows}
 use Rattle.papaya_models.proofs.law.events_follow_the_model.Goals as goal
 
@@ -12,4 +13,5 @@ returns c d = record {
   goes_on = slot_events_go_on _ _ _;
   ends = slot_events_end _ _;
   rows = events_are_rows _ _;
+  reclaiming = reclaiming_follows _ _;
 }

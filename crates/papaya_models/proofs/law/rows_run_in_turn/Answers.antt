@@ -1,4 +1,5 @@
 -- Rows that run to their ends one after another.
+use Rattle.papaya_models.proofs.Reclaims.{slots_reclaim}
 use Rattle.papaya_models.proofs.Turns.{turns_begin, rows_begin, rows_go_on, rows_end, events_follow, users_follow}
 use Rattle.papaya_models.proofs.law.rows_run_in_turn.Goals as goal
 
@@ -10,4 +11,5 @@ returns c d = record {
   ends = rows_end;
   between = events_follow;
   users = users_follow;
+  reclaims = slots_reclaim _;
 }
