@@ -1,7 +1,7 @@
 -- The end of a map is over: what is behind a table has left the waiting sets of blocks just where it has left those of the model.
-use Rattle.std.specs.Prelude.{◌⊎◌, ◌==◌, ◌||◌, ◌<◌, ◌^◌, not, cond, map, flat_map, Some, None, IsSome}
+use Rattle.std.specs.Prelude.{◌⊎◌, ◌==◌, ◌||◌, ◌<◌, ◌^◌, not, cond, map, flat_map, None, IsSome}
 use Rattle.std.specs.List.{AllByRecursion}
-use Rattle.std.proofs.Common.{◌≡◌, ℕ, Bool, true, false, List, [], ◌∷◌, ◌++◌, inl, inr, refl, ap, sym, subst, arith, eqb-true, ◌∙◌}
+use Rattle.std.proofs.Common.{◌≡◌, ℕ, Bool, true, false, List, [], ◌∷◌, ◌++◌, inl, inr, refl, ap, sym, subst, eqb-true, ◌∙◌}
 use Rattle.std.proofs.lemmas.Bool.{eq-eqb}
 use Rattle.std.proofs.lemmas.List.Concat.{flat_map-cons}
 use Rattle.seize_words.specs.Mem.{value_at}
@@ -29,7 +29,7 @@ use Rattle.papaya_effects.specs.declared.role.Role.TheVariants as role
 use Rattle.papaya_follows.specs.Blocks.{HasRole, ShowsBlocks}
 use Rattle.papaya_moments.proofs.OnSlots.{none_some}
 use Rattle.papaya_promises.specs.Sheltered.{IsOfThing}
-use Rattle.papaya_promises.proofs.Shelters.Rows.{tables_are}
+use Rattle.papaya_promises.proofs.Shelters.Rows.{things_are}
 use Rattle.papaya_models.specs.Alike.{FurtherAlike, SetsAlike}
 use Rattle.papaya_models.specs.Calls.{sets_on}
 use Rattle.papaya_models.specs.Ends.{WasTaken, FollowsInEnd, NoTableIsLeft, EndsEnd}
@@ -68,7 +68,7 @@ module _ (things : List Thing) where
 
       by : (q : Bool) → same_table t u ≡ q → (q || is_in same_table t ts) ≡ true → (is_in same_table t ts ≡ true → is_one_of (number t) (map number ts) ≡ true)
           → ((number t == number u) || is_one_of (number t) (map number ts)) ≡ true
-      by true e is ih = ap (λ (q : Bool). q || is_one_of (number t) (map number ts)) (eq-eqb (number t) (number u) (ap number (tables_are t u e)))
+      by true e is ih = ap (λ (q : Bool). q || is_one_of (number t) (map number ts)) (eq-eqb (number t) (number u) (ap (number_in things) (things_are (ATable t) (ATable u) e)))
       by false e is ih = later (number t == number u) (ih is)
 
   -- and one among these is of one that was taken

@@ -3,13 +3,11 @@ use Rattle.std.specs.Prelude.{flat_map, map}
 use Rattle.std.proofs.Common.{◌≡◌, ◌≤◌, ℕ, suc, List, [], ◌∷◌, ◌++◌, refl, ap, sym, subst, ◌∙◌}
 use Rattle.std.proofs.lemmas.List.Concat.{flat_map-cons}
 use Rattle.seize.specs.WaitingSets.{Change, Enters, Leaves, Refreshes, Retires, Flushes, Defers, Ends, ReclaimsAll, Sets, size, ended, all_changed}
-use Rattle.seize_waiting.specs.Handed.{HandsOverBy, HandOverBy}
+use Rattle.seize_waiting.specs.Handed.{HandOverBy}
 use Rattle.seize_waiting.specs.Held.{count}
 use Rattle.seize_waiting.proofs.Flushes.{retired_all_frame}
 use Rattle.seize_waiting.proofs.Laws.{active_slots_wait}
-use Rattle.papaya_schedules.specs.Model.{thing_back, number_in, handing, things_in, sets_in, changes_of}
-use Rattle.papaya_schedules.specs.Entry.{Entry}
-use Rattle.papaya_schedules.specs.Terms.{Terms}
+use Rattle.papaya_schedules.specs.Model.{number_in, handing, things_in, sets_in}
 use Rattle.papaya_schedules.specs.declared.effect.Effect.{Effect}
 use Rattle.papaya_schedules.specs.declared.effect.Effect.TheVariants as effect
 use Rattle.papaya_schedules.specs.declared.effect.Thing.{Thing}

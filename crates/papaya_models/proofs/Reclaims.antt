@@ -1,13 +1,11 @@
 -- What a caller reclaims that reclaims all, alone, as it has done with slots.
 use Rattle.std.specs.Prelude.{Option}
 use Rattle.std.proofs.Common.{◌≡◌, ◌<◌, ◌^◌, ◌+◌, ℕ, Bool, List, ◌++◌, refl, ap, sym, subst, ◌∙◌}
-use Rattle.seize_words.specs.Mem.{Mem}
 use Rattle.seize.specs.declared.states.TheConstants.{LAST_SLOT}
-use Rattle.seize.specs.ReclaimAll.{reclaiming_all}
-use Rattle.seize.specs.WaitingSets.{Change, ReclaimsAll, Sets, After, all_changed, all_reclaimed, at_start as sets_at_start}
+use Rattle.seize.specs.WaitingSets.{Change, ReclaimsAll, Sets, After, all_reclaimed, at_start as sets_at_start}
 use Rattle.seize.specs.World.{World, at_start}
 use Rattle.seize_rule.proofs.World.Rested.{start_rested}
-use Rattle.seize_sets.specs.Reclaims.{RunsOnSlots, Reclaims, NothingWaits}
+use Rattle.seize_sets.specs.Reclaims.{Reclaims, NothingWaits}
 use Rattle.seize_sets.proofs.Reclaims.Calls.{reclaims_by_calls}
 use Rattle.seize_sets.proofs.Reclaims.Ends.{Left, all_left_so}
 use Rattle.seize_sets.proofs.Reclaims.NeverTaken.{turns_past}
@@ -15,12 +13,9 @@ use Rattle.seize_sets.proofs.Turns.All.{turns_shown, start_shown}
 use Rattle.seize_sets.proofs.Turns.Append.{turns_append, changed_append}
 use Rattle.papaya_tables.specs.Nodes.{deferred_word}
 use Rattle.papaya_tables.specs.declared.node.Node.{Node}
-use Rattle.papaya_effects.specs.Known.{Known}
-use Rattle.papaya_schedules.specs.declared.effect.Thing.{Thing}
 use Rattle.papaya_models.specs.Alike.{SetsAlike}
-use Rattle.papaya_models.specs.Follows.{FollowsSets}
-use Rattle.papaya_models.specs.Numbers.{HasNumber, EachIsOnce}
-use Rattle.papaya_models.specs.Reclaims.{HasReclaimed, SlotsReclaim, ReclaimsByModel, ReclaimingFollows}
+use Rattle.papaya_models.specs.Numbers.{HasNumber}
+use Rattle.papaya_models.specs.Reclaims.{HasReclaimed, SlotsReclaim, ReclaimingFollows}
 use Rattle.papaya_models.specs.Turns.{sets_of, CameByTurns}
 use Rattle.papaya_models.proofs.Alike.Changed.{changed_alike}
 use Rattle.papaya_models.proofs.Numbers.{has_one}

@@ -3,11 +3,11 @@ use Rattle.std.specs.Prelude.{◌==◌, ◌⊎◌, nat_lt, flat_map, if◌then�
 use Rattle.std.proofs.Common.{◌≡◌, ℕ, ◌+◌, Bool, true, false, List, [], ◌∷◌, ◌++◌, inl, inr, refl, ap, sym, subst, arith, eqb-true, ◌∙◌}
 use Rattle.std.proofs.lemmas.List.{append-nil}
 use Rattle.std.proofs.lemmas.List.Concat.{flat_map-cons}
-use Rattle.seize_words.specs.Mem.{Mem, value_at}
+use Rattle.seize_words.specs.Mem.{value_at}
 use Rattle.seize_words.specs.declared.at.At.TheVariants.{Root, Used, Slot, Entry, Word}
 use Rattle.seize.specs.Law.{Effect, Taken, is_retired, IsSound}
 use Rattle.seize.specs.Sequence.{taken_in}
-use Rattle.seize.specs.World.{World, Step, Steps', times}
+use Rattle.seize.specs.World.{World, Steps', times}
 use Rattle.seize.specs.declared.states.TheConstants.{LAST_SLOT}
 use Rattle.seize_moves.proofs.State.Ghost.{Life, IsFree, IsOwned, IsLinked, IsUnlinked, IsDeferring, IsDeferred, IsPending, IsIn, IsDoomed, IsLeft, is_given}
 use Rattle.seize_rule.proofs.Rows.Effects.{IsOneStep}

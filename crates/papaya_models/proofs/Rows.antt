@@ -1,14 +1,13 @@
 -- Which row an event of guards and registrations is to the waiting sets.
 use Rattle.std.specs.Prelude.{◌==◌, if◌then◌else◌, Some}
-use Rattle.std.proofs.Common.{◌≡◌, ◌≢◌, ℕ, Bool, true, false, List, [], ◌∷◌, refl, ap, sym, ◌∙◌}
+use Rattle.std.proofs.Common.{◌≡◌, ◌≢◌, ℕ, Bool, List, [], ◌∷◌, refl, ap, sym, ◌∙◌}
 use Rattle.std.proofs.lemmas.Bool.{eq-eqb, ne_eqb}
 use Rattle.seize.specs.Sequence.{new_slot, entered_as, entered_at, changes}
 use Rattle.seize.specs.WaitingSets.{Change, Enters, Leaves, Refreshes}
 use Rattle.seize.specs.World.{Use, Vacant, Outside, Inside, Changing, IsInside, Register'}
 use Rattle.seize_sets.proofs.Slots.Least.{refused_changes}
 use Rattle.papaya_runs.specs.Present.{slot_of_registration, slot_of_guard}
-use Rattle.papaya_schedules.specs.Moment.{Moment}
-use Rattle.papaya_models.specs.Rows.{guards_at, RowsAre, NoRowsAre, EventsAreRows}
+use Rattle.papaya_models.specs.Rows.{guards_at, EventsAreRows}
 
 -- one guard more or less is on a slot
 if_so : (n k : ℕ) (xs : List Change) → n ≡ k → (if n == k then xs else []) ≡ xs

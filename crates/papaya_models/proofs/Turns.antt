@@ -4,8 +4,8 @@ use Rattle.std.proofs.Common.{◌≡◌, ◌≤◌, ◌<◌, ◌^◌, ◌+◌, �
 use Rattle.std.proofs.Math.Path.{fun_ext}
 use Rattle.std.proofs.lemmas.List.{append-nil}
 use Rattle.seize.specs.Sequence.{Turn, Whole, Between, IsBetween, IsUsers, Calls, TakesTurns, changes, ended_by}
-use Rattle.seize.specs.WaitingSets.{Change, Sets, at_start as sets_at_start}
-use Rattle.seize.specs.World.{World, Row, Rests, Request, Steps', Event, Begin, Step, Ends, LeavesOver, Relinks, Clears, Happens, Runs, Hand, Handed, IsInside, at_start}
+use Rattle.seize.specs.WaitingSets.{Change, at_start as sets_at_start}
+use Rattle.seize.specs.World.{World, Row, Rests, Request, Event, Begin, Step, Ends, LeavesOver, Relinks, Clears, Hand, Handed, IsInside, at_start}
 use Rattle.seize.specs.declared.states.TheConstants.{LAST_SLOT}
 use Rattle.seize_words.specs.Mem.{value_at}
 use Rattle.seize_waiting.specs.Held.{count, Every}
@@ -20,9 +20,8 @@ use Rattle.seize_sets.proofs.Turns.Begins.{Shown}
 use Rattle.seize_alone.specs.Alone.{History, IsHistory, at_rest}
 use Rattle.seize_alone.proofs.Laws.{waiting_was_handed, carriers_are_there, carriers_have_lists, insides_are_active}
 use Rattle.seize_alone.proofs.Whole.Register.{steps_more, steps_end}
-use Rattle.papaya_rule.specs.InWorld.{AllUsers}
 use Rattle.papaya_models.specs.Alike.{AllAre}
-use Rattle.papaya_models.specs.Turns.{sets_of, CameByTurns, IsInRow, HasRun, TurnsBegin, RowsBegin, RowsGoOn, RowsEnd, EventsFollow, UsersFollow}
+use Rattle.papaya_models.specs.Turns.{sets_of, CameByTurns, IsInRow, TurnsBegin, RowsBegin, RowsGoOn, RowsEnd, EventsFollow, UsersFollow}
 use Rattle.papaya_models.proofs.Alike.Again.{all_are}
 
 -- an event of users changes no waiting sets

@@ -29,7 +29,7 @@ use Rattle.papaya_executor.specs.declared.worker.Work.TheVariants.{OnSlot}
 use Rattle.papaya_follows.specs.Blocks.{ShowsBlocks}
 use Rattle.papaya_others.specs.Rows.{scene_then}
 use Rattle.papaya_models.specs.Alike.{SetsAlike}
-use Rattle.papaya_models.specs.Follows.{FollowsSets, FollowsModel, IsFollowed}
+use Rattle.papaya_models.specs.Follows.{FollowsSets, IsFollowed}
 use Rattle.papaya_models.specs.Numbers.{things_of, HasNumber, EachIsOnce, AreOfRow}
 use Rattle.papaya_models.specs.Turns.{sets_of, IsInRow}
 

@@ -1,5 +1,5 @@
 -- Waiting sets that are alike are so, too, by other numbers, where each number that stands in them has the same one still.
-use Rattle.std.proofs.Common.{◌≡◌, ◌≤◌, ℕ, ◌+◌, List, [], ◌∷◌, refl, arith}
+use Rattle.std.proofs.Common.{◌≡◌, ◌≤◌, ℕ, List, [], ◌∷◌, refl, arith}
 use Rattle.seize.specs.WaitingSets.{Batch, Further, Sets}
 use Rattle.seize_waiting.specs.Held.{same, count, weight_put, held_closed, all_held, Every, Tidy}
 use Rattle.seize_waiting.proofs.Tidy.{open_counts, opened_alike}

@@ -1,6 +1,6 @@
 -- Lists of numbers that are alike: what is behind them, and what is kept.
 use Rattle.std.specs.Prelude.{◌==◌, ◌||◌, not, map, filter}
-use Rattle.std.proofs.Common.{◌≡◌, ℕ, Bool, true, false, cond, List, [], ◌∷◌, ◌++◌, length, refl, ap, sym, subst, arith, eqb-true}
+use Rattle.std.proofs.Common.{◌≡◌, ℕ, Bool, true, false, cond, List, [], ◌∷◌, ◌++◌, length, refl, sym, subst, arith, eqb-true}
 use Rattle.std.proofs.lemmas.Bool.{eq-eqb, ne_eqb, eqb-false}
 use Rattle.seize.specs.WaitingSets.{Further, further_of, further_of_all, is_one_of}
 use Rattle.seize_waiting.specs.Changes.{kept}
