@@ -49,13 +49,14 @@ module _ (things : List Thing) where
   handing_ends : (slot : ℕ) (effects : List Effect) → HandNone effects → flat_map (handing things slot) effects ≡ map (λ b. Ends b) (map number (flat_map tables_taken effects))
   handing_ends slot [] all = refl
   handing_ends slot (e ∷ effects) all =
-      flat_map-cons (handing things slot) e effects ∙ by e all.0 ∙ ap (λ (ts : List Table). map (λ (b : ℕ). Ends b) (map number ts)) (sym (flat_map-cons tables_taken e effects))
+      flat_map-cons (handing things slot) e effects ∙ by e all.0 (handing_ends slot effects all.1) ∙ ap (λ (ts : List Table). map (λ (b : ℕ). Ends b) (map number ts)) (sym (flat_map-cons tables_taken e effects))
     where
-      by : (e : Effect) → HandsNone e → handing things slot e ++ flat_map (handing things slot) effects ≡ map (λ b. Ends b) (map number (tables_taken e ++ flat_map tables_taken effects))
-      by (effect.Retired x) is = absurd is
-      by (effect.Deferred n t) is = absurd is
-      by (effect.Taken t) is = ap (λ (cs : List Change). Ends (number t) ∷ cs) (handing_ends slot effects all.1)
-      by _ is = handing_ends slot effects all.1
+      by : (e : Effect) → HandsNone e → flat_map (handing things slot) effects ≡ map (λ b. Ends b) (map number (flat_map tables_taken effects))
+          → handing things slot e ++ flat_map (handing things slot) effects ≡ map (λ b. Ends b) (map number (tables_taken e ++ flat_map tables_taken effects))
+      by (effect.Retired x) is ih = absurd is
+      by (effect.Deferred n t) is ih = absurd is
+      by (effect.Taken t) is ih = ap (λ (cs : List Change). Ends (number t) ∷ cs) ih
+      by _ is ih = ih
 
   -- the number of one that was taken is among theirs
   number_there : (t : Table) (ts : List Table) → is_in same_table t ts ≡ true → is_one_of (number t) (map number ts) ≡ true
@@ -74,11 +75,12 @@ module _ (things : List Thing) where
   -- and one among these is of one that was taken
   taken_there : (P : Table → Type 0) (k : ℕ) (ts : List Table) → AllByRecursion P ts → is_one_of k (map number ts) ≡ true → (t : Table) × P t × (k ≡ number t)
   taken_there P k [] all is = absurd (cc is)
-  taken_there P k (t ∷ ts) all is = by (k == number t) refl is
+  taken_there P k (t ∷ ts) all is = by (k == number t) refl is (taken_there P k ts all.1)
     where
-      by : (q : Bool) → (k == number t) ≡ q → (q || is_one_of k (map number ts)) ≡ true → (u : Table) × P u × (k ≡ number u)
-      by true e is = (t, all.0, eqb-true k (number t) e)
-      by false e is = taken_there P k ts all.1 is
+      by : (q : Bool) → (k == number t) ≡ q → (q || is_one_of k (map number ts)) ≡ true → (is_one_of k (map number ts) ≡ true → (u : Table) × P u × (k ≡ number u))
+          → (u : Table) × P u × (k ≡ number u)
+      by true e is ih = (t, all.0, eqb-true k (number t) e)
+      by false e is ih = ih is
 
 module _ {K V : Type 0} (batch_size roots : ℕ) (things : List Thing) (sets : Sets) (first : Known) (i : ℕ) (done : List Effect) (known : Known) (w : World (Node K V)) (small : batch_size < 2 ^ 64)
     (once : EachIsOnce first) (r : FollowsInEnd batch_size roots things sets first i done known w) (m : Moment K V) (blocks : ShowsBlocks m known w) (no_table : NoTableIsLeft known i w)
@@ -127,8 +129,8 @@ module _ {K V : Type 0} (batch_size roots : ℕ) (things : List Thing) (sets : S
   same_place f g table has there = by (is_one_of f.behind r.ended) refl
     where
       none : (q : Bool) → is_one_of g.behind told ≡ q → is_one_of f.behind r.ended ≡ false → q ≡ false
-      none true e no = absurd (kept_both f g has (there no) e)
-      none false e no = refl
+      none true e out = absurd (kept_both f g has (there out) e)
+      none false e out = refl
 
       by : (q : Bool) → is_one_of f.behind r.ended ≡ q → is_one_of g.behind told ≡ is_one_of f.behind r.ended
       by true e = gone_both f g table has e ∙ sym e
@@ -139,16 +141,17 @@ module _ {K V : Type 0} (batch_size roots : ℕ) (things : List Thing) (sets : S
   kept_alike [] [] h t there = tt
   kept_alike [] (g ∷ gs) h t there = absurd h
   kept_alike (f ∷ fs) [] h t there = absurd h
-  kept_alike (f ∷ fs) (g ∷ gs) h t there = by (is_one_of f.behind r.ended) refl there
+  kept_alike (f ∷ fs) (g ∷ gs) h t there = by (is_one_of f.behind r.ended) refl there (kept_alike fs gs h.2 t.1)
     where
       by : (q : Bool) → is_one_of f.behind r.ended ≡ q → Every There (cond (not q) (f ∷ kept r.ended fs) (kept r.ended fs))
+          → (Every There (kept r.ended fs) → FurtherAlike (HasNumber first things) (kept r.ended fs) (kept told gs))
           → FurtherAlike (HasNumber first things) (cond (not q) (f ∷ kept r.ended fs) (kept r.ended fs)) (cond (not (is_one_of g.behind told)) (g ∷ kept told gs) (kept told gs))
-      by true e still =
+      by true e still ih =
           subst (λ (q : Bool). FurtherAlike (HasNumber first things) (kept r.ended fs) (cond (not q) (g ∷ kept told gs) (kept told gs)))
-          (sym (same_place f g t.0 h.1 (λ no. absurd (cc (e, no))) ∙ e)) (kept_alike fs gs h.2 t.1 still)
-      by false e still =
+          (sym (same_place f g t.0 h.1 (λ out. absurd (cc (e, out))) ∙ e)) (ih still)
+      by false e still ih =
           subst (λ (q : Bool). FurtherAlike (HasNumber first things) (f ∷ kept r.ended fs) (cond (not q) (g ∷ kept told gs) (kept told gs)))
-          (sym (same_place f g t.0 h.1 (λ no. still.0.1) ∙ e)) (h.0, h.1, kept_alike fs gs h.2 t.1 still.1)
+          (sym (same_place f g t.0 h.1 (λ out. still.0.1) ∙ e)) (h.0, h.1, ih still.1)
 
   -- the sets of blocks are these by now, and those of the model are those
   blocks_now : sets_of batch_size (r.before ++ map (λ b. Ends b) r.ended) ≡ with_further then_sets (kept r.ended then_sets.further)

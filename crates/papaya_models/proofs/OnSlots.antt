@@ -215,14 +215,14 @@ not_all (Defer' s b t) before after e = cc e
 module _ {K V : Type 0} where
   -- by what such a row does an event changes nothing more
   row_alone : (things : List Thing) (e : Event K V) (o : Outcome V) (effects : List Effect) (m : Moment K V) → AreOfRow effects → changes_by things e o effects m ≡ changes_by [] e o [] m
-  row_alone things (event.Enter guard registration) outcome.Done effects m all = refl
-  row_alone things (event.Own guard) (outcome.Slot s) effects m all = refl
-  row_alone things (event.DropGuard guard) outcome.Done effects m all = refl
-  row_alone things (event.Refresh guard) outcome.Done effects m all = refl
-  row_alone things (event.Flush guard) outcome.Done effects m all = refl
-  row_alone things event.ReclaimAll outcome.Done effects m all = refl
-  row_alone things event.Close outcome.Done effects m all = refl
-  row_alone things _ _ effects m all = none_handed things _ effects all
+  row_alone things (event.Enter guard registration) outcome.Done did m all = refl
+  row_alone things (event.Own guard) (outcome.Slot s) did m all = refl
+  row_alone things (event.DropGuard guard) outcome.Done did m all = refl
+  row_alone things (event.Refresh guard) outcome.Done did m all = refl
+  row_alone things (event.Flush guard) outcome.Done did m all = refl
+  row_alone things event.ReclaimAll outcome.Done did m all = refl
+  row_alone things event.Close outcome.Done did m all = refl
+  row_alone things _ _ did m all = none_handed things _ did all
 
   none_left : (request : Request) (before after : ℕ → Use) (e : Event K V) (o : Outcome V) (m v : Moment K V) → IsRowFor request before after e o v → left_last e o m ≡ []
   none_left request before after event.ReclaimAll outcome.Done m v is = absurd (not_all request before after is)

@@ -84,13 +84,14 @@ ends_quiet : (batch_size : ℕ) (things : List Thing) (slot : ℕ) (effects : Li
 ends_quiet batch_size things slot [] w all = refl
 ends_quiet batch_size things slot (e ∷ effects) w all =
     ap (λ (cs : List Change). (all_changed batch_size cs w).reclaimed) (flat_map-cons (handing things slot) e effects)
-    ∙ by e all.0
+    ∙ by e all.0 (λ v. ends_quiet batch_size things slot effects v all.1)
   where
-    by : (e : Effect) → HandsNone e → (all_changed batch_size (handing things slot e ++ flat_map (handing things slot) effects) w).reclaimed ≡ []
-    by (effect.Retired x) is = absurd is
-    by (effect.Deferred n t) is = absurd is
-    by (effect.Taken t) is = ends_quiet batch_size things slot effects (ended (number_in things (ATable t)) w) all.1
-    by _ is = ends_quiet batch_size things slot effects w all.1
+    by : (e : Effect) → HandsNone e → ((v : Sets) → (all_changed batch_size (flat_map (handing things slot) effects) v).reclaimed ≡ [])
+        → (all_changed batch_size (handing things slot e ++ flat_map (handing things slot) effects) w).reclaimed ≡ []
+    by (effect.Retired x) is ih = absurd is
+    by (effect.Deferred n t) is ih = absurd is
+    by (effect.Taken t) is ih = ih (ended (number_in things (ATable t)) w)
+    by _ is ih = ih w
 
 pub maps_are_by_model : (K V : Type 0) → MapsAreByModel K V
 maps_are_by_model K V terms log e slot are none_left hands back =
