@@ -29,7 +29,7 @@ module _ {T : Type 0} (defers : T → Option ℕ) (left_over : T → Bool) (batc
       let past = turns_past defers n batch_size refl small came.0 (at_start defers roots) v before sets_at_start (start_rested defers n batch_size refl roots) came.1 (λ s l. refl) in
       let left : Left defers n batch_size refl small i v w (sets_of batch_size before) = all_left_so defers n batch_size refl small i v w (sets_of batch_size before) shown past reclaims in
       let sets : sets_of batch_size (before ++ left.came.made) ≡ (all_reclaimed batch_size (sets_of batch_size before)).sets =
-          ap (λ (a : After). a.sets) (changed_append batch_size before left.came.made sets_at_start) ∙ ap (λ (a : After). a.sets) left.came.comes in
+      ap (λ (a : After). a.sets) (changed_append batch_size before left.came.made sets_at_start) ∙ ap (λ (a : After). a.sets) left.came.comes in
       record {
         after = before ++ left.came.made;
         came = (came.0 ++ left.came.turns, turns_append defers batch_size came.0 left.came.turns (at_start defers roots) v w before left.came.made came.1 left.came.took);

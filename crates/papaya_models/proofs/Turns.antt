@@ -89,7 +89,7 @@ module _ {T : Type 0} (defers : T → Option ℕ) (batch_size roots : ℕ) where
   users_follow w n before came (e ∷ events) all runs =
       let is = users_between e all.0 in
       let next : CameByTurns defers batch_size roots runs.0 (before ++ []) =
-          subst (λ (cs : List Change). CameByTurns defers batch_size roots runs.0 (before ++ cs)) is.1 (events_follow w runs.0 before came e is.0 runs.1) in
+      subst (λ (cs : List Change). CameByTurns defers batch_size roots runs.0 (before ++ cs)) is.1 (events_follow w runs.0 before came e is.0 runs.1) in
       users_follow runs.0 n before (subst (λ (cs : List Change). CameByTurns defers batch_size roots runs.0 cs) (append-nil before) next) events all.1 runs.2
 
   -- What stands in the waiting sets is there.
