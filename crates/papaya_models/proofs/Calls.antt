@@ -58,7 +58,7 @@ more_things_follow K V batch_size roots things more sets known w = (
 )
 
 -- blocks of things keep their roles, and so their numbers
-kept_numbers : (known known2 : Known) → KeepsRoles known known2 → (things : List Thing) (b n : ℕ) → HasNumber known things b n → HasNumber known2 things b n
+pub kept_numbers : (known known2 : Known) → KeepsRoles known known2 → (things : List Thing) (b n : ℕ) → HasNumber known things b n → HasNumber known2 things b n
 kept_numbers known known2 keeps things b n h = (h.0, subst (IsOfThing h.0) (sym (keeps b (lasting h.0 (known.roles b) h.1))) h.1, h.2, h.3)
   where
     lasting : (x : Thing) (r : Role) → IsOfThing x r → IsLasting r
@@ -89,7 +89,7 @@ module _ {K V S : Type 0} (same : K → K → Bool) (hash : K → ℕ) (name : �
   abbrev Did : UnderWay K V K → Type 0
   Did x = DidSo same hash name m known s old new at whole.all.shown map i u here told leads x
 
-  abbrev NoRow : (x : UnderWay K V K) → Did x → Type 0
+  abbrev pub NoRow : (x : UnderWay K V K) → Did x → Type 0
   NoRow x did = OfNoRow same hash name m known s old new at whole.all.shown map i u here told leads x did
 
   abbrev effects : List Effect
@@ -102,7 +102,7 @@ module _ {K V S : Type 0} (same : K → K → Bool) (hash : K → ℕ) (name : �
   own_keeps own =
       (step_shown same hash name m known s old new at whole.all.shown map i u here told leads own (calls_store_theirs K V S same hash name m known s old new at whole.all map i u here told leads own).0).1.keeps
 
-  row_keeps : (NoRow u to.4.did → ⊥) → KeepsRoles known known2
+  pub row_keeps : (NoRow u to.4.did → ⊥) → KeepsRoles known known2
   row_keeps other =
       let it = rows_hand_theirs K V S same hash name m known s old new at whole.all map i u here told leads other in
       (row_step_shown same hash name m known s old new at whole.all.shown map i u here told leads other it.1 it.0).keeps
@@ -150,12 +150,12 @@ module _ {K V S : Type 0} (same : K → K → Bool) (hash : K → ℕ) (name : �
       }
 
   -- one of a row is a step of the caller's row, which it has begun with it, or before
-  abbrev OneStep : World (Node K V) → Type 0
+  abbrev pub OneStep : World (Node K V) → Type 0
   OneStep w2 =
       Happens deferred_word old.batch_size (Step i) s.world w2
       ⊎ ((request : Request) × (begun : World (Node K V)) × Happens deferred_word old.batch_size (Begin i request) s.world begun × Happens deferred_word old.batch_size (Step i) begun w2)
 
-  one_step : (NoRow u to.4.did → ⊥) → OneStep to.4.w2
+  pub one_step : (NoRow u to.4.did → ⊥) → OneStep to.4.w2
   one_step other = by u to.4.did other
     where
       of_this : (w : World (Node K V)) → IsOneStep to.0.setting i s.world w → to.4.w2 ≡ w → OneStep to.4.w2
@@ -175,6 +175,22 @@ module _ {K V S : Type 0} (same : K → K → Bool) (hash : K → ℕ) (name : �
       by (Counting x) did other = absurd (other tt)
       by (OverAll x) (p2, end, machine_is, told_is, inl step) other = absurd (other tt)
       by (OverAll x) (p2, end, machine_is, told_is, inr (row, has)) other = of_this row.step.w2 row.step.happened has.0
+
+  -- the memory after it is that to which the call has come
+  pub its_memory : (NoRow u to.4.did → ⊥) → to.4.w2.memory ≡ new.memory.memory
+  its_memory other = by u to.4.did other
+    where
+      of_world : (w : World (Node K V)) → w.memory ≡ new.memory.memory → to.4.w2 ≡ w → to.4.w2.memory ≡ new.memory.memory
+      of_world w memory is = ap (λ (x : World (Node K V)). x.memory) is ∙ memory
+
+      by : (x : UnderWay K V K) (did : Did x) → (NoRow x did → ⊥) → to.4.w2.memory ≡ new.memory.memory
+      by (OnKey x) (p2, end, machine_is, told_is, inl step) other = absurd (other tt)
+      by (OnKey x) (p2, end, machine_is, told_is, inr (row, has)) other = of_world row.step.w2 row.step.memory has.0
+      by (ForRoom x) (p2, end, machine_is, told_is, inl step) other = absurd (other tt)
+      by (ForRoom x) (p2, end, machine_is, told_is, inr (row, has)) other = of_world row.step.w2 row.step.memory has.0
+      by (Counting x) did other = absurd (other tt)
+      by (OverAll x) (p2, end, machine_is, told_is, inl step) other = absurd (other tt)
+      by (OverAll x) (p2, end, machine_is, told_is, inr (row, has)) other = of_world row.step.w2 row.step.memory has.0
 
   pub row_begins : (NoRow u to.4.did → ⊥) → s.world.row i ≡ Rests → (roots : ℕ) (things : List Thing) (sets : Sets) → FollowsSets old.batch_size roots things sets known s.world → (slot : ℕ)
       → (request : Request) × FollowsInCall old.batch_size roots things (sets_on old.batch_size things slot effects sets) known2 i request (flat_map (handing things slot) effects) to.4.w2

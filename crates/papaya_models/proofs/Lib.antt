@@ -12,3 +12,7 @@ pub mod Makings
 pub mod Ends
 pub mod EndsOver
 pub mod Reclaims
+pub mod Unbatched
+pub mod Retires
+pub mod Told
+pub mod HandsOver

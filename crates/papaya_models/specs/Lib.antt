@@ -8,3 +8,4 @@ pub mod Rows
 pub mod Others
 pub mod Ends
 pub mod Reclaims
+pub mod Retires

@@ -6,6 +6,7 @@ ghost use Rattle.papaya_models.specs.Follows.{FollowsAtFirst, IdleEventsFollow};
 ghost use Rattle.papaya_models.specs.OnSlots.{SlotEventsBegin, SlotEventsGoOn, SlotEventsEnd};
 ghost use Rattle.papaya_models.specs.Others.{MakingsFollow, MapsAreByModel};
 ghost use Rattle.papaya_models.specs.Reclaims.{ReclaimingFollows, SlotsReclaim};
+ghost use Rattle.papaya_models.specs.Retires.{RetiresAreTold, RetiringBegins, RetiringGoesOn};
 ghost use Rattle.papaya_models.specs.Rows.{EventsAreRows};
 ghost use Rattle.papaya_models.specs.Turns.{TurnsBegin, RowsBegin, RowsGoOn, RowsEnd, EventsFollow, UsersFollow};
 
@@ -24,13 +25,17 @@ pub fn rows_run_in_turn<T>()
 
 /// Calls hand over what has left their maps. After a step of a call that is none of a row the waiting sets are alike still; one that begins a row within the call
 /// is in the midst of it, and goes on so, and once the row has run, and was told as what it is, the sets are alike again. Further things that come change
-/// nothing. A slot within a section is active in the sets of the model, and an event that hands over under such a slot, and reclaims nothing, is by the model.
+/// nothing. A row that retires a block that is noted as a thing tells just that, once: as it writes into the block which batch that is of, which names none before.
+/// A slot within a section is active in the sets of the model, and an event that hands over under such a slot, and reclaims nothing, is by the model.
 pub fn calls_follow_the_model<K, V, S>()
     ensures more { MoreThingsFollow K V }
     ensures calls { (same : K → K → Bool) (hash : K → ℕ) → CallsFollow K V S same hash }
     ensures rows_begin { (same : K → K → Bool) (hash : K → ℕ) → RowsWithinBegin K V S same hash }
     ensures rows_go_on { (same : K → K → Bool) (hash : K → ℕ) → RowsWithinGoOn K V S same hash }
     ensures rows_end { RowsWithinEnd K V }
+    ensures retiring_begins { (same : K → K → Bool) (hash : K → ℕ) → RetiringBegins K V S same hash }
+    ensures retiring_goes_on { (same : K → K → Bool) (hash : K → ℕ) → RetiringGoesOn K V S same hash }
+    ensures retires { RetiresAreTold K V }
     ensures insides { InsidesFollow K V }
     ensures by_model { HandingIsByModel K V }
 {}
