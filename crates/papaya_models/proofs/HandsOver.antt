@@ -1,11 +1,11 @@
 -- A row within a call that retires a block tells it just once: as it writes into the block which batch that is of.
 use Rattle.std.specs.Prelude.{◌≢◌, ◌<◌, Option, Some, IsSome, flat_map, length}
-use Rattle.std.proofs.Common.{◌≡◌, ℕ, ◌+◌, Bool, false, List, [], ◌∷◌, ◌++◌, ◌⊎◌, inl, inr, refl, ap, sym, subst, arith, ◌∙◌}
-use Rattle.std.proofs.lemmas.Bool.{ne_eqb}
+use Rattle.std.proofs.Common.{◌≡◌, ℕ, ◌+◌, Bool, true, false, List, [], ◌∷◌, ◌++◌, ◌⊎◌, inl, inr, refl, ap, sym, subst, arith, ◌∙◌}
+use Rattle.std.proofs.lemmas.Bool.{eq-eqb, ne_eqb}
 use Rattle.std.proofs.lemmas.List.{append-nil}
 use Rattle.std.proofs.lemmas.List.Concat.{flat_map-cons}
 use Rattle.seize_words.specs.declared.at.At.TheVariants.{Entry}
-use Rattle.seize_words.specs.Mem.{Mem, value_at, word_at, with_word, Can, Took}
+use Rattle.seize_words.specs.Mem.{Mem, same_at, value_at, word_at, with_word, Can, Took}
 use Rattle.seize_words.specs.Plan.{May, Steps}
 use Rattle.seize_words.specs.Word.{link_to, block_in}
 use Rattle.seize_words.proofs.OneOwner.AfterWrites.{placed}
@@ -81,6 +81,9 @@ batches_or _ = inr (λ block e. cc e)
 
 past_other : (p : Settling) → IsPast p → (block : ℕ) → p ≡ at.Batches block → ⊥
 past_other p past block e = subst IsPast e past
+
+itself : (b : ℕ) → same_at (Entry b FIRST) (Entry b FIRST) ≡ true
+itself b = grind (arith, eq-eqb b b refl)
 
 settled_memory : {T : Type 0} (w : World T) (i : ℕ) (c : Settle) (m : Mem T) (end : Settle × Settled T) → (settles_on w i c m end).memory ≡ m
 settled_memory w i c m (d, settled.Goes) = refl
@@ -161,17 +164,17 @@ module _ {K V : Type 0} (size : ℕ) (w w2 : World (Node K V)) (reached : Reache
         by (inr other) =
             let on = to_retire deferred_word b some w.memory mem2 c none end c.stands refl is other next st in
             inl (
-            subst (λ (u : World (Node K V)). IsToRetire b (u.row i)) (sym e) (goes_row w i b c mem2 end on.0.0 on.0.1),
-            λ field. ap (λ (k : Mem (Node K V)). word_at k (Entry b field)) memory_is ∙ on.1 field,
-            quiet other,
+              subst (λ (u : World (Node K V)). IsToRetire b (u.row i)) (sym e) (goes_row w i b c mem2 end on.0.0 on.0.1),
+              λ field. ap (λ (k : Mem (Node K V)). word_at k (Entry b field)) memory_is ∙ on.1 field,
+              quiet other,
             )
         by (inl (block, stands)) =
             let at_block = subst (IsToRetireAt b c) stands is in
             let did = retires deferred_word b some w.memory mem2 c none end block at_block.0 at_block.1
-                (subst (λ (p : Settling). Steps Took value_at w.memory (plan_at deferred_word c p) mem2 end) stands st) in
+            (subst (λ (p : Settling). Steps Took value_at w.memory (plan_at deferred_word c p) mem2 end) stands st) in
             inr (
-            subst (λ (u : World (Node K V)). HasRetired (u.row i)) (sym e) (past_row w i b c mem2 end did.1),
-            record { first = c.first; named = first_named block stands; memory = memory_is ∙ did.0 },
+              subst (λ (u : World (Node K V)). HasRetired (u.row i)) (sym e) (past_row w i b c mem2 end did.1),
+              record { first = c.first; named = first_named block stands; memory = memory_is ∙ did.0 },
             )
 
     past : (c.pending ≡ 0) × IsPast c.stands → HasRetired (w2.row i) × Quiet
@@ -218,12 +221,12 @@ module _ {K V : Type 0} (size : ℕ) (w w2 : World (Node K V)) (reached : Reache
     told_now : Writes → word_at w.memory (Entry b FIRST) ≡ Some 0 → handed ≡ [] → ChangesAlike (HasNumber known2 things) (Retires slot b ∷ []) (handed ++ flat_map (handing things slot) effects)
     told_now writes zero none =
         let other : writes.first ≡ 0 → ⊥ = λ e. (let pos = writes.named in let nil : block_in writes.first ≡ 0 = ap block_in e in omega (arith, pos, nil)) in
-        let is = is_told w.memory w2.memory b 0 writes.first zero writes.memory other told made in
+        let is = is_told w.memory w2.memory (Entry b FIRST) (itself b) (λ bucket. refl) 0 writes.first zero writes.memory other told made in
         let differ : names_same 0 writes.first ≡ false = ne_eqb 0 (block_in writes.first) (λ e. let pos = writes.named in omega (arith, pos, e)) in
         let said : effects ≡ effect.Retired has.0 ∷ [] = ap (effects_of (Call i map) known) is ∙ first_retires i map known b 0 writes.first has.0 has.1 differ in
         let all : handed ++ flat_map (handing things slot) effects ≡ Retires slot k ∷ [] =
-            ap (λ (cs : List Change). cs ++ flat_map (handing things slot) effects) none ∙ ap (flat_map (handing things slot)) said ∙ flat_map-cons (handing things slot) (effect.Retired has.0) []
-            ∙ ap (λ (x : ℕ). Retires slot x ∷ []) has.3 in
+        ap (λ (cs : List Change). cs ++ flat_map (handing things slot) effects) none ∙ ap (flat_map (handing things slot)) said ∙ flat_map-cons (handing things slot) (effect.Retired has.0) []
+        ∙ ap (λ (x : ℕ). Retires slot x ∷ []) has.3 in
         subst (ChangesAlike (HasNumber known2 things) (Retires slot b ∷ [])) (sym all) ((k, kept_numbers known known2 keeps things b k has, refl), tt)
 
     pub told_on : ReclaimsNone (w.row i) → Steps' deferred_word i (w.row i) w w2 → HasToldSo things known i slot b handed w
@@ -274,25 +277,25 @@ retires_are_told K V things known i s b handed w told rests before after = by to
 
 module _ {K V S : Type 0} (same : K → K → Bool) (hash : K → ℕ) (name : ℕ → List ℕ) (m : Moment K V) (known : Known) (s : Scene K V) (old new : Executor K V S) (at : IsAt same hash old s)
     (whole : ShowsWhole same name m known s) (map i : ℕ) (u : UnderWay K V K) (here : s.calls map i ≡ Some u) (told : Progress (Node K V)) (leads : StepLeads same hash i told s old new) where
-  abbrev to : WentTo same hash name m known s old new at whole.all.shown map i u here told leads
+  abbrev pub to : WentTo same hash name m known s old new at whole.all.shown map i u here told leads
   to = went_to same hash name m known s old new at whole.all.shown map i u here told leads
 
-  abbrev No : Type 0
+  abbrev pub No : Type 0
   No = NoRow same hash name m known s old new at whole map i u here told leads u to.4.did
 
-  abbrev Stepped : Type 0
+  abbrev pub Stepped : Type 0
   Stepped = OneStep same hash name m known s old new at whole map i u here told leads to.4.w2
 
-  came : CameAbout old.batch_size s.world
+  pub came : CameAbout old.batch_size s.world
   came = at.together.makings.standing.came
 
-  made : (No → ⊥) → (v : World (Node K V)) → v.memory ≡ s.world.memory → Operated v.memory to.4.w2.memory new.memory.changed
+  pub made : (No → ⊥) → (v : World (Node K V)) → v.memory ≡ s.world.memory → Operated v.memory to.4.w2.memory new.memory.changed
   made other v memory =
       subst (λ (k : Mem (Node K V)). Operated k to.4.w2.memory new.memory.changed) (sym memory)
       (subst (λ (k : Mem (Node K V)). Operated s.world.memory k new.memory.changed) (sym (its_memory same hash name m known s old new at whole map i u here told leads other))
       (made_so same hash name m known s old new at whole.all.shown map i u here told leads))
 
-  keeps : (No → ⊥) → KeepsRoles known (known_after (Call i map) new.memory.changed known)
+  pub keeps : (No → ⊥) → KeepsRoles known (known_after (Call i map) new.memory.changed known)
   keeps other = row_keeps same hash name m known s old new at whole map i u here told leads other
 
   -- what is noted as a thing is there
@@ -337,10 +340,10 @@ module _ {K V S : Type 0} (same : K → K → Bool) (hash : K → ℕ) (name : �
             (some_number old.batch_size s.world came b cut.0 cut.1) known new.memory.changed (made other begun memory) things slot k has (keeps other) []
             (subst ReclaimsNone (sym row) (refl, refl, refl, tt)) step
             (inl (
-            subst (IsToRetire b) (sym row) refl,
-            refl,
-            ap (λ (x : Mem (Node K V)). word_at x (Entry b FIRST)) memory ∙ no_batch old.batch_size s.world came b cut.0 cut.1,
-            ap (λ (x : Mem (Node K V)). word_at x (Entry b NEXT)) memory ∙ no_list old.batch_size s.world came b cut.0 cut.1,
+              subst (IsToRetire b) (sym row) refl,
+              refl,
+              ap (λ (x : Mem (Node K V)). word_at x (Entry b FIRST)) memory ∙ no_batch old.batch_size s.world came b cut.0 cut.1,
+              ap (λ (x : Mem (Node K V)). word_at x (Entry b NEXT)) memory ∙ no_list old.batch_size s.world came b cut.0 cut.1,
             )),
       )
 

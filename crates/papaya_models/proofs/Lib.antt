@@ -16,3 +16,4 @@ pub mod Unbatched
 pub mod Retires
 pub mod Told
 pub mod HandsOver
+pub mod Defers

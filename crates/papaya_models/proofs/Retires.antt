@@ -84,7 +84,7 @@ module _ {T : Type 0} (defers : T → Option ℕ) (b : ℕ) (some : 0 < b) (m m2
     holds_on is (Exchanged (Ok w)) h =
         let d = record c { held = true } in
         let on : onward d ≡ standing d at.Pops =
-            chosen (c.reclaiming == 0) (c.pending == 0) c.flushing _ _ (standing d at.Pops) _ (eq-eqb c.reclaiming 0 aside.0) (ne_eqb c.pending 0 (λ e. omega (arith, e, is, some))) aside.2 in
+        chosen (c.reclaiming == 0) (c.pending == 0) c.flushing _ _ (standing d at.Pops) _ (eq-eqb c.reclaiming 0 aside.0) (ne_eqb c.pending 0 (λ e. omega (arith, e, is, some))) aside.2 in
         subst GoesOn (sym h) (tt, subst (λ (x : Settle). IsToRetireAt b x x.stands) (sym on) is)
     holds_on is (Exchanged (Err w)) h = subst GoesOn (sym h) (tt, is)
     holds_on is _ h = subst GoesOn (sym h) (tt, here)

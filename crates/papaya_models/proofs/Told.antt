@@ -4,14 +4,15 @@ use Rattle.std.proofs.Common.{◌≡◌, ℕ, ◌+◌, Bool, true, false, List, 
 use Rattle.std.proofs.lemmas.Bool.{eq-eqb}
 use Rattle.seize_words.specs.declared.at.At.{At}
 use Rattle.seize_words.specs.declared.at.At.TheVariants.{Root, Used, Slot, Entry, Word}
-use Rattle.seize_words.specs.declared.block.Block.{Block}
-use Rattle.seize_words.specs.Mem.{Mem, same_at, block_of, entry_in, value_at, word_at, with_block, with_word, Can, Took}
+use Rattle.seize_words.specs.Mem.{Mem, same_at, block_of, value_in, value_at, word_at, with_block, with_room, with_word, fresh, Can, Took}
 use Rattle.seize_words.specs.Op.{Op, Out, Load, Store, Swap, Add, Or, Exchange, Make, Take, Rewrite, Room, Found, Exchanged, Made, Taken, Roomed}
-use Rattle.seize_words.specs.Word.{block_in}
-use Rattle.seize_words.proofs.OneOwner.AfterWrites.{word_at-with_word, block_of-with_block}
+use Rattle.seize_words.specs.Word.{block_in, link_to}
+use Rattle.seize_words.proofs.OneOwner.AfterWrites.{word_at-with_word, word_at-with_value, value_at-with_word, block_of-with_block, block_of-made}
 use Rattle.seize.specs.declared.states.TheConstants.{FIRST}
 use Rattle.seize_rule.proofs.Words.Named.{same_at-true, block_there}
+use Rattle.seize_rule.proofs.Points.Retire.{of_link}
 use Rattle.papaya_hands.proofs.Handing.{IsHanding}
+use Rattle.papaya_tables.specs.declared.table_words.TheConstants.{DEFERRED}
 use Rattle.papaya_tables.specs.declared.node.Node.{Node}
 use Rattle.papaya_tells.specs.Seen.{seen_of, word_or}
 use Rattle.papaya_teller.specs.Tells.{told_of}
@@ -22,6 +23,7 @@ use Rattle.papaya_teller.specs.declared.changed.Kind.TheVariants as kind
 use Rattle.papaya_schedules.specs.declared.effect.Effect.{Effect}
 use Rattle.papaya_schedules.specs.declared.effect.Effect.TheVariants as effect
 use Rattle.papaya_schedules.specs.declared.effect.Growth.TheVariants.{ABucket, ABlock}
+use Rattle.papaya_schedules.specs.declared.effect.Table.{Table}
 use Rattle.papaya_schedules.specs.declared.effect.Thing.{Thing}
 use Rattle.papaya_schedules.specs.declared.effect.Thing.TheVariants.{APair, ATable}
 use Rattle.papaya_effects.specs.Effects.{names_same, named, led_to, in_block, batched, made_by, taken_by, effects_of}
@@ -33,7 +35,6 @@ use Rattle.papaya_effects.specs.declared.role.Role.TheVariants as role
 use Rattle.papaya_follows.proofs.Operations.{Operated}
 use Rattle.papaya_promises.specs.Sheltered.{IsOfThing}
 use Rattle.papaya_spots.proofs.Handing.{AllKeep}
-use Rattle.papaya_models.proofs.Unbatched.{made_op, take_op, rewrite_op}
 
 -- words that are the same name the same
 same_names : (old new : ℕ) → new ≡ old → names_same old new ≡ true
@@ -116,24 +117,30 @@ module _ (i map : ℕ) (known : Known) where
       by (APair n) of = ap (λ (r : Role). batched its FIRST r) of
       by (ATable t) of = ap (λ (r : Role). batched its FIRST r) of.1
 
+  -- where a pair is put in front of what a table carries, it is deferred behind that
+  pub word_defers : (b t old n len : ℕ) (table : Table) → known.roles b ≡ role.Pair n → known.roles t ≡ role.Table table len → names_same old (link_to b) ≡ false
+      → effects_of its known (changed.Wrote (Word t DEFERRED) old (link_to b)) ≡ effect.Deferred n table ∷ []
+  word_defers b t old n len table pair is differ =
+      ap (λ (r : Role). in_block its r DEFERRED known.stored (names_same old (link_to b)) (named known old) (named known (link_to b))) is
+      ∙ ap (λ (q : Bool). in_block its (role.Table table len) DEFERRED known.stored q (named known old) (named known (link_to b))) differ
+      ∙ ap (λ (r : Role). in_block its (role.Table table len) DEFERRED known.stored false (named known old) r) (ap known.roles (of_link (link_to b) b refl) ∙ pair)
+
 -- One word was written anew: just that is told.
 
-module _ {K V : Type 0} (m m2 : Mem (Node K V)) (b old new : ℕ) (was : word_at m (Entry b FIRST) ≡ Some old) (is : m2 ≡ with_word m (Entry b FIRST) new) (other : new ≡ old → ⊥) where
-  abbrev at : At
-  at = Entry b FIRST
-
-  some_word : (x : At) (o : Option ℕ) → IsSome o → o ≡ Some (word_or o)
-  some_word x None some = absurd (cc some)
-  some_word x (Some word) some = refl
+module _ {K V : Type 0} (m m2 : Mem (Node K V)) (at : At) (same : same_at at at ≡ true) (room : (bucket : ℕ) → word_at (with_room m bucket) at ≡ word_at m at) (old new : ℕ)
+    (was : word_at m at ≡ Some old) (is : m2 ≡ with_word m at new) (other : new ≡ old → ⊥) where
+  some_word : (o : Option ℕ) → IsSome o → o ≡ Some (word_or o)
+  some_word None some = absurd (cc some)
+  some_word (Some word) some = refl
 
   is_some : (x : At) (word : ℕ) → word_at m x ≡ Some word → IsSome (word_at m x)
   is_some x word e = subst (λ (o : Option ℕ). IsSome o) (sym e) refl
 
   now : word_at m2 at ≡ Some new
-  now = ap (λ (k : Mem (Node K V)). word_at k at) is ∙ word_at-with_word m at new at (is_some at old was) ∙ ap (λ (q : Bool). if q then Some new else word_at m at) (itself b)
-    where
-      itself : (b : ℕ) → same_at (Entry b FIRST) (Entry b FIRST) ≡ true
-      itself b = grind (arith, eq-eqb b b refl)
+  now = ap (λ (k : Mem (Node K V)). word_at k at) is ∙ word_at-with_word m at new at (is_some at old was) ∙ ap (λ (q : Bool). if q then Some new else word_at m at) same
+
+  values : (x : ℕ) → value_at m2 x ≡ value_at m x
+  values x = ap (λ (k : Mem (Node K V)). value_at k x) is ∙ value_at-with_word m at new x (is_some at old was)
 
   changed_word : word_at m2 at ≡ word_at m at → ⊥
   changed_word e = other (let both : Some new ≡ Some old = sym now ∙ e ∙ was in cc both)
@@ -142,54 +149,47 @@ module _ {K V : Type 0} (m m2 : Mem (Node K V)) (b old new : ℕ) (was : word_at
   wrote_so y word before there e = by (same_at at y) refl (ap (λ (k : Mem (Node K V)). word_at k at) e ∙ word_at-with_word m y word at (is_some y before there))
     where
       by : (q : Bool) → same_at at y ≡ q → word_at m2 at ≡ (if same_at at y then Some word else word_at m at) → changed.Wrote y before word ≡ changed.Wrote at old new
-      by true same h =
-          let here : at ≡ y = same_at-true at y same in
-          let word_is : Some new ≡ Some word = sym now ∙ h ∙ ap (λ (q : Bool). if q then Some word else word_at m at) same in
+      by true here_too h =
+          let here : at ≡ y = same_at-true at y here_too in
+          let word_is : Some new ≡ Some word = sym now ∙ h ∙ ap (λ (q : Bool). if q then Some word else word_at m at) here_too in
           let before_is : Some old ≡ Some before = sym was ∙ ap (word_at m) here ∙ there in
           let words : new ≡ word = cc word_is in
           let befores : old ≡ before = cc before_is in
           ap (λ (x : At). changed.Wrote x before word) (sym here) ∙ ap (λ (x : ℕ). changed.Wrote at x word) (sym befores) ∙ ap (λ (x : ℕ). changed.Wrote at old x) (sym words)
-      by false same h = absurd (changed_word (h ∙ ap (λ (q : Bool). if q then Some word else word_at m at) same))
+      by false elsewhere h = absurd (changed_word (h ∙ ap (λ (q : Bool). if q then Some word else word_at m at) elsewhere))
 
   unchanged : {X : Type 0} → m2 ≡ m → X
   unchanged e = absurd (changed_word (ap (λ (k : Mem (Node K V)). word_at k at) e))
 
-  taken_none : (c : ℕ) → (b == c) ≡ true → IsSome (value_at m c) → m2 ≡ with_block m c None → ⊥
-  taken_none c e can gone =
+  -- a block that was made, or taken, would be there, or not
+  none_made : (value : Node K V) (words c : ℕ) → Took m (Make value words) (Made (Ok c)) m2 → ⊥
+  none_made value words c took =
+      let there : value_at m2 c ≡ Some value =
+          ap (λ (k : Mem (Node K V)). value_at k c) took.1 ∙ ap value_in (block_of-made m value words c c took.0.0)
+          ∙ ap (λ (q : Bool). value_in (if q then Some (fresh value words) else block_of m c)) (eq-eqb c c refl) in
+      let none : value_at m c ≡ None = ap value_in took.0.0.0 in
+      let still = values c in cc (there, none, still)
+
+  none_taken : (c : ℕ) → IsSome (value_at m c) → m2 ≡ with_block m c None → ⊥
+  none_taken c can gone =
       let x = block_there m c can in
-      let none : word_at m2 at ≡ None =
-          ap (λ (k : Mem (Node K V)). word_at k at) gone ∙ ap (λ (o : Option (Block (Node K V))). entry_in o FIRST) (block_of-with_block m c b x.0 None x.1)
-          ∙ ap (λ (q : Bool). entry_in (if q then None else block_of m b) FIRST) e in
-      cc (none, now)
+      let none : value_at m2 c ≡ None =
+          ap (λ (k : Mem (Node K V)). value_at k c) gone ∙ ap value_in (block_of-with_block m c c x.0 None x.1) ∙ ap (λ (q : Bool). value_in (if q then None else block_of m c)) (eq-eqb c c refl) in
+      let some : IsSome {T = Node K V} None = subst (λ (o : Option (Node K V)). IsSome o) (sym (values c) ∙ none) can in cc some
 
   told_so : (op : Op (Node K V)) (out : Out (Node K V)) → Can m op → Took m op out m2 → told_of op out (seen_of m op out) ≡ changed.Wrote at old new
   told_so (Load y) out can took = unchanged took.1
-  told_so (Store y word) out can took = wrote_so y word (word_or (word_at m y)) (some_word y (word_at m y) can) took.1
+  told_so (Store y word) out can took = wrote_so y word (word_or (word_at m y)) (some_word (word_at m y) can) took.1
   told_so (Swap y word) (Found before) can took = wrote_so y word before took.0 took.1
   told_so (Add y by) (Found before) can took = wrote_so y ((before + by) % 2 ^ 64) before took.0 took.1
   told_so (Or y bits) (Found before) can took = wrote_so y _ before took.0 took.1
   told_so (Exchange y expected word) (Exchanged (Ok found)) can took = wrote_so y word found took.0.0 took.1
   told_so (Exchange y expected word) (Exchanged (Err found)) can took = unchanged took.1
-  told_so (Make value words) (Made (Ok c)) can took = by (b == c) refl
-    where
-      made : (q : Bool) → (b == c) ≡ q → word_at m2 at ≡ (if q then Some 0 else word_at m at)
-      made q e = ap (λ (k : Mem (Node K V)). word_at k at) took.1 ∙ made_op b m value words c took.0 q e
-
-      by : (q : Bool) → (b == c) ≡ q → told_of (Make value words) (Made (Ok c)) (seen_of m (Make value words) (Made (Ok c))) ≡ changed.Wrote at old new
-      by true e =
-          let here : b ≡ c = grind (arith, e) in
-          let free : block_of m b ≡ None = ap (block_of m) here ∙ took.0.0.0 in
-          let none : word_at m at ≡ None = ap (λ (o : Option (Block (Node K V))). entry_in o FIRST) free in
-          absurd (cc (none, was))
-      by false e = absurd (changed_word (made false e))
+  told_so (Make value words) (Made (Ok c)) can took = absurd (none_made value words c took)
   told_so (Make value words) (Made (Err back)) can took = unchanged took.1
-  told_so (Take c) out can took = by (b == c) refl
-    where
-      by : (q : Bool) → (b == c) ≡ q → told_of (Take c) out (seen_of m (Take c) out) ≡ changed.Wrote at old new
-      by true e = absurd (taken_none c e can took.1)
-      by false e = absurd (changed_word (take_op b m m2 c out took (λ same. let yes = eq-eqb b c same in cc (yes, e))))
-  told_so (Rewrite c value) (Taken before) can took = absurd (changed_word (rewrite_op b m m2 c value before took))
-  told_so (Room bucket) (Roomed (Ok made)) can took = absurd (changed_word (ap (λ (k : Mem (Node K V)). word_at k at) took.1))
+  told_so (Take c) out can took = absurd (none_taken c can took.1)
+  told_so (Rewrite c value) (Taken before) can took = absurd (changed_word (ap (λ (k : Mem (Node K V)). word_at k at) took.1 ∙ word_at-with_value m c value at can))
+  told_so (Room bucket) (Roomed (Ok made)) can took = absurd (changed_word (ap (λ (k : Mem (Node K V)). word_at k at) took.1 ∙ room bucket))
   told_so (Room bucket) (Roomed (Err fault)) can took = unchanged took.1
   told_so (Swap y word) _ can took = absurd took.0
   told_so (Add y by) _ can took = absurd took.0

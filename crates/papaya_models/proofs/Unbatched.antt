@@ -5,7 +5,7 @@ use Rattle.std.proofs.lemmas.Bool.{eq-eqb}
 use Rattle.seize_words.specs.declared.at.At.{At}
 use Rattle.seize_words.specs.declared.at.At.TheVariants.{Root, Used, Slot, Entry, Word}
 use Rattle.seize_words.specs.declared.block.Block.{Block}
-use Rattle.seize_words.specs.Mem.{Mem, block_of, entry_in, value_at, word_at, with_block, with_word, with_word_in, fresh, Gives, Took, after}
+use Rattle.seize_words.specs.Mem.{Mem, block_of, entry_in, value_at, word_at, with_word, with_word_in, fresh, Gives, Took, after}
 use Rattle.seize_words.specs.Op.{Op, Out, Load, Store, Swap, Add, Or, Exchange, Make, Take, Rewrite, Room, Found, Stored, Exchanged, Made, Taken, Roomed}
 use Rattle.seize_words.proofs.OneOwner.AfterWrites.{block_of-with_block, block_of-made}
 use Rattle.seize.specs.declared.states.TheConstants.{FIRST, NEXT}

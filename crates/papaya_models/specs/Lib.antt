@@ -9,3 +9,4 @@ pub mod Others
 pub mod Ends
 pub mod Reclaims
 pub mod Retires
+pub mod Defers

@@ -1,6 +1,7 @@
 //! What is promised of the waiting sets, where calls come one after another.
 ghost use Rattle.std.specs.Prelude.{Option, ℕ, Bool};
 ghost use Rattle.papaya_models.specs.Calls.{CallsFollow, HandingIsByModel, InsidesFollow, MoreThingsFollow, RowsWithinBegin, RowsWithinEnd, RowsWithinGoOn};
+ghost use Rattle.papaya_models.specs.Defers.{DefersAreTold, DeferringBegins, DeferringGoesOn};
 ghost use Rattle.papaya_models.specs.Ends.{EndsBegin, EndsEnd, EndsGoOn};
 ghost use Rattle.papaya_models.specs.Follows.{FollowsAtFirst, IdleEventsFollow};
 ghost use Rattle.papaya_models.specs.OnSlots.{SlotEventsBegin, SlotEventsGoOn, SlotEventsEnd};
@@ -26,6 +27,7 @@ pub fn rows_run_in_turn<T>()
 /// Calls hand over what has left their maps. After a step of a call that is none of a row the waiting sets are alike still; one that begins a row within the call
 /// is in the midst of it, and goes on so, and once the row has run, and was told as what it is, the sets are alike again. Further things that come change
 /// nothing. A row that retires a block that is noted as a thing tells just that, once: as it writes into the block which batch that is of, which names none before.
+/// One that defers a pair behind a table tells just that, once: as the pair takes the place of the head of the table's list.
 /// A slot within a section is active in the sets of the model, and an event that hands over under such a slot, and reclaims nothing, is by the model.
 pub fn calls_follow_the_model<K, V, S>()
     ensures more { MoreThingsFollow K V }
@@ -36,6 +38,9 @@ pub fn calls_follow_the_model<K, V, S>()
     ensures retiring_begins { (same : K → K → Bool) (hash : K → ℕ) → RetiringBegins K V S same hash }
     ensures retiring_goes_on { (same : K → K → Bool) (hash : K → ℕ) → RetiringGoesOn K V S same hash }
     ensures retires { RetiresAreTold K V }
+    ensures deferring_begins { (same : K → K → Bool) (hash : K → ℕ) → DeferringBegins K V S same hash }
+    ensures deferring_goes_on { (same : K → K → Bool) (hash : K → ℕ) → DeferringGoesOn K V S same hash }
+    ensures defers { DefersAreTold K V }
     ensures insides { InsidesFollow K V }
     ensures by_model { HandingIsByModel K V }
 {}
