@@ -14,12 +14,13 @@ use Rattle.papaya_schedules.specs.Moment.{Moment}
 use Rattle.papaya_schedules.specs.declared.effect.Effect.{Effect}
 use Rattle.papaya_schedules.specs.declared.effect.Thing.{Thing}
 use Rattle.papaya_schedules.specs.declared.effect.Thing.TheVariants.{APair, ATable}
-use Rattle.papaya_callers.specs.Together.{UnderWay, OnKey, ForRoom, Counting, OverAll, IsOneStep}
+use Rattle.papaya_callers.specs.Sights.{seen_by}
+use Rattle.papaya_callers.specs.Together.{UnderWay, OnKey, ForRoom, Counting, OverAll, IsOneStep, Stands, Together}
 use Rattle.papaya_effects.specs.Effects.{effects_of, known_after}
 use Rattle.papaya_effects.specs.Known.{Known}
 use Rattle.papaya_effects.specs.declared.acting.Acting.TheVariants.{Call}
 use Rattle.papaya_effects.specs.declared.role.Role.{Role}
-use Rattle.papaya_executor.specs.IsAt.{Scene, IsAt}
+use Rattle.papaya_executor.specs.IsAt.{Scene, IsAt, slot_of}
 use Rattle.papaya_executor.specs.Stepping.{StepLeads}
 use Rattle.papaya_executor.specs.declared.executor.Executor.{Executor}
 use Rattle.papaya_follows.proofs.Onward.{IsLasting, KeepsRoles}
@@ -41,7 +42,7 @@ use Rattle.papaya_models.proofs.Numbers.{has_one, still_in, same_number}
 use Rattle.papaya_models.proofs.Turns.{rows_begin, rows_go_on, rows_end, users_follow}
 
 -- further things change no number
-more_numbers : (known : Known) (things more : List Thing) (b n : ℕ) → HasNumber known things b n → HasNumber known (things ++ more) b n
+pub more_numbers : (known : Known) (things more : List Thing) (b n : ℕ) → HasNumber known things b n → HasNumber known (things ++ more) b n
 more_numbers known things more b n h = (h.0, h.1, still_in more things h.0 h.2, same_number more things h.0 h.2 ∙ h.3)
 
 pub more_things_follow : (K V : Type 0) → MoreThingsFollow K V
@@ -192,25 +193,59 @@ module _ {K V S : Type 0} (same : K → K → Bool) (hash : K → ℕ) (name : �
       by (OverAll x) (p2, end, machine_is, told_is, inl step) other = absurd (other tt)
       by (OverAll x) (p2, end, machine_is, told_is, inr (row, has)) other = of_world row.step.w2 row.step.memory has.0
 
+  pub row_begun : (NoRow u to.4.did → ⊥) → (request : Request) (begun : World (Node K V)) → Happens deferred_word old.batch_size (Begin i request) s.world begun
+      → Happens deferred_word old.batch_size (Step i) begun to.4.w2 → (roots : ℕ) (things : List Thing) (sets : Sets) → FollowsSets old.batch_size roots things sets known s.world → (slot : ℕ)
+      → FollowsInCall old.batch_size roots things (sets_on old.batch_size things slot effects sets) known2 i request (flat_map (handing things slot) effects) to.4.w2
+  row_begun other request begun begins step roots things sets f slot = record {
+    began = s.world;
+    before = f.before;
+    row =
+        rows_go_on deferred_word old.batch_size roots i request s.world begun to.4.w2 f.before
+        (rows_begin deferred_word old.batch_size roots s.world begun f.before f.came i request begins.0 begins.1) step;
+    first = sets;
+    alike = alike_more (HasNumber known things) (HasNumber known2 things) (kept_numbers known known2 (row_keeps other) things) (sets_of old.batch_size f.before) sets f.alike;
+    sets_are = refl;
+  }
+
   pub row_begins : (NoRow u to.4.did → ⊥) → s.world.row i ≡ Rests → (roots : ℕ) (things : List Thing) (sets : Sets) → FollowsSets old.batch_size roots things sets known s.world → (slot : ℕ)
       → (request : Request) × FollowsInCall old.batch_size roots things (sets_on old.batch_size things slot effects sets) known2 i request (flat_map (handing things slot) effects) to.4.w2
   row_begins other rests roots things sets f slot = by (one_step other)
     where
       by : OneStep to.4.w2 → (request : Request) × FollowsInCall old.batch_size roots things (sets_on old.batch_size things slot effects sets) known2 i request (flat_map (handing things slot) effects) to.4.w2
       by (inl step) = absurd (subst (λ (r : Row). Steps' deferred_word i r s.world to.4.w2) rests step)
-      by (inr (request, begun, begins, step)) = (
-        request,
-        record {
-          began = s.world;
-          before = f.before;
-          row =
-              rows_go_on deferred_word old.batch_size roots i request s.world begun to.4.w2 f.before
-              (rows_begin deferred_word old.batch_size roots s.world begun f.before f.came i request begins.0 begins.1) step;
-          first = sets;
-          alike = alike_more (HasNumber known things) (HasNumber known2 things) (kept_numbers known known2 (row_keeps other) things) (sets_of old.batch_size f.before) sets f.alike;
-          sets_are = refl;
-        },
-      )
+      by (inr (request, begun, begins, step)) = (request, row_begun other request begun begins step roots things sets f slot)
+
+  -- whether it is one of a row; one that is none is taken while the caller has no row under way
+  pub no_or : NoRow u to.4.did ⊎ (NoRow u to.4.did → ⊥)
+  no_or = by u to.4.did
+    where
+      by : (x : UnderWay K V K) (did : Did x) → NoRow x did ⊎ (NoRow x did → ⊥)
+      by (OnKey x) (p2, end, machine_is, told_is, inl step) = inl tt
+      by (OnKey x) (p2, end, machine_is, told_is, inr row) = inr (λ own. own)
+      by (ForRoom x) (p2, end, machine_is, told_is, inl step) = inl tt
+      by (ForRoom x) (p2, end, machine_is, told_is, inr row) = inr (λ own. own)
+      by (Counting x) did = inl tt
+      by (OverAll x) (p2, end, machine_is, told_is, inl step) = inl tt
+      by (OverAll x) (p2, end, machine_is, told_is, inr row) = inr (λ own. own)
+
+  each : Together V same to.0.hash same to.0.setting slot_of s.world to.0.chart to.0.blocks to.0.sights (s.calls map)
+  each = at.together.makings.standing.each map to.0 to.2
+
+  pub no_row_rests : NoRow u to.4.did → s.world.row i ≡ Rests
+  no_row_rests own = by u to.4.did own (each.stand i u here)
+    where
+      by : (x : UnderWay K V K) (did : Did x) → NoRow x did
+          → Stands V same to.0.hash same to.0.setting slot_of s.world to.0.chart (seen_by to.0.blocks (to.0.sights (slot_of i))) i x → s.world.row i ≡ Rests
+      by (OnKey x) did own (inl is) = is.0
+      by (OnKey x) (p2, end, machine_is, told_is, inl (step, has)) own (inr is) = absurd (step.no_row is.1)
+      by (OnKey x) (p2, end, machine_is, told_is, inr row) own (inr is) = absurd own
+      by (ForRoom x) did own (inl is) = is.0
+      by (ForRoom x) (p2, end, machine_is, told_is, inl (step, has)) own (inr is) = absurd (step.no_row is.1)
+      by (ForRoom x) (p2, end, machine_is, told_is, inr row) own (inr is) = absurd own
+      by (Counting x) did own is = is.0
+      by (OverAll x) did own (inl is) = is.0
+      by (OverAll x) (p2, end, machine_is, told_is, inl (step, has)) own (inr is) = absurd (step.no_row is.1)
+      by (OverAll x) (p2, end, machine_is, told_is, inr row) own (inr is) = absurd own
 
   pub row_goes_on : (NoRow u to.4.did → ⊥) → s.world.row i ≢ Rests → (roots : ℕ) (things : List Thing) (sets : Sets) (request : Request) (handed : List Change)
       → FollowsInCall old.batch_size roots things sets known i request handed s.world → (slot : ℕ)

@@ -19,7 +19,7 @@ use Rattle.seize.specs.declared.rows.defer.Deferring.TheVariants as deferring
 use Rattle.seize.specs.Defer.{standing, head_read, push_told, defer_plan, plan_at, deferring as deferring_to}
 use Rattle.seize.specs.Sequence.{changes}
 use Rattle.seize.specs.WaitingSets.{Change, Defers}
-use Rattle.seize.specs.World.{World, Row, Rests, Registers, Enters, Settles, Leaves, Defers as DefersRow, Frees, Request, Defer', Begin, Begins, Steps', defers_on}
+use Rattle.seize.specs.World.{World, Row, Rests, Registers, Enters, Settles, Leaves, Defers as DefersRow, Frees, Request, Defer', Begin, Step, Begins, Happens, Steps', defers_on}
 use Rattle.seize_moves.proofs.State.Ghost.{Life, IsFree, IsOwned, IsLinked, IsUnlinked, IsDeferring, IsDeferred, IsPending, IsIn, IsDoomed, IsLeft, lies_with, can_carry}
 use Rattle.seize_waiting.specs.Held.{count}
 use Rattle.seize_rule.proofs.Points.Retire.{of_link}
@@ -63,9 +63,9 @@ use Rattle.papaya_schedules.specs.declared.effect.Thing.TheVariants.{APair, ATab
 use Rattle.papaya_spots.proofs.Handing.{AllKeep}
 use Rattle.papaya_models.specs.Alike.{ChangesAlike}
 use Rattle.papaya_models.specs.Defers.{IsDue, IsDone, IsToDefer, HasDeferred, AreNoted, HasToldIt, DefersAreTold, DeferringBegins, DeferringGoesOn}
-use Rattle.papaya_models.specs.Numbers.{HasNumber}
+use Rattle.papaya_models.specs.Numbers.{HasNumber, AreOfThings}
 use Rattle.papaya_models.proofs.Calls.{one_step, kept_numbers}
-use Rattle.papaya_models.proofs.Handing.{nothing_handed}
+use Rattle.papaya_models.proofs.Handing.{nothing_handed, keep_of}
 use Rattle.papaya_models.proofs.HandsOver.{No, Stepped, to, came, made, keeps}
 use Rattle.papaya_models.proofs.Told.{quiet_keeps, word_defers, is_told}
 
@@ -277,14 +277,18 @@ module _ {K V : Type 0} (size : ℕ) (w w2 : World (Node K V)) (reached : Reache
     abbrev table_number : ℕ
     table_number = number_in things (ATable noted.table)
 
-    told_now : Pushed → handed ≡ [] → ChangesAlike (HasNumber known2 things) (Defers b t ∷ []) (handed ++ flat_map (handing things under) effects)
-    told_now pushed none =
-        let named : block_in (link_to b) ≡ b = of_link (link_to b) b refl in
+    named : block_in (link_to b) ≡ b
+    named = of_link (link_to b) b refl
+
+    said_now : Pushed → effects ≡ effect.Deferred noted.n noted.table ∷ []
+    said_now pushed =
         let other : link_to b ≡ pushed.head → ⊥ = λ same. pushed.other (ap block_in (sym same) ∙ named) in
         let is = is_told w.memory w2.memory at (itself t DEFERRED) (λ bucket. refl) pushed.head (link_to b) pushed.was pushed.memory other told was_made in
         let differ : names_same pushed.head (link_to b) ≡ false = ne_eqb (block_in pushed.head) (block_in (link_to b)) (λ same. pushed.other (same ∙ named)) in
-        let said : effects ≡ effect.Deferred noted.n noted.table ∷ [] =
-            ap (effects_of (Call i map) known) is ∙ word_defers i map known b t pushed.head noted.n noted.len noted.table noted.pair_is noted.table_is differ in
+        ap (effects_of (Call i map) known) is ∙ word_defers i map known b t pushed.head noted.n noted.len noted.table noted.pair_is noted.table_is differ
+
+    told_now : effects ≡ effect.Deferred noted.n noted.table ∷ [] → handed ≡ [] → ChangesAlike (HasNumber known2 things) (Defers b t ∷ []) (handed ++ flat_map (handing things under) effects)
+    told_now said none =
         let all : handed ++ flat_map (handing things under) effects ≡ Defers pair_number table_number ∷ [] =
             ap (λ (cs : List Change). cs ++ flat_map (handing things under) effects) none ∙ ap (flat_map (handing things under)) said
             ∙ flat_map-cons (handing things under) (effect.Deferred noted.n noted.table) [] in
@@ -293,15 +297,20 @@ module _ {K V : Type 0} (size : ℕ) (w w2 : World (Node K V)) (reached : Reache
         subst (ChangesAlike (HasNumber known2 things) (Defers b t ∷ [])) (sym all)
         ((pair_number, table_number, kept_numbers known known2 kept things b pair_number pair, kept_numbers known known2 kept things t table_number table, refl), tt)
 
-    pub told_on : Steps' deferred_word i (w.row i) w w2 → HasToldIt things known i b t handed w → HasToldIt things known2 i b t (handed ++ flat_map (handing things under) effects) w2
+    pub told_on : Steps' deferred_word i (w.row i) w w2 → HasToldIt things known i b t handed w
+        → HasToldIt things known2 i b t (handed ++ flat_map (handing things under) effects) w2 × AreOfThings things effects
     told_on step (inl (is, nil)) = by (due_step (w.row i) refl step is)
       where
-        by : (IsToDefer b at (w2.row i) × Quiet) ⊎ (HasDeferred (w2.row i) × Pushed) → HasToldIt things known2 i b t (handed ++ flat_map (handing things under) effects) w2
-        by (inl (still, quiet)) = inl (still, nothing_more quiet ∙ nil)
-        by (inr (done, pushed)) = inr (done, told_now pushed nil)
+        by : (IsToDefer b at (w2.row i) × Quiet) ⊎ (HasDeferred (w2.row i) × Pushed)
+            → HasToldIt things known2 i b t (handed ++ flat_map (handing things under) effects) w2 × AreOfThings things effects
+        by (inl (still, quiet)) = (inl (still, nothing_more quiet ∙ nil), keep_of things effects quiet)
+        by (inr (done, pushed)) =
+            let said = said_now pushed in (inr (done, told_now said nil), subst (AreOfThings things) (sym said) ((noted.pair_came, noted.table_came), tt))
     told_on step (inr (is, alike)) =
-        let on = done_step (w.row i) refl step is in
-        inr (on.0, subst (ChangesAlike (HasNumber known2 things) (Defers b t ∷ [])) (sym (nothing_more on.1)) (more handed alike))
+        let on = done_step (w.row i) refl step is in (
+          inr (on.0, subst (ChangesAlike (HasNumber known2 things) (Defers b t ∷ [])) (sym (nothing_more on.1)) (more handed alike)),
+          keep_of things effects on.1,
+        )
 
 pub defers_are_told : (K V : Type 0) → DefersAreTold K V
 defers_are_told K V things known i s b t handed w told rests before after = by told
@@ -337,43 +346,52 @@ module _ {K V S : Type 0} (same : K → K → Bool) (hash : K → ℕ) (name : �
       let value_is : value ≡ node.Table noted.len role_is.0 noted.table.turn = cc both in
       list_word K V noted.len role_is.0 noted.table.turn field (ap deferred_word (sym value_is) ∙ list)
 
+  abbrev effects_now : List Effect
+  effects_now = effects_of (Call i map) known new.memory.changed
+
+  -- what it has told then, and that it is of things
+  abbrev Tells : (things : List Thing) (under b t : ℕ) → List Change → Type 0
+  Tells things under b t handed =
+      HasToldIt things (known_after (Call i map) new.memory.changed known) i b t (handed ++ flat_map (handing things under) effects_now) w2 × AreOfThings things effects_now
+
   pub goes_on : (Its → ⊥) → s.world.row i ≢ Rests → (things : List Thing) (under b t : ℕ) (handed : List Change) → AreNoted things known b t → HasToldIt things known i b t handed s.world
-      → HasToldIt things (known_after (Call i map) new.memory.changed known) i b t (handed ++ flat_map (handing things under) (effects_of (Call i map) known new.memory.changed)) w2
+      → Tells things under b t handed
   goes_on other goes things under b t handed noted so = by (one_step same hash name m known s old new at whole map i u here told leads other)
     where
-      by : Taken' → HasToldIt things (known_after (Call i map) new.memory.changed known) i b t (handed ++ flat_map (handing things under) (effects_of (Call i map) known new.memory.changed)) w2
+      by : Taken' → Tells things under b t handed
       by (inl step) =
           told_on old.batch_size s.world w2 (came_reached old.batch_size s.world (came same hash name m known s old new at whole map i u here told leads)) i map b t known new.memory.changed
           (made same hash name m known s old new at whole map i u here told leads other s.world refl) things under noted (keeps same hash name m known s old new at whole map i u here told leads other) handed
           step so
       by (inr (request, begun, begins, step)) = absurd (goes begins.0)
 
+  pub begun_tells : (Its → ⊥) → (request : Request) (begun : World (Node K V)) → Happens deferred_word old.batch_size (Begin i request) s.world begun
+      → Happens deferred_word old.batch_size (Step i) begun w2 → (things : List Thing) (slot under b t : ℕ) → request ≡ Defer' slot b t → AreNoted things known b t → Tells things under b t []
+  begun_tells other request begun begin step things slot under b t is noted =
+      let h = subst (λ (r : Request). Begins deferred_word old.batch_size i r s.world begun) is begin.1 in
+      let before = came same hash name m known s old new at whole map i u here told leads in
+      let row : begun.row i ≡ DefersRow slot (deferring_to (link_to b) (Word t h.0)) =
+          ap (λ (x : World (Node K V)). x.row i) h.7 ∙ with_here s.world.row i (DefersRow slot (deferring_to (link_to b) (Word t h.0))) in
+      let memory : begun.memory ≡ s.world.memory = ap (λ (x : World (Node K V)). x.memory) h.7 in
+      let list = h.4 in
+      told_on old.batch_size begun w2 (came_reached old.batch_size begun (came_next old.batch_size s.world begun (Begin i request) before begin)) i map b t known new.memory.changed
+      (made same hash name m known s old new at whole map i u here told leads other begun memory) things under noted (keeps same hash name m known s old new at whole map i u here told leads other) []
+      step
+      (inl (
+        subst (IsToDefer b (Word t DEFERRED)) (sym row) (refl, ap (Word t) (word_is things b t h.0 noted list.0 list.1 list.2), tt),
+        refl,
+      ))
+
   pub begins : (Its → ⊥) → s.world.row i ≡ Rests
       → (request : Request) × ((things : List Thing) (slot under b t : ℕ) → request ≡ Defer' slot b t → AreNoted things known b t
-      → HasToldIt things (known_after (Call i map) new.memory.changed known) i b t (flat_map (handing things under) (effects_of (Call i map) known new.memory.changed)) w2)
+      → HasToldIt things (known_after (Call i map) new.memory.changed known) i b t (flat_map (handing things under) effects_now) w2)
   begins other rests = by (one_step same hash name m known s old new at whole map i u here told leads other)
     where
       by : Taken'
           → (request : Request) × ((things : List Thing) (slot under b t : ℕ) → request ≡ Defer' slot b t → AreNoted things known b t
-          → HasToldIt things (known_after (Call i map) new.memory.changed known) i b t (flat_map (handing things under) (effects_of (Call i map) known new.memory.changed)) w2)
+          → HasToldIt things (known_after (Call i map) new.memory.changed known) i b t (flat_map (handing things under) effects_now) w2)
       by (inl step) = absurd (subst (λ (r : Row). Steps' deferred_word i r s.world w2) rests step)
-      by (inr (request, begun, begin, step)) = (
-        request,
-        λ things slot under b t is noted.
-            let h = subst (λ (r : Request). Begins deferred_word old.batch_size i r s.world begun) is begin.1 in
-            let before = came same hash name m known s old new at whole map i u here told leads in
-            let row : begun.row i ≡ DefersRow slot (deferring_to (link_to b) (Word t h.0)) =
-                ap (λ (x : World (Node K V)). x.row i) h.7 ∙ with_here s.world.row i (DefersRow slot (deferring_to (link_to b) (Word t h.0))) in
-            let memory : begun.memory ≡ s.world.memory = ap (λ (x : World (Node K V)). x.memory) h.7 in
-            let list = h.4 in
-            told_on old.batch_size begun w2 (came_reached old.batch_size begun (came_next old.batch_size s.world begun (Begin i request) before begin)) i map b t known new.memory.changed
-            (made same hash name m known s old new at whole map i u here told leads other begun memory) things under noted (keeps same hash name m known s old new at whole map i u here told leads other) []
-            step
-            (inl (
-            subst (IsToDefer b (Word t DEFERRED)) (sym row) (refl, ap (Word t) (word_is things b t h.0 noted list.0 list.1 list.2), tt),
-            refl,
-            )),
-      )
+      by (inr (request, begun, begin, step)) = (request, λ things slot under b t is noted. (begun_tells other request begun begin step things slot under b t is noted).0)
 
 module _ (K V S : Type 0) (same : K → K → Bool) (hash : K → ℕ) where
   pub deferring_begins : DeferringBegins K V S same hash
@@ -381,4 +399,4 @@ module _ (K V S : Type 0) (same : K → K → Bool) (hash : K → ℕ) where
 
   pub deferring_goes_on : DeferringGoesOn K V S same hash
   deferring_goes_on name m known s old new at whole map i u here told leads other goes things under b t handed noted so =
-      goes_on same hash name m known s old new at whole map i u here told leads other goes things under b t handed noted so
+      (goes_on same hash name m known s old new at whole map i u here told leads other goes things under b t handed noted so).0

@@ -21,6 +21,7 @@ use Rattle.papaya_follows.specs.Shows.{Shows}
 use Rattle.papaya_follows.proofs.Steps.{WentTo, went_to, made_so, is_inside, DidSo, OfNoRow}
 use Rattle.papaya_spots.proofs.Handing.{KeepsAll, AllKeep, calm_keep}
 use Rattle.papaya_spots.proofs.Steps.{moved_keep, stayed_calm}
+use Rattle.papaya_models.specs.Numbers.{IsOfThings, AreOfThings}
 
 pub nothing_handed : (things : List Thing) (slot : ℕ) (effects : List Effect) → AllKeep effects → flat_map (handing things slot) effects ≡ []
 nothing_handed things slot [] all = refl
@@ -32,6 +33,17 @@ nothing_handed things slot (e ∷ effects) all =
     by (Deferred n t) is = absurd is
     by (Taken t) is = absurd is
     by _ is = refl
+
+-- nor is there anything that has not come into a map
+pub keep_of : (things : List Thing) (effects : List Effect) → AllKeep effects → AreOfThings things effects
+keep_of things [] all = tt
+keep_of things (e ∷ effects) all = (by e all.0, keep_of things effects all.1)
+  where
+    by : (e : Effect) → KeepsAll e → IsOfThings things e
+    by (Retired x) is = absurd is
+    by (Deferred n t) is = absurd is
+    by (Taken t) is = absurd is
+    by _ is = tt
 
 -- whichever kind of call it is
 module _ {K V S : Type 0} (same : K → K → Bool) (hash : K → ℕ) (name : ℕ → List ℕ) (m : Moment K V) (known : Known) (s : Scene K V) (old new : Executor K V S) (at : IsAt same hash old s)

@@ -18,7 +18,7 @@ use Rattle.seize.specs.declared.rows.settle.Settling.TheVariants as at
 use Rattle.seize.specs.Settle.{settle_plan, plan_at, retiring}
 use Rattle.seize.specs.Sequence.{changes}
 use Rattle.seize.specs.WaitingSets.{Change, Retires}
-use Rattle.seize.specs.World.{World, Row, Rests, Registers, Enters, Settles, Leaves, Defers, Frees, Hand, Cutting, Request, Retire, Begin, Begins, Steps', settles_on, at_start}
+use Rattle.seize.specs.World.{World, Row, Rests, Registers, Enters, Settles, Leaves, Defers, Frees, Hand, Cutting, Request, Retire, Begin, Step, Begins, Happens, Steps', settles_on, at_start}
 use Rattle.seize_moves.proofs.State.Ghost.{IsUnlinked}
 use Rattle.seize_rule.proofs.Points.Aside.{HandFits}
 use Rattle.seize_rule.proofs.Points.Known.{FitsAt, bare, open_blocks}
@@ -66,10 +66,10 @@ use Rattle.papaya_schedules.specs.declared.effect.Thing.TheVariants.{APair, ATab
 use Rattle.papaya_promises.specs.Sheltered.{IsOfThing}
 use Rattle.papaya_spots.proofs.Handing.{AllKeep}
 use Rattle.papaya_models.specs.Alike.{ChangesAlike}
-use Rattle.papaya_models.specs.Numbers.{HasNumber}
+use Rattle.papaya_models.specs.Numbers.{HasNumber, AreOfThings}
 use Rattle.papaya_models.specs.Retires.{IsToRetireAt, IsToRetire, IsPast, HasRetired, HasToldSo, RetiresAreTold, RetiringBegins, RetiringGoesOn}
 use Rattle.papaya_models.proofs.Calls.{NoRow, OneStep, one_step, its_memory, kept_numbers, row_keeps}
-use Rattle.papaya_models.proofs.Handing.{nothing_handed}
+use Rattle.papaya_models.proofs.Handing.{nothing_handed, keep_of}
 use Rattle.papaya_models.proofs.Retires.{to_retire, retires, past_on, goes_row, past_row}
 use Rattle.papaya_models.proofs.Told.{quiet_keeps, first_retires, is_told}
 use Rattle.papaya_models.proofs.Unbatched.{IsKept, runs_unbatched}
@@ -218,27 +218,34 @@ module _ {K V : Type 0} (size : ℕ) (w w2 : World (Node K V)) (reached : Reache
     more (d ∷ []) h = let it = h.0 in ((it.0, kept_numbers known known2 keeps things b it.0 it.1, it.2), tt)
     more (d ∷ e ∷ l) h = absurd h.1
 
-    told_now : Writes → word_at w.memory (Entry b FIRST) ≡ Some 0 → handed ≡ [] → ChangesAlike (HasNumber known2 things) (Retires slot b ∷ []) (handed ++ flat_map (handing things slot) effects)
-    told_now writes zero none =
+    said_now : Writes → word_at w.memory (Entry b FIRST) ≡ Some 0 → effects ≡ effect.Retired has.0 ∷ []
+    said_now writes zero =
         let other : writes.first ≡ 0 → ⊥ = λ e. (let pos = writes.named in let nil : block_in writes.first ≡ 0 = ap block_in e in omega (arith, pos, nil)) in
         let is = is_told w.memory w2.memory (Entry b FIRST) (itself b) (λ bucket. refl) 0 writes.first zero writes.memory other told made in
         let differ : names_same 0 writes.first ≡ false = ne_eqb 0 (block_in writes.first) (λ e. let pos = writes.named in omega (arith, pos, e)) in
-        let said : effects ≡ effect.Retired has.0 ∷ [] = ap (effects_of (Call i map) known) is ∙ first_retires i map known b 0 writes.first has.0 has.1 differ in
+        ap (effects_of (Call i map) known) is ∙ first_retires i map known b 0 writes.first has.0 has.1 differ
+
+    told_now : effects ≡ effect.Retired has.0 ∷ [] → handed ≡ [] → ChangesAlike (HasNumber known2 things) (Retires slot b ∷ []) (handed ++ flat_map (handing things slot) effects)
+    told_now said none =
         let all : handed ++ flat_map (handing things slot) effects ≡ Retires slot k ∷ [] =
-        ap (λ (cs : List Change). cs ++ flat_map (handing things slot) effects) none ∙ ap (flat_map (handing things slot)) said ∙ flat_map-cons (handing things slot) (effect.Retired has.0) []
-        ∙ ap (λ (x : ℕ). Retires slot x ∷ []) has.3 in
+            ap (λ (cs : List Change). cs ++ flat_map (handing things slot) effects) none ∙ ap (flat_map (handing things slot)) said ∙ flat_map-cons (handing things slot) (effect.Retired has.0) []
+            ∙ ap (λ (x : ℕ). Retires slot x ∷ []) has.3 in
         subst (ChangesAlike (HasNumber known2 things) (Retires slot b ∷ [])) (sym all) ((k, kept_numbers known known2 keeps things b k has, refl), tt)
 
     pub told_on : ReclaimsNone (w.row i) → Steps' deferred_word i (w.row i) w w2 → HasToldSo things known i slot b handed w
-        → HasToldSo things known2 i slot b (handed ++ flat_map (handing things slot) effects) w2
+        → HasToldSo things known2 i slot b (handed ++ flat_map (handing things slot) effects) w2 × AreOfThings things effects
     told_on none step (inl (is, nil, first, next)) = by (due_step (w.row i) refl none step is next)
       where
-        by : (IsToRetire b (w2.row i) × Kept × Quiet) ⊎ (HasRetired (w2.row i) × Writes) → HasToldSo things known2 i slot b (handed ++ flat_map (handing things slot) effects) w2
-        by (inl (still, kept, quiet)) = inl (still, nothing_more quiet ∙ nil, kept FIRST ∙ first, kept NEXT ∙ next)
-        by (inr (past, writes)) = inr (past, told_now writes first nil)
+        by : (IsToRetire b (w2.row i) × Kept × Quiet) ⊎ (HasRetired (w2.row i) × Writes)
+            → HasToldSo things known2 i slot b (handed ++ flat_map (handing things slot) effects) w2 × AreOfThings things effects
+        by (inl (still, kept, quiet)) = (inl (still, nothing_more quiet ∙ nil, kept FIRST ∙ first, kept NEXT ∙ next), keep_of things effects quiet)
+        by (inr (past, writes)) =
+            let said = said_now writes first in (inr (past, told_now said nil), subst (AreOfThings things) (sym said) (has.2, tt))
     told_on none step (inr (is, alike)) =
-        let on = past_step (w.row i) refl none step is in
-        inr (on.0, subst (ChangesAlike (HasNumber known2 things) (Retires slot b ∷ [])) (sym (nothing_more on.1)) (more handed alike))
+        let on = past_step (w.row i) refl none step is in (
+          inr (on.0, subst (ChangesAlike (HasNumber known2 things) (Retires slot b ∷ [])) (sym (nothing_more on.1)) (more handed alike)),
+          keep_of things effects on.1,
+        )
 
 -- a block that is there has a number
 in_place : {T : Type 0} (m : Mem T) (b : ℕ) → IsSome (value_at m b) → 0 < b
@@ -310,42 +317,50 @@ module _ {K V S : Type 0} (same : K → K → Bool) (hash : K → ℕ) (name : �
           let role_is : HasRole s.world m.stored b (role.Table t of.0) = subst (λ (r : Role). HasRole s.world m.stored b r) of.1 (whole.all.shown.blocks.roles b) in
           subst (λ (o : Option (Node K V)). IsSome o) (sym role_is.1) refl
 
+  abbrev effects_now : List Effect
+  effects_now = effects_of (Call i map) known new.memory.changed
+
+  -- what it has told then, and that it is of things
+  abbrev Tells : (things : List Thing) (slot b : ℕ) → List Change → Type 0
+  Tells things slot b handed = HasToldSo things (known_after (Call i map) new.memory.changed known) i slot b (handed ++ flat_map (handing things slot) effects_now) to.4.w2 × AreOfThings things effects_now
+
   pub goes_on : (No → ⊥) → s.world.row i ≢ Rests → (things : List Thing) (slot b k : ℕ) (handed : List Change) → HasNumber known things b k → HasToldSo things known i slot b handed s.world
-      → HasToldSo things (known_after (Call i map) new.memory.changed known) i slot b (handed ++ flat_map (handing things slot) (effects_of (Call i map) known new.memory.changed)) to.4.w2
+      → Tells things slot b handed
   goes_on other goes things slot b k handed has so = by (one_step same hash name m known s old new at whole map i u here told leads other)
     where
-      by : Stepped → HasToldSo things (known_after (Call i map) new.memory.changed known) i slot b (handed ++ flat_map (handing things slot) (effects_of (Call i map) known new.memory.changed)) to.4.w2
+      by : Stepped → Tells things slot b handed
       by (inl step) =
           told_on old.batch_size s.world to.4.w2 (came_reached old.batch_size s.world came) i map b (some_block things b k has) known new.memory.changed (made other s.world refl) things slot k has (keeps other) handed
           (whole.all.rows.none map i u here) step so
       by (inr (request, begun, begins, step)) = absurd (goes begins.0)
 
+  pub begun_tells : (No → ⊥) → (request : Request) (begun : World (Node K V)) → Happens deferred_word old.batch_size (Begin i request) s.world begun
+      → Happens deferred_word old.batch_size (Step i) begun to.4.w2 → (things : List Thing) (slot b k : ℕ) → request ≡ Retire slot b → HasNumber known things b k → Tells things slot b []
+  begun_tells other request begun begin step things slot b k is has =
+      let h = subst (λ (r : Request). Begins deferred_word old.batch_size i r s.world begun) is begin.1 in
+      let row : begun.row i ≡ Settles (retiring slot old.batch_size (link_to b)) = ap (λ (x : World (Node K V)). x.row i) h.2 ∙ with_here s.world.row i (Settles (retiring slot old.batch_size (link_to b))) in
+      let memory : begun.memory ≡ s.world.memory = ap (λ (x : World (Node K V)). x.memory) h.2 in
+      let cut = h.1 in
+      told_on old.batch_size begun to.4.w2 (came_reached old.batch_size begun (came_next old.batch_size s.world begun (Begin i request) came begin)) i map b
+      (some_number old.batch_size s.world came b cut.0 cut.1) known new.memory.changed (made other begun memory) things slot k has (keeps other) []
+      (subst ReclaimsNone (sym row) (refl, refl, refl, tt)) step
+      (inl (
+        subst (IsToRetire b) (sym row) refl,
+        refl,
+        ap (λ (x : Mem (Node K V)). word_at x (Entry b FIRST)) memory ∙ no_batch old.batch_size s.world came b cut.0 cut.1,
+        ap (λ (x : Mem (Node K V)). word_at x (Entry b NEXT)) memory ∙ no_list old.batch_size s.world came b cut.0 cut.1,
+      ))
+
   pub begins : (No → ⊥) → s.world.row i ≡ Rests
       → (request : Request) × ((things : List Thing) (slot b k : ℕ) → request ≡ Retire slot b → HasNumber known things b k
-      → HasToldSo things (known_after (Call i map) new.memory.changed known) i slot b (flat_map (handing things slot) (effects_of (Call i map) known new.memory.changed)) to.4.w2)
+      → HasToldSo things (known_after (Call i map) new.memory.changed known) i slot b (flat_map (handing things slot) effects_now) to.4.w2)
   begins other rests = by (one_step same hash name m known s old new at whole map i u here told leads other)
     where
       by : Stepped
           → (request : Request) × ((things : List Thing) (slot b k : ℕ) → request ≡ Retire slot b → HasNumber known things b k
-          → HasToldSo things (known_after (Call i map) new.memory.changed known) i slot b (flat_map (handing things slot) (effects_of (Call i map) known new.memory.changed)) to.4.w2)
+          → HasToldSo things (known_after (Call i map) new.memory.changed known) i slot b (flat_map (handing things slot) effects_now) to.4.w2)
       by (inl step) = absurd (subst (λ (r : Row). Steps' deferred_word i r s.world to.4.w2) rests step)
-      by (inr (request, begun, begin, step)) = (
-        request,
-        λ things slot b k is has.
-            let h = subst (λ (r : Request). Begins deferred_word old.batch_size i r s.world begun) is begin.1 in
-            let row : begun.row i ≡ Settles (retiring slot old.batch_size (link_to b)) = ap (λ (x : World (Node K V)). x.row i) h.2 ∙ with_here s.world.row i (Settles (retiring slot old.batch_size (link_to b))) in
-            let memory : begun.memory ≡ s.world.memory = ap (λ (x : World (Node K V)). x.memory) h.2 in
-            let cut = h.1 in
-            told_on old.batch_size begun to.4.w2 (came_reached old.batch_size begun (came_next old.batch_size s.world begun (Begin i request) came begin)) i map b
-            (some_number old.batch_size s.world came b cut.0 cut.1) known new.memory.changed (made other begun memory) things slot k has (keeps other) []
-            (subst ReclaimsNone (sym row) (refl, refl, refl, tt)) step
-            (inl (
-              subst (IsToRetire b) (sym row) refl,
-              refl,
-              ap (λ (x : Mem (Node K V)). word_at x (Entry b FIRST)) memory ∙ no_batch old.batch_size s.world came b cut.0 cut.1,
-              ap (λ (x : Mem (Node K V)). word_at x (Entry b NEXT)) memory ∙ no_list old.batch_size s.world came b cut.0 cut.1,
-            )),
-      )
+      by (inr (request, begun, begin, step)) = (request, λ things slot b k is has. (begun_tells other request begun begin step things slot b k is has).0)
 
 module _ (K V S : Type 0) (same : K → K → Bool) (hash : K → ℕ) where
   pub retiring_begins : RetiringBegins K V S same hash
@@ -353,4 +368,4 @@ module _ (K V S : Type 0) (same : K → K → Bool) (hash : K → ℕ) where
 
   pub retiring_goes_on : RetiringGoesOn K V S same hash
   retiring_goes_on name m known s old new at whole map i u here told leads other goes things slot b k handed has so =
-      goes_on same hash name m known s old new at whole map i u here told leads other goes things slot b k handed has so
+      (goes_on same hash name m known s old new at whole map i u here told leads other goes things slot b k handed has so).0

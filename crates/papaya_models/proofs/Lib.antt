@@ -17,3 +17,4 @@ pub mod Retires
 pub mod Told
 pub mod HandsOver
 pub mod Defers
+pub mod CallEvents

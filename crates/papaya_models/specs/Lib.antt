@@ -10,3 +10,4 @@ pub mod Ends
 pub mod Reclaims
 pub mod Retires
 pub mod Defers
+pub mod CallEvents

@@ -4,7 +4,7 @@ use Rattle.papaya_schedules.specs.Lists.{is_in}
 use Rattle.papaya_schedules.specs.Model.{number_in}
 use Rattle.papaya_schedules.specs.Things.{same_thing}
 use Rattle.papaya_schedules.specs.declared.effect.Effect.{Effect}
-use Rattle.papaya_schedules.specs.declared.effect.Effect.TheVariants.{Asked, PairGivenUp, TableGivenUp, Reclaimed}
+use Rattle.papaya_schedules.specs.declared.effect.Effect.TheVariants.{Asked, PairGivenUp, TableGivenUp, Reclaimed, Retired, Deferred, Taken}
 use Rattle.papaya_schedules.specs.declared.effect.Thing.{Thing}
 use Rattle.papaya_schedules.specs.declared.effect.Thing.TheVariants.{APair, ATable}
 use Rattle.papaya_effects.specs.Known.{Known}
@@ -38,3 +38,14 @@ IsOfRow _ = ⊥
 abbrev pub AreOfRow : List Effect → Type 0
 AreOfRow [] = Unit {0}
 AreOfRow (e ∷ effects) = IsOfRow e × AreOfRow effects
+
+-- it hands over what is among these things, and ends no table
+abbrev pub IsOfThings : List Thing → Effect → Type 0
+IsOfThings things (Retired x) = is_in same_thing x things ≡ true
+IsOfThings things (Deferred n t) = (is_in same_thing (APair n) things ≡ true) × (is_in same_thing (ATable t) things ≡ true)
+IsOfThings things (Taken t) = ⊥
+IsOfThings things _ = Unit {0}
+
+abbrev pub AreOfThings : List Thing → List Effect → Type 0
+AreOfThings things [] = Unit {0}
+AreOfThings things (e ∷ effects) = IsOfThings things e × AreOfThings things effects
