@@ -75,7 +75,7 @@ of_both things [] effects a b = b
 of_both things (e ∷ done) effects a b = (a.0, of_both things done effects a.1 b)
 
 -- all things, and the sets, once more was done
-things_more : (things : List Thing) (done effects : List Effect) → things_then things (done ++ effects) ≡ things_then things done ++ flat_map came effects
+pub things_more : (things : List Thing) (done effects : List Effect) → things_then things (done ++ effects) ≡ things_then things done ++ flat_map came effects
 things_more things done effects =
     ap (λ (xs : List Thing). things ++ xs) (flat_map-append came done effects) ∙ sym (append_assoc things (flat_map came done) (flat_map came effects))
 

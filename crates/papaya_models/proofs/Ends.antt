@@ -197,11 +197,11 @@ keeps_hands (effect.Retired x) is = is
 keeps_hands (effect.Deferred n t) is = is
 keeps_hands _ is = tt
 
-keep_hands : (effects : List Effect) → AllKeep effects → HandNone effects
+pub keep_hands : (effects : List Effect) → AllKeep effects → HandNone effects
 keep_hands [] all = tt
 keep_hands (e ∷ effects) all = (keeps_hands e all.0, keep_hands effects all.1)
 
-both_hands : (xs ys : List Effect) → HandNone xs → HandNone ys → HandNone (xs ++ ys)
+pub both_hands : (xs ys : List Effect) → HandNone xs → HandNone ys → HandNone (xs ++ ys)
 both_hands [] ys c d = d
 both_hands (x ∷ xs) ys c d = (c.0, both_hands xs ys c.1 d)
 

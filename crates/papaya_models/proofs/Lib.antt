@@ -18,3 +18,4 @@ pub mod Told
 pub mod HandsOver
 pub mod Defers
 pub mod CallEvents
+pub mod MapEvents

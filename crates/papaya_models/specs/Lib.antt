@@ -11,3 +11,4 @@ pub mod Reclaims
 pub mod Retires
 pub mod Defers
 pub mod CallEvents
+pub mod MapEvents

@@ -5,6 +5,7 @@ ghost use Rattle.papaya_models.specs.Calls.{CallsFollow, HandingIsByModel, Insid
 ghost use Rattle.papaya_models.specs.Defers.{DefersAreTold, DeferringBegins, DeferringGoesOn};
 ghost use Rattle.papaya_models.specs.Ends.{EndsBegin, EndsEnd, EndsGoOn};
 ghost use Rattle.papaya_models.specs.Follows.{FollowsAtFirst, IdleEventsFollow};
+ghost use Rattle.papaya_models.specs.MapEvents.{EndEventsEnd, MakingEventsBegin, MakingEventsEnd, MakingEventsGoOn, MomentsNoteOnce};
 ghost use Rattle.papaya_models.specs.OnSlots.{SlotEventsBegin, SlotEventsGoOn, SlotEventsEnd};
 ghost use Rattle.papaya_models.specs.Others.{MakingsFollow, MapsAreByModel};
 ghost use Rattle.papaya_models.specs.Reclaims.{ReclaimingFollows, SlotsReclaim};
@@ -78,4 +79,14 @@ pub fn maps_follow_the_model<K, V, S>()
     ensures ends_go_on { (same : K → K → Bool) (hash : K → ℕ) → EndsGoOn K V S same hash }
     ensures ends_end { EndsEnd K V }
     ensures by_model { MapsAreByModel K V }
+{}
+
+/// Events that make a map, or end one, whole: a making hands nothing over, step by step, and once its event is over it is by the model; and so it is of the end of a map,
+/// if no table is left over. The sets are those of the model after it. A moment that shows the executor notes each thing once.
+pub fn map_events_follow_the_model<K, V, S>()
+    ensures begins { MakingEventsBegin K V }
+    ensures goes_on { (same : K → K → Bool) (hash : K → ℕ) → MakingEventsGoOn K V S same hash }
+    ensures ends { MakingEventsEnd K V }
+    ensures over { EndEventsEnd K V }
+    ensures once { MomentsNoteOnce K V }
 {}
