@@ -196,13 +196,13 @@ module _ {K V : Type 0} (size : ℕ) (w w2 : World (Node K V)) (reached : Reache
       pushes_on head stands (Exchanged (Ok found)) took h =
           let was : word_at w.memory at ≡ Some found = ap (word_at w.memory) (sym at_is) ∙ took.0.0 in
           inr (
-          on_row HasDeferred (standing c deferring.Over) h tt,
-          record {
-            head = found;
-            was = was;
-            other = other_head head found stands was;
-            memory = memory_is ∙ took.1 ∙ ap (λ (x : At). with_word w.memory x c.block) at_is ∙ ap (with_word w.memory at) block_is;
-          },
+            on_row HasDeferred (standing c deferring.Over) h tt,
+            record {
+              head = found;
+              was = was;
+              other = other_head head found stands was;
+              memory = memory_is ∙ took.1 ∙ ap (λ (x : At). with_word w.memory x c.block) at_is ∙ ap (with_word w.memory at) block_is;
+            },
           )
       pushes_on head stands (Exchanged (Err found)) took h =
           inl (on_row (IsToDefer b at) (standing c (deferring.Links found)) h (block_is, at_is, tt), same_quiet (memory_is ∙ took.1))
@@ -290,8 +290,8 @@ module _ {K V : Type 0} (size : ℕ) (w w2 : World (Node K V)) (reached : Reache
     told_now : effects ≡ effect.Deferred noted.n noted.table ∷ [] → handed ≡ [] → ChangesAlike (HasNumber known2 things) (Defers b t ∷ []) (handed ++ flat_map (handing things under) effects)
     told_now said none =
         let all : handed ++ flat_map (handing things under) effects ≡ Defers pair_number table_number ∷ [] =
-            ap (λ (cs : List Change). cs ++ flat_map (handing things under) effects) none ∙ ap (flat_map (handing things under)) said
-            ∙ flat_map-cons (handing things under) (effect.Deferred noted.n noted.table) [] in
+        ap (λ (cs : List Change). cs ++ flat_map (handing things under) effects) none ∙ ap (flat_map (handing things under)) said
+        ∙ flat_map-cons (handing things under) (effect.Deferred noted.n noted.table) [] in
         let pair : HasNumber known things b pair_number = (APair noted.n, noted.pair_is, noted.pair_came, refl) in
         let table : HasNumber known things t table_number = (ATable noted.table, (noted.len, noted.table_is), noted.table_came, refl) in
         subst (ChangesAlike (HasNumber known2 things) (Defers b t ∷ [])) (sym all)
@@ -371,7 +371,7 @@ module _ {K V S : Type 0} (same : K → K → Bool) (hash : K → ℕ) (name : �
       let h = subst (λ (r : Request). Begins deferred_word old.batch_size i r s.world begun) is begin.1 in
       let before = came same hash name m known s old new at whole map i u here told leads in
       let row : begun.row i ≡ DefersRow slot (deferring_to (link_to b) (Word t h.0)) =
-          ap (λ (x : World (Node K V)). x.row i) h.7 ∙ with_here s.world.row i (DefersRow slot (deferring_to (link_to b) (Word t h.0))) in
+      ap (λ (x : World (Node K V)). x.row i) h.7 ∙ with_here s.world.row i (DefersRow slot (deferring_to (link_to b) (Word t h.0))) in
       let memory : begun.memory ≡ s.world.memory = ap (λ (x : World (Node K V)). x.memory) h.7 in
       let list = h.4 in
       told_on old.batch_size begun w2 (came_reached old.batch_size begun (came_next old.batch_size s.world begun (Begin i request) before begin)) i map b t known new.memory.changed

@@ -228,8 +228,8 @@ module _ {K V : Type 0} (size : ℕ) (w w2 : World (Node K V)) (reached : Reache
     told_now : effects ≡ effect.Retired has.0 ∷ [] → handed ≡ [] → ChangesAlike (HasNumber known2 things) (Retires slot b ∷ []) (handed ++ flat_map (handing things slot) effects)
     told_now said none =
         let all : handed ++ flat_map (handing things slot) effects ≡ Retires slot k ∷ [] =
-            ap (λ (cs : List Change). cs ++ flat_map (handing things slot) effects) none ∙ ap (flat_map (handing things slot)) said ∙ flat_map-cons (handing things slot) (effect.Retired has.0) []
-            ∙ ap (λ (x : ℕ). Retires slot x ∷ []) has.3 in
+        ap (λ (cs : List Change). cs ++ flat_map (handing things slot) effects) none ∙ ap (flat_map (handing things slot)) said ∙ flat_map-cons (handing things slot) (effect.Retired has.0) []
+        ∙ ap (λ (x : ℕ). Retires slot x ∷ []) has.3 in
         subst (ChangesAlike (HasNumber known2 things) (Retires slot b ∷ [])) (sym all) ((k, kept_numbers known known2 keeps things b k has, refl), tt)
 
     pub told_on : ReclaimsNone (w.row i) → Steps' deferred_word i (w.row i) w w2 → HasToldSo things known i slot b handed w

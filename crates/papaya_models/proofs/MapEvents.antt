@@ -93,6 +93,6 @@ end_events_end K V terms log e slot i first known w small once f m blocks no_tab
     let over = ends_end K V terms.batch_size terms.roots (things_in log) (sets_in terms.batch_size log) first i e.effects known w small once f m blocks no_table slot in (
       maps_are_by_model K V terms log e slot are none_left f.hands back,
       subst (λ (x : Sets). FollowsSets terms.batch_size terms.roots (things_in (e ∷ log)) x known w)
-      (sets_then terms log e (flat_map (handing (things_in (e ∷ log)) slot) e.effects) are)
-      (subst (λ (xs : List Thing). FollowsSets terms.batch_size terms.roots xs (sets_on terms.batch_size xs slot e.effects (sets_in terms.batch_size log)) known w) (sym things_same) over),
+          (sets_then terms log e (flat_map (handing (things_in (e ∷ log)) slot) e.effects) are)
+          (subst (λ (xs : List Thing). FollowsSets terms.batch_size terms.roots xs (sets_on terms.batch_size xs slot e.effects (sets_in terms.batch_size log)) known w) (sym things_same) over),
     )

@@ -165,8 +165,8 @@ module _ {K V : Type 0} (m m2 : Mem (Node K V)) (at : At) (same : same_at at at 
   none_made : (value : Node K V) (words c : ℕ) → Took m (Make value words) (Made (Ok c)) m2 → ⊥
   none_made value words c took =
       let there : value_at m2 c ≡ Some value =
-          ap (λ (k : Mem (Node K V)). value_at k c) took.1 ∙ ap value_in (block_of-made m value words c c took.0.0)
-          ∙ ap (λ (q : Bool). value_in (if q then Some (fresh value words) else block_of m c)) (eq-eqb c c refl) in
+      ap (λ (k : Mem (Node K V)). value_at k c) took.1 ∙ ap value_in (block_of-made m value words c c took.0.0)
+      ∙ ap (λ (q : Bool). value_in (if q then Some (fresh value words) else block_of m c)) (eq-eqb c c refl) in
       let none : value_at m c ≡ None = ap value_in took.0.0.0 in
       let still = values c in cc (there, none, still)
 
@@ -174,7 +174,7 @@ module _ {K V : Type 0} (m m2 : Mem (Node K V)) (at : At) (same : same_at at at 
   none_taken c can gone =
       let x = block_there m c can in
       let none : value_at m2 c ≡ None =
-          ap (λ (k : Mem (Node K V)). value_at k c) gone ∙ ap value_in (block_of-with_block m c c x.0 None x.1) ∙ ap (λ (q : Bool). value_in (if q then None else block_of m c)) (eq-eqb c c refl) in
+      ap (λ (k : Mem (Node K V)). value_at k c) gone ∙ ap value_in (block_of-with_block m c c x.0 None x.1) ∙ ap (λ (q : Bool). value_in (if q then None else block_of m c)) (eq-eqb c c refl) in
       let some : IsSome {T = Node K V} None = subst (λ (o : Option (Node K V)). IsSome o) (sym (values c) ∙ none) can in cc some
 
   told_so : (op : Op (Node K V)) (out : Out (Node K V)) → Can m op → Took m op out m2 → told_of op out (seen_of m op out) ≡ changed.Wrote at old new
