@@ -19,14 +19,19 @@ use Rattle.papaya_executor.specs.Stepping.{StepLeads}
 use Rattle.papaya_executor.specs.declared.executor.Executor.{Executor}
 use Rattle.papaya_follows.proofs.Onward.{IsLasting, KeepsRoles}
 use Rattle.papaya_moments.specs.Whole.{ShowsWhole}
-use Rattle.papaya_schedules.specs.Model.{came, number_in, handing, things_in, sets_in}
+use Rattle.papaya_schedules.specs.After.{moment}
+use Rattle.papaya_schedules.specs.Beginning.{at_work}
+use Rattle.papaya_schedules.specs.Model.{came, number_in, handing, things_in, sets_in, changes_by, left_last}
 use Rattle.papaya_schedules.specs.Moment.{Moment}
 use Rattle.papaya_schedules.specs.declared.effect.Effect.{Effect}
 use Rattle.papaya_schedules.specs.declared.effect.Effect.TheVariants as effect
 use Rattle.papaya_schedules.specs.declared.effect.Thing.{Thing}
+use Rattle.papaya_schedules.specs.declared.event.Event.{Event}
+use Rattle.papaya_schedules.specs.declared.event.Event.TheVariants as event
+use Rattle.papaya_schedules.specs.declared.outcome.Outcome.{Outcome}
 use Rattle.papaya_schedules.specs.declared.effect.Thing.TheVariants.{APair, ATable}
 use Rattle.papaya_models.specs.Alike.{ChangesAlike}
-use Rattle.papaya_models.specs.CallEvents.{IsNoted, HasToldPart, things_then, IsInItsRow, FollowsInEvent, CallEventsBegin, CallEventsGoOn, CallEventsEnd}
+use Rattle.papaya_models.specs.CallEvents.{IsNoted, HasToldPart, things_then, IsInItsRow, FollowsInEvent, CallEventsBegin, CallEventsGoOn, CallEventsEnd, IsOfNoSlot, slot_of_call, OthersHandOver}
 use Rattle.papaya_models.specs.Calls.{sets_on, FollowsInCall, EndsNone, EndNone}
 use Rattle.papaya_models.specs.Defers.{AreNoted, HasToldIt}
 use Rattle.papaya_models.specs.Follows.{FollowsSets, IsFollowed}
@@ -325,3 +330,22 @@ call_events_end K V terms log e slot i known w f rests are none_left back active
         ⊎ IsInItsRow terms.batch_size terms.roots (things_in (e ∷ log)) (sets_on terms.batch_size (things_in (e ∷ log)) slot e.effects (sets_in terms.batch_size log)) slot i known w → IsFollowed terms log e known w
     by (inl follows) = ((handing_is_by_model K V terms log e slot are none_left (none_end (things_in (e ∷ log)) e.effects f.come) back active).0, follows_then follows)
     by (inr row) = absurd (row.goes rests)
+
+pub others_hand_over : (K V : Type 0) → OthersHandOver K V
+others_hand_over K V log e is = (by e.event e.outcome is, last e.event e.outcome is)
+  where
+    by : (v : Event K V) (o : Outcome V) → IsOfNoSlot v
+        → changes_by (things_in (e ∷ log)) v o e.effects (at_work e (moment log)) ≡ flat_map (handing (things_in (e ∷ log)) (slot_of_call v (at_work e (moment log)))) e.effects
+    by (event.Enter guard registration) o is = absurd is
+    by (event.Own guard) o is = absurd is
+    by (event.DropGuard guard) o is = absurd is
+    by (event.Refresh guard) o is = absurd is
+    by (event.Flush guard) o is = absurd is
+    by event.ReclaimAll o is = absurd is
+    by event.Close o is = absurd is
+    by _ o is = refl
+
+    last : (v : Event K V) (o : Outcome V) → IsOfNoSlot v → left_last v o (moment log) ≡ []
+    last event.ReclaimAll o is = absurd is
+    last event.Close o is = absurd is
+    last _ o is = refl

@@ -16,12 +16,16 @@ use Rattle.papaya_executor.specs.Stepping.{StepLeads}
 use Rattle.papaya_executor.specs.declared.executor.Executor.{Executor}
 use Rattle.papaya_moments.specs.Whole.{ShowsWhole}
 use Rattle.papaya_schedules.specs.After.{moment}
-use Rattle.papaya_schedules.specs.Entry.{Entry}
-use Rattle.papaya_schedules.specs.Model.{came, thing_back, handing, things_in, sets_in, changes_of, left_last}
+use Rattle.papaya_runs.specs.Present.{slot_of_guard}
+use Rattle.papaya_schedules.specs.Beginning.{at_work}
+use Rattle.papaya_schedules.specs.Entry.{Entry, acting, caller_of}
+use Rattle.papaya_schedules.specs.Model.{came, thing_back, handing, guard_or, things_in, sets_in, changes_of, left_last}
 use Rattle.papaya_schedules.specs.Moment.{Moment}
 use Rattle.papaya_schedules.specs.Terms.{Terms}
 use Rattle.papaya_schedules.specs.declared.effect.Effect.{Effect}
 use Rattle.papaya_schedules.specs.declared.effect.Thing.{Thing}
+use Rattle.papaya_schedules.specs.declared.event.Event.{Event}
+use Rattle.papaya_schedules.specs.declared.event.Event.TheVariants as event
 use Rattle.papaya_models.specs.Calls.{sets_on, FollowsInCall}
 use Rattle.papaya_models.specs.Defers.{AreNoted, HasToldIt}
 use Rattle.papaya_models.specs.Follows.{FollowsSets, IsFollowed}
@@ -87,3 +91,24 @@ module _ (K V S : Type 0) (same : K → K → Bool) (hash : K → ℕ) where
       → Happens deferred_word old.batch_size (Step i) begun (leads map u here).4.w2 → IsNoted (things_then things done) known slot request)
       → FollowsInEvent old.batch_size roots things sets slot i (done ++ effects_of (Call i map) known new.memory.changed) (known_after (Call i map) new.memory.changed known)
       (leads map u here).4.w2
+
+-- the event is none of a guard, of a registration, nor of the collector as a whole, that is a row on a slot
+abbrev pub IsOfNoSlot : {K V : Type 0} → Event K V → Type 0
+IsOfNoSlot (event.Enter guard registration) = ⊥
+IsOfNoSlot (event.Own guard) = ⊥
+IsOfNoSlot (event.DropGuard guard) = ⊥
+IsOfNoSlot (event.Refresh guard) = ⊥
+IsOfNoSlot (event.Flush guard) = ⊥
+IsOfNoSlot event.ReclaimAll = ⊥
+IsOfNoSlot event.Close = ⊥
+IsOfNoSlot _ = Unit {0}
+
+-- the slot of the guard under which the call acts
+abbrev pub slot_of_call : {K V : Type 0} → Event K V → Moment K V → ℕ
+slot_of_call e m = slot_of_guard (guard_or (acting (caller_of e) m)) m.there
+
+-- The promise: such an event changes the sets by what it hands over, under that slot, and leaves nothing to be reclaimed last.
+abbrev pub OthersHandOver : Type 0 → Type 0 → Type 0
+OthersHandOver K V =
+    (log : List (Entry K V)) (e : Entry K V) → IsOfNoSlot e.event
+    → (changes_of log e ≡ flat_map (handing (things_in (e ∷ log)) (slot_of_call e.event (at_work e (moment log)))) e.effects) × (left_last e.event e.outcome (moment log) ≡ [])
