@@ -21,7 +21,7 @@ use Rattle.papaya_follows.proofs.Onward.{IsLasting, KeepsRoles}
 use Rattle.papaya_moments.specs.Whole.{ShowsWhole}
 use Rattle.papaya_schedules.specs.After.{moment}
 use Rattle.papaya_schedules.specs.Beginning.{at_work}
-use Rattle.papaya_schedules.specs.Model.{came, number_in, handing, things_in, sets_in, changes_by, left_last}
+use Rattle.papaya_schedules.specs.Model.{came, thing_back, number_in, handing, things_in, sets_in, changes_by, left_last}
 use Rattle.papaya_schedules.specs.Moment.{Moment}
 use Rattle.papaya_schedules.specs.declared.effect.Effect.{Effect}
 use Rattle.papaya_schedules.specs.declared.effect.Effect.TheVariants as effect
@@ -35,9 +35,9 @@ use Rattle.papaya_models.specs.CallEvents.{IsNoted, HasToldPart, things_then, Is
 use Rattle.papaya_models.specs.Calls.{sets_on, FollowsInCall, EndsNone, EndNone}
 use Rattle.papaya_models.specs.Defers.{AreNoted, HasToldIt}
 use Rattle.papaya_models.specs.Follows.{FollowsSets, IsFollowed}
-use Rattle.papaya_models.specs.Numbers.{HasNumber, EachIsOnce, IsOfThings, AreOfThings}
+use Rattle.papaya_models.specs.Numbers.{HasNumber, EachIsOnce, IsOfThings, AreOfThings, NotBack, NoneBack}
 use Rattle.papaya_models.specs.Retires.{HasToldSo}
-use Rattle.papaya_models.proofs.Calls.{OneStep, one_step, no_or, no_row_rests, call_follows, row_begun, row_goes_on, row_keeps, kept_numbers, more_numbers, more_things_follow, rows_within_end}
+use Rattle.papaya_models.proofs.Calls.{OneStep, one_step, no_or, no_row_rests, call_follows, row_begun, row_goes_on, own_keeps, row_keeps, kept_numbers, more_numbers, more_things_follow, rows_within_end}
 use Rattle.papaya_models.proofs.Defers as defers
 use Rattle.papaya_models.proofs.Defers.{defers_are_told}
 use Rattle.papaya_models.proofs.Follows.{sets_then}
@@ -46,6 +46,7 @@ use Rattle.papaya_models.proofs.HandsOver as retires
 use Rattle.papaya_models.proofs.HandsOver.{No, retires_are_told}
 use Rattle.papaya_models.proofs.Numbers.{still_in, same_number}
 use Rattle.papaya_models.proofs.Quiet.{handing_is_by_model}
+use Rattle.papaya_models.proofs.Told.{none_back}
 use Rattle.papaya_models.proofs.Turns.{rested}
 
 -- Further things change no number of what is handed over.
@@ -90,6 +91,18 @@ sets_more batch_size things more slot done effects sets a b =
     ap (λ (cs : List Change). (all_changed batch_size cs sets).sets)
     (handed_same things more slot (done ++ effects) (of_both things done effects a b) ∙ flat_map-append (handing things slot) done effects)
     ∙ ap (λ (x : After). x.sets) (changed_append batch_size (flat_map (handing things slot) done) (flat_map (handing things slot) effects) sets)
+
+both_back : (xs ys : List Effect) → NoneBack xs → NoneBack ys → NoneBack (xs ++ ys)
+both_back [] ys c d = d
+both_back (x ∷ xs) ys c d = (c.0, both_back xs ys c.1 d)
+
+nothing_back : (effects : List Effect) → NoneBack effects → flat_map thing_back effects ≡ []
+nothing_back [] all = refl
+nothing_back (e ∷ effects) all = flat_map-cons thing_back e effects ∙ ap (λ (xs : List Thing). xs ++ flat_map thing_back effects) (by e all.0) ∙ nothing_back effects all.1
+  where
+    by : (e : Effect) → NotBack e → thing_back e ≡ []
+    by (effect.Reclaimed x) is = absurd is
+    by _ is = refl
 
 none_end : (things : List Thing) (effects : List Effect) → AreOfThings things effects → EndNone effects
 none_end things [] all = tt
@@ -160,6 +173,7 @@ still_noted known known2 things keeps b t noted = record {
 pub call_events_begin : (K V : Type 0) → CallEventsBegin K V
 call_events_begin K V batch_size roots things sets known w follows slot i = record {
   come = tt;
+  back = tt;
   so = inl (subst (λ (xs : List Thing). FollowsSets batch_size roots xs sets known w) (sym (append-nil things)) follows);
 }
 
@@ -197,9 +211,10 @@ module _ {K V S : Type 0} (same : K → K → Bool) (hash : K → ℕ) (name : �
   keeps other = row_keeps same hash name m known s old new at whole map i u here told leads other
 
   -- with what has come by the step
-  together : AreOfThings now effects → FollowsSets old.batch_size roots (now ++ more) sets_next known2 w2 ⊎ IsInItsRow old.batch_size roots (now ++ more) sets_next slot i known2 w2
+  together : KeepsRoles known known2 → AreOfThings now effects → FollowsSets old.batch_size roots (now ++ more) sets_next known2 w2 ⊎ IsInItsRow old.batch_size roots (now ++ more) sets_next slot i known2 w2
       → FollowsInEvent old.batch_size roots things sets slot i (done ++ effects) known2 w2
-  together come so = record {
+  together keep come so = record {
+    back = both_back done effects f.back (none_back i map known new.memory.changed keep);
     come =
         subst (λ (xs : List Thing). AreOfThings xs (done ++ effects)) (sym (things_more things done effects))
         (of_both (now ++ more) done effects (of_more now more done f.come) (of_more now more effects come));
@@ -213,7 +228,7 @@ module _ {K V S : Type 0} (same : K → K → Bool) (hash : K → ℕ) (name : �
   -- a step that is none of a row
   own_step : Its → FollowsSets old.batch_size roots now sets_now known s.world → FollowsInEvent old.batch_size roots things sets slot i (done ++ effects) known2 w2
   own_step own follows =
-      together (keep_of now effects (keeps_all same hash name m known s old new at whole.all.shown map i u here told leads own))
+      together (own_keeps same hash name m known s old new at whole map i u here told leads own) (keep_of now effects (keeps_all same hash name m known s old new at whole.all.shown map i u here told leads own))
       (inl ((more_things_follow K V old.batch_size roots now more sets_next known2 w2).0 (call_follows same hash name m known s old new at whole map i u here told leads own roots now sets_now follows slot)))
 
   -- a row has taken a step, and goes on, or has ended
@@ -295,7 +310,7 @@ module _ {K V S : Type 0} (same : K → K → Bool) (hash : K → ℕ) (name : �
           rests_then follows = (rested deferred_word old.batch_size roots at.small s.world follows.before follows.came).rests i
       begins other follows (inr (request, begun, begin, step)) =
           let part = begun_part other request begun begin step (noted request begun begin step) in
-          together part.1
+          together (keeps other) part.1
           (after_row request (flat_map (handing now slot) effects)
           (row_begun same hash name m known s old new at whole map i u here told leads other request begun begin step roots now sets_now follows slot) part.0)
 
@@ -306,7 +321,7 @@ module _ {K V S : Type 0} (same : K → K → Bool) (hash : K → ℕ) (name : �
       by (inr other) (inl follows) = begins other follows (one_step same hash name m known s old new at whole map i u here told leads other)
       by (inr other) (inr row) =
           let part = next_part other row.goes row.request row.handed row.told in
-          together part.1
+          together (keeps other) part.1
           (after_row row.request (row.handed ++ flat_map (handing now slot) effects)
           (row_goes_on same hash name m known s old new at whole map i u here told leads other row.goes roots now sets_now row.request row.handed row.follows slot) part.0)
 
@@ -318,7 +333,7 @@ module _ (K V S : Type 0) (same : K → K → Bool) (hash : K → ℕ) where
 -- Its end.
 
 pub call_events_end : (K V : Type 0) → CallEventsEnd K V
-call_events_end K V terms log e slot i known w f rests are none_left back active = by f.so
+call_events_end K V terms log e slot i known w f rests are none_left active = by f.so
   where
     follows_then : FollowsSets terms.batch_size terms.roots (things_in (e ∷ log)) (sets_on terms.batch_size (things_in (e ∷ log)) slot e.effects (sets_in terms.batch_size log)) known w
         → FollowsSets terms.batch_size terms.roots (things_in (e ∷ log)) (sets_in terms.batch_size (e ∷ log)) known w
@@ -328,7 +343,7 @@ call_events_end K V terms log e slot i known w f rests are none_left back active
 
     by : FollowsSets terms.batch_size terms.roots (things_in (e ∷ log)) (sets_on terms.batch_size (things_in (e ∷ log)) slot e.effects (sets_in terms.batch_size log)) known w
         ⊎ IsInItsRow terms.batch_size terms.roots (things_in (e ∷ log)) (sets_on terms.batch_size (things_in (e ∷ log)) slot e.effects (sets_in terms.batch_size log)) slot i known w → IsFollowed terms log e known w
-    by (inl follows) = ((handing_is_by_model K V terms log e slot are none_left (none_end (things_in (e ∷ log)) e.effects f.come) back active).0, follows_then follows)
+    by (inl follows) = ((handing_is_by_model K V terms log e slot are none_left (none_end (things_in (e ∷ log)) e.effects f.come) (nothing_back e.effects f.back) active).0, follows_then follows)
     by (inr row) = absurd (row.goes rests)
 
 pub others_hand_over : (K V : Type 0) → OthersHandOver K V

@@ -99,7 +99,7 @@ module _ {K V S : Type 0} (same : K → K → Bool) (hash : K → ℕ) (name : �
   abbrev known2 : Known
   known2 = known_after (Call i map) new.memory.changed known
 
-  own_keeps : NoRow u to.4.did → KeepsRoles known known2
+  pub own_keeps : NoRow u to.4.did → KeepsRoles known known2
   own_keeps own =
       (step_shown same hash name m known s old new at whole.all.shown map i u here told leads own (calls_store_theirs K V S same hash name m known s old new at whole.all map i u here told leads own).0).1.keeps
 

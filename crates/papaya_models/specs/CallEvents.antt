@@ -19,7 +19,7 @@ use Rattle.papaya_schedules.specs.After.{moment}
 use Rattle.papaya_runs.specs.Present.{slot_of_guard}
 use Rattle.papaya_schedules.specs.Beginning.{at_work}
 use Rattle.papaya_schedules.specs.Entry.{Entry, acting, caller_of}
-use Rattle.papaya_schedules.specs.Model.{came, thing_back, handing, guard_or, things_in, sets_in, changes_of, left_last}
+use Rattle.papaya_schedules.specs.Model.{came, handing, guard_or, things_in, sets_in, changes_of, left_last}
 use Rattle.papaya_schedules.specs.Moment.{Moment}
 use Rattle.papaya_schedules.specs.Terms.{Terms}
 use Rattle.papaya_schedules.specs.declared.effect.Effect.{Effect}
@@ -29,7 +29,7 @@ use Rattle.papaya_schedules.specs.declared.event.Event.TheVariants as event
 use Rattle.papaya_models.specs.Calls.{sets_on, FollowsInCall}
 use Rattle.papaya_models.specs.Defers.{AreNoted, HasToldIt}
 use Rattle.papaya_models.specs.Follows.{FollowsSets, IsFollowed}
-use Rattle.papaya_models.specs.Numbers.{HasNumber, EachIsOnce, AreOfThings}
+use Rattle.papaya_models.specs.Numbers.{HasNumber, EachIsOnce, AreOfThings, NoneBack}
 use Rattle.papaya_models.specs.Retires.{HasToldSo}
 
 module _ (things : List Thing) (known : Known) (slot : ℕ) where
@@ -61,6 +61,7 @@ module _ {K V : Type 0} (batch_size roots : ℕ) where
   -- In the midst of an event of a call of caller i under this slot, which has done this; as it began these were the things and the sets of the model.
   pub record FollowsInEvent (things : List Thing) (sets : Sets) (slot i : ℕ) (done : List Effect) (known : Known) (w : World (Node K V)) : Type 0 where
     pub come : AreOfThings (things_then things done) done
+    pub back : NoneBack done
     pub so : FollowsSets batch_size roots (things_then things done) (sets_on batch_size (things_then things done) slot done sets) known w
         ⊎ IsInItsRow (things_then things done) (sets_on batch_size (things_then things done) slot done sets) slot i known w
 
@@ -71,12 +72,12 @@ module _ (K V : Type 0) where
       (batch_size roots : ℕ) (things : List Thing) (sets : Sets) (known : Known) (w : World (Node K V)) → FollowsSets batch_size roots things sets known w
       → (slot i : ℕ) → FollowsInEvent batch_size roots things sets slot i [] known w
 
-  -- and once it is over, and no row is under way, it is by the model, if its slot was active as it began, and it reclaimed nothing.
+  -- and once it is over, and no row is under way, it is by the model, if its slot was active as it began.
   abbrev pub CallEventsEnd : Type 0
   CallEventsEnd =
       (terms : Terms) (log : List (Entry K V)) (e : Entry K V) (slot i : ℕ) (known : Known) (w : World (Node K V))
       → FollowsInEvent terms.batch_size terms.roots (things_in log) (sets_in terms.batch_size log) slot i e.effects known w → w.row i ≡ Rests
-      → changes_of log e ≡ flat_map (handing (things_in (e ∷ log)) slot) e.effects → left_last e.event e.outcome (moment log) ≡ [] → flat_map thing_back e.effects ≡ []
+      → changes_of log e ≡ flat_map (handing (things_in (e ∷ log)) slot) e.effects → left_last e.event e.outcome (moment log) ≡ []
       → 1 ≤ count slot (sets_in terms.batch_size log).active → IsFollowed terms log e known w
 
 module _ (K V S : Type 0) (same : K → K → Bool) (hash : K → ℕ) where

@@ -49,3 +49,12 @@ IsOfThings things _ = Unit {0}
 abbrev pub AreOfThings : List Thing → List Effect → Type 0
 AreOfThings things [] = Unit {0}
 AreOfThings things (e ∷ effects) = IsOfThings things e × AreOfThings things effects
+
+-- it reclaims nothing that was handed over
+abbrev pub NotBack : Effect → Type 0
+NotBack (Reclaimed x) = ⊥
+NotBack _ = Unit {0}
+
+abbrev pub NoneBack : List Effect → Type 0
+NoneBack [] = Unit {0}
+NoneBack (e ∷ effects) = NotBack e × NoneBack effects
