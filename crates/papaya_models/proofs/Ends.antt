@@ -40,13 +40,13 @@ use Rattle.papaya_executor.specs.declared.executor.Executor.{Executor}
 use Rattle.papaya_finishes.specs.Endings.{Finishing, StepsOfEnding}
 use Rattle.papaya_finishes.specs.FactsEnds.{Deed, Looks, TakesPair, LeavesTable, JoinsPair, TakesLeft, TakesCounter, WritesRoot, events_of, taken_by, left_by}
 use Rattle.papaya_follows.specs.Blocks.{HasRole, ShowsBlocks}
-use Rattle.papaya_follows.proofs.Alike.{AllCalm}
+use Rattle.papaya_follows.proofs.Alike.{is_calm, AllCalm}
 use Rattle.papaya_moments.specs.Whole.{ShowsWhole}
 use Rattle.papaya_others.proofs.Ends.{says_or_takes, left}
 use Rattle.papaya_promises.specs.Sheltered.{IsOfThing}
 use Rattle.papaya_spots.proofs.Handing.{KeepsAll, AllKeep, calm_keep}
 use Rattle.papaya_models.specs.Alike.{FurtherAlike}
-use Rattle.papaya_models.specs.Ends.{WasTaken, FollowsInEnd, EndsBegin, EndsGoOn}
+use Rattle.papaya_models.specs.Ends.{IsOfEnd, AreOfEnd, WasTaken, FollowsInEnd, EndsBegin, EndsGoOn}
 use Rattle.papaya_models.specs.Follows.{FollowsSets}
 use Rattle.papaya_models.specs.Numbers.{HasNumber}
 use Rattle.papaya_models.specs.Others.{HandsNone, HandNone}
@@ -90,6 +90,7 @@ module _ {K V : Type 0} (batch_size roots : ℕ) (things : List Thing) (sets : S
     told = λ b len t was free. absurd (cc (was, free));
     taken = tt;
     hands = tt;
+    of_end = tt;
   }
 
 pub ends_begin : (K V : Type 0) → EndsBegin K V
@@ -205,6 +206,20 @@ pub both_hands : (xs ys : List Effect) → HandNone xs → HandNone ys → HandN
 both_hands [] ys c d = d
 both_hands (x ∷ xs) ys c d = (c.0, both_hands xs ys c.1 d)
 
+calm_of_end : (effects : List Effect) → AllCalm effects → AreOfEnd effects
+calm_of_end [] all = tt
+calm_of_end (e ∷ effects) all = (by e all.0, calm_of_end effects all.1)
+  where
+    by : (e : Effect) → is_calm e ≡ true → IsOfEnd e
+    by (effect.Stored n x) is = absurd (cc is)
+    by (effect.Linked t shape) is = absurd (cc is)
+    by (effect.Reclaimed x) is = absurd (cc is)
+    by _ is = tt
+
+both_of_end : (xs ys : List Effect) → AreOfEnd xs → AreOfEnd ys → AreOfEnd (xs ++ ys)
+both_of_end [] ys c d = d
+both_of_end (x ∷ xs) ys c d = (c.0, both_of_end xs ys c.1 d)
+
 keep_tables : (effects : List Effect) → AllKeep effects → flat_map tables_taken effects ≡ []
 keep_tables [] all = refl
 keep_tables (e ∷ effects) all = flat_map-cons tables_taken e effects ∙ ap (λ (ts : List Table). ts ++ flat_map tables_taken effects) (by e all.0) ∙ keep_tables effects all.1
@@ -260,6 +275,18 @@ module _ (of : ℕ) (known : Known) where
   hands_on x (inr (c, is)) = subst (λ (y : Changed). HandNone (effects_of its known y)) (sym is) (by (known.roles c))
     where
       by : (r : Role) → HandNone (what_was its r)
+      by role.Free = tt
+      by (role.OwnPair caller) = (tt, tt)
+      by (role.OwnTable turn shape) = (tt, tt)
+      by (role.Pair n) = (tt, tt)
+      by (role.Counter c2) = tt
+      by (role.Table t len) = (tt, tt)
+
+  end_on : (x : Changed) → SaysOrTakes x → AreOfEnd (effects_of its known x)
+  end_on x (inl calm) = calm_of_end (effects_of its known x) calm.0
+  end_on x (inr (c, is)) = subst (λ (y : Changed). AreOfEnd (effects_of its known y)) (sym is) (by (known.roles c))
+    where
+      by : (r : Role) → AreOfEnd (what_was its r)
       by role.Free = tt
       by (role.OwnPair caller) = (tt, tt)
       by (role.OwnTable turn shape) = (tt, tt)
@@ -365,6 +392,7 @@ module _ {K V S : Type 0} (same : K → K → Bool) (hash : K → ℕ) (name : �
           (both_are (WasTaken first known) (WasTaken known known2) (WasTaken first known2) taken_before taken_now (flat_map tables_taken done) (flat_map tables_taken effects) r.taken
           (taken_on number known told says));
       hands = both_hands done effects r.hands (hands_on number known told says);
+      of_end = both_of_end done effects r.of_end (end_on number known told says);
     }
 
 module _ (K V S : Type 0) (same : K → K → Bool) (hash : K → ℕ) where

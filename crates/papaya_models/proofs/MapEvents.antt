@@ -4,7 +4,7 @@ use Rattle.std.proofs.Common.{◌≡◌, ℕ, Bool, List, [], ◌∷◌, ◌++�
 use Rattle.std.proofs.lemmas.List.{append-nil}
 use Rattle.std.proofs.lemmas.List.Concat.{flat_map-cons}
 use Rattle.seize.specs.WaitingSets.{Change, Sets, all_changed}
-use Rattle.papaya_schedules.specs.Model.{came, handing, things_in, sets_in}
+use Rattle.papaya_schedules.specs.Model.{came, thing_back, handing, things_in, sets_in}
 use Rattle.papaya_schedules.specs.declared.effect.Effect.{Effect}
 use Rattle.papaya_schedules.specs.declared.effect.Effect.TheVariants as effect
 use Rattle.papaya_schedules.specs.declared.effect.Thing.{Thing}
@@ -13,6 +13,7 @@ use Rattle.papaya_effects.specs.declared.acting.Acting.TheVariants.{Making}
 use Rattle.papaya_spots.proofs.Handing.{KeepsAll, AllKeep}
 use Rattle.papaya_models.specs.CallEvents.{things_then}
 use Rattle.papaya_models.specs.Calls.{EndsNone, EndNone, sets_on}
+use Rattle.papaya_models.specs.Ends.{IsOfEnd, AreOfEnd}
 use Rattle.papaya_models.specs.Follows.{FollowsSets}
 use Rattle.papaya_models.specs.MapEvents.{MomentsNoteOnce, MakingEventsBegin, MakingEventsGoOn, MakingEventsEnd, EndEventsEnd}
 use Rattle.papaya_models.specs.Others.{HandsNone, HandNone}
@@ -87,8 +88,28 @@ making_events_end K V terms log e slot known w f (are, none_left, back) =
       subst (λ (x : Sets). FollowsSets terms.batch_size terms.roots (things_in (e ∷ log)) x known w) (sets_then terms log e [] (are ∙ none)) f.follows,
     )
 
+-- by the end of a map nothing comes, and nothing is reclaimed that was handed over
+none_comes : (effects : List Effect) → AreOfEnd effects → flat_map came effects ≡ []
+none_comes [] all = refl
+none_comes (e ∷ effects) all = flat_map-cons came e effects ∙ ap (λ (xs : List Thing). xs ++ flat_map came effects) (by e all.0) ∙ none_comes effects all.1
+  where
+    by : (e : Effect) → IsOfEnd e → came e ≡ []
+    by (effect.Stored n x) is = absurd is
+    by (effect.Linked t shape) is = absurd is
+    by _ is = refl
+
+none_back : (effects : List Effect) → AreOfEnd effects → flat_map thing_back effects ≡ []
+none_back [] all = refl
+none_back (e ∷ effects) all = flat_map-cons thing_back e effects ∙ ap (λ (xs : List Thing). xs ++ flat_map thing_back effects) (by e all.0) ∙ none_back effects all.1
+  where
+    by : (e : Effect) → IsOfEnd e → thing_back e ≡ []
+    by (effect.Reclaimed x) is = absurd is
+    by _ is = refl
+
 pub end_events_end : (K V : Type 0) → EndEventsEnd K V
-end_events_end K V terms log e slot i first known w small once f m blocks no_table none_came (are, none_left, back) =
+end_events_end K V terms log e slot i first known w small once f m blocks no_table are none_left =
+    let none_came = none_comes e.effects f.of_end in
+    let back = none_back e.effects f.of_end in
     let things_same : things_in (e ∷ log) ≡ things_in log = ap (λ (xs : List Thing). things_in log ++ xs) none_came ∙ append-nil (things_in log) in
     let over = ends_end K V terms.batch_size terms.roots (things_in log) (sets_in terms.batch_size log) first i e.effects known w small once f m blocks no_table slot in (
       maps_are_by_model K V terms log e slot are none_left f.hands back,

@@ -1,6 +1,6 @@
 -- Ends of maps, where calls come one after another: what waits behind their tables leaves the waiting sets of blocks as each is left over, and those of the model
 -- as each is taken away.
-use Rattle.std.specs.Prelude.{◌≡◌, ◌⊎◌, ◌<◌, ◌^◌, ℕ, Bool, true, List, [], ◌++◌, map, flat_map, Some, None}
+use Rattle.std.specs.Prelude.{◌≡◌, ◌⊎◌, ◌<◌, ◌^◌, ℕ, Bool, true, List, [], ◌∷◌, ◌++◌, map, flat_map, Some, None}
 use Rattle.std.specs.List.{AllByRecursion}
 use Rattle.seize_words.specs.Mem.{value_at}
 use Rattle.seize.specs.Law.{Ended}
@@ -15,6 +15,7 @@ use Rattle.papaya_schedules.specs.Lists.{is_in}
 use Rattle.papaya_schedules.specs.Moment.{Moment}
 use Rattle.papaya_schedules.specs.Things.{same_table}
 use Rattle.papaya_schedules.specs.declared.effect.Effect.{Effect}
+use Rattle.papaya_schedules.specs.declared.effect.Effect.TheVariants.{Stored, Linked, Reclaimed}
 use Rattle.papaya_schedules.specs.declared.effect.Table.{Table}
 use Rattle.papaya_schedules.specs.declared.effect.Thing.{Thing}
 use Rattle.papaya_effects.specs.Effects.{effects_of, known_after}
@@ -33,6 +34,17 @@ use Rattle.papaya_models.specs.Follows.{FollowsSets}
 use Rattle.papaya_models.specs.Numbers.{HasNumber, EachIsOnce}
 use Rattle.papaya_models.specs.Others.{HandNone}
 use Rattle.papaya_models.specs.Turns.{sets_of, CameByTurns}
+
+-- an effect of the end of a map: nothing comes by it, and nothing that was handed over is reclaimed
+abbrev pub IsOfEnd : Effect → Type 0
+IsOfEnd (Stored n x) = ⊥
+IsOfEnd (Linked t shape) = ⊥
+IsOfEnd (Reclaimed x) = ⊥
+IsOfEnd _ = Unit {0}
+
+abbrev pub AreOfEnd : List Effect → Type 0
+AreOfEnd [] = Unit {0}
+AreOfEnd (e ∷ effects) = IsOfEnd e × AreOfEnd effects
 
 module _ (first known : Known) where
   -- the table was in a block which was taken away
@@ -54,6 +66,7 @@ module _ {K V : Type 0} (batch_size roots : ℕ) where
     pub told : (b len : ℕ) (t : Table) → first.roles b ≡ role.Table t len → known.roles b ≡ role.Free → is_in same_table t (flat_map tables_taken done) ≡ true
     pub taken : AllByRecursion (WasTaken first known) (flat_map tables_taken done)
     pub hands : HandNone done
+    pub of_end : AreOfEnd done
 
 -- no block that is noted as a table is left over
 abbrev pub NoTableIsLeft : {K V : Type 0} → Known → ℕ → World (Node K V) → Type 0

@@ -17,7 +17,7 @@ use Rattle.papaya_moments.specs.Makings.{IsNewFor}
 use Rattle.papaya_moments.specs.Whole.{ShowsWhole}
 use Rattle.papaya_schedules.specs.After.{moment}
 use Rattle.papaya_schedules.specs.Entry.{Entry}
-use Rattle.papaya_schedules.specs.Model.{came, thing_back, handing, things_in, sets_in, changes_of, left_last}
+use Rattle.papaya_schedules.specs.Model.{thing_back, handing, things_in, sets_in, changes_of, left_last}
 use Rattle.papaya_schedules.specs.Moment.{Moment}
 use Rattle.papaya_schedules.specs.Terms.{Terms}
 use Rattle.papaya_schedules.specs.declared.effect.Effect.{Effect}
@@ -60,12 +60,13 @@ module _ (K V : Type 0) where
       (terms : Terms) (log : List (Entry K V)) (e : Entry K V) (slot : ℕ) (known : Known) (w : World (Node K V))
       → FollowsInMaking terms.batch_size terms.roots (things_in log) (sets_in terms.batch_size log) e.effects known w → HandsByEffects terms log e slot → IsFollowed terms log e known w
 
-  -- So it is of the end of a map, by which nothing comes, if no table is left over.
+  -- So it is of the end of a map, if no table is left over.
   abbrev pub EndEventsEnd : Type 0
   EndEventsEnd =
       (terms : Terms) (log : List (Entry K V)) (e : Entry K V) (slot i : ℕ) (first known : Known) (w : World (Node K V)) → terms.batch_size < 2 ^ 64 → EachIsOnce first
       → FollowsInEnd terms.batch_size terms.roots (things_in log) (sets_in terms.batch_size log) first i e.effects known w
-      → (m : Moment K V) → ShowsBlocks m known w → NoTableIsLeft known i w → flat_map came e.effects ≡ [] → HandsByEffects terms log e slot → IsFollowed terms log e known w
+      → (m : Moment K V) → ShowsBlocks m known w → NoTableIsLeft known i w → changes_of log e ≡ flat_map (handing (things_in (e ∷ log)) slot) e.effects
+      → left_last e.event e.outcome (moment log) ≡ [] → IsFollowed terms log e known w
 
 module _ (K V S : Type 0) (same : K → K → Bool) (hash : K → ℕ) where
   -- A making goes on so with each step.
