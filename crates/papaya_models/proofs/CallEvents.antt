@@ -92,11 +92,11 @@ sets_more batch_size things more slot done effects sets a b =
     (handed_same things more slot (done ++ effects) (of_both things done effects a b) ∙ flat_map-append (handing things slot) done effects)
     ∙ ap (λ (x : After). x.sets) (changed_append batch_size (flat_map (handing things slot) done) (flat_map (handing things slot) effects) sets)
 
-both_back : (xs ys : List Effect) → NoneBack xs → NoneBack ys → NoneBack (xs ++ ys)
+pub both_back : (xs ys : List Effect) → NoneBack xs → NoneBack ys → NoneBack (xs ++ ys)
 both_back [] ys c d = d
 both_back (x ∷ xs) ys c d = (c.0, both_back xs ys c.1 d)
 
-nothing_back : (effects : List Effect) → NoneBack effects → flat_map thing_back effects ≡ []
+pub nothing_back : (effects : List Effect) → NoneBack effects → flat_map thing_back effects ≡ []
 nothing_back [] all = refl
 nothing_back (e ∷ effects) all = flat_map-cons thing_back e effects ∙ ap (λ (xs : List Thing). xs ++ flat_map thing_back effects) (by e all.0) ∙ nothing_back effects all.1
   where

@@ -17,13 +17,13 @@ use Rattle.papaya_models.specs.Ends.{IsOfEnd, AreOfEnd}
 use Rattle.papaya_models.specs.Follows.{FollowsSets}
 use Rattle.papaya_models.specs.MapEvents.{MomentsNoteOnce, MakingEventsBegin, MakingEventsGoOn, MakingEventsEnd, EndEventsEnd}
 use Rattle.papaya_models.specs.Others.{HandsNone, HandNone}
-use Rattle.papaya_models.proofs.CallEvents.{things_more}
+use Rattle.papaya_models.proofs.CallEvents.{things_more, both_back, nothing_back}
 use Rattle.papaya_models.proofs.Calls.{more_things_follow}
 use Rattle.papaya_models.proofs.Ends.{keep_hands, both_hands}
 use Rattle.papaya_models.proofs.EndsOver.{ends_end}
 use Rattle.papaya_models.proofs.Follows.{sets_then}
 use Rattle.papaya_models.proofs.Handing.{nothing_handed}
-use Rattle.papaya_models.proofs.Makings.{all_keep, makings_follow}
+use Rattle.papaya_models.proofs.Makings.{all_keep, all_back, makings_follow}
 use Rattle.papaya_models.proofs.Numbers.{noted_once}
 use Rattle.papaya_models.proofs.Quiet.{maps_are_by_model}
 
@@ -34,6 +34,7 @@ pub making_events_begin : (K V : Type 0) → MakingEventsBegin K V
 making_events_begin K V batch_size roots things sets known w follows = record {
   hands = tt;
   ends = tt;
+  back = tt;
   follows = subst (λ (xs : List Thing). FollowsSets batch_size roots xs sets known w) (sym (append-nil things)) follows;
 }
 
@@ -75,6 +76,7 @@ module _ (K V S : Type 0) (same : K → K → Bool) (hash : K → ℕ) where
       record {
         hands = both_hands done effects f.hands (keep_hands effects keep);
         ends = both_end done effects f.ends (keep_ends effects keep);
+        back = both_back done effects f.back (all_back same hash name m known s old new at whole i b here to.0 told to.1 to.2 of);
         follows =
             subst (λ (xs : List Thing). FollowsSets old.batch_size roots xs sets known2 to.2.step.w2) (sym (things_more things done effects))
             ((more_things_follow K V old.batch_size roots now (flat_map came effects) sets known2 to.2.step.w2).0
@@ -82,9 +84,9 @@ module _ (K V S : Type 0) (same : K → K → Bool) (hash : K → ℕ) where
       }
 
 pub making_events_end : (K V : Type 0) → MakingEventsEnd K V
-making_events_end K V terms log e slot known w f (are, none_left, back) =
+making_events_end K V terms log e slot known w f are none_left =
     let none : flat_map (handing (things_in (e ∷ log)) slot) e.effects ≡ [] = none_handed_over (things_in (e ∷ log)) slot e.effects f.hands f.ends in (
-      maps_are_by_model K V terms log e slot are none_left f.hands back,
+      maps_are_by_model K V terms log e slot are none_left f.hands (nothing_back e.effects f.back),
       subst (λ (x : Sets). FollowsSets terms.batch_size terms.roots (things_in (e ∷ log)) x known w) (sets_then terms log e [] (are ∙ none)) f.follows,
     )
 

@@ -17,7 +17,7 @@ use Rattle.papaya_moments.specs.Makings.{IsNewFor}
 use Rattle.papaya_moments.specs.Whole.{ShowsWhole}
 use Rattle.papaya_schedules.specs.After.{moment}
 use Rattle.papaya_schedules.specs.Entry.{Entry}
-use Rattle.papaya_schedules.specs.Model.{thing_back, handing, things_in, sets_in, changes_of, left_last}
+use Rattle.papaya_schedules.specs.Model.{handing, things_in, sets_in, changes_of, left_last}
 use Rattle.papaya_schedules.specs.Moment.{Moment}
 use Rattle.papaya_schedules.specs.Terms.{Terms}
 use Rattle.papaya_schedules.specs.declared.effect.Effect.{Effect}
@@ -26,7 +26,7 @@ use Rattle.papaya_models.specs.CallEvents.{things_then}
 use Rattle.papaya_models.specs.Calls.{EndNone}
 use Rattle.papaya_models.specs.Ends.{FollowsInEnd, NoTableIsLeft}
 use Rattle.papaya_models.specs.Follows.{FollowsSets, IsFollowed}
-use Rattle.papaya_models.specs.Numbers.{EachIsOnce}
+use Rattle.papaya_models.specs.Numbers.{EachIsOnce, NoneBack}
 use Rattle.papaya_models.specs.Others.{HandNone}
 
 module _ {K V : Type 0} (batch_size roots : ℕ) where
@@ -34,6 +34,7 @@ module _ {K V : Type 0} (batch_size roots : ℕ) where
   pub record FollowsInMaking (things : List Thing) (sets : Sets) (done : List Effect) (known : Known) (w : World (Node K V)) : Type 0 where
     pub hands : HandNone done
     pub ends : EndNone done
+    pub back : NoneBack done
     pub follows : FollowsSets batch_size roots (things_then things done) sets known w
 
 -- A moment that shows the executor notes each thing once.
@@ -42,12 +43,6 @@ MomentsNoteOnce K V =
     (same : K → K → Bool) (name : ℕ → List ℕ) (m : Moment K V) (known : Known) (s : Scene K V) → ShowsWhole same name m known s → EachIsOnce known
 
 module _ (K V : Type 0) where
-  module _ (terms : Terms) (log : List (Entry K V)) (e : Entry K V) where
-    -- an event is told as one that hands over by its effects alone, and reclaims nothing
-    abbrev pub HandsByEffects : ℕ → Type 0
-    HandsByEffects slot =
-        (changes_of log e ≡ flat_map (handing (things_in (e ∷ log)) slot) e.effects) × (left_last e.event e.outcome (moment log) ≡ []) × (flat_map thing_back e.effects ≡ [])
-
   -- The promises: so it is where a making begins,
   abbrev pub MakingEventsBegin : Type 0
   MakingEventsBegin =
@@ -58,7 +53,8 @@ module _ (K V : Type 0) where
   abbrev pub MakingEventsEnd : Type 0
   MakingEventsEnd =
       (terms : Terms) (log : List (Entry K V)) (e : Entry K V) (slot : ℕ) (known : Known) (w : World (Node K V))
-      → FollowsInMaking terms.batch_size terms.roots (things_in log) (sets_in terms.batch_size log) e.effects known w → HandsByEffects terms log e slot → IsFollowed terms log e known w
+      → FollowsInMaking terms.batch_size terms.roots (things_in log) (sets_in terms.batch_size log) e.effects known w
+      → changes_of log e ≡ flat_map (handing (things_in (e ∷ log)) slot) e.effects → left_last e.event e.outcome (moment log) ≡ [] → IsFollowed terms log e known w
 
   -- So it is of the end of a map, if no table is left over.
   abbrev pub EndEventsEnd : Type 0
