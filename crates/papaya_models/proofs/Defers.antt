@@ -335,8 +335,8 @@ module _ {K V S : Type 0} (same : K → K → Bool) (hash : K → ℕ) (name : �
   abbrev w2 : World (Node K V)
   w2 = (to same hash name m known s old new at whole map i u here told leads).4.w2
 
-  abbrev Taken' : Type 0
-  Taken' = Stepped same hash name m known s old new at whole map i u here told leads
+  abbrev DidStep : Type 0
+  DidStep = Stepped same hash name m known s old new at whole map i u here told leads
 
   -- a table's list begins with that word of it
   word_is : (things : List Thing) (b t field : ℕ) (noted : AreNoted things known b t) (value : Node K V) → value_at s.world.memory t ≡ Some value → deferred_word value ≡ Some field → field ≡ DEFERRED
@@ -358,7 +358,7 @@ module _ {K V S : Type 0} (same : K → K → Bool) (hash : K → ℕ) (name : �
       → Tells things under b t handed
   goes_on other goes things under b t handed noted so = by (one_step same hash name m known s old new at whole map i u here told leads other)
     where
-      by : Taken' → Tells things under b t handed
+      by : DidStep → Tells things under b t handed
       by (inl step) =
           told_on old.batch_size s.world w2 (came_reached old.batch_size s.world (came same hash name m known s old new at whole map i u here told leads)) i map b t known new.memory.changed
           (made same hash name m known s old new at whole map i u here told leads other s.world refl) things under noted (keeps same hash name m known s old new at whole map i u here told leads other) handed
@@ -387,7 +387,7 @@ module _ {K V S : Type 0} (same : K → K → Bool) (hash : K → ℕ) (name : �
       → HasToldIt things (known_after (Call i map) new.memory.changed known) i b t (flat_map (handing things under) effects_now) w2)
   begins other rests = by (one_step same hash name m known s old new at whole map i u here told leads other)
     where
-      by : Taken'
+      by : DidStep
           → (request : Request) × ((things : List Thing) (slot under b t : ℕ) → request ≡ Defer' slot b t → AreNoted things known b t
           → HasToldIt things (known_after (Call i map) new.memory.changed known) i b t (flat_map (handing things under) effects_now) w2)
       by (inl step) = absurd (subst (λ (r : Row). Steps' deferred_word i r s.world w2) rests step)
