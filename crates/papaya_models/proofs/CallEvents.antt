@@ -10,7 +10,7 @@ use Rattle.seize_sets.proofs.Turns.Append.{changed_append}
 use Rattle.papaya_raw.specs.declared.machines.progress.Progress.{Progress}
 use Rattle.papaya_tables.specs.Nodes.{deferred_word}
 use Rattle.papaya_tables.specs.declared.node.Node.{Node}
-use Rattle.papaya_callers.specs.Together.{UnderWay}
+use Rattle.papaya_callers.specs.Together.{UnderWay, HandsOver}
 use Rattle.papaya_effects.specs.Effects.{effects_of, known_after}
 use Rattle.papaya_effects.specs.Known.{Known}
 use Rattle.papaya_effects.specs.declared.acting.Acting.TheVariants.{Call}
@@ -297,7 +297,8 @@ module _ {K V S : Type 0} (same : K → K → Bool) (hash : K → ℕ) (name : �
   next_part other goes (Unregister' s2) handed part = absurd part
   next_part other goes (Flush s2) handed part = absurd part
 
-  pub goes_on : ((request : Request) (begun : World (Node K V)) → Happens deferred_word old.batch_size (Begin i request) s.world begun → Happens deferred_word old.batch_size (Step i) begun w2
+  pub goes_on : ((request : Request) (begun : World (Node K V)) → HandsOver (leads map u here).0.setting i s.world request
+      → Happens deferred_word old.batch_size (Begin i request) s.world begun → Happens deferred_word old.batch_size (Step i) begun w2
       → IsNoted now known slot request) → FollowsInEvent old.batch_size roots things sets slot i (done ++ effects) known2 w2
   goes_on noted = by (no_or same hash name m known s old new at whole map i u here told leads) f.so
     where
@@ -308,8 +309,8 @@ module _ {K V S : Type 0} (same : K → K → Bool) (hash : K → ℕ) (name : �
         where
           rests_then : FollowsSets old.batch_size roots now sets_now known s.world → s.world.row i ≡ Rests
           rests_then follows = (rested deferred_word old.batch_size roots at.small s.world follows.before follows.came).rests i
-      begins other follows (inr (request, begun, begin, step)) =
-          let part = begun_part other request begun begin step (noted request begun begin step) in
+      begins other follows (inr (request, begun, hands, begin, step)) =
+          let part = begun_part other request begun begin step (noted request begun hands begin step) in
           together (keeps other) part.1
           (after_row request (flat_map (handing now slot) effects)
           (row_begun same hash name m known s old new at whole map i u here told leads other request begun begin step roots now sets_now follows slot) part.0)

@@ -15,7 +15,7 @@ use Rattle.papaya_schedules.specs.declared.effect.Effect.{Effect}
 use Rattle.papaya_schedules.specs.declared.effect.Thing.{Thing}
 use Rattle.papaya_schedules.specs.declared.effect.Thing.TheVariants.{APair, ATable}
 use Rattle.papaya_callers.specs.Sights.{seen_by}
-use Rattle.papaya_callers.specs.Together.{UnderWay, OnKey, ForRoom, Counting, OverAll, IsOneStep, Stands, Together}
+use Rattle.papaya_callers.specs.Together.{UnderWay, OnKey, ForRoom, Counting, OverAll, HandsOver, IsOneStep, Stands, Together}
 use Rattle.papaya_effects.specs.Effects.{effects_of, known_after}
 use Rattle.papaya_effects.specs.Known.{Known}
 use Rattle.papaya_effects.specs.declared.acting.Acting.TheVariants.{Call}
@@ -154,7 +154,8 @@ module _ {K V S : Type 0} (same : K → K → Bool) (hash : K → ℕ) (name : �
   abbrev pub OneStep : World (Node K V) → Type 0
   OneStep w2 =
       Happens deferred_word old.batch_size (Step i) s.world w2
-      ⊎ ((request : Request) × (begun : World (Node K V)) × Happens deferred_word old.batch_size (Begin i request) s.world begun × Happens deferred_word old.batch_size (Step i) begun w2)
+      ⊎ ((request : Request) × (begun : World (Node K V)) × HandsOver to.0.setting i s.world request × Happens deferred_word old.batch_size (Begin i request) s.world begun
+      × Happens deferred_word old.batch_size (Step i) begun w2)
 
   pub one_step : (NoRow u to.4.did → ⊥) → OneStep to.4.w2
   one_step other = by u to.4.did other
@@ -164,6 +165,7 @@ module _ {K V S : Type 0} (same : K → K → Bool) (hash : K → ℕ) (name : �
       of_this w (inr (request, begun, hands, begins, step)) is = inr (
         request,
         begun,
+        hands,
         subst (λ (size : ℕ). Happens deferred_word size (Begin i request) s.world begun) batch_is begins,
         subst (λ (x : World (Node K V)). Happens deferred_word old.batch_size (Step i) begun x) (sym is) step,
       )
@@ -213,7 +215,7 @@ module _ {K V S : Type 0} (same : K → K → Bool) (hash : K → ℕ) (name : �
     where
       by : OneStep to.4.w2 → (request : Request) × FollowsInCall old.batch_size roots things (sets_on old.batch_size things slot effects sets) known2 i request (flat_map (handing things slot) effects) to.4.w2
       by (inl step) = absurd (subst (λ (r : Row). Steps' deferred_word i r s.world to.4.w2) rests step)
-      by (inr (request, begun, begins, step)) = (request, row_begun other request begun begins step roots things sets f slot)
+      by (inr (request, begun, hands, begins, step)) = (request, row_begun other request begun begins step roots things sets f slot)
 
   -- whether it is one of a row; one that is none is taken while the caller has no row under way
   pub no_or : NoRow u to.4.did ⊎ (NoRow u to.4.did → ⊥)
@@ -264,7 +266,7 @@ module _ {K V S : Type 0} (same : K → K → Bool) (hash : K → ℕ) (name : �
             ap (λ (x : Sets). (all_changed old.batch_size (flat_map (handing things slot) effects) x).sets) f.sets_are
             ∙ sym (ap (λ (a : After). a.sets) (changed_append old.batch_size handed (flat_map (handing things slot) effects) f.first));
       }
-      by (inr (request2, begun, begins, step)) = absurd (goes begins.0)
+      by (inr (request2, begun, hands, begins, step)) = absurd (goes begins.0)
 
 module _ (K V S : Type 0) (same : K → K → Bool) (hash : K → ℕ) where
   pub calls_follow : CallsFollow K V S same hash

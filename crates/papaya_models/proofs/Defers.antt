@@ -363,7 +363,7 @@ module _ {K V S : Type 0} (same : K → K → Bool) (hash : K → ℕ) (name : �
           told_on old.batch_size s.world w2 (came_reached old.batch_size s.world (came same hash name m known s old new at whole map i u here told leads)) i map b t known new.memory.changed
           (made same hash name m known s old new at whole map i u here told leads other s.world refl) things under noted (keeps same hash name m known s old new at whole map i u here told leads other) handed
           step so
-      by (inr (request, begun, begins, step)) = absurd (goes begins.0)
+      by (inr (request, begun, hands, begins, step)) = absurd (goes begins.0)
 
   pub begun_tells : (Its → ⊥) → (request : Request) (begun : World (Node K V)) → Happens deferred_word old.batch_size (Begin i request) s.world begun
       → Happens deferred_word old.batch_size (Step i) begun w2 → (things : List Thing) (slot under b t : ℕ) → request ≡ Defer' slot b t → AreNoted things known b t → Tells things under b t []
@@ -391,7 +391,7 @@ module _ {K V S : Type 0} (same : K → K → Bool) (hash : K → ℕ) (name : �
           → (request : Request) × ((things : List Thing) (slot under b t : ℕ) → request ≡ Defer' slot b t → AreNoted things known b t
           → HasToldIt things (known_after (Call i map) new.memory.changed known) i b t (flat_map (handing things under) effects_now) w2)
       by (inl step) = absurd (subst (λ (r : Row). Steps' deferred_word i r s.world w2) rests step)
-      by (inr (request, begun, begin, step)) = (request, λ things slot under b t is noted. (begun_tells other request begun begin step things slot under b t is noted).0)
+      by (inr (request, begun, hands, begin, step)) = (request, λ things slot under b t is noted. (begun_tells other request begun begin step things slot under b t is noted).0)
 
 module _ (K V S : Type 0) (same : K → K → Bool) (hash : K → ℕ) where
   pub deferring_begins : DeferringBegins K V S same hash

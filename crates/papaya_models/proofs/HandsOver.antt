@@ -332,7 +332,7 @@ module _ {K V S : Type 0} (same : K → K → Bool) (hash : K → ℕ) (name : �
       by (inl step) =
           told_on old.batch_size s.world to.4.w2 (came_reached old.batch_size s.world came) i map b (some_block things b k has) known new.memory.changed (made other s.world refl) things slot k has (keeps other) handed
           (whole.all.rows.none map i u here) step so
-      by (inr (request, begun, begins, step)) = absurd (goes begins.0)
+      by (inr (request, begun, hands, begins, step)) = absurd (goes begins.0)
 
   pub begun_tells : (No → ⊥) → (request : Request) (begun : World (Node K V)) → Happens deferred_word old.batch_size (Begin i request) s.world begun
       → Happens deferred_word old.batch_size (Step i) begun to.4.w2 → (things : List Thing) (slot b k : ℕ) → request ≡ Retire slot b → HasNumber known things b k → Tells things slot b []
@@ -360,7 +360,7 @@ module _ {K V S : Type 0} (same : K → K → Bool) (hash : K → ℕ) (name : �
           → (request : Request) × ((things : List Thing) (slot b k : ℕ) → request ≡ Retire slot b → HasNumber known things b k
           → HasToldSo things (known_after (Call i map) new.memory.changed known) i slot b (flat_map (handing things slot) effects_now) to.4.w2)
       by (inl step) = absurd (subst (λ (r : Row). Steps' deferred_word i r s.world to.4.w2) rests step)
-      by (inr (request, begun, begin, step)) = (request, λ things slot b k is has. (begun_tells other request begun begin step things slot b k is has).0)
+      by (inr (request, begun, hands, begin, step)) = (request, λ things slot b k is has. (begun_tells other request begun begin step things slot b k is has).0)
 
 module _ (K V S : Type 0) (same : K → K → Bool) (hash : K → ℕ) where
   pub retiring_begins : RetiringBegins K V S same hash

@@ -7,7 +7,7 @@ use Rattle.seize_waiting.specs.Held.{count}
 use Rattle.papaya_raw.specs.declared.machines.progress.Progress.{Progress}
 use Rattle.papaya_tables.specs.Nodes.{deferred_word}
 use Rattle.papaya_tables.specs.declared.node.Node.{Node}
-use Rattle.papaya_callers.specs.Together.{UnderWay}
+use Rattle.papaya_callers.specs.Together.{UnderWay, HandsOver}
 use Rattle.papaya_effects.specs.Effects.{effects_of, known_after}
 use Rattle.papaya_effects.specs.Known.{Known}
 use Rattle.papaya_effects.specs.declared.acting.Acting.TheVariants.{Call}
@@ -88,7 +88,7 @@ module _ (K V S : Type 0) (same : K → K → Bool) (hash : K → ℕ) where
       → (map i : ℕ) (u : UnderWay K V K) (here : s.calls map i ≡ Some u) (told : Progress (Node K V)) (leads : StepLeads same hash i told s old new)
       → EachIsOnce (known_after (Call i map) new.memory.changed known)
       → (roots : ℕ) (things : List Thing) (sets : Sets) (slot : ℕ) (done : List Effect) → FollowsInEvent old.batch_size roots things sets slot i done known s.world
-      → ((request : Request) (begun : World (Node K V)) → Happens deferred_word old.batch_size (Begin i request) s.world begun
+      → ((request : Request) (begun : World (Node K V)) → HandsOver (leads map u here).0.setting i s.world request → Happens deferred_word old.batch_size (Begin i request) s.world begun
       → Happens deferred_word old.batch_size (Step i) begun (leads map u here).4.w2 → IsNoted (things_then things done) known slot request)
       → FollowsInEvent old.batch_size roots things sets slot i (done ++ effects_of (Call i map) known new.memory.changed) (known_after (Call i map) new.memory.changed known)
       (leads map u here).4.w2
