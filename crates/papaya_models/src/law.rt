@@ -48,7 +48,7 @@ pub fn calls_follow_the_model<K, V, S>()
 {}
 
 /// An event of a call, whole: after each of its steps the waiting sets of blocks are those of the model, by what the event has told so far, or the call is in the midst
-/// of a row that has told its part. Once the event is over, and no row is under way, it is by the model, if its slot was active as it began, and the sets are those
+/// of a row that has told its part, if what a row is to hand over is noted, as it begins, as things that came into maps. Once the event is over, and no row is under way, it is by the model, if its slot was active as it began, and the sets are those
 /// of the model after it. An event that is no row on a slot changes the sets by what it hands over, under the slot of its call's guard.
 pub fn call_events_follow_the_model<K, V, S>()
     ensures begins { CallEventsBegin K V }
