@@ -1,5 +1,5 @@
--- The word that says of which batch a block is: no step of a row writes it while the block is in one.
-use Rattle.std.specs.Prelude.{Option, Some, None, IsSome, Ok, if◌then◌else◌, ◌==◌}
+-- The word that says of which batch a block is: no step of a row writes it, unless the row is to retire the block, or to take it.
+use Rattle.std.specs.Prelude.{Option, Some, None, IsSome, Ok, if◌then◌else◌, ◌==◌, bit_or}
 use Rattle.std.proofs.Common.{◌≡◌, ℕ, ◌+◌, ◌/◌, ◌%◌, ◌^◌, Bool, true, false, length, refl, arith, ap, sym, subst, ◌∙◌}
 use Rattle.seize_words.specs.declared.at.At.{At}
 use Rattle.seize_words.specs.declared.at.At.TheVariants as name
@@ -31,7 +31,7 @@ use Rattle.seize.specs.Leave as leave
 use Rattle.seize.specs.Register as register
 use Rattle.seize.specs.Settle.{settle_plan, plan_at}
 use Rattle.seize.specs.World.{World, Row, Rests, Registers, Enters, Settles, Leaves, Defers, Frees, Steps', settles_on, registers_on, defers_on}
-use Rattle.seize_moves.proofs.State.Ghost.{Life, IsPending, IsIn, IsDoomed, State}
+use Rattle.seize_moves.proofs.State.Ghost.{Life, IsPending, IsDoomed, State}
 use Rattle.seize_moves.proofs.Moves.Takes.{first_doomed}
 use Rattle.seize_moves.proofs.Moves.Tries.{first_pending}
 use Rattle.seize_rule.proofs.Points.Deferred.{next_left}
@@ -54,7 +54,7 @@ module _ {T : Type 0} (b : ℕ) where
   IsOpApart (Store at w) = IsApart b at
   IsOpApart (Swap at w) = IsApart b at
   IsOpApart (Add at w) = IsApart b at
-  IsOpApart (Or at w) = ⊥
+  IsOpApart (Or at w) = IsApart b at
   IsOpApart (Exchange at old new) = IsApart b at
   IsOpApart (Make value words) = ⊥
   IsOpApart (Take c) = b ≡ c → ⊥
@@ -73,7 +73,7 @@ module _ {T : Type 0} (b : ℕ) where
   abbrev pub SameFirst : Mem T → Mem T → Type 0
   SameFirst m m2 = word_at m2 (name.Entry b FIRST) ≡ word_at m (name.Entry b FIRST)
 
-  written : (m : Mem T) (at : At) (w : ℕ) → IsSome (word_at m at) → IsApart b at → SameFirst m (with_word m at w)
+  pub written : (m : Mem T) (at : At) (w : ℕ) → IsSome (word_at m at) → IsApart b at → SameFirst m (with_word m at w)
   written m (name.Root r) w some q = refl
   written m (name.Used r) w some q = refl
   written m (name.Slot s field) w some q = refl
@@ -92,13 +92,14 @@ module _ {T : Type 0} (b : ℕ) where
       by true z k = absurd (q (grind (arith, z)))
       by false z k = ap (λ (o : Option (Block T)). entry_in o FIRST) k
 
-  op_apart : (m : Mem T) (op : Op T) (out : Out T) → IsOpApart op → Can m op → SameFirst m (after m op out)
+  pub op_apart : (m : Mem T) (op : Op T) (out : Out T) → IsOpApart op → Can m op → SameFirst m (after m op out)
   op_apart m (Load at) out q can = refl
   op_apart m (Store at w) out q can = written m at w can q
   op_apart m (Swap at w) out q can = written m at w can q
   op_apart m (Add at w) (Found a) q can = written m at ((a + w) % 2 ^ 64) can q
   op_apart m (Add at w) _ q can = refl
-  op_apart m (Or at w) out q can = absurd q
+  op_apart m (Or at w) (Found a) q can = written m at (bit_or a w) can q
+  op_apart m (Or at w) _ q can = refl
   op_apart m (Exchange at old new) (Exchanged (Ok a)) q can = written m at new can q
   op_apart m (Exchange at old new) _ q can = refl
   op_apart m (Make value words) out q can = absurd q
@@ -115,20 +116,21 @@ module _ {T : Type 0} (b : ℕ) where
 named : (w d : ℕ) → w ≡ link d → w / 2048 ≡ d
 named w d e = ap (λ k. k / 2048) e ∙ link-block d
 
-module _ {T : Type 0} (defers : T → Option ℕ) {size : ℕ} (w : World T) (r : Reached defers size w) (i : ℕ) (b x : ℕ) (is : r.good.state.life b ≡ IsIn x) where
+module _ {T : Type 0} (defers : T → Option ℕ) {size : ℕ} (w : World T) (r : Reached defers size w) (i : ℕ) (b : ℕ) (not_pending : r.good.state.life b ≡ IsPending i → ⊥)
+    (not_doomed : r.good.state.life b ≡ IsDoomed i → ⊥) where
   abbrev n : ℕ
   n = LAST_SLOT + 1
 
   abbrev m : State
   m = r.good.state
 
-  -- a block that is in no batch is another one
-  other : (d : ℕ) (l : Life) → m.life d ≡ l → (l ≡ IsIn x → ⊥) → (v : ℕ) → v / 2048 ≡ d → b ≡ v / 2048 → ⊥
-  other d l there ne v at e = ne (sym there ∙ ap m.life (sym at ∙ sym e) ∙ is)
+  -- what is to be retired, or taken, is another block
+  other : (d : ℕ) (l : Life) → m.life d ≡ l → (m.life b ≡ l → ⊥) → (v : ℕ) → v / 2048 ≡ d → b ≡ v / 2048 → ⊥
+  other d l there ne v at e = ne (ap m.life (e ∙ at) ∙ there)
 
   settle_apart : (c : Settle) (p : Settling) → FitsAt n i (view defers w.memory) m r.good.extra (bare c) p → IsPlanApart b (plan_at defers c p)
   settle_apart c (at.Batches block) f =
-      λ e k. other f.b (IsPending i) (first_pending n i m f.b f.bs r.good.inv f.putting.pending) (λ z. absurd (cc z)) block (named block f.b f.putting.block_is) e
+      λ e k. other f.b (IsPending i) (first_pending n i m f.b f.bs r.good.inv f.putting.pending) not_pending block (named block f.b f.putting.block_is) e
   settle_apart c (at.Ends block) f = λ e k. absurd (omega (arith, k))
   settle_apart c (at.Appends block) f = λ e k. absurd (omega (arith, k))
   settle_apart c (at.Counts block) f = λ e k. absurd (omega (arith, k))
@@ -140,7 +142,7 @@ module _ {T : Type 0} (defers : T → Option ℕ) {size : ℕ} (w : World T) (r 
   settle_apart c at.Puts f = λ e k. absurd (omega (arith, k))
   settle_apart c (at.Downs next batch) f = λ e k. absurd (omega (arith, k))
   settle_apart c (at.Takes next) f =
-      other f.b (IsDoomed i) (first_doomed n i m f.b f.bs r.good.inv f.backs.left) (λ z. absurd (cc z)) c.reclaiming
+      other f.b (IsDoomed i) (first_doomed n i m f.b f.bs r.good.inv f.backs.left) not_doomed c.reclaiming
       (named c.reclaiming f.b (sym f.backs.common.lefts ∙ (next_left n i (view defers w.memory) m r.good.extra f.b f.bs r.good.shows f.backs.left).0))
   settle_apart c _ f = tt
 

@@ -225,7 +225,7 @@ module _ {K V : Type 0} {size : ℕ} (w : World (Node K V)) (r : Reached deferre
         block = b;
         held = still_held deferred_word size w r i w2 step slot b inside one.held;
         retired = ap (is_retired b) d.logged ∙ retired_on b d.effects w.log d.one (not_taken deferred_word size w r i w2 step b (IsHeld slot one.held)) one.retired;
-        is_first = row_keeps_first deferred_word w r i b block_in_batch.0 block_in_batch.1 w2 step ∙ one.is_first;
+        is_first = row_keeps_first deferred_word w r i b (λ e. let is = block_in_batch.1 in cc (is, e)) (λ e. let is = block_in_batch.1 in cc (is, e)) w2 step ∙ one.is_first;
       }
 
   abbrev Then : World (Node K V) → Type 0

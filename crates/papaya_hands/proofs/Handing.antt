@@ -141,12 +141,12 @@ module _ {T : Type 0} where
       op_aside (Room bucket) (Taken got) aside can gives e = absurd gives
 
       -- so a plan that makes such an operation leaves it
-      plan_aside : {R : Type 0} (plan : Plan T R) (end : R) → IsAsidePlan plan → May Can Took value_at m plan → Steps Took value_at m plan m2 end → new ≡ old
+      pub plan_aside : {R : Type 0} (plan : Plan T R) (end : R) → IsAsidePlan plan → May Can Took value_at m plan → Steps Took value_at m plan m2 end → new ≡ old
       plan_aside (Turn rest) end aside may steps = same_memory steps.0
       plan_aside (Do op rest) end aside may steps = op_aside op steps.0 aside may.0 steps.1.0 steps.1.1
 
   -- each point of a row that settles, but the one at which it writes into a block which batch it is of
-  settle_aside : (defers : T → Option ℕ) (c : Settle) (p : Settling) → ((block : ℕ) → p ≡ at.Batches block → ⊥) → IsAsidePlan (plan_at defers c p)
+  pub settle_aside : (defers : T → Option ℕ) (c : Settle) (p : Settling) → ((block : ℕ) → p ≡ at.Batches block → ⊥) → IsAsidePlan (plan_at defers c p)
   settle_aside defers c at.Sees other = tt
   settle_aside defers c at.Holds other = tt
   settle_aside defers c at.Pops other = tt

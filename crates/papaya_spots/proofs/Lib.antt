@@ -16,6 +16,7 @@ pub mod Unreclaimed
 pub mod Gone
 pub mod Placed
 pub mod Finding
+pub mod Handing
 pub mod Holding
 pub mod Deferred
 pub mod Numbers

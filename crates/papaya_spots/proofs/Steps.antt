@@ -61,6 +61,7 @@ use Rattle.papaya_spots.proofs.Done.{DidMoved, did_moved}
 use Rattle.papaya_spots.proofs.Effects.{calm_aside}
 use Rattle.papaya_spots.proofs.Elsewhere.{Leaves, moved_leaves, other_lies, stored_grows}
 use Rattle.papaya_spots.proofs.Finding.{calm_finds, moved_finds, row_finds}
+use Rattle.papaya_spots.proofs.Handing.{AllKeep, moved_keeps}
 use Rattle.papaya_spots.proofs.Holding.{moved_holds, calm_holds, row_holds}
 use Rattle.papaya_spots.proofs.Numbers.{calm_numbers, moved_numbers, row_numbers}
 use Rattle.papaya_spots.proofs.Own.{own_lies}
@@ -178,6 +179,10 @@ module _ {K V S : Type 0} (same : K → K → Bool) (hash : K → ℕ) (m : Mome
       -- which pairs come to the map, or leave it
       pub moved_shifts : Shifts standing.chart had.c2 (shown.number map) known.stored effects
       moved_shifts = shifted same (slot_of i) i map (Some caller) (shown.number map) standing lawful w sight is_sight is_map m2 (λ w2 c2 blocks2. Unit {0}) went blocks2 grown sights2 m known is_shown shown.blocks told left did
+
+      -- it hands nothing over
+      pub moved_keep : AllKeep effects
+      moved_keep = moved_keeps same (slot_of i) i map (Some caller) (shown.number map) standing lawful w sight is_sight is_map m2 (λ w2 c2 blocks2. Unit {0}) went blocks2 grown sights2 m known is_shown shown.blocks told left did
 
       -- where pairs lie
       module _ (lying : ShowsPlaces m known s.maps) where

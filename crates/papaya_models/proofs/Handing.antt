@@ -1,0 +1,79 @@
+-- A step of a call that is none of a row hands nothing over, whichever kind of call it is.
+use Rattle.std.specs.Prelude.{◌≡◌, ℕ, Bool, List, [], ◌∷◌, ◌++◌, flat_map, Some}
+use Rattle.std.proofs.Common.{refl, ap, ◌∙◌, inl, inr}
+use Rattle.std.proofs.lemmas.List.Concat.{flat_map-cons}
+use Rattle.seize.specs.WaitingSets.{Change}
+use Rattle.papaya_tables.specs.declared.node.Node.{Node}
+use Rattle.papaya_schedules.specs.Model.{handing}
+use Rattle.papaya_schedules.specs.Moment.{Moment}
+use Rattle.papaya_schedules.specs.declared.effect.Effect.{Effect}
+use Rattle.papaya_schedules.specs.declared.effect.Effect.TheVariants.{Retired, Deferred, Taken}
+use Rattle.papaya_schedules.specs.declared.effect.Thing.{Thing}
+use Rattle.papaya_raw.specs.declared.machines.progress.Progress.{Progress}
+use Rattle.papaya_callers.specs.Together.{UnderWay, OnKey, ForRoom, Counting, OverAll}
+use Rattle.papaya_effects.specs.Effects.{effects_of}
+use Rattle.papaya_effects.specs.Known.{Known}
+use Rattle.papaya_effects.specs.declared.acting.Acting.TheVariants.{Call}
+use Rattle.papaya_executor.specs.IsAt.{Scene, IsAt}
+use Rattle.papaya_executor.specs.Stepping.{StepLeads}
+use Rattle.papaya_executor.specs.declared.executor.Executor.{Executor}
+use Rattle.papaya_follows.specs.Shows.{Shows}
+use Rattle.papaya_follows.proofs.Steps.{WentTo, went_to, made_so, is_inside, DidSo, OfNoRow}
+use Rattle.papaya_spots.proofs.Handing.{KeepsAll, AllKeep, calm_keep}
+use Rattle.papaya_spots.proofs.Steps.{moved_keep, stayed_calm}
+use Rattle.papaya_models.specs.Numbers.{IsOfThings, AreOfThings}
+
+pub nothing_handed : (things : List Thing) (slot : ℕ) (effects : List Effect) → AllKeep effects → flat_map (handing things slot) effects ≡ []
+nothing_handed things slot [] all = refl
+nothing_handed things slot (e ∷ effects) all =
+    flat_map-cons (handing things slot) e effects ∙ ap (λ (cs : List Change). cs ++ flat_map (handing things slot) effects) (by e all.0) ∙ nothing_handed things slot effects all.1
+  where
+    by : (e : Effect) → KeepsAll e → handing things slot e ≡ []
+    by (Retired x) is = absurd is
+    by (Deferred n t) is = absurd is
+    by (Taken t) is = absurd is
+    by _ is = refl
+
+-- nor is there anything that has not come into a map
+pub keep_of : (things : List Thing) (effects : List Effect) → AllKeep effects → AreOfThings things effects
+keep_of things [] all = tt
+keep_of things (e ∷ effects) all = (by e all.0, keep_of things effects all.1)
+  where
+    by : (e : Effect) → KeepsAll e → IsOfThings things e
+    by (Retired x) is = absurd is
+    by (Deferred n t) is = absurd is
+    by (Taken t) is = absurd is
+    by _ is = tt
+
+-- whichever kind of call it is
+module _ {K V S : Type 0} (same : K → K → Bool) (hash : K → ℕ) (name : ℕ → List ℕ) (m : Moment K V) (known : Known) (s : Scene K V) (old new : Executor K V S) (at : IsAt same hash old s)
+    (shown : Shows same name m known s) (map i : ℕ) (u : UnderWay K V K) (here : s.calls map i ≡ Some u) (told : Progress (Node K V)) (leads : StepLeads same hash i told s old new) where
+  abbrev to : WentTo same hash name m known s old new at shown map i u here told leads
+  to = went_to same hash name m known s old new at shown map i u here told leads
+
+  abbrev Did : UnderWay K V K → Type 0
+  Did x = DidSo same hash name m known s old new at shown map i u here told leads x
+
+  abbrev NoRow : (x : UnderWay K V K) → Did x → Type 0
+  NoRow x did = OfNoRow same hash name m known s old new at shown map i u here told leads x did
+
+  pub keeps_all : NoRow u to.4.did → AllKeep (effects_of (Call i map) known new.memory.changed)
+  keeps_all own = by u to.4.did own
+    where
+      by : (x : UnderWay K V K) (did : Did x) → NoRow x did → AllKeep (effects_of (Call i map) known new.memory.changed)
+      by (OnKey x) (p2, end, machine_is, told_is, inl (step, has)) own =
+          moved_keep same hash m known s old new at name shown map i to.0 to.2 (name i) (made_so same hash name m known s old new at shown map i u here told leads)
+          (is_inside same hash name m known s old new at shown map i u here told leads) _ step.step.went step.step.blocks2 step.step.grown step.step.sights2
+      by (OnKey x) (p2, end, machine_is, told_is, inr row) own = absurd own
+      by (ForRoom x) (p2, end, machine_is, told_is, inl (step, has)) own =
+          moved_keep same hash m known s old new at name shown map i to.0 to.2 (name i) (made_so same hash name m known s old new at shown map i u here told leads)
+          (is_inside same hash name m known s old new at shown map i u here told leads) _ step.step.went step.step.blocks2 step.step.grown step.step.sights2
+      by (ForRoom x) (p2, end, machine_is, told_is, inr row) own = absurd own
+      by (Counting x) (p2, end, machine_is, told_is, same_memory, has) own =
+          calm_keep (effects_of (Call i map) known new.memory.changed)
+          (stayed_calm same hash m known s old new at name shown map i to.0 to.2 (name i) (made_so same hash name m known s old new at shown map i u here told leads)
+          (is_inside same hash name m known s old new at shown map i u here told leads) same_memory).calm
+      by (OverAll x) (p2, end, machine_is, told_is, inl (step, has)) own =
+          moved_keep same hash m known s old new at name shown map i to.0 to.2 (name i) (made_so same hash name m known s old new at shown map i u here told leads)
+          (is_inside same hash name m known s old new at shown map i u here told leads) _ step.step.went step.step.blocks2 step.step.grown step.step.sights2
+      by (OverAll x) (p2, end, machine_is, told_is, inr row) own = absurd own

@@ -1,0 +1,61 @@
+-- What a caller reclaims that reclaims all, alone, as it has done with slots.
+use Rattle.std.specs.Prelude.{Option}
+use Rattle.std.proofs.Common.{◌≡◌, ◌<◌, ◌^◌, ◌+◌, ℕ, Bool, List, ◌++◌, refl, ap, sym, subst, ◌∙◌}
+use Rattle.seize.specs.declared.states.TheConstants.{LAST_SLOT}
+use Rattle.seize.specs.WaitingSets.{Change, ReclaimsAll, Sets, After, all_reclaimed, at_start as sets_at_start}
+use Rattle.seize.specs.World.{World, at_start}
+use Rattle.seize_rule.proofs.World.Rested.{start_rested}
+use Rattle.seize_sets.specs.Reclaims.{Reclaims, NothingWaits}
+use Rattle.seize_sets.proofs.Reclaims.Calls.{reclaims_by_calls}
+use Rattle.seize_sets.proofs.Reclaims.Ends.{Left, all_left_so}
+use Rattle.seize_sets.proofs.Reclaims.NeverTaken.{turns_past}
+use Rattle.seize_sets.proofs.Turns.All.{turns_shown, start_shown}
+use Rattle.seize_sets.proofs.Turns.Append.{turns_append, changed_append}
+use Rattle.papaya_tables.specs.Nodes.{deferred_word}
+use Rattle.papaya_tables.specs.declared.node.Node.{Node}
+use Rattle.papaya_models.specs.Alike.{SetsAlike}
+use Rattle.papaya_models.specs.Numbers.{HasNumber}
+use Rattle.papaya_models.specs.Reclaims.{HasReclaimed, SlotsReclaim, ReclaimingFollows}
+use Rattle.papaya_models.specs.Turns.{sets_of, CameByTurns}
+use Rattle.papaya_models.proofs.Alike.Changed.{changed_alike}
+use Rattle.papaya_models.proofs.Numbers.{has_one}
+
+module _ {T : Type 0} (defers : T → Option ℕ) (left_over : T → Bool) (batch_size roots : ℕ) (small : batch_size < 2 ^ 64) (v : World T) (before : List Change)
+    (came : CameByTurns defers batch_size roots v before) (i : ℕ) where
+  has_reclaimed : (w : World T) → Reclaims defers batch_size i v w → HasReclaimed defers batch_size roots v before w
+  has_reclaimed w reclaims =
+      let n = LAST_SLOT + 1 in
+      let shown = turns_shown defers n batch_size refl small came.0 (at_start defers roots) v before sets_at_start (start_shown defers n batch_size refl small roots) came.1 in
+      let past = turns_past defers n batch_size refl small came.0 (at_start defers roots) v before sets_at_start (start_rested defers n batch_size refl roots) came.1 (λ s l. refl) in
+      let left : Left defers n batch_size refl small i v w (sets_of batch_size before) = all_left_so defers n batch_size refl small i v w (sets_of batch_size before) shown past reclaims in
+      let sets : sets_of batch_size (before ++ left.came.made) ≡ (all_reclaimed batch_size (sets_of batch_size before)).sets =
+      ap (λ (a : After). a.sets) (changed_append batch_size before left.came.made sets_at_start) ∙ ap (λ (a : After). a.sets) left.came.comes in
+      record {
+        after = before ++ left.came.made;
+        came = (came.0 ++ left.came.turns, turns_append defers batch_size came.0 left.came.turns (at_start defers roots) v w before left.came.made came.1 left.came.took);
+        taken = left.came.taken;
+        sets = sets;
+        waits = subst NothingWaits (sym sets) left.waits;
+      }
+
+pub slots_reclaim : (T : Type 0) (defers : T → Option ℕ) (left_over : T → Bool) → SlotsReclaim T defers left_over
+slots_reclaim T defers left_over batch_size roots small v before came i steps m runs =
+    let calls = reclaims_by_calls defers left_over batch_size roots came.0 v before i steps m came.1 runs in
+    (calls.0, calls.2, has_reclaimed defers left_over batch_size roots small v before came i calls.0 calls.1)
+
+pub reclaiming_follows : (K V : Type 0) → ReclaimingFollows K V
+reclaiming_follows K V left_over batch_size roots things sets known v small once follows i steps m runs =
+    let done = slots_reclaim (Node K V) deferred_word left_over batch_size roots small v follows.before follows.came i steps m runs in
+    let has : HasReclaimed deferred_word batch_size roots v follows.before done.0 = done.2 in
+    let both = changed_alike (HasNumber known things) (has_one known things once) batch_size ReclaimsAll ReclaimsAll (sets_of batch_size follows.before) sets follows.alike refl in (
+      done.0,
+      done.1,
+      record {
+        back = (all_reclaimed batch_size (sets_of batch_size follows.before)).reclaimed;
+        taken = has.taken;
+        by_model = both.reclaimed;
+        after = has.after;
+        came = has.came;
+        alike = subst (λ (s : Sets). SetsAlike (HasNumber known things) s (all_reclaimed batch_size sets).sets) (sym has.sets) both.sets;
+      },
+    )

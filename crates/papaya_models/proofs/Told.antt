@@ -1,0 +1,280 @@
+-- What is told of a step of a row within a call: it hands over what it writes a batch into, and nothing where it writes no such word.
+use Rattle.std.specs.Prelude.{◌==◌, ◌%◌, ◌^◌, Option, Some, None, Ok, Err, IsSome, if◌then◌else◌, nat_lt}
+use Rattle.std.proofs.Common.{◌≡◌, ℕ, ◌+◌, Bool, true, false, List, [], ◌∷◌, inl, inr, refl, ap, sym, subst, arith, ◌∙◌}
+use Rattle.std.proofs.lemmas.Bool.{eq-eqb}
+use Rattle.seize_words.specs.declared.at.At.{At}
+use Rattle.seize_words.specs.declared.at.At.TheVariants.{Root, Used, Slot, Entry, Word}
+use Rattle.seize_words.specs.Mem.{Mem, same_at, block_of, value_in, value_at, word_at, with_block, with_room, with_word, fresh, Can, Took}
+use Rattle.seize_words.specs.Op.{Op, Out, Load, Store, Swap, Add, Or, Exchange, Make, Take, Rewrite, Room, Found, Exchanged, Made, Taken, Roomed}
+use Rattle.seize_words.specs.Word.{block_in, link_to}
+use Rattle.seize_words.proofs.OneOwner.AfterWrites.{word_at-with_word, word_at-with_value, value_at-with_word, block_of-with_block, block_of-made}
+use Rattle.seize.specs.declared.states.TheConstants.{FIRST}
+use Rattle.seize_rule.proofs.Words.Named.{same_at-true, block_there}
+use Rattle.seize_rule.proofs.Points.Retire.{of_link}
+use Rattle.papaya_hands.proofs.Handing.{IsHanding}
+use Rattle.papaya_tables.specs.declared.table_words.TheConstants.{NEXT, DEFERRED}
+use Rattle.papaya_tables.specs.declared.node.Node.{Node}
+use Rattle.papaya_tells.specs.Seen.{seen_of, word_or}
+use Rattle.papaya_teller.specs.Tells.{told_of}
+use Rattle.papaya_teller.specs.declared.changed.Changed.{Changed}
+use Rattle.papaya_teller.specs.declared.changed.Changed.TheVariants as changed
+use Rattle.papaya_teller.specs.declared.changed.Kind.{Kind}
+use Rattle.papaya_teller.specs.declared.changed.Kind.TheVariants as kind
+use Rattle.papaya_schedules.specs.declared.effect.Effect.{Effect}
+use Rattle.papaya_schedules.specs.declared.effect.Effect.TheVariants as effect
+use Rattle.papaya_schedules.specs.declared.effect.Growth.TheVariants.{ABucket, ABlock}
+use Rattle.papaya_schedules.specs.declared.effect.Spot.{Spot}
+use Rattle.papaya_schedules.specs.declared.effect.Table.{Table}
+use Rattle.papaya_schedules.specs.declared.effect.Thing.{Thing}
+use Rattle.papaya_schedules.specs.declared.effect.Thing.TheVariants.{APair, ATable}
+use Rattle.papaya_effects.specs.Effects.{names_same, named, led_to, in_block, batched, made_by, taken_by, effects_of, followed_by, carried, placed, spot_at, is_place, in_table, known_after}
+use Rattle.papaya_effects.specs.Known.{Known, with_role}
+use Rattle.papaya_effects.specs.declared.acting.Acting.{Acting}
+use Rattle.papaya_effects.specs.declared.acting.Acting.TheVariants.{Call}
+use Rattle.papaya_effects.specs.declared.role.Role.{Role}
+use Rattle.papaya_effects.specs.declared.role.Role.TheVariants as role
+use Rattle.papaya_follows.proofs.Onward.{IsLasting, KeepsRoles}
+use Rattle.papaya_follows.proofs.Operations.{Operated}
+use Rattle.papaya_promises.specs.Sheltered.{IsOfThing}
+use Rattle.papaya_models.specs.Numbers.{NoneBack}
+use Rattle.papaya_spots.proofs.Handing.{AllKeep}
+
+-- words that are the same name the same
+same_names : (old new : ℕ) → new ≡ old → names_same old new ≡ true
+same_names old new e = eq-eqb (block_in old) (block_in new) (ap block_in (sym e))
+
+module _ (i map : ℕ) (known : Known) where
+  abbrev its : Acting
+  its = Call i map
+
+  led_keeps : (q : Bool) (was is : Role) → AllKeep (if q then [] else led_to its was is)
+  led_keeps true was is = tt
+  led_keeps false was (role.OwnTable turn shape) = (tt, tt)
+  led_keeps false (role.Table t len) (role.Table u other) = (tt, tt)
+  led_keeps false _ _ = tt
+
+  other_keeps : (field : ℕ) (x : List Effect) → (field == FIRST) ≡ false → AllKeep (if field == FIRST then x else [])
+  other_keeps field x e = subst (λ (q : Bool). AllKeep (if q then x else [])) (sym e) tt
+
+  batched_keeps : (field : ℕ) (r : Role) → (field == FIRST) ≡ false → AllKeep (batched its field r)
+  batched_keeps field role.Free e = tt
+  batched_keeps field (role.OwnPair c) e = tt
+  batched_keeps field (role.OwnTable turn shape) e = tt
+  batched_keeps field (role.Pair n) e = other_keeps field (effect.Retired (APair n) ∷ []) e
+  batched_keeps field (role.Table t len) e = other_keeps field (effect.Retired (ATable t) ∷ []) e
+  batched_keeps field (role.Counter of) e = tt
+
+  same_keeps : (r : Role) (field stored : ℕ) (was is : Role) → AllKeep (in_block its r field stored true was is)
+  same_keeps role.Free field stored was is = tt
+  same_keeps (role.OwnPair c) field stored was is = tt
+  same_keeps (role.OwnTable turn shape) field stored was is = tt
+  same_keeps (role.Pair n) field stored was is = tt
+  same_keeps (role.Table t len) field stored was is = tt
+  same_keeps (role.Counter of) field stored was is = (tt, tt)
+
+  made_keeps : (k : Kind) → AllKeep (effect.Asked ABlock ∷ made_by its k)
+  made_keeps kind.Pair = (tt, (tt, tt))
+  made_keeps (kind.Table len limit turn) = (tt, (tt, tt))
+  made_keeps kind.Shards = (tt, tt)
+
+  taken_keeps : (r : Role) → AllKeep (taken_by its r)
+  taken_keeps role.Free = tt
+  taken_keeps (role.OwnPair c) = (tt, tt)
+  taken_keeps (role.OwnTable turn shape) = (tt, tt)
+  taken_keeps (role.Pair n) = (tt, tt)
+  taken_keeps (role.Table t len) = (tt, tt)
+  taken_keeps (role.Counter of) = tt
+
+  entry_keeps : (b field old new : ℕ) → (field ≡ FIRST → new ≡ old) → (q : Bool) → names_same old new ≡ q → AllKeep (if q then [] else batched its field (known.roles b))
+  entry_keeps b field old new same true e = tt
+  entry_keeps b field old new same false e = by (field == FIRST) refl
+    where
+      by : (q : Bool) → (field == FIRST) ≡ q → AllKeep (batched its field (known.roles b))
+      by false other = batched_keeps field (known.roles b) other
+      by true first = absurd (let names = same_names old new (same (grind (arith, first))) in cc (names, e))
+
+  -- where no word is written anew with which something is handed over, nothing is
+  pub quiet_keeps : (told : Changed) → ((x : At) → IsHanding x → (old new : ℕ) → told ≡ changed.Wrote x old new → new ≡ old) → AllKeep (effects_of its known told)
+  quiet_keeps changed.Nothing same = tt
+  quiet_keeps (changed.Wrote (Root r) old new) same = led_keeps (names_same old new) (named known old) (named known new)
+  quiet_keeps (changed.Wrote (Used r) old new) same = tt
+  quiet_keeps (changed.Wrote (Slot t field) old new) same = tt
+  quiet_keeps (changed.Wrote (Entry b field) old new) same = entry_keeps b field old new (λ e. same (Entry b field) e old new refl) (names_same old new) refl
+  quiet_keeps (changed.Wrote (Word b field) old new) same =
+      subst (λ (q : Bool). AllKeep (in_block its (known.roles b) field known.stored q (named known old) (named known new))) (sym (same_names old new (same (Word b field) tt old new refl)))
+      (same_keeps (known.roles b) field known.stored (named known old) (named known new))
+  quiet_keeps (changed.Made k b) same = made_keeps k
+  quiet_keeps (changed.Unmade k) same = (tt, tt)
+  quiet_keeps (changed.Took b) same = taken_keeps (known.roles b)
+  quiet_keeps (changed.Roomed bucket had) same = by (nat_lt bucket known.buckets)
+    where
+      by : (q : Bool) → AllKeep (if q then [] else effect.Asked ABucket ∷ [])
+      by true = tt
+      by false = (tt, tt)
+
+  -- A step of a call reclaims nothing that was handed over, where pairs and tables keep their blocks.
+
+  back_if : (q : Bool) (x y : List Effect) → NoneBack x → NoneBack y → NoneBack (if q then x else y)
+  back_if true x y a b = a
+  back_if false x y a b = b
+
+  led_back : (was is : Role) → NoneBack (led_to its was is)
+  led_back was (role.OwnTable turn shape) = (tt, tt)
+  led_back (role.Table t len) (role.Table u other) = (tt, tt)
+  led_back _ _ = tt
+
+  batched_back : (field : ℕ) (r : Role) → NoneBack (batched its field r)
+  batched_back field role.Free = tt
+  batched_back field (role.OwnPair c) = tt
+  batched_back field (role.OwnTable turn shape) = tt
+  batched_back field (role.Pair n) = back_if (field == FIRST) (effect.Retired (APair n) ∷ []) [] (tt, tt) tt
+  batched_back field (role.Table t len) = back_if (field == FIRST) (effect.Retired (ATable t) ∷ []) [] (tt, tt) tt
+  batched_back field (role.Counter of) = tt
+
+  followed_back : (is : Role) → NoneBack (followed_by its is)
+  followed_back (role.OwnTable turn shape) = (tt, tt)
+  followed_back _ = tt
+
+  carried_back : (t : Table) (is : Role) → NoneBack (carried t is)
+  carried_back t (role.Pair n) = (tt, tt)
+  carried_back t _ = tt
+
+  placed_back : (x : Spot) (stored : ℕ) (was is : Role) → NoneBack (placed x stored was is)
+  placed_back x stored (role.Pair n) (role.OwnPair j) = (tt, (tt, tt))
+  placed_back x stored _ (role.OwnPair j) = (tt, tt)
+  placed_back x stored (role.Pair n) role.Free = (tt, tt)
+  placed_back x stored role.Free (role.Pair n) = (tt, tt)
+  placed_back x stored _ _ = tt
+
+  block_back : (r : Role) (field stored : ℕ) (q : Bool) (was is : Role) → NoneBack (in_block its r field stored q was is)
+  block_back role.Free field stored q was is = tt
+  block_back (role.OwnPair c) field stored q was is = tt
+  block_back (role.OwnTable turn shape) field stored q was is = tt
+  block_back (role.Pair n) field stored q was is = tt
+  block_back (role.Counter of) field stored q was is = (tt, tt)
+  block_back (role.Table t len) field stored q was is =
+      back_if q [] (in_table its t len field stored was is) tt
+      (back_if (field == NEXT) (followed_by its is) (if field == DEFERRED then carried t is else (if is_place len field then placed (spot_at t field) stored was is else [])) (followed_back is)
+      (back_if (field == DEFERRED) (carried t is) (if is_place len field then placed (spot_at t field) stored was is else []) (carried_back t is)
+      (back_if (is_place len field) (placed (spot_at t field) stored was is) [] (placed_back (spot_at t field) stored was is) tt)))
+
+  made_back : (k : Kind) → NoneBack (effect.Asked ABlock ∷ made_by its k)
+  made_back kind.Pair = (tt, (tt, tt))
+  made_back (kind.Table len limit turn) = (tt, (tt, tt))
+  made_back kind.Shards = (tt, tt)
+
+  taken_back : (b : ℕ) (r : Role) → known.roles b ≡ r → KeepsRoles known (with_role b role.Free known) → NoneBack (taken_by its r)
+  taken_back b role.Free e keeps = tt
+  taken_back b (role.OwnPair c) e keeps = (tt, tt)
+  taken_back b (role.OwnTable turn shape) e keeps = (tt, tt)
+  taken_back b (role.Counter of) e keeps = tt
+  taken_back b (role.Pair n) e keeps =
+      absurd (let kept = keeps b (subst IsLasting (sym e) tt) in let gone : (with_role b role.Free known).roles b ≡ role.Free = ap (λ (q : Bool). if q then role.Free else known.roles b) (eq-eqb b b refl) in cc (kept, gone, e))
+  taken_back b (role.Table t len) e keeps =
+      absurd (let kept = keeps b (subst IsLasting (sym e) tt) in let gone : (with_role b role.Free known).roles b ≡ role.Free = ap (λ (q : Bool). if q then role.Free else known.roles b) (eq-eqb b b refl) in cc (kept, gone, e))
+
+  pub none_back : (told : Changed) → KeepsRoles known (known_after its told known) → NoneBack (effects_of its known told)
+  none_back changed.Nothing keeps = tt
+  none_back (changed.Wrote (Root r) old new) keeps = back_if (names_same old new) [] (led_to its (named known old) (named known new)) tt (led_back (named known old) (named known new))
+  none_back (changed.Wrote (Used r) old new) keeps = tt
+  none_back (changed.Wrote (Slot t field) old new) keeps = tt
+  none_back (changed.Wrote (Entry b field) old new) keeps = back_if (names_same old new) [] (batched its field (known.roles b)) tt (batched_back field (known.roles b))
+  none_back (changed.Wrote (Word b field) old new) keeps = block_back (known.roles b) field known.stored (names_same old new) (named known old) (named known new)
+  none_back (changed.Made k b) keeps = made_back k
+  none_back (changed.Unmade k) keeps = (tt, tt)
+  none_back (changed.Took b) keeps = taken_back b (known.roles b) refl keeps
+  none_back (changed.Roomed bucket had) keeps = back_if (nat_lt bucket known.buckets) [] (effect.Asked ABucket ∷ []) tt (tt, tt)
+
+  -- where it is written into a thing which batch that is of, the thing is retired
+  pub first_retires : (b old new : ℕ) (x : Thing) → IsOfThing x (known.roles b) → names_same old new ≡ false → effects_of its known (changed.Wrote (Entry b FIRST) old new) ≡ effect.Retired x ∷ []
+  first_retires b old new x of e = ap (λ (q : Bool). if q then [] else batched its FIRST (known.roles b)) e ∙ by x of
+    where
+      by : (x : Thing) → IsOfThing x (known.roles b) → batched its FIRST (known.roles b) ≡ effect.Retired x ∷ []
+      by (APair n) of = ap (λ (r : Role). batched its FIRST r) of
+      by (ATable t) of = ap (λ (r : Role). batched its FIRST r) of.1
+
+  -- where a pair is put in front of what a table carries, it is deferred behind that
+  pub word_defers : (b t old n len : ℕ) (table : Table) → known.roles b ≡ role.Pair n → known.roles t ≡ role.Table table len → names_same old (link_to b) ≡ false
+      → effects_of its known (changed.Wrote (Word t DEFERRED) old (link_to b)) ≡ effect.Deferred n table ∷ []
+  word_defers b t old n len table pair is differ =
+      ap (λ (r : Role). in_block its r DEFERRED known.stored (names_same old (link_to b)) (named known old) (named known (link_to b))) is
+      ∙ ap (λ (q : Bool). in_block its (role.Table table len) DEFERRED known.stored q (named known old) (named known (link_to b))) differ
+      ∙ ap (λ (r : Role). in_block its (role.Table table len) DEFERRED known.stored false (named known old) r) (ap known.roles (of_link (link_to b) b refl) ∙ pair)
+
+-- One word was written anew: just that is told.
+
+module _ {K V : Type 0} (m m2 : Mem (Node K V)) (at : At) (same : same_at at at ≡ true) (room : (bucket : ℕ) → word_at (with_room m bucket) at ≡ word_at m at) (old new : ℕ)
+    (was : word_at m at ≡ Some old) (is : m2 ≡ with_word m at new) (other : new ≡ old → ⊥) where
+  some_word : (o : Option ℕ) → IsSome o → o ≡ Some (word_or o)
+  some_word None some = absurd (cc some)
+  some_word (Some word) some = refl
+
+  is_some : (x : At) (word : ℕ) → word_at m x ≡ Some word → IsSome (word_at m x)
+  is_some x word e = subst (λ (o : Option ℕ). IsSome o) (sym e) refl
+
+  now : word_at m2 at ≡ Some new
+  now = ap (λ (k : Mem (Node K V)). word_at k at) is ∙ word_at-with_word m at new at (is_some at old was) ∙ ap (λ (q : Bool). if q then Some new else word_at m at) same
+
+  values : (x : ℕ) → value_at m2 x ≡ value_at m x
+  values x = ap (λ (k : Mem (Node K V)). value_at k x) is ∙ value_at-with_word m at new x (is_some at old was)
+
+  changed_word : word_at m2 at ≡ word_at m at → ⊥
+  changed_word e = other (let both : Some new ≡ Some old = sym now ∙ e ∙ was in cc both)
+
+  wrote_so : (y : At) (word before : ℕ) → word_at m y ≡ Some before → m2 ≡ with_word m y word → changed.Wrote y before word ≡ changed.Wrote at old new
+  wrote_so y word before there e = by (same_at at y) refl (ap (λ (k : Mem (Node K V)). word_at k at) e ∙ word_at-with_word m y word at (is_some y before there))
+    where
+      by : (q : Bool) → same_at at y ≡ q → word_at m2 at ≡ (if same_at at y then Some word else word_at m at) → changed.Wrote y before word ≡ changed.Wrote at old new
+      by true here_too h =
+          let here : at ≡ y = same_at-true at y here_too in
+          let word_is : Some new ≡ Some word = sym now ∙ h ∙ ap (λ (q : Bool). if q then Some word else word_at m at) here_too in
+          let before_is : Some old ≡ Some before = sym was ∙ ap (word_at m) here ∙ there in
+          let words : new ≡ word = cc word_is in
+          let befores : old ≡ before = cc before_is in
+          ap (λ (x : At). changed.Wrote x before word) (sym here) ∙ ap (λ (x : ℕ). changed.Wrote at x word) (sym befores) ∙ ap (λ (x : ℕ). changed.Wrote at old x) (sym words)
+      by false elsewhere h = absurd (changed_word (h ∙ ap (λ (q : Bool). if q then Some word else word_at m at) elsewhere))
+
+  unchanged : {X : Type 0} → m2 ≡ m → X
+  unchanged e = absurd (changed_word (ap (λ (k : Mem (Node K V)). word_at k at) e))
+
+  -- a block that was made, or taken, would be there, or not
+  none_made : (value : Node K V) (words c : ℕ) → Took m (Make value words) (Made (Ok c)) m2 → ⊥
+  none_made value words c took =
+      let there : value_at m2 c ≡ Some value =
+      ap (λ (k : Mem (Node K V)). value_at k c) took.1 ∙ ap value_in (block_of-made m value words c c took.0.0)
+      ∙ ap (λ (q : Bool). value_in (if q then Some (fresh value words) else block_of m c)) (eq-eqb c c refl) in
+      let none : value_at m c ≡ None = ap value_in took.0.0.0 in
+      let still = values c in cc (there, none, still)
+
+  none_taken : (c : ℕ) → IsSome (value_at m c) → m2 ≡ with_block m c None → ⊥
+  none_taken c can gone =
+      let x = block_there m c can in
+      let none : value_at m2 c ≡ None =
+      ap (λ (k : Mem (Node K V)). value_at k c) gone ∙ ap value_in (block_of-with_block m c c x.0 None x.1) ∙ ap (λ (q : Bool). value_in (if q then None else block_of m c)) (eq-eqb c c refl) in
+      let some : IsSome {T = Node K V} None = subst (λ (o : Option (Node K V)). IsSome o) (sym (values c) ∙ none) can in cc some
+
+  told_so : (op : Op (Node K V)) (out : Out (Node K V)) → Can m op → Took m op out m2 → told_of op out (seen_of m op out) ≡ changed.Wrote at old new
+  told_so (Load y) out can took = unchanged took.1
+  told_so (Store y word) out can took = wrote_so y word (word_or (word_at m y)) (some_word (word_at m y) can) took.1
+  told_so (Swap y word) (Found before) can took = wrote_so y word before took.0 took.1
+  told_so (Add y by) (Found before) can took = wrote_so y ((before + by) % 2 ^ 64) before took.0 took.1
+  told_so (Or y bits) (Found before) can took = wrote_so y _ before took.0 took.1
+  told_so (Exchange y expected word) (Exchanged (Ok found)) can took = wrote_so y word found took.0.0 took.1
+  told_so (Exchange y expected word) (Exchanged (Err found)) can took = unchanged took.1
+  told_so (Make value words) (Made (Ok c)) can took = absurd (none_made value words c took)
+  told_so (Make value words) (Made (Err back)) can took = unchanged took.1
+  told_so (Take c) out can took = absurd (none_taken c can took.1)
+  told_so (Rewrite c value) (Taken before) can took = absurd (changed_word (ap (λ (k : Mem (Node K V)). word_at k at) took.1 ∙ word_at-with_value m c value at can))
+  told_so (Room bucket) (Roomed (Ok made)) can took = absurd (changed_word (ap (λ (k : Mem (Node K V)). word_at k at) took.1 ∙ room bucket))
+  told_so (Room bucket) (Roomed (Err fault)) can took = unchanged took.1
+  told_so (Swap y word) _ can took = absurd took.0
+  told_so (Add y by) _ can took = absurd took.0
+  told_so (Or y bits) _ can took = absurd took.0
+  told_so (Exchange y expected word) _ can took = absurd took.0
+  told_so (Make value words) _ can took = absurd took.0
+  told_so (Rewrite c value) _ can took = absurd took.0
+  told_so (Room bucket) _ can took = absurd took.0
+
+  pub is_told : (told : Changed) → Operated m m2 told → told ≡ changed.Wrote at old new
+  is_told told (inl (still, nothing)) = unchanged still
+  is_told told (inr made) = made.is ∙ told_so made.op made.out made.can made.took

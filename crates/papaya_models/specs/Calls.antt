@@ -1,0 +1,123 @@
+-- Events of calls, where they come one after another: what a call hands over changes the waiting sets of blocks as it does those of the model, once its row
+-- has run.
+use Rattle.std.specs.Prelude.{◌≡◌, ◌≢◌, ◌≤◌, ◌<◌, ◌^◌, ℕ, Bool, List, [], ◌∷◌, ◌++◌, flat_map, Some}
+use Rattle.seize.specs.Sequence.{changes}
+use Rattle.seize.specs.WaitingSets.{Change, Sets, all_changed}
+use Rattle.seize.specs.World.{World, Rests, Request, IsInside}
+use Rattle.seize_waiting.specs.Held.{count}
+use Rattle.papaya_raw.specs.declared.machines.progress.Progress.{Progress}
+use Rattle.papaya_tables.specs.Nodes.{deferred_word}
+use Rattle.papaya_tables.specs.declared.node.Node.{Node}
+use Rattle.papaya_schedules.specs.After.{moment}
+use Rattle.papaya_schedules.specs.Entry.{Entry}
+use Rattle.papaya_schedules.specs.Model.{IsByModel, thing_back, handing, things_in, sets_in, changes_of, left_last}
+use Rattle.papaya_schedules.specs.Moment.{Moment}
+use Rattle.papaya_schedules.specs.Terms.{Terms}
+use Rattle.papaya_schedules.specs.declared.effect.Effect.{Effect}
+use Rattle.papaya_schedules.specs.declared.effect.Effect.TheVariants.{Taken}
+use Rattle.papaya_schedules.specs.declared.effect.Thing.{Thing}
+use Rattle.papaya_callers.specs.Together.{UnderWay}
+use Rattle.papaya_effects.specs.Effects.{effects_of, known_after}
+use Rattle.papaya_effects.specs.Known.{Known}
+use Rattle.papaya_effects.specs.declared.acting.Acting.TheVariants.{Call}
+use Rattle.papaya_executor.specs.IsAt.{Scene, IsAt}
+use Rattle.papaya_executor.specs.Stepping.{StepLeads}
+use Rattle.papaya_executor.specs.declared.executor.Executor.{Executor}
+use Rattle.papaya_follows.specs.Steps.{IsOfNoRow}
+use Rattle.papaya_moments.specs.Whole.{ShowsWhole}
+use Rattle.papaya_models.specs.Alike.{SetsAlike, ChangesAlike}
+use Rattle.papaya_models.specs.Follows.{FollowsSets}
+use Rattle.papaya_models.specs.Numbers.{HasNumber, EachIsOnce}
+use Rattle.papaya_models.specs.Turns.{sets_of, IsInRow}
+
+-- the sets of the model after these effects of a call under this slot, of which the things are these
+abbrev pub sets_on : ℕ → List Thing → ℕ → List Effect → Sets → Sets
+sets_on batch_size things slot effects sets = (all_changed batch_size (flat_map (handing things slot) effects) sets).sets
+
+module _ {K V : Type 0} (batch_size roots : ℕ) where
+  -- In the midst of a row of caller i within its call. As the row began the sets were alike, and this was handed over since then, as it was told.
+  pub record FollowsInCall (things : List Thing) (sets : Sets) (known : Known) (i : ℕ) (request : Request) (handed : List Change) (w : World (Node K V)) : Type 0 where
+    pub began : World (Node K V)
+    pub before : List Change
+    pub row : IsInRow deferred_word batch_size roots i request began before w
+    pub first : Sets
+    pub alike : SetsAlike (HasNumber known things) (sets_of batch_size before) first
+    pub sets_are : sets ≡ (all_changed batch_size handed first).sets
+
+-- no table ends with its map by this
+abbrev pub EndsNone : Effect → Type 0
+EndsNone (Taken t) = ⊥
+EndsNone _ = Unit {0}
+
+abbrev pub EndNone : List Effect → Type 0
+EndNone [] = Unit {0}
+EndNone (e ∷ effects) = EndsNone e × EndNone effects
+
+module _ (K V : Type 0) where
+  -- The promises: the sets are those of further things, too, which are not in them;
+  abbrev pub MoreThingsFollow : Type 0
+  MoreThingsFollow =
+      (batch_size roots : ℕ) (things more : List Thing) (sets : Sets) (known : Known) (w : World (Node K V))
+      → (FollowsSets batch_size roots things sets known w → FollowsSets batch_size roots (things ++ more) sets known w)
+      × ((i : ℕ) (request : Request) (handed : List Change) → FollowsInCall batch_size roots things sets known i request handed w
+      → FollowsInCall batch_size roots (things ++ more) sets known i request handed w)
+
+  -- once a row within a call has ended, and was told as what it is, the sets are alike again;
+  abbrev pub RowsWithinEnd : Type 0
+  RowsWithinEnd =
+      (batch_size roots : ℕ) (things : List Thing) (sets : Sets) (known : Known) (i : ℕ) (request : Request) (handed : List Change) (w : World (Node K V)) → batch_size < 2 ^ 64
+      → EachIsOnce known → (r : FollowsInCall batch_size roots things sets known i request handed w) → w.row i ≡ Rests
+      → ChangesAlike (HasNumber known things) (changes request r.began.uses w.uses) handed → FollowsSets batch_size roots things sets known w
+
+  -- an active slot is so in the sets;
+  abbrev pub InsidesFollow : Type 0
+  InsidesFollow =
+      (batch_size roots : ℕ) (things : List Thing) (sets : Sets) (known : Known) (w : World (Node K V)) → batch_size < 2 ^ 64
+      → FollowsSets batch_size roots things sets known w → (slot : ℕ) → IsInside (w.uses slot) → 1 ≤ count slot sets.active
+
+  -- and an event that hands over under a slot that is active, and reclaims nothing, is by the model, and leaves that slot active.
+  abbrev pub HandingIsByModel : Type 0
+  HandingIsByModel =
+      (terms : Terms) (log : List (Entry K V)) (e : Entry K V) (slot : ℕ) → changes_of log e ≡ flat_map (handing (things_in (e ∷ log)) slot) e.effects
+      → left_last e.event e.outcome (moment log) ≡ [] → EndNone e.effects → flat_map thing_back e.effects ≡ [] → 1 ≤ count slot (sets_in terms.batch_size log).active
+      → IsByModel terms log e × (1 ≤ count slot (sets_in terms.batch_size (e ∷ log)).active)
+
+module _ (K V S : Type 0) (same : K → K → Bool) (hash : K → ℕ) where
+  module _ (s : Scene K V) (old new : Executor K V S) (map i : ℕ) (u : UnderWay K V K) (here : s.calls map i ≡ Some u) (told : Progress (Node K V))
+      (leads : StepLeads same hash i told s old new) where
+    -- the step was none of a row
+    abbrev pub OfNoRow : Type 0
+    OfNoRow =
+        let to = leads map u here in
+        IsOfNoRow same old.batch_size old.roots s.world s.maps s.calls s.makers s.enders map to.0 i new.memory.memory to.4.w2 to.4.maps2 to.4.next u to.1 told to.4.did
+
+  -- After a step of a call that is none of a row the sets are alike still, whatever the slot, since it hands nothing over.
+  abbrev pub CallsFollow : Type 0
+  CallsFollow =
+      (name : ℕ → List ℕ) (m : Moment K V) (known : Known) (s : Scene K V) (old new : Executor K V S) → IsAt same hash old s → ShowsWhole same name m known s
+      → (map i : ℕ) (u : UnderWay K V K) (here : s.calls map i ≡ Some u) (told : Progress (Node K V)) (leads : StepLeads same hash i told s old new)
+      → OfNoRow s old new map i u here told leads → (roots : ℕ) (things : List Thing) (sets : Sets) → FollowsSets old.batch_size roots things sets known s.world → (slot : ℕ)
+      → (let effects = effects_of (Call i map) known new.memory.changed in
+      FollowsSets old.batch_size roots things (sets_on old.batch_size things slot effects sets) (known_after (Call i map) new.memory.changed known) (leads map u here).4.w2)
+
+  -- One that begins a row is in the midst of that, with what it told,
+  abbrev pub RowsWithinBegin : Type 0
+  RowsWithinBegin =
+      (name : ℕ → List ℕ) (m : Moment K V) (known : Known) (s : Scene K V) (old new : Executor K V S) → IsAt same hash old s → ShowsWhole same name m known s
+      → (map i : ℕ) (u : UnderWay K V K) (here : s.calls map i ≡ Some u) (told : Progress (Node K V)) (leads : StepLeads same hash i told s old new)
+      → (OfNoRow s old new map i u here told leads → ⊥) → s.world.row i ≡ Rests
+      → (roots : ℕ) (things : List Thing) (sets : Sets) → FollowsSets old.batch_size roots things sets known s.world → (slot : ℕ)
+      → (let effects = effects_of (Call i map) known new.memory.changed in
+      (request : Request) × FollowsInCall old.batch_size roots things (sets_on old.batch_size things slot effects sets) (known_after (Call i map) new.memory.changed known) i request
+      (flat_map (handing things slot) effects) (leads map u here).4.w2)
+
+  -- and goes on so with each step.
+  abbrev pub RowsWithinGoOn : Type 0
+  RowsWithinGoOn =
+      (name : ℕ → List ℕ) (m : Moment K V) (known : Known) (s : Scene K V) (old new : Executor K V S) → IsAt same hash old s → ShowsWhole same name m known s
+      → (map i : ℕ) (u : UnderWay K V K) (here : s.calls map i ≡ Some u) (told : Progress (Node K V)) (leads : StepLeads same hash i told s old new)
+      → (OfNoRow s old new map i u here told leads → ⊥) → s.world.row i ≢ Rests
+      → (roots : ℕ) (things : List Thing) (sets : Sets) (request : Request) (handed : List Change) → FollowsInCall old.batch_size roots things sets known i request handed s.world → (slot : ℕ)
+      → (let effects = effects_of (Call i map) known new.memory.changed in
+      FollowsInCall old.batch_size roots things (sets_on old.batch_size things slot effects sets) (known_after (Call i map) new.memory.changed known) i request
+      (handed ++ flat_map (handing things slot) effects) (leads map u here).4.w2)

@@ -1,0 +1,94 @@
+-- Rows within calls that defer a pair behind a table: such a row tells just that, once.
+use Rattle.std.specs.Prelude.{◌≡◌, ◌≢◌, ◌⊎◌, ℕ, Bool, true, Some, List, [], ◌∷◌, ◌++◌, flat_map}
+use Rattle.seize_words.specs.declared.at.At.{At}
+use Rattle.seize_words.specs.declared.at.At.TheVariants.{Word}
+use Rattle.seize_words.specs.Word.{link_to}
+use Rattle.seize.specs.Sequence.{changes}
+use Rattle.seize.specs.WaitingSets.{Change, Defers}
+use Rattle.seize.specs.World.{World, Row, Rests, Defers as DefersRow, Use, Request, Defer'}
+use Rattle.seize.specs.declared.rows.defer.Deferring.{Deferring}
+use Rattle.seize.specs.declared.rows.defer.Deferring.TheVariants as deferring
+use Rattle.papaya_raw.specs.declared.machines.progress.Progress.{Progress}
+use Rattle.papaya_tables.specs.declared.node.Node.{Node}
+use Rattle.papaya_tables.specs.declared.table_words.TheConstants.{DEFERRED}
+use Rattle.papaya_callers.specs.Together.{UnderWay}
+use Rattle.papaya_effects.specs.Effects.{effects_of, known_after}
+use Rattle.papaya_effects.specs.Known.{Known}
+use Rattle.papaya_effects.specs.declared.acting.Acting.TheVariants.{Call}
+use Rattle.papaya_effects.specs.declared.role.Role.TheVariants as role
+use Rattle.papaya_executor.specs.IsAt.{Scene, IsAt}
+use Rattle.papaya_executor.specs.Stepping.{StepLeads}
+use Rattle.papaya_executor.specs.declared.executor.Executor.{Executor}
+use Rattle.papaya_moments.specs.Whole.{ShowsWhole}
+use Rattle.papaya_schedules.specs.Lists.{is_in}
+use Rattle.papaya_schedules.specs.Model.{handing}
+use Rattle.papaya_schedules.specs.Moment.{Moment}
+use Rattle.papaya_schedules.specs.Things.{same_thing}
+use Rattle.papaya_schedules.specs.declared.effect.Table.{Table}
+use Rattle.papaya_schedules.specs.declared.effect.Thing.{Thing}
+use Rattle.papaya_schedules.specs.declared.effect.Thing.TheVariants.{APair, ATable}
+use Rattle.papaya_models.specs.Alike.{ChangesAlike}
+use Rattle.papaya_models.specs.Calls.{OfNoRow}
+use Rattle.papaya_models.specs.Numbers.{HasNumber}
+
+-- the block is not on the list still
+abbrev pub IsDue : Deferring → Type 0
+IsDue deferring.Over = ⊥
+IsDue _ = Unit {0}
+
+-- it is
+abbrev pub IsDone : Deferring → Type 0
+IsDone deferring.Over = Unit {0}
+IsDone _ = ⊥
+
+-- the row is to put this block on the list that begins with this word
+abbrev pub IsToDefer : ℕ → At → Row → Type 0
+IsToDefer b at (DefersRow s c) = (c.block ≡ link_to b) × (c.table_word ≡ at) × IsDue c.stands
+IsToDefer b at _ = ⊥
+
+abbrev pub HasDeferred : Row → Type 0
+HasDeferred Rests = Unit {0}
+HasDeferred (DefersRow s c) = IsDone c.stands
+HasDeferred _ = ⊥
+
+-- the first block is noted as a pair, and the other one as a table, which came into a map
+pub record AreNoted (things : List Thing) (known : Known) (b t : ℕ) : Type 0 where
+  pub n : ℕ
+  pub len : ℕ
+  pub table : Table
+  pub pair_is : known.roles b ≡ role.Pair n
+  pub table_is : known.roles t ≡ role.Table table len
+  pub pair_came : is_in same_thing (APair n) things ≡ true
+  pub table_came : is_in same_thing (ATable table) things ≡ true
+
+module _ {K V : Type 0} (things : List Thing) (known : Known) where
+  -- a row of caller i that defers this block behind that one: so far it has told nothing; or it has told just that
+  abbrev pub HasToldIt : (i b t : ℕ) → List Change → World (Node K V) → Type 0
+  HasToldIt i b t handed w =
+      (IsToDefer b (Word t DEFERRED) (w.row i) × (handed ≡ [])) ⊎ (HasDeferred (w.row i) × ChangesAlike (HasNumber known things) (Defers b t ∷ []) handed)
+
+-- The promise: once it has ended, it was told as what it is.
+abbrev pub DefersAreTold : Type 0 → Type 0 → Type 0
+DefersAreTold K V =
+    (things : List Thing) (known : Known) (i s b t : ℕ) (handed : List Change) (w : World (Node K V)) → HasToldIt things known i b t handed w → w.row i ≡ Rests
+    → (before after : ℕ → Use) → ChangesAlike (HasNumber known things) (changes (Defer' s b t) before after) handed
+
+module _ (K V S : Type 0) (same : K → K → Bool) (hash : K → ℕ) where
+  -- The promises: where a call begins a row, what it tells is so, if it defers a block that is noted as a pair behind one that is noted as a table,
+  abbrev pub DeferringBegins : Type 0
+  DeferringBegins =
+      (name : ℕ → List ℕ) (m : Moment K V) (known : Known) (s : Scene K V) (old new : Executor K V S) → IsAt same hash old s → ShowsWhole same name m known s
+      → (map i : ℕ) (u : UnderWay K V K) (here : s.calls map i ≡ Some u) (told : Progress (Node K V)) (leads : StepLeads same hash i told s old new)
+      → (OfNoRow K V S same hash s old new map i u here told leads → ⊥) → s.world.row i ≡ Rests
+      → (request : Request) × ((things : List Thing) (slot under b t : ℕ) → request ≡ Defer' slot b t → AreNoted things known b t
+      → HasToldIt things (known_after (Call i map) new.memory.changed known) i b t (flat_map (handing things under) (effects_of (Call i map) known new.memory.changed)) (leads map u here).4.w2)
+
+  -- and so it is after each step.
+  abbrev pub DeferringGoesOn : Type 0
+  DeferringGoesOn =
+      (name : ℕ → List ℕ) (m : Moment K V) (known : Known) (s : Scene K V) (old new : Executor K V S) → IsAt same hash old s → ShowsWhole same name m known s
+      → (map i : ℕ) (u : UnderWay K V K) (here : s.calls map i ≡ Some u) (told : Progress (Node K V)) (leads : StepLeads same hash i told s old new)
+      → (OfNoRow K V S same hash s old new map i u here told leads → ⊥) → s.world.row i ≢ Rests
+      → (things : List Thing) (under b t : ℕ) (handed : List Change) → AreNoted things known b t → HasToldIt things known i b t handed s.world
+      → HasToldIt things (known_after (Call i map) new.memory.changed known) i b t (handed ++ flat_map (handing things under) (effects_of (Call i map) known new.memory.changed))
+      (leads map u here).4.w2

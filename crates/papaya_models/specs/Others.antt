@@ -1,0 +1,50 @@
+-- Makings and ends of maps, where calls come one after another.
+use Rattle.std.specs.Prelude.{◌≡◌, ℕ, Bool, List, [], ◌∷◌, flat_map, Option, Some}
+use Rattle.seize.specs.WaitingSets.{Sets}
+use Rattle.seize.specs.declared.progress.Progress.{Progress}
+use Rattle.papaya_tables.specs.declared.setting.Setting.{Setting}
+use Rattle.papaya_schedules.specs.After.{moment}
+use Rattle.papaya_schedules.specs.Entry.{Entry}
+use Rattle.papaya_schedules.specs.Model.{IsByModel, thing_back, handing, things_in, changes_of, left_last}
+use Rattle.papaya_schedules.specs.Moment.{Moment}
+use Rattle.papaya_schedules.specs.Terms.{Terms}
+use Rattle.papaya_schedules.specs.declared.effect.Effect.{Effect}
+use Rattle.papaya_schedules.specs.declared.effect.Effect.TheVariants.{Retired, Deferred}
+use Rattle.papaya_schedules.specs.declared.effect.Thing.{Thing}
+use Rattle.papaya_effects.specs.Effects.{effects_of, known_after}
+use Rattle.papaya_effects.specs.Known.{Known}
+use Rattle.papaya_effects.specs.declared.acting.Acting.TheVariants.{Making}
+use Rattle.papaya_executor.specs.IsAt.{Scene, IsAt}
+use Rattle.papaya_executor.specs.Making.{MakingLeads}
+use Rattle.papaya_executor.specs.declared.executor.Executor.{Executor}
+use Rattle.papaya_finishes.specs.Makings.{Beginning}
+use Rattle.papaya_moments.specs.Makings.{IsNewFor}
+use Rattle.papaya_moments.specs.Whole.{ShowsWhole}
+use Rattle.papaya_models.specs.Calls.{sets_on}
+use Rattle.papaya_models.specs.Follows.{FollowsSets}
+
+-- it hands nothing over
+abbrev pub HandsNone : Effect → Type 0
+HandsNone (Retired x) = ⊥
+HandsNone (Deferred n t) = ⊥
+HandsNone _ = Unit {0}
+
+abbrev pub HandNone : List Effect → Type 0
+HandNone [] = Unit {0}
+HandNone (e ∷ effects) = HandsNone e × HandNone effects
+
+-- The promises: an event that hands nothing over and reclaims nothing is by the model, as the making of a map, or its end,
+abbrev pub MapsAreByModel : Type 0 → Type 0 → Type 0
+MapsAreByModel K V =
+    (terms : Terms) (log : List (Entry K V)) (e : Entry K V) (slot : ℕ) → changes_of log e ≡ flat_map (handing (things_in (e ∷ log)) slot) e.effects
+    → left_last e.event e.outcome (moment log) ≡ [] → HandNone e.effects → flat_map thing_back e.effects ≡ [] → IsByModel terms log e
+
+-- and after each step of a making the sets are alike still.
+module _ (K V S : Type 0) (same : K → K → Bool) (hash : K → ℕ) where
+  abbrev pub MakingsFollow : Type 0
+  MakingsFollow =
+      (name : ℕ → List ℕ) (m : Moment K V) (known : Known) (s : Scene K V) (old new : Executor K V S) → IsAt same hash old s → ShowsWhole same name m known s
+      → (i : ℕ) (told : Progress Setting) (leads : MakingLeads same hash i told s old new) (b : Beginning K) (here : s.makers i ≡ Some b) → Option ℕ → IsNewFor b.map told m
+      → (roots : ℕ) (things : List Thing) (sets : Sets) → FollowsSets old.batch_size roots things sets known s.world → (slot : ℕ)
+      → (let effects = effects_of (Making b.map) known new.memory.changed in
+      FollowsSets old.batch_size roots things (sets_on old.batch_size things slot effects sets) (known_after (Making b.map) new.memory.changed known) (leads b here).2.step.w2)

@@ -1,0 +1,89 @@
+-- Rows within calls that retire a block: such a row tells that the thing in it is retired, just once.
+use Rattle.std.specs.Prelude.{◌≡◌, ◌≢◌, ◌⊎◌, ℕ, Bool, Some, List, [], ◌∷◌, ◌++◌, flat_map}
+use Rattle.seize_words.specs.declared.at.At.TheVariants.{Entry}
+use Rattle.seize_words.specs.Mem.{word_at}
+use Rattle.seize_words.specs.Word.{link_to}
+use Rattle.seize.specs.Sequence.{changes}
+use Rattle.seize.specs.WaitingSets.{Change, Retires}
+use Rattle.seize.specs.World.{World, Row, Rests, Settles, Use, Request, Retire}
+use Rattle.seize.specs.declared.rows.settle.Settle.{Settle}
+use Rattle.seize.specs.declared.rows.settle.Settling.{Settling}
+use Rattle.seize.specs.declared.rows.settle.Settling.TheVariants as at
+use Rattle.seize.specs.declared.states.TheConstants.{NEXT, FIRST}
+use Rattle.papaya_raw.specs.declared.machines.progress.Progress.{Progress}
+use Rattle.papaya_tables.specs.declared.node.Node.{Node}
+use Rattle.papaya_callers.specs.Together.{UnderWay}
+use Rattle.papaya_effects.specs.Effects.{effects_of, known_after}
+use Rattle.papaya_effects.specs.Known.{Known}
+use Rattle.papaya_effects.specs.declared.acting.Acting.TheVariants.{Call}
+use Rattle.papaya_executor.specs.IsAt.{Scene, IsAt}
+use Rattle.papaya_executor.specs.Stepping.{StepLeads}
+use Rattle.papaya_executor.specs.declared.executor.Executor.{Executor}
+use Rattle.papaya_moments.specs.Whole.{ShowsWhole}
+use Rattle.papaya_schedules.specs.Model.{handing}
+use Rattle.papaya_schedules.specs.Moment.{Moment}
+use Rattle.papaya_schedules.specs.declared.effect.Thing.{Thing}
+use Rattle.papaya_models.specs.Alike.{ChangesAlike}
+use Rattle.papaya_models.specs.Calls.{OfNoRow}
+use Rattle.papaya_models.specs.Numbers.{HasNumber}
+
+-- it is to retire this block, and has not written into it which batch it is of
+abbrev pub IsToRetireAt : ℕ → Settle → Settling → Type 0
+IsToRetireAt b c at.Sees = c.pending ≡ link_to b
+IsToRetireAt b c at.Holds = c.pending ≡ link_to b
+IsToRetireAt b c at.Pops = c.pending ≡ link_to b
+IsToRetireAt b c (at.Firsts block) = (block ≡ link_to b) × (c.pending ≡ 0)
+IsToRetireAt b c (at.Batches block) = (block ≡ link_to b) × (c.pending ≡ 0)
+IsToRetireAt b c _ = ⊥
+
+abbrev pub IsToRetire : ℕ → Row → Type 0
+IsToRetire b (Settles c) = IsToRetireAt b c c.stands
+IsToRetire b _ = ⊥
+
+-- it stands where it has
+abbrev pub IsPast : Settling → Type 0
+IsPast at.Sees = ⊥
+IsPast at.Holds = ⊥
+IsPast at.Pops = ⊥
+IsPast (at.Firsts block) = ⊥
+IsPast (at.Batches block) = ⊥
+IsPast _ = Unit {0}
+
+-- it has retired what it was to retire
+abbrev pub HasRetired : Row → Type 0
+HasRetired Rests = Unit {0}
+HasRetired (Settles c) = (c.pending ≡ 0) × IsPast c.stands
+HasRetired _ = ⊥
+
+module _ {K V : Type 0} (things : List Thing) (known : Known) where
+  -- a row of caller i that retires this block under this slot: so far it has told nothing, and the block is in no list and no batch; or it has told just that
+  abbrev pub HasToldSo : (i s b : ℕ) → List Change → World (Node K V) → Type 0
+  HasToldSo i s b handed w =
+      (IsToRetire b (w.row i) × (handed ≡ []) × (word_at w.memory (Entry b FIRST) ≡ Some 0) × (word_at w.memory (Entry b NEXT) ≡ Some 0))
+      ⊎ (HasRetired (w.row i) × ChangesAlike (HasNumber known things) (Retires s b ∷ []) handed)
+
+-- The promise: once it has ended, it was told as what it is.
+abbrev pub RetiresAreTold : Type 0 → Type 0 → Type 0
+RetiresAreTold K V =
+    (things : List Thing) (known : Known) (i s b : ℕ) (handed : List Change) (w : World (Node K V)) → HasToldSo things known i s b handed w → w.row i ≡ Rests
+    → (before after : ℕ → Use) → ChangesAlike (HasNumber known things) (changes (Retire s b) before after) handed
+
+module _ (K V S : Type 0) (same : K → K → Bool) (hash : K → ℕ) where
+  -- The promises: where a call begins a row, what it tells is so, if it retires a block that is noted as a thing, under this slot,
+  abbrev pub RetiringBegins : Type 0
+  RetiringBegins =
+      (name : ℕ → List ℕ) (m : Moment K V) (known : Known) (s : Scene K V) (old new : Executor K V S) → IsAt same hash old s → ShowsWhole same name m known s
+      → (map i : ℕ) (u : UnderWay K V K) (here : s.calls map i ≡ Some u) (told : Progress (Node K V)) (leads : StepLeads same hash i told s old new)
+      → (OfNoRow K V S same hash s old new map i u here told leads → ⊥) → s.world.row i ≡ Rests
+      → (request : Request) × ((things : List Thing) (slot b k : ℕ) → request ≡ Retire slot b → HasNumber known things b k
+      → HasToldSo things (known_after (Call i map) new.memory.changed known) i slot b (flat_map (handing things slot) (effects_of (Call i map) known new.memory.changed)) (leads map u here).4.w2)
+
+  -- and so it is after each step.
+  abbrev pub RetiringGoesOn : Type 0
+  RetiringGoesOn =
+      (name : ℕ → List ℕ) (m : Moment K V) (known : Known) (s : Scene K V) (old new : Executor K V S) → IsAt same hash old s → ShowsWhole same name m known s
+      → (map i : ℕ) (u : UnderWay K V K) (here : s.calls map i ≡ Some u) (told : Progress (Node K V)) (leads : StepLeads same hash i told s old new)
+      → (OfNoRow K V S same hash s old new map i u here told leads → ⊥) → s.world.row i ≢ Rests
+      → (things : List Thing) (slot b k : ℕ) (handed : List Change) → HasNumber known things b k → HasToldSo things known i slot b handed s.world
+      → HasToldSo things (known_after (Call i map) new.memory.changed known) i slot b (handed ++ flat_map (handing things slot) (effects_of (Call i map) known new.memory.changed))
+      (leads map u here).4.w2

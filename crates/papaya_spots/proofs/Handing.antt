@@ -1,0 +1,93 @@
+-- What hands nothing over: a step of a call that is none of a row.
+use Rattle.std.specs.Prelude.{◌≡◌, ℕ, Bool, true, List, [], ◌∷◌, Option}
+use Rattle.std.proofs.Common.{sym, subst, inl, inr}
+use Rattle.seize_words.specs.Mem.{Mem}
+use Rattle.seize.specs.World.{World}
+use Rattle.papaya_tables.specs.declared.node.Node.{Node}
+use Rattle.papaya_schedules.specs.Moment.{Moment}
+use Rattle.papaya_schedules.specs.declared.effect.Effect.{Effect}
+use Rattle.papaya_schedules.specs.declared.effect.Effect.TheVariants.{Retired, Deferred, Taken}
+use Rattle.papaya_teller.specs.declared.changed.Changed.{Changed}
+use Rattle.papaya_rule.specs.Chart.{Chart}
+use Rattle.papaya_rule.specs.InWorld.{IsMapIn, Moved, Went}
+use Rattle.papaya_rule.specs.Moves.{Move, Links, Stores, Replaces, Removes, Marks, MarksBlocking, Skips, Unmarks, Puts, Covers, PutsLate, Claims, Reclaims, Counts, GivesUp, Aborts, Promotes, Announces}
+use Rattle.papaya_rule.specs.Words.{Blocks}
+use Rattle.papaya_points.specs.Steps.{AreLawful}
+use Rattle.papaya_callers.specs.Sights.{Sight, seen_by, IsGrown, IsSight}
+use Rattle.papaya_callers.specs.Together.{in_slot}
+use Rattle.papaya_finishes.specs.Maps.{Standing}
+use Rattle.papaya_effects.specs.Effects.{effects_of, known_after}
+use Rattle.papaya_effects.specs.Known.{Known}
+use Rattle.papaya_effects.specs.declared.acting.Acting.TheVariants.{Call}
+use Rattle.papaya_follows.specs.Blocks.{ShowsBlocks}
+use Rattle.papaya_follows.specs.Maps.{ShowsMap}
+use Rattle.papaya_follows.proofs.Alike.{is_calm, AllCalm}
+use Rattle.papaya_follows.proofs.Operations.{LeavesBy}
+use Rattle.papaya_spots.proofs.Calm.{IsCalm}
+use Rattle.papaya_spots.proofs.Done.{DidBy, DidMoved}
+
+-- the effect hands nothing over, and ends no table
+abbrev pub KeepsAll : Effect → Type 0
+KeepsAll (Retired x) = ⊥
+KeepsAll (Deferred n t) = ⊥
+KeepsAll (Taken t) = ⊥
+KeepsAll _ = Unit {0}
+
+abbrev pub AllKeep : List Effect → Type 0
+AllKeep [] = Unit {0}
+AllKeep (e ∷ effects) = KeepsAll e × AllKeep effects
+
+calm_keeps : (e : Effect) → is_calm e ≡ true → KeepsAll e
+calm_keeps (Retired x) is = absurd (cc is)
+calm_keeps (Deferred n t) is = absurd (cc is)
+calm_keeps (Taken t) is = absurd (cc is)
+calm_keeps _ is = tt
+
+pub calm_keep : (effects : List Effect) → AllCalm effects → AllKeep effects
+calm_keep [] all = tt
+calm_keep (e ∷ effects) all = (calm_keeps e all.0, calm_keep effects all.1)
+
+module _ {K V : Type 0} (same : K → K → Bool) (slot caller map : ℕ) (name : Option (List ℕ)) (number : ℕ → ℕ) (s : Standing K) (lawful : AreLawful same s.hash)
+    (w : World (Node K V)) (sight : Sight) (is_sight : IsSight s.chart s.blocks sight) (is_map : IsMapIn same s.hash (in_slot s.setting slot) w s.chart (seen_by s.blocks sight))
+    (m2 : Mem (Node K V)) (Told : World (Node K V) → Chart K → Blocks → Type 0)
+    (went : Went same s.hash (in_slot s.setting slot) caller w s.chart (seen_by s.blocks sight) m2 Told) (blocks2 : Blocks) (grown : IsGrown s.chart s.blocks went.blocks2 blocks2) (sights2 : ℕ → Sight)
+    (m : Moment K V) (known : Known) (shown : ShowsMap map number s m known) (shown_blocks : ShowsBlocks m known w) (told : Changed) (left : LeavesBy w.memory m2 told) where
+  abbrev effects : List Effect
+  effects = effects_of (Call caller map) known told
+
+  abbrev By : Move K → Type 0
+  By = DidBy same slot caller map name number s lawful w sight is_sight is_map m2 Told went blocks2 grown sights2 m known shown shown_blocks told left
+
+  as_these : (these : List Effect) → effects ≡ these → AllKeep these → AllKeep effects
+  as_these these is all = subst AllKeep (sym is) all
+
+  calm : IsCalm known effects (known_after (Call caller map) told known) → AllKeep effects
+  calm is = calm_keep effects is.calm
+
+  by_move : (move : Move K) → By move → AllKeep effects
+  by_move (Links len limit) (b, own, did) = as_these _ did.0 (tt, tt)
+  by_move (Stores t k j) (j2, b, own, b_is, did) = as_these _ did.0 (tt, tt)
+  by_move (Replaces t i k) (n, borrowed, held, (j, b, own, b_is, did)) = as_these _ did.0 (tt, (tt, tt))
+  by_move (Removes t i) (n, borrowed, held, did) = as_these _ did.0 (tt, tt)
+  by_move (Puts i place t k j) (n, borrowed, held, l, seen, did) = as_these _ did.0 (tt, tt)
+  by_move (PutsLate t i n) (l, seen, tables, did) = as_these _ did.0 (tt, tt)
+  by_move (Promotes t) did = as_these _ did.0 (tt, tt)
+  by_move (Marks i place) did = calm did
+  by_move (MarksBlocking place) did = calm did
+  by_move (Skips i t place) did = calm did
+  by_move (Unmarks i place) did = calm did
+  by_move (Covers i place) did = calm did
+  by_move (Claims i t chunk) did = calm did
+  by_move (Reclaims t claim) did = calm did
+  by_move (Counts i t many) did = calm did
+  by_move (GivesUp i t) did = calm did
+  by_move (Aborts t) did = calm did
+  by_move (Announces t) did = calm did
+
+  pub moved_keeps : DidMoved same slot caller map name number s lawful w sight is_sight is_map m2 Told went blocks2 grown sights2 m known shown shown_blocks told left went.moved → AllKeep effects
+  moved_keeps did = by went.moved did
+    where
+      by : (moved : Moved same s.hash s.setting.mode caller s.chart went.c2)
+          → DidMoved same slot caller map name number s lawful w sight is_sight is_map m2 Told went blocks2 grown sights2 m known shown shown_blocks told left moved → AllKeep effects
+      by (inl still) is_calm = calm is_calm
+      by (inr made) did = by_move made.0 did
