@@ -130,13 +130,13 @@ module _ (K V : Type 0) (p : Sweep) where
   from hash (at.Refused fault) = refl
 
 -- a machine for a sweep, with this purpose
-abbrev HasPurpose : {K V : Type 0} → Purpose → Machine K V K × Progress (Node K V) → Type 0
+abbrev pub HasPurpose : {K V : Type 0} → Purpose → Machine K V K × Progress (Node K V) → Type 0
 HasPurpose purpose (kinds.Sweep q, said) = q.purpose ≡ purpose
 HasPurpose purpose (_, said) = ⊥
 
 module _ {K V S : Type 0} (same : K → K → Bool) (hash : K → ℕ) (s : Scene K V) (old new : Executor K V S) (map i : ℕ) (u : UnderWay K V K) (here : s.calls map i ≡ Some u)
     (said : Progress (Node K V)) (leads : StepLeads same hash i said s old new) where
-  purpose_kept : (o : CallOverAll) (machine : Machine K V K) → StepsFrom same hash (kinds.Sweep o.sweep) old new machine said → HasPurpose o.sweep.purpose (machine, said)
+  pub purpose_kept : (o : CallOverAll) (machine : Machine K V K) → StepsFrom same hash (kinds.Sweep o.sweep) old new machine said → HasPurpose o.sweep.purpose (machine, said)
   purpose_kept o machine steps =
       always_told (HasPurpose o.sweep.purpose) old.memory.memory new.memory.memory Nothing new.memory.changed (plan_as swept (plan_at hash o.sweep o.sweep.stands)) (machine, said)
       (always_turned (Keeps K V o.sweep) (HasPurpose o.sweep.purpose) swept (λ end so. so) (plan_at hash o.sweep o.sweep.stands) (from K V o.sweep hash o.sweep.stands)) steps

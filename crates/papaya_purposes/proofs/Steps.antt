@@ -1,0 +1,221 @@
+-- A step of a call, whoever's: what calls on whole maps have come to then.
+use Rattle.std.specs.Prelude.{◌≡◌, ◌≢◌, ℕ, ◌<◌, ◌≤◌, Bool, List, [], ◌∷◌, length, Option, Some, ◌⊎◌}
+use Rattle.std.specs.List.{AllByRecursion}
+use Rattle.std.proofs.Common.{refl, ap, sym, subst, ◌∙◌, arith, inl, inr}
+use Rattle.std.proofs.lemmas.Bool.{cases_eq}
+use Rattle.papaya_tables.specs.declared.node.Node.{Node}
+use Rattle.papaya_sweeps.specs.declared.sweep.Purpose.TheVariants.{Walks}
+use Rattle.papaya_raw.specs.declared.machines.machine.Machine.{Machine}
+use Rattle.papaya_raw.specs.declared.machines.progress.Progress.{Progress}
+use Rattle.papaya_schedules.specs.declared.call.Call.{Call}
+use Rattle.papaya_schedules.specs.After.{moment, moments_from}
+use Rattle.papaya_schedules.specs.Effects.{with_effects}
+use Rattle.papaya_schedules.specs.Entry.{Entry}
+use Rattle.papaya_schedules.specs.Moment.{UnderWay as CallThere, Moment}
+use Rattle.papaya_schedules.specs.Views.{call_of, is_in_map}
+use Rattle.papaya_rule.specs.Chart.{Chart}
+use Rattle.papaya_callers.specs.OverAll.{CallOverAll, come_to, gone_on}
+use Rattle.papaya_callers.specs.Together.{UnderWay, OnKey, ForRoom, Counting, OverAll}
+use Rattle.papaya_finishes.specs.Machines.{machine_of}
+use Rattle.papaya_finishes.specs.Maps.{Standing}
+use Rattle.papaya_effects.specs.Effects.{effects_of}
+use Rattle.papaya_effects.specs.Known.{Known}
+use Rattle.papaya_effects.specs.declared.acting.Acting.TheVariants as acts
+use Rattle.papaya_executor.specs.IsAt.{Scene, IsAt, slot_of}
+use Rattle.papaya_executor.specs.Stepping.{StepsFrom, StepLeads}
+use Rattle.papaya_executor.specs.declared.executor.Executor.{Executor}
+use Rattle.papaya_follows.specs.Shows.{Shows}
+use Rattle.papaya_follows.proofs.Called.{key_goes_on, room_goes_on, sweep_goes_on, counting_goes_on}
+use Rattle.papaya_follows.proofs.Steps.{WentTo, DidSo, LeadsThere, one_of}
+use Rattle.papaya_hands.proofs.Asking.{which}
+use Rattle.papaya_moments.specs.Whole.{ShowsWhole}
+use Rattle.papaya_moments.proofs.OnSlots.{stood_same}
+use Rattle.papaya_histories.specs.Histories.{since}
+use Rattle.papaya_histories.proofs.Later.{IsLater}
+use Rattle.papaya_histories.proofs.Steps.{to, led_on, v, after, s2, maps_later}
+use Rattle.papaya_histories.proofs.Walks.{HasPurpose, purpose_kept}
+use Rattle.papaya_purposes.specs.Kept.{ShowsNone, PairsChangeFirst}
+use Rattle.papaya_purposes.specs.Purposes.{IsBefore, IsFor, PairsWithin, HasAdded, HasSwept, HasCome, ShowsPurposes}
+use Rattle.papaya_purposes.specs.Shards.{ReadsShards}
+use Rattle.papaya_purposes.proofs.Alike.{alike}
+use Rattle.papaya_purposes.proofs.Counts.{counts_on}
+use Rattle.papaya_purposes.proofs.Done.{done_is, Comes, next_tells, next_below, tells_kept}
+use Rattle.papaya_purposes.proofs.For.{key_for, room_for, counting_for, sweep_for}
+use Rattle.papaya_purposes.proofs.Lists.{all_on}
+use Rattle.papaya_purposes.proofs.Onward.{before_or, walk_stands, GoesOver, walk_onward}
+use Rattle.papaya_purposes.proofs.Over.{within_over, come_over}
+use Rattle.papaya_purposes.proofs.Present.{now_stored, now_there, absent}
+use Rattle.papaya_purposes.proofs.Rooms.{IsForRoom, room_kept}
+use Rattle.papaya_purposes.proofs.Shown.{IsStill, effects_still}
+
+module _ {K V S : Type 0} (same : K → K → Bool) (hash : K → ℕ) (name : ℕ → List ℕ) (log : List (Entry K V)) (m : Moment K V) (known : Known) (s : Scene K V) (old new : Executor K V S)
+    (at : IsAt same hash old s) (whole : ShowsWhole same name m known s) (purposes : ShowsPurposes same name log m known s) (of i : ℕ) (u : UnderWay K V K) (here : s.calls of i ≡ Some u)
+    (said : Progress (Node K V)) (leads : StepLeads same hash i said s old new) where
+  abbrev shown : Shows same name m known s
+  shown = purposes.shown
+
+  abbrev pub went : WentTo same hash name m known s old new at shown of i u here said leads
+  went = to same hash name m known s old new at whole shown of i u here said leads
+
+  abbrev pub on : LeadsThere same hash name m known s old new at shown of i u here said leads
+  on = led_on same hash name m known s old new at whole shown of i u here said leads
+
+  abbrev pub v2 : Moment K V
+  v2 = v same hash name m known s old new at whole shown of i u here said leads
+
+  abbrev pub known2 : Known
+  known2 = after same hash name m known s old new at whole shown of i u here said leads
+
+  abbrev pub scene2 : Scene K V
+  scene2 = s2 same hash name m known s old new at whole shown of i u here said leads
+
+  abbrev pub Did : UnderWay K V K → Type 0
+  Did x = DidSo same hash name m known s old new at shown of i u here said leads x
+
+  -- a call that is there then is the one that was there
+  pub same_call : (j : ℕ) (c d : CallThere K V) → call_of (name j) m ≡ Some c → call_of (name j) v2 ≡ Some d → IsStill c d
+  same_call j c d c_is d_is = effects_still (name i) of (name j) (effects_of (acts.Call i of) known new.memory.changed) m c d c_is d_is
+
+  pub before_then : (n : ℕ) (st : Standing K) → scene2.maps n ≡ Some st → (before : Standing K) × (s.maps n ≡ Some before) × IsLater before.chart st.chart
+  before_then n st there = maps_later same hash name m known s old new at whole shown of i u here said leads n st there
+
+  module _ (changes : PairsChangeFirst log m of v2) where
+    elsewhere : (n : ℕ) → n ≢ of → (st : Standing K) → scene2.maps n ≡ Some st → (q : ℕ) → is_in_map n (v2.place q) ≡ is_in_map n (m.place q)
+    elsewhere n ne st there q =
+        let it = stood_same (s.maps n) (went.4.maps2 n) (went.4.others n ne) st there in
+        alike n m v2 known known2 it.0 st (shown.number n) (on.shows.number n) (shown.maps n it.0 it.1).pairs (on.shows.maps n st there).pairs
+        (ap (λ (c : Chart K). c.stored) it.2) (ap (λ (c : Chart K). c.current) it.2) (on.numbers n it.0 it.1) q
+
+    changes_then : (n : ℕ) (st : Standing K) → scene2.maps n ≡ Some st → PairsChangeFirst log m n v2
+    changes_then n st there q = elim (cases_eq n of) as (λ _. (is_in_map n (v2.place q) ≡ is_in_map n (m.place q)) ⊎ (is_in_map n (m.place q) ≡ is_in_map n ((moment log).place q))) [
+      | inl e ↦ subst (λ (z : ℕ). (is_in_map z (v2.place q) ≡ is_in_map z (m.place q)) ⊎ (is_in_map z (m.place q) ≡ is_in_map z ((moment log).place q))) (sym e) (changes q)
+      | inr ne ↦ inl (elsewhere n ne st there q)
+    ]
+
+    -- what lasts of a call lasts so
+    module _ (n j : ℕ) (y : UnderWay K V K) (y_is : s.calls n j ≡ Some y) (st : Standing K) (there : scene2.maps n ≡ Some st) (c d : CallThere K V) (c_is : call_of (name j) m ≡ Some c)
+        (d_is : call_of (name j) v2 ≡ Some d) where
+      abbrev pub before_st : Standing K
+      before_st = (before_then n st there).0
+
+      pub had_come : HasCome n before_st (shown.number n) log m y c
+      had_come = purposes.come n j y y_is before_st (before_then n st there).1 c c_is
+
+      pub within_then : (began : ℕ) → PairsWithin n before_st (shown.number n) (since log m c) began → PairsWithin n st (on.shows.number n) (since log v2 d) began
+      within_then =
+          within_over n before_st st (shown.number n) (on.shows.number n) (before_then n st there).2 (on.numbers n before_st (before_then n st there).1) log m v2 c d
+          (same_call j c d c_is d_is) (purposes.begun n j y y_is c c_is) (changes_then n st there) (now_stored same hash name v2 known2 scene2 new went.5 on.shows n st there)
+          (now_there same hash name v2 known2 scene2 new went.5 on.shows n st there)
+          (absent same hash name m known s old at shown n before_st (before_then n st there).1 (on.shows.number n) st.chart.stored (on.shows.maps n st there).pairs.rising
+          (on.numbers n before_st (before_then n st there).1))
+
+      -- of a call that is another one's
+      pub kept_come : HasCome n st (on.shows.number n) log v2 y d
+      kept_come =
+          come_over n before_st st (shown.number n) (on.shows.number n) (before_then n st there).2 (on.numbers n before_st (before_then n st there).1) log m v2 c d
+          (same_call j c d c_is d_is) (purposes.begun n j y y_is c c_is) (changes_then n st there) (now_stored same hash name v2 known2 scene2 new went.5 on.shows n st there)
+          (now_there same hash name v2 known2 scene2 new went.5 on.shows n st there)
+          (absent same hash name m known s old at shown n before_st (before_then n st there).1 (on.shows.number n) st.chart.stored (on.shows.maps n st there).pairs.rising
+          (on.numbers n before_st (before_then n st there).1)) y had_come
+
+    -- a sweep, the caller's own
+    module _ (o : CallOverAll) (o_is : s.calls of i ≡ Some (OverAll o)) (st : Standing K) (there : scene2.maps of ≡ Some st) (c d : CallThere K V) (c_is : call_of (name i) m ≡ Some c)
+        (d_is : call_of (name i) v2 ≡ Some d) where
+      abbrev pub its_before : Standing K
+      its_before = before_st of i (OverAll o) o_is st there c d c_is d_is
+
+      pub had : HasSwept of its_before (shown.number of) (since log m c) o c
+      had = had_come of i (OverAll o) o_is st there c d c_is d_is
+
+      pub own_within : PairsWithin of st (on.shows.number of) (since log v2 d) o.began
+      own_within = within_then of i (OverAll o) o_is st there c d c_is d_is o.began had.within
+
+      pub below_then : (done : List ℕ) → AllByRecursion (λ k. k < its_before.chart.stored) done → AllByRecursion (λ k. k < st.chart.stored) done
+      below_then done below =
+          all_on (λ k. k < its_before.chart.stored) (λ k. k < st.chart.stored) (λ k l. (let g = (before_then of st there).2.stored in omega (arith, l, g))) done below
+
+      -- that has done what it had done, or nothing, where it does not go over a table yet
+      sweep_come : (x : CallOverAll) → x.began ≡ o.began → Comes o x.done (shown.number of) c → (x.sweep.purpose ≡ Walks → IsBefore x.sweep.stands → x.done ≡ [])
+          → HasSwept of st (on.shows.number of) (since log v2 d) x d
+      sweep_come x began comes none =
+          let below = next_below o x.done (shown.number of) c its_before.chart.stored comes had.stored in
+          record {
+            within = subst (PairsWithin of st (on.shows.number of) (since log v2 d)) (sym began) own_within;
+            stored = below_then x.done below;
+            tells = tells_kept (shown.number of) (on.shows.number of) its_before.chart.stored (on.numbers of its_before (before_then of st there).1) c d (same_call i c d c_is d_is) x.done below
+                (next_tells o x.done (shown.number of) c c.call (purposes.is_for of i (OverAll o) o_is c c_is) had.none comes had.tells);
+            none = none;
+          }
+
+      -- a walk that goes over its table does so on
+      none_on : StepsFrom same hash (machine_of (OverAll o)) old new went.1 said → (x : CallOverAll) → went.1 ≡ machine_of (OverAll {K = K} {V = V} {Q = K} x) → Comes o x.done (shown.number of) c
+          → x.sweep.purpose ≡ Walks → IsBefore x.sweep.stands → x.done ≡ []
+      none_on steps x is comes walks before = by (before_or o.sweep.stands) comes
+        where
+          purpose : x.sweep.purpose ≡ o.sweep.purpose
+          purpose = subst (λ (z : Machine K V K). HasPurpose o.sweep.purpose (z, said)) is (purpose_kept same hash s old new of i u here said leads o went.1 steps)
+
+          goes_over : (IsBefore o.sweep.stands → ⊥) → IsBefore x.sweep.stands → ⊥
+          goes_over over =
+              subst (λ (z : Machine K V K). GoesOver (z, said)) is
+              (walk_onward same hash old new o.sweep went.1 said steps (sym purpose ∙ walks)
+              (walk_stands V same went.0.hash went.0.setting slot_of s.world went.0.chart _ i o ((at.together.makings.standing.each of went.0 went.2).stand i (OverAll o) o_is) (sym purpose ∙ walks) over) over)
+
+          by : IsBefore o.sweep.stands ⊎ (IsBefore o.sweep.stands → ⊥) → Comes o x.done (shown.number of) c → x.done ≡ []
+          by (inl b) (inl at_first) = at_first.1
+          by (inl b) (inr kept) = kept ∙ had.none (sym purpose ∙ walks) b
+          by (inr over) so = absurd (goes_over over before)
+
+      pub own_sweep : StepsFrom same hash (machine_of (OverAll o)) old new went.1 said → (x : CallOverAll) → went.1 ≡ machine_of (OverAll {K = K} {V = V} {Q = K} x) → x.began ≡ o.began
+          → Comes o x.done (shown.number of) c → HasSwept of st (on.shows.number of) (since log v2 d) x d
+      own_sweep steps x is began comes = sweep_come x began comes (none_on steps x is comes)
+
+    -- the caller's own
+    pub own_come : ShowsNone said → (y : UnderWay K V K) → s.calls of i ≡ Some y → ReadsShards log m s of y → StepsFrom same hash (machine_of y) old new went.1 said → Did y
+        → (x : UnderWay K V K) → went.4.next ≡ Some x → (st : Standing K) → scene2.maps of ≡ Some st → (c d : CallThere K V) → call_of (name i) m ≡ Some c → call_of (name i) v2 ≡ Some d
+        → HasCome of st (on.shows.number of) log v2 x d
+    own_come none (OnKey z) y_is its steps (p2, end, machine_is, told_is, inl (step, moved)) x e st there c d c_is d_is =
+        subst (λ (y : UnderWay K V K). HasCome of st (on.shows.number of) log v2 y d) (sym (key_goes_on _ end x (sym moved.2 ∙ e))) tt
+    own_come none (OnKey z) y_is its steps (p2, end, machine_is, told_is, inr (row, stayed)) x e st there c d c_is d_is =
+        subst (λ (y : UnderWay K V K). HasCome of st (on.shows.number of) log v2 y d) (sym (key_goes_on _ end x (sym stayed.2 ∙ e))) tt
+    own_come none (ForRoom r) y_is its steps (p2, end, machine_is, told_is, inl (step, moved)) x e st there c d c_is d_is =
+        subst (λ (y : UnderWay K V K). HasCome of st (on.shows.number of) log v2 y d) (sym (room_goes_on _ end x (sym moved.2 ∙ e))) tt
+    own_come none (ForRoom r) y_is its steps (p2, end, machine_is, told_is, inr (row, stayed)) x e st there c d c_is d_is =
+        subst (λ (y : UnderWay K V K). HasCome of st (on.shows.number of) log v2 y d) (sym (room_goes_on _ end x (sym stayed.2 ∙ e))) tt
+    own_come none (Counting sum) y_is its steps (sum2, end, machine_is, told_is, still, stayed) x e st there c d c_is d_is =
+        let before = before_then of st there in
+        subst (λ (y : UnderWay K V K). HasCome of st (on.shows.number of) log v2 y d) (sym (counting_goes_on sum2 end x (sym stayed.2 ∙ e)))
+        (subst (λ (b : ℕ). HasAdded of (moments_from b log) sum2.setting.mask sum2.stands) (sym (same_call i c d c_is d_is).begun)
+        (counts_on same hash log m s old new at of i sum y_is went.0 went.2 c (purposes.begun of i (Counting sum) y_is c c_is) (its tt).0 (its tt).1
+        (purposes.come of i (Counting sum) y_is before.0 before.1 c c_is) went.1 said steps went.4.next went.4.goes_on x e sum2 machine_is))
+    own_come none (OverAll o) y_is its steps (p2, end, machine_is, told_is, inl (step, moved)) x e st there c d c_is d_is =
+        subst (λ (y : UnderWay K V K). HasCome of st (on.shows.number of) log v2 y d) (sym (sweep_goes_on _ end x (sym moved.2 ∙ e)))
+        (own_sweep o y_is st there c d c_is d_is steps (come_to o step.step.entered2 step.step.done2 p2) machine_is refl
+        (by (done_is went.0.hash step.step.went.c2 step.step.went.blocks2 o.done step.step.done2 o.entered step.step.entered2 end (subst ShowsNone told_is none) o.sweep.stands step.step.done)))
+      where
+        by : (IsBefore o.sweep.stands × (step.step.done2 ≡ [])) ⊎ ((step.step.entered2 ≡ o.entered) × (step.step.done2 ≡ o.done)) → Comes o step.step.done2 (shown.number of) c
+        by (inl at_first) = inl at_first
+        by (inr kept) = inr kept.1
+    own_come none (OverAll o) y_is its steps (p2, end, machine_is, told_is, inr (row, stayed)) x e st there c d c_is d_is =
+        subst (λ (y : UnderWay K V K). HasCome of st (on.shows.number of) log v2 y d) (sym (sweep_goes_on _ end x (sym stayed.2 ∙ e)))
+        (own_sweep o y_is st there c d c_is d_is steps (gone_on o p2) machine_is refl (inr refl))
+
+  -- and it is for what it was for
+  pub own_for : (its : Call K V) (y : UnderWay K V K) → IsFor y its → StepsFrom same hash (machine_of y) old new went.1 said → Did y → (x : UnderWay K V K) → went.4.next ≡ Some x → IsFor x its
+  own_for its (OnKey z) is steps (p2, end, machine_is, told_is, inl (step, moved)) x e = subst (λ (y : UnderWay K V K). IsFor y its) (sym (key_goes_on _ end x (sym moved.2 ∙ e))) (key_for its z _ is)
+  own_for its (OnKey z) is steps (p2, end, machine_is, told_is, inr (row, stayed)) x e = subst (λ (y : UnderWay K V K). IsFor y its) (sym (key_goes_on _ end x (sym stayed.2 ∙ e))) (key_for its z _ is)
+  own_for its (ForRoom r) is steps (p2, end, machine_is, told_is, inl (step, moved)) x e =
+      subst (λ (y : UnderWay K V K). IsFor y its) (sym (room_goes_on _ end x (sym moved.2 ∙ e)))
+      (room_for its r (record { began = r.began; reserve = p2 }) (subst (λ (z : Machine K V K). IsForRoom r.reserve.additional (z, said)) machine_is (room_kept same hash old new r.reserve went.1 said steps)) is)
+  own_for its (ForRoom r) is steps (p2, end, machine_is, told_is, inr (row, stayed)) x e =
+      subst (λ (y : UnderWay K V K). IsFor y its) (sym (room_goes_on _ end x (sym stayed.2 ∙ e)))
+      (room_for its r (record { began = r.began; reserve = p2 }) (subst (λ (z : Machine K V K). IsForRoom r.reserve.additional (z, said)) machine_is (room_kept same hash old new r.reserve went.1 said steps)) is)
+  own_for its (Counting sum) is steps (sum2, end, machine_is, told_is, still, stayed) x e =
+      subst (λ (y : UnderWay K V K). IsFor y its) (sym (counting_goes_on sum2 end x (sym stayed.2 ∙ e))) (counting_for its sum sum2 is)
+  own_for its (OverAll o) is steps (p2, end, machine_is, told_is, inl (step, moved)) x e =
+      subst (λ (y : UnderWay K V K). IsFor y its) (sym (sweep_goes_on _ end x (sym moved.2 ∙ e)))
+      (sweep_for its o (come_to o step.step.entered2 step.step.done2 p2)
+      (subst (λ (z : Machine K V K). HasPurpose o.sweep.purpose (z, said)) machine_is (purpose_kept same hash s old new of i u here said leads o went.1 steps)) is)
+  own_for its (OverAll o) is steps (p2, end, machine_is, told_is, inr (row, stayed)) x e =
+      subst (λ (y : UnderWay K V K). IsFor y its) (sym (sweep_goes_on _ end x (sym stayed.2 ∙ e)))
+      (sweep_for its o (gone_on o p2) (subst (λ (z : Machine K V K). HasPurpose o.sweep.purpose (z, said)) machine_is (purpose_kept same hash s old new of i u here said leads o went.1 steps)) is)

@@ -1,0 +1,271 @@
+-- A step that shows a pair of a walk, whose event has come to that.
+use Rattle.std.specs.Prelude.{◌≡◌, ℕ, ◌<◌, ◌≤◌, Bool, true, false, List, [], ◌∷◌, length, map, Option, Some, if◌then◌else◌, ◌⊎◌}
+use Rattle.std.specs.List.{AllByRecursion}
+use Rattle.std.proofs.Common.{refl, ap, sym, subst, ◌∙◌, inl, inr}
+use Rattle.seize.specs.World.{World}
+use Rattle.seize.specs.declared.progress.Progress.{Progress as Counted}
+use Rattle.seize.specs.declared.progress.Progress.TheVariants as counting
+use Rattle.papaya_tables.specs.declared.node.Node.{Node}
+use Rattle.papaya_tables.specs.declared.setting.Setting.{Setting}
+use Rattle.papaya_sweeps.specs.declared.sweep.Purpose.TheVariants.{Walks}
+use Rattle.papaya_sweeps.specs.declared.sweep.Sweep.{Sweep}
+use Rattle.papaya_sweeps.specs.declared.sweep.Sweeping.{Sweeping}
+use Rattle.papaya_sweeps.specs.declared.sweep.Sweeping.TheVariants as sweeping
+use Rattle.papaya_sweeps.specs.declared.sweep.Swept.{Swept}
+use Rattle.papaya_sweeps.specs.declared.sweep.Swept.TheVariants as swept
+use Rattle.papaya_raw.specs.Progress.{of_counting, of_swept}
+use Rattle.papaya_raw.specs.declared.machines.progress.Progress.{Progress}
+use Rattle.papaya_raw.specs.declared.machines.progress.Progress.TheVariants as progress
+use Rattle.papaya_runs.specs.Same.{is_same}
+use Rattle.papaya_schedules.specs.declared.call.Call.{Call}
+use Rattle.papaya_schedules.specs.declared.call.Call.TheVariants as call
+use Rattle.papaya_schedules.specs.declared.outcome.Outcome.TheVariants.{Shows as ShowsOne}
+use Rattle.papaya_schedules.specs.Entry.{Entry}
+use Rattle.papaya_schedules.specs.Moment.{UnderWay as CallThere, Moment}
+use Rattle.papaya_schedules.specs.Views.{call_of}
+use Rattle.papaya_rule.specs.Chart.{Chart}
+use Rattle.papaya_rule.specs.Words.{Blocks}
+use Rattle.papaya_late.specs.CoversSweeps.{Adds, DoneAt}
+use Rattle.papaya_late.specs.FactsSweeps.{SweepingFacts}
+use Rattle.papaya_late.specs.ToldSweeps.{TellsSo, SweepAfter}
+use Rattle.papaya_callers.specs.OverAll.{CallOverAll, come_to as came_to}
+use Rattle.papaya_callers.specs.Together.{UnderWay, OnKey, ForRoom, Counting, OverAll, in_slot}
+use Rattle.papaya_finishes.specs.Maps.{Standing}
+use Rattle.papaya_effects.specs.Known.{Known}
+use Rattle.papaya_executor.specs.IsAt.{Scene, IsAt, slot_of}
+use Rattle.papaya_executor.specs.Stepping.{StepLeads}
+use Rattle.papaya_executor.specs.declared.executor.Executor.{Executor}
+use Rattle.papaya_follows.specs.Calling.{come_to}
+use Rattle.papaya_follows.specs.Shows.{Shows}
+use Rattle.papaya_follows.proofs.Called.{key_goes_on, room_goes_on, sweep_goes_on}
+use Rattle.papaya_follows.proofs.Calling.{is_same_refl, come, come_of_same, come_with}
+use Rattle.papaya_follows.proofs.Calls.{found}
+use Rattle.papaya_follows.proofs.Steps.{one_of}
+use Rattle.papaya_hands.proofs.Calling.{caller_is}
+use Rattle.papaya_histories.specs.Answers.{NamesPair}
+use Rattle.papaya_histories.specs.Histories.{since}
+use Rattle.papaya_moments.specs.Whole.{ShowsWhole}
+use Rattle.papaya_purposes.specs.Kept.{PairsChangeFirst, WalksShowPurposes}
+use Rattle.papaya_purposes.specs.Purposes.{IsBefore, IsFor, TellsDone, HasSwept, HasCome, ShowsPurposes}
+use Rattle.papaya_purposes.proofs.Done.{maps_kept}
+use Rattle.papaya_purposes.proofs.Kept.{then_at, v, next, number2, Which, which_is, begun_then, for_then, other_come}
+use Rattle.papaya_purposes.proofs.Named.{number_told, stands_then, stands_is}
+use Rattle.papaya_purposes.proofs.Shown.{IsStill, same_still}
+use Rattle.papaya_purposes.proofs.Steps.{went, on, known2, Did, same_call, before_then, its_before, had, own_within, below_then}
+use Rattle.papaya_purposes.proofs.Still.{within_still, come_still}
+
+module _ {K : Type 0} (hash : K → ℕ) (c : Chart K) (blocks : Blocks) (done done2 : List ℕ) (entered entered2 word : ℕ) where
+  -- one that shows a pair has read its word at a place of its table, and has done one pair more
+  pub adds_one : {T : Type 0} (stands stands2 : Sweeping) → TellsSo stands stands2 (swept.Pair {T = T} word) → DoneAt hash c blocks done done2 entered entered2 (swept.Pair {T = T} word) stands
+      → (entered2 ≡ entered) × Adds hash c blocks done done2 word
+  adds_one sweeping.Words stands2 tells is = is
+  adds_one (sweeping.Tries there) stands2 tells is = is
+  adds_one _ stands2 tells is = absurd tells.0
+
+-- and is a walk, which is ready then
+module _ {K V : Type 0} (same : K → K → Bool) (hash : K → ℕ) (caller : ℕ) (setting : Setting) (began : ℕ) (w : World (Node K V)) (c : Chart K) (blocks : Blocks) where
+  pub walk_ready : (p : Sweep) (word : ℕ) → SweepAfter same hash caller setting began w c blocks (p, swept.Pair word) → p.stands ≡ sweeping.Ready → p.purpose ≡ Walks
+  walk_ready p word facts ready = (subst (SweepingFacts same hash w caller setting c blocks began p) ready facts.point).0
+
+-- no counting shows a pair
+none_counted : {T : Type 0} (word : ℕ) (end : Counted ℕ) → progress.Pair {T = T} word ≡ of_counting end → ⊥
+none_counted word counting.Goes e = cc e
+none_counted word counting.Waits e = cc e
+none_counted word (counting.Done count) e = cc e
+none_counted word (counting.Refused fault) e = cc e
+
+-- a sweep that shows one says so
+pub pair_swept : {T : Type 0} (word : ℕ) (end : Swept T) → progress.Pair {T = T} word ≡ of_swept end → end ≡ swept.Pair word
+pair_swept word swept.Goes e = absurd (cc e)
+pair_swept word swept.Waits e = absurd (cc e)
+pair_swept word (swept.Gave value) e = absurd (cc e)
+pair_swept word swept.Ready e = absurd (cc e)
+pair_swept word (swept.Pair there) e = (let same_word : word ≡ there = cc e in ap (λ (x : ℕ). swept.Pair x) (sym same_word))
+pair_swept word (swept.Asks there) e = absurd (cc e)
+pair_swept word swept.Done e = absurd (cc e)
+pair_swept word (swept.Refused fault) e = absurd (cc e)
+
+module _ {K V S : Type 0} (same : K → K → Bool) (hash : K → ℕ) (name : ℕ → List ℕ) (log : List (Entry K V)) (m : Moment K V) (known : Known) (s : Scene K V) (old new : Executor K V S)
+    (at : IsAt same hash old s) (whole : ShowsWhole same name m known s) (purposes : ShowsPurposes same name log m known s) (of i : ℕ) (u : UnderWay K V K) (here : s.calls of i ≡ Some u)
+    (word : ℕ) (leads : StepLeads same hash i (progress.Pair word) s old new)
+    (changes : PairsChangeFirst log m of (v same hash name log m known s old new at whole purposes of i u here (progress.Pair word) leads)) (q steps : ℕ)
+    (names : NamesPair (known2 same hash name log m known s old new at whole purposes of i u here (progress.Pair word) leads) word q) where
+  abbrev then_there : Scene K V
+  then_there = then_at same hash name log m known s old new at whole purposes of i u here (progress.Pair word) leads
+
+  abbrev v1 : Moment K V
+  v1 = v same hash name log m known s old new at whole purposes of i u here (progress.Pair word) leads
+
+  abbrev v3 : Moment K V
+  v3 = come_to (name i) (ShowsOne q) steps v1
+
+  abbrev known_then : Known
+  known_then = known2 same hash name log m known s old new at whole purposes of i u here (progress.Pair word) leads
+
+  abbrev goes : Option (UnderWay K V K)
+  goes = next same hash name log m known s old new at whole purposes of i u here (progress.Pair word) leads
+
+  abbrev numbers2 : ℕ → ℕ → ℕ
+  numbers2 = number2 same hash name log m known s old new at whole purposes of i u here (progress.Pair word) leads
+
+  b : (after : Shows same name v3 known_then then_there) × (after.number ≡ numbers2)
+  b = come_with same name v1 known_then then_there (on same hash name log m known s old new at whole purposes of i u here (progress.Pair word) leads).shows (name i) (ShowsOne q) steps (λ e. absurd (cc e))
+
+  -- a call that is there then, by what it was before the outcome
+  was_called : (n j : ℕ) (x : UnderWay K V K) → then_there.calls n j ≡ Some x → (e : CallThere K V) → call_of (name j) v3 ≡ Some e
+      → (d : CallThere K V) × (call_of (name j) v1 ≡ Some d) × (e ≡ (if is_same d.caller (name i) then come (ShowsOne q) steps d else d))
+  was_called n j x is e e_is =
+      let d = (on same hash name log m known s old new at whole purposes of i u here (progress.Pair word) leads).shows.calls n j x is in
+      (d.0, d.1, one_of e (if is_same d.0.caller (name i) then come (ShowsOne q) steps d.0 else d.0) (sym e_is ∙ found (come (ShowsOne q) steps) (come_of_same (ShowsOne q) steps) (name i) (name j) v1.calls d.0 d.1))
+
+  -- each is what it was, but that this walk has shown a pair more
+  other_same : (n j : ℕ) (x : UnderWay K V K) → (n ≡ of → j ≡ i → ⊥) → s.calls n j ≡ Some x → (d e : CallThere K V) → call_of (name j) v1 ≡ Some d
+      → e ≡ (if is_same d.caller (name i) then come (ShowsOne q) steps d else d) → e ≡ d
+  other_same n j x other x_is d e d_is is =
+      is ∙ ap (λ z. if z then come (ShowsOne q) steps d else d) (ap (λ (l : List ℕ). is_same l (name i)) (caller_is (name j) v1 d d_is) ∙ by (is_same (name j) (name i)) refl)
+    where
+      by : (z : Bool) → is_same (name j) (name i) ≡ z → is_same (name j) (name i) ≡ false
+      by false f = f
+      by true f = absurd (let one = whole.all.asked.apart n j of i x u x_is here f in other one.0 one.1)
+
+  own_then : (d e : CallThere K V) → call_of (name i) v1 ≡ Some d → e ≡ (if is_same d.caller (name i) then come (ShowsOne q) steps d else d) → e ≡ come (ShowsOne q) steps d
+  own_then d e d_is is =
+      is ∙ ap (λ z. if z then come (ShowsOne q) steps d else d) (ap (λ (l : List ℕ). is_same l (name i)) (caller_is (name i) v1 d d_is) ∙ is_same_refl (name i))
+
+  -- the walk has shown just what it has done
+  module _ (o : CallOverAll) (o_is : s.calls of i ≡ Some (OverAll o)) (st : Standing K) (there : then_there.maps of ≡ Some st) (c d : CallThere K V) (c_is : call_of (name i) m ≡ Some c)
+      (d_is : call_of (name i) v1 ≡ Some d) (p2 : Sweep) (n entered2 : ℕ) (done2 : List ℕ) (done_is : done2 ≡ n ∷ o.done) (below : n < st.chart.stored) (told : q ≡ numbers2 of n)
+      (purpose : p2.purpose ≡ o.sweep.purpose) (walks : p2.purpose ≡ Walks) (ready : p2.stands ≡ sweeping.Ready) where
+    abbrev before : HasSwept of (its_before same hash name log m known s old new at whole purposes of i u here (progress.Pair word) leads changes o o_is st there c d c_is d_is)
+        (purposes.shown.number of) (since log m c) o c
+    before = had same hash name log m known s old new at whole purposes of i u here (progress.Pair word) leads changes o o_is st there c d c_is d_is
+
+    still : IsStill c d
+    still = same_call same hash name log m known s old new at whole purposes of i u here (progress.Pair word) leads i c d c_is d_is
+
+    numbers_of : map (numbers2 of) o.done ≡ map (purposes.shown.number of) o.done
+    numbers_of =
+        let b4 = before_then same hash name log m known s old new at whole purposes of i u here (progress.Pair word) leads of st there in
+        maps_kept (purposes.shown.number of) (numbers2 of) b4.0.chart.stored
+        ((on same hash name log m known s old new at whole purposes of i u here (progress.Pair word) leads).numbers of b4.0 b4.1) c d still o.done before.stored
+
+    cons_both : (a x : ℕ) (xs ys : List ℕ) → a ≡ x → xs ≡ ys → a ∷ xs ≡ x ∷ ys
+    cons_both a x xs ys e f = cc (e, f)
+
+    tells : (its : Call K V) → IsFor (OverAll o) its → TellsDone its (purposes.shown.number of) o.done c → TellsDone its (numbers2 of) done2 (come (ShowsOne q) steps d)
+    tells (call.On one) is has = tt
+    tells (call.Reserve more) is has = tt
+    tells call.Clear is has = tt
+    tells call.Retain is has = absurd (cc (walks, purpose, is))
+    tells call.Len is has = tt
+    tells call.Walk is has =
+        cons_both q (numbers2 of n) d.shown (map (numbers2 of) o.done) told (still.shown ∙ has ∙ sym numbers_of) ∙ ap (map (numbers2 of)) (sym done_is)
+
+    pub own_shows : HasSwept of st (numbers2 of) (since log v3 (come (ShowsOne q) steps d)) (came_to o entered2 done2 p2) (come (ShowsOne q) steps d)
+    own_shows = record {
+      within = within_still of st (numbers2 of) log v1 v3 refl d (come (ShowsOne q) steps d) refl o.began
+          (own_within same hash name log m known s old new at whole purposes of i u here (progress.Pair word) leads changes o o_is st there c d c_is d_is);
+      stored = subst (AllByRecursion (λ k. k < st.chart.stored)) (sym done_is)
+          (below, below_then same hash name log m known s old new at whole purposes of i u here (progress.Pair word) leads changes o o_is st there c d c_is d_is o.done before.stored);
+      tells = subst (λ (x : Call K V). TellsDone x (numbers2 of) done2 (come (ShowsOne q) steps d)) (sym still.call)
+          (tells c.call (purposes.is_for of i (OverAll o) o_is c c_is) before.tells);
+      none = λ is at_first. absurd (subst IsBefore ready at_first);
+    }
+
+  abbrev DidIt : UnderWay K V K → Type 0
+  DidIt y = Did same hash name log m known s old new at whole purposes of i u here (progress.Pair word) leads y
+
+  own_come : (y : UnderWay K V K) → s.calls of i ≡ Some y → DidIt y → (x : UnderWay K V K) → goes ≡ Some x → (st : Standing K) → then_there.maps of ≡ Some st
+      → (c d : CallThere K V) → call_of (name i) m ≡ Some c → call_of (name i) v1 ≡ Some d → HasCome of st (numbers2 of) log v3 x (come (ShowsOne q) steps d)
+  own_come (OnKey z) y_is (p2, end, machine_is, told_is, inl (step, moved)) x e st there c d c_is d_is =
+      subst (λ (y : UnderWay K V K). HasCome of st (numbers2 of) log v3 y (come (ShowsOne q) steps d)) (sym (key_goes_on _ end x (sym moved.2 ∙ e))) tt
+  own_come (OnKey z) y_is (p2, end, machine_is, told_is, inr (row, stayed)) x e st there c d c_is d_is =
+      subst (λ (y : UnderWay K V K). HasCome of st (numbers2 of) log v3 y (come (ShowsOne q) steps d)) (sym (key_goes_on _ end x (sym stayed.2 ∙ e))) tt
+  own_come (ForRoom r) y_is (p2, end, machine_is, told_is, inl (step, moved)) x e st there c d c_is d_is =
+      subst (λ (y : UnderWay K V K). HasCome of st (numbers2 of) log v3 y (come (ShowsOne q) steps d)) (sym (room_goes_on _ end x (sym moved.2 ∙ e))) tt
+  own_come (ForRoom r) y_is (p2, end, machine_is, told_is, inr (row, stayed)) x e st there c d c_is d_is =
+      subst (λ (y : UnderWay K V K). HasCome of st (numbers2 of) log v3 y (come (ShowsOne q) steps d)) (sym (room_goes_on _ end x (sym stayed.2 ∙ e))) tt
+  own_come (Counting sum) y_is (sum2, end, machine_is, told_is, still, stayed) x e st there c d c_is d_is = absurd (none_counted word end told_is)
+  own_come (OverAll o) y_is (p2, end, machine_is, told_is, inr (row, stayed)) x e st there c d c_is d_is =
+      absurd (let silent = row.step.silent in let is = pair_swept word end told_is in cc (silent, is))
+  own_come (OverAll o) y_is (p2, end, machine_is, told_is, inl (step, moved)) x e st there c d c_is d_is =
+      subst (λ (y : UnderWay K V K). HasCome of st (numbers2 of) log v3 y (come (ShowsOne q) steps d)) (sym (sweep_goes_on _ end x (sym moved.2 ∙ e))) so
+    where
+      is : end ≡ swept.Pair word
+      is = pair_swept word end told_is
+
+      one : (step.step.entered2 ≡ o.entered) × Adds _ step.step.went.c2 step.step.went.blocks2 o.done step.step.done2 word
+      one = adds_one _ step.step.went.c2 step.step.went.blocks2 o.done step.step.done2 o.entered step.step.entered2 word o.sweep.stands p2.stands
+          (subst (TellsSo o.sweep.stands p2.stands) is step.step.went.told.stands.tells)
+          (subst (λ (x : Swept (Node K V)). DoneAt _ step.step.went.c2 step.step.went.blocks2 o.done step.step.done2 o.entered step.step.entered2 x o.sweep.stands) is step.step.done)
+
+      ready : p2.stands ≡ sweeping.Ready
+      ready = (subst (TellsSo o.sweep.stands p2.stands) is step.step.went.told.stands.tells).1
+
+      abbrev its : Standing K
+      its = (went same hash name log m known s old new at whole purposes of i u here (progress.Pair word) leads).0
+
+      walks : p2.purpose ≡ Walks
+      walks =
+          walk_ready same its.hash i (in_slot its.setting (slot_of i)) o.began step.step.went.w2 step.step.went.c2 step.step.went.blocks2 p2 word
+          (subst (λ (y : Swept (Node K V)). SweepAfter same its.hash i (in_slot its.setting (slot_of i)) o.began step.step.went.w2 step.step.went.c2 step.step.went.blocks2 (p2, y)) is
+          step.step.went.told.facts) ready
+
+      then_is : stands_then same hash name log m known s old new at whole purposes of i u here (progress.Pair word) leads o p2 end step moved.1 ≡ st
+      then_is = one_of _ st (sym (stands_is same hash name log m known s old new at whole purposes of i u here (progress.Pair word) leads o p2 end step moved.1) ∙ there)
+
+      so : HasSwept of st (numbers2 of) (since log v3 (come (ShowsOne q) steps d)) (came_to o step.step.entered2 step.step.done2 p2) (come (ShowsOne q) steps d)
+      so =
+          own_shows o y_is st there c d c_is d_is p2 one.1.0 step.step.entered2 step.step.done2 one.1.2 (subst (λ (z : Standing K). one.1.0 < z.chart.stored) then_is one.1.1.0)
+          (number_told same hash name log m known s old new at whole purposes of i u here (progress.Pair word) leads o p2 end step moved.1 word one.1.0 q one.1.1 names)
+          step.step.went.told.stands.purpose walks ready
+
+  for_come : (x : UnderWay K V K) (d e : CallThere K V) → e.call ≡ d.call → IsFor x d.call → IsFor x e.call
+  for_come x d e same_call is = subst (λ (y : Call K V). IsFor x y) (sym same_call) is
+
+  same_calls : (d e : CallThere K V) → e ≡ (if is_same d.caller (name i) then come (ShowsOne q) steps d else d) → (e.call ≡ d.call) × (e.begun ≡ d.begun)
+  same_calls d e is = by (is_same d.caller (name i)) is
+    where
+      by : (z : Bool) → e ≡ (if z then come (ShowsOne q) steps d else d) → (e.call ≡ d.call) × (e.begun ≡ d.begun)
+      by true is = (ap (λ (x : CallThere K V). x.call) is, ap (λ (x : CallThere K V). x.begun) is)
+      by false is = (ap (λ (x : CallThere K V). x.call) is, ap (λ (x : CallThere K V). x.begun) is)
+
+  abbrev ItsWhich : ℕ → ℕ → UnderWay K V K → Type 0
+  ItsWhich n j x = Which same hash name log m known s old new at whole purposes of i u here (progress.Pair word) leads n j x
+
+  which_then : (n j : ℕ) (x : UnderWay K V K) → then_there.calls n j ≡ Some x → ItsWhich n j x
+  which_then n j x is = which_is same hash name log m known s old new at whole purposes of i u here (progress.Pair word) leads n j x is
+
+  come_then : (n j : ℕ) (x : UnderWay K V K) → then_there.calls n j ≡ Some x → (st : Standing K) → then_there.maps n ≡ Some st → (e : CallThere K V) → call_of (name j) v3 ≡ Some e
+      → ItsWhich n j x → HasCome n st (numbers2 n) log v3 x e
+  come_then n j x is st there e e_is (inl its) =
+      let d = was_called n j x is e e_is in
+      let d_is : call_of (name i) v1 ≡ Some d.0 = ap (λ (k : ℕ). call_of (name k) v1) (sym its.1) ∙ d.1 in
+      let c = purposes.shown.calls of i u here in
+      subst (λ (k : ℕ). HasCome k st (numbers2 k) log v3 x e) (sym its.0)
+      (subst (λ (f : CallThere K V). HasCome of st (numbers2 of) log v3 x f) (sym (own_then d.0 e d_is d.2))
+      (own_come u here (went same hash name log m known s old new at whole purposes of i u here (progress.Pair word) leads).4.did x its.2 st (ap then_there.maps (sym its.0) ∙ there)
+      c.0 d.0 c.1 d_is))
+  come_then n j x is st there e e_is (inr other) =
+      let d = was_called n j x is e e_is in
+      subst (λ (f : CallThere K V). HasCome n st (numbers2 n) log v3 x f) (sym (other_same n j x other.0 other.1 d.0 e d.1 d.2))
+      (come_still n st (numbers2 n) log v1 v3 refl d.0 d.0 (same_still d.0) x
+      (other_come same hash name log m known s old new at whole purposes of i u here (progress.Pair word) leads changes n j x other.1 st there d.0 d.1))
+
+  pub shows_purposes : ShowsPurposes same name log v3 known_then then_there
+  shows_purposes = record {
+    shown = b.0;
+    begun = λ n j x is e e_is.
+        let d = was_called n j x is e e_is in
+        subst (λ (z : ℕ). z ≤ length log) (sym (same_calls d.0 e d.2).1)
+        (begun_then same hash name log m known s old new at whole purposes of i u here (progress.Pair word) leads n j x d.0 d.1 (which_then n j x is));
+    is_for = λ n j x is e e_is.
+        let d = was_called n j x is e e_is in
+        for_come x d.0 e (same_calls d.0 e d.2).0 (for_then same hash name log m known s old new at whole purposes of i u here (progress.Pair word) leads n j x d.0 d.1 (which_then n j x is));
+    come = λ n j x is st there e e_is.
+        subst (λ (f : ℕ → ℕ → ℕ). HasCome n st (f n) log v3 x e) (sym b.1) (come_then n j x is st there e e_is (which_then n j x is));
+  }
+
+pub walks_show_purposes : (K V S : Type 0) (same : K → K → Bool) (hash : K → ℕ) → WalksShowPurposes K V S same hash
+walks_show_purposes K V S same hash name log m known s old new at whole purposes of i u here word leads changes q steps names =
+    shows_purposes same hash name log m known s old new at whole purposes of i u here word leads changes q steps names

@@ -1,0 +1,5 @@
+pub mod Purposes
+pub mod Shards
+pub mod Kept
+pub mod Rows
+pub mod Swept
