@@ -1,9 +1,11 @@
 -- Before all events, between the steps of calls, and where an event is over, the moment says what calls on whole maps have come to, and what they are for.
-use Rattle.std.specs.Prelude.{◌≡◌, ℕ, ◌+◌, ◌≤◌, nat_lt, Bool, true, false, cond, List, [], ◌∷◌, length, find, Option, Some, if◌then◌else◌, ◌⊎◌}
+use Rattle.std.specs.Prelude.{◌≡◌, ℕ, ◌+◌, ◌≤◌, ◌==◌, nat_lt, Bool, true, false, cond, List, [], ◌∷◌, length, find, Option, Some, if◌then◌else◌, ◌⊎◌}
 use Rattle.std.proofs.Common.{refl, ap, sym, subst, ◌∙◌, arith, inl, inr}
 use Rattle.papaya_tables.specs.declared.setting.Setting.{Setting}
 use Rattle.papaya_resize.specs.Sum.{summing}
 use Rattle.papaya_resize.specs.declared.sum.Sum.{Sum}
+use Rattle.papaya_reserves.specs.declared.reserve.Reserving.{Reserving}
+use Rattle.papaya_reserves.specs.declared.reserve.Reserving.TheVariants as reserving
 use Rattle.papaya_sweeps.specs.SweepPoints.{next_at, after_next}
 use Rattle.papaya_sweeps.specs.declared.sweep.Purpose.{Purpose}
 use Rattle.papaya_sweeps.specs.declared.sweep.Sweep.{Sweep}
@@ -17,9 +19,10 @@ use Rattle.papaya_schedules.specs.After.{moment, moments_from, comes_to}
 use Rattle.papaya_schedules.specs.Beginning.{fresh_call, with_call}
 use Rattle.papaya_schedules.specs.Entry.{Entry}
 use Rattle.papaya_schedules.specs.Lists.{OneOf}
-use Rattle.papaya_schedules.specs.Moment.{Place, UnderWay as CallThere, Moment}
-use Rattle.papaya_schedules.specs.Views.{call_of, is_in_map}
+use Rattle.papaya_schedules.specs.Moment.{Place, MapThere, UnderWay as CallThere, Moment}
+use Rattle.papaya_schedules.specs.Views.{call_of, is_in_map, first_or, first_of}
 use Rattle.papaya_callers.specs.OverAll.{CallOverAll, begun_over_all, gone_on}
+use Rattle.papaya_callers.specs.Rooms.{CallForRoom}
 use Rattle.papaya_callers.specs.Together.{UnderWay, OnKey, ForRoom, Counting, OverAll, in_slot}
 use Rattle.papaya_effects.specs.Known.{Known}
 use Rattle.papaya_executor.specs.Beginning.{Begins}
@@ -35,11 +38,11 @@ use Rattle.papaya_follows.proofs.Steps.{one_of}
 use Rattle.papaya_hands.proofs.Asking.{which}
 use Rattle.papaya_hands.proofs.Beginning.{runs_begin_so}
 use Rattle.papaya_histories.proofs.Calling.{came_so}
-use Rattle.papaya_histories.proofs.Logs.{moments_grow}
+use Rattle.papaya_histories.proofs.Logs.{last_there, moments_grow}
 use Rattle.papaya_others.specs.After.{ShowsAfter}
 use Rattle.papaya_others.proofs.Walks.{fewer_calls, with_calls}
-use Rattle.papaya_purposes.specs.Kept.{TellsNone, NoneCame, PurposesBegin, CallsBeginPurposes, WalksGoOnPurposes, CallsComeToPurposes, EventsKeepPurposes, FirstStepsChangePairsFirst, StillStepsChangePairsFirst, RemovalsChangePairsFirst}
-use Rattle.papaya_purposes.specs.Purposes.{IsBefore, IsFor, PairsWithin, HasAdded, TellsDone, HasSwept, HasCome, ShowsPurposes}
+use Rattle.papaya_purposes.specs.Kept.{TellsNone, PurposesBegin, CallsBeginPurposes, WalksGoOnPurposes, CallsComeToPurposes, EventsKeepPurposes, FirstStepsChangePairsFirst, StillStepsChangePairsFirst, RemovalsChangePairsFirst}
+use Rattle.papaya_purposes.specs.Purposes.{IsBefore, IsFor, HasAdded, RoomAt, HasMet, TellsDone, HasSwept, HasCome}
 use Rattle.papaya_purposes.proofs.For.{sweep_for}
 use Rattle.papaya_purposes.proofs.Present.{begins_within}
 use Rattle.papaya_purposes.proofs.Shown.{IsStill, same_still, comes_still}
@@ -62,7 +65,17 @@ module _ {K V : Type 0} (log : List (Entry K V)) (e : Entry K V) (c : CallThere 
 
   pub event_come : (of : ℕ) (st : Standing K) (number : ℕ → ℕ) (m : Moment K V) (u : UnderWay K V K) → HasCome of st number log m u c → HasCome of st number (e ∷ log) m u c
   event_come of st number m (OnKey u) h = tt
-  event_come of st number m (ForRoom r) h = tt
+  event_come of st number m (ForRoom r) h = record { low = h.low; was = wider (λ x. first_of of x ≤ h.low) h.was; root = h.root; point = point r.reserve.stands h.point }
+    where
+      point : (stands : Reserving) → RoomAt of (moments_from c.begun log) h.low stands → RoomAt of (moments_from c.begun (e ∷ log)) h.low stands
+      point reserving.Reads is = is
+      point (reserving.Makes making) is = is
+      point (reserving.Sums table sum) is = (is.0, added_wider of (moments_from c.begun log) (moments_from c.begun (e ∷ log)) wider sum.setting.mask sum.stands is.1)
+      point (reserving.Follows table need) is = is
+      point (reserving.Grows table making) is = is
+      point (reserving.Copies copier) is = is
+      point reserving.Over is = is
+      point (reserving.Refused fault) is = is
   event_come of st number m (Counting sum) h = added_wider of (moments_from c.begun log) (moments_from c.begun (e ∷ log)) wider sum.setting.mask sum.stands h
   event_come of st number m (OverAll o) h = record {
     within = pairs_within_moments of st number (m ∷ moments_from c.begun log) (m ∷ moments_from c.begun (e ∷ log)) o.began (λ n q one. more n q one) h.within;
@@ -114,7 +127,7 @@ calls_come_to_purposes K V same name log m known s purposes own o steps none end
 -- a call that begins
 module _ {K V S : Type 0} (same : K → K → Bool) (hash : K → ℕ) (name : ℕ → List ℕ) (log : List (Entry K V)) (m : Moment K V) (known : Known) (s : Scene K V) (e : Executor K V S)
     (at : IsAt same hash e s) (shown : Shows same name m known s) (of i : ℕ) (st : Standing K) (there : s.maps of ≡ Some st) (m2 : Moment K V) (place : m2.place ≡ m.place)
-    (c : CallThere K V) (replies : c.replies ≡ []) (shows : c.shown ≡ []) where
+    (c : CallThere K V) (shows : c.shown ≡ []) (was : OneOf (λ x. first_of of x ≤ st.chart.first) (moments_from c.begun log)) where
   none_told : (its : Call K V) (number : ℕ → ℕ) → TellsDone its number [] c
   none_told (call.On one) number = tt
   none_told (call.Reserve n) number = tt
@@ -136,13 +149,14 @@ module _ {K V S : Type 0} (same : K → K → Bool) (hash : K → ℕ) (name : �
 
   pub begins_come : (u : UnderWay K V K) → Begins same st i u → HasCome of st (shown.number of) log m2 u c
   begins_come (OnKey u) begins = tt
-  begins_come (ForRoom r) begins = tt
+  begins_come (ForRoom r) (additional, is) =
+      subst (λ (x : CallForRoom). HasMet of st (moments_from c.begun log) x) (sym is) (record { low = st.chart.first; was = was; root = omega arith; point = tt })
   begins_come (Counting sum) begins = subst (λ (x : Sum). HasAdded of (moments_from c.begun log) x.setting.mask x.stands) (sym begins) (sum_begins (in_slot st.setting (slot_of i)))
   begins_come (OverAll o) (purpose, is) =
       subst (λ (x : CallOverAll). HasSwept of st (shown.number of) (m2 ∷ moments_from c.begun log) x c) (sym is) (sweep_begins (in_slot st.setting (slot_of i)) purpose)
 
 pub calls_begin_purposes : (K V S : Type 0) (same : K → K → Bool) (hash : K → ℕ) → CallsBeginPurposes K V S same hash
-calls_begin_purposes K V S same hash name log m known s e at purposes of i u its guard standing there begins apart called is_for events = record {
+calls_begin_purposes K V S same hash name log m known s e at purposes of i u its guard standing there begins apart called is_for events same_maps = record {
   shown = b.0;
   begun = λ n j x is d d_is. begun_one n j x d (which_call n j x d d_is (which s.calls of i (Some u) n j x is));
   is_for = λ n j x is d d_is. for_one n j x d (which_call n j x d d_is (which s.calls of i (Some u) n j x is));
@@ -158,6 +172,14 @@ calls_begin_purposes K V S same hash name log m known s e at purposes of i u its
 
     b : (after : Shows same name m2 known (scene_with of i u s)) × (after.number ≡ purposes.shown.number)
     b = begins_with same name m known s purposes.shown of i u its guard apart called
+
+    -- the root is where it was as the last event ended
+    first_was : OneOf (λ x. first_of of x ≤ standing.chart.first) (moments_from m.events log)
+    first_was =
+        let shows = (purposes.shown.maps of standing there).there in
+        let is : first_of of (moment log) ≡ standing.chart.first =
+        ap (λ (fs : List MapThere). first_or (find (λ f. f.number == of) fs)) (sym same_maps) ∙ ap first_or shows.is ∙ shows.first in
+        last_there (λ x. first_of of x ≤ standing.chart.first) m.events log (omega (arith, events)) (omega (arith, is))
 
     -- it is this one, or was there
     One : ℕ → ℕ → UnderWay K V K → CallThere K V → Type 0
@@ -186,7 +208,7 @@ calls_begin_purposes K V S same hash name log m known s e at purposes of i u its
         (subst (λ (y : UnderWay K V K). HasCome of st (purposes.shown.number of) log m2 y d) (sym a.1)
         (subst (λ (f : CallThere K V). HasCome of st (purposes.shown.number of) log m2 u f) (sym a.2)
         (subst (λ (z : Standing K). HasCome of z (purposes.shown.number of) log m2 u fresh) (one_of standing st (sym there ∙ ap s.maps (sym a.0) ∙ st_is))
-        (begins_come same hash name log m known s e at purposes.shown of i standing there m2 refl fresh refl refl u begins))))
+        (begins_come same hash name log m known s e at purposes.shown of i standing there m2 refl fresh refl first_was u begins))))
     come_one n j x d st st_is (inr was) =
         come_still n st (purposes.shown.number n) log m m2 refl d d (same_still d) x (purposes.come n j x was.0 st st_is d was.1)
 

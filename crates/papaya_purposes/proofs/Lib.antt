@@ -9,6 +9,10 @@ mod Done
 mod Still
 mod Over
 mod Rooms
+mod Copiers
+mod RoomPoints
+mod RoomFacts
+mod RoomSteps
 mod For
 mod Counts
 mod Steps
@@ -20,4 +24,5 @@ mod Told
 mod Rows
 mod Swept
 mod Shows
+mod FindsRoom
 mod Nothing

@@ -11,13 +11,13 @@ use Rattle.papaya_finishes.specs.Maps.{Standing}
 use Rattle.papaya_histories.specs.Histories.{since}
 use Rattle.papaya_histories.proofs.Later.{IsLater}
 use Rattle.papaya_purposes.specs.Kept.{PairsChangeFirst}
-use Rattle.papaya_purposes.specs.Purposes.{PairsWithin, HasAdded, HasCome}
+use Rattle.papaya_purposes.specs.Purposes.{PairsWithin, HasAdded, HasMet, HasCome}
 use Rattle.papaya_purposes.proofs.Done.{tells_kept}
 use Rattle.papaya_purposes.proofs.Lists.{all_on}
 use Rattle.papaya_purposes.proofs.Shown.{IsStill}
 use Rattle.papaya_purposes.proofs.Within.{pairs_within_on}
 
-module _ {K V : Type 0} (of : ℕ) (st st2 : Standing K) (number number2 : ℕ → ℕ) (later : IsLater st.chart st2.chart) (numbers : (n : ℕ) → n < st.chart.stored → number2 n ≡ number n)
+module _ {K V : Type 0} (of : ℕ) (st st2 : Standing K) (number number2 : ℕ → ℕ) (later : IsLater st.chart st2.chart) (first : st.chart.first ≤ st2.chart.first) (numbers : (n : ℕ) → n < st.chart.stored → number2 n ≡ number n)
     (log : List (Entry K V)) (m v : Moment K V) (c d : CallThere K V) (still : IsStill c d) (begun : c.begun ≤ length log) (changes : PairsChangeFirst log m of v)
     (now_stored : (n : ℕ) → st2.chart.was st2.chart.now n ≡ true → n < st2.chart.stored)
     (now_there : (n : ℕ) → n < st2.chart.stored → is_in_map of (v.place (number2 n)) ≡ st2.chart.was st2.chart.now n)
@@ -32,7 +32,9 @@ module _ {K V : Type 0} (of : ℕ) (st st2 : Standing K) (number number2 : ℕ �
 
   pub come_over : (u : UnderWay K V K) → HasCome of st number log m u c → HasCome of st2 number2 log v u d
   come_over (OnKey u) h = tt
-  come_over (ForRoom r) h = tt
+  come_over (ForRoom r) h =
+      subst (λ (b : ℕ). HasMet of st2 (moments_from b log) r) (sym still.begun)
+      (record { low = h.low; was = h.was; root = (let l = h.root in omega (arith, l, first)); point = h.point })
   come_over (Counting sum) h = subst (λ (b : ℕ). HasAdded of (moments_from b log) sum.setting.mask sum.stands) (sym still.begun) h
   come_over (OverAll o) h = record {
     within = within_over o.began h.within;

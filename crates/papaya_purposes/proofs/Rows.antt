@@ -1,6 +1,6 @@
 -- What is of no call leaves what calls on whole maps have come to: no pair of a map comes or goes.
-use Rattle.std.specs.Prelude.{◌≡◌, ℕ, ◌<◌, Bool, List, find, Option, Some, ◌⊎◌}
-use Rattle.std.proofs.Common.{ap, sym, subst, ◌∙◌, inl, inr}
+use Rattle.std.specs.Prelude.{◌≡◌, ℕ, ◌<◌, ◌≤◌, Bool, List, find, Option, Some, ◌⊎◌}
+use Rattle.std.proofs.Common.{ap, sym, subst, ◌∙◌, arith, inl, inr}
 use Rattle.papaya_runs.specs.Same.{is_same}
 use Rattle.papaya_schedules.specs.Entry.{Entry}
 use Rattle.papaya_schedules.specs.Moment.{UnderWay as CallThere, Moment}
@@ -42,6 +42,9 @@ module _ {K V S : Type 0} (same : K → K → Bool) (hash : K → ℕ) (name : �
     later : IsLater before.chart st.chart
     later = subst (IsLater before.chart) (sym stood.2) (same_later before.chart)
 
+    first : before.chart.first ≤ st.chart.first
+    first = let e = ap (λ (c : Chart K). c.first) stood.2 in omega (arith, e)
+
     numbers : (o : ℕ) → o < before.chart.stored → after.shows.number n o ≡ purposes.shown.number n o
     numbers o l = ap (λ (f : ℕ → ℕ). f o) (after.numbers n before stood.1)
 
@@ -52,7 +55,7 @@ module _ {K V S : Type 0} (same : K → K → Bool) (hash : K → ℕ) (name : �
 
     stood_come : HasCome n st (after.shows.number n) log m2 x c
     stood_come =
-        come_over n before st (purposes.shown.number n) (after.shows.number n) later numbers log m m2 c c (same_still c) (purposes.begun n j x (was_here n j x is) c (was_called j c found))
+        come_over n before st (purposes.shown.number n) (after.shows.number n) later first numbers log m m2 c c (same_still c) (purposes.begun n j x (was_here n j x is) c (was_called j c found))
         (λ q. inl (same_pairs q)) (now_stored same hash name m2 known2 s2 new at2 after.shows n st there) (now_there same hash name m2 known2 s2 new at2 after.shows n st there)
         (absent same hash name m known s old at purposes.shown n before stood.1 (after.shows.number n) st.chart.stored (after.shows.maps n st there).pairs.rising numbers) x
         (purposes.come n j x (was_here n j x is) before stood.1 c (was_called j c found))

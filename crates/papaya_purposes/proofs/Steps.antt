@@ -3,9 +3,14 @@ use Rattle.std.specs.Prelude.{◌≡◌, ◌≢◌, ℕ, ◌<◌, ◌≤◌, Boo
 use Rattle.std.specs.List.{AllByRecursion}
 use Rattle.std.proofs.Common.{refl, ap, sym, subst, ◌∙◌, arith, inl, inr}
 use Rattle.std.proofs.lemmas.Bool.{cases_eq}
+use Rattle.seize.specs.World.{with_at}
 use Rattle.papaya_tables.specs.declared.node.Node.{Node}
+use Rattle.papaya_reserves.specs.declared.reserve.Reserve.{Reserve}
+use Rattle.papaya_reserves.specs.declared.reserve.Reserving.{Reserving}
+use Rattle.papaya_reserves.specs.declared.reserve.Reserving.TheVariants as reserving
 use Rattle.papaya_sweeps.specs.declared.sweep.Purpose.TheVariants.{Walks}
 use Rattle.papaya_raw.specs.declared.machines.machine.Machine.{Machine}
+use Rattle.papaya_raw.specs.declared.machines.machine.Machine.TheVariants as kinds
 use Rattle.papaya_raw.specs.declared.machines.progress.Progress.{Progress}
 use Rattle.papaya_schedules.specs.declared.call.Call.{Call}
 use Rattle.papaya_schedules.specs.After.{moment, moments_from}
@@ -15,7 +20,10 @@ use Rattle.papaya_schedules.specs.Moment.{UnderWay as CallThere, Moment}
 use Rattle.papaya_schedules.specs.Views.{call_of, is_in_map}
 use Rattle.papaya_rule.specs.Chart.{Chart}
 use Rattle.papaya_callers.specs.OverAll.{CallOverAll, come_to, gone_on}
+use Rattle.papaya_callers.specs.Rooms.{CallForRoom}
+use Rattle.papaya_callers.specs.Sights.{seen_by}
 use Rattle.papaya_callers.specs.Together.{UnderWay, OnKey, ForRoom, Counting, OverAll}
+use Rattle.papaya_callers.proofs.Together.At.{at_same}
 use Rattle.papaya_finishes.specs.Machines.{machine_of}
 use Rattle.papaya_finishes.specs.Maps.{Standing}
 use Rattle.papaya_effects.specs.Effects.{effects_of}
@@ -35,7 +43,7 @@ use Rattle.papaya_histories.proofs.Later.{IsLater}
 use Rattle.papaya_histories.proofs.Steps.{to, led_on, v, after, s2, maps_later}
 use Rattle.papaya_histories.proofs.Walks.{HasPurpose, purpose_kept}
 use Rattle.papaya_purposes.specs.Kept.{ShowsNone, PairsChangeFirst}
-use Rattle.papaya_purposes.specs.Purposes.{IsBefore, IsFor, PairsWithin, HasAdded, HasSwept, HasCome, ShowsPurposes}
+use Rattle.papaya_purposes.specs.Purposes.{IsBefore, IsFor, PairsWithin, HasAdded, RoomAt, HasMet, HasSwept, HasCome, ShowsPurposes}
 use Rattle.papaya_purposes.specs.Shards.{ReadsShards}
 use Rattle.papaya_purposes.proofs.Alike.{alike}
 use Rattle.papaya_purposes.proofs.Counts.{counts_on}
@@ -45,6 +53,9 @@ use Rattle.papaya_purposes.proofs.Lists.{all_on}
 use Rattle.papaya_purposes.proofs.Onward.{before_or, walk_stands, GoesOver, walk_onward}
 use Rattle.papaya_purposes.proofs.Over.{within_over, come_over}
 use Rattle.papaya_purposes.proofs.Present.{now_stored, now_there, absent}
+use Rattle.papaya_purposes.proofs.RoomFacts.{room_later}
+use Rattle.papaya_purposes.proofs.RoomPoints.{LedAt}
+use Rattle.papaya_purposes.proofs.RoomSteps.{EndsSo, room_goes}
 use Rattle.papaya_purposes.proofs.Rooms.{IsForRoom, room_kept}
 use Rattle.papaya_purposes.proofs.Shown.{IsStill, effects_still}
 
@@ -79,6 +90,17 @@ module _ {K V S : Type 0} (same : K → K → Bool) (hash : K → ℕ) (name : �
   pub before_then : (n : ℕ) (st : Standing K) → scene2.maps n ≡ Some st → (before : Standing K) × (s.maps n ≡ Some before) × IsLater before.chart st.chart
   before_then n st there = maps_later same hash name m known s old new at whole shown of i u here said leads n st there
 
+  -- the root has not gone back
+  pub first_then : (n : ℕ) (st : Standing K) (there : scene2.maps n ≡ Some st) → (before_then n st there).0.chart.first ≤ st.chart.first
+  first_then n st there =
+      let before = before_then n st there in
+      let stood = on.stood n before.0 before.1 in
+      subst (λ (x : Standing K). before.0.chart.first ≤ x.chart.first) (one_of stood.0 st (sym stood.1 ∙ there)) stood.2.first
+
+  -- the call of this caller on this map is what goes on
+  pub its_next : scene2.calls of i ≡ went.4.next
+  its_next = ap (λ (f : ℕ → Option (UnderWay K V K)). f i) (at_same s.calls of (with_at (s.calls of) i went.4.next) of refl) ∙ at_same (s.calls of) i went.4.next i refl
+
   module _ (changes : PairsChangeFirst log m of v2) where
     elsewhere : (n : ℕ) → n ≢ of → (st : Standing K) → scene2.maps n ≡ Some st → (q : ℕ) → is_in_map n (v2.place q) ≡ is_in_map n (m.place q)
     elsewhere n ne st there q =
@@ -103,7 +125,7 @@ module _ {K V S : Type 0} (same : K → K → Bool) (hash : K → ℕ) (name : �
 
       pub within_then : (began : ℕ) → PairsWithin n before_st (shown.number n) (since log m c) began → PairsWithin n st (on.shows.number n) (since log v2 d) began
       within_then =
-          within_over n before_st st (shown.number n) (on.shows.number n) (before_then n st there).2 (on.numbers n before_st (before_then n st there).1) log m v2 c d
+          within_over n before_st st (shown.number n) (on.shows.number n) (before_then n st there).2 (first_then n st there) (on.numbers n before_st (before_then n st there).1) log m v2 c d
           (same_call j c d c_is d_is) (purposes.begun n j y y_is c c_is) (changes_then n st there) (now_stored same hash name v2 known2 scene2 new went.5 on.shows n st there)
           (now_there same hash name v2 known2 scene2 new went.5 on.shows n st there)
           (absent same hash name m known s old at shown n before_st (before_then n st there).1 (on.shows.number n) st.chart.stored (on.shows.maps n st there).pairs.rising
@@ -112,7 +134,7 @@ module _ {K V S : Type 0} (same : K → K → Bool) (hash : K → ℕ) (name : �
       -- of a call that is another one's
       pub kept_come : HasCome n st (on.shows.number n) log v2 y d
       kept_come =
-          come_over n before_st st (shown.number n) (on.shows.number n) (before_then n st there).2 (on.numbers n before_st (before_then n st there).1) log m v2 c d
+          come_over n before_st st (shown.number n) (on.shows.number n) (before_then n st there).2 (first_then n st there) (on.numbers n before_st (before_then n st there).1) log m v2 c d
           (same_call j c d c_is d_is) (purposes.begun n j y y_is c c_is) (changes_then n st there) (now_stored same hash name v2 known2 scene2 new went.5 on.shows n st there)
           (now_there same hash name v2 known2 scene2 new went.5 on.shows n st there)
           (absent same hash name m known s old at shown n before_st (before_then n st there).1 (on.shows.number n) st.chart.stored (on.shows.maps n st there).pairs.rising
@@ -170,6 +192,51 @@ module _ {K V S : Type 0} (same : K → K → Bool) (hash : K → ℕ) (name : �
           → Comes o x.done (shown.number of) c → HasSwept of st (on.shows.number of) (since log v2 d) x d
       own_sweep steps x is began comes = sweep_come x began comes (none_on steps x is comes)
 
+    -- a reservation, the caller's own
+    module _ (r : CallForRoom) (r_is : s.calls of i ≡ Some (ForRoom r)) (reads : ReadsShards log m s of (ForRoom r)) (steps : StepsFrom same hash (machine_of (ForRoom r)) old new went.1 said)
+        (p2 : Reserve) (machine_is : went.1 ≡ kinds.Reserve p2) (goes : went.4.next ≡ Some (ForRoom (record { began = r.began; reserve = p2 }))) (st : Standing K) (there : scene2.maps of ≡ Some st)
+        (c d : CallThere K V) (c_is : call_of (name i) m ≡ Some c) (d_is : call_of (name i) v2 ≡ Some d) where
+      abbrev r2 : CallForRoom
+      r2 = record { began = r.began; reserve = p2 }
+
+      begun : c.begun ≤ length log
+      begun = purposes.begun of i (ForRoom r) r_is c c_is
+
+      met : HasMet of went.0 (moments_from c.begun log) r
+      met = purposes.come of i (ForRoom r) r_is went.0 went.2 c c_is
+
+      root : met.low ≤ st.chart.first
+      root =
+          let before = before_then of st there in
+          let l = met.root in
+          let same_before : went.0.chart.first ≡ before.0.chart.first = ap (λ (x : Standing K). x.chart.first) (one_of went.0 before.0 (sym went.2 ∙ before.1)) in
+          let on_it = first_then of st there in omega (arith, l, same_before, on_it)
+
+      abbrev ItsEnds : Type 0
+      ItsEnds = EndsSo same hash log m s old new at of i r r_is went.0 went.2 c begun reads met went.1 said steps
+
+      led : LedAt of (moments_from c.begun log) met.low ItsEnds p2.stands
+      led = room_goes same hash log m s old new at of i r r_is went.0 went.2 c begun reads met went.1 said steps went.4.next went.4.goes_on (ForRoom r2) goes p2 machine_is
+
+      point : (stands : Reserving) → p2.stands ≡ stands → LedAt of (moments_from c.begun log) met.low ItsEnds stands → RoomAt of (moments_from c.begun log) met.low stands
+      point reserving.Reads is h = h
+      point (reserving.Makes making) is h = h
+      point (reserving.Sums table sum) is h = h
+      point (reserving.Follows table need) is h = h
+      point (reserving.Grows table making) is h = h
+      point (reserving.Copies copier) is (source, inl target) = (source, target)
+      point (reserving.Copies copier) is (source, inr told) = (
+        source,
+        (let later = room_later V same st.hash st.setting slot_of scene2.world st.chart (seen_by st.blocks (st.sights (slot_of i))) i r2
+            ((went.5.together.makings.standing.each of st there).stand i (ForRoom r2) (its_next ∙ goes)) copier is told in omega (arith, source, later)),
+      )
+      point reserving.Over is h = h
+      point (reserving.Refused fault) is h = h
+
+      own_room : HasMet of st (moments_from d.begun log) r2
+      own_room =
+          subst (λ (b : ℕ). HasMet of st (moments_from b log) r2) (sym (same_call i c d c_is d_is).begun) (record { low = met.low; was = met.was; root = root; point = point p2.stands refl led })
+
     -- the caller's own
     pub own_come : ShowsNone said → (y : UnderWay K V K) → s.calls of i ≡ Some y → ReadsShards log m s of y → StepsFrom same hash (machine_of y) old new went.1 said → Did y
         → (x : UnderWay K V K) → went.4.next ≡ Some x → (st : Standing K) → scene2.maps of ≡ Some st → (c d : CallThere K V) → call_of (name i) m ≡ Some c → call_of (name i) v2 ≡ Some d
@@ -179,9 +246,11 @@ module _ {K V S : Type 0} (same : K → K → Bool) (hash : K → ℕ) (name : �
     own_come none (OnKey z) y_is its steps (p2, end, machine_is, told_is, inr (row, stayed)) x e st there c d c_is d_is =
         subst (λ (y : UnderWay K V K). HasCome of st (on.shows.number of) log v2 y d) (sym (key_goes_on _ end x (sym stayed.2 ∙ e))) tt
     own_come none (ForRoom r) y_is its steps (p2, end, machine_is, told_is, inl (step, moved)) x e st there c d c_is d_is =
-        subst (λ (y : UnderWay K V K). HasCome of st (on.shows.number of) log v2 y d) (sym (room_goes_on _ end x (sym moved.2 ∙ e))) tt
+        subst (λ (y : UnderWay K V K). HasCome of st (on.shows.number of) log v2 y d) (sym (room_goes_on _ end x (sym moved.2 ∙ e)))
+        (own_room r y_is its steps p2 machine_is (e ∙ ap Some (room_goes_on _ end x (sym moved.2 ∙ e))) st there c d c_is d_is)
     own_come none (ForRoom r) y_is its steps (p2, end, machine_is, told_is, inr (row, stayed)) x e st there c d c_is d_is =
-        subst (λ (y : UnderWay K V K). HasCome of st (on.shows.number of) log v2 y d) (sym (room_goes_on _ end x (sym stayed.2 ∙ e))) tt
+        subst (λ (y : UnderWay K V K). HasCome of st (on.shows.number of) log v2 y d) (sym (room_goes_on _ end x (sym stayed.2 ∙ e)))
+        (own_room r y_is its steps p2 machine_is (e ∙ ap Some (room_goes_on _ end x (sym stayed.2 ∙ e))) st there c d c_is d_is)
     own_come none (Counting sum) y_is its steps (sum2, end, machine_is, told_is, still, stayed) x e st there c d c_is d_is =
         let before = before_then of st there in
         subst (λ (y : UnderWay K V K). HasCome of st (on.shows.number of) log v2 y d) (sym (counting_goes_on sum2 end x (sym stayed.2 ∙ e)))

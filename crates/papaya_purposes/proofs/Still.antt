@@ -11,7 +11,7 @@ use Rattle.papaya_schedules.specs.Views.{is_in_map}
 use Rattle.papaya_callers.specs.OverAll.{CallOverAll}
 use Rattle.papaya_callers.specs.Together.{UnderWay, OnKey, ForRoom, Counting, OverAll}
 use Rattle.papaya_finishes.specs.Maps.{Standing}
-use Rattle.papaya_purposes.specs.Purposes.{PairsWithin, IsFor, HasAdded, TellsDone, HasSwept, HasCome}
+use Rattle.papaya_purposes.specs.Purposes.{PairsWithin, IsFor, HasAdded, HasMet, HasCome}
 use Rattle.papaya_purposes.proofs.Done.{tells_kept}
 use Rattle.papaya_purposes.proofs.Shown.{IsStill}
 use Rattle.papaya_purposes.proofs.Within.{pairs_within_moments}
@@ -28,7 +28,7 @@ module _ {K V : Type 0} (of : ℕ) (st : Standing K) (number : ℕ → ℕ) (log
 
   pub come_still : IsStill c d → (u : UnderWay K V K) → HasCome of st number log m u c → HasCome of st number log m2 u d
   come_still still (OnKey u) h = tt
-  come_still still (ForRoom r) h = tt
+  come_still still (ForRoom r) h = subst (λ (b : ℕ). HasMet of st (moments_from b log) r) (sym still.begun) h
   come_still still (Counting sum) h = subst (λ (b : ℕ). HasAdded of (moments_from b log) sum.setting.mask sum.stands) (sym still.begun) h
   come_still still (OverAll o) h = record {
     within = within_still still.begun o.began h.within;

@@ -86,3 +86,6 @@ module _ {K V : Type 0} (of : ℕ) (moments moments2 : List (Moment K V)) (wider
   pub added_wider : (mask : ℕ) (p : Summing) → HasAdded of moments mask p → HasAdded of moments2 mask p
   added_wider mask (sums.Adds shard total) (sum, up, is) = (sum, adds_wider shard sum up, is)
   added_wider mask (sums.Over count) (sum, up, is) = (sum, adds_wider (suc mask) sum up, is)
+
+  pub counts_wider : (shards n : ℕ) → Counts shards of moments n → Counts shards of moments2 n
+  counts_wider shards n (sum, up, is) = (sum, adds_wider shards sum up, is)

@@ -81,9 +81,22 @@ module _ {K V : Type 0} (known : Known) where
   counted_said n (progress.Done (answers.Count count)) is = ap (λ (x : ℕ). progress.Done (answers.Count x)) (sym is)
   counted_said n _ is = absurd is
 
-  pub swept_said : (said : Progress (Node K V)) → ComesSo known said (Answered Completed) → said ≡ progress.Done answers.Swept
-  swept_said (progress.Done answers.Swept) is = refl
-  swept_said _ is = absurd is
+  -- it has made room, or has swept
+  pub completed_said : (said : Progress (Node K V)) → ComesSo known said (Answered Completed) → (said ≡ progress.Done answers.Reserved) ⊎ (said ≡ progress.Done answers.Swept)
+  completed_said (progress.Done answers.Reserved) is = inl refl
+  completed_said (progress.Done answers.Swept) is = inr refl
+  completed_said _ is = absurd is
+
+-- a sweep makes no room
+none_reserved : {T : Type 0} (end : Swept T) → progress.Done {T = T} answers.Reserved ≡ of_swept end → ⊥
+none_reserved swept.Goes e = cc e
+none_reserved swept.Waits e = cc e
+none_reserved (swept.Gave value) e = cc e
+none_reserved swept.Ready e = cc e
+none_reserved (swept.Pair word) e = cc e
+none_reserved (swept.Asks word) e = cc e
+none_reserved swept.Done e = cc e
+none_reserved (swept.Refused fault) e = cc e
 
 pub done_swept : {T : Type 0} (end : Swept T) → progress.Done {T = T} answers.Swept ≡ of_swept end → end ≡ swept.Done
 done_swept swept.Goes e = absurd (cc e)
@@ -104,7 +117,7 @@ ends_done hash c blocks done done2 entered entered2 (sweeping.Copies copier) is 
 ends_done hash c blocks done done2 entered entered2 _ is = inr is.1
 
 -- a map of which fewer blocks may be looked at has the tables that it had
-same_map : {K : Type 0} (o o2 : Option (Standing K)) (st : Standing K) → o ≡ Some st → IsSameMap o o2 → (after : Standing K) × (o2 ≡ Some after) × (after.chart ≡ st.chart)
+pub same_map : {K : Type 0} (o o2 : Option (Standing K)) (st : Standing K) → o ≡ Some st → IsSameMap o o2 → (after : Standing K) × (o2 ≡ Some after) × (after.chart ≡ st.chart)
 same_map None o2 st is same = absurd (cc is)
 same_map (Some before) o2 st is (blocks, sights, here, part) = (record before { blocks = blocks; sights = sights }, here, ap (λ (x : Standing _). x.chart) (one_of before st is))
 
@@ -232,7 +245,7 @@ module _ {K V S : Type 0} (same : K → K → Bool) (hash : K → ℕ) (name : �
               by true told = told refl
 
   -- where it has ended
-  module _ (done : said ≡ progress.Done answers.Swept) (o : CallOverAll) (o_is : s.calls of i ≡ Some (OverAll o)) where
+  module _ (completed : (said ≡ progress.Done answers.Reserved) ⊎ (said ≡ progress.Done answers.Swept)) (o : CallOverAll) (o_is : s.calls of i ≡ Some (OverAll o)) where
     abbrev to : WentTo same hash name m known s old new at purposes.shown of i u here said leads
     to = went same hash name log m known s old new at whole purposes of i u here said leads
 
@@ -240,6 +253,12 @@ module _ {K V S : Type 0} (same : K → K → Bool) (hash : K → ℕ) (name : �
     entered_from = elim ((at.together.makings.standing.each of to.0 to.2).stand i (OverAll o) o_is) as (λ _. o.began ≤ o.entered) [
       | inl k ↦ k.1.from
       | inr k ↦ k.2.from
+    ]
+
+    ended_swept : (end : Swept (Node K V)) → said ≡ of_swept end → end ≡ swept.Done
+    ended_swept end told_is = elim completed as (λ _. end ≡ swept.Done) [
+      | inl done ↦ absurd (none_reserved end (sym done ∙ told_is))
+      | inr done ↦ done_swept end (sym done ∙ told_is)
     ]
 
     pub ended : Did same hash name log m known s old new at whole purposes of i u here said leads (OverAll o) → HasEnded o
@@ -255,7 +274,7 @@ module _ {K V S : Type 0} (same : K → K → Bool) (hash : K → ℕ) (name : �
     }
       where
         is : end ≡ swept.Done
-        is = done_swept end (sym done ∙ told_is)
+        is = ended_swept end told_is
 
         its : Standing K
         its = record to.0 { chart = step.step.went.c2; blocks = step.step.blocks2; sights = step.step.sights2 }
@@ -265,7 +284,7 @@ module _ {K V S : Type 0} (same : K → K → Bool) (hash : K → ℕ) (name : �
       entered = o.entered;
       from = entered_from;
       done = o.done;
-      came = subst (λ (x : Chart K). Came x o.entered o.sweep.purpose o.done) (sym after.2) (row.step.comes (done_swept end (sym done ∙ told_is)));
+      came = subst (λ (x : Chart K). Came x o.entered o.sweep.purpose o.done) (sym after.2) (row.step.comes (ended_swept end told_is));
       kept = inr refl;
     }
       where
@@ -273,7 +292,7 @@ module _ {K V S : Type 0} (same : K → K → Bool) (hash : K → ℕ) (name : �
         after = same_map (s.maps of) (to.4.maps2 of) to.0 to.2 (stayed.1 of)
 
   -- so it is with a clearing, and a retaining
-  module _ (changes : PairsChangeFirst log m of v) (done : said ≡ progress.Done answers.Swept) where
+  module _ (changes : PairsChangeFirst log m of v) (done : (said ≡ progress.Done answers.Reserved) ⊎ (said ≡ progress.Done answers.Swept)) where
     pub clearing : (y : UnderWay K V K) → s.calls of i ≡ Some y → IsFor y call.Clear → Did same hash name log m known s old new at whole purposes of i u here said leads y
         → ClearsAll then_call (moments_from then_call.begun log) v
     clearing (OnKey z) y_is is did = absurd is
@@ -301,7 +320,7 @@ module _ (K V S : Type 0) (same : K → K → Bool) (hash : K → ℕ) where
 
   pub clearings_are_swept : ClearingsAreSwept K V S same hash
   clearings_are_swept name log m known s old new at whole purposes of i u here said leads c c_is is_clear changes comes terms mask e caller worked_is outcome =
-      let told = swept_said (known2 same hash name log m known s old new at whole purposes of i u here said leads) said comes in
+      let told = completed_said (known2 same hash name log m known s old new at whole purposes of i u here said leads) said comes in
       let is = still same hash name log m known s old new at whole purposes of i u here said leads c c_is in
       swept_by same terms log e (name i) (v same hash name log m known s old new at whole purposes of i u here said leads c c_is)
       (then_call same hash name log m known s old new at whole purposes of i u here said leads c c_is) caller worked_is
@@ -311,7 +330,7 @@ module _ (K V S : Type 0) (same : K → K → Bool) (hash : K → ℕ) where
 
   pub retainings_are_swept : RetainingsAreSwept K V S same hash
   retainings_are_swept name log m known s old new at whole purposes of i u here said leads c c_is is_retain changes comes terms mask e caller worked_is outcome =
-      let told = swept_said (known2 same hash name log m known s old new at whole purposes of i u here said leads) said comes in
+      let told = completed_said (known2 same hash name log m known s old new at whole purposes of i u here said leads) said comes in
       let is = still same hash name log m known s old new at whole purposes of i u here said leads c c_is in
       swept_by same terms log e (name i) (v same hash name log m known s old new at whole purposes of i u here said leads c c_is)
       (then_call same hash name log m known s old new at whole purposes of i u here said leads c c_is) caller worked_is

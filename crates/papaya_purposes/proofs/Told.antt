@@ -50,7 +50,7 @@ use Rattle.papaya_histories.specs.Histories.{since}
 use Rattle.papaya_histories.proofs.Roles.{named_by}
 use Rattle.papaya_moments.specs.Whole.{ShowsWhole}
 use Rattle.papaya_purposes.specs.Kept.{AsksAboutIt, CallsTakePurposes}
-use Rattle.papaya_purposes.specs.Purposes.{IsFor, PairsWithin, HasAdded, TellsDone, HasSwept, HasCome, ShowsPurposes}
+use Rattle.papaya_purposes.specs.Purposes.{IsFor, PairsWithin, HasAdded, HasMet, TellsDone, HasSwept, HasCome, ShowsPurposes}
 use Rattle.papaya_purposes.proofs.For.{key_for, sweep_for}
 use Rattle.papaya_purposes.proofs.Lists.{all_on, all_both, yes_now, yes_still}
 use Rattle.papaya_purposes.proofs.Shown.{same_still}
@@ -277,7 +277,9 @@ module _ {K V S : Type 0} (same : K → K → Bool) (hash : K → ℕ) (name : �
     own_come : (y : UnderWay K V K) → s.calls of i ≡ Some y → u ≡ y → ToldOfKind V same same e.batch_size e.roots slot_of st i y (as_told is_told) next → HasCome of st (purposes.shown.number of) log v next d
     own_come (OnKey z) y_is u_is (inl (asks_at, asked, stands, asks, next_is)) = subst (λ (y : UnderWay K V K). HasCome of st (purposes.shown.number of) log v y d) (sym next_is) tt
     own_come (OnKey z) y_is u_is (inr next_is) = subst (λ (y : UnderWay K V K). HasCome of st (purposes.shown.number of) log v y d) (sym next_is) tt
-    own_come (ForRoom r) y_is u_is next_is = subst (λ (y : UnderWay K V K). HasCome of st (purposes.shown.number of) log v y d) (sym next_is) tt
+    own_come (ForRoom r) y_is u_is next_is =
+        subst (λ (y : UnderWay K V K). HasCome of st (purposes.shown.number of) log v y d) (sym next_is)
+        (subst (λ (z : ℕ). HasMet of st (moments_from z log) r) (sym (ap (λ (f : CallThere K V). f.begun) d_is)) (purposes.come of i (ForRoom r) y_is st there c c_is))
     own_come (Counting sum) y_is u_is next_is =
         subst (λ (y : UnderWay K V K). HasCome of st (purposes.shown.number of) log v y d) (sym next_is)
         (subst (λ (z : ℕ). HasAdded of (moments_from z log) sum.setting.mask sum.stands) (sym (ap (λ (f : CallThere K V). f.begun) d_is)) (purposes.come of i (Counting sum) y_is st there c c_is))

@@ -7,13 +7,15 @@ use Rattle.seize.specs.declared.progress.Progress.{Progress as Counted}
 use Rattle.seize.specs.declared.progress.Progress.TheVariants as counting
 use Rattle.papaya_tables.specs.declared.node.Node.{Node}
 use Rattle.papaya_tables.specs.declared.setting.Setting.{Setting}
+use Rattle.papaya_resize.specs.declared.outcome.Outcome.{Outcome}
+use Rattle.papaya_resize.specs.declared.outcome.Outcome.TheVariants as outcome
 use Rattle.papaya_sweeps.specs.declared.sweep.Purpose.TheVariants.{Walks}
 use Rattle.papaya_sweeps.specs.declared.sweep.Sweep.{Sweep}
 use Rattle.papaya_sweeps.specs.declared.sweep.Sweeping.{Sweeping}
 use Rattle.papaya_sweeps.specs.declared.sweep.Sweeping.TheVariants as sweeping
 use Rattle.papaya_sweeps.specs.declared.sweep.Swept.{Swept}
 use Rattle.papaya_sweeps.specs.declared.sweep.Swept.TheVariants as swept
-use Rattle.papaya_raw.specs.Progress.{of_counting, of_swept}
+use Rattle.papaya_raw.specs.Progress.{of_outcome, of_counting, of_swept}
 use Rattle.papaya_raw.specs.declared.machines.progress.Progress.{Progress}
 use Rattle.papaya_raw.specs.declared.machines.progress.Progress.TheVariants as progress
 use Rattle.papaya_runs.specs.Same.{is_same}
@@ -37,7 +39,7 @@ use Rattle.papaya_executor.specs.Stepping.{StepLeads}
 use Rattle.papaya_executor.specs.declared.executor.Executor.{Executor}
 use Rattle.papaya_follows.specs.Calling.{come_to}
 use Rattle.papaya_follows.specs.Shows.{Shows}
-use Rattle.papaya_follows.proofs.Called.{key_goes_on, room_goes_on, sweep_goes_on}
+use Rattle.papaya_follows.proofs.Called.{key_goes_on, sweep_goes_on}
 use Rattle.papaya_follows.proofs.Calling.{is_same_refl, come, come_of_same, come_with}
 use Rattle.papaya_follows.proofs.Calls.{found}
 use Rattle.papaya_follows.proofs.Steps.{one_of}
@@ -73,6 +75,14 @@ none_counted word counting.Goes e = cc e
 none_counted word counting.Waits e = cc e
 none_counted word (counting.Done count) e = cc e
 none_counted word (counting.Refused fault) e = cc e
+
+-- nor does a reservation
+none_room : {T : Type 0} (word : ℕ) (end : Outcome T Unit) → progress.Pair {T = T} word ≡ of_outcome end → ⊥
+none_room word outcome.Goes e = cc e
+none_room word outcome.Waits e = cc e
+none_room word (outcome.Gave value) e = cc e
+none_room word (outcome.Done end) e = cc e
+none_room word (outcome.Refused fault) e = cc e
 
 -- a sweep that shows one says so
 pub pair_swept : {T : Type 0} (word : ℕ) (end : Swept T) → progress.Pair {T = T} word ≡ of_swept end → end ≡ swept.Pair word
@@ -181,10 +191,7 @@ module _ {K V S : Type 0} (same : K → K → Bool) (hash : K → ℕ) (name : �
       subst (λ (y : UnderWay K V K). HasCome of st (numbers2 of) log v3 y (come (ShowsOne q) steps d)) (sym (key_goes_on _ end x (sym moved.2 ∙ e))) tt
   own_come (OnKey z) y_is (p2, end, machine_is, told_is, inr (row, stayed)) x e st there c d c_is d_is =
       subst (λ (y : UnderWay K V K). HasCome of st (numbers2 of) log v3 y (come (ShowsOne q) steps d)) (sym (key_goes_on _ end x (sym stayed.2 ∙ e))) tt
-  own_come (ForRoom r) y_is (p2, end, machine_is, told_is, inl (step, moved)) x e st there c d c_is d_is =
-      subst (λ (y : UnderWay K V K). HasCome of st (numbers2 of) log v3 y (come (ShowsOne q) steps d)) (sym (room_goes_on _ end x (sym moved.2 ∙ e))) tt
-  own_come (ForRoom r) y_is (p2, end, machine_is, told_is, inr (row, stayed)) x e st there c d c_is d_is =
-      subst (λ (y : UnderWay K V K). HasCome of st (numbers2 of) log v3 y (come (ShowsOne q) steps d)) (sym (room_goes_on _ end x (sym stayed.2 ∙ e))) tt
+  own_come (ForRoom r) y_is (p2, end, machine_is, told_is, did) x e st there c d c_is d_is = absurd (none_room word end told_is)
   own_come (Counting sum) y_is (sum2, end, machine_is, told_is, still, stayed) x e st there c d c_is d_is = absurd (none_counted word end told_is)
   own_come (OverAll o) y_is (p2, end, machine_is, told_is, inr (row, stayed)) x e st there c d c_is d_is =
       absurd (let silent = row.step.silent in let is = pair_swept word end told_is in cc (silent, is))

@@ -94,7 +94,7 @@ module _ (K V S : Type 0) (same : K → K → Bool) (hash : K → ℕ) where
   CallsBeginPurposes =
       (name : ℕ → List ℕ) (log : List (Entry K V)) (m : Moment K V) (known : Known) (s : Scene K V) (e : Executor K V S) → IsAt same hash e s → ShowsPurposes same name log m known s
       → (of i : ℕ) (u : UnderWay K V K) (call : Call K V) (guard : List ℕ) (standing : Standing K) → s.maps of ≡ Some standing → Begins same standing i u
-      → NoneNamed name (name i) s → IsCalled same u call → IsFor u call → m.events ≡ length log
+      → NoneNamed name (name i) s → IsCalled same u call → IsFor u call → m.events ≡ length log → m.maps ≡ (moment log).maps
       → ShowsPurposes same name log (with_call (name i) guard call (Some of) m) known (scene_with of i u s)
 
   -- where one that asks takes what it is told about that,

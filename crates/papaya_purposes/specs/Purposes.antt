@@ -4,6 +4,8 @@ use Rattle.std.specs.Prelude.{◌≡◌, ℕ, suc, ◌<◌, ◌≤◌, ◌%◌, 
 use Rattle.std.specs.List.{AllByRecursion}
 use Rattle.papaya_resize.specs.declared.sum.Summing.{Summing}
 use Rattle.papaya_resize.specs.declared.sum.Summing.TheVariants as sums
+use Rattle.papaya_reserves.specs.declared.reserve.Reserving.{Reserving}
+use Rattle.papaya_reserves.specs.declared.reserve.Reserving.TheVariants as reserving
 use Rattle.papaya_sweeps.specs.declared.sweep.Purpose.TheVariants.{Walks, Clears, Retains}
 use Rattle.papaya_sweeps.specs.declared.sweep.Sweeping.{Sweeping}
 use Rattle.papaya_sweeps.specs.declared.sweep.Sweeping.TheVariants as at
@@ -15,8 +17,9 @@ use Rattle.papaya_schedules.specs.Entry.{Entry}
 use Rattle.papaya_schedules.specs.Lists.{OneOf}
 use Rattle.papaya_schedules.specs.Moment.{UnderWay as CallThere, Moment}
 use Rattle.papaya_schedules.specs.Sweeps.{is_yes}
-use Rattle.papaya_schedules.specs.Views.{call_of, is_in_map, reply_to}
+use Rattle.papaya_schedules.specs.Views.{call_of, is_in_map, first_of, reply_to}
 use Rattle.papaya_callers.specs.OverAll.{CallOverAll}
+use Rattle.papaya_callers.specs.Rooms.{CallForRoom}
 use Rattle.papaya_callers.specs.Together.{UnderWay, OnKey, ForRoom, Counting, OverAll}
 use Rattle.papaya_effects.specs.Known.{Known}
 use Rattle.papaya_executor.specs.IsAt.{Scene}
@@ -65,10 +68,27 @@ module _ {K V : Type 0} where
     pub tells : TellsDone c.call number o.done c
     pub none : o.sweep.purpose ≡ Walks → IsBefore o.sweep.stands → o.done ≡ []
 
+  -- The table to which a reservation has come is not before this one. Where it counts, it has added up shards.
+  abbrev pub RoomAt : ℕ → List (Moment K V) → ℕ → Reserving → Type 0
+  RoomAt of moments low reserving.Reads = Unit {0}
+  RoomAt of moments low (reserving.Makes making) = low ≡ 0
+  RoomAt of moments low (reserving.Sums table sum) = (low ≤ table.turn) × HasAdded of moments sum.setting.mask sum.stands
+  RoomAt of moments low (reserving.Follows table need) = low ≤ table.turn
+  RoomAt of moments low (reserving.Grows table making) = low ≤ table.turn
+  RoomAt of moments low (reserving.Copies copier) = (low ≤ copier.source.turn) × (low ≤ copier.target.turn)
+  RoomAt of moments low _ = ⊥
+
+  -- What a reservation has come to: to no table that was before the root at each of these moments.
+  pub record HasMet (of : ℕ) (s : Standing K) (moments : List (Moment K V)) (r : CallForRoom) : Type 0 where
+    pub low : ℕ
+    pub was : OneOf (λ m. first_of of m ≤ low) moments
+    pub root : low ≤ s.chart.first
+    pub point : RoomAt of moments low r.reserve.stands
+
   -- what a call has come to
   abbrev pub HasCome : ℕ → Standing K → (ℕ → ℕ) → List (Entry K V) → Moment K V → UnderWay K V K → CallThere K V → Type 0
   HasCome of s number log m (OnKey u) c = Unit {0}
-  HasCome of s number log m (ForRoom r) c = Unit {0}
+  HasCome of s number log m (ForRoom r) c = HasMet of s (moments_from c.begun log) r
   HasCome of s number log m (Counting sum) c = HasAdded of (moments_from c.begun log) sum.setting.mask sum.stands
   HasCome of s number log m (OverAll o) c = HasSwept of s number (since log m c) o c
 

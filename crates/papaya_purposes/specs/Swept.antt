@@ -5,7 +5,7 @@ use Rattle.papaya_raw.specs.declared.machines.progress.Answer.TheVariants as ans
 use Rattle.papaya_raw.specs.declared.machines.progress.Progress.{Progress}
 use Rattle.papaya_raw.specs.declared.machines.progress.Progress.TheVariants as progress
 use Rattle.papaya_schedules.specs.declared.call.Answer.TheVariants.{Completed, Counted}
-use Rattle.papaya_schedules.specs.declared.call.Call.TheVariants.{On, Clear, Retain, Len, Walk}
+use Rattle.papaya_schedules.specs.declared.call.Call.TheVariants.{On, Reserve, Clear, Retain, Len, Walk}
 use Rattle.papaya_schedules.specs.declared.call.OneKey.{OneKey}
 use Rattle.papaya_schedules.specs.declared.outcome.Outcome.{Outcome}
 use Rattle.papaya_schedules.specs.declared.outcome.Outcome.TheVariants.{Shows, Answered}
@@ -34,6 +34,7 @@ use Rattle.papaya_purposes.specs.Shards.{ReadsShards}
 abbrev pub ComesSo : {K V : Type 0} → Known → Progress (Node K V) → Outcome V → Type 0
 ComesSo known (progress.Pair word) (Shows n) = NamesPair known word n
 ComesSo known (progress.Done (answers.Count count)) (Answered (Counted n)) = n ≡ count
+ComesSo known (progress.Done answers.Reserved) (Answered Completed) = Unit {0}
 ComesSo known (progress.Done answers.Swept) (Answered Completed) = Unit {0}
 ComesSo known _ _ = ⊥
 
@@ -47,6 +48,9 @@ module _ {K V : Type 0} where
   -- which of the calls on whole maps an event is of
   abbrev pub IsLen : CallThere K V → Type 0
   IsLen c = c.call ≡ Len
+
+  abbrev pub Reserves : ℕ → CallThere K V → Type 0
+  Reserves more c = c.call ≡ Reserve more
 
   abbrev pub IsWalk : CallThere K V → Type 0
   IsWalk c = c.call ≡ Walk
@@ -73,6 +77,10 @@ module _ (K V S : Type 0) (same : K → K → Bool) (hash : K → ℕ) where
   -- `len` answers a count of shards, each as it was at a moment of the call, if it reads them as they are;
   abbrev pub CountingsAreSwept : Type 0
   CountingsAreSwept = (n : ℕ) → Ends IsLen (λ log m v s of u. ReadsShards log m s of u) (Answered (Counted n))
+
+  -- a reservation that is answered has counted so, and has met a root with room for so many more;
+  abbrev pub ReservationsAreSwept : Type 0
+  ReservationsAreSwept = (more : ℕ) → Ends (Reserves more) (λ log m v s of u. ReadsShards log m s of u) (Answered Completed)
 
   -- a walk shows a pair that was in the map at a moment of it, and was not shown before, if none has come within the event;
   abbrev pub WalksShow : Type 0

@@ -2,7 +2,7 @@
 ghost use Rattle.std.specs.Prelude.{ℕ, Bool};
 ghost use Rattle.papaya_purposes.specs.Kept.{PurposesBegin, CallsKeepPurposes, WalksShowPurposes, CallsBeginPurposes, CallsTakePurposes, WalksGoOnPurposes, CallsComeToPurposes, EventsKeepPurposes, FirstStepsChangePairsFirst, StillStepsChangePairsFirst, RemovalsChangePairsFirst};
 ghost use Rattle.papaya_purposes.specs.Rows.{RowsBeginPurposes, RowsKeepPurposes};
-ghost use Rattle.papaya_purposes.specs.Swept.{CountingsAreSwept, WalksShow, ClearingsAreSwept, RetainingsAreSwept, OtherOutcomesAreSwept, CallsOnKeysAreSwept, NoCallsAreSwept};
+ghost use Rattle.papaya_purposes.specs.Swept.{CountingsAreSwept, ReservationsAreSwept, WalksShow, ClearingsAreSwept, RetainingsAreSwept, OtherOutcomesAreSwept, CallsOnKeysAreSwept, NoCallsAreSwept};
 
 /// At each moment of a run that shows the executor, each call is for what was called, and has come to what the moment says: pair by pair, what a sweep's map had since
 /// it began, the map has at a moment of the run since then; a walk has shown just what it has done, and a retaining has done such pairs about which the last reply was
@@ -28,6 +28,12 @@ pub fn purposes_are_kept<K, V, S>()
 /// `len` answers a count of the shards, each as it was at a moment of the call, if its steps read them as the moment has them.
 pub fn countings_are_swept<K, V, S>()
     ensures events { (same : K → K → Bool) (hash : K → ℕ) → CountingsAreSwept K V S same hash }
+{}
+
+/// A reservation that is answered has counted the shards, each as it was at a moment of the call, and since then a table was the root that has room for so many more
+/// pairs, if its steps read the shards as the moment has them.
+pub fn reservations_are_swept<K, V, S>()
+    ensures events { (same : K → K → Bool) (hash : K → ℕ) → ReservationsAreSwept K V S same hash }
 {}
 
 /// A walk shows a pair that was in the map at a moment of it, and that it has not shown before, if no pair comes within the event.
