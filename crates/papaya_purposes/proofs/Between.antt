@@ -217,8 +217,8 @@ next_over : (p : Sweep) → p.stands ≡ sweeping.Ready → IsBefore (after_next
 next_over p ready before = at_ready p.stands ready before
   where
     by : (q : Bool) → IsBefore (if q then sweeping.Words else sweeping.Over) → ⊥
-    by true no = no
-    by false no = no
+    by true never = never
+    by false never = never
 
     at_ready : (stands : Sweeping) → stands ≡ sweeping.Ready → IsBefore (next_at stands p).stands → ⊥
     at_ready sweeping.Ready e first = by (nat_lt p.place p.table.len) first

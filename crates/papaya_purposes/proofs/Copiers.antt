@@ -9,7 +9,9 @@ use Rattle.seize.specs.declared.progress.Progress.TheVariants as counted
 use Rattle.seize.specs.declared.rows.settle.Settle.{Settle}
 use Rattle.seize.specs.declared.rows.settle.Settled.{Settled}
 use Rattle.seize.specs.declared.rows.settle.Settled.TheVariants as settled
+use Rattle.seize.specs.Settle.{settle_plan}
 use Rattle.papaya_tables.specs.Chunks.{is_incremental}
+use Rattle.papaya_tables.specs.Nodes.{deferred_word}
 use Rattle.papaya_tables.specs.declared.node.Node.{Node}
 use Rattle.papaya_tables.specs.declared.probe.Probe.{Probe}
 use Rattle.papaya_tables.specs.declared.status.TheConstants.Status.{ABORTED, PROMOTED}
@@ -108,8 +110,8 @@ module _ (K V : Type 0) (p : Copier) where
 
   status_keeps : (out : Out (Node K V)) → Always Keeps (status_read p out)
   status_keeps (Found status) =
-      always_if Keeps (status == PROMOTED) _ _ (goes _ (refl, refl))
-      (always_if Keeps (status == ABORTED) _ _ (goes _ (refl, refl)) (always_if Keeps p.spent _ _ (refl, inl refl) (goes _ (refl, refl))))
+      always_if Keeps (status == PROMOTED) _ _ (refl, inl refl)
+      (always_if Keeps (status == ABORTED) _ _ (refl, inl refl) (always_if Keeps p.spent _ _ (refl, inl refl) (refl, inl refl)))
   status_keeps Stored = stays
   status_keeps (Exchanged r) = stays
   status_keeps (Made r) = stays
@@ -117,7 +119,7 @@ module _ (K V : Type 0) (p : Copier) where
   status_keeps (Roomed r) = stays
 
   seen_keeps : (out : Out (Node K V)) → Always Keeps (claim_read p out)
-  seen_keeps (Found claim) = always_if Keeps (nat_lt claim p.source.len) _ _ (goes _ (refl, refl)) (goes (none_left p) (left_same p))
+  seen_keeps (Found claim) = always_if Keeps (nat_lt claim p.source.len) _ _ (refl, inl refl) (goes (none_left p) (left_same p))
   seen_keeps Stored = stays
   seen_keeps (Exchanged r) = stays
   seen_keeps (Made r) = stays
@@ -133,7 +135,7 @@ module _ (K V : Type 0) (p : Copier) where
   claimed_keeps (Roomed r) = stays
 
   mine_keeps : (hash : K → ℕ) (word : ℕ) → Always Keeps (mine_marked hash p word)
-  mine_keeps hash word = always_if Keeps (block_in word == 0) _ _ (goes (place_done p) (done_same p)) (λ value. goes _ (refl, refl))
+  mine_keeps hash word = always_if Keeps (block_in word == 0) _ _ (goes (place_done p) (done_same p)) (λ value. (refl, inl refl))
 
   marked_keeps : (hash : K → ℕ) (out : Out (Node K V)) → Always Keeps (marked hash p out)
   marked_keeps hash (Found word) =
@@ -146,7 +148,7 @@ module _ (K V : Type 0) (p : Copier) where
 
   place_keeps : (word hash : ℕ) (table : Table) (probe : Probe) (out : Out (Node K V)) → Always Keeps (place_read p word hash table probe out)
   place_keeps word hash table probe (Found found) =
-      always_if Keeps (found == 0) _ _ (goes _ (refl, refl)) (goes (next_try p word hash table probe) (try_same p word hash table probe))
+      always_if Keeps (found == 0) _ _ (refl, inl refl) (goes (next_try p word hash table probe) (try_same p word hash table probe))
   place_keeps word hash table probe Stored = stays
   place_keeps word hash table probe (Exchanged r) = stays
   place_keeps word hash table probe (Made r) = stays
@@ -163,7 +165,7 @@ module _ (K V : Type 0) (p : Copier) where
   put_keeps word hash table probe (Roomed r) = stays
 
   further_keeps : (word hash : ℕ) (table : Table) (out : Out (Node K V)) → Always Keeps (further_read p word hash table out)
-  further_keeps word hash table (Found link) = always_if Keeps (link == 0) _ _ (goes _ (refl, refl)) (λ value. goes _ (refl, refl))
+  further_keeps word hash table (Found link) = always_if Keeps (link == 0) _ _ (refl, inl refl) (λ value. (refl, inl refl))
   further_keeps word hash table Stored = stays
   further_keeps word hash table (Exchanged r) = stays
   further_keeps word hash table (Made r) = stays
@@ -171,14 +173,14 @@ module _ (K V : Type 0) (p : Copier) where
   further_keeps word hash table (Roomed r) = stays
 
   grown_keeps : (word hash : ℕ) (end : NewTable × Counted Table) → Keeps (grown p word hash end)
-  grown_keeps word hash (making, counted.Goes) = goes _ (refl, refl)
+  grown_keeps word hash (making, counted.Goes) = (refl, inl refl)
   grown_keeps word hash (making, counted.Waits) = (refl, inl refl)
-  grown_keeps word hash (making, counted.Done table) = goes _ (refl, refl)
+  grown_keeps word hash (making, counted.Done table) = (refl, inl refl)
   grown_keeps word hash (making, counted.Refused fault) = goes (refusing p word fault) (refusing_same p word fault)
 
   -- it begins anew with another table
   replaced_keeps : (out : Out (Node K V)) → Always Keeps (replacement_read p out)
-  replaced_keeps (Found link) = always_if Keeps (link == 0) _ _ (goes _ (refl, refl)) (λ value. (refl, inr refl))
+  replaced_keeps (Found link) = always_if Keeps (link == 0) _ _ (refl, inl refl) (λ value. (refl, inr refl))
   replaced_keeps Stored = stays
   replaced_keeps (Exchanged r) = stays
   replaced_keeps (Made r) = stays
@@ -186,14 +188,14 @@ module _ (K V : Type 0) (p : Copier) where
   replaced_keeps (Roomed r) = stays
 
   remade_keeps : (end : NewTable × Counted Table) → Keeps (remade p end)
-  remade_keeps (making, counted.Goes) = goes _ (refl, refl)
+  remade_keeps (making, counted.Goes) = (refl, inl refl)
   remade_keeps (making, counted.Waits) = (refl, inl refl)
   remade_keeps (making, counted.Done table) = (refl, inr refl)
-  remade_keeps (making, counted.Refused fault) = goes _ (refl, refl)
+  remade_keeps (making, counted.Refused fault) = (refl, inl refl)
 
   count_keeps : (out : Out (Node K V)) → Always Keeps (count_read p out)
   count_keeps (Found count) =
-      always_if Keeps ((count + p.done) % 2 ^ 64 == p.source.len) _ _ (goes _ (refl, refl)) (goes (behind (record p { done = 0 })) (behind_same (record p { done = 0 })))
+      always_if Keeps ((count + p.done) % 2 ^ 64 == p.source.len) _ _ (refl, inl refl) (goes (behind (record p { done = 0 })) (behind_same (record p { done = 0 })))
   count_keeps Stored = stays
   count_keeps (Exchanged r) = stays
   count_keeps (Made r) = stays
@@ -201,7 +203,7 @@ module _ (K V : Type 0) (p : Copier) where
   count_keeps (Roomed r) = stays
 
   promoted_keeps : (out : Out (Node K V)) → Always Keeps (promoted p out)
-  promoted_keeps (Exchanged (Ok found)) = goes _ (refl, refl)
+  promoted_keeps (Exchanged (Ok found)) = (refl, inl refl)
   promoted_keeps (Exchanged (Err found)) = goes (behind p) (behind_same p)
   promoted_keeps (Found found) = stays
   promoted_keeps Stored = stays
@@ -210,7 +212,7 @@ module _ (K V : Type 0) (p : Copier) where
   promoted_keeps (Roomed r) = stays
 
   succeeds_keeps : (table : ℕ) (out : Out (Node K V)) → Always Keeps (successor_read p table out)
-  succeeds_keeps table (Found link) = goes _ (refl, refl)
+  succeeds_keeps table (Found link) = (refl, inl refl)
   succeeds_keeps table Stored = stays
   succeeds_keeps table (Exchanged r) = stays
   succeeds_keeps table (Made r) = stays
@@ -218,7 +220,7 @@ module _ (K V : Type 0) (p : Copier) where
   succeeds_keeps table (Roomed r) = stays
 
   retired_keeps : (rest : ℕ) (end : Settle × Settled (Node K V)) → Keeps (retired p rest end)
-  retired_keeps rest (settle, settled.Goes) = goes _ (refl, refl)
+  retired_keeps rest (settle, settled.Goes) = (refl, inl refl)
   retired_keeps rest (settle, settled.Waits) = (refl, inl refl)
   retired_keeps rest (settle, settled.Gave value) = (refl, inl refl)
   retired_keeps rest (settle, settled.Done) = goes (table_retired p rest) (retired_same p rest)
@@ -235,16 +237,16 @@ module _ (K V : Type 0) (p : Copier) where
   copier_keeps hash (at.Covers word) knows = λ out. goes (place_done p) (done_same p)
   copier_keeps hash (at.Passes word key table) knows = further_keeps word key table
   copier_keeps hash (at.Grows word key making) knows = always_plan_as Keeps (grown p word key) (grown_keeps word key) (new_table_plan making)
-  copier_keeps hash at.Aborts knows = λ out. goes _ (refl, refl)
+  copier_keeps hash at.Aborts knows = λ out. (refl, inl refl)
   copier_keeps hash at.Replaces knows = replaced_keeps
   copier_keeps hash (at.Remakes making) knows = always_plan_as Keeps (remade p) remade_keeps (new_table_plan making)
   copier_keeps hash at.Counts knows = count_keeps
-  copier_keeps hash (at.Tallies word fault) knows = λ out. goes _ (refl, refl)
-  copier_keeps hash (at.Unmarks word fault) knows = λ out. goes _ (refl, refl)
-  copier_keeps hash (at.Unclaims fault) knows = λ out. goes _ (refl, refl)
+  copier_keeps hash (at.Tallies word fault) knows = λ out. (refl, inl refl)
+  copier_keeps hash (at.Unmarks word fault) knows = λ out. (refl, inl refl)
+  copier_keeps hash (at.Unclaims fault) knows = λ out. (refl, inl refl)
   copier_keeps hash at.Promotes knows = promoted_keeps
-  copier_keeps hash at.Announces knows = λ out. goes _ (refl, refl)
+  copier_keeps hash at.Announces knows = λ out. (refl, inl refl)
   copier_keeps hash (at.Succeeds table) knows = succeeds_keeps table
-  copier_keeps hash (at.Retires settle rest) knows = always_plan_as Keeps (retired p rest) (retired_keeps rest) _
+  copier_keeps hash (at.Retires settle rest) knows = always_plan_as Keeps (retired p rest) (retired_keeps rest) (settle_plan deferred_word settle)
   copier_keeps hash at.Over knows = refl
   copier_keeps hash (at.Refused fault) knows = (refl, inl refl)

@@ -47,10 +47,10 @@ module _ {K : Type 0} (hash : K → ℕ) (c : Chart K) (blocks : Blocks) (done d
 module _ {K V : Type 0} (number number2 : ℕ → ℕ) (stored : ℕ) (numbers : (n : ℕ) → n < stored → number2 n ≡ number n) (c d : CallThere K V) (still : IsStill c d) (done : List ℕ)
     (below : AllByRecursion (λ n. n < stored) done) where
   yes_kept : AllByRecursion (λ n. is_yes (reply_to (Some (number n)) c.replies) ≡ true) done → AllByRecursion (λ n. is_yes (reply_to (Some (number2 n)) d.replies) ≡ true) done
-  yes_kept yes =
+  yes_kept said_yes =
       all_on (λ n. (n < stored) × (is_yes (reply_to (Some (number n)) c.replies) ≡ true)) (λ n. is_yes (reply_to (Some (number2 n)) d.replies) ≡ true)
       (λ n h. ap (λ (q : ℕ). is_yes (reply_to (Some q) d.replies)) (numbers n h.0) ∙ ap (λ (r : List (Option ℕ × Reply V)). is_yes (reply_to (Some (number n)) r)) still.replies ∙ h.1) done
-      (all_both (λ n. n < stored) (λ n. is_yes (reply_to (Some (number n)) c.replies) ≡ true) done below yes)
+      (all_both (λ n. n < stored) (λ n. is_yes (reply_to (Some (number n)) c.replies) ≡ true) done below said_yes)
 
   pub maps_kept : map number2 done ≡ map number done
   maps_kept = maps_alike number2 number done (all_on (λ n. n < stored) (λ n. number2 n ≡ number n) numbers done below)

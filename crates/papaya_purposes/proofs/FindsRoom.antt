@@ -165,9 +165,11 @@ module _ {K V S : Type 0} (same : K → K → Bool) (hash : K → ℕ) (name : �
         (one_table of on_it.st.chart tables.stage (λ t. (nat_le (first_of of x) t.table.turn ≡ true) × ((nat_le t.table.turn (first_of of now) ≡ true) × Long t)) on_it.st.chart.past ended.2
         (let a = ended.5 in let b = on_it.past in omega (arith, a, b)) (
           passes (first_of of x) ended.2 (let a = ended.3 in omega (arith, l, a)),
-          passes ended.2 (first_of of now) (let a = ended.4 in let b = on_it.first in let e = first_now in omega (arith, a, b, e)),
-          subst (λ (z : ℕ). Fits (len_of (ended.0 + z)) (on_it.st.chart.len ended.2)) additional
-              (subst (Fits (len_of (ended.0 + r.reserve.additional))) (sym (on_it.lens ended.2 ended.5)) ended.6),
+          (
+            passes ended.2 (first_of of now) (let a = ended.4 in let b = on_it.first in let e = first_now in omega (arith, a, b, e)),
+            subst (λ (z : ℕ). Fits (len_of (ended.0 + z)) (on_it.st.chart.len ended.2)) additional
+                (subst (Fits (len_of (ended.0 + r.reserve.additional))) (sym (on_it.lens ended.2 ended.5)) ended.6),
+          ),
         ))))
       where
         tables : ShowsTables of on_it.st now (known2 same hash name log m known s old new at whole purposes of i u here said leads)
@@ -201,7 +203,7 @@ module _ {K V S : Type 0} (same : K → K → Bool) (hash : K → ℕ) (name : �
   room_found terms mask more (OverAll o) y_is is reads steps done did = absurd is
 
 -- no reservation ends as a sweep
-none_swept : {T : Type 0} (end : Outcome T Unit) → progress.Done {T = T} answers.Swept ≡ of_outcome end → ⊥
+none_swept : {T : Type 0} (end : Outcome T Unit) → of_outcome end ≡ progress.Done answers.Swept → ⊥
 none_swept outcome.Goes e = cc e
 none_swept outcome.Waits e = cc e
 none_swept (outcome.Gave value) e = cc e
@@ -222,8 +224,10 @@ module _ (K V S : Type 0) (same : K → K → Bool) (hash : K → ℕ) where
     where
       reserved : (y : UnderWay K V K) → IsFor y (call.Reserve more) → Did same hash name log m known s old new at whole purposes of i u here said leads y
           → (said ≡ progress.Done answers.Reserved) ⊎ (said ≡ progress.Done answers.Swept) → said ≡ progress.Done answers.Reserved
-      reserved y is did (inl done) = done
-      reserved (ForRoom r) is (p2, end, machine_is, told_is, did) (inr done) = absurd (none_swept end (sym done ∙ told_is))
-      reserved (OnKey z) is did (inr done) = absurd is
-      reserved (Counting sum) is did (inr done) = absurd is
-      reserved (OverAll o) is did (inr done) = absurd is
+      reserved (ForRoom r) is (p2, end, machine_is, told_is, did) done = elim done as (λ _. said ≡ progress.Done answers.Reserved) [
+        | inl so ↦ so
+        | inr other ↦ absurd (none_swept end (sym told_is ∙ other))
+      ]
+      reserved (OnKey z) is did done = absurd is
+      reserved (Counting sum) is did done = absurd is
+      reserved (OverAll o) is did done = absurd is

@@ -1,5 +1,5 @@
 -- Lists of pairs, by what is so of each; and the last replies about them.
-use Rattle.std.specs.Prelude.{◌≡◌, ◌≢◌, ℕ, ◌+◌, ◌<◌, ◌==◌, ◌||◌, Bool, true, false, cond, List, [], ◌∷◌, map, Option, Some, if◌then◌else◌}
+use Rattle.std.specs.Prelude.{◌≡◌, ◌≢◌, ℕ, ◌+◌, ◌<◌, ◌==◌, ◌&&◌, ◌||◌, Bool, true, false, cond, List, [], ◌∷◌, map, Option, Some, if◌then◌else◌}
 use Rattle.std.specs.List.{AllByRecursion, list_all}
 use Rattle.std.proofs.Common.{refl, ap, sym, subst, ◌∙◌, arith, inl, inr}
 use Rattle.std.proofs.lemmas.Bool.{cases_eq, ne_eqb, eq-eqb}
@@ -68,12 +68,12 @@ pub all_pass : (test : ℕ → Bool) → ((n : ℕ) → test n ≡ true) → (xs
 all_pass test passes [] = refl
 all_pass test passes (x ∷ xs) = both_pass (test x) (list_all test xs) (passes x) (all_pass test passes xs)
   where
-    both_pass : (a b : Bool) → a ≡ true → b ≡ true → cond a b false ≡ true
+    both_pass : (a b : Bool) → a ≡ true → b ≡ true → (a && b) ≡ true
     both_pass true b e f = f
     both_pass false b e f = e
 
 module _ {X : Type 0} (test : X → Bool) (P : X → Type 0) where
-  parts : (a b : Bool) → cond a b false ≡ true → (a ≡ true) × (b ≡ true)
+  parts : (a b : Bool) → (a && b) ≡ true → (a ≡ true) × (b ≡ true)
   parts true b e = (refl, e)
   parts false b e = absurd (cc e)
 
@@ -89,4 +89,4 @@ module _ {V : Type 0} (n k : ℕ) (replies : List (Option ℕ × Reply V)) where
   yes_now e = ap (λ q. is_yes (if q then Some (Decides true) else reply_to (Some n) replies)) (subst (λ (x : ℕ). (n == x) ≡ true) e (is_self n))
 
   pub yes_still : (reply : Reply V) → n ≢ k → is_yes (reply_to (Some n) replies) ≡ true → is_yes (reply_to (Some n) ((Some k, reply) ∷ replies)) ≡ true
-  yes_still reply ne yes = ap (λ q. is_yes (if q then Some reply else reply_to (Some n) replies)) (is_other n k ne) ∙ yes
+  yes_still reply ne said_yes = ap (λ q. is_yes (if q then Some reply else reply_to (Some n) replies)) (is_other n k ne) ∙ said_yes

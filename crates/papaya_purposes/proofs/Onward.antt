@@ -38,7 +38,7 @@ pub before_or : (p : Sweeping) → IsBefore p ⊎ (IsBefore p → ⊥)
 before_or at.Reads = inl tt
 before_or at.Follows = inl tt
 before_or (at.Copies copier) = inl tt
-before_or _ = inr (λ no. no)
+before_or _ = inr (λ never. never)
 
 -- where a walk stands that goes over its table, or is over
 abbrev IsWalkAt : Sweeping → Type 0
@@ -88,20 +88,20 @@ module _ (T : Type 0) (p : Sweep) (none : removes p.purpose ≡ false) where
   end_onward q e = by (removes q.purpose) e
     where
       by : (b : Bool) → b ≡ false → IsBefore (if b && q.met then at.Follows else at.Over) → ⊥
-      by false e no = no
-      by true e no = cc e
+      by false e never = never
+      by true e never = cc e
 
   further_onward : (q : Sweep) → removes q.purpose ≡ false → Onward (telling (further q))
   further_onward q e = by (nat_lt (past q).place q.table.len)
     where
       by : (b : Bool) → IsBefore (if b then at.Words else at_end q) → ⊥
-      by true no = no
-      by false no = end_onward q e no
+      by true never = never
+      by false never = end_onward q e never
 
   pair_onward : (purpose : Purpose) (word : ℕ) → Onward (at_pair purpose p word)
-  pair_onward Walks word no = no
-  pair_onward Clears word no = no
-  pair_onward Retains word no = no
+  pair_onward Walks word never = never
+  pair_onward Clears word never = never
+  pair_onward Retains word never = never
 
   seen_onward : (word : ℕ) → Onward (seen p word)
   seen_onward word = by (removes p.purpose) none (block_in word == 0)
@@ -109,7 +109,7 @@ module _ (T : Type 0) (p : Sweep) (none : removes p.purpose ≡ false) where
       by : (b : Bool) → b ≡ false → (z : Bool) → Onward (if b && has_mark word COPYING then telling (further (record p { met = true })) else (if z then telling (further p) else at_pair p.purpose p word))
       by false e true = further_onward p none
       by false e false = pair_onward p.purpose word
-      by true e z = λ no. cc e
+      by true e z = λ never. cc e
 
   module _ (at_words : IsBefore p.stands → ⊥) where
     found_onward : (out : Out T) → Always Onward (word_found p out)
@@ -120,7 +120,7 @@ module _ (T : Type 0) (p : Sweep) (none : removes p.purpose ≡ false) where
     found_onward (Taken value) = at_words
     found_onward (Roomed r) = at_words
 
-module _ {K V : Type 0} (hash : K → ℕ) (p : Sweep) (none : removes p.purpose ≡ false) (before : IsBefore p.stands → ⊥) where
+module _ {K : Type 0} (V : Type 0) (hash : K → ℕ) (p : Sweep) (none : removes p.purpose ≡ false) (before : IsBefore p.stands → ⊥) where
   plan_onward : (stands : Sweeping) → IsWalkAt stands → AlwaysOf (Onward (Node K V) p none) (plan_at hash p stands)
   plan_onward at.Words is = found_onward (Node K V) p none before
   plan_onward at.Ready is = before
@@ -138,4 +138,4 @@ pub walk_onward : {K V S : Type 0} (same : K → K → Bool) (hash : K → ℕ) 
     → StepsFrom same hash (kinds.Sweep p) old new machine said → p.purpose ≡ Walks → IsWalkAt p.stands → (IsBefore p.stands → ⊥) → GoesOver (machine, said)
 walk_onward {K} {V} same hash old new p machine said steps walks is before =
     always_told GoesOver old.memory.memory new.memory.memory Nothing new.memory.changed (plan_as swept (plan_at hash p p.stands)) (machine, said)
-    (always_turned (Onward (Node K V) p (ap removes walks)) GoesOver swept (λ end so. so) (plan_at hash p p.stands) (plan_onward hash p (ap removes walks) before p.stands is)) steps
+    (always_turned (Onward (Node K V) p (ap removes walks)) GoesOver swept (λ end so. so) (plan_at hash p p.stands) (plan_onward V hash p (ap removes walks) before p.stands is)) steps

@@ -62,20 +62,20 @@ module _ {K V : Type 0} (same : K → K → Bool) (hash : K → ℕ) (w : World 
 
   -- the table that it copies into is a later one
   whole_later : (p : Copier) (stands : Copying) → IsTold stands → CopyingFacts same hash w caller setting c blocks p stands → p.source.turn ≤ p.target.turn
-  whole_later p copies.Asks told (t, copied, rest) = later_turn c blocks p t (suc t) copied.0 copied.1 (omega arith)
-  whole_later p copies.Marks told (t, copied, rest) = later_turn c blocks p t (suc t) copied.0 copied.1 (omega arith)
+  whole_later p copies.Asks told facts = later_turn c blocks p facts.0 (suc facts.0) facts.1.0 facts.1.1 (omega arith)
+  whole_later p copies.Marks told facts = later_turn c blocks p facts.0 (suc facts.0) facts.1.0 facts.1.1 (omega arith)
   whole_later p _ (inl e) facts = absurd (cc e)
   whole_later p _ (inr e) facts = absurd (cc e)
 
   blocking_later : (p : Copier) (stands : Copying) → IsTold stands → CopyingFactsBlocking same hash w caller setting c blocks p stands → p.source.turn ≤ p.target.turn
-  blocking_later p copies.Asks told (t, rests) = later_turn c blocks p c.first t rests.0.0 rests.0.2 rests.0.1
-  blocking_later p copies.Marks told (t, copied, rest) = later_turn c blocks p c.first t copied.0 copied.2 copied.1
+  blocking_later p copies.Asks told facts = later_turn c blocks p c.first facts.0 facts.1.0.0 facts.1.0.2 facts.1.0.1
+  blocking_later p copies.Marks told facts = later_turn c blocks p c.first facts.0 facts.1.0 facts.1.2 facts.1.1
   blocking_later p _ (inl e) facts = absurd (cc e)
   blocking_later p _ (inr e) facts = absurd (cc e)
 
   late_later : (p : Copier) (stands : Copying) → IsTold stands → LateCopying same hash w caller setting c blocks began p stands → p.source.turn ≤ p.target.turn
-  late_later p copies.Asks told (u, t, copied) = later_turn c blocks p u t copied.source copied.target copied.order
-  late_later p copies.Marks told (u, t, copied, range) = later_turn c blocks p u t copied.0.source copied.0.target copied.0.order
+  late_later p copies.Asks told facts = later_turn c blocks p facts.0 facts.1 facts.2.source facts.2.target facts.2.order
+  late_later p copies.Marks told facts = later_turn c blocks p facts.0 facts.1 facts.2.0.source facts.2.0.target facts.2.0.order
   late_later p _ (inl e) facts = absurd (cc e)
   late_later p _ (inr e) facts = absurd (cc e)
 

@@ -8,6 +8,8 @@ use Rattle.papaya_sweeps.specs.declared.sweep.Sweep.{Sweep}
 use Rattle.papaya_sweeps.specs.declared.sweep.Sweeping.TheVariants as sweeping
 use Rattle.papaya_sweeps.specs.declared.sweep.Swept.{Swept}
 use Rattle.papaya_sweeps.specs.declared.sweep.Swept.TheVariants as swept
+use Rattle.papaya_raw.specs.declared.machines.progress.Answer.{Answer}
+use Rattle.papaya_raw.specs.declared.machines.progress.Answer.TheVariants as answers
 use Rattle.papaya_raw.specs.declared.machines.progress.Progress.TheVariants as progress
 use Rattle.papaya_schedules.specs.declared.call.Call.{Call}
 use Rattle.papaya_schedules.specs.declared.call.Call.TheVariants as call
@@ -39,7 +41,7 @@ use Rattle.papaya_histories.proofs.Logs.{each_of, last_there}
 use Rattle.papaya_moments.specs.Whole.{ShowsWhole}
 use Rattle.papaya_purposes.specs.Kept.{NoneCame, PairsChangeFirst}
 use Rattle.papaya_purposes.specs.Purposes.{IsFor, PairsWithin, TellsDone, HasSwept, ShowsPurposes}
-use Rattle.papaya_purposes.specs.Swept.{WalksShow}
+use Rattle.papaya_purposes.specs.Swept.{ComesSo, WalksShow}
 use Rattle.papaya_purposes.proofs.Done.{maps_kept}
 use Rattle.papaya_purposes.proofs.Lists.{all_on, none_among}
 use Rattle.papaya_purposes.proofs.Named.{number_told, stands_then, stands_is}
@@ -80,7 +82,7 @@ module _ {K V S : Type 0} (same : K → K → Bool) (hash : K → ℕ) (name : �
   abbrev number2 : ℕ → ℕ
   number2 = (on same hash name log m known s old new at whole purposes of i u here (progress.Pair word) leads).shows.number of
 
-  module _ (o : CallOverAll) (o_is : s.calls of i ≡ Some (OverAll o)) (walks : IsFor (OverAll o) call.Walk) (is_walk : c.call ≡ call.Walk) (p2 : Sweep) (end : Swept (Node K V)) (is : end ≡ swept.Pair word)
+  module _ (o : CallOverAll) (o_is : s.calls of i ≡ Some (OverAll o)) (walks : IsFor {K = K} {V = V} (OverAll o) call.Walk) (is_walk : c.call ≡ call.Walk) (p2 : Sweep) (end : Swept (Node K V)) (is : end ≡ swept.Pair word)
       (step : SweepStepsAmong V same same old.batch_size old.roots slot_of s.world s.maps s.calls s.makers s.enders of
       (went same hash name log m known s old new at whole purposes of i u here (progress.Pair word) leads).0 i o new.memory.memory p2 end)
       (moved : (went same hash name log m known s old new at whole purposes of i u here (progress.Pair word) leads).4.maps2 ≡ with_at s.maps of
@@ -98,11 +100,11 @@ module _ {K V S : Type 0} (same : K → K → Bool) (hash : K → ℕ) (name : �
     there2 : (scene2 same hash name log m known s old new at whole purposes of i u here (progress.Pair word) leads).maps of ≡ Some st2
     there2 = stands_is same hash name log m known s old new at whole purposes of i u here (progress.Pair word) leads o p2 end step moved
 
-    tells : TellsSo o.sweep.stands p2.stands (swept.Pair {T = Node K V} word)
+    tells : TellsSo {T = Node K V} o.sweep.stands p2.stands (swept.Pair word)
     tells = subst (TellsSo o.sweep.stands p2.stands) is step.step.went.told.stands.tells
 
     one : (step.step.entered2 ≡ o.entered) × Adds its.hash step.step.went.c2 step.step.went.blocks2 o.done step.step.done2 word
-    one = adds_one its.hash step.step.went.c2 step.step.went.blocks2 o.done step.step.done2 o.entered step.step.entered2 word o.sweep.stands p2.stands tells
+    one = adds_one its.hash step.step.went.c2 step.step.went.blocks2 o.done step.step.done2 o.entered step.step.entered2 word (Node K V) o.sweep.stands p2.stands tells
         (subst (λ (x : Swept (Node K V)). DoneAt its.hash step.step.went.c2 step.step.went.blocks2 o.done step.step.done2 o.entered step.step.entered2 x o.sweep.stands) is step.step.done)
 
     abbrev p : ℕ
@@ -123,7 +125,7 @@ module _ {K V S : Type 0} (same : K → K → Bool) (hash : K → ℕ) (name : �
         stands_shown V same st2 i o2 tells.1
         (((went same hash name log m known s old new at whole purposes of i u here (progress.Pair word) leads).5.together.makings.standing.each of st2 there2).stand i (OverAll o2) here2)
 
-    self : cond (eqb p p) 1 0 ≡ 1
+    self : ◌≡◌ {A = ℕ} (cond (eqb p p) 1 0) 1
     self = ap (λ x. cond x 1 0) (eq-eqb p p refl)
 
     among : 0 < times p step.step.done2
@@ -184,9 +186,16 @@ module _ {K V S : Type 0} (same : K → K → Bool) (hash : K → ℕ) (name : �
   walk_shows is_walk (OnKey z) y_is is did = absurd is
   walk_shows is_walk (ForRoom r) y_is is did = absurd is
   walk_shows is_walk (Counting sum) y_is is did = absurd is
-  walk_shows is_walk (OverAll o) y_is is (p2, end, machine_is, told_is, inl (step, moved)) = may_show o y_is is is_walk p2 end (pair_swept word end told_is) step moved.1 moved.2
+  walk_shows is_walk (OverAll o) y_is is (p2, end, machine_is, told_is, inl (step, moved)) = may_show o y_is is is_walk p2 end (pair_swept word end (sym told_is)) step moved.1 moved.2
   walk_shows is_walk (OverAll o) y_is is (p2, end, machine_is, told_is, inr (row, stayed)) =
-      absurd (let silent = row.step.silent in let pair = pair_swept word end told_is in cc (silent, pair))
+      absurd (let silent = row.step.silent in let pair = pair_swept word end (sym told_is) in cc (silent, pair))
+
+-- no answer shows a pair
+none_answered : (K V : Type 0) (known : Known) (n : ℕ) (answer : Answer) → ComesSo {K = K} {V = V} known (progress.Done answer) (ShowsOne n) → ⊥
+none_answered K V known n (answers.Key answer) comes = comes
+none_answered K V known n answers.Reserved comes = comes
+none_answered K V known n answers.Swept comes = comes
+none_answered K V known n (answers.Count count) comes = comes
 
 pub walks_show : (K V S : Type 0) (same : K → K → Bool) (hash : K → ℕ) → WalksShow K V S same hash
 walks_show K V S same hash n name log m known s old new at whole purposes of i u here (progress.Pair word) leads c c_is is_walk asks names terms mask e caller worked_is outcome =
@@ -196,4 +205,6 @@ walks_show K V S same hash n name log m known s old new at whole purposes of i u
     (then_is same hash name log m known s old new at whole purposes of i u here (progress.Pair word) leads c c_is) call.Walk (stays.call ∙ is_walk) (ShowsOne n) outcome
     (walk_shows same hash name log m known s old new at whole purposes of i u here word leads c c_is asks.0 asks.1 n names is_walk u here
     (subst (λ (x : Call K V). IsFor u x) is_walk (purposes.is_for of i u here c c_is)) (went same hash name log m known s old new at whole purposes of i u here (progress.Pair word) leads).4.did)
+walks_show K V S same hash n name log m known s old new at whole purposes of i u here (progress.Done answer) leads c c_is is_walk asks comes terms mask e caller worked_is outcome =
+    absurd (none_answered K V (known2 same hash name log m known s old new at whole purposes of i u here (progress.Done answer) leads) n answer comes)
 walks_show K V S same hash n name log m known s old new at whole purposes of i u here _ leads c c_is is_walk asks comes terms mask e caller worked_is outcome = absurd comes

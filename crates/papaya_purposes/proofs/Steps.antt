@@ -48,7 +48,7 @@ use Rattle.papaya_purposes.specs.Shards.{ReadsShards}
 use Rattle.papaya_purposes.proofs.Alike.{alike}
 use Rattle.papaya_purposes.proofs.Counts.{counts_on}
 use Rattle.papaya_purposes.proofs.Done.{done_is, Comes, next_tells, next_below, tells_kept}
-use Rattle.papaya_purposes.proofs.For.{key_for, room_for, counting_for, sweep_for}
+use Rattle.papaya_purposes.proofs.For.{key_is_for, room_for, counting_for, sweep_for}
 use Rattle.papaya_purposes.proofs.Lists.{all_on}
 use Rattle.papaya_purposes.proofs.Onward.{before_or, walk_stands, GoesOver, walk_onward}
 use Rattle.papaya_purposes.proofs.Over.{within_over, come_over}
@@ -170,7 +170,7 @@ module _ {K V S : Type 0} (same : K → K → Bool) (hash : K → ℕ) (name : �
           }
 
       -- a walk that goes over its table does so on
-      none_on : StepsFrom same hash (machine_of (OverAll o)) old new went.1 said → (x : CallOverAll) → went.1 ≡ machine_of (OverAll {K = K} {V = V} {Q = K} x) → Comes o x.done (shown.number of) c
+      none_on : StepsFrom same hash (machine_of (OverAll o)) old new went.1 said → (x : CallOverAll) → went.1 ≡ machine_of (OverAll x) → Comes o x.done (shown.number of) c
           → x.sweep.purpose ≡ Walks → IsBefore x.sweep.stands → x.done ≡ []
       none_on steps x is comes walks before = by (before_or o.sweep.stands) comes
         where
@@ -188,7 +188,7 @@ module _ {K V S : Type 0} (same : K → K → Bool) (hash : K → ℕ) (name : �
           by (inl b) (inr kept) = kept ∙ had.none (sym purpose ∙ walks) b
           by (inr over) so = absurd (goes_over over before)
 
-      pub own_sweep : StepsFrom same hash (machine_of (OverAll o)) old new went.1 said → (x : CallOverAll) → went.1 ≡ machine_of (OverAll {K = K} {V = V} {Q = K} x) → x.began ≡ o.began
+      pub own_sweep : StepsFrom same hash (machine_of (OverAll o)) old new went.1 said → (x : CallOverAll) → went.1 ≡ machine_of (OverAll x) → x.began ≡ o.began
           → Comes o x.done (shown.number of) c → HasSwept of st (on.shows.number of) (since log v2 d) x d
       own_sweep steps x is began comes = sweep_come x began comes (none_on steps x is comes)
 
@@ -271,8 +271,8 @@ module _ {K V S : Type 0} (same : K → K → Bool) (hash : K → ℕ) (name : �
 
   -- and it is for what it was for
   pub own_for : (its : Call K V) (y : UnderWay K V K) → IsFor y its → StepsFrom same hash (machine_of y) old new went.1 said → Did y → (x : UnderWay K V K) → went.4.next ≡ Some x → IsFor x its
-  own_for its (OnKey z) is steps (p2, end, machine_is, told_is, inl (step, moved)) x e = subst (λ (y : UnderWay K V K). IsFor y its) (sym (key_goes_on _ end x (sym moved.2 ∙ e))) (key_for its z _ is)
-  own_for its (OnKey z) is steps (p2, end, machine_is, told_is, inr (row, stayed)) x e = subst (λ (y : UnderWay K V K). IsFor y its) (sym (key_goes_on _ end x (sym stayed.2 ∙ e))) (key_for its z _ is)
+  own_for its (OnKey z) is steps (p2, end, machine_is, told_is, inl (step, moved)) x e = key_is_for its z _ x (key_goes_on _ end x (sym moved.2 ∙ e)) is
+  own_for its (OnKey z) is steps (p2, end, machine_is, told_is, inr (row, stayed)) x e = key_is_for its z _ x (key_goes_on _ end x (sym stayed.2 ∙ e)) is
   own_for its (ForRoom r) is steps (p2, end, machine_is, told_is, inl (step, moved)) x e =
       subst (λ (y : UnderWay K V K). IsFor y its) (sym (room_goes_on _ end x (sym moved.2 ∙ e)))
       (room_for its r (record { began = r.began; reserve = p2 }) (subst (λ (z : Machine K V K). IsForRoom r.reserve.additional (z, said)) machine_is (room_kept same hash old new r.reserve went.1 said steps)) is)

@@ -88,7 +88,7 @@ module _ {K V : Type 0} (known : Known) where
   completed_said _ is = absurd is
 
 -- a sweep makes no room
-none_reserved : {T : Type 0} (end : Swept T) → progress.Done {T = T} answers.Reserved ≡ of_swept end → ⊥
+none_reserved : {T : Type 0} (end : Swept T) → of_swept end ≡ progress.Done answers.Reserved → ⊥
 none_reserved swept.Goes e = cc e
 none_reserved swept.Waits e = cc e
 none_reserved (swept.Gave value) e = cc e
@@ -98,7 +98,7 @@ none_reserved (swept.Asks word) e = cc e
 none_reserved swept.Done e = cc e
 none_reserved (swept.Refused fault) e = cc e
 
-pub done_swept : {T : Type 0} (end : Swept T) → progress.Done {T = T} answers.Swept ≡ of_swept end → end ≡ swept.Done
+pub done_swept : {T : Type 0} (end : Swept T) → of_swept end ≡ progress.Done answers.Swept → end ≡ swept.Done
 done_swept swept.Goes e = absurd (cc e)
 done_swept swept.Waits e = absurd (cc e)
 done_swept (swept.Gave value) e = absurd (cc e)
@@ -109,12 +109,12 @@ done_swept swept.Done e = refl
 done_swept (swept.Refused fault) e = absurd (cc e)
 
 -- at its end, what was done is kept, or nothing was done yet
-pub ends_done : {K T : Type 0} (hash : K → ℕ) (c : Chart K) (blocks : Blocks) (done done2 : List ℕ) (entered entered2 : ℕ) (stands : Sweeping)
-    → DoneAt hash c blocks done done2 entered entered2 (swept.Done {T = T}) stands → (done2 ≡ []) ⊎ (done2 ≡ done)
-ends_done hash c blocks done done2 entered entered2 sweeping.Reads is = inl is
-ends_done hash c blocks done done2 entered entered2 sweeping.Follows is = inl is
-ends_done hash c blocks done done2 entered entered2 (sweeping.Copies copier) is = inl is
-ends_done hash c blocks done done2 entered entered2 _ is = inr is.1
+pub ends_done : {K : Type 0} (T : Type 0) (hash : K → ℕ) (c : Chart K) (blocks : Blocks) (done done2 : List ℕ) (entered entered2 : ℕ) (stands : Sweeping)
+    → DoneAt hash c blocks done done2 {T = T} entered entered2 swept.Done stands → (done2 ≡ []) ⊎ (done2 ≡ done)
+ends_done T hash c blocks done done2 entered entered2 sweeping.Reads is = inl is
+ends_done T hash c blocks done done2 entered entered2 sweeping.Follows is = inl is
+ends_done T hash c blocks done done2 entered entered2 (sweeping.Copies copier) is = inl is
+ends_done T hash c blocks done done2 entered entered2 _ is = inr is.1
 
 -- a map of which fewer blocks may be looked at has the tables that it had
 pub same_map : {K : Type 0} (o o2 : Option (Standing K)) (st : Standing K) → o ≡ Some st → IsSameMap o o2 → (after : Standing K) × (o2 ≡ Some after) × (after.chart ≡ st.chart)
@@ -128,7 +128,7 @@ module _ {K V S : Type 0} (same : K → K → Bool) (hash : K → ℕ) (name : �
   v = v2 same hash name log m known s old new at whole purposes of i u here said leads
 
   -- the call after the effects of the step
-  pub then_call : CallThere K V
+  abbrev pub then_call : CallThere K V
   then_call = (calls_after (name i) of (name i) (effects_of (acts.Call i of) known new.memory.changed) m c c_is).0
 
   pub then_is : call_of (name i) v ≡ Some then_call
@@ -206,8 +206,8 @@ module _ {K V S : Type 0} (same : K → K → Bool) (hash : K → ℕ) (name : �
           none n = ap (λ (x : ℕ). not (stays x (moments_from then_call.begun log) v n)) on_map ∙ by (stays of (moments_from then_call.begun log) v n) (gone n)
             where
               by : (q : Bool) → (q ≡ true → ⊥) → not q ≡ true
-              by false no = refl
-              by true no = absurd (no refl)
+              by false never = refl
+              by true never = absurd (never refl)
 
       -- and a retaining those about which the last reply was yes
       pub retains : o.sweep.purpose ≡ Retains → then_call.call ≡ call.Retain → RetainsOnly then_call (moments_from then_call.begun log) v
@@ -218,8 +218,8 @@ module _ {K V S : Type 0} (same : K → K → Bool) (hash : K → ℕ) (name : �
               (purposes.shown.number of) (since log m c) o c
           before = had same hash name log m known s old new at whole purposes of i u here said leads changes o o_is ended.st ended.there c then_call c_is then_is
 
-          yes : AllByRecursion (λ p. is_yes (reply_to (Some (number2 p)) then_call.replies) ≡ true) o.done
-          yes =
+          said_yes : AllByRecursion (λ p. is_yes (reply_to (Some (number2 p)) then_call.replies) ≡ true) o.done
+          said_yes =
               let b = before_then same hash name log m known s old new at whole purposes of i u here said leads of ended.st ended.there in
               subst (λ (x : Call K V). TellsDone x number2 o.done then_call) call_is
               (tells_kept (purposes.shown.number of) number2 b.0.chart.stored ((on same hash name log m known s old new at whole purposes of i u here said leads).numbers of b.0 b.1) c then_call still o.done
@@ -233,7 +233,7 @@ module _ {K V S : Type 0} (same : K → K → Bool) (hash : K → ℕ) (name : �
             where
               by : (p : ℕ) → (ended.done ≡ []) ⊎ (ended.done ≡ o.done) → 0 < times p ended.done → is_yes (reply_to (Some (number2 p)) then_call.replies) ≡ true
               by p (inl empty) l = absurd (let none = subst (λ (x : List ℕ). 0 < times p x) empty l in omega (arith, none))
-              by p (inr same_done) l = all_among (λ p. is_yes (reply_to (Some (number2 p)) then_call.replies) ≡ true) p o.done yes (subst (λ (x : List ℕ). 0 < times p x) same_done l)
+              by p (inr same_done) l = all_among (λ p. is_yes (reply_to (Some (number2 p)) then_call.replies) ≡ true) p o.done said_yes (subst (λ (x : List ℕ). 0 < times p x) same_done l)
 
           each : (n : ℕ) → (not (stays then_call.map (moments_from then_call.begun log) v n) || is_yes (reply_to (Some n) then_call.replies)) ≡ true
           each n =
@@ -257,8 +257,8 @@ module _ {K V S : Type 0} (same : K → K → Bool) (hash : K → ℕ) (name : �
 
     ended_swept : (end : Swept (Node K V)) → said ≡ of_swept end → end ≡ swept.Done
     ended_swept end told_is = elim completed as (λ _. end ≡ swept.Done) [
-      | inl done ↦ absurd (none_reserved end (sym done ∙ told_is))
-      | inr done ↦ done_swept end (sym done ∙ told_is)
+      | inl done ↦ absurd (none_reserved end (sym told_is ∙ done))
+      | inr done ↦ done_swept end (sym told_is ∙ done)
     ]
 
     pub ended : Did same hash name log m known s old new at whole purposes of i u here said leads (OverAll o) → HasEnded o
@@ -269,7 +269,7 @@ module _ {K V S : Type 0} (same : K → K → Bool) (hash : K → ℕ) (name : �
       from = step.step.from;
       done = step.step.done2;
       came = step.step.comes is;
-      kept = ends_done to.0.hash step.step.went.c2 step.step.went.blocks2 o.done step.step.done2 o.entered step.step.entered2 o.sweep.stands
+      kept = ends_done (Node K V) to.0.hash step.step.went.c2 step.step.went.blocks2 o.done step.step.done2 o.entered step.step.entered2 o.sweep.stands
           (subst (λ (x : Swept (Node K V)). DoneAt to.0.hash step.step.went.c2 step.step.went.blocks2 o.done step.step.done2 o.entered step.step.entered2 x o.sweep.stands) is step.step.done);
     }
       where

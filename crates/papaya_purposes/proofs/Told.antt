@@ -51,7 +51,7 @@ use Rattle.papaya_histories.proofs.Roles.{named_by}
 use Rattle.papaya_moments.specs.Whole.{ShowsWhole}
 use Rattle.papaya_purposes.specs.Kept.{AsksAboutIt, CallsTakePurposes}
 use Rattle.papaya_purposes.specs.Purposes.{IsFor, PairsWithin, HasAdded, HasMet, TellsDone, HasSwept, HasCome, ShowsPurposes}
-use Rattle.papaya_purposes.proofs.For.{key_for, sweep_for}
+use Rattle.papaya_purposes.proofs.For.{key_is_for, sweep_for}
 use Rattle.papaya_purposes.proofs.Lists.{all_on, all_both, yes_now, yes_still}
 use Rattle.papaya_purposes.proofs.Shown.{same_still}
 use Rattle.papaya_purposes.proofs.Still.{within_still, come_still}
@@ -156,18 +156,18 @@ module _ {K V S : Type 0} (same : K → K → Bool) (hash : K → ℕ) (name : �
     IsYes x n = is_yes (reply_to (Some (number n)) x.replies) ≡ true
 
     yes_all : AllByRecursion (IsYes c) o.done → AllByRecursion (IsYes d) o.done
-    yes_all yes =
+    yes_all said_yes =
         all_on (λ n. (number n ≢ q) × IsYes c n) (IsYes d)
         (λ n h. ap (λ (r : List (Option ℕ × Reply V)). is_yes (reply_to (Some (number n)) r)) replies ∙ yes_still (number n) q c.replies told_so h.0 h.1) o.done
-        (all_both (λ n. number n ≢ q) (IsYes c) o.done (others had.stored) yes)
+        (all_both (λ n. number n ≢ q) (IsYes c) o.done (others had.stored) said_yes)
 
     yes_done : (done2 : List ℕ) → Does done2 → AllByRecursion (IsYes c) o.done → AllByRecursion (IsYes d) done2
-    yes_done done2 (inl kept) yes = subst (AllByRecursion (IsYes d)) (sym kept) (yes_all yes)
-    yes_done done2 (inr (p, is, below, number_p, told_yes)) yes =
+    yes_done done2 (inl kept) said_yes = subst (AllByRecursion (IsYes d)) (sym kept) (yes_all said_yes)
+    yes_done done2 (inr (p, is, below, number_p, told_yes)) said_yes =
         subst (AllByRecursion (IsYes d)) (sym is) (
           ap (λ (r : List (Option ℕ × Reply V)). is_yes (reply_to (Some (number p)) r)) replies
           ∙ ap (λ (r : Reply V). is_yes (reply_to (Some (number p)) ((Some q, r) ∷ c.replies))) told_yes ∙ yes_now (number p) q c.replies number_p,
-          yes_all yes,
+          yes_all said_yes,
         )
 
     tells : (its : Call K V) → IsFor (OverAll o) its → TellsDone its number o.done c → (done2 : List ℕ) → Does done2 → TellsDone its number done2 d
@@ -229,7 +229,7 @@ module _ {K V S : Type 0} (same : K → K → Bool) (hash : K → ℕ) (name : �
     own_for y is to = subst (λ (f : CallThere K V). IsFor next f.call) (sym d_is) (by y is to)
       where
         by : (y : UnderWay K V K) → IsFor y c.call → ToldOfKind V same same e.batch_size e.roots slot_of st i y (as_told is_told) next → IsFor next c.call
-        by (OnKey z) is (inl (asks_at, asked, stands, asks, next_is)) = subst (λ (y : UnderWay K V K). IsFor y c.call) (sym next_is) (key_for c.call z _ is)
+        by (OnKey z) is (inl (asks_at, asked, stands, asks, next_is)) = key_is_for c.call z _ next next_is is
         by (OnKey z) is (inr next_is) = subst (λ (y : UnderWay K V K). IsFor y c.call) (sym next_is) is
         by (ForRoom r) is next_is = subst (λ (y : UnderWay K V K). IsFor y c.call) (sym next_is) is
         by (Counting sum) is next_is = subst (λ (y : UnderWay K V K). IsFor y c.call) (sym next_is) is
@@ -275,7 +275,7 @@ module _ {K V S : Type 0} (same : K → K → Bool) (hash : K → ℕ) (name : �
       own_sweep (inr next_is) = subst (λ (y : UnderWay K V K). HasCome of st (purposes.shown.number of) log v y d) (sym next_is) (come_by o refl refl (inl refl))
 
     own_come : (y : UnderWay K V K) → s.calls of i ≡ Some y → u ≡ y → ToldOfKind V same same e.batch_size e.roots slot_of st i y (as_told is_told) next → HasCome of st (purposes.shown.number of) log v next d
-    own_come (OnKey z) y_is u_is (inl (asks_at, asked, stands, asks, next_is)) = subst (λ (y : UnderWay K V K). HasCome of st (purposes.shown.number of) log v y d) (sym next_is) tt
+    own_come (OnKey z) y_is u_is (inl (at_it, of_it, stands, it_asks, next_is)) = subst (λ (y : UnderWay K V K). HasCome of st (purposes.shown.number of) log v y d) (sym next_is) tt
     own_come (OnKey z) y_is u_is (inr next_is) = subst (λ (y : UnderWay K V K). HasCome of st (purposes.shown.number of) log v y d) (sym next_is) tt
     own_come (ForRoom r) y_is u_is next_is =
         subst (λ (y : UnderWay K V K). HasCome of st (purposes.shown.number of) log v y d) (sym next_is)

@@ -58,11 +58,11 @@ use Rattle.papaya_purposes.proofs.Still.{within_still, come_still}
 
 module _ {K : Type 0} (hash : K → ℕ) (c : Chart K) (blocks : Blocks) (done done2 : List ℕ) (entered entered2 word : ℕ) where
   -- one that shows a pair has read its word at a place of its table, and has done one pair more
-  pub adds_one : {T : Type 0} (stands stands2 : Sweeping) → TellsSo stands stands2 (swept.Pair {T = T} word) → DoneAt hash c blocks done done2 entered entered2 (swept.Pair {T = T} word) stands
+  pub adds_one : (T : Type 0) (stands stands2 : Sweeping) → TellsSo {T = T} stands stands2 (swept.Pair word) → DoneAt hash c blocks done done2 {T = T} entered entered2 (swept.Pair word) stands
       → (entered2 ≡ entered) × Adds hash c blocks done done2 word
-  adds_one sweeping.Words stands2 tells is = is
-  adds_one (sweeping.Tries there) stands2 tells is = is
-  adds_one _ stands2 tells is = absurd tells.0
+  adds_one T sweeping.Words stands2 tells is = is
+  adds_one T (sweeping.Tries there) stands2 tells is = is
+  adds_one T _ stands2 tells is = absurd tells.0
 
 -- and is a walk, which is ready then
 module _ {K V : Type 0} (same : K → K → Bool) (hash : K → ℕ) (caller : ℕ) (setting : Setting) (began : ℕ) (w : World (Node K V)) (c : Chart K) (blocks : Blocks) where
@@ -70,14 +70,14 @@ module _ {K V : Type 0} (same : K → K → Bool) (hash : K → ℕ) (caller : �
   walk_ready p word facts ready = (subst (SweepingFacts same hash w caller setting c blocks began p) ready facts.point).0
 
 -- no counting shows a pair
-none_counted : {T : Type 0} (word : ℕ) (end : Counted ℕ) → progress.Pair {T = T} word ≡ of_counting end → ⊥
-none_counted word counting.Goes e = cc e
-none_counted word counting.Waits e = cc e
-none_counted word (counting.Done count) e = cc e
-none_counted word (counting.Refused fault) e = cc e
+none_counted : (T : Type 0) (word : ℕ) (end : Counted ℕ) → of_counting {T = T} end ≡ progress.Pair word → ⊥
+none_counted T word counting.Goes e = cc e
+none_counted T word counting.Waits e = cc e
+none_counted T word (counting.Done count) e = cc e
+none_counted T word (counting.Refused fault) e = cc e
 
 -- nor does a reservation
-none_room : {T : Type 0} (word : ℕ) (end : Outcome T Unit) → progress.Pair {T = T} word ≡ of_outcome end → ⊥
+none_room : {T : Type 0} (word : ℕ) (end : Outcome T Unit) → of_outcome end ≡ progress.Pair word → ⊥
 none_room word outcome.Goes e = cc e
 none_room word outcome.Waits e = cc e
 none_room word (outcome.Gave value) e = cc e
@@ -85,12 +85,12 @@ none_room word (outcome.Done end) e = cc e
 none_room word (outcome.Refused fault) e = cc e
 
 -- a sweep that shows one says so
-pub pair_swept : {T : Type 0} (word : ℕ) (end : Swept T) → progress.Pair {T = T} word ≡ of_swept end → end ≡ swept.Pair word
+pub pair_swept : {T : Type 0} (word : ℕ) (end : Swept T) → of_swept end ≡ progress.Pair word → end ≡ swept.Pair word
 pair_swept word swept.Goes e = absurd (cc e)
 pair_swept word swept.Waits e = absurd (cc e)
 pair_swept word (swept.Gave value) e = absurd (cc e)
 pair_swept word swept.Ready e = absurd (cc e)
-pair_swept word (swept.Pair there) e = (let same_word : word ≡ there = cc e in ap (λ (x : ℕ). swept.Pair x) (sym same_word))
+pair_swept word (swept.Pair there) e = (let same_word : there ≡ word = cc e in ap (λ (x : ℕ). swept.Pair x) same_word)
 pair_swept word (swept.Asks there) e = absurd (cc e)
 pair_swept word swept.Done e = absurd (cc e)
 pair_swept word (swept.Refused fault) e = absurd (cc e)
@@ -191,26 +191,26 @@ module _ {K V S : Type 0} (same : K → K → Bool) (hash : K → ℕ) (name : �
       subst (λ (y : UnderWay K V K). HasCome of st (numbers2 of) log v3 y (come (ShowsOne q) steps d)) (sym (key_goes_on _ end x (sym moved.2 ∙ e))) tt
   own_come (OnKey z) y_is (p2, end, machine_is, told_is, inr (row, stayed)) x e st there c d c_is d_is =
       subst (λ (y : UnderWay K V K). HasCome of st (numbers2 of) log v3 y (come (ShowsOne q) steps d)) (sym (key_goes_on _ end x (sym stayed.2 ∙ e))) tt
-  own_come (ForRoom r) y_is (p2, end, machine_is, told_is, did) x e st there c d c_is d_is = absurd (none_room word end told_is)
-  own_come (Counting sum) y_is (sum2, end, machine_is, told_is, still, stayed) x e st there c d c_is d_is = absurd (none_counted word end told_is)
+  own_come (ForRoom r) y_is (p2, end, machine_is, told_is, did) x e st there c d c_is d_is = absurd (none_room word end (sym told_is))
+  own_come (Counting sum) y_is (sum2, end, machine_is, told_is, still, stayed) x e st there c d c_is d_is = absurd (none_counted (Node K V) word end (sym told_is))
   own_come (OverAll o) y_is (p2, end, machine_is, told_is, inr (row, stayed)) x e st there c d c_is d_is =
-      absurd (let silent = row.step.silent in let is = pair_swept word end told_is in cc (silent, is))
+      absurd (let silent = row.step.silent in let is = pair_swept word end (sym told_is) in cc (silent, is))
   own_come (OverAll o) y_is (p2, end, machine_is, told_is, inl (step, moved)) x e st there c d c_is d_is =
       subst (λ (y : UnderWay K V K). HasCome of st (numbers2 of) log v3 y (come (ShowsOne q) steps d)) (sym (sweep_goes_on _ end x (sym moved.2 ∙ e))) so
     where
       is : end ≡ swept.Pair word
-      is = pair_swept word end told_is
+      is = pair_swept word end (sym told_is)
 
-      one : (step.step.entered2 ≡ o.entered) × Adds _ step.step.went.c2 step.step.went.blocks2 o.done step.step.done2 word
-      one = adds_one _ step.step.went.c2 step.step.went.blocks2 o.done step.step.done2 o.entered step.step.entered2 word o.sweep.stands p2.stands
+      its : Standing K
+      its = (went same hash name log m known s old new at whole purposes of i u here (progress.Pair word) leads).0
+
+      one : (step.step.entered2 ≡ o.entered) × Adds its.hash step.step.went.c2 step.step.went.blocks2 o.done step.step.done2 word
+      one = adds_one its.hash step.step.went.c2 step.step.went.blocks2 o.done step.step.done2 o.entered step.step.entered2 word (Node K V) o.sweep.stands p2.stands
           (subst (TellsSo o.sweep.stands p2.stands) is step.step.went.told.stands.tells)
-          (subst (λ (x : Swept (Node K V)). DoneAt _ step.step.went.c2 step.step.went.blocks2 o.done step.step.done2 o.entered step.step.entered2 x o.sweep.stands) is step.step.done)
+          (subst (λ (x : Swept (Node K V)). DoneAt its.hash step.step.went.c2 step.step.went.blocks2 o.done step.step.done2 o.entered step.step.entered2 x o.sweep.stands) is step.step.done)
 
       ready : p2.stands ≡ sweeping.Ready
       ready = (subst (TellsSo o.sweep.stands p2.stands) is step.step.went.told.stands.tells).1
-
-      abbrev its : Standing K
-      its = (went same hash name log m known s old new at whole purposes of i u here (progress.Pair word) leads).0
 
       walks : p2.purpose ≡ Walks
       walks =

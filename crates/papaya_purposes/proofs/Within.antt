@@ -36,7 +36,7 @@ module _ {K V : Type 0} (of : ℕ) (s s2 : Standing K) (number number2 : ℕ →
     old : n < s.chart.stored → time ≤ s.chart.now → OneOf Then (v ∷ moments_from begun log)
     old b l = by (within.within time n from l b)
       where
-        abbrev Was : Moment K V → Type 0
+        Was : Moment K V → Type 0
         Was x = is_in_map of (x.place (number n)) ≡ s.chart.was time n
 
         on : (x : Moment K V) → Was x → Then x
