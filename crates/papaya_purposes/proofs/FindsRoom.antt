@@ -1,13 +1,11 @@
 -- A reservation that is answered has counted shards as they were, and has met a root with room for so many more.
-use Rattle.std.specs.Prelude.{◌≡◌, ℕ, zero, suc, ◌+◌, ◌<◌, ◌≤◌, nat_le, Bool, true, false, cond, List, [], ◌∷◌, ◌++◌, filter, length, Option, Some, ◌⊎◌}
+use Rattle.std.specs.Prelude.{◌≡◌, ℕ, zero, suc, ◌+◌, ◌<◌, ◌≤◌, nat_le, Bool, true, false, cond, List, [], ◌∷◌, ◌++◌, filter, Option, Some, ◌⊎◌}
 use Rattle.std.proofs.Common.{refl, ap, sym, subst, ◌∙◌, arith, inl, inr}
 use Rattle.std.proofs.lemmas.Bool.{cases_eq}
-use Rattle.seize.specs.World.{with_at}
 use Rattle.papaya_tables.specs.Lengths.{len_of}
 use Rattle.papaya_tables.specs.declared.node.Node.{Node}
 use Rattle.papaya_resize.specs.declared.outcome.Outcome.{Outcome}
 use Rattle.papaya_resize.specs.declared.outcome.Outcome.TheVariants as outcome
-use Rattle.papaya_sweeps.specs.declared.sweep.Swept.{Swept}
 use Rattle.papaya_raw.specs.Progress.{of_outcome}
 use Rattle.papaya_raw.specs.declared.machines.progress.Answer.TheVariants as answers
 use Rattle.papaya_raw.specs.declared.machines.progress.Progress.{Progress}
@@ -20,7 +18,7 @@ use Rattle.papaya_schedules.specs.After.{moments_from}
 use Rattle.papaya_schedules.specs.Counts.{Counts}
 use Rattle.papaya_schedules.specs.Entry.{Entry}
 use Rattle.papaya_schedules.specs.Lists.{OneOf}
-use Rattle.papaya_schedules.specs.Moment.{UnderWay as CallThere, MapThere, Stage, TableThere, Moment}
+use Rattle.papaya_schedules.specs.Moment.{UnderWay as CallThere, Stage, TableThere, Moment}
 use Rattle.papaya_schedules.specs.Steps.{met_from}
 use Rattle.papaya_schedules.specs.Sweeps.{Fits, roots_since, FindsRoom}
 use Rattle.papaya_schedules.specs.Terms.{Terms, shards_of}
@@ -41,14 +39,14 @@ use Rattle.papaya_executor.specs.declared.executor.Executor.{Executor}
 use Rattle.papaya_finishes.specs.Machines.{machine_of}
 use Rattle.papaya_finishes.specs.Maps.{Standing}
 use Rattle.papaya_follows.specs.Maps.{tables_to, ShowsTables}
-use Rattle.papaya_follows.proofs.Steps.{WentTo, made_so, is_inside, is_sight, one_of}
+use Rattle.papaya_follows.proofs.Steps.{WentTo, made_so, is_inside, is_sight}
 use Rattle.papaya_histories.proofs.Logs.{each_of}
 use Rattle.papaya_moments.specs.Whole.{ShowsWhole}
 use Rattle.papaya_purposes.specs.Purposes.{IsFor, HasMet, ShowsPurposes}
 use Rattle.papaya_purposes.specs.Shards.{ReadsShards}
 use Rattle.papaya_purposes.specs.Swept.{ReservationsAreSwept}
 use Rattle.papaya_purposes.proofs.RoomSteps.{EndsSo, room_ends}
-use Rattle.papaya_purposes.proofs.Steps.{went, on, v2, known2, scene2, Did, first_then, before_then}
+use Rattle.papaya_purposes.proofs.Steps.{went, on, known2, Did}
 use Rattle.papaya_purposes.proofs.Sums.{counts_wider}
 use Rattle.papaya_purposes.proofs.Swept.{v, then_call, then_is, still, on_map, swept_by, same_map, completed_said}
 

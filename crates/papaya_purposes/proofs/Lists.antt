@@ -7,7 +7,6 @@ use Rattle.papaya_schedules.specs.declared.call.Reply.{Reply}
 use Rattle.papaya_schedules.specs.declared.call.Reply.TheVariants.{Decides}
 use Rattle.papaya_schedules.specs.Lists.{OneOf, is_among}
 use Rattle.papaya_schedules.specs.Sweeps.{is_yes}
-use Rattle.papaya_schedules.specs.Things.{same_question}
 use Rattle.papaya_schedules.specs.Views.{reply_to}
 use Rattle.papaya_late.specs.Covers.{times}
 

@@ -1,6 +1,6 @@
 -- A walk that goes over its table does not begin anew.
-use Rattle.std.specs.Prelude.{◌≡◌, ℕ, ◌==◌, ◌&&◌, nat_lt, Bool, true, false, Some, if◌then◌else◌, ◌⊎◌}
-use Rattle.std.proofs.Common.{ap, sym, subst, inl, inr}
+use Rattle.std.specs.Prelude.{◌≡◌, ℕ, ◌==◌, ◌&&◌, nat_lt, Bool, true, false, if◌then◌else◌, ◌⊎◌}
+use Rattle.std.proofs.Common.{ap, inl, inr}
 use Rattle.seize_words.specs.Op.{Out, Found, Stored, Exchanged, Made, Taken, Roomed}
 use Rattle.seize_words.specs.Plan.{plan_as}
 use Rattle.seize_words.specs.Word.{block_in}
@@ -28,7 +28,7 @@ use Rattle.papaya_rule.proofs.Keys.Always.{Always, AlwaysOf}
 use Rattle.papaya_late.specs.FactsSweeps.{SweepingFacts}
 use Rattle.papaya_late.specs.ToldSweeps.{IsRowOfSweep}
 use Rattle.papaya_callers.specs.OverAll.{CallOverAll, sweep_once_over, past_sweeping}
-use Rattle.papaya_callers.specs.Together.{UnderWay, OverAll, KnowsSweep, Stands}
+use Rattle.papaya_callers.specs.Together.{OverAll, Stands}
 use Rattle.papaya_executor.specs.Stepping.{StepsFrom}
 use Rattle.papaya_executor.specs.declared.executor.Executor.{Executor}
 use Rattle.papaya_histories.proofs.Asking.{always_told, always_turned}

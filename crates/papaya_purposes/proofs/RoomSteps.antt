@@ -1,6 +1,6 @@
 -- A step of a reservation that is under way, in the words of a run.
-use Rattle.std.specs.Prelude.{◌≡◌, ℕ, suc, ◌+◌, ◌^◌, ◌<◌, ◌≤◌, nat_lt, Bool, true, false, List, length, Option, Some, None, Result, Ok, Err, ◌⊎◌}
-use Rattle.std.proofs.Common.{refl, ap, sym, subst, ◌∙◌, arith, inl, inr}
+use Rattle.std.specs.Prelude.{◌≡◌, ℕ, suc, ◌+◌, ◌^◌, ◌<◌, ◌≤◌, nat_lt, Bool, false, List, length, Option, Some, None, Result, Ok, Err}
+use Rattle.std.proofs.Common.{refl, ap, sym, subst, ◌∙◌, arith}
 use Rattle.seize_words.specs.Mem.{Mem, Took, value_at, word_at}
 use Rattle.seize_words.specs.Plan.{Steps}
 use Rattle.seize_words.specs.declared.at.At.TheVariants.{Word}
@@ -12,14 +12,12 @@ use Rattle.papaya_tables.specs.declared.setting.Setting.{Setting}
 use Rattle.papaya_tables.specs.declared.table.Table.{Table}
 use Rattle.papaya_resize.specs.declared.outcome.Outcome.{Outcome}
 use Rattle.papaya_resize.specs.declared.outcome.Outcome.TheVariants as outcome
-use Rattle.papaya_resize.specs.declared.copier.Copier.{Copier}
 use Rattle.papaya_resize.specs.declared.sum.Sum.{Sum}
 use Rattle.papaya_reserves.specs.Reserve.{or_too_long, needed, plan_at, reserve_plan}
 use Rattle.papaya_reserves.specs.declared.reserve.Reserve.{Reserve}
 use Rattle.papaya_reserves.specs.declared.reserve.Reserving.{Reserving}
 use Rattle.papaya_reserves.specs.declared.reserve.Reserving.TheVariants as reserving
 use Rattle.papaya_raw.specs.Machine.{machine_plan, reserved}
-use Rattle.papaya_raw.specs.Progress.{of_outcome}
 use Rattle.papaya_raw.specs.declared.machines.machine.Machine.{Machine}
 use Rattle.papaya_raw.specs.declared.machines.machine.Machine.TheVariants as kinds
 use Rattle.papaya_raw.specs.declared.machines.progress.Answer.TheVariants as answers
@@ -46,8 +44,8 @@ use Rattle.papaya_finishes.specs.Maps.{Standing}
 use Rattle.papaya_late.specs.ToldReserves.{IsRowOfReserve}
 use Rattle.papaya_teller.specs.declared.changed.Changed.TheVariants.{Nothing}
 use Rattle.papaya_histories.proofs.Logs.{last_there}
-use Rattle.papaya_purposes.specs.Purposes.{HasAdded, RoomAt, HasMet}
-use Rattle.papaya_purposes.specs.Shards.{ShowsShards, NoneCounted, ReadsShards}
+use Rattle.papaya_purposes.specs.Purposes.{RoomAt, HasMet}
+use Rattle.papaya_purposes.specs.Shards.{ReadsShards}
 use Rattle.papaya_purposes.proofs.RoomFacts.{turn_is, Point, StandsSo, room_setting, room_point, room_knows, was_root}
 use Rattle.papaya_purposes.proofs.RoomPoints.{LedAt, Led, reads_lead, makes_lead, sums_lead, follows_lead, grows_lead, copies_lead}
 

@@ -1,5 +1,5 @@
 -- A walk shows pairs that were in the map at a moment of it, and none twice.
-use Rattle.std.specs.Prelude.{◌≡◌, ℕ, ◌+◌, ◌<◌, ◌≤◌, Bool, true, false, cond, eqb, List, [], ◌∷◌, length, map, Option, Some, ◌⊎◌}
+use Rattle.std.specs.Prelude.{◌≡◌, ℕ, ◌<◌, ◌≤◌, Bool, true, false, cond, eqb, List, ◌∷◌, length, map, Option, Some}
 use Rattle.std.proofs.Common.{refl, ap, sym, subst, ◌∙◌, arith, inl, inr}
 use Rattle.std.proofs.lemmas.Bool.{eq-eqb}
 use Rattle.seize.specs.World.{World, with_at}
@@ -26,7 +26,6 @@ use Rattle.papaya_late.specs.Covers.{times, AreShown, CoversAt}
 use Rattle.papaya_late.specs.CoversSweeps.{Adds, DoneAt}
 use Rattle.papaya_late.specs.ToldSweeps.{IsRowOfSweep, TellsSo}
 use Rattle.papaya_callers.specs.OverAll.{CallOverAll, come_to}
-use Rattle.papaya_callers.specs.Sights.{seen_by}
 use Rattle.papaya_callers.specs.Together.{UnderWay, OnKey, ForRoom, Counting, OverAll, Stands, next_over_all}
 use Rattle.papaya_callers.proofs.Together.At.{at_same}
 use Rattle.papaya_effects.specs.Known.{Known}

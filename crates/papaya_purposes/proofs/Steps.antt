@@ -1,5 +1,5 @@
 -- A step of a call, whoever's: what calls on whole maps have come to then.
-use Rattle.std.specs.Prelude.{◌≡◌, ◌≢◌, ℕ, ◌<◌, ◌≤◌, Bool, List, [], ◌∷◌, length, Option, Some, ◌⊎◌}
+use Rattle.std.specs.Prelude.{◌≡◌, ◌≢◌, ℕ, ◌<◌, ◌≤◌, Bool, List, [], length, Option, Some, ◌⊎◌}
 use Rattle.std.specs.List.{AllByRecursion}
 use Rattle.std.proofs.Common.{refl, ap, sym, subst, ◌∙◌, arith, inl, inr}
 use Rattle.std.proofs.lemmas.Bool.{cases_eq}
@@ -14,7 +14,6 @@ use Rattle.papaya_raw.specs.declared.machines.machine.Machine.TheVariants as kin
 use Rattle.papaya_raw.specs.declared.machines.progress.Progress.{Progress}
 use Rattle.papaya_schedules.specs.declared.call.Call.{Call}
 use Rattle.papaya_schedules.specs.After.{moment, moments_from}
-use Rattle.papaya_schedules.specs.Effects.{with_effects}
 use Rattle.papaya_schedules.specs.Entry.{Entry}
 use Rattle.papaya_schedules.specs.Moment.{UnderWay as CallThere, Moment}
 use Rattle.papaya_schedules.specs.Views.{call_of, is_in_map}
@@ -35,7 +34,6 @@ use Rattle.papaya_executor.specs.declared.executor.Executor.{Executor}
 use Rattle.papaya_follows.specs.Shows.{Shows}
 use Rattle.papaya_follows.proofs.Called.{key_goes_on, room_goes_on, sweep_goes_on, counting_goes_on}
 use Rattle.papaya_follows.proofs.Steps.{WentTo, DidSo, LeadsThere, one_of}
-use Rattle.papaya_hands.proofs.Asking.{which}
 use Rattle.papaya_moments.specs.Whole.{ShowsWhole}
 use Rattle.papaya_moments.proofs.OnSlots.{stood_same}
 use Rattle.papaya_histories.specs.Histories.{since}

@@ -1,5 +1,5 @@
 -- A step of a counting adds the shard that it reads, as it was at the last moment of the run.
-use Rattle.std.specs.Prelude.{◌≡◌, ℕ, zero, suc, ◌+◌, ◌%◌, ◌^◌, ◌≤◌, true, false, nat_lt, List, Some}
+use Rattle.std.specs.Prelude.{◌≡◌, ℕ, zero, suc, ◌+◌, ◌%◌, ◌^◌, ◌≤◌, false, nat_lt, List, Some}
 use Rattle.std.proofs.Common.{refl, ap, sym, subst, ◌∙◌, arith, inl, inr}
 use Rattle.seize_words.specs.Mem.{Mem, Took, value_at, word_at}
 use Rattle.seize_words.specs.Plan.{Now, Steps}

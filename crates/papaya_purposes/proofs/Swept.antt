@@ -1,12 +1,10 @@
 -- An event whose last step ends a call on a whole map, or shows a pair of a walk, does what the call is for.
-use Rattle.std.specs.Prelude.{◌≡◌, ℕ, suc, ◌+◌, ◌<◌, ◌≤◌, ◌&&◌, ◌||◌, Bool, true, false, not, cond, List, [], ◌∷◌, length, map, Option, Some, None, ◌⊎◌}
+use Rattle.std.specs.Prelude.{◌≡◌, ℕ, suc, ◌<◌, ◌≤◌, ◌&&◌, ◌||◌, Bool, true, false, not, List, [], ◌∷◌, length, Option, Some, None, ◌⊎◌}
 use Rattle.std.specs.List.{AllByRecursion, list_all}
 use Rattle.std.proofs.Common.{refl, ap, sym, subst, ◌∙◌, arith, inl, inr}
-use Rattle.std.proofs.lemmas.Bool.{eq-eqb}
 use Rattle.papaya_tables.specs.declared.node.Node.{Node}
 use Rattle.papaya_sweeps.specs.declared.sweep.Purpose.{Purpose}
-use Rattle.papaya_sweeps.specs.declared.sweep.Purpose.TheVariants.{Walks, Clears, Retains}
-use Rattle.papaya_sweeps.specs.declared.sweep.Sweep.{Sweep}
+use Rattle.papaya_sweeps.specs.declared.sweep.Purpose.TheVariants.{Clears, Retains}
 use Rattle.papaya_sweeps.specs.declared.sweep.Sweeping.{Sweeping}
 use Rattle.papaya_sweeps.specs.declared.sweep.Sweeping.TheVariants as sweeping
 use Rattle.papaya_sweeps.specs.declared.sweep.Swept.{Swept}
@@ -19,28 +17,27 @@ use Rattle.papaya_schedules.specs.declared.call.Answer.TheVariants.{Completed, C
 use Rattle.papaya_schedules.specs.declared.call.Call.{Call}
 use Rattle.papaya_schedules.specs.declared.call.Call.TheVariants as call
 use Rattle.papaya_schedules.specs.declared.outcome.Outcome.{Outcome}
-use Rattle.papaya_schedules.specs.declared.outcome.Outcome.TheVariants.{Shows as ShowsOne, Answered}
+use Rattle.papaya_schedules.specs.declared.outcome.Outcome.TheVariants.{Answered}
 use Rattle.papaya_schedules.specs.After.{moment, moments_from}
 use Rattle.papaya_schedules.specs.Counts.{Counts}
 use Rattle.papaya_schedules.specs.Effects.{worked}
 use Rattle.papaya_schedules.specs.Entry.{Entry, IfCall, acting, caller_of}
-use Rattle.papaya_schedules.specs.Lists.{OneOf, is_among, numbers_from}
+use Rattle.papaya_schedules.specs.Lists.{numbers_from}
 use Rattle.papaya_schedules.specs.Moment.{UnderWay as CallThere, Moment}
-use Rattle.papaya_schedules.specs.Sweeps.{is_yes, MayShow, stays, ClearsAll, RetainsOnly, Sweeps, IsSwept}
+use Rattle.papaya_schedules.specs.Sweeps.{is_yes, stays, ClearsAll, RetainsOnly, Sweeps, IsSwept}
 use Rattle.papaya_schedules.specs.Terms.{Terms, shards_of}
 use Rattle.papaya_schedules.specs.Views.{call_of, is_in_map, reply_to}
 use Rattle.papaya_rule.specs.Chart.{Chart}
 use Rattle.papaya_rule.specs.Words.{Blocks}
-use Rattle.papaya_late.specs.Covers.{times, IsKept, WasAlways, AreShown, Came, CoversAt, NamesPair as NamesIt}
-use Rattle.papaya_late.specs.CoversSweeps.{Adds, DoneAt}
-use Rattle.papaya_late.specs.ToldSweeps.{IsRowOfSweep, TellsSo}
-use Rattle.papaya_callers.specs.OverAll.{CallOverAll, come_to}
+use Rattle.papaya_late.specs.Covers.{times, IsKept, WasAlways, Came}
+use Rattle.papaya_late.specs.CoversSweeps.{DoneAt}
+use Rattle.papaya_callers.specs.OverAll.{CallOverAll}
 use Rattle.papaya_callers.specs.Together.{UnderWay, OnKey, ForRoom, Counting, OverAll}
 use Rattle.papaya_callers.proofs.Together.At.{at_same}
 use Rattle.papaya_effects.specs.Effects.{effects_of}
 use Rattle.papaya_effects.specs.Known.{Known}
 use Rattle.papaya_effects.specs.declared.acting.Acting.TheVariants as acts
-use Rattle.papaya_executor.specs.IsAt.{Scene, IsAt, slot_of}
+use Rattle.papaya_executor.specs.IsAt.{Scene, IsAt}
 use Rattle.papaya_executor.specs.Stepping.{StepsFrom, StepLeads}
 use Rattle.papaya_executor.specs.declared.executor.Executor.{Executor}
 use Rattle.papaya_finishes.specs.Machines.{machine_of}
@@ -48,14 +45,12 @@ use Rattle.papaya_finishes.specs.Maps.{Standing, IsSameMap}
 use Rattle.papaya_follows.proofs.Steps.{WentTo, one_of}
 use Rattle.papaya_follows.proofs.Stored.{in_map_true}
 use Rattle.papaya_hands.proofs.Replacing.{calls_after}
-use Rattle.papaya_histories.specs.Answers.{NamesPair}
 use Rattle.papaya_histories.specs.Histories.{since}
-use Rattle.papaya_histories.proofs.Logs.{each_of, last_there}
 use Rattle.papaya_moments.specs.Whole.{ShowsWhole}
-use Rattle.papaya_purposes.specs.Kept.{NoneCame, PairsChangeFirst}
+use Rattle.papaya_purposes.specs.Kept.{PairsChangeFirst}
 use Rattle.papaya_purposes.specs.Purposes.{IsFor, PairsWithin, TellsDone, HasSwept, ShowsPurposes}
 use Rattle.papaya_purposes.specs.Shards.{ReadsShards}
-use Rattle.papaya_purposes.specs.Swept.{ComesSo, IsLen, IsWalk, Removes, Keeps, Ends, CountingsAreSwept, ClearingsAreSwept, RetainingsAreSwept}
+use Rattle.papaya_purposes.specs.Swept.{ComesSo, CountingsAreSwept, ClearingsAreSwept, RetainingsAreSwept}
 use Rattle.papaya_purposes.proofs.Counts.{counts_end, mask_is}
 use Rattle.papaya_purposes.proofs.Done.{tells_kept}
 use Rattle.papaya_purposes.proofs.Lists.{all_among, all_pass, one_passes}

@@ -3,7 +3,6 @@ use Rattle.std.specs.Prelude.{◌≡◌, ◌≢◌, ℕ, ◌+◌, ◌<◌, ◌�
 use Rattle.std.specs.List.{AllByRecursion}
 use Rattle.std.proofs.Common.{refl, ap, sym, subst, ◌∙◌, arith, inl, inr}
 use Rattle.std.proofs.lemmas.Bool.{cases_order, eq-eqb}
-use Rattle.seize_words.specs.Word.{block_in}
 use Rattle.papaya_sweeps.specs.SweepPoints.{reply_at, after_reply}
 use Rattle.papaya_sweeps.specs.declared.sweep.Purpose.TheVariants.{Retains}
 use Rattle.papaya_sweeps.specs.declared.sweep.Sweep.{Sweep}
@@ -166,7 +165,7 @@ module _ {K V S : Type 0} (same : K → K → Bool) (hash : K → ℕ) (name : �
     yes_done done2 (inr (p, is, below, number_p, told_yes)) said_yes =
         subst (AllByRecursion (IsYes d)) (sym is) (
           ap (λ (r : List (Option ℕ × Reply V)). is_yes (reply_to (Some (number p)) r)) replies
-          ∙ ap (λ (r : Reply V). is_yes (reply_to (Some (number p)) ((Some q, r) ∷ c.replies))) told_yes ∙ yes_now (number p) q c.replies number_p,
+              ∙ ap (λ (r : Reply V). is_yes (reply_to (Some (number p)) ((Some q, r) ∷ c.replies))) told_yes ∙ yes_now (number p) q c.replies number_p,
           yes_all said_yes,
         )
 

@@ -1,6 +1,6 @@
 -- What a call on a whole map has come to, in the words of a run: what it has counted, which pairs it has shown or was told to keep, and that it is for what was
 -- called.
-use Rattle.std.specs.Prelude.{◌≡◌, ℕ, suc, ◌<◌, ◌≤◌, ◌%◌, ◌^◌, Bool, true, List, [], ◌∷◌, length, map, Some}
+use Rattle.std.specs.Prelude.{◌≡◌, ℕ, suc, ◌<◌, ◌≤◌, ◌%◌, ◌^◌, Bool, true, List, [], length, map, Some}
 use Rattle.std.specs.List.{AllByRecursion}
 use Rattle.papaya_resize.specs.declared.sum.Summing.{Summing}
 use Rattle.papaya_resize.specs.declared.sum.Summing.TheVariants as sums
