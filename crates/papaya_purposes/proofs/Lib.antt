@@ -4,7 +4,9 @@ mod Present
 mod Sums
 mod Shown
 mod Alike
+mod KeysOn
 mod Onward
+mod KeysSteps
 mod Done
 mod Still
 mod Over

@@ -48,10 +48,10 @@ IsWalkAt at.Over = Unit {0}
 IsWalkAt (at.Refused fault) = Unit {0}
 IsWalkAt _ = ⊥
 
-not_walking : (purpose : Purpose) → purpose ≡ Walks → removes purpose ≡ true → ⊥
+pub not_walking : (purpose : Purpose) → purpose ≡ Walks → removes purpose ≡ true → ⊥
 not_walking purpose e r = (let walks = ap removes e in cc (walks, r))
 
-not_retaining : (purpose : Purpose) → purpose ≡ Walks → purpose ≡ Retains → ⊥
+pub not_retaining : (purpose : Purpose) → purpose ≡ Walks → purpose ≡ Retains → ⊥
 not_retaining purpose e r = cc (e, r)
 
 module _ {K V : Type 0} (same : K → K → Bool) (hash : K → ℕ) (w : World (Node K V)) (caller : ℕ) (setting : Setting) (c : Chart K) (blocks : Blocks) (began : ℕ) where

@@ -1,3 +1,4 @@
+pub mod Keys
 pub mod Purposes
 pub mod Shards
 pub mod Kept
