@@ -7,6 +7,7 @@ mod Alike
 mod KeysOn
 mod Onward
 mod KeysSteps
+mod KeysCarried
 mod Done
 mod Still
 mod Over
