@@ -1,6 +1,7 @@
 -- Before all events, between the steps of calls, and where an event is over, the moment says what calls on whole maps have come to, and what they are for.
 use Rattle.std.specs.Prelude.{◌≡◌, ℕ, ◌+◌, ◌≤◌, ◌==◌, nat_lt, Bool, true, false, cond, List, [], ◌∷◌, length, find, Option, Some, if◌then◌else◌, ◌⊎◌}
 use Rattle.std.proofs.Common.{refl, ap, sym, subst, ◌∙◌, arith, inl, inr}
+use Rattle.papaya_tables.specs.Chunks.{is_incremental}
 use Rattle.papaya_tables.specs.declared.setting.Setting.{Setting}
 use Rattle.papaya_resize.specs.Sum.{summing}
 use Rattle.papaya_resize.specs.declared.sum.Sum.{Sum}
@@ -8,6 +9,7 @@ use Rattle.papaya_reserves.specs.declared.reserve.Reserving.{Reserving}
 use Rattle.papaya_reserves.specs.declared.reserve.Reserving.TheVariants as reserving
 use Rattle.papaya_sweeps.specs.SweepPoints.{next_at, after_next}
 use Rattle.papaya_sweeps.specs.declared.sweep.Purpose.{Purpose}
+use Rattle.papaya_sweeps.specs.declared.sweep.Purpose.TheVariants.{Walks}
 use Rattle.papaya_sweeps.specs.declared.sweep.Sweep.{Sweep}
 use Rattle.papaya_sweeps.specs.declared.sweep.Sweeping.{Sweeping}
 use Rattle.papaya_sweeps.specs.declared.sweep.Sweeping.TheVariants as sweeping
@@ -21,6 +23,7 @@ use Rattle.papaya_schedules.specs.Entry.{Entry}
 use Rattle.papaya_schedules.specs.Lists.{OneOf}
 use Rattle.papaya_schedules.specs.Moment.{Place, MapThere, UnderWay as CallThere, Moment}
 use Rattle.papaya_schedules.specs.Views.{call_of, is_in_map, first_or, first_of}
+use Rattle.papaya_rule.specs.Maps.{spot_of}
 use Rattle.papaya_callers.specs.OverAll.{CallOverAll, begun_over_all, gone_on}
 use Rattle.papaya_callers.specs.Rooms.{CallForRoom}
 use Rattle.papaya_callers.specs.Together.{UnderWay, OnKey, ForRoom, Counting, OverAll, in_slot}
@@ -42,8 +45,9 @@ use Rattle.papaya_histories.proofs.Logs.{last_there, moments_grow}
 use Rattle.papaya_others.specs.After.{ShowsAfter}
 use Rattle.papaya_others.proofs.Walks.{fewer_calls, with_calls}
 use Rattle.papaya_purposes.specs.Kept.{TellsNone, PurposesBegin, CallsBeginPurposes, WalksGoOnPurposes, CallsComeToPurposes, EventsKeepPurposes, FirstStepsChangePairsFirst, StillStepsChangePairsFirst, RemovalsChangePairsFirst}
-use Rattle.papaya_purposes.specs.Purposes.{IsBefore, IsFor, HasAdded, RoomAt, HasMet, TellsDone, HasSwept, HasCome}
+use Rattle.papaya_purposes.specs.Purposes.{IsBefore, IsFor, HasAdded, RoomAt, HasMet, TellsDone, KeysOf, HasSwept, HasCome}
 use Rattle.papaya_purposes.proofs.For.{sweep_for}
+use Rattle.papaya_purposes.proofs.KeysOn.{keys_next}
 use Rattle.papaya_purposes.proofs.Present.{begins_within}
 use Rattle.papaya_purposes.proofs.Shown.{IsStill, same_still, comes_still}
 use Rattle.papaya_purposes.proofs.Still.{come_still, for_still}
@@ -59,11 +63,11 @@ purposes_begin K V same roots name = record {
 }
 
 -- an event that is over adds its moment
-module _ {K V : Type 0} (log : List (Entry K V)) (e : Entry K V) (c : CallThere K V) (before : c.begun ≤ length log) where
+module _ {K V : Type 0} (same : K → K → Bool) (log : List (Entry K V)) (e : Entry K V) (c : CallThere K V) (before : c.begun ≤ length log) where
   wider : (P : Moment K V → Type 0) → OneOf P (moments_from c.begun log) → OneOf P (moments_from c.begun (e ∷ log))
   wider P there = subst (OneOf P) (sym (moments_grow c.begun e log (omega (arith, before)))) (inr there)
 
-  pub event_come : (of : ℕ) (st : Standing K) (number : ℕ → ℕ) (m : Moment K V) (u : UnderWay K V K) → HasCome of st number log m u c → HasCome of st number (e ∷ log) m u c
+  pub event_come : (of : ℕ) (st : Standing K) (number : ℕ → ℕ) (m : Moment K V) (u : UnderWay K V K) → HasCome same of st number log m u c → HasCome same of st number (e ∷ log) m u c
   event_come of st number m (OnKey u) h = tt
   event_come of st number m (ForRoom r) h = record { low = h.low; was = wider (λ x. first_of of x ≤ h.low) h.was; root = h.root; point = point r.reserve.stands h.point }
     where
@@ -82,6 +86,7 @@ module _ {K V : Type 0} (log : List (Entry K V)) (e : Entry K V) (c : CallThere 
     stored = h.stored;
     tells = h.tells;
     none = h.none;
+    keys = h.keys;
   }
     where
       more : (n : ℕ) (q : Bool) → OneOf (λ (x : Moment K V). is_in_map of (x.place n) ≡ q) (m ∷ moments_from c.begun log) → OneOf (λ (x : Moment K V). is_in_map of (x.place n) ≡ q) (m ∷ moments_from c.begun (e ∷ log))
@@ -93,7 +98,7 @@ events_keep_purposes K V same name log e known s purposes = record {
   shown = purposes.shown;
   begun = λ n i u is c found. (let b = purposes.begun n i u is c found in omega (arith, b));
   is_for = purposes.is_for;
-  come = λ n i u is st there c found. event_come log e c (purposes.begun n i u is c found) n st (purposes.shown.number n) (moment (e ∷ log)) u (purposes.come n i u is st there c found);
+  come = λ n i u is st there c found. event_come same log e c (purposes.begun n i u is c found) n st (purposes.shown.number n) (moment (e ∷ log)) u (purposes.come n i u is st there c found);
 }
 
 -- a call that comes to an outcome that tells of no pair
@@ -114,8 +119,8 @@ calls_come_to_purposes K V same name log m known s purposes own o steps none end
   is_for = λ n j x is d d_is. (let c = purposes.shown.calls n j x is in for_still c.0 d (still n j x is c.0 c.1 d d_is) x (purposes.is_for n j x is c.0 c.1));
   come = λ n j x is st there d d_is.
       let c = purposes.shown.calls n j x is in
-      subst (λ (f : ℕ → ℕ → ℕ). HasCome n st (f n) log (come_to own o steps m) x d) (sym b.1)
-      (come_still n st (purposes.shown.number n) log m (come_to own o steps m) refl c.0 d (still n j x is c.0 c.1 d d_is) x (purposes.come n j x is st there c.0 c.1));
+      subst (λ (f : ℕ → ℕ → ℕ). HasCome same n st (f n) log (come_to own o steps m) x d) (sym b.1)
+      (come_still same n st (purposes.shown.number n) log m (come_to own o steps m) refl c.0 d (still n j x is c.0 c.1 d d_is) x (purposes.come n j x is st there c.0 c.1));
 }
   where
     b : (after : Shows same name (come_to own o steps m) known s) × (after.number ≡ purposes.shown.number)
@@ -139,21 +144,22 @@ module _ {K V S : Type 0} (same : K → K → Bool) (hash : K → ℕ) (name : �
   sum_begins : (setting : Setting) → HasAdded of (moments_from c.begun log) (summing setting).setting.mask (summing setting).stands
   sum_begins setting = (0, refl, omega arith)
 
-  sweep_begins : (setting : Setting) (purpose : Purpose) → HasSwept of st (shown.number of) (m2 ∷ moments_from c.begun log) (begun_over_all st.chart.now setting purpose) c
+  sweep_begins : (setting : Setting) (purpose : Purpose) → HasSwept same of st (shown.number of) (m2 ∷ moments_from c.begun log) (begun_over_all st.chart.now setting purpose) c
   sweep_begins setting purpose = record {
     within = begins_within same hash name m known s e at shown of st there m2 (moments_from c.begun log) place;
     stored = tt;
     tells = none_told c.call (shown.number of);
     none = λ walks first. refl;
+    keys = λ walks. tt;
   }
 
-  pub begins_come : (u : UnderWay K V K) → Begins same st i u → HasCome of st (shown.number of) log m2 u c
+  pub begins_come : (u : UnderWay K V K) → Begins same st i u → HasCome same of st (shown.number of) log m2 u c
   begins_come (OnKey u) begins = tt
   begins_come (ForRoom r) (additional, is) =
       subst (λ (x : CallForRoom). HasMet of st (moments_from c.begun log) x) (sym is) (record { low = st.chart.first; was = was; root = omega arith; point = tt })
   begins_come (Counting sum) begins = subst (λ (x : Sum). HasAdded of (moments_from c.begun log) x.setting.mask x.stands) (sym begins) (sum_begins (in_slot st.setting (slot_of i)))
   begins_come (OverAll o) (purpose, is) =
-      subst (λ (x : CallOverAll). HasSwept of st (shown.number of) (m2 ∷ moments_from c.begun log) x c) (sym is) (sweep_begins (in_slot st.setting (slot_of i)) purpose)
+      subst (λ (x : CallOverAll). HasSwept same of st (shown.number of) (m2 ∷ moments_from c.begun log) x c) (sym is) (sweep_begins (in_slot st.setting (slot_of i)) purpose)
 
 pub calls_begin_purposes : (K V S : Type 0) (same : K → K → Bool) (hash : K → ℕ) → CallsBeginPurposes K V S same hash
 calls_begin_purposes K V S same hash name log m known s e at purposes of i u its guard standing there begins apart called is_for events same_maps = record {
@@ -161,7 +167,7 @@ calls_begin_purposes K V S same hash name log m known s e at purposes of i u its
   begun = λ n j x is d d_is. begun_one n j x d (which_call n j x d d_is (which s.calls of i (Some u) n j x is));
   is_for = λ n j x is d d_is. for_one n j x d (which_call n j x d d_is (which s.calls of i (Some u) n j x is));
   come = λ n j x is st st_is d d_is.
-      subst (λ (f : ℕ → ℕ → ℕ). HasCome n st (f n) log m2 x d) (sym b.1) (come_one n j x d st st_is (which_call n j x d d_is (which s.calls of i (Some u) n j x is)));
+      subst (λ (f : ℕ → ℕ → ℕ). HasCome same n st (f n) log m2 x d) (sym b.1) (come_one n j x d st st_is (which_call n j x d d_is (which s.calls of i (Some u) n j x is)));
 }
   where
     m2 : Moment K V
@@ -202,15 +208,15 @@ calls_begin_purposes K V S same hash name log m known s e at purposes of i u its
     for_one n j x d (inl a) = subst (λ (y : UnderWay K V K). IsFor y d.call) (sym a.1) (subst (λ (f : CallThere K V). IsFor u f.call) (sym a.2) is_for)
     for_one n j x d (inr was) = purposes.is_for n j x was.0 d was.1
 
-    come_one : (n j : ℕ) (x : UnderWay K V K) (d : CallThere K V) (st : Standing K) → s.maps n ≡ Some st → One n j x d → HasCome n st (purposes.shown.number n) log m2 x d
+    come_one : (n j : ℕ) (x : UnderWay K V K) (d : CallThere K V) (st : Standing K) → s.maps n ≡ Some st → One n j x d → HasCome same n st (purposes.shown.number n) log m2 x d
     come_one n j x d st st_is (inl a) =
-        subst (λ (k : ℕ). HasCome k st (purposes.shown.number k) log m2 x d) (sym a.0)
-        (subst (λ (y : UnderWay K V K). HasCome of st (purposes.shown.number of) log m2 y d) (sym a.1)
-        (subst (λ (f : CallThere K V). HasCome of st (purposes.shown.number of) log m2 u f) (sym a.2)
-        (subst (λ (z : Standing K). HasCome of z (purposes.shown.number of) log m2 u fresh) (one_of standing st (sym there ∙ ap s.maps (sym a.0) ∙ st_is))
+        subst (λ (k : ℕ). HasCome same k st (purposes.shown.number k) log m2 x d) (sym a.0)
+        (subst (λ (y : UnderWay K V K). HasCome same of st (purposes.shown.number of) log m2 y d) (sym a.1)
+        (subst (λ (f : CallThere K V). HasCome same of st (purposes.shown.number of) log m2 u f) (sym a.2)
+        (subst (λ (z : Standing K). HasCome same of z (purposes.shown.number of) log m2 u fresh) (one_of standing st (sym there ∙ ap s.maps (sym a.0) ∙ st_is))
         (begins_come same hash name log m known s e at purposes.shown of i standing there m2 refl fresh refl first_was u begins))))
     come_one n j x d st st_is (inr was) =
-        come_still n st (purposes.shown.number n) log m m2 refl d d (same_still d) x (purposes.come n j x was.0 st st_is d was.1)
+        come_still same n st (purposes.shown.number n) log m m2 refl d d (same_still d) x (purposes.come n j x was.0 st st_is d was.1)
 
 -- a walk that is asked for its next pair goes over its table, or is over
 next_over : (p : Sweep) → p.stands ≡ sweeping.Ready → IsBefore (after_next p).stands → ⊥
@@ -237,7 +243,7 @@ walks_go_on_purposes K V same name log m known s purposes of i o here ready = re
   begun = λ n j x is d d_is. (let was = which_call n j x (which s.calls of i (Some next) n j x is) in purposes.begun n j was.0 was.1 d d_is);
   is_for = λ n j x is d d_is. for_one n j x d d_is (which s.calls of i (Some next) n j x is);
   come = λ n j x is st st_is d d_is.
-      subst (λ (f : ℕ → ℕ). HasCome n st f log m x d) (sym (b.numbers n st st_is)) (come_one n j x st st_is d d_is (which s.calls of i (Some next) n j x is));
+      subst (λ (f : ℕ → ℕ). HasCome same n st f log m x d) (sym (b.numbers n st st_is)) (come_one n j x st st_is d d_is (which s.calls of i (Some next) n j x is));
 }
   where
     o2 : CallOverAll
@@ -264,12 +270,16 @@ walks_go_on_purposes K V same name log m known s purposes of i o here ready = re
         (sweep_for d.call o o2 (next_purpose o.sweep) (purposes.is_for n j (OverAll o) (ap (λ (k : ℕ). s.calls k j) a.0 ∙ ap (s.calls of) a.1 ∙ here) d d_is))
     for_one n j x d d_is (inr was) = purposes.is_for n j x was.1 d d_is
 
-    own : (n : ℕ) (st : Standing K) (d : CallThere K V) → HasSwept n st (purposes.shown.number n) (m ∷ moments_from d.begun log) o d → HasSwept n st (purposes.shown.number n) (m ∷ moments_from d.begun log) o2 d
-    own n st d h = record { within = h.within; stored = h.stored; tells = h.tells; none = λ walks first. absurd (next_over o.sweep ready first) }
+    own : (n : ℕ) (st : Standing K) (d : CallThere K V) → HasSwept same n st (purposes.shown.number n) (m ∷ moments_from d.begun log) o d → HasSwept same n st (purposes.shown.number n) (m ∷ moments_from d.begun log) o2 d
+    own n st d h = record { within = h.within; stored = h.stored; tells = h.tells; none = λ walks first. absurd (next_over o.sweep ready first); keys = keys st h }
+      where
+        keys : (st : Standing K) → HasSwept same n st (purposes.shown.number n) (m ∷ moments_from d.begun log) o d → o2.sweep.purpose ≡ Walks → KeysOf same st o2
+        keys st h walks =
+            keys_next same (spot_of st.hash) (is_incremental st.setting.mode) st.chart o.began o.done o.sweep ready (h.keys (sym (next_purpose o.sweep) ∙ walks))
 
-    come_one : (n j : ℕ) (x : UnderWay K V K) (st : Standing K) → s.maps n ≡ Some st → (d : CallThere K V) → call_of (name j) m ≡ Some d → Which n j x → HasCome n st (purposes.shown.number n) log m x d
+    come_one : (n j : ℕ) (x : UnderWay K V K) (st : Standing K) → s.maps n ≡ Some st → (d : CallThere K V) → call_of (name j) m ≡ Some d → Which n j x → HasCome same n st (purposes.shown.number n) log m x d
     come_one n j x st st_is d d_is (inl a) =
-        subst (λ (y : UnderWay K V K). HasCome n st (purposes.shown.number n) log m y d) (one_of next x a.2)
+        subst (λ (y : UnderWay K V K). HasCome same n st (purposes.shown.number n) log m y d) (one_of next x a.2)
         (own n st d (purposes.come n j (OverAll o) (ap (λ (k : ℕ). s.calls k j) a.0 ∙ ap (s.calls of) a.1 ∙ here) st st_is d d_is))
     come_one n j x st st_is d d_is (inr was) = purposes.come n j x was.1 st st_is d d_is
 

@@ -63,15 +63,15 @@ module _ {K V S : Type 0} (same : K → K → Bool) (hash : K → ℕ) (name : �
 
   module _ (changes : PairsChangeFirst log m of v) where
     pub other_come : (n j : ℕ) (x : UnderWay K V K) → s.calls n j ≡ Some x → (st : Standing K) → then_at.maps n ≡ Some st → (d : CallThere K V) → call_of (name j) v ≡ Some d
-        → HasCome n st (number2 n) log v x d
+        → HasCome same n st (number2 n) log v x d
     other_come n j x is st there d d_is =
         let c = purposes.shown.calls n j x is in
         kept_come same hash name log m known s old new at whole purposes of i u here said leads changes n j x is st there c.0 d c.1 d_is
 
-    come_then : ((x : UnderWay K V K) → next ≡ Some x → (st : Standing K) → then_at.maps of ≡ Some st → (d : CallThere K V) → call_of (name i) v ≡ Some d → HasCome of st (number2 of) log v x d)
-        → (n j : ℕ) (x : UnderWay K V K) (st : Standing K) → then_at.maps n ≡ Some st → (d : CallThere K V) → call_of (name j) v ≡ Some d → Which n j x → HasCome n st (number2 n) log v x d
+    come_then : ((x : UnderWay K V K) → next ≡ Some x → (st : Standing K) → then_at.maps of ≡ Some st → (d : CallThere K V) → call_of (name i) v ≡ Some d → HasCome same of st (number2 of) log v x d)
+        → (n j : ℕ) (x : UnderWay K V K) (st : Standing K) → then_at.maps n ≡ Some st → (d : CallThere K V) → call_of (name j) v ≡ Some d → Which n j x → HasCome same n st (number2 n) log v x d
     come_then own n j x st there d d_is (inl its) =
-        subst (λ (k : ℕ). HasCome k st (number2 k) log v x d) (sym its.0)
+        subst (λ (k : ℕ). HasCome same k st (number2 k) log v x d) (sym its.0)
         (own x its.2 st (ap then_at.maps (sym its.0) ∙ there) d (ap (λ (k : ℕ). call_of (name k) v) (sym its.1) ∙ d_is))
     come_then own n j x st there d d_is (inr other) = other_come n j x other.1 st there d d_is
 
@@ -90,7 +90,7 @@ calls_keep_purposes K V S same hash name log m known s old new at whole purposes
     own : (x : UnderWay K V K) → next same hash name log m known s old new at whole purposes of i u here said leads ≡ Some x → (st : Standing K)
         → (then_at same hash name log m known s old new at whole purposes of i u here said leads).maps of ≡ Some st
         → (d : CallThere K V) → call_of (name i) (v same hash name log m known s old new at whole purposes of i u here said leads) ≡ Some d
-        → HasCome of st (number2 same hash name log m known s old new at whole purposes of i u here said leads of) log (v same hash name log m known s old new at whole purposes of i u here said leads) x d
+        → HasCome same of st (number2 same hash name log m known s old new at whole purposes of i u here said leads of) log (v same hash name log m known s old new at whole purposes of i u here said leads) x d
     own x e st there d d_is =
         let c = purposes.shown.calls of i u here in
         let to = went same hash name log m known s old new at whole purposes of i u here said leads in

@@ -40,7 +40,7 @@ use Rattle.papaya_callers.proofs.Together.Fits.{map_in_slot}
 use Rattle.papaya_finishes.specs.Maps.{Standing, IsSameMap}
 use Rattle.papaya_follows.proofs.Steps.{one_of}
 use Rattle.papaya_purposes.specs.Keys.{KeysAt}
-use Rattle.papaya_purposes.specs.Purposes.{IsBefore}
+use Rattle.papaya_purposes.specs.Purposes.{IsBefore, KeysOf}
 use Rattle.papaya_purposes.proofs.KeysOn.{IsLow, StandsLow, keys_at_on}
 use Rattle.papaya_purposes.proofs.KeysSteps.{Leads, copies_lead, walk_leads}
 use Rattle.papaya_purposes.proofs.Onward.{not_walking}
@@ -48,7 +48,7 @@ use Rattle.papaya_purposes.proofs.Onward.{not_walking}
 -- a map stands on with its setting, by one move at most, of this caller
 pub record StandsMoved {K : Type 0} (same : K → K → Bool) (caller : ℕ) (before st : Standing K) : Type 0 where
   pub hash : st.hash ≡ before.hash
-  pub setting : st.setting ≡ before.setting
+  pub mode : is_incremental st.setting.mode ≡ is_incremental before.setting.mode
   pub moved : Moved same before.hash before.setting.mode caller before.chart st.chart
 
 pub stood_moved : {K : Type 0} (same : K → K → Bool) (caller : ℕ) (o o2 : Option (Standing K)) → IsSameMap o o2 → (before st : Standing K) → o ≡ Some before → o2 ≡ Some st
@@ -57,7 +57,7 @@ stood_moved same caller None o2 none before st was is = absurd (cc was)
 stood_moved same caller (Some there) o2 (blocks, sights, here, part) before st was is =
     let one = one_of st (record there { blocks = blocks; sights = sights }) (sym is ∙ here) in
     subst (λ (x : Standing _). StandsMoved same caller x st) (one_of there before was)
-    (record { hash = ap (λ (x : Standing _). x.hash) one; setting = ap (λ (x : Standing _). x.setting) one; moved = inl (ap (λ (x : Standing _). x.chart) one) })
+    (record { hash = ap (λ (x : Standing _). x.hash) one; mode = ap (λ (x : Standing _). is_incremental x.setting.mode) one; moved = inl (ap (λ (x : Standing _). x.chart) one) })
 
 module _ {K : Type 0} (same : K → K → Bool) (caller : ℕ) (before st : Standing K) (how : StandsMoved same caller before st) (lawful : IsLawful same (spot_of before.hash))
     (rule : Rule same (spot_of before.hash) (is_incremental before.setting.mode) before.chart) (moments : Moments (is_incremental before.setting.mode) before.chart) (began : ℕ)
@@ -67,7 +67,7 @@ module _ {K : Type 0} (same : K → K → Bool) (caller : ℕ) (before st : Stan
       → KeysAt same (spot_of st.hash) (is_incremental st.setting.mode) st.chart began p done stage
   keys_carried h =
       subst (λ (x : K → ℕ). KeysAt same (spot_of x) (is_incremental st.setting.mode) st.chart began p done stage) (sym how.hash)
-      (subst (λ (x : Setting). KeysAt same (spot_of before.hash) (is_incremental x.mode) st.chart began p done stage) (sym how.setting) (by how.moved))
+      (subst (λ (x : Bool). KeysAt same (spot_of before.hash) x st.chart began p done stage) (sym how.mode) (by how.moved))
     where
       by : Moved same before.hash before.setting.mode caller before.chart st.chart → KeysAt same (spot_of before.hash) (is_incremental before.setting.mode) st.chart began p done stage
       by (inl kept) = subst (λ (x : Chart K). KeysAt same (spot_of before.hash) (is_incremental before.setting.mode) x began p done stage) (sym kept) h
@@ -187,3 +187,14 @@ module _ {K V : Type 0} (same : K → K → Bool) (hash : K → ℕ) (are : AreL
         | inl a ↦ copies_on a.0 a.1
         | inr other ↦ others_on other (each.stand i (OverAll o) has)
       ]
+
+-- a walk that is under way on the map stays at what it has come to
+pub keys_kept : {K V : Type 0} (same : K → K → Bool) (caller : ℕ) (before st : Standing K) → StandsMoved same caller before st → (are : AreLawful same before.hash)
+    → (initial : IsPowerOfTwo before.setting.initial) (slot : ℕ → ℕ) (w : World (Node K V)) (calls : ℕ → Option (UnderWay K V K))
+    → (each : Together V same before.hash same before.setting slot w before.chart before.blocks before.sights calls) (i : ℕ) (o : CallOverAll) → calls i ≡ Some (OverAll o)
+    → ((time n : ℕ) → o.began ≤ time → time ≤ before.chart.now → before.chart.was time n ≡ true → n < before.chart.stored) → AllByRecursion (λ n. n < before.chart.stored) o.done
+    → KeysOf same before o → KeysOf same st o
+keys_kept same caller before st how are initial slot w calls each i o has stored below h =
+    keys_carried same caller before st how are.lawful each.ground.map.map.rule each.ground.moments o.began
+    (since same before.hash are before.setting initial slot w before.chart before.blocks before.sights calls each i o has) stored o.done below o.sweep o.sweep.stands
+    (low_stands same before.hash are before.setting initial slot w before.chart before.blocks before.sights calls each i o has) h

@@ -1,10 +1,11 @@
 -- By a move, a class that the map has all the time stands on where it stood, in a table that is the root, or was.
-use Rattle.std.specs.Prelude.{◌≡◌, ◌≢◌, ℕ, suc, ◌+◌, ◌<◌, ◌≤◌, Bool, true, false, cond, List, [], ◌∷◌, Option, Some, None, ◌⊎◌}
+use Rattle.std.specs.Prelude.{◌≡◌, ◌≢◌, ℕ, suc, ◌+◌, ◌<◌, ◌≤◌, nat_lt, Bool, true, false, cond, if◌then◌else◌, List, [], ◌∷◌, Option, Some, None, ◌⊎◌}
 use Rattle.std.specs.List.{AllByRecursion}
 use Rattle.std.proofs.Common.{refl, ap, sym, subst, ◌∙◌, arith, inl, inr}
-use Rattle.std.proofs.lemmas.Bool.{cases_lt}
+use Rattle.std.proofs.lemmas.Bool.{cases_lt, ltb-true, ltb-false}
 use Rattle.papaya_tables.specs.declared.status.TheConstants.Status.{ABORTED}
 use Rattle.papaya_tables.specs.declared.table.Table.{Table}
+use Rattle.papaya_sweeps.specs.SweepPoints.{standing, next_at, after_next}
 use Rattle.papaya_sweeps.specs.declared.sweep.Sweep.{Sweep}
 use Rattle.papaya_sweeps.specs.declared.sweep.Sweeping.{Sweeping}
 use Rattle.papaya_sweeps.specs.declared.sweep.Sweeping.TheVariants as at
@@ -245,3 +246,24 @@ keys_at_on same hash incremental lawful c rule moments move allowed began since 
     by (at.Counts removed) low h = tt
     by (at.Disposes dispose) low h = tt
     by (at.Refused fault) low h = tt
+
+-- where it is asked for its next pair
+pub keys_next : {K : Type 0} (same : K → K → Bool) (spot : ℕ → K → ℕ → ℕ) (incremental : Bool) (c : Chart K) (began : ℕ) (done : List ℕ) (p : Sweep) → p.stands ≡ at.Ready
+    → KeysAt same spot incremental c began p done p.stands → KeysAt same spot incremental c began (after_next p) done (after_next p).stands
+keys_next same spot incremental c began done p ready h =
+    subst (λ (x : Sweeping). KeysAt same spot incremental c began (next_at x p) done (next_at x p).stands) (sym ready)
+    (by (nat_lt p.place p.table.len) refl (subst (KeysAt same spot incremental c began p done) ready h))
+  where
+    at_end : nat_lt p.place p.table.len ≡ false → KeysTo same spot incremental c began p.table p.place done → KeysCame same spot incremental c began done
+    at_end far to k always = one (to k always)
+      where
+        one : StandsTo same spot incremental c p.table p.place done k → of_class same spot incremental c k done ≡ 1
+        one (i, within, named, inl (l, is)) = is
+        one (i, within, named, inr (ahead, none)) = absurd (let l = ltb-false p.place p.table.len far in omega (arith, within, ahead, l))
+
+    by : (more : Bool) → nat_lt p.place p.table.len ≡ more → KeysAt same spot incremental c began p done at.Ready
+        → KeysAt same spot incremental c began (standing p (if more then at.Words else at.Over)) done (if more then at.Words else at.Over)
+    by true more (inl (zero, came)) = absurd (let l = ltb-true p.place p.table.len more in omega (arith, l, zero))
+    by true more (inr (some, to)) = to
+    by false far (inl (zero, came)) = came
+    by false far (inr (some, to)) = at_end far to

@@ -8,6 +8,8 @@ mod KeysOn
 mod Onward
 mod KeysSteps
 mod KeysCarried
+mod Pairs
+mod KeysMoved
 mod Done
 mod Still
 mod Over

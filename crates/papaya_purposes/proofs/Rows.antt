@@ -1,14 +1,17 @@
 -- What is of no call leaves what calls on whole maps have come to: no pair of a map comes or goes.
-use Rattle.std.specs.Prelude.{◌≡◌, ℕ, ◌<◌, ◌≤◌, Bool, List, find, Option, Some, ◌⊎◌}
+use Rattle.std.specs.Prelude.{◌≡◌, ℕ, ◌==◌, ◌<◌, ◌≤◌, Bool, List, find, Option, Some, ◌⊎◌}
 use Rattle.std.proofs.Common.{ap, sym, subst, ◌∙◌, arith, inl, inr}
+use Rattle.papaya_tables.specs.Chunks.{is_incremental}
+use Rattle.papaya_sweeps.specs.declared.sweep.Purpose.TheVariants.{Walks}
 use Rattle.papaya_runs.specs.Same.{is_same}
 use Rattle.papaya_schedules.specs.Entry.{Entry}
-use Rattle.papaya_schedules.specs.Moment.{UnderWay as CallThere, Moment}
+use Rattle.papaya_schedules.specs.Moment.{MapThere, UnderWay as CallThere, Moment}
 use Rattle.papaya_schedules.specs.Views.{call_of, is_in_map}
 use Rattle.papaya_rule.specs.Chart.{Chart}
-use Rattle.papaya_callers.specs.Together.{UnderWay}
+use Rattle.papaya_callers.specs.OverAll.{CallOverAll}
+use Rattle.papaya_callers.specs.Together.{UnderWay, OverAll}
 use Rattle.papaya_effects.specs.Known.{Known}
-use Rattle.papaya_executor.specs.IsAt.{Scene, IsAt}
+use Rattle.papaya_executor.specs.IsAt.{Scene, IsAt, slot_of}
 use Rattle.papaya_executor.specs.declared.executor.Executor.{Executor}
 use Rattle.papaya_finishes.specs.Maps.{Standing}
 use Rattle.papaya_others.specs.After.{ShowsAfter}
@@ -16,10 +19,13 @@ use Rattle.papaya_others.proofs.RowBegins.{rows_begin_shown}
 use Rattle.papaya_others.proofs.Rows.{rows_on_slots_are_shown}
 use Rattle.papaya_moments.proofs.Beside.{IsBeside, StoodSo, StandsNew}
 use Rattle.papaya_moments.proofs.OnSlots.{row_beside, rows_begin_beside}
+use Rattle.papaya_follows.proofs.Steps.{one_of}
+use Rattle.papaya_histories.specs.Histories.{since}
 use Rattle.papaya_histories.proofs.Later.{IsLater, same_later}
-use Rattle.papaya_purposes.specs.Purposes.{HasCome, ShowsPurposes}
+use Rattle.papaya_purposes.specs.Purposes.{KeysOf, HasSwept, HasCome, ShowsPurposes}
 use Rattle.papaya_purposes.specs.Rows.{RowsBeginPurposes, RowsKeepPurposes}
 use Rattle.papaya_purposes.proofs.Alike.{alike}
+use Rattle.papaya_purposes.proofs.KeysCarried.{StandsMoved, keys_kept}
 use Rattle.papaya_purposes.proofs.Over.{come_over}
 use Rattle.papaya_purposes.proofs.Present.{now_stored, now_there, absent}
 use Rattle.papaya_purposes.proofs.Shown.{same_still}
@@ -53,12 +59,27 @@ module _ {K V S : Type 0} (same : K → K → Bool) (hash : K → ℕ) (name : �
         alike n m m2 known known2 before st (purposes.shown.number n) (after.shows.number n) (purposes.shown.maps n before stood.1).pairs (after.shows.maps n st there).pairs
         (ap (λ (c : Chart K). c.stored) stood.2) (ap (λ (c : Chart K). c.current) stood.2) numbers q
 
-    stood_come : HasCome n st (after.shows.number n) log m2 x c
+    stood_come : HasCome same n st (after.shows.number n) log m2 x c
     stood_come =
-        come_over n before st (purposes.shown.number n) (after.shows.number n) later first numbers log m m2 c c (same_still c) (purposes.begun n j x (was_here n j x is) c (was_called j c found))
+        come_over same n before st (purposes.shown.number n) (after.shows.number n) later first numbers log m m2 c c (same_still c) (purposes.begun n j x (was_here n j x is) c (was_called j c found))
         (λ q. inl (same_pairs q)) (now_stored same hash name m2 known2 s2 new at2 after.shows n st there) (now_there same hash name m2 known2 s2 new at2 after.shows n st there)
-        (absent same hash name m known s old at purposes.shown n before stood.1 (after.shows.number n) st.chart.stored (after.shows.maps n st there).pairs.rising numbers) x
+        (absent same hash name m known s old at purposes.shown n before stood.1 (after.shows.number n) st.chart.stored (after.shows.maps n st there).pairs.rising numbers) x keys
         (purposes.come n j x (was_here n j x is) before stood.1 c (was_called j c found))
+      where
+        same_modes : st.setting.mode ≡ before.setting.mode
+        same_modes =
+            let a = (after.shows.maps n st there).there in
+            let b = (purposes.shown.maps n before stood.1).there in
+            let one = one_of a.there b.there (sym a.is ∙ ap (λ (fs : List MapThere). find (λ f. f.number == n) fs) beside.maps ∙ b.is) in
+            sym a.mode ∙ ap (λ (f : MapThere). f.mode) one ∙ b.mode
+
+        how : StandsMoved same 0 before st
+        how = record { hash = at2.hashes n st there ∙ sym (at.hashes n before stood.1); mode = ap is_incremental same_modes; moved = inl stood.2 }
+
+        keys : (o : CallOverAll) → x ≡ OverAll o → HasSwept same n before (purposes.shown.number n) (since log m c) o c → o.sweep.purpose ≡ Walks → KeysOf same st o
+        keys o o_is h walks =
+            keys_kept same 0 before st how (at.together.makings.standing.fit n before stood.1).0 (at.together.makings.standing.fit n before stood.1).1 slot_of s.world (s.calls n)
+            (at.together.makings.standing.each n before stood.1) j o (was_here n j x is ∙ ap Some o_is) h.within.stored h.stored (h.keys walks)
 
   pub beside_purposes : ShowsPurposes same name log m2 known2 s2
   beside_purposes = record {
@@ -70,7 +91,7 @@ module _ {K V S : Type 0} (same : K → K → Bool) (hash : K → ℕ) (name : �
     where
       -- on a new one no call is under way
       come_so : (n j : ℕ) (x : UnderWay K V K) (is : s2.calls n j ≡ Some x) (st : Standing K) (there : s2.maps n ≡ Some st) (c : CallThere K V) (found : call_of (name j) m2 ≡ Some c)
-          → StoodSo known known2 s s2 n st ⊎ StandsNew known known2 s s2 n → HasCome n st (after.shows.number n) log m2 x c
+          → StoodSo known known2 s s2 n st ⊎ StandsNew known known2 s s2 n → HasCome same n st (after.shows.number n) log m2 x c
       come_so n j x is st there c found (inl stood) = stood_come n j x is st there c found stood
       come_so n j x is st there c found (inr new_map) = absurd (let none = new_map.0 j in cc (none, is))
 

@@ -47,7 +47,8 @@ use Rattle.papaya_purposes.proofs.Named.{number_told, stands_then, stands_is}
 use Rattle.papaya_purposes.proofs.Steps.{went, on, v2, known2, scene2, Did, before_then, its_before, had, own_within}
 use Rattle.papaya_purposes.proofs.Swept.{then_call, then_is, still, on_map, swept_by}
 use Rattle.papaya_purposes.proofs.Told.{numbers_apart}
-use Rattle.papaya_purposes.proofs.Walks.{adds_one, pair_swept}
+use Rattle.papaya_purposes.proofs.Pairs.{pair_swept}
+use Rattle.papaya_purposes.proofs.Walks.{adds_one}
 
 -- a sweep that is ready has shown each pair that it has done once
 module _ {K : Type 0} (hash : K → ℕ) (c : Chart K) (blocks : Blocks) (p : Sweep) (entered : ℕ) (done : List ℕ) where
@@ -160,7 +161,7 @@ module _ {K V S : Type 0} (same : K → K → Bool) (hash : K → ℕ) (name : �
         by w (inr before) =
             each_of (λ (x : Moment K V). is_in_map of (x.place (number2 p)) ≡ st2.chart.was was.0 p) There (moments_from d.begun log) (λ x h. so x (h ∙ w)) before
 
-    abbrev before : HasSwept of (its_before same hash name log m known s old new at whole purposes of i u here (progress.Pair word) leads changes o o_is st2 there2 c d c_is d_is)
+    abbrev before : HasSwept same of (its_before same hash name log m known s old new at whole purposes of i u here (progress.Pair word) leads changes o o_is st2 there2 c d c_is d_is)
         (purposes.shown.number of) (since log m c) o c
     before = had same hash name log m known s old new at whole purposes of i u here (progress.Pair word) leads changes o o_is st2 there2 c d c_is d_is
 

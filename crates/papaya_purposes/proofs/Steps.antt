@@ -4,6 +4,7 @@ use Rattle.std.specs.List.{AllByRecursion}
 use Rattle.std.proofs.Common.{refl, ap, sym, subst, ◌∙◌, arith, inl, inr}
 use Rattle.std.proofs.lemmas.Bool.{cases_eq}
 use Rattle.seize.specs.World.{with_at}
+use Rattle.papaya_tables.specs.Chunks.{is_incremental}
 use Rattle.papaya_tables.specs.declared.node.Node.{Node}
 use Rattle.papaya_reserves.specs.declared.reserve.Reserve.{Reserve}
 use Rattle.papaya_reserves.specs.declared.reserve.Reserving.{Reserving}
@@ -18,6 +19,7 @@ use Rattle.papaya_schedules.specs.Entry.{Entry}
 use Rattle.papaya_schedules.specs.Moment.{UnderWay as CallThere, Moment}
 use Rattle.papaya_schedules.specs.Views.{call_of, is_in_map}
 use Rattle.papaya_rule.specs.Chart.{Chart}
+use Rattle.papaya_rule.specs.Maps.{spot_of}
 use Rattle.papaya_callers.specs.OverAll.{CallOverAll, come_to, gone_on}
 use Rattle.papaya_callers.specs.Rooms.{CallForRoom}
 use Rattle.papaya_callers.specs.Sights.{seen_by}
@@ -40,13 +42,16 @@ use Rattle.papaya_histories.specs.Histories.{since}
 use Rattle.papaya_histories.proofs.Later.{IsLater}
 use Rattle.papaya_histories.proofs.Steps.{to, led_on, v, after, s2, maps_later}
 use Rattle.papaya_histories.proofs.Walks.{HasPurpose, purpose_kept}
+use Rattle.papaya_purposes.specs.Keys.{KeysAt}
 use Rattle.papaya_purposes.specs.Kept.{ShowsNone, PairsChangeFirst}
-use Rattle.papaya_purposes.specs.Purposes.{IsBefore, IsFor, PairsWithin, HasAdded, RoomAt, HasMet, HasSwept, HasCome, ShowsPurposes}
+use Rattle.papaya_purposes.specs.Purposes.{IsBefore, IsFor, PairsWithin, HasAdded, RoomAt, HasMet, KeysOf, HasSwept, HasCome, ShowsPurposes}
 use Rattle.papaya_purposes.specs.Shards.{ReadsShards}
 use Rattle.papaya_purposes.proofs.Alike.{alike}
 use Rattle.papaya_purposes.proofs.Counts.{counts_on}
 use Rattle.papaya_purposes.proofs.Done.{done_is, Comes, next_tells, next_below, tells_kept}
 use Rattle.papaya_purposes.proofs.For.{key_is_for, room_for, counting_for, sweep_for}
+use Rattle.papaya_purposes.proofs.KeysCarried.{keys_kept}
+use Rattle.papaya_purposes.proofs.KeysMoved.{stands_moved, none_shown, carried}
 use Rattle.papaya_purposes.proofs.Lists.{all_on}
 use Rattle.papaya_purposes.proofs.Onward.{before_or, walk_stands, GoesOver, walk_onward}
 use Rattle.papaya_purposes.proofs.Over.{within_over, come_over}
@@ -118,25 +123,31 @@ module _ {K V S : Type 0} (same : K → K → Bool) (hash : K → ℕ) (name : �
       abbrev pub before_st : Standing K
       before_st = (before_then n st there).0
 
-      pub had_come : HasCome n before_st (shown.number n) log m y c
+      pub had_come : HasCome same n before_st (shown.number n) log m y c
       had_come = purposes.come n j y y_is before_st (before_then n st there).1 c c_is
 
       pub within_then : (began : ℕ) → PairsWithin n before_st (shown.number n) (since log m c) began → PairsWithin n st (on.shows.number n) (since log v2 d) began
       within_then =
-          within_over n before_st st (shown.number n) (on.shows.number n) (before_then n st there).2 (first_then n st there) (on.numbers n before_st (before_then n st there).1) log m v2 c d
+          within_over same n before_st st (shown.number n) (on.shows.number n) (before_then n st there).2 (first_then n st there) (on.numbers n before_st (before_then n st there).1) log m v2 c d
           (same_call j c d c_is d_is) (purposes.begun n j y y_is c c_is) (changes_then n st there) (now_stored same hash name v2 known2 scene2 new went.5 on.shows n st there)
           (now_there same hash name v2 known2 scene2 new went.5 on.shows n st there)
           (absent same hash name m known s old at shown n before_st (before_then n st there).1 (on.shows.number n) st.chart.stored (on.shows.maps n st there).pairs.rising
           (on.numbers n before_st (before_then n st there).1))
 
       -- of a call that is another one's
-      pub kept_come : HasCome n st (on.shows.number n) log v2 y d
+      pub kept_come : HasCome same n st (on.shows.number n) log v2 y d
       kept_come =
-          come_over n before_st st (shown.number n) (on.shows.number n) (before_then n st there).2 (first_then n st there) (on.numbers n before_st (before_then n st there).1) log m v2 c d
+          come_over same n before_st st (shown.number n) (on.shows.number n) (before_then n st there).2 (first_then n st there) (on.numbers n before_st (before_then n st there).1) log m v2 c d
           (same_call j c d c_is d_is) (purposes.begun n j y y_is c c_is) (changes_then n st there) (now_stored same hash name v2 known2 scene2 new went.5 on.shows n st there)
           (now_there same hash name v2 known2 scene2 new went.5 on.shows n st there)
           (absent same hash name m known s old at shown n before_st (before_then n st there).1 (on.shows.number n) st.chart.stored (on.shows.maps n st there).pairs.rising
-          (on.numbers n before_st (before_then n st there).1)) y had_come
+          (on.numbers n before_st (before_then n st there).1)) y keys_other had_come
+        where
+          keys_other : (o : CallOverAll) → y ≡ OverAll o → HasSwept same n before_st (shown.number n) (since log m c) o c → o.sweep.purpose ≡ Walks → KeysOf same st o
+          keys_other o is h walks =
+              keys_kept same i before_st st (stands_moved same hash name m known s old new at whole shown of i u here said leads n st before_st there (before_then n st there).1)
+              (at.together.makings.standing.fit n before_st (before_then n st there).1).0 (at.together.makings.standing.fit n before_st (before_then n st there).1).1 slot_of s.world (s.calls n)
+              (at.together.makings.standing.each n before_st (before_then n st there).1) j o (y_is ∙ ap Some is) h.within.stored h.stored (h.keys walks)
 
     -- a sweep, the caller's own
     module _ (o : CallOverAll) (o_is : s.calls of i ≡ Some (OverAll o)) (st : Standing K) (there : scene2.maps of ≡ Some st) (c d : CallThere K V) (c_is : call_of (name i) m ≡ Some c)
@@ -144,7 +155,7 @@ module _ {K V S : Type 0} (same : K → K → Bool) (hash : K → ℕ) (name : �
       abbrev pub its_before : Standing K
       its_before = before_st of i (OverAll o) o_is st there c d c_is d_is
 
-      pub had : HasSwept of its_before (shown.number of) (since log m c) o c
+      pub had : HasSwept same of its_before (shown.number of) (since log m c) o c
       had = had_come of i (OverAll o) o_is st there c d c_is d_is
 
       pub own_within : PairsWithin of st (on.shows.number of) (since log v2 d) o.began
@@ -156,8 +167,8 @@ module _ {K V S : Type 0} (same : K → K → Bool) (hash : K → ℕ) (name : �
 
       -- that has done what it had done, or nothing, where it does not go over a table yet
       sweep_come : (x : CallOverAll) → x.began ≡ o.began → Comes o x.done (shown.number of) c → (x.sweep.purpose ≡ Walks → IsBefore x.sweep.stands → x.done ≡ [])
-          → HasSwept of st (on.shows.number of) (since log v2 d) x d
-      sweep_come x began comes none =
+          → (x.sweep.purpose ≡ Walks → KeysOf same st x) → HasSwept same of st (on.shows.number of) (since log v2 d) x d
+      sweep_come x began comes none keys =
           let below = next_below o x.done (shown.number of) c its_before.chart.stored comes had.stored in
           record {
             within = subst (PairsWithin of st (on.shows.number of) (since log v2 d)) (sym began) own_within;
@@ -165,7 +176,32 @@ module _ {K V S : Type 0} (same : K → K → Bool) (hash : K → ℕ) (name : �
             tells = tells_kept (shown.number of) (on.shows.number of) its_before.chart.stored (on.numbers of its_before (before_then of st there).1) c d (same_call i c d c_is d_is) x.done below
                 (next_tells o x.done (shown.number of) c c.call (purposes.is_for of i (OverAll o) o_is c c_is) had.none comes had.tells);
             none = none;
+            keys = keys;
           }
+
+      same_purpose : StepsFrom same hash (machine_of (OverAll o)) old new went.1 said → (x : CallOverAll) → went.1 ≡ machine_of (OverAll x) → x.sweep.purpose ≡ o.sweep.purpose
+      same_purpose steps x is = subst (λ (z : Machine K V K). HasPurpose o.sweep.purpose (z, said)) is (purpose_kept same hash s old new of i u here said leads o went.1 steps)
+
+      -- it has come to more by key
+      keys_on : ShowsNone said → StepsFrom same hash (machine_of (OverAll o)) old new went.1 said → (x : CallOverAll) → went.1 ≡ machine_of (OverAll x) → x.began ≡ o.began
+          → Comes o x.done (shown.number of) c → x.sweep.purpose ≡ Walks → KeysOf same st x
+      keys_on none steps x is began comes walks =
+          subst (λ (b : ℕ). KeysAt same (spot_of st.hash) (is_incremental st.setting.mode) st.chart b x.sweep x.done x.sweep.stands) (sym began)
+          (subst (λ (done : List ℕ). KeysAt same (spot_of st.hash) (is_incremental st.setting.mode) st.chart o.began x.sweep done x.sweep.stands) (sym same_done)
+          (carried same hash name m known s old new at whole shown of i u here said leads o o_is walked steps (its.keys walked) (its.none walked) its.within.stored st there x.sweep o.done its.stored
+          (none_shown same hash name m known s old new at whole shown of i u here said leads o o_is walked steps (its.keys walked) (its.none walked) none x.sweep is)))
+        where
+          its : HasSwept same of went.0 (shown.number of) (since log m c) o c
+          its = purposes.come of i (OverAll o) o_is went.0 went.2 c c_is
+
+          walked : o.sweep.purpose ≡ Walks
+          walked = sym (same_purpose steps x is) ∙ walks
+
+          same_done : x.done ≡ o.done
+          same_done = elim comes as (λ _. x.done ≡ o.done) [
+            | inl at_first ↦ at_first.1 ∙ sym (its.none walked at_first.0)
+            | inr kept ↦ kept
+          ]
 
       -- a walk that goes over its table does so on
       none_on : StepsFrom same hash (machine_of (OverAll o)) old new went.1 said → (x : CallOverAll) → went.1 ≡ machine_of (OverAll x) → Comes o x.done (shown.number of) c
@@ -173,7 +209,7 @@ module _ {K V S : Type 0} (same : K → K → Bool) (hash : K → ℕ) (name : �
       none_on steps x is comes walks before = by (before_or o.sweep.stands) comes
         where
           purpose : x.sweep.purpose ≡ o.sweep.purpose
-          purpose = subst (λ (z : Machine K V K). HasPurpose o.sweep.purpose (z, said)) is (purpose_kept same hash s old new of i u here said leads o went.1 steps)
+          purpose = same_purpose steps x is
 
           goes_over : (IsBefore o.sweep.stands → ⊥) → IsBefore x.sweep.stands → ⊥
           goes_over over =
@@ -186,9 +222,9 @@ module _ {K V S : Type 0} (same : K → K → Bool) (hash : K → ℕ) (name : �
           by (inl b) (inr kept) = kept ∙ had.none (sym purpose ∙ walks) b
           by (inr over) so = absurd (goes_over over before)
 
-      pub own_sweep : StepsFrom same hash (machine_of (OverAll o)) old new went.1 said → (x : CallOverAll) → went.1 ≡ machine_of (OverAll x) → x.began ≡ o.began
-          → Comes o x.done (shown.number of) c → HasSwept of st (on.shows.number of) (since log v2 d) x d
-      own_sweep steps x is began comes = sweep_come x began comes (none_on steps x is comes)
+      pub own_sweep : ShowsNone said → StepsFrom same hash (machine_of (OverAll o)) old new went.1 said → (x : CallOverAll) → went.1 ≡ machine_of (OverAll x) → x.began ≡ o.began
+          → Comes o x.done (shown.number of) c → HasSwept same of st (on.shows.number of) (since log v2 d) x d
+      own_sweep none steps x is began comes = sweep_come x began comes (none_on steps x is comes) (keys_on none steps x is began comes)
 
     -- a reservation, the caller's own
     module _ (r : CallForRoom) (r_is : s.calls of i ≡ Some (ForRoom r)) (reads : ReadsShards log m s of (ForRoom r)) (steps : StepsFrom same hash (machine_of (ForRoom r)) old new went.1 said)
@@ -238,34 +274,34 @@ module _ {K V S : Type 0} (same : K → K → Bool) (hash : K → ℕ) (name : �
     -- the caller's own
     pub own_come : ShowsNone said → (y : UnderWay K V K) → s.calls of i ≡ Some y → ReadsShards log m s of y → StepsFrom same hash (machine_of y) old new went.1 said → Did y
         → (x : UnderWay K V K) → went.4.next ≡ Some x → (st : Standing K) → scene2.maps of ≡ Some st → (c d : CallThere K V) → call_of (name i) m ≡ Some c → call_of (name i) v2 ≡ Some d
-        → HasCome of st (on.shows.number of) log v2 x d
+        → HasCome same of st (on.shows.number of) log v2 x d
     own_come none (OnKey z) y_is its steps (p2, end, machine_is, told_is, inl (step, moved)) x e st there c d c_is d_is =
-        subst (λ (y : UnderWay K V K). HasCome of st (on.shows.number of) log v2 y d) (sym (key_goes_on _ end x (sym moved.2 ∙ e))) tt
+        subst (λ (y : UnderWay K V K). HasCome same of st (on.shows.number of) log v2 y d) (sym (key_goes_on _ end x (sym moved.2 ∙ e))) tt
     own_come none (OnKey z) y_is its steps (p2, end, machine_is, told_is, inr (row, stayed)) x e st there c d c_is d_is =
-        subst (λ (y : UnderWay K V K). HasCome of st (on.shows.number of) log v2 y d) (sym (key_goes_on _ end x (sym stayed.2 ∙ e))) tt
+        subst (λ (y : UnderWay K V K). HasCome same of st (on.shows.number of) log v2 y d) (sym (key_goes_on _ end x (sym stayed.2 ∙ e))) tt
     own_come none (ForRoom r) y_is its steps (p2, end, machine_is, told_is, inl (step, moved)) x e st there c d c_is d_is =
-        subst (λ (y : UnderWay K V K). HasCome of st (on.shows.number of) log v2 y d) (sym (room_goes_on _ end x (sym moved.2 ∙ e)))
+        subst (λ (y : UnderWay K V K). HasCome same of st (on.shows.number of) log v2 y d) (sym (room_goes_on _ end x (sym moved.2 ∙ e)))
         (own_room r y_is its steps p2 machine_is (e ∙ ap Some (room_goes_on _ end x (sym moved.2 ∙ e))) st there c d c_is d_is)
     own_come none (ForRoom r) y_is its steps (p2, end, machine_is, told_is, inr (row, stayed)) x e st there c d c_is d_is =
-        subst (λ (y : UnderWay K V K). HasCome of st (on.shows.number of) log v2 y d) (sym (room_goes_on _ end x (sym stayed.2 ∙ e)))
+        subst (λ (y : UnderWay K V K). HasCome same of st (on.shows.number of) log v2 y d) (sym (room_goes_on _ end x (sym stayed.2 ∙ e)))
         (own_room r y_is its steps p2 machine_is (e ∙ ap Some (room_goes_on _ end x (sym stayed.2 ∙ e))) st there c d c_is d_is)
     own_come none (Counting sum) y_is its steps (sum2, end, machine_is, told_is, still, stayed) x e st there c d c_is d_is =
         let before = before_then of st there in
-        subst (λ (y : UnderWay K V K). HasCome of st (on.shows.number of) log v2 y d) (sym (counting_goes_on sum2 end x (sym stayed.2 ∙ e)))
+        subst (λ (y : UnderWay K V K). HasCome same of st (on.shows.number of) log v2 y d) (sym (counting_goes_on sum2 end x (sym stayed.2 ∙ e)))
         (subst (λ (b : ℕ). HasAdded of (moments_from b log) sum2.setting.mask sum2.stands) (sym (same_call i c d c_is d_is).begun)
         (counts_on same hash log m s old new at of i sum y_is went.0 went.2 c (purposes.begun of i (Counting sum) y_is c c_is) (its tt).0 (its tt).1
         (purposes.come of i (Counting sum) y_is before.0 before.1 c c_is) went.1 said steps went.4.next went.4.goes_on x e sum2 machine_is))
     own_come none (OverAll o) y_is its steps (p2, end, machine_is, told_is, inl (step, moved)) x e st there c d c_is d_is =
-        subst (λ (y : UnderWay K V K). HasCome of st (on.shows.number of) log v2 y d) (sym (sweep_goes_on _ end x (sym moved.2 ∙ e)))
-        (own_sweep o y_is st there c d c_is d_is steps (come_to o step.step.entered2 step.step.done2 p2) machine_is refl
+        subst (λ (y : UnderWay K V K). HasCome same of st (on.shows.number of) log v2 y d) (sym (sweep_goes_on _ end x (sym moved.2 ∙ e)))
+        (own_sweep o y_is st there c d c_is d_is none steps (come_to o step.step.entered2 step.step.done2 p2) machine_is refl
         (by (done_is went.0.hash step.step.went.c2 step.step.went.blocks2 o.done step.step.done2 o.entered step.step.entered2 end (subst ShowsNone told_is none) o.sweep.stands step.step.done)))
       where
         by : (IsBefore o.sweep.stands × (step.step.done2 ≡ [])) ⊎ ((step.step.entered2 ≡ o.entered) × (step.step.done2 ≡ o.done)) → Comes o step.step.done2 (shown.number of) c
         by (inl at_first) = inl at_first
         by (inr kept) = inr kept.1
     own_come none (OverAll o) y_is its steps (p2, end, machine_is, told_is, inr (row, stayed)) x e st there c d c_is d_is =
-        subst (λ (y : UnderWay K V K). HasCome of st (on.shows.number of) log v2 y d) (sym (sweep_goes_on _ end x (sym stayed.2 ∙ e)))
-        (own_sweep o y_is st there c d c_is d_is steps (gone_on o p2) machine_is refl (inr refl))
+        subst (λ (y : UnderWay K V K). HasCome same of st (on.shows.number of) log v2 y d) (sym (sweep_goes_on _ end x (sym stayed.2 ∙ e)))
+        (own_sweep o y_is st there c d c_is d_is none steps (gone_on o p2) machine_is refl (inr refl))
 
   -- and it is for what it was for
   pub own_for : (its : Call K V) (y : UnderWay K V K) → IsFor y its → StepsFrom same hash (machine_of y) old new went.1 said → Did y → (x : UnderWay K V K) → went.4.next ≡ Some x → IsFor x its

@@ -14,7 +14,7 @@ use Rattle.papaya_purposes.proofs.Done.{tells_kept}
 use Rattle.papaya_purposes.proofs.Shown.{IsStill}
 use Rattle.papaya_purposes.proofs.Within.{pairs_within_moments}
 
-module _ {K V : Type 0} (of : ℕ) (st : Standing K) (number : ℕ → ℕ) (log : List (Entry K V)) (m m2 : Moment K V) (place : m2.place ≡ m.place) (c d : CallThere K V) where
+module _ {K V : Type 0} (same : K → K → Bool) (of : ℕ) (st : Standing K) (number : ℕ → ℕ) (log : List (Entry K V)) (m m2 : Moment K V) (place : m2.place ≡ m.place) (c d : CallThere K V) where
   pub within_still : d.begun ≡ c.begun → (began : ℕ) → PairsWithin of st number (m ∷ moments_from c.begun log) began → PairsWithin of st number (m2 ∷ moments_from d.begun log) began
   within_still begun began within =
       subst (λ (b : ℕ). PairsWithin of st number (m2 ∷ moments_from b log) began) (sym begun)
@@ -24,7 +24,7 @@ module _ {K V : Type 0} (of : ℕ) (st : Standing K) (number : ℕ → ℕ) (log
       more n q (inl h) = inl (ap (λ (f : ℕ → Place). is_in_map of (f n)) place ∙ h)
       more n q (inr h) = inr h
 
-  pub come_still : IsStill c d → (u : UnderWay K V K) → HasCome of st number log m u c → HasCome of st number log m2 u d
+  pub come_still : IsStill c d → (u : UnderWay K V K) → HasCome same of st number log m u c → HasCome same of st number log m2 u d
   come_still still (OnKey u) h = tt
   come_still still (ForRoom r) h = subst (λ (b : ℕ). HasMet of st (moments_from b log) r) (sym still.begun) h
   come_still still (Counting sum) h = subst (λ (b : ℕ). HasAdded of (moments_from b log) sum.setting.mask sum.stands) (sym still.begun) h
@@ -33,6 +33,7 @@ module _ {K V : Type 0} (of : ℕ) (st : Standing K) (number : ℕ → ℕ) (log
     stored = h.stored;
     tells = tells_kept number number st.chart.stored (λ n l. refl) c d still o.done h.stored h.tells;
     none = h.none;
+    keys = h.keys;
   }
 
 pub for_still : {K V : Type 0} (c d : CallThere K V) → IsStill c d → (u : UnderWay K V K) → IsFor u c.call → IsFor u d.call

@@ -209,7 +209,7 @@ module _ {K V S : Type 0} (same : K → K → Bool) (hash : K → ℕ) (name : �
       retains purpose call_is =
           all_pass (λ n. not (stays then_call.map (moments_from then_call.begun log) v n) || is_yes (reply_to (Some n) then_call.replies)) each (numbers_from 1 (length v.stored))
         where
-          before : HasSwept of (its_before same hash name log m known s old new at whole purposes of i u here said leads changes o o_is ended.st ended.there c then_call c_is then_is)
+          before : HasSwept same of (its_before same hash name log m known s old new at whole purposes of i u here said leads changes o o_is ended.st ended.there c then_call c_is then_is)
               (purposes.shown.number of) (since log m c) o c
           before = had same hash name log m known s old new at whole purposes of i u here said leads changes o o_is ended.st ended.there c then_call c_is then_is
 

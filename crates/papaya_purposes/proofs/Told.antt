@@ -146,7 +146,7 @@ module _ {K V S : Type 0} (same : K → K → Bool) (hash : K → ℕ) (name : �
 
   -- once it is told about that pair
   module _ (c d : CallThere K V) (told_so : Reply V) (m2 : Moment K V) (place : m2.place ≡ m.place) (same_call : d.call ≡ c.call) (begun : d.begun ≡ c.begun)
-      (replies : d.replies ≡ (Some q, told_so) ∷ c.replies) (is_for : IsFor (OverAll o) c.call) (had : HasSwept of st number (since log m c) o c) where
+      (replies : d.replies ≡ (Some q, told_so) ∷ c.replies) (is_for : IsFor (OverAll o) c.call) (had : HasSwept same of st number (since log m c) o c) where
     -- it has done that, by yes, or no more
     abbrev pub Does : List ℕ → Type 0
     Does done2 = (done2 ≡ o.done) ⊎ ((p : ℕ) × (done2 ≡ p ∷ o.done) × (p < st.chart.stored) × (number p ≡ q) × (told_so ≡ Decides true))
@@ -181,12 +181,13 @@ module _ {K V S : Type 0} (same : K → K → Bool) (hash : K → ℕ) (name : �
     below_done done2 (inl kept) = subst (AllByRecursion (λ n. n < st.chart.stored)) (sym kept) had.stored
     below_done done2 (inr (p, is, below, number_p, told_yes)) = subst (AllByRecursion (λ n. n < st.chart.stored)) (sym is) (below, had.stored)
 
-    pub told_come : (x : CallOverAll) → x.began ≡ o.began → x.sweep.purpose ≡ o.sweep.purpose → Does x.done → HasSwept of st number (since log m2 d) x d
+    pub told_come : (x : CallOverAll) → x.began ≡ o.began → x.sweep.purpose ≡ o.sweep.purpose → Does x.done → HasSwept same of st number (since log m2 d) x d
     told_come x began purpose does = record {
-      within = subst (PairsWithin of st number (since log m2 d)) (sym began) (within_still of st number log m m2 place c d begun o.began had.within);
+      within = subst (PairsWithin of st number (since log m2 d)) (sym began) (within_still same of st number log m m2 place c d begun o.began had.within);
       stored = below_done x.done does;
       tells = subst (λ (y : Call K V). TellsDone y number x.done d) (sym same_call) (tells c.call is_for had.tells x.done does);
       none = λ walks first. absurd (let r = retains in cc (walks, purpose, r));
+      keys = λ walks. absurd (let r = retains in cc (walks, purpose, r));
     }
 
 module _ {K V S : Type 0} (same : K → K → Bool) (hash : K → ℕ) (name : ℕ → List ℕ) (log : List (Entry K V)) (m : Moment K V) (known : Known) (s : Scene K V) (e : Executor K V S)
@@ -245,13 +246,13 @@ module _ {K V S : Type 0} (same : K → K → Bool) (hash : K → ℕ) (name : �
       asked : (q : ℕ) × (question ≡ Some q) × NamesNumber known asks.0 q
       asked = about o u_is asks.0 asks.1
 
-      had : HasSwept of st (purposes.shown.number of) (since log m c) o c
+      had : HasSwept same of st (purposes.shown.number of) (since log m c) o c
       had = purposes.come of i (OverAll o) o_is st there c c_is
 
       abbrev DoesNow : List ℕ → Type 0
       DoesNow done2 = (done2 ≡ o.done) ⊎ ((p : ℕ) × (done2 ≡ p ∷ o.done) × (p < st.chart.stored) × (purposes.shown.number of p ≡ asked.0) × (is_told ≡ Decides true))
 
-      come_by : (x : CallOverAll) → x.began ≡ o.began → x.sweep.purpose ≡ o.sweep.purpose → DoesNow x.done → HasSwept of st (purposes.shown.number of) (since log v d) x d
+      come_by : (x : CallOverAll) → x.began ≡ o.began → x.sweep.purpose ≡ o.sweep.purpose → DoesNow x.done → HasSwept same of st (purposes.shown.number of) (since log v d) x d
       come_by x began purpose does =
           told_come same hash name log m known s e at purposes.shown of i o o_is st there asks.0 asks.1 asked.0 asked.2 c d is_told v refl (ap (λ (f : CallThere K V). f.call) d_is)
           (ap (λ (f : CallThere K V). f.begun) d_is)
@@ -264,23 +265,23 @@ module _ {K V S : Type 0} (same : K → K → Bool) (hash : K → ℕ) (name : �
           number_is same hash name log m known s e at purposes.shown of i o o_is st there asks.0 asks.1 asked.0 asked.2 n
           (subst (λ (z : ℕ). NamesPair st.hash st.chart (seen_by st.blocks (st.sights (slot_of i))) z n) same_word names)
 
-      own_sweep : ToldOfKind V same same e.batch_size e.roots slot_of st i (OverAll o) (as_told is_told) next → HasCome of st (purposes.shown.number of) log v next d
+      own_sweep : ToldOfKind V same same e.batch_size e.roots slot_of st i (OverAll o) (as_told is_told) next → HasCome same of st (purposes.shown.number of) log v next d
       own_sweep (inl (word, n, stands, names, inl (kept, next_is))) =
           let it = number_of word n stands names in
-          subst (λ (y : UnderWay K V K). HasCome of st (purposes.shown.number of) log v y d) (sym next_is)
+          subst (λ (y : UnderWay K V K). HasCome same of st (purposes.shown.number of) log v y d) (sym next_is)
           (come_by (told_of o n true) refl (reply_purpose o.sweep true) (inr (n, refl, it.0, it.1, is_yes_told is_told kept)))
       own_sweep (inl (word, n, stands, names, inr (left, next_is))) =
-          subst (λ (y : UnderWay K V K). HasCome of st (purposes.shown.number of) log v y d) (sym next_is) (come_by (told_of o n false) refl (reply_purpose o.sweep false) (inl refl))
-      own_sweep (inr next_is) = subst (λ (y : UnderWay K V K). HasCome of st (purposes.shown.number of) log v y d) (sym next_is) (come_by o refl refl (inl refl))
+          subst (λ (y : UnderWay K V K). HasCome same of st (purposes.shown.number of) log v y d) (sym next_is) (come_by (told_of o n false) refl (reply_purpose o.sweep false) (inl refl))
+      own_sweep (inr next_is) = subst (λ (y : UnderWay K V K). HasCome same of st (purposes.shown.number of) log v y d) (sym next_is) (come_by o refl refl (inl refl))
 
-    own_come : (y : UnderWay K V K) → s.calls of i ≡ Some y → u ≡ y → ToldOfKind V same same e.batch_size e.roots slot_of st i y (as_told is_told) next → HasCome of st (purposes.shown.number of) log v next d
-    own_come (OnKey z) y_is u_is (inl (at_it, of_it, stands, it_asks, next_is)) = subst (λ (y : UnderWay K V K). HasCome of st (purposes.shown.number of) log v y d) (sym next_is) tt
-    own_come (OnKey z) y_is u_is (inr next_is) = subst (λ (y : UnderWay K V K). HasCome of st (purposes.shown.number of) log v y d) (sym next_is) tt
+    own_come : (y : UnderWay K V K) → s.calls of i ≡ Some y → u ≡ y → ToldOfKind V same same e.batch_size e.roots slot_of st i y (as_told is_told) next → HasCome same of st (purposes.shown.number of) log v next d
+    own_come (OnKey z) y_is u_is (inl (at_it, of_it, stands, it_asks, next_is)) = subst (λ (y : UnderWay K V K). HasCome same of st (purposes.shown.number of) log v y d) (sym next_is) tt
+    own_come (OnKey z) y_is u_is (inr next_is) = subst (λ (y : UnderWay K V K). HasCome same of st (purposes.shown.number of) log v y d) (sym next_is) tt
     own_come (ForRoom r) y_is u_is next_is =
-        subst (λ (y : UnderWay K V K). HasCome of st (purposes.shown.number of) log v y d) (sym next_is)
+        subst (λ (y : UnderWay K V K). HasCome same of st (purposes.shown.number of) log v y d) (sym next_is)
         (subst (λ (z : ℕ). HasMet of st (moments_from z log) r) (sym (ap (λ (f : CallThere K V). f.begun) d_is)) (purposes.come of i (ForRoom r) y_is st there c c_is))
     own_come (Counting sum) y_is u_is next_is =
-        subst (λ (y : UnderWay K V K). HasCome of st (purposes.shown.number of) log v y d) (sym next_is)
+        subst (λ (y : UnderWay K V K). HasCome same of st (purposes.shown.number of) log v y d) (sym next_is)
         (subst (λ (z : ℕ). HasAdded of (moments_from z log) sum.setting.mask sum.stands) (sym (ap (λ (f : CallThere K V). f.begun) d_is)) (purposes.come of i (Counting sum) y_is st there c c_is))
     own_come (OverAll o) y_is u_is to = own_sweep o y_is u_is to
 
@@ -303,15 +304,15 @@ module _ {K V S : Type 0} (same : K → K → Bool) (hash : K → ℕ) (name : �
       subst (λ (y : CallThere K V). IsFor x y.call) (sym (other_same n j x was.0 was.1 f.0 d f.1 d_is)) (purposes.is_for n j x was.1 f.0 f.1)
 
   come_one : (n j : ℕ) (x : UnderWay K V K) (z : Standing K) → s.maps n ≡ Some z → (d : CallThere K V) → call_of (name j) v ≡ Some d → Which n j x
-      → HasCome n z (purposes.shown.number n) log v x d
+      → HasCome same n z (purposes.shown.number n) log v x d
   come_one n j x z z_is d d_is (inl a) =
-      subst (λ (k : ℕ). HasCome k z (purposes.shown.number k) log v x d) (sym a.0)
-      (subst (λ (y : UnderWay K V K). HasCome of z (purposes.shown.number of) log v y d) (one_of next x a.2)
-      (subst (λ (w : Standing K). HasCome of w (purposes.shown.number of) log v next d) (one_of st z (sym there ∙ ap s.maps (sym a.0) ∙ z_is)) (own_come d (own_is n j d d_is a.1) u here refl goes)))
+      subst (λ (k : ℕ). HasCome same k z (purposes.shown.number k) log v x d) (sym a.0)
+      (subst (λ (y : UnderWay K V K). HasCome same of z (purposes.shown.number of) log v y d) (one_of next x a.2)
+      (subst (λ (w : Standing K). HasCome same of w (purposes.shown.number of) log v next d) (one_of st z (sym there ∙ ap s.maps (sym a.0) ∙ z_is)) (own_come d (own_is n j d d_is a.1) u here refl goes)))
   come_one n j x z z_is d d_is (inr was) =
       let f = purposes.shown.calls n j x was.1 in
-      subst (λ (y : CallThere K V). HasCome n z (purposes.shown.number n) log v x y) (sym (other_same n j x was.0 was.1 f.0 d f.1 d_is))
-      (come_still n z (purposes.shown.number n) log m v refl f.0 f.0 (same_still f.0) x (purposes.come n j x was.1 z z_is f.0 f.1))
+      subst (λ (y : CallThere K V). HasCome same n z (purposes.shown.number n) log v x y) (sym (other_same n j x was.0 was.1 f.0 d f.1 d_is))
+      (come_still same n z (purposes.shown.number n) log m v refl f.0 f.0 (same_still f.0) x (purposes.come n j x was.1 z z_is f.0 f.1))
 
   pub told_purposes : ShowsPurposes same name log v known (scene_with of i next s)
   told_purposes = record {
@@ -319,7 +320,7 @@ module _ {K V S : Type 0} (same : K → K → Bool) (hash : K → ℕ) (name : �
     begun = λ n j x is d d_is. begun_one n j x d d_is (which s.calls of i (Some next) n j x is);
     is_for = λ n j x is d d_is. for_one n j x d d_is (which s.calls of i (Some next) n j x is);
     come = λ n j x is z z_is d d_is.
-        subst (λ (f : ℕ → ℕ → ℕ). HasCome n z (f n) log v x d) (sym b.1) (come_one n j x z z_is d d_is (which s.calls of i (Some next) n j x is));
+        subst (λ (f : ℕ → ℕ → ℕ). HasCome same n z (f n) log v x d) (sym b.1) (come_one n j x z z_is d d_is (which s.calls of i (Some next) n j x is));
   }
 
 pub calls_take_purposes : (K V S : Type 0) (same : K → K → Bool) (hash : K → ℕ) → CallsTakePurposes K V S same hash

@@ -2,6 +2,7 @@
 -- called.
 use Rattle.std.specs.Prelude.{◌≡◌, ℕ, suc, ◌<◌, ◌≤◌, ◌%◌, ◌^◌, Bool, true, List, [], length, map, Some}
 use Rattle.std.specs.List.{AllByRecursion}
+use Rattle.papaya_tables.specs.Chunks.{is_incremental}
 use Rattle.papaya_resize.specs.declared.sum.Summing.{Summing}
 use Rattle.papaya_resize.specs.declared.sum.Summing.TheVariants as sums
 use Rattle.papaya_reserves.specs.declared.reserve.Reserving.{Reserving}
@@ -18,6 +19,7 @@ use Rattle.papaya_schedules.specs.Lists.{OneOf}
 use Rattle.papaya_schedules.specs.Moment.{UnderWay as CallThere, Moment}
 use Rattle.papaya_schedules.specs.Sweeps.{is_yes}
 use Rattle.papaya_schedules.specs.Views.{call_of, is_in_map, first_of, reply_to}
+use Rattle.papaya_rule.specs.Maps.{spot_of}
 use Rattle.papaya_callers.specs.OverAll.{CallOverAll}
 use Rattle.papaya_callers.specs.Rooms.{CallForRoom}
 use Rattle.papaya_callers.specs.Together.{UnderWay, OnKey, ForRoom, Counting, OverAll}
@@ -26,6 +28,7 @@ use Rattle.papaya_executor.specs.IsAt.{Scene}
 use Rattle.papaya_finishes.specs.Maps.{Standing}
 use Rattle.papaya_follows.specs.Shows.{Shows}
 use Rattle.papaya_histories.specs.Histories.{since}
+use Rattle.papaya_purposes.specs.Keys.{KeysAt}
 
 -- until it goes over a table, a sweep stands there
 abbrev pub IsBefore : Sweeping → Type 0
@@ -33,6 +36,10 @@ IsBefore at.Reads = Unit {0}
 IsBefore at.Follows = Unit {0}
 IsBefore (at.Copies copier) = Unit {0}
 IsBefore _ = ⊥
+
+-- by key, what a sweep that is a walk has come to in its map
+abbrev pub KeysOf : {K : Type 0} → (K → K → Bool) → Standing K → CallOverAll → Type 0
+KeysOf same s o = KeysAt same (spot_of s.hash) (is_incremental s.setting.mode) s.chart o.began o.sweep o.done o.sweep.stands
 
 module _ {K V : Type 0} where
   -- it is for what was called
@@ -62,11 +69,12 @@ module _ {K V : Type 0} where
   TellsDone _ number done c = Unit {0}
 
   -- what a sweep has come to: the history of its map since it began is within these moments, and it has done what the moment says
-  pub record HasSwept (of : ℕ) (s : Standing K) (number : ℕ → ℕ) (moments : List (Moment K V)) (o : CallOverAll) (c : CallThere K V) : Type 0 where
+  pub record HasSwept (same : K → K → Bool) (of : ℕ) (s : Standing K) (number : ℕ → ℕ) (moments : List (Moment K V)) (o : CallOverAll) (c : CallThere K V) : Type 0 where
     pub within : PairsWithin of s number moments o.began
     pub stored : AllByRecursion (λ n. n < s.chart.stored) o.done
     pub tells : TellsDone c.call number o.done c
     pub none : o.sweep.purpose ≡ Walks → IsBefore o.sweep.stands → o.done ≡ []
+    pub keys : o.sweep.purpose ≡ Walks → KeysOf same s o
 
   -- The table to which a reservation has come is not before this one. Where it counts, it has added up shards.
   abbrev pub RoomAt : ℕ → List (Moment K V) → ℕ → Reserving → Type 0
@@ -86,11 +94,11 @@ module _ {K V : Type 0} where
     pub point : RoomAt of moments low r.reserve.stands
 
   -- what a call has come to
-  abbrev pub HasCome : ℕ → Standing K → (ℕ → ℕ) → List (Entry K V) → Moment K V → UnderWay K V K → CallThere K V → Type 0
-  HasCome of s number log m (OnKey u) c = Unit {0}
-  HasCome of s number log m (ForRoom r) c = HasMet of s (moments_from c.begun log) r
-  HasCome of s number log m (Counting sum) c = HasAdded of (moments_from c.begun log) sum.setting.mask sum.stands
-  HasCome of s number log m (OverAll o) c = HasSwept of s number (since log m c) o c
+  abbrev pub HasCome : (K → K → Bool) → ℕ → Standing K → (ℕ → ℕ) → List (Entry K V) → Moment K V → UnderWay K V K → CallThere K V → Type 0
+  HasCome same of s number log m (OnKey u) c = Unit {0}
+  HasCome same of s number log m (ForRoom r) c = HasMet of s (moments_from c.begun log) r
+  HasCome same of s number log m (Counting sum) c = HasAdded of (moments_from c.begun log) sum.setting.mask sum.stands
+  HasCome same of s number log m (OverAll o) c = HasSwept same of s number (since log m c) o c
 
 -- The moment shows the scene. The event that began a call is one of the log or the next one; each call is for what was called, and has come to what it says.
 pub record ShowsPurposes {K V : Type 0} (same : K → K → Bool) (name : ℕ → List ℕ) (log : List (Entry K V)) (m : Moment K V) (known : Known) (s : Scene K V) : Type 0 where
@@ -98,4 +106,4 @@ pub record ShowsPurposes {K V : Type 0} (same : K → K → Bool) (name : ℕ �
   pub begun : (of i : ℕ) (u : UnderWay K V K) → s.calls of i ≡ Some u → (c : CallThere K V) → call_of (name i) m ≡ Some c → c.begun ≤ length log
   pub is_for : (of i : ℕ) (u : UnderWay K V K) → s.calls of i ≡ Some u → (c : CallThere K V) → call_of (name i) m ≡ Some c → IsFor u c.call
   pub come : (of i : ℕ) (u : UnderWay K V K) → s.calls of i ≡ Some u → (standing : Standing K) → s.maps of ≡ Some standing → (c : CallThere K V) → call_of (name i) m ≡ Some c
-      → HasCome of standing (shown.number of) log m u c
+      → HasCome same of standing (shown.number of) log m u c
