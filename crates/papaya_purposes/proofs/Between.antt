@@ -150,7 +150,7 @@ module _ {K V S : Type 0} (same : K → K → Bool) (hash : K → ℕ) (name : �
     stored = tt;
     tells = none_told c.call (shown.number of);
     none = λ walks first. refl;
-    keys = λ walks. tt;
+    keys = λ walks. (tt, tt);
   }
 
   pub begins_come : (u : UnderWay K V K) → Begins same st i u → HasCome same of st (shown.number of) log m2 u c
@@ -275,7 +275,7 @@ walks_go_on_purposes K V same name log m known s purposes of i o here ready = re
       where
         keys : (st : Standing K) → HasSwept same n st (purposes.shown.number n) (m ∷ moments_from d.begun log) o d → o2.sweep.purpose ≡ Walks → KeysOf same st o2
         keys st h walks =
-            keys_next same (spot_of st.hash) (is_incremental st.setting.mode) st.chart o.began o.done o.sweep ready (h.keys (sym (next_purpose o.sweep) ∙ walks))
+            let it = h.keys (sym (next_purpose o.sweep) ∙ walks) in (keys_next same (spot_of st.hash) (is_incremental st.setting.mode) st.chart o.began o.done o.sweep ready it.0, it.1)
 
     come_one : (n j : ℕ) (x : UnderWay K V K) (st : Standing K) → s.maps n ≡ Some st → (d : CallThere K V) → call_of (name j) m ≡ Some d → Which n j x → HasCome same n st (purposes.shown.number n) log m x d
     come_one n j x st st_is d d_is (inl a) =

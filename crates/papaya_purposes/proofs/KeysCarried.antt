@@ -5,6 +5,7 @@ use Rattle.std.specs.List.{AllByRecursion}
 use Rattle.std.proofs.Common.{refl, ap, sym, subst, ◌∙◌, arith, inl, inr}
 use Rattle.seize_words.specs.Mem.{Mem, Took, value_at}
 use Rattle.seize_words.specs.Plan.{Steps}
+use Rattle.seize_words.specs.declared.fault.Fault.{Fault}
 use Rattle.seize_rule.proofs.Rows.Leaving.{steps_back}
 use Rattle.seize.specs.World.{World}
 use Rattle.papaya_tables.specs.Chunks.{is_incremental}
@@ -14,18 +15,23 @@ use Rattle.papaya_tables.specs.declared.status.TheConstants.Status.{ABORTED}
 use Rattle.papaya_tables.specs.declared.table.Table.{Table}
 use Rattle.papaya_resize.specs.Copier.{copier_plan}
 use Rattle.papaya_resize.specs.declared.copier.Copier.{Copier}
+use Rattle.papaya_resize.specs.declared.outcome.Outcome.{Outcome}
+use Rattle.papaya_resize.specs.declared.outcome.Outcome.TheVariants as outcome
 use Rattle.papaya_sweeps.specs.Sweep.{copied, plan_at, sweep_plan}
+use Rattle.papaya_sweeps.specs.SweepPoints.{entering, told}
 use Rattle.papaya_sweeps.specs.declared.sweep.Purpose.TheVariants.{Walks}
 use Rattle.papaya_sweeps.specs.declared.sweep.Sweep.{Sweep}
 use Rattle.papaya_sweeps.specs.declared.sweep.Sweeping.{Sweeping}
 use Rattle.papaya_sweeps.specs.declared.sweep.Sweeping.TheVariants as at
 use Rattle.papaya_sweeps.specs.declared.sweep.Swept.{Swept}
+use Rattle.papaya_sweeps.specs.declared.sweep.Swept.TheVariants as swept
 use Rattle.papaya_rule.specs.Chart.{Chart}
 use Rattle.papaya_rule.specs.InWorld.{IsMapIn, Moved}
 use Rattle.papaya_rule.specs.Maps.{spot_of, IsTable}
 use Rattle.papaya_rule.specs.Moments.{Moments}
 use Rattle.papaya_rule.specs.Rule.{IsLawful, Rule}
 use Rattle.papaya_rule.specs.Words.{Blocks}
+use Rattle.papaya_rule.proofs.Moves.Promised.{moves_keep}
 use Rattle.papaya_points.specs.Steps.{AreLawful}
 use Rattle.papaya_late.specs.FactsSweeps.{GoesOver, SweepingFacts}
 use Rattle.papaya_late.specs.ToldSweeps.{IsRowOfSweep}
@@ -39,10 +45,11 @@ use Rattle.papaya_callers.proofs.Together.Few.{claim_few}
 use Rattle.papaya_callers.proofs.Together.Fits.{map_in_slot}
 use Rattle.papaya_finishes.specs.Maps.{Standing, IsSameMap}
 use Rattle.papaya_follows.proofs.Steps.{one_of}
-use Rattle.papaya_purposes.specs.Keys.{KeysAt}
+use Rattle.papaya_purposes.specs.Keys.{KeysAt, AreKeyed}
 use Rattle.papaya_purposes.specs.Purposes.{IsBefore, KeysOf}
 use Rattle.papaya_purposes.proofs.KeysOn.{IsLow, StandsLow, keys_at_on}
 use Rattle.papaya_purposes.proofs.KeysSteps.{Leads, copies_lead, walk_leads}
+use Rattle.papaya_purposes.proofs.Lists.{all_on, all_both}
 use Rattle.papaya_purposes.proofs.Onward.{not_walking}
 
 -- a map stands on with its setting, by one move at most, of this caller
@@ -74,6 +81,22 @@ module _ {K : Type 0} (same : K → K → Bool) (caller : ℕ) (before st : Stan
       by (inr (move, allowed, is, own)) =
           subst (λ (x : Chart K). KeysAt same (spot_of before.hash) (is_incremental before.setting.mode) x began p done stage) (sym is)
           (keys_at_on same before.hash (is_incremental before.setting.mode) lawful before.chart rule moments move allowed began since stored done below p stage low h)
+
+-- its pairs have the keys that they had
+pub keyed_carried : {K : Type 0} (same : K → K → Bool) (caller : ℕ) (before st : Standing K) → StandsMoved same caller before st → IsLawful same (spot_of before.hash)
+    → Rule same (spot_of before.hash) (is_incremental before.setting.mode) before.chart → (done : List ℕ) → AllByRecursion (λ n. n < before.chart.stored) done
+    → AreKeyed before.chart done → AreKeyed st.chart done
+keyed_carried {K} same caller before st how lawful rule done below keyed =
+    all_on (λ n. (n < before.chart.stored) × ((k : K) × (before.chart.key n ≡ Some k))) (λ n. (k : K) × (st.chart.key n ≡ Some k)) (λ n h. (h.1.0, on n h.0 ∙ h.1.1)) done
+    (all_both (λ n. n < before.chart.stored) (λ n. (k : K) × (before.chart.key n ≡ Some k)) done below keyed)
+  where
+    on : (n : ℕ) → n < before.chart.stored → st.chart.key n ≡ before.chart.key n
+    on n l = by how.moved
+      where
+        by : Moved same before.hash before.setting.mode caller before.chart st.chart → st.chart.key n ≡ before.chart.key n
+        by (inl kept) = ap (λ (x : Chart K). x.key n) kept
+        by (inr (move, allowed, is, own)) =
+            ap (λ (x : Chart K). x.key n) is ∙ (moves_keep same (spot_of before.hash) (is_incremental before.setting.mode) lawful move before.chart rule allowed).1.keys n l
 
 module _ {K V : Type 0} (same : K → K → Bool) (hash : K → ℕ) (setting : Setting) (w : World (Node K V)) (c : Chart K) (rule : Rule same (spot_of hash) (is_incremental setting.mode) c) where
   -- it stands in a table that is the root, or was
@@ -118,16 +141,33 @@ copying_or (at.Disposes dispose) = inr (λ copier e. cc e)
 copying_or at.Over = inr (λ copier e. cc e)
 copying_or (at.Refused fault) = inr (λ copier e. cc e)
 
+told_over : {T : Type 0} (stage : Sweeping) → told {T = T} stage ≡ swept.Done → stage ≡ at.Over
+told_over at.Over e = refl
+told_over at.Ready e = absurd (cc e)
+told_over (at.Asks word) e = absurd (cc e)
+told_over (at.Refused fault) e = absurd (cc e)
+told_over _ e = absurd (cc e)
+
+copied_over : {K V : Type 0} (p : Sweep) (b : Copier × Outcome (Node K V) Table) (end : Sweep × Swept (Node K V)) → end ≡ copied p b → end.1 ≡ swept.Done → end.0.stands ≡ at.Over
+copied_over {K} {V} p b end is done = subst (λ (x : Sweep × Swept (Node K V)). x.1 ≡ swept.Done → x.0.stands ≡ at.Over) (sym is) (by b) done
+  where
+    by : (b : Copier × Outcome (Node K V) Table) → (copied p b).1 ≡ swept.Done → (copied p b).0.stands ≡ at.Over
+    by (next, outcome.Goes) e = absurd (cc e)
+    by (next, outcome.Waits) e = absurd (cc e)
+    by (next, outcome.Gave value) e = absurd (cc e)
+    by (next, outcome.Done root) e = told_over {T = Node K V} (entering p root).stands e
+    by (next, outcome.Refused fault) e = absurd (cc e)
+
 module _ {K V : Type 0} (same : K → K → Bool) (hash : K → ℕ) (are : AreLawful same hash) (setting : Setting) (initial : IsPowerOfTwo setting.initial) (slot : ℕ → ℕ) (w : World (Node K V))
     (c : Chart K) (blocks : Blocks) (sights : ℕ → Sight) (calls : ℕ → Option (UnderWay K V K)) (each : Together V same hash same setting slot w c blocks sights calls) (i : ℕ) (o : CallOverAll)
     (has : calls i ≡ Some (OverAll o)) where
   abbrev pub seen : Blocks
   seen = seen_by blocks (sights (slot i))
 
-  abbrev its_setting : Setting
+  abbrev pub its_setting : Setting
   its_setting = in_slot setting (slot i)
 
-  its_map : IsMapIn same hash its_setting w c seen
+  pub its_map : IsMapIn same hash its_setting w c seen
   its_map = map_seen same hash its_setting w c blocks (sights (slot i)) (map_in_slot same hash setting w c blocks (slot i) each.ground.map) (each.ground.sight (slot i) (each.inside i (OverAll o) has)).0
 
   -- a sweep that is under way stands in a table that is the root, or was
@@ -181,6 +221,24 @@ module _ {K V : Type 0} (same : K → K → Bool) (hash : K → ℕ) (are : AreL
           went.w2 went.c2 went.blocks2 went.told.1
       others_on other (inr (row, is_row, k)) = absurd (none_within (sweep_once_over o.sweep) walks o.sweep.stands other k.facts.point is_row)
 
+      -- within a row it ends where it is over, and it does not end once it was refused
+      pub row_over : IsRowOfSweep o.sweep.stands → end.1 ≡ swept.Done → end.0.stands ≡ at.Over
+      row_over row done = elim (copying_or o.sweep.stands) as (λ _. end.0.stands ≡ at.Over) [
+        | inl a ↦
+            (let d = steps_back (copied o.sweep) w.memory m2 (copier_plan hash a.0) end (subst (λ (x : Sweeping). Steps Took value_at w.memory (plan_at hash o.sweep x) m2 end) a.1 steps) in
+            copied_over o.sweep d.0 end d.2 done)
+        | inr other ↦
+            absurd (elim (each.stand i (OverAll o) has) as (λ _. ⊥) [
+              | inl k ↦ none_row o.sweep walks o.sweep.stands other k.1.facts.point row
+              | inr k ↦ none_within (sweep_once_over o.sweep) walks o.sweep.stands other k.2.facts.point row
+            ])
+      ]
+
+      pub not_refused : (fault : Fault) → o.sweep.stands ≡ at.Refused fault → end.1 ≡ swept.Done → ⊥
+      not_refused fault is done =
+          let s : end ≡ (o.sweep, swept.Refused fault) = (subst (λ (x : Sweeping). Steps Took value_at w.memory (plan_at hash o.sweep x) m2 end) is steps).1 in
+          let told = ap (λ z. z.1) s in cc (told, done)
+
       -- so it is by each of its own steps
       pub leads_on : LeadsOn
       leads_on = elim (copying_or o.sweep.stands) as (λ _. LeadsOn) [
@@ -194,7 +252,9 @@ pub keys_kept : {K V : Type 0} (same : K → K → Bool) (caller : ℕ) (before 
     → (each : Together V same before.hash same before.setting slot w before.chart before.blocks before.sights calls) (i : ℕ) (o : CallOverAll) → calls i ≡ Some (OverAll o)
     → ((time n : ℕ) → o.began ≤ time → time ≤ before.chart.now → before.chart.was time n ≡ true → n < before.chart.stored) → AllByRecursion (λ n. n < before.chart.stored) o.done
     → KeysOf same before o → KeysOf same st o
-keys_kept same caller before st how are initial slot w calls each i o has stored below h =
+keys_kept same caller before st how are initial slot w calls each i o has stored below h = (
     keys_carried same caller before st how are.lawful each.ground.map.map.rule each.ground.moments o.began
     (since same before.hash are before.setting initial slot w before.chart before.blocks before.sights calls each i o has) stored o.done below o.sweep o.sweep.stands
-    (low_stands same before.hash are before.setting initial slot w before.chart before.blocks before.sights calls each i o has) h
+    (low_stands same before.hash are before.setting initial slot w before.chart before.blocks before.sights calls each i o has) h.0,
+    keyed_carried same caller before st how are.lawful each.ground.map.map.rule o.done below h.1,
+)

@@ -41,10 +41,10 @@ use Rattle.papaya_follows.proofs.Steps.{WentTo, DidSo, one_of}
 use Rattle.papaya_moments.specs.Whole.{ShowsWhole}
 use Rattle.papaya_teller.specs.declared.changed.Changed.TheVariants.{Nothing}
 use Rattle.papaya_histories.proofs.Steps.{to}
-use Rattle.papaya_purposes.specs.Keys.{KeysAt}
+use Rattle.papaya_purposes.specs.Keys.{KeysAt, AreKeyed}
 use Rattle.papaya_purposes.specs.Kept.{ShowsNone}
 use Rattle.papaya_purposes.specs.Purposes.{IsBefore, KeysOf}
-use Rattle.papaya_purposes.proofs.KeysCarried.{StandsMoved, stood_moved, keys_carried, since, LeadsOn, leads_on}
+use Rattle.papaya_purposes.proofs.KeysCarried.{StandsMoved, stood_moved, keys_carried, keyed_carried, its_map, since, LeadsOn, leads_on}
 use Rattle.papaya_purposes.proofs.KeysOn.{StandsLow}
 use Rattle.papaya_purposes.proofs.KeysSteps.{Stays}
 use Rattle.papaya_purposes.proofs.Pairs.{pair_swept}
@@ -52,7 +52,7 @@ use Rattle.papaya_purposes.proofs.Pairs.{pair_swept}
 module _ {K V S : Type 0} (same : K → K → Bool) (hash : K → ℕ) (name : ℕ → List ℕ) (m : Moment K V) (known : Known) (s : Scene K V) (old new : Executor K V S) (at : IsAt same hash old s)
     (whole : ShowsWhole same name m known s) (shown : Shows same name m known s) (of i : ℕ) (u : UnderWay K V K) (here : s.calls of i ≡ Some u) (said : Progress (Node K V))
     (leads : StepLeads same hash i said s old new) where
-  abbrev went : WentTo same hash name m known s old new at shown of i u here said leads
+  abbrev pub went : WentTo same hash name m known s old new at shown of i u here said leads
   went = to same hash name m known s old new at whole shown of i u here said leads
 
   abbrev Did : UnderWay K V K → Type 0
@@ -94,13 +94,13 @@ module _ {K V S : Type 0} (same : K → K → Bool) (hash : K → ℕ) (name : �
     abbrev pub seen : Blocks
     seen = seen_by went.0.blocks (went.0.sights (slot_of i))
 
-    are : AreLawful same went.0.hash
+    pub are : AreLawful same went.0.hash
     are = (at.together.makings.standing.fit of went.0 went.2).0
 
-    each : Together V same went.0.hash same went.0.setting slot_of s.world went.0.chart went.0.blocks went.0.sights (s.calls of)
+    pub each : Together V same went.0.hash same went.0.setting slot_of s.world went.0.chart went.0.blocks went.0.sights (s.calls of)
     each = at.together.makings.standing.each of went.0 went.2
 
-    took : (d : Sweep × Swept (Node K V)) × Steps Took value_at s.world.memory (sweep_plan went.0.hash o.sweep) new.memory.memory d × ((went.1, said) ≡ swept d)
+    pub took : (d : Sweep × Swept (Node K V)) × Steps Took value_at s.world.memory (sweep_plan went.0.hash o.sweep) new.memory.memory d × ((went.1, said) ≡ swept d)
     took =
         let d = steps_back swept old.memory.memory new.memory.memory (sweep_plan hash o.sweep) (went.1, said)
         (as_step old.memory.memory Nothing (machine_plan same same hash (kinds.Sweep o.sweep)) new.memory.memory new.memory.changed (went.1, said) steps) in (
@@ -110,16 +110,16 @@ module _ {K V S : Type 0} (same : K → K → Bool) (hash : K → ℕ) (name : �
           d.2,
         )
 
-    led : LeadsOn same went.0.hash are went.0.setting (at.together.makings.standing.fit of went.0 went.2).1 slot_of s.world went.0.chart went.0.blocks went.0.sights (s.calls of) each i o o_is walks h at_first
+    led : LeadsOn same went.0.hash are went.0.setting (at.together.makings.standing.fit of went.0 went.2).1 slot_of s.world went.0.chart went.0.blocks went.0.sights (s.calls of) each i o o_is walks h.0 at_first
         new.memory.memory took.0 took.1
     led =
-        leads_on same went.0.hash are went.0.setting (at.together.makings.standing.fit of went.0 went.2).1 slot_of s.world went.0.chart went.0.blocks went.0.sights (s.calls of) each i o o_is walks h at_first
+        leads_on same went.0.hash are went.0.setting (at.together.makings.standing.fit of went.0 went.2).1 slot_of s.world went.0.chart went.0.blocks went.0.sights (s.calls of) each i o o_is walks h.0 at_first
         new.memory.memory took.0 took.1
 
-    said_is : of_swept took.0.1 ≡ said
+    pub said_is : of_swept took.0.1 ≡ said
     said_is = sym (ap (λ z. z.1) took.2)
 
-    sweep_is : (x : Sweep) → went.1 ≡ kinds.Sweep x → took.0.0 ≡ x
+    pub sweep_is : (x : Sweep) → went.1 ≡ kinds.Sweep x → took.0.0 ≡ x
     sweep_is x is = (let one : kinds.Sweep took.0.0 ≡ kinds.Sweep x = sym (ap (λ z. z.0) took.2) ∙ is in cc one)
 
     abbrev StaysAt : Sweep → List ℕ → Type 0
@@ -142,3 +142,14 @@ module _ {K V S : Type 0} (same : K → K → Bool) (hash : K → ℕ) (name : �
         keys_carried same i went.0 st (stands_moved of st went.0 there went.2) are.lawful each.ground.map.map.rule each.ground.moments o.began
         (since same went.0.hash are went.0.setting (at.together.makings.standing.fit of went.0 went.2).1 slot_of s.world went.0.chart went.0.blocks went.0.sights (s.calls of) each i o o_is) stored done below x
         x.stands stays.1 stays.0
+
+    -- the pairs that it has done have keys
+    pub keyed_then : (st : Standing K) → went.4.maps2 of ≡ Some st → (done : List ℕ) → AllByRecursion (λ n. n < went.0.chart.stored) done → AreKeyed went.0.chart done → AreKeyed st.chart done
+    keyed_then st there done below keyed =
+        keyed_carried same i went.0 st (stands_moved of st went.0 there went.2) are.lawful each.ground.map.map.rule done below keyed
+
+    pub names_keyed : (word n : ℕ) → NamesPair went.0.hash went.0.chart seen word n → (k : K) × (went.0.chart.key n ≡ Some k)
+    names_keyed word n (l, known_too, phase, borrowed, is) =
+        let shows =
+        (its_map same went.0.hash are went.0.setting (at.together.makings.standing.fit of went.0 went.2).1 slot_of s.world went.0.chart went.0.blocks went.0.sights (s.calls of) each i o o_is).map.shows.pairs
+        n l known_too in (shows.0, shows.3)

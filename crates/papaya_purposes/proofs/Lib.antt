@@ -29,5 +29,6 @@ mod Told
 mod Rows
 mod Swept
 mod Shows
+mod Stored
 mod FindsRoom
 mod Nothing

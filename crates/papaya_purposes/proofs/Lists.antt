@@ -10,14 +10,20 @@ use Rattle.papaya_schedules.specs.Sweeps.{is_yes}
 use Rattle.papaya_schedules.specs.Views.{reply_to}
 use Rattle.papaya_late.specs.Covers.{times}
 
-module _ (P Q : ℕ → Type 0) where
-  pub all_on : ((n : ℕ) → P n → Q n) → (xs : List ℕ) → AllByRecursion P xs → AllByRecursion Q xs
+module _ {X : Type 0} (P Q : X → Type 0) where
+  pub all_on : ((n : X) → P n → Q n) → (xs : List X) → AllByRecursion P xs → AllByRecursion Q xs
   all_on on [] all = tt
   all_on on (x ∷ xs) all = (on x all.0, all_on on xs all.1)
 
-  pub all_both : (xs : List ℕ) → AllByRecursion P xs → AllByRecursion Q xs → AllByRecursion (λ n. P n × Q n) xs
+  pub all_both : (xs : List X) → AllByRecursion P xs → AllByRecursion Q xs → AllByRecursion (λ n. P n × Q n) xs
   all_both [] all both = tt
   all_both (x ∷ xs) all both = ((all.0, both.0), all_both xs all.1 both.1)
+
+  -- what is so of one of them, beside what is so of all
+  pub one_with : (xs : List X) → AllByRecursion Q xs → OneOf P xs → (x : X) × P x × Q x
+  one_with [] all one = absurd one
+  one_with (x ∷ xs) all (inl here) = (x, here, all.0)
+  one_with (x ∷ xs) all (inr there) = one_with xs all.1 there
 
 module _ (P : ℕ → Type 0) where
   among_step : (p x : ℕ) (xs : List ℕ) → P x → 0 < times p (x ∷ xs) → (0 < times p xs → P p) → P p

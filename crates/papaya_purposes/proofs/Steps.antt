@@ -42,7 +42,7 @@ use Rattle.papaya_histories.specs.Histories.{since}
 use Rattle.papaya_histories.proofs.Later.{IsLater}
 use Rattle.papaya_histories.proofs.Steps.{to, led_on, v, after, s2, maps_later}
 use Rattle.papaya_histories.proofs.Walks.{HasPurpose, purpose_kept}
-use Rattle.papaya_purposes.specs.Keys.{KeysAt}
+use Rattle.papaya_purposes.specs.Keys.{KeysAt, AreKeyed}
 use Rattle.papaya_purposes.specs.Kept.{ShowsNone, PairsChangeFirst}
 use Rattle.papaya_purposes.specs.Purposes.{IsBefore, IsFor, PairsWithin, HasAdded, RoomAt, HasMet, KeysOf, HasSwept, HasCome, ShowsPurposes}
 use Rattle.papaya_purposes.specs.Shards.{ReadsShards}
@@ -51,7 +51,7 @@ use Rattle.papaya_purposes.proofs.Counts.{counts_on}
 use Rattle.papaya_purposes.proofs.Done.{done_is, Comes, next_tells, next_below, tells_kept}
 use Rattle.papaya_purposes.proofs.For.{key_is_for, room_for, counting_for, sweep_for}
 use Rattle.papaya_purposes.proofs.KeysCarried.{keys_kept}
-use Rattle.papaya_purposes.proofs.KeysMoved.{stands_moved, none_shown, carried}
+use Rattle.papaya_purposes.proofs.KeysMoved.{stands_moved, none_shown, carried, keyed_then}
 use Rattle.papaya_purposes.proofs.Lists.{all_on}
 use Rattle.papaya_purposes.proofs.Onward.{before_or, walk_stands, GoesOver, walk_onward}
 use Rattle.papaya_purposes.proofs.Over.{within_over, come_over}
@@ -186,10 +186,11 @@ module _ {K V S : Type 0} (same : K → K → Bool) (hash : K → ℕ) (name : �
       keys_on : ShowsNone said → StepsFrom same hash (machine_of (OverAll o)) old new went.1 said → (x : CallOverAll) → went.1 ≡ machine_of (OverAll x) → x.began ≡ o.began
           → Comes o x.done (shown.number of) c → x.sweep.purpose ≡ Walks → KeysOf same st x
       keys_on none steps x is began comes walks =
-          subst (λ (b : ℕ). KeysAt same (spot_of st.hash) (is_incremental st.setting.mode) st.chart b x.sweep x.done x.sweep.stands) (sym began)
-          (subst (λ (done : List ℕ). KeysAt same (spot_of st.hash) (is_incremental st.setting.mode) st.chart o.began x.sweep done x.sweep.stands) (sym same_done)
-          (carried same hash name m known s old new at whole shown of i u here said leads o o_is walked steps (its.keys walked) (its.none walked) its.within.stored st there x.sweep o.done its.stored
-          (none_shown same hash name m known s old new at whole shown of i u here said leads o o_is walked steps (its.keys walked) (its.none walked) none x.sweep is)))
+          subst (λ (b : ℕ). KeysAt same (spot_of st.hash) (is_incremental st.setting.mode) st.chart b x.sweep x.done x.sweep.stands × AreKeyed st.chart x.done) (sym began)
+          (subst (λ (done : List ℕ). KeysAt same (spot_of st.hash) (is_incremental st.setting.mode) st.chart o.began x.sweep done x.sweep.stands × AreKeyed st.chart done) (sym same_done) (
+          carried same hash name m known s old new at whole shown of i u here said leads o o_is walked steps (its.keys walked) (its.none walked) its.within.stored st there x.sweep o.done its.stored
+          (none_shown same hash name m known s old new at whole shown of i u here said leads o o_is walked steps (its.keys walked) (its.none walked) none x.sweep is),
+          keyed_then same hash name m known s old new at whole shown of i u here said leads o o_is walked steps (its.keys walked) (its.none walked) st there o.done its.stored (its.keys walked).1))
         where
           its : HasSwept same of went.0 (shown.number of) (since log m c) o c
           its = purposes.come of i (OverAll o) o_is went.0 went.2 c c_is

@@ -54,12 +54,12 @@ use Rattle.papaya_histories.specs.Answers.{NamesPair}
 use Rattle.papaya_histories.specs.Histories.{since}
 use Rattle.papaya_histories.proofs.Later.{IsLater}
 use Rattle.papaya_moments.specs.Whole.{ShowsWhole}
-use Rattle.papaya_purposes.specs.Keys.{KeysAt}
+use Rattle.papaya_purposes.specs.Keys.{KeysAt, AreKeyed}
 use Rattle.papaya_purposes.specs.Kept.{PairsChangeFirst, WalksShowPurposes}
 use Rattle.papaya_purposes.specs.Purposes.{IsBefore, IsFor, TellsDone, KeysOf, HasSwept, HasCome, ShowsPurposes}
 use Rattle.papaya_purposes.proofs.Done.{maps_kept}
 use Rattle.papaya_purposes.proofs.Kept.{then_at, v, next, number2, Which, which_is, begun_then, for_then, other_come}
-use Rattle.papaya_purposes.proofs.KeysMoved.{one_shown, carried}
+use Rattle.papaya_purposes.proofs.KeysMoved.{one_shown, carried, keyed_then, names_keyed}
 use Rattle.papaya_purposes.proofs.KeysOn.{StandsLow}
 use Rattle.papaya_purposes.proofs.Pairs.{pair_swept}
 use Rattle.papaya_purposes.proofs.Named.{number_told, stands_then, stands_is}
@@ -249,10 +249,14 @@ module _ {K V S : Type 0} (same : K → K → Bool) (hash : K → ℕ) (name : �
 
       keys : KeysOf same st (came_to o step.step.entered2 step.step.done2 p2)
       keys =
-          subst (λ (done : List ℕ). KeysAt same (spot_of st.hash) (is_incremental st.setting.mode) st.chart o.began p2 done p2.stands)
-          (ap (λ (k : ℕ). k ∷ o.done) same_pair ∙ sym one.1.2)
-          (carried same hash name m known s old new at whole purposes.shown of i u here (progress.Pair word) leads o y_is walked steps_of (was.keys walked) (was.none walked) was.within.stored st there p2
-          (shows.0 ∷ o.done) (shows.1.0, was.stored) shows.2)
+          subst (λ (done : List ℕ). KeysAt same (spot_of st.hash) (is_incremental st.setting.mode) st.chart o.began p2 done p2.stands × AreKeyed st.chart done)
+          (ap (λ (k : ℕ). k ∷ o.done) same_pair ∙ sym one.1.2) (
+          carried same hash name m known s old new at whole purposes.shown of i u here (progress.Pair word) leads o y_is walked steps_of (was.keys walked) (was.none walked) was.within.stored st there p2
+          (shows.0 ∷ o.done) (shows.1.0, was.stored) shows.2,
+          keyed_then same hash name m known s old new at whole purposes.shown of i u here (progress.Pair word) leads o y_is walked steps_of (was.keys walked) (was.none walked) st there (shows.0 ∷ o.done)
+          (shows.1.0, was.stored)
+          (names_keyed same hash name m known s old new at whole purposes.shown of i u here (progress.Pair word) leads o y_is walked steps_of (was.keys walked) (was.none walked) word shows.0 shows.1,
+          (was.keys walked).1))
 
       so : HasSwept same of st (numbers2 of) (since log v3 (come (ShowsOne q) steps d)) (came_to o step.step.entered2 step.step.done2 p2) (come (ShowsOne q) steps d)
       so =

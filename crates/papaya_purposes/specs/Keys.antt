@@ -1,5 +1,6 @@
 -- What a walk has come to by key: of each class of keys that its map had all the time since the walk began, it has shown one pair, or is to show one.
-use Rattle.std.specs.Prelude.{◌≡◌, ℕ, ◌+◌, ◌<◌, ◌≤◌, Bool, true, cond, List, [], ◌∷◌, ◌⊎◌}
+use Rattle.std.specs.Prelude.{◌≡◌, ℕ, ◌+◌, ◌<◌, ◌≤◌, Bool, true, cond, List, [], ◌∷◌, Some, ◌⊎◌}
+use Rattle.std.specs.List.{AllByRecursion}
 use Rattle.papaya_tables.specs.declared.table.Table.{Table}
 use Rattle.papaya_sweeps.specs.declared.sweep.Sweep.{Sweep}
 use Rattle.papaya_sweeps.specs.declared.sweep.Sweeping.{Sweeping}
@@ -43,3 +44,7 @@ module _ {K : Type 0} (same : K → K → Bool) (spot : ℕ → K → ℕ → �
   KeysAt began p done at.Words = KeysTo began p.table p.place done
   KeysAt began p done at.Over = KeysCame began done
   KeysAt began p done _ = Unit {0}
+
+-- each pair of this list has a key
+abbrev pub AreKeyed : {K : Type 0} → Chart K → List ℕ → Type 0
+AreKeyed {K} c done = AllByRecursion (λ n. (k : K) × (c.key n ≡ Some k)) done

@@ -28,7 +28,7 @@ use Rattle.papaya_executor.specs.IsAt.{Scene}
 use Rattle.papaya_finishes.specs.Maps.{Standing}
 use Rattle.papaya_follows.specs.Shows.{Shows}
 use Rattle.papaya_histories.specs.Histories.{since}
-use Rattle.papaya_purposes.specs.Keys.{KeysAt}
+use Rattle.papaya_purposes.specs.Keys.{KeysAt, AreKeyed}
 
 -- until it goes over a table, a sweep stands there
 abbrev pub IsBefore : Sweeping → Type 0
@@ -39,7 +39,7 @@ IsBefore _ = ⊥
 
 -- by key, what a sweep that is a walk has come to in its map
 abbrev pub KeysOf : {K : Type 0} → (K → K → Bool) → Standing K → CallOverAll → Type 0
-KeysOf same s o = KeysAt same (spot_of s.hash) (is_incremental s.setting.mode) s.chart o.began o.sweep o.done o.sweep.stands
+KeysOf same s o = KeysAt same (spot_of s.hash) (is_incremental s.setting.mode) s.chart o.began o.sweep o.done o.sweep.stands × AreKeyed s.chart o.done
 
 module _ {K V : Type 0} where
   -- it is for what was called
