@@ -33,6 +33,7 @@ use Rattle.papaya_rule.specs.Rule.{IsLawful, Rule}
 use Rattle.papaya_rule.specs.Words.{Blocks}
 use Rattle.papaya_rule.proofs.Moves.Promised.{moves_keep}
 use Rattle.papaya_points.specs.Steps.{AreLawful}
+use Rattle.papaya_late.specs.Covers.{times, WasSince, CoversAt}
 use Rattle.papaya_late.specs.FactsSweeps.{GoesOver, SweepingFacts}
 use Rattle.papaya_late.specs.ToldSweeps.{IsRowOfSweep}
 use Rattle.papaya_late.proofs.Swept.Sweeps.Points.{went_sweep}
@@ -50,7 +51,7 @@ use Rattle.papaya_purposes.specs.Purposes.{IsBefore, KeysOf}
 use Rattle.papaya_purposes.proofs.KeysOn.{IsLow, StandsLow, keys_at_on}
 use Rattle.papaya_purposes.proofs.KeysSteps.{Leads, copies_lead, walk_leads}
 use Rattle.papaya_purposes.proofs.Lists.{all_on, all_both}
-use Rattle.papaya_purposes.proofs.Onward.{not_walking}
+use Rattle.papaya_purposes.proofs.Onward.{not_walking, not_retaining}
 
 -- a map stands on with its setting, by one move at most, of this caller
 pub record StandsMoved {K : Type 0} (same : K → K → Bool) (caller : ℕ) (before st : Standing K) : Type 0 where
@@ -238,6 +239,40 @@ module _ {K V : Type 0} (same : K → K → Bool) (hash : K → ℕ) (are : AreL
       not_refused fault is done =
           let s : end ≡ (o.sweep, swept.Refused fault) = (subst (λ (x : Sweeping). Steps Took value_at w.memory (plan_at hash o.sweep x) m2 end) is steps).1 in
           let told = ap (λ z. z.1) s in cc (told, done)
+
+      -- where it ends, what it has done was in the map since it began
+      module _ (ends : end.1 ≡ swept.Done) (p : ℕ) (l : 0 < times p o.done) where
+        none_before : IsBefore o.sweep.stands → ⊥
+        none_before first = let none = subst (λ (x : List ℕ). 0 < times p x) (at_first first) l in omega (arith, none)
+
+        from_entered : o.began ≤ o.entered → WasSince c o.entered p → WasSince c o.began p
+        from_entered from (time, late, to, was) = (time, omega (arith, from, late), to, was)
+
+        was_at : o.began ≤ o.entered → (stage : Sweeping) → o.sweep.stands ≡ stage → SweepingFacts same hash w i its_setting c seen o.began o.sweep stage
+            → CoversAt hash c seen o.sweep o.entered o.done stage → WasSince c o.began p
+        was_at from at.Reads is facts covers = absurd (none_before (subst IsBefore (sym is) tt))
+        was_at from at.Follows is facts covers = absurd (none_before (subst IsBefore (sym is) tt))
+        was_at from (at.Copies copier) is facts covers = absurd (none_before (subst IsBefore (sym is) tt))
+        was_at from at.Ready is facts (inl at_end) = from_entered from (at_end.1.shown.0 p l)
+        was_at from at.Ready is facts (inr goes) = from_entered from (goes.1.shown.0 p l)
+        was_at from at.Words is facts covers = from_entered from (covers.shown.0 p l)
+        was_at from (at.Asks word) is facts covers = absurd (not_retaining o.sweep.purpose walks facts.0)
+        was_at from (at.Tries word) is facts covers = absurd (not_walking o.sweep.purpose walks facts.0)
+        was_at from (at.Counts removed) is facts covers = absurd (not_walking o.sweep.purpose walks facts.0)
+        was_at from (at.Disposes dispose) is facts covers = absurd (not_walking o.sweep.purpose walks facts.0)
+        was_at from at.Over is facts covers = from_entered from (covers.shown.0 p l)
+        was_at from (at.Refused fault) is facts covers = absurd (not_refused fault is ends)
+
+        row_before : (stage : Sweeping) → IsRowOfSweep stage → o.sweep.stands ≡ stage → SweepingFacts same hash w i its_setting c seen o.began (sweep_once_over o.sweep) (past_sweeping stage) → ⊥
+        row_before (at.Copies copier) row is facts = none_before (subst IsBefore (sym is) tt)
+        row_before (at.Disposes dispose) row is facts = not_walking o.sweep.purpose walks facts.0
+        row_before _ row is facts = row
+
+        pub done_was : WasSince c o.began p
+        done_was = elim (each.stand i (OverAll o) has) as (λ _. WasSince c o.began p) [
+          | inl k ↦ was_at k.1.from o.sweep.stands refl k.1.facts.point k.1.covers
+          | inr k ↦ absurd (row_before o.sweep.stands k.1 refl k.2.facts.point)
+        ]
 
       -- so it is by each of its own steps
       pub leads_on : LeadsOn

@@ -30,5 +30,6 @@ mod Rows
 mod Swept
 mod Shows
 mod Stored
+mod ShowsAll
 mod FindsRoom
 mod Nothing

@@ -37,6 +37,17 @@ module _ (P : ℕ → Type 0) where
   all_among p [] all l = absurd (omega (arith, l))
   all_among p (x ∷ xs) all l = among_step p x xs all.0 l (λ r. all_among p xs all.1 r)
 
+-- what is so of each that is among them is so of all
+pub each_among : (P : ℕ → Type 0) (xs : List ℕ) → ((p : ℕ) → 0 < times p xs → P p) → AllByRecursion P xs
+each_among P [] so = tt
+each_among P (x ∷ xs) so = (
+  so x (let one = ap (λ q. cond q 1 0 + times x xs) (eq-eqb x x refl) in omega (arith, one)),
+  each_among P xs (λ p l. so p (more p l)),
+)
+  where
+    more : (p : ℕ) → 0 < times p xs → 0 < times p (x ∷ xs)
+    more p l = omega (arith, l)
+
 cons_alike : (a b : ℕ) (xs ys : List ℕ) → a ≡ b → xs ≡ ys → a ∷ xs ≡ b ∷ ys
 cons_alike a b xs ys e f = cc (e, f)
 

@@ -9,9 +9,9 @@ use Rattle.papaya_schedules.specs.declared.event.Event.TheVariants as event
 use Rattle.papaya_schedules.specs.declared.outcome.Outcome.{Outcome}
 use Rattle.papaya_schedules.specs.declared.outcome.Outcome.TheVariants as outcome
 use Rattle.papaya_schedules.specs.After.{moment, moments_from}
-use Rattle.papaya_schedules.specs.Beginning.{with_call, nameless, begun, at_work}
+use Rattle.papaya_schedules.specs.Beginning.{with_call, begun, at_work}
 use Rattle.papaya_schedules.specs.Effects.{new_pair, stored_by, with_effect, with_effects, worked}
-use Rattle.papaya_schedules.specs.Entry.{Entry, is_busy, caller_of, acting, acted_on}
+use Rattle.papaya_schedules.specs.Entry.{Entry, nameless, is_busy, caller_of, acting, acted_on}
 use Rattle.papaya_schedules.specs.Moment.{UnderWay as CallThere, Moment, start}
 use Rattle.papaya_schedules.specs.Views.{number_of}
 use Rattle.papaya_follows.proofs.Contents.{Lasts, lasts_same, lasts_more}
@@ -53,12 +53,13 @@ module _ {K V : Type 0} where
       by : (b : Bool) → AllByRecursion (λ (x : Moment K V). Lasts x.stored (moment {K = K} {V = V} []).stored) (if b then start ∷ [] else [])
       by true = (λ n p e. e, tt)
       by false = tt
-  all_stored began (e ∷ log) = by (nat_lt (length (e ∷ log)) began)
+  all_stored began (e ∷ log) = by (nat_lt (length (e ∷ log)) began) (all_stored began log)
     where
-      by : (b : Bool) → AllByRecursion (λ (x : Moment K V). Lasts x.stored (moment (e ∷ log)).stored) (if b then [] else moment (e ∷ log) ∷ moments_from began log)
-      by true = tt
-      by false = (
+      by : (b : Bool) → AllByRecursion (λ (x : Moment K V). Lasts x.stored (moment log).stored) (moments_from began log)
+          → AllByRecursion (λ (x : Moment K V). Lasts x.stored (moment (e ∷ log)).stored) (if b then [] else moment (e ∷ log) ∷ moments_from began log)
+      by true all = tt
+      by false all = (
         λ n p is. is,
         all_on (λ (x : Moment K V). Lasts x.stored (moment log).stored) (λ (x : Moment K V). Lasts x.stored (moment (e ∷ log)).stored)
-            (λ x lasts n p is. worked_stored e (moment log) n p (lasts n p is)) (moments_from began log) (all_stored began log),
+            (λ x lasts n p is. worked_stored e (moment log) n p (lasts n p is)) (moments_from began log) all,
       )

@@ -1,10 +1,10 @@
 -- Events of calls on whole maps do what these are for.
-use Rattle.std.specs.Prelude.{◌≡◌, ℕ, suc, Bool, List, Some, None}
+use Rattle.std.specs.Prelude.{◌≡◌, ℕ, suc, Bool, true, List, Some, None, is_some}
 use Rattle.papaya_tables.specs.declared.node.Node.{Node}
 use Rattle.papaya_raw.specs.declared.machines.progress.Answer.TheVariants as answers
 use Rattle.papaya_raw.specs.declared.machines.progress.Progress.{Progress}
 use Rattle.papaya_raw.specs.declared.machines.progress.Progress.TheVariants as progress
-use Rattle.papaya_schedules.specs.declared.call.Answer.TheVariants.{Completed, Counted}
+use Rattle.papaya_schedules.specs.declared.call.Answer.TheVariants.{Absent, Completed, Counted}
 use Rattle.papaya_schedules.specs.declared.call.Call.TheVariants.{On, Reserve, Clear, Retain, Len, Walk}
 use Rattle.papaya_schedules.specs.declared.call.OneKey.{OneKey}
 use Rattle.papaya_schedules.specs.declared.outcome.Outcome.{Outcome}
@@ -15,7 +15,7 @@ use Rattle.papaya_schedules.specs.Entry.{Entry, acting, caller_of}
 use Rattle.papaya_schedules.specs.Moment.{UnderWay as CallThere, Moment}
 use Rattle.papaya_schedules.specs.Sweeps.{IsSwept}
 use Rattle.papaya_schedules.specs.Terms.{Terms, shards_of}
-use Rattle.papaya_schedules.specs.Views.{call_of}
+use Rattle.papaya_schedules.specs.Views.{call_of, finite_map}
 use Rattle.papaya_callers.specs.Together.{UnderWay}
 use Rattle.papaya_effects.specs.Effects.{effects_of, known_after}
 use Rattle.papaya_effects.specs.Known.{Known}
@@ -25,6 +25,7 @@ use Rattle.papaya_executor.specs.Stepping.{StepLeads}
 use Rattle.papaya_executor.specs.declared.executor.Executor.{Executor}
 use Rattle.papaya_finishes.specs.Maps.{Standing}
 use Rattle.papaya_histories.specs.Answers.{NamesPair}
+use Rattle.papaya_histories.specs.Histories.{began_of, since, IsWithin}
 use Rattle.papaya_moments.specs.Whole.{ShowsWhole}
 use Rattle.papaya_purposes.specs.Kept.{NoneCame, PairsChangeFirst}
 use Rattle.papaya_purposes.specs.Purposes.{ShowsPurposes}
@@ -61,6 +62,10 @@ module _ {K V : Type 0} where
   abbrev pub Keeps : CallThere K V → Type 0
   Keeps c = c.call ≡ Retain
 
+-- each key that had a pair in this map as the last event of the log ended has one still
+abbrev pub LosesNone : {K V : Type 0} → (K → K → Bool) → List (Entry K V) → Moment K V → ℕ → Type 0
+LosesNone {K} same log m of = (k : K) → is_some (finite_map same of (moment log) k) ≡ true → is_some (finite_map same of m k) ≡ true
+
 -- The promises, of an event whose effects before a last step have led to this moment, and which comes to what that step comes to.
 module _ (K V S : Type 0) (same : K → K → Bool) (hash : K → ℕ) where
   abbrev pub Ends : (CallThere K V → Type 0) → (List (Entry K V) → Moment K V → Moment K V → Scene K V → ℕ → UnderWay K V K → Type 0) → Outcome V → Type 0
@@ -93,6 +98,19 @@ module _ (K V S : Type 0) (same : K → K → Bool) (hash : K → ℕ) where
   -- and `retain` leaves those about which the last reply was yes.
   abbrev pub RetainingsAreSwept : Type 0
   RetainingsAreSwept = Ends Keeps (λ log m v s of u. PairsChangeFirst log m of v) (Answered Completed)
+
+  -- A walk that answers that there is no pair has shown one pair of each key that had one at each moment of it, if class by class the history of its map is within
+  -- the moments of the run since it began, and no key has lost its pair within the event.
+  abbrev pub WalksShowAll : Type 0
+  WalksShowAll =
+      (name : ℕ → List ℕ) (log : List (Entry K V)) (m : Moment K V) (known : Known) (s : Scene K V) (old new : Executor K V S) → IsAt same hash old s
+      → ShowsWhole same name m known s → (purposes : ShowsPurposes same name log m known s)
+      → (of i : ℕ) (u : UnderWay K V K) (here : s.calls of i ≡ Some u) (leads : StepLeads same hash i (progress.Done answers.Swept) s old new)
+      → (c : CallThere K V) → call_of (name i) m ≡ Some c → IsWalk c
+      → ((standing : Standing K) → s.maps of ≡ Some standing → (began : ℕ) → began_of u ≡ Some began → IsWithin same of standing (purposes.shown.number of) (since log m c) began)
+      → LosesNone same log m of
+      → (terms : Terms) (e : Entry K V) → caller_of e.event ≡ Some (name i)
+      → worked e (moment log) ≡ with_effects (Some (name i)) (Some of) (effects_of (acts.Call i of) known new.memory.changed) m → e.outcome ≡ Answered Absent → IsSwept same terms log e
 
 module _ (K V : Type 0) (same : K → K → Bool) where
   -- Nothing is promised of an event that comes to neither an answer nor a pair that is shown, of one of a call on one key, and of one that is of no call.
