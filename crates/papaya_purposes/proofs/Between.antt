@@ -22,7 +22,7 @@ use Rattle.papaya_schedules.specs.Beginning.{fresh_call, with_call}
 use Rattle.papaya_schedules.specs.Entry.{Entry}
 use Rattle.papaya_schedules.specs.Lists.{OneOf}
 use Rattle.papaya_schedules.specs.Moment.{Place, MapThere, UnderWay as CallThere, Moment}
-use Rattle.papaya_schedules.specs.Views.{call_of, is_in_map, first_or, first_of}
+use Rattle.papaya_schedules.specs.Views.{call_of, is_in_map, finite_map, first_or, first_of}
 use Rattle.papaya_rule.specs.Maps.{spot_of}
 use Rattle.papaya_callers.specs.OverAll.{CallOverAll, begun_over_all, gone_on}
 use Rattle.papaya_callers.specs.Rooms.{CallForRoom}
@@ -40,8 +40,12 @@ use Rattle.papaya_follows.proofs.Calling.{is_same_refl, come, begins_with, come_
 use Rattle.papaya_follows.proofs.Steps.{one_of}
 use Rattle.papaya_hands.proofs.Asking.{which}
 use Rattle.papaya_hands.proofs.Beginning.{runs_begin_so}
+use Rattle.papaya_histories.specs.Had.{HadThen}
+use Rattle.papaya_histories.specs.Histories.{IsWithin}
 use Rattle.papaya_histories.proofs.Calling.{came_so}
+use Rattle.papaya_histories.proofs.Found.{map_alike}
 use Rattle.papaya_histories.proofs.Logs.{last_there, moments_grow}
+use Rattle.papaya_histories.proofs.Now.{now_had}
 use Rattle.papaya_others.specs.After.{ShowsAfter}
 use Rattle.papaya_others.proofs.Walks.{fewer_calls, with_calls}
 use Rattle.papaya_purposes.specs.Kept.{TellsNone, PurposesBegin, CallsBeginPurposes, WalksGoOnPurposes, CallsComeToPurposes, EventsKeepPurposes, FirstStepsChangePairsFirst, StillStepsChangePairsFirst, RemovalsChangePairsFirst}
@@ -87,11 +91,20 @@ module _ {K V : Type 0} (same : K → K → Bool) (log : List (Entry K V)) (e : 
     tells = h.tells;
     none = h.none;
     keys = h.keys;
+    classes = classes;
   }
     where
       more : (n : ℕ) (q : Bool) → OneOf (λ (x : Moment K V). is_in_map of (x.place n) ≡ q) (m ∷ moments_from c.begun log) → OneOf (λ (x : Moment K V). is_in_map of (x.place n) ≡ q) (m ∷ moments_from c.begun (e ∷ log))
       more n q (inl is) = inl is
       more n q (inr there) = inr (wider (λ x. is_in_map of (x.place n) ≡ q) there)
+
+      classes : IsWithin same of st number (m ∷ moments_from c.begun (e ∷ log)) o.began
+      classes time from to k = by (h.classes time from to k)
+        where
+          by : OneOf (λ (x : Moment K V). HadThen same st number time k (finite_map same of x k)) (m ∷ moments_from c.begun log)
+              → OneOf (λ (x : Moment K V). HadThen same st number time k (finite_map same of x k)) (m ∷ moments_from c.begun (e ∷ log))
+          by (inl is) = inl is
+          by (inr there) = inr (wider (λ x. HadThen same st number time k (finite_map same of x k)) there)
 
 pub events_keep_purposes : (K V : Type 0) (same : K → K → Bool) → EventsKeepPurposes K V same
 events_keep_purposes K V same name log e known s purposes = record {
@@ -120,7 +133,7 @@ calls_come_to_purposes K V same name log m known s purposes own o steps none end
   come = λ n j x is st there d d_is.
       let c = purposes.shown.calls n j x is in
       subst (λ (f : ℕ → ℕ → ℕ). HasCome same n st (f n) log (come_to own o steps m) x d) (sym b.1)
-      (come_still same n st (purposes.shown.number n) log m (come_to own o steps m) refl c.0 d (still n j x is c.0 c.1 d d_is) x (purposes.come n j x is st there c.0 c.1));
+      (come_still same n st (purposes.shown.number n) log m (come_to own o steps m) refl refl c.0 d (still n j x is c.0 c.1 d d_is) x (purposes.come n j x is st there c.0 c.1));
 }
   where
     b : (after : Shows same name (come_to own o steps m) known s) × (after.number ≡ purposes.shown.number)
@@ -131,7 +144,7 @@ calls_come_to_purposes K V same name log m known s purposes own o steps none end
 
 -- a call that begins
 module _ {K V S : Type 0} (same : K → K → Bool) (hash : K → ℕ) (name : ℕ → List ℕ) (log : List (Entry K V)) (m : Moment K V) (known : Known) (s : Scene K V) (e : Executor K V S)
-    (at : IsAt same hash e s) (shown : Shows same name m known s) (of i : ℕ) (st : Standing K) (there : s.maps of ≡ Some st) (m2 : Moment K V) (place : m2.place ≡ m.place)
+    (at : IsAt same hash e s) (shown : Shows same name m known s) (of i : ℕ) (st : Standing K) (there : s.maps of ≡ Some st) (m2 : Moment K V) (place : m2.place ≡ m.place) (stored : m2.stored ≡ m.stored)
     (c : CallThere K V) (shows : c.shown ≡ []) (was : OneOf (λ x. first_of of x ≤ st.chart.first) (moments_from c.begun log)) where
   none_told : (its : Call K V) (number : ℕ → ℕ) → TellsDone its number [] c
   none_told (call.On one) number = tt
@@ -144,6 +157,11 @@ module _ {K V S : Type 0} (same : K → K → Bool) (hash : K → ℕ) (name : �
   sum_begins : (setting : Setting) → HasAdded of (moments_from c.begun log) (summing setting).setting.mask (summing setting).stands
   sum_begins setting = (0, refl, omega arith)
 
+  now_then : (k : K) → HadThen same st (shown.number of) st.chart.now k (finite_map same of m2 k)
+  now_then k =
+      subst (HadThen same st (shown.number of) st.chart.now k) (sym (map_alike same of k m m2 place stored))
+      (now_had same of (shown.number of) st m known s.world (s.calls of) (at.together.makings.standing.fit of st there).0 (at.together.makings.standing.each of st there) (shown.maps of st there).pairs shown.blocks k)
+
   sweep_begins : (setting : Setting) (purpose : Purpose) → HasSwept same of st (shown.number of) (m2 ∷ moments_from c.begun log) (begun_over_all st.chart.now setting purpose) c
   sweep_begins setting purpose = record {
     within = begins_within same hash name m known s e at shown of st there m2 (moments_from c.begun log) place;
@@ -151,6 +169,7 @@ module _ {K V S : Type 0} (same : K → K → Bool) (hash : K → ℕ) (name : �
     tells = none_told c.call (shown.number of);
     none = λ walks first. refl;
     keys = λ walks. (tt, tt);
+    classes = λ time from to k. inl (subst (λ (t : ℕ). HadThen same st (shown.number of) t k (finite_map same of m2 k)) (omega (arith, from, to)) (now_then k));
   }
 
   pub begins_come : (u : UnderWay K V K) → Begins same st i u → HasCome same of st (shown.number of) log m2 u c
@@ -214,9 +233,9 @@ calls_begin_purposes K V S same hash name log m known s e at purposes of i u its
         (subst (λ (y : UnderWay K V K). HasCome same of st (purposes.shown.number of) log m2 y d) (sym a.1)
         (subst (λ (f : CallThere K V). HasCome same of st (purposes.shown.number of) log m2 u f) (sym a.2)
         (subst (λ (z : Standing K). HasCome same of z (purposes.shown.number of) log m2 u fresh) (one_of standing st (sym there ∙ ap s.maps (sym a.0) ∙ st_is))
-        (begins_come same hash name log m known s e at purposes.shown of i standing there m2 refl fresh refl first_was u begins))))
+        (begins_come same hash name log m known s e at purposes.shown of i standing there m2 refl refl fresh refl first_was u begins))))
     come_one n j x d st st_is (inr was) =
-        come_still same n st (purposes.shown.number n) log m m2 refl d d (same_still d) x (purposes.come n j x was.0 st st_is d was.1)
+        come_still same n st (purposes.shown.number n) log m m2 refl refl d d (same_still d) x (purposes.come n j x was.0 st st_is d was.1)
 
 -- a walk that is asked for its next pair goes over its table, or is over
 next_over : (p : Sweep) → p.stands ≡ sweeping.Ready → IsBefore (after_next p).stands → ⊥
@@ -271,7 +290,7 @@ walks_go_on_purposes K V same name log m known s purposes of i o here ready = re
     for_one n j x d d_is (inr was) = purposes.is_for n j x was.1 d d_is
 
     own : (n : ℕ) (st : Standing K) (d : CallThere K V) → HasSwept same n st (purposes.shown.number n) (m ∷ moments_from d.begun log) o d → HasSwept same n st (purposes.shown.number n) (m ∷ moments_from d.begun log) o2 d
-    own n st d h = record { within = h.within; stored = h.stored; tells = h.tells; none = λ walks first. absurd (next_over o.sweep ready first); keys = keys st h }
+    own n st d h = record { within = h.within; stored = h.stored; tells = h.tells; none = λ walks first. absurd (next_over o.sweep ready first); keys = keys st h; classes = h.classes }
       where
         keys : (st : Standing K) → HasSwept same n st (purposes.shown.number n) (m ∷ moments_from d.begun log) o d → o2.sweep.purpose ≡ Walks → KeysOf same st o2
         keys st h walks =

@@ -14,6 +14,7 @@ use Rattle.papaya_executor.specs.Stepping.{StepLeads}
 use Rattle.papaya_executor.specs.declared.executor.Executor.{Executor}
 use Rattle.papaya_hands.proofs.Asking.{which}
 use Rattle.papaya_moments.specs.Whole.{ShowsWhole}
+use Rattle.papaya_histories.specs.Kept.{ChangesFirst}
 use Rattle.papaya_purposes.specs.Kept.{PairsChangeFirst, CallsKeepPurposes}
 use Rattle.papaya_purposes.specs.Purposes.{IsFor, HasCome, ShowsPurposes}
 use Rattle.papaya_purposes.proofs.Steps.{went, on, v2, scene2, same_call, kept_come, own_come, own_for}
@@ -61,12 +62,12 @@ module _ {K V S : Type 0} (same : K → K → Bool) (hash : K → ℕ) (name : �
       let c = purposes.shown.calls n j x other.1 in
       for_still c.0 d (same_call same hash name log m known s old new at whole purposes of i u here said leads j c.0 d c.1 d_is) x (purposes.is_for n j x other.1 c.0 c.1)
 
-  module _ (changes : PairsChangeFirst log m of v) where
+  module _ (changes : PairsChangeFirst log m of v) (class_first : ChangesFirst log m same of v) where
     pub other_come : (n j : ℕ) (x : UnderWay K V K) → s.calls n j ≡ Some x → (st : Standing K) → then_at.maps n ≡ Some st → (d : CallThere K V) → call_of (name j) v ≡ Some d
         → HasCome same n st (number2 n) log v x d
     other_come n j x is st there d d_is =
         let c = purposes.shown.calls n j x is in
-        kept_come same hash name log m known s old new at whole purposes of i u here said leads changes n j x is st there c.0 d c.1 d_is
+        kept_come same hash name log m known s old new at whole purposes of i u here said leads changes n j x is st there c.0 d c.1 d_is class_first
 
     come_then : ((x : UnderWay K V K) → next ≡ Some x → (st : Standing K) → then_at.maps of ≡ Some st → (d : CallThere K V) → call_of (name i) v ≡ Some d → HasCome same of st (number2 of) log v x d)
         → (n j : ℕ) (x : UnderWay K V K) (st : Standing K) → then_at.maps n ≡ Some st → (d : CallThere K V) → call_of (name j) v ≡ Some d → Which n j x → HasCome same n st (number2 n) log v x d
@@ -76,14 +77,14 @@ module _ {K V S : Type 0} (same : K → K → Bool) (hash : K → ℕ) (name : �
     come_then own n j x st there d d_is (inr other) = other_come n j x other.1 st there d d_is
 
 pub calls_keep_purposes : (K V S : Type 0) (same : K → K → Bool) (hash : K → ℕ) → CallsKeepPurposes K V S same hash
-calls_keep_purposes K V S same hash name log m known s old new at whole purposes of i u here said leads changes reads none =
+calls_keep_purposes K V S same hash name log m known s old new at whole purposes of i u here said leads changes class_first reads none =
     record {
       shown = (on same hash name log m known s old new at whole purposes of i u here said leads).shows;
       begun = λ n j x is d d_is. begun_then same hash name log m known s old new at whole purposes of i u here said leads n j x d d_is
           (which_is same hash name log m known s old new at whole purposes of i u here said leads n j x is);
       is_for = λ n j x is d d_is. for_then same hash name log m known s old new at whole purposes of i u here said leads n j x d d_is
           (which_is same hash name log m known s old new at whole purposes of i u here said leads n j x is);
-      come = λ n j x is st there d d_is. come_then same hash name log m known s old new at whole purposes of i u here said leads changes own n j x st there d d_is
+      come = λ n j x is st there d d_is. come_then same hash name log m known s old new at whole purposes of i u here said leads changes class_first own n j x st there d d_is
           (which_is same hash name log m known s old new at whole purposes of i u here said leads n j x is);
     }
   where
@@ -94,4 +95,4 @@ calls_keep_purposes K V S same hash name log m known s old new at whole purposes
     own x e st there d d_is =
         let c = purposes.shown.calls of i u here in
         let to = went same hash name log m known s old new at whole purposes of i u here said leads in
-        own_come same hash name log m known s old new at whole purposes of i u here said leads changes none u here reads to.3 to.4.did x e st there c.0 d c.1 d_is
+        own_come same hash name log m known s old new at whole purposes of i u here said leads changes class_first none u here reads to.3 to.4.did x e st there c.0 d c.1 d_is

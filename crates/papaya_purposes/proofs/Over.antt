@@ -10,7 +10,7 @@ use Rattle.papaya_sweeps.specs.declared.sweep.Purpose.TheVariants.{Walks}
 use Rattle.papaya_callers.specs.OverAll.{CallOverAll}
 use Rattle.papaya_callers.specs.Together.{UnderWay, OnKey, ForRoom, Counting, OverAll}
 use Rattle.papaya_finishes.specs.Maps.{Standing}
-use Rattle.papaya_histories.specs.Histories.{since}
+use Rattle.papaya_histories.specs.Histories.{since, IsWithin}
 use Rattle.papaya_histories.proofs.Later.{IsLater}
 use Rattle.papaya_purposes.specs.Kept.{PairsChangeFirst}
 use Rattle.papaya_purposes.specs.Purposes.{PairsWithin, HasAdded, HasMet, KeysOf, HasSwept, HasCome}
@@ -33,16 +33,18 @@ module _ {K V : Type 0} (same : K → K → Bool) (of : ℕ) (st st2 : Standing 
   below_over done below = all_on (λ k. k < st.chart.stored) (λ k. k < st2.chart.stored) (λ k l. (let g = later.stored in omega (arith, l, g))) done below
 
   pub come_over : (u : UnderWay K V K)
-      → ((o : CallOverAll) → u ≡ OverAll o → HasSwept same of st number (since log m c) o c → o.sweep.purpose ≡ Walks → KeysOf same st2 o) → HasCome same of st number log m u c → HasCome same of st2 number2 log v u d
-  come_over (OnKey u) carries h = tt
-  come_over (ForRoom r) carries h =
+      → ((o : CallOverAll) → u ≡ OverAll o → HasSwept same of st number (since log m c) o c → o.sweep.purpose ≡ Walks → KeysOf same st2 o)
+      → ((began : ℕ) → IsWithin same of st number (since log m c) began → IsWithin same of st2 number2 (since log v d) began) → HasCome same of st number log m u c → HasCome same of st2 number2 log v u d
+  come_over (OnKey u) carries on h = tt
+  come_over (ForRoom r) carries on h =
       subst (λ (b : ℕ). HasMet of st2 (moments_from b log) r) (sym still.begun)
       (record { low = h.low; was = h.was; root = (let l = h.root in omega (arith, l, first)); point = h.point })
-  come_over (Counting sum) carries h = subst (λ (b : ℕ). HasAdded of (moments_from b log) sum.setting.mask sum.stands) (sym still.begun) h
-  come_over (OverAll o) carries h = record {
+  come_over (Counting sum) carries on h = subst (λ (b : ℕ). HasAdded of (moments_from b log) sum.setting.mask sum.stands) (sym still.begun) h
+  come_over (OverAll o) carries on h = record {
     within = within_over o.began h.within;
     stored = below_over o.done h.stored;
     tells = tells_kept number number2 st.chart.stored numbers c d still o.done h.stored h.tells;
     none = h.none;
     keys = λ walks. carries o refl h walks;
+    classes = on o.began h.classes;
   }

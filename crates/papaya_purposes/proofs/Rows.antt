@@ -6,7 +6,7 @@ use Rattle.papaya_sweeps.specs.declared.sweep.Purpose.TheVariants.{Walks}
 use Rattle.papaya_runs.specs.Same.{is_same}
 use Rattle.papaya_schedules.specs.Entry.{Entry}
 use Rattle.papaya_schedules.specs.Moment.{MapThere, UnderWay as CallThere, Moment}
-use Rattle.papaya_schedules.specs.Views.{call_of, is_in_map}
+use Rattle.papaya_schedules.specs.Views.{call_of, is_in_map, finite_map}
 use Rattle.papaya_rule.specs.Chart.{Chart}
 use Rattle.papaya_callers.specs.OverAll.{CallOverAll}
 use Rattle.papaya_callers.specs.Together.{UnderWay, OverAll}
@@ -20,7 +20,11 @@ use Rattle.papaya_others.proofs.Rows.{rows_on_slots_are_shown}
 use Rattle.papaya_moments.proofs.Beside.{IsBeside, StoodSo, StandsNew}
 use Rattle.papaya_moments.proofs.OnSlots.{row_beside, rows_begin_beside}
 use Rattle.papaya_follows.proofs.Steps.{one_of}
-use Rattle.papaya_histories.specs.Histories.{since}
+use Rattle.papaya_histories.specs.Had.{HadThen}
+use Rattle.papaya_histories.specs.Histories.{since, IsWithin}
+use Rattle.papaya_histories.proofs.Had.{had_on, had_one}
+use Rattle.papaya_histories.proofs.Now.{now_had}
+use Rattle.papaya_histories.proofs.Within.{within_on}
 use Rattle.papaya_histories.proofs.Later.{IsLater, same_later}
 use Rattle.papaya_purposes.specs.Purposes.{KeysOf, HasSwept, HasCome, ShowsPurposes}
 use Rattle.papaya_purposes.specs.Rows.{RowsBeginPurposes, RowsKeepPurposes}
@@ -63,7 +67,7 @@ module _ {K V S : Type 0} (same : K → K → Bool) (hash : K → ℕ) (name : �
     stood_come =
         come_over same n before st (purposes.shown.number n) (after.shows.number n) later first numbers log m m2 c c (same_still c) (purposes.begun n j x (was_here n j x is) c (was_called j c found))
         (λ q. inl (same_pairs q)) (now_stored same hash name m2 known2 s2 new at2 after.shows n st there) (now_there same hash name m2 known2 s2 new at2 after.shows n st there)
-        (absent same hash name m known s old at purposes.shown n before stood.1 (after.shows.number n) st.chart.stored (after.shows.maps n st there).pairs.rising numbers) x keys
+        (absent same hash name m known s old at purposes.shown n before stood.1 (after.shows.number n) st.chart.stored (after.shows.maps n st there).pairs.rising numbers) x keys classes
         (purposes.come n j x (was_here n j x is) before stood.1 c (was_called j c found))
       where
         same_modes : st.setting.mode ≡ before.setting.mode
@@ -75,6 +79,25 @@ module _ {K V S : Type 0} (same : K → K → Bool) (hash : K → ℕ) (name : �
 
         how : StandsMoved same 0 before st
         how = record { hash = at2.hashes n st there ∙ sym (at.hashes n before stood.1); mode = ap is_incremental same_modes; moved = inl stood.2 }
+
+        -- its finite map is the same
+        now_then : (k : K) → HadThen same st (after.shows.number n) st.chart.now k (finite_map same n m2 k)
+        now_then k =
+            now_had same n (after.shows.number n) st m2 known2 s2.world (s2.calls n) (at2.together.makings.standing.fit n st there).0 (at2.together.makings.standing.each n st there)
+            (after.shows.maps n st there).pairs after.shows.blocks k
+
+        same_then : (k : K) → finite_map same n m2 k ≡ finite_map same n m k
+        same_then k =
+            had_one same st (after.shows.number n) st.chart.now k (finite_map same n m2 k) (finite_map same n m k) (now_then k)
+            (subst (λ (t : ℕ). HadThen same st (after.shows.number n) t k (finite_map same n m k)) (sym (ap (λ (c : Chart K). c.now) stood.2))
+            (had_on same before st (purposes.shown.number n) (after.shows.number n) later numbers before.chart.now (omega arith) k (finite_map same n m k)
+            (now_had same n (purposes.shown.number n) before m known s.world (s.calls n) (at.together.makings.standing.fit n before stood.1).0 (at.together.makings.standing.each n before stood.1)
+            (purposes.shown.maps n before stood.1).pairs purposes.shown.blocks k)))
+
+        classes : (began : ℕ) → IsWithin same n before (purposes.shown.number n) (since log m c) began → IsWithin same n st (after.shows.number n) (since log m2 c) began
+        classes began =
+            within_on same n before st (purposes.shown.number n) (after.shows.number n) later numbers log m m2 c.begun (purposes.begun n j x (was_here n j x is) c (was_called j c found))
+            (λ k. inl (same_then k)) now_then began
 
         keys : (o : CallOverAll) → x ≡ OverAll o → HasSwept same n before (purposes.shown.number n) (since log m c) o c → o.sweep.purpose ≡ Walks → KeysOf same st o
         keys o o_is h walks =

@@ -43,7 +43,7 @@ use Rattle.papaya_finishes.specs.Machines.{machine_of}
 use Rattle.papaya_finishes.specs.Maps.{Standing}
 use Rattle.papaya_follows.proofs.Contents.{Lasts}
 use Rattle.papaya_histories.specs.Had.{Had, HadJust, HadThen}
-use Rattle.papaya_histories.specs.Histories.{began_of, since, IsWithin}
+use Rattle.papaya_histories.specs.Histories.{since}
 use Rattle.papaya_histories.proofs.Found.{is_its, FoundIn, found}
 use Rattle.papaya_histories.proofs.Logs.{last_there}
 use Rattle.papaya_histories.proofs.Now.{both_true}
@@ -122,7 +122,7 @@ module _ {K V S : Type 0} (same : K → K → Bool) (hash : K → ℕ) (name : �
   abbrev moments : List (Moment K V)
   moments = moments_from c.begun log
 
-  module _ (o : CallOverAll) (o_is : s.calls of i ≡ Some (OverAll o)) (walks : o.sweep.purpose ≡ Walks) (within : IsWithin same of st number (m ∷ moments) o.began)
+  module _ (o : CallOverAll) (o_is : s.calls of i ≡ Some (OverAll o)) (walks : o.sweep.purpose ≡ Walks)
       (steps : StepsFrom same hash (machine_of (OverAll o)) old new (went same hash name log m known s old new at whole purposes of i u here said leads).1 said)
       (did : Did same hash name log m known s old new at whole purposes of i u here said leads (OverAll o)) (worked_is : (e : Entry K V) × (worked e (moment log) ≡ v)) where
     its : HasSwept same of st number (since log m c) o c
@@ -164,7 +164,7 @@ module _ {K V S : Type 0} (same : K → K → Bool) (hash : K → ℕ) (name : �
 
     -- a key that had a pair at each moment, the map had all the time
     had_always : (k : K) → HasBeen same k of moments → HadAlways same (spot_of st.hash) (is_incremental st.setting.mode) st.chart o.began k
-    had_always k been time from to = by (within time from to k)
+    had_always k been time from to = by (its.classes time from to k)
       where
         last : is_some (finite_map same of (moment log) k) ≡ true
         last =
@@ -188,7 +188,7 @@ module _ {K V S : Type 0} (same : K → K → Bool) (hash : K → ℕ) (name : �
 
     -- and is stored with its key
     stored_as : (p : ℕ) → 0 < times p o.done → (k : K) → st.chart.key p ≡ Some k → (pair : K × V) × (pair_at v.stored (number p) ≡ Some pair) × (same pair.0 k ≡ true)
-    stored_as p l k key_is = by (within was.0 was.1 was.2 k)
+    stored_as p l k key_is = by (its.classes was.0 was.1 was.2 k)
       where
         was : WasSince st.chart o.began p
         was = was_there p l
@@ -236,22 +236,22 @@ module _ {K V S : Type 0} (same : K → K → Bool) (hash : K → ℕ) (name : �
         ap (with_key same k v.stored) shown ∙ shows_each k been_here
 
   -- whichever call it is
-  pub all_shown : (y : UnderWay K V K) → s.calls of i ≡ Some y → IsFor y call.Walk → ((began : ℕ) → began_of y ≡ Some began → IsWithin same of st number (m ∷ moments) began)
+  pub all_shown : (y : UnderWay K V K) → s.calls of i ≡ Some y → IsFor y call.Walk
       → StepsFrom same hash (machine_of y) old new (went same hash name log m known s old new at whole purposes of i u here said leads).1 said
       → Did same hash name log m known s old new at whole purposes of i u here said leads y → (e : Entry K V) × (worked e (moment log) ≡ v)
       → ShowsAll same (then_call same hash name log m known s old new at whole purposes of i u here said leads c c_is)
       (moments_from (then_call same hash name log m known s old new at whole purposes of i u here said leads c c_is).begun log) v
-  all_shown (OnKey z) y_is is within steps did worked_is = absurd is
-  all_shown (ForRoom r) y_is is within steps did worked_is = absurd is
-  all_shown (Counting sum) y_is is within steps did worked_is = absurd is
-  all_shown (OverAll o) y_is is within steps did worked_is = shows_all o y_is is (within o.began refl) steps did worked_is
+  all_shown (OnKey z) y_is is steps did worked_is = absurd is
+  all_shown (ForRoom r) y_is is steps did worked_is = absurd is
+  all_shown (Counting sum) y_is is steps did worked_is = absurd is
+  all_shown (OverAll o) y_is is steps did worked_is = shows_all o y_is is steps did worked_is
 
 pub walks_show_all : (K V S : Type 0) (same : K → K → Bool) (hash : K → ℕ) → WalksShowAll K V S same hash
-walks_show_all K V S same hash name log m known s old new at whole purposes of i u here leads c c_is is_walk within loses terms e caller worked_is outcome =
+walks_show_all K V S same hash name log m known s old new at whole purposes of i u here leads c c_is is_walk loses terms e caller worked_is outcome =
     let to = went same hash name log m known s old new at whole purposes of i u here (progress.Done answers.Swept) leads in
     let stays = still same hash name log m known s old new at whole purposes of i u here (progress.Done answers.Swept) leads c c_is in
     swept_by same terms log e (name i) (v2 same hash name log m known s old new at whole purposes of i u here (progress.Done answers.Swept) leads)
     (then_call same hash name log m known s old new at whole purposes of i u here (progress.Done answers.Swept) leads c c_is) caller worked_is
     (then_is same hash name log m known s old new at whole purposes of i u here (progress.Done answers.Swept) leads c c_is) call.Walk (stays.call ∙ is_walk) (Answered Absent) outcome
     (all_shown same hash name log m known s old new at whole purposes of i u here leads c c_is is_walk loses u here
-    (subst (λ (x : Call K V). IsFor u x) is_walk (purposes.is_for of i u here c c_is)) (within to.0 to.2) to.3 to.4.did (e, worked_is))
+    (subst (λ (x : Call K V). IsFor u x) is_walk (purposes.is_for of i u here c c_is)) to.3 to.4.did (e, worked_is))

@@ -1,5 +1,5 @@
 -- A step of a call, whoever's: what calls on whole maps have come to then.
-use Rattle.std.specs.Prelude.{◌≡◌, ◌≢◌, ℕ, ◌<◌, ◌≤◌, Bool, List, [], length, Option, Some, ◌⊎◌}
+use Rattle.std.specs.Prelude.{◌≡◌, ◌≢◌, ℕ, ◌<◌, ◌≤◌, Bool, List, [], ◌∷◌, length, Option, Some, ◌⊎◌}
 use Rattle.std.specs.List.{AllByRecursion}
 use Rattle.std.proofs.Common.{refl, ap, sym, subst, ◌∙◌, arith, inl, inr}
 use Rattle.std.proofs.lemmas.Bool.{cases_eq}
@@ -17,7 +17,7 @@ use Rattle.papaya_schedules.specs.declared.call.Call.{Call}
 use Rattle.papaya_schedules.specs.After.{moment, moments_from}
 use Rattle.papaya_schedules.specs.Entry.{Entry}
 use Rattle.papaya_schedules.specs.Moment.{UnderWay as CallThere, Moment}
-use Rattle.papaya_schedules.specs.Views.{call_of, is_in_map}
+use Rattle.papaya_schedules.specs.Views.{call_of, is_in_map, finite_map}
 use Rattle.papaya_rule.specs.Chart.{Chart}
 use Rattle.papaya_rule.specs.Maps.{spot_of}
 use Rattle.papaya_callers.specs.OverAll.{CallOverAll, come_to, gone_on}
@@ -38,9 +38,11 @@ use Rattle.papaya_follows.proofs.Called.{key_goes_on, room_goes_on, sweep_goes_o
 use Rattle.papaya_follows.proofs.Steps.{WentTo, DidSo, LeadsThere, one_of}
 use Rattle.papaya_moments.specs.Whole.{ShowsWhole}
 use Rattle.papaya_moments.proofs.OnSlots.{stood_same}
-use Rattle.papaya_histories.specs.Histories.{since}
+use Rattle.papaya_histories.specs.Histories.{since, IsWithin}
+use Rattle.papaya_histories.specs.Kept.{ChangesFirst}
 use Rattle.papaya_histories.proofs.Later.{IsLater}
-use Rattle.papaya_histories.proofs.Steps.{to, led_on, v, after, s2, maps_later}
+use Rattle.papaya_histories.proofs.Steps.{to, led_on, v, after, s2, maps_later, now_then, same_elsewhere}
+use Rattle.papaya_histories.proofs.Within.{within_on}
 use Rattle.papaya_histories.proofs.Walks.{HasPurpose, purpose_kept}
 use Rattle.papaya_purposes.specs.Keys.{KeysAt, AreKeyed}
 use Rattle.papaya_purposes.specs.Kept.{ShowsNone, PairsChangeFirst}
@@ -117,6 +119,13 @@ module _ {K V S : Type 0} (same : K → K → Bool) (hash : K → ℕ) (name : �
       | inr ne ↦ inl (elsewhere n ne st there q)
     ]
 
+    class_changes : ChangesFirst log m same of v2 → (n : ℕ) (st : Standing K) → scene2.maps n ≡ Some st → ChangesFirst log m same n v2
+    class_changes first n st there k =
+        elim (cases_eq n of) as (λ _. (finite_map same n v2 k ≡ finite_map same n m k) ⊎ (finite_map same n m k ≡ finite_map same n (moment log) k)) [
+          | inl e ↦ subst (λ (z : ℕ). (finite_map same z v2 k ≡ finite_map same z m k) ⊎ (finite_map same z m k ≡ finite_map same z (moment log) k)) (sym e) (first k)
+          | inr ne ↦ inl (same_elsewhere same hash name m known s old new at whole shown of i u here said leads n ne st there k)
+        ]
+
     -- what lasts of a call lasts so
     module _ (n j : ℕ) (y : UnderWay K V K) (y_is : s.calls n j ≡ Some y) (st : Standing K) (there : scene2.maps n ≡ Some st) (c d : CallThere K V) (c_is : call_of (name j) m ≡ Some c)
         (d_is : call_of (name j) v2 ≡ Some d) where
@@ -134,14 +143,21 @@ module _ {K V S : Type 0} (same : K → K → Bool) (hash : K → ℕ) (name : �
           (absent same hash name m known s old at shown n before_st (before_then n st there).1 (on.shows.number n) st.chart.stored (on.shows.maps n st there).pairs.rising
           (on.numbers n before_st (before_then n st there).1))
 
+      -- class by class, too
+      pub classes_then : ChangesFirst log m same of v2 → (began : ℕ) → IsWithin same n before_st (shown.number n) (since log m c) began → IsWithin same n st (on.shows.number n) (since log v2 d) began
+      classes_then changes began within =
+          subst (λ (b : ℕ). IsWithin same n st (on.shows.number n) (v2 ∷ moments_from b log) began) (sym (same_call j c d c_is d_is).begun)
+          (within_on same n before_st st (shown.number n) (on.shows.number n) (before_then n st there).2 (on.numbers n before_st (before_then n st there).1) log m v2 c.begun
+          (purposes.begun n j y y_is c c_is) (class_changes changes n st there) (now_then same hash name m known s old new at whole shown of i u here said leads n st there) began within)
+
       -- of a call that is another one's
-      pub kept_come : HasCome same n st (on.shows.number n) log v2 y d
-      kept_come =
+      pub kept_come : ChangesFirst log m same of v2 → HasCome same n st (on.shows.number n) log v2 y d
+      kept_come class_first =
           come_over same n before_st st (shown.number n) (on.shows.number n) (before_then n st there).2 (first_then n st there) (on.numbers n before_st (before_then n st there).1) log m v2 c d
           (same_call j c d c_is d_is) (purposes.begun n j y y_is c c_is) (changes_then n st there) (now_stored same hash name v2 known2 scene2 new went.5 on.shows n st there)
           (now_there same hash name v2 known2 scene2 new went.5 on.shows n st there)
           (absent same hash name m known s old at shown n before_st (before_then n st there).1 (on.shows.number n) st.chart.stored (on.shows.maps n st there).pairs.rising
-          (on.numbers n before_st (before_then n st there).1)) y keys_other had_come
+          (on.numbers n before_st (before_then n st there).1)) y keys_other (classes_then class_first) had_come
         where
           keys_other : (o : CallOverAll) → y ≡ OverAll o → HasSwept same n before_st (shown.number n) (since log m c) o c → o.sweep.purpose ≡ Walks → KeysOf same st o
           keys_other o is h walks =
@@ -166,9 +182,9 @@ module _ {K V S : Type 0} (same : K → K → Bool) (hash : K → ℕ) (name : �
           all_on (λ k. k < its_before.chart.stored) (λ k. k < st.chart.stored) (λ k l. (let g = (before_then of st there).2.stored in omega (arith, l, g))) done below
 
       -- that has done what it had done, or nothing, where it does not go over a table yet
-      sweep_come : (x : CallOverAll) → x.began ≡ o.began → Comes o x.done (shown.number of) c → (x.sweep.purpose ≡ Walks → IsBefore x.sweep.stands → x.done ≡ [])
+      sweep_come : ChangesFirst log m same of v2 → (x : CallOverAll) → x.began ≡ o.began → Comes o x.done (shown.number of) c → (x.sweep.purpose ≡ Walks → IsBefore x.sweep.stands → x.done ≡ [])
           → (x.sweep.purpose ≡ Walks → KeysOf same st x) → HasSwept same of st (on.shows.number of) (since log v2 d) x d
-      sweep_come x began comes none keys =
+      sweep_come class_first x began comes none keys =
           let below = next_below o x.done (shown.number of) c its_before.chart.stored comes had.stored in
           record {
             within = subst (PairsWithin of st (on.shows.number of) (since log v2 d)) (sym began) own_within;
@@ -177,6 +193,8 @@ module _ {K V S : Type 0} (same : K → K → Bool) (hash : K → ℕ) (name : �
                 (next_tells o x.done (shown.number of) c c.call (purposes.is_for of i (OverAll o) o_is c c_is) had.none comes had.tells);
             none = none;
             keys = keys;
+            classes = subst (IsWithin same of st (on.shows.number of) (since log v2 d)) (sym began)
+                (classes_then of i (OverAll o) o_is st there c d c_is d_is class_first o.began had.classes);
           }
 
       same_purpose : StepsFrom same hash (machine_of (OverAll o)) old new went.1 said → (x : CallOverAll) → went.1 ≡ machine_of (OverAll x) → x.sweep.purpose ≡ o.sweep.purpose
@@ -223,9 +241,9 @@ module _ {K V S : Type 0} (same : K → K → Bool) (hash : K → ℕ) (name : �
           by (inl b) (inr kept) = kept ∙ had.none (sym purpose ∙ walks) b
           by (inr over) so = absurd (goes_over over before)
 
-      pub own_sweep : ShowsNone said → StepsFrom same hash (machine_of (OverAll o)) old new went.1 said → (x : CallOverAll) → went.1 ≡ machine_of (OverAll x) → x.began ≡ o.began
+      pub own_sweep : ChangesFirst log m same of v2 → ShowsNone said → StepsFrom same hash (machine_of (OverAll o)) old new went.1 said → (x : CallOverAll) → went.1 ≡ machine_of (OverAll x) → x.began ≡ o.began
           → Comes o x.done (shown.number of) c → HasSwept same of st (on.shows.number of) (since log v2 d) x d
-      own_sweep none steps x is began comes = sweep_come x began comes (none_on steps x is comes) (keys_on none steps x is began comes)
+      own_sweep class_first none steps x is began comes = sweep_come class_first x began comes (none_on steps x is comes) (keys_on none steps x is began comes)
 
     -- a reservation, the caller's own
     module _ (r : CallForRoom) (r_is : s.calls of i ≡ Some (ForRoom r)) (reads : ReadsShards log m s of (ForRoom r)) (steps : StepsFrom same hash (machine_of (ForRoom r)) old new went.1 said)
@@ -273,36 +291,36 @@ module _ {K V S : Type 0} (same : K → K → Bool) (hash : K → ℕ) (name : �
           subst (λ (b : ℕ). HasMet of st (moments_from b log) r2) (sym (same_call i c d c_is d_is).begun) (record { low = met.low; was = met.was; root = root; point = point p2.stands refl led })
 
     -- the caller's own
-    pub own_come : ShowsNone said → (y : UnderWay K V K) → s.calls of i ≡ Some y → ReadsShards log m s of y → StepsFrom same hash (machine_of y) old new went.1 said → Did y
+    pub own_come : ChangesFirst log m same of v2 → ShowsNone said → (y : UnderWay K V K) → s.calls of i ≡ Some y → ReadsShards log m s of y → StepsFrom same hash (machine_of y) old new went.1 said → Did y
         → (x : UnderWay K V K) → went.4.next ≡ Some x → (st : Standing K) → scene2.maps of ≡ Some st → (c d : CallThere K V) → call_of (name i) m ≡ Some c → call_of (name i) v2 ≡ Some d
         → HasCome same of st (on.shows.number of) log v2 x d
-    own_come none (OnKey z) y_is its steps (p2, end, machine_is, told_is, inl (step, moved)) x e st there c d c_is d_is =
+    own_come class_first none (OnKey z) y_is its steps (p2, end, machine_is, told_is, inl (step, moved)) x e st there c d c_is d_is =
         subst (λ (y : UnderWay K V K). HasCome same of st (on.shows.number of) log v2 y d) (sym (key_goes_on _ end x (sym moved.2 ∙ e))) tt
-    own_come none (OnKey z) y_is its steps (p2, end, machine_is, told_is, inr (row, stayed)) x e st there c d c_is d_is =
+    own_come class_first none (OnKey z) y_is its steps (p2, end, machine_is, told_is, inr (row, stayed)) x e st there c d c_is d_is =
         subst (λ (y : UnderWay K V K). HasCome same of st (on.shows.number of) log v2 y d) (sym (key_goes_on _ end x (sym stayed.2 ∙ e))) tt
-    own_come none (ForRoom r) y_is its steps (p2, end, machine_is, told_is, inl (step, moved)) x e st there c d c_is d_is =
+    own_come class_first none (ForRoom r) y_is its steps (p2, end, machine_is, told_is, inl (step, moved)) x e st there c d c_is d_is =
         subst (λ (y : UnderWay K V K). HasCome same of st (on.shows.number of) log v2 y d) (sym (room_goes_on _ end x (sym moved.2 ∙ e)))
         (own_room r y_is its steps p2 machine_is (e ∙ ap Some (room_goes_on _ end x (sym moved.2 ∙ e))) st there c d c_is d_is)
-    own_come none (ForRoom r) y_is its steps (p2, end, machine_is, told_is, inr (row, stayed)) x e st there c d c_is d_is =
+    own_come class_first none (ForRoom r) y_is its steps (p2, end, machine_is, told_is, inr (row, stayed)) x e st there c d c_is d_is =
         subst (λ (y : UnderWay K V K). HasCome same of st (on.shows.number of) log v2 y d) (sym (room_goes_on _ end x (sym stayed.2 ∙ e)))
         (own_room r y_is its steps p2 machine_is (e ∙ ap Some (room_goes_on _ end x (sym stayed.2 ∙ e))) st there c d c_is d_is)
-    own_come none (Counting sum) y_is its steps (sum2, end, machine_is, told_is, still, stayed) x e st there c d c_is d_is =
+    own_come class_first none (Counting sum) y_is its steps (sum2, end, machine_is, told_is, still, stayed) x e st there c d c_is d_is =
         let before = before_then of st there in
         subst (λ (y : UnderWay K V K). HasCome same of st (on.shows.number of) log v2 y d) (sym (counting_goes_on sum2 end x (sym stayed.2 ∙ e)))
         (subst (λ (b : ℕ). HasAdded of (moments_from b log) sum2.setting.mask sum2.stands) (sym (same_call i c d c_is d_is).begun)
         (counts_on same hash log m s old new at of i sum y_is went.0 went.2 c (purposes.begun of i (Counting sum) y_is c c_is) (its tt).0 (its tt).1
         (purposes.come of i (Counting sum) y_is before.0 before.1 c c_is) went.1 said steps went.4.next went.4.goes_on x e sum2 machine_is))
-    own_come none (OverAll o) y_is its steps (p2, end, machine_is, told_is, inl (step, moved)) x e st there c d c_is d_is =
+    own_come class_first none (OverAll o) y_is its steps (p2, end, machine_is, told_is, inl (step, moved)) x e st there c d c_is d_is =
         subst (λ (y : UnderWay K V K). HasCome same of st (on.shows.number of) log v2 y d) (sym (sweep_goes_on _ end x (sym moved.2 ∙ e)))
-        (own_sweep o y_is st there c d c_is d_is none steps (come_to o step.step.entered2 step.step.done2 p2) machine_is refl
+        (own_sweep o y_is st there c d c_is d_is class_first none steps (come_to o step.step.entered2 step.step.done2 p2) machine_is refl
         (by (done_is went.0.hash step.step.went.c2 step.step.went.blocks2 o.done step.step.done2 o.entered step.step.entered2 end (subst ShowsNone told_is none) o.sweep.stands step.step.done)))
       where
         by : (IsBefore o.sweep.stands × (step.step.done2 ≡ [])) ⊎ ((step.step.entered2 ≡ o.entered) × (step.step.done2 ≡ o.done)) → Comes o step.step.done2 (shown.number of) c
         by (inl at_first) = inl at_first
         by (inr kept) = inr kept.1
-    own_come none (OverAll o) y_is its steps (p2, end, machine_is, told_is, inr (row, stayed)) x e st there c d c_is d_is =
+    own_come class_first none (OverAll o) y_is its steps (p2, end, machine_is, told_is, inr (row, stayed)) x e st there c d c_is d_is =
         subst (λ (y : UnderWay K V K). HasCome same of st (on.shows.number of) log v2 y d) (sym (sweep_goes_on _ end x (sym stayed.2 ∙ e)))
-        (own_sweep o y_is st there c d c_is d_is none steps (gone_on o p2) machine_is refl (inr refl))
+        (own_sweep o y_is st there c d c_is d_is class_first none steps (gone_on o p2) machine_is refl (inr refl))
 
   -- and it is for what it was for
   pub own_for : (its : Call K V) (y : UnderWay K V K) → IsFor y its → StepsFrom same hash (machine_of y) old new went.1 said → Did y → (x : UnderWay K V K) → went.4.next ≡ Some x → IsFor x its

@@ -45,7 +45,7 @@ use Rattle.papaya_hands.specs.Asked.{as_told}
 use Rattle.papaya_hands.proofs.Asking.{which}
 use Rattle.papaya_hands.proofs.Calling.{caller_is}
 use Rattle.papaya_histories.specs.Answers.{NamesPair as NamesNumber}
-use Rattle.papaya_histories.specs.Histories.{since}
+use Rattle.papaya_histories.specs.Histories.{since, IsWithin}
 use Rattle.papaya_histories.proofs.Roles.{named_by}
 use Rattle.papaya_moments.specs.Whole.{ShowsWhole}
 use Rattle.papaya_purposes.specs.Kept.{AsksAboutIt, CallsTakePurposes}
@@ -53,7 +53,7 @@ use Rattle.papaya_purposes.specs.Purposes.{IsFor, PairsWithin, HasAdded, HasMet,
 use Rattle.papaya_purposes.proofs.For.{key_is_for, sweep_for}
 use Rattle.papaya_purposes.proofs.Lists.{all_on, all_both, yes_now, yes_still}
 use Rattle.papaya_purposes.proofs.Shown.{same_still}
-use Rattle.papaya_purposes.proofs.Still.{within_still, come_still}
+use Rattle.papaya_purposes.proofs.Still.{within_still, classes_still, come_still}
 
 -- a pair that is not among them is none of them
 apart_step : (p x : ℕ) (xs : List ℕ) → times p (x ∷ xs) ≡ 0 → (x ≢ p) × (times p xs ≡ 0)
@@ -145,7 +145,7 @@ module _ {K V S : Type 0} (same : K → K → Bool) (hash : K → ℕ) (name : �
       (all_both (λ n. n < st.chart.stored) (λ n. n ≢ fresh.0) o.done below (all_apart fresh.0 o.done fresh.3))
 
   -- once it is told about that pair
-  module _ (c d : CallThere K V) (told_so : Reply V) (m2 : Moment K V) (place : m2.place ≡ m.place) (same_call : d.call ≡ c.call) (begun : d.begun ≡ c.begun)
+  module _ (c d : CallThere K V) (told_so : Reply V) (m2 : Moment K V) (place : m2.place ≡ m.place) (stored : m2.stored ≡ m.stored) (same_call : d.call ≡ c.call) (begun : d.begun ≡ c.begun)
       (replies : d.replies ≡ (Some q, told_so) ∷ c.replies) (is_for : IsFor (OverAll o) c.call) (had : HasSwept same of st number (since log m c) o c) where
     -- it has done that, by yes, or no more
     abbrev pub Does : List ℕ → Type 0
@@ -183,11 +183,12 @@ module _ {K V S : Type 0} (same : K → K → Bool) (hash : K → ℕ) (name : �
 
     pub told_come : (x : CallOverAll) → x.began ≡ o.began → x.sweep.purpose ≡ o.sweep.purpose → Does x.done → HasSwept same of st number (since log m2 d) x d
     told_come x began purpose does = record {
-      within = subst (PairsWithin of st number (since log m2 d)) (sym began) (within_still same of st number log m m2 place c d begun o.began had.within);
+      within = subst (PairsWithin of st number (since log m2 d)) (sym began) (within_still same of st number log m m2 place stored c d begun o.began had.within);
       stored = below_done x.done does;
       tells = subst (λ (y : Call K V). TellsDone y number x.done d) (sym same_call) (tells c.call is_for had.tells x.done does);
       none = λ walks first. absurd (let r = retains in cc (walks, purpose, r));
       keys = λ walks. absurd (let r = retains in cc (walks, purpose, r));
+      classes = subst (IsWithin same of st number (since log m2 d)) (sym began) (classes_still same of st number log m m2 place stored c d begun o.began had.classes);
     }
 
 module _ {K V S : Type 0} (same : K → K → Bool) (hash : K → ℕ) (name : ℕ → List ℕ) (log : List (Entry K V)) (m : Moment K V) (known : Known) (s : Scene K V) (e : Executor K V S)
@@ -254,7 +255,7 @@ module _ {K V S : Type 0} (same : K → K → Bool) (hash : K → ℕ) (name : �
 
       come_by : (x : CallOverAll) → x.began ≡ o.began → x.sweep.purpose ≡ o.sweep.purpose → DoesNow x.done → HasSwept same of st (purposes.shown.number of) (since log v d) x d
       come_by x began purpose does =
-          told_come same hash name log m known s e at purposes.shown of i o o_is st there asks.0 asks.1 asked.0 asked.2 c d is_told v refl (ap (λ (f : CallThere K V). f.call) d_is)
+          told_come same hash name log m known s e at purposes.shown of i o o_is st there asks.0 asks.1 asked.0 asked.2 c d is_told v refl refl (ap (λ (f : CallThere K V). f.call) d_is)
           (ap (λ (f : CallThere K V). f.begun) d_is)
           (ap (λ (f : CallThere K V). f.replies) d_is ∙ ap (λ (a : Option ℕ). (a, is_told) ∷ c.replies) asked.1) (purposes.is_for of i (OverAll o) o_is c c_is) had x began purpose does
 
@@ -312,7 +313,7 @@ module _ {K V S : Type 0} (same : K → K → Bool) (hash : K → ℕ) (name : �
   come_one n j x z z_is d d_is (inr was) =
       let f = purposes.shown.calls n j x was.1 in
       subst (λ (y : CallThere K V). HasCome same n z (purposes.shown.number n) log v x y) (sym (other_same n j x was.0 was.1 f.0 d f.1 d_is))
-      (come_still same n z (purposes.shown.number n) log m v refl f.0 f.0 (same_still f.0) x (purposes.come n j x was.1 z z_is f.0 f.1))
+      (come_still same n z (purposes.shown.number n) log m v refl refl f.0 f.0 (same_still f.0) x (purposes.come n j x was.1 z z_is f.0 f.1))
 
   pub told_purposes : ShowsPurposes same name log v known (scene_with of i next s)
   told_purposes = record {

@@ -52,6 +52,7 @@ use Rattle.papaya_follows.proofs.Steps.{one_of}
 use Rattle.papaya_hands.proofs.Calling.{caller_is}
 use Rattle.papaya_histories.specs.Answers.{NamesPair}
 use Rattle.papaya_histories.specs.Histories.{since}
+use Rattle.papaya_histories.specs.Kept.{ChangesFirst}
 use Rattle.papaya_histories.proofs.Later.{IsLater}
 use Rattle.papaya_moments.specs.Whole.{ShowsWhole}
 use Rattle.papaya_purposes.specs.Keys.{KeysAt, AreKeyed}
@@ -64,8 +65,8 @@ use Rattle.papaya_purposes.proofs.KeysOn.{StandsLow}
 use Rattle.papaya_purposes.proofs.Pairs.{pair_swept}
 use Rattle.papaya_purposes.proofs.Named.{number_told, stands_then, stands_is}
 use Rattle.papaya_purposes.proofs.Shown.{IsStill, same_still}
-use Rattle.papaya_purposes.proofs.Steps.{went, on, known2, Did, same_call, before_then, its_before, had, own_within, below_then}
-use Rattle.papaya_purposes.proofs.Still.{within_still, come_still}
+use Rattle.papaya_purposes.proofs.Steps.{went, on, known2, Did, same_call, before_then, its_before, had, own_within, below_then, classes_then}
+use Rattle.papaya_purposes.proofs.Still.{within_still, classes_still, come_still}
 
 module _ {K : Type 0} (hash : K → ℕ) (c : Chart K) (blocks : Blocks) (done done2 : List ℕ) (entered entered2 word : ℕ) where
   -- one that shows a pair has read its word at a place of its table, and has done one pair more
@@ -98,7 +99,8 @@ none_room word (outcome.Refused fault) e = cc e
 module _ {K V S : Type 0} (same : K → K → Bool) (hash : K → ℕ) (name : ℕ → List ℕ) (log : List (Entry K V)) (m : Moment K V) (known : Known) (s : Scene K V) (old new : Executor K V S)
     (at : IsAt same hash old s) (whole : ShowsWhole same name m known s) (purposes : ShowsPurposes same name log m known s) (of i : ℕ) (u : UnderWay K V K) (here : s.calls of i ≡ Some u)
     (word : ℕ) (leads : StepLeads same hash i (progress.Pair word) s old new)
-    (changes : PairsChangeFirst log m of (v same hash name log m known s old new at whole purposes of i u here (progress.Pair word) leads)) (q steps : ℕ)
+    (changes : PairsChangeFirst log m of (v same hash name log m known s old new at whole purposes of i u here (progress.Pair word) leads))
+    (class_first : ChangesFirst log m same of (v same hash name log m known s old new at whole purposes of i u here (progress.Pair word) leads)) (q steps : ℕ)
     (names : NamesPair (known2 same hash name log m known s old new at whole purposes of i u here (progress.Pair word) leads) word q) where
   abbrev then_there : Scene K V
   then_there = then_at same hash name log m known s old new at whole purposes of i u here (progress.Pair word) leads
@@ -173,7 +175,7 @@ module _ {K V S : Type 0} (same : K → K → Bool) (hash : K → ℕ) (name : �
 
     pub own_shows : HasSwept same of st (numbers2 of) (since log v3 (come (ShowsOne q) steps d)) (came_to o entered2 done2 p2) (come (ShowsOne q) steps d)
     own_shows = record {
-      within = within_still same of st (numbers2 of) log v1 v3 refl d (come (ShowsOne q) steps d) refl o.began
+      within = within_still same of st (numbers2 of) log v1 v3 refl refl d (come (ShowsOne q) steps d) refl o.began
           (own_within same hash name log m known s old new at whole purposes of i u here (progress.Pair word) leads changes o o_is st there c d c_is d_is);
       stored = subst (AllByRecursion (λ k. k < st.chart.stored)) (sym done_is)
           (below, below_then same hash name log m known s old new at whole purposes of i u here (progress.Pair word) leads changes o o_is st there c d c_is d_is o.done before.stored);
@@ -181,6 +183,8 @@ module _ {K V S : Type 0} (same : K → K → Bool) (hash : K → ℕ) (name : �
           (tells c.call (purposes.is_for of i (OverAll o) o_is c c_is) before.tells);
       none = λ is at_first. absurd (subst IsBefore ready at_first);
       keys = λ is. keys;
+      classes = classes_still same of st (numbers2 of) log v1 v3 refl refl d (come (ShowsOne q) steps d) refl o.began
+          (classes_then same hash name log m known s old new at whole purposes of i u here (progress.Pair word) leads changes of i (OverAll o) o_is st there c d c_is d_is class_first o.began before.classes);
     }
 
   abbrev DidIt : UnderWay K V K → Type 0
@@ -293,8 +297,8 @@ module _ {K V S : Type 0} (same : K → K → Bool) (hash : K → ℕ) (name : �
   come_then n j x is st there e e_is (inr other) =
       let d = was_called n j x is e e_is in
       subst (λ (f : CallThere K V). HasCome same n st (numbers2 n) log v3 x f) (sym (other_same n j x other.0 other.1 d.0 e d.1 d.2))
-      (come_still same n st (numbers2 n) log v1 v3 refl d.0 d.0 (same_still d.0) x
-      (other_come same hash name log m known s old new at whole purposes of i u here (progress.Pair word) leads changes n j x other.1 st there d.0 d.1))
+      (come_still same n st (numbers2 n) log v1 v3 refl refl d.0 d.0 (same_still d.0) x
+      (other_come same hash name log m known s old new at whole purposes of i u here (progress.Pair word) leads changes class_first n j x other.1 st there d.0 d.1))
 
   pub shows_purposes : ShowsPurposes same name log v3 known_then then_there
   shows_purposes = record {
@@ -311,5 +315,5 @@ module _ {K V S : Type 0} (same : K → K → Bool) (hash : K → ℕ) (name : �
   }
 
 pub walks_show_purposes : (K V S : Type 0) (same : K → K → Bool) (hash : K → ℕ) → WalksShowPurposes K V S same hash
-walks_show_purposes K V S same hash name log m known s old new at whole purposes of i u here word leads changes q steps names =
-    shows_purposes same hash name log m known s old new at whole purposes of i u here word leads changes q steps names
+walks_show_purposes K V S same hash name log m known s old new at whole purposes of i u here word leads changes class_first q steps names =
+    shows_purposes same hash name log m known s old new at whole purposes of i u here word leads changes class_first q steps names

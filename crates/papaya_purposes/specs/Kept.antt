@@ -32,7 +32,7 @@ use Rattle.papaya_follows.specs.Calling.{NoneNamed, told, come_to}
 use Rattle.papaya_follows.specs.Calls.{IsCalled}
 use Rattle.papaya_hands.specs.Asked.{as_told}
 use Rattle.papaya_histories.specs.Answers.{NamesPair}
-use Rattle.papaya_histories.specs.Kept.{HasJustBegun}
+use Rattle.papaya_histories.specs.Kept.{HasJustBegun, ChangesFirst}
 use Rattle.papaya_moments.specs.Whole.{ShowsWhole}
 use Rattle.papaya_purposes.specs.Purposes.{IsFor, ShowsPurposes}
 use Rattle.papaya_purposes.specs.Shards.{ReadsShards}
@@ -66,13 +66,14 @@ abbrev pub PurposesBegin : Type 0 → Type 0 → Type 0
 PurposesBegin K V = (same : K → K → Bool) (roots : ℕ) (name : ℕ → List ℕ) → ShowsPurposes {K = K} {V = V} same name [] start nothing_known (at_first roots)
 
 module _ (K V S : Type 0) (same : K → K → Bool) (hash : K → ℕ) where
-  -- after each step of a call, whoever's, which shows no pair of a walk, if no pair comes and goes within one event by it; one that counts reads shards as they are,
+  -- after each step of a call, whoever's, which shows no pair of a walk, if no pair comes and goes, and no class changes twice, within one event by it; one that counts reads shards as they are,
   abbrev pub CallsKeepPurposes : Type 0
   CallsKeepPurposes =
       (name : ℕ → List ℕ) (log : List (Entry K V)) (m : Moment K V) (known : Known) (s : Scene K V) (old new : Executor K V S) → IsAt same hash old s
       → ShowsWhole same name m known s → ShowsPurposes same name log m known s
       → (of i : ℕ) (u : UnderWay K V K) (here : s.calls of i ≡ Some u) (said : Progress (Node K V)) (leads : StepLeads same hash i said s old new)
-      → PairsChangeFirst log m of (with_effects (Some (name i)) (Some of) (effects_of (acts.Call i of) known new.memory.changed) m) → ReadsShards log m s of u → ShowsNone said
+      → PairsChangeFirst log m of (with_effects (Some (name i)) (Some of) (effects_of (acts.Call i of) known new.memory.changed) m)
+      → ChangesFirst log m same of (with_effects (Some (name i)) (Some of) (effects_of (acts.Call i of) known new.memory.changed) m) → ReadsShards log m s of u → ShowsNone said
       → (let to = leads of u here in
       ShowsPurposes same name log (with_effects (Some (name i)) (Some of) (effects_of (acts.Call i of) known new.memory.changed) m) (known_after (acts.Call i of) new.memory.changed known)
       (scene_after same hash s old new of i to.0 u to.1 said to.4))
@@ -84,6 +85,7 @@ module _ (K V S : Type 0) (same : K → K → Bool) (hash : K → ℕ) where
       → ShowsWhole same name m known s → ShowsPurposes same name log m known s
       → (of i : ℕ) (u : UnderWay K V K) (here : s.calls of i ≡ Some u) (word : ℕ) (leads : StepLeads same hash i (progress.Pair word) s old new)
       → PairsChangeFirst log m of (with_effects (Some (name i)) (Some of) (effects_of (acts.Call i of) known new.memory.changed) m)
+      → ChangesFirst log m same of (with_effects (Some (name i)) (Some of) (effects_of (acts.Call i of) known new.memory.changed) m)
       → (q steps : ℕ) → NamesPair (known_after (acts.Call i of) new.memory.changed known) word q
       → (let to = leads of u here in
       ShowsPurposes same name log (come_to (name i) (Shows q) steps (with_effects (Some (name i)) (Some of) (effects_of (acts.Call i of) known new.memory.changed) m))

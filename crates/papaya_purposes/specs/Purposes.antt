@@ -27,7 +27,7 @@ use Rattle.papaya_effects.specs.Known.{Known}
 use Rattle.papaya_executor.specs.IsAt.{Scene}
 use Rattle.papaya_finishes.specs.Maps.{Standing}
 use Rattle.papaya_follows.specs.Shows.{Shows}
-use Rattle.papaya_histories.specs.Histories.{since}
+use Rattle.papaya_histories.specs.Histories.{since, IsWithin}
 use Rattle.papaya_purposes.specs.Keys.{KeysAt, AreKeyed}
 
 -- until it goes over a table, a sweep stands there
@@ -71,6 +71,7 @@ module _ {K V : Type 0} where
   -- what a sweep has come to: the history of its map since it began is within these moments, and it has done what the moment says
   pub record HasSwept (same : K → K → Bool) (of : ℕ) (s : Standing K) (number : ℕ → ℕ) (moments : List (Moment K V)) (o : CallOverAll) (c : CallThere K V) : Type 0 where
     pub within : PairsWithin of s number moments o.began
+    pub classes : IsWithin same of s number moments o.began
     pub stored : AllByRecursion (λ n. n < s.chart.stored) o.done
     pub tells : TellsDone c.call number o.done c
     pub none : o.sweep.purpose ≡ Walks → IsBefore o.sweep.stands → o.done ≡ []

@@ -25,7 +25,6 @@ use Rattle.papaya_executor.specs.Stepping.{StepLeads}
 use Rattle.papaya_executor.specs.declared.executor.Executor.{Executor}
 use Rattle.papaya_finishes.specs.Maps.{Standing}
 use Rattle.papaya_histories.specs.Answers.{NamesPair}
-use Rattle.papaya_histories.specs.Histories.{began_of, since, IsWithin}
 use Rattle.papaya_moments.specs.Whole.{ShowsWhole}
 use Rattle.papaya_purposes.specs.Kept.{NoneCame, PairsChangeFirst}
 use Rattle.papaya_purposes.specs.Purposes.{ShowsPurposes}
@@ -99,15 +98,13 @@ module _ (K V S : Type 0) (same : K → K → Bool) (hash : K → ℕ) where
   abbrev pub RetainingsAreSwept : Type 0
   RetainingsAreSwept = Ends Keeps (λ log m v s of u. PairsChangeFirst log m of v) (Answered Completed)
 
-  -- A walk that answers that there is no pair has shown one pair of each key that had one at each moment of it, if class by class the history of its map is within
-  -- the moments of the run since it began, and no key has lost its pair within the event.
+  -- A walk that answers that there is no pair has shown one pair of each key that had one at each moment of it, if no key has lost its pair within the event.
   abbrev pub WalksShowAll : Type 0
   WalksShowAll =
       (name : ℕ → List ℕ) (log : List (Entry K V)) (m : Moment K V) (known : Known) (s : Scene K V) (old new : Executor K V S) → IsAt same hash old s
-      → ShowsWhole same name m known s → (purposes : ShowsPurposes same name log m known s)
+      → ShowsWhole same name m known s → ShowsPurposes same name log m known s
       → (of i : ℕ) (u : UnderWay K V K) (here : s.calls of i ≡ Some u) (leads : StepLeads same hash i (progress.Done answers.Swept) s old new)
       → (c : CallThere K V) → call_of (name i) m ≡ Some c → IsWalk c
-      → ((standing : Standing K) → s.maps of ≡ Some standing → (began : ℕ) → began_of u ≡ Some began → IsWithin same of standing (purposes.shown.number of) (since log m c) began)
       → LosesNone same log m of
       → (terms : Terms) (e : Entry K V) → caller_of e.event ≡ Some (name i)
       → worked e (moment log) ≡ with_effects (Some (name i)) (Some of) (effects_of (acts.Call i of) known new.memory.changed) m → e.outcome ≡ Answered Absent → IsSwept same terms log e

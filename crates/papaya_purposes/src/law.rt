@@ -37,8 +37,7 @@ pub fn reservations_are_swept<K, V, S>()
 {}
 
 /// A walk shows a pair that was in the map at a moment of it, and that it has not shown before, if no pair comes within the event. One that answers that there is no
-/// pair has shown one pair of each key that had one at each moment of it, if class by class the history of its map is within these moments, and no key has lost its pair
-/// within the event.
+/// pair has shown one pair of each key that had one at each moment of it, if no key has lost its pair within the event.
 pub fn walks_show<K, V, S>()
     ensures events { (same : K → K → Bool) (hash : K → ℕ) → WalksShow K V S same hash }
     ensures all { (same : K → K → Bool) (hash : K → ℕ) → WalksShowAll K V S same hash }
