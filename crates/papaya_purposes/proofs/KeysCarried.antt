@@ -27,7 +27,7 @@ use Rattle.papaya_sweeps.specs.declared.sweep.Swept.{Swept}
 use Rattle.papaya_sweeps.specs.declared.sweep.Swept.TheVariants as swept
 use Rattle.papaya_rule.specs.Chart.{Chart}
 use Rattle.papaya_rule.specs.InWorld.{IsMapIn, Moved}
-use Rattle.papaya_rule.specs.Maps.{spot_of, IsTable}
+use Rattle.papaya_rule.specs.Maps.{spot_of}
 use Rattle.papaya_rule.specs.Moments.{Moments}
 use Rattle.papaya_rule.specs.Rule.{IsLawful, Rule}
 use Rattle.papaya_rule.specs.Words.{Blocks}
@@ -40,7 +40,7 @@ use Rattle.papaya_late.proofs.Swept.Sweeps.Points.{went_sweep}
 use Rattle.papaya_late.proofs.Swept.Sweeps.Tables.{upto_in, live_in}
 use Rattle.papaya_callers.specs.OverAll.{CallOverAll, sweep_once_over, past_sweeping}
 use Rattle.papaya_callers.specs.Sights.{Sight, seen_by}
-use Rattle.papaya_callers.specs.Together.{UnderWay, OverAll, KnowsSweep, Stands, Together, in_slot}
+use Rattle.papaya_callers.specs.Together.{UnderWay, OverAll, Stands, Together, in_slot}
 use Rattle.papaya_callers.proofs.Sights.Seen.{map_seen}
 use Rattle.papaya_callers.proofs.Together.Few.{claim_few}
 use Rattle.papaya_callers.proofs.Together.Fits.{map_in_slot}
@@ -288,8 +288,8 @@ pub keys_kept : {K V : Type 0} (same : K → K → Bool) (caller : ℕ) (before 
     → ((time n : ℕ) → o.began ≤ time → time ≤ before.chart.now → before.chart.was time n ≡ true → n < before.chart.stored) → AllByRecursion (λ n. n < before.chart.stored) o.done
     → KeysOf same before o → KeysOf same st o
 keys_kept same caller before st how are initial slot w calls each i o has stored below h = (
-    keys_carried same caller before st how are.lawful each.ground.map.map.rule each.ground.moments o.began
-    (since same before.hash are before.setting initial slot w before.chart before.blocks before.sights calls each i o has) stored o.done below o.sweep o.sweep.stands
-    (low_stands same before.hash are before.setting initial slot w before.chart before.blocks before.sights calls each i o has) h.0,
-    keyed_carried same caller before st how are.lawful each.ground.map.map.rule o.done below h.1,
+  keys_carried same caller before st how are.lawful each.ground.map.map.rule each.ground.moments o.began
+      (since same before.hash are before.setting initial slot w before.chart before.blocks before.sights calls each i o has) stored o.done below o.sweep o.sweep.stands
+      (low_stands same before.hash are before.setting initial slot w before.chart before.blocks before.sights calls each i o has) h.0,
+  keyed_carried same caller before st how are.lawful each.ground.map.map.rule o.done below h.1,
 )

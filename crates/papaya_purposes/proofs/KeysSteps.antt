@@ -1,5 +1,5 @@
 -- By each of its own steps a walk has shown one pair of each class that its map had all the time, or is to show one.
-use Rattle.std.specs.Prelude.{◌≡◌, ◌≢◌, ℕ, suc, ◌+◌, ◌%◌, ◌^◌, ◌<◌, ◌≤◌, ◌==◌, ◌&&◌, nat_lt, Bool, true, false, cond, List, [], ◌∷◌, if◌then◌else◌, ◌⊎◌}
+use Rattle.std.specs.Prelude.{◌≡◌, ◌≢◌, ℕ, suc, ◌+◌, ◌%◌, ◌^◌, ◌<◌, ◌≤◌, ◌==◌, ◌&&◌, nat_lt, Bool, true, false, cond, List, [], ◌∷◌, if◌then◌else◌}
 use Rattle.std.proofs.Common.{refl, ap, sym, subst, ◌∙◌, arith, inl, inr}
 use Rattle.std.proofs.lemmas.Bool.{cases_eq, ltb-false, eqb-false, eqb-true}
 use Rattle.seize_words.specs.Word.{block_in}
@@ -38,10 +38,10 @@ use Rattle.papaya_late.proofs.Swept.Covers.Begins.{names_current}
 use Rattle.papaya_late.proofs.Swept.Covers.Told.{next_is}
 use Rattle.papaya_late.proofs.Swept.Sweeps.Moved.{SweepMoves}
 use Rattle.papaya_late.proofs.Swept.Sweeps.Tables.{upto_in, live_in, pair_some}
-use Rattle.papaya_purposes.specs.Keys.{HadAlways, of_class, StandsTo, KeysTo, KeysCame, KeysAt}
+use Rattle.papaya_purposes.specs.Keys.{of_class, StandsTo, KeysTo, KeysCame, KeysAt}
 use Rattle.papaya_purposes.specs.Kept.{ShowsNone}
 use Rattle.papaya_purposes.specs.Purposes.{IsBefore}
-use Rattle.papaya_purposes.proofs.KeysOn.{IsHeld, named_held, names_by, inside_of, IsLow, StandsLow}
+use Rattle.papaya_purposes.proofs.KeysOn.{named_held, names_by, inside_of, IsLow, StandsLow}
 use Rattle.papaya_purposes.proofs.Onward.{not_walking, not_retaining}
 
 module _ {K V : Type 0} (same : K → K → Bool) (hash : K → ℕ) (are : AreLawful same hash) (setting : Setting) (caller began : ℕ) (w : World (Node K V)) (c : Chart K) (blocks : Blocks)
@@ -257,14 +257,13 @@ module _ {K V : Type 0} (same : K → K → Bool) (hash : K → ℕ) (are : AreL
           λ none. absurd none,
           λ word e. (
             n,
-            subst (λ (y : ℕ). NamesPair hash c blocks y n) (let same_word : word0 ≡ word = cc e in same_word)
-                (
-                  (map.map.rule.common.keyed x p.place n phase borrowed there).0,
-                  map.map.shows.named x p.place n phase borrowed at_x.made at_x.known there,
-                  phase,
-                  borrowed,
-                  ap (place_word hash c blocks) there,
-                ),
+            subst (λ (y : ℕ). NamesPair hash c blocks y n) (let same_word : word0 ≡ word = cc e in same_word) (
+              (map.map.rule.common.keyed x p.place n phase borrowed there).0,
+              map.map.shows.named x p.place n phase borrowed at_x.made at_x.known there,
+              phase,
+              borrowed,
+              ap (place_word hash c blocks) there,
+            ),
             (
               inr (some, subst (λ (y : ℕ). KeysTo same (spot_of hash) (is_incremental setting.mode) c began p.table y (n ∷ done)) (sym next) shows_to),
               λ l. low,

@@ -1,12 +1,11 @@
 -- A walk that answers that there is no pair has shown one pair of each key that had one all the time.
 use Rattle.std.specs.Prelude.{◌≡◌, ℕ, ◌+◌, ◌<◌, ◌≤◌, Bool, true, false, cond, List, [], ◌∷◌, length, map, Option, Some, None, is_some, if◌then◌else◌}
 use Rattle.std.specs.List.{AllByRecursion}
-use Rattle.std.proofs.Common.{refl, ap, sym, subst, ◌∙◌, arith, inl, inr}
+use Rattle.std.proofs.Common.{refl, ap, sym, subst, ◌∙◌, inl, inr}
 use Rattle.papaya_tables.specs.Chunks.{is_incremental}
 use Rattle.papaya_tables.specs.declared.node.Node.{Node}
 use Rattle.papaya_sweeps.specs.declared.sweep.Purpose.TheVariants.{Walks}
 use Rattle.papaya_sweeps.specs.declared.sweep.Sweep.{Sweep}
-use Rattle.papaya_sweeps.specs.declared.sweep.Sweeping.{Sweeping}
 use Rattle.papaya_sweeps.specs.declared.sweep.Sweeping.TheVariants as sweeping
 use Rattle.papaya_sweeps.specs.declared.sweep.Swept.{Swept}
 use Rattle.papaya_sweeps.specs.declared.sweep.Swept.TheVariants as swept
@@ -44,16 +43,16 @@ use Rattle.papaya_finishes.specs.Maps.{Standing}
 use Rattle.papaya_follows.proofs.Contents.{Lasts}
 use Rattle.papaya_histories.specs.Had.{Had, HadJust, HadThen}
 use Rattle.papaya_histories.specs.Histories.{since}
-use Rattle.papaya_histories.proofs.Found.{is_its, FoundIn, found}
+use Rattle.papaya_histories.proofs.Found.{FoundIn, found}
 use Rattle.papaya_histories.proofs.Logs.{last_there}
 use Rattle.papaya_histories.proofs.Now.{both_true}
 use Rattle.papaya_moments.specs.Whole.{ShowsWhole}
 use Rattle.papaya_purposes.specs.Keys.{HasClass, HadAlways, of_class, KeysCame, KeysAt}
-use Rattle.papaya_purposes.specs.Purposes.{IsBefore, IsFor, TellsDone, HasSwept, ShowsPurposes}
+use Rattle.papaya_purposes.specs.Purposes.{IsFor, TellsDone, HasSwept, ShowsPurposes}
 use Rattle.papaya_purposes.specs.Swept.{LosesNone, WalksShowAll}
 use Rattle.papaya_purposes.proofs.KeysCarried.{row_over, done_was}
 use Rattle.papaya_purposes.proofs.KeysMoved.{are, each, took, said_is, sweep_is, none_shown}
-use Rattle.papaya_purposes.proofs.Lists.{all_on, all_among, each_among, one_with}
+use Rattle.papaya_purposes.proofs.Lists.{all_among, each_among, one_with}
 use Rattle.papaya_purposes.proofs.Steps.{went, v2, Did}
 use Rattle.papaya_purposes.proofs.Stored.{effects_stored, worked_stored, all_stored}
 use Rattle.papaya_purposes.proofs.Swept.{then_call, then_is, still, on_map, swept_by, done_swept}
@@ -154,9 +153,9 @@ module _ {K V S : Type 0} (same : K → K → Bool) (hash : K → ℕ) (name : �
           (none_shown same hash name m known s old new at whole purposes.shown of i u here said leads o o_is walks steps (its.keys walks) (its.none walks) tt p2 machine_is).0,
           ap (λ (x : Sweep). x.stands) (sym (sweep_is same hash name m known s old new at whole purposes.shown of i u here said leads o o_is walks steps (its.keys walks) (its.none walks) p2 machine_is))
               ∙ row_over same st.hash (are same hash name m known s old new at whole purposes.shown of i u here said leads o o_is walks steps (its.keys walks) (its.none walks)) st.setting
-                  (at.together.makings.standing.fit of st (went same hash name log m known s old new at whole purposes of i u here said leads).2).1 slot_of s.world st.chart st.blocks st.sights (s.calls of)
-                  (each same hash name m known s old new at whole purposes.shown of i u here said leads o o_is walks steps (its.keys walks) (its.none walks)) i o o_is walks (its.keys walks).0 (its.none walks)
-                  new.memory.memory t.0 t.1 row.is_row took_done,
+              (at.together.makings.standing.fit of st (went same hash name log m known s old new at whole purposes of i u here said leads).2).1 slot_of s.world st.chart st.blocks st.sights (s.calls of)
+              (each same hash name m known s old new at whole purposes.shown of i u here said leads o o_is walks steps (its.keys walks) (its.none walks)) i o o_is walks (its.keys walks).0 (its.none walks)
+              new.memory.memory t.0 t.1 row.is_row took_done,
         )
 
     came : KeysCame same (spot_of st.hash) (is_incremental st.setting.mode) st.chart o.began o.done

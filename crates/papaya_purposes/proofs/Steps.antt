@@ -206,9 +206,10 @@ module _ {K V S : Type 0} (same : K → K → Bool) (hash : K → ℕ) (name : �
       keys_on none steps x is began comes walks =
           subst (λ (b : ℕ). KeysAt same (spot_of st.hash) (is_incremental st.setting.mode) st.chart b x.sweep x.done x.sweep.stands × AreKeyed st.chart x.done) (sym began)
           (subst (λ (done : List ℕ). KeysAt same (spot_of st.hash) (is_incremental st.setting.mode) st.chart o.began x.sweep done x.sweep.stands × AreKeyed st.chart done) (sym same_done) (
-          carried same hash name m known s old new at whole shown of i u here said leads o o_is walked steps (its.keys walked) (its.none walked) its.within.stored st there x.sweep o.done its.stored
-          (none_shown same hash name m known s old new at whole shown of i u here said leads o o_is walked steps (its.keys walked) (its.none walked) none x.sweep is),
-          keyed_then same hash name m known s old new at whole shown of i u here said leads o o_is walked steps (its.keys walked) (its.none walked) st there o.done its.stored (its.keys walked).1))
+            carried same hash name m known s old new at whole shown of i u here said leads o o_is walked steps (its.keys walked) (its.none walked) its.within.stored st there x.sweep o.done its.stored
+                (none_shown same hash name m known s old new at whole shown of i u here said leads o o_is walked steps (its.keys walked) (its.none walked) none x.sweep is),
+            keyed_then same hash name m known s old new at whole shown of i u here said leads o o_is walked steps (its.keys walked) (its.none walked) st there o.done its.stored (its.keys walked).1,
+          ))
         where
           its : HasSwept same of went.0 (shown.number of) (since log m c) o c
           its = purposes.come of i (OverAll o) o_is went.0 went.2 c c_is

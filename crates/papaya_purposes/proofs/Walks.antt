@@ -16,7 +16,7 @@ use Rattle.papaya_sweeps.specs.declared.sweep.Sweeping.{Sweeping}
 use Rattle.papaya_sweeps.specs.declared.sweep.Sweeping.TheVariants as sweeping
 use Rattle.papaya_sweeps.specs.declared.sweep.Swept.{Swept}
 use Rattle.papaya_sweeps.specs.declared.sweep.Swept.TheVariants as swept
-use Rattle.papaya_raw.specs.Progress.{of_outcome, of_counting, of_swept}
+use Rattle.papaya_raw.specs.Progress.{of_outcome, of_counting}
 use Rattle.papaya_raw.specs.declared.machines.progress.Progress.TheVariants as progress
 use Rattle.papaya_runs.specs.Same.{is_same}
 use Rattle.papaya_schedules.specs.declared.call.Call.{Call}
@@ -255,12 +255,14 @@ module _ {K V S : Type 0} (same : K → K → Bool) (hash : K → ℕ) (name : �
       keys =
           subst (λ (done : List ℕ). KeysAt same (spot_of st.hash) (is_incremental st.setting.mode) st.chart o.began p2 done p2.stands × AreKeyed st.chart done)
           (ap (λ (k : ℕ). k ∷ o.done) same_pair ∙ sym one.1.2) (
-          carried same hash name m known s old new at whole purposes.shown of i u here (progress.Pair word) leads o y_is walked steps_of (was.keys walked) (was.none walked) was.within.stored st there p2
-          (shows.0 ∷ o.done) (shows.1.0, was.stored) shows.2,
-          keyed_then same hash name m known s old new at whole purposes.shown of i u here (progress.Pair word) leads o y_is walked steps_of (was.keys walked) (was.none walked) st there (shows.0 ∷ o.done)
-          (shows.1.0, was.stored)
-          (names_keyed same hash name m known s old new at whole purposes.shown of i u here (progress.Pair word) leads o y_is walked steps_of (was.keys walked) (was.none walked) word shows.0 shows.1,
-          (was.keys walked).1))
+            carried same hash name m known s old new at whole purposes.shown of i u here (progress.Pair word) leads o y_is walked steps_of (was.keys walked) (was.none walked) was.within.stored st there p2
+                (shows.0 ∷ o.done) (shows.1.0, was.stored) shows.2,
+            keyed_then same hash name m known s old new at whole purposes.shown of i u here (progress.Pair word) leads o y_is walked steps_of (was.keys walked) (was.none walked) st there (shows.0 ∷ o.done)
+                (shows.1.0, was.stored) (
+                  names_keyed same hash name m known s old new at whole purposes.shown of i u here (progress.Pair word) leads o y_is walked steps_of (was.keys walked) (was.none walked) word shows.0 shows.1,
+                  (was.keys walked).1,
+                ),
+          )
 
       so : HasSwept same of st (numbers2 of) (since log v3 (come (ShowsOne q) steps d)) (came_to o step.step.entered2 step.step.done2 p2) (come (ShowsOne q) steps d)
       so =
