@@ -68,7 +68,8 @@ module _ {K V : Type 0} where
   TellsDone Retain number done c = AllByRecursion (λ n. is_yes (reply_to (Some (number n)) c.replies) ≡ true) done
   TellsDone _ number done c = Unit {0}
 
-  -- what a sweep has come to: the history of its map since it began is within these moments, and it has done what the moment says
+  -- what a sweep has come to: pair by pair and class by class, the history of its map since it began is within these moments; it has done what the moment says; and by
+  -- key, what a walk has come to
   pub record HasSwept (same : K → K → Bool) (of : ℕ) (s : Standing K) (number : ℕ → ℕ) (moments : List (Moment K V)) (o : CallOverAll) (c : CallThere K V) : Type 0 where
     pub within : PairsWithin of s number moments o.began
     pub classes : IsWithin same of s number moments o.began

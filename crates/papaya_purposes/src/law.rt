@@ -4,11 +4,12 @@ ghost use Rattle.papaya_purposes.specs.Kept.{PurposesBegin, CallsKeepPurposes, W
 ghost use Rattle.papaya_purposes.specs.Rows.{RowsBeginPurposes, RowsKeepPurposes};
 ghost use Rattle.papaya_purposes.specs.Swept.{CountingsAreSwept, ReservationsAreSwept, WalksShow, WalksShowAll, ClearingsAreSwept, RetainingsAreSwept, OtherOutcomesAreSwept, CallsOnKeysAreSwept, NoCallsAreSwept};
 
-/// At each moment of a run that shows the executor, each call is for what was called, and has come to what the moment says: pair by pair, what a sweep's map had since
-/// it began, the map has at a moment of the run since then; a walk has shown just what it has done, and a retaining has done such pairs about which the last reply was
-/// yes; and a counting has added up shards, each as it was at a moment of the call. So it is before all events; after each step of a call, whoever's, if no pair comes
-/// and goes within one event; where a step shows a pair, and its event has come to that; where a call begins, takes a reply, is asked for its next pair, and comes to an
-/// outcome; where an event is over; and where a row begins on a slot, and after each step of it.
+/// At each moment of a run that shows the executor, each call is for what was called, and has come to what the moment says: pair by pair and class by class, what a
+/// sweep's map had since it began, the map has at a moment of the run since then; a walk has shown just what it has done, which is one pair of each class that the map had
+/// all the time, but for those to which it is still to come; a retaining has done such pairs about which the last reply was yes; and a counting has added up shards, each
+/// as it was at a moment of the call. So it is before all events; after each step of a call, whoever's, if no pair comes and goes, and no class changes twice, within one
+/// event; where a step shows a pair, and its event has come to that; where a call begins, takes a reply, is asked for its next pair, and comes to an outcome; where an
+/// event is over; and where a row begins on a slot, and after each step of it.
 pub fn purposes_are_kept<K, V, S>()
     ensures begins { PurposesBegin K V }
     ensures calls { (same : K → K → Bool) (hash : K → ℕ) → CallsKeepPurposes K V S same hash }
