@@ -25,6 +25,7 @@ mod Named
 mod Kept
 mod Walks
 mod Between
+mod Stops
 mod Told
 mod Rows
 mod Swept

@@ -23,17 +23,18 @@ use Rattle.papaya_effects.specs.Known.{Known, nothing_known}
 use Rattle.papaya_effects.specs.declared.acting.Acting.TheVariants as acts
 use Rattle.papaya_executor.specs.Beginning.{Begins}
 use Rattle.papaya_executor.specs.IsAt.{Scene, IsAt, at_first, slot_of}
-use Rattle.papaya_executor.specs.Replying.{scene_with}
+use Rattle.papaya_executor.specs.Replying.{StopLeads, scene_with, unless_stopped}
 use Rattle.papaya_executor.specs.Stepping.{StepLeads, scene_after}
 use Rattle.papaya_executor.specs.declared.executor.Executor.{Executor}
 use Rattle.papaya_finishes.specs.Machines.{machine_of, ToldOfKind}
-use Rattle.papaya_finishes.specs.Maps.{Standing}
+use Rattle.papaya_finishes.specs.Maps.{Standing, with_call as with_in}
 use Rattle.papaya_follows.specs.Calling.{NoneNamed, told, come_to}
 use Rattle.papaya_follows.specs.Calls.{IsCalled}
 use Rattle.papaya_hands.specs.Asked.{as_told}
 use Rattle.papaya_histories.specs.Answers.{NamesPair}
 use Rattle.papaya_histories.specs.Kept.{HasJustBegun, ChangesFirst}
 use Rattle.papaya_moments.specs.Whole.{ShowsWhole}
+use Rattle.papaya_others.specs.Walks.{given_up}
 use Rattle.papaya_purposes.specs.Purposes.{IsFor, ShowsPurposes}
 use Rattle.papaya_purposes.specs.Shards.{ReadsShards}
 
@@ -109,6 +110,14 @@ module _ (K V S : Type 0) (same : K → K → Bool) (hash : K → ℕ) where
       → (standing : Standing K) → s.maps of ≡ Some standing → (is_told : Reply V) (next : UnderWay K V K)
       → (machine_replied (machine_of u) (as_told is_told)).1 ≡ Ok tt → ToldOfKind V same same e.batch_size e.roots slot_of standing i u (as_told is_told) next
       → ShowsPurposes same name log (told (name i) is_told m) known (scene_with of i next s)
+
+  -- where a walk that is ready is given up, and no call that is under way then has its name,
+  abbrev pub WalksStopPurposes : Type 0
+  WalksStopPurposes =
+      (name : ℕ → List ℕ) (log : List (Entry K V)) (m : Moment K V) (known : Known) (s : Scene K V) (old new : Executor K V S) → ShowsPurposes same name log m known s
+      → (i : ℕ) (stopped : Bool) → StopLeads same hash i stopped s old new → (of : ℕ) (u : UnderWay K V K) → s.calls of i ≡ Some u
+      → (let after = record s { calls = with_in s.calls of i (unless_stopped stopped u) } in
+      (stopped ≡ true → NoneNamed name (name i) after) → ShowsPurposes same name log (given_up (name i) stopped m) known after)
 
 module _ (K V : Type 0) (same : K → K → Bool) where
   -- where a walk that is ready is asked for its next pair,

@@ -1,6 +1,6 @@
 //! What is promised of calls on whole maps: that they do what they are for.
 ghost use Rattle.std.specs.Prelude.{ℕ, Bool};
-ghost use Rattle.papaya_purposes.specs.Kept.{PurposesBegin, CallsKeepPurposes, WalksShowPurposes, CallsBeginPurposes, CallsTakePurposes, WalksGoOnPurposes, CallsComeToPurposes, EventsKeepPurposes, FirstStepsChangePairsFirst, StillStepsChangePairsFirst, RemovalsChangePairsFirst};
+ghost use Rattle.papaya_purposes.specs.Kept.{PurposesBegin, CallsKeepPurposes, WalksShowPurposes, CallsBeginPurposes, CallsTakePurposes, WalksStopPurposes, WalksGoOnPurposes, CallsComeToPurposes, EventsKeepPurposes, FirstStepsChangePairsFirst, StillStepsChangePairsFirst, RemovalsChangePairsFirst};
 ghost use Rattle.papaya_purposes.specs.Rows.{RowsBeginPurposes, RowsKeepPurposes};
 ghost use Rattle.papaya_purposes.specs.Swept.{CountingsAreSwept, ReservationsAreSwept, WalksShow, WalksShowAll, ClearingsAreSwept, RetainingsAreSwept, OtherOutcomesAreSwept, CallsOnKeysAreSwept, NoCallsAreSwept};
 
@@ -8,14 +8,15 @@ ghost use Rattle.papaya_purposes.specs.Swept.{CountingsAreSwept, ReservationsAre
 /// sweep's map had since it began, the map has at a moment of the run since then; a walk has shown just what it has done, which is one pair of each class that the map had
 /// all the time, but for those to which it is still to come; a retaining has done such pairs about which the last reply was yes; and a counting has added up shards, each
 /// as it was at a moment of the call. So it is before all events; after each step of a call, whoever's, if no pair comes and goes, and no class changes twice, within one
-/// event; where a step shows a pair, and its event has come to that; where a call begins, takes a reply, is asked for its next pair, and comes to an outcome; where an
-/// event is over; and where a row begins on a slot, and after each step of it.
+/// event; where a step shows a pair, and its event has come to that; where a call begins, takes a reply, is asked for its next pair, is given up, and comes to an
+/// outcome; where an event is over; and where a row begins on a slot, and after each step of it.
 pub fn purposes_are_kept<K, V, S>()
     ensures begins { PurposesBegin K V }
     ensures calls { (same : K → K → Bool) (hash : K → ℕ) → CallsKeepPurposes K V S same hash }
     ensures shows { (same : K → K → Bool) (hash : K → ℕ) → WalksShowPurposes K V S same hash }
     ensures begun { (same : K → K → Bool) (hash : K → ℕ) → CallsBeginPurposes K V S same hash }
     ensures told { (same : K → K → Bool) (hash : K → ℕ) → CallsTakePurposes K V S same hash }
+    ensures stops { (same : K → K → Bool) (hash : K → ℕ) → WalksStopPurposes K V S same hash }
     ensures goes_on { (same : K → K → Bool) → WalksGoOnPurposes K V same }
     ensures come_to { (same : K → K → Bool) → CallsComeToPurposes K V same }
     ensures events { (same : K → K → Bool) → EventsKeepPurposes K V same }

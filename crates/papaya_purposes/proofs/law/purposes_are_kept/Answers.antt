@@ -2,6 +2,7 @@
 use Rattle.papaya_purposes.proofs.Between.{purposes_begin, events_keep_purposes, calls_come_to_purposes, calls_begin_purposes, walks_go_on_purposes, first_steps_change_pairs_first, still_steps_change_pairs_first, removals_change_pairs_first}
 use Rattle.papaya_purposes.proofs.Kept.{calls_keep_purposes}
 use Rattle.papaya_purposes.proofs.Rows.{rows_begin_purposes, rows_keep_purposes}
+use Rattle.papaya_purposes.proofs.Stops.{walks_stop_purposes}
 use Rattle.papaya_purposes.proofs.Told.{calls_take_purposes}
 use Rattle.papaya_purposes.proofs.Walks.{walks_show_purposes}
 use Rattle.papaya_purposes.proofs.law.purposes_are_kept.Goals as goal
@@ -13,6 +14,7 @@ returns c d = record {
   shows = walks_show_purposes _ _ _;
   begun = calls_begin_purposes _ _ _;
   told = calls_take_purposes _ _ _;
+  stops = walks_stop_purposes _ _ _;
   goes_on = walks_go_on_purposes _ _;
   come_to = calls_come_to_purposes _ _;
   events = events_keep_purposes _ _;
