@@ -1,0 +1,84 @@
+-- The word that a sweep names after its step names the pair of the number that the moment has for it.
+use Rattle.std.specs.Prelude.{◌≡◌, ℕ, ◌<◌, Bool, true, List, Option, Some}
+use Rattle.std.proofs.Common.{refl, ap, sym, ◌∙◌, inl, inr}
+use Rattle.std.proofs.lemmas.Bool.{cases_lt}
+use Rattle.seize_words.specs.Word.{block_in}
+use Rattle.seize.specs.World.{with_at}
+use Rattle.papaya_tables.specs.declared.node.Node.{Node}
+use Rattle.papaya_sweeps.specs.declared.sweep.Sweep.{Sweep}
+use Rattle.papaya_sweeps.specs.declared.sweep.Swept.{Swept}
+use Rattle.papaya_raw.specs.declared.machines.progress.Progress.{Progress}
+use Rattle.papaya_schedules.specs.Entry.{Entry}
+use Rattle.papaya_schedules.specs.Moment.{Moment}
+use Rattle.papaya_late.specs.Covers.{NamesPair}
+use Rattle.papaya_callers.specs.OverAll.{CallOverAll}
+use Rattle.papaya_callers.specs.Sights.{Sight, IsSight}
+use Rattle.papaya_callers.specs.Together.{UnderWay}
+use Rattle.papaya_callers.proofs.Together.At.{at_same}
+use Rattle.papaya_effects.specs.Known.{Known}
+use Rattle.papaya_effects.specs.declared.role.Role.TheVariants as role
+use Rattle.papaya_executor.specs.IsAt.{Scene, IsAt, slot_of}
+use Rattle.papaya_executor.specs.Stepping.{StepLeads}
+use Rattle.papaya_executor.specs.declared.executor.Executor.{Executor}
+use Rattle.papaya_finishes.specs.Sweeps.{SweepStepsAmong}
+use Rattle.papaya_finishes.specs.Maps.{Standing}
+use Rattle.papaya_follows.proofs.Steps.{made_so, is_inside, is_sight}
+use Rattle.papaya_histories.specs.Answers.{NamesPair as NamesNumber}
+use Rattle.papaya_histories.proofs.Roles.{named_by}
+use Rattle.papaya_moments.specs.Whole.{ShowsWhole}
+use Rattle.papaya_purposes.specs.Purposes.{ShowsPurposes}
+use Rattle.papaya_purposes.proofs.Steps.{went, on, known2}
+
+module _ {K V S : Type 0} (same : K → K → Bool) (hash : K → ℕ) (name : ℕ → List ℕ) (log : List (Entry K V)) (m : Moment K V) (known : Known) (s : Scene K V) (old new : Executor K V S)
+    (at : IsAt same hash old s) (whole : ShowsWhole same name m known s) (purposes : ShowsPurposes same name log m known s) (of i : ℕ) (u : UnderWay K V K) (here : s.calls of i ≡ Some u)
+    (said : Progress (Node K V)) (leads : StepLeads same hash i said s old new) where
+  abbrev st : Standing K
+  st = (went same hash name log m known s old new at whole purposes of i u here said leads).0
+
+  st_is : s.maps of ≡ Some st
+  st_is = (went same hash name log m known s old new at whole purposes of i u here said leads).2
+
+  abbrev sight : Sight
+  sight = st.sights (slot_of i)
+
+  its_sight : IsSight st.chart st.blocks sight
+  its_sight =
+      is_sight same hash m known s old new at name purposes.shown of i st st_is (name i) (made_so same hash name m known s old new at purposes.shown of i u here said leads)
+      (is_inside same hash name m known s old new at purposes.shown of i u here said leads)
+
+  abbrev number2 : ℕ → ℕ
+  number2 = (on same hash name log m known s old new at whole purposes of i u here said leads).shows.number of
+
+  module _ (o : CallOverAll) (p2 : Sweep) (end : Swept (Node K V))
+      (step : SweepStepsAmong V same same old.batch_size old.roots slot_of s.world s.maps s.calls s.makers s.enders of st i o new.memory.memory p2 end)
+      (moved : (went same hash name log m known s old new at whole purposes of i u here said leads).4.maps2
+      ≡ with_at s.maps of (Some (record st { chart = step.step.went.c2; blocks = step.step.blocks2; sights = step.step.sights2 }))) where
+    abbrev pub stands_then : Standing K
+    stands_then = record st { chart = step.step.went.c2; blocks = step.step.blocks2; sights = step.step.sights2 }
+
+    pub stands_is : (went same hash name log m known s old new at whole purposes of i u here said leads).4.maps2 of ≡ Some stands_then
+    stands_is = ap (λ (f : ℕ → Option (Standing K)). f of) moved ∙ at_same s.maps of (Some stands_then) of refl
+
+    roles_then : (n : ℕ) → n < step.step.went.c2.stored → step.step.went.blocks2.pair_known n ≡ true
+        → (known2 same hash name log m known s old new at whole purposes of i u here said leads).roles (step.step.went.blocks2.pair n) ≡ role.Pair (number2 n)
+    roles_then n l known_too = elim (cases_lt n st.chart.stored) as (λ _. (known2 same hash name log m known s old new at whole purposes of i u here said leads).roles (step.step.went.blocks2.pair n) ≡ role.Pair (number2 n)) [
+      | inl before ↦
+          let was = step.step.went.blocks_same.pairs_back n before known_too in
+          let grown = step.step.grown.pairs n before in
+          ap (known2 same hash name log m known s old new at whole purposes of i u here said leads).roles ((step.step.went.blocks_same.pairs n before was).0 ∙ sym grown.0)
+          ∙ ((on same hash name log m known s old new at whole purposes of i u here said leads).shows.maps of stands_then stands_is).pairs.roles n l (grown.1 ∙ its_sight.pairs n before was)
+      | inr fresh ↦
+          let grown = step.step.grown.new_pairs n fresh in
+          ap (known2 same hash name log m known s old new at whole purposes of i u here said leads).roles (sym grown.0)
+          ∙ ((on same hash name log m known s old new at whole purposes of i u here said leads).shows.maps of stands_then stands_is).pairs.roles n l (grown.1 ∙ known_too)
+    ]
+
+    -- so the number of a pair that is named is the one that is told
+    pub number_told : (word n q : ℕ) → NamesPair st.hash step.step.went.c2 step.step.went.blocks2 word n
+        → NamesNumber (known2 same hash name log m known s old new at whole purposes of i u here said leads) word q → q ≡ number2 n
+    number_told word n q (l, known_too, phase, borrowed, word_is) names =
+        let block : block_in word ≡ step.step.went.blocks2.pair n =
+        named_by same st.hash (at.together.makings.standing.fit of st st_is).0 step.step.went.c2 step.step.went.blocks2 word n phase borrowed word_is in
+        let one : role.Pair q ≡ role.Pair (number2 n) =
+        sym names ∙ ap (known2 same hash name log m known s old new at whole purposes of i u here said leads).roles block ∙ roles_then n l known_too in
+        cc one

@@ -1,0 +1,184 @@
+-- A step of a reservation that is under way, in the words of a run.
+use Rattle.std.specs.Prelude.{◌≡◌, ℕ, suc, ◌+◌, ◌^◌, ◌<◌, ◌≤◌, nat_lt, Bool, false, List, length, Option, Some, None, Result, Ok, Err}
+use Rattle.std.proofs.Common.{refl, ap, sym, subst, ◌∙◌, arith}
+use Rattle.seize_words.specs.Mem.{Mem, Took, value_at, word_at}
+use Rattle.seize_words.specs.Plan.{Steps}
+use Rattle.seize_words.specs.declared.at.At.TheVariants.{Word}
+use Rattle.seize_words.specs.declared.fault.Fault.{Fault}
+use Rattle.seize_rule.proofs.Rows.Leaving.{steps_back}
+use Rattle.papaya_tables.specs.Lengths.{len_of}
+use Rattle.papaya_tables.specs.declared.node.Node.{Node}
+use Rattle.papaya_tables.specs.declared.setting.Setting.{Setting}
+use Rattle.papaya_tables.specs.declared.table.Table.{Table}
+use Rattle.papaya_resize.specs.declared.outcome.Outcome.{Outcome}
+use Rattle.papaya_resize.specs.declared.outcome.Outcome.TheVariants as outcome
+use Rattle.papaya_resize.specs.declared.sum.Sum.{Sum}
+use Rattle.papaya_reserves.specs.Reserve.{or_too_long, needed, plan_at, reserve_plan}
+use Rattle.papaya_reserves.specs.declared.reserve.Reserve.{Reserve}
+use Rattle.papaya_reserves.specs.declared.reserve.Reserving.{Reserving}
+use Rattle.papaya_reserves.specs.declared.reserve.Reserving.TheVariants as reserving
+use Rattle.papaya_raw.specs.Machine.{machine_plan, reserved}
+use Rattle.papaya_raw.specs.declared.machines.machine.Machine.{Machine}
+use Rattle.papaya_raw.specs.declared.machines.machine.Machine.TheVariants as kinds
+use Rattle.papaya_raw.specs.declared.machines.progress.Answer.TheVariants as answers
+use Rattle.papaya_raw.specs.declared.machines.progress.Progress.{Progress}
+use Rattle.papaya_raw.specs.declared.machines.progress.Progress.TheVariants as progress
+use Rattle.papaya_schedules.specs.After.{moment, moments_from}
+use Rattle.papaya_schedules.specs.Counts.{Counts}
+use Rattle.papaya_schedules.specs.Entry.{Entry}
+use Rattle.papaya_schedules.specs.Lists.{OneOf}
+use Rattle.papaya_schedules.specs.Moment.{UnderWay as CallThere, Moment}
+use Rattle.papaya_schedules.specs.Sweeps.{Fits}
+use Rattle.papaya_rule.specs.InWorld.{IsMapIn}
+use Rattle.papaya_rule.specs.Maps.{IsTable}
+use Rattle.papaya_points.specs.FactsTables.{CountsShards, SumFacts}
+use Rattle.papaya_callers.specs.Rooms.{CallForRoom}
+use Rattle.papaya_callers.specs.Sights.{seen_by}
+use Rattle.papaya_callers.specs.Together.{UnderWay, ForRoom, Together, in_slot}
+use Rattle.papaya_executor.specs.IsAt.{Scene, IsAt, slot_of}
+use Rattle.papaya_executor.specs.Stepping.{StepsFrom}
+use Rattle.papaya_executor.specs.declared.executor.Executor.{Executor}
+use Rattle.papaya_executor.proofs.Forgotten.{as_step}
+use Rattle.papaya_finishes.specs.Machines.{GoesOnAs}
+use Rattle.papaya_finishes.specs.Maps.{Standing}
+use Rattle.papaya_late.specs.ToldReserves.{IsRowOfReserve}
+use Rattle.papaya_teller.specs.declared.changed.Changed.TheVariants.{Nothing}
+use Rattle.papaya_histories.proofs.Logs.{last_there}
+use Rattle.papaya_purposes.specs.Purposes.{RoomAt, HasMet}
+use Rattle.papaya_purposes.specs.Shards.{ReadsShards}
+use Rattle.papaya_purposes.proofs.RoomFacts.{turn_is, Point, StandsSo, room_setting, room_point, room_knows, was_root}
+use Rattle.papaya_purposes.proofs.RoomPoints.{LedAt, Led, reads_lead, makes_lead, sums_lead, follows_lead, grows_lead, copies_lead}
+
+-- a table that is not too short, for a length that can be had
+fits_so : (o : Result ℕ Fault) (len : ℕ) → nat_lt (2 ^ 48) (or_too_long o) ≡ false → nat_lt len (or_too_long o) ≡ false → Fits o len
+fits_so (Ok need) len many short = grind (arith, short)
+fits_so (Err fault) len many short = absurd (grind (arith, many))
+
+module _ {K V S : Type 0} (same : K → K → Bool) (hash : K → ℕ) (log : List (Entry K V)) (m : Moment K V) (s : Scene K V) (old new : Executor K V S) (at : IsAt same hash old s)
+    (of i : ℕ) (r : CallForRoom) (here : s.calls of i ≡ Some (ForRoom r)) (st : Standing K) (there : s.maps of ≡ Some st) (c : CallThere K V) (before : c.begun ≤ length log)
+    (shards : ReadsShards log m s of (ForRoom r)) (has : HasMet of st (moments_from c.begun log) r)
+    (machine : Machine K V K) (said : Progress (Node K V)) (steps : StepsFrom same hash (kinds.Reserve r.reserve) old new machine said) where
+  abbrev mem : Mem (Node K V)
+  mem = s.world.memory
+
+  abbrev p : Reserve
+  p = r.reserve
+
+  abbrev moments : List (Moment K V)
+  moments = moments_from c.begun log
+
+  each : Together V same st.hash same st.setting slot_of s.world st.chart st.blocks st.sights (s.calls of)
+  each = at.together.makings.standing.each of st there
+
+  its_map : IsMapIn same hash st.setting s.world st.chart st.blocks
+  its_map = subst (λ (h : K → ℕ). IsMapIn same h st.setting s.world st.chart st.blocks) (at.hashes of st there) each.ground.map
+
+  stands : StandsSo V same st.hash st.setting slot_of s.world st.chart (seen_by st.blocks (st.sights (slot_of i))) i r
+  stands = each.stand i (ForRoom r) here
+
+  setting_is : p.setting ≡ in_slot st.setting (slot_of i)
+  setting_is = room_setting V same st.hash st.setting slot_of s.world st.chart (seen_by st.blocks (st.sights (slot_of i))) i r stands
+
+  -- at its end: a count of the shards, and a table that is the root, or was, with room for so many more
+  abbrev pub EndsSo : Type 0
+  EndsSo =
+      (count : ℕ) × Counts (suc st.setting.mask) of moments count × (t : ℕ) × (has.low ≤ t) × (t ≤ st.chart.first) × (t < st.chart.past)
+      × Fits (len_of (count + p.additional)) (st.chart.len t)
+
+  abbrev Knows : Reserving → Type 0
+  Knows x = Point V same st.hash st.setting slot_of s.world st.chart (seen_by st.blocks (st.sights (slot_of i))) i r x
+
+  -- what it counts
+  module _ (table : Table) (sum : Sum) (is : p.stands ≡ reserving.Sums table sum) (knows : Knows p.stands) where
+    known : SumFacts (in_slot st.setting (slot_of i)) sum × (t : ℕ) × IsTable st.chart (seen_by st.blocks (st.sights (slot_of i))) table t × (t ≤ st.chart.first)
+    known = was_root same st.hash s.world i (in_slot st.setting (slot_of i)) st.chart (seen_by st.blocks (st.sights (slot_of i))) r.began p.stands table sum is knows
+
+    pub few : CountsShards sum.setting sum.stands
+    few = subst (λ (x : Setting). CountsShards x sum.stands) (sym known.0.0) known.0.1
+
+    pub reads : (shard : ℕ) → shard ≤ sum.setting.mask → word_at mem (Word sum.setting.counter shard) ≡ Some ((moment log).shards of shard)
+    reads shard l =
+        ap (λ (x : Setting). word_at mem (Word x.counter shard)) known.0.0
+        ∙ (shards tt).0 of st there shard (subst (λ (x : Setting). shard ≤ x.mask) known.0.0 l) ∙ ap Some ((shards tt).1 shard)
+
+    -- what it comes to where that is enough
+    pub ends : has.low ≤ table.turn → (count : ℕ) → Counts (suc sum.setting.mask) of moments count → nat_lt (2 ^ 48) (needed p.additional count) ≡ false
+        → nat_lt table.len (needed p.additional count) ≡ false → EndsSo
+    ends l count counts many short = (
+      count,
+      subst (λ (x : Setting). Counts (suc x.mask) of moments count) known.0.0 counts,
+      known.1,
+      (let turn = turn_is st.chart (seen_by st.blocks (st.sights (slot_of i))) table known.1 known.2 in omega (arith, l, turn)),
+      known.3,
+      known.2.made,
+      subst (Fits (len_of (count + p.additional))) (ap (λ (x : Table). x.len) known.2.is) (fits_so (len_of (count + p.additional)) table.len many short),
+    )
+
+  last : (P : Moment K V → Type 0) → P (moment log) → OneOf P moments
+  last P it = last_there P c.begun log before it
+
+  abbrev Step : Reserving → Reserve × Outcome (Node K V) Unit → Type 0
+  Step x end = Steps Took value_at mem (plan_at hash p x) new.memory.memory end
+
+  -- the step, and what the machine says of it
+  its_step : (end : Reserve × Outcome (Node K V) Unit) × Step p.stands end × ((machine, said) ≡ reserved end)
+  its_step =
+      let b = steps_back reserved old.memory.memory new.memory.memory (reserve_plan hash p) (machine, said)
+      (as_step old.memory.memory Nothing (machine_plan same same hash (kinds.Reserve p)) new.memory.memory new.memory.changed (machine, said) steps) in
+      (b.0, subst (λ (x : Mem (Node K V)). Steps Took value_at x (reserve_plan hash p) new.memory.memory b.0) (sym at.memory) b.1, b.2)
+
+  -- where it leads
+  led : (end : Reserve × Outcome (Node K V) Unit) → Step p.stands end → Led of moments has.low EndsSo end
+  led end step = by p.stands refl has.point step
+    where
+      in_row : (x : Reserving) → (IsRowOfReserve x → ⊥) → p.stands ≡ x → IsRowOfReserve p.stands → ⊥
+      in_row x none is row = none (subst IsRowOfReserve is row)
+
+      knows : (x : Reserving) → (IsRowOfReserve x → ⊥) → p.stands ≡ x → Knows p.stands
+      knows x none is =
+          room_point V same st.hash st.setting slot_of s.world st.chart (seen_by st.blocks (st.sights (slot_of i))) i r stands (in_row x none is)
+
+      by : (x : Reserving) → p.stands ≡ x → RoomAt of moments has.low x → Step x end → Led of moments has.low EndsSo end
+      by reserving.Reads is h step =
+          reads_lead of moments has.low EndsSo same hash st.setting s.world st.chart st.blocks its_map has.root (moment log) last p (ap (λ (x : Setting). x.root) setting_is) new.memory.memory end step
+      by (reserving.Makes making) is h step = makes_lead of moments has.low EndsSo hash p making h mem new.memory.memory end step
+      by (reserving.Sums table sum) is h step =
+          sums_lead of moments has.low EndsSo same hash st.setting s.world st.chart st.blocks its_map has.root (moment log) last p (ap (λ (x : Setting). x.root) setting_is) table sum h.0
+          (reads table sum is (knows (reserving.Sums table sum) (λ row. row) is)) (few table sum is (knows (reserving.Sums table sum) (λ row. row) is)) h.1
+          (ends table sum is (knows (reserving.Sums table sum) (λ row. row) is) h.0) new.memory.memory end step
+      by (reserving.Follows table need) is h step =
+          follows_lead of moments has.low EndsSo hash p table need h (subst (LedAt of moments has.low EndsSo) (sym is) h) mem new.memory.memory end step
+      by (reserving.Grows table making) is h step = grows_lead of moments has.low EndsSo hash p table making h mem new.memory.memory end step
+      by (reserving.Copies copier) is h step =
+          copies_lead of moments has.low EndsSo hash p copier (room_knows V same st.hash st.setting slot_of s.world st.chart (seen_by st.blocks (st.sights (slot_of i))) i r stands copier is) h.0 h.1 mem
+          new.memory.memory end step
+      by reserving.Over is h step = absurd h
+      by (reserving.Refused fault) is h step = absurd h
+
+  -- where it goes on
+  pub room_goes : (next : Option (UnderWay K V K)) → GoesOnAs machine said next → (x : UnderWay K V K) → next ≡ Some x → (p2 : Reserve) → machine ≡ kinds.Reserve p2 → LedAt of moments has.low EndsSo p2.stands
+  room_goes next goes x e p2 machine_is = by its_step.0 its_step.2 (led its_step.0 its_step.1)
+    where
+      ended : next ≡ None → ⊥
+      ended gone = cc (gone, e)
+
+      same_one : (q : Reserve) → machine ≡ kinds.Reserve q → q ≡ p2
+      same_one q is = cc (is, machine_is)
+
+      by : (end : Reserve × Outcome (Node K V) Unit) → (machine, said) ≡ reserved end → Led of moments has.low EndsSo end → LedAt of moments has.low EndsSo p2.stands
+      by (q, outcome.Goes) is so = subst (λ (y : Reserve). LedAt of moments has.low EndsSo y.stands) (same_one q (ap (λ z. z.0) is)) so
+      by (q, outcome.Waits) is so = subst (λ (y : Reserve). LedAt of moments has.low EndsSo y.stands) (same_one q (ap (λ z. z.0) is)) so
+      by (q, outcome.Gave value) is so = subst (λ (y : Reserve). LedAt of moments has.low EndsSo y.stands) (same_one q (ap (λ z. z.0) is)) so
+      by (q, outcome.Done end) is so = absurd (ended (subst (λ (y : Progress (Node K V)). GoesOnAs machine y next) (ap (λ z. z.1) is) goes))
+      by (q, outcome.Refused fault) is so = absurd (ended (subst (λ (y : Progress (Node K V)). GoesOnAs machine y next) (ap (λ z. z.1) is) goes))
+
+  -- where it ends
+  pub room_ends : said ≡ progress.Done answers.Reserved → EndsSo
+  room_ends done = by its_step.0 its_step.2 (led its_step.0 its_step.1)
+    where
+      by : (end : Reserve × Outcome (Node K V) Unit) → (machine, said) ≡ reserved end → Led of moments has.low EndsSo end → EndsSo
+      by (q, outcome.Goes) is so = absurd (let told = ap (λ z. z.1) is in cc (told, done))
+      by (q, outcome.Waits) is so = absurd (let told = ap (λ z. z.1) is in cc (told, done))
+      by (q, outcome.Gave value) is so = absurd (let told = ap (λ z. z.1) is in cc (told, done))
+      by (q, outcome.Done end) is so = so
+      by (q, outcome.Refused fault) is so = absurd (let told = ap (λ z. z.1) is in cc (told, done))

@@ -1,0 +1,6 @@
+pub mod Keys
+pub mod Purposes
+pub mod Shards
+pub mod Kept
+pub mod Rows
+pub mod Swept

@@ -1,0 +1,38 @@
+-- Where a row on a slot begins, and takes its steps, calls on whole maps have come to what they had come to.
+use Rattle.std.specs.Prelude.{◌≡◌, ℕ, Bool, List, Some, None}
+use Rattle.seize.specs.World.{Begin, Step}
+use Rattle.papaya_tables.specs.declared.node.Node.{Node}
+use Rattle.papaya_schedules.specs.Effects.{with_effects, AtEachEffect}
+use Rattle.papaya_schedules.specs.Entry.{Entry}
+use Rattle.papaya_schedules.specs.Moment.{Moment}
+use Rattle.papaya_effects.specs.Effects.{effects_of, known_after}
+use Rattle.papaya_effects.specs.Known.{Known}
+use Rattle.papaya_effects.specs.declared.acting.Acting.TheVariants.{Row}
+use Rattle.papaya_executor.specs.IsAt.{Scene, IsAt, slot_of, work_of}
+use Rattle.papaya_executor.specs.OnSlots.{MayBegin, RowBegins, RowLeads}
+use Rattle.papaya_executor.specs.Rows.{request_of}
+use Rattle.papaya_executor.specs.declared.executor.Executor.{Executor}
+use Rattle.papaya_executor.specs.declared.row.RowTold.{RowTold}
+use Rattle.papaya_executor.specs.declared.row.SlotCall.{SlotCall}
+use Rattle.papaya_executor.specs.declared.row.SlotRow.{SlotRow}
+use Rattle.papaya_executor.specs.declared.worker.Work.TheVariants.{OnSlot}
+use Rattle.papaya_others.specs.Gone.{WasRetired}
+use Rattle.papaya_others.specs.Rows.{scene_then}
+use Rattle.papaya_purposes.specs.Purposes.{ShowsPurposes}
+
+module _ (K V S : Type 0) (same : K → K → Bool) (hash : K → ℕ) where
+  -- The promises: so it is where a row begins on a slot,
+  abbrev pub RowsBeginPurposes : Type 0
+  RowsBeginPurposes =
+      (name : ℕ → List ℕ) (log : List (Entry K V)) (m : Moment K V) (known : Known) (s : Scene K V) (old new : Executor K V S) → IsAt same hash old s → ShowsPurposes same name log m known s
+      → (called : SlotCall) (i : ℕ) (may : MayBegin old (slot_of i) called) (leads : RowBegins same hash called i s old new)
+      → ShowsPurposes same name log m known (scene_then same hash (Begin i (request_of (slot_of i) called)) s old new (leads may).3)
+
+  -- and after a step of it, where a table that it reclaims was retired.
+  abbrev pub RowsKeepPurposes : Type 0
+  RowsKeepPurposes =
+      (name : ℕ → List ℕ) (log : List (Entry K V)) (m : Moment K V) (known : Known) (s : Scene K V) (old new : Executor K V S) → IsAt same hash old s → ShowsPurposes same name log m known s
+      → (i : ℕ) (told : RowTold (Node K V)) (leads : RowLeads same hash i told s old new) (row : SlotRow) (here : work_of old i ≡ Some (OnSlot row))
+      → AtEachEffect WasRetired None None (effects_of Row known new.memory.changed) m
+      → ShowsPurposes same name log (with_effects None None (effects_of Row known new.memory.changed) m) (known_after Row new.memory.changed known)
+      (scene_then same hash (Step i) s old new (leads row here).4)

@@ -1,0 +1,123 @@
+-- Events of calls on whole maps do what these are for.
+use Rattle.std.specs.Prelude.{◌≡◌, ℕ, suc, Bool, true, List, Some, None, is_some}
+use Rattle.papaya_tables.specs.declared.node.Node.{Node}
+use Rattle.papaya_raw.specs.declared.machines.progress.Answer.TheVariants as answers
+use Rattle.papaya_raw.specs.declared.machines.progress.Progress.{Progress}
+use Rattle.papaya_raw.specs.declared.machines.progress.Progress.TheVariants as progress
+use Rattle.papaya_schedules.specs.declared.call.Answer.TheVariants.{Absent, Completed, Counted}
+use Rattle.papaya_schedules.specs.declared.call.Call.TheVariants.{On, Reserve, Clear, Retain, Len, Walk}
+use Rattle.papaya_schedules.specs.declared.call.OneKey.{OneKey}
+use Rattle.papaya_schedules.specs.declared.outcome.Outcome.{Outcome}
+use Rattle.papaya_schedules.specs.declared.outcome.Outcome.TheVariants.{Shows, Answered}
+use Rattle.papaya_schedules.specs.After.{moment}
+use Rattle.papaya_schedules.specs.Effects.{with_effects, worked}
+use Rattle.papaya_schedules.specs.Entry.{Entry, acting, caller_of}
+use Rattle.papaya_schedules.specs.Moment.{UnderWay as CallThere, Moment}
+use Rattle.papaya_schedules.specs.Sweeps.{IsSwept}
+use Rattle.papaya_schedules.specs.Terms.{Terms, shards_of}
+use Rattle.papaya_schedules.specs.Views.{call_of, finite_map}
+use Rattle.papaya_callers.specs.Together.{UnderWay}
+use Rattle.papaya_effects.specs.Effects.{effects_of, known_after}
+use Rattle.papaya_effects.specs.Known.{Known}
+use Rattle.papaya_effects.specs.declared.acting.Acting.TheVariants as acts
+use Rattle.papaya_executor.specs.IsAt.{Scene, IsAt}
+use Rattle.papaya_executor.specs.Stepping.{StepLeads}
+use Rattle.papaya_executor.specs.declared.executor.Executor.{Executor}
+use Rattle.papaya_finishes.specs.Maps.{Standing}
+use Rattle.papaya_histories.specs.Answers.{NamesPair}
+use Rattle.papaya_moments.specs.Whole.{ShowsWhole}
+use Rattle.papaya_purposes.specs.Kept.{NoneCame, PairsChangeFirst}
+use Rattle.papaya_purposes.specs.Purposes.{ShowsPurposes}
+use Rattle.papaya_purposes.specs.Shards.{ReadsShards}
+
+-- what a call has ended with is told as this
+abbrev pub ComesSo : {K V : Type 0} → Known → Progress (Node K V) → Outcome V → Type 0
+ComesSo known (progress.Pair word) (Shows n) = NamesPair known word n
+ComesSo known (progress.Done (answers.Count count)) (Answered (Counted n)) = n ≡ count
+ComesSo known (progress.Done answers.Reserved) (Answered Completed) = Unit {0}
+ComesSo known (progress.Done answers.Swept) (Answered Completed) = Unit {0}
+ComesSo known _ _ = ⊥
+
+-- the outcome is none of which something is promised: neither an answer nor a pair that is shown
+abbrev pub SaysNothing : {V : Type 0} → Outcome V → Type 0
+SaysNothing (Answered a) = ⊥
+SaysNothing (Shows n) = ⊥
+SaysNothing _ = Unit {0}
+
+module _ {K V : Type 0} where
+  -- which of the calls on whole maps an event is of
+  abbrev pub IsLen : CallThere K V → Type 0
+  IsLen c = c.call ≡ Len
+
+  abbrev pub Reserves : ℕ → CallThere K V → Type 0
+  Reserves more c = c.call ≡ Reserve more
+
+  abbrev pub IsWalk : CallThere K V → Type 0
+  IsWalk c = c.call ≡ Walk
+
+  abbrev pub Removes : CallThere K V → Type 0
+  Removes c = c.call ≡ Clear
+
+  abbrev pub Keeps : CallThere K V → Type 0
+  Keeps c = c.call ≡ Retain
+
+-- each key that had a pair in this map as the last event of the log ended has one still
+abbrev pub LosesNone : {K V : Type 0} → (K → K → Bool) → List (Entry K V) → Moment K V → ℕ → Type 0
+LosesNone {K} same log m of = (k : K) → is_some (finite_map same of (moment log) k) ≡ true → is_some (finite_map same of m k) ≡ true
+
+-- The promises, of an event whose effects before a last step have led to this moment, and which comes to what that step comes to.
+module _ (K V S : Type 0) (same : K → K → Bool) (hash : K → ℕ) where
+  abbrev pub Ends : (CallThere K V → Type 0) → (List (Entry K V) → Moment K V → Moment K V → Scene K V → ℕ → UnderWay K V K → Type 0) → Outcome V → Type 0
+  Ends OfKind Asks outcome =
+      (name : ℕ → List ℕ) (log : List (Entry K V)) (m : Moment K V) (known : Known) (s : Scene K V) (old new : Executor K V S) → IsAt same hash old s
+      → ShowsWhole same name m known s → ShowsPurposes same name log m known s
+      → (of i : ℕ) (u : UnderWay K V K) (here : s.calls of i ≡ Some u) (said : Progress (Node K V)) (leads : StepLeads same hash i said s old new)
+      → (c : CallThere K V) → call_of (name i) m ≡ Some c → OfKind c
+      → (let v = with_effects (Some (name i)) (Some of) (effects_of (acts.Call i of) known new.memory.changed) m in
+      Asks log m v s of u → ComesSo (known_after (acts.Call i of) new.memory.changed known) said outcome
+      → (terms : Terms) → ((standing : Standing K) → s.maps of ≡ Some standing → suc standing.setting.mask ≡ shards_of terms)
+      → (e : Entry K V) → caller_of e.event ≡ Some (name i) → worked e (moment log) ≡ v → e.outcome ≡ outcome → IsSwept same terms log e)
+
+  -- `len` answers a count of shards, each as it was at a moment of the call, if it reads them as they are;
+  abbrev pub CountingsAreSwept : Type 0
+  CountingsAreSwept = (n : ℕ) → Ends IsLen (λ log m v s of u. ReadsShards log m s of u) (Answered (Counted n))
+
+  -- a reservation that is answered has counted so, and has met a root with room for so many more;
+  abbrev pub ReservationsAreSwept : Type 0
+  ReservationsAreSwept = (more : ℕ) → Ends (Reserves more) (λ log m v s of u. ReadsShards log m s of u) (Answered Completed)
+
+  -- a walk shows a pair that was in the map at a moment of it, and was not shown before, if none has come within the event;
+  abbrev pub WalksShow : Type 0
+  WalksShow = (n : ℕ) → Ends IsWalk (λ log m v s of u. PairsChangeFirst log m of v × NoneCame log v of) (Shows n)
+
+  -- of the pairs that were in the map all the time `clear` leaves none, if no pair comes and goes within the event;
+  abbrev pub ClearingsAreSwept : Type 0
+  ClearingsAreSwept = Ends Removes (λ log m v s of u. PairsChangeFirst log m of v) (Answered Completed)
+
+  -- and `retain` leaves those about which the last reply was yes.
+  abbrev pub RetainingsAreSwept : Type 0
+  RetainingsAreSwept = Ends Keeps (λ log m v s of u. PairsChangeFirst log m of v) (Answered Completed)
+
+  -- A walk that answers that there is no pair has shown one pair of each key that had one at each moment of it, if no key has lost its pair within the event.
+  abbrev pub WalksShowAll : Type 0
+  WalksShowAll =
+      (name : ℕ → List ℕ) (log : List (Entry K V)) (m : Moment K V) (known : Known) (s : Scene K V) (old new : Executor K V S) → IsAt same hash old s
+      → ShowsWhole same name m known s → ShowsPurposes same name log m known s
+      → (of i : ℕ) (u : UnderWay K V K) (here : s.calls of i ≡ Some u) (leads : StepLeads same hash i (progress.Done answers.Swept) s old new)
+      → (c : CallThere K V) → call_of (name i) m ≡ Some c → IsWalk c
+      → LosesNone same log m of
+      → (terms : Terms) (e : Entry K V) → caller_of e.event ≡ Some (name i)
+      → worked e (moment log) ≡ with_effects (Some (name i)) (Some of) (effects_of (acts.Call i of) known new.memory.changed) m → e.outcome ≡ Answered Absent → IsSwept same terms log e
+
+module _ (K V : Type 0) (same : K → K → Bool) where
+  -- Nothing is promised of an event that comes to neither an answer nor a pair that is shown, of one of a call on one key, and of one that is of no call.
+  abbrev pub OtherOutcomesAreSwept : Type 0
+  OtherOutcomesAreSwept = (terms : Terms) (log : List (Entry K V)) (e : Entry K V) → SaysNothing e.outcome → IsSwept same terms log e
+
+  abbrev pub CallsOnKeysAreSwept : Type 0
+  CallsOnKeysAreSwept =
+      (terms : Terms) (log : List (Entry K V)) (e : Entry K V) (c : CallThere K V) (one : OneKey K V) → acting (caller_of e.event) (worked e (moment log)) ≡ Some c → c.call ≡ On one
+      → IsSwept same terms log e
+
+  abbrev pub NoCallsAreSwept : Type 0
+  NoCallsAreSwept = (terms : Terms) (log : List (Entry K V)) (e : Entry K V) → caller_of e.event ≡ None → IsSwept same terms log e
