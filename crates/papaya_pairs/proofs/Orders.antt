@@ -8,11 +8,7 @@ use Rattle.std.proofs.Common.{◌≡◌, ℕ, zero, suc, ◌<◌, Bool, true, fa
 use Rattle.std.proofs.lemmas.Bool.{true≢false}
 use Rattle.std.proofs.lemmas.List.Sorted.{IsPermutation-refl, IsPermutation-trans, IsPermutation-cons, IsPermutation-append_left, IsPermutation-append_comm, IsPermutation-keeps, IsPermutation-map, length_permutation}
 use Rattle.std.proofs.lemmas.Map.Keys.{IsDistinct-head, IsDistinct-tail, IsDistinct-IsPermutation}
-use denote.Ref.{Bor}
-use Rattle.std.specs.Fn.{Mut}
-use Rattle.papaya_whole.specs.Contents.{HasOneEach, pair_for}
 use Rattle.papaya_owned.specs.Owned.{found_by, left_by}
-use Rattle.papaya_sifts.specs.Retaining.{KeepsOf}
 use Rattle.papaya_owned.proofs.Owned.Lookups.{found_append}
 use Rattle.papaya_pairs.specs.Orders.{IsOneClass}
 
@@ -94,26 +90,6 @@ module _ {X Y : Type 0} (of : Y → X) where
       in_any_order Lifts (λ xs us is. (us, is, IsPermutation-refl us)) lifts_under lifts_turned
       (λ xs ys zs p q us is. let vs = p us is in let ws = q vs.0 vs.1 in (ws.0, ws.1, IsPermutation-trans us vs.0 ws.0 vs.2 ws.2))
 
--- a closure that keeps some of the pairs keeps the same ones in another order
-module _ {F K V : Type 0} (g : Mut F (Bor K × (Bor V × Unit {0})) Bool) (f : F) where
-  pub keeps_same : (xs ys kept : List (K × V)) → IsPermutation xs ys → KeepsOf g f xs kept → (left : List (K × V)) × KeepsOf g f ys left × IsPermutation kept left
-  keeps_same xs ys kept order k =
-      let along = lifts (λ (y : (K × V) × Bool). y.0) xs ys order k.answered k.all in
-      let left = map (λ (y : (K × V) × Bool). y.0) (filter (λ y. y.1) along.0) in (
-        left,
-        record {
-          answered = along.0;
-          all = along.1;
-          asked = k.asked;
-          each_once = IsPermutation-trans k.asked k.answered along.0 k.each_once along.2;
-          last = k.last;
-          along = k.along;
-          kept_are = refl;
-        },
-        subst (λ zs. IsPermutation zs left) (sym k.kept_are)
-            (IsPermutation-map (λ y. y.0) (filter (λ y. y.1) k.answered) (filter (λ y. y.1) along.0) (kept_in_any_order (λ y. y.1) k.answered along.0 along.2)),
-      )
-
 module _ {K V : Type 0} (keys : K → Bool) where
   -- those that are left are those that pass
   left_pass : (xs : List (K × V)) → left_by keys xs ≡ filter (λ x. if keys x.0 then false else true) xs
@@ -158,21 +134,6 @@ module _ {K V : Type 0} (keys : K → Bool) where
     others_found_behind (y ∷ xs) x its = ap (λ o. if others y.0 then Some y else o) (others_found_behind xs x its)
 
 module _ {K V : Type 0} (same : K → K → Bool) where
-  -- where a class has at most one pair, each key is apart from the others
-  pub apart_each : (xs : List (K × V)) → HasOneEach same xs → IsDistinct same (keys_of xs)
-  unfolding IsDistinct
-  apart_each [] one = tt
-  apart_each (x ∷ xs) one = (from xs one.0, apart_each xs one.1)
-    where
-      from : (ys : List (K × V)) → pair_for same x.0 ys ≡ None → AllByRecursion (λ k. same x.0 k ≡ false) (keys_of ys)
-      from [] none = tt
-      from (y ∷ ys) none = by (same x.0 y.0) refl none (from ys)
-        where
-          by : (b : Bool) → same x.0 y.0 ≡ b → (if b then Some y else pair_for same x.0 ys) ≡ None → (pair_for same x.0 ys ≡ None → AllByRecursion (λ k. same x.0 k ≡ false) (keys_of ys))
-              → (same x.0 y.0 ≡ false) × AllByRecursion (λ k. same x.0 k ≡ false) (keys_of ys)
-          by true e some more = absurd (cc some)
-          by false e none more = (e, more none)
-
   module _ (classes : IsEquivalence same) where
     pub apart_same : (xs ys : List (K × V)) → IsDistinct same (keys_of xs) → IsPermutation xs ys → IsDistinct same (keys_of ys)
     apart_same xs ys apart order = IsDistinct-IsPermutation same classes.symm (keys_of xs) (keys_of ys) (IsPermutation-map (λ x. x.0) xs ys order) apart

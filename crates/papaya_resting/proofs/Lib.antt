@@ -1,5 +1,6 @@
 -- Lemmas on the memory of a map for one owner, between its calls.
 mod Done
+pub mod Given
 mod Keeps
 pub mod Lasts
 pub mod Looks

@@ -1,5 +1,6 @@
 pub mod Asking
 pub mod Calls
+pub mod Given
 pub mod Held
 pub mod Lasts
 pub mod Storing

@@ -13,7 +13,7 @@ use Rattle.papaya_late.specs.Faults.{IsRoom}
 use Rattle.papaya_asks.specs.Closures.{Computing}
 use Rattle.papaya_asks.specs.declared.computing.Operation.{Operation}
 use Rattle.papaya_asks.specs.declared.computing.Operation.TheVariants as operation
-use Rattle.papaya_owned.specs.Owned.{found_by, left_by}
+use Rattle.papaya_resting.specs.Given.{found_by, left_by}
 use Rattle.papaya_shown.specs.Chain.{CountsTables, root_link}
 use Rattle.papaya_resting.specs.Asking.{HasDone, HasComputed, IsRefusedFor, ComesToIt, ComputesToIt}
 use Rattle.papaya_resting.specs.Lasts.{RestsWith}

@@ -4,7 +4,7 @@ use Rattle.std.proofs.Common.{sym, ◌∙◌}
 use Rattle.seize_words.specs.Mem.{Mem}
 use Rattle.papaya_tables.specs.declared.node.Node.{Node}
 use Rattle.papaya_tables.specs.declared.setting.Setting.{Setting}
-use Rattle.papaya_owned.specs.Owned.{Holds}
+use Rattle.papaya_resting.specs.Given.{Holds}
 use Rattle.papaya_resting.specs.Lasts.{RestsWith, is_named, pair_in}
 use Rattle.papaya_resting.specs.declared.last.Last.{Last}
 use Rattle.papaya_resting.proofs.Lasts.{met_named, met_shown, taken_named, taken_shown}

@@ -2,6 +2,7 @@
 mod Done
 mod Kept
 mod Members
+mod Ordered
 mod Shows
 pub mod Walked
 pub mod Given

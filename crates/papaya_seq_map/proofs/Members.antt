@@ -19,7 +19,7 @@ use Rattle.papaya_forms.specs.Objects.{AreApart, IsObjectOf, members_with}
 use Rattle.papaya_forms.specs.declared.fault.JsonFault.{JsonFault}
 use Rattle.papaya_forms.proofs.Members.{objects_have_their_pairs, objects_have_no_order}
 use Rattle.papaya_shown.specs.Lent.{pair_shown}
-use Rattle.papaya_owned.specs.Owned.{left_by}
+use Rattle.papaya_resting.specs.Given.{left_by}
 use Rattle.papaya_seq_map.specs.Json.{FirstFault, IsNoPair, IsPairOf, IsRefusal}
 use Rattle.papaya_pairs.proofs.Orders.{left_and}
 use Rattle.papaya_seq_map.proofs.Walked.{shown_to_end}

@@ -11,20 +11,17 @@ use Rattle.papaya_tables.specs.declared.node.Node.{Node}
 use Rattle.papaya_tables.specs.declared.setting.Setting.{Setting}
 use Rattle.papaya_tables.specs.Chunks.{is_incremental}
 use Rattle.papaya_rule.specs.Words.{root_word}
-use Rattle.papaya_whole.proofs.Contents.Below.{one_each_below}
+use Rattle.papaya_resting.proofs.Given.{one_each_below, keeps_by_test, holds_stands, holds_moves_none, holds_pairs}
 use Rattle.papaya_shown.specs.Chain.{CountsTables, HasTables, pairs_from_root, pairs_on, root_link, word_or_none}
 use Rattle.papaya_shown.specs.Shown.{NoneMoves, Stands, pairs_stored}
 use Rattle.papaya_shown.proofs.Chains.{root_counts, all_shown}
 use denote.Ref.{Bor}
 use Rattle.std.specs.Fn.{Mut}
-use Rattle.papaya_holds.specs.Held.{HoldsOn}
-use Rattle.papaya_owned.specs.Owned.{Holds, found_by}
-use Rattle.papaya_sifts.specs.Retaining.{AnswersByTest, KeepsOf}
-use Rattle.papaya_sifts.proofs.Over.Questions.{keeps_by_test}
-use Rattle.papaya_owned.proofs.Walks.{holds_stands, holds_moves_none, holds_pairs}
+use Rattle.papaya_resting.specs.Given.{HoldsOn, Holds, found_by, AnswersByTest, KeepsOf}
 use Rattle.papaya_seq_map.specs.Maps.{Map, pairs_shown}
 use Rattle.papaya_pairs.specs.Orders.{IsOneClass}
-use Rattle.papaya_pairs.proofs.Orders.{apart_each, apart_same, found_same, keeps_same, kept_in_any_order, none_left}
+use Rattle.papaya_pairs.proofs.Orders.{apart_same, found_same, kept_in_any_order, none_left}
+use Rattle.papaya_seq_map.proofs.Ordered.{apart_each, keeps_same}
 
 module _ {K V : Type 0} (same : K → K → Bool) (hash : K → ℕ) (setting : Setting) (m : Mem (Node K V)) (xs : List (K × V)) (h : Holds same hash setting m xs) where
   stands : Stands same hash m setting h.chart h.blocks

@@ -4,7 +4,7 @@ use Rattle.std.specs.List.Sorted.{IsPermutation}
 use Rattle.seize_words.specs.Mem.{Mem}
 use Rattle.papaya_tables.specs.declared.node.Node.{Node}
 use Rattle.papaya_tables.specs.declared.setting.Setting.{Setting}
-use Rattle.papaya_holds.specs.Held.{HoldsOn}
+use Rattle.papaya_resting.specs.Given.{HoldsOn}
 use Rattle.papaya_shown.specs.Chain.{CountsTables, pairs_from_root, root_link}
 
 -- The value of a map: its pairs, its hasher, and two pairs that can be looked at until the next change. Which order the pairs are in, a walk tells alone.

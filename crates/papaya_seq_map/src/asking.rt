@@ -4,7 +4,7 @@ ghost use Rattle.std.specs.Fn.{FnOnceReturns, FnOnceReturnsAt, FnOnceTakesAt};
 ghost use Rattle.std.specs.Option.{ForNone, ForSome};
 ghost use Rattle.papaya_asks.specs.Closures.{Updating, UpdatingOrStoring, Storing};
 ghost use Rattle.papaya_late.specs.Faults.{IsRoom};
-ghost use Rattle.papaya_owned.specs.Owned.{found_by};
+ghost use Rattle.papaya_resting.specs.Given.{found_by};
 ghost use Rattle.papaya_resting.specs.Asking.{HasDone};
 ghost use Rattle.papaya_resting.specs.Held.{stored_in};
 ghost use Rattle.papaya_seq_map.specs.Maps.{HasNow, Keeps};

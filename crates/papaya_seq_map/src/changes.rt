@@ -4,7 +4,7 @@ ghost use Rattle.std.specs.Borrow.{sem};
 ghost use Rattle.std.specs.List.Sorted.{IsPermutation};
 ghost use Rattle.std.specs.Option.{option_copied};
 ghost use Rattle.papaya_late.specs.Faults.{IsRoom};
-ghost use Rattle.papaya_owned.specs.Owned.{found_by, left_by};
+ghost use Rattle.papaya_resting.specs.Given.{found_by, left_by};
 ghost use Rattle.papaya_seq_map.specs.Maps.{HasNow, Keeps, LastTook};
 
 use crate::map::HashMap;

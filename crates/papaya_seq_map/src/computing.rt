@@ -1,7 +1,7 @@
 //! A call on a map for one owner that computes what is to be done with a key. It begins with a refresh.
 ghost use Rattle.std.specs.Prelude.{◌≡◌, None, Some, IfOk, IfErr, OnErr};
 ghost use Rattle.papaya_asks.specs.Closures.{Computing, ComputesAs, ComputingTakes};
-ghost use Rattle.papaya_owned.specs.Owned.{found_by};
+ghost use Rattle.papaya_resting.specs.Given.{found_by};
 ghost use Rattle.papaya_resting.specs.Asking.{HasComputed, IsRefusedFor};
 ghost use Rattle.papaya_resting.specs.Held.{stored_computing};
 ghost use Rattle.papaya_seq_map.specs.Maps.{HasNow, Keeps};

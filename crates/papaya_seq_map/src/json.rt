@@ -5,7 +5,7 @@ ghost use Rattle.std.specs.List.Sorted.{IsPermutation};
 ghost use Rattle.serde_json.specs.Data.{object};
 ghost use Rattle.serde_json.specs.View.{view, members_view};
 ghost use Rattle.papaya_forms.specs.Objects.{IsObjectOf};
-ghost use Rattle.papaya_owned.specs.Owned.{left_by};
+ghost use Rattle.papaya_resting.specs.Given.{left_by};
 ghost use Rattle.papaya_seq_map.specs.Json.{FirstFault, IsNoPair, IsPairOf, IsRefusal, IsUnread};
 
 use crate::map::HashMap;

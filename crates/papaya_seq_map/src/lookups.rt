@@ -2,10 +2,10 @@
 ghost use Rattle.std.specs.Prelude.{◌≡◌, List, is_some, option_map};
 ghost use Rattle.std.specs.List.Sorted.{IsPermutation};
 ghost use Rattle.std.specs.Option.{option_copied};
-ghost use Rattle.papaya_owned.specs.Owned.{found_by};
+ghost use Rattle.papaya_resting.specs.Given.{found_by};
 
 use crate::map::HashMap;
-use papaya_owned::pair_at;
+use papaya_resting::pair_at;
 use papaya_tables::Equivalent;
 use std::hash::{BuildHasher, Hash};
 

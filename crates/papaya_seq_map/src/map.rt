@@ -37,8 +37,7 @@ pub struct HashMap<K: Eq + Hash, V, S: BuildHasher> {
 
 impl<K: Eq + Hash, V, S: BuildHasher> Model for HashMap<K, V, S> {
     ghost use Rattle.std.specs.Prelude.{List};
-    ghost use Rattle.papaya_holds.specs.Held.{held_in};
-    ghost use Rattle.papaya_owned.specs.Owned.{Holds, hashed_by};
+    ghost use Rattle.papaya_resting.specs.Given.{held_in, Holds, hashed_by};
     ghost use Rattle.papaya_resting.specs.Lasts.{pair_in};
     ghost use Rattle.papaya_seq_map.specs.Maps.{Map, pairs_shown};
 

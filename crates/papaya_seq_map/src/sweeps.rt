@@ -2,7 +2,7 @@
 ghost use Rattle.std.specs.Prelude.{◌≡◌, None, Bool, List, [], IfErr, OnOk, OnErr, filter};
 ghost use Rattle.std.specs.List.Sorted.{IsPermutation};
 ghost use Rattle.papaya_late.specs.Faults.{IsRoom};
-ghost use Rattle.papaya_sifts.specs.Retaining.{AnswersByTest, KeepsOf};
+ghost use Rattle.papaya_resting.specs.Given.{AnswersByTest, KeepsOf};
 ghost use Rattle.papaya_seq_map.specs.Maps.{Keeps, LastTook};
 
 use crate::map::HashMap;

@@ -3,7 +3,7 @@ use Rattle.std.proofs.Common.{[], ◌∷◌, ◌++◌, ◌∙◌, refl, sym, sub
 use Rattle.std.proofs.iter.Next.{Yields-more}
 use Rattle.std.proofs.lemmas.List.Sorted.{IsPermutation-refl, IsPermutation-trans}
 use Rattle.std.specs.Iterator.{Yields}
-use Rattle.papaya_holds.proofs.Lists.Lived.{balanced_first, balanced_more, balanced_still, kept_balances}
+use Rattle.papaya_resting.proofs.Given.{balanced_first, balanced_more, balanced_still, kept_balances}
 use Rattle.papaya_pairs.proofs.Puts.{puts_more}
 use Rattle.papaya_pairs.specs.Puts.{put_all}
 use Rattle.papaya_seq_map.proofs.map.HashMap.extend.Goals as goal

@@ -1,7 +1,7 @@
 -- What the iterator has given so far is put.
 use Rattle.std.specs.Prelude.{◌≡◌}
 use Rattle.std.specs.List.Sorted.{IsPermutation}
-use Rattle.papaya_holds.specs.Held.{Balanced}
+use Rattle.papaya_resting.specs.Given.{Balanced}
 use Rattle.papaya_pairs.specs.Puts.{put_all}
 use Rattle.papaya_seq_map.proofs.map.HashMap.extend.Given as goal
 

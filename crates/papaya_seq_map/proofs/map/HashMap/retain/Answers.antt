@@ -1,6 +1,6 @@
 -- By what the retaining comes to in the order in which its pairs were stored.
 use Rattle.std.specs.Prelude.{[]}
-use Rattle.papaya_sifts.specs.Retaining.{KeepsOf}
+use Rattle.papaya_resting.specs.Given.{KeepsOf}
 use Rattle.papaya_resting.proofs.Lasts.{none_in, none_named}
 use Rattle.papaya_seq_map.proofs.Shows.{counts, seen_held, seen_keeps, shows_kept, shows_passing, shows_refused, some_rest}
 use Rattle.papaya_seq_map.proofs.map.HashMap.retain.Goals as goal

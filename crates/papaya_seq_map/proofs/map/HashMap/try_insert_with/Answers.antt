@@ -4,7 +4,7 @@ use Rattle.std.specs.Fn.{FnOnceReturns}
 use Rattle.std.proofs.Common.{◌∙◌}
 use Rattle.papaya_asks.specs.Closures.{Storing}
 use Rattle.papaya_asks.specs.declared.refused.RefusedKey.{RefusedKey}
-use Rattle.papaya_owned.specs.Owned.{hashed_by}
+use Rattle.papaya_resting.specs.Given.{hashed_by}
 use Rattle.papaya_seq_map.proofs.Done.{comes_rests, room_alone, shows_changed, shows_unchanged}
 use Rattle.papaya_seq_map.proofs.Shows.{counts, seen_first, seen_held, seen_keeps}
 use Rattle.papaya_seq_map.proofs.map.HashMap.try_insert_with.Goals as goal

@@ -1,0 +1,6 @@
+-- The words of the crates below in which a map for one owner speaks of its memory, given on to it.
+pub use Rattle.papaya_holds.specs.Held.{Balanced, HoldsOn, IsLife, held_in}
+pub use Rattle.papaya_owned.specs.Owned.{Holds, found_by, hashed_by, left_by}
+pub use Rattle.papaya_owned.specs.Rooms.{AreTooMany, IsUnmade}
+pub use Rattle.papaya_sifts.specs.Retaining.{AnswersByTest, AskedAlong, KeepsOf}
+pub use Rattle.papaya_whole.specs.Contents.{HasOneEach, pair_for}
