@@ -135,7 +135,7 @@ module _ {K V S : Type 0} (i map : ℕ) where
   makes_none l xs = (
     [],
     sym (append-nil xs),
-    λ same hash s at b here. (s, came_first s i b here, at),
+    λ same hash s at b here of_map. (s, came_first s i b here, at),
     λ same hash name m s shown b here of_map of. (λ setting is_new. is_new, λ was_new. (s, came_first s i b here, shown)),
   )
 
@@ -143,8 +143,8 @@ module _ {K V S : Type 0} (i map : ℕ) where
   module _ (old mid new : Logged K V S) (xs ys zs : List Effect) (told : Progress Setting) (ran : MakingRan i map progress.Goes xs ys old mid) (step : MakingSteps i map told ys zs mid new)
       (stepping : (same : K → K → Bool) (hash : K → ℕ) (s : Scene K V) → IsAt same hash mid.executor s → MakingLeads same hash i told s mid.executor new.executor) where
     there_on : (same : K → K → Bool) (hash : K → ℕ) (s : Scene K V) → IsAt same hash old.executor s → MakingIsAt same hash s i map told (ran.0 ++ step.0) old new
-    there_on same hash s at b here =
-        let u = ran.2 same hash s at b here in
+    there_on same hash s at b here of_map =
+        let u = ran.2 same hash s at b here of_map in
         let leads = stepping same hash u.0 u.2 in
         let b1 : Beginning K = record b { machine = u.1.maker.0 } in (
           making_after same hash u.0 mid.executor new.executor i b1 (leads b1 u.1.maker.1).0 (leads b1 u.1.maker.1).2.step.w2 told (leads b1 u.1.maker.1).3,
@@ -189,10 +189,10 @@ module _ {K V S : Type 0} (i map : ℕ) where
     )
 
   -- the executor is there at a scene at which the making is under way still
-  pub still_making : (same : K → K → Bool) (hash : K → ℕ) (s : Scene K V) (old mid : Logged K V S) (xs ys : List Effect) → IsAt same hash old.executor s → IsMaking s i
+  pub still_making : (same : K → K → Bool) (hash : K → ℕ) (s : Scene K V) (old mid : Logged K V S) (xs ys : List Effect) → IsAt same hash old.executor s → (b : Beginning K) → s.makers i ≡ Some b → b.map ≡ map
       → MakingRan i map progress.Goes xs ys old mid → (s1 : Scene K V) × IsAt same hash mid.executor s1 × IsMaking s1 i
-  still_making same hash s old mid xs ys at it ran =
-      let u = ran.2 same hash s at it.0 it.1 in (u.0, u.2, (record it.0 { machine = u.1.maker.0 }, u.1.maker.1))
+  still_making same hash s old mid xs ys at b here of_map ran =
+      let u = ran.2 same hash s at b here of_map in (u.0, u.2, (record b { machine = u.1.maker.0 }, u.1.maker.1))
 
   -- a step that is not the last one goes on
   only_goes : (same : K → K → Bool) (hash : K → ℕ) (s : Scene K V) (mid new : Executor K V S) (b : Beginning K) (here : s.makers i ≡ Some b) (told : Progress Setting)
@@ -203,19 +203,19 @@ module _ {K V S : Type 0} (i map : ℕ) where
   only_goes same hash s mid new b here (progress.Refused fault) leads more = absurd (cc more)
 
   -- so it runs on, with less to do
-  module _ (same : K → K → Bool) (hash : K → ℕ) (s : Scene K V) (old mid new : Logged K V S) (xs ys zs : List Effect) (told : Progress Setting) (at : IsAt same hash old.executor s) (it : IsMaking s i)
+  module _ (same : K → K → Bool) (hash : K → ℕ) (s : Scene K V) (old mid new : Logged K V S) (xs ys zs : List Effect) (told : Progress Setting) (at : IsAt same hash old.executor s) (b : Beginning K) (here : s.makers i ≡ Some b) (of_map : b.map ≡ map)
       (ran : MakingRan i map progress.Goes xs ys old mid) (step : MakingSteps i map told ys zs mid new)
       (stepping : (same : K → K → Bool) (hash : K → ℕ) (s : Scene K V) → IsAt same hash mid.executor s → MakingLeads same hash i told s mid.executor new.executor) (more : is_over told ≡ false) where
-    abbrev there : (s1 : Scene K V) × MakingCame s s1 i it.0 progress.Goes × IsAt same hash mid.executor s1
-    there = ran.2 same hash s at it.0 it.1
+    abbrev there : (s1 : Scene K V) × MakingCame s s1 i b progress.Goes × IsAt same hash mid.executor s1
+    there = ran.2 same hash s at b here of_map
 
     goes : told ≡ progress.Goes
-    goes = only_goes same hash there.0 mid.executor new.executor (record it.0 { machine = there.1.maker.0 }) there.1.maker.1 told (stepping same hash there.0 there.2) more
+    goes = only_goes same hash there.0 mid.executor new.executor (record b { machine = there.1.maker.0 }) there.1.maker.1 told (stepping same hash there.0 there.2) more
 
     pub ran_goes : MakingRan i map progress.Goes xs zs old new
     ran_goes = subst (λ (t : Progress Setting). MakingRan i map t xs zs old new) goes (makes_on old mid new xs ys zs told ran step stepping)
 
     pub making_less : making_left_of (work_of new.executor i) < making_left_of (work_of mid.executor i)
     making_less =
-        left_falls s i it.0 same hash mid.executor new.executor there.0 there.1 there.2
+        left_falls s i b same hash mid.executor new.executor there.0 there.1 there.2
         (subst (λ (t : Progress Setting). MakingLeads same hash i t there.0 mid.executor new.executor) goes (stepping same hash there.0 there.2))

@@ -194,12 +194,12 @@ module _ {K V S : Type 0} (same : K → K → Bool) (hash : K → ℕ) where
     abbrev then_logged : Logged K V S
     then_logged = record { executor = stepped; notes = notes }
 
-    then_so : (s2 : Scene K V) (lists2 : ℕ → List ℕ) (told : Settled (Node K V)) → ReclaimingComesTo same hash s i lists old.executor stepped s2 lists2 after told
-        → ShowsWhole same name moment_then (known notes) s2 → ReclaimingThen same hash name moment_then s i lists s2 lists2 after old then_logged told
-    then_so s2 lists2 settled.Goes comes shows = record { under_way = comes; shows = shows }
-    then_so s2 lists2 settled.Waits comes shows = record { under_way = comes; shows = shows }
-    then_so s2 lists2 (settled.Gave value) comes shows = record { under_way = comes; shows = shows }
-    then_so s2 lists2 settled.Done comes shows = (comes.0, record { is_at = comes.1; shows = shows })
+    then_so : (to : Scene K V) (lists2 : ℕ → List ℕ) (told : Settled (Node K V)) → ReclaimingComesTo same hash s i lists old.executor stepped to lists2 after told
+        → ShowsWhole same name moment_then (known notes) to → ReclaimingThen same hash name moment_then s i lists to lists2 after old then_logged told
+    then_so to lists2 settled.Goes comes shows = record { under_way = comes; shows = shows }
+    then_so to lists2 settled.Waits comes shows = record { under_way = comes; shows = shows }
+    then_so to lists2 (settled.Gave value) comes shows = record { under_way = comes; shows = shows }
+    then_so to lists2 settled.Done comes shows = (comes.0, record { is_at = comes.1; shows = shows })
 
     reclaiming_so : (told : Settled (Node K V))
         → ((s : Scene K V) (i : ℕ) (lists : ℕ → List ℕ) → IsReclaiming same hash old.executor s i lists before → ReclaimingLeads same hash s i lists old.executor stepped before after told)
@@ -207,10 +207,10 @@ module _ {K V S : Type 0} (same : K → K → Bool) (hash : K → ℕ) where
         → ReclaimingGoesOn same hash name m s i lists before after told (effects_of Row (known old.notes) stepped.memory.changed) old then_logged
     reclaiming_so told stepping noted shown =
         let leads = stepping s i lists shown.under_way in
-        let s2 : Scene K V = record s { world = leads.1.w2; maps = leads.1.maps2 } in (
+        let to : Scene K V = record s { world = leads.1.w2; maps = leads.1.maps2 } in (
           leads,
-          λ retired unreclaimed. then_so s2 leads.1.lists2 told leads.2
-              (subst (λ (k : Known). ShowsWhole {K = K} {V = V} same name moment_then k s2) (sym noted)
+          λ retired unreclaimed. then_so to leads.1.lists2 told leads.2
+              (subst (λ (k : Known). ShowsWhole {K = K} {V = V} same name moment_then k to) (sym noted)
               (reclaiming_whole same hash name m (known old.notes) s shown.shows old.executor stepped i lists before after told shown.under_way leads retired unreclaimed)),
         )
 

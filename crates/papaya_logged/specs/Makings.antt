@@ -1,5 +1,5 @@
 -- Where the beginning of the making of a map leads, a step of it, and its run to the end; and what they do.
-use Rattle.std.specs.Prelude.{◌≡◌, ◌≢◌, ◌<◌, ◌≤◌, ◌+◌, ◌^◌, ℕ, Bool, true, false, List, ◌++◌, max, Option, Some, None}
+use Rattle.std.specs.Prelude.{◌≡◌, ◌≢◌, ◌<◌, ◌≤◌, ◌+◌, ◌^◌, ◌==◌, ℕ, Bool, true, false, List, ◌++◌, length, take, max, Option, Some, None, if◌then◌else◌}
 use Rattle.std.specs.Int.{IsPowerOfTwo}
 use Rattle.seize.specs.World.{with_at}
 use Rattle.seize.specs.declared.progress.Progress.{Progress}
@@ -27,6 +27,15 @@ abbrev pub is_over : {T : Type 0} → Progress T → Bool
 is_over (progress.Done answer) = true
 is_over (progress.Refused fault) = true
 is_over _ = false
+
+-- The number of a making that was refused is given back, if it was the last one: there are so many then, and these settings are kept.
+abbrev pub given_back : ℕ → Progress Setting → List (Option Setting) → List (Option Setting)
+given_back map (progress.Refused fault) maps = if length maps == map + 1 then take map maps else maps
+given_back map _ maps = maps
+
+abbrev pub numbers_then : ℕ → Progress Setting → ℕ → ℕ
+numbers_then map (progress.Refused fault) count = if count == map + 1 then map else count
+numbers_then map _ count = count
 
 -- a map that is there as a new one stays so while its making goes on
 abbrev pub StaysNew : {K V : Type 0} → ℕ → Progress Setting → Moment K V → Moment K V → Type 0
@@ -89,7 +98,7 @@ module _ {K V S : Type 0} where
   module _ (same : K → K → Bool) (hash : K → ℕ) (s : Scene K V) (i map : ℕ) (told : Progress Setting) (did : List Effect) (old new : Logged K V S) where
     -- The executor is there where the making has come,
     abbrev pub MakingIsAt : Type 0
-    MakingIsAt = (b : Beginning K) → s.makers i ≡ Some b → (s2 : Scene K V) × MakingCame s s2 i b told × IsAt same hash new.executor s2
+    MakingIsAt = (b : Beginning K) → s.makers i ≡ Some b → b.map ≡ map → (s2 : Scene K V) × MakingCame s s2 i b told × IsAt same hash new.executor s2
 
     -- and so it is shown, whether the map is there or not; if it stands then, it was there as a new one.
     abbrev pub MakingIsShown : (ℕ → List ℕ) → Moment K V → Type 0
