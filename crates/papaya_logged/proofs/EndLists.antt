@@ -1,6 +1,6 @@
 -- The blocks that the end of a map is to reclaim: what it has reclaimed comes first, each stands there once, and each is a pair, a table, or the counter of the map.
 use Rattle.std.specs.Prelude.{◌-◌, map}
-use Rattle.std.proofs.Common.{◌≡◌, ℕ, zero, suc, ◌+◌, ◌<◌, ◌≤◌, Bool, true, false, List, [], ◌∷◌, ◌++◌, ◌⊎◌, inl, inr, refl, arith, ap, sym, ◌∙◌}
+use Rattle.std.proofs.Common.{◌≡◌, ℕ, zero, suc, ◌+◌, ◌<◌, ◌≤◌, Bool, true, false, List, [], ◌∷◌, ◌++◌, ◌⊎◌, inl, inr, arith, ap, sym, ◌∙◌}
 use Rattle.std.proofs.lemmas.List.{append-nil}
 use Rattle.seize.specs.World.{World, times}
 use Rattle.papaya_tables.specs.Chunks.{is_incremental}

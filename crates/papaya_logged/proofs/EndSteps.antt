@@ -1,8 +1,8 @@
 -- The beginning of the end of a map is written down, and a step of it.
-use Rattle.std.specs.Prelude.{◌≡◌, ◌≢◌, ◌<◌, ℕ, Bool, false, List, [], ◌∷◌, ◌++◌, Option, Some, None, ◌⊎◌}
+use Rattle.std.specs.Prelude.{◌≡◌, ◌≢◌, ◌<◌, ℕ, Bool, false, List, [], ◌∷◌, ◌++◌, Some, None, ◌⊎◌}
 use Rattle.std.proofs.Common.{refl, ap, subst, sym, ◌∙◌, arith, inl, inr}
 use Rattle.std.proofs.lemmas.List.{append-nil, append_assoc}
-use Rattle.seize.specs.World.{World, times, with_at}
+use Rattle.seize.specs.World.{times}
 use Rattle.seize.specs.declared.rows.settle.Settled.{Settled}
 use Rattle.seize.specs.declared.rows.settle.Settled.TheVariants as settled
 use Rattle.papaya_tables.specs.declared.node.Node.{Node}
@@ -31,9 +31,9 @@ use Rattle.papaya_executor.specs.IsAt.{Scene, IsAt, slot_of}
 use Rattle.papaya_executor.specs.declared.executor.Executor.{Executor}
 use Rattle.papaya_follows.specs.Steps.{TakesNone}
 use Rattle.papaya_follows.proofs.Alike.{AllCalm, put_elsewhere}
-use Rattle.papaya_others.specs.Endings.{TellsNext, ending_after, without_map}
+use Rattle.papaya_others.specs.Endings.{TellsNext, ending_after}
 use Rattle.papaya_others.proofs.Ends.{tells_next}
-use Rattle.papaya_moments.specs.Endings.{IsOfIts, WaitsOn}
+use Rattle.papaya_moments.specs.Endings.{IsOfIts}
 use Rattle.papaya_moments.proofs.Ends.{says, endings_begin_whole, endings_keep_whole}
 use Rattle.papaya_moments.proofs.Over.{endings_are_over_whole}
 use Rattle.papaya_moments.specs.Whole.{ShowsWhole}

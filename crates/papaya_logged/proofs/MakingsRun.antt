@@ -1,12 +1,10 @@
 -- The making of a map runs on: what its steps do follows one upon another, and each that goes on leaves less to do.
-use Rattle.std.specs.Prelude.{◌≡◌, ◌≢◌, ◌<◌, ℕ, Bool, true, false, List, [], ◌++◌, Option, Some, None, option_map}
+use Rattle.std.specs.Prelude.{◌≡◌, ◌≢◌, ◌<◌, ℕ, Bool, false, List, [], ◌++◌, Option, Some, None, option_map}
 use Rattle.std.proofs.Common.{refl, sym, ap, subst, ◌∙◌}
 use Rattle.std.proofs.lemmas.List.{append-nil, append_assoc}
-use Rattle.seize_words.specs.Mem.{Mem}
 use Rattle.seize.specs.World.{with_at}
 use Rattle.seize.specs.declared.progress.Progress.{Progress}
 use Rattle.seize.specs.declared.progress.Progress.TheVariants as progress
-use Rattle.papaya_tables.specs.declared.node.Node.{Node}
 use Rattle.papaya_tables.specs.declared.setting.Setting.{Setting}
 use Rattle.papaya_resize.specs.NewMap.{new_map_plan}
 use Rattle.papaya_resize.specs.declared.new_map.NewMap.{NewMap}
@@ -15,19 +13,19 @@ use Rattle.papaya_schedules.specs.Effects.{with_effects}
 use Rattle.papaya_schedules.specs.Moment.{Moment}
 use Rattle.papaya_teller.specs.declared.changed.Changed.TheVariants.{Nothing}
 use Rattle.papaya_callers.proofs.Together.At.{at_other, at_same}
-use Rattle.papaya_finishes.specs.Makings.{Beginning, IsMade}
+use Rattle.papaya_finishes.specs.Makings.{Beginning}
 use Rattle.papaya_finishes.specs.Maps.{Standing}
 use Rattle.papaya_maps.specs.MeasuresBegins.{new_map_left}
 use Rattle.papaya_maps.proofs.Begins.ComesToEnd.{beginnings_leave_less}
-use Rattle.papaya_executor.specs.IsAt.{Scene, IsAt, IsMaking, making_in, slot_of, work_of}
-use Rattle.papaya_executor.specs.Making.{MakingLeads, MakingComesTo}
+use Rattle.papaya_executor.specs.IsAt.{Scene, IsAt, IsMaking, making_in, work_of}
+use Rattle.papaya_executor.specs.Making.{MakingLeads}
 use Rattle.papaya_executor.specs.declared.executor.Executor.{Executor}
 use Rattle.papaya_executor.specs.declared.worker.Work.{Work}
 use Rattle.papaya_executor.specs.declared.worker.Work.TheVariants as work
 use Rattle.papaya_executor.proofs.Forgotten.{as_step}
-use Rattle.papaya_others.specs.Makings.{IsNew, WasNew, making_after}
+use Rattle.papaya_others.specs.Makings.{WasNew, making_after}
 use Rattle.papaya_moments.proofs.After.{effects_after}
-use Rattle.papaya_logged.specs.Makings.{is_over, StaysNew, MakerIs, HasCome, MapsAre, MakingCame, MakingSteps, MakingIsAt, MakingIsShown, MakingRan}
+use Rattle.papaya_logged.specs.Makings.{is_over, StaysNew, MakingCame, MakingSteps, MakingIsAt, MakingRan}
 use Rattle.papaya_logged.specs.Shown.{IsShown}
 use Rattle.papaya_logged.specs.declared.logged.Logged.{Logged}
 use Rattle.papaya_logged.proofs.MakingSteps.{is_there}

@@ -1,5 +1,5 @@
 -- What reclaiming all leaves in the memory, and in whose hands: each block that is there is as it was. What it tells is told of rows, or of a root that is emptied.
-use Rattle.std.specs.Prelude.{◌≡◌, ◌≢◌, ℕ, zero, suc, Bool, true, false, List, [], ◌∷◌, Option, Some, None, IsSome, ◌⊎◌, if◌then◌else◌}
+use Rattle.std.specs.Prelude.{◌≡◌, ℕ, zero, suc, true, List, [], ◌∷◌, Option, IsSome, ◌⊎◌}
 use Rattle.std.proofs.Common.{refl, ap, sym, subst, ◌∙◌, arith, inl, inr}
 use Rattle.seize_words.specs.declared.at.At.{At}
 use Rattle.seize_words.specs.declared.at.At.TheVariants.{Root, Used}
@@ -11,13 +11,12 @@ use Rattle.seize.specs.declared.rows.reclaim_all.Reclaiming.{Reclaiming}
 use Rattle.seize.specs.declared.rows.reclaim_all.Reclaiming.TheVariants as at
 use Rattle.seize.specs.declared.rows.settle.Settle.{Settle}
 use Rattle.seize.specs.declared.rows.settle.Settled.{Settled}
-use Rattle.seize.specs.Enter.{unregister_plan}
 use Rattle.seize.specs.Leave.{leave_plan}
-use Rattle.seize.specs.ReclaimAll.{standing, within, next_head, next_batch, next_free, plan_at}
+use Rattle.seize.specs.ReclaimAll.{standing, within, next_head, next_batch, plan_at}
 use Rattle.seize.specs.Sequence.{taken_in}
 use Rattle.seize.specs.Settle.{settle_plan}
 use Rattle.seize.specs.Law.{Dropped}
-use Rattle.seize.specs.World.{World, Hand, NoBlock, Request, Register', Leave', Flush, Unregister', Event, Begin, Step, Begins, Steps', Happens, Runs, times, with_at, with_effect, with_hand}
+use Rattle.seize.specs.World.{World, Hand, NoBlock, Request, Register', Leave', Flush, Unregister', Event, Begin, Step, Begins, Steps', Runs, times, with_effect, with_hand}
 use Rattle.seize_rule.proofs.Rows.Effects.{hand_kept}
 use Rattle.seize_rule.proofs.World.Values.{own_op_value, taken_value}
 use Rattle.seize_alone.proofs.Spared.Rows.{RowStepped}
@@ -31,7 +30,7 @@ use Rattle.papaya_teller.specs.declared.changed.Changed.TheVariants as changed
 use Rattle.papaya_callers.proofs.Together.At.{at_other, at_same}
 use Rattle.papaya_finishes.specs.FactsEnds.{TakesLeft, WritesRoot, events_of}
 use Rattle.papaya_reclaims.specs.Slots.{IsForSlots, AreItsRows}
-use Rattle.papaya_executor.specs.Rows.{of_settling, of_storing}
+use Rattle.papaya_executor.specs.Rows.{of_settling}
 use Rattle.papaya_executor.specs.declared.row.SlotRow.TheVariants as rows
 use Rattle.papaya_others.proofs.Outcomes.{told_in}
 use Rattle.papaya_others.proofs.RowPlans.{TellsRow, row_tells}

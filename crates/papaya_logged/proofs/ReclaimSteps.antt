@@ -1,9 +1,8 @@
 -- A step by which all is reclaimed is written down: nobody has a call, a making or an end under way.
-use Rattle.std.specs.Prelude.{◌≡◌, ℕ, Bool, true, false, List, [], ◌∷◌, ◌++◌, Option, Some, None, IsSome, ◌⊎◌, if◌then◌else◌}
+use Rattle.std.specs.Prelude.{◌≡◌, ℕ, Bool, true, false, List, [], ◌++◌, Option, Some, None, IsSome, ◌⊎◌, if◌then◌else◌}
 use Rattle.std.proofs.Common.{refl, ap, sym, subst, ◌∙◌, inl, inr}
 use Rattle.seize_words.specs.declared.at.At.TheVariants.{Root, Used}
-use Rattle.seize_words.specs.Mem.{Mem, Can, Took, value_at}
-use Rattle.seize_words.specs.Plan.{May}
+use Rattle.seize_words.specs.Mem.{Mem, value_at}
 use Rattle.seize_words.specs.Word.{block_in}
 use Rattle.seize.specs.declared.rows.reclaim_all.ReclaimAll.{ReclaimAll}
 use Rattle.seize.specs.declared.rows.settle.Settled.{Settled}
@@ -27,9 +26,9 @@ use Rattle.papaya_effects.specs.declared.role.Role.{Role}
 use Rattle.papaya_effects.specs.declared.role.Role.TheVariants as role
 use Rattle.papaya_callers.specs.Together.{UnderWay}
 use Rattle.papaya_finishes.specs.FactsEnds.{TakesLeft, WritesRoot, events_of}
-use Rattle.papaya_finishes.specs.Maps.{Standing, IsSameMap}
+use Rattle.papaya_finishes.specs.Maps.{Standing}
 use Rattle.papaya_reclaims.specs.Slots.{AreItsRows}
-use Rattle.papaya_executor.specs.IsAt.{Scene, IsAt, slot_of}
+use Rattle.papaya_executor.specs.IsAt.{Scene}
 use Rattle.papaya_executor.specs.declared.executor.Executor.{Executor}
 use Rattle.papaya_reclaiming.specs.Reclaiming.{IsReclaiming, ReclaimingLeads, ReclaimingComesTo}
 use Rattle.papaya_reclaiming.proofs.Reclaims.{may_step}

@@ -1,5 +1,5 @@
 -- Where the beginning of the end of a map leads, a step of it, and its run to the end; and what they do.
-use Rattle.std.specs.Prelude.{◌≡◌, ◌≢◌, ◌<◌, ◌≤◌, ℕ, Bool, true, false, List, [], ◌++◌, flat_map, Option, Some, None}
+use Rattle.std.specs.Prelude.{◌≡◌, ◌≢◌, ◌<◌, ◌≤◌, ℕ, Bool, true, false, List, [], ◌++◌, flat_map, Some, None}
 use Rattle.seize.specs.World.{times}
 use Rattle.seize.specs.declared.rows.settle.Settled.{Settled}
 use Rattle.seize.specs.declared.rows.settle.Settled.TheVariants as settled
@@ -18,7 +18,7 @@ use Rattle.papaya_effects.specs.Effects.{taken_by}
 use Rattle.papaya_effects.specs.Known.{Known, known}
 use Rattle.papaya_effects.specs.declared.acting.Acting.TheVariants.{Ending}
 use Rattle.papaya_effects.specs.declared.role.Role.TheVariants as role
-use Rattle.papaya_finishes.specs.Endings.{Finishing, AllPairsOnce, finishing_of}
+use Rattle.papaya_finishes.specs.Endings.{Finishing, AllPairsOnce}
 use Rattle.papaya_finishes.specs.FactsEnds.{RootIs, back_of, taken_by as taken_of}
 use Rattle.papaya_finishes.specs.Maps.{Standing}
 use Rattle.papaya_executor.specs.Ending.{EndingLeads, NoCallOn, ending_begun}

@@ -1,5 +1,5 @@
 -- Each step may be taken, leads on, and leaves less to do, until the making is over.
-use Rattle.std.proofs.Common.{length, refl, ap, sym, subst, ◌∙◌}
+use Rattle.std.proofs.Common.{length, refl, ap, sym, ◌∙◌}
 use Rattle.papaya_logged.specs.Makings.{numbers_then}
 use Rattle.papaya_logged.proofs.GivenBack.{has_place, numbers_given, ran_given}
 use Rattle.papaya_logged.proofs.MakingsRun.{makes_none, makes_on, still_making, ran_goes, making_less}
