@@ -5,11 +5,13 @@ use Rattle.std.proofs.lemmas.List.{append-nil, append_assoc}
 use Rattle.seize.specs.World.{times}
 use Rattle.seize.specs.declared.rows.settle.Settled.{Settled}
 use Rattle.seize.specs.declared.rows.settle.Settled.TheVariants as settled
+use Rattle.papaya_tables.specs.Chunks.{is_incremental}
 use Rattle.papaya_tables.specs.declared.node.Node.{Node}
 use Rattle.papaya_raw.specs.declared.machines.end_map.EndMap.{EndMap}
 use Rattle.papaya_rule.proofs.Laws.{current_is_known}
 use Rattle.papaya_schedules.specs.declared.effect.Effect.{Effect}
 use Rattle.papaya_schedules.specs.Effects.{with_effects, AtEachEffect}
+use Rattle.papaya_schedules.specs.Handing.{in_order}
 use Rattle.papaya_schedules.specs.Moment.{Moment}
 use Rattle.papaya_teller.specs.declared.changed.Changed.{Changed}
 use Rattle.papaya_teller.specs.declared.changed.Changed.TheVariants as changed
@@ -20,7 +22,7 @@ use Rattle.papaya_effects.specs.declared.notes.Notes.{Notes}
 use Rattle.papaya_effects.specs.declared.acting.Acting.TheVariants.{Ending}
 use Rattle.papaya_effects.specs.declared.role.Role.{Role}
 use Rattle.papaya_effects.specs.declared.role.Role.TheVariants as role
-use Rattle.papaya_finishes.specs.Endings.{Finishing, FinishingFacts, StepsOfEnding, waiting_by}
+use Rattle.papaya_finishes.specs.Endings.{Finishing, AllPairsOnce, FinishingFacts, StepsOfEnding, waiting_by}
 use Rattle.papaya_finishes.specs.FactsEnds.{back_of, taken_by as taken_of}
 use Rattle.papaya_finishes.specs.Maps.{Standing}
 use Rattle.papaya_finishes.proofs.Ends.CountedBlocks.{times-append, next_apart, some_here, some_last}
@@ -36,10 +38,13 @@ use Rattle.papaya_others.proofs.Ends.{tells_next}
 use Rattle.papaya_moments.specs.Endings.{IsOfIts}
 use Rattle.papaya_moments.proofs.Ends.{says, endings_begin_whole, endings_keep_whole}
 use Rattle.papaya_moments.proofs.Over.{endings_are_over_whole}
+use Rattle.papaya_moments.proofs.WholeEnds.{whole_ends_take_all}
+use Rattle.papaya_moments.specs.WholeEnds.{all_ended}
 use Rattle.papaya_moments.specs.Whole.{ShowsWhole}
-use Rattle.papaya_logged.specs.Ends.{ended_as, NotesMap, NotedStill, EndIsBegun, EndGoesOn, EndSteps, EndIsOver}
+use Rattle.papaya_logged.specs.Ends.{ended_as, AllEnds, NotesMap, NotedStill, EndIsBegun, EndGoesOn, EndSteps, EndIsOver}
 use Rattle.papaya_logged.specs.Shown.{IsShown}
 use Rattle.papaya_logged.specs.declared.logged.Logged.{Logged}
+use Rattle.papaya_logged.proofs.EndOrder.{all_told, pairs_ordered}
 use Rattle.papaya_logged.proofs.EndLists.{back_first, IsOneOf, once, one_of}
 use Rattle.papaya_logged.proofs.EndTells.{end_tells, nothing_done}
 
@@ -77,6 +82,23 @@ module _ {K V S : Type 0} (same : K → K → Bool) (hash : K → ℕ) where
           counter = it.counter;
         }
 
+    -- if all of it ended, that would be a whole end
+    pub ends_all : AllPairsOnce (is_incremental standing.setting.mode) standing.chart → AllEnds map (all_ended (is_incremental standing.setting.mode) map (shown.shows.all.shown.number map) standing.chart) m
+    ends_all once =
+        let number = shown.shows.all.shown.number map in
+        let b = is_incremental standing.setting.mode in
+        let in_it = (shown.is_at.together.makings.standing.each map standing there).ground.map in
+        let lawful = (shown.is_at.together.makings.standing.fit map standing there).0 in
+        let whole = whole_ends_take_all K V m (known l.notes) map number standing (shown.shows.all.shown.maps map standing there) once in
+        record {
+          all = whole.0;
+          order = ap (in_order m) (all_told b map number standing.chart)
+              ∙ pairs_ordered same standing.hash lawful standing.chart m number b in_it.map.rule
+              (λ n current. let k = current_is_known same standing.hash standing.setting s.world.memory standing.chart standing.blocks in_it.map.rule in_it.map.shows n current in
+              (shown.shows.places.each map standing there).lies n (number n) (k.0, k.1, notes_map.pairs n current) current);
+          tables = whole.1;
+        }
+
   pub end_is_begun : (old new : Logged K V S) (map i : ℕ) → ((s : Scene K V) → IsAt same hash old.executor s → EndingBegins same hash map i s old.executor new.executor) → new.notes ≡ old.notes
       → (name : ℕ → List ℕ) (m : Moment K V) (s : Scene K V) → IsShown same hash name m old s → EndIsBegun same hash name m s map i old new
   end_is_begun old new map i begins noted name m s shown nobody =
@@ -87,6 +109,7 @@ module _ {K V S : Type 0} (same : K → K → Bool) (hash : K → ℕ) where
         (
           shown.shows.all.shown.number map,
           subst (λ (n : Notes). NotesMap map (shown.shows.all.shown.number map) (known n) to.0.setting to.0.chart to.0.blocks) (sym noted) (notes_map old name m s shown map to.0 to.1),
+          ends_all old name m s shown map to.0 to.1 to.2,
         ),
         record {
           is_at = to.4;

@@ -12,6 +12,7 @@ use Rattle.papaya_rule.specs.Chart.{Chart}
 use Rattle.papaya_rule.specs.Words.{Blocks}
 use Rattle.papaya_schedules.specs.declared.effect.Effect.{Effect}
 use Rattle.papaya_schedules.specs.Effects.{with_effects, AtEachEffect}
+use Rattle.papaya_schedules.specs.Handing.{EndsMap}
 use Rattle.papaya_schedules.specs.Moment.{MapThere, Remains, Moment}
 use Rattle.papaya_schedules.specs.Views.{map_at}
 use Rattle.papaya_effects.specs.Effects.{taken_by}
@@ -40,6 +41,10 @@ is_done _ = false
 abbrev pub ended_as : ℕ → Known → List ℕ → List Effect
 ended_as map first blocks = flat_map (λ b. taken_by (Ending map) (first.roles b)) blocks
 
+-- These effects are a whole end of the map: all pairs that are in it end, in order, and its tables, from the root's on.
+abbrev pub AllEnds : {K V : Type 0} → ℕ → List Effect → Moment K V → Type 0
+AllEnds map did m = EndsMap map did m (with_effects None (Some map) did m)
+
 -- The blocks of a map are noted as its pairs, which have these numbers, as its tables, and as its counter.
 pub record NotesMap {K : Type 0} (map : ℕ) (number : ℕ → ℕ) (first : Known) (setting : Setting) (c : Chart K) (blocks : Blocks) : Type 0 where
   pub pairs : (n : ℕ) → c.current n ≡ true → first.roles (blocks.pair n) ≡ role.Pair (number n)
@@ -51,12 +56,13 @@ abbrev pub NotedStill : Known → Known → List ℕ → Type 0
 NotedStill first now back = (b : ℕ) → times b back ≡ 0 → now.roles b ≡ first.roles b
 
 module _ {K V S : Type 0} (same : K → K → Bool) (hash : K → ℕ) (name : ℕ → List ℕ) (m : Moment K V) (s : Scene K V) where
-  -- The end of a map that stands, and on which nobody has a call, is under way, and the moment shows that, as it is. Its pairs are to be reclaimed, each once.
+  -- The end of a map that stands, and on which nobody has a call, is under way, and the moment shows that, as it is. Its pairs are to be reclaimed, each once; and if all of
+  -- it ended at this moment, that would be a whole end of it.
   abbrev pub EndIsBegun : (map i : ℕ) → (old new : Logged K V S) → Type 0
   EndIsBegun map i old new =
       NoCallOn old.executor map
       → (standing : Standing K) × (s.maps map ≡ Some standing) × AllPairsOnce (is_incremental standing.setting.mode) standing.chart
-      × ((number : ℕ → ℕ) × NotesMap map number (known new.notes) standing.setting standing.chart standing.blocks)
+      × ((number : ℕ → ℕ) × NotesMap map number (known new.notes) standing.setting standing.chart standing.blocks × AllEnds map (all_ended (is_incremental standing.setting.mode) map number standing.chart) m)
       × IsShown same hash name m new (ending_begun map i standing s)
 
   -- A step of a caller's end of the map of this number, of which this was noted as it began. The pair, or the table, that it reclaims ends with the map, and it does
