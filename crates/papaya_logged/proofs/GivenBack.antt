@@ -112,6 +112,7 @@ ran_given {K} {V} {S} i map told xs ys old mid new ran notes is items = (
                 is_at = at_given same hash map i s u.0 old.executor shown.is_at b here of_map mid.executor new.executor is u.2.is_at told u.1 items;
                 shows = subst (λ (n : Notes). ShowsWhole {K = K} {V = V} same name (with_effects None of ran.0 m) (known n) u.0) (sym notes) u.2.shows;
               },
+              u.3,
             )),
       )),
 )

@@ -1,6 +1,6 @@
 -- The beginning of the making of a map is written down, and a step of it.
 use Rattle.std.specs.Prelude.{◌≡◌, ℕ, Bool, List, ◌++◌, Option, Some, None}
-use Rattle.std.proofs.Common.{subst, sym}
+use Rattle.std.proofs.Common.{ap, subst, sym, ◌∙◌}
 use Rattle.seize.specs.World.{with_at}
 use Rattle.seize.specs.declared.progress.Progress.{Progress}
 use Rattle.seize.specs.declared.progress.Progress.TheVariants as progress
@@ -12,6 +12,7 @@ use Rattle.papaya_effects.specs.Effects.{effects_of, known_after}
 use Rattle.papaya_effects.specs.Known.{Known, known}
 use Rattle.papaya_effects.specs.declared.notes.Notes.{Notes}
 use Rattle.papaya_effects.specs.declared.acting.Acting.TheVariants as acts
+use Rattle.papaya_effects.specs.declared.role.Role.TheVariants as role
 use Rattle.papaya_finishes.specs.Makings.{Beginning}
 use Rattle.papaya_executor.specs.IsAt.{Scene, IsAt}
 use Rattle.papaya_executor.specs.Making.{MakingLeads}
@@ -26,6 +27,7 @@ use Rattle.papaya_moments.specs.Whole.{ShowsWhole}
 use Rattle.papaya_logged.specs.Makings.{MakingIsBegun, MakingGoesOn, MakingSteps, MapIsThere, StaysNew}
 use Rattle.papaya_logged.specs.Shown.{IsShown}
 use Rattle.papaya_logged.specs.declared.logged.Logged.{Logged}
+use Rattle.papaya_logged.proofs.MakingAsks.{making_asks}
 
 module _ {K V S : Type 0} (same : K → K → Bool) (hash : K → ℕ) where
   pub making_is_begun : (old new : Logged K V S) (given : Setting) (places i : ℕ)
@@ -69,6 +71,8 @@ module _ {K V S : Type 0} (same : K → K → Bool) (hash : K → ℕ) where
     making_so told stepping noted b here of_map =
         let leads = stepping s shown.is_at in (
           leads,
+          λ bare. making_asks map (known old.notes) old.executor.memory.memory stepped.memory.memory stepped.memory.changed b.machine told (leads b here).0 (leads b here).1
+              (λ made. shown.shows.counters i b here made ∙ ap role.Counter of_map) bare,
           λ of. (
             subst (λ (n : ℕ). StaysNew n told m (with_effects None of (effects_of (acts.Making n) (known old.notes) stepped.memory.changed) m)) of_map (stays_so told leads b here of),
             λ was_new. record {

@@ -1,7 +1,9 @@
 -- The making of a map runs on: what its steps do follows one upon another, and each that goes on leaves less to do.
-use Rattle.std.specs.Prelude.{◌≡◌, ◌≢◌, ◌<◌, ℕ, Bool, false, List, [], ◌++◌, Option, Some, None, option_map}
+use Rattle.std.specs.Prelude.{◌≡◌, ◌≢◌, ◌<◌, ◌&&◌, ℕ, Bool, true, false, List, [], ◌++◌, Option, Some, None, option_map}
+use Rattle.std.specs.List.{list_all}
 use Rattle.std.proofs.Common.{refl, sym, ap, subst, ◌∙◌}
 use Rattle.std.proofs.lemmas.List.{append-nil, append_assoc}
+use Rattle.std.proofs.lemmas.List.Folds.{list_all-append}
 use Rattle.seize.specs.World.{with_at}
 use Rattle.seize.specs.declared.progress.Progress.{Progress}
 use Rattle.seize.specs.declared.progress.Progress.TheVariants as progress
@@ -10,6 +12,7 @@ use Rattle.papaya_resize.specs.NewMap.{new_map_plan}
 use Rattle.papaya_resize.specs.declared.new_map.NewMap.{NewMap}
 use Rattle.papaya_schedules.specs.declared.effect.Effect.{Effect}
 use Rattle.papaya_schedules.specs.Effects.{with_effects}
+use Rattle.papaya_schedules.specs.InTurn.{is_growth}
 use Rattle.papaya_schedules.specs.Moment.{Moment}
 use Rattle.papaya_teller.specs.declared.changed.Changed.TheVariants.{Nothing}
 use Rattle.papaya_callers.proofs.Together.At.{at_other, at_same}
@@ -25,7 +28,7 @@ use Rattle.papaya_executor.specs.declared.worker.Work.TheVariants as work
 use Rattle.papaya_executor.proofs.Forgotten.{as_step}
 use Rattle.papaya_others.specs.Makings.{WasNew, making_after}
 use Rattle.papaya_moments.proofs.After.{effects_after}
-use Rattle.papaya_logged.specs.Makings.{is_over, StaysNew, MakingCame, MakingSteps, MakingIsAt, MakingRan}
+use Rattle.papaya_logged.specs.Makings.{is_over, IsBare, JustAsks, StaysNew, CameBare, MakingCame, MakingSteps, MakingIsAt, MakingRan}
 use Rattle.papaya_logged.specs.Shown.{IsShown}
 use Rattle.papaya_logged.specs.declared.logged.Logged.{Logged}
 use Rattle.papaya_logged.proofs.MakingSteps.{is_there}
@@ -92,6 +95,16 @@ module _ {K V : Type 0} (s : Scene K V) (i : ℕ) (b : Beginning K) where
         }
     came_on (progress.Refused fault) leads = record { maker = at_same s1.makers i None i refl; makers = others None; maps = came.maps; calls = came.calls; enders = came.enders }
 
+    -- if it has made no table there, neither has its machine
+    pub bare_on : (told : Progress Setting) (leads : MakingLeads same hash i told s1 mid new)
+        → CameBare s (making_after same hash s1 mid new i b1 (leads b1 here1).0 (leads b1 here1).2.step.w2 told (leads b1 here1).3) i b told (came_on told leads).maker
+        → IsBare told (leads b1 here1).0
+    unfolding came_on
+    bare_on progress.Goes leads bare = bare
+    bare_on progress.Waits leads bare = bare
+    bare_on (progress.Done setting) leads bare = bare
+    bare_on (progress.Refused fault) leads bare = tt
+
     -- it was under way, and it is still, with less to do
     pub was_under : IsAt same hash mid s1 → work_of mid i ≡ Some (work.Making b.map came.maker.0)
     was_under at = making_of (work_of mid i) b.map came.maker.0 (sym (at.makers i) ∙ ap (option_map (λ (x : Beginning K). (x.map, x.machine))) here1)
@@ -114,6 +127,10 @@ module _ {K V : Type 0} (s : Scene K V) (i : ℕ) (b : Beginning K) where
           subst (λ (x : Option (Work K V)). making_left_of x < making_left_of (work_of mid i)) (sym is_under)
           (subst (λ (x : Option (Work K V)). new_map_left (leads b1 here1).0 < making_left_of x) (sym (was_under at)) less)
 
+-- effects that just ask, one after another
+both_ask : (xs ys : List Effect) → list_all is_growth xs ≡ true → list_all is_growth ys ≡ true → list_all is_growth (xs ++ ys) ≡ true
+both_ask xs ys first then = list_all-append is_growth xs ys ∙ ap (λ (q : Bool). q && list_all is_growth ys) first ∙ then
+
 -- what was new where the run began is new where its last step is taken
 module _ {K V : Type 0} (map : ℕ) (m v : Moment K V) (stays : StaysNew map progress.Goes m v) where
   new_there : (told : Progress Setting) → WasNew map told m → WasNew map told v
@@ -130,11 +147,12 @@ module _ {K V : Type 0} (map : ℕ) (m v : Moment K V) (stays : StaysNew map pro
 
 module _ {K V S : Type 0} (i map : ℕ) where
   pub makes_none : (l : Logged K V S) (xs : List Effect) → MakingRan i map progress.Goes xs xs l l
+  unfolding came_first
   makes_none l xs = (
     [],
     sym (append-nil xs),
     λ same hash s at b here of_map. (s, came_first s i b here, at),
-    λ same hash name m s shown b here of_map of. (λ setting is_new. is_new, λ was_new. (s, came_first s i b here, shown)),
+    λ same hash name m s shown b here of_map of. (λ setting is_new. is_new, λ was_new. (s, came_first s i b here, shown, λ bare. (bare, refl))),
   )
 
   -- and one step more
@@ -155,26 +173,30 @@ module _ {K V S : Type 0} (i map : ℕ) where
       abbrev v : Moment K V
       v = with_effects None of ran.0 m
 
-      was : StaysNew map progress.Goes m v × (Unit {0} → (s1 : Scene K V) × MakingCame s s1 i b progress.Goes × IsShown same hash name v mid s1)
+      was : StaysNew map progress.Goes m v
+          × (Unit {0} → (s1 : Scene K V) × (came : MakingCame s s1 i b progress.Goes) × IsShown same hash name v mid s1 × (CameBare s s1 i b progress.Goes came.maker → JustAsks b ran.0))
       was = ran.3 same hash name m s shown b here of_map of
 
       after_it : with_effects None of (ran.0 ++ step.0) m ≡ with_effects None of step.0 v
       after_it = effects_after None of ran.0 step.0 m
 
       shown_on : StaysNew map told m (with_effects None of (ran.0 ++ step.0) m)
-          × (WasNew map told m → (s2 : Scene K V) × MakingCame s s2 i b told × IsShown same hash name (with_effects None of (ran.0 ++ step.0) m) new s2)
+          × (WasNew map told m
+          → (s2 : Scene K V) × (came : MakingCame s s2 i b told) × IsShown same hash name (with_effects None of (ran.0 ++ step.0) m) new s2
+          × (CameBare s s2 i b told came.maker → JustAsks b (ran.0 ++ step.0)))
       shown_on =
           let u = was.1 tt in
           let b1 : Beginning K = record b { machine = u.1.maker.0 } in
           let to = step.2 same hash name v u.0 u.2 b1 u.1.maker.1 of_map in
           let leads = to.0 in
-          let goes = to.1 of in
+          let goes = to.2 of in
           let s2 : Scene K V = making_after same hash u.0 mid.executor new.executor i b1 (leads b1 u.1.maker.1).0 (leads b1 u.1.maker.1).2.step.w2 told (leads b1 u.1.maker.1).3 in (
             stays_on map m v was.0 told (with_effects None of (ran.0 ++ step.0) m) (subst (λ (x : Moment K V). StaysNew map told v x) (sym after_it) goes.0),
             λ was_new. (
               s2,
               came_on s i b same hash mid.executor new.executor u.0 u.1 told leads,
               subst (λ (x : Moment K V). IsShown same hash name x new s2) (sym after_it) (goes.1 (new_there map m v was.0 told was_new)),
+              λ bare. let here = to.1 (bare_on s i b same hash mid.executor new.executor u.0 u.1 told leads bare) in let before = u.3 here.0 in (before.0, both_ask ran.0 step.0 before.1 here.1),
             ),
           )
 

@@ -1,5 +1,6 @@
 -- Where the beginning of the making of a map leads, a step of it, and its run to the end; and what they do.
 use Rattle.std.specs.Prelude.{◌≡◌, ◌≢◌, ◌<◌, ◌≤◌, ◌+◌, ◌^◌, ◌==◌, ℕ, Bool, true, false, List, ◌++◌, length, take, max, Option, Some, None, if◌then◌else◌}
+use Rattle.std.specs.List.{list_all}
 use Rattle.std.specs.Int.{IsPowerOfTwo}
 use Rattle.seize.specs.World.{with_at}
 use Rattle.seize.specs.declared.progress.Progress.{Progress}
@@ -7,9 +8,14 @@ use Rattle.seize.specs.declared.progress.Progress.TheVariants as progress
 use Rattle.papaya_tables.specs.Lengths.{IsTableLen}
 use Rattle.papaya_tables.specs.declared.setting.Setting.{Setting}
 use Rattle.papaya_resize.specs.declared.new_map.NewMap.{NewMap}
+use Rattle.papaya_resize.specs.declared.new_map.Opening.{Opening}
+use Rattle.papaya_resize.specs.declared.new_map.Opening.TheVariants as opens
+use Rattle.papaya_resize.specs.declared.new_table.Making.{Making}
+use Rattle.papaya_resize.specs.declared.new_table.Making.TheVariants as makes
 use Rattle.papaya_schedules.specs.declared.effect.Effect.{Effect}
 use Rattle.papaya_schedules.specs.Beginning.{with_map}
 use Rattle.papaya_schedules.specs.Effects.{with_effects}
+use Rattle.papaya_schedules.specs.InTurn.{is_growth}
 use Rattle.papaya_schedules.specs.Moment.{MapThere, Moment}
 use Rattle.papaya_points.specs.Steps.{AreLawful}
 use Rattle.papaya_finishes.specs.Makings.{Beginning, IsNewChart}
@@ -42,6 +48,29 @@ abbrev pub StaysNew : {K V : Type 0} → ℕ → Progress Setting → Moment K V
 StaysNew map progress.Goes m v = (setting : Setting) → IsNew map setting m → IsNew map setting v
 StaysNew map _ m v = Unit {0}
 
+-- the making of a table, or of a map, that stands here has made one
+abbrev pub has_table : Making → Bool
+has_table (makes.Promotes table) = true
+has_table (makes.Links table) = true
+has_table (makes.Drops table found) = true
+has_table (makes.Over table) = true
+has_table _ = false
+
+abbrev pub has_tabled : Opening → Bool
+has_tabled (opens.Tables making) = has_table making.stands
+has_tabled opens.Over = true
+has_tabled _ = false
+
+-- by what a step told: it has made none yet, or was refused
+abbrev pub IsBare : Progress Setting → NewMap → Type 0
+IsBare progress.Goes n = has_tabled n.stands ≡ false
+IsBare (progress.Refused fault) n = Unit {0}
+IsBare _ n = ⊥
+
+-- no table was made before, and these effects are that growths were asked for
+abbrev pub JustAsks : {K : Type 0} → Beginning K → List Effect → Type 0
+JustAsks b did = (has_tabled b.machine.stands ≡ false) × (list_all is_growth did ≡ true)
+
 module _ {K V S : Type 0} (same : K → K → Bool) (hash : K → ℕ) (name : ℕ → List ℕ) (m : Moment K V) (s : Scene K V) where
   -- A making that may begin is under way, and the moment shows that, as it is.
   abbrev pub MakingIsBegun : Setting → ℕ → ℕ → (old new : Logged K V S) → Type 0
@@ -50,11 +79,13 @@ module _ {K V S : Type 0} (same : K → K → Bool) (hash : K → ℕ) (name : �
       → (max places 8 ≤ 2 ^ 48 → IsTableLen (max places 8))
       → IsShown same hash name m new (record s { makers = with_at s.makers i (Some (next_making hash given places old.executor)) })
 
-  -- A step of a caller's making of this map, which did this. The moment after it shows where the step has led; if the map stands then, it was there as a new one.
+  -- A step of a caller's making of this map, which did this. The moment after it shows where the step has led; if the map stands then, it was there as a new one. A step
+  -- of one that has made no table yet, or was refused, does nothing but ask for growths.
   abbrev pub MakingGoesOn : (i map : ℕ) → Progress Setting → List Effect → (old new : Logged K V S) → Type 0
   MakingGoesOn i map told did old new =
       (b : Beginning K) (here : s.makers i ≡ Some b) → b.map ≡ map
       → (leads : MakingLeads same hash i told s old.executor new.executor)
+      × (IsBare told (leads b here).0 → JustAsks b did)
       × ((of : Option ℕ)
       → StaysNew map told m (with_effects None of did m)
       × (WasNew map told m
@@ -76,6 +107,12 @@ module _ {K V : Type 0} (s s2 : Scene K V) (i : ℕ) (b : Beginning K) where
     pub hash_is : standing.hash ≡ b.hash
     pub chart_is : IsNewChart b.hash setting b.places standing.chart
     pub others : (n : ℕ) → n ≢ b.map → s2.maps n ≡ s.maps n
+
+  -- it has made no table yet, or was refused
+  abbrev pub CameBare : (told : Progress Setting) → MakerIs told → Type 0
+  CameBare progress.Goes maker = has_tabled maker.0.stands ≡ false
+  CameBare (progress.Refused fault) maker = Unit {0}
+  CameBare _ maker = ⊥
 
   abbrev pub MapsAre : Progress Setting → Type 0
   MapsAre (progress.Done setting) = HasCome setting
@@ -100,12 +137,13 @@ module _ {K V S : Type 0} where
     abbrev pub MakingIsAt : Type 0
     MakingIsAt = (b : Beginning K) → s.makers i ≡ Some b → b.map ≡ map → (s2 : Scene K V) × MakingCame s s2 i b told × IsAt same hash new.executor s2
 
-    -- and so it is shown, whether the map is there or not; if it stands then, it was there as a new one.
+    -- and so it is shown, whether the map is there or not; if it stands then, it was there as a new one. If it was refused it did nothing but ask for growths.
     abbrev pub MakingIsShown : (ℕ → List ℕ) → Moment K V → Type 0
     MakingIsShown name m =
         (b : Beginning K) → s.makers i ≡ Some b → b.map ≡ map → (of : Option ℕ)
         → StaysNew map told m (with_effects None of did m)
-        × (WasNew map told m → (s2 : Scene K V) × MakingCame s s2 i b told × IsShown same hash name (with_effects None of did m) new s2)
+        × (WasNew map told m
+        → (s2 : Scene K V) × (came : MakingCame s s2 i b told) × IsShown same hash name (with_effects None of did m) new s2 × (CameBare s s2 i b told came.maker → JustAsks b did))
 
   -- So it is of several steps.
   abbrev pub MakingRan : (i map : ℕ) → Progress Setting → (before after : List Effect) → (old new : Logged K V S) → Type 0
