@@ -113,6 +113,7 @@ ran_given {K} {V} {S} i map told xs ys old mid new ran notes is items = (
                 shows = subst (λ (n : Notes). ShowsWhole {K = K} {V = V} same name (with_effects None of ran.0 m) (known n) u.0) (sym notes) u.2.shows;
               },
               u.3,
+              u.4,
             )),
       )),
 )

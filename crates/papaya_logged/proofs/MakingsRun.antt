@@ -1,22 +1,25 @@
 -- The making of a map runs on: what its steps do follows one upon another, and each that goes on leaves less to do.
-use Rattle.std.specs.Prelude.{◌≡◌, ◌≢◌, ◌<◌, ◌&&◌, ℕ, Bool, true, false, List, [], ◌++◌, Option, Some, None, option_map}
+use Rattle.std.specs.Prelude.{◌≡◌, ◌≢◌, ◌<◌, ◌==◌, ◌&&◌, ℕ, zero, suc, Bool, true, false, List, [], ◌∷◌, ◌++◌, length, Option, Some, None, option_map, if◌then◌else◌}
 use Rattle.std.specs.List.{list_all}
-use Rattle.std.proofs.Common.{refl, sym, ap, subst, ◌∙◌}
+use Rattle.std.proofs.Common.{refl, sym, ap, subst, ◌∙◌, inl, inr, arith, length-append}
+use Rattle.std.proofs.lemmas.Bool.{eq-eqb, ne_eqb}
 use Rattle.std.proofs.lemmas.List.{append-nil, append_assoc}
 use Rattle.std.proofs.lemmas.List.Folds.{list_all-append}
 use Rattle.seize.specs.World.{with_at}
 use Rattle.seize.specs.declared.progress.Progress.{Progress}
 use Rattle.seize.specs.declared.progress.Progress.TheVariants as progress
 use Rattle.papaya_tables.specs.declared.setting.Setting.{Setting}
+use Rattle.papaya_rule.specs.Chart.{Chart}
 use Rattle.papaya_resize.specs.NewMap.{new_map_plan}
 use Rattle.papaya_resize.specs.declared.new_map.NewMap.{NewMap}
 use Rattle.papaya_schedules.specs.declared.effect.Effect.{Effect}
 use Rattle.papaya_schedules.specs.Effects.{with_effects}
 use Rattle.papaya_schedules.specs.InTurn.{is_growth}
-use Rattle.papaya_schedules.specs.Moment.{Moment}
+use Rattle.papaya_schedules.specs.Moment.{Stage, TableThere, Moment}
 use Rattle.papaya_teller.specs.declared.changed.Changed.TheVariants.{Nothing}
 use Rattle.papaya_callers.proofs.Together.At.{at_other, at_same}
-use Rattle.papaya_finishes.specs.Makings.{Beginning}
+use Rattle.papaya_follows.specs.Maps.{shape_at, table_of, tables_to}
+use Rattle.papaya_finishes.specs.Makings.{Beginning, IsNewChart}
 use Rattle.papaya_finishes.specs.Maps.{Standing}
 use Rattle.papaya_maps.specs.MeasuresBegins.{new_map_left}
 use Rattle.papaya_maps.proofs.Begins.ComesToEnd.{beginnings_leave_less}
@@ -28,7 +31,7 @@ use Rattle.papaya_executor.specs.declared.worker.Work.TheVariants as work
 use Rattle.papaya_executor.proofs.Forgotten.{as_step}
 use Rattle.papaya_others.specs.Makings.{WasNew, making_after}
 use Rattle.papaya_moments.proofs.After.{effects_after}
-use Rattle.papaya_logged.specs.Makings.{is_over, IsBare, JustAsks, StaysNew, CameBare, MakingCame, MakingSteps, MakingIsAt, MakingRan}
+use Rattle.papaya_logged.specs.Makings.{is_over, HasTable, IsBare, JustAsks, StaysNew, CameBare, MakingCame, MakingSteps, MakingIsAt, MakingRan}
 use Rattle.papaya_logged.specs.Shown.{IsShown}
 use Rattle.papaya_logged.specs.declared.logged.Logged.{Logged}
 use Rattle.papaya_logged.proofs.MakingSteps.{is_there}
@@ -127,9 +130,32 @@ module _ {K V : Type 0} (s : Scene K V) (i : ℕ) (b : Beginning K) where
           subst (λ (x : Option (Work K V)). making_left_of x < making_left_of (work_of mid i)) (sym is_under)
           (subst (λ (x : Option (Work K V)). new_map_left (leads b1 here1).0 < making_left_of x) (sym (was_under at)) less)
 
+-- the tables of a new map
+new_past : {K : Type 0} (hash : K → ℕ) (setting : Setting) (places : ℕ) (chart : Chart K) → IsNewChart hash setting places chart → chart.past ≡ (if places == 0 then 0 else 1)
+new_past {K} hash setting places chart (inl it) = ap (λ (c : Chart K). c.past) it.1 ∙ ap (λ (q : Bool). if q then 0 else 1) (sym (eq-eqb places 0 it.0))
+new_past {K} hash setting places chart (inr it) = ap (λ (c : Chart K). c.past) it.2 ∙ ap (λ (q : Bool). if q then 0 else 1) (sym (ne_eqb places 0 it.0))
+
+so_many : {K : Type 0} (map : ℕ) (c : Chart K) (stage : ℕ → Stage) (past : ℕ) → length (tables_to map c stage past) ≡ past
+so_many map c stage zero = refl
+so_many map c stage (suc t) =
+    let one : TableThere = record { table = table_of map t; shape = shape_at map c t; stage = stage t } in
+    let e = length-append (tables_to map c stage t) (one ∷ []) in
+    let k = so_many map c stage t in
+    omega (arith, e, k)
+
+has_its_table : {K V S : Type 0} (same : K → K → Bool) (hash : K → ℕ) (name : ℕ → List ℕ) (w : Moment K V) (l : Logged K V S) (s s2 : Scene K V) (i : ℕ) (b : Beginning K) (told : Progress Setting)
+    → MakingCame s s2 i b told → IsShown same hash name w l s2 → HasTable told b w
+has_its_table same hash name w l s s2 i b progress.Goes came shown = tt
+has_its_table same hash name w l s s2 i b progress.Waits came shown = tt
+has_its_table same hash name w l s s2 i b (progress.Done setting) came shown =
+    let st = came.maps.standing in
+    let tables = (shown.shows.all.shown.maps b.map st came.maps.there).tables in
+    ap length tables.listed ∙ so_many b.map st.chart tables.stage st.chart.past ∙ new_past b.hash setting b.places st.chart came.maps.chart_is
+has_its_table same hash name w l s s2 i b (progress.Refused fault) came shown = tt
+
 -- effects that just ask, one after another
 both_ask : (xs ys : List Effect) → list_all is_growth xs ≡ true → list_all is_growth ys ≡ true → list_all is_growth (xs ++ ys) ≡ true
-both_ask xs ys first then = list_all-append is_growth xs ys ∙ ap (λ (q : Bool). q && list_all is_growth ys) first ∙ then
+both_ask xs ys first later = list_all-append is_growth xs ys ∙ ap (λ (q : Bool). q && list_all is_growth ys) first ∙ later
 
 -- what was new where the run began is new where its last step is taken
 module _ {K V : Type 0} (map : ℕ) (m v : Moment K V) (stays : StaysNew map progress.Goes m v) where
@@ -152,7 +178,7 @@ module _ {K V S : Type 0} (i map : ℕ) where
     [],
     sym (append-nil xs),
     λ same hash s at b here of_map. (s, came_first s i b here, at),
-    λ same hash name m s shown b here of_map of. (λ setting is_new. is_new, λ was_new. (s, came_first s i b here, shown, λ bare. (bare, refl))),
+    λ same hash name m s shown b here of_map of. (λ setting is_new. is_new, λ was_new. (s, came_first s i b here, shown, λ bare. (bare, refl), tt)),
   )
 
   -- and one step more
@@ -174,7 +200,7 @@ module _ {K V S : Type 0} (i map : ℕ) where
       v = with_effects None of ran.0 m
 
       was : StaysNew map progress.Goes m v
-          × (Unit {0} → (s1 : Scene K V) × (came : MakingCame s s1 i b progress.Goes) × IsShown same hash name v mid s1 × (CameBare s s1 i b progress.Goes came.maker → JustAsks b ran.0))
+          × (Unit {0} → (s1 : Scene K V) × (came : MakingCame s s1 i b progress.Goes) × IsShown same hash name v mid s1 × (CameBare s s1 i b progress.Goes came.maker → JustAsks b ran.0) × HasTable progress.Goes b v)
       was = ran.3 same hash name m s shown b here of_map of
 
       after_it : with_effects None of (ran.0 ++ step.0) m ≡ with_effects None of step.0 v
@@ -183,7 +209,7 @@ module _ {K V S : Type 0} (i map : ℕ) where
       shown_on : StaysNew map told m (with_effects None of (ran.0 ++ step.0) m)
           × (WasNew map told m
           → (s2 : Scene K V) × (came : MakingCame s s2 i b told) × IsShown same hash name (with_effects None of (ran.0 ++ step.0) m) new s2
-          × (CameBare s s2 i b told came.maker → JustAsks b (ran.0 ++ step.0)))
+          × (CameBare s s2 i b told came.maker → JustAsks b (ran.0 ++ step.0)) × HasTable told b (with_effects None of (ran.0 ++ step.0) m))
       shown_on =
           let u = was.1 tt in
           let b1 : Beginning K = record b { machine = u.1.maker.0 } in
@@ -193,11 +219,15 @@ module _ {K V S : Type 0} (i map : ℕ) where
           let s2 : Scene K V = making_after same hash u.0 mid.executor new.executor i b1 (leads b1 u.1.maker.1).0 (leads b1 u.1.maker.1).2.step.w2 told (leads b1 u.1.maker.1).3 in (
             stays_on map m v was.0 told (with_effects None of (ran.0 ++ step.0) m) (subst (λ (x : Moment K V). StaysNew map told v x) (sym after_it) goes.0),
             λ was_new. (
-              s2,
-              came_on s i b same hash mid.executor new.executor u.0 u.1 told leads,
-              subst (λ (x : Moment K V). IsShown same hash name x new s2) (sym after_it) (goes.1 (new_there map m v was.0 told was_new)),
-              λ bare. let here = to.1 (bare_on s i b same hash mid.executor new.executor u.0 u.1 told leads bare) in let before = u.3 here.0 in (before.0, both_ask ran.0 step.0 before.1 here.1),
-            ),
+                let came : MakingCame s s2 i b told = came_on s i b same hash mid.executor new.executor u.0 u.1 told leads in
+                let there : IsShown same hash name (with_effects None of (ran.0 ++ step.0) m) new s2 =
+                subst (λ (x : Moment K V). IsShown same hash name x new s2) (sym after_it) (goes.1 (new_there map m v was.0 told was_new)) in (
+                  s2,
+                  came,
+                  there,
+                  λ bare. (let it = to.1 (bare_on s i b same hash mid.executor new.executor u.0 u.1 told leads bare) in let before = u.3 it.0 in (before.0, both_ask ran.0 step.0 before.1 it.1)),
+                  has_its_table same hash name (with_effects None of (ran.0 ++ step.0) m) new s s2 i b told came there,
+                )),
           )
 
     pub makes_on : MakingRan i map told xs zs old new

@@ -17,6 +17,7 @@ use Rattle.papaya_schedules.specs.Beginning.{with_map}
 use Rattle.papaya_schedules.specs.Effects.{with_effects}
 use Rattle.papaya_schedules.specs.InTurn.{is_growth}
 use Rattle.papaya_schedules.specs.Moment.{MapThere, Moment}
+use Rattle.papaya_schedules.specs.Views.{tables_of}
 use Rattle.papaya_points.specs.Steps.{AreLawful}
 use Rattle.papaya_finishes.specs.Makings.{Beginning, IsNewChart}
 use Rattle.papaya_finishes.specs.Maps.{Standing}
@@ -70,6 +71,11 @@ IsBare _ n = ⊥
 -- no table was made before, and these effects are that growths were asked for
 abbrev pub JustAsks : {K : Type 0} → Beginning K → List Effect → Type 0
 JustAsks b did = (has_tabled b.machine.stands ≡ false) × (list_all is_growth did ≡ true)
+
+-- the map that came has a table where it was to have one
+abbrev pub HasTable : {K V : Type 0} → Progress Setting → Beginning K → Moment K V → Type 0
+HasTable (progress.Done setting) b w = length (tables_of b.map w) ≡ (if b.places == 0 then 0 else 1)
+HasTable _ b w = Unit {0}
 
 module _ {K V S : Type 0} (same : K → K → Bool) (hash : K → ℕ) (name : ℕ → List ℕ) (m : Moment K V) (s : Scene K V) where
   -- A making that may begin is under way, and the moment shows that, as it is.
@@ -143,7 +149,8 @@ module _ {K V S : Type 0} where
         (b : Beginning K) → s.makers i ≡ Some b → b.map ≡ map → (of : Option ℕ)
         → StaysNew map told m (with_effects None of did m)
         × (WasNew map told m
-        → (s2 : Scene K V) × (came : MakingCame s s2 i b told) × IsShown same hash name (with_effects None of did m) new s2 × (CameBare s s2 i b told came.maker → JustAsks b did))
+        → (s2 : Scene K V) × (came : MakingCame s s2 i b told) × IsShown same hash name (with_effects None of did m) new s2 × (CameBare s s2 i b told came.maker → JustAsks b did)
+        × HasTable told b (with_effects None of did m))
 
   -- So it is of several steps.
   abbrev pub MakingRan : (i map : ℕ) → Progress Setting → (before after : List Effect) → (old new : Logged K V S) → Type 0
