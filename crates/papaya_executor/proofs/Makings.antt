@@ -33,7 +33,7 @@ use Rattle.papaya_executor.proofs.Made.{made_at}
 use Rattle.papaya_executor.proofs.Places.{making_found}
 
 -- the settings are as many as they were
-same_count : (map : ℕ) (told : Progress Setting) (maps : List (Option Setting)) → length (maps_on map told maps) ≡ length maps
+pub same_count : (map : ℕ) (told : Progress Setting) (maps : List (Option Setting)) → length (maps_on map told maps) ≡ length maps
 same_count map progress.Goes maps = refl
 same_count map progress.Waits maps = refl
 same_count map (progress.Done setting) maps = length-set maps map (Some setting)

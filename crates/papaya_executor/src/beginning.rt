@@ -44,6 +44,7 @@ impl<K: Drop, V: Drop, S> Executor<K, V, S> {
         requires { slot < SLOTS }
         ensures number { IfOk result (λ caller. caller ≡ length self.old.workers.items * SLOTS + slot) }
         ensures leads { IfOk result (λ caller. (same : K → K → Bool) (hash : K → ℕ) (s : Scene K V) → IsAt same hash self.old s → MakingBegins same hash given places caller s self.old self.new) }
+        ensures numbers { IfOk result (λ caller. length self.new.maps.items ≡ length self.old.maps.items + 1) }
         ensures refused { IfErr result (λ error. IsRefused self.old self.new) }
         ensures only { OnErr result (HasNoNumber self.old) }
     {

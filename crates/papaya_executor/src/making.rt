@@ -44,7 +44,8 @@ impl<K: Drop, V: Drop, S> Executor<K, V, S> {
     /// stands, unless it was refused.
     pub fn step_making(&mut self, caller: u64) -> Progress<Setting>
         requires { (same : K → K → Bool) × (hash : K → ℕ) × (s : Scene K V) × IsAt same hash self.old s × IsMaking s caller }
-        ensures { (same : K → K → Bool) (hash : K → ℕ) (s : Scene K V) → IsAt same hash self.old s → MakingLeads same hash caller result s self.old self.new }
+        ensures leads { (same : K → K → Bool) (hash : K → ℕ) (s : Scene K V) → IsAt same hash self.old s → MakingLeads same hash caller result s self.old self.new }
+        ensures numbers { length self.new.maps.items ≡ length self.old.maps.items }
     {
         let place = (caller / SLOTS) as usize;
         let TakenMaking {

@@ -2,3 +2,6 @@ pub mod Shown
 pub mod Calling
 pub mod OnSlots
 pub mod Ended
+pub mod Makings
+pub mod Ends
+pub mod Reclaims

@@ -2,5 +2,8 @@
 #![tactic(auto)]
 
 pub mod calling;
+pub mod ends;
 pub mod logged;
+pub mod makings;
 pub mod on_slots;
+pub mod reclaims;

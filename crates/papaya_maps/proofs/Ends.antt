@@ -2,6 +2,6 @@
 pub mod BlocksFew
 mod Since
 pub mod Whole
-mod Lower
+pub mod Lower
 pub mod ComesToEnd
 pub mod OthersRest

@@ -6,7 +6,9 @@ pub mod Makings
 pub mod MakingSteps
 pub mod MapsCome
 pub mod Numbers
+pub mod NewMaps
 pub mod Over
+pub mod WholeEnds
 pub mod Calls
 pub mod Walks
 pub mod Roles

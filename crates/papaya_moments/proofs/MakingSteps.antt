@@ -46,7 +46,7 @@ use Rattle.papaya_others.proofs.Makes.{still_made, lasting_there, no_table_word,
 use Rattle.papaya_others.proofs.Quiet.{calls_none, stored_none}
 use Rattle.papaya_spots.proofs.Calm.{put_back}
 use Rattle.papaya_spots.proofs.Makings.{makings_leave_places}
-use Rattle.papaya_moments.specs.Makings.{IsNewFor, MakingsKeepWhole}
+use Rattle.papaya_moments.specs.Makings.{MakingsKeepWhole}
 use Rattle.papaya_moments.specs.Whole.{ShowsWhole}
 use Rattle.papaya_moments.proofs.Beside.{CameAsTable, StoodSo, StandsNew, IsBeside, hands_beside, asked_beside}
 use Rattle.papaya_moments.proofs.Makings.{lasting_of, none_of_it, none_of_map, not_of_map, before_free, makings_keep_blocks}
@@ -254,7 +254,7 @@ module _ {K V S : Type 0} (same : K → K → Bool) (hash : K → ℕ) (name : �
 module _ (K V S : Type 0) (same : K → K → Bool) (hash : K → ℕ) where
   module _ (name : ℕ → List ℕ) (m : Moment K V) (known : Known) (s : Scene K V) (old new : Executor K V S) (at : IsAt same hash old s) (whole : ShowsWhole same name m known s)
       (i : ℕ) (told : Progress Setting) (leads : MakingLeads same hash i told s old new) (b : Beginning K) (here : s.makers i ≡ Some b) (of : Option ℕ)
-      (setting : Setting) (is_new : IsNew b.map setting m) (was_new : WasNew b.map told m) where
+      (was_new : WasNew b.map told m) where
     abbrev v : Moment K V
     v = with_effects None of (effects_of (acts.Making b.map) known new.memory.changed) m
 
@@ -276,28 +276,28 @@ module _ (K V S : Type 0) (same : K → K → Bool) (hash : K → ℕ) where
             rows = rows;
           };
           places = lie.0;
-          blocks = makings_keep_blocks K V S same hash name m known s old new at whole.all.shown whole.blocks i told leads b here of setting is_new;
+          blocks = makings_keep_blocks K V S same hash name m known s old new at whole.all.shown whole.blocks i told leads b here of was_new;
           outside = lie.1;
           counters = makings_note_counters K V S same hash name m known s old new at whole.all.shown whole.counters i told leads b here;
         }
 
   -- what calls and hands are asked by lasts by each step of a making
   pub makings_go_beside : (name : ℕ → List ℕ) (m : Moment K V) (known : Known) (s : Scene K V) (old new : Executor K V S) (at : IsAt same hash old s) (whole : ShowsWhole same name m known s)
-      → (i : ℕ) (told : Progress Setting) (leads : MakingLeads same hash i told s old new) (b : Beginning K) (here : s.makers i ≡ Some b) (of : Option ℕ) → IsNewFor b.map told m
+      → (i : ℕ) (told : Progress Setting) (leads : MakingLeads same hash i told s old new) (b : Beginning K) (here : s.makers i ≡ Some b) (of : Option ℕ) → WasNew b.map told m
       → IsBeside m (with_effects None of (effects_of (acts.Making b.map) known new.memory.changed) m) known (known_after (acts.Making b.map) new.memory.changed known) s
       (making_after same hash s old new i b (leads b here).0 (leads b here).2.step.w2 told (leads b here).3)
-  makings_go_beside name m known s old new at whole i progress.Goes leads b here of is_new =
+  makings_go_beside name m known s old new at whole i progress.Goes leads b here of was_new =
       let to = leads b here in
       let s2 : Scene K V = record s { world = to.2.step.w2; makers = with_at s.makers i (Some (record b { machine = to.0 })) } in
       making_beside same hash name m known s old new at whole i b here to.0 progress.Goes to.1 to.2 of s2 refl refl
       (all_went same hash name m known s old new at whole i b here to.0 progress.Goes to.1 to.2 of s2
       (λ r before after is. absurd (not_going same hash name m known s old new at whole.all.shown i b here to.0 progress.Goes to.1 to.2 of r before after is refl to.3)))
       (stood_still same hash name m known s old new at whole i b here to.0 progress.Goes to.1 to.2 of s2 refl)
-  makings_go_beside name m known s old new at whole i progress.Waits leads b here of is_new = absurd (leads b here).3
-  makings_go_beside name m known s old new at whole i (progress.Done setting) leads b here of is_new =
+  makings_go_beside name m known s old new at whole i progress.Waits leads b here of was_new = absurd (leads b here).3
+  makings_go_beside name m known s old new at whole i (progress.Done setting) leads b here of was_new =
       let to = leads b here in
-      done_beside same hash name m known s old new at whole i b here to.0 (progress.Done setting) to.1 to.2 of setting refl to.3.0 to.3.1 to.3.2 is_new
-  makings_go_beside name m known s old new at whole i (progress.Refused fault) leads b here of is_new =
+      done_beside same hash name m known s old new at whole i b here to.0 (progress.Done setting) to.1 to.2 of setting refl to.3.0 to.3.1 to.3.2 was_new
+  makings_go_beside name m known s old new at whole i (progress.Refused fault) leads b here of was_new =
       let to = leads b here in
       let s2 : Scene K V = record s { world = to.2.step.w2; makers = with_at s.makers i None } in
       making_beside same hash name m known s old new at whole i b here to.0 (progress.Refused fault) to.1 to.2 of s2 refl refl
@@ -306,16 +306,16 @@ module _ (K V S : Type 0) (same : K → K → Bool) (hash : K → ℕ) where
       (stood_still same hash name m known s old new at whole i b here to.0 (progress.Refused fault) to.1 to.2 of s2 refl)
 
   pub makings_keep_whole : MakingsKeepWhole K V S same hash
-  makings_keep_whole name m known s old new at whole i progress.Goes leads b here of is_new =
+  makings_keep_whole name m known s old new at whole i progress.Goes leads b here of was_new =
       let rows = makings_go_aside K V S same hash s old new at whole.all.rows i progress.Goes leads b here in
-      whole_then name m known s old new at whole i progress.Goes leads b here of is_new.0 is_new.1 tt
-      (makings_go_beside name m known s old new at whole i progress.Goes leads b here of is_new) (leads b here).3 (record { none = rows.none; one = rows.one })
-  makings_keep_whole name m known s old new at whole i progress.Waits leads b here of is_new = absurd (leads b here).3
-  makings_keep_whole name m known s old new at whole i (progress.Done setting) leads b here of is_new =
+      whole_then name m known s old new at whole i progress.Goes leads b here of was_new
+      (makings_go_beside name m known s old new at whole i progress.Goes leads b here of was_new) (leads b here).3 (record { none = rows.none; one = rows.one })
+  makings_keep_whole name m known s old new at whole i progress.Waits leads b here of was_new = absurd (leads b here).3
+  makings_keep_whole name m known s old new at whole i (progress.Done setting) leads b here of was_new =
       let rows = makings_go_aside K V S same hash s old new at whole.all.rows i (progress.Done setting) leads b here in
-      whole_then name m known s old new at whole i (progress.Done setting) leads b here of setting is_new is_new
-      (makings_go_beside name m known s old new at whole i (progress.Done setting) leads b here of is_new) (leads b here).3.2 (record { none = rows.none; one = rows.one })
-  makings_keep_whole name m known s old new at whole i (progress.Refused fault) leads b here of is_new =
+      whole_then name m known s old new at whole i (progress.Done setting) leads b here of was_new
+      (makings_go_beside name m known s old new at whole i (progress.Done setting) leads b here of was_new) (leads b here).3.2 (record { none = rows.none; one = rows.one })
+  makings_keep_whole name m known s old new at whole i (progress.Refused fault) leads b here of was_new =
       let rows = makings_go_aside K V S same hash s old new at whole.all.rows i (progress.Refused fault) leads b here in
-      whole_then name m known s old new at whole i (progress.Refused fault) leads b here of is_new.0 is_new.1 tt
-      (makings_go_beside name m known s old new at whole i (progress.Refused fault) leads b here of is_new) (leads b here).3 (record { none = rows.none; one = rows.one })
+      whole_then name m known s old new at whole i (progress.Refused fault) leads b here of was_new
+      (makings_go_beside name m known s old new at whole i (progress.Refused fault) leads b here of was_new) (leads b here).3 (record { none = rows.none; one = rows.one })

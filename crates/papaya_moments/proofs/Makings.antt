@@ -8,6 +8,7 @@ use Rattle.seize_words.specs.Word.{block_in}
 use Rattle.seize_words.specs.declared.at.At.TheVariants.{Root, Used, Slot, Entry, Word}
 use Rattle.seize.specs.World.{World}
 use Rattle.seize.specs.declared.progress.Progress.{Progress}
+use Rattle.seize.specs.declared.progress.Progress.TheVariants as progress
 use Rattle.papaya_tables.specs.declared.node.Node.{Node}
 use Rattle.papaya_tables.specs.declared.setting.Setting.{Setting}
 use Rattle.papaya_resize.specs.declared.new_map.NewMap.{NewMap}
@@ -32,7 +33,7 @@ use Rattle.papaya_effects.specs.declared.acting.Acting.TheVariants.{Making}
 use Rattle.papaya_effects.specs.declared.role.Role.{Role}
 use Rattle.papaya_effects.specs.declared.role.Role.TheVariants as role
 use Rattle.papaya_executor.specs.IsAt.{Scene, IsAt, slot_of}
-use Rattle.papaya_executor.specs.Making.{MakingStepsFrom}
+use Rattle.papaya_executor.specs.Making.{MakingStepsFrom, MakingComesTo}
 use Rattle.papaya_executor.specs.declared.executor.Executor.{Executor}
 use Rattle.papaya_follows.specs.Blocks.{HasRole}
 use Rattle.papaya_follows.specs.Shows.{Shows}
@@ -40,10 +41,10 @@ use Rattle.papaya_follows.proofs.Alike.{AllStill, calm_still, put_elsewhere}
 use Rattle.papaya_follows.proofs.Onward.{IsLasting, IsOfMap}
 use Rattle.papaya_follows.proofs.Operations.{LeavesBy}
 use Rattle.papaya_follows.proofs.Writes.{nothing_free}
-use Rattle.papaya_others.specs.Makings.{IsNew}
+use Rattle.papaya_others.specs.Makings.{IsNew, WasNew}
 use Rattle.papaya_others.proofs.Leads.{word_says}
 use Rattle.papaya_others.proofs.MakingPlans.{TellsMaking}
-use Rattle.papaya_others.proofs.Makes.{still_made, lasting_there, linked_stays, no_table_word, tells, left}
+use Rattle.papaya_others.proofs.Makes.{still_made, lasting_there, linked_stays, no_table_word, tells, left, not_going, not_refused}
 use Rattle.papaya_others.proofs.Quiet.{all_quiet}
 use Rattle.papaya_others.proofs.Retired.{any_kept}
 use Rattle.papaya_spots.specs.Unreclaimed.{is_unreclaimed, ShowsUnreclaimed}
@@ -148,32 +149,47 @@ module _ {K V S : Type 0} (same : K → K → Bool) (hash : K → ℕ) (name : �
       nothing_before : before ≡ 0
       nothing_before = let there : word_at w.memory (Root r) ≡ Some 0 = ap (λ (y : ℕ). word_at w.memory (Root y)) so.0 ∙ so.1 in let words = l.0 in cc (there, words)
 
-  module _ (setting : Setting) (is_new : IsNew b.map setting m) where
-    abbrev After : Changed → Type 0
-    After x = ShowsUnreclaimed (with_effects None of (effects_of (Making b.map) known x) m) (known_after (Making b.map) x known)
+  abbrev After : Changed → Type 0
+  After x = ShowsUnreclaimed (with_effects None of (effects_of (Making b.map) known x) m) (known_after (Making b.map) x known)
 
-    keeps : (x : Changed) → TellsMaking w i b.machine.setting.root x → LeavesBy w.memory w2.memory x → After x
-    keeps changed.Nothing so l = blocks
-    keeps (changed.Wrote (Root r) before after) so l =
-        subst (λ (y : Role). ShowsUnreclaimed (with_effects None of (if names_same before after then [] else led_to (Making b.map) y (named known after)) m)
-        (if names_same before after then known else linked_on (Making b.map) (block_in after) (named known after) known)) (sym (before_free r before after so l))
-        (led_blocks b.map of m known blocks setting is_new (names_same before after) (block_in after) (named known after) refl)
-    keeps (changed.Wrote (Used r) before after) so l = blocks
-    keeps (changed.Wrote (Slot t field) before after) so l = absurd so
-    keeps (changed.Wrote (Entry x field) before after) so l = absurd so
-    keeps (changed.Wrote (Word x field) before after) so l =
+  -- its root leads to the first table of a map that was there as a new one
+  rooted_new : (setting : Setting) → IsNew b.map setting m → (r before after : ℕ) → new.memory.changed ≡ changed.Wrote (Root r) before after → After (changed.Wrote (Root r) before after)
+  rooted_new setting is_new r before after is =
+      let so = subst (TellsMaking w i b.machine.setting.root) is (tells same hash name m known s old new at shown i b here end said steps did of) in
+      let l = subst (LeavesBy w.memory w2.memory) is (left same hash name m known s old new at shown i b here end said steps did of) in
+      subst (λ (y : Role). ShowsUnreclaimed (with_effects None of (if names_same before after then [] else led_to (Making b.map) y (named known after)) m)
+      (if names_same before after then known else linked_on (Making b.map) (block_in after) (named known after) known)) (sym (before_free r before after so l))
+      (led_blocks b.map of m known blocks setting is_new (names_same before after) (block_in after) (named known after) refl)
+
+  module _ (rooted : (r before after : ℕ) → new.memory.changed ≡ changed.Wrote (Root r) before after → After (changed.Wrote (Root r) before after)) where
+    keeps : (x : Changed) → new.memory.changed ≡ x → TellsMaking w i b.machine.setting.root x → LeavesBy w.memory w2.memory x → After x
+    keeps changed.Nothing is so l = blocks
+    keeps (changed.Wrote (Root r) before after) is so l = rooted r before after is
+    keeps (changed.Wrote (Used r) before after) is so l = blocks
+    keeps (changed.Wrote (Slot t field) before after) is so l = absurd so
+    keeps (changed.Wrote (Entry x field) before after) is so l = absurd so
+    keeps (changed.Wrote (Word x field) before after) is so l =
         let does = word_says (Making b.map) known field (block_in after) (known.roles x) (names_same before after) (named known before) (named known after)
         (no_table_word same hash name m known s old new at shown i b here end said steps did of x (names_same before after) so) in
         still_blocks b.map of m known blocks _ (calm_still _ does.0) _ (ap (λ (k : Known). k.roles) does.1)
-    keeps (changed.Made k x) so l = made_blocks b.map of m known blocks k x (λ last. lasting_there w m.stored x (known.roles x) (shown.blocks.roles x) last l.0)
-    keeps (changed.Unmade k) so l = still_blocks b.map of m known blocks (Asked ABlock ∷ []) (refl, tt) known refl
-    keeps (changed.Took x) so l = taken_blocks b.map of m known blocks x (known.roles x) refl (not_of_map x l.1 (known.roles x) refl)
-    keeps (changed.Roomed bucket had) so l = absurd so
+    keeps (changed.Made k x) is so l = made_blocks b.map of m known blocks k x (λ last. lasting_there w m.stored x (known.roles x) (shown.blocks.roles x) last l.0)
+    keeps (changed.Unmade k) is so l = still_blocks b.map of m known blocks (Asked ABlock ∷ []) (refl, tt) known refl
+    keeps (changed.Took x) is so l = taken_blocks b.map of m known blocks x (known.roles x) refl (not_of_map x l.1 (known.roles x) refl)
+    keeps (changed.Roomed bucket had) is so l = absurd so
 
-    pub making_keeps : After new.memory.changed
-    making_keeps = keeps new.memory.changed (tells same hash name m known s old new at shown i b here end said steps did of) (left same hash name m known s old new at shown i b here end said steps did of)
+    making_keeps : After new.memory.changed
+    making_keeps =
+        keeps new.memory.changed refl (tells same hash name m known s old new at shown i b here end said steps did of) (left same hash name m known s old new at shown i b here end said steps did of)
+
+  blocks_by : (t : Progress Setting) → said ≡ t → MakingComesTo same hash s old new i b end w2 t → WasNew b.map t m → After new.memory.changed
+  blocks_by progress.Goes is comes was_new =
+      making_keeps (λ r before after wrote. absurd (not_going same hash name m known s old new at shown i b here end said steps did of r before after wrote is comes))
+  blocks_by progress.Waits is comes was_new = absurd comes
+  blocks_by (progress.Done setting) is comes was_new = making_keeps (rooted_new setting was_new)
+  blocks_by (progress.Refused fault) is comes was_new =
+      making_keeps (λ r before after wrote. absurd (not_refused same hash name m known s old new at shown i b here end said steps did of r before after wrote fault is))
 
 module _ (K V S : Type 0) (same : K → K → Bool) (hash : K → ℕ) where
   pub makings_keep_blocks : MakingsKeepBlocks K V S same hash
-  makings_keep_blocks name m known s old new at shown blocks i told leads b here of setting is_new =
-      let to = leads b here in making_keeps same hash name m known s old new at shown blocks i b here to.0 told to.1 to.2 of setting is_new
+  makings_keep_blocks name m known s old new at shown blocks i told leads b here of was_new =
+      let to = leads b here in blocks_by same hash name m known s old new at shown blocks i b here to.0 told to.1 to.2 of told refl to.3 was_new

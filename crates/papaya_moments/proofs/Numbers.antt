@@ -16,6 +16,7 @@ use Rattle.papaya_schedules.specs.declared.effect.Growth.TheVariants.{ABucket}
 use Rattle.papaya_schedules.specs.declared.effect.Spot.{Spot}
 use Rattle.papaya_schedules.specs.declared.effect.Table.{Table}
 use Rattle.papaya_schedules.specs.declared.effect.Thing.TheVariants.{APair, ATable}
+use Rattle.papaya_schedules.specs.Beginning.{with_map}
 use Rattle.papaya_schedules.specs.Effects.{at_stage, promoted, with_effect, with_effects}
 use Rattle.papaya_schedules.specs.Moment.{MapThere, Stage, IsLinked, IsRetired, IsReclaimed, IsTaken, TableThere, Moment}
 use Rattle.papaya_schedules.specs.Things.{same_table}
@@ -234,12 +235,28 @@ numbers_are_below K V m n number there is =
     let it = found_of (λ f. f.number < m.made) (λ f. f.number == number) m.maps there n.below is in
     subst (λ k. k < m.made) (eqb-true there.number number it.0) it.1
 
+module _ {K V : Type 0} (m : Moment K V) (n : NumbersMaps m) (there : MapThere) (next : there.number ≡ m.made) where
+  abbrev test : ℕ → MapThere → Bool
+  test number f = f.number == number
+
+  none_before : find (test there.number) m.maps ≡ None
+  none_before =
+      none_found (test there.number) m.maps
+      (all_so (λ f. f.number < m.made) (λ f. test there.number f ≡ false) (λ f l. ne_eqb f.number there.number (λ e. omega (arith, l, e, next))) m.maps n.below)
+
+  -- a map that comes is the one of its number
+  pub itself : map_at there.number (with_map there m) ≡ Some there
+  itself =
+      find-append (test there.number) m.maps (there ∷ []) ∙ ap (λ o. option_or o (find (test there.number) (there ∷ []))) none_before
+      ∙ ap (λ z. cond z (Some there) None) (eq-eqb there.number there.number refl)
+
 pub maps_come_by_number : (K V : Type 0) → MapsComeByNumber K V
 maps_come_by_number K V m n there next = (
   record {
     found = All-append Then m.maps (there ∷ [])
-        (all_so (λ f. map_at f.number m ≡ Some f) Then (λ f is. find-append (test f.number) m.maps (there ∷ []) ∙ ap (λ o. option_or o (find (test f.number) (there ∷ []))) is) m.maps n.found)
-        (All-cons Then there [] itself (none_listed Then));
+        (all_so (λ f. map_at f.number m ≡ Some f) Then
+        (λ f is. find-append (λ (g : MapThere). g.number == f.number) m.maps (there ∷ []) ∙ ap (λ o. option_or o (find (λ (g : MapThere). g.number == f.number) (there ∷ []))) is) m.maps n.found)
+        (All-cons Then there [] (itself m n there next) (none_listed Then));
     below = All-append Below m.maps (there ∷ []) (all_so (λ f. f.number < m.made) Below (λ f l. omega (arith, l)) m.maps n.below)
         (All-cons Below there [] (omega (arith, next)) (none_listed Below));
     tables = all_so (λ t. t.table.map < m.made) (λ t. t.table.map < m.made + 1) (λ t l. omega (arith, l)) m.tables n.tables;
@@ -247,24 +264,11 @@ maps_come_by_number K V m n there next = (
   none_kept (λ t. t.table.map == there.number) m.tables (all_so (λ t. t.table.map < m.made) (λ t. (t.table.map == there.number) ≡ false) (λ t l. ne_eqb t.table.map there.number (λ e. omega (arith, l, e, next))) m.tables n.tables),
 )
   where
-    test : ℕ → MapThere → Bool
-    test number f = f.number == number
-
     Then : MapThere → Type 0
     Then f = find (λ g. g.number == f.number) (m.maps ++ there ∷ []) ≡ Some f
 
     Below : MapThere → Type 0
     Below f = f.number < m.made + 1
-
-    none_before : find (test there.number) m.maps ≡ None
-    none_before =
-        none_found (test there.number) m.maps
-        (all_so (λ f. f.number < m.made) (λ f. test there.number f ≡ false) (λ f l. ne_eqb f.number there.number (λ e. omega (arith, l, e, next))) m.maps n.below)
-
-    itself : Then there
-    itself =
-        find-append (test there.number) m.maps (there ∷ []) ∙ ap (λ o. option_or o (find (test there.number) (there ∷ []))) none_before
-        ∙ ap (λ z. cond z (Some there) None) (eq-eqb there.number there.number refl)
 
 pub maps_go : (K V : Type 0) → MapsGo K V
 maps_go K V m n own remains = record {

@@ -134,7 +134,7 @@ module _ {K V : Type 0} (m : Moment K V) where
   roomed_alone true = alone
   roomed_alone false = record { stored = refl; born = refl; calls = refl; maps = refl; place = λ n map e. e }
 
-  row_alone : (known : Known) (told : Changed) → TellsRow told → IsAlone m (with_effects None None (effects_of Row known told) m)
+  pub row_alone : (known : Known) (told : Changed) → TellsRow told → IsAlone m (with_effects None None (effects_of Row known told) m)
   row_alone known changed.Nothing is = alone
   row_alone known (changed.Wrote (Slot t field) old new) is = alone
   row_alone known (changed.Wrote (Entry b field) old new) is = nothing_alone (names_same old new)
@@ -157,7 +157,7 @@ module _ {K V : Type 0} (known : Known) (w2 : World (Node K V)) where
   pub same_roles : (known2 : Known) → known2.roles ≡ known.roles → Keeps known2
   same_roles known2 e = (λ b of. ap (λ (f : ℕ → Role). f b) e, λ b some of. ap (λ (f : ℕ → Role). f b) e)
 
-  row_keeps : (w : World (Node K V)) (told : Changed) → TellsRow told → LeavesBy w.memory w2.memory told → Keeps (known_after Row told known)
+  pub row_keeps : (w : World (Node K V)) (told : Changed) → TellsRow told → LeavesBy w.memory w2.memory told → Keeps (known_after Row told known)
   row_keeps w changed.Nothing is l = same_roles known refl
   row_keeps w (changed.Wrote (Slot t field) old new) is l = same_roles known refl
   row_keeps w (changed.Wrote (Entry b field) old new) is l = same_roles known refl

@@ -4,3 +4,4 @@ pub mod OnSlots
 pub mod Endings
 pub mod Makings
 pub mod Walks
+pub mod WholeEnds

@@ -2,7 +2,6 @@
 use Rattle.std.specs.Prelude.{◌≡◌, ℕ, Bool, List, [], Option, Some, None}
 use Rattle.seize.specs.World.{with_at}
 use Rattle.seize.specs.declared.progress.Progress.{Progress}
-use Rattle.seize.specs.declared.progress.Progress.TheVariants as progress
 use Rattle.papaya_tables.specs.declared.setting.Setting.{Setting}
 use Rattle.papaya_schedules.specs.Beginning.{with_map}
 use Rattle.papaya_schedules.specs.Effects.{with_effects}
@@ -16,14 +15,9 @@ use Rattle.papaya_executor.specs.Making.{MakingLeads}
 use Rattle.papaya_executor.specs.declared.executor.Executor.{Executor}
 use Rattle.papaya_finishes.specs.Makings.{Beginning, HasMade}
 use Rattle.papaya_follows.specs.Shows.{Shows}
-use Rattle.papaya_others.specs.Makings.{IsNew, making_after}
+use Rattle.papaya_others.specs.Makings.{WasNew, making_after}
 use Rattle.papaya_spots.specs.Unreclaimed.{ShowsUnreclaimed}
 use Rattle.papaya_moments.specs.Whole.{ShowsWhole}
-
--- the map is there as a new one, and with the setting that is answered, if it stands after a step that says this
-abbrev pub IsNewFor : {K V : Type 0} → ℕ → Progress Setting → Moment K V → Type 0
-IsNewFor map (progress.Done setting) m = IsNew map setting m
-IsNewFor map _ m = (setting : Setting) × IsNew map setting m
 
 module _ (K V : Type 0) (same : K → K → Bool) where
   -- The promises: so it is where a making begins, which has made no counter yet,
@@ -39,18 +33,19 @@ module _ (K V : Type 0) (same : K → K → Bool) where
       → (there : MapThere) → tables_of there.number m ≡ [] → ShowsWhole same name (with_map there m) known s
 
 module _ (K V S : Type 0) (same : K → K → Bool) (hash : K → ℕ) where
-  -- The promise, on whichever map its effects are told, if on any: while its map is there as a new one, the same blocks are unreclaimed as are pairs and tables of maps.
+  -- The promise, on whichever map its effects are told, if on any: the same blocks are unreclaimed as are pairs and tables of maps, where the map, if it stands then,
+  -- was there as a new one.
   abbrev pub MakingsKeepBlocks : Type 0
   MakingsKeepBlocks =
       (name : ℕ → List ℕ) (m : Moment K V) (known : Known) (s : Scene K V) (old new : Executor K V S) → IsAt same hash old s → Shows same name m known s → ShowsUnreclaimed m known
-      → (i : ℕ) (told : Progress Setting) → MakingLeads same hash i told s old new → (b : Beginning K) → s.makers i ≡ Some b → (of : Option ℕ) (setting : Setting) → IsNew b.map setting m
+      → (i : ℕ) (told : Progress Setting) → MakingLeads same hash i told s old new → (b : Beginning K) → s.makers i ≡ Some b → (of : Option ℕ) → WasNew b.map told m
       → ShowsUnreclaimed (with_effects None of (effects_of (Making b.map) known new.memory.changed) m) (known_after (Making b.map) new.memory.changed known)
 
-  -- And all is shown after each step of a making, while its map is there as a new one; after the last one with the map, if that stands.
+  -- And all is shown after each step of a making, whether its map is there or not; after the last one with the map, if that stands, and was there as a new one.
   abbrev pub MakingsKeepWhole : Type 0
   MakingsKeepWhole =
       (name : ℕ → List ℕ) (m : Moment K V) (known : Known) (s : Scene K V) (old new : Executor K V S) → IsAt same hash old s → ShowsWhole same name m known s
-      → (i : ℕ) (told : Progress Setting) (leads : MakingLeads same hash i told s old new) (b : Beginning K) (here : s.makers i ≡ Some b) (of : Option ℕ) → IsNewFor b.map told m
+      → (i : ℕ) (told : Progress Setting) (leads : MakingLeads same hash i told s old new) (b : Beginning K) (here : s.makers i ≡ Some b) (of : Option ℕ) → WasNew b.map told m
       → (let to = leads b here in
       ShowsWhole same name (with_effects None of (effects_of (Making b.map) known new.memory.changed) m) (known_after (Making b.map) new.memory.changed known)
       (making_after same hash s old new i b to.0 to.2.step.w2 told to.3))

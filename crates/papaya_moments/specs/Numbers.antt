@@ -2,9 +2,11 @@
 use Rattle.std.specs.Prelude.{◌≡◌, ℕ, ◌<◌, Bool, List, [], Option, Some, None}
 use Rattle.std.specs.List.{All}
 use Rattle.papaya_tables.specs.declared.node.Node.{Node}
+use Rattle.papaya_tables.specs.declared.setting.Setting.{Setting}
+use Rattle.papaya_schedules.specs.declared.effect.Effect.{Effect}
 use Rattle.papaya_schedules.specs.Beginning.{with_map}
 use Rattle.papaya_schedules.specs.Effects.{with_effects}
-use Rattle.papaya_schedules.specs.Moment.{MapThere, Remains, Moment, start}
+use Rattle.papaya_schedules.specs.Moment.{InMap, MapThere, Remains, Moment, start}
 use Rattle.papaya_schedules.specs.Views.{map_at, tables_of}
 use Rattle.papaya_teller.specs.declared.changed.Changed.{Changed}
 use Rattle.papaya_effects.specs.Effects.{map_of, effects_of}
@@ -18,6 +20,7 @@ use Rattle.papaya_executor.specs.declared.row.RowTold.{RowTold}
 use Rattle.papaya_executor.specs.declared.row.SlotRow.{SlotRow}
 use Rattle.papaya_executor.specs.declared.worker.Work.TheVariants.{OnSlot}
 use Rattle.papaya_others.specs.Endings.{without_map}
+use Rattle.papaya_others.specs.Makings.{IsNew}
 
 module _ {K V : Type 0} where
   -- each map that is there is the one that is found by its number
@@ -58,3 +61,29 @@ module _ (K V S : Type 0) (same : K → K → Bool) (hash : K → ℕ) where
   RowsKeepNumbers =
       (m : Moment K V) → NumbersMaps m → (known : Known) (s : Scene K V) (old new : Executor K V S) (i : ℕ) (told : RowTold (Node K V)) → RowLeads same hash i told s old new
       → (row : SlotRow) → work_of old i ≡ Some (OnSlot row) → NumbersMaps (with_effects None None (effects_of Row known new.memory.changed) m)
+
+-- Each pair that is in a map is in one of such a number, too.
+abbrev pub PairsAreBelow : {K V : Type 0} → Moment K V → Type 0
+PairsAreBelow m = (n map : ℕ) → m.place n ≡ InMap map → map < m.made
+
+-- The promises: so it is before all events, where a map comes, or is there no more,
+abbrev pub PairsBegin : Type 0 → Type 0 → Type 0
+PairsBegin K V = PairsAreBelow {K = K} {V = V} start
+
+abbrev pub PairsStayAsMapsCome : Type 0 → Type 0 → Type 0
+PairsStayAsMapsCome K V = (m : Moment K V) → PairsAreBelow m → (there : MapThere) → PairsAreBelow (with_map there m)
+
+abbrev pub PairsStayAsMapsGo : Type 0 → Type 0 → Type 0
+PairsStayAsMapsGo K V = (m : Moment K V) → PairsAreBelow m → (own : List ℕ) (remains : List Remains) → PairsAreBelow (without_map own remains m)
+
+-- and after any effects, on a map that was made, or on none.
+abbrev pub EffectsKeepPairs : Type 0 → Type 0 → Type 0
+EffectsKeepPairs K V =
+    (m : Moment K V) → PairsAreBelow m → (caller : Option (List ℕ)) (acted : Option ℕ) (effects : List Effect) → ((map : ℕ) → acted ≡ Some map → map < m.made)
+    → PairsAreBelow (with_effects caller acted effects m)
+
+-- So a map that comes by the next number is there as a new one.
+abbrev pub MapsComeAsNew : Type 0 → Type 0 → Type 0
+MapsComeAsNew K V =
+    (m : Moment K V) → NumbersMaps m → PairsAreBelow m → (there : MapThere) → there.number ≡ m.made → there.first ≡ 0
+    → (setting : Setting) → there.root ≡ setting.root → there.mode ≡ setting.mode → IsNew there.number setting (with_map there m)

@@ -2,9 +2,10 @@
 ghost use Rattle.std.specs.Prelude.{ℕ, Bool};
 ghost use Rattle.papaya_moments.specs.Endings.{EndingsBeginWhole, EndingsKeepWhole, EndingsAreOverWhole};
 ghost use Rattle.papaya_moments.specs.Makings.{MakingsBeginWhole, MapsComeWhole, MakingsKeepBlocks, MakingsKeepWhole};
-ghost use Rattle.papaya_moments.specs.Numbers.{NumbersBegin, MapsComeByNumber, MapsGo, StepsKeepNumbers, NumbersAreBelow, RowsKeepNumbers};
+ghost use Rattle.papaya_moments.specs.Numbers.{NumbersBegin, MapsComeByNumber, MapsGo, StepsKeepNumbers, NumbersAreBelow, RowsKeepNumbers, PairsBegin, PairsStayAsMapsCome, PairsStayAsMapsGo, EffectsKeepPairs, MapsComeAsNew};
 ghost use Rattle.papaya_moments.specs.OnSlots.{RowsBeginWhole, RowsKeepWhole};
 ghost use Rattle.papaya_moments.specs.Walks.{WalksGoOnWhole, WalksStopWhole};
+ghost use Rattle.papaya_moments.specs.WholeEnds.{WholeEndsTakeAll};
 ghost use Rattle.papaya_moments.specs.Whole.{WholeBegins, CallsKeepWhole, CallsBeginWhole, CallsTakeWhole, CallsComeToWhole};
 
 /// The moment before all events shows an executor that has no map and no call, and so does the moment after each step of a call, whether it is one of a row of the
@@ -31,7 +32,7 @@ pub fn moments_show_all<K, V, S>()
     ensures walks_stop { (same : K → K → Bool) (hash : K → ℕ) → WalksStopWhole K V S same hash }
 {}
 
-/// While a map is being made, and is there as a new one, the blocks of pairs and tables of maps are those that no moment calls reclaimed.
+/// While a map is being made the blocks of pairs and tables of maps are those that no moment calls reclaimed, if the map is there as a new one where it comes to stand.
 pub fn makings_keep_blocks<K, V, S>()
     ensures makings { (same : K → K → Bool) (hash : K → ℕ) → MakingsKeepBlocks K V S same hash }
 {}
@@ -46,4 +47,19 @@ pub fn maps_have_numbers<K, V, S>()
     ensures steps { StepsKeepNumbers K V }
     ensures below { NumbersAreBelow K V }
     ensures rows { (same : K → K → Bool) (hash : K → ℕ) → RowsKeepNumbers K V S same hash }
+{}
+
+/// No pair is in a map whose number is that of the next map, or a later one: so it is before all events, where a map comes or goes, and after any effects on a map that
+/// was made. So a map that comes by the next number is there as a new one, without a pair or a table.
+pub fn maps_come_as_new<K, V>()
+    ensures begins { PairsBegin K V }
+    ensures comes { PairsStayAsMapsCome K V }
+    ensures goes { PairsStayAsMapsGo K V }
+    ensures effects { EffectsKeepPairs K V }
+    ensures new { MapsComeAsNew K V }
+{}
+
+/// Where all of a map ends that a moment shows, pairs and tables, the map has no pair then, and its tables end that were linked, from the root's on.
+pub fn whole_ends_take_all<K, V>()
+    ensures { WholeEndsTakeAll K V }
 {}

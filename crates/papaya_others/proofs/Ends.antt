@@ -336,7 +336,7 @@ module _ {K V S : Type 0} (same : K → K → Bool) (hash : K → ℕ) (name : �
       let count : times b (taken_of did.deed) ≡ times b (b ∷ []) = ap (times b) is in
       did.spares.gone b (omega (arith, one, count))
 
-  tells_next : (t : Settled (Node K V)) (comes : EndingComesTo same hash s new i f end w2 did.deed t) → TellsNext same hash s new i f end w2 did.deed t comes told
+  pub tells_next : (t : Settled (Node K V)) (comes : EndingComesTo same hash s new i f end w2 did.deed t) → TellsNext same hash s new i f end w2 did.deed t comes told
   tells_next settled.Goes comes = none_taken told left comes.0
   tells_next settled.Waits comes = comes
   tells_next (settled.Gave value) comes = one_taken told left comes.0 value comes.1 (next_gone comes.0 comes.2)

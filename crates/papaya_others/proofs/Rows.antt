@@ -20,7 +20,7 @@ use Rattle.papaya_teller.specs.declared.changed.Changed.{Changed}
 use Rattle.papaya_teller.specs.declared.changed.Changed.TheVariants as changed
 use Rattle.papaya_rule.specs.InWorld.{IsMapIn}
 use Rattle.papaya_callers.proofs.Together.Came.{came_reached}
-use Rattle.papaya_finishes.specs.Maps.{Standing}
+use Rattle.papaya_finishes.specs.Maps.{Standing, IsSameMap}
 use Rattle.papaya_effects.specs.Effects.{names_same, taken_by, effects_of, known_after}
 use Rattle.papaya_effects.specs.Known.{Known, with_role}
 use Rattle.papaya_effects.specs.declared.acting.Acting.TheVariants.{Row}
@@ -70,57 +70,34 @@ module _ {K V : Type 0} (size : ℕ) (w w2 : World (Node K V)) (r : Reached defe
           none None f = record { value = gone ∙ sym f; linked = λ value is linked. absurd (cc (f, is)) }
           none (Some value) f = absurd (let now = (there.there value f).1 in cc (gone, now))
 
-module _ {K V S : Type 0} (same : K → K → Bool) (hash : K → ℕ) (name : ℕ → List ℕ) (m : Moment K V) (known : Known) (s : Scene K V) (old new : Executor K V S) (at : IsAt same hash old s)
-    (shown : Shows same name m known s) (i : ℕ) (row : SlotRow) (here : work_of old i ≡ Some (work.OnSlot row)) (end : SlotRow × RowTold (Node K V))
-    (steps : RowSteps K V row old.memory.memory new.memory.memory new.memory.changed end) (happened : HappensAt same hash (Step i) s old new) where
-  abbrev w : World (Node K V)
-  w = s.world
-
-  abbrev w2 : World (Node K V)
-  w2 = happened.0
-
-  abbrev told : Changed
-  told = new.memory.changed
-
-  left : LeavesBy w.memory w2.memory told
-  left =
-      subst (λ (n : Mem (Node K V)). LeavesBy w.memory n told) (sym happened.4.memory)
-      (subst (λ (n : Mem (Node K V)). LeavesBy n new.memory.memory told) (sym at.memory)
-      (operated_leaves old.memory.memory new.memory.memory told
-      (row_operated old.memory.memory new.memory.memory told end row (may_taken same hash old s at i row here (slot_of i) row (row_at same hash old s at i row here)) steps)))
-
-  stays : (b : ℕ) → StaysThere w.memory w2.memory b → StaysBlock w w2 b
-  stays = row_stays old.batch_size w w2 (came_reached old.batch_size w at.together.makings.standing.came) i happened.1
-
-  stood : (n : ℕ) (before : Standing K) → s.maps n ≡ Some before → IsMapIn same before.hash before.setting w before.chart before.blocks
-  stood n before e = (at.together.makings.standing.each n before e).ground.map
-
-  stand : (n : ℕ) (st : Standing K) → happened.2 n ≡ Some st → IsMapIn same st.hash st.setting w2 st.chart st.blocks
-  stand n st e = (happened.4.together.makings.standing.each n st e).ground.map
-
+-- Where such a step leads, whichever row it is of, or if it is of none: what is there stays so, but for a block that was taken away, and maps are as they were.
+module _ {K V : Type 0} (same : K → K → Bool) (name : ℕ → List ℕ) (m : Moment K V) (known : Known) (s : Scene K V) (shown : Shows same name m known s)
+    (w2 : World (Node K V)) (maps2 : ℕ → Option (Standing K)) (maps_same : (n : ℕ) → IsSameMap (s.maps n) (maps2 n)) (stays : (b : ℕ) → StaysThere s.world.memory w2.memory b → StaysBlock s.world w2 b)
+    (stood : (n : ℕ) (before : Standing K) → s.maps n ≡ Some before → IsMapIn same before.hash before.setting s.world before.chart before.blocks)
+    (stand : (n : ℕ) (st : Standing K) → maps2 n ≡ Some st → IsMapIn same st.hash st.setting w2 st.chart st.blocks) where
   abbrev rest : Scene K V
-  rest = scene_then same hash (Step i) s old new happened
+  rest = record s { world = w2; maps = maps2 }
 
   -- where these are the effects
   abbrev Goal : List Effect → Known → Type 0
   Goal effects after = ShowsAfter same name m known s shown (with_effects None None effects m) after rest
 
-  still : (effects : List Effect) (after : Known) → AllStill effects → after.roles ≡ known.roles → after.stored ≡ known.stored → ((b : ℕ) → StaysThere w.memory w2.memory b) → Goal effects after
-  still effects after none roles as_many there = quiet same name m known s shown w2 happened.2 happened.3 None rest shown.calls effects after none roles as_many (λ b. stays b (there b))
+  still : (effects : List Effect) (after : Known) → AllStill effects → after.roles ≡ known.roles → after.stored ≡ known.stored → ((b : ℕ) → StaysThere s.world.memory w2.memory b) → Goal effects after
+  still effects after none roles as_many there = quiet same name m known s shown w2 maps2 maps_same None rest shown.calls effects after none roles as_many (λ b. stays b (there b))
 
   -- a block was taken away
-  module _ (b : ℕ) (gone : value_at w2.memory b ≡ None) (there : (x : ℕ) → x ≢ b → StaysThere w.memory w2.memory x) where
+  module _ (b : ℕ) (gone : value_at w2.memory b ≡ None) (there : (x : ℕ) → x ≢ b → StaysThere s.world.memory w2.memory x) where
     abbrev free : Known
     free = with_role b role.Free known
 
-    others : (x : ℕ) → x ≢ b → StaysBlock w w2 x
+    others : (x : ℕ) → x ≢ b → StaysBlock s.world w2 x
     others x ne = stays x (there x ne)
 
     calls : (effects : List Effect) → ShowsCalls same name (with_effects None None effects m) s.calls
-    calls = calls_then same name m known s shown w2 happened.2 happened.3 None rest shown.calls
+    calls = calls_then same name m known s shown w2 maps2 maps_same None rest shown.calls
 
     none_moved : (effects : List Effect) → AllStill effects → Goal effects free
-    none_moved effects none = gone_quiet same name m known s shown w2 happened.2 happened.3 None rest shown.calls stood stand effects none b gone others
+    none_moved effects none = gone_quiet same name m known s shown w2 maps2 maps_same None rest shown.calls stood stand effects none b gone others
 
     taken : (r : Role) → known.roles b ≡ r → AtEachEffect WasRetired None None (taken_by Row r) m → Goal (taken_by Row r) free
     taken role.Free e may = none_moved [] tt
@@ -128,27 +105,49 @@ module _ {K V S : Type 0} (same : K → K → Bool) (hash : K → ℕ) (name : �
     taken (role.OwnTable turn shape) e may = none_moved (TableGivenUp (record { map = 0; turn = turn }) ∷ []) (refl, tt)
     taken (role.Counter map) e may = none_moved [] tt
     taken (role.Pair k) e may =
-        pair_gone same name m known s shown w2 happened.2 happened.3 stood stand b gone others free refl refl rest (with_effects None None (Reclaimed (APair k) ∷ []) m) refl
+        pair_gone same name m known s shown w2 maps2 maps_same stood stand b gone others free refl refl rest (with_effects None None (Reclaimed (APair k) ∷ []) m) refl
         (calls (Reclaimed (APair k) ∷ [])) k e refl refl refl refl
     taken (role.Table t len) e may =
-        table_gone same name m known s shown w2 happened.2 happened.3 stood stand b gone others free refl refl rest (with_effects None None (Reclaimed (ATable t) ∷ []) m) refl
+        table_gone same name m known s shown w2 maps2 maps_same stood stand b gone others free refl refl rest (with_effects None None (Reclaimed (ATable t) ∷ []) m) refl
         (calls (Reclaimed (ATable t) ∷ [])) IsReclaimed t Handed (λ n before at. retired_apart n (shown.number n) before m known (shown.maps n before at) t may.0.0) may.0.1 (λ n. refl) refl refl refl refl
 
-  leads : (told : Changed) → TellsRow told → LeavesBy w.memory w2.memory told → AtEachEffect WasRetired None None (effects_of Row known told) m → Goal (effects_of Row known told) (known_after Row told known)
-  leads changed.Nothing is l may = still [] known tt refl refl l
-  leads (changed.Wrote (Slot t field) old new) is l may = still [] known tt refl refl (same_there w.memory w2.memory l.2)
-  leads (changed.Wrote (Entry b field) old new) is l may = still _ known (either_still (names_same old new)) refl refl (same_there w.memory w2.memory l.2)
-  leads (changed.Wrote (Root r) old new) is l may = absurd is
-  leads (changed.Wrote (Used r) old new) is l may = absurd is
-  leads (changed.Wrote (Word b field) old new) is l may = absurd is
-  leads (changed.Made kind b) is l may = absurd is
-  leads (changed.Unmade kind) is l may = absurd is
-  leads (changed.Took b) is l may = taken b l.1 l.2 (known.roles b) refl may
-  leads (changed.Roomed bucket had) is l may =
+  pub row_leads : (told : Changed) → TellsRow told → LeavesBy s.world.memory w2.memory told → AtEachEffect WasRetired None None (effects_of Row known told) m
+      → ShowsAfter same name m known s shown (with_effects None None (effects_of Row known told) m) (known_after Row told known) (record s { world = w2; maps = maps2 })
+  row_leads changed.Nothing is l may = still [] known tt refl refl l
+  row_leads (changed.Wrote (Slot t field) old new) is l may = still [] known tt refl refl (same_there s.world.memory w2.memory l.2)
+  row_leads (changed.Wrote (Entry b field) old new) is l may = still _ known (either_still (names_same old new)) refl refl (same_there s.world.memory w2.memory l.2)
+  row_leads (changed.Wrote (Root r) old new) is l may = absurd is
+  row_leads (changed.Wrote (Used r) old new) is l may = absurd is
+  row_leads (changed.Wrote (Word b field) old new) is l may = absurd is
+  row_leads (changed.Made kind b) is l may = absurd is
+  row_leads (changed.Unmade kind) is l may = absurd is
+  row_leads (changed.Took b) is l may = taken b l.1 l.2 (known.roles b) refl may
+  row_leads (changed.Roomed bucket had) is l may =
       let alike = roomed_as_many Row known bucket had in still (effects_of Row known (changed.Roomed bucket had)) _ (roomed_still (nat_lt bucket known.buckets)) alike.0 alike.1 l
 
-  pub row_shown : AtEachEffect WasRetired None None (effects_of Row known told) m → Goal (effects_of Row known told) (known_after Row told known)
-  row_shown may = leads told (row_tells old.memory.memory new.memory.memory told end row steps) left may
+module _ {K V S : Type 0} (same : K → K → Bool) (hash : K → ℕ) (name : ℕ → List ℕ) (m : Moment K V) (known : Known) (s : Scene K V) (old new : Executor K V S) (at : IsAt same hash old s)
+    (shown : Shows same name m known s) (i : ℕ) (row : SlotRow) (here : work_of old i ≡ Some (work.OnSlot row)) (end : SlotRow × RowTold (Node K V))
+    (steps : RowSteps K V row old.memory.memory new.memory.memory new.memory.changed end) (happened : HappensAt same hash (Step i) s old new) where
+  abbrev w : World (Node K V)
+  w = s.world
+
+  abbrev told : Changed
+  told = new.memory.changed
+
+  left : LeavesBy w.memory happened.0.memory told
+  left =
+      subst (λ (n : Mem (Node K V)). LeavesBy w.memory n told) (sym happened.4.memory)
+      (subst (λ (n : Mem (Node K V)). LeavesBy n new.memory.memory told) (sym at.memory)
+      (operated_leaves old.memory.memory new.memory.memory told
+      (row_operated old.memory.memory new.memory.memory told end row (may_taken same hash old s at i row here (slot_of i) row (row_at same hash old s at i row here)) steps)))
+
+  pub row_shown : AtEachEffect WasRetired None None (effects_of Row known told) m
+      → ShowsAfter same name m known s shown (with_effects None None (effects_of Row known told) m) (known_after Row told known) (scene_then same hash (Step i) s old new happened)
+  row_shown may =
+      row_leads same name m known s shown happened.0 happened.2 happened.3
+      (row_stays old.batch_size w happened.0 (came_reached old.batch_size w at.together.makings.standing.came) i happened.1)
+      (λ n before e. (at.together.makings.standing.each n before e).ground.map) (λ n st e. (happened.4.together.makings.standing.each n st e).ground.map)
+      told (row_tells old.memory.memory new.memory.memory told end row steps) left may
 
 module _ (K V S : Type 0) (same : K → K → Bool) (hash : K → ℕ) where
   pub rows_on_slots_are_shown : RowsOnSlotsAreShown K V S same hash

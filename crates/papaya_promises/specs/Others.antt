@@ -30,8 +30,8 @@ use Rattle.papaya_executor.specs.declared.row.SlotCall.{SlotCall}
 use Rattle.papaya_executor.specs.declared.row.SlotCall.TheVariants as call
 use Rattle.papaya_follows.specs.Calling.{told as told_so, come_to}
 use Rattle.papaya_others.specs.Endings.{without_map}
+use Rattle.papaya_others.specs.Makings.{WasNew}
 use Rattle.papaya_others.specs.Walks.{given_up}
-use Rattle.papaya_moments.specs.Makings.{IsNewFor}
 use Rattle.papaya_moments.specs.Whole.{ShowsWhole}
 use Rattle.papaya_promises.specs.Sheltered.{GuardsAreInside, AreSheltered, SectionsHold}
 
@@ -53,7 +53,7 @@ module _ (K V S : Type 0) (same : K → K → Bool) (hash : K → ℕ) where
       (name : ℕ → List ℕ) (m : Moment K V) (known : Known) (s : Scene K V) (old new : Executor K V S) → IsAt same hash old s
       → ShowsWhole same name m known s
       → (i : ℕ) (told : Progress Setting) (leads : MakingLeads same hash i told s old new) (b : Beginning K) (here : s.makers i ≡ Some b)
-      → (of : Option ℕ) → IsNewFor b.map told m → SectionsHold m known s.world
+      → (of : Option ℕ) → WasNew b.map told m → SectionsHold m known s.world
       → (let to = leads b here in
       let effects = effects_of (acts.Making b.map) known new.memory.changed in
       GuardsAreInside m.there to.2.step.w2

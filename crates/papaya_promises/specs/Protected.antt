@@ -36,8 +36,8 @@ use Rattle.papaya_executor.specs.declared.row.RowTold.{RowTold}
 use Rattle.papaya_executor.specs.declared.row.SlotCall.{SlotCall}
 use Rattle.papaya_executor.specs.declared.row.SlotRow.{SlotRow}
 use Rattle.papaya_executor.specs.declared.worker.Work.TheVariants.{OnSlot}
+use Rattle.papaya_others.specs.Makings.{WasNew}
 use Rattle.papaya_others.specs.Rows.{scene_then}
-use Rattle.papaya_moments.specs.Makings.{IsNewFor}
 use Rattle.papaya_moments.specs.Whole.{ShowsWhole}
 use Rattle.papaya_promises.specs.Guards.{EntersInside}
 use Rattle.papaya_promises.specs.Others.{SparesGuards}
@@ -148,7 +148,7 @@ module _ (K V S : Type 0) (same : K → K → Bool) (hash : K → ℕ) where
       (name : ℕ → List ℕ) (m : Moment K V) (known : Known) (s : Scene K V) (old new : Executor K V S) → IsAt same hash old s
       → ShowsWhole same name m known s
       → (i : ℕ) (told : Making Setting) (leads : MakingLeads same hash i told s old new) (b : Beginning K) (here : s.makers i ≡ Some b) (of : Option ℕ)
-      → IsNewFor b.map told m → (event : Event K V) → is_of_slots event ≡ false → (done : List Effect) → InMidst event done m known s.world
+      → WasNew b.map told m → (event : Event K V) → is_of_slots event ≡ false → (done : List Effect) → InMidst event done m known s.world
       → (let to = leads b here in
       let effects = effects_of (acts.Making b.map) known new.memory.changed in
       InMidst event (done ++ effects) (with_effects None of effects m) (known_after (acts.Making b.map) new.memory.changed known) to.2.step.w2)

@@ -105,18 +105,18 @@ module _ (K V S : Type 0) (same : K → K → Bool) (hash : K → ℕ) where
     taken_done b (role.Table t len) e may = table_gone m (with_effects None None (taken_by Row (role.Table t len)) m) known b len t e h Handed refl IsReclaimed refl refl refl may.0
     taken_done b (role.Counter of) e may = other_gone m m known b h (λ its. subst IsOfMap e its) (record { place = λ k. refl; tables = λ t. refl })
 
-    done : (told : Changed) → TellsRow told → After told
-    done changed.Nothing is may = h
-    done (changed.Wrote (Slot t field) old new) is may = h
-    done (changed.Wrote (Entry b field) old new) is may = nothing_done (names_same old new)
-    done (changed.Wrote (Root r) old new) is may = absurd is
-    done (changed.Wrote (Used r) old new) is may = absurd is
-    done (changed.Wrote (Word b field) old new) is may = absurd is
-    done (changed.Made kind b) is may = absurd is
-    done (changed.Unmade kind) is may = absurd is
-    done (changed.Took b) is may = taken_done b (known.roles b) refl may
-    done (changed.Roomed bucket had) is may = roomed_done (nat_lt bucket known.buckets) (known_after Row (changed.Roomed bucket had) known) (roomed_as_many Row known bucket had).0
+    pub blocks_done : (told : Changed) → TellsRow told → After told
+    blocks_done changed.Nothing is may = h
+    blocks_done (changed.Wrote (Slot t field) old new) is may = h
+    blocks_done (changed.Wrote (Entry b field) old new) is may = nothing_done (names_same old new)
+    blocks_done (changed.Wrote (Root r) old new) is may = absurd is
+    blocks_done (changed.Wrote (Used r) old new) is may = absurd is
+    blocks_done (changed.Wrote (Word b field) old new) is may = absurd is
+    blocks_done (changed.Made kind b) is may = absurd is
+    blocks_done (changed.Unmade kind) is may = absurd is
+    blocks_done (changed.Took b) is may = taken_done b (known.roles b) refl may
+    blocks_done (changed.Roomed bucket had) is may = roomed_done (nat_lt bucket known.buckets) (known_after Row (changed.Roomed bucket had) known) (roomed_as_many Row known bucket had).0
 
   pub rows_keep_blocks : RowsKeepBlocks K V S same hash
   rows_keep_blocks name m known s old new shown i told leads row here may h =
-      let to = leads row here in done name m known s shown h new.memory.changed (row_tells old.memory.memory new.memory.memory new.memory.changed (to.0, told) row to.1) may
+      let to = leads row here in blocks_done name m known s shown h new.memory.changed (row_tells old.memory.memory new.memory.memory new.memory.changed (to.0, told) row to.1) may

@@ -166,8 +166,8 @@ module _ {K V S : Type 0} (same : K → K → Bool) (hash : K → ℕ) (name : �
 
 module _ (K V S : Type 0) (same : K → K → Bool) (hash : K → ℕ) where
   pub makings_shelter : MakingsShelter K V S same hash
-  makings_shelter name m known s old new at whole i told leads b here of is_new =
+  makings_shelter name m known s old new at whole i told leads b here of was_new =
       let to = leads b here in
       making_shelters same hash name m known s old new at whole i b here to.0 told to.1 to.2 of (making_after same hash s old new i b to.0 to.2.step.w2 told to.3)
       (comes_there same hash name m known s old new at whole i b here to.0 told to.1 to.2 of told to.3)
-      (makings_go_beside K V S same hash name m known s old new at whole i told leads b here of is_new)
+      (makings_go_beside K V S same hash name m known s old new at whole i told leads b here of was_new)

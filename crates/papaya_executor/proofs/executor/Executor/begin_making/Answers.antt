@@ -1,6 +1,7 @@
 -- The beginning of the making of a map.
 use Rattle.std.proofs.Common.{rules, ◌≡◌, ◌+◌, ◌*◌, ◌++◌, ◌∷◌, [], ℕ, length, refl, sym, ap, subst, ◌∙◌}
 use Rattle.std.specs.Prelude.{Some}
+use Rattle.std.proofs.lemmas.List.{length-append}
 use Rattle.papaya_executor.specs.MakingBegins.{MakingBegins}
 use Rattle.papaya_executor.specs.declared.worker.TheConstants.{SLOTS}
 use Rattle.papaya_executor.specs.declared.worker.Work.TheVariants as work
@@ -24,3 +25,6 @@ pub returns-in_err-push-2-clause-refused : goal.returns-in_err-push-2-clause-ref
 returns-in_err-push-2-clause-refused g c =
     if_refused c.from_residual-in_err-push-2.result
     (λ error. refused_with c.args.self.now (record c.args.self.now { maps = c.push.new.self; workers = c.push-2.new.self }) refl c.in_err-push-2.ensures.items refl refl refl c.in_ok-push.ensures.items)
+
+pub returns-clause-numbers : goal.returns-clause-numbers
+returns-clause-numbers g c = ap length c.in_ok-push.ensures.items ∙ length-append c.args.self.now.maps.items _

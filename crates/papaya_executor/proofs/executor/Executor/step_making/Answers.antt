@@ -1,8 +1,8 @@
 -- A step of the making of a map.
-use Rattle.std.proofs.Common.{refl, ap, ◌∙◌}
+use Rattle.std.proofs.Common.{length, refl, ap, ◌∙◌}
 use Rattle.std.specs.Prelude.{None, slice_set}
 use Rattle.papaya_executor.specs.IsAt.{place_of}
-use Rattle.papaya_executor.proofs.Makings.{has_making, has_number, may_taken, taken_making, making_leads}
+use Rattle.papaya_executor.proofs.Makings.{has_making, has_number, may_taken, same_count, taken_making, making_leads}
 use Rattle.papaya_executor.proofs.executor.Executor.step_making.Goals as goal
 
 pub take_making-slot-requires : goal.take_making-slot-requires
@@ -15,8 +15,11 @@ step_telling-progress-requires g c =
 pub keep-requires : goal.keep-requires
 keep-requires g c = has_number c.requires.0 c.requires.1 _ _ c.requires.3 c.args.caller c.requires.4 _ _ c.take_making-slot.result.opening c.take_making-slot.ensures.before
 
-pub returns : goal.returns
-returns g c = λ same hash s at b here.
+pub returns-clause-numbers : goal.returns-clause-numbers
+returns-clause-numbers g c = ap length c.keep.ensures ∙ same_count _ _ _
+
+pub returns-clause-leads : goal.returns-clause-leads
+returns-clause-leads g c = λ same hash s at b here.
     making_leads same hash _ s at c.args.caller b here _ _ c.step_telling-progress.result _ _ c.take_making-slot.result.opening
     (taken_making same hash _ s at c.args.caller b here _ _ c.take_making-slot.result.opening c.take_making-slot.ensures.before)
     c.take_making-slot.ensures.there c.step_telling-progress.ensures

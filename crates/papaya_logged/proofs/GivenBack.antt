@@ -1,0 +1,135 @@
+-- The number of a making that was refused is given back: the executor is there as it was.
+use Rattle.std.specs.Prelude.{◌≡◌, ◌≢◌, ◌<◌, ◌≤◌, ◌+◌, ◌==◌, ◌⊎◌, ℕ, Bool, true, false, List, length, take, Option, Some, None, option_map, slice_index_or, if◌then◌else◌}
+use Rattle.std.proofs.Common.{refl, sym, ap, subst, ◌∙◌, inl, inr, arith}
+use Rattle.std.proofs.lemmas.Bool.{cases_eq, cases_lt, eqb-true}
+use Rattle.std.proofs.lemmas.List.{get_or-take, get_or_past, length-take-le}
+use Rattle.seize.specs.declared.progress.Progress.{Progress}
+use Rattle.seize.specs.declared.progress.Progress.TheVariants as progress
+use Rattle.papaya_tables.specs.declared.setting.Setting.{Setting}
+use Rattle.papaya_schedules.specs.declared.effect.Effect.{Effect}
+use Rattle.papaya_schedules.specs.Effects.{with_effects}
+use Rattle.papaya_effects.specs.Known.{known}
+use Rattle.papaya_effects.specs.declared.notes.Notes.{Notes}
+use Rattle.papaya_finishes.specs.Makings.{Beginning}
+use Rattle.papaya_finishes.specs.Maps.{Standing}
+use Rattle.papaya_executor.specs.IsAt.{Scene, IsAt}
+use Rattle.papaya_executor.specs.declared.executor.Executor.{Executor}
+use Rattle.papaya_moments.specs.Whole.{ShowsWhole}
+use Rattle.papaya_logged.specs.Makings.{given_back, numbers_then, MakingCame, MakingRan}
+use Rattle.papaya_logged.specs.declared.logged.Logged.{Logged}
+
+-- without its last place a list reads the same, if there was none
+module _ {X : Type 0} (items : List (Option X)) (map : ℕ) (long : length items ≡ map + 1) (none : slice_index_or items map None ≡ None) where
+  short : length (take map items) ≡ map
+  short = length-take-le map items (omega (arith, long))
+
+  pub reads_same : (m : ℕ) → slice_index_or (take map items) m None ≡ slice_index_or items m None
+  reads_same m = elim (cases_lt m map) as (λ _. slice_index_or (take map items) m None ≡ slice_index_or items m None) [
+    | inl below ↦ get_or-take map items m None below
+    | inr from ↦ get_or_past (take map items) m None (let s = short in omega (arith, s, from)) ∙ sym (behind from (cases_eq m map))
+  ]
+    where
+      behind : map ≤ m → (m ≡ map) ⊎ (m ≢ map) → slice_index_or items m None ≡ None
+      behind from (inl e) = ap (λ (k : ℕ). slice_index_or items k None) e ∙ none
+      behind from (inr ne) = get_or_past items m None (omega (arith, long, from, ne))
+
+module _ {K V S : Type 0} (same : K → K → Bool) (hash : K → ℕ) where
+  -- an executor with other settings, that read the same, is there where each number of a making is still that of a place
+  with_maps : (e e2 : Executor K V S) (s : Scene K V) → IsAt same hash e s → e2 ≡ record e { maps = e2.maps } → ((m : ℕ) → slice_index_or e2.maps.items m None ≡ slice_index_or e.maps.items m None)
+      → ((j : ℕ) (d : Beginning K) → s.makers j ≡ Some d → d.map < length e2.maps.items) → IsAt same hash e2 s
+  with_maps e e2 s at is reads numbers = subst (λ (x : Executor K V S). IsAt same hash x s) (sym is) (record {
+    memory = at.memory;
+    together = at.together;
+    maps = λ m. at.maps m ∙ sym (reads m);
+    hashes = at.hashes;
+    calls = at.calls;
+    makers = at.makers;
+    enders = at.enders;
+    hashes_made = at.hashes_made;
+    numbers = numbers;
+    rows = at.rows;
+    on_slots = at.on_slots;
+    small = at.small;
+    slots = at.slots;
+    uses = at.uses;
+  })
+
+  -- So it is where a making has come to what it told.
+  module _ (map i : ℕ) (s s2 : Scene K V) (before : Executor K V S) (at_first : IsAt same hash before s) (b : Beginning K) (here : s.makers i ≡ Some b) (of_map : b.map ≡ map)
+      (e e2 : Executor K V S) (is : e2 ≡ record e { maps = e2.maps }) (at : IsAt same hash e s2) where
+    -- another making is of another number
+    other_number : (j : ℕ) (d : Beginning K) → s2.makers i ≡ None → ((k : ℕ) → k ≢ i → s2.makers k ≡ s.makers k) → s2.makers j ≡ Some d → d.map ≢ map
+    other_number j d over others makes e = elim (cases_eq j i) as (λ _. ⊥) [
+      | inl same_one ↦ (let none = ap s2.makers same_one ∙ over in cc (none, makes))
+      | inr ne ↦ at_first.together.makings.numbers i j b d (λ q. ne (sym q)) here (sym (others j ne) ∙ makes) (of_map ∙ sym e)
+    ]
+
+    -- settings that are as they were
+    kept : e2.maps.items ≡ e.maps.items → IsAt same hash e2 s2
+    kept items = with_maps e e2 s2 at is (λ m. ap (λ (xs : List (Option Setting)). slice_index_or xs m None) items)
+        (λ j d makes. subst (λ (n : ℕ). d.map < n) (sym (ap length items)) (at.numbers j d makes))
+
+    none_there : s2.maps ≡ s.maps → slice_index_or e.maps.items map None ≡ None
+    none_there maps =
+        sym (at.maps map) ∙ ap (λ (f : ℕ → Option (Standing K)). option_map (λ standing. standing.setting) (f map)) maps
+        ∙ ap (λ (m : ℕ). option_map (λ standing. standing.setting) (s.maps m)) (sym of_map) ∙ ap (option_map (λ standing. standing.setting)) (at_first.together.makings.coming i b here)
+
+    dropped : s2.makers i ≡ None → ((k : ℕ) → k ≢ i → s2.makers k ≡ s.makers k) → s2.maps ≡ s.maps → (q : Bool) → (length e.maps.items == map + 1) ≡ q
+        → e2.maps.items ≡ (if q then take map e.maps.items else e.maps.items) → IsAt same hash e2 s2
+    dropped over others maps false f items = kept items
+    dropped over others maps true f items =
+        let long : length e.maps.items ≡ map + 1 = eqb-true (length e.maps.items) (map + 1) f in
+        let few : length e2.maps.items ≡ map = ap length items ∙ short e.maps.items map long (none_there maps) in
+        with_maps e e2 s2 at is (λ m. ap (λ (xs : List (Option Setting)). slice_index_or xs m None) items ∙ reads_same e.maps.items map long (none_there maps) m)
+        (λ j d makes. (let l = at.numbers j d makes in let ne = other_number j d over others makes in by_less (length e2.maps.items) (length e.maps.items) d.map few long l ne))
+      where
+        by_less : (n k x : ℕ) → n ≡ map → k ≡ map + 1 → x < k → x ≢ map → x < n
+        by_less n k x few long l ne = omega (arith, few, long, l, ne)
+
+    pub at_given : (told : Progress Setting) → MakingCame s s2 i b told → e2.maps.items ≡ given_back map told e.maps.items → IsAt same hash e2 s2
+    at_given progress.Goes came items = kept items
+    at_given progress.Waits came items = kept items
+    at_given (progress.Done setting) came items = kept items
+    at_given (progress.Refused fault) came items = dropped came.maker came.makers came.maps (length e.maps.items == map + 1) refl items
+
+-- what has run has so with the number given back
+pub ran_given : {K V S : Type 0} (i map : ℕ) (told : Progress Setting) (xs ys : List Effect) (old mid new : Logged K V S) → MakingRan i map told xs ys old mid → new.notes ≡ mid.notes
+    → new.executor ≡ record mid.executor { maps = new.executor.maps } → new.executor.maps.items ≡ given_back map told mid.executor.maps.items → MakingRan i map told xs ys old new
+ran_given {K} {V} {S} i map told xs ys old mid new ran notes is items = (
+  ran.0,
+  ran.1,
+  λ same hash s at b here of_map.
+      (let u = ran.2 same hash s at b here of_map in
+      (u.0, u.1, at_given same hash map i s u.0 old.executor at b here of_map mid.executor new.executor is u.2 told u.1 items)),
+  λ same hash name m s shown b here of_map of.
+      (let r = ran.3 same hash name m s shown b here of_map of in (
+        r.0,
+        λ was_new.
+            (let u = r.1 was_new in (
+              u.0,
+              u.1,
+              record {
+                is_at = at_given same hash map i s u.0 old.executor shown.is_at b here of_map mid.executor new.executor is u.2.is_at told u.1 items;
+                shows = subst (λ (n : Notes). ShowsWhole {K = K} {V = V} same name (with_effects None of ran.0 m) (known n) u.0) (sym notes) u.2.shows;
+              },
+              u.3,
+              u.4,
+            )),
+      )),
+)
+
+-- and there are so many numbers then
+pub numbers_given : (map : ℕ) (told : Progress Setting) (items : List (Option Setting)) → length (given_back map told items) ≡ numbers_then map told (length items)
+numbers_given map progress.Goes items = refl
+numbers_given map progress.Waits items = refl
+numbers_given map (progress.Done setting) items = refl
+numbers_given map (progress.Refused fault) items = by (length items == map + 1) refl
+  where
+    by : (q : Bool) → (length items == map + 1) ≡ q → length (if q then take map items else items) ≡ (if q then map else length items)
+    by true f = (let long = eqb-true (length items) (map + 1) f in length-take-le map items (omega (arith, long)))
+    by false f = refl
+
+-- the making's number has its place among so many
+pub has_place : {K V S : Type 0} (same : K → K → Bool) (hash : K → ℕ) (s : Scene K V) (i map : ℕ) {old : Executor K V S} → IsAt same hash old s → (b : Beginning K) → s.makers i ≡ Some b → b.map ≡ map
+    → (count : ℕ) → count ≡ length old.maps.items → map < count
+has_place same hash s i map at b here of_map count is = subst (λ (n : ℕ). n < count) of_map (subst (λ (n : ℕ). b.map < n) (sym is) (at.numbers i b here))

@@ -1,0 +1,105 @@
+-- The beginning of the making of a map is written down, and a step of it.
+use Rattle.std.specs.Prelude.{◌≡◌, ℕ, Bool, List, ◌++◌, Option, Some, None}
+use Rattle.std.proofs.Common.{ap, subst, sym, ◌∙◌}
+use Rattle.seize.specs.World.{with_at}
+use Rattle.seize.specs.declared.progress.Progress.{Progress}
+use Rattle.seize.specs.declared.progress.Progress.TheVariants as progress
+use Rattle.papaya_tables.specs.declared.setting.Setting.{Setting}
+use Rattle.papaya_schedules.specs.declared.effect.Effect.{Effect}
+use Rattle.papaya_schedules.specs.Effects.{with_effects}
+use Rattle.papaya_schedules.specs.Moment.{Moment}
+use Rattle.papaya_effects.specs.Effects.{effects_of, known_after}
+use Rattle.papaya_effects.specs.Known.{Known, known}
+use Rattle.papaya_effects.specs.declared.notes.Notes.{Notes}
+use Rattle.papaya_effects.specs.declared.acting.Acting.TheVariants as acts
+use Rattle.papaya_effects.specs.declared.role.Role.TheVariants as role
+use Rattle.papaya_finishes.specs.Makings.{Beginning}
+use Rattle.papaya_executor.specs.IsAt.{Scene, IsAt}
+use Rattle.papaya_executor.specs.Making.{MakingLeads}
+use Rattle.papaya_executor.specs.MakingBegins.{MakingBegins, next_making}
+use Rattle.papaya_executor.specs.declared.executor.Executor.{Executor}
+use Rattle.papaya_others.specs.Makings.{WasNew, making_after}
+use Rattle.papaya_others.proofs.MakingGoes.{new_maps_stay}
+use Rattle.papaya_moments.proofs.MakingSteps.{makings_keep_whole}
+use Rattle.papaya_moments.proofs.MapsCome.{makings_begin_whole, maps_come_whole}
+use Rattle.papaya_moments.proofs.Numbers.{maps_come_by_number}
+use Rattle.papaya_moments.specs.Whole.{ShowsWhole}
+use Rattle.papaya_logged.specs.Makings.{MakingIsBegun, MakingGoesOn, MakingSteps, MapIsThere, StaysNew}
+use Rattle.papaya_logged.specs.Shown.{IsShown}
+use Rattle.papaya_logged.specs.declared.logged.Logged.{Logged}
+use Rattle.papaya_logged.proofs.MakingAsks.{making_asks}
+
+module _ {K V S : Type 0} (same : K → K → Bool) (hash : K → ℕ) where
+  pub making_is_begun : (old new : Logged K V S) (given : Setting) (places i : ℕ)
+      → ((s : Scene K V) → IsAt same hash old.executor s → MakingBegins same hash given places i s old.executor new.executor)
+      → new.notes ≡ old.notes
+      → (name : ℕ → List ℕ) (m : Moment K V) (s : Scene K V) → IsShown same hash name m old s → MakingIsBegun same hash name m s given places i old new
+  making_is_begun old new given places i begins noted name m s shown lawful initial batches mask some sized =
+      let b = next_making hash given places old.executor in
+      record {
+        is_at = (begins s shown.is_at lawful initial batches mask some sized).1;
+        shows = subst (λ (n : Notes). ShowsWhole {K = K} {V = V} same name m (known n) (record s { makers = with_at s.makers i (Some b) })) (sym noted)
+            (makings_begin_whole K V same name m (known old.notes) s shown.shows i b (λ none. none));
+      }
+
+  -- the executor is there after each step
+  pub is_there : (old new : Executor K V S) (s : Scene K V) (i : ℕ) (told : Progress Setting) (leads : MakingLeads same hash i told s old new) (b : Beginning K) (here : s.makers i ≡ Some b)
+      → IsAt same hash new (making_after same hash s old new i b (leads b here).0 (leads b here).2.step.w2 told (leads b here).3)
+  is_there old new s i progress.Goes leads b here = (leads b here).3
+  is_there old new s i progress.Waits leads b here = absurd (leads b here).3
+  is_there old new s i (progress.Done setting) leads b here = (leads b here).3.2
+  is_there old new s i (progress.Refused fault) leads b here = (leads b here).3
+
+  module _ (old : Logged K V S) (stepped : Executor K V S) (notes : Notes) (i map : ℕ) (name : ℕ → List ℕ) (m : Moment K V) (s : Scene K V) (shown : IsShown same hash name m old s) where
+    abbrev then_logged : Logged K V S
+    then_logged = record { executor = stepped; notes = notes }
+
+    stays_so : (told : Progress Setting) → MakingLeads same hash i told s old.executor stepped → (b : Beginning K) → s.makers i ≡ Some b → (of : Option ℕ)
+        → StaysNew b.map told m (with_effects None of (effects_of (acts.Making b.map) (known old.notes) stepped.memory.changed) m)
+    stays_so progress.Goes leads b here of = λ setting is_new.
+        new_maps_stay K V S same hash name m (known old.notes) s old.executor stepped shown.is_at shown.shows.all.shown i leads b here of setting is_new
+    stays_so progress.Waits leads b here of = tt
+    stays_so (progress.Done setting) leads b here of = tt
+    stays_so (progress.Refused fault) leads b here of = tt
+
+    abbrev Then : (told : Progress Setting) → MakingLeads same hash i told s old.executor stepped → (b : Beginning K) → s.makers i ≡ Some b → Scene K V
+    Then told leads b here = making_after same hash s old.executor stepped i b (leads b here).0 (leads b here).2.step.w2 told (leads b here).3
+
+    making_so : (told : Progress Setting) → ((s : Scene K V) → IsAt same hash old.executor s → MakingLeads same hash i told s old.executor stepped)
+        → known notes ≡ known_after (acts.Making map) stepped.memory.changed (known old.notes)
+        → MakingGoesOn same hash name m s i map told (effects_of (acts.Making map) (known old.notes) stepped.memory.changed) old then_logged
+    making_so told stepping noted b here of_map =
+        let leads = stepping s shown.is_at in (
+          leads,
+          λ bare. making_asks map (known old.notes) old.executor.memory.memory stepped.memory.memory stepped.memory.changed b.machine told (leads b here).0 (leads b here).1
+              (λ made. shown.shows.counters i b here made ∙ ap role.Counter of_map) bare,
+          λ of. (
+            subst (λ (n : ℕ). StaysNew n told m (with_effects None of (effects_of (acts.Making n) (known old.notes) stepped.memory.changed) m)) of_map (stays_so told leads b here of),
+            λ was_new. record {
+              is_at = is_there old.executor stepped s i told leads b here;
+              shows = subst (λ (k : Known). ShowsWhole {K = K} {V = V} same name (with_effects None of (effects_of (acts.Making map) (known old.notes) stepped.memory.changed) m) k (Then told leads b here)) (sym noted)
+                  (subst (λ (n : ℕ). WasNew n told m → ShowsWhole {K = K} {V = V} same name (with_effects None of (effects_of (acts.Making n) (known old.notes) stepped.memory.changed) m)
+                  (known_after (acts.Making n) stepped.memory.changed (known old.notes)) (Then told leads b here)) of_map
+                  (λ new. makings_keep_whole K V S same hash name m (known old.notes) s old.executor stepped shown.is_at shown.shows i told leads b here of new) was_new);
+            },
+          ),
+        )
+
+-- The executor has taken the step, and then its memory was noted: the executor stayed as it was.
+pub making_steps : {K V S : Type 0} (old new : Logged K V S) (stepped : Executor K V S) (i map : ℕ) (told : Progress Setting) (before after : List Effect)
+    → ((same : K → K → Bool) (hash : K → ℕ) (s : Scene K V) → IsAt same hash old.executor s → MakingLeads same hash i told s old.executor stepped)
+    → after ≡ before ++ effects_of (acts.Making map) (known old.notes) stepped.memory.changed
+    → known new.notes ≡ known_after (acts.Making map) stepped.memory.changed (known old.notes)
+    → new.executor ≡ stepped → MakingSteps i map told before after old new
+making_steps {K} {V} {S} old new stepped i map told before after stepping did noted executor =
+    let effects = effects_of (acts.Making map) (known old.notes) stepped.memory.changed in (
+      effects,
+      did,
+      λ same hash name m s shown. subst (λ (e : Executor K V S). MakingGoesOn same hash name m s i map told effects old (record { executor = e; notes = new.notes })) (sym executor)
+          (making_so same hash old stepped new.notes i map name m s shown told (stepping same hash) noted),
+    )
+
+-- Where its map comes by the next number, all is shown as before.
+pub map_is_there : {K V S : Type 0} (l : Logged K V S) → MapIsThere l
+map_is_there {K} {V} l same hash name m s shown numbers there next =
+    record { is_at = shown.is_at; shows = maps_come_whole K V same name m (known l.notes) s shown.shows there (maps_come_by_number K V m numbers there next).1 }

@@ -1,0 +1,230 @@
+-- A step by which all is reclaimed is written down: nobody has a call, a making or an end under way.
+use Rattle.std.specs.Prelude.{◌≡◌, ℕ, Bool, true, false, List, [], ◌++◌, Option, Some, None, IsSome, ◌⊎◌, if◌then◌else◌}
+use Rattle.std.proofs.Common.{refl, ap, sym, subst, ◌∙◌, inl, inr}
+use Rattle.seize_words.specs.declared.at.At.TheVariants.{Root, Used}
+use Rattle.seize_words.specs.Mem.{Mem, value_at}
+use Rattle.seize_words.specs.Word.{block_in}
+use Rattle.seize.specs.declared.rows.reclaim_all.ReclaimAll.{ReclaimAll}
+use Rattle.seize.specs.declared.rows.settle.Settled.{Settled}
+use Rattle.seize.specs.declared.rows.settle.Settled.TheVariants as settled
+use Rattle.seize.specs.ReclaimAll.{reclaim_all_plan}
+use Rattle.seize.specs.World.{World, Hand, Event, Runs}
+use Rattle.seize_alone.proofs.Histories.Reached.{Reached, runs_reached}
+use Rattle.papaya_tables.specs.Nodes.{deferred_word, was_left}
+use Rattle.papaya_tables.specs.declared.node.Node.{Node}
+use Rattle.papaya_schedules.specs.declared.effect.Effect.{Effect}
+use Rattle.papaya_schedules.specs.Effects.{with_effects, AtEachEffect}
+use Rattle.papaya_schedules.specs.Moment.{Moment}
+use Rattle.papaya_teller.specs.declared.changed.Changed.{Changed}
+use Rattle.papaya_teller.specs.declared.changed.Changed.TheVariants as changed
+use Rattle.papaya_callers.proofs.Together.Came.{came_reached}
+use Rattle.papaya_effects.specs.Effects.{led_to, linked_on, named, names_same, effects_of, known_after}
+use Rattle.papaya_effects.specs.Known.{Known, known}
+use Rattle.papaya_effects.specs.declared.acting.Acting.TheVariants.{Row}
+use Rattle.papaya_effects.specs.declared.notes.Notes.{Notes}
+use Rattle.papaya_effects.specs.declared.role.Role.{Role}
+use Rattle.papaya_effects.specs.declared.role.Role.TheVariants as role
+use Rattle.papaya_callers.specs.Together.{UnderWay}
+use Rattle.papaya_finishes.specs.FactsEnds.{TakesLeft, WritesRoot, events_of}
+use Rattle.papaya_finishes.specs.Maps.{Standing}
+use Rattle.papaya_reclaims.specs.Slots.{AreItsRows}
+use Rattle.papaya_executor.specs.IsAt.{Scene}
+use Rattle.papaya_executor.specs.declared.executor.Executor.{Executor}
+use Rattle.papaya_reclaiming.specs.Reclaiming.{IsReclaiming, ReclaimingLeads, ReclaimingComesTo}
+use Rattle.papaya_reclaiming.proofs.Reclaims.{may_step}
+use Rattle.papaya_follows.proofs.Operations.{StaysThere, LeavesBy, operated, operated_leaves}
+use Rattle.papaya_follows.proofs.Writes.{nothing_free}
+use Rattle.papaya_follows.specs.Blocks.{WasLinked}
+use Rattle.papaya_hands.specs.Hands.{IsInUse}
+use Rattle.papaya_others.specs.Gone.{WasRetired}
+use Rattle.papaya_others.proofs.RowPlans.{TellsRow}
+use Rattle.papaya_others.proofs.Rows.{row_leads}
+use Rattle.papaya_others.proofs.Stays.{StaysBlock, same_there}
+use Rattle.papaya_spots.specs.OnSlots.{WaitUnreclaimed}
+use Rattle.papaya_spots.proofs.Deferred.{effects_leave_outside}
+use Rattle.papaya_spots.proofs.OnSlots.{row_beside, blocks_done}
+use Rattle.papaya_spots.proofs.Stays.{places_stay}
+use Rattle.papaya_moments.specs.OnSlots.{HadRetired}
+use Rattle.papaya_moments.specs.Whole.{ShowsWhole}
+use Rattle.papaya_moments.proofs.Beside.{IsBeside, hands_beside}
+use Rattle.papaya_moments.proofs.OnSlots.{stood_same, with_outside, was_retired, row_alone, row_keeps}
+use Rattle.papaya_logged.specs.Reclaims.{ReclaimingIsShown, ReclaimingThen, ReclaimingGoesOn, ReclaimingSteps}
+use Rattle.papaya_logged.specs.Shown.{IsShown}
+use Rattle.papaya_logged.specs.declared.logged.Logged.{Logged}
+use Rattle.papaya_logged.proofs.ReclaimRows.{KeptThere, rows_kept, left_kept, root_kept, EmptiesRoot, reclaiming_tells}
+
+module _ {K V S : Type 0} (same : K → K → Bool) (hash : K → ℕ) (name : ℕ → List ℕ) (m : Moment K V) (known : Known) (s : Scene K V) (whole : ShowsWhole same name m known s)
+    (old new : Executor K V S) (i : ℕ) (lists : ℕ → List ℕ) (before after : ReclaimAll) (told : Settled (Node K V)) (at : IsReclaiming same hash old s i lists before)
+    (leads : ReclaimingLeads same hash s i lists old new before after told) where
+  abbrev w : World (Node K V)
+  w = s.world
+
+  abbrev w2 : World (Node K V)
+  w2 = leads.1.w2
+
+  abbrev maps2 : ℕ → Option (Standing K)
+  maps2 = leads.1.maps2
+
+  abbrev s2 : Scene K V
+  s2 = record s { world = leads.1.w2; maps = leads.1.maps2 }
+
+  reached : Reached deferred_word old.batch_size w
+  reached = came_reached old.batch_size w at.under_way.stand.together.makings.standing.came
+
+  abbrev RunsBy : List (Event (Node K V)) → Type 0
+  RunsBy events = Runs deferred_word old.batch_size events w w2
+
+  -- what is there is as it was, in the same hands
+  kept : KeptThere w w2
+  kept = by leads.1.its
+    where
+      by : AreItsRows i leads.1.events ⊎ (((b : ℕ) × (leads.1.events ≡ events_of i (TakesLeft b)))
+          ⊎ ((root : ℕ) × ((leads.1.events ≡ events_of i (WritesRoot (Root root) 0)) ⊎ (leads.1.events ≡ events_of i (WritesRoot (Used root) 0))))) → KeptThere w w2
+      by (inl rows) = rows_kept old.batch_size i leads.1.events rows w w2 reached leads.1.runs
+      by (inr (inl (b, is))) = left_kept old.batch_size i b w w2 (runs_reached deferred_word old.batch_size leads.1.events w w2 reached leads.1.runs) (subst RunsBy is leads.1.runs)
+      by (inr (inr (root, inl is))) = root_kept old.batch_size i (Root root) 0 w w2 (subst RunsBy is leads.1.runs)
+      by (inr (inr (root, inr is))) = root_kept old.batch_size i (Used root) 0 w w2 (subst RunsBy is leads.1.runs)
+
+  left : LeavesBy w.memory w2.memory new.memory.changed
+  left =
+      subst (λ (n : Mem (Node K V)). LeavesBy w.memory n new.memory.changed) (sym leads.1.memory)
+      (subst (λ (n : Mem (Node K V)). LeavesBy n new.memory.memory new.memory.changed) (sym at.memory)
+      (operated_leaves old.memory.memory new.memory.memory new.memory.changed
+      (operated old.memory.memory new.memory.memory new.memory.changed (reclaim_all_plan deferred_word was_left before) (after, told) (may_step same hash old s i lists before at) leads.0)))
+
+  stays : (b : ℕ) → StaysThere w.memory w2.memory b → StaysBlock w w2 b
+  stays b there = by (value_at w.memory b) refl
+    where
+      by : (o : Option (Node K V)) → value_at w.memory b ≡ o → StaysBlock w w2 b
+      by None f = record { value = there.gone f ∙ sym f; linked = λ value is linked. absurd (cc (f, is)) }
+      by (Some value) f =
+          let k = kept b (subst (λ (o : Option (Node K V)). IsSome o) (sym (there.there value f).1) refl) in
+          record { value = k.0; linked = λ x is linked. subst (λ (h : Hand). WasLinked h) (sym k.1) linked }
+
+  -- nobody has a call
+  no_call : (map j : ℕ) (u : UnderWay K V K) → s.calls map j ≡ Some u → ⊥
+  no_call map j u here = (let none = at.under_way.stand.no_calls map j in cc (none, here))
+
+  -- where it tells what a step of a row does
+  module _ (x : Changed) (tells : TellsRow x) (l : LeavesBy w.memory w2.memory x) where
+    abbrev then_at : Moment K V
+    then_at = with_effects None None (effects_of Row known x) m
+
+    abbrev then_known : Known
+    then_known = known_after Row x known
+
+    beside : IsBeside m then_at known then_known s s2
+    beside =
+        let a = row_alone m known x tells in
+        let k = row_keeps known w2 w x tells l in
+        record {
+          stored = a.stored;
+          born = a.born;
+          calls = a.calls;
+          maps = a.maps;
+          place = a.place;
+          back = λ b of. inl (k.0 b of);
+          roles = k.1;
+          hands = λ b some used. subst IsInUse (sym (kept b some).1) used;
+          same_calls = refl;
+          stood = λ map st is. inl (stood_same (s.maps map) (maps2 map) (leads.1.as_they_were map) st is);
+        }
+
+    row_whole : AtEachEffect HadRetired None None (effects_of Row known x) m → AtEachEffect WaitUnreclaimed None None (effects_of Row known x) m → ShowsWhole same name then_at then_known s2
+    row_whole retired unreclaimed =
+        let finds = row_beside m known x tells in
+        let shown = row_leads same name m known s whole.all.shown w2 maps2 leads.1.as_they_were stays
+        (λ n st e. (at.under_way.stand.together.makings.standing.each n st e).ground.map) (λ n st e. (leads.1.next.stand.together.makings.standing.each n st e).ground.map)
+        x tells l (with_outside None None HadRetired WasRetired was_retired (effects_of Row known x) m finds.0.1 whole.outside retired) in
+        record {
+          all = record {
+            shown = shown.shows;
+            asked = record { apart = λ n j k o a b is other names. absurd (no_call n j a is); each = λ map j u here st there c found. absurd (no_call map j u here) };
+            hands = hands_beside same name m then_at known then_known s s2 whole.all.shown shown beside whole.all.hands;
+            rows = record { none = λ map j u here. absurd (no_call map j u here); one = λ map j u here. absurd (no_call map j u here) };
+          };
+          places = places_stay None None (effects_of Row known x) m known then_known s.maps maps2 finds.0.0 finds.1 leads.1.as_they_were whole.places;
+          blocks = blocks_done K V S same hash name m known s whole.all.shown whole.blocks x tells unreclaimed;
+          outside = effects_leave_outside K V None None (effects_of Row known x) m finds.0.1 whole.outside;
+          counters = λ j b makes. absurd (let none = at.under_way.stand.no_makers j in cc (none, makes));
+        }
+
+  -- A root that is emptied is nothing to pairs and tables.
+  root_none : (q : Bool) (was is : Role) (b : ℕ) → is ≡ role.Free → ((if q then [] else led_to Row was is) ≡ []) × ((if q then known else linked_on Row b is known) ≡ known)
+  root_none true was is b free = (refl, refl)
+  root_none false was is b free = (ap (led_to Row was) free, ap (λ (r : Role). linked_on Row b r known) free)
+
+  nothing_there : (word : ℕ) → word ≡ 0 → named known word ≡ role.Free
+  nothing_there word is = ap (λ (x : ℕ). known.roles (block_in x)) is ∙ nothing_free w m.stored known whole.all.shown.blocks.roles
+
+  idle_whole : ((b : ℕ) → value_at w2.memory b ≡ value_at w.memory b) → ShowsWhole same name m known s2
+  idle_whole same_values = row_whole changed.Nothing tt (same_there w.memory w2.memory same_values) tt tt
+
+  root_whole : (x : Changed) → EmptiesRoot x → LeavesBy w.memory w2.memory x → ShowsWhole same name (with_effects None None (effects_of Row known x) m) (known_after Row x known) s2
+  root_whole (changed.Wrote (Root r) was is) empty l =
+      let none = root_none (names_same was is) (named known was) (named known is) (block_in is) (nothing_there is empty) in
+      subst (λ (effects : List Effect). ShowsWhole same name (with_effects None None effects m) (if names_same was is then known else linked_on Row (block_in is) (named known is) known) s2) (sym none.0)
+      (subst (λ (k : Known). ShowsWhole same name m k s2) (sym none.1) (idle_whole l.2))
+  root_whole (changed.Wrote (Used r) was is) empty l = idle_whole l.2
+  root_whole _ empty l = absurd empty
+
+  abbrev effects : List Effect
+  effects = effects_of Row known new.memory.changed
+
+  pub reclaiming_whole : AtEachEffect HadRetired None None effects m → AtEachEffect WaitUnreclaimed None None effects m
+      → ShowsWhole same name (with_effects None None effects m) (known_after Row new.memory.changed known) s2
+  reclaiming_whole retired unreclaimed =
+      elim (reclaiming_tells old.memory.memory new.memory.memory new.memory.changed before before.stands (after, told) leads.0)
+      as (λ _. ShowsWhole same name (with_effects None None effects m) (known_after Row new.memory.changed known) s2) [
+        | inl tells ↦ row_whole new.memory.changed tells left retired unreclaimed
+        | inr empties ↦ root_whole new.memory.changed empties left
+      ]
+
+module _ {K V S : Type 0} (same : K → K → Bool) (hash : K → ℕ) where
+  -- it begins where the executor is shown
+  pub reclaiming_begins : (l : Logged K V S) (name : ℕ → List ℕ) (m : Moment K V) (s : Scene K V) (i : ℕ) (lists : ℕ → List ℕ) (all : ReclaimAll) → IsShown same hash name m l s
+      → IsReclaiming same hash l.executor s i lists all → ReclaimingIsShown same hash name m l s i lists all
+  reclaiming_begins l name m s i lists all shown at = record { under_way = at; shows = shown.shows }
+
+  module _ (old : Logged K V S) (stepped : Executor K V S) (notes : Notes) (name : ℕ → List ℕ) (m : Moment K V) (s : Scene K V) (i : ℕ) (lists : ℕ → List ℕ) (before after : ReclaimAll) where
+    abbrev moment_then : Moment K V
+    moment_then = with_effects None None (effects_of Row (known old.notes) stepped.memory.changed) m
+
+    abbrev then_logged : Logged K V S
+    then_logged = record { executor = stepped; notes = notes }
+
+    then_so : (to : Scene K V) (lists2 : ℕ → List ℕ) (told : Settled (Node K V)) → ReclaimingComesTo same hash s i lists old.executor stepped to lists2 after told
+        → ShowsWhole same name moment_then (known notes) to → ReclaimingThen same hash name moment_then s i lists to lists2 after old then_logged told
+    then_so to lists2 settled.Goes comes shows = record { under_way = comes; shows = shows }
+    then_so to lists2 settled.Waits comes shows = record { under_way = comes; shows = shows }
+    then_so to lists2 (settled.Gave value) comes shows = record { under_way = comes; shows = shows }
+    then_so to lists2 settled.Done comes shows = (comes.0, record { is_at = comes.1; shows = shows })
+
+    reclaiming_so : (told : Settled (Node K V))
+        → ((s : Scene K V) (i : ℕ) (lists : ℕ → List ℕ) → IsReclaiming same hash old.executor s i lists before → ReclaimingLeads same hash s i lists old.executor stepped before after told)
+        → known notes ≡ known_after Row stepped.memory.changed (known old.notes) → ReclaimingIsShown same hash name m old s i lists before
+        → ReclaimingGoesOn same hash name m s i lists before after told (effects_of Row (known old.notes) stepped.memory.changed) old then_logged
+    reclaiming_so told stepping noted shown =
+        let leads = stepping s i lists shown.under_way in
+        let to : Scene K V = record s { world = leads.1.w2; maps = leads.1.maps2 } in (
+          leads,
+          λ retired unreclaimed. then_so to leads.1.lists2 told leads.2
+              (subst (λ (k : Known). ShowsWhole {K = K} {V = V} same name moment_then k to) (sym noted)
+              (reclaiming_whole same hash name m (known old.notes) s shown.shows old.executor stepped i lists before after told shown.under_way leads retired unreclaimed)),
+        )
+
+-- The step was taken, and then the memory was noted: the executor stayed as it was.
+pub reclaiming_steps : {K V S : Type 0} (old new : Logged K V S) (stepped : Executor K V S) (before after : ReclaimAll) (told : Settled (Node K V)) (had has : List Effect)
+    → ((same : K → K → Bool) (hash : K → ℕ) (s : Scene K V) (i : ℕ) (lists : ℕ → List ℕ) → IsReclaiming same hash old.executor s i lists before
+    → ReclaimingLeads same hash s i lists old.executor stepped before after told)
+    → has ≡ had ++ effects_of Row (known old.notes) stepped.memory.changed
+    → known new.notes ≡ known_after Row stepped.memory.changed (known old.notes)
+    → new.executor ≡ stepped → ReclaimingSteps before after told had has old new
+reclaiming_steps {K} {V} {S} old new stepped before after told had has stepping did noted executor =
+    let effects = effects_of Row (known old.notes) stepped.memory.changed in (
+      effects,
+      did,
+      λ same hash name m s i lists shown.
+          subst (λ (e : Executor K V S). ReclaimingGoesOn same hash name m s i lists before after told effects old (record { executor = e; notes = new.notes })) (sym executor)
+          (reclaiming_so same hash old stepped new.notes name m s i lists before after told (stepping same hash) noted shown),
+    )

@@ -1,0 +1,9 @@
+-- The beginning of the end of a map.
+use Rattle.std.proofs.Common.{refl}
+use Rattle.papaya_logged.proofs.EndSteps.{end_is_begun}
+use Rattle.papaya_logged.proofs.logged.Logged.begin_end.Goals as goal
+
+pub returns-clause-leads : goal.returns-clause-leads
+returns-clause-leads g c = λ same hash name m s shown.
+    end_is_begun same hash c.args.self.now (record { executor = c.begin_ending.new.self; notes = c.args.self.now.notes }) c.args.map _
+    (λ v at. c.in_ok-caller.ensures.leads same hash v at) refl name m s shown

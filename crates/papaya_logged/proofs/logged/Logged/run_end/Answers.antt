@@ -1,0 +1,58 @@
+-- Each step may be taken, leads on, and leaves less to do, until the end is over.
+use Rattle.std.proofs.Common.{sym, ◌∙◌}
+use Rattle.papaya_logged.proofs.EndSteps.{end_is_over}
+use Rattle.papaya_logged.proofs.EndsRun.{ends_none, ends_last, still_ending, ran_goes, ending_less}
+use Rattle.papaya_logged.proofs.logged.Logged.run_end.Goals as goal
+
+pub loop-told-init : goal.loop-told-init
+loop-told-init g c = record { ran = ends_none c.args.caller c.args.map c.args.self.now c.args.effects.now.items }
+
+pub step_end-requires : goal.step_end-requires
+step_end-requires g c =
+    let r = c.requires in
+    let t = still_ending c.args.caller c.args.map r.0 r.1 r.2 _ _ _ _ r.3 r.4 c.loop-told.invariant.ran in
+    (r.0, r.1, t.0, t.1, t.2)
+
+pub returns-then-is_done-clause-ran : goal.returns-then-is_done-clause-ran
+returns-then-is_done-clause-ran g c =
+    let e = c.in_ok-told.ensures in
+    ends_last c.args.caller c.args.map _ _ _ _ _ _ c.in_ok-told.told c.loop-told.invariant.ran e.leads e.steps (sym c.is_done.ensures ∙ c.if-is_done.true)
+
+pub returns-then-is_done-clause-over : goal.returns-then-is_done-clause-over
+returns-then-is_done-clause-over g c = end_is_over _
+
+pub loop-told-smaller-else-is_done : goal.loop-told-smaller-else-is_done
+loop-told-smaller-else-is_done g c =
+    let r = c.requires in
+    let e = c.in_ok-told.ensures in
+    ending_less c.args.caller c.args.map r.0 r.1 r.2 _ _ _ _ _ _ c.in_ok-told.told r.3 r.4 c.loop-told.invariant.ran e.leads e.steps (sym c.is_done.ensures ∙ c.if-is_done.false)
+
+pub loop-told-preserved-else-is_done : goal.loop-told-preserved-else-is_done
+loop-told-preserved-else-is_done g c =
+    let r = c.requires in
+    let e = c.in_ok-told.ensures in
+    record { ran = ran_goes c.args.caller c.args.map r.0 r.1 r.2 _ _ _ _ _ _ c.in_ok-told.told r.3 r.4 c.loop-told.invariant.ran e.leads e.steps (sym c.is_done.ensures ∙ c.if-is_done.false) }
+
+pub loop-told-smaller-else-is_done-2 : goal.loop-told-smaller-else-is_done-2
+loop-told-smaller-else-is_done-2 g c =
+    let r = c.requires in
+    let e = c.in_ok-told.ensures in
+    ending_less c.args.caller c.args.map r.0 r.1 r.2 _ _ _ _ _ _ c.in_ok-told.told r.3 r.4 c.loop-told.invariant.ran e.leads e.steps (sym c.is_done.ensures ∙ c.if-is_done.false)
+
+pub loop-told-preserved-else-is_done-2 : goal.loop-told-preserved-else-is_done-2
+loop-told-preserved-else-is_done-2 g c =
+    let r = c.requires in
+    let e = c.in_ok-told.ensures in
+    record { ran = ran_goes c.args.caller c.args.map r.0 r.1 r.2 _ _ _ _ _ _ c.in_ok-told.told r.3 r.4 c.loop-told.invariant.ran e.leads e.steps (sym c.is_done.ensures ∙ c.if-is_done.false) }
+
+pub loop-told-smaller : goal.loop-told-smaller
+loop-told-smaller g c =
+    let r = c.requires in
+    let e = c.in_ok-told.ensures in
+    ending_less c.args.caller c.args.map r.0 r.1 r.2 _ _ _ _ _ _ c.in_ok-told.told r.3 r.4 c.loop-told.invariant.ran e.leads e.steps (sym c.is_done.ensures ∙ c.if-is_done.false)
+
+pub loop-told-preserved : goal.loop-told-preserved
+loop-told-preserved g c =
+    let r = c.requires in
+    let e = c.in_ok-told.ensures in
+    record { ran = ran_goes c.args.caller c.args.map r.0 r.1 r.2 _ _ _ _ _ _ c.in_ok-told.told r.3 r.4 c.loop-told.invariant.ran e.leads e.steps (sym c.is_done.ensures ∙ c.if-is_done.false) }

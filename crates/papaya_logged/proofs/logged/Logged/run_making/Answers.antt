@@ -1,0 +1,44 @@
+-- Each step may be taken, leads on, and leaves less to do, until the making is over.
+use Rattle.std.proofs.Common.{length, refl, ap, sym, ◌∙◌}
+use Rattle.papaya_logged.specs.Makings.{numbers_then}
+use Rattle.papaya_logged.proofs.GivenBack.{has_place, numbers_given, ran_given}
+use Rattle.papaya_logged.proofs.MakingsRun.{makes_none, makes_on, still_making, ran_goes, making_less}
+use Rattle.papaya_logged.proofs.logged.Logged.run_making.Goals as goal
+
+pub loop-told-init : goal.loop-told-init
+loop-told-init g c = record { ran = makes_none c.args.caller c.args.map c.args.self.now c.args.effects.now.items; numbers = refl }
+
+pub step_making-requires : goal.step_making-requires
+step_making-requires g c =
+    let r = c.requires in
+    let t = still_making c.args.caller c.args.map r.0 r.1 r.2 _ _ _ _ r.3 r.4 r.5 r.6 c.loop-told.invariant.ran in
+    (r.0, r.1, t.0, t.1, t.2)
+
+pub give_back-requires : goal.give_back-requires
+give_back-requires g c =
+    let r = c.requires in
+    has_place r.0 r.1 r.2 c.args.caller c.args.map r.3 r.4 r.5 r.6 _ (c.in_ok-told.ensures.numbers ∙ c.loop-told.invariant.numbers)
+
+pub returns-then-is_over-clause-numbers : goal.returns-then-is_over-clause-numbers
+returns-then-is_over-clause-numbers g c =
+    ap length c.give_back.ensures ∙ numbers_given c.args.map c.in_ok-told.told _ ∙ ap (numbers_then c.args.map c.in_ok-told.told) (c.in_ok-told.ensures.numbers ∙ c.loop-told.invariant.numbers)
+
+pub returns-then-is_over-clause-ran : goal.returns-then-is_over-clause-ran
+returns-then-is_over-clause-ran g c =
+    let e = c.in_ok-told.ensures in
+    ran_given c.args.caller c.args.map c.in_ok-told.told _ _ _ _ _ (makes_on c.args.caller c.args.map _ _ _ _ _ _ c.in_ok-told.told c.loop-told.invariant.ran e.leads e.steps) refl refl c.give_back.ensures
+
+pub loop-told-smaller : goal.loop-told-smaller
+loop-told-smaller g c =
+    let r = c.requires in
+    let e = c.in_ok-told.ensures in
+    making_less c.args.caller c.args.map r.0 r.1 r.2 _ _ _ _ _ _ c.in_ok-told.told r.3 r.4 r.5 r.6 c.loop-told.invariant.ran e.leads e.steps (sym c.is_over.ensures ∙ c.if-is_over.false)
+
+pub loop-told-preserved : goal.loop-told-preserved
+loop-told-preserved g c =
+    let r = c.requires in
+    let e = c.in_ok-told.ensures in
+    record {
+      ran = ran_goes c.args.caller c.args.map r.0 r.1 r.2 _ _ _ _ _ _ c.in_ok-told.told r.3 r.4 r.5 r.6 c.loop-told.invariant.ran e.leads e.steps (sym c.is_over.ensures ∙ c.if-is_over.false);
+      numbers = e.numbers ∙ c.loop-told.invariant.numbers;
+    }

@@ -1,0 +1,19 @@
+-- A step of the making of a map.
+use Rattle.std.proofs.Common.{length, ap, sym, subst, ◌∙◌}
+use Rattle.papaya_executor.specs.Making.{MakingLeads}
+use Rattle.papaya_executor.specs.declared.executor.Executor.{Executor}
+use Rattle.papaya_logged.proofs.MakingSteps.{making_steps}
+use Rattle.papaya_logged.proofs.logged.Logged.step_making.Goals as goal
+
+pub returns-clause-leads : goal.returns-clause-leads
+returns-clause-leads g c =
+    making_steps c.args.self.now c.note.new.self c.step_making-told.new.self c.args.caller c.args.map c.step_making-told.result c.args.effects.now.items c.note.new.effects.items
+    (λ same hash v at. c.step_making-told.ensures.leads same hash v at) c.in_ok-note.ensures.did c.in_ok-note.ensures.known c.note.ensures.executor
+
+pub returns-clause-steps : goal.returns-clause-steps
+returns-clause-steps g c = λ same hash s at.
+    subst (λ (e : Executor _ _ _). MakingLeads same hash c.args.caller c.step_making-told.result s c.args.self.now.executor e) (sym c.note.ensures.executor)
+    (c.step_making-told.ensures.leads same hash s at)
+
+pub returns-clause-numbers : goal.returns-clause-numbers
+returns-clause-numbers g c = ap (λ (e : Executor _ _ _). length e.maps.items) c.note.ensures.executor ∙ c.step_making-told.ensures.numbers

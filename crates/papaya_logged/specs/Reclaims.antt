@@ -1,0 +1,46 @@
+-- Where it leads that all is reclaimed while nobody has anything under way: its beginning, and each step of it, and what that does.
+use Rattle.std.specs.Prelude.{◌≡◌, ℕ, Bool, List, ◌++◌, None}
+use Rattle.seize.specs.declared.rows.reclaim_all.ReclaimAll.{ReclaimAll}
+use Rattle.seize.specs.declared.rows.settle.Settled.{Settled}
+use Rattle.seize.specs.declared.rows.settle.Settled.TheVariants as settled
+use Rattle.papaya_tables.specs.declared.node.Node.{Node}
+use Rattle.papaya_schedules.specs.declared.effect.Effect.{Effect}
+use Rattle.papaya_schedules.specs.Effects.{with_effects, AtEachEffect}
+use Rattle.papaya_schedules.specs.Moment.{Moment}
+use Rattle.papaya_effects.specs.Known.{known}
+use Rattle.papaya_reclaims.specs.Reclaims.{AllIsReclaimed}
+use Rattle.papaya_executor.specs.IsAt.{Scene}
+use Rattle.papaya_reclaiming.specs.Reclaiming.{IsReclaiming, ReclaimingLeads}
+use Rattle.papaya_spots.specs.OnSlots.{WaitUnreclaimed}
+use Rattle.papaya_moments.specs.OnSlots.{HadRetired}
+use Rattle.papaya_moments.specs.Whole.{ShowsWhole}
+use Rattle.papaya_logged.specs.Shown.{IsShown}
+use Rattle.papaya_logged.specs.declared.logged.Logged.{Logged}
+
+module _ {K V S : Type 0} (same : K → K → Bool) (hash : K → ℕ) (name : ℕ → List ℕ) where
+  -- All is being reclaimed, it is so far, and these lists are behind the roots still; and a moment shows the scene with the notes.
+  pub record ReclaimingIsShown (m : Moment K V) (l : Logged K V S) (s : Scene K V) (i : ℕ) (lists : ℕ → List ℕ) (all : ReclaimAll) : Type 0 where
+    pub under_way : IsReclaiming same hash l.executor s i lists all
+    pub shows : ShowsWhole same name m (known l.notes) s
+
+  module _ (m : Moment K V) (s : Scene K V) (i : ℕ) (lists : ℕ → List ℕ) where
+    -- what is shown after a step: it goes on; or it is over, all is reclaimed, and the executor is there
+    abbrev pub ReclaimingThen : Scene K V → (ℕ → List ℕ) → ReclaimAll → (old new : Logged K V S) → Settled (Node K V) → Type 0
+    ReclaimingThen s2 lists2 after old new settled.Done = AllIsReclaimed old.executor.roots s2.world s2.maps × IsShown same hash name m new s2
+    ReclaimingThen s2 lists2 after old new _ = ReclaimingIsShown m new s2 i lists2 after
+
+-- A step of it, which did this. If a table that it reclaims was retired, and what waits behind that is not reclaimed, the moment after it shows where it has led.
+module _ {K V S : Type 0} where
+  abbrev pub ReclaimingGoesOn : (same : K → K → Bool) (hash : K → ℕ) → (ℕ → List ℕ) → Moment K V → Scene K V → ℕ → (ℕ → List ℕ) → (before after : ReclaimAll) → Settled (Node K V) → List Effect
+      → (old new : Logged K V S) → Type 0
+  ReclaimingGoesOn same hash name m s i lists before after told did old new =
+      (leads : ReclaimingLeads same hash s i lists old.executor new.executor before after told)
+      × (AtEachEffect HadRetired None None did m → AtEachEffect WaitUnreclaimed None None did m
+      → ReclaimingThen same hash name (with_effects None None did m) s i lists (record s { world = leads.1.w2; maps = leads.1.maps2 }) leads.1.lists2 after old new told)
+
+  -- What it does follows in the list, whatever shows the scene.
+  abbrev pub ReclaimingSteps : (before after : ReclaimAll) → Settled (Node K V) → (had has : List Effect) → (old new : Logged K V S) → Type 0
+  ReclaimingSteps before after told had has old new =
+      (did : List Effect) × (has ≡ had ++ did)
+      × ((same : K → K → Bool) (hash : K → ℕ) (name : ℕ → List ℕ) (m : Moment K V) (s : Scene K V) (i : ℕ) (lists : ℕ → List ℕ) → ReclaimingIsShown same hash name m old s i lists before
+      → ReclaimingGoesOn same hash name m s i lists before after told did old new)

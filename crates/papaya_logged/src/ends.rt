@@ -1,0 +1,82 @@
+//! Ends of maps begin, take steps, and run to their ends.
+ghost use Rattle.std.specs.Prelude.{◌≡◌, ◌<◌, ◌+◌, ◌*◌, ℕ, Bool, true, List, length, slice_index_or, Some, None, IfOk, IfErr};
+ghost use Rattle.papaya_schedules.specs.Moment.{Moment};
+ghost use Rattle.papaya_tables.specs.declared.setting.Setting.{Setting};
+ghost use Rattle.papaya_executor.specs.Beginning.{IsRefused};
+ghost use Rattle.papaya_executor.specs.Ending.{EndingLeads};
+ghost use Rattle.papaya_executor.specs.IsAt.{Scene, IsAt, IsEnding};
+ghost use Rattle.papaya_executor.specs.declared.worker.TheConstants.{SLOTS};
+ghost use Rattle.papaya_logged.specs.Ends.{EndIsBegun, EndSteps, EndRan, EndIsOver, is_done};
+ghost use Rattle.papaya_logged.specs.Shown.{IsShown};
+
+use crate::logged::Logged;
+use papaya_effects::acting::Acting;
+use papaya_executor::worker::SLOTS;
+use papaya_raw::Node;
+use papaya_schedules::effect::Effect;
+use seize::rows::Settled;
+use std::alloc::AllocError;
+
+/// Whether an end is over.
+fn is_done<T>(told: &Settled<T>) -> bool
+    ensures { result ≡ is_done told.now }
+{
+    match told {
+        Settled::Done => true,
+        Settled::Goes | Settled::Waits | Settled::Gave(_) => false,
+    }
+}
+
+impl<K: Drop, V: Drop, S> Logged<K, V, S> {
+    /// Begins to end the map of this number, which stands, for a caller in this slot, and answers with the number of the caller. Nobody is to have a call on the
+    /// map. From then on none stands under that number. On an error nothing has changed.
+    pub fn begin_end(&mut self, slot: u64, map: u64) -> Result<u64, AllocError>
+        requires slot { slot < SLOTS }
+        requires stands { (setting : Setting) × (slice_index_or self.old.executor.maps.items map None ≡ Some setting) }
+        ensures number { IfOk result (λ caller. caller ≡ length self.old.executor.workers.items * SLOTS + slot) }
+        ensures leads { IfOk result (λ caller. (same : K → K → Bool) (hash : K → ℕ) (name : ℕ → List ℕ) (m : Moment K V) (s : Scene K V) → IsShown same hash name m self.old s
+            → EndIsBegun same hash name m s map caller self.old self.new) }
+        ensures refused { IfErr result (λ error. IsRefused self.old.executor self.new.executor × (self.new.notes ≡ self.old.notes)) }
+    {
+        let caller = self.executor.begin_ending(slot, map)?;
+        Ok(caller)
+    }
+
+    /// Takes the next step of the end of this map that a caller has under way: at most one operation. What it does is added to the list. It is refused where the
+    /// list, or the notes, find no more room: then the executor has gone on, and it is written down no more.
+    pub fn step_end(
+        &mut self,
+        caller: u64,
+        map: u64,
+        effects: &mut Vec<Effect>,
+    ) -> Result<Settled<Node<K, V>>, AllocError>
+        requires { (same : K → K → Bool) × (hash : K → ℕ) × (s : Scene K V) × IsAt same hash self.old.executor s × IsEnding s caller }
+        ensures leads { IfOk result (λ told. EndSteps caller map told effects.old.items effects.new.items self.old self.new) }
+        ensures steps { IfOk result (λ told. (same : K → K → Bool) (hash : K → ℕ) (s : Scene K V) → IsAt same hash self.old.executor s
+            → EndingLeads same hash caller told s self.old.executor self.new.executor) }
+    {
+        let told = self.executor.step_ending(caller);
+        self.note(Acting::Ending { map }, effects)?;
+        Ok(told)
+    }
+
+    /// Takes steps of the end of this map that a caller has under way, until it is over. What the steps do is added to the list, in their order, and the pairs that they
+    /// reclaim are dropped. It is refused as a step is.
+    pub fn run_end(
+        &mut self,
+        caller: u64,
+        map: u64,
+        effects: &mut Vec<Effect>,
+    ) -> Result<(), AllocError>
+        requires { (same : K → K → Bool) × (hash : K → ℕ) × (s : Scene K V) × IsAt same hash self.old.executor s × IsEnding s caller }
+        ensures ran { IfOk result (λ done. EndRan caller map true effects.old.items effects.new.items self.old self.new) }
+        ensures over { IfOk result (λ done. EndIsOver self.new) }
+    {
+        loop {
+            let told = self.step_end(caller, map, effects)?;
+            if is_done(&told) {
+                return Ok(());
+            }
+        }
+    }
+}

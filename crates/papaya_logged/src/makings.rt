@@ -1,0 +1,103 @@
+//! Makings of maps begin, take steps, and run to their ends.
+ghost use Rattle.std.specs.Prelude.{◌≡◌, ◌<◌, ◌+◌, ◌*◌, ℕ, Bool, true, List, length, Some, IfOk, IfErr};
+ghost use Rattle.papaya_finishes.specs.Makings.{Beginning};
+ghost use Rattle.papaya_schedules.specs.Moment.{Moment};
+ghost use Rattle.papaya_executor.specs.Beginning.{IsRefused};
+ghost use Rattle.papaya_executor.specs.IsAt.{Scene, IsAt, IsMaking};
+ghost use Rattle.papaya_executor.specs.Making.{MakingLeads};
+ghost use Rattle.papaya_executor.specs.declared.worker.TheConstants.{SLOTS};
+ghost use Rattle.papaya_logged.specs.Makings.{MakingIsBegun, MakingSteps, MakingRan, MapIsThere, given_back, is_over, numbers_then};
+ghost use Rattle.papaya_logged.specs.Shown.{IsShown};
+
+use crate::logged::Logged;
+use papaya_effects::acting::Acting;
+use papaya_executor::worker::SLOTS;
+use papaya_raw::Setting;
+use papaya_schedules::effect::Effect;
+use seize::Progress;
+use std::alloc::AllocError;
+
+/// Whether a making is over.
+fn is_over<A>(told: &Progress<A>) -> bool
+    ensures { result ≡ is_over told.now }
+{
+    match told {
+        Progress::Goes | Progress::Waits => false,
+        Progress::Done(_) | Progress::Refused(_) => true,
+    }
+}
+
+/// Gives back the number of a making that was refused, so that the next map gets it, if no later one was given out.
+fn give_back(maps: &mut Vec<Option<Setting>>, map: u64, told: &Progress<Setting>)
+    requires { map < length maps.old.items }
+    ensures { maps.new.items ≡ given_back map told.now maps.old.items }
+{
+    if let Progress::Refused(_) = told {
+        if maps.len() as u64 == map + 1 {
+            maps.truncate(map as usize);
+        }
+    }
+}
+
+impl<K: Drop, V: Drop, S> Logged<K, V, S> {
+    /// Begins to make a map with this setting, and with a first table of so many places, for a caller in this slot. The map gets the number that comes next. It
+    /// answers with the number of the caller. On an error nothing has begun.
+    pub fn begin_making(
+        &mut self,
+        slot: u64,
+        given: Setting,
+        places: u64,
+    ) -> Result<u64, AllocError>
+        requires { slot < SLOTS }
+        ensures number { IfOk result (λ caller. caller ≡ length self.old.executor.workers.items * SLOTS + slot) }
+        ensures leads { IfOk result (λ caller. (same : K → K → Bool) (hash : K → ℕ) (name : ℕ → List ℕ) (m : Moment K V) (s : Scene K V) → IsShown same hash name m self.old s
+            → MakingIsBegun same hash name m s given places caller self.old self.new) }
+        ensures there { IfOk result (λ caller. MapIsThere self.new) }
+        ensures numbers { IfOk result (λ caller. length self.new.executor.maps.items ≡ length self.old.executor.maps.items + 1) }
+        ensures refused { IfErr result (λ error. IsRefused self.old.executor self.new.executor × (self.new.notes ≡ self.old.notes)) }
+    {
+        let caller = self.executor.begin_making(slot, given, places)?;
+        Ok(caller)
+    }
+
+    /// Takes the next step of the making of this map that a caller has under way: at most one operation. What it does is added to the list. It is refused where the
+    /// list, or the notes, find no more room: then the executor has gone on, and it is written down no more.
+    pub fn step_making(
+        &mut self,
+        caller: u64,
+        map: u64,
+        effects: &mut Vec<Effect>,
+    ) -> Result<Progress<Setting>, AllocError>
+        requires { (same : K → K → Bool) × (hash : K → ℕ) × (s : Scene K V) × IsAt same hash self.old.executor s × IsMaking s caller }
+        ensures leads { IfOk result (λ told. MakingSteps caller map told effects.old.items effects.new.items self.old self.new) }
+        ensures steps { IfOk result (λ told. (same : K → K → Bool) (hash : K → ℕ) (s : Scene K V) → IsAt same hash self.old.executor s
+            → MakingLeads same hash caller told s self.old.executor self.new.executor) }
+        ensures numbers { IfOk result (λ told. length self.new.executor.maps.items ≡ length self.old.executor.maps.items) }
+    {
+        let told = self.executor.step_making(caller);
+        self.note(Acting::Making { map }, effects)?;
+        Ok(told)
+    }
+
+    /// Takes steps of the making of this map that a caller has under way, until it is over, and answers what the last step told. What the steps do is added to the
+    /// list, in their order. If it was refused, the next map gets its number, unless a later one was given out. It is refused as a step is.
+    pub fn run_making(
+        &mut self,
+        caller: u64,
+        map: u64,
+        effects: &mut Vec<Effect>,
+    ) -> Result<Progress<Setting>, AllocError>
+        requires { (same : K → K → Bool) × (hash : K → ℕ) × (s : Scene K V) × IsAt same hash self.old.executor s × (b : Beginning K) × (s.makers caller ≡ Some b) × (b.map ≡ map) }
+        ensures over { IfOk result (λ told. is_over told ≡ true) }
+        ensures numbers { IfOk result (λ told. length self.new.executor.maps.items ≡ numbers_then map told (length self.old.executor.maps.items)) }
+        ensures ran { IfOk result (λ told. MakingRan caller map told effects.old.items effects.new.items self.old self.new) }
+    {
+        loop {
+            let told = self.step_making(caller, map, effects)?;
+            if is_over(&told) {
+                give_back(&mut self.executor.maps, map, &told);
+                return Ok(told);
+            }
+        }
+    }
+}

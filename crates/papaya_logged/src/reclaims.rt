@@ -1,0 +1,40 @@
+//! All is reclaimed, step by step, while nobody has anything under way.
+ghost use Rattle.std.specs.Prelude.{◌≡◌, ℕ, Bool, List, IfOk};
+ghost use Rattle.papaya_schedules.specs.Moment.{Moment};
+ghost use Rattle.papaya_executor.specs.IsAt.{Scene};
+ghost use Rattle.papaya_reclaiming.specs.Reclaiming.{NobodyHas, MayReclaim, IsReclaiming};
+ghost use Rattle.papaya_logged.specs.Reclaims.{ReclaimingIsShown, ReclaimingSteps};
+ghost use Rattle.papaya_logged.specs.Shown.{IsShown};
+
+use crate::logged::Logged;
+use papaya_effects::acting::Acting;
+use papaya_raw::Node;
+use papaya_reclaiming::reclaiming::Reclaiming;
+use papaya_schedules::effect::Effect;
+use seize::rows::Settled;
+use std::alloc::AllocError;
+
+impl<K: Drop, V: Drop, S> Logged<K, V, S> {
+    /// Begins to reclaim all: with the slots, if one was ever taken, else with the roots.
+    pub fn begin_reclaiming(&self, taken: bool) -> Reclaiming
+        ensures { (same : K → K → Bool) (hash : K → ℕ) (name : ℕ → List ℕ) (m : Moment K V) (s : Scene K V) (i : ℕ) (lists : ℕ → List ℕ) → IsShown same hash name m self.now s
+            → NobodyHas self.now.executor → MayReclaim self.now.executor s lists taken → ReclaimingIsShown same hash name m self.now s i lists result.all }
+    {
+        Reclaiming::new(&self.executor, taken)
+    }
+
+    /// Takes the next step: at most one operation. What it does is added to the list, and once it is over no slot is in use. It is refused where the list, or the
+    /// notes, find no more room: then the executor has gone on, and it is written down no more.
+    pub fn step_reclaiming(
+        &mut self,
+        reclaiming: &mut Reclaiming,
+        effects: &mut Vec<Effect>,
+    ) -> Result<Settled<Node<K, V>>, AllocError>
+        requires { (same : K → K → Bool) × (hash : K → ℕ) × (s : Scene K V) × (i : ℕ) × (lists : ℕ → List ℕ) × IsReclaiming same hash self.old.executor s i lists reclaiming.old.all }
+        ensures { IfOk result (λ told. ReclaimingSteps reclaiming.old.all reclaiming.new.all told effects.old.items effects.new.items self.old self.new) }
+    {
+        let told = reclaiming.step(&mut self.executor);
+        self.note(Acting::Row, effects)?;
+        Ok(told)
+    }
+}

@@ -1,0 +1,32 @@
+-- What a whole end of a map does: all of the map ends.
+use Rattle.std.specs.Prelude.{◌≡◌, ◌-◌, ℕ, zero, suc, Bool, List, [], ◌∷◌, ◌++◌, map, flat_map, Some, None}
+use Rattle.papaya_tables.specs.Chunks.{is_incremental}
+use Rattle.papaya_rule.specs.Chart.{Chart}
+use Rattle.papaya_schedules.specs.declared.effect.Effect.{Effect}
+use Rattle.papaya_schedules.specs.declared.effect.Effect.TheVariants.{Ended, Taken}
+use Rattle.papaya_schedules.specs.After.{tables_taken}
+use Rattle.papaya_schedules.specs.Effects.{with_effects}
+use Rattle.papaya_schedules.specs.Handing.{tables_in}
+use Rattle.papaya_schedules.specs.Moment.{Moment}
+use Rattle.papaya_schedules.specs.Views.{size_of, chain_of}
+use Rattle.papaya_finishes.specs.Endings.{AllPairsOnce}
+use Rattle.papaya_finishes.specs.Maps.{Standing}
+use Rattle.papaya_finishes.specs.Orders.{pairs_of}
+use Rattle.papaya_effects.specs.Known.{Known}
+use Rattle.papaya_follows.specs.Maps.{ShowsMap, table_of}
+
+-- so many tables of a map end, from this one on
+abbrev pub tables_ended : ℕ → ℕ → ℕ → List Effect
+tables_ended number t zero = []
+tables_ended number t (suc more) = Taken (table_of number t) ∷ tables_ended number (suc t) more
+
+-- all of a map ends: its pairs, table by table, and by ascending place, and then its tables
+abbrev pub all_ended : {K : Type 0} → Bool → ℕ → (ℕ → ℕ) → Chart K → List Effect
+all_ended incremental of number c = map (λ n. Ended (number n)) (pairs_of incremental c) ++ tables_ended of c.first (c.past - c.first)
+
+-- The promise: where all of a map ends that a moment shows, it has no pair then, and its tables end that were linked, from the root's on.
+abbrev pub WholeEndsTakeAll : Type 0 → Type 0 → Type 0
+WholeEndsTakeAll K V =
+    (m : Moment K V) (known : Known) (of : ℕ) (number : ℕ → ℕ) (st : Standing K) → ShowsMap of number st m known → AllPairsOnce (is_incremental st.setting.mode) st.chart
+    → (let did = all_ended (is_incremental st.setting.mode) of number st.chart in
+    (size_of of (with_effects None (Some of) did m) ≡ 0) × (flat_map tables_taken did ≡ tables_in (chain_of of m)))
