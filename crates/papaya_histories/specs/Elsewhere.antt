@@ -35,11 +35,10 @@ use Rattle.papaya_finishes.specs.Maps.{Standing, with_call}
 use Rattle.papaya_follows.specs.Calling.{NoneNamed}
 use Rattle.papaya_others.specs.Elsewhere.{HasSame}
 use Rattle.papaya_others.specs.Endings.{ending_after, without_map}
-use Rattle.papaya_others.specs.Makings.{making_after}
+use Rattle.papaya_others.specs.Makings.{WasNew, making_after}
 use Rattle.papaya_others.specs.Rows.{scene_then}
 use Rattle.papaya_others.specs.Walks.{given_up}
 use Rattle.papaya_moments.specs.Endings.{IsOfIts}
-use Rattle.papaya_moments.specs.Makings.{IsNewFor}
 use Rattle.papaya_moments.specs.OnSlots.{HadRetired}
 use Rattle.papaya_moments.specs.Whole.{ShowsWhole}
 use Rattle.papaya_histories.specs.AsCalled.{ShowsAsCalled}
@@ -68,7 +67,7 @@ module _ {K V : Type 0} (S : Type 0) (same : K → K → Bool) (hash : K → ℕ
         → (let begun = record s { makers = with_at s.makers i (Some b) } in IsAt same hash new begun → P m known begun))
     pub maps_come : From (λ m known s old new. (there : MapThere) → tables_of there.number m ≡ [] → P (with_map there m) known s)
     pub makings : From (λ m known s old new. (i : ℕ) (told : Progress Setting) (leads : MakingLeads same hash i told s old new)
-        → (b : Beginning K) (here : s.makers i ≡ Some b) (of : Option ℕ) → IsNewFor b.map told m
+        → (b : Beginning K) (here : s.makers i ≡ Some b) (of : Option ℕ) → WasNew b.map told m
         → P (with_effects None of (effects_of (Making b.map) known new.memory.changed) m) (known_after (Making b.map) new.memory.changed known)
         (making_after same hash s old new i b (leads b here).0 (leads b here).2.step.w2 told (leads b here).3))
     -- It does where the end of a map begins, after a step of it, by which tables of that map end alone, and once it is over: no map that stands has its name.

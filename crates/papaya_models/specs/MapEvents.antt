@@ -13,7 +13,6 @@ use Rattle.papaya_executor.specs.Making.{MakingLeads}
 use Rattle.papaya_executor.specs.declared.executor.Executor.{Executor}
 use Rattle.papaya_finishes.specs.Makings.{Beginning}
 use Rattle.papaya_follows.specs.Blocks.{ShowsBlocks}
-use Rattle.papaya_moments.specs.Makings.{IsNewFor}
 use Rattle.papaya_moments.specs.Whole.{ShowsWhole}
 use Rattle.papaya_schedules.specs.After.{moment}
 use Rattle.papaya_schedules.specs.Entry.{Entry}
@@ -27,6 +26,7 @@ use Rattle.papaya_models.specs.Calls.{EndNone}
 use Rattle.papaya_models.specs.Ends.{FollowsInEnd, NoTableIsLeft}
 use Rattle.papaya_models.specs.Follows.{FollowsSets, IsFollowed}
 use Rattle.papaya_models.specs.Numbers.{EachIsOnce, NoneBack}
+use Rattle.papaya_others.specs.Makings.{WasNew}
 use Rattle.papaya_models.specs.Others.{HandNone}
 
 module _ {K V : Type 0} (batch_size roots : ℕ) where
@@ -69,7 +69,7 @@ module _ (K V S : Type 0) (same : K → K → Bool) (hash : K → ℕ) where
   abbrev pub MakingEventsGoOn : Type 0
   MakingEventsGoOn =
       (name : ℕ → List ℕ) (m : Moment K V) (known : Known) (s : Scene K V) (old new : Executor K V S) → IsAt same hash old s → ShowsWhole same name m known s
-      → (i : ℕ) (told : Progress Setting) (leads : MakingLeads same hash i told s old new) (b : Beginning K) (here : s.makers i ≡ Some b) → Option ℕ → IsNewFor b.map told m
+      → (i : ℕ) (told : Progress Setting) (leads : MakingLeads same hash i told s old new) (b : Beginning K) (here : s.makers i ≡ Some b) → Option ℕ → WasNew b.map told m
       → (roots : ℕ) (things : List Thing) (sets : Sets) (done : List Effect) → FollowsInMaking old.batch_size roots things sets done known s.world
       → FollowsInMaking old.batch_size roots things sets (done ++ effects_of (Making b.map) known new.memory.changed) (known_after (Making b.map) new.memory.changed known)
       (leads b here).2.step.w2

@@ -18,9 +18,9 @@ use Rattle.papaya_executor.specs.IsAt.{Scene, IsAt}
 use Rattle.papaya_executor.specs.Making.{MakingLeads}
 use Rattle.papaya_executor.specs.declared.executor.Executor.{Executor}
 use Rattle.papaya_finishes.specs.Makings.{Beginning}
-use Rattle.papaya_moments.specs.Makings.{IsNewFor}
 use Rattle.papaya_moments.specs.Whole.{ShowsWhole}
 use Rattle.papaya_models.specs.Calls.{sets_on}
+use Rattle.papaya_others.specs.Makings.{WasNew}
 use Rattle.papaya_models.specs.Follows.{FollowsSets}
 
 -- it hands nothing over
@@ -44,7 +44,7 @@ module _ (K V S : Type 0) (same : K → K → Bool) (hash : K → ℕ) where
   abbrev pub MakingsFollow : Type 0
   MakingsFollow =
       (name : ℕ → List ℕ) (m : Moment K V) (known : Known) (s : Scene K V) (old new : Executor K V S) → IsAt same hash old s → ShowsWhole same name m known s
-      → (i : ℕ) (told : Progress Setting) (leads : MakingLeads same hash i told s old new) (b : Beginning K) (here : s.makers i ≡ Some b) → Option ℕ → IsNewFor b.map told m
+      → (i : ℕ) (told : Progress Setting) (leads : MakingLeads same hash i told s old new) (b : Beginning K) (here : s.makers i ≡ Some b) → Option ℕ → WasNew b.map told m
       → (roots : ℕ) (things : List Thing) (sets : Sets) → FollowsSets old.batch_size roots things sets known s.world → (slot : ℕ)
       → (let effects = effects_of (Making b.map) known new.memory.changed in
       FollowsSets old.batch_size roots things (sets_on old.batch_size things slot effects sets) (known_after (Making b.map) new.memory.changed known) (leads b here).2.step.w2)

@@ -42,7 +42,7 @@ use Rattle.papaya_hands.proofs.Asking.{which}
 use Rattle.papaya_others.specs.After.{ShowsAfter}
 use Rattle.papaya_others.specs.Endings.{ending_after, without_map}
 use Rattle.papaya_others.specs.Gone.{WasRetired, EndsWith}
-use Rattle.papaya_others.specs.Makings.{WasNew, making_after}
+use Rattle.papaya_others.specs.Makings.{making_after}
 use Rattle.papaya_others.specs.Walks.{given_up}
 use Rattle.papaya_others.proofs.Elsewhere.{shown_elsewhere}
 use Rattle.papaya_others.proofs.EndBegins.{endings_begin_shown, endings_are_over}
@@ -56,7 +56,6 @@ use Rattle.papaya_others.proofs.Stays.{same_maps}
 use Rattle.papaya_others.proofs.Walks.{fewer_calls, with_calls}
 use Rattle.papaya_spots.proofs.OnSlots.{row_beside as finds_numbers}
 use Rattle.papaya_moments.specs.Endings.{IsOfIts}
-use Rattle.papaya_moments.specs.Makings.{IsNewFor}
 use Rattle.papaya_moments.specs.OnSlots.{HadRetired}
 use Rattle.papaya_moments.proofs.Beside.{IsBeside}
 use Rattle.papaya_moments.proofs.Ends.{end_beside, end_numbers, ends_with}
@@ -79,12 +78,6 @@ module _ {K V S : Type 0} (same : K → K → Bool) (hash : K → ℕ) (s : Scen
   ending_at i f end w2 deed settled.Waits it = absurd it
   ending_at i f end w2 deed (settled.Gave value) it = (refl, refl, refl, it.3)
   ending_at i f end w2 deed settled.Done it = (refl, refl, refl, it.2)
-
-new_so : {K V : Type 0} (map : ℕ) (m : Moment K V) (told : Progress Setting) → IsNewFor map told m → WasNew map told m
-new_so map m progress.Goes is = tt
-new_so map m progress.Waits is = tt
-new_so map m (progress.Done setting) is = is
-new_so map m (progress.Refused fault) is = tt
 
 -- what is asked for its next pair is ready
 ready_is : (stands : Sweeping) → true ≡ is_ready stands → stands ≡ at.Ready
@@ -155,7 +148,7 @@ module _ {K V : Type 0} (S : Type 0) (same : K → K → Bool) (hash : K → ℕ
     maps_come = λ m known s old new at_old whole so there none. between m _ known s s so refl refl refl (λ shown. maps_are_there K V same name m known s shown there) (λ n j x is. is) refl;
     makings = λ m known s old new at_old whole so i told leads b here of is_new. (let to = leads b here in
         beside m _ known _ s _ old new at_old (making_at same hash s old new i b to.0 to.2.step.w2 told to.3) so
-        (λ shown. makings_are_shown K V S same hash name m known s old new at_old shown i told leads b here of (whole.counters i b here) (new_so b.map m told is_new))
+        (λ shown. makings_are_shown K V S same hash name m known s old new at_old shown i told leads b here of (whole.counters i b here) is_new)
         (makings_go_beside K V S same hash name m known s old new at_old whole i told leads b here of is_new));
     endings_begin = λ m known s old new at_old whole so map i standing there at_new.
         beside m m known known s (ending_begun map i standing s) old new at_old at_new so (λ shown. endings_begin_shown K V same name m known s shown map i standing) (ending_beside m known s map i standing);
