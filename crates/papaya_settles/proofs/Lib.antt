@@ -1,0 +1,12 @@
+pub mod Fresh
+pub mod Points
+pub mod Aims
+pub mod Aimed
+pub mod Gains
+pub mod Uncounted
+pub mod Here
+pub mod Status
+pub mod Keys
+pub mod Rest
+pub mod Calls
+pub mod Between

@@ -1,0 +1,25 @@
+//! What is promised of what a call has stored or removed, and has to count.
+ghost use Rattle.std.specs.Prelude.{ℕ, Bool};
+ghost use Rattle.papaya_settles.specs.Beside.{StaysCounts, EffectsLeaveCounts, WalksGoOnCounts, WalksStopCounts};
+ghost use Rattle.papaya_settles.specs.Keeping.{CountsBegin, CallsKeepCounts, CallsBeginCounts, CallsBeginUncounted, CallsTakeCounts, CallsComeToCounts};
+
+/// At each moment of a run that shows the executor, a call under way has stored or removed a pair that it has not counted, just if its machine is about to count.
+/// So it is before all events; after each step of a call, whoever's, of which one that counts finds something to count, and does so in the shard of its slot, and by
+/// which a call that ends has nothing left to count; and where a call begins, takes a reply and comes to an outcome.
+pub fn calls_count_theirs<K, V, S>()
+    ensures begins { CountsBegin K V }
+    ensures calls { (same : K → K → Bool) (hash : K → ℕ) → CallsKeepCounts K V S same hash }
+    ensures begun { CallsBeginCounts K V }
+    ensures uncounted { CallsBeginUncounted K V }
+    ensures told { CallsTakeCounts K V }
+    ensures come_to { CallsComeToCounts K V }
+{}
+
+/// What is no call leaves all that as it was: the effects of a row on a slot, of the making of a map, and of the end of one; and so does a walk that goes on to its
+/// next pair, or is given up. It is so as long as calls are as they were.
+pub fn others_leave_counts<K, V, S>()
+    ensures stays { StaysCounts K V }
+    ensures effects { EffectsLeaveCounts K V }
+    ensures goes_on { (same : K → K → Bool) (hash : K → ℕ) → WalksGoOnCounts K V S same hash }
+    ensures stops { (same : K → K → Bool) (hash : K → ℕ) → WalksStopCounts K V S same hash }
+{}
