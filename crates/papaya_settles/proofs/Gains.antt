@@ -16,6 +16,7 @@ use Rattle.papaya_follows.proofs.Calls.{changed_same, found}
 use Rattle.papaya_histories.proofs.Changes.{acted_on}
 use Rattle.papaya_histories.proofs.Dues.{none_of}
 use Rattle.papaya_settles.specs.Counts.{HasToCount, FindsCount, FindCounts}
+use Rattle.papaya_settles.specs.Shards.{is_counting}
 
 -- the effect adds something to be counted, or counts
 abbrev pub of_count : Effect → Bool
@@ -29,10 +30,6 @@ AllApart [] = Unit {0}
 AllApart (f ∷ fs) = (of_count f ≡ false) × AllApart fs
 
 -- none counts
-abbrev pub is_counting : Effect → Bool
-is_counting (effect.Counted s) = true
-is_counting _ = false
-
 abbrev pub NoneCounts : List Effect → Type 0
 NoneCounts [] = Unit {0}
 NoneCounts (f ∷ fs) = (is_counting f ≡ false) × NoneCounts fs

@@ -9,4 +9,5 @@ pub mod Status
 pub mod Keys
 pub mod Rest
 pub mod Calls
+pub mod Shards
 pub mod Between

@@ -1,3 +1,4 @@
 pub mod Counts
 pub mod Keeping
 pub mod Beside
+pub mod Shards

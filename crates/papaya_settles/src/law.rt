@@ -1,11 +1,13 @@
 //! What is promised of what a call has stored or removed, and has to count.
 ghost use Rattle.std.specs.Prelude.{ℕ, Bool};
 ghost use Rattle.papaya_settles.specs.Beside.{StaysCounts, EffectsLeaveCounts, WalksGoOnCounts, WalksStopCounts};
+ghost use Rattle.papaya_settles.specs.Shards.{CountsFindShards};
 ghost use Rattle.papaya_settles.specs.Keeping.{CountsBegin, CallsKeepCounts, CallsBeginCounts, CallsBeginUncounted, CallsTakeCounts, CallsComeToCounts};
 
 /// At each moment of a run that shows the executor, a call under way has stored or removed a pair that it has not counted, just if its machine is about to count.
 /// So it is before all events; after each step of a call, whoever's, of which one that counts finds something to count, and does so in the shard of its slot, and by
-/// which a call that ends has nothing left to count; and where a call begins, takes a reply and comes to an outcome.
+/// which a call that ends has nothing left to count; and where a call begins, takes a reply and comes to an outcome. The shard is that which the terms of a run
+/// tell for the slot of the call's guard, where its map was made with as many shards as these say.
 pub fn calls_count_theirs<K, V, S>()
     ensures begins { CountsBegin K V }
     ensures calls { (same : K → K → Bool) (hash : K → ℕ) → CallsKeepCounts K V S same hash }
@@ -13,6 +15,7 @@ pub fn calls_count_theirs<K, V, S>()
     ensures uncounted { CallsBeginUncounted K V }
     ensures told { CallsTakeCounts K V }
     ensures come_to { CallsComeToCounts K V }
+    ensures shards { CountsFindShards K V }
 {}
 
 /// What is no call leaves all that as it was: the effects of a row on a slot, of the making of a map, and of the end of one; and so does a walk that goes on to its
