@@ -70,23 +70,23 @@ module _ {K V : Type 0} (same : K → K → Bool) (hash : K → ℕ) (w : World 
   link_aims link turn (inl (is, zero)) = subst (AimsAt P) (sym is) tt
   link_aims link turn (inr (t, is, next, there, seen, aborted)) = subst (AimsAt P) (sym is) (tables t there seen)
 
-  new_aims : (link : At) (turn : ℕ) (n : NewTable) → NewTableFacts w caller setting c blocks link turn n → NewAims P {K = K} {V = V} n
+  new_aims : (link : At) (turn : ℕ) (n : NewTable) → NewTableFacts w caller setting c blocks link turn n → NewAims P n
   new_aims link turn n facts = by n.stands facts.point
     where
-      by : (p : Making) → MakingFacts w caller setting c blocks link turn p → MakingAims P {K = K} {V = V} n p
+      by : (p : Making) → MakingFacts w caller setting c blocks link turn p → MakingAims P n p
       by (making.Promotes table) point = own_so table _ point.0
       by (making.Links table) point = subst (AimsAt P) (sym facts.link_is) (link_aims link turn facts.link_of)
       by _ point = tt
 
-  late_first_aims : (began : ℕ) (n : NewTable) → LateFirstFacts w caller setting c blocks began n → NewAims P {K = K} {V = V} n
+  late_first_aims : (began : ℕ) (n : NewTable) → LateFirstFacts w caller setting c blocks began n → NewAims P n
   late_first_aims began n facts = by n.stands facts.point
     where
-      by : (p : Making) → LateFirst w caller setting c blocks began p → MakingAims P {K = K} {V = V} n p
+      by : (p : Making) → LateFirst w caller setting c blocks began p → MakingAims P n p
       by (making.Promotes table) point = absurd point
       by (making.Links table) point = absurd point
       by _ point = tt
 
-  copying_aims : (x : Copier) (p : Copying) → CopyingFacts same hash w caller setting c blocks x p → CopyingAims P {K = K} {V = V} x p
+  copying_aims : (x : Copier) (p : Copying) → CopyingFacts same hash w caller setting c blocks x p → CopyingAims P x p
   copying_aims x copying.Claims facts = table_so x.target _ facts.1.1
   copying_aims x copying.Marks facts = table_so x.source _ facts.1.0
   copying_aims x (copying.Puts word code table probe) facts = table_so table _ facts.7.table
@@ -101,10 +101,10 @@ module _ {K V : Type 0} (same : K → K → Bool) (hash : K → ℕ) (w : World 
   copying_aims x copying.Announces facts = table_so x.target _ facts.0.3
   copying_aims x _ facts = tt
 
-  copier_aims : (x : Copier) → CopierFacts same hash w caller setting c blocks x → CopierAims P {K = K} {V = V} x
+  copier_aims : (x : Copier) → CopierFacts same hash w caller setting c blocks x → CopierAims P x
   copier_aims x facts = copying_aims x x.stands facts.point
 
-  blocking_aims : (x : Copier) (p : Copying) → CopyingFactsBlocking same hash w caller setting c blocks x p → CopyingAims P {K = K} {V = V} x p
+  blocking_aims : (x : Copier) (p : Copying) → CopyingFactsBlocking same hash w caller setting c blocks x p → CopyingAims P x p
   blocking_aims x copying.Claims facts = table_so x.target _ facts.1.0.2
   blocking_aims x copying.Marks facts = table_so x.source _ facts.1.0
   blocking_aims x (copying.Puts word code table probe) facts = table_so table _ facts.7.table
@@ -119,10 +119,10 @@ module _ {K V : Type 0} (same : K → K → Bool) (hash : K → ℕ) (w : World 
   blocking_aims x copying.Announces facts = table_so x.target _ facts.2.1
   blocking_aims x _ facts = tt
 
-  copier_blocking_aims : (x : Copier) → CopierFactsBlocking same hash w caller setting c blocks x → CopierAims P {K = K} {V = V} x
+  copier_blocking_aims : (x : Copier) → CopierFactsBlocking same hash w caller setting c blocks x → CopierAims P x
   copier_blocking_aims x facts = blocking_aims x x.stands facts.point
 
-  late_aims : (began : ℕ) (x : Copier) (p : Copying) → LateCopying same hash w caller setting c blocks began x p → CopyingAims P {K = K} {V = V} x p
+  late_aims : (began : ℕ) (x : Copier) (p : Copying) → LateCopying same hash w caller setting c blocks began x p → CopyingAims P x p
   late_aims began x copying.Claims facts = table_so x.target _ facts.2.target
   late_aims began x copying.Marks facts = table_so x.source _ facts.2.0.source
   late_aims began x (copying.Puts word code table probe) facts = table_so table _ facts.8.table
@@ -137,48 +137,48 @@ module _ {K V : Type 0} (same : K → K → Bool) (hash : K → ℕ) (w : World 
   late_aims began x copying.Announces facts = table_so x.target _ facts.3.1
   late_aims began x _ facts = tt
 
-  late_copier_aims : (began : ℕ) (x : Copier) → LateCopierFacts same hash w caller setting c blocks began x → CopierAims P {K = K} {V = V} x
+  late_copier_aims : (began : ℕ) (x : Copier) → LateCopierFacts same hash w caller setting c blocks began x → CopierAims P x
   late_copier_aims began x facts = late_aims began x x.stands facts.point
 
   -- a copier of a whole table, in the mode of the map
-  whole_aims : (x : Copier) → CopiesWhole same hash w caller setting c blocks x → CopierAims P {K = K} {V = V} x
+  whole_aims : (x : Copier) → CopiesWhole same hash w caller setting c blocks x → CopierAims P x
   whole_aims x facts = by (is_incremental setting.mode) facts
     where
       by : (q : Bool)
           → cond q ((x.whole ≡ true) × CopierFacts same hash w caller setting c blocks x × IsEnding same hash w caller setting c blocks x x.stands) (CopierFactsBlocking same hash w caller setting c blocks x)
-          → CopierAims P {K = K} {V = V} x
+          → CopierAims P x
       by true so = copier_aims x so.1
       by false so = copier_blocking_aims x so
 
-  any_aims : (began : ℕ) (x : Copier) → CopiesTable same hash w caller setting c blocks began x → CopierAims P {K = K} {V = V} x
-  any_aims began x facts = elim facts as (λ _. CopierAims P {K = K} {V = V} x) [
+  any_aims : (began : ℕ) (x : Copier) → CopiesTable same hash w caller setting c blocks began x → CopierAims P x
+  any_aims began x facts = elim facts as (λ _. CopierAims P x) [
     | inl whole ↦ whole_aims x whole
     | inr late ↦ late_copier_aims began x late.1
   ]
 
   -- a disposal whose row has not begun
-  disposing_aims : (n t : ℕ) (p : Disposing) → DisposingFacts w caller setting c blocks n t p → DisposeAims P {K = K} {V = V} p
-  disposing_aims n t (disposing.Defers defer) facts = subst (DeferAims P {K = K} {V = V}) (sym facts.5) tt
+  disposing_aims : (n t : ℕ) (p : Disposing) → DisposingFacts w caller setting c blocks n t p → DisposeAims P p
+  disposing_aims n t (disposing.Defers defer) facts = subst (DeferAims P) (sym facts.5) tt
   disposing_aims n t _ facts = tt
 
-  dispose_aims : (d : Dispose) → DisposeFacts w caller setting c blocks d → DisposeAims P {K = K} {V = V} d.stands
+  dispose_aims : (d : Dispose) → DisposeFacts w caller setting c blocks d → DisposeAims P d.stands
   dispose_aims d facts = disposing_aims facts.n facts.t d.stands facts.point
 
   -- by the points of each kind of call
 
-  pub room_aims : (p : Reserving) → ReservingFacts same hash w caller setting c blocks p → ReservingAims P {K = K} {V = V} p
+  pub room_aims : (p : Reserving) → ReservingFacts same hash w caller setting c blocks p → ReservingAims P p
   room_aims (reserving.Makes n) facts = new_aims _ _ n facts
   room_aims (reserving.Grows table n) facts = new_aims _ _ n facts.3
   room_aims (reserving.Copies copier) facts = whole_aims copier facts
   room_aims _ facts = tt
 
-  pub late_room_aims : (began : ℕ) (p : Reserving) → LateReserving same hash w caller setting c blocks began p → ReservingAims P {K = K} {V = V} p
+  pub late_room_aims : (began : ℕ) (p : Reserving) → LateReserving same hash w caller setting c blocks began p → ReservingAims P p
   late_room_aims began (reserving.Makes n) facts = late_first_aims began n facts
   late_room_aims began (reserving.Grows table n) facts = new_aims _ _ n facts.3
   late_room_aims began (reserving.Copies copier) facts = late_copier_aims began copier facts
   late_room_aims began _ facts = tt
 
-  pub over_all_aims : (began : ℕ) (x : Sweep) (p : Sweeping) → IsElsewhere p → SweepingFacts same hash w caller setting c blocks began x p → SweepingAims P {K = K} {V = V} x p
+  pub over_all_aims : (began : ℕ) (x : Sweep) (p : Sweeping) → IsElsewhere p → SweepingFacts same hash w caller setting c blocks began x p → SweepingAims P x p
   over_all_aims began x (sweeping.Copies copier) elsewhere facts = any_aims began copier facts
   over_all_aims began x (sweeping.Tries word) elsewhere facts = table_so x.table _ facts.3.0.table
   over_all_aims began x (sweeping.Counts removed) elsewhere facts = absurd elsewhere

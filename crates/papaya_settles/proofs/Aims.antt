@@ -76,6 +76,64 @@ module _ (P : ℕ → Type 0) where
   AimsAt (Word b field) = P b
   AimsAt _ = Unit {0}
 
+  -- what is told as written was written so
+  at_word : (at : At) (b field was word old new : ℕ) → changed.Wrote at was word ≡ changed.Wrote (Word b field) old new → AimsAt at → P b
+  at_word at b field was word old new e so = (let same : at ≡ Word b field = cc e in subst AimsAt same so)
+
+  -- a row that is about to put a block behind this one
+  abbrev pub DeferringAims : Defer → Deferring → Type 0
+  DeferringAims c (deferring.Pushes head) = AimsAt c.table_word
+  DeferringAims c _ = Unit {0}
+
+  abbrev pub DeferAims : Defer → Type 0
+  DeferAims c = DeferringAims c c.stands
+
+  abbrev pub DisposeAims : Disposing → Type 0
+  DisposeAims (disposing.Defers defer) = DeferAims defer
+  DisposeAims _ = Unit {0}
+
+  -- a making writes its table's status, and the link to that
+  abbrev pub MakingAims : NewTable → Making → Type 0
+  MakingAims c (making.Promotes table) = P (block_in table.link)
+  MakingAims c (making.Links table) = AimsAt c.link
+  MakingAims c _ = Unit {0}
+
+  abbrev pub NewAims : NewTable → Type 0
+  NewAims c = MakingAims c c.stands
+
+  -- a copier writes words of the table that it copies, and of those that it copies into
+  abbrev pub CopyingAims : Copier → Copying → Type 0
+  CopyingAims c copying.Claims = P (block_in c.target.link)
+  CopyingAims c copying.Marks = P (block_in c.source.link)
+  CopyingAims c (copying.Puts word code table probe) = P (block_in table.link)
+  CopyingAims c (copying.Covers word) = P (block_in c.source.link)
+  CopyingAims c (copying.Grows word code n) = NewAims n
+  CopyingAims c copying.Aborts = P (block_in c.target.link)
+  CopyingAims c (copying.Remakes n) = NewAims n
+  CopyingAims c copying.Counts = P (block_in c.target.link)
+  CopyingAims c (copying.Tallies word fault) = P (block_in c.target.link)
+  CopyingAims c (copying.Unmarks word fault) = P (block_in c.source.link)
+  CopyingAims c (copying.Unclaims fault) = P (block_in c.target.link)
+  CopyingAims c copying.Announces = P (block_in c.target.link)
+  CopyingAims c _ = Unit {0}
+
+  abbrev pub CopierAims : Copier → Type 0
+  CopierAims c = CopyingAims c c.stands
+
+  abbrev pub ReservingAims : Reserving → Type 0
+  ReservingAims (reserving.Makes n) = NewAims n
+  ReservingAims (reserving.Grows table n) = NewAims n
+  ReservingAims (reserving.Copies copier) = CopierAims copier
+  ReservingAims _ = Unit {0}
+
+  -- a sweep that counts is told of elsewhere
+  abbrev pub SweepingAims : Sweep → Sweeping → Type 0
+  SweepingAims c (sweeping.Copies copier) = CopierAims copier
+  SweepingAims c (sweeping.Tries word) = P (block_in c.table.link)
+  SweepingAims c (sweeping.Counts removed) = ⊥
+  SweepingAims c (sweeping.Disposes dispose) = DisposeAims dispose.stands
+  SweepingAims c _ = Unit {0}
+
   module _ {K V : Type 0} where
     -- an operation writes no users' word, or one of such a block
     abbrev pub AimsSo : Op (Node K V) → Type 0
@@ -93,10 +151,6 @@ module _ (P : ℕ → Type 0) where
     pub aims_as : {A B : Type 0} (f : A → B) (plan : Plan (Node K V) A) → PlanAims plan → PlanAims (plan_as f plan)
     aims_as f (Turn rest) so = so
     aims_as f (Do op rest) so = so
-
-    -- what is told as written was written so
-    at_word : (at : At) (b field was word old new : ℕ) → changed.Wrote at was word ≡ changed.Wrote (Word b field) old new → AimsAt at → P b
-    at_word at b field was word old new e so = (let same : at ≡ Word b field = cc e in subst AimsAt same so)
 
     op_aimed : (m : Mem (Node K V)) (op : Op (Node K V)) (out : Out (Node K V)) (b field old new : ℕ) → told_of op out (seen_of m op out) ≡ changed.Wrote (Word b field) old new → AimsSo op → P b
     op_aimed m (Load at) out b field old new e so = absurd (cc e)
@@ -123,29 +177,29 @@ module _ (P : ℕ → Type 0) where
     plan_aimed m m2 told (Turn rest) end steps so b field old new is = absurd (let nothing = steps.2 in cc (nothing, is))
     plan_aimed m m2 told (Do op rest) end steps so b field old new is = op_aimed m op steps.0 b field old new (sym steps.1.1 ∙ is) so
 
+    -- and so is a call on one key
+    abbrev pub CallingAims : KeyCall K V K → Calling → Type 0
+    CallingAims c (calling.Tries word new) = AimsAt (place_tried c.trial)
+    CallingAims c (calling.Counts removed) = ⊥
+    CallingAims c (calling.Firsts n) = NewAims n
+    CallingAims c (calling.Allocs n) = NewAims n
+    CallingAims c (calling.Helps copier goal) = CopierAims copier
+    CallingAims c (calling.Copies copier) = CopierAims copier
+    CallingAims c (calling.Disposes dispose answer) = DisposeAims dispose.stands
+    CallingAims c _ = Unit {0}
+
+  module _ (K V : Type 0) where
     -- each plan, at whatever point
 
     settle_at : (c : Settle) (p : Settling) → PlanAims (settles.plan_at (deferred_word {K = K} {V = V}) c p)
     settle_at c settling.Sees = tt
     settle_at c _ = tt
 
-    -- a row that is about to put a block behind this one
-    abbrev pub DeferringAims : Defer → Deferring → Type 0
-    DeferringAims c (deferring.Pushes head) = AimsAt c.table_word
-    DeferringAims c _ = Unit {0}
-
-    abbrev pub DeferAims : Defer → Type 0
-    DeferAims c = DeferringAims c c.stands
-
     defer_at : (c : Defer) (p : Deferring) → DeferringAims c p → PlanAims (defers.plan_at {T = Node K V} c p)
     defer_at c deferring.Reads so = tt
     defer_at c (deferring.Links head) so = tt
     defer_at c (deferring.Pushes head) so = so
     defer_at c deferring.Over so = tt
-
-    abbrev pub DisposeAims : Disposing → Type 0
-    DisposeAims (disposing.Defers defer) = DeferAims defer
-    DisposeAims _ = Unit {0}
 
     dispose_at : (c : Dispose) (p : Disposing) → DisposeAims p → PlanAims (disposes.plan_at {K = K} {V = V} c p)
     dispose_at c (disposing.Settles settle) so = aims_as (disposes.settled c) (settle_plan deferred_word settle) (settle_at settle settle.stands)
@@ -164,12 +218,6 @@ module _ (P : ℕ → Type 0) where
     sum_at c (summing.Adds shard total) = tt
     sum_at c (summing.Over count) = tt
 
-    -- a making writes its table's status, and the link to that
-    abbrev pub MakingAims : NewTable → Making → Type 0
-    MakingAims c (making.Promotes table) = P (block_in table.link)
-    MakingAims c (making.Links table) = AimsAt c.link
-    MakingAims c _ = Unit {0}
-
     table_at : (c : NewTable) (p : Making) → MakingAims c p → PlanAims (tables.plan_at {K = K} {V = V} c p)
     table_at c (making.Sums before reason sum) so = aims_as (tables.counted c before reason) (sum_plan sum) (sum_at sum sum.stands)
     table_at c (making.Makes table) so = tt
@@ -178,25 +226,6 @@ module _ (P : ℕ → Type 0) where
     table_at c (making.Drops table found) so = tt
     table_at c (making.Over table) so = tt
     table_at c (making.Refused fault) so = tt
-
-    abbrev pub NewAims : NewTable → Type 0
-    NewAims c = MakingAims c c.stands
-
-    -- a copier writes words of the table that it copies, and of those that it copies into
-    abbrev pub CopyingAims : Copier → Copying → Type 0
-    CopyingAims c copying.Claims = P (block_in c.target.link)
-    CopyingAims c copying.Marks = P (block_in c.source.link)
-    CopyingAims c (copying.Puts word code table probe) = P (block_in table.link)
-    CopyingAims c (copying.Covers word) = P (block_in c.source.link)
-    CopyingAims c (copying.Grows word code n) = NewAims n
-    CopyingAims c copying.Aborts = P (block_in c.target.link)
-    CopyingAims c (copying.Remakes n) = NewAims n
-    CopyingAims c copying.Counts = P (block_in c.target.link)
-    CopyingAims c (copying.Tallies word fault) = P (block_in c.target.link)
-    CopyingAims c (copying.Unmarks word fault) = P (block_in c.source.link)
-    CopyingAims c (copying.Unclaims fault) = P (block_in c.target.link)
-    CopyingAims c copying.Announces = P (block_in c.target.link)
-    CopyingAims c _ = Unit {0}
 
     copier_at : (hash : K → ℕ) (c : Copier) (p : Copying) → CopyingAims c p → PlanAims (copiers.plan_at {V = V} hash c p)
     copier_at hash c copying.Begins so = tt
@@ -215,15 +244,6 @@ module _ (P : ℕ → Type 0) where
     copier_at hash c (copying.Retires settle rest) so = aims_as (retired c rest) (settle_plan deferred_word settle) (settle_at settle settle.stands)
     copier_at hash c _ so = tt
 
-    abbrev pub CopierAims : Copier → Type 0
-    CopierAims c = CopyingAims c c.stands
-
-    abbrev pub ReservingAims : Reserving → Type 0
-    ReservingAims (reserving.Makes n) = NewAims n
-    ReservingAims (reserving.Grows table n) = NewAims n
-    ReservingAims (reserving.Copies copier) = CopierAims copier
-    ReservingAims _ = Unit {0}
-
     reserve_at : (hash : K → ℕ) (c : Reserve) (p : Reserving) → ReservingAims p → PlanAims (reserves.plan_at {V = V} hash c p)
     reserve_at hash c reserving.Reads so = tt
     reserve_at hash c (reserving.Makes n) so = aims_as (reserves.made c) (new_table_plan n) (table_at n n.stands so)
@@ -236,14 +256,6 @@ module _ (P : ℕ → Type 0) where
 
     pub reserve_aims : (hash : K → ℕ) (c : Reserve) → ReservingAims c.stands → PlanAims (reserve_plan {V = V} hash c)
     reserve_aims hash c so = reserve_at hash c c.stands so
-
-    -- a sweep that counts is told of elsewhere
-    abbrev pub SweepingAims : Sweep → Sweeping → Type 0
-    SweepingAims c (sweeping.Copies copier) = CopierAims copier
-    SweepingAims c (sweeping.Tries word) = P (block_in c.table.link)
-    SweepingAims c (sweeping.Counts removed) = ⊥
-    SweepingAims c (sweeping.Disposes dispose) = DisposeAims dispose.stands
-    SweepingAims c _ = Unit {0}
 
     sweep_at : (hash : K → ℕ) (c : Sweep) (p : Sweeping) → SweepingAims c p → PlanAims (sweeps.plan_at {V = V} hash c p)
     sweep_at hash c sweeping.Reads so = tt
@@ -260,17 +272,6 @@ module _ (P : ℕ → Type 0) where
 
     pub sweep_aims : (hash : K → ℕ) (c : Sweep) → SweepingAims c c.stands → PlanAims (sweep_plan {V = V} hash c)
     sweep_aims hash c so = sweep_at hash c c.stands so
-
-    -- and so is a call on one key
-    abbrev pub CallingAims : KeyCall K V K → Calling → Type 0
-    CallingAims c (calling.Tries word new) = AimsAt (place_tried c.trial)
-    CallingAims c (calling.Counts removed) = ⊥
-    CallingAims c (calling.Firsts n) = NewAims n
-    CallingAims c (calling.Allocs n) = NewAims n
-    CallingAims c (calling.Helps copier goal) = CopierAims copier
-    CallingAims c (calling.Copies copier) = CopierAims copier
-    CallingAims c (calling.Disposes dispose answer) = DisposeAims dispose.stands
-    CallingAims c _ = Unit {0}
 
     module _ (asks : K → K → Bool) (same : K → K → Bool) (hash : K → ℕ) (c : KeyCall K V K) where
       looks_at : (lookup : Lookup) (asked : Option K) → PlanAims (looks_for asks c lookup asked)

@@ -73,6 +73,23 @@ calls_begin_uncounted K V same hash setting slot i keys given call (RemovesIf q 
 
 -- a machine that is told something, or asked for its next pair, is as much to count as before
 
+either_sweep : (b : Bool) (x y : Sweep) → counts_in_sweeping x.stands ≡ false → counts_in_sweeping y.stands ≡ false → counts_in_sweeping (if b then x else y).stands ≡ false
+either_sweep true x y f g = f
+either_sweep false x y f g = g
+
+replied_so : (p : Sweep) (keeps : Bool) (word : ℕ) → p.stands ≡ sweeping.Asks word → counts_in_sweeping (after_reply p keeps).stands ≡ false
+replied_so p keeps word is =
+    subst (λ (q : Sweeping). counts_in_sweeping (reply_at q p keeps).stands ≡ false) (sym is) (either_sweep keeps (further p) (record p { stands = sweeping.Tries word }) (further_idle p) refl)
+
+next_so : (p : Sweep) (stands : Sweeping) → p.stands ≡ stands → counts_in_sweeping (next_at stands p).stands ≡ counts_in_sweeping p.stands
+next_so p sweeping.Ready is = points_apart _ sweeping.Words sweeping.Over refl refl ∙ sym (ap counts_in_sweeping is)
+next_so p _ is = refl
+
+sweep_told_so : {V : Type 0} (p : Sweep) (stands : Sweeping) (told : MachineReply V) → p.stands ≡ stands → counts_in_sweeping (sweep_told stands p told).0.stands ≡ counts_in_sweeping p.stands
+sweep_told_so p (sweeping.Asks word) reply.Yes is = replied_so p true word is ∙ sym (ap counts_in_sweeping is)
+sweep_told_so p (sweeping.Asks word) reply.No is = replied_so p false word is ∙ sym (ap counts_in_sweeping is)
+sweep_told_so p _ told is = refl
+
 module _ {K V : Type 0} where
   abbrev NoneToCount : KeyCall K V K → Type 0
   NoneToCount p = counts_in_calling p.stands ≡ false
@@ -119,23 +136,6 @@ module _ {K V : Type 0} where
   key_told p (at.Asks (asking.Absent gap)) told is = let none = ap counts_in_calling is in absent_none p.replies.takes p gap told none ∙ sym none
   key_told p (at.Asks (asking.Present word)) told is = let none = ap counts_in_calling is in present_none p.replies.takes p word told none ∙ sym none
   key_told p _ told is = refl
-
-  either_sweep : (b : Bool) (x y : Sweep) → counts_in_sweeping x.stands ≡ false → counts_in_sweeping y.stands ≡ false → counts_in_sweeping (if b then x else y).stands ≡ false
-  either_sweep true x y f g = f
-  either_sweep false x y f g = g
-
-  replied_so : (p : Sweep) (keeps : Bool) (word : ℕ) → p.stands ≡ sweeping.Asks word → counts_in_sweeping (after_reply p keeps).stands ≡ false
-  replied_so p keeps word is =
-      subst (λ (q : Sweeping). counts_in_sweeping (reply_at q p keeps).stands ≡ false) (sym is) (either_sweep keeps (further p) (record p { stands = sweeping.Tries word }) (further_idle p) refl)
-
-  next_so : (p : Sweep) (stands : Sweeping) → p.stands ≡ stands → counts_in_sweeping (next_at stands p).stands ≡ counts_in_sweeping p.stands
-  next_so p sweeping.Ready is = points_apart _ sweeping.Words sweeping.Over refl refl ∙ sym (ap counts_in_sweeping is)
-  next_so p _ is = refl
-
-  sweep_told_so : (p : Sweep) (stands : Sweeping) (told : MachineReply V) → p.stands ≡ stands → counts_in_sweeping (sweep_told stands p told).0.stands ≡ counts_in_sweeping p.stands
-  sweep_told_so p (sweeping.Asks word) reply.Yes is = replied_so p true word is ∙ sym (ap counts_in_sweeping is)
-  sweep_told_so p (sweeping.Asks word) reply.No is = replied_so p false word is ∙ sym (ap counts_in_sweeping is)
-  sweep_told_so p _ told is = refl
 
   told_same : (machine : Machine K V K) (told : MachineReply V) → is_to_count (machine_replied machine told).0 ≡ is_to_count machine
   told_same (kinds.Key p) told = key_told p p.stands told refl
@@ -205,7 +205,7 @@ calls_begin_counts K V name m s shows of i u call guard apart none = record { co
     fresh : CallThere K V
     fresh = fresh_call (name i) guard call of m.events
 
-    abbrev v : Moment K V
+    v : Moment K V
     v = with_call (name i) guard call (Some of) m
 
     Goal : UnderWay K V K → CallThere K V → Type 0
@@ -231,7 +231,7 @@ calls_begin_counts K V name m s shows of i u call guard apart none = record { co
 pub calls_take_counts : (K V : Type 0) → CallsTakeCounts K V
 calls_take_counts K V same name m known s whole shows of i u here reply next is is_told = record { counts = then_has }
   where
-    abbrev change : CallThere K V → CallThere K V
+    change : CallThere K V → CallThere K V
     change c = replied is_told c c.stands
 
     has : (j : ℕ) (c d : CallThere K V) → call_of (name j) m ≡ Some c → call_of (name j) (record m { calls = map (changed change (λ c. replied_same is_told c c.stands) (name i)) m.calls }) ≡ Some d → to_count d ≡ to_count c
@@ -309,7 +309,7 @@ walks_go_on_counts K V S same hash name m s old new shows i leads of u here = re
 pub walks_stop_counts : (K V S : Type 0) (same : K → K → Bool) (hash : K → ℕ) → WalksStopCounts K V S same hash
 walks_stop_counts K V S same hash name m known s old new shown shows i true leads of u here apart = record { counts = left }
   where
-    abbrev after : Scene K V
+    after : Scene K V
     after = record s { calls = with_in s.calls of i None }
 
     was : (n j : ℕ) (x : UnderWay K V K) → after.calls n j ≡ Some x → s.calls n j ≡ Some x

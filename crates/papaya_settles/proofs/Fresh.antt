@@ -75,6 +75,10 @@ IsFreshAt (at.Disposes dispose (answers.Replaced old new)) = Unit {0}
 IsFreshAt (at.Disposes dispose answer) = ⊥
 IsFreshAt _ = Unit {0}
 
+before_fresh : (stands : Calling) → IsBefore stands → IsFreshAt stands
+before_fresh (at.Disposes dispose answer) before = absurd before
+before_fresh _ before = tt
+
 module _ {K V Q : Type 0} where
   -- so it goes on, or it has ended, and told no change
   abbrev pub IsFresh : KeyCall K V Q × Called (Node K V) → Type 0
@@ -337,10 +341,6 @@ module _ {K V Q : Type 0} where
   fresh_at asks same hash p (at.Disposes dispose answer) fresh before = absurd before
   fresh_at asks same hash p (at.Drops end) fresh before = dropped_fresh p fresh end
   fresh_at asks same hash p (at.Over end) fresh before = absurd before
-
-  before_fresh : (stands : Calling) → IsBefore stands → IsFreshAt stands
-  before_fresh (at.Disposes dispose answer) before = absurd before
-  before_fresh _ before = tt
 
   -- so it is after each of its steps
   pub fresh_step : (asks : Q → K → Bool) (same : K → K → Bool) (hash : K → ℕ) (p : KeyCall K V Q) → IsBefore p.stands → (m m2 : Mem (Node K V)) (end : KeyCall K V Q × Called (Node K V))

@@ -36,14 +36,14 @@ NoneCounts (f ∷ fs) = (is_counting f ≡ false) × NoneCounts fs
 
 -- by which no pair comes or goes, and which do not count
 one_apart : (f : Effect) → shift_of f ≡ [] → is_counting f ≡ false → of_count f ≡ false
-one_apart (effect.Stored n s) none no = absurd (cc none)
-one_apart (effect.Removed n) none no = absurd (cc none)
-one_apart (effect.Counted s) none no = absurd (cc no)
-one_apart _ none no = refl
+one_apart (effect.Stored n s) none never = absurd (cc none)
+one_apart (effect.Removed n) none never = absurd (cc none)
+one_apart (effect.Counted s) none never = absurd (cc never)
+one_apart _ none never = refl
 
 pub all_apart : (effects : List Effect) → flat_map shift_of effects ≡ [] → NoneCounts effects → AllApart effects
-all_apart [] none no = tt
-all_apart (f ∷ fs) none no = let two = none_of (shift_of f) (flat_map shift_of fs) none in (one_apart f two.0 no.0, all_apart fs two.1 no.1)
+all_apart [] none never = tt
+all_apart (f ∷ fs) none never = let two = none_of (shift_of f) (flat_map shift_of fs) none in (one_apart f two.0 never.0, all_apart fs two.1 never.1)
 
 -- What the effects of a step do to what its call has to count, if it was to count before as the first says, and is after it as the second: nothing; or it has one
 -- pair more to count, if such a call may store one, or has replaced one, or it has counted.
@@ -53,6 +53,10 @@ pub data CountGoes (MayStore : Type 0) (shard : ℕ) (effects : List Effect) (be
   GivesWay : (p n : ℕ) (s : Spot) → effects ≡ effect.Replaced p ∷ effect.Stored n s ∷ [] → after ≡ before → CountGoes MayStore shard effects before after
   TakesOne : (n : ℕ) → effects ≡ effect.Removed n ∷ [] → after ≡ true → CountGoes MayStore shard effects before after
   CountsAll : effects ≡ effect.Counted shard ∷ [] → before ≡ true → after ≡ false → CountGoes MayStore shard effects before after
+
+apart_no : (f : Effect) → of_count f ≡ false → is_counting f ≡ false
+apart_no (effect.Counted s) apart = absurd (cc apart)
+apart_no _ apart = refl
 
 module _ {K V : Type 0} where
   due_same : (its : Call K V) (c : CallThere K V) (old : Option ℕ) (new : ℕ) → ((due_for its c old new).gained ≡ c.gained) × ((due_for its c old new).lost ≡ c.lost)
@@ -87,12 +91,8 @@ module _ {K V : Type 0} where
   one_keeps m (effect.Taken t) c apart = refl
 
   one_finds : (shard : ℕ) (f : Effect) (c : CallThere K V) → is_counting f ≡ false → FindsCount shard f c
-  one_finds shard (effect.Counted s) c no = absurd (cc no)
-  one_finds shard _ c no = tt
-
-  apart_no : (f : Effect) → of_count f ≡ false → is_counting f ≡ false
-  apart_no (effect.Counted s) apart = absurd (cc apart)
-  apart_no _ apart = refl
+  one_finds shard (effect.Counted s) c never = absurd (cc never)
+  one_finds shard _ c never = tt
 
   -- of the call of this name
   module _ (shard : ℕ) (own : List ℕ) (map : ℕ) where
@@ -128,7 +128,7 @@ module _ {K V : Type 0} where
           let d = call_by m (effect.Replaced p) c in
           let d_is = acted_on own map (effect.Replaced p) m c is in
           let same = (due_same c.call d (Some p) n).1 in (
-            (found_by (effect.Replaced p) m c is tt, found_by (effect.Stored n s) v d d_is tt, tt),
+            (found_by (effect.Replaced p) m c is tt, (found_by (effect.Stored n s) v d d_is tt, tt)),
             call_by v (effect.Stored n s) d,
             acted_on own map (effect.Stored n s) v d d_is,
             omega (arith, same),

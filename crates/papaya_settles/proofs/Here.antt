@@ -96,24 +96,24 @@ module _ {K V S : Type 0} (same : K → K → Bool) (hash : K → ℕ) (name : �
   reached : Reached deferred_word st.setting.batch_size w
   reached = came_reached st.setting.batch_size w each.ground.came
 
-  pushes_no : (slot : ℕ) (c : Defer) → w.row i ≡ Defers slot c → DeferringAims (IsNoCount known) {K = K} {V = V} c c.stands
+  pushes_no : (slot : ℕ) (c : Defer) → w.row i ≡ Defers slot c → DeferringAims (IsNoCount known) c c.stands
   pushes_no slot c is = by c.stands fits
     where
       fits : FitsDefer (LAST_SLOT + 1) i seen_view reached.good.state reached.good.extra slot c.block c.table_word c.stands
       fits = subst (FitsRow (LAST_SLOT + 1) i seen_view reached.good.state reached.good.extra _) is (reached.good.rows i)
 
-      by : (p : Deferring) → FitsDefer (LAST_SLOT + 1) i seen_view reached.good.state reached.good.extra slot c.block c.table_word p → DeferringAims (IsNoCount known) {K = K} {V = V} c p
+      by : (p : Deferring) → FitsDefer (LAST_SLOT + 1) i seen_view reached.good.state reached.good.extra slot c.block c.table_word p → DeferringAims (IsNoCount known) c p
       by (deferring.Pushes head) f = subst (AimsAt (IsNoCount known)) (sym f.on.at_is) (listed_no f.on.t f.on.d f.on.list)
       by _ f = tt
 
-  disposal_no : (slot : ℕ) (p : Disposing) → IsRowOf p → w.row i ≡ row_of_disposal slot p → DisposeAims (IsNoCount known) {K = K} {V = V} p
+  disposal_no : (slot : ℕ) (p : Disposing) → IsRowOf p → w.row i ≡ row_of_disposal slot p → DisposeAims (IsNoCount known) p
   disposal_no slot (disposing.Settles settle) row is = tt
   disposal_no slot (disposing.Defers defer) row is = pushes_no slot defer is
   disposal_no slot disposing.Reads row is = absurd row
   disposal_no slot (disposing.Walks table) row is = absurd row
   disposal_no slot disposing.Over row is = absurd row
 
-  copier_no : (c : Copier) (p : Copying) → IsRowOfCopier p → CopyingAims (IsNoCount known) {K = K} {V = V} c p
+  copier_no : (c : Copier) (p : Copying) → IsRowOfCopier p → CopyingAims (IsNoCount known) c p
   copier_no c (copying.Retires settle rest) row = tt
   copier_no c _ row = absurd row
 
@@ -135,28 +135,28 @@ module _ {K V S : Type 0} (same : K → K → Bool) (hash : K → ℕ) (name : �
       by _ is_row row = absurd is_row
 
   -- a reservation
-  pub room_no : (x : CallForRoom) → s.calls map i ≡ Some (ForRoom x) → ReservingAims (IsNoCount known) {K = K} {V = V} x.reserve.stands
-  room_no x is = elim (each.stand i (ForRoom x) is) as (λ _. ReservingAims (IsNoCount known) {K = K} {V = V} x.reserve.stands) [
-    | inl (rests, knows) ↦ elim (knows.facts) as (λ _. ReservingAims (IsNoCount known) {K = K} {V = V} x.reserve.stands) [
+  pub room_no : (x : CallForRoom) → s.calls map i ≡ Some (ForRoom x) → ReservingAims (IsNoCount known) x.reserve.stands
+  room_no x is = elim (each.stand i (ForRoom x) is) as (λ _. ReservingAims (IsNoCount known) x.reserve.stands) [
+    | inl (rests, knows) ↦ elim (knows.facts) as (λ _. ReservingAims (IsNoCount known) x.reserve.stands) [
         | inl facts ↦ room_aims same st.hash w i _ st.chart seen (IsNoCount known) tables_no own_no x.reserve.stands facts.point
         | inr late ↦ late_room_aims same st.hash w i _ st.chart seen (IsNoCount known) tables_no own_no x.began x.reserve.stands late.point
       ]
     | inr (row, is_row, knows) ↦ by x.reserve.stands is_row
   ]
     where
-      by : (p : Reserving) → IsRowOfReserve p → ReservingAims (IsNoCount known) {K = K} {V = V} p
+      by : (p : Reserving) → IsRowOfReserve p → ReservingAims (IsNoCount known) p
       by (reserving.Copies copier) is_row = copier_no copier copier.stands is_row
       by _ is_row = absurd is_row
 
   -- a sweep
   pub over_all_no : (x : CallOverAll) → s.calls map i ≡ Some (OverAll x) → IsElsewhere x.sweep.stands
-      → SweepingAims (IsNoCount known) {K = K} {V = V} x.sweep x.sweep.stands
-  over_all_no x is elsewhere = elim (each.stand i (OverAll x) is) as (λ _. SweepingAims (IsNoCount known) {K = K} {V = V} x.sweep x.sweep.stands) [
+      → SweepingAims (IsNoCount known) x.sweep x.sweep.stands
+  over_all_no x is elsewhere = elim (each.stand i (OverAll x) is) as (λ _. SweepingAims (IsNoCount known) x.sweep x.sweep.stands) [
     | inl (rests, knows) ↦ over_all_aims same st.hash w i _ st.chart seen (IsNoCount known) tables_no own_no x.began x.sweep x.sweep.stands elsewhere knows.facts.point
     | inr (row, is_row, knows) ↦ by x.sweep.stands is_row row
   ]
     where
-      by : (p : Sweeping) → IsRowOfSweep p → w.row i ≡ row_of_sweep (slot_of i) p → SweepingAims (IsNoCount known) {K = K} {V = V} x.sweep p
+      by : (p : Sweeping) → IsRowOfSweep p → w.row i ≡ row_of_sweep (slot_of i) p → SweepingAims (IsNoCount known) x.sweep p
       by (sweeping.Copies copier) is_row row = copier_no copier copier.stands is_row
       by (sweeping.Disposes dispose) is_row row = disposal_no (slot_of i) dispose.stands is_row row
       by _ is_row row = absurd is_row

@@ -119,7 +119,7 @@ module _ {K V S : Type 0} (same : K → K → Bool) (hash : K → ℕ) (name : �
     uncounted : CallsElsewhere x.call.stands → NoneCounts effects
     uncounted elsewhere = none_counts i map known told (λ b field old_word new_word of is role_is.
         plan_aimed (IsNoCount known) old.memory.memory new.memory.memory told (call_plan same same hash x.call) (p2, end) steps
-        (call_aims (IsNoCount known) same same hash x.call (key_no same hash name m known s old at_old shown map i st to.2 (OnKey x) under_way x under_way elsewhere)) b field old_word new_word is of role_is)
+        (call_aims (IsNoCount known) K V same same hash x.call (key_no same hash name m known s old at_old shown map i st to.2 (OnKey x) under_way x under_way elsewhere)) b field old_word new_word is of role_is)
 
     keeps : (before after : Bool) → CallsElsewhere x.call.stands → flat_map shift_of effects ≡ [] → after ≡ before → Goes before after
     keeps before after elsewhere none e = KeepsCount (all_apart effects none (uncounted elsewhere)) e
@@ -255,31 +255,31 @@ module _ {K V S : Type 0} (same : K → K → Bool) (hash : K → ℕ) (name : �
         none_before = before_not x.call.stands before
 
         stays_none : flat_map shift_of effects ≡ [] → after_counts ≡ false → Goes before_counts after_counts
-        stays_none none no = keeps before_counts after_counts (before_elsewhere x.call.stands before) none (no ∙ sym none_before)
+        stays_none none never = keeps before_counts after_counts (before_elsewhere x.call.stands before) none (never ∙ sym none_before)
 
         kept_goes : change2 ≡ x.change → c2.current ≡ ch.current → Status change2 after_counts → Goes before_counts after_counts
-        kept_goes e cur (IsNone is no) = stays_none (none_moved cur) no
-        kept_goes e cur (IsOver o n is no) = stays_none (none_moved cur) no
-        kept_goes e cur (IsNew n is yes) = absurd (let un = unchanged before in cc (e, un, is))
-        kept_goes e cur (IsGone n is yes) = absurd (let un = unchanged before in cc (e, un, is))
+        kept_goes e cur (IsNone is never) = stays_none (none_moved cur) never
+        kept_goes e cur (IsOver o n is never) = stays_none (none_moved cur) never
+        kept_goes e cur (IsNew n is counts) = absurd (let un = unchanged before in cc (e, un, is))
+        kept_goes e cur (IsGone n is counts) = absurd (let un = unchanged before in cc (e, un, is))
 
         once_goes : Once change2 → Status change2 after_counts → Goes before_counts after_counts
-        once_goes (DidNone e none) (IsNone is no) = stays_none none no
-        once_goes (DidNone e none) (IsOver o n is no) = stays_none none no
-        once_goes (DidNone e none) (IsNew n is yes) = absurd (cc (e, is))
-        once_goes (DidNone e none) (IsGone n is yes) = absurd (cc (e, is))
-        once_goes (DidStore sp are e absent comes) (IsNone is no) = absurd (cc (e, is))
-        once_goes (DidStore sp are e absent comes) (IsOver o n is no) = absurd (cc (e, is))
-        once_goes (DidStore sp are e absent comes) (IsNew n is yes) = AddsOne tt (known.stored + 1) sp are yes
-        once_goes (DidStore sp are e absent comes) (IsGone n is yes) = absurd (cc (e, is))
-        once_goes (DidReplace k sp are e pair comes) (IsNone is no) = absurd (cc (e, is))
-        once_goes (DidReplace k sp are e pair comes) (IsOver o n is no) = GivesWay (shown.number map k) (known.stored + 1) sp are (no ∙ sym none_before)
-        once_goes (DidReplace k sp are e pair comes) (IsNew n is yes) = absurd (cc (e, is))
-        once_goes (DidReplace k sp are e pair comes) (IsGone n is yes) = absurd (cc (e, is))
-        once_goes (DidRemove k are e pair) (IsNone is no) = absurd (cc (e, is))
-        once_goes (DidRemove k are e pair) (IsOver o n is no) = absurd (cc (e, is))
-        once_goes (DidRemove k are e pair) (IsNew n is yes) = absurd (cc (e, is))
-        once_goes (DidRemove k are e pair) (IsGone n is yes) = TakesOne (shown.number map k) are yes
+        once_goes (DidNone e none) (IsNone is never) = stays_none none never
+        once_goes (DidNone e none) (IsOver o n is never) = stays_none none never
+        once_goes (DidNone e none) (IsNew n is counts) = absurd (cc (e, is))
+        once_goes (DidNone e none) (IsGone n is counts) = absurd (cc (e, is))
+        once_goes (DidStore sp are e absent comes) (IsNone is never) = absurd (cc (e, is))
+        once_goes (DidStore sp are e absent comes) (IsOver o n is never) = absurd (cc (e, is))
+        once_goes (DidStore sp are e absent comes) (IsNew n is counts) = AddsOne tt (known.stored + 1) sp are counts
+        once_goes (DidStore sp are e absent comes) (IsGone n is counts) = absurd (cc (e, is))
+        once_goes (DidReplace k sp are e pair comes) (IsNone is never) = absurd (cc (e, is))
+        once_goes (DidReplace k sp are e pair comes) (IsOver o n is never) = GivesWay (shown.number map k) (known.stored + 1) sp are (never ∙ sym none_before)
+        once_goes (DidReplace k sp are e pair comes) (IsNew n is counts) = absurd (cc (e, is))
+        once_goes (DidReplace k sp are e pair comes) (IsGone n is counts) = absurd (cc (e, is))
+        once_goes (DidRemove k are e pair) (IsNone is never) = absurd (cc (e, is))
+        once_goes (DidRemove k are e pair) (IsOver o n is never) = absurd (cc (e, is))
+        once_goes (DidRemove k are e pair) (IsNew n is counts) = absurd (cc (e, is))
+        once_goes (DidRemove k are e pair) (IsGone n is counts) = TakesOne (shown.number map k) are counts
 
         before_goes : Goes before_counts after_counts
         before_goes = elim once as (λ _. Goes before_counts after_counts) [

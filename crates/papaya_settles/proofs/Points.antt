@@ -40,6 +40,15 @@ use Rattle.papaya_raw.specs.declared.machines.call.KeyCall.{KeyCall}
 use Rattle.papaya_rule.proofs.Keys.Always.{Always, AlwaysOf, always_if, always_plan_as, always_steps}
 use Rattle.papaya_settles.specs.Counts.{counts_in_calling, counts_in_sweeping}
 
+-- by where it stood: it has counted, or is past that, or it copies
+abbrev pub IsBeyond : Calling → Type 0
+IsBeyond (at.Counts removed) = Unit {0}
+IsBeyond (at.Disposes dispose answer) = Unit {0}
+IsBeyond (at.Helps copier goal) = Unit {0}
+IsBeyond (at.Copies copier) = Unit {0}
+IsBeyond (at.Over end) = Unit {0}
+IsBeyond _ = ⊥
+
 module _ {K V Q : Type 0} where
   -- the call is not about to count
   abbrev pub IsPast : KeyCall K V Q × Called (Node K V) → Type 0
@@ -75,15 +84,6 @@ module _ {K V Q : Type 0} where
 
     counted_past : (removed : ℕ) → IsPast (counted p removed)
     counted_past removed = either (removed == 0) (over p (ends.Answered (answers.Stored p.own))) _ refl refl
-
-  -- by where it stood: it has counted, or is past that, or it copies
-  abbrev pub IsBeyond : Calling → Type 0
-  IsBeyond (at.Counts removed) = Unit {0}
-  IsBeyond (at.Disposes dispose answer) = Unit {0}
-  IsBeyond (at.Helps copier goal) = Unit {0}
-  IsBeyond (at.Copies copier) = Unit {0}
-  IsBeyond (at.Over end) = Unit {0}
-  IsBeyond _ = ⊥
 
   past_at : (asks : Q → K → Bool) (same : K → K → Bool) (hash : K → ℕ) (p : KeyCall K V Q) (stands : Calling) → p.stands ≡ stands → IsBeyond stands → AlwaysOf IsPast (plan_at asks same hash p stands)
   past_at asks same hash p (at.Counts removed) is beyond = λ out. counted_past p removed
@@ -131,7 +131,7 @@ module _ (p : Sweep) where
 entering_idle : (p : Sweep) (table : Table) → NoneToCount (points.entering p table)
 entering_idle p table = one_of_two (is_incremental p.setting.mode) (record p { table = table; stands = sweeping.Follows }) (points.beginning (record p { table = table })) refl (beginning_idle (record p { table = table }))
 
-module _ {T : Type 0} (p : Sweep) where
+module _ (T : Type 0) (p : Sweep) where
   swept_either : (b : Bool) (x y : Sweep × Swept T) → IsIdleSweep x → IsIdleSweep y → IsIdleSweep (if b then x else y)
   swept_either true x y f g = f
   swept_either false x y f g = g
@@ -152,7 +152,7 @@ module _ {T : Type 0} (p : Sweep) where
   disposed_idle (d, settled.Gave value) = refl
   disposed_idle (d, settled.Done) = further_idle p
 
-module _ {K V : Type 0} (p : Sweep) where
+module _ (K V : Type 0) (p : Sweep) where
   copied_idle : (end : Copier × Outcome (Node K V) Table) → IsIdleSweep {T = Node K V} (sweeps.copied p end)
   copied_idle (c, outcome.Goes) = refl
   copied_idle (c, outcome.Waits) = refl
@@ -178,7 +178,7 @@ module _ {K V : Type 0} (p : Sweep) where
     follows_idle (Roomed r) = idle
 
     words_idle : (out : Out (Node K V)) → Always (IsIdleSweep {T = Node K V}) (sweeps.word_found p out)
-    words_idle (Found word) = seen_idle p word
+    words_idle (Found word) = seen_idle (Node K V) p word
     words_idle Stored = idle
     words_idle (Exchanged r) = idle
     words_idle (Made r) = idle
@@ -192,7 +192,7 @@ module _ {K V : Type 0} (p : Sweep) where
   idle_at hash sweeping.Words is none = words_idle (ap counts_in_sweeping is)
   idle_at hash (sweeping.Tries word) is none = absurd none
   idle_at hash (sweeping.Counts removed) is none = λ out. refl
-  idle_at hash (sweeping.Disposes dispose) is none = always_plan_as (IsIdleSweep {T = Node K V}) (sweeps.disposed p) (disposed_idle p) (dispose_plan dispose)
+  idle_at hash (sweeping.Disposes dispose) is none = always_plan_as (IsIdleSweep {T = Node K V}) (sweeps.disposed p) (disposed_idle (Node K V) p) (dispose_plan dispose)
   idle_at hash sweeping.Ready is none = ap counts_in_sweeping is
   idle_at hash (sweeping.Asks word) is none = ap counts_in_sweeping is
   idle_at hash sweeping.Over is none = ap counts_in_sweeping is

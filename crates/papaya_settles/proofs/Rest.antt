@@ -173,40 +173,40 @@ module _ {K V S : Type 0} (same : K → K → Bool) (hash : K → ℕ) (name : �
       let stepped = subst (λ (y : UnderWay K V K). StepsFrom same hash (machine_of y) old new to.1 said) is to.3 in
       let inner = told_in old.memory.memory new.memory.memory told of_room (reserve_plan hash x.reserve) (to.1, said) stepped in
       plan_aimed (IsNoCount known) old.memory.memory new.memory.memory told (reserve_plan hash x.reserve) inner.0 inner.2
-      (reserve_aims (IsNoCount known) hash x.reserve (room_no same hash name m known s old at_old shown map i st to.2 u under_way x (under_way ∙ ap Some is))) b field old_word new_word told_is of role_is)
+      (reserve_aims (IsNoCount known) K V hash x.reserve (room_no same hash name m known s old at_old shown map i st to.2 u under_way x (under_way ∙ ap Some is))) b field old_word new_word told_is of role_is)
 
   pub room_counts : (x : CallForRoom) → u ≡ ForRoom x → (done : Did (ForRoom x)) → ((NoRow (ForRoom x) done → ⊥) → TakesNone told) → Goes false (is_to_count to.1) × (to.4.next ≡ None → is_to_count to.1 ≡ false)
   room_counts x is (p2, end, machine_is, told_is, inl (step, moved)) takes =
-      let no : is_to_count to.1 ≡ false = ap is_to_count machine_is in (
+      let never : is_to_count to.1 ≡ false = ap is_to_count machine_is in (
         KeepsCount (all_apart effects
             (none_kept step.step.went.c2
             (moved_shifts same hash m known s old new at_old name shown map i st to.2 (name i) (made_so same hash name m known s old new at_old shown map i u under_way said leads)
             (is_inside same hash name m known s old new at_old shown map i u under_way said leads) _ step.step.went step.step.blocks2 step.step.grown step.step.sights2) step.step.same_pairs)
-            (room_uncounted x is)) no,
-        λ none. no,
+            (room_uncounted x is)) never,
+        λ none. never,
       )
   room_counts x is (p2, end, machine_is, told_is, inr (row, stayed)) takes =
-      let no : is_to_count to.1 ≡ false = ap is_to_count machine_is in (
-        KeepsCount (all_apart effects (row_none row.step.w2 row.step.memory row.step.happened (takes (λ own. own))) (room_uncounted x is)) no,
-        λ none. no,
+      let never : is_to_count to.1 ≡ false = ap is_to_count machine_is in (
+        KeepsCount (all_apart effects (row_none row.step.w2 row.step.memory row.step.happened (takes (λ own. own))) (room_uncounted x is)) never,
+        λ none. never,
       )
 
   -- a counting
   pub sum_counts : (x : Sum) → u ≡ Counting x → Did (Counting x) → Goes false (is_to_count to.1) × (to.4.next ≡ None → is_to_count to.1 ≡ false)
   sum_counts x is (sum2, end, machine_is, told_is, still, stayed) =
-      let no : is_to_count to.1 ≡ false = ap is_to_count machine_is in (
+      let never : is_to_count to.1 ≡ false = ap is_to_count machine_is in (
         KeepsCount (all_apart effects
             (calm_shifts effects
             (stayed_calm same hash m known s old new at_old name shown map i st to.2 (name i) (made_so same hash name m known s old new at_old shown map i u under_way said leads)
-            (is_inside same hash name m known s old new at_old shown map i u under_way said leads) still).calm) uncounted) no,
-        λ none. no,
+            (is_inside same hash name m known s old new at_old shown map i u under_way said leads) still).calm) uncounted) never,
+        λ none. never,
       )
     where
       uncounted : NoneCounts effects
       uncounted = none_counts i map known told (λ b field old_word new_word of told_so role_is.
           let stepped = subst (λ (y : UnderWay K V K). StepsFrom same hash (machine_of y) old new to.1 said) is to.3 in
           let inner = told_in old.memory.memory new.memory.memory told of_sum (sum_plan x) (to.1, said) stepped in
-          plan_aimed (IsNoCount known) old.memory.memory new.memory.memory told (sum_plan x) inner.0 inner.2 (sum_at (IsNoCount known) x x.stands) b field old_word new_word told_so of role_is)
+          plan_aimed (IsNoCount known) old.memory.memory new.memory.memory told (sum_plan x) inner.0 inner.2 (sum_at (IsNoCount known) K V x x.stands) b field old_word new_word told_so of role_is)
 
   -- a sweep
   module _ (x : CallOverAll) (is_over : u ≡ OverAll x) where
@@ -242,11 +242,11 @@ module _ {K V S : Type 0} (same : K → K → Bool) (hash : K → ℕ) (name : �
       uncounted : IsElsewhere x.sweep.stands → NoneCounts effects
       uncounted elsewhere = none_counts i map known told (λ b field old_word new_word of told_so role_is.
           plan_aimed (IsNoCount known) old.memory.memory new.memory.memory told (sweep_plan hash x.sweep) (p2, end) steps
-          (sweep_aims (IsNoCount known) hash x.sweep (over_all_no same hash name m known s old at_old shown map i st to.2 u under_way x under_over elsewhere)) b field old_word new_word told_so of role_is)
+          (sweep_aims (IsNoCount known) K V hash x.sweep (over_all_no same hash name m known s old at_old shown map i st to.2 u under_way x under_over elsewhere)) b field old_word new_word told_so of role_is)
 
       idle : IsNoTry x.sweep.stands → after_counts ≡ false
       idle none =
-          idle_step x.sweep hash none old.memory.memory new.memory.memory (p2, end) (as_step old.memory.memory changed.Nothing (sweep_plan hash x.sweep) new.memory.memory told (p2, end) steps)
+          idle_step K V x.sweep hash none old.memory.memory new.memory.memory (p2, end) (as_step old.memory.memory changed.Nothing (sweep_plan hash x.sweep) new.memory.memory told (p2, end) steps)
 
       apart_goes : IsElsewhere x.sweep.stands → IsNoTry x.sweep.stands → flat_map shift_of effects ≡ [] → Goes before_counts after_counts
       apart_goes elsewhere none shifts = KeepsCount (all_apart effects shifts (uncounted elsewhere)) (idle none ∙ sym (elsewhere_not x.sweep.stands elsewhere))
@@ -297,7 +297,7 @@ module _ {K V S : Type 0} (same : K → K → Bool) (hash : K → ℕ) (name : �
 
         -- it removes a pair
         module _ (word : ℕ) (facts : Facts (sweeping.Tries word)) where
-          t : ℕ
+          abbrev t : ℕ
           t = facts.2
 
           within : x.sweep.place < ch.len t
@@ -311,7 +311,7 @@ module _ {K V S : Type 0} (same : K → K → Bool) (hash : K → ℕ) (name : �
               at_place_block x.sweep.table (st.blocks.table t) x.sweep.place (ap (λ (y : Table). y.link) facts.3.0.table.is)
               (let l = within in let most = (here_each.ground.map.map.shows.sized t made).most in omega (arith, l, most))
 
-          n : ℕ
+          abbrev n : ℕ
           n = facts.1.0
 
           names : block_in word ≡ st.blocks.pair n
@@ -336,18 +336,18 @@ module _ {K V S : Type 0} (same : K → K → Bool) (hash : K → ℕ) (name : �
           goes_to_count : (found : ℕ) → found ≡ word → told ≡ changed.Wrote (at_place x.sweep.table x.sweep.place) found TOMBSTONE
               → ◌≡◌ {A = Sweep × Swept (Node K V)} (p2, end) (record x.sweep { stands = sweeping.Counts word }, swept.Goes) → Tried
           goes_to_count found is told_so e =
-              let yes : after_counts ≡ true = ap (λ (z : Sweep × Swept (Node K V)). counts_in_sweeping z.0.stands) e in (
-                TakesOne (shown.number map n) (removes (told_so ∙ ap (λ (k : ℕ). changed.Wrote (at_place x.sweep.table x.sweep.place) k TOMBSTONE) is)) yes,
+              let counts : after_counts ≡ true = ap (λ (z : Sweep × Swept (Node K V)). counts_in_sweeping z.0.stands) e in (
+                TakesOne (shown.number map n) (removes (told_so ∙ ap (λ (k : ℕ). changed.Wrote (at_place x.sweep.table x.sweep.place) k TOMBSTONE) is)) counts,
                 λ none. absurd (let some = ap (λ (z : Sweep × Swept (Node K V)). next_over_all {K = K} {V = V} {Q = K} x z.1) e in cc (none, some)),
               )
 
           goes_by : told ≡ changed.Nothing → after_counts ≡ false → Tried
-          goes_by nothing no = (KeepsCount (subst AllApart (sym (ap (effects_of its known) nothing)) tt) no, λ none. no)
+          goes_by nothing never = (KeepsCount (subst AllApart (sym (ap (effects_of its known) nothing)) tt) never, λ none. never)
 
           tried : SteppedAt (sweeping.Tries word) → Tried
           tried (Exchanged (Ok found), (took, told_so), ends) = goes_to_count found took.0.1 told_so ends
           tried (Exchanged (Err found), (took, told_so), ends) =
-              goes_by told_so (ap (λ (z : Sweep × Swept (Node K V)). counts_in_sweeping z.0.stands) ends ∙ seen_idle x.sweep found)
+              goes_by told_so (ap (λ (z : Sweep × Swept (Node K V)). counts_in_sweeping z.0.stands) ends ∙ seen_idle (Node K V) x.sweep found)
           tried (Found found, (took, told_so), ends) = absurd took.0
           tried (StoredOut, (took, told_so), ends) = absurd took.0
           tried (Made r, (took, told_so), ends) = absurd took.0
@@ -366,7 +366,7 @@ module _ {K V S : Type 0} (same : K → K → Bool) (hash : K → ℕ) (name : �
           where
             by : KindOf x.sweep.stands → Goes before_counts after_counts × (next_over_all {K = K} {V = V} {Q = K} x end ≡ None → after_counts ≡ false)
             by (ToCount removed is) =
-                let no = idle (subst IsNoTry (sym is) tt) in (CountsAll (counts_now removed is) (ap counts_in_sweeping is) no, λ none. no)
+                let never = idle (subst IsNoTry (sym is) tt) in (CountsAll (counts_now removed is) (ap counts_in_sweeping is) never, λ none. never)
             by (ToTry word is) =
                 let it = tried word (subst Facts is knew.1) (subst SteppedAt is steps) in
                 (subst (λ (q : Bool). Goes q after_counts) (sym (ap counts_in_sweeping is)) it.0, it.1)

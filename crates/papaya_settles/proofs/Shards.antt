@@ -1,9 +1,8 @@
 -- A call counts in the shard that the terms of a run tell for the slot of its guard.
-use Rattle.std.specs.Prelude.{◌≡◌, ℕ, ◌+◌, ◌-◌, ◌%◌, ◌^◌, Bool, true, false, nat_le, bit_and, List, [], ◌∷◌, Option, Some, None, if◌then◌else◌}
+use Rattle.std.specs.Prelude.{◌≡◌, ℕ, ◌+◌, ◌-◌, ◌%◌, ◌^◌, Bool, true, false, nat_le, bit_and, List, [], ◌∷◌, Option, Some, if◌then◌else◌}
 use Rattle.std.proofs.Common.{arith, refl, ap, sym, subst, ◌∙◌}
 use Rattle.std.proofs.lemmas.Nat.{and_mask}
 use Rattle.papaya_tables.specs.Powers.{floor_log2, next_power}
-use Rattle.papaya_tables.specs.declared.setting.Setting.{Setting}
 use Rattle.papaya_runs.specs.Present.{slot_of_guard}
 use Rattle.papaya_schedules.specs.declared.call.Call.{Call}
 use Rattle.papaya_schedules.specs.declared.call.Call.TheVariants as call
@@ -13,7 +12,7 @@ use Rattle.papaya_schedules.specs.Effects.{call_by, due_for, with_effect, AtEach
 use Rattle.papaya_schedules.specs.Entry.{ByCall, acting}
 use Rattle.papaya_schedules.specs.Lives.{CallFinds}
 use Rattle.papaya_schedules.specs.Moment.{UnderWay as CallThere, Moment}
-use Rattle.papaya_schedules.specs.Terms.{Terms, shards_of}
+use Rattle.papaya_schedules.specs.Terms.{shards_of}
 use Rattle.papaya_schedules.specs.Views.{call_of}
 use Rattle.papaya_executor.specs.IsAt.{slot_of}
 use Rattle.papaya_histories.proofs.Changes.{acted_on}

@@ -70,27 +70,27 @@ module _ (caller map : ℕ) (known : Known) where
 
   -- a word of a block that is no map's count
   block_none : (r : Role) (field stored : ℕ) (q : Bool) (was is : Role) → ((of : ℕ) → r ≡ role.Counter of → ⊥) → NoneCounts (in_block its r field stored q was is)
-  block_none (role.Counter of) field stored q was is no = absurd (no of refl)
-  block_none (role.Table t len) field stored q was is no =
+  block_none (role.Counter of) field stored q was is never = absurd (never of refl)
+  block_none (role.Table t len) field stored q was is never =
       either q [] (in_table its t len field stored was is) tt
       (either (field == NEXT) (followed_by its is) (if field == DEFERRED then carried t is else (if is_place len field then placed (spot_at t field) stored was is else [])) (followed_none is)
       (either (field == DEFERRED) (carried t is) (if is_place len field then placed (spot_at t field) stored was is else []) (carried_none t is)
       (either (is_place len field) (placed (spot_at t field) stored was is) [] (placed_none (spot_at t field) stored was is) tt)))
-  block_none _ field stored q was is no = tt
+  block_none _ field stored q was is never = tt
 
   -- the word of a count is not written
   abbrev pub CountsNowhere : Changed → Type 0
   CountsNowhere told = (b field old new of : ℕ) → told ≡ changed.Wrote (Word b field) old new → known.roles b ≡ role.Counter of → ⊥
 
   pub none_counts : (told : Changed) → CountsNowhere told → NoneCounts (effects_of its known told)
-  none_counts changed.Nothing no = tt
-  none_counts (changed.Wrote (Root r) old new) no = either (names_same old new) [] (led_to its (named known old) (named known new)) tt (led_none (named known old) (named known new))
-  none_counts (changed.Wrote (Used r) old new) no = tt
-  none_counts (changed.Wrote (Slot s field) old new) no = tt
-  none_counts (changed.Wrote (Entry b field) old new) no = either (names_same old new) [] (batched its field (known.roles b)) tt (batched_none field (known.roles b))
-  none_counts (changed.Wrote (Word b field) old new) no =
-      block_none (known.roles b) field known.stored (names_same old new) (named known old) (named known new) (λ of is. no b field old new of refl is)
-  none_counts (changed.Made k b) no = (refl, made_none k)
-  none_counts (changed.Unmade k) no = (refl, tt)
-  none_counts (changed.Took b) no = taken_none (known.roles b)
-  none_counts (changed.Roomed bucket had) no = either (nat_lt bucket known.buckets) [] (effect.Asked ABucket ∷ []) tt (refl, tt)
+  none_counts changed.Nothing never = tt
+  none_counts (changed.Wrote (Root r) old new) never = either (names_same old new) [] (led_to its (named known old) (named known new)) tt (led_none (named known old) (named known new))
+  none_counts (changed.Wrote (Used r) old new) never = tt
+  none_counts (changed.Wrote (Slot s field) old new) never = tt
+  none_counts (changed.Wrote (Entry b field) old new) never = either (names_same old new) [] (batched its field (known.roles b)) tt (batched_none field (known.roles b))
+  none_counts (changed.Wrote (Word b field) old new) never =
+      block_none (known.roles b) field known.stored (names_same old new) (named known old) (named known new) (λ of is. never b field old new of refl is)
+  none_counts (changed.Made k b) never = (refl, made_none k)
+  none_counts (changed.Unmade k) never = (refl, tt)
+  none_counts (changed.Took b) never = taken_none (known.roles b)
+  none_counts (changed.Roomed bucket had) never = either (nat_lt bucket known.buckets) [] (effect.Asked ABucket ∷ []) tt (refl, tt)
