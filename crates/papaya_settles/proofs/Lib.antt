@@ -11,3 +11,7 @@ pub mod Rest
 pub mod Calls
 pub mod Shards
 pub mod Between
+pub mod EntryOps
+pub mod EntryRows
+pub mod EntryUsers
+pub mod EntrySettles

@@ -2,3 +2,4 @@ pub mod Counts
 pub mod Keeping
 pub mod Beside
 pub mod Shards
+pub mod Entries
