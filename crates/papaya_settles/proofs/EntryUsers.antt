@@ -42,7 +42,7 @@ cut_somebodys i Handed may = absurd may
 cut_somebodys i (LeftTo h) may = absurd may
 
 -- where one block has gone into other hands, somebody has a block who had it before, or it is that one
-theirs_with : (hand : ℕ → Hand) (b x : ℕ) (h : Hand) → (IsSomebodys h → IsSomebodys (hand b)) → IsSomebodys (with_at hand b h x) → IsSomebodys (hand x)
+pub theirs_with : (hand : ℕ → Hand) (b x : ℕ) (h : Hand) → (IsSomebodys h → IsSomebodys (hand b)) → IsSomebodys (with_at hand b h x) → IsSomebodys (hand x)
 theirs_with hand b x h before its = by (x == b) refl its
   where
     by : (z : Bool) → (x == b) ≡ z → IsSomebodys (if z then h else hand x) → IsSomebodys (hand x)
@@ -55,6 +55,15 @@ theirs_left i blocks hand x its = by (is_one_of x blocks) its
     by : (z : Bool) → IsSomebodys (if z then LeftTo i else hand x) → IsSomebodys (hand x)
     by true t = absurd t
     by false t = t
+
+module _ {T : Type 0} where
+  -- both words of the entry are 0
+  abbrev pub IsZero : Mem T → ℕ → Type 0
+  IsZero m b = Zero b NEXT m × Zero b FIRST m
+
+  -- so it is of what somebody has
+  abbrev pub AllZero : World T → Type 0
+  AllZero w = (b : ℕ) → IsSomebodys (w.hand b) → IsZero w.memory b
 
 module _ {T : Type 0} (defers : T → Option ℕ) where
   made_memory : (w : World T) (i : ℕ) (m : Mem T) (out : Out T) → (made_by defers w i m out).memory ≡ m
@@ -166,13 +175,6 @@ module _ {T : Type 0} (defers : T → Option ℕ) where
   event_rows size w v (Relinks i b word) u h = ap (λ (y : World T). y.row) h.4
   event_rows size w v (Clears i b) u h = ap (λ (y : World T). y.row) h.5
   event_rows size w v (Chooses choice) u h = ap (λ (y : World T). y.row) h
-
-  -- both words of the entry are 0
-  abbrev pub IsZero : Mem T → ℕ → Type 0
-  IsZero m b = Zero b NEXT m × Zero b FIRST m
-
-  abbrev pub AllZero : World T → Type 0
-  AllZero w = (b : ℕ) → IsSomebodys (w.hand b) → IsZero w.memory b
 
   -- so what somebody has is blank still
   module _ {size : ℕ} (w v : World T) (r : Reached defers size w) (zeros : AllZero w) where

@@ -15,3 +15,5 @@ pub mod EntryOps
 pub mod EntryRows
 pub mod EntryUsers
 pub mod EntrySettles
+pub mod EntryWorlds
+pub mod EntryScenes

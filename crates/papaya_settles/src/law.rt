@@ -1,6 +1,7 @@
 //! What is promised of what a call has stored or removed, and has to count.
 ghost use Rattle.std.specs.Prelude.{ℕ, Bool};
 ghost use Rattle.papaya_settles.specs.Beside.{StaysCounts, EffectsLeaveCounts, WalksGoOnCounts, WalksStopCounts};
+ghost use Rattle.papaya_settles.specs.Entries.{EntriesBegin, CallsGoOnEntries, EndingsBeginEntries, CallsKeepEntries, RowsBeginEntries, RowsKeepEntries, MakingsKeepEntries, EndingsKeepEntries};
 ghost use Rattle.papaya_settles.specs.Shards.{CountsFindShards};
 ghost use Rattle.papaya_settles.specs.Keeping.{CountsBegin, CallsKeepCounts, CallsBeginCounts, CallsBeginUncounted, CallsTakeCounts, CallsComeToCounts};
 
@@ -25,4 +26,18 @@ pub fn others_leave_counts<K, V, S>()
     ensures effects { EffectsLeaveCounts K V }
     ensures goes_on { (same : K → K → Bool) (hash : K → ℕ) → WalksGoOnCounts K V S same hash }
     ensures stops { (same : K → K → Bool) (hash : K → ℕ) → WalksStopCounts K V S same hash }
+{}
+
+/// A block that somebody has, who made it, or in whose map it is linked, or who took it out of that, says of no batch that it is in it, and its entry leads on to no
+/// other block. So the row within a call retires one block: that is blank so until the batch that it comes into is told of, and nothing else is pending with the
+/// row. It is so before all events; after each step of a call, of a row on a slot, of the making of a map, and of the end of one; and where any of these begins.
+pub fn entries_are_blank<K, V, S>()
+    ensures begins { EntriesBegin K V }
+    ensures calls { (same : K → K → Bool) (hash : K → ℕ) → CallsKeepEntries K V S same hash }
+    ensures goes_on { CallsGoOnEntries K V }
+    ensures rows_begin { (same : K → K → Bool) (hash : K → ℕ) → RowsBeginEntries K V S same hash }
+    ensures rows { (same : K → K → Bool) (hash : K → ℕ) → RowsKeepEntries K V S same hash }
+    ensures makings { (same : K → K → Bool) (hash : K → ℕ) → MakingsKeepEntries K V S same hash }
+    ensures endings_begin { EndingsBeginEntries K V }
+    ensures endings { (same : K → K → Bool) (hash : K → ℕ) → EndingsKeepEntries K V S same hash }
 {}
