@@ -17,3 +17,5 @@ pub mod EntryUsers
 pub mod EntrySettles
 pub mod EntryWorlds
 pub mod EntryScenes
+pub mod DueSettles
+pub mod DueDefers

@@ -3,3 +3,4 @@ pub mod Keeping
 pub mod Beside
 pub mod Shards
 pub mod Entries
+pub mod Due
