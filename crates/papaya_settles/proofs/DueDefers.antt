@@ -32,7 +32,7 @@ use Rattle.papaya_teller.specs.declared.changed.Changed.TheVariants as changed
 use Rattle.papaya_effects.specs.Effects.{in_block, named, names_same}
 use Rattle.papaya_effects.specs.Known.{Known}
 use Rattle.papaya_effects.specs.declared.acting.Acting.TheVariants as acts
-use Rattle.papaya_settles.specs.Due.{due_in_defer}
+use Rattle.papaya_settles.specs.Due.{due_in_defer, RowTells, TellsNone, TellsDeferred}
 use Rattle.papaya_settles.proofs.DueSettles.{effects_by, plan_none}
 use Rattle.papaya_settles.proofs.EntryRows.{named as named_by}
 
@@ -59,14 +59,9 @@ module _ {K V : Type 0} {size : ℕ} (w : World (Node K V)) (r : Reached deferre
   abbrev FitsHere : Deferring → Type 0
   FitsHere p = FitsDefer (LAST_SLOT + 1) i (view deferred_word w.memory) m r.good.extra s c.block c.table_word p
 
-  -- so it goes on: nothing is told, and it has in hand what it had; or its block is behind the table, and it has none
-  pub data DeferTells (before after : Option ℕ) : Type 0 where
-    DefersStill : effects_by caller map known told ≡ [] → after ≡ before → DeferTells before after
-    DefersOne : (t d head : ℕ) → before ≡ Some c.block → after ≡ None
-        → effects_by caller map known told ≡ in_block (acts.Call caller map) (known.roles t) d known.stored false (named known head) (named known c.block) → DeferTells before after
-
+  -- so it goes on
   abbrev Goes : Deferring → Type 0
-  Goes p = DeferTells (due_in_defer c p) (due_in_defer end.0 end.0.stands)
+  Goes p = RowTells caller map known (effects_by caller map known told) (due_in_defer c p) (due_in_defer end.0 end.0.stands)
 
   -- the head of the list is another block
   apart : (on : OnWay (LAST_SLOT + 1) i (view deferred_word w.memory) m r.good.extra s c.block c.table_word) (head : ℕ) → word_at w.memory (name.Word on.t on.d) ≡ Some head → names_same head c.block ≡ false
@@ -104,7 +99,7 @@ module _ {K V : Type 0} {size : ℕ} (w : World (Node K V)) (r : Reached deferre
           absurd (omega (arith, none, some))
 
   still : (p : Deferring) (word : ℕ) → due_in_defer c p ≡ Some word → due_in_defer end.0 end.0.stands ≡ Some word → effects_by caller map known told ≡ [] → Goes p
-  still p word due after none = DefersStill none (after ∙ sym due)
+  still p word due after none = TellsNone none (after ∙ sym due)
 
   pub defer_tells : Goes c.stands
   defer_tells = by c.stands refl fits steps
@@ -121,11 +116,11 @@ module _ {K V : Type 0} {size : ℕ} (w : World (Node K V)) (r : Reached deferre
       pushes head f (Exchanged (Ok found), (took, told_so), ends) =
           let told_at : told ≡ changed.Wrote (name.Word f.on.t f.on.d) found c.block = told_so ∙ ap (λ (a : At). changed.Wrote a found c.block) f.on.at_is in
           let there : word_at w.memory (name.Word f.on.t f.on.d) ≡ Some found = subst (λ (a : At). word_at w.memory a ≡ Some found) f.on.at_is took.0.0 in
-          DefersOne f.on.t f.on.d found refl (ap (λ (q : Defer × Progress Unit). due_in_defer q.0 q.0.stands) ends)
+          TellsDeferred c.block f.on.t f.on.d found refl (ap (λ (q : Defer × Progress Unit). due_in_defer q.0 q.0.stands) ends)
           (ap (effects_by caller map known) told_at
           ∙ ap (λ (q : Bool). in_block (acts.Call caller map) (known.roles f.on.t) f.on.d known.stored q (named known found) (named known c.block)) (apart f.on found there))
       pushes head f (Exchanged (Err found), (took, told_so), ends) =
-          DefersStill (ap (effects_by caller map known) told_so) (ap (λ (q : Defer × Progress Unit). due_in_defer q.0 q.0.stands) ends)
+          TellsNone (ap (effects_by caller map known) told_so) (ap (λ (q : Defer × Progress Unit). due_in_defer q.0 q.0.stands) ends)
       pushes head f (Found x, (took, told_so), ends) = absurd took.0
       pushes head f (Stored, (took, told_so), ends) = absurd took.0
       pushes head f (Made x, (took, told_so), ends) = absurd took.0
@@ -139,4 +134,4 @@ module _ {K V : Type 0} {size : ℕ} (w : World (Node K V)) (r : Reached deferre
           (plan_none caller map known w.memory m2 told (plans.plan_at {T = Node K V} c (at.Links head)) end st (λ e. absurd (omega (arith, e))))
       by (at.Pushes head) is f st = pushes head f st
       by at.Over is f st =
-          DefersStill (ap (effects_by caller map known) st.2) (ap (λ (q : Defer × Progress Unit). due_in_defer q.0 q.0.stands) st.1 ∙ ap (due_in_defer c) is)
+          TellsNone (ap (effects_by caller map known) st.2) (ap (λ (q : Defer × Progress Unit). due_in_defer q.0 q.0.stands) st.1 ∙ ap (due_in_defer c) is)

@@ -31,7 +31,7 @@ use Rattle.papaya_effects.specs.declared.role.Role.{Role}
 use Rattle.papaya_effects.specs.declared.role.Role.TheVariants as role
 use Rattle.papaya_executor.proofs.Forgotten.{as_step}
 use Rattle.papaya_hands.specs.Rows.{IsAside, SettlesAside}
-use Rattle.papaya_settles.specs.Due.{due_in_settle, told_retired}
+use Rattle.papaya_settles.specs.Due.{due_in_settle, told_retired, RowTells, TellsNone, TellsRetired}
 use Rattle.papaya_settles.specs.Entries.{IsBlank, OneAt}
 use Rattle.papaya_settles.proofs.EntrySettles.{goes_one}
 
@@ -170,13 +170,9 @@ module _ {K V : Type 0} (caller map : ℕ) (known : Known) (m m2 : Mem (Node K V
   abbrev SteppedAt : Settling → Type 0
   SteppedAt p = StepsTold K V (Settle × Settled (Node K V)) m changed.Nothing (plans.plan_at deferred_word c p) m2 told end
 
-  -- so it goes on: nothing is told, and it has in hand what it had; or its block is told of, and it has none
-  pub data SettleTells (before after : Option ℕ) : Type 0 where
-    SettlesStill : effects_by caller map known told ≡ [] → after ≡ before → SettleTells before after
-    SettlesOne : (block : ℕ) → before ≡ Some block → after ≡ None → effects_by caller map known told ≡ told_retired (known.roles (block_in block)) → SettleTells before after
-
+  -- so it goes on
   abbrev Goes : Settling → Type 0
-  Goes p = SettleTells (due_in_settle c p) (due_in_settle end.0 end.0.stands)
+  Goes p = RowTells caller map known (effects_by caller map known told) (due_in_settle c p) (due_in_settle end.0 end.0.stands)
 
   none_told : (p : Settling) → SteppedAt p → IsQuietPlan {T = Node K V} (plans.plan_at deferred_word c p) → effects_by caller map known told ≡ []
   none_told p st quiet = plan_none caller map known m m2 told (plans.plan_at deferred_word c p) end st quiet
@@ -192,7 +188,7 @@ module _ {K V : Type 0} (caller map : ℕ) (known : Known) (m m2 : Mem (Node K V
 
   past : (p : Settling) → c.stands ≡ p → OneAt (λ b. ⊥) c p → IsQuietPlan {T = Node K V} (plans.plan_at deferred_word c p) → SteppedAt p → Goes p
   past p is k quiet st =
-      SettlesStill (none_told p st quiet) (
+      TellsNone (none_told p st quiet) (
         none_due end.0 end.0.stands
             (goes_one (λ b. ⊥) m c aside (subst (OneAt (λ b. ⊥) c) (sym is) k) deferred_word m2 end
             (λ pops word found. absurd (subst (OneAt (λ b. ⊥) c) (sym is ∙ pops) k).1) (as_step m changed.Nothing (plans.settle_plan deferred_word c) m2 told end steps))
@@ -200,13 +196,13 @@ module _ {K V : Type 0} (caller map : ℕ) (known : Known) (m m2 : Mem (Node K V
       )
 
   still : (p : Settling) → c.stands ≡ p → (word : ℕ) → due_in_settle c p ≡ Some word → IsDue word end.0 → effects_by caller map known told ≡ [] → Goes p
-  still p is word due after none = SettlesStill none (after ∙ sym due)
+  still p is word due after none = TellsNone none (after ∙ sym due)
 
   due_here : (p : Settling) → c.stands ≡ p → (word : ℕ) → due_in_settle c p ≡ Some word → IsDue word c
   due_here p is word due = subst (λ (q : Settling). due_in_settle c q ≡ Some word) (sym is) due
 
   batch_told : (block : ℕ) → IsBlank m (block_in block) → block_in c.first ≢ 0 → SteppedAt (at.Batches block) → Goes (at.Batches block)
-  batch_told block blank some (out, (took, told_so), ends) = SettlesOne block refl (ap (λ (q : Settle × Settled (Node K V)). due_in_settle q.0 q.0.stands) ends) (ap (effects_by caller map known) told_at ∙ by (known.roles (block_in block)))
+  batch_told block blank some (out, (took, told_so), ends) = TellsRetired block refl (ap (λ (q : Settle × Settled (Node K V)). due_in_settle q.0 q.0.stands) ends) (ap (effects_by caller map known) told_at ∙ by (known.roles (block_in block)))
     where
       zero : (o : Option ℕ) → word_at m (name.Entry (block_in block) FIRST) ≡ o → word_or o ≡ 0
       zero None is = refl

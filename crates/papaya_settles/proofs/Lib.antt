@@ -19,3 +19,5 @@ pub mod EntryWorlds
 pub mod EntryScenes
 pub mod DueSettles
 pub mod DueDefers
+pub mod DueRows
+pub mod DueCalls

@@ -1,6 +1,7 @@
 //! What is promised of what a call has stored or removed, and has to count.
 ghost use Rattle.std.specs.Prelude.{ℕ, Bool};
 ghost use Rattle.papaya_settles.specs.Beside.{StaysCounts, EffectsLeaveCounts, WalksGoOnCounts, WalksStopCounts};
+ghost use Rattle.papaya_settles.specs.Due.{RowsTellDue};
 ghost use Rattle.papaya_settles.specs.Entries.{EntriesBegin, CallsGoOnEntries, EndingsBeginEntries, CallsKeepEntries, RowsBeginEntries, RowsKeepEntries, MakingsKeepEntries, EndingsKeepEntries};
 ghost use Rattle.papaya_settles.specs.Shards.{CountsFindShards};
 ghost use Rattle.papaya_settles.specs.Keeping.{CountsBegin, CallsKeepCounts, CallsBeginCounts, CallsBeginUncounted, CallsTakeCounts, CallsComeToCounts};
@@ -40,4 +41,10 @@ pub fn entries_are_blank<K, V, S>()
     ensures makings { (same : K → K → Bool) (hash : K → ℕ) → MakingsKeepEntries K V S same hash }
     ensures endings_begin { EndingsBeginEntries K V }
     ensures endings { (same : K → K → Bool) (hash : K → ℕ) → EndingsKeepEntries K V S same hash }
+{}
+
+/// A step of a row within a call tells nothing, and what it had in hand it has still; or it retires that, a pair or a table, or has put it behind a table, of which
+/// it tells, and has nothing in hand any more. So a row hands one block over, and tells of it once.
+pub fn rows_tell_due<K, V, S>()
+    ensures rows { (same : K → K → Bool) (hash : K → ℕ) → RowsTellDue K V S same hash }
 {}
