@@ -3,7 +3,7 @@ use Rattle.std.specs.Prelude.{◌≡◌, ℕ, Bool, true, false, cond, List, Opt
 use Rattle.std.proofs.Common.{refl, ap, sym, subst, ◌∙◌, inl, inr}
 use Rattle.seize.specs.declared.rows.settle.Settled.{Settled}
 use Rattle.seize.specs.declared.rows.settle.Settled.TheVariants as settled
-use Rattle.seize.specs.World.{World, Settles, Defers}
+use Rattle.seize.specs.World.{World}
 use Rattle.seize_words.specs.Mem.{Mem}
 use Rattle.seize_alone.proofs.Histories.Reached.{Reached}
 use Rattle.papaya_tables.specs.Nodes.{deferred_word}
@@ -360,9 +360,9 @@ module _ {K V S : Type 0} (same : K → K → Bool) (hash : K → ℕ) (name : �
       its : CallingIs s.world i x.call.stands
       its = elim (each.stand i (OnKey x) (under_way ∙ ap Some is)) as (λ _. CallingIs s.world i x.call.stands) [
         | inl (rests, knows) ↦ elim (knows.facts) as (λ _. CallingIs s.world i x.call.stands) [
-            | inl facts ↦ calling_new same st.hash s.world i (in_slot st.setting (slot_of i)) st.chart (seen_by st.blocks (st.sights (slot_of i))) x.keys x.change x.call x.call.stands facts.point row
-            | inr late ↦ late_calling_new same st.hash s.world i (in_slot st.setting (slot_of i)) st.chart (seen_by st.blocks (st.sights (slot_of i))) x.keys x.began x.call x.call.stands late.1.point row
-          ]
+          | inl facts ↦ calling_new same st.hash s.world i (in_slot st.setting (slot_of i)) st.chart (seen_by st.blocks (st.sights (slot_of i))) x.keys x.change x.call x.call.stands facts.point row
+          | inr late ↦ late_calling_new same st.hash s.world i (in_slot st.setting (slot_of i)) st.chart (seen_by st.blocks (st.sights (slot_of i))) x.keys x.began x.call x.call.stands late.1.point row
+        ]
         | inr (is_row, its_row, knows) ↦ calling_on s.world i (slot_of i) x.call.stands row is_row
       ]
 
@@ -375,9 +375,9 @@ module _ {K V S : Type 0} (same : K → K → Bool) (hash : K → ℕ) (name : �
       its : ReservingIs s.world i x.reserve.stands
       its = elim (each.stand i (ForRoom x) (under_way ∙ ap Some is)) as (λ _. ReservingIs s.world i x.reserve.stands) [
         | inl (rests, knows) ↦ elim (knows.facts) as (λ _. ReservingIs s.world i x.reserve.stands) [
-            | inl facts ↦ reserving_new same st.hash s.world i (in_slot st.setting (slot_of i)) st.chart (seen_by st.blocks (st.sights (slot_of i))) x.reserve.stands facts.point row
-            | inr late ↦ late_reserving_new same st.hash s.world i (in_slot st.setting (slot_of i)) st.chart (seen_by st.blocks (st.sights (slot_of i))) x.began x.reserve.stands late.point row
-          ]
+          | inl facts ↦ reserving_new same st.hash s.world i (in_slot st.setting (slot_of i)) st.chart (seen_by st.blocks (st.sights (slot_of i))) x.reserve.stands facts.point row
+          | inr late ↦ late_reserving_new same st.hash s.world i (in_slot st.setting (slot_of i)) st.chart (seen_by st.blocks (st.sights (slot_of i))) x.began x.reserve.stands late.point row
+        ]
         | inr (is_row, its_row, knows) ↦ reserving_on s.world i x.reserve.stands row is_row
       ]
 

@@ -189,10 +189,10 @@ module _ {K V : Type 0} (caller map : ℕ) (known : Known) (m m2 : Mem (Node K V
   past : (p : Settling) → c.stands ≡ p → OneAt (λ b. ⊥) c p → IsQuietPlan {T = Node K V} (plans.plan_at deferred_word c p) → SteppedAt p → Goes p
   past p is k quiet st =
       TellsNone (none_told p st quiet) (
-        none_due end.0 end.0.stands
-            (goes_one (λ b. ⊥) m c aside (subst (OneAt (λ b. ⊥) c) (sym is) k) deferred_word m2 end
-            (λ pops word found. absurd (subst (OneAt (λ b. ⊥) c) (sym is ∙ pops) k).1) (as_step m changed.Nothing (plans.settle_plan deferred_word c) m2 told end steps))
-        ∙ sym (none_due c p k)
+      none_due end.0 end.0.stands
+      (goes_one (λ b. ⊥) m c aside (subst (OneAt (λ b. ⊥) c) (sym is) k) deferred_word m2 end
+      (λ pops word found. absurd (subst (OneAt (λ b. ⊥) c) (sym is ∙ pops) k).1) (as_step m changed.Nothing (plans.settle_plan deferred_word c) m2 told end steps))
+      ∙ sym (none_due c p k)
       )
 
   still : (p : Settling) → c.stands ≡ p → (word : ℕ) → due_in_settle c p ≡ Some word → IsDue word end.0 → effects_by caller map known told ≡ [] → Goes p

@@ -85,7 +85,7 @@ module _ {T : Type 0} (defers : T → Option ℕ) {size : ℕ} (w : World T) (r 
       let h = puts_some n i (view defers w.memory) m r.good.extra c.put_first r.good.shows first some in
       let d = last_from h.0 h.1 in
       let there = is_pending_put m.stage m.blocks m.left m.pending m.puts m.deferred m.carrier m.life r.good.extra.popped i d r.good.inv.places
-          (subst (λ (l : List ℕ). 0 < count d l) (sym h.2) (count_last h.0 h.1)) in
+      (subst (λ (l : List ℕ). 0 < count d l) (sym h.2) (count_last h.0 h.1)) in
       pending_other d there c.put_last (named c.put_last d (last ∙ ap (λ (l : List ℕ). link (last_of l)) h.2)) e
 
   appends_apart : (c : Settle) (block : ℕ) → Appends n i (view defers w.memory) m r.good.extra (bare c) block → x ≡ c.last / 2048 → ⊥

@@ -122,9 +122,9 @@ module _ {K V S : Type 0} (same : K → K → Bool) (hash : K → ℕ) (name : �
       → CallingAims (IsNoCount known) x.call x.call.stands
   key_no x is elsewhere = elim (each.stand i (OnKey x) is) as (λ _. CallingAims (IsNoCount known) x.call x.call.stands) [
     | inl (rests, knows) ↦ elim (knows.facts) as (λ _. CallingAims (IsNoCount known) x.call x.call.stands) [
-        | inl facts ↦ key_aims same st.hash w i _ st.chart seen (IsNoCount known) tables_no own_no x.keys x.change x.call x.call.stands elsewhere facts.point
-        | inr late ↦ late_key_aims same st.hash w i _ st.chart seen (IsNoCount known) tables_no own_no x.keys x.began x.call x.call.stands late.1.point
-      ]
+      | inl facts ↦ key_aims same st.hash w i _ st.chart seen (IsNoCount known) tables_no own_no x.keys x.change x.call x.call.stands elsewhere facts.point
+      | inr late ↦ late_key_aims same st.hash w i _ st.chart seen (IsNoCount known) tables_no own_no x.keys x.began x.call x.call.stands late.1.point
+    ]
     | inr (row, is_row, knows) ↦ by x.call.stands is_row row
   ]
     where
@@ -138,9 +138,9 @@ module _ {K V S : Type 0} (same : K → K → Bool) (hash : K → ℕ) (name : �
   pub room_no : (x : CallForRoom) → s.calls map i ≡ Some (ForRoom x) → ReservingAims (IsNoCount known) x.reserve.stands
   room_no x is = elim (each.stand i (ForRoom x) is) as (λ _. ReservingAims (IsNoCount known) x.reserve.stands) [
     | inl (rests, knows) ↦ elim (knows.facts) as (λ _. ReservingAims (IsNoCount known) x.reserve.stands) [
-        | inl facts ↦ room_aims same st.hash w i _ st.chart seen (IsNoCount known) tables_no own_no x.reserve.stands facts.point
-        | inr late ↦ late_room_aims same st.hash w i _ st.chart seen (IsNoCount known) tables_no own_no x.began x.reserve.stands late.point
-      ]
+      | inl facts ↦ room_aims same st.hash w i _ st.chart seen (IsNoCount known) tables_no own_no x.reserve.stands facts.point
+      | inr late ↦ late_room_aims same st.hash w i _ st.chart seen (IsNoCount known) tables_no own_no x.began x.reserve.stands late.point
+    ]
     | inr (row, is_row, knows) ↦ by x.reserve.stands is_row
   ]
     where

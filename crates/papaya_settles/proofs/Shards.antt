@@ -77,5 +77,5 @@ counts_find_shards K V terms i setting shards own map effects m c is seated find
     by (f ∷ fs) v d d_is seat found = (
       (λ counts. subst (ByCall (CallFinds terms moments v f)) (sym d_is) (one v f d seat (subst (ByCall (FindsCount (shard_for i setting) f)) d_is found.0) counts)),
       by fs (with_effect (Some own) (Some map) f v) (call_by v f d) (acted_on own map f v d d_is)
-      (ap (λ (g : List ℕ). slot_of_guard g v.there) (guard_kept v f d) ∙ seat) found.1,
+          (ap (λ (g : List ℕ). slot_of_guard g v.there) (guard_kept v f d) ∙ seat) found.1,
     )

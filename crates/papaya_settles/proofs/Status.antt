@@ -1,7 +1,6 @@
 -- What a call on one key has changed, by where it stands, and whether it is about to count then.
 use Rattle.std.specs.Prelude.{◌≡◌, ℕ, Bool, true, false}
 use Rattle.std.proofs.Common.{refl, ap, subst, inl, inr}
-use Rattle.seize_words.specs.Op.{Found}
 use Rattle.seize.specs.World.{World}
 use Rattle.papaya_tables.specs.declared.node.Node.{Node}
 use Rattle.papaya_tables.specs.declared.setting.Setting.{Setting}
@@ -156,4 +155,3 @@ module _ {K V : Type 0} (same : K → K → Bool) (hash : K → ℕ) (setting : 
     | inl k ↦ knows_status x.call fresh k.1
     | inr k ↦ subst (Status x.change) (past_counts x.call.stands) (knows_status (once_over x.call) (past_fresh x.call.stands fresh) k.2)
   ]
-
