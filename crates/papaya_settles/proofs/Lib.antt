@@ -21,3 +21,4 @@ pub mod DueSettles
 pub mod DueDefers
 pub mod DueRows
 pub mod DueCalls
+pub mod Owing

@@ -4,3 +4,4 @@ pub mod Beside
 pub mod Shards
 pub mod Entries
 pub mod Due
+pub mod Owing
