@@ -4,11 +4,12 @@ use Rattle.std.proofs.Common.{refl, ap, sym, subst, ◌∙◌, inl, inr}
 use Rattle.seize.specs.declared.rows.settle.Settled.{Settled}
 use Rattle.seize.specs.declared.rows.settle.Settled.TheVariants as settled
 use Rattle.seize.specs.World.{World}
-use Rattle.seize_words.specs.Mem.{Mem}
+use Rattle.seize_words.specs.Mem.{Mem, value_at}
 use Rattle.seize_alone.proofs.Histories.Reached.{Reached}
 use Rattle.papaya_tables.specs.Nodes.{deferred_word}
 use Rattle.papaya_tables.specs.Chunks.{is_incremental}
 use Rattle.papaya_tables.specs.declared.node.Node.{Node}
+use Rattle.papaya_tables.specs.declared.node.Node.TheVariants as node
 use Rattle.papaya_tables.specs.declared.setting.Setting.{Setting}
 use Rattle.papaya_tables.specs.declared.table.Table.{Table}
 use Rattle.papaya_resize.specs.Copier.{copier_plan}
@@ -71,11 +72,13 @@ use Rattle.papaya_callers.proofs.Together.Came.{came_reached}
 use Rattle.papaya_effects.specs.Effects.{effects_of}
 use Rattle.papaya_effects.specs.Known.{Known}
 use Rattle.papaya_effects.specs.declared.acting.Acting.TheVariants as acts
+use Rattle.papaya_effects.specs.declared.role.Role.TheVariants as role
 use Rattle.papaya_executor.specs.IsAt.{Scene, IsAt, slot_of}
 use Rattle.papaya_executor.specs.Stepping.{StepLeads, StepsFrom}
 use Rattle.papaya_executor.specs.declared.executor.Executor.{Executor}
 use Rattle.papaya_finishes.specs.Machines.{machine_of}
 use Rattle.papaya_finishes.specs.Maps.{Standing}
+use Rattle.papaya_follows.specs.Blocks.{HasRole}
 use Rattle.papaya_follows.specs.Shows.{Shows}
 use Rattle.papaya_follows.proofs.Steps.{WentTo, went_to, DidSo, OfNoRow}
 use Rattle.papaya_hands.specs.Rows.{ReclaimsNone, ShowsRows}
@@ -204,7 +207,8 @@ module _ {K V : Type 0} (same : K → K → Bool) (hash : K → ℕ) (w : World 
 
 -- so its step tells of what it has in hand
 module _ {K V : Type 0} {size : ℕ} (w : World (Node K V)) (r : Reached deferred_word size w) (i map : ℕ) (known : Known) (m2 : Mem (Node K V)) (told : Changed)
-    (blanks : (b : ℕ) → IsSomebodys (w.hand b) → IsBlank w.memory b) (none : ReclaimsNone (w.row i)) (own : RetiresOne (IsBlank w.memory) (w.row i)) where
+    (blanks : (b : ℕ) → IsSomebodys (w.hand b) → IsBlank w.memory b) (none : ReclaimsNone (w.row i)) (own : RetiresOne (IsBlank w.memory) (w.row i))
+    (counters : (b map : ℕ) → known.roles b ≡ role.Counter map → value_at w.memory b ≡ Some node.Shards) where
   abbrev TellsDue : Option ℕ → Option ℕ → Type 0
   TellsDue before after = RowTells i map known (effects_by i map known told) before after
 
@@ -246,15 +250,15 @@ module _ {K V : Type 0} {size : ℕ} (w : World (Node K V)) (r : Reached deferre
         by : (p : Calling) → CallingIs w i p → CallAt p → CallTo (due_in_calling p) end
         by (calling.Disposes dispose answer) its st =
             let inner = told_in w.memory m2 told (disposed x answer) (dispose_plan dispose) end st in
-            let row = dispose_row w r i map known m2 told blanks none own dispose inner.0 inner.2 its in
+            let row = dispose_row w r i map known m2 told blanks none own counters dispose inner.0 inner.2 its in
             subst (CallTo (due_in_disposing dispose.stands)) (sym inner.1) (disposed_to (due_in_disposing dispose.stands) answer inner.0 row.0 row.1)
         by (calling.Helps copier goal) its st =
             let inner = told_in w.memory m2 told (helped x goal) (copier_plan hash copier) end st in
-            let row = copier_row w r i map known m2 told blanks none own hash copier inner.0 inner.2 its in
+            let row = copier_row w r i map known m2 told blanks none own counters hash copier inner.0 inner.2 its in
             subst (CallTo (due_in_copying copier.stands)) (sym inner.1) (helped_to (due_in_copying copier.stands) goal inner.0 row.0 row.1)
         by (calling.Copies copier) its st =
             let inner = told_in w.memory m2 told (copied x) (copier_plan hash copier) end st in
-            let row = copier_row w r i map known m2 told blanks none own hash copier inner.0 inner.2 its in
+            let row = copier_row w r i map known m2 told blanks none own counters hash copier inner.0 inner.2 its in
             subst (CallTo (due_in_copying copier.stands)) (sym inner.1) (copied_to (due_in_copying copier.stands) inner.0 row.0 row.1)
         by _ its st = absurd its
 
@@ -278,7 +282,7 @@ module _ {K V : Type 0} {size : ℕ} (w : World (Node K V)) (r : Reached deferre
         by : (p : Reserving) → ReservingIs w i p → RoomAt p → RoomTo (due_in_reserving p) end
         by (reserving.Copies copier) its st =
             let inner = told_in w.memory m2 told (reserves.copied x) (copier_plan hash copier) end st in
-            let row = copier_row w r i map known m2 told blanks none own hash copier inner.0 inner.2 its in
+            let row = copier_row w r i map known m2 told blanks none own counters hash copier inner.0 inner.2 its in
             subst (RoomTo (due_in_copying copier.stands)) (sym inner.1) (copied_room (due_in_copying copier.stands) inner.0 row.0 row.1)
         by _ its st = absurd its
 
@@ -316,11 +320,11 @@ module _ {K V : Type 0} {size : ℕ} (w : World (Node K V)) (r : Reached deferre
         by : (p : Sweeping) → SweepingIs w i p → SweepAt p → SweepTo (due_in_sweeping p) end
         by (sweeping.Copies copier) its st =
             let inner = told_in w.memory m2 told (sweeps.copied x) (copier_plan hash copier) end st in
-            let row = copier_row w r i map known m2 told blanks none own hash copier inner.0 inner.2 its in
+            let row = copier_row w r i map known m2 told blanks none own counters hash copier inner.0 inner.2 its in
             subst (SweepTo (due_in_copying copier.stands)) (sym inner.1) (copied_sweep (due_in_copying copier.stands) inner.0 row.0 row.1)
         by (sweeping.Disposes dispose) its st =
             let inner = told_in w.memory m2 told (sweeps.disposed x) (dispose_plan dispose) end st in
-            let row = dispose_row w r i map known m2 told blanks none own dispose inner.0 inner.2 its in
+            let row = dispose_row w r i map known m2 told blanks none own counters dispose inner.0 inner.2 its in
             subst (SweepTo (due_in_disposing dispose.stands)) (sym inner.1) (disposed_sweep (due_in_disposing dispose.stands) inner.0 row.0 row.1)
         by _ its st = absurd its
 
@@ -342,6 +346,9 @@ module _ {K V S : Type 0} (same : K → K → Bool) (hash : K → ℕ) (name : �
   r : Reached deferred_word st.setting.batch_size s.world
   r = came_reached st.setting.batch_size s.world each.ground.came
 
+  counters_are : (b of : ℕ) → known.roles b ≡ role.Counter of → value_at s.world.memory b ≡ Some node.Shards
+  counters_are b of is = subst (HasRole s.world m.stored b) is (shown.blocks.roles b)
+
   abbrev Goal : UnderWay K V K → Type 0
   Goal x = RowTells i map known (effects_of (acts.Call i map) known told) (due_in_row (machine_of x)) (due_in_row to.1)
 
@@ -355,7 +362,7 @@ module _ {K V S : Type 0} (same : K → K → Bool) (hash : K → ℕ) (name : �
   key_tells x is row =
       let inner = told_in old.memory.memory new.memory.memory told of_key (call_plan same same hash x.call) (to.1, said) (stepped (OnKey x) is) in
       of_machine (OnKey x) (kinds.Key inner.0.0) (ap (λ (z : Machine K V K × Progress (Node K V)). z.0) inner.1)
-      (call_row s.world r i map known new.memory.memory told entries.blank (rows.none map i u under_way) (entries.one map i u under_way) same same hash x.call inner.0 (subst (λ (k : Mem (Node K V)). StepsTold K V (KeyCall K V K × Called (Node K V)) k changed.Nothing (call_plan same same hash x.call) new.memory.memory told inner.0) (sym at_old.memory) inner.2) its)
+      (call_row s.world r i map known new.memory.memory told entries.blank (rows.none map i u under_way) (entries.one map i u under_way) counters_are same same hash x.call inner.0 (subst (λ (k : Mem (Node K V)). StepsTold K V (KeyCall K V K × Called (Node K V)) k changed.Nothing (call_plan same same hash x.call) new.memory.memory told inner.0) (sym at_old.memory) inner.2) its)
     where
       its : CallingIs s.world i x.call.stands
       its = elim (each.stand i (OnKey x) (under_way ∙ ap Some is)) as (λ _. CallingIs s.world i x.call.stands) [
@@ -370,7 +377,7 @@ module _ {K V S : Type 0} (same : K → K → Bool) (hash : K → ℕ) (name : �
   room_tells x is row =
       let inner = told_in old.memory.memory new.memory.memory told of_room (reserve_plan hash x.reserve) (to.1, said) (stepped (ForRoom x) is) in
       of_machine (ForRoom x) (kinds.Reserve inner.0.0) (ap (λ (z : Machine K V K × Progress (Node K V)). z.0) inner.1)
-      (room_row s.world r i map known new.memory.memory told entries.blank (rows.none map i u under_way) (entries.one map i u under_way) hash x.reserve inner.0 (subst (λ (k : Mem (Node K V)). StepsTold K V (Reserve × Outcome (Node K V) Unit) k changed.Nothing (reserve_plan hash x.reserve) new.memory.memory told inner.0) (sym at_old.memory) inner.2) its)
+      (room_row s.world r i map known new.memory.memory told entries.blank (rows.none map i u under_way) (entries.one map i u under_way) counters_are hash x.reserve inner.0 (subst (λ (k : Mem (Node K V)). StepsTold K V (Reserve × Outcome (Node K V) Unit) k changed.Nothing (reserve_plan hash x.reserve) new.memory.memory told inner.0) (sym at_old.memory) inner.2) its)
     where
       its : ReservingIs s.world i x.reserve.stands
       its = elim (each.stand i (ForRoom x) (under_way ∙ ap Some is)) as (λ _. ReservingIs s.world i x.reserve.stands) [
@@ -385,7 +392,7 @@ module _ {K V S : Type 0} (same : K → K → Bool) (hash : K → ℕ) (name : �
   over_all_tells x is row =
       let inner = told_in old.memory.memory new.memory.memory told of_sweep (sweep_plan hash x.sweep) (to.1, said) (stepped (OverAll x) is) in
       of_machine (OverAll x) (kinds.Sweep inner.0.0) (ap (λ (z : Machine K V K × Progress (Node K V)). z.0) inner.1)
-      (sweep_row s.world r i map known new.memory.memory told entries.blank (rows.none map i u under_way) (entries.one map i u under_way) hash x.sweep inner.0 (subst (λ (k : Mem (Node K V)). StepsTold K V (Sweep × Swept (Node K V)) k changed.Nothing (sweep_plan hash x.sweep) new.memory.memory told inner.0) (sym at_old.memory) inner.2) its)
+      (sweep_row s.world r i map known new.memory.memory told entries.blank (rows.none map i u under_way) (entries.one map i u under_way) counters_are hash x.sweep inner.0 (subst (λ (k : Mem (Node K V)). StepsTold K V (Sweep × Swept (Node K V)) k changed.Nothing (sweep_plan hash x.sweep) new.memory.memory told inner.0) (sym at_old.memory) inner.2) its)
     where
       its : SweepingIs s.world i x.sweep.stands
       its = elim (each.stand i (OverAll x) (under_way ∙ ap Some is)) as (λ _. SweepingIs s.world i x.sweep.stands) [

@@ -38,6 +38,7 @@ use Rattle.seize_rule.proofs.World.Start.{words_good}
 use Rattle.seize_alone.proofs.Histories.Reached.{Reached}
 use Rattle.papaya_tables.specs.Nodes.{deferred_word}
 use Rattle.papaya_tables.specs.declared.node.Node.{Node}
+use Rattle.papaya_tables.specs.declared.node.Node.TheVariants as node
 use Rattle.papaya_tables.specs.declared.table.Table.{Table}
 use Rattle.papaya_resize.specs.Copier.{copier_plan}
 use Rattle.papaya_resize.specs.Copier as copiers
@@ -58,6 +59,7 @@ use Rattle.papaya_teller.specs.Tells.{StepsTold}
 use Rattle.papaya_teller.specs.declared.changed.Changed.{Changed}
 use Rattle.papaya_teller.specs.declared.changed.Changed.TheVariants as changed
 use Rattle.papaya_effects.specs.Known.{Known}
+use Rattle.papaya_effects.specs.declared.role.Role.TheVariants as role
 use Rattle.papaya_executor.proofs.Forgotten.{as_step}
 use Rattle.papaya_hands.specs.Rows.{SettlesAside, ReclaimsNone}
 use Rattle.papaya_others.proofs.Outcomes.{told_in}
@@ -104,7 +106,8 @@ module _ {T : Type 0} (w : World T) (i : ℕ) where
   CopyingIs _ = ⊥
 
 module _ {K V : Type 0} {size : ℕ} (w : World (Node K V)) (r : Reached deferred_word size w) (i map : ℕ) (known : Known) (m2 : Mem (Node K V)) (told : Changed)
-    (blanks : (b : ℕ) → IsSomebodys (w.hand b) → IsBlank w.memory b) (none : ReclaimsNone (w.row i)) (own : RetiresOne (IsBlank w.memory) (w.row i)) where
+    (blanks : (b : ℕ) → IsSomebodys (w.hand b) → IsBlank w.memory b) (none : ReclaimsNone (w.row i)) (own : RetiresOne (IsBlank w.memory) (w.row i))
+    (counters : (b map : ℕ) → known.roles b ≡ role.Counter map → value_at w.memory b ≡ Some node.Shards) where
   abbrev n : ℕ
   n = LAST_SLOT + 1
 
@@ -217,7 +220,7 @@ module _ {K V : Type 0} {size : ℕ} (w : World (Node K V)) (r : Reached deferre
 
     pub defer_row : DeferIs w i c → DeferGoes
     defer_row (IsPutting slot is) =
-        defer_tells w r i i map known m2 told slot c (subst (λ (q : Row). FitsRow n i (view deferred_word w.memory) m r.good.extra (length w.memory.slots) q) is (r.good.rows i)) end steps
+        defer_tells w r i i map known m2 told slot c (subst (λ (q : Row). FitsRow n i (view deferred_word w.memory) m r.good.extra (length w.memory.slots) q) is (r.good.rows i)) end steps counters
     defer_row (IsToPut block word is) = begun_on (ap (λ (x : Defer). x.stands) is)
 
     -- it is over once it has nothing in hand

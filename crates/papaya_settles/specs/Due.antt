@@ -1,5 +1,5 @@
 -- What the row within a call has in hand, and has neither retired nor put behind a table: by where its machine stands.
-use Rattle.std.specs.Prelude.{◌≡◌, ℕ, Bool, false, List, [], ◌∷◌, Option, Some, None}
+use Rattle.std.specs.Prelude.{◌≡◌, ℕ, Bool, List, [], ◌∷◌, Option, Some, None}
 use Rattle.seize_words.specs.Word.{block_in}
 use Rattle.seize.specs.declared.rows.defer.Defer.{Defer}
 use Rattle.seize.specs.declared.rows.defer.Deferring.{Deferring}
@@ -26,7 +26,7 @@ use Rattle.papaya_schedules.specs.declared.effect.Effect.TheVariants as effect
 use Rattle.papaya_schedules.specs.declared.effect.Thing.TheVariants.{APair, ATable}
 use Rattle.papaya_schedules.specs.Moment.{Moment}
 use Rattle.papaya_callers.specs.Together.{UnderWay}
-use Rattle.papaya_effects.specs.Effects.{in_block, named, effects_of}
+use Rattle.papaya_effects.specs.Effects.{carried, named, effects_of}
 use Rattle.papaya_effects.specs.Known.{Known}
 use Rattle.papaya_effects.specs.declared.acting.Acting.TheVariants.{Call}
 use Rattle.papaya_effects.specs.declared.role.Role.{Role}
@@ -90,13 +90,17 @@ told_retired (role.Pair n) = effect.Retired (APair n) ∷ []
 told_retired (role.Table t len) = effect.Retired (ATable t) ∷ []
 told_retired _ = []
 
+-- and as it is put behind a table
+abbrev pub told_deferred : Role → Role → List Effect
+told_deferred (role.Table t len) r = carried t r
+told_deferred _ r = []
+
 -- What a step of a row within a call tells: nothing, and what it had in hand it has still; or it retires that, or has put it behind a table, and has nothing in hand
 -- any more.
 pub data RowTells (caller map : ℕ) (known : Known) (effects : List Effect) (before after : Option ℕ) : Type 0 where
   TellsNone : effects ≡ [] → after ≡ before → RowTells caller map known effects before after
   TellsRetired : (word : ℕ) → before ≡ Some word → after ≡ None → effects ≡ told_retired (known.roles (block_in word)) → RowTells caller map known effects before after
-  TellsDeferred : (word table field head : ℕ) → before ≡ Some word → after ≡ None
-      → effects ≡ in_block (Call caller map) (known.roles table) field known.stored false (named known head) (named known word) → RowTells caller map known effects before after
+  TellsDeferred : (word table : ℕ) → before ≡ Some word → after ≡ None → effects ≡ told_deferred (known.roles table) (named known word) → RowTells caller map known effects before after
 
 -- The promise, of each step of a row within a call.
 abbrev pub RowsTellDue : (K V S : Type 0) (same : K → K → Bool) (hash : K → ℕ) → Type 0
