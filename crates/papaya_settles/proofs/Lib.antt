@@ -22,3 +22,4 @@ pub mod DueDefers
 pub mod DueRows
 pub mod DueCalls
 pub mod Owing
+pub mod Takings

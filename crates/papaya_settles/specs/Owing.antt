@@ -1,5 +1,8 @@
 -- What effects of a call do to what it owes: they take something out of its map, or hand over what it owes first, which they find there.
 use Rattle.std.specs.Prelude.{◌≡◌, ℕ, Bool, true, false, MatchBool, List, [], ◌∷◌, ◌++◌, Some, if◌then◌else◌}
+use Rattle.std.specs.List.{list_any}
+use Rattle.papaya_tables.specs.declared.node.Node.{Node}
+use Rattle.papaya_raw.specs.declared.machines.progress.Progress.{Progress}
 use Rattle.papaya_schedules.specs.declared.effect.Effect.{Effect}
 use Rattle.papaya_schedules.specs.declared.effect.Effect.TheVariants.{Promoted, Stored, Replaced, Removed, Deferred, Retired}
 use Rattle.papaya_schedules.specs.declared.effect.Spot.{Spot}
@@ -13,6 +16,15 @@ use Rattle.papaya_schedules.specs.Lives.{is_first_table}
 use Rattle.papaya_schedules.specs.Moment.{UnderWay as CallThere, Moment}
 use Rattle.papaya_schedules.specs.Things.{same_thing}
 use Rattle.papaya_schedules.specs.Views.{call_of, first_of}
+use Rattle.papaya_callers.specs.Together.{UnderWay}
+use Rattle.papaya_effects.specs.Effects.{effects_of}
+use Rattle.papaya_effects.specs.Known.{Known}
+use Rattle.papaya_effects.specs.declared.acting.Acting.TheVariants.{Call}
+use Rattle.papaya_executor.specs.IsAt.{Scene, IsAt}
+use Rattle.papaya_executor.specs.Stepping.{StepLeads}
+use Rattle.papaya_executor.specs.declared.executor.Executor.{Executor}
+use Rattle.papaya_follows.specs.Shows.{Shows}
+use Rattle.papaya_follows.specs.Steps.{IsOfNoRow}
 
 -- it hands something over
 abbrev pub hands_over : Effect → Bool
@@ -72,3 +84,13 @@ abbrev pub HandingFollows : Type 0 → Type 0 → Type 0
 HandingFollows K V =
     (own : List ℕ) (map : ℕ) (effects : List Effect) (m : Moment K V) (c : CallThere K V) → call_of own m ≡ Some c
     → (d : CallThere K V) × (call_of own (with_effects (Some own) (Some map) effects m) ≡ Some d) × (d.has_handed ≡ handed_after effects c.has_handed)
+
+-- The promise, of a step of a call that is none of a row: it hands nothing over, and what it takes out comes behind what the call owed.
+abbrev pub StepsTakeOut : (K V S : Type 0) (same : K → K → Bool) (hash : K → ℕ) → Type 0
+StepsTakeOut K V S same hash =
+    (name : ℕ → List ℕ) (m : Moment K V) (known : Known) (s : Scene K V) (old new : Executor K V S) → IsAt same hash old s → Shows same name m known s
+    → (map i : ℕ) (u : UnderWay K V K) (here : s.calls map i ≡ Some u) (said : Progress (Node K V)) (leads : StepLeads same hash i said s old new)
+    → (let to = leads map u here in
+    IsOfNoRow same old.batch_size old.roots s.world s.maps s.calls s.makers s.enders map to.0 i new.memory.memory to.4.w2 to.4.maps2 to.4.next u to.1 said to.4.did
+    → (owes : List Thing) → (taken : List Thing) × OwesGo m (effects_of (Call i map) known new.memory.changed) owes (owes ++ taken)
+    × (list_any hands_over (effects_of (Call i map) known new.memory.changed) ≡ false))

@@ -3,7 +3,7 @@ ghost use Rattle.std.specs.Prelude.{ℕ, Bool};
 ghost use Rattle.papaya_settles.specs.Beside.{StaysCounts, EffectsLeaveCounts, WalksGoOnCounts, WalksStopCounts};
 ghost use Rattle.papaya_settles.specs.Due.{RowsTellDue};
 ghost use Rattle.papaya_settles.specs.Entries.{EntriesBegin, CallsGoOnEntries, EndingsBeginEntries, CallsKeepEntries, RowsBeginEntries, RowsKeepEntries, MakingsKeepEntries, EndingsKeepEntries};
-ghost use Rattle.papaya_settles.specs.Owing.{OwesFollow, HandingFollows};
+ghost use Rattle.papaya_settles.specs.Owing.{OwesFollow, HandingFollows, StepsTakeOut};
 ghost use Rattle.papaya_settles.specs.Shards.{CountsFindShards};
 ghost use Rattle.papaya_settles.specs.Keeping.{CountsBegin, CallsKeepCounts, CallsBeginCounts, CallsBeginUncounted, CallsTakeCounts, CallsComeToCounts};
 
@@ -51,8 +51,10 @@ pub fn rows_tell_due<K, V, S>()
 {}
 
 /// What a call owes goes with the effects of its step: what they take out of its map comes behind what it owed, and what they hand over, which it owes first, goes.
-/// They find it there, and it has handed something over just if they did, or it had.
-pub fn owes_follow<K, V>()
+/// They find it there, and it has handed something over just if they did, or it had. A step that is none of a row hands nothing over: it may take a pair out, or pass
+/// tables.
+pub fn owes_follow<K, V, S>()
     ensures owes { OwesFollow K V }
     ensures handing { HandingFollows K V }
+    ensures takings { (same : K → K → Bool) (hash : K → ℕ) → StepsTakeOut K V S same hash }
 {}
