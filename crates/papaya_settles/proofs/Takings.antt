@@ -135,7 +135,7 @@ module _ {K V S : Type 0} (same : K → K → Bool) (hash : K → ℕ) (m : Mome
     by_move (Links len limit) (b, its_own, done) = one_leaves _ refl refl done.0
     by_move (Stores t k j) (j2, b, its_own, b_is, done) = one_leaves _ refl refl done.0
     by_move (Replaces t j k) (n, borrowed, held, (j2, b, its_own, b_is, done)) =
-            (APair (shown.number map n) ∷ [], PutsOver (shown.number map n) (known.stored + 1) _ done.0 refl, ap (list_any hands_over) done.0)
+        (APair (shown.number map n) ∷ [], PutsOver (shown.number map n) (known.stored + 1) _ done.0 refl, ap (list_any hands_over) done.0)
     by_move (Removes t j) (n, borrowed, held, done) = (APair (shown.number map n) ∷ [], TakesOut (shown.number map n) done.0 refl, ap (list_any hands_over) done.0)
     by_move (Puts j place t k l) (n, borrowed, held, few, seen, done) = one_leaves _ refl refl done.0
     by_move (PutsLate t j n) (few, seen, tables, done) = one_leaves _ refl refl done.0
