@@ -15,7 +15,10 @@ use Rattle.papaya_tables.specs.declared.finding.Finding.TheVariants as finds
 use Rattle.papaya_tables.specs.declared.marks.TheConstants.{TOMBSTONE}
 use Rattle.papaya_tables.specs.declared.node.Node.{Node}
 use Rattle.papaya_tables.specs.declared.node.Node.TheVariants as node
+use Rattle.papaya_tables.specs.declared.setting.Setting.{Setting}
 use Rattle.papaya_tables.specs.declared.table.Table.{Table}
+use Rattle.papaya_resize.specs.Dispose.{disposing}
+use Rattle.papaya_resize.specs.declared.dispose.Dispose.{Dispose}
 use Rattle.papaya_tables.specs.declared.trial.Trial.{Trial}
 use Rattle.papaya_resize.specs.Copier.{copier_plan}
 use Rattle.papaya_resize.specs.CopierStates.{copying_all}
@@ -69,11 +72,29 @@ abbrev IsPlainEnd : End → Type 0
 IsPlainEnd (ends.Answered answer) = IsPlain answer
 IsPlainEnd (ends.Refused fault) = Unit {0}
 
+-- a disposal of the pair that this word names begins
+abbrev pub IsNewDisposal : Dispose → ℕ → Type 0
+IsNewDisposal d word = (setting : Setting) × (table : Table) × (d ≡ disposing setting word table)
+
 -- it disposes of no pair but one that it has replaced
 abbrev pub IsFreshAt : Calling → Type 0
-IsFreshAt (at.Disposes dispose (answers.Replaced old new)) = Unit {0}
+IsFreshAt (at.Disposes dispose (answers.Replaced old new)) = IsNewDisposal dispose old
 IsFreshAt (at.Disposes dispose answer) = ⊥
 IsFreshAt _ = Unit {0}
+
+-- whichever pair that is
+abbrev pub IsFreshLike : Calling → Type 0
+IsFreshLike (at.Disposes dispose (answers.Replaced old new)) = Unit {0}
+IsFreshLike (at.Disposes dispose answer) = ⊥
+IsFreshLike _ = Unit {0}
+
+pub fresh_like : (p : Calling) → IsFreshAt p → IsFreshLike p
+fresh_like (at.Disposes dispose (answers.Replaced old new)) fresh = tt
+fresh_like (at.Disposes dispose (answers.Found word)) fresh = absurd fresh
+fresh_like (at.Disposes dispose answers.Absent) fresh = absurd fresh
+fresh_like (at.Disposes dispose (answers.Stored word)) fresh = absurd fresh
+fresh_like (at.Disposes dispose (answers.Removed word)) fresh = absurd fresh
+fresh_like _ fresh = tt
 
 before_fresh : (stands : Calling) → IsBefore stands → IsFreshAt stands
 before_fresh (at.Disposes dispose answer) before = absurd before
@@ -172,7 +193,7 @@ module _ {K V Q : Type 0} where
         either (is_incremental p.setting.mode) _ (going p (at.Copies (copying_all p.setting p.trial.table table))) (either p.helped (entering p table) _ tt tt) tt
 
     changed_fresh : (word new : ℕ) → IsFresh (changed p word new)
-    changed_fresh word new = either (new == TOMBSTONE) (going p (at.Counts word)) _ tt (either (word == 0) (going p (at.Counts 0)) _ tt tt)
+    changed_fresh word new = either (new == TOMBSTONE) (going p (at.Counts word)) _ tt (either (word == 0) (going p (at.Counts 0)) _ tt (_, _, refl))
 
     -- what machines within it tell
     looked_fresh : (end : Lookup × Progress (Option ℕ)) → IsFresh (looked p end)

@@ -135,13 +135,13 @@ module _ {K V S : Type 0} (same : K → K → Bool) (hash : K → ℕ) (name : �
 
     -- one that is none of a row
     module _ (step : StepsAmong V same same old.batch_size old.roots slot_of s.world s.maps s.calls s.makers s.enders map st i x new.memory.memory p2 end) where
-      abbrev together : StepsTogether V same st.hash same st.setting slot_of s.world ch st.blocks st.sights (s.calls map) i x new.memory.memory p2 end
+      abbrev pub together : StepsTogether V same st.hash same st.setting slot_of s.world ch st.blocks st.sights (s.calls map) i x new.memory.memory p2 end
       together = step.step
 
-      abbrev c2 : Chart K
+      abbrev pub c2 : Chart K
       c2 = together.went.c2
 
-      abbrev change2 : Change
+      abbrev pub change2 : Change
       change2 = change_told V same st.hash same st.setting slot_of together.went.told
 
       its_shifts : Shifts ch c2 (shown.number map) known.stored effects
@@ -154,11 +154,11 @@ module _ {K V S : Type 0} (same : K → K → Bool) (hash : K → ℕ) (name : �
           let its = each same hash name m known s old at_old shown map i st to.2 (OnKey x) under_way in
           (current_is_known same st.hash st.setting s.world.memory ch st.blocks its.ground.map.map.rule its.ground.map.map.shows n is).0
 
-      abbrev Once : Change → Type 0
+      abbrev pub Once : Change → Type 0
       Once change = DidOnce same st.hash (is_incremental st.setting.mode) x.keys ch c2 (shown.number map) known.stored effects change
 
       -- the call has changed no more than before, and no pair has come or gone; or it had changed nothing, and has changed this
-      abbrev ToldOnce : Chart K → Change → Type 0
+      abbrev pub ToldOnce : Chart K → Change → Type 0
       ToldOnce after change = ((change ≡ x.change) × (after.current ≡ ch.current)) ⊎ ((x.change ≡ Unchanged) × Changes same st.hash (is_incremental st.setting.mode) x.keys ch after change)
 
       told_once : {w2 : World (Node K V)} {after : Chart K} {blocks2 : Blocks} → (it : StepTold V same st.hash same st.setting slot_of ch i x p2 end w2 after blocks2)
@@ -166,13 +166,13 @@ module _ {K V S : Type 0} (same : K → K → Bool) (hash : K → ℕ) (name : �
       told_once (Fresh its) = its.changes
       told_once (Late blocking none its) = inl (sym none, its.same_pairs)
 
-      once : ToldOnce c2 change2
+      pub once : ToldOnce c2 change2
       once = told_once together.went.told
 
-      did : (change : Change) → Changes same st.hash (is_incremental st.setting.mode) x.keys ch c2 change → Once change
+      pub did : (change : Change) → Changes same st.hash (is_incremental st.setting.mode) x.keys ch c2 change → Once change
       did change changes = did_once same st.hash (is_incremental st.setting.mode) x.keys ch c2 (shown.number map) known.stored effects pairs_there its_shifts change changes
 
-      none_moved : c2.current ≡ ch.current → flat_map shift_of effects ≡ []
+      pub none_moved : c2.current ≡ ch.current → flat_map shift_of effects ≡ []
       none_moved kept = none_shifted same st.hash (is_incremental st.setting.mode) x.keys ch c2 (shown.number map) known.stored effects Unchanged refl (did Unchanged kept)
 
       -- what it knew before
@@ -206,12 +206,12 @@ module _ {K V S : Type 0} (same : K → K → Bool) (hash : K → ℕ) (name : �
         | inr late ↦ late.1.setting_is
       ]
 
-      fresh : IsBefore x.call.stands → IsFresh (p2, end)
+      pub fresh : IsBefore x.call.stands → IsFresh (p2, end)
       fresh before =
           fresh_step same same hash x.call before old.memory.memory new.memory.memory (p2, end) (as_step old.memory.memory changed.Nothing (call_plan same same hash x.call) new.memory.memory told (p2, end) steps)
 
       -- where a call goes on, or ends, which had changed nothing
-      abbrev Together2 : Called (Node K V) → Type 0
+      abbrev pub Together2 : Called (Node K V) → Type 0
       Together2 e = StepsTogether V same st.hash same st.setting slot_of s.world ch st.blocks st.sights (s.calls map) i x new.memory.memory p2 e
 
       abbrev StatusOf : (e : Called (Node K V)) → Together2 e → Type 0
@@ -288,7 +288,7 @@ module _ {K V S : Type 0} (same : K → K → Bool) (hash : K → ℕ) (name : �
         ]
 
       -- it counts
-      abbrev SteppedAt : Calling → Type 0
+      abbrev pub SteppedAt : Calling → Type 0
       SteppedAt p = StepsTold K V (KeyCall K V K × Called (Node K V)) old.memory.memory changed.Nothing (plan_at same same hash x.call p) new.memory.memory told (p2, end)
 
       wrote_count : (removed : ℕ) → SteppedAt (at.Counts removed)
@@ -303,7 +303,7 @@ module _ {K V S : Type 0} (same : K → K → Bool) (hash : K → ℕ) (name : �
       abbrev its : Acting
       its = acts.Call i map
 
-      counts_now : (removed : ℕ) → x.call.stands ≡ at.Counts removed → effects ≡ effect.Counted shard ∷ []
+      pub counts_now : (removed : ℕ) → x.call.stands ≡ at.Counts removed → effects ≡ effect.Counted shard ∷ []
       counts_now removed is =
           let wrote = wrote_count removed (subst SteppedAt is steps) in
           let at_counter : told ≡ changed.Wrote (Word st.setting.counter shard) wrote.0 wrote.1 =
@@ -315,7 +315,7 @@ module _ {K V S : Type 0} (same : K → K → Bool) (hash : K → ℕ) (name : �
       counting_goes removed is = CountsAll (counts_now removed is) (ap counts_in_calling is) (past (subst IsBeyond (sym is) tt))
 
       -- it is past that
-      disposing_tells : (dispose : Dispose) (answer : KeyAnswer) → x.call.stands ≡ at.Disposes dispose answer
+      pub disposing_tells : (dispose : Dispose) (answer : KeyAnswer) → x.call.stands ≡ at.Disposes dispose answer
           → Tells same st.hash same s.world i (in_slot st.setting (slot_of i)) ch (seen_by st.blocks (st.sights (slot_of i))) x.keys x.change x.change answer
       disposing_tells dispose answer is = elim (knew.facts) as
           (λ _. Tells same st.hash same s.world i (in_slot st.setting (slot_of i)) ch (seen_by st.blocks (st.sights (slot_of i))) x.keys x.change x.change answer) [

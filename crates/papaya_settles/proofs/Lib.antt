@@ -7,6 +7,7 @@ pub mod Uncounted
 pub mod Here
 pub mod Status
 pub mod Keys
+pub mod Taken
 pub mod Rest
 pub mod Calls
 pub mod Shards

@@ -23,7 +23,7 @@ use Rattle.papaya_callers.specs.Rows.{past_row, once_over}
 use Rattle.papaya_callers.specs.Together.{CallOnKey, OnKey, Knows, Stands, in_slot}
 use Rattle.papaya_settles.specs.Counts.{counts_in_calling}
 use Rattle.papaya_settles.proofs.Aimed.{CallsElsewhere}
-use Rattle.papaya_settles.proofs.Fresh.{IsBefore, IsPlain, IsFreshAt}
+use Rattle.papaya_settles.proofs.Fresh.{IsBefore, IsPlain, IsFreshAt, IsFreshLike, fresh_like}
 use Rattle.papaya_settles.proofs.Points.{IsBeyond}
 
 -- what a call on one key says of how far it is, it says in one way
@@ -44,7 +44,7 @@ past_counts (at.Helps copier goal) = refl
 past_counts (at.Copies copier) = refl
 past_counts _ = refl
 
-past_fresh : (p : Calling) → IsFreshAt p → IsFreshAt (past_row p)
+past_fresh : (p : Calling) → IsFreshLike p → IsFreshLike (past_row p)
 past_fresh (at.Disposes dispose (answers.Replaced old new)) fresh = tt
 past_fresh (at.Disposes dispose answer) fresh = fresh
 past_fresh (at.Helps copier goal) fresh = tt
@@ -125,7 +125,7 @@ module _ {K V : Type 0} (same : K → K → Bool) (hash : K → ℕ) (w : World 
       by (answers.Removed word) t = t
 
   -- by what it knows where it stands
-  status_at : (change : Change) (x : KeyCall K V K) (p : Calling) → IsFreshAt p → (Seeks same hash same w i setting c seen keys change p → change ≡ Unchanged)
+  status_at : (change : Change) (x : KeyCall K V K) (p : Calling) → IsFreshLike p → (Seeks same hash same w i setting c seen keys change p → change ≡ Unchanged)
       → CallingFacts same hash same w i setting c seen keys change x p → Status change (counts_in_calling p)
   status_at change x (at.Counts removed) fresh seeks facts = elim facts as (λ _. Status change true) [
     | inl stored ↦ IsNew stored.1 stored.2 refl
@@ -144,14 +144,14 @@ module _ {K V : Type 0} (same : K → K → Bool) (hash : K → ℕ) (w : World 
   late_status change began x _ none facts = IsNone none refl
 
 module _ {K V : Type 0} (same : K → K → Bool) (hash : K → ℕ) (setting : Setting) (slot : ℕ → ℕ) (w : World (Node K V)) (c : Chart K) (seen : Blocks) (i : ℕ) (x : CallOnKey K V K) where
-  knows_status : (p : KeyCall K V K) → IsFreshAt p.stands → Knows V same hash same setting slot w c seen i x p → Status x.change (counts_in_calling p.stands)
+  knows_status : (p : KeyCall K V K) → IsFreshLike p.stands → Knows V same hash same setting slot w c seen i x p → Status x.change (counts_in_calling p.stands)
   knows_status p fresh knows = elim (knows.facts) as (λ _. Status x.change (counts_in_calling p.stands)) [
     | inl facts ↦ status_at same hash w i (in_slot setting (slot i)) c seen x.keys x.change p p.stands fresh facts.unchanged facts.point
     | inr late ↦ late_status same hash w i (in_slot setting (slot i)) c seen x.keys x.change x.began p p.stands late.0 late.1.point
   ]
 
   pub stands_status : IsFreshAt x.call.stands → Stands V same hash same setting slot w c seen i (OnKey x) → Status x.change (counts_in_calling x.call.stands)
-  stands_status fresh stands = elim stands as (λ _. Status x.change (counts_in_calling x.call.stands)) [
-    | inl k ↦ knows_status x.call fresh k.1
-    | inr k ↦ subst (Status x.change) (past_counts x.call.stands) (knows_status (once_over x.call) (past_fresh x.call.stands fresh) k.2)
+  stands_status is_fresh stands = elim stands as (λ _. Status x.change (counts_in_calling x.call.stands)) [
+    | inl k ↦ knows_status x.call (fresh_like x.call.stands is_fresh) k.1
+    | inr k ↦ subst (Status x.change) (past_counts x.call.stands) (knows_status (once_over x.call) (past_fresh x.call.stands (fresh_like x.call.stands is_fresh)) k.2)
   ]

@@ -5,3 +5,4 @@ pub mod Shards
 pub mod Entries
 pub mod Due
 pub mod Owing
+pub mod InHand

@@ -3,6 +3,7 @@ ghost use Rattle.std.specs.Prelude.{ℕ, Bool};
 ghost use Rattle.papaya_settles.specs.Beside.{StaysCounts, EffectsLeaveCounts, WalksGoOnCounts, WalksStopCounts};
 ghost use Rattle.papaya_settles.specs.Due.{RowsTellDue};
 ghost use Rattle.papaya_settles.specs.Entries.{EntriesBegin, CallsGoOnEntries, EndingsBeginEntries, CallsKeepEntries, RowsBeginEntries, RowsKeepEntries, MakingsKeepEntries, EndingsKeepEntries};
+ghost use Rattle.papaya_settles.specs.InHand.{CallsTakeInHand};
 ghost use Rattle.papaya_settles.specs.Owing.{OwesFollow, HandingFollows, StepsTakeOut};
 ghost use Rattle.papaya_settles.specs.Shards.{CountsFindShards};
 ghost use Rattle.papaya_settles.specs.Keeping.{CountsBegin, CallsKeepCounts, CallsBeginCounts, CallsBeginUncounted, CallsTakeCounts, CallsComeToCounts};
@@ -57,4 +58,10 @@ pub fn owes_follow<K, V, S>()
     ensures owes { OwesFollow K V }
     ensures handing { HandingFollows K V }
     ensures takings { (same : K → K → Bool) (hash : K → ℕ) → StepsTakeOut K V S same hash }
+{}
+
+/// A call on one key that takes a pair out of its map had none in hand, and has that one in hand then: the word that it counts, or disposes of, is of the block that is
+/// noted as the pair.
+pub fn calls_take_in_hand<K, V, S>()
+    ensures keys { (same : K → K → Bool) (hash : K → ℕ) → CallsTakeInHand K V S same hash }
 {}
