@@ -135,13 +135,13 @@ module _ {K V : Type 0} (same : K → K → Bool) (hash : K → ℕ) (setting : 
   pub stands_taken : IsFreshAt x.call.stands → Stands V same hash same setting slot w c seen i (OnKey x) → (o : ℕ) → IsOut o x.change → Has o
   stands_taken is_fresh stands o out = elim stands as (λ _. Has o) [
     | inl k ↦ elim (k.1.facts) as (λ _. Has o) [
-        | inl facts ↦ taken_at same hash w i (in_slot setting (slot i)) c seen x.keys few x.change x.call x.call.stands is_fresh facts.unchanged facts.point o out
-        | inr late ↦ absurd (subst (IsOut o) late.0 out)
-      ]
+      | inl facts ↦ taken_at same hash w i (in_slot setting (slot i)) c seen x.keys few x.change x.call x.call.stands is_fresh facts.unchanged facts.point o out
+      | inr late ↦ absurd (subst (IsOut o) late.0 out)
+    ]
     | inr k ↦ elim (k.2.facts) as (λ _. Has o) [
-        | inl facts ↦ taken_past same hash w i (in_slot setting (slot i)) c seen x.keys few x.change (once_over x.call) x.call.stands is_fresh facts.unchanged facts.point o out
-        | inr late ↦ absurd (subst (IsOut o) late.0 out)
-      ]
+      | inl facts ↦ taken_past same hash w i (in_slot setting (slot i)) c seen x.keys few x.change (once_over x.call) x.call.stands is_fresh facts.unchanged facts.point o out
+      | inr late ↦ absurd (subst (IsOut o) late.0 out)
+    ]
   ]
 
 module _ {K V S : Type 0} (same : K → K → Bool) (hash : K → ℕ) (name : ℕ → List ℕ) (m : Moment K V) (known : Known) (s : Scene K V) (old new : Executor K V S) (at_old : IsAt same hash old s)
