@@ -8,6 +8,7 @@ pub mod Here
 pub mod Status
 pub mod Keys
 pub mod Taken
+pub mod Held
 pub mod Rest
 pub mod Calls
 pub mod Shards

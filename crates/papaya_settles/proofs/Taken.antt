@@ -83,7 +83,7 @@ new_word setting (Incremental chunk) word table = by (has_mark word BORROWED) re
     by false e = rw e refl
 new_word setting Blocking word table = refl
 
-disposal_word : (d : Dispose) (word : ℕ) → IsNewDisposal d word → pair_in_disposing d d.stands ≡ Some (link_in word)
+pub disposal_word : (d : Dispose) (word : ℕ) → IsNewDisposal d word → pair_in_disposing d d.stands ≡ Some (link_in word)
 disposal_word d word (setting, table, is) = subst (λ (x : Dispose). pair_in_disposing x x.stands ≡ Some (link_in word)) (sym is) (new_word setting setting.mode word table)
 
 module _ {K V : Type 0} (same : K → K → Bool) (hash : K → ℕ) (w : World (Node K V)) (i : ℕ) (setting : Setting) (c : Chart K) (seen : Blocks) (keys : K → Bool)

@@ -52,3 +52,13 @@ CallsTakeInHand K V S same hash =
     → (p : ℕ) → TakesPair (effects_of (Call i map) known new.memory.changed) p
     → (pair_in_calling x.call.stands ≡ None)
     × (p2 : KeyCall K V K) × (to.1 ≡ kinds.Key p2) × (word : ℕ) × (pair_in_calling p2.stands ≡ Some word) × (known.roles (block_in word) ≡ role.Pair p))
+
+-- The promise, of a step that is none of a row, of a call that has a pair in hand: it has that one in hand still.
+abbrev pub CallsHoldTheirs : (K V S : Type 0) (same : K → K → Bool) (hash : K → ℕ) → Type 0
+CallsHoldTheirs K V S same hash =
+    (name : ℕ → List ℕ) (m : Moment K V) (known : Known) (s : Scene K V) (old new : Executor K V S) → IsAt same hash old s → Shows same name m known s
+    → (map i : ℕ) (x : CallOnKey K V K) (here : s.calls map i ≡ Some (OnKey x)) (said : Progress (Node K V)) (leads : StepLeads same hash i said s old new)
+    → (let to = leads map (OnKey x) here in
+    IsOfNoRow same old.batch_size old.roots s.world s.maps s.calls s.makers s.enders map to.0 i new.memory.memory to.4.w2 to.4.maps2 to.4.next (OnKey x) to.1 said to.4.did
+    → (word : ℕ) → pair_in_calling x.call.stands ≡ Some word
+    → (p2 : KeyCall K V K) × (to.1 ≡ kinds.Key p2) × (word2 : ℕ) × (pair_in_calling p2.stands ≡ Some word2) × (block_in word2 ≡ block_in word))
