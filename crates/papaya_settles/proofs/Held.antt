@@ -29,11 +29,12 @@ use Rattle.papaya_raw.specs.declared.machines.machine.Machine.TheVariants as kin
 use Rattle.papaya_teller.specs.declared.changed.Changed.TheVariants as changed
 use Rattle.papaya_rule.proofs.Keys.Always.{Always, AlwaysOf, always_if, always_steps}
 use Rattle.papaya_points.specs.Told.{IsRowOf, IsRowOfCall}
-use Rattle.papaya_callers.specs.Together.{OnKey}
+use Rattle.papaya_callers.specs.Together.{OnKey, OverAll}
 use Rattle.papaya_executor.proofs.Forgotten.{as_step}
 use Rattle.papaya_follows.proofs.Steps.{went_to, DidSo, OfNoRow}
-use Rattle.papaya_settles.specs.InHand.{pair_in_disposing, pair_in_calling, CallsHoldTheirs}
+use Rattle.papaya_settles.specs.InHand.{pair_in_disposing, pair_in_calling, CallsHoldTheirs, SweepsTakeInHand}
 use Rattle.papaya_settles.proofs.Keys.{steps}
+use Rattle.papaya_settles.proofs.Rest.{sweep_takes}
 use Rattle.papaya_settles.proofs.Taken.{disposal_word}
 
 -- what is always so of a step is so as a step of its own
@@ -126,3 +127,8 @@ calls_hold_theirs K V S same hash name m known s old new at_old shown map i x un
         (steps same hash name m known s old new at_old shown map i x under_way said leads p2 end machine_is told_is)) in
         (p2, machine_is, it.0, it.1, it.2)
     by (p2, end, machine_is, told_is, inr row) none = absurd none
+
+pub sweeps_take_in_hand : (K V S : Type 0) (same : K → K → Bool) (hash : K → ℕ) → SweepsTakeInHand K V S same hash
+sweeps_take_in_hand K V S same hash name m known s old new at_old shown map i x under_way said leads none p are =
+    sweep_takes same hash name m known s old new at_old shown map i (OverAll x) under_way said leads x refl
+    (went_to same hash name m known s old new at_old shown map i (OverAll x) under_way said leads).4.did none p are

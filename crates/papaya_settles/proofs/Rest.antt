@@ -354,6 +354,19 @@ module _ {K V S : Type 0} (same : K → K → Bool) (hash : K → ℕ) (name : �
           tried (Taken r, (took, told_so), ends) = absurd took.0
           tried (Roomed r, (took, told_so), ends) = absurd took.0
 
+          -- the pair that it removes is the one that it is to count
+          took : SteppedAt (sweeping.Tries word) → (p : ℕ) → effects ≡ effect.Removed p ∷ [] → (p2.stands ≡ sweeping.Counts word) × (known.roles (block_in word) ≡ role.Pair p)
+          took (Exchanged (Ok found), (took_so, told_so), ends) p are =
+              let theirs = removes (told_so ∙ ap (λ (k : ℕ). changed.Wrote (at_place x.sweep.table x.sweep.place) k TOMBSTONE) took_so.0.1) in
+              let same_pair : shown.number map n ≡ p = (let both = sym theirs ∙ are in cc both) in
+              (ap (λ (z : Sweep × Swept (Node K V)). z.0.stands) ends, was_pair ∙ ap role.Pair same_pair)
+          took (Exchanged (Err found), (took_so, told_so), ends) p are = absurd (let none = ap (effects_of its known) told_so in cc (none, are))
+          took (Found found, (took_so, told_so), ends) p are = absurd took_so.0
+          took (StoredOut, (took_so, told_so), ends) p are = absurd took_so.0
+          took (Made r, (took_so, told_so), ends) p are = absurd took_so.0
+          took (Taken r, (took_so, told_so), ends) p are = absurd took_so.0
+          took (Roomed r, (took_so, told_so), ends) p are = absurd took_so.0
+
         -- elsewhere no pair comes or goes
         none_moved : IsNoTry x.sweep.stands → flat_map shift_of effects ≡ []
         none_moved none = elim (step.step.went.told.changes) as (λ _. flat_map shift_of effects ≡ []) [
@@ -371,6 +384,14 @@ module _ {K V S : Type 0} (same : K → K → Bool) (hash : K → ℕ) (name : �
                 let it = tried word (subst Facts is knew.1) (subst SteppedAt is steps) in
                 (subst (λ (q : Bool). Goes q after_counts) (sym (ap counts_in_sweeping is)) it.0, it.1)
             by (IsApart elsewhere none) = (apart_goes elsewhere none (none_moved none), λ ends. idle none)
+
+        pub own_takes : (p : ℕ) → effects ≡ effect.Removed p ∷ [] → (word : ℕ) × (p2.stands ≡ sweeping.Counts word) × (known.roles (block_in word) ≡ role.Pair p)
+        own_takes p are = by (kind_at x.sweep.stands)
+          where
+            by : KindOf x.sweep.stands → (word : ℕ) × (p2.stands ≡ sweeping.Counts word) × (known.roles (block_in word) ≡ role.Pair p)
+            by (ToCount removed is) = absurd (let theirs = counts_now removed is in cc (theirs, are))
+            by (ToTry word is) = let it = took word (subst Facts is knew.1) (subst SteppedAt is steps) p are in (word, it.0, it.1)
+            by (IsApart elsewhere none) = absurd (let gone = ap (λ (l : List Effect). flat_map shift_of l) are in let still = none_moved none in cc (gone, still))
 
     ends_as : (y : CallOverAll) (end : Swept (Node K V)) → next_over_all {K = K} {V = V} {Q = K} y end ≡ None → next_over_all {K = K} {V = V} {Q = K} x end ≡ None
     ends_as y swept.Done e = refl
@@ -390,3 +411,8 @@ module _ {K V S : Type 0} (same : K → K → Bool) (hash : K → ℕ) (name : �
               (apart_goes p2 end machine_is told_is apart.0 apart.1 (row_none row.step.w2 row.step.memory row.step.happened (takes (λ own. own)))),
           λ none. after_is p2 end machine_is told_is ∙ idle p2 end machine_is told_is apart.1,
         )
+
+    pub sweep_takes : (done : Did (OverAll x)) → NoRow (OverAll x) done → (p : ℕ) → effects ≡ effect.Removed p ∷ []
+        → (q : Sweep) × (to.1 ≡ kinds.Sweep q) × (word : ℕ) × (q.stands ≡ sweeping.Counts word) × (known.roles (block_in word) ≡ role.Pair p)
+    sweep_takes (p2, end, machine_is, told_is, inl (step, moved)) none p are = let it = own_takes p2 end machine_is told_is step p are in (p2, machine_is, it.0, it.1, it.2)
+    sweep_takes (p2, end, machine_is, told_is, inr row) none p are = absurd none

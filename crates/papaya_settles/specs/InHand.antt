@@ -5,6 +5,8 @@ use Rattle.papaya_tables.specs.declared.node.Node.{Node}
 use Rattle.papaya_resize.specs.declared.dispose.Dispose.{Dispose}
 use Rattle.papaya_resize.specs.declared.dispose.Disposing.{Disposing}
 use Rattle.papaya_resize.specs.declared.dispose.Disposing.TheVariants as disposing
+use Rattle.papaya_sweeps.specs.declared.sweep.Sweep.{Sweep}
+use Rattle.papaya_sweeps.specs.declared.sweep.Sweeping.TheVariants as sweeping
 use Rattle.papaya_raw.specs.declared.machines.call.Calling.{Calling}
 use Rattle.papaya_raw.specs.declared.machines.call.Calling.TheVariants as calling
 use Rattle.papaya_raw.specs.declared.machines.call.KeyCall.{KeyCall}
@@ -14,7 +16,8 @@ use Rattle.papaya_schedules.specs.declared.effect.Effect.{Effect}
 use Rattle.papaya_schedules.specs.declared.effect.Effect.TheVariants.{Stored, Replaced, Removed}
 use Rattle.papaya_schedules.specs.declared.effect.Spot.{Spot}
 use Rattle.papaya_schedules.specs.Moment.{Moment}
-use Rattle.papaya_callers.specs.Together.{CallOnKey, OnKey}
+use Rattle.papaya_callers.specs.OverAll.{CallOverAll}
+use Rattle.papaya_callers.specs.Together.{CallOnKey, OnKey, OverAll}
 use Rattle.papaya_effects.specs.Effects.{effects_of}
 use Rattle.papaya_effects.specs.Known.{Known}
 use Rattle.papaya_effects.specs.declared.acting.Acting.TheVariants.{Call}
@@ -62,3 +65,13 @@ CallsHoldTheirs K V S same hash =
     IsOfNoRow same old.batch_size old.roots s.world s.maps s.calls s.makers s.enders map to.0 i new.memory.memory to.4.w2 to.4.maps2 to.4.next (OnKey x) to.1 said to.4.did
     → (word : ℕ) → pair_in_calling x.call.stands ≡ Some word
     → (p2 : KeyCall K V K) × (to.1 ≡ kinds.Key p2) × (word2 : ℕ) × (pair_in_calling p2.stands ≡ Some word2) × (block_in word2 ≡ block_in word))
+
+-- The promise, of a step of a sweep that is none of a row: if it removes a pair, then it is about to count that.
+abbrev pub SweepsTakeInHand : (K V S : Type 0) (same : K → K → Bool) (hash : K → ℕ) → Type 0
+SweepsTakeInHand K V S same hash =
+    (name : ℕ → List ℕ) (m : Moment K V) (known : Known) (s : Scene K V) (old new : Executor K V S) → IsAt same hash old s → Shows same name m known s
+    → (map i : ℕ) (x : CallOverAll) (here : s.calls map i ≡ Some (OverAll x)) (said : Progress (Node K V)) (leads : StepLeads same hash i said s old new)
+    → (let to = leads map (OverAll x) here in
+    IsOfNoRow same old.batch_size old.roots s.world s.maps s.calls s.makers s.enders map to.0 i new.memory.memory to.4.w2 to.4.maps2 to.4.next (OverAll x) to.1 said to.4.did
+    → (p : ℕ) → effects_of (Call i map) known new.memory.changed ≡ Removed p ∷ []
+    → (p2 : Sweep) × (to.1 ≡ kinds.Sweep p2) × (word : ℕ) × (p2.stands ≡ sweeping.Counts word) × (known.roles (block_in word) ≡ role.Pair p))
