@@ -16,6 +16,12 @@ use Rattle.papaya_resize.specs.Dispose as disposes
 use Rattle.papaya_resize.specs.declared.dispose.Dispose.{Dispose}
 use Rattle.papaya_resize.specs.declared.dispose.Disposing.{Disposing}
 use Rattle.papaya_resize.specs.declared.dispose.Disposing.TheVariants as disposal
+use Rattle.papaya_sweeps.specs.Sweep.{sweep_plan}
+use Rattle.papaya_sweeps.specs.Sweep as sweeps
+use Rattle.papaya_sweeps.specs.declared.sweep.Sweep.{Sweep}
+use Rattle.papaya_sweeps.specs.declared.sweep.Sweeping.{Sweeping}
+use Rattle.papaya_sweeps.specs.declared.sweep.Sweeping.TheVariants as sweeping
+use Rattle.papaya_sweeps.specs.declared.sweep.Swept.{Swept}
 use Rattle.papaya_raw.specs.Call.{call_plan, plan_at, disposed}
 use Rattle.papaya_raw.specs.CallPoints.{counted, going, over}
 use Rattle.papaya_raw.specs.declared.machines.answer.Called.{Called}
@@ -29,12 +35,13 @@ use Rattle.papaya_raw.specs.declared.machines.machine.Machine.TheVariants as kin
 use Rattle.papaya_teller.specs.declared.changed.Changed.TheVariants as changed
 use Rattle.papaya_rule.proofs.Keys.Always.{Always, AlwaysOf, always_if, always_steps}
 use Rattle.papaya_points.specs.Told.{IsRowOf, IsRowOfCall}
+use Rattle.papaya_late.specs.ToldSweeps.{IsRowOfSweep}
 use Rattle.papaya_callers.specs.Together.{OnKey, OverAll}
 use Rattle.papaya_executor.proofs.Forgotten.{as_step}
 use Rattle.papaya_follows.proofs.Steps.{went_to, DidSo, OfNoRow}
-use Rattle.papaya_settles.specs.InHand.{pair_in_disposing, pair_in_calling, CallsHoldTheirs, SweepsTakeInHand}
+use Rattle.papaya_settles.specs.InHand.{pair_in_disposing, pair_in_calling, pair_in_sweeping, CallsHoldTheirs, SweepsTakeInHand, SweepsHoldTheirs}
 use Rattle.papaya_settles.proofs.Keys.{steps}
-use Rattle.papaya_settles.proofs.Rest.{sweep_takes}
+use Rattle.papaya_settles.proofs.Rest.{sweep_takes, steps as sweep_steps}
 use Rattle.papaya_settles.proofs.Taken.{disposal_word}
 
 -- what is always so of a step is so as a step of its own
@@ -113,6 +120,26 @@ module _ (K V : Type 0) where
         always_turned (Keeps (block_in word)) (Holds (block_in word)) (disposed p answer) (disposed_holds (block_in word) answer) (dispose_plan dispose) (dispose_keeps dispose dispose.stands refl row word is)
     call_holds _ row word is = absurd (cc is)
 
+module _ (K V : Type 0) (hash : K → ℕ) (p : Sweep) where
+  abbrev SweepHolds : ℕ → Sweep × Swept (Node K V) → Type 0
+  SweepHolds block e = IsOf block (pair_in_sweeping e.0.stands)
+
+  disposed_sweep : (block : ℕ) (q : Dispose × Settled (Node K V)) → Keeps K V block q → SweepHolds block (sweeps.disposed p q)
+  disposed_sweep block (d, settled.Goes) keeps = keeps.0
+  disposed_sweep block (d, settled.Waits) keeps = keeps.0
+  disposed_sweep block (d, settled.Gave value) keeps = keeps.0
+  disposed_sweep block (d, settled.Done) keeps = absurd keeps.1
+
+  sweep_holds : (stands : Sweeping) → (IsRowOfSweep stands → ⊥) → (word : ℕ) → pair_in_sweeping stands ≡ Some word → AlwaysOf (SweepHolds (block_in word)) (sweeps.plan_at {V = V} hash p stands)
+  sweep_holds (sweeping.Counts removed) row word is = λ out. (
+    link_in removed,
+    disposal_word (disposing p.setting removed p.table) removed (p.setting, p.table, refl),
+    link-block (block_in removed) ∙ (let same_word : removed ≡ word = cc is in ap block_in same_word),
+  )
+  sweep_holds (sweeping.Disposes dispose) row word is =
+      always_turned (Keeps K V (block_in word)) (SweepHolds (block_in word)) (sweeps.disposed p) (disposed_sweep (block_in word)) (dispose_plan dispose) (dispose_keeps K V dispose dispose.stands refl row word is)
+  sweep_holds _ row word is = absurd (cc is)
+
 pub calls_hold_theirs : (K V S : Type 0) (same : K → K → Bool) (hash : K → ℕ) → CallsHoldTheirs K V S same hash
 calls_hold_theirs K V S same hash name m known s old new at_old shown map i x under_way said leads none word is =
     by (went_to same hash name m known s old new at_old shown map i (OnKey x) under_way said leads).4.did none
@@ -132,3 +159,18 @@ pub sweeps_take_in_hand : (K V S : Type 0) (same : K → K → Bool) (hash : K �
 sweeps_take_in_hand K V S same hash name m known s old new at_old shown map i x under_way said leads none p are =
     sweep_takes same hash name m known s old new at_old shown map i (OverAll x) under_way said leads x refl
     (went_to same hash name m known s old new at_old shown map i (OverAll x) under_way said leads).4.did none p are
+
+pub sweeps_hold_theirs : (K V S : Type 0) (same : K → K → Bool) (hash : K → ℕ) → SweepsHoldTheirs K V S same hash
+sweeps_hold_theirs K V S same hash name m known s old new at_old shown map i x under_way said leads none word is =
+    by (went_to same hash name m known s old new at_old shown map i (OverAll x) under_way said leads).4.did none
+  where
+    by : (did_so : DidSo same hash name m known s old new at_old shown map i (OverAll x) under_way said leads (OverAll x)) → OfNoRow same hash name m known s old new at_old shown map i (OverAll x) under_way said leads (OverAll x) did_so
+        → (q : Sweep) × ((went_to same hash name m known s old new at_old shown map i (OverAll x) under_way said leads).1 ≡ kinds.Sweep q) × (word2 : ℕ) × (pair_in_sweeping q.stands ≡ Some word2)
+        × (block_in word2 ≡ block_in word)
+    by (p2, end, machine_is, told_is, inl (step, moved)) none =
+        let it = always_steps (SweepHolds K V hash x.sweep (block_in word)) old.memory.memory new.memory.memory (sweep_plan hash x.sweep) (p2, end)
+        (sweep_holds K V hash x.sweep x.sweep.stands step.no_row word is)
+        (as_step old.memory.memory changed.Nothing (sweep_plan hash x.sweep) new.memory.memory new.memory.changed (p2, end)
+        (sweep_steps same hash name m known s old new at_old shown map i (OverAll x) under_way said leads x refl p2 end machine_is told_is)) in
+        (p2, machine_is, it.0, it.1, it.2)
+    by (p2, end, machine_is, told_is, inr row) none = absurd none

@@ -214,10 +214,10 @@ module _ {K V S : Type 0} (same : K → K → Bool) (hash : K → ℕ) (name : �
     under_over = under_way ∙ ap Some is_over
 
     module _ (p2 : Sweep) (end : Swept (Node K V)) (machine_is : to.1 ≡ kinds.Sweep p2) (told_is : said ≡ of_swept end) where
-      abbrev Stepped : Sweep × Swept (Node K V) → Type 0
+      abbrev pub Stepped : Sweep × Swept (Node K V) → Type 0
       Stepped e = StepsTold K V (Sweep × Swept (Node K V)) old.memory.memory changed.Nothing (sweep_plan hash x.sweep) new.memory.memory told e
 
-      steps : Stepped (p2, end)
+      pub steps : Stepped (p2, end)
       steps = by inner.0 inner.1 inner.2
         where
           inner : (r : Sweep × Swept (Node K V)) × (◌≡◌ {A = Machine K V K × Progress (Node K V)} (to.1, said) (of_sweep r)) × Stepped r

@@ -6,6 +6,7 @@ use Rattle.papaya_resize.specs.declared.dispose.Dispose.{Dispose}
 use Rattle.papaya_resize.specs.declared.dispose.Disposing.{Disposing}
 use Rattle.papaya_resize.specs.declared.dispose.Disposing.TheVariants as disposing
 use Rattle.papaya_sweeps.specs.declared.sweep.Sweep.{Sweep}
+use Rattle.papaya_sweeps.specs.declared.sweep.Sweeping.{Sweeping}
 use Rattle.papaya_sweeps.specs.declared.sweep.Sweeping.TheVariants as sweeping
 use Rattle.papaya_raw.specs.declared.machines.call.Calling.{Calling}
 use Rattle.papaya_raw.specs.declared.machines.call.Calling.TheVariants as calling
@@ -41,6 +42,12 @@ pair_in_calling (calling.Counts removed) = if removed == 0 then None else Some r
 pair_in_calling (calling.Disposes dispose answer) = pair_in_disposing dispose dispose.stands
 pair_in_calling _ = None
 
+-- so it is of a sweep
+abbrev pub pair_in_sweeping : Sweeping → Option ℕ
+pair_in_sweeping (sweeping.Counts removed) = Some removed
+pair_in_sweeping (sweeping.Disposes dispose) = pair_in_disposing dispose dispose.stands
+pair_in_sweeping _ = None
+
 -- this pair comes out of its map by these effects
 abbrev pub TakesPair : List Effect → ℕ → Type 0
 TakesPair effects p = (effects ≡ Removed p ∷ []) ⊎ ((n : ℕ) × (s : Spot) × (effects ≡ Replaced p ∷ Stored n s ∷ []))
@@ -75,3 +82,13 @@ SweepsTakeInHand K V S same hash =
     IsOfNoRow same old.batch_size old.roots s.world s.maps s.calls s.makers s.enders map to.0 i new.memory.memory to.4.w2 to.4.maps2 to.4.next (OverAll x) to.1 said to.4.did
     → (p : ℕ) → effects_of (Call i map) known new.memory.changed ≡ Removed p ∷ []
     → (p2 : Sweep) × (to.1 ≡ kinds.Sweep p2) × (word : ℕ) × (p2.stands ≡ sweeping.Counts word) × (known.roles (block_in word) ≡ role.Pair p))
+
+-- And one that has a pair in hand has that one in hand still.
+abbrev pub SweepsHoldTheirs : (K V S : Type 0) (same : K → K → Bool) (hash : K → ℕ) → Type 0
+SweepsHoldTheirs K V S same hash =
+    (name : ℕ → List ℕ) (m : Moment K V) (known : Known) (s : Scene K V) (old new : Executor K V S) → IsAt same hash old s → Shows same name m known s
+    → (map i : ℕ) (x : CallOverAll) (here : s.calls map i ≡ Some (OverAll x)) (said : Progress (Node K V)) (leads : StepLeads same hash i said s old new)
+    → (let to = leads map (OverAll x) here in
+    IsOfNoRow same old.batch_size old.roots s.world s.maps s.calls s.makers s.enders map to.0 i new.memory.memory to.4.w2 to.4.maps2 to.4.next (OverAll x) to.1 said to.4.did
+    → (word : ℕ) → pair_in_sweeping x.sweep.stands ≡ Some word
+    → (p2 : Sweep) × (to.1 ≡ kinds.Sweep p2) × (word2 : ℕ) × (pair_in_sweeping p2.stands ≡ Some word2) × (block_in word2 ≡ block_in word))

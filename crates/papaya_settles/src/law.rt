@@ -3,7 +3,7 @@ ghost use Rattle.std.specs.Prelude.{ℕ, Bool};
 ghost use Rattle.papaya_settles.specs.Beside.{StaysCounts, EffectsLeaveCounts, WalksGoOnCounts, WalksStopCounts};
 ghost use Rattle.papaya_settles.specs.Due.{RowsTellDue};
 ghost use Rattle.papaya_settles.specs.Entries.{EntriesBegin, CallsGoOnEntries, EndingsBeginEntries, CallsKeepEntries, RowsBeginEntries, RowsKeepEntries, MakingsKeepEntries, EndingsKeepEntries};
-ghost use Rattle.papaya_settles.specs.InHand.{CallsTakeInHand, CallsHoldTheirs, SweepsTakeInHand};
+ghost use Rattle.papaya_settles.specs.InHand.{CallsTakeInHand, CallsHoldTheirs, SweepsTakeInHand, SweepsHoldTheirs};
 ghost use Rattle.papaya_settles.specs.Owing.{OwesFollow, HandingFollows, StepsTakeOut};
 ghost use Rattle.papaya_settles.specs.Shards.{CountsFindShards};
 ghost use Rattle.papaya_settles.specs.Keeping.{CountsBegin, CallsKeepCounts, CallsBeginCounts, CallsBeginUncounted, CallsTakeCounts, CallsComeToCounts};
@@ -62,9 +62,10 @@ pub fn owes_follow<K, V, S>()
 
 /// A call on one key that takes a pair out of its map had none in hand, and has that one in hand then: the word that it counts, or disposes of, is of the block that is
 /// noted as the pair. It has it in hand still after each step that is none of a row. A
-/// sweep that removes a pair is about to count that.
+/// sweep that removes a pair is about to count that, and has it in hand so, too.
 pub fn calls_take_in_hand<K, V, S>()
     ensures keys { (same : K → K → Bool) (hash : K → ℕ) → CallsTakeInHand K V S same hash }
     ensures held { (same : K → K → Bool) (hash : K → ℕ) → CallsHoldTheirs K V S same hash }
     ensures sweeps { (same : K → K → Bool) (hash : K → ℕ) → SweepsTakeInHand K V S same hash }
+    ensures sweeps_held { (same : K → K → Bool) (hash : K → ℕ) → SweepsHoldTheirs K V S same hash }
 {}
