@@ -1,4 +1,4 @@
-//! What is promised of what a call has stored or removed, and has to count.
+//! What is promised of what a call under way has yet to settle: what it has to count, and what it has in hand, to hand it over.
 ghost use Rattle.std.specs.Prelude.{ℕ, Bool};
 ghost use Rattle.papaya_settles.specs.Beside.{StaysCounts, EffectsLeaveCounts, WalksGoOnCounts, WalksStopCounts};
 ghost use Rattle.papaya_settles.specs.Due.{RowsTellDue};
