@@ -1,0 +1,162 @@
+-- A step of a row that puts a block behind a table: until it is there, the row has it in hand; with that it is told; then it has none.
+use Rattle.std.specs.Prelude.{◌≡◌, ℕ, ◌+◌, ◌<◌, Option, Some, None, Ok, Err, Bool, true, false, List, [], ◌∷◌, ◌==◌, if◌then◌else◌}
+use Rattle.std.proofs.Common.{refl, ap, sym, subst, ◌∙◌, arith}
+use Rattle.std.proofs.lemmas.Bool.{ne_eqb, eq-eqb}
+use Rattle.seize_words.specs.declared.at.At.{At}
+use Rattle.seize_words.specs.declared.at.At.TheVariants as name
+use Rattle.seize_words.specs.Op.{Found, Stored, Exchanged, Made, Taken, Roomed}
+use Rattle.seize_words.specs.Mem.{Mem, value_at, word_at}
+use Rattle.seize_words.specs.Word.{block_in}
+use Rattle.seize.specs.declared.progress.Progress.{Progress}
+use Rattle.seize.specs.declared.states.TheConstants.{LAST_SLOT}
+use Rattle.seize.specs.declared.rows.defer.Defer.{Defer}
+use Rattle.seize.specs.declared.rows.defer.Deferring.{Deferring}
+use Rattle.seize.specs.declared.rows.defer.Deferring.TheVariants as at
+use Rattle.seize.specs.Defer as plans
+use Rattle.seize.specs.Law.{holds}
+use Rattle.seize_waiting.specs.Held.{count}
+use Rattle.seize_moves.proofs.State.Ghost.{Debt, Life, IsDoomed, IsLeft, State, can_carry, is_deferred, lies_with}
+use Rattle.seize_moves.proofs.State.Rule.{IsGuarded}
+use Rattle.seize_rule.proofs.Rows.Known.{FitsDefer, OnWay}
+use Rattle.seize_rule.proofs.Words.Chains.{Chain, count_first}
+use Rattle.seize_rule.proofs.Words.Named.{link, word_found}
+use Rattle.seize_rule.proofs.Words.Shows.{DeferredIs, DrainedIs}
+use Rattle.seize_rule.proofs.Words.View.{view, list_in}
+use Rattle.seize_alone.proofs.Histories.Reached.{Reached}
+use Rattle.seize.specs.World.{World}
+use Rattle.papaya_tables.specs.Nodes.{deferred_word}
+use Rattle.papaya_tables.specs.declared.node.Node.{Node}
+use Rattle.papaya_tables.specs.declared.node.Node.TheVariants as node
+use Rattle.papaya_tables.specs.declared.table_words.TheConstants.{DEFERRED}
+use Rattle.papaya_teller.specs.Tells.{StepsTold}
+use Rattle.papaya_teller.specs.declared.changed.Changed.{Changed}
+use Rattle.papaya_teller.specs.declared.changed.Changed.TheVariants as changed
+use Rattle.papaya_effects.specs.Effects.{in_block, named, names_same}
+use Rattle.papaya_effects.specs.Known.{Known}
+use Rattle.papaya_effects.specs.declared.acting.Acting.TheVariants as acts
+use Rattle.papaya_effects.specs.declared.role.Role.{Role}
+use Rattle.papaya_effects.specs.declared.role.Role.TheVariants as role
+use Rattle.papaya_settles.specs.Due.{due_in_defer, told_deferred, RowTells, TellsNone, TellsDeferred}
+use Rattle.papaya_settles.proofs.DueSettles.{effects_by, plan_none}
+use Rattle.papaya_settles.proofs.EntryRows.{named as named_by}
+
+-- the list of a block that a section holds, and that may carry others, was not taken over
+undrained : (l : Life) (debt : ℕ → ℕ → Debt) (s : ℕ) (d : Bool) → IsGuarded l debt s → can_carry l ≡ true → DrainedIs l d → d ≡ false
+undrained (IsDoomed j) debt s d guarded can drained = absurd guarded
+undrained (IsLeft j) debt s d guarded can drained = absurd (cc can)
+undrained _ debt s d guarded can drained = drained
+
+chain_of : (nexts : ℕ → ℕ) (own : ℕ → ℕ) (o : Option ℕ) (drained : Bool) (l : List ℕ) (d : ℕ) → o ≡ Some d → drained ≡ false → DeferredIs nexts own o drained l → Chain 0 nexts (own d) l
+chain_of nexts own None drained l d is fresh h = absurd (cc is)
+chain_of nexts own (Some e) true l d is fresh h = absurd (cc fresh)
+chain_of nexts own (Some e) false l d is fresh h = (let same : e ≡ d = cc is in subst (λ (k : ℕ). Chain 0 nexts (own k) l) same h)
+
+-- it is the list of a table
+word_of_list : {K V : Type 0} (o : Option (Node K V)) (d : ℕ) → list_in deferred_word o ≡ Some d → d ≡ DEFERRED
+word_of_list None d is = absurd (cc is)
+word_of_list (Some (node.Table len limit turn)) d is = by (len == 0) is
+  where
+    by : (q : Bool) → (if q then None else Some DEFERRED) ≡ Some d → d ≡ DEFERRED
+    by true e = absurd (cc e)
+    by false e = sym (cc e)
+word_of_list (Some _) d is = absurd (cc is)
+
+module _ {K V : Type 0} {size : ℕ} (w : World (Node K V)) (r : Reached deferred_word size w) (i caller map : ℕ) (known : Known) (m2 : Mem (Node K V)) (told : Changed) (s : ℕ) (c : Defer)
+    (fits : FitsDefer (LAST_SLOT + 1) i (view deferred_word w.memory) r.good.state r.good.extra s c.block c.table_word c.stands) (end : Defer × Progress Unit)
+    (steps : StepsTold K V (Defer × Progress Unit) w.memory changed.Nothing (plans.defer_plan c) m2 told end)
+    (counters : (b map : ℕ) → known.roles b ≡ role.Counter map → value_at w.memory b ≡ Some node.Shards) where
+  abbrev m : State
+  m = r.good.state
+
+  abbrev SteppedAt : Deferring → Type 0
+  SteppedAt p = StepsTold K V (Defer × Progress Unit) w.memory changed.Nothing (plans.plan_at {T = Node K V} c p) m2 told end
+
+  abbrev FitsHere : Deferring → Type 0
+  FitsHere p = FitsDefer (LAST_SLOT + 1) i (view deferred_word w.memory) m r.good.extra s c.block c.table_word p
+
+  -- so it goes on
+  abbrev Goes : Deferring → Type 0
+  Goes p = RowTells caller map known (effects_by caller map known told) (due_in_defer c p) (due_in_defer end.0 end.0.stands)
+
+  -- the head of the list is another block
+  apart : (on : OnWay (LAST_SLOT + 1) i (view deferred_word w.memory) m r.good.extra s c.block c.table_word) (head : ℕ) → word_at w.memory (name.Word on.t on.d) ≡ Some head → names_same head c.block ≡ false
+  apart on head found = ne_eqb (block_in head) (block_in c.block) (λ e. by (m.deferred on.t) refl (e ∙ named_by c.block on.b on.block_is))
+    where
+      way : (m.section i ≡ s + 1) × (m.defers i ≡ on.b + 1) × (holds s on.t m.log ≡ true)
+      way = r.good.inv.logged.on_way on.b i s on.t on.life
+
+      carries : can_carry (m.life on.t) ≡ true
+      carries = (r.good.inv.places.carries on.b on.t (ap (lies_with on.t) on.life ∙ eq-eqb on.t on.t refl)).2
+
+      fresh : r.good.extra.drained on.t ≡ false
+      fresh = undrained (m.life on.t) m.debt s (r.good.extra.drained on.t) (r.good.inv.logged.guarded s on.t way.2) carries (r.good.shows.lists.drains on.t)
+
+      chain : Chain 0 (view deferred_word w.memory).nexts ((view deferred_word w.memory).own on.t on.d) (m.deferred on.t)
+      chain = chain_of (view deferred_word w.memory).nexts ((view deferred_word w.memory).own on.t) ((view deferred_word w.memory).lists on.t) (r.good.extra.drained on.t) (m.deferred on.t) on.d on.list fresh
+          (r.good.shows.lists.deferring on.t)
+
+      head_is : (view deferred_word w.memory).own on.t on.d ≡ head
+      head_is = word_found w.memory (name.Word on.t on.d) head found
+
+      none_there : count on.b (m.deferred on.t) ≡ 0
+      none_there = r.good.inv.places.all_deferred on.t on.b ∙ ap (is_deferred on.t) on.life
+
+      by : (l : List ℕ) → m.deferred on.t ≡ l → block_in head ≡ on.b → ⊥
+      by [] is e =
+          let zero : head ≡ 0 = sym head_is ∙ subst (λ (k : List ℕ). Chain 0 (view deferred_word w.memory).nexts ((view deferred_word w.memory).own on.t on.d) k) is chain in
+          let none : 0 ≡ on.b = sym (ap block_in zero) ∙ e in
+          let some = on.some in absurd (omega (arith, none, some))
+      by (x ∷ l) is e =
+          let word : head ≡ link x = sym head_is ∙ (subst (λ (k : List ℕ). Chain 0 (view deferred_word w.memory).nexts ((view deferred_word w.memory).own on.t on.d) k) is chain).1 in
+          let same : x ≡ on.b = sym (named_by head x word) ∙ e in
+          let none : count on.b (x ∷ l) ≡ 0 = ap (count on.b) (sym is) ∙ none_there in
+          let some : 0 < count on.b (x ∷ l) = subst (λ (k : ℕ). 0 < count on.b (k ∷ l)) (sym same) (count_first on.b l) in
+          absurd (omega (arith, none, some))
+
+  -- a table carries its pairs by this word
+  put_told : (t d : ℕ) → (view deferred_word w.memory).lists t ≡ Some d → (x : Role) → known.roles t ≡ x → (was is : Role)
+      → in_block (acts.Call caller map) x DEFERRED known.stored false was is ≡ told_deferred x is
+  put_told t d list (role.Table table len) e was is = refl
+  put_told t d list (role.Counter of) e was is =
+      absurd (let none : (view deferred_word w.memory).lists t ≡ None = ap (λ (o : Option (Node K V)). list_in deferred_word o) (counters t of e) in cc (none, list))
+  put_told t d list _ e was is = refl
+
+  still : (p : Deferring) (word : ℕ) → due_in_defer c p ≡ Some word → due_in_defer end.0 end.0.stands ≡ Some word → effects_by caller map known told ≡ [] → Goes p
+  still p word due after none = TellsNone none (after ∙ sym due)
+
+  pub defer_tells : Goes c.stands
+  defer_tells = by c.stands refl fits steps
+    where
+      reads : c.stands ≡ at.Reads → SteppedAt at.Reads → due_in_defer end.0 end.0.stands ≡ Some c.block
+      reads is (Found head, (took, told_so), ends) = ap (λ (q : Defer × Progress Unit). due_in_defer q.0 q.0.stands) ends
+      reads is (Stored, (took, told_so), ends) = absurd took.0
+      reads is (Exchanged x, (took, told_so), ends) = absurd took.0
+      reads is (Made x, (took, told_so), ends) = absurd took.0
+      reads is (Taken x, (took, told_so), ends) = absurd took.0
+      reads is (Roomed x, (took, told_so), ends) = absurd took.0
+
+      pushes : (head : ℕ) → FitsHere (at.Pushes head) → SteppedAt (at.Pushes head) → Goes (at.Pushes head)
+      pushes head f (Exchanged (Ok found), (took, told_so), ends) =
+          let told_at : told ≡ changed.Wrote (name.Word f.on.t f.on.d) found c.block = told_so ∙ ap (λ (a : At). changed.Wrote a found c.block) f.on.at_is in
+          let there : word_at w.memory (name.Word f.on.t f.on.d) ≡ Some found = subst (λ (a : At). word_at w.memory a ≡ Some found) f.on.at_is took.0.0 in
+          TellsDeferred c.block f.on.t refl (ap (λ (q : Defer × Progress Unit). due_in_defer q.0 q.0.stands) ends)
+          (ap (effects_by caller map known) told_at
+          ∙ ap (λ (q : Bool). in_block (acts.Call caller map) (known.roles f.on.t) f.on.d known.stored q (named known found) (named known c.block)) (apart f.on found there)
+          ∙ ap (λ (d : ℕ). in_block (acts.Call caller map) (known.roles f.on.t) d known.stored false (named known found) (named known c.block)) (word_of_list (value_at w.memory f.on.t) f.on.d f.on.list)
+          ∙ put_told f.on.t f.on.d f.on.list (known.roles f.on.t) refl (named known found) (named known c.block))
+      pushes head f (Exchanged (Err found), (took, told_so), ends) =
+          TellsNone (ap (effects_by caller map known) told_so) (ap (λ (q : Defer × Progress Unit). due_in_defer q.0 q.0.stands) ends)
+      pushes head f (Found x, (took, told_so), ends) = absurd took.0
+      pushes head f (Stored, (took, told_so), ends) = absurd took.0
+      pushes head f (Made x, (took, told_so), ends) = absurd took.0
+      pushes head f (Taken x, (took, told_so), ends) = absurd took.0
+      pushes head f (Roomed x, (took, told_so), ends) = absurd took.0
+
+      by : (p : Deferring) → c.stands ≡ p → FitsHere p → SteppedAt p → Goes p
+      by at.Reads is f st = still at.Reads c.block refl (reads is st) (plan_none caller map known w.memory m2 told (plans.plan_at {T = Node K V} c at.Reads) end st tt)
+      by (at.Links head) is f st =
+          still (at.Links head) c.block refl (ap (λ (q : Defer × Progress Unit). due_in_defer q.0 q.0.stands) st.2)
+          (plan_none caller map known w.memory m2 told (plans.plan_at {T = Node K V} c (at.Links head)) end st (λ e. absurd (omega (arith, e))))
+      by (at.Pushes head) is f st = pushes head f st
+      by at.Over is f st =
+          TellsNone (ap (effects_by caller map known) st.2) (ap (λ (q : Defer × Progress Unit). due_in_defer q.0 q.0.stands) st.1 ∙ ap (due_in_defer c) is)

@@ -1,0 +1,43 @@
+-- What is promised of what calls have to count where another one than a call takes a step, and where walks go on or are given up: it is as it was.
+use Rattle.std.specs.Prelude.{◌≡◌, ℕ, Bool, true, List, Option, Some, None}
+use Rattle.papaya_schedules.specs.declared.effect.Effect.{Effect}
+use Rattle.papaya_schedules.specs.Effects.{with_effects}
+use Rattle.papaya_schedules.specs.Moment.{Moment}
+use Rattle.papaya_callers.specs.Together.{UnderWay}
+use Rattle.papaya_effects.specs.Known.{Known}
+use Rattle.papaya_executor.specs.IsAt.{Scene}
+use Rattle.papaya_executor.specs.Replying.{AskLeads, StopLeads, scene_with, unless_stopped}
+use Rattle.papaya_executor.specs.declared.executor.Executor.{Executor}
+use Rattle.papaya_finishes.specs.Maps.{with_call}
+use Rattle.papaya_follows.specs.Calling.{NoneNamed}
+use Rattle.papaya_follows.specs.Shows.{Shows}
+use Rattle.papaya_others.specs.Walks.{given_up}
+use Rattle.papaya_settles.specs.Counts.{ShowsCounts}
+
+module _ (K V : Type 0) where
+  -- So it is as long as calls are as they were, of the moment and under way: where a row begins on a slot, where the making or the end of a map begins, and
+  -- where a map is there by its number, or not any more;
+  abbrev pub StaysCounts : Type 0
+  StaysCounts =
+      (name : ℕ → List ℕ) (m v : Moment K V) (s t : Scene K V) → ShowsCounts name m s → v.calls ≡ m.calls → t.calls ≡ s.calls → ShowsCounts name v t
+
+  -- and after any effects of what is no call: of a row on a slot, of the making of a map, and of the end of one.
+  abbrev pub EffectsLeaveCounts : Type 0
+  EffectsLeaveCounts =
+      (name : ℕ → List ℕ) (m : Moment K V) (s t : Scene K V) → ShowsCounts name m s → t.calls ≡ s.calls
+      → (acted : Option ℕ) (effects : List Effect) → ShowsCounts name (with_effects None acted effects m) t
+
+module _ (K V S : Type 0) (same : K → K → Bool) (hash : K → ℕ) where
+  -- A walk goes on to its next pair,
+  abbrev pub WalksGoOnCounts : Type 0
+  WalksGoOnCounts =
+      (name : ℕ → List ℕ) (m : Moment K V) (s : Scene K V) (old new : Executor K V S) → ShowsCounts name m s
+      → (i : ℕ) (leads : AskLeads same hash i true s old new) (map : ℕ) (u : UnderWay K V K) (here : s.calls map i ≡ Some u) → ShowsCounts name m (scene_with map i (leads map u here).0 s)
+
+  -- or is given up: no call that is under way then has its name.
+  abbrev pub WalksStopCounts : Type 0
+  WalksStopCounts =
+      (name : ℕ → List ℕ) (m : Moment K V) (known : Known) (s : Scene K V) (old new : Executor K V S) → Shows same name m known s → ShowsCounts name m s
+      → (i : ℕ) (stopped : Bool) → StopLeads same hash i stopped s old new → (map : ℕ) (u : UnderWay K V K) → s.calls map i ≡ Some u
+      → (let after = record s { calls = with_call s.calls map i (unless_stopped stopped u) } in
+      (stopped ≡ true → NoneNamed name (name i) after) → ShowsCounts name (given_up (name i) stopped m) after)

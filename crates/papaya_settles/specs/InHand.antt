@@ -1,0 +1,94 @@
+-- Which pair a call on one key has in hand once it has taken it out of its map, until it is handed over: by where its machine stands.
+use Rattle.std.specs.Prelude.{◌≡◌, ℕ, ◌==◌, Bool, List, [], ◌∷◌, Option, Some, None, ◌⊎◌, if◌then◌else◌}
+use Rattle.seize_words.specs.Word.{block_in}
+use Rattle.papaya_tables.specs.declared.node.Node.{Node}
+use Rattle.papaya_resize.specs.declared.dispose.Dispose.{Dispose}
+use Rattle.papaya_resize.specs.declared.dispose.Disposing.{Disposing}
+use Rattle.papaya_resize.specs.declared.dispose.Disposing.TheVariants as disposing
+use Rattle.papaya_sweeps.specs.declared.sweep.Sweep.{Sweep}
+use Rattle.papaya_sweeps.specs.declared.sweep.Sweeping.{Sweeping}
+use Rattle.papaya_sweeps.specs.declared.sweep.Sweeping.TheVariants as sweeping
+use Rattle.papaya_raw.specs.declared.machines.call.Calling.{Calling}
+use Rattle.papaya_raw.specs.declared.machines.call.Calling.TheVariants as calling
+use Rattle.papaya_raw.specs.declared.machines.call.KeyCall.{KeyCall}
+use Rattle.papaya_raw.specs.declared.machines.machine.Machine.TheVariants as kinds
+use Rattle.papaya_raw.specs.declared.machines.progress.Progress.{Progress}
+use Rattle.papaya_schedules.specs.declared.effect.Effect.{Effect}
+use Rattle.papaya_schedules.specs.declared.effect.Effect.TheVariants.{Stored, Replaced, Removed}
+use Rattle.papaya_schedules.specs.declared.effect.Spot.{Spot}
+use Rattle.papaya_schedules.specs.Moment.{Moment}
+use Rattle.papaya_callers.specs.OverAll.{CallOverAll}
+use Rattle.papaya_callers.specs.Together.{CallOnKey, OnKey, OverAll}
+use Rattle.papaya_effects.specs.Effects.{effects_of}
+use Rattle.papaya_effects.specs.Known.{Known}
+use Rattle.papaya_effects.specs.declared.acting.Acting.TheVariants.{Call}
+use Rattle.papaya_effects.specs.declared.role.Role.TheVariants as role
+use Rattle.papaya_executor.specs.IsAt.{Scene, IsAt}
+use Rattle.papaya_executor.specs.Stepping.{StepLeads}
+use Rattle.papaya_executor.specs.declared.executor.Executor.{Executor}
+use Rattle.papaya_follows.specs.Shows.{Shows}
+use Rattle.papaya_follows.specs.Steps.{IsOfNoRow}
+use Rattle.papaya_settles.specs.Due.{due_in_disposing}
+
+-- the word of the pair that it disposes of
+abbrev pub pair_in_disposing : Dispose → Disposing → Option ℕ
+pair_in_disposing d disposing.Reads = Some d.pair
+pair_in_disposing d (disposing.Walks table) = Some d.pair
+pair_in_disposing d p = due_in_disposing p
+
+-- and of one that it counts first
+abbrev pub pair_in_calling : Calling → Option ℕ
+pair_in_calling (calling.Counts removed) = if removed == 0 then None else Some removed
+pair_in_calling (calling.Disposes dispose answer) = pair_in_disposing dispose dispose.stands
+pair_in_calling _ = None
+
+-- so it is of a sweep
+abbrev pub pair_in_sweeping : Sweeping → Option ℕ
+pair_in_sweeping (sweeping.Counts removed) = Some removed
+pair_in_sweeping (sweeping.Disposes dispose) = pair_in_disposing dispose dispose.stands
+pair_in_sweeping _ = None
+
+-- this pair comes out of its map by these effects
+abbrev pub TakesPair : List Effect → ℕ → Type 0
+TakesPair effects p = (effects ≡ Removed p ∷ []) ⊎ ((n : ℕ) × (s : Spot) × (effects ≡ Replaced p ∷ Stored n s ∷ []))
+
+-- The promise, of a step of a call on one key that is none of a row: if it takes a pair out of its map, then the call had none in hand, and has that one after it.
+abbrev pub CallsTakeInHand : (K V S : Type 0) (same : K → K → Bool) (hash : K → ℕ) → Type 0
+CallsTakeInHand K V S same hash =
+    (name : ℕ → List ℕ) (m : Moment K V) (known : Known) (s : Scene K V) (old new : Executor K V S) → IsAt same hash old s → Shows same name m known s
+    → (map i : ℕ) (x : CallOnKey K V K) (here : s.calls map i ≡ Some (OnKey x)) (said : Progress (Node K V)) (leads : StepLeads same hash i said s old new)
+    → (let to = leads map (OnKey x) here in
+    IsOfNoRow same old.batch_size old.roots s.world s.maps s.calls s.makers s.enders map to.0 i new.memory.memory to.4.w2 to.4.maps2 to.4.next (OnKey x) to.1 said to.4.did
+    → (p : ℕ) → TakesPair (effects_of (Call i map) known new.memory.changed) p
+    → (pair_in_calling x.call.stands ≡ None)
+    × (p2 : KeyCall K V K) × (to.1 ≡ kinds.Key p2) × (word : ℕ) × (pair_in_calling p2.stands ≡ Some word) × (known.roles (block_in word) ≡ role.Pair p))
+
+-- The promise, of a step that is none of a row, of a call that has a pair in hand: it has that one in hand still.
+abbrev pub CallsHoldTheirs : (K V S : Type 0) (same : K → K → Bool) (hash : K → ℕ) → Type 0
+CallsHoldTheirs K V S same hash =
+    (name : ℕ → List ℕ) (m : Moment K V) (known : Known) (s : Scene K V) (old new : Executor K V S) → IsAt same hash old s → Shows same name m known s
+    → (map i : ℕ) (x : CallOnKey K V K) (here : s.calls map i ≡ Some (OnKey x)) (said : Progress (Node K V)) (leads : StepLeads same hash i said s old new)
+    → (let to = leads map (OnKey x) here in
+    IsOfNoRow same old.batch_size old.roots s.world s.maps s.calls s.makers s.enders map to.0 i new.memory.memory to.4.w2 to.4.maps2 to.4.next (OnKey x) to.1 said to.4.did
+    → (word : ℕ) → pair_in_calling x.call.stands ≡ Some word
+    → (p2 : KeyCall K V K) × (to.1 ≡ kinds.Key p2) × (word2 : ℕ) × (pair_in_calling p2.stands ≡ Some word2) × (block_in word2 ≡ block_in word))
+
+-- The promise, of a step of a sweep that is none of a row: if it removes a pair, then it is about to count that.
+abbrev pub SweepsTakeInHand : (K V S : Type 0) (same : K → K → Bool) (hash : K → ℕ) → Type 0
+SweepsTakeInHand K V S same hash =
+    (name : ℕ → List ℕ) (m : Moment K V) (known : Known) (s : Scene K V) (old new : Executor K V S) → IsAt same hash old s → Shows same name m known s
+    → (map i : ℕ) (x : CallOverAll) (here : s.calls map i ≡ Some (OverAll x)) (said : Progress (Node K V)) (leads : StepLeads same hash i said s old new)
+    → (let to = leads map (OverAll x) here in
+    IsOfNoRow same old.batch_size old.roots s.world s.maps s.calls s.makers s.enders map to.0 i new.memory.memory to.4.w2 to.4.maps2 to.4.next (OverAll x) to.1 said to.4.did
+    → (p : ℕ) → effects_of (Call i map) known new.memory.changed ≡ Removed p ∷ []
+    → (p2 : Sweep) × (to.1 ≡ kinds.Sweep p2) × (word : ℕ) × (p2.stands ≡ sweeping.Counts word) × (known.roles (block_in word) ≡ role.Pair p))
+
+-- And one that has a pair in hand has that one in hand still.
+abbrev pub SweepsHoldTheirs : (K V S : Type 0) (same : K → K → Bool) (hash : K → ℕ) → Type 0
+SweepsHoldTheirs K V S same hash =
+    (name : ℕ → List ℕ) (m : Moment K V) (known : Known) (s : Scene K V) (old new : Executor K V S) → IsAt same hash old s → Shows same name m known s
+    → (map i : ℕ) (x : CallOverAll) (here : s.calls map i ≡ Some (OverAll x)) (said : Progress (Node K V)) (leads : StepLeads same hash i said s old new)
+    → (let to = leads map (OverAll x) here in
+    IsOfNoRow same old.batch_size old.roots s.world s.maps s.calls s.makers s.enders map to.0 i new.memory.memory to.4.w2 to.4.maps2 to.4.next (OverAll x) to.1 said to.4.did
+    → (word : ℕ) → pair_in_sweeping x.sweep.stands ≡ Some word
+    → (p2 : Sweep) × (to.1 ≡ kinds.Sweep p2) × (word2 : ℕ) × (pair_in_sweeping p2.stands ≡ Some word2) × (block_in word2 ≡ block_in word))

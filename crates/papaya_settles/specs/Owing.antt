@@ -1,0 +1,96 @@
+-- What effects of a call do to what it owes: they take something out of its map, or hand over what it owes first, which they find there.
+use Rattle.std.specs.Prelude.{◌≡◌, ℕ, Bool, true, false, MatchBool, List, [], ◌∷◌, ◌++◌, Some, if◌then◌else◌}
+use Rattle.std.specs.List.{list_any}
+use Rattle.papaya_tables.specs.declared.node.Node.{Node}
+use Rattle.papaya_raw.specs.declared.machines.progress.Progress.{Progress}
+use Rattle.papaya_schedules.specs.declared.effect.Effect.{Effect}
+use Rattle.papaya_schedules.specs.declared.effect.Effect.TheVariants.{Promoted, Stored, Replaced, Removed, Deferred, Retired}
+use Rattle.papaya_schedules.specs.declared.effect.Spot.{Spot}
+use Rattle.papaya_schedules.specs.declared.effect.Table.{Table}
+use Rattle.papaya_schedules.specs.declared.effect.Thing.{Thing}
+use Rattle.papaya_schedules.specs.declared.effect.Thing.TheVariants.{APair, ATable}
+use Rattle.papaya_schedules.specs.Effects.{AtEachEffect, passed, with_effects}
+use Rattle.papaya_schedules.specs.Entry.{ByCall, acting}
+use Rattle.papaya_schedules.specs.Lists.{is_in}
+use Rattle.papaya_schedules.specs.Lives.{is_first_table}
+use Rattle.papaya_schedules.specs.Moment.{UnderWay as CallThere, Moment}
+use Rattle.papaya_schedules.specs.Things.{same_thing}
+use Rattle.papaya_schedules.specs.Views.{call_of, first_of}
+use Rattle.papaya_callers.specs.Together.{UnderWay}
+use Rattle.papaya_effects.specs.Effects.{effects_of}
+use Rattle.papaya_effects.specs.Known.{Known}
+use Rattle.papaya_effects.specs.declared.acting.Acting.TheVariants.{Call}
+use Rattle.papaya_executor.specs.IsAt.{Scene, IsAt}
+use Rattle.papaya_executor.specs.Stepping.{StepLeads}
+use Rattle.papaya_executor.specs.declared.executor.Executor.{Executor}
+use Rattle.papaya_follows.specs.Shows.{Shows}
+use Rattle.papaya_follows.specs.Steps.{IsOfNoRow}
+
+-- it hands something over
+abbrev pub hands_over : Effect → Bool
+hands_over (Deferred n t) = true
+hands_over (Retired x) = true
+hands_over _ = false
+
+-- and this
+abbrev pub HandsOver : Effect → Thing → Type 0
+HandsOver (Deferred n t) x = x ≡ APair n
+HandsOver (Retired y) x = x ≡ y
+HandsOver _ x = ⊥
+
+-- it takes nothing out of a map, and hands nothing over
+abbrev pub leaves_owed : Effect → Bool
+leaves_owed (Promoted t) = false
+leaves_owed (Replaced n) = false
+leaves_owed (Removed n) = false
+leaves_owed (Deferred n t) = false
+leaves_owed (Retired x) = false
+leaves_owed _ = true
+
+abbrev pub AllLeave : List Effect → Type 0
+AllLeave [] = Unit {0}
+AllLeave (f ∷ fs) = (leaves_owed f ≡ true) × AllLeave fs
+
+-- whether a call has handed something over after these, if it had before as this says
+abbrev pub handed_after : List Effect → Bool → Bool
+handed_after [] had = had
+handed_after (f ∷ fs) had = handed_after fs (if hands_over f then true else had)
+
+module _ {K V : Type 0} where
+  -- what a call owes goes with the effects of a step from this to that
+  pub data OwesGo (m : Moment K V) (effects : List Effect) (before after : List Thing) : Type 0 where
+    KeepsOwed : AllLeave effects → after ≡ before → OwesGo m effects before after
+    TakesOut : (p : ℕ) → effects ≡ Removed p ∷ [] → after ≡ before ++ APair p ∷ [] → OwesGo m effects before after
+    PutsOver : (p n : ℕ) (s : Spot) → effects ≡ Replaced p ∷ Stored n s ∷ [] → after ≡ before ++ APair p ∷ [] → OwesGo m effects before after
+    Passes : (t : Table) → effects ≡ Promoted t ∷ [] → after ≡ before ++ passed t.map (first_of t.map m) t.turn → OwesGo m effects before after
+    HandsFirst : (f : Effect) (x : Thing) → effects ≡ f ∷ [] → HandsOver f x → before ≡ x ∷ after → OwesGo m effects before after
+
+  -- a call that hands something over owes it; and of tables, where calls come one after another, the first
+  abbrev pub FindsOwed : Moment K V → Effect → CallThere K V → Type 0
+  FindsOwed m (Retired (APair n)) c = is_in same_thing (APair n) c.owes ≡ true
+  FindsOwed m (Retired (ATable t)) c = MatchBool m.is_alone (is_first_table t c.owes ≡ true) (is_in same_thing (ATable t) c.owes ≡ true)
+  FindsOwed m (Deferred n t) c = is_in same_thing (APair n) c.owes ≡ true
+  FindsOwed m _ c = Unit {0}
+
+-- The promise, of effects of a call's step: where what it owes goes so, they find what they hand over, and it owes that after them,
+abbrev pub OwesFollow : Type 0 → Type 0 → Type 0
+OwesFollow K V =
+    (own : List ℕ) (map : ℕ) (effects : List Effect) (m : Moment K V) (c : CallThere K V) → call_of own m ≡ Some c → (after : List Thing) → OwesGo m effects c.owes after
+    → AtEachEffect (λ v f. ByCall (FindsOwed v f) (acting (Some own) v)) (Some own) (Some map) effects m
+    × (d : CallThere K V) × (call_of own (with_effects (Some own) (Some map) effects m) ≡ Some d) × (d.owes ≡ after)
+
+-- and it has handed something over just if they did, or it had.
+abbrev pub HandingFollows : Type 0 → Type 0 → Type 0
+HandingFollows K V =
+    (own : List ℕ) (map : ℕ) (effects : List Effect) (m : Moment K V) (c : CallThere K V) → call_of own m ≡ Some c
+    → (d : CallThere K V) × (call_of own (with_effects (Some own) (Some map) effects m) ≡ Some d) × (d.has_handed ≡ handed_after effects c.has_handed)
+
+-- The promise, of a step of a call that is none of a row: it hands nothing over, and what it takes out comes behind what the call owed.
+abbrev pub StepsTakeOut : (K V S : Type 0) (same : K → K → Bool) (hash : K → ℕ) → Type 0
+StepsTakeOut K V S same hash =
+    (name : ℕ → List ℕ) (m : Moment K V) (known : Known) (s : Scene K V) (old new : Executor K V S) → IsAt same hash old s → Shows same name m known s
+    → (map i : ℕ) (u : UnderWay K V K) (here : s.calls map i ≡ Some u) (said : Progress (Node K V)) (leads : StepLeads same hash i said s old new)
+    → (let to = leads map u here in
+    IsOfNoRow same old.batch_size old.roots s.world s.maps s.calls s.makers s.enders map to.0 i new.memory.memory to.4.w2 to.4.maps2 to.4.next u to.1 said to.4.did
+    → (owes : List Thing) → (taken : List Thing) × OwesGo m (effects_of (Call i map) known new.memory.changed) owes (owes ++ taken)
+    × (list_any hands_over (effects_of (Call i map) known new.memory.changed) ≡ false))

@@ -1,0 +1,28 @@
+-- What is promised of the shard in which a call counts, in the words of schedules: it is that of the slot of its guard, where a moment shows the guard there.
+use Rattle.std.specs.Prelude.{◌≡◌, ℕ, ◌+◌, Bool, true, false, List, Some}
+use Rattle.papaya_tables.specs.declared.setting.Setting.{Setting}
+use Rattle.papaya_runs.specs.Present.{slot_of_guard}
+use Rattle.papaya_schedules.specs.declared.effect.Effect.{Effect}
+use Rattle.papaya_schedules.specs.declared.effect.Effect.TheVariants.{Counted}
+use Rattle.papaya_schedules.specs.Effects.{AtEachEffect}
+use Rattle.papaya_schedules.specs.Entry.{ByCall, acting}
+use Rattle.papaya_schedules.specs.Lives.{CallFinds}
+use Rattle.papaya_schedules.specs.Moment.{UnderWay as CallThere, Moment}
+use Rattle.papaya_schedules.specs.Terms.{Terms, shards_of}
+use Rattle.papaya_schedules.specs.Views.{call_of}
+use Rattle.papaya_executor.specs.IsAt.{slot_of}
+use Rattle.papaya_settles.specs.Counts.{shard_for, FindCounts}
+
+-- an effect that counts
+abbrev pub is_counting : Effect → Bool
+is_counting (Counted s) = true
+is_counting _ = false
+
+-- The promise of a call on a map that was made with as many shards as the terms say: where its guard is on the slot of its caller, each effect that counts finds
+-- what it must.
+abbrev pub CountsFindShards : Type 0 → Type 0 → Type 0
+CountsFindShards K V =
+    (terms : Terms) (i : ℕ) (setting : Setting) → setting.mask + 1 ≡ shards_of terms
+    → (own : List ℕ) (map : ℕ) (effects : List Effect) (m : Moment K V) (c : CallThere K V) → call_of own m ≡ Some c → slot_of_guard c.guard m.there ≡ slot_of i
+    → FindCounts (shard_for i setting) own map effects m
+    → (moments : List (Moment K V)) → AtEachEffect (λ v f. is_counting f ≡ true → ByCall (CallFinds terms moments v f) (acting (Some own) v)) (Some own) (Some map) effects m

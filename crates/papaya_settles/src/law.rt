@@ -1,0 +1,71 @@
+//! What is promised of what a call under way has yet to settle: what it has to count, and what it has in hand, to hand it over.
+ghost use Rattle.std.specs.Prelude.{ℕ, Bool};
+ghost use Rattle.papaya_settles.specs.Beside.{StaysCounts, EffectsLeaveCounts, WalksGoOnCounts, WalksStopCounts};
+ghost use Rattle.papaya_settles.specs.Due.{RowsTellDue};
+ghost use Rattle.papaya_settles.specs.Entries.{EntriesBegin, CallsGoOnEntries, EndingsBeginEntries, CallsKeepEntries, RowsBeginEntries, RowsKeepEntries, MakingsKeepEntries, EndingsKeepEntries};
+ghost use Rattle.papaya_settles.specs.InHand.{CallsTakeInHand, CallsHoldTheirs, SweepsTakeInHand, SweepsHoldTheirs};
+ghost use Rattle.papaya_settles.specs.Owing.{OwesFollow, HandingFollows, StepsTakeOut};
+ghost use Rattle.papaya_settles.specs.Shards.{CountsFindShards};
+ghost use Rattle.papaya_settles.specs.Keeping.{CountsBegin, CallsKeepCounts, CallsBeginCounts, CallsBeginUncounted, CallsTakeCounts, CallsComeToCounts};
+
+/// At each moment of a run that shows the executor, a call under way has stored or removed a pair that it has not counted, just if its machine is about to count.
+/// So it is before all events; after each step of a call, whoever's, of which one that counts finds something to count, and does so in the shard of its slot, and by
+/// which a call that ends has nothing left to count; and where a call begins, takes a reply and comes to an outcome. The shard is that which the terms of a run
+/// tell for the slot of the call's guard, where its map was made with as many shards as these say.
+pub fn calls_count_theirs<K, V, S>()
+    ensures begins { CountsBegin K V }
+    ensures calls { (same : K → K → Bool) (hash : K → ℕ) → CallsKeepCounts K V S same hash }
+    ensures begun { CallsBeginCounts K V }
+    ensures uncounted { CallsBeginUncounted K V }
+    ensures told { CallsTakeCounts K V }
+    ensures come_to { CallsComeToCounts K V }
+    ensures shards { CountsFindShards K V }
+{}
+
+/// What is no call leaves all that as it was: the effects of a row on a slot, of the making of a map, and of the end of one; and so does a walk that goes on to its
+/// next pair, or is given up. It is so as long as calls are as they were.
+pub fn others_leave_counts<K, V, S>()
+    ensures stays { StaysCounts K V }
+    ensures effects { EffectsLeaveCounts K V }
+    ensures goes_on { (same : K → K → Bool) (hash : K → ℕ) → WalksGoOnCounts K V S same hash }
+    ensures stops { (same : K → K → Bool) (hash : K → ℕ) → WalksStopCounts K V S same hash }
+{}
+
+/// A block that somebody has, who made it, or in whose map it is linked, or who took it out of that, says of no batch that it is in it, and its entry leads on to no
+/// other block. So the row within a call retires one block: that is blank so until the batch that it comes into is told of, and nothing else is pending with the
+/// row. It is so before all events; after each step of a call, of a row on a slot, of the making of a map, and of the end of one; and where any of these begins.
+pub fn entries_are_blank<K, V, S>()
+    ensures begins { EntriesBegin K V }
+    ensures calls { (same : K → K → Bool) (hash : K → ℕ) → CallsKeepEntries K V S same hash }
+    ensures goes_on { CallsGoOnEntries K V }
+    ensures rows_begin { (same : K → K → Bool) (hash : K → ℕ) → RowsBeginEntries K V S same hash }
+    ensures rows { (same : K → K → Bool) (hash : K → ℕ) → RowsKeepEntries K V S same hash }
+    ensures makings { (same : K → K → Bool) (hash : K → ℕ) → MakingsKeepEntries K V S same hash }
+    ensures endings_begin { EndingsBeginEntries K V }
+    ensures endings { (same : K → K → Bool) (hash : K → ℕ) → EndingsKeepEntries K V S same hash }
+{}
+
+/// A step of a row within a call tells nothing, and what it had in hand it has still; or it retires that, a pair or a table, or has put it behind a table, of which
+/// it tells, and has nothing in hand any more. So a row hands one block over, and tells of it once.
+pub fn rows_tell_due<K, V, S>()
+    ensures rows { (same : K → K → Bool) (hash : K → ℕ) → RowsTellDue K V S same hash }
+{}
+
+/// What a call owes goes with the effects of its step: what they take out of its map comes behind what it owed, and what they hand over, which it owes first, goes.
+/// They find it there, and it has handed something over just if they did, or it had. A step that is none of a row hands nothing over: it may take a pair out, or pass
+/// tables.
+pub fn owes_follow<K, V, S>()
+    ensures owes { OwesFollow K V }
+    ensures handing { HandingFollows K V }
+    ensures takings { (same : K → K → Bool) (hash : K → ℕ) → StepsTakeOut K V S same hash }
+{}
+
+/// A call on one key that takes a pair out of its map had none in hand, and has that one in hand then: the word that it counts, or disposes of, is of the block that is
+/// noted as the pair. It has it in hand still after each step that is none of a row. A
+/// sweep that removes a pair is about to count that, and has it in hand so, too.
+pub fn calls_take_in_hand<K, V, S>()
+    ensures keys { (same : K → K → Bool) (hash : K → ℕ) → CallsTakeInHand K V S same hash }
+    ensures held { (same : K → K → Bool) (hash : K → ℕ) → CallsHoldTheirs K V S same hash }
+    ensures sweeps { (same : K → K → Bool) (hash : K → ℕ) → SweepsTakeInHand K V S same hash }
+    ensures sweeps_held { (same : K → K → Bool) (hash : K → ℕ) → SweepsHoldTheirs K V S same hash }
+{}
