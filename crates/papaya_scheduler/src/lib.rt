@@ -1,0 +1,16 @@
+//! Schedules whose calls stay under way, event by event: who is there by name, what an event comes to, and that it is right for it.
+#![tactic(auto)]
+
+pub mod caller;
+pub mod calls;
+pub mod guards;
+pub mod happening;
+pub mod kind;
+pub mod machines;
+pub mod played;
+pub mod registrations;
+pub mod scheduler;
+pub mod shapes;
+pub mod stepping;
+pub mod telling;
+pub mod turns;
