@@ -22,3 +22,5 @@ mod Replied
 mod Stopped
 mod First
 mod Unregisters
+mod KeptOut
+mod Begun

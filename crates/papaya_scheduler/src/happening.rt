@@ -1,8 +1,10 @@
 //! An event of a schedule happens.
-ghost use Rattle.std.specs.Prelude.{◌≡◌, ℕ, Bool, IfOk, if◌then◌else◌};
+ghost use Rattle.std.specs.Prelude.{◌≡◌, ℕ, Bool, true, false, List, IfOk, if◌then◌else◌};
+ghost use Rattle.papaya_schedules.specs.Entry.{Entry};
+ghost use Rattle.papaya_schedules.specs.Terms.{Terms};
 ghost use Rattle.papaya_schedules.specs.declared.event.Event.TheVariants as event;
 ghost use Rattle.seize_words.specs.declared.fault.Fault.TheVariants.{Busy};
-ghost use Rattle.papaya_scheduler.specs.Played.{MayPlay, PlaysAt, PlaysFirst};
+ghost use Rattle.papaya_scheduler.specs.Played.{IsPlayed, MayPlay, PlaysAny, PlaysAt, PlaysDue, PlaysFirst, is_of_calls, is_of_maps};
 
 use crate::played::Played;
 use crate::scheduler::Scheduler;
@@ -54,9 +56,30 @@ impl<K: Drop, V: Drop, S> Scheduler<K, V, S> {
     }
 }
 
+/// Whether an event is one of a call.
+fn is_of_calls<K, V>(event: &Event<K, V>) -> bool
+    ensures { result ≡ is_of_calls event.now }
+{
+    matches!(
+        event,
+        Event::Begin { .. }
+            | Event::Step { .. }
+            | Event::Go { .. }
+            | Event::Replied { .. }
+            | Event::OneCall { .. }
+            | Event::Next { .. }
+            | Event::Stop { .. }
+    )
+}
+
 impl<K: Eq + Hash + Drop, V: Drop, S: Hashes<K>> Scheduler<K, V, S> {
-    /// Lets an event happen that is of guards, registrations, or shapes.
-    fn happen_there(&mut self, is_first: bool, event: Event<K, V>) -> Result<Played<V>, AllocError> {
+    /// Lets an event happen that is of guards, registrations or shapes, and is in turn.
+    fn happen_there(&mut self, is_first: bool, event: Event<K, V>) -> Result<Played<V>, AllocError>
+        requires due { MayPlay K.eq (S.hash self.old.logged.executor.hasher) event self.old }
+        requires no_map { is_of_maps event ≡ false }
+        requires no_call { is_of_calls event ≡ false }
+        ensures plays { IfOk result (λ played. PlaysDue K.eq (S.hash self.old.logged.executor.hasher) is_first event played self.old self.new) }
+    {
         match event {
             Event::Collector(setup) => Ok(self.collector(setup, is_first)),
             Event::Hash(by) => Ok(self.hash(by)),
@@ -77,8 +100,12 @@ impl<K: Eq + Hash + Drop, V: Drop, S: Hashes<K>> Scheduler<K, V, S> {
         }
     }
 
-    /// Lets an event happen that is of calls.
-    fn happen_to_calls(&mut self, event: Event<K, V>) -> Result<Played<V>, AllocError> {
+    /// Lets an event happen that is of a call, and is in turn.
+    fn happen_to_calls(&mut self, event: Event<K, V>) -> Result<Played<V>, AllocError>
+        requires due { MayPlay K.eq (S.hash self.old.logged.executor.hasher) event self.old }
+        requires call { is_of_calls event ≡ true }
+        ensures plays { IfOk result (λ played. PlaysAt K.eq (S.hash self.old.logged.executor.hasher) event played self.old self.new) }
+    {
         match event {
             Event::Begin {
                 caller,
@@ -93,6 +120,22 @@ impl<K: Eq + Hash + Drop, V: Drop, S: Hashes<K>> Scheduler<K, V, S> {
             Event::Next { caller } => self.next(&caller),
             Event::Stop { caller } => Ok(self.stop(&caller)),
             _ => unreachable!(),
+        }
+    }
+
+    /// Lets an event happen that neither makes nor ends a map, nor reclaims everything. Whether it is the first one of the schedule, the caller says. On an error nothing is
+    /// said of the state after it: the lists of the run found no memory.
+    pub fn happen(&mut self, is_first: bool, event: Event<K, V>) -> Result<Played<V>, AllocError>
+        requires played { (terms : Terms) × (log : List (Entry K V)) × IsPlayed K.eq (S.hash self.old.logged.executor.hasher) terms log self.old }
+        requires no_map { is_of_maps event ≡ false }
+        ensures plays { IfOk result (λ played. PlaysAny K.eq (S.hash self.old.logged.executor.hasher) is_first event played self.old self.new) }
+    {
+        if self.keeps_out(&event) {
+            Ok(self.refuse(event))
+        } else if is_of_calls(&event) {
+            self.happen_to_calls(event)
+        } else {
+            self.happen_there(is_first, event)
         }
     }
 }
