@@ -42,3 +42,9 @@ module _ {K V S : Type 0} (same : K → K → Bool) (hash : K → ℕ) (terms : 
   pub plays : {q : Scheduler K V S} → IsDue same hash terms log event q → (e : Entry K V) → e.event ≡ event → ComesTo terms log (moment log) e e.event e.outcome → IsPlayed same hash terms (e ∷ log) p
       → Plays same hash terms log e p
   plays due e is to played = record { right = comes_right terms log e (subst (λ (x : Event K V). is_kept_out terms x (moment log) ≡ false) (sym is) due.in_turn) to; played = played }
+
+module _ {K V S : Type 0} (same : K → K → Bool) (hash : K → ℕ) (terms : Terms) (log : List (Entry K V)) (p : Scheduler K V S) (event : Event K V) (played : Played V) where
+  -- what is told of an event is what it came to
+  pub so_played : (outcome : Outcome V) (steps : ℕ) (effects : List Effect) → played.outcome ≡ outcome → played.steps ≡ steps → played.effects.items ≡ effects
+      → Plays same hash terms log (entry event outcome steps effects) p → Plays same hash terms log (entry_of event played) p
+  so_played outcome steps effects a b c it = subst (λ (e : Entry K V). Plays same hash terms log e p) (sym (entry_is event played outcome steps effects a b c)) it
