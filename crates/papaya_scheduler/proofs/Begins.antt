@@ -73,7 +73,7 @@ module _ {K V S : Type 0} (same : K → K → Bool) (hash : K → ℕ) (terms : 
   module _ (own guard name : List ℕ) (call : Call K V) where
     -- it does not begin
     pub not_begun : (is_none (call_of own m) && is_living guard m.there && is_some (map_of name m)) ≡ false → BeginsSo same hash terms m own guard name call false p p
-    not_begun no = record { so = sym no; none = λ e. refl; then = λ e. absurd (cc e) }
+    not_begun fails = record { so = sym fails; none = λ e. refl; stands = λ e. absurd (cc e) }
 
     module _ (free : list_any (is_named own) calls ≡ false) (slot : ℕ) (lives : living_slot (guard_of guard p.there.guards) ≡ Some slot) (number : ℕ) (setting : Setting)
         (found : setting_named name p.maps.items p.logged.executor.maps.items ≡ Some (number, setting)) where
@@ -232,7 +232,7 @@ module _ {K V S : Type 0} (same : K → K → Bool) (hash : K → ℕ) (terms : 
           name = names;
           scene = then_at;
           shown = shown;
-          terms = stands.terms;
+          given = stands.given;
           there = stands.there;
           mapped = stands.mapped;
           closed = stands.closed;
@@ -252,5 +252,5 @@ module _ {K V S : Type 0} (same : K → K → Bool) (hash : K → ℕ) (terms : 
         begun calls2 items = record {
           so = sym may_begin;
           none = λ e. absurd (cc e);
-          then = λ e. subst (λ (o : Option ℕ). StandsFor same hash terms (with_call own guard call o m) (record p { logged = new; calls = calls2 })) (sym its.0) (stands_then calls2 items);
+          stands = λ e. subst (λ (o : Option ℕ). StandsFor same hash terms (with_call own guard call o m) (record p { logged = new; calls = calls2 })) (sym its.0) (stands_then calls2 items);
         }

@@ -17,7 +17,7 @@ use Rattle.papaya_scheduler.specs.Played.{BeginsSo, IsDue, Plays, StandsFor}
 use Rattle.papaya_scheduler.specs.declared.scheduler.Scheduler.{Scheduler}
 use Rattle.papaya_scheduler.proofs.Elsewhere.{elsewhere}
 use Rattle.papaya_scheduler.proofs.Quiet.{stands_on}
-use Rattle.papaya_scheduler.proofs.Turns.{in_turn, out_of_turn, plays, quiet}
+use Rattle.papaya_scheduler.proofs.Rights.{in_turn, out_of_turn, plays, quiet}
 
 module _ {K V S : Type 0} (same : K → K → Bool) (hash : K → ℕ) (terms : Terms) (log : List (Entry K V)) (own guard map : List ℕ) (call : Call K V) (old new : Scheduler K V S)
     (due : IsDue same hash terms log (Begin own guard map call) old) where
@@ -39,7 +39,7 @@ module _ {K V S : Type 0} (same : K → K → Bool) (hash : K → ℕ) (terms : 
   then_on (Some number) stands = stands_on same hash terms (with_call own guard call (Some number) m) new stands (m.events + 1) (m.is_alone && is_alone_on e m) m.slots m.sheltered
 
   pub begins_call : BeginsSo same hash terms m own guard map call true old new → Plays same hash terms log (quiet (Begin own guard map call) Goes) new
-  begins_call begins = plays same hash terms log (Begin own guard map call) new due e refl (in_turn wanted turn Goes (sym begins.so) refl) (then_on (number_of map m) (begins.then refl))
+  begins_call begins = plays same hash terms log (Begin own guard map call) new due e refl (in_turn wanted turn Goes (sym begins.so) refl) (then_on (number_of map m) (begins.stands refl))
 
   pub begins_none : BeginsSo same hash terms m own guard map call false old new → Plays same hash terms log (quiet (Begin own guard map call) (Refused Busy)) new
   begins_none begins =

@@ -43,10 +43,10 @@ use Rattle.papaya_scheduler.proofs.Names.{enters_named}
 use Rattle.papaya_scheduler.proofs.Quiet.{stands_on}
 use Rattle.papaya_scheduler.proofs.Ran.{done_once, led_once, over_once}
 use Rattle.papaya_scheduler.proofs.RanOn.{nobody_in, stands_ran, there_stays}
-use Rattle.papaya_scheduler.proofs.Registrations.{found_has, slot_found}
+use Rattle.papaya_scheduler.proofs.Registered.{found_has, slot_found}
 use Rattle.papaya_scheduler.proofs.Seats.{stands_there}
 use Rattle.papaya_scheduler.proofs.There.{guard_is, is_inside, is_outside, on_its_slot, registered_is, slot_is, slot_some, used_alike}
-use Rattle.papaya_scheduler.proofs.Turns.{entry, in_turn, out_of_turn, plays, quiet}
+use Rattle.papaya_scheduler.proofs.Rights.{entry, in_turn, out_of_turn, plays, quiet}
 
 none_is : {X : Type 0} (o : Option X) → is_some o ≡ false → o ≡ None
 none_is None e = refl
@@ -70,12 +70,12 @@ module _ (guard : List ℕ) (slot : ℕ) (there : Present) where
   new = record { name = guard; slot = slot; forgotten = false }
 
   on_it : guards_on slot more.guards ≢ 0
-  on_it z = let c = (enters_counts there.guards new).1 slot in let q = ap (λ (b : Bool). cond b 1 0) (eq-eqb slot slot refl) in omega (arith, z, c, q)
+  on_it z = let c = (enters_counts there.guards new).1 slot in let q = ap {B = ℕ} (λ (b : Bool). cond b 1 0) (eq-eqb slot slot refl) in omega (arith, z, c, q)
 
   on_others : (t : ℕ) → t ≢ slot → guards_on t more.guards ≡ guards_on t there.guards
   on_others t ne =
       let c = (enters_counts there.guards new).1 t in
-      let q = ap (λ (b : Bool). cond b 1 0) (ne_eqb slot t (λ e. ne (sym e))) in
+      let q = ap {B = ℕ} (λ (b : Bool). cond b 1 0) (ne_eqb slot t (λ e. ne (sym e))) in
       omega (arith, c, q)
 
   -- slots are used as before where one guard was on it already
@@ -109,9 +109,9 @@ module _ {K V S : Type 0} (same : K → K → Bool) (hash : K → ℕ) (terms : 
   wanted = IsEntered (slot_of_registration registration m.there) m.there
 
   busy : turn ≡ false → Plays same hash terms log (quiet (Enter guard registration) (Refused Busy)) p
-  busy no =
+  busy fails =
       let e = quiet (Enter guard registration) (Refused Busy) in
-      plays same hash terms log (Enter guard registration) p due e refl (out_of_turn wanted turn (Refused Busy) no refl)
+      plays same hash terms log (Enter guard registration) p due e refl (out_of_turn wanted turn (Refused Busy) fails refl)
       (stands_on same hash terms m p stands (m.events + 1) (m.is_alone && is_alone_on e m) m.slots m.sheltered)
 
   pub guard_there : is_some (guard_of guard p.there.guards) ≡ true → Plays same hash terms log (quiet (Enter guard registration) (Refused Busy)) p
@@ -167,7 +167,7 @@ module _ {K V S : Type 0} (same : K → K → Bool) (hash : K → ℕ) (terms : 
         subst (λ (x : Present). Plays same hash terms log e (record p { there = x })) (sym is)
         (plays same hash terms log (Enter guard registration) (record p { there = there2 }) due e refl (in_turn wanted turn Done is_turn (wanted_by true few))
         (stands_there same hash terms m p stands there2 each_now (used_still guard slot p.there some) (enters_named guard slot p.there (none_is (guard_of guard p.there.guards) none) stands.names)
-        (there_on (Enter guard registration) Done m.there) (there_now m.there stands.there) (m.events + 1) (m.is_alone && is_alone_on e m) m.slots m.sheltered))
+        (there_on {K = K} {V = V} (Enter guard registration) Done m.there) (there_now m.there stands.there) (m.events + 1) (m.is_alone && is_alone_on e m) m.slots m.sheltered))
 
     -- or it is the first one
     module _ (first : guards_on slot p.there.guards ≡ 0) where
@@ -216,5 +216,5 @@ module _ {K V S : Type 0} (same : K → K → Bool) (hash : K → ℕ) (terms : 
             (stands_ran same hash terms m p stands slot call.Enter said before after logged ran may_enter
             (led_once same hash stands.name m stands.scene p.logged logged stands.shown slot call.Enter said before after ran may_enter tt)
             (over_once same hash stands.name m stands.scene p.logged logged stands.shown slot call.Enter said before after ran may_enter tt) takes there2 each_now use_now
-            (enters_named guard slot p.there (none_is (guard_of guard p.there.guards) none) stands.names) (there_on (Enter guard registration) Done w.there)
+            (enters_named guard slot p.there (none_is (guard_of guard p.there.guards) none) stands.names) (there_on {K = K} {V = V} (Enter guard registration) Done w.there)
             (there_now w.there (there_stays None None ran.did m ∙ stands.there)) (m.events + 1) (m.is_alone && is_alone_on e m) m.slots w.sheltered m.remains))

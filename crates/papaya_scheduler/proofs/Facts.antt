@@ -25,6 +25,10 @@ never_rests (rows.Leaves c) e = cc e
 never_rests (rows.Flushes c) e = cc e
 never_rests (rows.Frees c) e = cc e
 
+none_mapped : {A B : Type 0} (f : A → B) (o : Option A) → o ≡ None → (b : B) → option_map f o ≡ Some b → ⊥
+none_mapped f None e b h = cc h
+none_mapped f (Some a) e b h = cc e
+
 -- a slot is used in one way
 pub used_once : (v w : SlotUse) (u : Use) → IsUsedAs v u → IsUsedAs w u → v ≡ w
 used_once used.Vacant used.Vacant u a b = refl
@@ -58,9 +62,7 @@ module _ {K V S : Type 0} (same : K → K → Bool) (hash : K → ℕ) (e : Exec
         cc (h, k, l)
       )
       by (Some (work.Making map opening)) is = absurd (
-        let h = at.makers i ∙ ap making_in is in
-        let l = ap (option_map (λ b. (b.map, b.machine))) makers in
-        cc (h, l)
+        none_mapped _ (s.makers i) makers _ (at.makers i ∙ ap making_in is)
       )
       by (Some (work.Ending ending)) is = absurd (
         let h = at.enders i ∙ ap ending_in is in

@@ -27,7 +27,7 @@ module _ {K V S : Type 0} (same : K → K → Bool) (hash : K → ℕ) (p : Sche
     name = name;
     scene = at_first roots;
     shown = shown name;
-    terms = refl;
+    given = refl;
     there = sym there;
     mapped = sym mapped;
     closed = sym closed;

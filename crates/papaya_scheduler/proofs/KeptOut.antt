@@ -27,7 +27,7 @@ use Rattle.papaya_scheduler.specs.declared.scheduler.Scheduler.{Scheduler}
 use Rattle.papaya_scheduler.proofs.Elsewhere.{elsewhere, shown_elsewhere}
 use Rattle.papaya_scheduler.proofs.Lists.{all_alike, all_same, unseen}
 use Rattle.papaya_scheduler.proofs.Quiet.{stands_on}
-use Rattle.papaya_scheduler.proofs.Turns.{quiet}
+use Rattle.papaya_scheduler.proofs.Rights.{quiet}
 
 -- whose event it is
 by_name : {K V : Type 0} (o : Option (List ℕ)) (c : CallThere K V) → is_by o c ≡ is_that o c.caller
@@ -38,7 +38,7 @@ module _ {K V S : Type 0} (same : K → K → Bool) (hash : K → ℕ) (terms : 
   pub kept_out_is : (event : Event K V) → is_kept_out terms event m ≡ keeps_out event p
   kept_out_is event =
       ap (λ (b : Bool). b || (terms.is_one_by_one && not (list_all (is_by (speaker event)) m.calls))) stands.closed
-      ∙ ap (λ (t : Terms). p.is_closed || (t.is_one_by_one && not (list_all (is_by (speaker event)) m.calls))) (sym stands.terms)
+      ∙ ap (λ (t : Terms). p.is_closed || (t.is_one_by_one && not (list_all (is_by (speaker event)) m.calls))) (sym stands.given)
       ∙ ap (λ (b : Bool). p.is_closed || (p.given.is_one_by_one && not b))
       (all_same (is_by (speaker event)) (λ c. is_that (speaker event) c.caller) (by_name (speaker event)) m.calls
       ∙ all_alike seen seen_of m.calls p.calls.items.items stands.calls.listed (λ (z : Seen). is_that (speaker event) z.name))
@@ -65,7 +65,7 @@ module _ {K V S : Type 0} (same : K → K → Bool) (hash : K → ℕ) (terms : 
       is_at = stands.shown.is_at;
       shows = calls_come_to_whole K V same stands.name m (known p.logged.notes) stands.scene stands.shown.shows own (Refused Busy) 0 (λ e. absurd (cc e)) (λ n i u here named. asks_nothing (known p.logged.notes) u);
     };
-    terms = stands.terms;
+    given = stands.given;
     there = stands.there;
     mapped = stands.mapped;
     closed = stands.closed;
@@ -88,7 +88,7 @@ module _ {K V S : Type 0} (same : K → K → Bool) (hash : K → ℕ) (terms : 
       is_at = stands.shown.is_at;
       shows = shown_elsewhere m (known p.logged.notes) m.events is_mapped m.is_closed m.is_alone m.there m.slots m.sheltered m.remains same stands.name stands.scene stands.shown.shows;
     };
-    terms = stands.terms;
+    given = stands.given;
     there = stands.there;
     mapped = refl;
     closed = stands.closed;

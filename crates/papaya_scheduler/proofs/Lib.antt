@@ -1,9 +1,9 @@
 mod Lists
 mod Elsewhere
 mod Names
-mod Registrations
+mod Registered
 mod There
-mod Turns
+mod Rights
 mod Quiet
 mod Simple
 mod Seats
@@ -11,7 +11,7 @@ mod Facts
 mod Maps
 mod Called
 mod Begins
-mod Shapes
+mod ShapesHere
 mod Ran
 mod RanOn
 mod RunRow

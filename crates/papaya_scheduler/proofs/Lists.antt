@@ -1,8 +1,12 @@
 -- Lists: what is found, and what becomes of it, on two lists of which the same is seen.
 use Rattle.std.specs.Prelude.{◌≡◌, ◌≤◌, ◌<◌, ◌+◌, ℕ, zero, suc, Bool, true, false, not, cond, ◌||◌, ◌&&◌, List, [], ◌∷◌, ◌++◌, length, filter, find, map, take, drop, is_some, Option, Some, None, option_map, slice_set, slice_get, nat_lt, position, if◌then◌else◌}
 use Rattle.std.specs.List.{AllByRecursion, list_any, list_all, position_or_len, remove, insert}
+use Rattle.std.proofs.lemmas.Bool.{lt-ltb}
 use Rattle.std.proofs.lemmas.List.Folds.{find_at}
 use Rattle.std.proofs.Common.{refl, ap, sym, subst, ◌∙◌, arith}
+
+one_more : (n : ℕ) → suc n ≡ 1 + n
+one_more n = omega arith
 
 module _ {X : Type 0} where
   -- whether one is found
@@ -17,34 +21,34 @@ module _ {X : Type 0} where
   -- one that is found passes, and is one of them
   pub found_passes : (p : X → Bool) (xs : List X) (x : X) → find p xs ≡ Some x → p x ≡ true
   found_passes p [] x is = absurd (cc is)
-  found_passes p (y ∷ xs) x is = one (p y) refl is
+  found_passes p (y ∷ xs) x is = one (p y) refl is (found_passes p xs x)
     where
-      one : (b : Bool) → p y ≡ b → cond b (Some y) (find p xs) ≡ Some x → p x ≡ true
-      one true e f = ap p (sym (the y x f)) ∙ e
+      one : (b : Bool) → p y ≡ b → cond b (Some y) (find p xs) ≡ Some x → (find p xs ≡ Some x → p x ≡ true) → p x ≡ true
+      one true e f ih = ap p (sym (the y x f)) ∙ e
         where
           the : (a b : X) → Some a ≡ Some b → a ≡ b
           the a b s = cc s
-      one false e f = found_passes p xs x f
+      one false e f ih = ih f
 
   pub found_has : (P : X → Type 0) (p : X → Bool) (xs : List X) (x : X) → find p xs ≡ Some x → AllByRecursion P xs → P x
   found_has P p [] x is all = absurd (cc is)
-  found_has P p (y ∷ xs) x is all = one (p y) is
+  found_has P p (y ∷ xs) x is all = one (p y) is (λ f. found_has P p xs x f all.1)
     where
       the : (a b : X) → Some a ≡ Some b → a ≡ b
       the a b s = cc s
 
-      one : (b : Bool) → cond b (Some y) (find p xs) ≡ Some x → P x
-      one true f = subst P (the y x f) all.0
-      one false f = found_has P p xs x f all.1
+      one : (b : Bool) → cond b (Some y) (find p xs) ≡ Some x → (find p xs ≡ Some x → P x) → P x
+      one true f ih = subst P (the y x f) all.0
+      one false f ih = ih f
 
   -- where one passes, one of which all is known does
   pub one_of : (P : X → Type 0) (p : X → Bool) (xs : List X) → list_any p xs ≡ true → AllByRecursion P xs → (x : X) × P x × (p x ≡ true)
   one_of P p [] any all = absurd (cc any)
-  one_of P p (x ∷ xs) any all = one (p x) refl any
+  one_of P p (x ∷ xs) any all = one (p x) refl any (λ f. one_of P p xs f all.1)
     where
-      one : (b : Bool) → p x ≡ b → (b || list_any p xs) ≡ true → (y : X) × P y × (p y ≡ true)
-      one true e f = (x, all.0, e)
-      one false e f = one_of P p xs f all.1
+      one : (b : Bool) → p x ≡ b → (b || list_any p xs) ≡ true → (list_any p xs ≡ true → (y : X) × P y × (p y ≡ true)) → (y : X) × P y × (p y ≡ true)
+      one true e f ih = (x, all.0, e)
+      one false e f ih = ih f
 
   -- of all another fact follows
   pub all_so : (P Q : X → Type 0) → ((x : X) → P x → Q x) → (xs : List X) → AllByRecursion P xs → AllByRecursion Q xs
@@ -119,29 +123,32 @@ as_some f g (Some x) None e = absurd (cc e)
 -- where none passes a test, each may be taken to fail it
 pub all_but : {X : Type 0} (P Q : X → Type 0) (q : X → Bool) → ((x : X) → q x ≡ false → P x → Q x) → (xs : List X) → list_any q xs ≡ false → AllByRecursion P xs → AllByRecursion Q xs
 all_but P Q q so [] none all = tt
-all_but P Q q so (x ∷ xs) none all = both (q x) refl none
+all_but P Q q so (x ∷ xs) none all = both (q x) refl none (λ f. all_but P Q q so xs f all.1)
   where
-    both : (b : Bool) → q x ≡ b → (b || list_any q xs) ≡ false → Q x × AllByRecursion Q xs
-    both true e f = absurd (cc f)
-    both false e f = (so x e all.0, all_but P Q q so xs f all.1)
+    both : (b : Bool) → q x ≡ b → (b || list_any q xs) ≡ false → (list_any q xs ≡ false → AllByRecursion Q xs) → Q x × AllByRecursion Q xs
+    both true e f ih = absurd (cc f)
+    both false e f ih = (so x e all.0, ih f)
 
 module _ {X : Type 0} (p : X → Bool) where
   pub none_kept : (xs : List X) → list_any p xs ≡ false → filter p xs ≡ []
   none_kept [] e = refl
-  none_kept (x ∷ xs) e = one (p x) e
+  none_kept (x ∷ xs) e = one (p x) e (none_kept xs)
     where
-      one : (b : Bool) → (b || list_any p xs) ≡ false → cond b (x ∷ filter p xs) (filter p xs) ≡ []
-      one true f = absurd (cc f)
-      one false f = none_kept xs f
+      one : (b : Bool) → (b || list_any p xs) ≡ false → (list_any p xs ≡ false → filter p xs ≡ []) → cond b (x ∷ filter p xs) (filter p xs) ≡ []
+      one true f ih = absurd (cc f)
+      one false f ih = ih f
 
   -- where one is found at a place, one passes, and where none is, none does
   pub placed : (xs : List X) → nat_lt (position_or_len p xs) (length xs) ≡ list_any p xs
   placed [] = refl
   placed (x ∷ xs) = one (p x) (placed xs)
     where
+      further : (a b : ℕ) → nat_lt (1 + a) (suc b) ≡ nat_lt a b
+      further a b = grind arith
+
       one : (b : Bool) → nat_lt (position_or_len p xs) (length xs) ≡ list_any p xs → nat_lt (cond (not b) (1 + position_or_len p xs) 0) (length (x ∷ xs)) ≡ (b || list_any p xs)
-      one true e = refl
-      one false e = e
+      one true e = lt-ltb 0 (suc (length xs)) (omega arith)
+      one false e = further (position_or_len p xs) (length xs) ∙ e
 
   by_place : (b : Bool) (n : ℕ) (o : Option ℕ) → o ≡ cond b (Some n) None → is_some o ≡ b
   by_place true n o e = ap is_some e
@@ -169,21 +176,32 @@ module _ {X Y Z : Type 0} (f : X → Z) (g : Y → Z) (p : Z → Bool) where
   -- nothing changes behind it
   untouched : (change : X → X) (xs : List X) → list_any (λ x. p (f x)) xs ≡ false → map f (map (λ x. if p (f x) then change x else x) xs) ≡ map f xs
   untouched change [] none = refl
-  untouched change (x ∷ xs) none = one (p (f x)) refl none
+  untouched change (x ∷ xs) none = one (p (f x)) refl none (untouched change xs)
     where
       one : (b : Bool) → p (f x) ≡ b → (b || list_any (λ y. p (f y)) xs) ≡ false
+          → (list_any (λ y. p (f y)) xs ≡ false → map f (map (λ y. if p (f y) then change y else y) xs) ≡ map f xs)
           → f (if p (f x) then change x else x) ∷ map f (map (λ y. if p (f y) then change y else y) xs) ≡ f x ∷ map f xs
-      one true e h = absurd (cc h)
-      one false e h =
-          ap (λ (b : Bool). f (if b then change x else x) ∷ map f (map (λ y. if p (f y) then change y else y) xs)) e ∙ ap (λ (l : List Z). f x ∷ l) (untouched change xs h)
+      one true e h ih = absurd (cc h)
+      one false e h ih =
+          ap (λ (b : Bool). f (if b then change x else x) ∷ map f (map (λ y. if p (f y) then change y else y) xs)) e ∙ ap (λ (l : List Z). f x ∷ l) (ih h)
 
   all_stay : (xs : List X) → list_any (λ x. p (f x)) xs ≡ false → filter (λ x. not (p (f x))) xs ≡ xs
   all_stay [] none = refl
-  all_stay (x ∷ xs) none = one (p (f x)) none
+  all_stay (x ∷ xs) none = one (p (f x)) none (all_stay xs)
     where
-      one : (b : Bool) → (b || list_any (λ y. p (f y)) xs) ≡ false → cond (not b) (x ∷ filter (λ y. not (p (f y))) xs) (filter (λ y. not (p (f y))) xs) ≡ x ∷ xs
-      one true h = absurd (cc h)
-      one false h = ap (λ (l : List X). x ∷ l) (all_stay xs h)
+      one : (b : Bool) → (b || list_any (λ y. p (f y)) xs) ≡ false → (list_any (λ y. p (f y)) xs ≡ false → filter (λ y. not (p (f y))) xs ≡ xs)
+          → cond (not b) (x ∷ filter (λ y. not (p (f y))) xs) (filter (λ y. not (p (f y))) xs) ≡ x ∷ xs
+      one true h ih = absurd (cc h)
+      one false h ih = ap (λ (l : List X). x ∷ l) (ih h)
+
+  some_kept : (zs : List Y) → list_any (λ y. p (g y)) zs ≡ true → length (filter (λ y. p (g y)) zs) ≤ 0 → ⊥
+  some_kept [] h l = cc h
+  some_kept (y ∷ zs) h l = one (p (g y)) h l (some_kept zs)
+    where
+      one : (b : Bool) → (b || list_any (λ w. p (g w)) zs) ≡ true → length (cond b (y ∷ filter (λ w. p (g w)) zs) (filter (λ w. p (g w)) zs)) ≤ 0
+          → (list_any (λ w. p (g w)) zs ≡ true → length (filter (λ w. p (g w)) zs) ≤ 0 → ⊥) → ⊥
+      one true h2 l2 ih = omega (arith, l2)
+      one false h2 l2 ih = ih h2 l2
 
   -- none passes behind the first one
   none_behind : (xs : List X) (ys : List Y) → map f xs ≡ map g ys → suc (length (filter (λ y. p (g y)) ys)) ≤ 1 → list_any (λ x. p (f x)) xs ≡ false
@@ -191,14 +209,6 @@ module _ {X Y Z : Type 0} (f : X → Z) (g : Y → Z) (p : Z → Bool) where
     where
       by : (b : Bool) → list_any (λ y. p (g y)) ys ≡ b → list_any (λ y. p (g y)) ys ≡ false
       by true e = absurd (some_kept ys e (omega (arith, once)))
-        where
-          some_kept : (zs : List Y) → list_any (λ y. p (g y)) zs ≡ true → length (filter (λ y. p (g y)) zs) ≤ 0 → ⊥
-          some_kept [] h l = cc h
-          some_kept (y ∷ zs) h l = one (p (g y)) h l
-            where
-              one : (b : Bool) → (b || list_any (λ w. p (g w)) zs) ≡ true → length (cond b (y ∷ filter (λ w. p (g w)) zs) (filter (λ w. p (g w)) zs)) ≤ 0 → ⊥
-              one true h2 l2 = omega (arith, l2)
-              one false h2 l2 = some_kept zs h2 l2
       by false e = e
 
   -- it is another one
@@ -208,7 +218,7 @@ module _ {X Y Z : Type 0} (f : X → Z) (g : Y → Z) (p : Z → Bool) where
   changed_at change new [] [] alike once there so = absurd (cc there)
   changed_at change new [] (y ∷ ys) alike once there so = absurd (cc alike)
   changed_at change new (x ∷ xs) [] alike once there so = absurd (cc alike)
-  changed_at change new (x ∷ xs) (y ∷ ys) alike once there so = one (p (g y)) refl once there so
+  changed_at change new (x ∷ xs) (y ∷ ys) alike once there so = one (p (g y)) refl once there so (changed_at change new xs ys (heads alike).1)
     where
       two : (f x ≡ g y) × (map f xs ≡ map g ys)
       two = heads alike
@@ -218,13 +228,16 @@ module _ {X Y Z : Type 0} (f : X → Z) (g : Y → Z) (p : Z → Bool) where
 
       one : (b : Bool) → p (g y) ≡ b → length (cond b (y ∷ filter (λ z. p (g z)) ys) (filter (λ z. p (g z)) ys)) ≤ 1 → (b || list_any (λ z. p (g z)) ys) ≡ true
           → ((z : X) (w : Y) → cond b (Some y) (find (λ v. p (g v)) ys) ≡ Some w → f z ≡ g w → f (change z) ≡ g new)
+          → (length (filter (λ z. p (g z)) ys) ≤ 1 → list_any (λ z. p (g z)) ys ≡ true → ((z : X) (w : Y) → find (λ v. p (g v)) ys ≡ Some w → f z ≡ g w → f (change z) ≡ g new)
+            → map f Rest ≡ map g (slice_set ys (position_or_len (λ z. p (g z)) ys) new))
           → f (if p (f x) then change x else x) ∷ map f Rest ≡ map g (slice_set (y ∷ ys) (cond (not b) (1 + position_or_len (λ z. p (g z)) ys) 0) new)
-      one true e o t s =
+      one true e o t s ih =
           ap (λ (b : Bool). f (if b then change x else x) ∷ map f Rest) (ap p two.0 ∙ e) ∙ ap (λ (z : Z). z ∷ map f Rest) (s x y refl two.0)
           ∙ ap (λ (l : List Z). g new ∷ l) (untouched change xs (none_behind xs ys two.1 o) ∙ two.1)
-      one false e o t s =
+      one false e o t s ih =
           ap (λ (b : Bool). f (if b then change x else x) ∷ map f Rest) (ap p two.0 ∙ e) ∙ ap (λ (z : Z). z ∷ map f Rest) two.0
-          ∙ ap (λ (l : List Z). g y ∷ l) (changed_at change new xs ys two.1 o t s)
+          ∙ ap (λ (l : List Z). g y ∷ l) (ih o t s)
+          ∙ ap (λ (n : ℕ). map g (slice_set (y ∷ ys) n new)) (one_more (position_or_len (λ z. p (g z)) ys))
 
   -- or it goes
   pub removed_at : (xs : List X) (ys : List Y) → map f xs ≡ map g ys → length (filter (λ y. p (g y)) ys) ≤ 1 → list_any (λ y. p (g y)) ys ≡ true
@@ -232,7 +245,7 @@ module _ {X Y Z : Type 0} (f : X → Z) (g : Y → Z) (p : Z → Bool) where
   removed_at [] [] alike once there = absurd (cc there)
   removed_at [] (y ∷ ys) alike once there = absurd (cc alike)
   removed_at (x ∷ xs) [] alike once there = absurd (cc alike)
-  removed_at (x ∷ xs) (y ∷ ys) alike once there = one (p (g y)) refl once there
+  removed_at (x ∷ xs) (y ∷ ys) alike once there = one (p (g y)) refl once there (removed_at xs ys (heads alike).1)
     where
       two : (f x ≡ g y) × (map f xs ≡ map g ys)
       two = heads alike
@@ -241,29 +254,32 @@ module _ {X Y Z : Type 0} (f : X → Z) (g : Y → Z) (p : Z → Bool) where
       Rest = filter (λ z. not (p (f z))) xs
 
       one : (b : Bool) → p (g y) ≡ b → length (cond b (y ∷ filter (λ z. p (g z)) ys) (filter (λ z. p (g z)) ys)) ≤ 1 → (b || list_any (λ z. p (g z)) ys) ≡ true
+          → (length (filter (λ z. p (g z)) ys) ≤ 1 → list_any (λ z. p (g z)) ys ≡ true → map f Rest ≡ map g (remove ys (position_or_len (λ z. p (g z)) ys)))
           → map f (cond (not (p (f x))) (x ∷ Rest) Rest) ≡ map g (remove (y ∷ ys) (cond (not b) (1 + position_or_len (λ z. p (g z)) ys) 0))
-      one true e o t = ap (λ (b : Bool). map f (cond (not b) (x ∷ Rest) Rest)) (ap p two.0 ∙ e) ∙ ap (map f) (all_stay xs (none_behind xs ys two.1 o)) ∙ two.1
-      one false e o t =
-          ap (λ (b : Bool). map f (cond (not b) (x ∷ Rest) Rest)) (ap p two.0 ∙ e) ∙ ap (λ (z : Z). z ∷ map f Rest) two.0 ∙ ap (λ (l : List Z). g y ∷ l) (removed_at xs ys two.1 o t)
+      one true e o t ih = ap (λ (b : Bool). map f (cond (not b) (x ∷ Rest) Rest)) (ap p two.0 ∙ e) ∙ ap (map f) (all_stay xs (none_behind xs ys two.1 o)) ∙ two.1
+      one false e o t ih =
+          ap (λ (b : Bool). map f (cond (not b) (x ∷ Rest) Rest)) (ap p two.0 ∙ e) ∙ ap (λ (z : Z). z ∷ map f Rest) two.0 ∙ ap (λ (l : List Z). g y ∷ l) (ih o t)
+          ∙ ap (λ (n : ℕ). map g (remove (y ∷ ys) n)) (one_more (position_or_len (λ z. p (g z)) ys))
 
 -- one of a list is another one
 module _ {X : Type 0} where
+  none_after : (p : X → Bool) (ys : List X) → length (filter p ys) ≤ 0 → list_any p ys ≡ false
+  none_after p [] l = refl
+  none_after p (y ∷ ys) l = two (p y) l (none_after p ys)
+    where
+      two : (b : Bool) → length (cond b (y ∷ filter p ys) (filter p ys)) ≤ 0 → (length (filter p ys) ≤ 0 → list_any p ys ≡ false) → (b || list_any p ys) ≡ false
+      two true l2 ih = absurd (omega (arith, l2))
+      two false l2 ih = ih l2
+
   pub set_all : (P Q : X → Type 0) (p : X → Bool) (new : X) → Q new → ((x : X) → p x ≡ false → P x → Q x) → (xs : List X) → AllByRecursion P xs → length (filter p xs) ≤ 1
       → AllByRecursion Q (slice_set xs (position_or_len p xs) new)
   set_all P Q p new here so [] all once = tt
-  set_all P Q p new here so (x ∷ xs) all once = one (p x) refl once
+  set_all P Q p new here so (x ∷ xs) all once = one (p x) refl once (set_all P Q p new here so xs all.1)
     where
-      one : (b : Bool) → p x ≡ b → length (cond b (x ∷ filter p xs) (filter p xs)) ≤ 1 → AllByRecursion Q (slice_set (x ∷ xs) (cond (not b) (1 + position_or_len p xs) 0) new)
-      one true e o = (here, all_but P Q p so xs (none_after xs (omega (arith, o))) all.1)
-        where
-          none_after : (ys : List X) → length (filter p ys) ≤ 0 → list_any p ys ≡ false
-          none_after [] l = refl
-          none_after (y ∷ ys) l = two (p y) l
-            where
-              two : (b : Bool) → length (cond b (y ∷ filter p ys) (filter p ys)) ≤ 0 → (b || list_any p ys) ≡ false
-              two true l2 = absurd (omega (arith, l2))
-              two false l2 = none_after ys l2
-      one false e o = (so x e all.0, set_all P Q p new here so xs all.1 o)
+      one : (b : Bool) → p x ≡ b → length (cond b (x ∷ filter p xs) (filter p xs)) ≤ 1 → (length (filter p xs) ≤ 1 → AllByRecursion Q (slice_set xs (position_or_len p xs) new))
+          → AllByRecursion Q (slice_set (x ∷ xs) (cond (not b) (1 + position_or_len p xs) 0) new)
+      one true e o ih = (here, all_but P Q p so xs (none_after p xs (omega (arith, o))) all.1)
+      one false e o ih = subst (λ (n : ℕ). AllByRecursion Q (slice_set (x ∷ xs) n new)) (one_more (position_or_len p xs)) (so x e all.0, ih o)
 
   pub set_count : (q : X → Bool) (xs : List X) (k : ℕ) (old new : X) → slice_get xs k ≡ Some old → q new ≡ q old → length (filter q (slice_set xs k new)) ≡ length (filter q xs)
   set_count q [] k old new is same = refl
@@ -276,7 +292,7 @@ module _ {X : Type 0} where
   set_count q (x ∷ xs) (suc k) old new is same = one (q x) (set_count q xs k old new is same)
     where
       one : (b : Bool) → length (filter q (slice_set xs k new)) ≡ length (filter q xs) → length (cond b (x ∷ filter q (slice_set xs k new)) (filter q (slice_set xs k new))) ≡ length (cond b (x ∷ filter q xs) (filter q xs))
-      one true e = ap (λ (n : ℕ). 1 + n) e
+      one true e = ap suc e
       one false e = e
 
   pub set_any : (q : X → Bool) (xs : List X) (k : ℕ) (old new : X) → slice_get xs k ≡ Some old → q new ≡ q old → list_any q (slice_set xs k new) ≡ list_any q xs
@@ -289,19 +305,12 @@ module _ {X : Type 0} where
   pub removed_all : (P Q : X → Type 0) (p : X → Bool) → ((x : X) → p x ≡ false → P x → Q x) → (xs : List X) → AllByRecursion P xs → length (filter p xs) ≤ 1
       → AllByRecursion Q (remove xs (position_or_len p xs))
   removed_all P Q p so [] all once = tt
-  removed_all P Q p so (x ∷ xs) all once = one (p x) refl once
+  removed_all P Q p so (x ∷ xs) all once = one (p x) refl once (removed_all P Q p so xs all.1)
     where
-      one : (b : Bool) → p x ≡ b → length (cond b (x ∷ filter p xs) (filter p xs)) ≤ 1 → AllByRecursion Q (remove (x ∷ xs) (cond (not b) (1 + position_or_len p xs) 0))
-      one true e o = all_but P Q p so xs (none_after xs (omega (arith, o))) all.1
-        where
-          none_after : (ys : List X) → length (filter p ys) ≤ 0 → list_any p ys ≡ false
-          none_after [] l = refl
-          none_after (y ∷ ys) l = two (p y) l
-            where
-              two : (b : Bool) → length (cond b (y ∷ filter p ys) (filter p ys)) ≤ 0 → (b || list_any p ys) ≡ false
-              two true l2 = absurd (omega (arith, l2))
-              two false l2 = none_after ys l2
-      one false e o = (so x e all.0, removed_all P Q p so xs all.1 o)
+      one : (b : Bool) → p x ≡ b → length (cond b (x ∷ filter p xs) (filter p xs)) ≤ 1 → (length (filter p xs) ≤ 1 → AllByRecursion Q (remove xs (position_or_len p xs)))
+          → AllByRecursion Q (remove (x ∷ xs) (cond (not b) (1 + position_or_len p xs) 0))
+      one true e o ih = all_but P Q p so xs (none_after p xs (omega (arith, o))) all.1
+      one false e o ih = subst (λ (n : ℕ). AllByRecursion Q (remove (x ∷ xs) n)) (one_more (position_or_len p xs)) (so x e all.0, ih o)
 
   pub removed_count : (q : X → Bool) (xs : List X) (k : ℕ) → length (filter q (remove xs k)) ≤ length (filter q xs)
   removed_count q [] zero = omega arith
@@ -318,7 +327,7 @@ module _ {X : Type 0} where
       one false l = l
 
   pub removed_any : (q : X → Bool) (xs : List X) (k : ℕ) (old : X) → slice_get xs k ≡ Some old → q old ≡ false → list_any q (remove xs k) ≡ list_any q xs
-  removed_any q [] zero old is no = refl
-  removed_any q [] (suc k) old is no = refl
-  removed_any q (x ∷ xs) zero old is no = let e : x ≡ old = cc is in ap (λ (b : Bool). b || list_any q xs) (sym (ap q e ∙ no))
-  removed_any q (x ∷ xs) (suc k) old is no = ap (λ (b : Bool). q x || b) (removed_any q xs k old is no)
+  removed_any q [] zero old is fails = refl
+  removed_any q [] (suc k) old is fails = refl
+  removed_any q (x ∷ xs) zero old is fails = let e : x ≡ old = cc is in ap (λ (b : Bool). b || list_any q xs) (sym (ap q e ∙ fails))
+  removed_any q (x ∷ xs) (suc k) old is fails = ap (λ (b : Bool). q x || b) (removed_any q xs k old is fails)

@@ -59,7 +59,7 @@ module _ {K V S : Type 0} (same : K → K → Bool) (hash : K → ℕ) (terms : 
   pub setting_some : is_some setting ≡ is_some (map_of own m)
   setting_some = by (number_named own p.maps.items) refl ∙ sym map_some
     where
-      one : (n : ℕ) (o : Option Setting) (x : Setting) → o ≡ Some x → is_some (option_map (λ setting. (n, setting)) o) ≡ true
+      one : (n : ℕ) (o : Option Setting) (x : Setting) → o ≡ Some x → is_some (option_map {U = ℕ × Setting} (λ setting. (n, setting)) o) ≡ true
       one n None x e = absurd (cc e)
       one n (Some y) x e = refl
 
@@ -78,7 +78,7 @@ module _ {K V S : Type 0} (same : K → K → Bool) (hash : K → ℕ) (terms : 
       Found : Type 0
       Found = (number_of own m ≡ Some number) × (standing : Standing K) × (stands.scene.maps number ≡ Some standing) × (standing.setting ≡ found)
 
-      parts : (n : ℕ) (o : Option Setting) (x : Setting) → o ≡ Some x → option_map (λ setting. (n, setting)) o ≡ Some (number, found) → (n ≡ number) × (x ≡ found)
+      parts : (n : ℕ) (o : Option Setting) (x : Setting) → o ≡ Some x → option_map {U = ℕ × Setting} (λ setting. (n, setting)) o ≡ Some (number, found) → (n ≡ number) × (x ≡ found)
       parts n None x e f = absurd (cc e)
       parts n (Some y) x e f = (ap (λ z. z.0) (the (n, y) (number, found) f), (let h : y ≡ x = cc e in sym h ∙ ap (λ z. z.1) (the (n, y) (number, found) f)))
         where

@@ -16,7 +16,7 @@ module _ {K V S : Type 0} (same : K → K → Bool) (hash : K → ℕ) (terms : 
       is_at = stands.shown.is_at;
       shows = shown_elsewhere m (known p.logged.notes) events m.is_mapped m.is_closed is_alone m.there slots sheltered m.remains same stands.name stands.scene stands.shown.shows;
     };
-    terms = stands.terms;
+    given = stands.given;
     there = stands.there;
     mapped = stands.mapped;
     closed = stands.closed;

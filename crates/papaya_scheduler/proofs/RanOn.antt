@@ -43,11 +43,11 @@ same_named t f = by (f.number == t.map)
     by true = refl
     by false = refl
 
-module _ {K V : Type 0} where
-  one_named : (effect : Effect) (maps : List MapThere) → map named (maps_by effect maps) ≡ map named maps
-  one_named (Promoted t) maps = unseen named (promoted t) (same_named t) maps
-  one_named _ maps = refl
+one_named : (effect : Effect) (maps : List MapThere) → map named (maps_by effect maps) ≡ map named maps
+one_named (Promoted t) maps = unseen named (promoted t) (same_named t) maps
+one_named _ maps = refl
 
+module _ {K V : Type 0} where
   pub maps_named : (caller : Option (List ℕ)) (acted : Option ℕ) (effects : List Effect) (m : Moment K V) → map named (with_effects caller acted effects m).maps ≡ map named m.maps
   maps_named caller acted [] m = refl
   maps_named caller acted (f ∷ effects) m = maps_named caller acted effects (with_effect caller acted f m) ∙ one_named f m.maps
@@ -116,7 +116,7 @@ module _ {K V S : Type 0} (same : K → K → Bool) (hash : K → ℕ) (terms : 
         is_at = to.2.is_at;
         shows = shown_elsewhere w (known new.notes) events m.is_mapped m.is_closed is_alone there slots sheltered remains same stands.name then_at to.2.shows;
       };
-      terms = stands.terms;
+      given = stands.given;
       there = is;
       mapped = stands.mapped;
       closed = stands.closed;

@@ -74,7 +74,7 @@ use Rattle.papaya_scheduler.proofs.Here.{Here, here_at, there_is}
 use Rattle.papaya_scheduler.proofs.Lists.{both_some, changed_at, found_alike, set_all, set_any, set_count}
 use Rattle.papaya_scheduler.proofs.Quiet.{stands_on}
 use Rattle.papaya_scheduler.proofs.Takes.{key_takes, sweep_takes}
-use Rattle.papaya_scheduler.proofs.Turns.{in_turn, out_of_turn, plays, quiet}
+use Rattle.papaya_scheduler.proofs.Rights.{in_turn, out_of_turn, plays, quiet}
 
 -- What a call on a key was begun with, and told since, says of which kind it is.
 of_kind : {K V : Type 0} (hash : K → ℕ) (m : Mem (Node K V)) (c : Chart K) (blocks : Blocks) (keys : K → Bool) (pair : Given K V) (change : Change) (p : KeyCall K V K) (stands : Calling)
@@ -169,9 +169,9 @@ module _ {K V S : Type 0} (same : K → K → Bool) (hash : K → ℕ) (terms : 
   wanted o = o ≡ Goes
 
   busy : fits_reply (call_of own m) reply ≡ false → Plays same hash terms log (quiet (Replied own reply) (Refused Busy)) p
-  busy no =
+  busy fails =
       let e = quiet (Replied own reply) (Refused Busy) in
-      plays same hash terms log (Replied own reply) p due e refl (out_of_turn wanted (fits_reply (call_of own m) reply) (Refused Busy) no refl)
+      plays same hash terms log (Replied own reply) p due e refl (out_of_turn wanted (fits_reply (call_of own m) reply) (Refused Busy) fails refl)
       (stands_on same hash terms m p stands (m.events + 1) (m.is_alone && is_alone_on e m) m.slots m.sheltered)
 
   pub nobody : position (is_named own) calls ≡ None → Plays same hash terms log (quiet (Replied own reply) (Refused Busy)) p
@@ -198,7 +198,7 @@ module _ {K V S : Type 0} (same : K → K → Bool) (hash : K → ℕ) (terms : 
 
     -- one that does not take it
     pub takes_none : (x : Caller V) → slice_get calls place ≡ Some x → takes x reply ≡ false → Plays same hash terms log (quiet (Replied own reply) (Refused Busy)) p
-    takes_none x at no = busy (fits_here ∙ ap (λ (y : Caller V). takes y reply) (the d x (sym here.at ∙ at)) ∙ no)
+    takes_none x at fails = busy (fits_here ∙ ap (λ (y : Caller V). takes y reply) (the d x (sym here.at ∙ at)) ∙ fails)
       where
         the : (a b : Caller V) → Some a ≡ Some b → a ≡ b
         the a b e = cc e
@@ -257,7 +257,7 @@ module _ {K V S : Type 0} (same : K → K → Bool) (hash : K → ℕ) (terms : 
               the : (a b : CallThere K V) → Some a ≡ Some b → a ≡ b
               the a b e = cc e
 
-          abbrev together : Together V same st.0.hash same st.0.setting slot_of s.world st.0.chart st.0.blocks st.0.sights (s.calls d.map)
+          together : Together V same st.0.hash same st.0.setting slot_of s.world st.0.chart st.0.blocks st.0.sights (s.calls d.map)
           together = stands.shown.is_at.together.makings.standing.each d.map st.0 st.1
 
           asked_as : IsAskedAs (stands.shown.shows.all.shown.number d.map) st.0.chart.stored (known p.logged.notes) x c.call c
@@ -395,7 +395,7 @@ module _ {K V S : Type 0} (same : K → K → Bool) (hash : K → ℕ) (terms : 
             name = stands.name;
             scene = then_at;
             shown = shown;
-            terms = stands.terms;
+            given = stands.given;
             there = stands.there;
             mapped = stands.mapped;
             closed = stands.closed;

@@ -25,7 +25,7 @@ use Rattle.papaya_scheduler.proofs.Lists.{all_but, any_alike}
 use Rattle.papaya_scheduler.proofs.Names.{forgets_named}
 use Rattle.papaya_scheduler.proofs.Quiet.{stands_on}
 use Rattle.papaya_scheduler.proofs.There.{forgets_used, living_is, others_found}
-use Rattle.papaya_scheduler.proofs.Turns.{in_turn, out_of_turn, plays, quiet}
+use Rattle.papaya_scheduler.proofs.Rights.{in_turn, out_of_turn, plays, quiet}
 
 module _ {K V S : Type 0} (same : K → K → Bool) (hash : K → ℕ) (terms : Terms) (m : Moment K V) (p : Scheduler K V S) (stands : StandsFor same hash terms m p) where
   -- others are there, each call has its guard still, and slots are used as before
@@ -39,7 +39,7 @@ module _ {K V S : Type 0} (same : K → K → Bool) (hash : K → ℕ) (terms : 
       is_at = stands.shown.is_at;
       shows = shown_elsewhere m (known p.logged.notes) events m.is_mapped m.is_closed is_alone there slots sheltered m.remains same stands.name stands.scene stands.shown.shows;
     };
-    terms = stands.terms;
+    given = stands.given;
     there = is;
     mapped = stands.mapped;
     closed = stands.closed;

@@ -16,7 +16,7 @@ use Rattle.papaya_schedules.specs.Terms.{Terms}
 use Rattle.papaya_scheduler.specs.Played.{IsDue, Plays, StandsFor}
 use Rattle.papaya_scheduler.specs.declared.scheduler.Scheduler.{Scheduler}
 use Rattle.papaya_scheduler.proofs.Quiet.{stands_on}
-use Rattle.papaya_scheduler.proofs.Turns.{in_turn, out_of_turn, plays, quiet}
+use Rattle.papaya_scheduler.proofs.Rights.{in_turn, out_of_turn, plays, quiet}
 
 -- what an event comes to that does nothing
 abbrev pub if_so : {V : Type 0} → Bool → Outcome V

@@ -48,7 +48,7 @@ use Rattle.papaya_scheduler.proofs.Facts.{no_ending_of, no_making_of, no_work_at
 use Rattle.papaya_scheduler.proofs.Here.{Here, here_at, there_is}
 use Rattle.papaya_scheduler.proofs.Lists.{one_of, removed_all, removed_any, removed_at, removed_count}
 use Rattle.papaya_scheduler.proofs.Quiet.{stands_on}
-use Rattle.papaya_scheduler.proofs.Turns.{in_turn, out_of_turn, plays, quiet}
+use Rattle.papaya_scheduler.proofs.Rights.{in_turn, out_of_turn, plays, quiet}
 
 shows_seen : (stands : Stands) → is_ready stands ≡ shows (far_of stands)
 shows_seen Going = refl
@@ -104,7 +104,7 @@ module _ {K V S : Type 0} (same : K → K → Bool) (hash : K → ℕ) (terms : 
             shows_here place (sym e) ∙ one place (here place (sym e)).caller (slice_get calls place) (here place (sym e)).at
             ∙ sym (ap (λ (o : Option ℕ). is_some (if_ready calls o)) e)
 
-    ready_parts : (place : ℕ) → Some place ≡ ready_place own calls → (Some place ≡ position (is_named own) calls) × (is_ready_there (slice_get calls place) ≡ true)
+    pub ready_parts : (place : ℕ) → Some place ≡ ready_place own calls → (Some place ≡ position (is_named own) calls) × (is_ready_there (slice_get calls place) ≡ true)
     ready_parts place is = by (position (is_named own) calls) refl is
       where
         by : (o : Option ℕ) → position (is_named own) calls ≡ o → Some place ≡ if_ready calls o → (Some place ≡ position (is_named own) calls) × (is_ready_there (slice_get calls place) ≡ true)
@@ -252,7 +252,7 @@ module _ {K V S : Type 0} (same : K → K → Bool) (hash : K → ℕ) (terms : 
             st : (standing : Standing K) × (s.maps d.map ≡ Some standing)
             st = standing_is same hash p.logged.executor s stands.shown.is_at d.map i u under
 
-            abbrev together : Together V same st.0.hash same st.0.setting slot_of s.world st.0.chart st.0.blocks st.0.sights (s.calls d.map)
+            together : Together V same st.0.hash same st.0.setting slot_of s.world st.0.chart st.0.blocks st.0.sights (s.calls d.map)
             together = stands.shown.is_at.together.makings.standing.each d.map st.0 st.1
 
             at_ready : o.sweep.stands ≡ sweeping.Ready
@@ -293,7 +293,7 @@ module _ {K V S : Type 0} (same : K → K → Bool) (hash : K → ℕ) (terms : 
           name = stands.name;
           scene = then_at;
           shown = shown;
-          terms = stands.terms;
+          given = stands.given;
           there = stands.there;
           mapped = stands.mapped;
           closed = stands.closed;

@@ -47,15 +47,15 @@ module _ {K V : Type 0} (known : Known) (c : KeyCall K V K) where
 
   -- a change, where it takes changes,
   changes_taken : (it : Asking) (question : Option ℕ) → IsQuestion known it question → c.replies.takes ≡ takes.Changes → (told : Reply V) → not (is_choice told) ≡ true → TakesIt it told
-  changes_taken (asking.Absent gap) question is takes (Gives v) no = subst (λ (t : Takes). (absent_told t c gap (reply.Insert v)).1 ≡ Ok tt) (sym takes) refl
-  changes_taken (asking.Absent gap) question is takes Removes no = subst (λ (t : Takes). (absent_told t c gap reply.Remove).1 ≡ Ok tt) (sym takes) refl
-  changes_taken (asking.Absent gap) question is takes (Aborts w) no = subst (λ (t : Takes). (absent_told t c gap reply.Abort).1 ≡ Ok tt) (sym takes) refl
-  changes_taken (asking.Present word) question is takes (Gives v) no = subst (λ (t : Takes). (present_told t c word (reply.Insert v)).1 ≡ Ok tt) (sym takes) refl
-  changes_taken (asking.Present word) question is takes Removes no = subst (λ (t : Takes). (present_told t c word reply.Remove).1 ≡ Ok tt) (sym takes) refl
-  changes_taken (asking.Present word) question is takes (Aborts w) no = subst (λ (t : Takes). (present_told t c word reply.Abort).1 ≡ Ok tt) (sym takes) refl
-  changes_taken (asking.Fills word) question is takes told no = absurd is
-  changes_taken (asking.GivesUp word) question is takes told no = absurd is
-  changes_taken it question is takes (Decides b) no = absurd (cc no)
+  changes_taken (asking.Absent gap) question is takes (Gives v) plain = subst (λ (t : Takes). (absent_told t c gap (reply.Insert v)).1 ≡ Ok tt) (sym takes) refl
+  changes_taken (asking.Absent gap) question is takes Removes plain = subst (λ (t : Takes). (absent_told t c gap reply.Remove).1 ≡ Ok tt) (sym takes) refl
+  changes_taken (asking.Absent gap) question is takes (Aborts w) plain = subst (λ (t : Takes). (absent_told t c gap reply.Abort).1 ≡ Ok tt) (sym takes) refl
+  changes_taken (asking.Present word) question is takes (Gives v) plain = subst (λ (t : Takes). (present_told t c word (reply.Insert v)).1 ≡ Ok tt) (sym takes) refl
+  changes_taken (asking.Present word) question is takes Removes plain = subst (λ (t : Takes). (present_told t c word reply.Remove).1 ≡ Ok tt) (sym takes) refl
+  changes_taken (asking.Present word) question is takes (Aborts w) plain = subst (λ (t : Takes). (present_told t c word reply.Abort).1 ≡ Ok tt) (sym takes) refl
+  changes_taken (asking.Fills word) question is takes told plain = absurd is
+  changes_taken (asking.GivesUp word) question is takes told plain = absurd is
+  changes_taken it question is takes (Decides b) plain = absurd (cc plain)
 
   -- and a choice, where it takes choices: it asks about pairs alone
   choices_taken : (it : Asking) (question : Option ℕ) → IsQuestion known it question → c.replies.takes ≡ takes.Choices → FitsAsking there.Asks missing.Answers takes.Choices it

@@ -2,6 +2,7 @@
 use Rattle.std.specs.Prelude.{◌==◌, ◌&&◌, ◌||◌, not, cond, filter, is_some, option_map, Option, Some, None, if◌then◌else◌}
 use Rattle.std.specs.List.{list_any}
 use Rattle.std.proofs.Common.{◌≡◌, ◌≢◌, ℕ, ◌+◌, ◌≤◌, ◌<◌, Bool, true, false, List, [], ◌∷◌, ◌++◌, refl, sym, ap, subst, ◌∙◌, arith}
+use Rattle.std.proofs.lemmas.Bool.{eq-eqb}
 use Rattle.papaya_runs.specs.declared.holders.Guard.{Guard}
 use Rattle.papaya_runs.specs.declared.holders.Registration.{Registration}
 use Rattle.papaya_runs.specs.Present.{Present, guard_of, guards_named, guards_on, living_on, living_slot, registration_of, has_registration, forgotten_if, forgets, enters_slot, drops, slot_of_registration, slot_or}
@@ -121,10 +122,10 @@ on_its_slot name (g ∷ guards) slot e = at (is_same g.name name) e (on_its_slot
   where
     same_slot : (f : Bool) → (if f then None else Some g.slot) ≡ Some slot → (g.slot == slot) ≡ true
     same_slot true h = absurd (cc h)
-    same_slot false h = let s : g.slot ≡ slot = cc h in grind (arith, s)
+    same_slot false h = let s : g.slot ≡ slot = cc h in eq-eqb g.slot slot s
 
     more : (q : Bool) → (g.slot == slot) ≡ q → q ≡ true → (if g.slot == slot then 1 else 0) + guards_on slot guards ≢ 0
-    more q h t = λ z. omega (arith, z, ap (λ (b : Bool). if b then 1 else 0) (h ∙ t))
+    more q h t = λ z. let c = ap {B = ℕ} (λ (b : Bool). if b then 1 else 0) (h ∙ t) in omega (arith, z, c)
 
     at : (b : Bool) → living_slot (cond b (Some g) (guard_of name guards)) ≡ Some slot → (living_slot (guard_of name guards) ≡ Some slot → guards_on slot guards ≢ 0)
         → (if g.slot == slot then 1 else 0) + guards_on slot guards ≢ 0

@@ -36,10 +36,10 @@ use Rattle.papaya_scheduler.proofs.Facts.{slot_fits}
 use Rattle.papaya_scheduler.proofs.Quiet.{stands_on}
 use Rattle.papaya_scheduler.proofs.Ran.{done_once, led_once, over_once}
 use Rattle.papaya_scheduler.proofs.RanOn.{nobody_in, stands_ran, there_stays}
-use Rattle.papaya_scheduler.proofs.Registrations.{found_has, none_then, others_then, slot_found, unregisters_named}
+use Rattle.papaya_scheduler.proofs.Registered.{found_has, none_then, others_then, slot_found, unregisters_named}
 use Rattle.papaya_scheduler.proofs.Seats.{stands_there}
 use Rattle.papaya_scheduler.proofs.There.{is_inside, is_outside, is_vacant, registered_is, slot_is, slot_some, used_alike}
-use Rattle.papaya_scheduler.proofs.Turns.{entry, in_turn, out_of_turn, plays, quiet}
+use Rattle.papaya_scheduler.proofs.Rights.{entry, in_turn, out_of_turn, plays, quiet}
 
 module _ {K V S : Type 0} (same : K → K → Bool) (hash : K → ℕ) (terms : Terms) (log : List (Entry K V)) (p : Scheduler K V S) (registration : List ℕ)
     (due : IsDue same hash terms log (Unregister registration) p) where
@@ -53,9 +53,9 @@ module _ {K V S : Type 0} (same : K → K → Bool) (hash : K → ℕ) (terms : 
   turn = is_registered registration m.there && (living_on (slot_of_registration registration m.there) m.there.guards == 0)
 
   busy : turn ≡ false → Plays same hash terms log (quiet (Unregister registration) (Refused Busy)) p
-  busy no =
+  busy fails =
       let e = quiet (Unregister registration) (Refused Busy) in
-      plays same hash terms log (Unregister registration) p due e refl (out_of_turn IsDone turn (Refused Busy) no refl)
+      plays same hash terms log (Unregister registration) p due e refl (out_of_turn IsDone turn (Refused Busy) fails refl)
       (stands_on same hash terms m p stands (m.events + 1) (m.is_alone && is_alone_on e m) m.slots m.sheltered)
 
   registered : is_registered registration m.there ≡ is_some (option_map (λ r. r.slot) (registration_of registration p.there.registrations))

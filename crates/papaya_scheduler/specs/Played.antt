@@ -75,7 +75,7 @@ pub record StandsFor {K V S : Type 0} (same : K → K → Bool) (hash : K → �
   pub name : ℕ → List ℕ
   pub scene : Scene K V
   pub shown : IsShown same hash name m p.logged scene
-  pub terms : terms_given p.given ≡ terms
+  pub given : terms_given p.given ≡ terms
   pub there : m.there ≡ p.there
   pub mapped : m.is_mapped ≡ p.is_mapped
   pub closed : m.is_closed ≡ p.is_closed
@@ -163,4 +163,4 @@ module _ {K V S : Type 0} (same : K → K → Bool) (hash : K → ℕ) where
   pub record BeginsSo (terms : Terms) (m : Moment K V) (own guard map : List ℕ) (call : Call K V) (begun : Bool) (old new : Scheduler K V S) : Type 0 where
     pub so : begun ≡ (is_none (call_of own m) && is_living guard m.there && is_some (map_of map m))
     pub none : begun ≡ false → new ≡ old
-    pub then : begun ≡ true → StandsFor same hash terms (with_call own guard call (number_of map m) m) new
+    pub stands : begun ≡ true → StandsFor same hash terms (with_call own guard call (number_of map m) m) new

@@ -1,5 +1,5 @@
 //! An event of a schedule happens.
-ghost use Rattle.std.specs.Prelude.{◌≡◌, ℕ, Bool, true, false, List, IfOk, if◌then◌else◌};
+ghost use Rattle.std.specs.Prelude.{[], ◌≡◌, ℕ, Bool, true, false, List, IfOk, if◌then◌else◌};
 ghost use Rattle.papaya_schedules.specs.Entry.{Entry};
 ghost use Rattle.papaya_schedules.specs.Terms.{Terms};
 ghost use Rattle.papaya_schedules.specs.declared.event.Event.TheVariants as event;

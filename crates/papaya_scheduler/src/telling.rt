@@ -50,27 +50,34 @@ fn answer_on<V: Drop>(
 ) -> Answer<V>
     ensures { result ≡ answer_on (known notes.now) kind value said }
 {
-    match (kind, said) {
-        (Kind::Computes, KeyAnswer::Absent | KeyAnswer::Found(_)) => aborted_with(value),
-        (Kind::Computes, KeyAnswer::Stored(new)) => Answer::Inserted(number_by(notes, new)),
-        (Kind::Computes, KeyAnswer::Replaced { old, new }) => Answer::Updated {
-            old: number_by(notes, old),
-            new: number_by(notes, new),
+    match said {
+        KeyAnswer::Absent => match kind {
+            Kind::Computes => aborted_with(value),
+            _ => Answer::Absent,
         },
-        (Kind::Computes, KeyAnswer::Removed(old)) => Answer::Removed(number_by(notes, old)),
-        (Kind::Inserts, KeyAnswer::Stored(_)) | (_, KeyAnswer::Absent) => Answer::Absent,
-        (Kind::TriesToInsert, KeyAnswer::Found(there)) => {
-            occupied_by(number_by(notes, there), value)
-        }
-        (Kind::TriesToInsertWith | Kind::RemovesIf, KeyAnswer::Found(there)) => {
-            Answer::Kept(number_by(notes, there))
-        }
-        (Kind::Updates, KeyAnswer::Replaced { new, .. }) | (_, KeyAnswer::Stored(new)) => {
-            Answer::Stored(number_by(notes, new))
-        }
-        (_, KeyAnswer::Found(old) | KeyAnswer::Removed(old) | KeyAnswer::Replaced { old, .. }) => {
-            Answer::Found(number_by(notes, old))
-        }
+        KeyAnswer::Found(there) => match kind {
+            Kind::Computes => aborted_with(value),
+            Kind::TriesToInsert => occupied_by(number_by(notes, there), value),
+            Kind::TriesToInsertWith | Kind::RemovesIf => Answer::Kept(number_by(notes, there)),
+            _ => Answer::Found(number_by(notes, there)),
+        },
+        KeyAnswer::Stored(new) => match kind {
+            Kind::Computes => Answer::Inserted(number_by(notes, new)),
+            Kind::Inserts => Answer::Absent,
+            _ => Answer::Stored(number_by(notes, new)),
+        },
+        KeyAnswer::Replaced { old, new } => match kind {
+            Kind::Computes => Answer::Updated {
+                old: number_by(notes, old),
+                new: number_by(notes, new),
+            },
+            Kind::Updates => Answer::Stored(number_by(notes, new)),
+            _ => Answer::Found(number_by(notes, old)),
+        },
+        KeyAnswer::Removed(old) => match kind {
+            Kind::Computes => Answer::Removed(number_by(notes, old)),
+            _ => Answer::Found(number_by(notes, old)),
+        },
     }
 }
 

@@ -23,7 +23,7 @@ fn is_of<K, V>(event: &Event<K, V>, name: &Token) -> bool
         | Event::Step { caller, .. }
         | Event::Go { caller, .. }
         | Event::Next { caller } => name.is(caller),
-        Event::OneCall { .. } => name.as_bytes() == b"-",
+        Event::OneCall { .. } => name.as_bytes() == b"-".as_slice(),
         _ => false,
     }
 }

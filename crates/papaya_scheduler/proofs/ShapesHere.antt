@@ -1,8 +1,8 @@
 -- The tables of a map from its root on are those that a moment of the run has.
 use Rattle.std.specs.Prelude.{◌-◌, ◌⊎◌, ◌^◌, ◌&&◌, nat_le, filter, map, is_some, Option, Some, None}
-use Rattle.std.proofs.Common.{◌≡◌, ℕ, zero, suc, ◌+◌, ◌≤◌, ◌<◌, Bool, true, false, cond, List, [], ◌∷◌, ◌++◌, refl, ap, sym, subst, ◌∙◌, inl, inr, arith, map-append}
+use Rattle.std.proofs.Common.{◌≡◌, ℕ, zero, suc, ◌+◌, ◌≤◌, ◌<◌, Bool, true, false, cond, List, [], ◌∷◌, ◌++◌, refl, ap, sym, subst, ◌∙◌, inl, inr, arith}
 use Rattle.std.proofs.lemmas.Bool.{cases_lt}
-use Rattle.std.proofs.lemmas.List.{append-nil}
+use Rattle.std.proofs.lemmas.List.{append-nil, map-append}
 use Rattle.std.proofs.lemmas.List.Elements.{filter-append}
 use Rattle.seize_words.specs.Mem.{Mem}
 use Rattle.seize_words.specs.declared.fault.Fault.TheVariants.{Busy}
@@ -31,7 +31,7 @@ use Rattle.papaya_scheduler.specs.Shapes.{shape_of}
 use Rattle.papaya_scheduler.specs.declared.scheduler.Scheduler.{Scheduler}
 use Rattle.papaya_scheduler.proofs.Maps.{setting_of_it, setting_some}
 use Rattle.papaya_scheduler.proofs.Quiet.{stands_on}
-use Rattle.papaya_scheduler.proofs.Turns.{in_turn, out_of_turn, plays, quiet}
+use Rattle.papaya_scheduler.proofs.Rights.{in_turn, out_of_turn, plays, quiet}
 
 module _ {K : Type 0} (c : Chart K) (blocks : Blocks) where
   -- one table more at the end
@@ -51,7 +51,7 @@ module _ {K : Type 0} (c : Chart K) (blocks : Blocks) where
     above : (a b : ℕ) → b < a → nat_le a b ≡ false
     above a b l = grind (arith, l)
 
-    last : ℕ → List TableThere
+    abbrev last : ℕ → List TableThere
     last t = record { table = record { map = number; turn = t }; shape = record { len = c.len t; limit = c.limit t }; stage = stage t } ∷ []
 
     -- none is so late
@@ -64,20 +64,20 @@ module _ {K : Type 0} (c : Chart K) (blocks : Blocks) where
     -- those from a turn on
     pub shapes_from : (f p : ℕ) → f ≤ p → map (λ t. t.shape) (filter (is_from f) (tables_to number c stage p)) ≡ map shape_of (tables_on c blocks f (p - f))
     shapes_from f zero l = ap (λ (k : ℕ). map shape_of (tables_on c blocks f k)) (let e : 0 ≡ 0 - f = omega arith in e)
-    shapes_from f (suc q) l = by (cases_lt q f)
+    shapes_from f (suc q) l = by (cases_lt q f) (shapes_from f q)
       where
         Goal : Type 0
         Goal = map (λ t. t.shape) (filter (is_from f) (tables_to number c stage (suc q))) ≡ map shape_of (tables_on c blocks f (suc q - f))
 
-        by : (q < f) ⊎ (f ≤ q) → Goal
-        by (inl late) =
+        by : (q < f) ⊎ (f ≤ q) → (f ≤ q → map (λ t. t.shape) (filter (is_from f) (tables_to number c stage q)) ≡ map shape_of (tables_on c blocks f (q - f))) → Goal
+        by (inl late) ih =
             ap (map (λ t. t.shape)) (none_from f (suc q) (omega (arith, late)))
             ∙ ap (λ (k : ℕ). map shape_of (tables_on c blocks f k)) (let e : 0 ≡ suc q - f = omega (arith, late, l) in e)
-        by (inr early) =
+        by (inr early) ih =
             ap (map (λ t. t.shape)) (filter-append (is_from f) (tables_to number c stage q) (last q))
             ∙ ap (λ (b : Bool). map (λ t. t.shape) (filter (is_from f) (tables_to number c stage q) ++ cond b (last q) [])) (below f q early)
             ∙ map-append (λ t. t.shape) (filter (is_from f) (tables_to number c stage q)) (last q)
-            ∙ ap (λ (xs : List TableShape). xs ++ map (λ t. t.shape) (last q)) (shapes_from f q early)
+            ∙ ap (λ (xs : List TableShape). xs ++ map (λ t. t.shape) (last q)) (ih early)
             ∙ ap (λ (x : ℕ). map shape_of (tables_on c blocks f (q - f)) ++ map shape_of (table_of c blocks x ∷ [])) (let e : q ≡ f + (q - f) = omega (arith, early) in e)
             ∙ sym (map-append shape_of (tables_on c blocks f (q - f)) (table_of c blocks (f + (q - f)) ∷ []))
             ∙ ap (map shape_of) (sym (one_more f (q - f))) ∙ ap (λ (k : ℕ). map shape_of (tables_on c blocks f k)) (let e : suc (q - f) ≡ suc q - f = omega (arith, early) in e)
@@ -104,10 +104,10 @@ module _ {K V S : Type 0} (same : K → K → Bool) (hash : K → ℕ) (terms : 
     abbrev st : Standing K
     st = its.1
 
-    pub chart_there : Chart K
+    abbrev pub chart_there : Chart K
     chart_there = st.chart
 
-    pub blocks_there : Blocks
+    abbrev pub blocks_there : Blocks
     blocks_there = st.blocks
 
     -- the words of the map are those of its tables
