@@ -34,7 +34,7 @@ use Rattle.papaya_executor.specs.declared.worker.TheConstants.{SLOTS}
 use Rattle.papaya_logged.specs.Ended.{has_ended, uses_ended}
 use Rattle.papaya_logged.specs.declared.logged.Logged.{Logged}
 use Rattle.papaya_scheduler.specs.Played.{IsDue, IsUnderWay, Plays, StandsFor, used_as}
-use Rattle.papaya_scheduler.specs.Rows.{RowRan, TakesRetired}
+use Rattle.papaya_scheduler.specs.Rows.{RowRan, RowRanOn, TakesRetired}
 use Rattle.papaya_scheduler.specs.declared.caller.Caller.{Caller}
 use Rattle.papaya_scheduler.specs.declared.scheduler.Scheduler.{Scheduler}
 use Rattle.papaya_scheduler.proofs.Facts.{slot_fits}
@@ -218,3 +218,26 @@ module _ {K V S : Type 0} (same : K → K → Bool) (hash : K → ℕ) (terms : 
             (over_once same hash stands.name m stands.scene p.logged logged stands.shown slot call.Enter said before after ran may_enter tt) takes there2 each_now use_now
             (enters_named guard slot p.there (none_is (guard_of guard p.there.guards) none) stands.names) (there_on {K = K} {V = V} (Enter guard registration) Done w.there)
             (there_now w.there (there_stays None None ran.did m ∙ stands.there)) (m.events + 1) (m.is_alone && is_alone_on e m) m.slots w.sheltered m.remains))
+
+-- so it is, by what the code does
+module _ {K V S : Type 0} (same : K → K → Bool) (hash : K → ℕ) (terms : Terms) (log : List (Entry K V)) (p : Scheduler K V S) (guard registration : List ℕ)
+    (due : IsDue same hash terms log (Enter guard registration) p) (none : is_some (guard_of guard p.there.guards) ≡ false) (slot : ℕ)
+    (found : option_map (λ r. r.slot) (registration_of registration p.there.registrations) ≡ Some slot) (few : nat_lt (guards_on slot p.there.guards) MOST_GUARDS ≡ true)
+    (p2 : Scheduler K V S) (effects : List Effect) (there : Present) (is : there ≡ enters_slot guard slot p2.there) where
+  abbrev Comes : Scheduler K V S → List Effect → Type 0
+  Comes q did = Plays same hash terms log (entry (Enter guard registration) Done 0 did) (record q { there = there })
+
+  pub joined : guards_on slot p.there.guards ≢ 0 → p2 ≡ p → effects ≡ [] → Comes p2 effects
+  joined some same_p no_effects =
+      subst (λ (q : Scheduler K V S). Comes q effects) (sym same_p)
+      (subst (λ (did : List Effect). Comes p did) (sym no_effects)
+      (entered same hash terms log p guard registration due none slot found few some there (is ∙ ap (λ (q : Scheduler K V S). enters_slot guard slot q.there) same_p)))
+
+  pub joined_first : guards_on slot p.there.guards ≡ 0 → (before after : List Effect) → before ≡ [] → effects ≡ after → (q : Scheduler K V S) → p2 ≡ q → q ≡ record p { logged = q.logged }
+      → RowRanOn slot call.Enter before after p.logged q.logged → TakesRetired effects (moment log) → Comes p2 effects
+  joined_first first before after no_effects same_effects q same_q same_p (said, ran) takes =
+      let did : effects ≡ ran.did = same_effects ∙ ran.follows ∙ ap (λ (xs : List Effect). xs ++ ran.did) no_effects in
+      subst (λ (x : Scheduler K V S). Comes x effects) (sym (same_q ∙ same_p))
+      (subst (λ (xs : List Effect). Comes (record p { logged = q.logged }) xs) (sym did)
+      (entered_first same hash terms log p guard registration due none slot found first said before after q.logged ran (subst (λ (xs : List Effect). TakesRetired xs (moment log)) did takes) few
+      there (is ∙ ap (λ (x : Scheduler K V S). enters_slot guard slot x.there) (same_q ∙ same_p))))

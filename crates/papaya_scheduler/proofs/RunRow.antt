@@ -1,6 +1,6 @@
 -- A row on a slot begins, and runs: what is told of that.
 use Rattle.std.specs.Prelude.{◌≡◌, ℕ, Bool, true, List, Option, Some}
-use Rattle.std.proofs.Common.{refl, sym, ap, subst, ◌∙◌}
+use Rattle.std.proofs.Common.{◌<◌, ◌+◌, ◌*◌, refl, sym, ap, subst, ◌∙◌, arith}
 use Rattle.papaya_tables.specs.declared.node.Node.{Node}
 use Rattle.papaya_schedules.specs.declared.effect.Effect.{Effect}
 use Rattle.papaya_schedules.specs.Moment.{Moment}
@@ -11,12 +11,16 @@ use Rattle.papaya_executor.specs.declared.row.RowTold.{RowTold}
 use Rattle.papaya_executor.specs.declared.row.SlotCall.{SlotCall}
 use Rattle.papaya_executor.specs.declared.row.SlotRow.{SlotRow}
 use Rattle.papaya_executor.specs.declared.row.SlotUse.{SlotUse}
+use Rattle.papaya_executor.specs.declared.worker.TheConstants.{SLOTS}
 use Rattle.papaya_executor.specs.declared.worker.Work.TheVariants.{OnSlot}
 use Rattle.papaya_logged.specs.Ended.{has_ended, uses_ended}
 use Rattle.papaya_logged.specs.OnSlots.{OnSlotBegins, OnSlotComes, OnSlotLast, OnSlotRan}
 use Rattle.papaya_logged.specs.Shown.{IsShown}
 use Rattle.papaya_logged.specs.declared.logged.Logged.{Logged}
 use Rattle.papaya_scheduler.specs.Rows.{RowRan}
+
+pub in_its_slot : (n slot caller : ℕ) → slot < SLOTS → caller ≡ n * SLOTS + slot → slot_of caller ≡ slot
+in_its_slot n slot caller fits is = omega (arith, fits, is)
 
 module _ {K V S : Type 0} (slot : ℕ) (called : SlotCall) (caller : ℕ) (old began new : Logged K V S) (in_slot : slot_of caller ≡ slot) (may : MayBegin old.executor slot called)
     (begins : (same : K → K → Bool) (hash : K → ℕ) (name : ℕ → List ℕ) (m : Moment K V) (s : Scene K V) → IsShown same hash name m old s → OnSlotBegins same hash name m s called caller old began) where

@@ -30,7 +30,7 @@ use Rattle.papaya_executor.specs.declared.worker.TheConstants.{SLOTS}
 use Rattle.papaya_logged.specs.Ended.{has_ended}
 use Rattle.papaya_logged.specs.declared.logged.Logged.{Logged}
 use Rattle.papaya_scheduler.specs.Played.{IsDue, IsUnderWay, Plays, StandsFor, used_as}
-use Rattle.papaya_scheduler.specs.Rows.{RowRan, TakesRetired}
+use Rattle.papaya_scheduler.specs.Rows.{RowRan, RowRanOn, TakesRetired}
 use Rattle.papaya_scheduler.specs.declared.scheduler.Scheduler.{Scheduler}
 use Rattle.papaya_scheduler.proofs.Facts.{slot_fits}
 use Rattle.papaya_scheduler.proofs.Quiet.{stands_on}
@@ -150,3 +150,25 @@ module _ {K V S : Type 0} (same : K → K → Bool) (hash : K → ℕ) (terms : 
               (over_once same hash stands.name m stands.scene p.logged logged stands.shown slot call.Unregister said before after ran may_free tt) takes there2 stands.calls.each use_now
               (unregisters_named registration p.there stands.names) (unregisters registration w.there) (ap (unregisters registration) (there_stays None None ran.did m ∙ stands.there))
               (m.events + 1) (m.is_alone && is_alone_on e m) m.slots w.sheltered m.remains))
+
+-- so it is, by what the code does
+module _ {K V S : Type 0} (same : K → K → Bool) (hash : K → ℕ) (terms : Terms) (log : List (Entry K V)) (p : Scheduler K V S) (registration : List ℕ)
+    (due : IsDue same hash terms log (Unregister registration) p) (slot : ℕ) (found : option_map (λ r. r.slot) (registration_of registration p.there.registrations) ≡ Some slot)
+    (none_live : (living_on slot p.there.guards == 0) ≡ true) (p2 : Scheduler K V S) (effects : List Effect) (there : Present) (is : there ≡ unregisters registration p2.there) where
+  abbrev Comes : Scheduler K V S → List Effect → Type 0
+  Comes q did = Plays same hash terms log (entry (Unregister registration) Done 0 did) (record q { there = there })
+
+  pub joined : guards_on slot p.there.guards ≢ 0 → p2 ≡ p → effects ≡ [] → Comes p2 effects
+  joined some same_p no_effects =
+      subst (λ (q : Scheduler K V S). Comes q effects) (sym same_p)
+      (subst (λ (did : List Effect). Comes p did) (sym no_effects)
+      (left same hash terms log p registration due slot found none_live some there (is ∙ ap (λ (q : Scheduler K V S). unregisters registration q.there) same_p)))
+
+  pub joined_last : guards_on slot p.there.guards ≡ 0 → (before after : List Effect) → before ≡ [] → effects ≡ after → (q : Scheduler K V S) → p2 ≡ q → q ≡ record p { logged = q.logged }
+      → RowRanOn slot call.Unregister before after p.logged q.logged → TakesRetired effects (moment log) → Comes p2 effects
+  joined_last last before after no_effects same_effects q same_q same_p (said, ran) takes =
+      let did : effects ≡ ran.did = same_effects ∙ ran.follows ∙ ap (λ (xs : List Effect). xs ++ ran.did) no_effects in
+      subst (λ (x : Scheduler K V S). Comes x effects) (sym (same_q ∙ same_p))
+      (subst (λ (xs : List Effect). Comes (record p { logged = q.logged }) xs) (sym did)
+      (freed same hash terms log p registration due slot found none_live last said before after q.logged ran (subst (λ (xs : List Effect). TakesRetired xs (moment log)) did takes)
+      there (is ∙ ap (λ (x : Scheduler K V S). unregisters registration x.there) (same_q ∙ same_p))))

@@ -47,3 +47,7 @@ told_as (Err fault) = told.Refused fault
 
 abbrev pub SlotTaken : {K V S : Type 0} → Bool → Result ℕ Fault → (before after : List Effect) → (old new : Logged K V S) → Type 0
 SlotTaken enters slot before after old new = RowRan 0 (call.Register enters) (told_as slot) before after old new
+
+-- it has run, whatever it told
+abbrev pub RowRanOn : {K V S : Type 0} → ℕ → SlotCall → (before after : List Effect) → (old new : Logged K V S) → Type 0
+RowRanOn {K} {V} slot called before after old new = (said : RowTold (Node K V)) × RowRan slot called said before after old new

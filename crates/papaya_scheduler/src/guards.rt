@@ -36,7 +36,7 @@ impl<K: Drop, V: Drop, S> Scheduler<K, V, S> {
         }
         let mut effects = self.no_effects();
         if guards == 0 {
-            self.run_row(slot, SlotCall::Enter, &mut effects)?;
+            self.do_row(slot, SlotCall::Enter, &mut effects)?;
         }
         self.there.enter(guard, slot)?;
         Ok(Played {
@@ -79,7 +79,7 @@ impl<K: Drop, V: Drop, S> Scheduler<K, V, S> {
         };
         let mut effects = self.no_effects();
         if self.there.guards_on(slot) == 1 {
-            self.run_row(slot, SlotCall::Refresh, &mut effects)?;
+            self.do_row(slot, SlotCall::Refresh, &mut effects)?;
         }
         Ok(Played {
             outcome: Outcome::Done,
@@ -100,7 +100,7 @@ impl<K: Drop, V: Drop, S> Scheduler<K, V, S> {
             return Ok(self.busy());
         }
         let mut effects = self.no_effects();
-        self.run_row(slot, SlotCall::Flush, &mut effects)?;
+        self.do_row(slot, SlotCall::Flush, &mut effects)?;
         Ok(Played {
             outcome: Outcome::Done,
             steps: 0,
@@ -132,7 +132,7 @@ impl<K: Drop, V: Drop, S> Scheduler<K, V, S> {
             } else {
                 SlotCall::LeaveOwned
             };
-            self.run_row(slot, called, &mut effects)?;
+            self.do_row(slot, called, &mut effects)?;
         }
         self.there.leave(guard);
         Ok(Played {

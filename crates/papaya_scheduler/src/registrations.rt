@@ -68,7 +68,7 @@ impl<K: Drop, V: Drop, S> Scheduler<K, V, S> {
         };
         let mut effects = self.no_effects();
         if self.there.guards_on(slot) == 0 {
-            self.run_row(slot, SlotCall::Unregister, &mut effects)?;
+            self.do_row(slot, SlotCall::Unregister, &mut effects)?;
         }
         self.there.unregister(registration);
         Ok(Played {

@@ -1,5 +1,5 @@
 //! The state of a run whose calls stay under way: the executor, and who is there by name.
-ghost use Rattle.std.specs.Prelude.{◌≡◌, ◌<◌, ℕ, Bool, List, [], IfOk};
+ghost use Rattle.std.specs.Prelude.{◌≡◌, ◌<◌, ℕ, Bool, List, [], IfOk, OnOk};
 ghost use Rattle.papaya_schedules.specs.Moment.{Moment};
 ghost use Rattle.papaya_executor.specs.IsAt.{Scene};
 ghost use Rattle.papaya_logged.specs.Shown.{IsShown};
@@ -7,7 +7,7 @@ ghost use Rattle.papaya_executor.specs.OnSlots.{MayBegin};
 ghost use Rattle.papaya_executor.specs.declared.worker.TheConstants.{SLOTS};
 ghost use Rattle.papaya_scheduler.specs.Seen.{free_slot, number_named, setting_named};
 ghost use Rattle.papaya_scheduler.specs.Played.{IsPlayed, terms_given};
-ghost use Rattle.papaya_scheduler.specs.Rows.{RowRan};
+ghost use Rattle.papaya_scheduler.specs.Rows.{RowRan, RowRanOn};
 ghost use Rattle.seize_words.specs.declared.fault.Fault.TheVariants.{Busy};
 
 use crate::caller::Callers;
@@ -155,5 +155,22 @@ impl<K: Drop, V: Drop, S> Scheduler<K, V, S> {
         let caller = self.logged.begin_on_slot(slot, called)?;
         let told = self.logged.run_on_slot(caller, effects)?;
         Ok(told)
+    }
+
+    /// So it does, where nobody asks what it told.
+    pub(crate) fn do_row(
+        &mut self,
+        slot: u64,
+        called: SlotCall,
+        effects: &mut Vec<Effect>,
+    ) -> Result<(), AllocError>
+        requires fits { slot < SLOTS }
+        requires may { (same : K → K → Bool) × (hash : K → ℕ) × (name : ℕ → List ℕ) × (m : Moment K V) × (s : Scene K V) × IsShown same hash name m self.old.logged s }
+        requires begins { MayBegin self.old.logged.executor slot called }
+        ensures ran { OnOk result (RowRanOn slot called effects.old.items effects.new.items self.old.logged self.new.logged) }
+        ensures rest { self.new ≡ record self.old { logged = self.new.logged } }
+    {
+        self.run_row(slot, called, effects)?;
+        Ok(())
     }
 }
