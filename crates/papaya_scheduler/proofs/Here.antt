@@ -1,5 +1,5 @@
 -- A caller that has a call under way: what stands at its place, in the moment and in the scene.
-use Rattle.std.specs.Prelude.{◌≡◌, ◌≢◌, ◌<◌, ℕ, Bool, true, false, List, find, length, nat_lt, position, slice_get, is_some, Option, Some, None, option_map}
+use Rattle.std.specs.Prelude.{◌≡◌, ◌≢◌, ◌<◌, ℕ, Bool, true, false, List, find, length, nat_lt, position, slice_get, slice_index_or, is_some, Option, Some, None, option_map}
 use Rattle.std.specs.List.{list_any, position_or_len}
 use Rattle.std.proofs.Common.{refl, sym, ap, subst, ◌∙◌, arith}
 use Rattle.papaya_runs.specs.Same.{is_same}
@@ -12,7 +12,7 @@ use Rattle.papaya_scheduler.specs.Played.{IsUnderWay, StandsFor}
 use Rattle.papaya_scheduler.specs.Seen.{Seen, is_named, seen, seen_of}
 use Rattle.papaya_scheduler.specs.declared.caller.Caller.{Caller}
 use Rattle.papaya_scheduler.specs.declared.scheduler.Scheduler.{Scheduler}
-use Rattle.papaya_scheduler.proofs.Lists.{as_some, both_some, found_alike, found_has, found_passes, is_found, place_found, place_is, place_some}
+use Rattle.papaya_scheduler.proofs.Lists.{got, as_some, both_some, found_alike, found_has, found_passes, is_found, place_found, place_is, place_some}
 
 module _ {K V S : Type 0} (same : K → K → Bool) (hash : K → ℕ) (terms : Terms) (m : Moment K V) (p : Scheduler K V S) (stands : StandsFor same hash terms m p) (own : List ℕ) where
   abbrev calls : List (Caller V)
@@ -63,3 +63,7 @@ module _ {K V S : Type 0} (same : K → K → Bool) (hash : K → ℕ) (terms : 
             as_seen = there.2;
             way = found_has (IsUnderWay stands.name stands.scene p.there) (is_named own) calls d f stands.calls.each;
           }
+
+  -- who is read there
+  pub read_here : (place : ℕ) (here : Here place) (x : Caller V) → x ≡ slice_index_or calls place x → x ≡ here.caller
+  read_here place here x e = e ∙ got calls place here.caller x here.at

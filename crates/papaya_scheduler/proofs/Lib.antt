@@ -24,3 +24,4 @@ mod First
 mod Unregisters
 mod KeptOut
 mod Begun
+mod RepliedSo

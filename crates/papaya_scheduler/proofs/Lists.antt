@@ -1,5 +1,5 @@
 -- Lists: what is found, and what becomes of it, on two lists of which the same is seen.
-use Rattle.std.specs.Prelude.{◌≡◌, ◌≤◌, ◌<◌, ◌+◌, ℕ, zero, suc, Bool, true, false, not, cond, ◌||◌, ◌&&◌, List, [], ◌∷◌, ◌++◌, length, filter, find, map, take, drop, is_some, Option, Some, None, option_map, slice_set, slice_get, nat_lt, position, if◌then◌else◌}
+use Rattle.std.specs.Prelude.{◌≡◌, ◌≤◌, ◌<◌, ◌+◌, ℕ, zero, suc, Bool, true, false, not, cond, ◌||◌, ◌&&◌, List, [], ◌∷◌, ◌++◌, length, filter, find, map, take, drop, is_some, Option, Some, None, option_map, slice_set, slice_get, slice_index_or, nat_lt, position, if◌then◌else◌}
 use Rattle.std.specs.List.{AllByRecursion, list_any, list_all, position_or_len, remove, insert}
 use Rattle.std.proofs.lemmas.Bool.{lt-ltb}
 use Rattle.std.proofs.lemmas.List.Folds.{find_at}
@@ -67,6 +67,12 @@ module _ {X : Type 0} where
   pub first_put : (x : X) (xs : List X) → insert xs 0 x ≡ x ∷ xs
   first_put x [] = refl
   first_put x (y ∷ xs) = refl
+
+-- what is read at a place where one stands
+pub got : {X : Type 0} (xs : List X) (k : ℕ) (x z : X) → slice_get xs k ≡ Some x → slice_index_or xs k z ≡ x
+got [] k x z e = absurd (cc e)
+got (y ∷ xs) zero x z e = cc e
+got (y ∷ xs) (suc k) x z e = got xs k x z e
 
 -- what is seen of a list
 module _ {X Z : Type 0} (f : X → Z) where
