@@ -25,3 +25,4 @@ mod Unregisters
 mod KeptOut
 mod Begun
 mod RepliedSo
+mod BegunSo

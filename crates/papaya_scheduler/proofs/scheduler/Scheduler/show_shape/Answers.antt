@@ -15,7 +15,18 @@ returns-in-None g c = record {
 }
 
 pub shapes-requires : goal.shapes-requires
-shapes-requires g c = ?
+shapes-requires g c =
+    let r = c.requires in
+    let is = sym c.setting_of.ensures ∙ c.in-Some.is in
+    (r.0, r.1, _, _, stands_there r.0 r.1 r.2.0 r.2.1 c.args.self.now c.args.map.now r.2.2.played _ c.in-Some.setting is)
 
-pub returns-in-Some : goal.returns-in-Some
-returns-in-Some g c = ?
+pub returns-in_ok-shapes-in-Some : goal.returns-in_ok-shapes-in-Some
+returns-in_ok-shapes-in-Some g c = record {
+  plays = λ same hash terms log due.
+      let is = sym c.setting_of.ensures ∙ c.in-Some.is in
+      let own = c.args.map.now in
+      let shaped = c.in_ok-shapes-in-Some.ensures same hash _ _ (stands_there same hash terms log c.args.self.now own due.played _ c.in-Some.setting is)
+            ∙ sym (shapes_are same hash terms log c.args.self.now own due.played _ c.in-Some.setting is) in
+      so_played same hash terms log c.args.self.now (ShowShape own) c.quietly.result (Shape c.in_ok-shapes-in-Some.shapes) 0 [] c.quietly.ensures.outcome c.quietly.ensures.steps c.quietly.ensures.effects
+      (shown same hash terms log c.args.self.now own due _ c.in-Some.setting is (Shape c.in_ok-shapes-in-Some.shapes) shaped);
+}
