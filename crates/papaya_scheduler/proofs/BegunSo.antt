@@ -7,12 +7,23 @@ use Rattle.papaya_runs.specs.Present.{guard_of, living_slot}
 use Rattle.papaya_schedules.specs.Moment.{Moment}
 use Rattle.papaya_schedules.specs.Terms.{Terms}
 use Rattle.papaya_schedules.specs.InUse.{is_living}
+use Rattle.papaya_schedules.specs.Views.{call_of, map_of}
 use Rattle.papaya_schedules.specs.declared.call.Call.{Call}
+use Rattle.papaya_raw.specs.declared.machines.machine.Machine.{Machine}
+use Rattle.papaya_executor.specs.IsAt.{Scene}
+use Rattle.papaya_executor.specs.declared.worker.TheConstants.{SLOTS}
+use Rattle.papaya_logged.specs.Calling.{CallBegins}
+use Rattle.papaya_logged.specs.Shown.{IsShown}
+use Rattle.papaya_logged.specs.declared.logged.Logged.{Logged}
+use Rattle.papaya_scheduler.specs.Machines.{machine_for}
 use Rattle.papaya_scheduler.specs.Played.{BeginsSo, StandsFor}
-use Rattle.papaya_scheduler.specs.Seen.{is_named, setting_named}
+use Rattle.papaya_scheduler.specs.Seen.{Seen, is_named, kind_of, setting_named}
 use Rattle.papaya_scheduler.specs.declared.caller.Caller.{Caller}
+use Rattle.papaya_scheduler.specs.declared.caller.Callers.{Callers}
+use Rattle.papaya_scheduler.specs.declared.caller.Stands.TheVariants as far
+use Rattle.papaya_scheduler.specs.declared.kind.Kind.{Kind}
 use Rattle.papaya_scheduler.specs.declared.scheduler.Scheduler.{Scheduler}
-use Rattle.papaya_scheduler.proofs.Begins.{called_is, lives_is, not_begun}
+use Rattle.papaya_scheduler.proofs.Begins.{begun, called_is, lives_is, not_begun}
 use Rattle.papaya_scheduler.proofs.Lists.{place_some}
 use Rattle.papaya_scheduler.proofs.Maps.{setting_some}
 
@@ -58,3 +69,18 @@ module _ {K V S : Type 0} (same : K → K → Bool) (hash : K → ℕ) (terms : 
       no_third true true c e = e
       no_third true false c e = refl
       no_third false b c e = refl
+
+  -- it begins
+  pub has_begun : list_any (is_named own) calls ≡ false → (slot : ℕ) → living_slot (guard_of guard p.there.guards) ≡ Some slot → (number : ℕ) (setting : Setting)
+      → setting_named name p.maps.items p.logged.executor.maps.items ≡ Some (number, setting) → (i : ℕ) → i ≡ length p.logged.executor.workers.items * SLOTS + slot
+      → (machine : Machine K V K) → machine ≡ machine_for (record setting { slot = slot }) hash call → (kind : Kind) → kind ≡ kind_of call → (new : Logged K V S)
+      → ((names : ℕ → List ℕ) (v : Moment K V) (t : Scene K V) → IsShown same hash names v p.logged t → CallBegins same hash names v t i number machine p.logged new)
+      → (calls2 : Callers V) → calls2.items.items ≡ record { name = own; guard = guard; map = number; number = i; kind = kind; stands = far.Goes; value = None } ∷ calls
+      → BeginsSo same hash terms m own guard name call true p (record p { logged = new; calls = calls2 })
+  has_begun free slot lives number setting found i is_i machine is_machine kind is_kind new leads calls2 items =
+      begun same hash terms m p stands own guard name call free slot lives number setting found new
+      (λ names v t shown.
+          (subst (λ (n : ℕ). CallBegins same hash names v t n number (machine_for (record setting { slot = slot }) hash call) p.logged new) is_i
+          (subst (λ (x : Machine K V K). CallBegins same hash names v t i number x p.logged new) is_machine (leads names v t shown))))
+      (record { name = own; guard = guard; map = number; number = i; kind = kind; stands = far.Goes; value = None })
+      (ap {B = Seen} (λ (k : Kind). record { name = own; guard = guard; map = number; kind = k; far = far.Goes }) is_kind) is_i calls2 items

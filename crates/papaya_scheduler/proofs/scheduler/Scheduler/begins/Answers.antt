@@ -1,29 +1,45 @@
-use Rattle.std.proofs.Common.{rules, ◌≡◌, ℕ, Bool, List, IfOk, ◌+◌, ◌-◌, ◌*◌, ◌<◌, ◌≤◌, length, ◌/◌, ◌%◌, true, false, nat_eq, nat_lt, [], ◌∷◌, ◌++◌, slice_index_or, slice_set, bit_and, bit_or, Fits, w8, w32, w64, Bor, MutBor}
-use Rattle.papaya_schedules.specs.declared.event.Event.TheVariants as event
-use Rattle.papaya_schedules.specs.Moment.{Moment}
-use Rattle.papaya_schedules.specs.Terms.{Terms}
-use Rattle.papaya_hands.specs.Asked.{as_told}
-use Rattle.papaya_scheduler.specs.Machines.{aborted_by}
-use Rattle.papaya_scheduler.specs.Played.{BeginsSo, MayPlay, PlaysAt, StandsFor}
-use Rattle.papaya_scheduler.specs.Seen.{ready_place}
+-- A call begins, or does not.
+use Rattle.std.proofs.Common.{sym, ◌∙◌}
+use Rattle.papaya_scheduler.proofs.Begins.{fits}
+use Rattle.papaya_scheduler.proofs.BegunSo.{has_begun, is_free, is_named_so, no_guard, no_map}
 use Rattle.papaya_scheduler.proofs.scheduler.Scheduler.begins.Goals as goal
 
--- src/calls.rt:51:13
 pub returns-then-is_some : goal.returns-then-is_some
-returns-then-is_some g c = ?
+returns-then-is_some g c = record {
+  begins = λ terms m stands.
+      is_named_so g.K.PartialEq.eq (g.S.Hashes.hash c.args.self.now.logged.executor.hasher) terms m c.args.self.now stands c.args.name c.args.guard c.args.map.now c.args.call c.place_of.result
+      c.place_of.ensures (sym c.is_some.ensures ∙ c.if-is_some.true);
+}
 
--- src/calls.rt:54:13
 pub returns-in_default : goal.returns-in_default
-returns-in_default g c = ?
+returns-in_default g c = record {
+  begins = λ terms m stands.
+      no_guard g.K.PartialEq.eq (g.S.Hashes.hash c.args.self.now.logged.executor.hasher) terms m c.args.self.now stands c.args.name c.args.guard c.args.map.now c.args.call
+      (sym c.slot_of_living.ensures ∙ c.in_default.is);
+}
 
--- src/calls.rt:57:13
 pub returns-in_default-setting_of : goal.returns-in_default-setting_of
-returns-in_default-setting_of g c = ?
+returns-in_default-setting_of g c = record {
+  begins = λ terms m stands.
+      no_map g.K.PartialEq.eq (g.S.Hashes.hash c.args.self.now.logged.executor.hasher) terms m c.args.self.now stands c.args.name c.args.guard c.args.map.now c.args.call
+      (sym c.setting_of.ensures ∙ c.in_default-setting_of.is);
+}
 
--- src/calls.rt:62:22
 pub begin-requires : goal.begin-requires
-begin-requires g c = ?
+begin-requires g c =
+    let r = c.requires in
+    let free = is_free g.K.PartialEq.eq (g.S.Hashes.hash c.args.self.now.logged.executor.hasher) r.0 r.1 c.args.self.now r.2 c.args.name c.args.guard c.args.map.now c.args.call c.place_of.result
+          c.place_of.ensures (sym c.is_some.ensures ∙ c.if-is_some.false) in
+    fits g.K.PartialEq.eq (g.S.Hashes.hash c.args.self.now.logged.executor.hasher) r.0 r.1 c.args.self.now r.2 c.args.name c.args.guard c.args.map.now c.args.call free c.in-Some.slot
+    (sym c.slot_of_living.ensures ∙ c.in-Some.is) c.in-Some-setting_of.map c.in-Some-setting_of.setting (sym c.setting_of.ensures ∙ c.in-Some-setting_of.is)
 
--- src/calls.rt:39:5
 pub returns : goal.returns
-returns g c = ?
+returns g c = record {
+  begins = λ terms m stands.
+      let free = is_free g.K.PartialEq.eq (g.S.Hashes.hash c.args.self.now.logged.executor.hasher) terms m c.args.self.now stands c.args.name c.args.guard c.args.map.now c.args.call c.place_of.result
+            c.place_of.ensures (sym c.is_some.ensures ∙ c.if-is_some.false) in
+      has_begun g.K.PartialEq.eq (g.S.Hashes.hash c.args.self.now.logged.executor.hasher) terms m c.args.self.now stands c.args.name c.args.guard c.args.map.now c.args.call free c.in-Some.slot
+      (sym c.slot_of_living.ensures ∙ c.in-Some.is) c.in-Some-setting_of.map c.in-Some-setting_of.setting (sym c.setting_of.ensures ∙ c.in-Some-setting_of.is) c.in_ok-number.number
+      c.in_ok-number.ensures.number c.machine_for-machine.result c.machine_for-machine.ensures c.of-kind.result c.of-kind.ensures c.begin.new.self
+      (λ names v t shown. c.in_ok-number.ensures.leads g.K.PartialEq.eq (g.S.Hashes.hash c.args.self.now.logged.executor.hasher) names v t shown) c.add.new.self c.in_ok-add.ensures;
+}
