@@ -1,4 +1,5 @@
 -- A schedule begins.
+use Rattle.std.proofs.Common.{refl}
 use Rattle.papaya_scheduler.proofs.First.{stands_first}
 use Rattle.papaya_scheduler.proofs.scheduler.Scheduler.new.Goals as goal
 
