@@ -22,7 +22,6 @@ mod Replied
 mod Stopped
 mod First
 mod Unregisters
-mod KeptOut
 mod Begun
 mod RepliedSo
 mod BegunSo

@@ -40,14 +40,6 @@ pub record RowRan {K V S : Type 0} (slot : ℕ) (called : SlotCall) (said : RowT
   pub shown : (same : K → K → Bool) (hash : K → ℕ) (name : ℕ → List ℕ) (m : Moment K V) (s : Scene K V) → IsShown same hash name m old s → MayBegin old.executor slot called → TakesRetired did m
       → (w : World (Node K V)) × (maps : ℕ → Option (Standing K)) × IsShown same hash name (with_effects None None did m) new (record s { world = w; maps = maps })
 
--- what a registering told, by the slot that it has found, or the fault
-abbrev pub told_as : {T : Type 0} → Result ℕ Fault → RowTold T
-told_as (Ok slot) = told.Registered slot
-told_as (Err fault) = told.Refused fault
-
-abbrev pub SlotTaken : {K V S : Type 0} → Bool → Result ℕ Fault → (before after : List Effect) → (old new : Logged K V S) → Type 0
-SlotTaken enters slot before after old new = RowRan 0 (call.Register enters) (told_as slot) before after old new
-
 -- it has run, whatever it told
 abbrev pub RowRanOn : {K V S : Type 0} → ℕ → SlotCall → (before after : List Effect) → (old new : Logged K V S) → Type 0
 RowRanOn {K} {V} slot called before after old new = (said : RowTold (Node K V)) × RowRan slot called said before after old new

@@ -1,23 +1,4 @@
 -- A guard is forgotten.
-use Rattle.papaya_scheduler.proofs.Elsewhere.{elsewhere}
-use Rattle.papaya_scheduler.proofs.Begun.{begins_none}
-use Rattle.papaya_scheduler.proofs.KeptOut.{kept_out}
-use Rattle.papaya_scheduler.proofs.Unregisters.{freed}
-use Rattle.papaya_scheduler.proofs.First.{stands_first}
-use Rattle.papaya_scheduler.proofs.Stopped.{done}
-use Rattle.papaya_scheduler.proofs.Replied.{told}
-use Rattle.papaya_scheduler.proofs.Here.{here_at}
-use Rattle.papaya_scheduler.proofs.Takes.{sweep_takes}
-use Rattle.papaya_scheduler.proofs.Enters.{entered}
-use Rattle.papaya_scheduler.proofs.RunRow.{has_run}
-use Rattle.papaya_scheduler.proofs.RanOn.{stands_ran}
-use Rattle.papaya_scheduler.proofs.Ran.{led_once}
-use Rattle.papaya_scheduler.proofs.ShapesHere.{shown}
-use Rattle.papaya_scheduler.proofs.Begins.{not_begun}
-use Rattle.papaya_scheduler.proofs.Called.{begun_call}
-use Rattle.papaya_scheduler.proofs.Maps.{number_is}
-use Rattle.papaya_scheduler.proofs.Facts.{used_once}
-use Rattle.papaya_scheduler.proofs.Simple.{collector_plays}
 use Rattle.std.specs.Prelude.{[], is_some}
 use Rattle.std.proofs.Common.{refl, sym, ap, ◌∙◌}
 use Rattle.seize_words.specs.declared.fault.Fault.TheVariants.{Busy}
