@@ -1,11 +1,10 @@
 -- A call begins: the scheduler stands for the moment at which it is under way.
-use Rattle.std.specs.Prelude.{◌≡◌, ◌≢◌, ◌<◌, ◌+◌, ◌*◌, ◌≤◌, ◌==◌, ◌⊎◌, ◌&&◌, ◌||◌, ℕ, Bool, true, false, not, cond, List, [], ◌∷◌, length, filter, find, map, is_some, is_none, Option, Some, None, if◌then◌else◌}
-use Rattle.std.specs.List.{AllByRecursion, list_any}
+use Rattle.std.specs.Prelude.{◌≡◌, ◌≢◌, ◌<◌, ◌≤◌, ◌==◌, ◌⊎◌, ◌&&◌, ◌||◌, ℕ, Bool, true, false, not, cond, List, [], ◌∷◌, length, filter, find, map, is_some, is_none, Option, Some, None, if◌then◌else◌}
+use Rattle.std.specs.List.{list_any}
 use Rattle.std.proofs.Common.{refl, sym, ap, subst, ◌∙◌, inl, inr, arith, eqb-true}
 use Rattle.std.proofs.lemmas.Bool.{cases_eq, eq-eqb, ne_eqb}
 use Rattle.papaya_tables.specs.declared.setting.Setting.{Setting}
-use Rattle.papaya_raw.specs.declared.machines.machine.Machine.{Machine}
-use Rattle.papaya_runs.specs.Present.{Present, guard_of, living_slot}
+use Rattle.papaya_runs.specs.Present.{guard_of, living_slot}
 use Rattle.papaya_runs.specs.Same.{is_same}
 use Rattle.papaya_schedules.specs.declared.call.Call.{Call}
 use Rattle.papaya_schedules.specs.Beginning.{with_call}
@@ -16,14 +15,13 @@ use Rattle.papaya_schedules.specs.Terms.{Terms}
 use Rattle.papaya_schedules.specs.Views.{call_of, map_of, number_of}
 use Rattle.papaya_callers.specs.Together.{UnderWay, in_slot}
 use Rattle.papaya_callers.proofs.Together.At.{at_other, at_same}
-use Rattle.papaya_effects.specs.Known.{known}
-use Rattle.papaya_executor.specs.IsAt.{Scene, IsAt, slot_of, use_at, work_of}
+use Rattle.papaya_executor.specs.IsAt.{Scene, slot_of, use_at, work_of}
 use Rattle.papaya_executor.specs.Replying.{scene_with}
 use Rattle.papaya_executor.specs.declared.row.SlotUse.TheVariants as used
 use Rattle.papaya_executor.specs.declared.worker.TheConstants.{SLOTS}
-use Rattle.papaya_executor.proofs.Fresh.{caller_in, no_calls_yet, no_work, slot_is}
+use Rattle.papaya_executor.proofs.Fresh.{caller_in, no_calls_yet, slot_is}
 use Rattle.papaya_finishes.specs.Machines.{machine_of}
-use Rattle.papaya_finishes.specs.Maps.{Standing, with_call as with_call_of}
+use Rattle.papaya_finishes.specs.Maps.{Standing}
 use Rattle.papaya_follows.specs.Calling.{NoneNamed}
 use Rattle.papaya_follows.proofs.Calling.{apart_back, is_same_is}
 use Rattle.papaya_logged.specs.Calling.{CallBegins}
@@ -37,7 +35,7 @@ use Rattle.papaya_scheduler.specs.declared.caller.Callers.{Callers}
 use Rattle.papaya_scheduler.specs.declared.caller.Stands.TheVariants as far
 use Rattle.papaya_scheduler.specs.declared.scheduler.Scheduler.{Scheduler}
 use Rattle.papaya_scheduler.proofs.Called.{begun_call, begins_so, is_as_far, is_begun_for, is_called, its_machine}
-use Rattle.papaya_scheduler.proofs.Facts.{no_call_of, no_ending_of, no_making_of, no_work_at, row_rests, slot_fits, used_still}
+use Rattle.papaya_scheduler.proofs.Facts.{no_ending_of, no_making_of, no_work_at, row_rests, slot_fits, used_still}
 use Rattle.papaya_scheduler.proofs.Lists.{all_but, all_so, as_some, found_alike, is_found, none_kept, one_of}
 use Rattle.papaya_scheduler.proofs.Maps.{setting_of_it, setting_some}
 use Rattle.papaya_scheduler.proofs.There.{is_inside, living_is, on_its_slot}

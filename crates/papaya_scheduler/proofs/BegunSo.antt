@@ -80,7 +80,7 @@ module _ {K V S : Type 0} (same : K → K → Bool) (hash : K → ℕ) (terms : 
   has_begun free slot lives number setting found i is_i machine is_machine kind is_kind new leads calls2 items =
       begun same hash terms m p stands own guard name call free slot lives number setting found new
       (λ names v t shown.
-          (subst (λ (n : ℕ). CallBegins same hash names v t n number (machine_for (record setting { slot = slot }) hash call) p.logged new) is_i
-          (subst (λ (x : Machine K V K). CallBegins same hash names v t i number x p.logged new) is_machine (leads names v t shown))))
+      (subst (λ (n : ℕ). CallBegins same hash names v t n number (machine_for (record setting { slot = slot }) hash call) p.logged new) is_i
+      (subst (λ (x : Machine K V K). CallBegins same hash names v t i number x p.logged new) is_machine (leads names v t shown))))
       (record { name = own; guard = guard; map = number; number = i; kind = kind; stands = far.Goes; value = None })
       (ap {B = Seen} (λ (k : Kind). record { name = own; guard = guard; map = number; kind = k; far = far.Goes }) is_kind) is_i calls2 items

@@ -1,5 +1,5 @@
 -- What is nothing to what is shown: of a moment all but its pairs, maps, tables and calls.
-use Rattle.std.specs.Prelude.{ℕ, Bool, List, Some}
+use Rattle.std.specs.Prelude.{ℕ, Bool, List}
 use Rattle.papaya_runs.specs.Present.{Present}
 use Rattle.papaya_schedules.specs.Moment.{Remains, Sheltered, Moment}
 use Rattle.papaya_finishes.specs.Maps.{Standing}

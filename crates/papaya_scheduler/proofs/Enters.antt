@@ -1,13 +1,12 @@
 -- A guard enters.
-use Rattle.std.specs.Prelude.{◌==◌, ◌&&◌, ◌⊎◌, ◌≢◌, not, cond, nat_lt, find, is_some, option_map, slice_index_or, slice_set, Option, Some, None, if◌then◌else◌}
+use Rattle.std.specs.Prelude.{◌&&◌, ◌⊎◌, ◌≢◌, not, cond, nat_lt, is_some, option_map, slice_index_or, slice_set, Option, Some, None, if◌then◌else◌}
 use Rattle.std.specs.List.{AllByRecursion}
-use Rattle.std.proofs.Common.{◌≡◌, ℕ, ◌+◌, ◌<◌, ◌≤◌, Bool, true, false, List, [], ◌∷◌, ◌++◌, length, refl, sym, ap, subst, ◌∙◌, inl, inr, arith}
+use Rattle.std.proofs.Common.{◌≡◌, ℕ, ◌+◌, ◌<◌, Bool, true, false, List, [], ◌∷◌, ◌++◌, length, refl, sym, ap, subst, ◌∙◌, inl, inr, arith}
 use Rattle.std.proofs.lemmas.Bool.{cases_eq, eq-eqb, ne_eqb}
 use Rattle.std.proofs.lemmas.List.{get_or-set_other, get_or-set_same, length-set}
 use Rattle.seize_words.specs.declared.fault.Fault.TheVariants.{Busy, GuardsFull}
 use Rattle.papaya_tables.specs.declared.node.Node.{Node}
 use Rattle.papaya_runs.specs.declared.holders.Guard.{Guard}
-use Rattle.papaya_runs.specs.declared.holders.Registration.{Registration}
 use Rattle.papaya_runs.specs.Present.{Present, enters_slot, guard_of, guards_on, has_registration, living_slot, registration_of, slot_of_registration}
 use Rattle.papaya_runs.specs.Runs.{MOST_GUARDS}
 use Rattle.papaya_runs.specs.Same.{is_same}
@@ -23,7 +22,7 @@ use Rattle.papaya_schedules.specs.InTurn.{IsEntered}
 use Rattle.papaya_schedules.specs.InUse.{is_guard, is_registered}
 use Rattle.papaya_schedules.specs.Moment.{Moment}
 use Rattle.papaya_schedules.specs.Terms.{Terms}
-use Rattle.papaya_executor.specs.IsAt.{Scene, slot_of, use_at}
+use Rattle.papaya_executor.specs.IsAt.{slot_of, use_at}
 use Rattle.papaya_executor.specs.OnSlots.{MayBegin}
 use Rattle.papaya_executor.specs.declared.row.RowTold.{RowTold}
 use Rattle.papaya_executor.specs.declared.row.RowTold.TheVariants as told
@@ -31,11 +30,10 @@ use Rattle.papaya_executor.specs.declared.row.SlotCall.TheVariants as call
 use Rattle.papaya_executor.specs.declared.row.SlotUse.{SlotUse}
 use Rattle.papaya_executor.specs.declared.row.SlotUse.TheVariants as used
 use Rattle.papaya_executor.specs.declared.worker.TheConstants.{SLOTS}
-use Rattle.papaya_logged.specs.Ended.{has_ended, uses_ended}
+use Rattle.papaya_logged.specs.Ended.{has_ended}
 use Rattle.papaya_logged.specs.declared.logged.Logged.{Logged}
 use Rattle.papaya_scheduler.specs.Played.{IsDue, IsUnderWay, Plays, StandsFor, used_as}
 use Rattle.papaya_scheduler.specs.Rows.{RowRan, RowRanOn, TakesRetired}
-use Rattle.papaya_scheduler.specs.declared.caller.Caller.{Caller}
 use Rattle.papaya_scheduler.specs.declared.scheduler.Scheduler.{Scheduler}
 use Rattle.papaya_scheduler.proofs.Facts.{slot_fits}
 use Rattle.papaya_scheduler.proofs.Lists.{all_so}
@@ -45,7 +43,7 @@ use Rattle.papaya_scheduler.proofs.Ran.{done_once, led_once, over_once}
 use Rattle.papaya_scheduler.proofs.RanOn.{nobody_in, stands_ran, there_stays}
 use Rattle.papaya_scheduler.proofs.Registered.{found_has, slot_found}
 use Rattle.papaya_scheduler.proofs.Seats.{stands_there}
-use Rattle.papaya_scheduler.proofs.There.{guard_is, is_inside, is_outside, on_its_slot, registered_is, slot_is, slot_some, used_alike}
+use Rattle.papaya_scheduler.proofs.There.{guard_is, is_inside, is_outside, registered_is, slot_is, slot_some, used_alike}
 use Rattle.papaya_scheduler.proofs.Rights.{entry, in_turn, out_of_turn, plays, quiet}
 
 none_is : {X : Type 0} (o : Option X) → is_some o ≡ false → o ≡ None

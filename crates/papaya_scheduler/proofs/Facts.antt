@@ -1,10 +1,9 @@
 -- What the executor has under way, and how it uses slots, by its scene.
-use Rattle.std.specs.Prelude.{◌≡◌, ◌≢◌, ◌<◌, ◌≤◌, ◌⊎◌, ◌==◌, ℕ, Bool, true, length, Option, Some, None, option_map, slice_index_or, if◌then◌else◌}
+use Rattle.std.specs.Prelude.{◌≡◌, ◌≢◌, ◌<◌, ◌≤◌, ◌⊎◌, ◌==◌, ℕ, Bool, length, Option, Some, None, option_map, if◌then◌else◌}
 use Rattle.std.proofs.Common.{refl, sym, ap, subst, ◌∙◌, inl, inr, arith}
 use Rattle.std.proofs.lemmas.Bool.{cases_lt, eq-eqb}
 use Rattle.std.proofs.lemmas.List.{get_or_past}
-use Rattle.seize.specs.World.{Use, Rests, Vacant, Outside, Inside, Changing}
-use Rattle.papaya_raw.specs.declared.machines.machine.Machine.{Machine}
+use Rattle.seize.specs.World.{Use, Rests}
 use Rattle.papaya_finishes.specs.Machines.{machine_of}
 use Rattle.papaya_executor.specs.IsAt.{Scene, IsAt, IsUsedAs, HasRow, call_in, making_in, ending_in, row_of, use_at, work_of}
 use Rattle.papaya_executor.specs.declared.executor.Executor.{Executor}
@@ -56,22 +55,22 @@ module _ {K V S : Type 0} (same : K → K → Bool) (hash : K → ℕ) (e : Exec
       by : (o : Option (Work K V)) → work_of e i ≡ o → work_of e i ≡ None
       by None is = is
       by (Some (work.Call map machine)) is = absurd (
-        let h : option_map machine_of (s.calls map i) ≡ (if map == map then Some machine else None) = at.calls map i ∙ ap (λ (o : Option (Work K V)). call_in o map) is in
-        let k = ap (λ (b : Bool). if b then Some machine else None) (eq-eqb map map refl) in
-        let l = ap (option_map machine_of) (calls map) in
-        cc (h, k, l)
-      )
+          let h : option_map machine_of (s.calls map i) ≡ (if map == map then Some machine else None) = at.calls map i ∙ ap (λ (o : Option (Work K V)). call_in o map) is in
+          let k = ap (λ (b : Bool). if b then Some machine else None) (eq-eqb map map refl) in
+          let l = ap (option_map machine_of) (calls map) in
+          cc (h, k, l)
+          )
       by (Some (work.Making map opening)) is = absurd (
-        none_mapped _ (s.makers i) makers _ (at.makers i ∙ ap making_in is)
-      )
+          none_mapped _ (s.makers i) makers _ (at.makers i ∙ ap making_in is)
+          )
       by (Some (work.Ending ending)) is = absurd (
-        let h = at.enders i ∙ ap ending_in is in
-        let l = ap (option_map (λ f. f.machine)) enders in
-        cc (h, l)
-      )
+          let h = at.enders i ∙ ap ending_in is in
+          let l = ap (option_map (λ f. f.machine)) enders in
+          cc (h, l)
+          )
       by (Some (work.OnSlot it)) is = absurd (
-        never_rests it (sym (subst (λ (o : Option (Work K V)). HasRow o (s.world.row i)) is (at.rows i)) ∙ rests)
-      )
+          never_rests it (sym (subst (λ (o : Option (Work K V)). HasRow o (s.world.row i)) is (at.rows i)) ∙ rests)
+          )
 
   -- one that has nothing under way has none in the scene
   module _ (i : ℕ) (none : work_of e i ≡ None) where

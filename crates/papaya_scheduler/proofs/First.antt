@@ -1,16 +1,14 @@
 -- Before all events a scheduler stands for the first moment.
 use Rattle.std.specs.Prelude.{◌≡◌, ℕ, Bool, false, List, []}
-use Rattle.std.proofs.Common.{refl, sym, ap, subst, ◌∙◌, arith}
+use Rattle.std.proofs.Common.{refl, sym, subst, ◌∙◌, arith}
 use Rattle.seize.specs.World.{Vacant}
 use Rattle.papaya_runs.specs.Present.{HaveNames, Present, nobody}
 use Rattle.papaya_schedules.specs.Moment.{start}
 use Rattle.papaya_executor.specs.IsAt.{at_first, use_at}
 use Rattle.papaya_executor.specs.declared.row.SlotUse.TheVariants as used
 use Rattle.papaya_logged.specs.Shown.{IsShown}
-use Rattle.papaya_logged.specs.declared.logged.Logged.{Logged}
 use Rattle.papaya_scheduler.specs.Played.{CallsAre, IsPlayed, MapsAre, terms_given, used_as}
 use Rattle.papaya_scheduler.specs.declared.caller.Caller.{Caller}
-use Rattle.papaya_scheduler.specs.declared.scheduler.Given.{Given}
 use Rattle.papaya_scheduler.specs.declared.scheduler.NamedMap.{NamedMap}
 use Rattle.papaya_scheduler.specs.declared.scheduler.Scheduler.{Scheduler}
 use Rattle.papaya_scheduler.proofs.Facts.{no_work_at, used_once}

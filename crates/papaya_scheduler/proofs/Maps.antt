@@ -1,5 +1,5 @@
 -- Maps by name: the number that is found is the one of the moment, and the map stands.
-use Rattle.std.specs.Prelude.{◌≡◌, ℕ, Bool, true, false, List, find, is_some, Option, Some, None, option_map, slice_index_or}
+use Rattle.std.specs.Prelude.{◌≡◌, ℕ, Bool, true, List, find, is_some, Option, Some, None, option_map, slice_index_or}
 use Rattle.std.proofs.Common.{refl, sym, ap, subst, ◌∙◌}
 use Rattle.papaya_tables.specs.declared.setting.Setting.{Setting}
 use Rattle.papaya_runs.specs.Same.{is_same}
@@ -11,7 +11,7 @@ use Rattle.papaya_scheduler.specs.Played.{StandsFor}
 use Rattle.papaya_scheduler.specs.Seen.{named, named_of, number_named, setting_named, with_setting}
 use Rattle.papaya_scheduler.specs.declared.scheduler.NamedMap.{NamedMap}
 use Rattle.papaya_scheduler.specs.declared.scheduler.Scheduler.{Scheduler}
-use Rattle.papaya_scheduler.proofs.Lists.{as_some, found_alike, found_has}
+use Rattle.papaya_scheduler.proofs.Lists.{found_alike, found_has}
 
 -- of a pair that is seen, the number
 numbers_of : (o : Option MapThere) → option_map (λ z. z.1) (option_map named o) ≡ option_map (λ f. f.number) o

@@ -1,5 +1,5 @@
 -- A reply is told to a call: what is promised of that, by what is read at the caller's place.
-use Rattle.std.specs.Prelude.{◌≡◌, ℕ, Bool, true, false, List, [], Result, Ok, Option, Some, position, slice_get, slice_index_or, slice_set}
+use Rattle.std.specs.Prelude.{◌≡◌, ℕ, Bool, true, false, List, Result, Option, Some, position, slice_get, slice_index_or, slice_set}
 use Rattle.std.specs.Result.{is_err}
 use Rattle.std.proofs.Common.{sym, ap, subst, ◌∙◌}
 use Rattle.papaya_raw.specs.declared.machines.asking.Reply.{Reply as MachineReply}

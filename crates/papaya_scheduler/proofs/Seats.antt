@@ -1,11 +1,10 @@
 -- Who is there changes, and nothing else: a guard is forgotten.
-use Rattle.std.specs.Prelude.{◌≡◌, ◌+◌, ℕ, ◌&&◌, Bool, true, false, not, List, ◌∷◌, is_some, Option, Some, None, if◌then◌else◌}
+use Rattle.std.specs.Prelude.{◌≡◌, ◌+◌, ℕ, ◌&&◌, Bool, true, false, not, List, is_some, Option, Some, None, if◌then◌else◌}
 use Rattle.std.specs.List.{AllByRecursion, list_any}
 use Rattle.std.proofs.Common.{refl, sym, ap, subst, ◌∙◌}
 use Rattle.seize_words.specs.declared.fault.Fault.TheVariants.{Busy}
 use Rattle.papaya_runs.specs.Present.{Present, HaveNames, guard_of, living_slot, forgets}
 use Rattle.papaya_runs.specs.Same.{is_same}
-use Rattle.papaya_runs.specs.declared.holders.Guard.{Guard}
 use Rattle.papaya_schedules.specs.declared.event.Event.TheVariants.{Forget}
 use Rattle.papaya_schedules.specs.declared.outcome.Outcome.TheVariants.{Done, Refused}
 use Rattle.papaya_schedules.specs.After.{is_alone_on, moment}
@@ -15,10 +14,8 @@ use Rattle.papaya_schedules.specs.InUse.{is_free_guard, is_living}
 use Rattle.papaya_schedules.specs.Moment.{Sheltered, Moment}
 use Rattle.papaya_schedules.specs.Terms.{Terms}
 use Rattle.papaya_effects.specs.Known.{known}
-use Rattle.papaya_executor.specs.IsAt.{Scene}
 use Rattle.papaya_scheduler.specs.Played.{IsDue, IsUnderWay, Plays, StandsFor, used_as}
 use Rattle.papaya_scheduler.specs.Seen.{Seen, free_slot, seen, seen_of}
-use Rattle.papaya_scheduler.specs.declared.caller.Caller.{Caller}
 use Rattle.papaya_scheduler.specs.declared.scheduler.Scheduler.{Scheduler}
 use Rattle.papaya_scheduler.proofs.Elsewhere.{elsewhere, shown_elsewhere}
 use Rattle.papaya_scheduler.proofs.Lists.{all_but, any_alike}

@@ -2,7 +2,7 @@
 use Rattle.std.specs.Prelude.{◌-◌, ◌⊎◌, ◌^◌, ◌&&◌, nat_le, filter, map, is_some, Option, Some, None}
 use Rattle.std.proofs.Common.{◌≡◌, ℕ, zero, suc, ◌+◌, ◌≤◌, ◌<◌, Bool, true, false, cond, List, [], ◌∷◌, ◌++◌, refl, ap, sym, subst, ◌∙◌, inl, inr, arith}
 use Rattle.std.proofs.lemmas.Bool.{cases_lt}
-use Rattle.std.proofs.lemmas.List.{append-nil, map-append}
+use Rattle.std.proofs.lemmas.List.{map-append}
 use Rattle.std.proofs.lemmas.List.Elements.{filter-append}
 use Rattle.seize_words.specs.Mem.{Mem}
 use Rattle.seize_words.specs.declared.fault.Fault.TheVariants.{Busy}
@@ -20,9 +20,9 @@ use Rattle.papaya_schedules.specs.declared.outcome.Outcome.TheVariants.{Refused,
 use Rattle.papaya_schedules.specs.After.{is_alone_on, moment}
 use Rattle.papaya_schedules.specs.Entry.{Entry}
 use Rattle.papaya_schedules.specs.InTurn.{IsShapeOf, chain_named}
-use Rattle.papaya_schedules.specs.Moment.{MapThere, Stage, TableThere, Moment}
+use Rattle.papaya_schedules.specs.Moment.{Stage, TableThere, Moment}
 use Rattle.papaya_schedules.specs.Terms.{Terms}
-use Rattle.papaya_schedules.specs.Views.{chain_of, first_of, first_or, map_at, map_of, number_of, tables_of}
+use Rattle.papaya_schedules.specs.Views.{first_of, first_or, map_of, number_of, tables_of}
 use Rattle.papaya_finishes.specs.Maps.{Standing}
 use Rattle.papaya_follows.specs.Maps.{tables_to}
 use Rattle.papaya_scheduler.specs.Played.{IsDue, Plays, StandsFor}

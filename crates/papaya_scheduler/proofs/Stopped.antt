@@ -1,8 +1,8 @@
 -- A walk that shows pairs is given up.
-use Rattle.std.specs.Prelude.{◌≡◌, ◌≢◌, ◌⊎◌, ◌+◌, ◌≤◌, ◌==◌, ◌&&◌, cond, ℕ, Bool, true, false, List, length, filter, find, map, position, slice_get, is_some, Option, Some, None}
-use Rattle.std.specs.List.{AllByRecursion, list_any, position_or_len, remove}
+use Rattle.std.specs.Prelude.{◌≡◌, ◌≢◌, ◌⊎◌, ◌+◌, ◌==◌, ◌&&◌, cond, ℕ, Bool, true, false, List, map, position, slice_get, is_some, Option, Some, None}
+use Rattle.std.specs.List.{AllByRecursion, list_any, remove}
 use Rattle.std.proofs.Common.{refl, sym, ap, subst, ◌∙◌, inl, inr, arith, eqb-true}
-use Rattle.std.proofs.lemmas.Bool.{cases_eq, eq-eqb, ne_eqb}
+use Rattle.std.proofs.lemmas.Bool.{cases_eq, ne_eqb}
 use Rattle.seize_words.specs.declared.fault.Fault.TheVariants.{Busy}
 use Rattle.seize.specs.World.{Rests}
 use Rattle.papaya_raw.specs.Machine.{is_ready as sweep_is_ready, machine_asked}

@@ -1,14 +1,13 @@
 -- Guards and registrations by name: what the tests of a moment say, by what is found; and how slots are used then.
-use Rattle.std.specs.Prelude.{◌==◌, ◌&&◌, ◌||◌, not, cond, filter, is_some, option_map, Option, Some, None, if◌then◌else◌}
+use Rattle.std.specs.Prelude.{◌==◌, ◌&&◌, ◌||◌, not, cond, is_some, option_map, Option, Some, None, if◌then◌else◌}
 use Rattle.std.specs.List.{list_any}
-use Rattle.std.proofs.Common.{◌≡◌, ◌≢◌, ℕ, ◌+◌, ◌≤◌, ◌<◌, Bool, true, false, List, [], ◌∷◌, ◌++◌, refl, sym, ap, subst, ◌∙◌, arith}
+use Rattle.std.proofs.Common.{◌≡◌, ◌≢◌, ℕ, ◌+◌, ◌≤◌, Bool, true, false, List, [], ◌∷◌, refl, sym, ap, ◌∙◌, arith}
 use Rattle.std.proofs.lemmas.Bool.{eq-eqb}
 use Rattle.papaya_runs.specs.declared.holders.Guard.{Guard}
 use Rattle.papaya_runs.specs.declared.holders.Registration.{Registration}
-use Rattle.papaya_runs.specs.Present.{Present, guard_of, guards_named, guards_on, living_on, living_slot, registration_of, has_registration, forgotten_if, forgets, enters_slot, drops, slot_of_registration, slot_or}
+use Rattle.papaya_runs.specs.Present.{Present, guard_of, guards_named, guards_on, living_slot, registration_of, has_registration, forgotten_if, forgets, slot_of_registration, slot_or}
 use Rattle.papaya_runs.specs.Same.{is_same}
-use Rattle.papaya_runs.proofs.Laws.{same_tells, forgets_counts, enters_counts}
-use Rattle.papaya_executor.specs.declared.row.SlotUse.{SlotUse}
+use Rattle.papaya_runs.proofs.Laws.{same_tells, forgets_counts}
 use Rattle.papaya_executor.specs.declared.row.SlotUse.TheVariants as used
 use Rattle.papaya_schedules.specs.InUse.{is_registered, is_guard, is_living}
 use Rattle.papaya_scheduler.specs.Played.{used_as}

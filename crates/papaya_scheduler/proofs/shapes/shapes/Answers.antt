@@ -1,7 +1,7 @@
 -- The walk over the tables of a map shows each.
 use Rattle.std.specs.Prelude.{◌-◌, ◌^◌, map}
 use Rattle.std.proofs.lemmas.List.{map-append}
-use Rattle.std.proofs.Common.{arith, ap, length, length-append, refl, ◌≡◌, ◌+◌, ◌∙◌, ◌<◌, ◌++◌, ◌∷◌, [], List, sym}
+use Rattle.std.proofs.Common.{arith, ap, length, length-append, ◌≡◌, ◌+◌, ◌∙◌, ◌<◌, ◌++◌, ◌∷◌, [], List, sym}
 use Rattle.papaya_runs.specs.declared.outcome.TableShape.{TableShape}
 use Rattle.papaya_shown.proofs.Chain.{walk_begins, walk_linked, walk_goes, walk_ends}
 use Rattle.papaya_scheduler.specs.Shapes.{shape_of}

@@ -1,9 +1,9 @@
 -- A guard enters.
-use Rattle.std.proofs.Common.{[], refl, sym, ap, ◌∙◌, arith}
+use Rattle.std.proofs.Common.{[], sym, ap, ◌∙◌, arith}
 use Rattle.std.proofs.lemmas.Bool.{lt-ltb}
 use Rattle.seize_words.specs.declared.fault.Fault.TheVariants.{Busy, GuardsFull}
 use Rattle.papaya_schedules.specs.declared.event.Event.TheVariants.{Enter}
-use Rattle.papaya_schedules.specs.declared.outcome.Outcome.TheVariants.{Done, Refused}
+use Rattle.papaya_schedules.specs.declared.outcome.Outcome.TheVariants.{Refused}
 use Rattle.papaya_scheduler.proofs.Enters.{guard_there, no_registration, full, may_enter, fits, joined, joined_first}
 use Rattle.papaya_scheduler.proofs.Rights.{so_played}
 use Rattle.papaya_scheduler.proofs.scheduler.Scheduler.enter.Goals.{then-guards-eq0+in_ok-do_row, else-guards-eq0}
@@ -52,11 +52,11 @@ returns g c = record {
       let found = sym c.slot_of_registration.ensures ∙ c.in-Some.is in
       let few = lt-ltb _ _ (let l = c.if-guards-ge-MOST_GUARDS.false in let e = c.guards_on-guards.ensures in omega (arith, l, e)) in
       elim c.if-guards-eq0.branch [
-        then-guards-eq0+in_ok-do_row w ↦
+        | then-guards-eq0+in_ok-do_row w ↦
             joined_first same hash terms log c.args.self.now c.args.guard c.args.registration.now due none c.in-Some.slot found few c.if-guards-eq0.self c.if-guards-eq0.effects.items c.enter.new.self
             c.in_ok-enter.ensures (sym c.guards_on-guards.ensures ∙ w.if-guards-eq0.true) c.no_effects-effects.result.items w.do_row.new.effects.items c.no_effects-effects.ensures
             (ap (λ v. v.items) w.effects-is) w.do_row.new.self w.self-is w.do_row.ensures.rest w.in_ok-do_row.ensures.ran takes
-      | else-guards-eq0 w ↦
+        | else-guards-eq0 w ↦
             joined same hash terms log c.args.self.now c.args.guard c.args.registration.now due none c.in-Some.slot found few c.if-guards-eq0.self c.if-guards-eq0.effects.items c.enter.new.self
             c.in_ok-enter.ensures (λ z. w.if-guards-eq0.false (c.guards_on-guards.ensures ∙ z)) w.self-is (ap (λ v. v.items) w.effects-is ∙ c.no_effects-effects.ensures)
       ];

@@ -31,20 +31,24 @@ returns-then-not-takes g c = record {
 
 pub reply-requires : goal.reply-requires
 reply-requires g c =
-    let r = c.requires in
-    (r.0, r.1, r.2.2.played.scene, r.2.2.played.shown.is_at,
-    call_there r.0 r.1 r.2.0 r.2.1 c.args.self.now c.args.caller.now c.args.reply r.2.2 c.in-Some.place (sym c.in-Some.is ∙ c.place_of.ensures) c.index.result.now c.index.ensures
-    (sym c.takes.ensures ∙ c.if-not-takes.false) c.index-2.result.now c.index-2.ensures)
+    let r = c.requires in (
+      r.0,
+      r.1,
+      r.2.2.played.scene,
+      r.2.2.played.shown.is_at,
+      call_there r.0 r.1 r.2.0 r.2.1 c.args.self.now c.args.caller.now c.args.reply r.2.2 c.in-Some.place (sym c.in-Some.is ∙ c.place_of.ensures) c.index.result.now c.index.ensures
+          (sym c.takes.ensures ∙ c.if-not-takes.false) c.index-2.result.now c.index-2.ensures,
+    )
 
 pub returns-then-is_err : goal.returns-then-is_err
 returns-then-is_err g c = record {
   plays = λ same hash terms log due. absurd (
-    let plain = is_taken same hash terms log c.args.self.now c.args.caller.now c.args.reply due c.in-Some.place (sym c.in-Some.is ∙ c.place_of.ensures) c.index.result.now c.index.ensures
-          (sym c.takes.ensures ∙ c.if-not-takes.false) c.index-2.result.now c.index-2.ensures c.told_by-told.result.0 (ap (λ t. t.0) c.told_by-told.ensures) c.reply.result c.reply.new.self
-          (c.reply.ensures.taken same hash due.played.scene due.played.shown.is_at) (c.reply.ensures.leads same hash due.played.name (moment log) due.played.scene due.played.shown) in
-    let yes = sym c.is_err.ensures.value ∙ c.if-is_err.true in
-    cc (plain, yes)
-  );
+      let plain = is_taken same hash terms log c.args.self.now c.args.caller.now c.args.reply due c.in-Some.place (sym c.in-Some.is ∙ c.place_of.ensures) c.index.result.now c.index.ensures
+      (sym c.takes.ensures ∙ c.if-not-takes.false) c.index-2.result.now c.index-2.ensures c.told_by-told.result.0 (ap (λ t. t.0) c.told_by-told.ensures) c.reply.result c.reply.new.self
+      (c.reply.ensures.taken same hash due.played.scene due.played.shown.is_at) (c.reply.ensures.leads same hash due.played.name (moment log) due.played.scene due.played.shown) in
+      let yes = sym c.is_err.ensures.value ∙ c.if-is_err.true in
+      cc (plain, yes)
+      );
 }
 
 pub returns : goal.returns

@@ -1,5 +1,5 @@
 -- The tables of a map are shown.
-use Rattle.std.proofs.Common.{[], refl, sym, ap, ◌∙◌, arith}
+use Rattle.std.proofs.Common.{[], sym, ◌∙◌}
 use Rattle.seize_words.specs.declared.fault.Fault.TheVariants.{Busy}
 use Rattle.papaya_schedules.specs.declared.event.Event.TheVariants.{ShowShape}
 use Rattle.papaya_schedules.specs.declared.outcome.Outcome.TheVariants.{Refused, Shape}
@@ -26,7 +26,7 @@ returns-in_ok-shapes-in-Some g c = record {
       let is = sym c.setting_of.ensures ∙ c.in-Some.is in
       let own = c.args.map.now in
       let shaped = c.in_ok-shapes-in-Some.ensures same hash _ _ (stands_there same hash terms log c.args.self.now own due.played _ c.in-Some.setting is)
-            ∙ sym (shapes_are same hash terms log c.args.self.now own due.played _ c.in-Some.setting is) in
+      ∙ sym (shapes_are same hash terms log c.args.self.now own due.played _ c.in-Some.setting is) in
       so_played same hash terms log c.args.self.now (ShowShape own) c.quietly.result (Shape c.in_ok-shapes-in-Some.shapes) 0 [] c.quietly.ensures.outcome c.quietly.ensures.steps c.quietly.ensures.effects
       (shown same hash terms log c.args.self.now own due _ c.in-Some.setting is (Shape c.in_ok-shapes-in-Some.shapes) shaped);
 }

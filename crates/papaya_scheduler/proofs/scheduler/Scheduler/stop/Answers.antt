@@ -24,8 +24,8 @@ stop-requires g c =
     let ready = sym c.in-Some.is ∙ c.place_of_ready.ensures in
     let own = c.args.caller.now in
     let numbered = ap (λ x. x.number) (read_here r.0 r.1 r.2.0 (moment r.2.1) c.args.self.now r.2.2.played own c.in-Some.place
-          (here_at r.0 r.1 r.2.0 (moment r.2.1) c.args.self.now r.2.2.played own c.in-Some.place (ready_parts r.0 r.1 r.2.0 r.2.1 c.args.self.now own r.2.2.played c.in-Some.place ready).0)
-          c.index.result.now c.index.ensures) in
+    (here_at r.0 r.1 r.2.0 (moment r.2.1) c.args.self.now r.2.2.played own c.in-Some.place (ready_parts r.0 r.1 r.2.0 r.2.1 c.args.self.now own r.2.2.played c.in-Some.place ready).0)
+    c.index.result.now c.index.ensures) in
     (r.0, r.1, r.2.2.played.scene, r.2.2.played.shown.is_at, subst (λ (n : ℕ). HasCall r.2.2.played.scene n) (sym numbered) (has_call r.0 r.1 r.2.0 r.2.1 c.args.self.now own r.2.2 c.in-Some.place ready))
 
 pub returns : goal.returns
@@ -34,8 +34,8 @@ returns g c = record {
       let ready = sym c.in-Some.is ∙ c.place_of_ready.ensures in
       let own = c.args.caller.now in
       let numbered = ap (λ x. x.number) (read_here same hash terms (moment log) c.args.self.now due.played own c.in-Some.place
-            (here_at same hash terms (moment log) c.args.self.now due.played own c.in-Some.place (ready_parts same hash terms log c.args.self.now own due.played c.in-Some.place ready).0)
-            c.index.result.now c.index.ensures) in
+      (here_at same hash terms (moment log) c.args.self.now due.played own c.in-Some.place (ready_parts same hash terms log c.args.self.now own due.played c.in-Some.place ready).0)
+      c.index.result.now c.index.ensures) in
       so_played same hash terms log _ (Stop own) c.quietly.result Done 0 [] c.quietly.ensures.outcome c.quietly.ensures.steps c.quietly.ensures.effects
       (done same hash terms log c.args.self.now own due c.in-Some.place ready c.stop.result c.stop.new.self
       (subst (λ (n : ℕ). WalkStops same hash due.played.name (moment log) due.played.scene n c.stop.result c.args.self.now.logged c.stop.new.self) numbered

@@ -1,8 +1,8 @@
 -- A registration ends.
-use Rattle.std.proofs.Common.{[], refl, sym, ap, ◌∙◌, arith}
+use Rattle.std.proofs.Common.{[], sym, ap, ◌∙◌}
 use Rattle.seize_words.specs.declared.fault.Fault.TheVariants.{Busy}
 use Rattle.papaya_schedules.specs.declared.event.Event.TheVariants.{Unregister}
-use Rattle.papaya_schedules.specs.declared.outcome.Outcome.TheVariants.{Done, Refused}
+use Rattle.papaya_schedules.specs.declared.outcome.Outcome.TheVariants.{Refused}
 use Rattle.papaya_scheduler.proofs.Unregisters.{not_registered, guards_live, may_free, fits, joined, joined_last}
 use Rattle.papaya_scheduler.proofs.Rights.{so_played}
 use Rattle.papaya_scheduler.proofs.scheduler.Scheduler.unregister.Goals as goal
@@ -14,10 +14,10 @@ returns-in_default g c = record {
   plays = λ same hash terms log due takes.
       so_played same hash terms log c.args.self.now (Unregister c.args.registration.now) c.busy.result (Refused Busy) 0 [] c.busy.ensures.outcome c.busy.ensures.steps c.busy.ensures.effects
       (elim c.in_default.branch [
-        in_default-via-in-Some+else-living_on-eq0 w ↦
+        | in_default-via-in-Some+else-living_on-eq0 w ↦
             guards_live same hash terms log c.args.self.now c.args.registration.now due w.in-Some.slot (sym c.slot_of_registration.ensures ∙ w.in-Some.is)
             (ne_eqb _ _ (λ e. w.if-living_on-eq0.false (w.living_on.ensures ∙ e)))
-      | in_default-via-in_default w ↦
+        | in_default-via-in_default w ↦
             not_registered same hash terms log c.args.self.now c.args.registration.now due (sym c.slot_of_registration.ensures ∙ w.in_default.is)
       ]);
 }
@@ -40,11 +40,11 @@ returns g c = record {
       let found = sym c.slot_of_registration.ensures ∙ c.in-Some.is in
       let none_live = eq-eqb _ _ (sym c.living_on.ensures ∙ c.if-living_on-eq0.true) in
       elim c.if-guards_on-eq0.branch [
-        then-guards_on-eq0+in_ok-do_row w ↦
+        | then-guards_on-eq0+in_ok-do_row w ↦
             joined_last same hash terms log c.args.self.now c.args.registration.now due c.in-Some.slot found none_live c.if-guards_on-eq0.self c.if-guards_on-eq0.effects.items c.unregister.new.self
             c.unregister.ensures (sym c.guards_on.ensures ∙ w.if-guards_on-eq0.true) c.no_effects-effects.result.items w.do_row.new.effects.items c.no_effects-effects.ensures
             (ap (λ v. v.items) w.effects-is) w.do_row.new.self w.self-is w.do_row.ensures.rest w.in_ok-do_row.ensures.ran takes
-      | else-guards_on-eq0 w ↦
+        | else-guards_on-eq0 w ↦
             joined same hash terms log c.args.self.now c.args.registration.now due c.in-Some.slot found none_live c.if-guards_on-eq0.self c.if-guards_on-eq0.effects.items c.unregister.new.self
             c.unregister.ensures (λ z. w.if-guards_on-eq0.false (c.guards_on.ensures ∙ z)) w.self-is (ap (λ v. v.items) w.effects-is ∙ c.no_effects-effects.ensures)
       ];
