@@ -1,5 +1,5 @@
 -- Where the beginning of a row on a slot leads, and where a step of it does, and what that does.
-use Rattle.std.specs.Prelude.{◌≡◌, ℕ, Bool, true, false, List, ◌++◌, Option, Some, None}
+use Rattle.std.specs.Prelude.{◌≡◌, ℕ, zero, suc, Bool, true, false, List, ◌++◌, Option, Some, None}
 use Rattle.seize.specs.World.{World, Begin, Step}
 use Rattle.papaya_tables.specs.declared.node.Node.{Node}
 use Rattle.papaya_schedules.specs.declared.effect.Effect.{Effect}
@@ -8,6 +8,7 @@ use Rattle.papaya_schedules.specs.Moment.{Moment}
 use Rattle.papaya_executor.specs.IsAt.{Scene, IsAt, slot_of, work_of}
 use Rattle.papaya_executor.specs.OnSlots.{MayBegin, RowBegins, RowLeads, row_on}
 use Rattle.papaya_executor.specs.Rows.{request_of}
+use Rattle.papaya_executor.specs.declared.executor.Executor.{Executor}
 use Rattle.papaya_executor.specs.declared.row.RowTold.{RowTold}
 use Rattle.papaya_executor.specs.declared.row.RowTold.TheVariants as told
 use Rattle.papaya_executor.specs.declared.row.SlotCall.{SlotCall}
@@ -67,3 +68,17 @@ module _ {K V S : Type 0} where
   -- This was told of the last step of the row, which ended it, unless it waits: then it is under way still.
   abbrev pub OnSlotComes : ℕ → RowTold (Node K V) → Logged K V S → Type 0
   OnSlotComes i said new = (has_come said ≡ true) × ((row : SlotRow) × (work_of new.executor i ≡ row_on row said))
+
+module _ {K V S : Type 0} (i : ℕ) where
+  -- a step of the caller's row, in whatever scene the executor is there
+  abbrev pub StepsOn : RowTold (Node K V) → (old new : Executor K V S) → Type 0
+  StepsOn said old new = (same : K → K → Bool) (hash : K → ℕ) (s : Scene K V) → IsAt same hash old s → RowLeads same hash i said s old new
+
+  -- so many of them, after none of which the row has ended, or waits
+  abbrev pub GoesOnFor : ℕ → (old new : Executor K V S) → Type 0
+  GoesOnFor zero old new = old ≡ new
+  GoesOnFor (suc n) old new = (mid : Executor K V S) × (said : RowTold (Node K V)) × GoesOnFor n old mid × (has_come said ≡ false) × StepsOn said mid new
+
+  -- and then the last one, which told this
+  abbrev pub OnSlotLast : RowTold (Node K V) → (old new : Executor K V S) → Type 0
+  OnSlotLast said old new = (mid : Executor K V S) × (n : ℕ) × GoesOnFor n old mid × StepsOn said mid new

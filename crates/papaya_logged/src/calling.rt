@@ -3,6 +3,7 @@ ghost use Rattle.std.specs.Prelude.{◌≡◌, ◌<◌, ◌+◌, ◌*◌, ℕ, B
 ghost use Rattle.papaya_schedules.specs.Moment.{Moment};
 ghost use Rattle.papaya_executor.specs.Beginning.{IsRefused};
 ghost use Rattle.papaya_executor.specs.IsAt.{Scene, IsAt, HasCall};
+ghost use Rattle.papaya_executor.specs.Replying.{ReplyLeads};
 ghost use Rattle.papaya_executor.specs.declared.worker.TheConstants.{SLOTS};
 ghost use Rattle.papaya_logged.specs.Calling.{CallBegins, CallGoesOn, CallTakes, WalkGoesOn, WalkStops};
 ghost use Rattle.papaya_logged.specs.Shown.{IsShown};
@@ -35,6 +36,8 @@ impl<K: Drop, V: Drop, S> Logged<K, V, S> {
         requires { (same : K → K → Bool) × (hash : K → ℕ) × (s : Scene K V) × IsAt same hash self.old.executor s × HasCall s caller }
         ensures leads { (same : K → K → Bool) (hash : K → ℕ) (name : ℕ → List ℕ) (m : Moment K V) (s : Scene K V) → IsShown same hash name m self.old s
             → CallTakes same hash name m s caller reply result self.old self.new }
+        ensures taken { (same : K → K → Bool) (hash : K → ℕ) (s : Scene K V) → IsAt same hash self.old.executor s
+            → ReplyLeads same hash caller reply result s self.old.executor self.new.executor }
     {
         self.executor.reply(caller, reply)
     }

@@ -8,7 +8,7 @@ ghost use Rattle.papaya_executor.specs.declared.row.SlotRow.{SlotRow};
 ghost use Rattle.papaya_executor.specs.declared.worker.TheConstants.{SLOTS};
 ghost use Rattle.papaya_executor.specs.declared.worker.Work.TheVariants.{OnSlot};
 ghost use Rattle.papaya_logged.specs.Ended.{has_ended, uses_ended};
-ghost use Rattle.papaya_logged.specs.OnSlots.{OnSlotBegins, OnSlotSteps, OnSlotRan, OnSlotComes, has_come};
+ghost use Rattle.papaya_logged.specs.OnSlots.{OnSlotBegins, OnSlotSteps, OnSlotRan, OnSlotComes, OnSlotLast, has_come};
 ghost use Rattle.papaya_logged.specs.Shown.{IsShown};
 
 use crate::logged::Logged;
@@ -69,6 +69,7 @@ impl<K: Drop, V: Drop, S> Logged<K, V, S> {
     ) -> Result<RowTold<Node<K, V>>, AllocError>
         requires { (same : K → K → Bool) × (hash : K → ℕ) × (s : Scene K V) × IsAt same hash self.old.executor s × (row : SlotRow) × (work_of self.old.executor caller ≡ Some (OnSlot row)) }
         ensures comes { IfOk result (λ told. OnSlotComes caller told self.new) }
+        ensures last { IfOk result (λ told. OnSlotLast caller told self.old.executor self.new.executor) }
         ensures used { IfOk result (λ told. (row : SlotRow) → work_of self.old.executor caller ≡ Some (OnSlot row) → has_ended told ≡ true
             → self.new.executor.slots.items ≡ uses_ended row told self.old.executor.slots.items) }
         ensures ran { IfOk result (λ told. OnSlotRan effects.old.items effects.new.items self.old self.new) }

@@ -1,10 +1,10 @@
 -- Each step may be taken, leads on, and leaves less to go, until the row has come so far.
-use Rattle.std.proofs.Common.{sym, ◌∙◌}
+use Rattle.std.proofs.Common.{refl, suc, sym, ◌∙◌}
 use Rattle.papaya_logged.proofs.Runs.{ends_at_first, ends_now, ran_none, ran_on, run_goes, still_there}
 use Rattle.papaya_logged.proofs.logged.Logged.run_on_slot.Goals as goal
 
 pub loop-told-init : goal.loop-told-init
-loop-told-init g c = record { ran = ran_none c.args.self.now c.args.effects.now.items; used = ends_at_first c.args.caller c.args.self.now; under = (c.requires.4, c.requires.5) }
+loop-told-init g c = record { ran = ran_none c.args.self.now c.args.effects.now.items; goes = (0, refl); used = ends_at_first c.args.caller c.args.self.now; under = (c.requires.4, c.requires.5) }
 
 pub step_on_slot-requires : goal.step_on_slot-requires
 step_on_slot-requires g c =
@@ -20,6 +20,9 @@ returns-then-has_come-clause-comes g c =
     let t = still_there r.0 r.1 r.2 _ _ _ _ r.3 i.ran in
     let to = c.in_ok-told.ensures.steps r.0 r.1 t.0 t.1 i.under.0 i.under.1 in
     (sym c.has_come.ensures ∙ c.if-has_come.true, (to.0, to.2))
+
+pub returns-then-has_come-clause-last : goal.returns-then-has_come-clause-last
+returns-then-has_come-clause-last g c = (c.loop-told.self.executor, c.loop-told.invariant.goes.0, c.loop-told.invariant.goes.1, c.in_ok-told.ensures.steps)
 
 pub returns-then-has_come-clause-used : goal.returns-then-has_come-clause-used
 returns-then-has_come-clause-used g c =
@@ -48,7 +51,12 @@ loop-told-preserved-else-has_come g c =
     let i = c.loop-told.invariant in
     let e = c.in_ok-told.ensures in
     let on = run_goes r.0 r.1 r.2 _ _ _ c.args.caller _ _ _ c.in_ok-told.told r.3 i.under.0 i.under.1 i.ran i.used e.leads e.steps (sym c.has_come.ensures ∙ c.if-has_come.false) in
-    record { ran = on.ran; used = on.used; under = on.under }
+    record {
+      ran = on.ran;
+      goes = (suc i.goes.0, (c.loop-told.self.executor, c.in_ok-told.told, i.goes.1, sym c.has_come.ensures ∙ c.if-has_come.false, e.steps));
+      used = on.used;
+      under = on.under;
+    }
 
 pub loop-told-smaller-else-has_come-2 : goal.loop-told-smaller-else-has_come-2
 loop-told-smaller-else-has_come-2 g c =
@@ -64,7 +72,12 @@ loop-told-preserved-else-has_come-2 g c =
     let i = c.loop-told.invariant in
     let e = c.in_ok-told.ensures in
     let on = run_goes r.0 r.1 r.2 _ _ _ c.args.caller _ _ _ c.in_ok-told.told r.3 i.under.0 i.under.1 i.ran i.used e.leads e.steps (sym c.has_come.ensures ∙ c.if-has_come.false) in
-    record { ran = on.ran; used = on.used; under = on.under }
+    record {
+      ran = on.ran;
+      goes = (suc i.goes.0, (c.loop-told.self.executor, c.in_ok-told.told, i.goes.1, sym c.has_come.ensures ∙ c.if-has_come.false, e.steps));
+      used = on.used;
+      under = on.under;
+    }
 
 pub loop-told-smaller : goal.loop-told-smaller
 loop-told-smaller g c =
@@ -80,4 +93,9 @@ loop-told-preserved g c =
     let i = c.loop-told.invariant in
     let e = c.in_ok-told.ensures in
     let on = run_goes r.0 r.1 r.2 _ _ _ c.args.caller _ _ _ c.in_ok-told.told r.3 i.under.0 i.under.1 i.ran i.used e.leads e.steps (sym c.has_come.ensures ∙ c.if-has_come.false) in
-    record { ran = on.ran; used = on.used; under = on.under }
+    record {
+      ran = on.ran;
+      goes = (suc i.goes.0, (c.loop-told.self.executor, c.in_ok-told.told, i.goes.1, sym c.has_come.ensures ∙ c.if-has_come.false, e.steps));
+      used = on.used;
+      under = on.under;
+    }

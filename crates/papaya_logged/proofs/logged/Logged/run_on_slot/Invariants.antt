@@ -1,9 +1,9 @@
 -- What a run keeps from step to step, and what each step lowers.
-use Rattle.std.specs.Prelude.{◌≡◌, Some}
+use Rattle.std.specs.Prelude.{◌≡◌, ℕ, Some}
 use Rattle.papaya_executor.specs.IsAt.{work_of}
 use Rattle.papaya_executor.specs.declared.row.SlotRow.{SlotRow}
 use Rattle.papaya_executor.specs.declared.worker.Work.TheVariants.{OnSlot}
-use Rattle.papaya_logged.specs.OnSlots.{OnSlotRan}
+use Rattle.papaya_logged.specs.OnSlots.{GoesOnFor, OnSlotRan}
 use Rattle.papaya_logged.proofs.RowsFall.{steps_left_of}
 use Rattle.papaya_logged.proofs.Runs.{EndsAs}
 use Rattle.papaya_logged.proofs.logged.Logged.run_on_slot.Given as goal
@@ -12,6 +12,7 @@ use Rattle.papaya_logged.proofs.logged.Logged.run_on_slot.Given as goal
 abbrev pub invariant-loop-told : goal.invariant-loop-told
 invariant-loop-told g l = record {
   ran : OnSlotRan l.fn.effects.items l.effects.items l.fn.self l.self;
+  goes : (n : ℕ) × GoesOnFor l.fn.caller n l.fn.self.executor l.self.executor;
   used : EndsAs l.fn.self l.self l.fn.caller;
   under : (row : SlotRow) × (work_of l.self.executor l.fn.caller ≡ Some (OnSlot row));
 }

@@ -1,0 +1,28 @@
+-- A scheduler stands as before for a moment in which nothing has changed that is seen of it.
+use Rattle.std.specs.Prelude.{ℕ, Bool, List}
+use Rattle.papaya_schedules.specs.Moment.{Sheltered, Moment}
+use Rattle.papaya_schedules.specs.Terms.{Terms}
+use Rattle.papaya_effects.specs.Known.{known}
+use Rattle.papaya_scheduler.specs.Played.{StandsFor}
+use Rattle.papaya_scheduler.specs.declared.scheduler.Scheduler.{Scheduler}
+use Rattle.papaya_scheduler.proofs.Elsewhere.{elsewhere, shown_elsewhere}
+
+module _ {K V S : Type 0} (same : K → K → Bool) (hash : K → ℕ) (terms : Terms) (m : Moment K V) (p : Scheduler K V S) (stands : StandsFor same hash terms m p) where
+  pub stands_on : (events : ℕ) (is_alone : Bool) (slots : ℕ) (sheltered : List Sheltered) → StandsFor same hash terms (elsewhere events m.is_mapped m.is_closed is_alone m.there slots sheltered m.remains m) p
+  stands_on events is_alone slots sheltered = record {
+    name = stands.name;
+    scene = stands.scene;
+    shown = record {
+      is_at = stands.shown.is_at;
+      shows = shown_elsewhere m (known p.logged.notes) events m.is_mapped m.is_closed is_alone m.there slots sheltered m.remains same stands.name stands.scene stands.shown.shows;
+    };
+    given = stands.given;
+    there = stands.there;
+    mapped = stands.mapped;
+    closed = stands.closed;
+    calls = let c = stands.calls in record { listed = c.listed; once = c.once; each = c.each; only = c.only };
+    maps = let c = stands.maps in record { listed = c.listed; stand = c.stand };
+    slots = stands.slots;
+    rests = stands.rests;
+    names = stands.names;
+  }

@@ -1,0 +1,40 @@
+-- A call begins under a guard.
+use Rattle.std.proofs.Common.{[], Bool, subst}
+use Rattle.seize_words.specs.declared.fault.Fault.TheVariants.{Busy}
+use Rattle.papaya_schedules.specs.After.{moment}
+use Rattle.papaya_schedules.specs.declared.event.Event.TheVariants.{Begin}
+use Rattle.papaya_schedules.specs.declared.outcome.Outcome.TheVariants.{Goes, Refused}
+use Rattle.papaya_scheduler.specs.Played.{BeginsSo}
+use Rattle.papaya_scheduler.proofs.Begun.{begins_call, begins_none}
+use Rattle.papaya_scheduler.proofs.Rights.{so_played}
+use Rattle.papaya_scheduler.proofs.scheduler.Scheduler.begin.Goals as goal
+
+pub begins-requires : goal.begins-requires
+begins-requires g c = let r = c.requires in (r.0, moment r.1, r.2.played)
+
+pub returns-then-branch : goal.returns-then-branch
+returns-then-branch g c = record {
+  plays = λ terms log due.
+      let hash = g.S.Hashes.hash c.args.self.now.logged.executor.hasher in
+      let own = c.args.caller in
+      let guard = c.args.guard in
+      let map = c.args.map.now in
+      so_played g.K.PartialEq.eq hash terms log c.begins.new.self (Begin own guard map c.args.call) c.quietly.result Goes 0 [] c.quietly.ensures.outcome c.quietly.ensures.steps
+      c.quietly.ensures.effects
+      (begins_call g.K.PartialEq.eq hash terms log own guard map c.args.call c.args.self.now c.begins.new.self due
+      (subst (λ (b : Bool). BeginsSo g.K.PartialEq.eq hash terms (moment log) own guard map c.args.call b c.args.self.now c.begins.new.self) c.if-branch.true
+      (c.in_ok-begins.ensures.begins terms (moment log) due.played)));
+}
+
+pub returns-else-branch : goal.returns-else-branch
+returns-else-branch g c = record {
+  plays = λ terms log due.
+      let hash = g.S.Hashes.hash c.args.self.now.logged.executor.hasher in
+      let own = c.args.caller in
+      let guard = c.args.guard in
+      let map = c.args.map.now in
+      so_played g.K.PartialEq.eq hash terms log c.begins.new.self (Begin own guard map c.args.call) c.busy.result (Refused Busy) 0 [] c.busy.ensures.outcome c.busy.ensures.steps c.busy.ensures.effects
+      (begins_none g.K.PartialEq.eq hash terms log own guard map c.args.call c.args.self.now c.begins.new.self due
+      (subst (λ (b : Bool). BeginsSo g.K.PartialEq.eq hash terms (moment log) own guard map c.args.call b c.args.self.now c.begins.new.self) c.if-branch.false
+      (c.in_ok-begins.ensures.begins terms (moment log) due.played)));
+}

@@ -1,0 +1,6 @@
+pub mod Seen
+pub mod Machines
+pub mod Telling
+pub mod Shapes
+pub mod Rows
+pub mod Played

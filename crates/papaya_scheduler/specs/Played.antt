@@ -1,0 +1,120 @@
+-- That a scheduler has played a log, and what is promised of an event that happens then.
+use Rattle.std.specs.Prelude.{◌≡◌, ◌≤◌, ℕ, ◌==◌, Bool, true, false, ◌&&◌, List, ◌∷◌, length, filter, map, is_some, is_none, Some, None, if◌then◌else◌}
+use Rattle.std.specs.List.{AllByRecursion, list_any}
+use Rattle.papaya_runs.specs.Present.{Present, HaveNames, guard_of, guards_on, has_registration, living_slot}
+use Rattle.papaya_schedules.specs.declared.call.Call.{Call}
+use Rattle.papaya_schedules.specs.declared.event.Event.{Event}
+use Rattle.papaya_schedules.specs.After.{moment}
+use Rattle.papaya_schedules.specs.Beginning.{with_call}
+use Rattle.papaya_schedules.specs.Entry.{Entry}
+use Rattle.papaya_schedules.specs.InTurn.{ComesRight, is_kept_out}
+use Rattle.papaya_schedules.specs.InUse.{is_living}
+use Rattle.papaya_schedules.specs.Moment.{Moment}
+use Rattle.papaya_schedules.specs.Terms.{Terms}
+use Rattle.papaya_schedules.specs.Views.{call_of, map_of, number_of}
+use Rattle.papaya_callers.specs.Together.{UnderWay}
+use Rattle.papaya_executor.specs.IsAt.{Scene, slot_of, use_at, work_of}
+use Rattle.papaya_executor.specs.declared.row.SlotUse.{SlotUse}
+use Rattle.papaya_executor.specs.declared.row.SlotUse.TheVariants as used
+use Rattle.papaya_finishes.specs.Machines.{machine_of}
+use Rattle.papaya_finishes.specs.Maps.{Standing}
+use Rattle.papaya_logged.specs.Shown.{IsShown}
+use Rattle.papaya_scheduler.specs.Machines.{IsAsFar}
+use Rattle.papaya_scheduler.specs.Rows.{TakesRetired}
+use Rattle.papaya_scheduler.specs.Seen.{is_named, named, named_of, seen, seen_of}
+use Rattle.papaya_scheduler.specs.declared.caller.Caller.{Caller}
+use Rattle.papaya_scheduler.specs.declared.played.Played.{Played}
+use Rattle.papaya_scheduler.specs.declared.scheduler.Given.{Given}
+use Rattle.papaya_scheduler.specs.declared.scheduler.NamedMap.{NamedMap}
+use Rattle.papaya_scheduler.specs.declared.scheduler.Scheduler.{Scheduler}
+
+-- what the run is made with
+abbrev pub terms_given : Given → Terms
+terms_given given = record {
+  batch_size = given.setup.batch_size;
+  processors = given.setup.processors;
+  roots = given.setup.roots;
+  is_one_by_one = given.is_one_by_one;
+  is_one_map = given.is_one_map;
+}
+
+-- an event, with what it came to
+abbrev pub entry_of : {K V : Type 0} → Event K V → Played V → Entry K V
+entry_of event played = record { event = event; outcome = played.outcome; steps = played.steps; effects = played.effects.items }
+
+-- how a slot is used by those who are there: it is entered while a guard is on it, also one that was forgotten
+abbrev pub used_as : ℕ → Present → SlotUse
+used_as slot there =
+    if guards_on slot there.guards == 0 then (if has_registration slot there.registrations then used.Outside else used.Vacant) else used.Inside
+
+module _ {K V : Type 0} (name : ℕ → List ℕ) (s : Scene K V) (there : Present) where
+  -- a caller has its call under way in the scene, by its name, in the slot of its guard, which lives, and is as far
+  abbrev pub IsUnderWay : Caller V → Type 0
+  IsUnderWay d =
+      (u : UnderWay K V K) × (s.calls d.map d.number ≡ Some u) × (name d.number ≡ d.name) × (living_slot (guard_of d.guard there.guards) ≡ Some (slot_of d.number))
+      × IsAsFar d.kind d.stands (machine_of u)
+
+  -- the callers are those of the moment, each once, and those of the scene
+  pub record CallsAre (m : Moment K V) (calls : List (Caller V)) : Type 0 where
+    pub listed : map seen m.calls ≡ map seen_of calls
+    pub once : (own : List ℕ) → length (filter (is_named own) calls) ≤ 1
+    pub each : AllByRecursion IsUnderWay calls
+    pub only : (map i : ℕ) (u : UnderWay K V K) → s.calls map i ≡ Some u → list_any (λ d. (d.map == map) && (d.number == i)) calls ≡ true
+
+-- the maps are those of the moment, and each stands in the scene
+pub record MapsAre {K V : Type 0} (s : Scene K V) (m : Moment K V) (maps : List NamedMap) : Type 0 where
+  pub listed : map named m.maps ≡ map named_of maps
+  pub stand : AllByRecursion (λ t. (standing : Standing K) × (s.maps t.number ≡ Some standing)) maps
+
+-- The scheduler stands as the moment says: its executor is shown, and who is there, calls and maps have the names of the moment; slots are used as guards and
+-- registrations say, and nothing is under way but these calls.
+pub record StandsFor {K V S : Type 0} (same : K → K → Bool) (hash : K → ℕ) (terms : Terms) (m : Moment K V) (p : Scheduler K V S) : Type 0 where
+  pub name : ℕ → List ℕ
+  pub scene : Scene K V
+  pub shown : IsShown same hash name m p.logged scene
+  pub given : terms_given p.given ≡ terms
+  pub there : m.there ≡ p.there
+  pub mapped : m.is_mapped ≡ p.is_mapped
+  pub closed : m.is_closed ≡ p.is_closed
+  pub calls : CallsAre name scene p.there m p.calls.items.items
+  pub maps : MapsAre scene m p.maps.items
+  pub slots : (slot : ℕ) → use_at p.logged.executor slot ≡ used_as slot p.there
+  pub rests : (i : ℕ) → ((map : ℕ) → scene.calls map i ≡ None) → work_of p.logged.executor i ≡ None
+  pub names : HaveNames p.there
+
+module _ {K V S : Type 0} (same : K → K → Bool) (hash : K → ℕ) where
+  abbrev pub IsPlayed : Terms → List (Entry K V) → Scheduler K V S → Type 0
+  IsPlayed terms log p = StandsFor same hash terms (moment log) p
+
+  module _ (terms : Terms) (log : List (Entry K V)) where
+    -- The event may happen: the scheduler has played the log, and the event is not kept out.
+    pub record IsDue (event : Event K V) (p : Scheduler K V S) : Type 0 where
+      pub played : IsPlayed terms log p
+      pub in_turn : is_kept_out terms event (moment log) ≡ false
+
+    -- What is promised of it: it has come to what is right for it, and the scheduler has played the log with it.
+    pub record Plays (e : Entry K V) (p : Scheduler K V S) : Type 0 where
+      pub right : ComesRight terms log e
+      pub played : IsPlayed terms (e ∷ log) p
+
+  abbrev pub MayPlay : Event K V → Scheduler K V S → Type 0
+  MayPlay event p = (terms : Terms) × (log : List (Entry K V)) × IsDue terms log event p
+
+  abbrev pub PlaysAt : Event K V → Played V → (old new : Scheduler K V S) → Type 0
+  PlaysAt event played old new = (terms : Terms) (log : List (Entry K V)) → IsDue terms log event old → Plays terms log (entry_of event played) new
+
+  -- where a table that is reclaimed was retired
+  abbrev pub PlaysTaking : Event K V → Played V → (old new : Scheduler K V S) → Type 0
+  PlaysTaking event played old new =
+      (terms : Terms) (log : List (Entry K V)) → IsDue terms log event old → TakesRetired played.effects.items (moment log) → Plays terms log (entry_of event played) new
+
+  -- where it is known whether the event is the first one
+  abbrev pub PlaysFirst : Bool → Event K V → Played V → (old new : Scheduler K V S) → Type 0
+  PlaysFirst is_first event played old new =
+      (terms : Terms) (log : List (Entry K V)) → is_first ≡ ((moment log).events == 0) → IsDue terms log event old → Plays terms log (entry_of event played) new
+
+  -- A call begins if its name is free, its guard lives, and its map is there; then the scheduler stands for the moment at which it has begun.
+  pub record BeginsSo (terms : Terms) (m : Moment K V) (own guard map : List ℕ) (call : Call K V) (begun : Bool) (old new : Scheduler K V S) : Type 0 where
+    pub so : begun ≡ (is_none (call_of own m) && is_living guard m.there && is_some (map_of map m))
+    pub none : begun ≡ false → new ≡ old
+    pub stands : begun ≡ true → StandsFor same hash terms (with_call own guard call (number_of map m) m) new

@@ -1,0 +1,6 @@
+-- What is shown of a table.
+use Rattle.papaya_tables.specs.declared.table.Table.{Table}
+use Rattle.papaya_runs.specs.declared.outcome.TableShape.{TableShape}
+
+abbrev pub shape_of : Table → TableShape
+shape_of table = record { len = table.len; limit = table.limit }

@@ -1,0 +1,107 @@
+//! Callers by name, each with its call.
+ghost use Rattle.std.specs.Prelude.{◌≡◌, ◌<◌, ◌∷◌, [], length, position, slice_get, slice_set, OnOk, Some};
+ghost use Rattle.std.specs.List.{list_any};
+ghost use Rattle.papaya_runs.specs.Same.{is_same};
+ghost use Rattle.papaya_scheduler.specs.Seen.{is_named, shows, takes};
+
+use crate::kind::Kind;
+use papaya_runs::token::Token;
+use papaya_schedules::call::Reply;
+use std::alloc::{AllocError, Global};
+
+/// How far a call is.
+#[derive(Clone, Copy)]
+pub enum Stands {
+    /// It goes on.
+    Goes,
+    /// It asks about this pair, or about none, and there is no reply yet.
+    Asks(Option<u64>),
+    /// It is a walk that shows pairs.
+    Ready,
+}
+
+/// A caller, with its call.
+#[derive(Drop)]
+pub struct Caller<V> {
+    /// Its name.
+    pub name: Token,
+    /// The guard under which it calls.
+    pub guard: Token,
+    /// The number of the map.
+    pub map: u64,
+    /// The number that the executor has for it.
+    pub number: u64,
+    /// What the call is.
+    pub kind: Kind,
+    /// How far it is.
+    pub stands: Stands,
+    /// The value that was not stored, or that its closure aborted with.
+    pub value: Option<V>,
+}
+
+/// The callers that have a call under way, the newest first.
+#[derive(Drop)]
+pub struct Callers<V> {
+    /// The callers.
+    pub items: Vec<Caller<V>>,
+}
+
+impl<V> Caller<V> {
+    /// Whether its call asks, and a reply is of the kind that it asks for.
+    pub fn takes(&self, reply: &Reply<V>) -> bool
+        ensures { result ≡ takes self.now reply.now }
+    {
+        matches!(self.stands, Stands::Asks(_)) && self.kind.fits(reply)
+    }
+
+    /// Whether its call is a walk that shows pairs.
+    pub fn shows(&self) -> bool
+        ensures { result ≡ shows self.now.stands }
+    {
+        matches!(self.stands, Stands::Ready)
+    }
+}
+
+impl<V: Drop> Callers<V> {
+    /// Nobody has a call.
+    pub fn nobody(alloc: Global) -> Self
+        ensures { result.items.items ≡ [] }
+    {
+        Callers {
+            items: Vec::new(alloc),
+        }
+    }
+
+    /// The place of the caller of this name.
+    pub fn place_of(&self, name: &Token) -> Option<usize>
+        ensures { result ≡ position (is_named name.now) self.now.items.items }
+    {
+        self.items.iter().position(|caller| caller.name.is(name))
+    }
+
+    /// Whether a call is under the guard of this name.
+    pub fn uses(&self, guard: &Token) -> bool
+        ensures { result ≡ list_any (λ caller. is_same caller.guard guard.now) self.now.items.items }
+    {
+        self.items.iter().any(|caller| caller.guard.is(guard))
+    }
+
+    /// The call of the caller at a place goes on, with this value.
+    pub fn resume(&mut self, place: usize, value: Option<V>)
+        requires { place < length self.old.items.items }
+        ensures { (caller : Caller V) → slice_get self.old.items.items place ≡ Some caller
+            → self.new.items.items ≡ slice_set self.old.items.items place (record caller { stands = Stands.Goes; value = value }) }
+    {
+        let caller = &mut self.items[place];
+        caller.stands = Stands::Goes;
+        caller.value = value;
+    }
+
+    /// A caller comes. On an error nobody did.
+    pub fn add(&mut self, caller: Caller<V>) -> Result<(), AllocError>
+        ensures { OnOk result (self.new.items.items ≡ caller ∷ self.old.items.items) }
+    {
+        self.items.insert(0, caller)?;
+        Ok(())
+    }
+}

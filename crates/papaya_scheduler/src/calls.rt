@@ -1,0 +1,138 @@
+//! Calls begin, get replies, and are given up.
+ghost use Rattle.std.specs.Prelude.{◌≡◌, ℕ, Bool, List, IfOk};
+ghost use Rattle.papaya_schedules.specs.declared.event.Event.TheVariants as event;
+ghost use Rattle.papaya_schedules.specs.Moment.{Moment};
+ghost use Rattle.papaya_schedules.specs.Terms.{Terms};
+ghost use Rattle.papaya_hands.specs.Asked.{as_told};
+ghost use Rattle.papaya_scheduler.specs.Machines.{aborted_by};
+ghost use Rattle.papaya_scheduler.specs.Played.{BeginsSo, MayPlay, PlaysAt, StandsFor};
+ghost use Rattle.papaya_scheduler.specs.Seen.{ready_place};
+
+use crate::caller::{Caller, Stands};
+use crate::kind::Kind;
+use crate::machines::machine_for;
+use crate::played::Played;
+use crate::scheduler::Scheduler;
+use papaya_raw::machines::Reply as Told;
+use papaya_raw::{Hashes, Setting};
+use papaya_runs::token::Token;
+use papaya_schedules::call::{Call, Reply};
+use papaya_schedules::outcome::Outcome;
+use std::alloc::AllocError;
+use std::hash::Hash;
+
+/// A reply as it is told to a machine, and the value that its call aborts with.
+fn told_by<V>(reply: Reply<V>) -> (Told<V>, Option<V>)
+    ensures { result ≡ (as_told reply, aborted_by reply) }
+{
+    match reply {
+        Reply::Gives(value) => (Told::Insert(value), None),
+        Reply::Removes => (Told::Remove, None),
+        Reply::Aborts(value) => (Told::Abort, Some(value)),
+        Reply::Decides(true) => (Told::Yes, None),
+        Reply::Decides(false) => (Told::No, None),
+    }
+}
+
+impl<K: Eq + Hash + Drop, V: Drop, S: Hashes<K>> Scheduler<K, V, S> {
+    /// Begins a call, by a name that no call under way has, under a guard that lives, on a map that is there. Else it answers no, and nothing has begun.
+    pub(crate) fn begins(
+        &mut self,
+        name: Token,
+        guard: Token,
+        map: &Token,
+        call: Call<K, V>,
+    ) -> Result<bool, AllocError>
+        requires { (terms : Terms) × (m : Moment K V) × StandsFor K.eq (S.hash self.old.logged.executor.hasher) terms m self.old }
+        ensures begins { IfOk result (λ begun. (terms : Terms) (m : Moment K V) → StandsFor K.eq (S.hash self.old.logged.executor.hasher) terms m self.old
+            → BeginsSo K.eq (S.hash self.old.logged.executor.hasher) terms m name guard map.now call begun self.old self.new) }
+    {
+        if self.calls.place_of(&name).is_some() {
+            return Ok(false);
+        }
+        let Some(slot) = self.there.slot_of_living(&guard) else {
+            return Ok(false);
+        };
+        let Some((map, setting)) = self.setting_of(map) else {
+            return Ok(false);
+        };
+        let kind = Kind::of(&call);
+        let setting = Setting { slot, ..setting };
+        let machine = machine_for(setting, &self.logged.executor.hasher, call);
+        let number = self.logged.begin(slot, map, machine)?;
+        self.calls.add(Caller {
+            name,
+            guard,
+            map,
+            number,
+            kind,
+            stands: Stands::Goes,
+            value: None,
+        })?;
+        Ok(true)
+    }
+
+    /// Begins a call under a guard.
+    pub fn begin(
+        &mut self,
+        caller: Token,
+        guard: Token,
+        map: &Token,
+        call: Call<K, V>,
+    ) -> Result<Played<V>, AllocError>
+        requires { MayPlay K.eq (S.hash self.old.logged.executor.hasher) (event.Begin caller guard map.now call) self.old }
+        ensures plays { IfOk result (λ played. PlaysAt K.eq (S.hash self.old.logged.executor.hasher) (event.Begin caller guard map.now call) played self.old self.new) }
+    {
+        if self.begins(caller, guard, map, call)? {
+            Ok(self.quietly(Outcome::Goes))
+        } else {
+            Ok(self.busy())
+        }
+    }
+}
+
+impl<K: Drop, V: Drop, S> Scheduler<K, V, S> {
+    /// Tells a call that asks the reply.
+    pub fn replied(&mut self, caller: &Token, reply: Reply<V>) -> Played<V>
+        requires { (same : K → K → Bool) × (hash : K → ℕ) × MayPlay same hash (event.Replied caller.now reply) self.old }
+        ensures plays { (same : K → K → Bool) (hash : K → ℕ) → PlaysAt same hash (event.Replied caller.now reply) result self.old self.new }
+    {
+        let Some(place) = self.calls.place_of(caller) else {
+            return self.busy();
+        };
+        if !self.calls.items[place].takes(&reply) {
+            return self.busy();
+        }
+        let number = self.calls.items[place].number;
+        let (told, value) = told_by(reply);
+        if self.logged.reply(number, told).is_err() {
+            return self.busy();
+        }
+        self.calls.resume(place, value);
+        self.quietly(Outcome::Goes)
+    }
+
+    /// The place of the caller of this name, if its call is a walk that shows pairs.
+    pub(crate) fn place_of_ready(&self, caller: &Token) -> Option<usize>
+        ensures { result ≡ ready_place caller.now self.now.calls.items.items }
+    {
+        match self.calls.place_of(caller) {
+            Some(place) if self.calls.items[place].shows() => Some(place),
+            _ => None,
+        }
+    }
+
+    /// A walk that shows pairs is given up.
+    pub fn stop(&mut self, caller: &Token) -> Played<V>
+        requires { (same : K → K → Bool) × (hash : K → ℕ) × MayPlay same hash (event.Stop caller.now) self.old }
+        ensures plays { (same : K → K → Bool) (hash : K → ℕ) → PlaysAt same hash (event.Stop caller.now) result self.old self.new }
+    {
+        let Some(place) = self.place_of_ready(caller) else {
+            return self.busy();
+        };
+        let number = self.calls.items[place].number;
+        self.logged.stop(number);
+        self.calls.items.remove(place);
+        self.quietly(Outcome::Done)
+    }
+}

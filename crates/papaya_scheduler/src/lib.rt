@@ -1,0 +1,14 @@
+//! Schedules whose calls stay under way, event by event: who is there by name, what an event comes to, and that it is right for it.
+#![tactic(auto)]
+
+pub mod caller;
+pub mod calls;
+pub mod guards;
+pub mod kind;
+pub mod machines;
+pub mod played;
+pub mod registrations;
+pub mod scheduler;
+pub mod setups;
+pub mod shapes;
+pub mod telling;

@@ -1,0 +1,176 @@
+//! The state of a run whose calls stay under way: the executor, and who is there by name.
+ghost use Rattle.std.specs.Prelude.{◌≡◌, ◌<◌, ℕ, Bool, List, [], IfOk, OnOk};
+ghost use Rattle.papaya_schedules.specs.Moment.{Moment};
+ghost use Rattle.papaya_executor.specs.IsAt.{Scene};
+ghost use Rattle.papaya_logged.specs.Shown.{IsShown};
+ghost use Rattle.papaya_executor.specs.OnSlots.{MayBegin};
+ghost use Rattle.papaya_executor.specs.declared.worker.TheConstants.{SLOTS};
+ghost use Rattle.papaya_scheduler.specs.Seen.{free_slot, number_named, setting_named};
+ghost use Rattle.papaya_scheduler.specs.Played.{IsPlayed, terms_given};
+ghost use Rattle.papaya_scheduler.specs.Rows.{RowRan, RowRanOn};
+ghost use Rattle.seize_words.specs.declared.fault.Fault.TheVariants.{Busy};
+
+use crate::caller::Callers;
+use crate::played::Played;
+use papaya_executor::row::{RowTold, SlotCall};
+use papaya_logged::logged::Logged;
+use papaya_present::Present;
+use papaya_raw::{Node, Setting};
+use papaya_runs::event::Setup;
+use papaya_runs::token::Token;
+use papaya_schedules::effect::Effect;
+use papaya_schedules::outcome::Outcome;
+use std::alloc::{AllocError, Global};
+
+/// A map that is there.
+#[derive(Drop)]
+pub struct NamedMap {
+    /// Its name.
+    pub name: Token,
+    /// Its number.
+    pub number: u64,
+}
+
+/// What a run is made with.
+#[derive(Clone, Copy)]
+pub struct Given {
+    /// The collector's setup.
+    pub setup: Setup,
+    /// Whether each event is refused that is not of the caller whose call is under way.
+    pub is_one_by_one: bool,
+    /// Whether a run makes one map at most.
+    pub is_one_map: bool,
+}
+
+/// The executor with what is noted of its memory, and who is there by name.
+#[derive(Drop)]
+pub struct Scheduler<K, V, S> {
+    /// The executor, whose steps are written down.
+    pub logged: Logged<K, V, S>,
+    /// What the run is made with.
+    pub given: Given,
+    /// The registrations and the guards.
+    pub there: Present,
+    /// The maps that are there, in the order in which they were made.
+    pub maps: Vec<NamedMap>,
+    /// The callers that have a call under way.
+    pub calls: Callers<V>,
+    /// Whether an event was to make a map.
+    pub is_mapped: bool,
+    /// Whether the collector has ended.
+    pub is_closed: bool,
+}
+
+impl<K: Drop, V: Drop, S: Drop> Scheduler<K, V, S> {
+    /// Nobody is there, and there is no map.
+    pub fn new(alloc: Global, given: Given, hasher: S) -> Result<Self, AllocError>
+        ensures played { IfOk result (λ scheduler. (same : K → K → Bool) (hash : K → ℕ) → IsPlayed same hash (terms_given given) [] scheduler) }
+        ensures hasher { IfOk result (λ scheduler. scheduler.logged.executor.hasher ≡ hasher) }
+    {
+        let setup = given.setup;
+        Ok(Scheduler {
+            logged: Logged::new(alloc, hasher, setup.batch_size, setup.roots)?,
+            given,
+            there: Present::nobody(alloc),
+            maps: Vec::new(alloc),
+            calls: Callers::nobody(alloc),
+            is_mapped: false,
+            is_closed: false,
+        })
+    }
+}
+
+impl<K, V, S> Scheduler<K, V, S> {
+    /// No effects yet.
+    pub(crate) fn no_effects(&self) -> Vec<Effect>
+        ensures { result.items ≡ [] }
+    {
+        Vec::new(*self.maps.allocator())
+    }
+
+    /// An event came to this, and did nothing.
+    pub(crate) fn quietly(&self, outcome: Outcome<V>) -> Played<V>
+        ensures outcome { result.outcome ≡ outcome }
+        ensures steps { result.steps ≡ 0 }
+        ensures effects { result.effects.items ≡ [] }
+    {
+        Played::quietly(*self.maps.allocator(), outcome)
+    }
+
+    /// An event was out of turn.
+    pub(crate) fn busy(&self) -> Played<V>
+        ensures outcome { result.outcome ≡ Outcome.Refused Busy }
+        ensures steps { result.steps ≡ 0 }
+        ensures effects { result.effects.items ≡ [] }
+    {
+        Played::busy(*self.maps.allocator())
+    }
+
+    /// The number of the map of this name.
+    pub(crate) fn number_of(&self, map: &Token) -> Option<u64>
+        ensures { result ≡ number_named map.now self.now.maps.items }
+    {
+        match self.maps.iter().find(|there| there.name.is(map)) {
+            Some(there) => Some(there.number),
+            None => None,
+        }
+    }
+}
+
+impl<K: Drop, V: Drop, S> Scheduler<K, V, S> {
+    /// The number of the map of this name, and with what its calls work.
+    pub(crate) fn setting_of(&self, map: &Token) -> Option<(u64, Setting)>
+        ensures { result ≡ setting_named map.now self.now.maps.items self.now.logged.executor.maps.items }
+    {
+        let number = self.number_of(map)?;
+        match self.logged.executor.maps.get(number as usize) {
+            Some(Some(setting)) => Some((number, *setting)),
+            _ => None,
+        }
+    }
+
+    /// The slot of the guard of this name, where it lives, and no call under way uses it.
+    pub(crate) fn slot_of_free(&self, guard: &Token) -> Option<u64>
+        ensures { result ≡ free_slot guard.now self.now.there self.now.calls.items.items }
+    {
+        if self.calls.uses(guard) {
+            return None;
+        }
+        self.there.slot_of_living(guard)
+    }
+
+    /// Runs what a caller in this slot does with it, until it ends, or waits. What it does is added to the list, and what it reclaims is dropped.
+    pub(crate) fn run_row(
+        &mut self,
+        slot: u64,
+        called: SlotCall,
+        effects: &mut Vec<Effect>,
+    ) -> Result<RowTold<Node<K, V>>, AllocError>
+        requires fits { slot < SLOTS }
+        requires may { (same : K → K → Bool) × (hash : K → ℕ) × (name : ℕ → List ℕ) × (m : Moment K V) × (s : Scene K V) × IsShown same hash name m self.old.logged s }
+        requires begins { MayBegin self.old.logged.executor slot called }
+        ensures ran { IfOk result (λ told. RowRan slot called told effects.old.items effects.new.items self.old.logged self.new.logged) }
+        ensures rest { self.new ≡ record self.old { logged = self.new.logged } }
+    {
+        let caller = self.logged.begin_on_slot(slot, called)?;
+        let told = self.logged.run_on_slot(caller, effects)?;
+        Ok(told)
+    }
+
+    /// So it does, where nobody asks what it told.
+    pub(crate) fn do_row(
+        &mut self,
+        slot: u64,
+        called: SlotCall,
+        effects: &mut Vec<Effect>,
+    ) -> Result<(), AllocError>
+        requires fits { slot < SLOTS }
+        requires may { (same : K → K → Bool) × (hash : K → ℕ) × (name : ℕ → List ℕ) × (m : Moment K V) × (s : Scene K V) × IsShown same hash name m self.old.logged s }
+        requires begins { MayBegin self.old.logged.executor slot called }
+        ensures ran { OnOk result (RowRanOn slot called effects.old.items effects.new.items self.old.logged self.new.logged) }
+        ensures rest { self.new ≡ record self.old { logged = self.new.logged } }
+    {
+        self.run_row(slot, called, effects)?;
+        Ok(())
+    }
+}

@@ -1,0 +1,42 @@
+//! Events that do nothing.
+ghost use Rattle.std.specs.Prelude.{[], ◌≡◌, ℕ, Bool, if◌then◌else◌};
+ghost use Rattle.papaya_schedules.specs.declared.event.Event.TheVariants as event;
+ghost use Rattle.seize_words.specs.declared.fault.Fault.TheVariants.{Busy};
+ghost use Rattle.papaya_scheduler.specs.Played.{MayPlay, PlaysAt, PlaysFirst};
+
+use crate::played::Played;
+use crate::scheduler::Scheduler;
+use papaya_runs::event::Setup;
+use papaya_runs::key_hash::KeyHash;
+use papaya_schedules::outcome::Outcome;
+
+impl<K: Drop, V: Drop, S> Scheduler<K, V, S> {
+    /// What an event comes to that does nothing, if it is in turn.
+    fn if_so(&self, in_turn: bool) -> Played<V>
+        ensures outcome { result.outcome ≡ if in_turn then Outcome.Done else Outcome.Refused Busy }
+        ensures steps { result.steps ≡ 0 }
+        ensures effects { result.effects.items ≡ [] }
+    {
+        if in_turn {
+            self.quietly(Outcome::Done)
+        } else {
+            self.busy()
+        }
+    }
+
+    /// The collector's setup: in turn as the first event alone.
+    pub fn collector(&self, setup: Setup, is_first: bool) -> Played<V>
+        requires { (same : K → K → Bool) × (hash : K → ℕ) × MayPlay same hash (event.Collector setup) self.now }
+        ensures plays { (same : K → K → Bool) (hash : K → ℕ) → PlaysFirst same hash is_first (event.Collector setup) result self.now self.now }
+    {
+        self.if_so(is_first)
+    }
+
+    /// How keys get their hashes: in turn while no event was to make a map. It changes nothing in a run, which takes its hasher from its caller.
+    pub fn hash(&self, by: KeyHash) -> Played<V>
+        requires { (same : K → K → Bool) × (hash : K → ℕ) × MayPlay same hash (event.Hash by) self.now }
+        ensures plays { (same : K → K → Bool) (hash : K → ℕ) → PlaysAt same hash (event.Hash by) result self.now self.now }
+    {
+        self.if_so(!self.is_mapped)
+    }
+}
