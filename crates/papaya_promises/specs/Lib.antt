@@ -4,3 +4,4 @@ pub mod Others
 pub mod Guards
 pub mod Protected
 pub mod Weights
+pub mod Brief

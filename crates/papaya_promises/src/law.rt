@@ -7,6 +7,7 @@ ghost use Rattle.papaya_promises.specs.Protected.{EventsBeginProtected, EventsEn
 ghost use Rattle.papaya_promises.specs.Protected.{AllIsEndedProtected, IdleEventsAreProtected};
 ghost use Rattle.papaya_promises.specs.Protected.{CallsProtect, MakingsProtect, EndingsProtect, RowsBeginProtect, RowsProtect};
 ghost use Rattle.papaya_promises.specs.Shelters.{CallsShelter, RowsShelter, StepsProtect, EventsAreProtected};
+ghost use Rattle.papaya_promises.specs.Brief.{LookupsReadOn, LateLookupsReadOn, ReadingsLast, ReadingsAreFew, RootsAreShown};
 ghost use Rattle.papaya_promises.specs.Weights.{OperationsAreSingle, PartsAddUp, GrantsAddUp};
 
 /// What a call takes out of its map, while guards are there, is sheltered: the critical section of each of them holds its block, until it ends. So it is
@@ -56,4 +57,16 @@ pub fn operations_are_single()
     ensures single { OperationsAreSingle }
     ensures parts { PartsAddUp }
     ensures grants { GrantsAddUp }
+{}
+
+/// A lookup has made a step for the root, and in each table that it entered one for each try and one for the link behind it at most: in incremental mode it
+/// enters none but those from the root's on, as the root was at a moment of its call, and in blocking mode the root's alone. So it is after each of its steps,
+/// be it in a table that the root has left, and where tables have come meanwhile; and with its next step it has read no more words than it may, by the tables
+/// that a moment shows.
+pub fn lookups_are_brief<K, V>()
+    ensures steps { (same : K → K → Bool) (hash : K → ℕ) → LookupsReadOn K V same hash }
+    ensures late { (same : K → K → Bool) (hash : K → ℕ) → LateLookupsReadOn K V same hash }
+    ensures lasts { ReadingsLast K }
+    ensures few { ReadingsAreFew K V }
+    ensures roots { RootsAreShown K V }
 {}

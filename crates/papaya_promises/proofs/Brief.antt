@@ -1,0 +1,4 @@
+-- How many words lookups read.
+pub mod Sums
+pub mod Going
+pub mod Shown
