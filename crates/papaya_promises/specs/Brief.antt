@@ -3,7 +3,7 @@ use Rattle.std.specs.Prelude.{◌≡◌, ℕ, zero, suc, ◌+◌, ◌<◌, ◌�
 use Rattle.seize_words.specs.Mem.{Mem, Took, value_at}
 use Rattle.seize_words.specs.Plan.{Steps}
 use Rattle.seize.specs.declared.progress.Progress.{Progress}
-use Rattle.seize.specs.declared.progress.Progress.TheVariants.{Goes}
+use Rattle.seize.specs.declared.progress.Progress.TheVariants.{Goes, Done}
 use Rattle.papaya_tables.specs.Chunks.{is_incremental}
 use Rattle.papaya_tables.specs.declared.node.Node.{Node}
 use Rattle.papaya_tables.specs.declared.resize_mode.ResizeMode.{ResizeMode}
@@ -50,10 +50,11 @@ module _ {K : Type 0} (incremental : Bool) (c : Chart K) (first : ℕ) where
   ReadsAt steps (at.Nexts table) = HasRead table.turn steps (suc (c.limit table.turn))
   ReadsAt steps (at.Over found) = ⊥
 
--- where a lookup goes on, it has made so many steps
+-- where a lookup goes on, it has made so many steps; it never waits, and is never refused
 abbrev pub ReadsOn : {K : Type 0} → Bool → Chart K → ℕ → ℕ → Lookup × Progress (Option ℕ) → Type 0
 ReadsOn incremental c first steps (l, Goes) = ReadsAt incremental c first steps l.stands
-ReadsOn incremental c first steps (l, _) = Unit {0}
+ReadsOn incremental c first steps (l, Done found) = Unit {0}
+ReadsOn incremental c first steps (l, _) = ⊥
 
 -- From the root on it reads those of the root's table, and in blocking mode those alone.
 abbrev pub IsRootOf : {K : Type 0} → Chart K → ℕ → Looking → Type 0

@@ -5,3 +5,4 @@ pub mod Guards
 pub mod Protected
 pub mod Weights
 pub mod Brief
+pub mod Reading

@@ -21,7 +21,7 @@ use Rattle.papaya_tables.specs.declared.resize_mode.ResizeMode.{ResizeMode}
 use Rattle.papaya_tables.specs.declared.table.Table.{Table}
 use Rattle.papaya_tables.specs.declared.table_words.TheConstants.{NEXT}
 use Rattle.papaya_tables.specs.declared.trial.Trial.{Trial}
-use Rattle.papaya_resize.specs.Lookup.{answered, going, passed, told_of, table_read, link_found, roots, nexts, probes, plan_at}
+use Rattle.papaya_resize.specs.Lookup.{answered, going, passed, told_of, table_read, link_found, roots, nexts, probes, plan_at, lookup_plan}
 use Rattle.papaya_resize.specs.declared.lookup.Lookup.{Lookup}
 use Rattle.papaya_resize.specs.declared.lookup.Looking.{Looking}
 use Rattle.papaya_resize.specs.declared.lookup.Looking.TheVariants as at
@@ -33,8 +33,9 @@ use Rattle.papaya_rule.proofs.Keys.TriesSeen.{IsNext, next_is}
 use Rattle.papaya_rule.proofs.Words.LinksSeen.{root_leads, next_leads}
 use Rattle.papaya_rule.proofs.Words.TablesSeen.{table_is}
 use Rattle.papaya_points.specs.FactsLooks.{LookingFacts}
+use Rattle.papaya_points.specs.Steps.{AreLawful}
 use Rattle.papaya_points.proofs.Lookups.Reads.{SeesPlace, sees_place, probes_tell}
-use Rattle.papaya_late.specs.LateLooks.{LateLooking}
+use Rattle.papaya_late.specs.LateLooks.{LateLooking, LateLookupFacts}
 use Rattle.papaya_schedules.specs.Lives.{IsFrom}
 use Rattle.papaya_promises.specs.Brief.{read_to, HasRead, ReadsAt, ReadsOn, IsRootOf, LookupsReadOn, LateLookupsReadOn}
 use Rattle.papaya_promises.proofs.Brief.Sums.{one_more}
@@ -189,13 +190,22 @@ module _ (K V : Type 0) (same : K → K → Bool) (hash : K → ℕ) where
           next_reads same hash are.fits mode root keys code class m c blocks map first steps l table point.1 point.2 point.0 reads m2 end s
       by (at.Over found) point rooted reads s = absurd point
 
-  pub late_lookups_read_on : LateLookupsReadOn K V same hash
-  late_lookups_read_on are mode root keys code began m c blocks l class map facts first steps reads m2 end s = by l.stands facts.point reads s
+  -- what it knows of keys is not needed for that
+  pub late_reads_on : AreLawful same hash → (mode : ResizeMode) (root : ℕ) (keys asked : K → Bool) (code began : ℕ) (m : Mem (Node K V)) (c : Chart K) (blocks : Blocks) (l : Lookup)
+      → IsClass same hash asked code → IsMap same hash mode root m c blocks → LateLookupFacts same hash keys code c blocks began mode root l
+      → (first steps : ℕ) → ReadsAt (is_incremental mode) c first steps l.stands
+      → (m2 : Mem (Node K V)) (end : Lookup × Progress (Option ℕ)) → Steps Took value_at m (lookup_plan asked l) m2 end
+      → ReadsOn (is_incremental mode) c first (suc steps) end
+  late_reads_on are mode root keys asked code began m c blocks l class map facts first steps reads m2 end s = by l.stands facts.point reads s
     where
       by : (stands : Looking) → LateLooking same hash keys code c blocks began stands → ReadsAt (is_incremental mode) c first steps stands
-          → Steps Took value_at m (plan_at {K = K} {V = V} keys l stands) m2 end → ReadsOn (is_incremental mode) c first (suc steps) end
+          → Steps Took value_at m (plan_at {K = K} {V = V} asked l stands) m2 end → ReadsOn (is_incremental mode) c first (suc steps) end
       by at.Roots point reads s = absurd point
       by (at.Probes trial) point reads s =
-          probes_read same hash are.fits mode root keys code class m c blocks map first steps l facts.hash_is trial point.0 point.1 point.2 reads.0 m2 end s
+          probes_read same hash are.fits mode root asked code class m c blocks map first steps l facts.hash_is trial point.0 point.1 point.2 reads.0 m2 end s
       by (at.Nexts table) point reads s = absurd point
       by (at.Over found) point reads s = absurd point
+
+  pub late_lookups_read_on : LateLookupsReadOn K V same hash
+  late_lookups_read_on are mode root keys code began m c blocks l class map facts first steps reads m2 end s =
+      late_reads_on are mode root keys keys code began m c blocks l class map facts first steps reads m2 end s

@@ -1,6 +1,11 @@
 -- Lookups read few words.
+use Rattle.papaya_promises.proofs.Brief.Ends.{events_read_briefly}
 use Rattle.papaya_promises.proofs.Brief.Going.{lookups_read_on, late_lookups_read_on}
+use Rattle.papaya_promises.proofs.Brief.Maps.{steps_leave_tables}
+use Rattle.papaya_promises.proofs.Brief.Own.{lookups_do_nothing}
 use Rattle.papaya_promises.proofs.Brief.Shown.{readings_last, readings_are_few, roots_are_shown}
+use Rattle.papaya_promises.proofs.Brief.Stays.{readings_stay, events_keep_readings}
+use Rattle.papaya_promises.proofs.Brief.Steps.{lookups_keep_readings}
 use Rattle.papaya_promises.proofs.law.lookups_are_brief.Goals as goal
 
 pub returns : goal.returns
@@ -10,4 +15,10 @@ returns c d = record {
   lasts = readings_last _;
   few = readings_are_few _ _;
   roots = roots_are_shown _ _;
+  nothing = lookups_do_nothing _ _ _;
+  tables = steps_leave_tables _ _ _;
+  keeps = lookups_keep_readings _ _ _;
+  stays = readings_stay _ _;
+  events = events_keep_readings _ _;
+  brief = events_read_briefly _ _ _;
 }
