@@ -7,3 +7,4 @@ pub mod Ends
 pub mod Own
 pub mod Maps
 pub mod Steps
+pub mod Meanwhile

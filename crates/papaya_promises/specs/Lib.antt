@@ -6,3 +6,4 @@ pub mod Protected
 pub mod Weights
 pub mod Brief
 pub mod Reading
+pub mod Meanwhile

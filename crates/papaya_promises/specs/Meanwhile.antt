@@ -1,0 +1,59 @@
+-- What lookups under way have read, where calls begin, step and come to an outcome meanwhile.
+use Rattle.std.specs.Prelude.{◌≡◌, ℕ, Bool, true, false, List, length, Option, Some, if◌then◌else◌}
+use Rattle.papaya_runs.specs.Same.{is_same}
+use Rattle.papaya_tables.specs.declared.node.Node.{Node}
+use Rattle.papaya_resize.specs.declared.lookup.Lookup.{Lookup}
+use Rattle.papaya_resize.specs.declared.lookup.Looking.TheVariants as looking
+use Rattle.papaya_raw.specs.declared.machines.call.Calling.TheVariants as at
+use Rattle.papaya_raw.specs.declared.machines.progress.Progress.{Progress}
+use Rattle.papaya_schedules.specs.declared.call.Call.{Call}
+use Rattle.papaya_schedules.specs.declared.outcome.Outcome.{Outcome}
+use Rattle.papaya_schedules.specs.Beginning.{with_call}
+use Rattle.papaya_schedules.specs.Effects.{with_effects}
+use Rattle.papaya_schedules.specs.Entry.{Entry, ends_call}
+use Rattle.papaya_schedules.specs.Moment.{UnderWay as CallThere, Moment}
+use Rattle.papaya_schedules.specs.Views.{call_of}
+use Rattle.papaya_callers.specs.Together.{CallOnKey, UnderWay, OnKey}
+use Rattle.papaya_effects.specs.Effects.{effects_of}
+use Rattle.papaya_effects.specs.Known.{Known}
+use Rattle.papaya_effects.specs.declared.acting.Acting.TheVariants as acts
+use Rattle.papaya_executor.specs.IsAt.{Scene, IsAt}
+use Rattle.papaya_executor.specs.Replying.{scene_with}
+use Rattle.papaya_executor.specs.Stepping.{StepLeads, scene_after}
+use Rattle.papaya_executor.specs.declared.executor.Executor.{Executor}
+use Rattle.papaya_follows.specs.Calling.{NoneNamed, come_to}
+use Rattle.papaya_moments.specs.Whole.{ShowsWhole}
+use Rattle.papaya_promises.specs.Reading.{looks, ShowsReading}
+
+module _ (K V : Type 0) (same : K → K → Bool) where
+  -- The promises: so it is where a call has come to an outcome by the steps that it has made, and nobody else has made some,
+  abbrev pub CallsComeToReadings : Type 0
+  CallsComeToReadings =
+      (name : ℕ → List ℕ) (log : List (Entry K V)) (made : ℕ → ℕ) (m : Moment K V) (known : Known) (s : Scene K V) → ShowsWhole same name m known s → ShowsReading name log made m s
+      → (own : List ℕ) (outcome : Outcome V) (steps : ℕ) → (ends_call outcome ≡ true → NoneNamed name own s)
+      → ((map i : ℕ) (u : UnderWay K V K) → s.calls map i ≡ Some u → made i ≡ (if is_same (name i) own then steps else 0))
+      → ShowsReading name log (λ i. 0) (come_to own outcome steps m) s
+
+  -- it begins to look for its key, if it is a lookup
+  abbrev pub BeginsToLook : UnderWay K V K → Call K V → Type 0
+  BeginsToLook u call =
+      looks call ≡ true → (k : CallOnKey K V K) × (l : Lookup) × (u ≡ OnKey k) × (k.call.stands ≡ at.Looks l) × (l.stands ≡ looking.Roots)
+
+  -- and where one begins within the next event, by a name that no call under way has.
+  abbrev pub CallsBeginReadings : Type 0
+  CallsBeginReadings =
+      (name : ℕ → List ℕ) (log : List (Entry K V)) (m : Moment K V) (known : Known) (s : Scene K V) → ShowsWhole same name m known s → ShowsReading name log (λ i. 0) m s
+      → (map i : ℕ) (u : UnderWay K V K) (call : Call K V) (guard : List ℕ) → NoneNamed name (name i) s → BeginsToLook u call → m.events ≡ length log
+      → ShowsReading name log (λ i. 0) (with_call (name i) guard call (Some map) m) (scene_with map i u s)
+
+module _ (K V S : Type 0) (same : K → K → Bool) (hash : K → ℕ) where
+  -- So it is after a step of a call that is no lookup.
+  abbrev pub OthersKeepReadings : Type 0
+  OthersKeepReadings =
+      (name : ℕ → List ℕ) (log : List (Entry K V)) (made : ℕ → ℕ) (m : Moment K V) (known : Known) (s : Scene K V) (old new : Executor K V S) → IsAt same hash old s
+      → ShowsWhole same name m known s → ShowsReading name log made m s
+      → (map i : ℕ) (u : UnderWay K V K) (here : s.calls map i ≡ Some u) (said : Progress (Node K V)) (leads : StepLeads same hash i said s old new)
+      → (c : CallThere K V) → call_of (name i) m ≡ Some c → looks c.call ≡ false
+      → (let to = leads map u here in
+      ShowsReading name log made (with_effects (Some (name i)) (Some map) (effects_of (acts.Call i map) known new.memory.changed) m)
+      (scene_after same hash s old new map i to.0 u to.1 said to.4))
