@@ -1,5 +1,5 @@
 -- How many words a lookup has read, at each of its points: it stays within what it may read.
-use Rattle.std.specs.Prelude.{◌≡◌, ℕ, zero, suc, ◌+◌, ◌<◌, ◌≤◌, nat_le, Bool, true, false, List, [], ◌∷◌, sum_by, Option, Some, if◌then◌else◌, ◌⊎◌}
+use Rattle.std.specs.Prelude.{◌≡◌, ℕ, zero, suc, ◌+◌, ◌<◌, ◌≤◌, nat_le, Bool, false, List, ◌∷◌, sum_by, Option, if◌then◌else◌}
 use Rattle.seize_words.specs.Mem.{Mem, Took, value_at}
 use Rattle.seize_words.specs.Plan.{Steps}
 use Rattle.seize.specs.declared.progress.Progress.{Progress}

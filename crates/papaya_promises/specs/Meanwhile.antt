@@ -1,5 +1,5 @@
 -- What lookups under way have read, where calls begin, step and come to an outcome meanwhile.
-use Rattle.std.specs.Prelude.{◌≡◌, ℕ, Bool, true, false, List, length, Option, Some, if◌then◌else◌}
+use Rattle.std.specs.Prelude.{◌≡◌, ℕ, Bool, true, false, List, length, Some, if◌then◌else◌}
 use Rattle.papaya_runs.specs.Same.{is_same}
 use Rattle.papaya_tables.specs.declared.node.Node.{Node}
 use Rattle.papaya_resize.specs.declared.lookup.Lookup.{Lookup}

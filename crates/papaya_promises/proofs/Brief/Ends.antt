@@ -5,20 +5,19 @@ use Rattle.papaya_tables.specs.Chunks.{is_incremental}
 use Rattle.papaya_schedules.specs.declared.call.Call.{Call}
 use Rattle.papaya_schedules.specs.declared.call.Call.TheVariants as call
 use Rattle.papaya_schedules.specs.After.{moment, moments_from}
-use Rattle.papaya_schedules.specs.Entry.{Entry, IfCall, caller_of, acting}
+use Rattle.papaya_schedules.specs.Entry.{Entry, IfCall, acting}
 use Rattle.papaya_schedules.specs.Lists.{OneOf}
-use Rattle.papaya_schedules.specs.Moment.{UnderWay as CallThere, MapThere, Moment, start}
+use Rattle.papaya_schedules.specs.Moment.{UnderWay as CallThere, Moment, start}
 use Rattle.papaya_schedules.specs.Sequential.{is_lookup}
 use Rattle.papaya_schedules.specs.Steps.{ReadsFew, IsBrief, ReadsBriefly}
-use Rattle.papaya_schedules.specs.Views.{call_of, map_at, grows_in_chunks}
+use Rattle.papaya_schedules.specs.Views.{map_at, grows_in_chunks}
 use Rattle.papaya_callers.specs.Together.{UnderWay, OnKey, ForRoom, Counting, OverAll}
 use Rattle.papaya_finishes.specs.Maps.{Standing}
 use Rattle.papaya_effects.specs.Known.{Known}
 use Rattle.papaya_follows.specs.Maps.{ShowsThere, ShowsTables}
 use Rattle.papaya_histories.proofs.Logs.{moments_grow}
-use Rattle.papaya_executor.specs.IsAt.{Scene, IsAt}
 use Rattle.papaya_promises.specs.Brief.{ReadsSince}
-use Rattle.papaya_promises.specs.Reading.{looks, HasLooked, ShowsReading, EventsReadBriefly}
+use Rattle.papaya_promises.specs.Reading.{looks, HasLooked, EventsReadBriefly}
 use Rattle.papaya_promises.proofs.Brief.Shown.{one_as, readings_are_few}
 
 -- the moments since an event of the log are those of the last one, and others

@@ -1,14 +1,12 @@
 -- A step of a call, whoever's, leaves the tables that maps have had as long as they were.
-use Rattle.std.specs.Prelude.{◌≡◌, ℕ, ◌<◌, ◌≤◌, Bool, Option, Some, None}
-use Rattle.std.proofs.Common.{refl, ap, sym, subst, ◌∙◌, arith, inl, inr}
+use Rattle.std.specs.Prelude.{◌≡◌, ℕ, Bool, Option, Some, None}
+use Rattle.std.proofs.Common.{refl, ap, sym, subst, ◌∙◌, inl, inr}
 use Rattle.std.proofs.lemmas.Bool.{cases_eq}
 use Rattle.seize.specs.World.{World, with_at}
-use Rattle.papaya_tables.specs.Chunks.{is_incremental}
 use Rattle.papaya_tables.specs.declared.node.Node.{Node}
 use Rattle.papaya_raw.specs.declared.machines.progress.Progress.{Progress}
 use Rattle.papaya_rule.specs.Chart.{Chart}
 use Rattle.papaya_rule.specs.InWorld.{IsMapIn, Went}
-use Rattle.papaya_rule.specs.Lasts.{Lasts}
 use Rattle.papaya_rule.specs.Words.{Blocks}
 use Rattle.papaya_points.proofs.MovedLasts.{moved_lasts}
 use Rattle.papaya_callers.specs.Sights.{Sight, seen_by}

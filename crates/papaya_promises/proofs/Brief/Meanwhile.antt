@@ -31,7 +31,7 @@ use Rattle.papaya_hands.proofs.Calling.{caller_is}
 use Rattle.papaya_histories.proofs.Begun.{effects_begun, comes_begun}
 use Rattle.papaya_promises.specs.Brief.{ReadsSince}
 use Rattle.papaya_promises.specs.Meanwhile.{CallsComeToReadings, CallsBeginReadings, OthersKeepReadings}
-use Rattle.papaya_promises.specs.Reading.{looks, HasLooked, HasStood, ShowsReading, LookupsStay}
+use Rattle.papaya_promises.specs.Reading.{looks, HasLooked, HasStood}
 use Rattle.papaya_promises.proofs.Brief.Maps.{maps_stood}
 use Rattle.papaya_promises.proofs.Brief.Stays.{same_tables, readings_stay}
 

@@ -1,13 +1,11 @@
 -- A step of a lookup, as one of many calls: it does nothing, and has read one word more.
-use Rattle.std.specs.Prelude.{◌≡◌, ◌≢◌, ℕ, suc, ◌+◌, ◌<◌, ◌==◌, Bool, true, false, List, [], ◌∷◌, Option, Some, None, ◌⊎◌, if◌then◌else◌}
-use Rattle.std.proofs.Common.{refl, ap, sym, subst, ◌∙◌, arith, inl, inr}
-use Rattle.std.proofs.lemmas.Bool.{cases_eq, eq-eqb, ne_eqb}
+use Rattle.std.specs.Prelude.{◌≡◌, ℕ, suc, Bool, Option, Some, None, ◌⊎◌}
+use Rattle.std.proofs.Common.{ap, sym, subst, ◌∙◌, inl, inr}
 use Rattle.seize_words.specs.Mem.{Mem, Took, value_at}
-use Rattle.seize_words.specs.Plan.{Plan, Steps}
+use Rattle.seize_words.specs.Plan.{Steps}
 use Rattle.seize_rule.proofs.Rows.Leaving.{steps_back}
-use Rattle.seize.specs.World.{World, Rests}
+use Rattle.seize.specs.World.{Rests}
 use Rattle.seize.specs.declared.progress.Progress.{Progress as Stepped}
-use Rattle.seize.specs.declared.progress.Progress.TheVariants as stepped
 use Rattle.papaya_tables.specs.Chunks.{is_incremental}
 use Rattle.papaya_tables.specs.declared.node.Node.{Node}
 use Rattle.papaya_resize.specs.Lookup.{lookup_plan}
@@ -19,17 +17,14 @@ use Rattle.papaya_raw.specs.Call.{call_plan, looked, looks_for, plan_at}
 use Rattle.papaya_raw.specs.Machine.{called, machine_plan}
 use Rattle.papaya_raw.specs.Progress.{of_called}
 use Rattle.papaya_raw.specs.declared.machines.answer.Called.{Called}
-use Rattle.papaya_raw.specs.declared.machines.answer.Called.TheVariants as tells
 use Rattle.papaya_raw.specs.declared.machines.call.Calling.{Calling}
 use Rattle.papaya_raw.specs.declared.machines.call.Calling.TheVariants as at
 use Rattle.papaya_raw.specs.declared.machines.call.KeyCall.{KeyCall}
 use Rattle.papaya_raw.specs.declared.machines.machine.Machine.{Machine}
 use Rattle.papaya_raw.specs.declared.machines.machine.Machine.TheVariants as kinds
 use Rattle.papaya_raw.specs.declared.machines.progress.Progress.{Progress}
-use Rattle.papaya_raw.specs.declared.machines.progress.Progress.TheVariants as progress
 use Rattle.papaya_rule.specs.Chart.{Chart}
 use Rattle.papaya_rule.specs.InWorld.{IsMapIn}
-use Rattle.papaya_rule.specs.Maps.{IsMap}
 use Rattle.papaya_rule.specs.Words.{Blocks}
 use Rattle.papaya_points.specs.FactsCalls.{Unchanged, CallingFacts, CallFacts}
 use Rattle.papaya_points.specs.Steps.{AreLawful}
@@ -38,7 +33,7 @@ use Rattle.papaya_points.proofs.Lookups.LooksAsked.{class_asked, lookup_asked}
 use Rattle.papaya_late.specs.LateCalls.{LateCalling, LateCallFacts}
 use Rattle.papaya_callers.specs.Rows.{row_of, once_over}
 use Rattle.papaya_callers.specs.Sights.{seen_by}
-use Rattle.papaya_callers.specs.Together.{CallOnKey, UnderWay, OnKey, ForRoom, Counting, OverAll, Together, Knows, in_slot}
+use Rattle.papaya_callers.specs.Together.{CallOnKey, OnKey, ForRoom, Counting, OverAll, Together, Knows, in_slot}
 use Rattle.papaya_callers.proofs.Sights.Seen.{map_seen}
 use Rattle.papaya_callers.proofs.Together.Fits.{map_in_slot}
 use Rattle.papaya_teller.specs.Tells.{StepsTold}
@@ -46,16 +41,13 @@ use Rattle.papaya_teller.specs.declared.changed.Changed.{Changed}
 use Rattle.papaya_teller.specs.declared.changed.Changed.TheVariants as changed
 use Rattle.papaya_others.proofs.Outcomes.{told_in}
 use Rattle.papaya_effects.specs.Effects.{effects_of}
-use Rattle.papaya_effects.specs.Known.{Known}
 use Rattle.papaya_effects.specs.declared.acting.Acting.TheVariants as acts
 use Rattle.papaya_executor.specs.IsAt.{Scene, IsAt, slot_of}
-use Rattle.papaya_executor.specs.Stepping.{StepLeads, scene_after}
+use Rattle.papaya_executor.specs.Stepping.{StepLeads}
 use Rattle.papaya_executor.specs.declared.executor.Executor.{Executor}
 use Rattle.papaya_executor.proofs.Forgotten.{as_step}
-use Rattle.papaya_finishes.specs.Machines.{machine_of}
-use Rattle.papaya_schedules.specs.Moment.{Moment}
 use Rattle.papaya_promises.specs.Brief.{ReadsAt, ReadsOn, IsRootOf}
-use Rattle.papaya_promises.specs.Reading.{HasLooked, LookupsDoNothing}
+use Rattle.papaya_promises.specs.Reading.{LookupsDoNothing}
 use Rattle.papaya_promises.proofs.Brief.Going.{lookups_read_on, late_reads_on}
 
 -- of a lookup's plan nothing is told

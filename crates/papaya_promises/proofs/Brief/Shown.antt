@@ -1,5 +1,5 @@
 -- What a lookup has read is few, by the tables that a moment shows.
-use Rattle.std.specs.Prelude.{ℕ, suc, ◌+◌, ◌<◌, ◌≤◌, nat_le, Bool, true, false, List, [], ◌∷◌, filter, sum_by, Option, Some, None, ◌⊎◌}
+use Rattle.std.specs.Prelude.{ℕ, suc, ◌+◌, ◌≤◌, nat_le, Bool, true, false, List, [], ◌∷◌, filter, sum_by}
 use Rattle.std.proofs.Common.{◌≡◌, refl, ap, sym, subst, ◌∙◌, inl, inr, arith}
 use Rattle.papaya_tables.specs.Chunks.{is_incremental}
 use Rattle.papaya_resize.specs.declared.lookup.Looking.{Looking}
@@ -7,12 +7,11 @@ use Rattle.papaya_resize.specs.declared.lookup.Looking.TheVariants as at
 use Rattle.papaya_rule.specs.Chart.{Chart}
 use Rattle.papaya_finishes.specs.Maps.{Standing}
 use Rattle.papaya_schedules.specs.Lists.{OneOf}
-use Rattle.papaya_schedules.specs.Lives.{IsFrom}
-use Rattle.papaya_schedules.specs.Moment.{UnderWay as CallThere, Stage, TableThere, MapThere, Moment}
-use Rattle.papaya_schedules.specs.Steps.{may_read, met_from, root_table, ReadsFew}
-use Rattle.papaya_schedules.specs.Views.{first_or, first_of, tables_of}
+use Rattle.papaya_schedules.specs.Moment.{UnderWay as CallThere, TableThere, Moment}
+use Rattle.papaya_schedules.specs.Steps.{met_from, root_table, ReadsFew}
+use Rattle.papaya_schedules.specs.Views.{first_or, first_of}
 use Rattle.papaya_effects.specs.Known.{Known}
-use Rattle.papaya_follows.specs.Maps.{tables_to, ShowsThere, ShowsTables}
+use Rattle.papaya_follows.specs.Maps.{ShowsTables}
 use Rattle.papaya_promises.specs.Brief.{words_of, read_to, HasRead, ReadsAt, TablesLast, ReadingsLast, WasRoot, ReadsSince, ReadingsAreFew, RootsAreShown}
 use Rattle.papaya_promises.proofs.Brief.Sums.{through, none_before, as_long, met_words, root_words}
 
@@ -30,10 +29,10 @@ module _ {K : Type 0} (incremental : Bool) (c c2 : Chart K) (last : TablesLast c
     from = h.from;
     made = (let made = h.made in let past = last.past in omega (arith, made, past));
     few = (
-      let few = h.few in
-      let same_words = as_long c.limit c2.limit first turn (λ u l. last.limits u (let made = h.made in omega (arith, l, made))) in
-      omega (arith, few, same_words, same)
-    );
+        let few = h.few in
+        let same_words = as_long c.limit c2.limit first turn (λ u l. last.limits u (let made = h.made in omega (arith, l, made))) in
+        omega (arith, few, same_words, same)
+        );
   }
 
   reads_last : (stands : Looking) → ReadsAt incremental c first steps stands → ReadsAt incremental c2 first steps stands

@@ -1,20 +1,20 @@
 -- Lookups that are under way as they were have read what they had read.
-use Rattle.std.specs.Prelude.{◌≡◌, ℕ, ◌+◌, ◌<◌, ◌≤◌, Bool, true, false, List, ◌∷◌, length, Option, Some}
-use Rattle.std.proofs.Common.{refl, ap, sym, subst, ◌∙◌, arith, inr}
+use Rattle.std.specs.Prelude.{◌≡◌, ℕ, ◌+◌, ◌<◌, ◌≤◌, Bool, true, false, List, ◌∷◌, length}
+use Rattle.std.proofs.Common.{refl, ap, sym, subst, arith, inr}
 use Rattle.papaya_tables.specs.Chunks.{is_incremental}
 use Rattle.papaya_tables.specs.declared.setting.Setting.{Setting}
 use Rattle.papaya_resize.specs.declared.lookup.Looking.{Looking}
 use Rattle.papaya_resize.specs.declared.lookup.Looking.TheVariants as looking
 use Rattle.papaya_rule.specs.Chart.{Chart}
-use Rattle.papaya_schedules.specs.After.{moment, moments_from}
+use Rattle.papaya_schedules.specs.After.{moments_from}
 use Rattle.papaya_schedules.specs.Entry.{Entry}
 use Rattle.papaya_schedules.specs.Lists.{OneOf}
 use Rattle.papaya_schedules.specs.Lives.{IsFrom}
-use Rattle.papaya_schedules.specs.Moment.{UnderWay as CallThere, Moment}
+use Rattle.papaya_schedules.specs.Moment.{Moment}
 use Rattle.papaya_callers.specs.Together.{UnderWay, OnKey, ForRoom, Counting, OverAll}
 use Rattle.papaya_histories.proofs.Logs.{moments_grow}
-use Rattle.papaya_promises.specs.Brief.{HasRead, ReadsAt, TablesLast, WasRoot, ReadsSince}
-use Rattle.papaya_promises.specs.Reading.{HasLooked, ShowsReading, ReadingsStay, EventsKeepReadings}
+use Rattle.papaya_promises.specs.Brief.{HasRead, TablesLast, WasRoot, ReadsSince}
+use Rattle.papaya_promises.specs.Reading.{HasLooked, ReadingsStay, EventsKeepReadings}
 use Rattle.papaya_promises.proofs.Brief.Shown.{one_as, readings_last}
 
 -- the first of the tables is one that the map has had

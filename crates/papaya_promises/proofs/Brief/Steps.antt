@@ -1,7 +1,7 @@
 -- Where a lookup has taken a step, all lookups have read what they may.
-use Rattle.std.specs.Prelude.{◌≡◌, ◌≢◌, ℕ, suc, ◌+◌, ◌<◌, ◌≤◌, ◌==◌, Bool, true, false, List, length, Option, Some, None, ◌⊎◌, if◌then◌else◌}
+use Rattle.std.specs.Prelude.{◌≡◌, ℕ, suc, ◌+◌, ◌<◌, ◌≤◌, Bool, true, List, length, Option, Some, None, if◌then◌else◌}
 use Rattle.std.proofs.Common.{refl, ap, sym, subst, ◌∙◌, arith, inl, inr}
-use Rattle.std.proofs.lemmas.Bool.{cases_eq, eq-eqb, ne_eqb}
+use Rattle.std.proofs.lemmas.Bool.{eq-eqb, ne_eqb}
 use Rattle.seize.specs.declared.progress.Progress.{Progress as Stepped}
 use Rattle.seize.specs.declared.progress.Progress.TheVariants as stepped
 use Rattle.papaya_tables.specs.Chunks.{is_incremental}
@@ -12,7 +12,6 @@ use Rattle.papaya_resize.specs.declared.lookup.Looking.{Looking}
 use Rattle.papaya_resize.specs.declared.lookup.Looking.TheVariants as looking
 use Rattle.papaya_raw.specs.Call.{looked}
 use Rattle.papaya_raw.specs.Progress.{of_called}
-use Rattle.papaya_raw.specs.declared.machines.call.Calling.{Calling}
 use Rattle.papaya_raw.specs.declared.machines.call.Calling.TheVariants as at
 use Rattle.papaya_raw.specs.declared.machines.call.KeyCall.{KeyCall}
 use Rattle.papaya_raw.specs.declared.machines.machine.Machine.{Machine}
@@ -20,12 +19,10 @@ use Rattle.papaya_raw.specs.declared.machines.machine.Machine.TheVariants as kin
 use Rattle.papaya_raw.specs.declared.machines.progress.Progress.{Progress}
 use Rattle.papaya_rule.specs.Chart.{Chart}
 use Rattle.papaya_schedules.specs.After.{moment, moments_from}
-use Rattle.papaya_schedules.specs.Entry.{Entry}
 use Rattle.papaya_schedules.specs.Lists.{OneOf}
 use Rattle.papaya_schedules.specs.Moment.{UnderWay as CallThere, MapThere, TableThere, Moment}
 use Rattle.papaya_schedules.specs.Views.{call_of}
 use Rattle.papaya_callers.specs.Together.{CallOnKey, UnderWay, OnKey, ForRoom, Counting, OverAll}
-use Rattle.papaya_effects.specs.Known.{Known}
 use Rattle.papaya_executor.specs.IsAt.{Scene, IsAt}
 use Rattle.papaya_executor.specs.Stepping.{StepLeads, scene_after}
 use Rattle.papaya_executor.specs.declared.executor.Executor.{Executor}
@@ -33,9 +30,8 @@ use Rattle.papaya_finishes.specs.Machines.{GoesOnAs, machine_of}
 use Rattle.papaya_finishes.specs.Maps.{Standing}
 use Rattle.papaya_hands.proofs.Asking.{which}
 use Rattle.papaya_histories.proofs.Logs.{last_there}
-use Rattle.papaya_moments.specs.Whole.{ShowsWhole}
 use Rattle.papaya_promises.specs.Brief.{ReadsAt, ReadsOn, IsRootOf, TablesLast, WasRoot, ReadsSince}
-use Rattle.papaya_promises.specs.Reading.{looks, HasLooked, HasStood, ShowsReading, one_more_of, LookupsKeepReadings}
+use Rattle.papaya_promises.specs.Reading.{looks, HasLooked, one_more_of, LookupsKeepReadings}
 use Rattle.papaya_promises.proofs.Brief.Maps.{maps_stood}
 use Rattle.papaya_promises.proofs.Brief.Own.{HasReadOn, has_read_on}
 use Rattle.papaya_promises.proofs.Brief.Shown.{roots_are_shown}
