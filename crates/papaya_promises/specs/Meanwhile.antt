@@ -1,5 +1,5 @@
 -- What lookups under way have read, where calls begin, step and come to an outcome meanwhile.
-use Rattle.std.specs.Prelude.{◌≡◌, ℕ, Bool, true, false, List, length, Some, if◌then◌else◌}
+use Rattle.std.specs.Prelude.{◌≡◌, ℕ, Bool, true, false, List, length, Some, None, if◌then◌else◌, Option}
 use Rattle.papaya_runs.specs.Same.{is_same}
 use Rattle.papaya_tables.specs.declared.node.Node.{Node}
 use Rattle.papaya_resize.specs.declared.lookup.Lookup.{Lookup}
@@ -17,13 +17,18 @@ use Rattle.papaya_callers.specs.Together.{CallOnKey, UnderWay, OnKey}
 use Rattle.papaya_effects.specs.Effects.{effects_of}
 use Rattle.papaya_effects.specs.Known.{Known}
 use Rattle.papaya_effects.specs.declared.acting.Acting.TheVariants as acts
+use Rattle.seize.specs.World.{Event as WorldEvent}
+use Rattle.papaya_executor.specs.OnSlots.{HappensAt}
+use Rattle.papaya_finishes.specs.Maps.{Standing}
+use Rattle.papaya_others.specs.Rows.{scene_then}
+use Rattle.papaya_schedules.specs.declared.effect.Effect.{Effect}
 use Rattle.papaya_executor.specs.IsAt.{Scene, IsAt}
 use Rattle.papaya_executor.specs.Replying.{scene_with}
 use Rattle.papaya_executor.specs.Stepping.{StepLeads, scene_after}
 use Rattle.papaya_executor.specs.declared.executor.Executor.{Executor}
 use Rattle.papaya_follows.specs.Calling.{NoneNamed, come_to}
 use Rattle.papaya_moments.specs.Whole.{ShowsWhole}
-use Rattle.papaya_promises.specs.Reading.{looks, ShowsReading}
+use Rattle.papaya_promises.specs.Reading.{looks, HasStood, ShowsReading}
 
 module _ (K V : Type 0) (same : K → K → Bool) where
   -- The promises: so it is where a call has come to an outcome by the steps that it has made, and nobody else has made some,
@@ -57,3 +62,18 @@ module _ (K V S : Type 0) (same : K → K → Bool) (hash : K → ℕ) where
       → (let to = leads map u here in
       ShowsReading name log made (with_effects (Some (name i)) (Some map) (effects_of (acts.Call i map) known new.memory.changed) m)
       (scene_after same hash s old new map i to.0 u to.1 said to.4))
+
+  -- So it is where a row on a slot begins, or takes a step.
+  abbrev pub RowsKeepReadings : Type 0
+  RowsKeepReadings =
+      (name : ℕ → List ℕ) (log : List (Entry K V)) (made : ℕ → ℕ) (m : Moment K V) (s : Scene K V) (old new : Executor K V S) (event : WorldEvent (Node K V))
+      (happened : HappensAt same hash event s old new) (effects : List Effect) → ShowsReading name log made m s
+      → ShowsReading name log made (with_effects None None effects m) (scene_then same hash event s old new happened)
+
+-- And so it is by the work of no call, as that of makings and ends, which leaves calls, and the maps that have some.
+abbrev pub OtherWorkKeepsReadings : Type 0 → Type 0 → Type 0
+OtherWorkKeepsReadings K V =
+    (name : ℕ → List ℕ) (log : List (Entry K V)) (made : ℕ → ℕ) (m : Moment K V) (s s2 : Scene K V) (of : Option ℕ) (effects : List Effect)
+    → ((map i : ℕ) (u : UnderWay K V K) → s2.calls map i ≡ Some u → s.calls map i ≡ Some u)
+    → ((map i : ℕ) (u : UnderWay K V K) → s2.calls map i ≡ Some u → (standing : Standing K) → s2.maps map ≡ Some standing → HasStood s.maps map standing)
+    → ShowsReading name log made m s → ShowsReading name log made (with_effects None of effects m) s2

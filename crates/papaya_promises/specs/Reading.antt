@@ -54,12 +54,12 @@ HasStood {K} maps map standing =
     (before : Standing K) × (maps map ≡ Some before) × (standing.setting ≡ before.setting) × TablesLast before.chart standing.chart
 
 module _ {K V : Type 0} (name : ℕ → List ℕ) where
-  -- Each lookup that is under way was so as it is, with as many steps; and each map that stands stood, with its setting and its tables.
+  -- Each lookup that is under way was so as it is, with as many steps; and each map that has calls stood, with its setting and its tables.
   pub record LookupsStay (made : ℕ → ℕ) (m : Moment K V) (s : Scene K V) (made2 : ℕ → ℕ) (m2 : Moment K V) (s2 : Scene K V) : Type 0 where
     pub calls : (map i : ℕ) (u : UnderWay K V K) → s2.calls map i ≡ Some u → (d : CallThere K V) → call_of (name i) m2 ≡ Some d → looks d.call ≡ true
         → (s.calls map i ≡ Some u)
         × (c : CallThere K V) × (call_of (name i) m ≡ Some c) × (looks c.call ≡ true) × (d.begun ≡ c.begun) × (d.steps + made2 i ≡ c.steps + made i)
-    pub maps : (map : ℕ) (standing : Standing K) → s2.maps map ≡ Some standing → HasStood s.maps map standing
+    pub maps : (map i : ℕ) (u : UnderWay K V K) → s2.calls map i ≡ Some u → (standing : Standing K) → s2.maps map ≡ Some standing → HasStood s.maps map standing
 
 module _ (K V : Type 0) (name : ℕ → List ℕ) where
   -- The promises: so lookups have read what they had read,

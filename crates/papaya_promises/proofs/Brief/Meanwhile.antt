@@ -1,5 +1,5 @@
 -- What lookups under way have read, where calls begin, step and come to an outcome meanwhile.
-use Rattle.std.specs.Prelude.{◌≡◌, ℕ, ◌+◌, ◌≤◌, Bool, true, false, cond, not, List, [], ◌∷◌, length, find, map, Option, Some, ◌⊎◌, if◌then◌else◌}
+use Rattle.std.specs.Prelude.{◌≡◌, ℕ, ◌+◌, ◌≤◌, Bool, true, false, cond, not, List, [], ◌∷◌, length, find, map, Option, Some, None, ◌⊎◌, if◌then◌else◌}
 use Rattle.std.proofs.Common.{refl, ap, sym, subst, ◌∙◌, arith, inl, inr}
 use Rattle.papaya_runs.specs.Same.{is_same}
 use Rattle.papaya_schedules.specs.declared.call.Call.{Call}
@@ -29,10 +29,11 @@ use Rattle.papaya_follows.proofs.Steps.{one_of}
 use Rattle.papaya_hands.proofs.Asking.{which}
 use Rattle.papaya_hands.proofs.Calling.{caller_is}
 use Rattle.papaya_histories.proofs.Begun.{effects_begun, comes_begun}
+use Rattle.papaya_others.specs.Rows.{scene_then}
 use Rattle.papaya_promises.specs.Brief.{ReadsSince}
-use Rattle.papaya_promises.specs.Meanwhile.{CallsComeToReadings, CallsBeginReadings, OthersKeepReadings}
+use Rattle.papaya_promises.specs.Meanwhile.{CallsComeToReadings, CallsBeginReadings, OthersKeepReadings, OtherWorkKeepsReadings, RowsKeepReadings}
 use Rattle.papaya_promises.specs.Reading.{looks, HasLooked, HasStood}
-use Rattle.papaya_promises.proofs.Brief.Maps.{maps_stood}
+use Rattle.papaya_promises.proofs.Brief.Maps.{same_stood, maps_stood}
 use Rattle.papaya_promises.proofs.Brief.Stays.{same_tables, readings_stay}
 
 module _ {K V : Type 0} where
@@ -134,7 +135,7 @@ module _ {K V : Type 0} (name : ℕ → List ℕ) (m : Moment K V) (s : Scene K 
 
 pub calls_come_to_readings : (K V : Type 0) (same : K → K → Bool) → CallsComeToReadings K V same
 calls_come_to_readings K V same name log made m known s whole reading own o steps ended counts =
-    readings_stay K V name log made (λ i. 0) m (come_to own o steps m) s s (record { calls = calls; maps = λ n st is. stands_so s.maps n st is }) reading
+    readings_stay K V name log made (λ i. 0) m (come_to own o steps m) s s (record { calls = calls; maps = λ n j x here st is. stands_so s.maps n st is }) reading
   where
     calls : (n j : ℕ) (x : UnderWay K V K) → s.calls n j ≡ Some x → (d : CallThere K V) → call_of (name j) (come_to own o steps m) ≡ Some d → looks d.call ≡ true
         → (s.calls n j ≡ Some x) × (c : CallThere K V) × (call_of (name j) m ≡ Some c) × (looks c.call ≡ true) × (d.begun ≡ c.begun) × (d.steps + 0 ≡ c.steps + made j)
@@ -195,7 +196,7 @@ module _ (K V S : Type 0) (same : K → K → Bool) (hash : K → ℕ) where
   others_keep_readings name log made m known s old new at_old whole reading map i u here said leads c c_is no_look =
       readings_stay K V name log made made m (with_effects (Some (name i)) (Some map) (effects_of (acts.Call i map) known new.memory.changed) m) s
       (scene_after same hash s old new map i (leads map u here).0 u (leads map u here).1 said (leads map u here).4)
-      (record { calls = calls; maps = λ n after is. maps_stood same hash s old new at_old map i u here said leads n after is }) reading
+      (record { calls = calls; maps = λ n j x there after is. maps_stood same hash s old new at_old map i u here said leads n after is }) reading
     where
       effects : List Effect
       effects = effects_of (acts.Call i map) known new.memory.changed
@@ -223,3 +224,21 @@ module _ (K V S : Type 0) (same : K → K → Bool) (hash : K → ℕ) where
           by (inr other) =
               let was = whole.all.shown.calls n j x other.1 in
               let kept = as_it_was was.0 was.1 in (other.1, was.0, was.1, kept.0, kept.1, ap (λ (k : ℕ). k + made j) kept.2)
+
+-- what no caller's call does leaves the calls
+calls_left : {K V : Type 0} (name : List ℕ) (of : Option ℕ) (effects : List Effect) (m : Moment K V) → call_of name (with_effects None of effects m) ≡ call_of name m
+calls_left name of [] m = refl
+calls_left name of (f ∷ effects) m = calls_left name of effects (with_effect None of f m)
+
+pub other_work_keeps_readings : (K V : Type 0) → OtherWorkKeepsReadings K V
+other_work_keeps_readings K V name log made m s s2 of effects kept stood reading =
+    readings_stay K V name log made made m (with_effects None of effects m) s s2 (record { calls = calls; maps = λ n j x is st there. stood n j x is st there }) reading
+  where
+    calls : (n j : ℕ) (x : UnderWay K V K) → s2.calls n j ≡ Some x → (d : CallThere K V) → call_of (name j) (with_effects None of effects m) ≡ Some d → looks d.call ≡ true
+        → (s.calls n j ≡ Some x) × (c : CallThere K V) × (call_of (name j) m ≡ Some c) × (looks c.call ≡ true) × (d.begun ≡ c.begun) × (d.steps + made j ≡ c.steps + made j)
+    calls n j x is d d_is d_looks = (kept n j x is, d, sym (calls_left (name j) of effects m) ∙ d_is, d_looks, refl, refl)
+
+pub rows_keep_readings : (K V S : Type 0) (same : K → K → Bool) (hash : K → ℕ) → RowsKeepReadings K V S same hash
+rows_keep_readings K V S same hash name log made m s old new event happened effects reading =
+    other_work_keeps_readings K V name log made m s (scene_then same hash event s old new happened) None effects (λ n j x is. is)
+    (λ n j x is st there. same_stood s.maps n (happened.2 n) (happened.3 n) st there) reading

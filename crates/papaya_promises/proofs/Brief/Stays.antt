@@ -75,7 +75,7 @@ module _ (K V : Type 0) (name : ℕ → List ℕ) where
         subst (λ (n : ℕ). n ≤ length log) (sym it.4) (h.begun map i u it.0 it.1 it.2 it.3);
     reads = λ map i u is d d_is looks_for standing there.
         let it = stay.calls map i u is d d_is looks_for in
-        let was = stay.maps map standing there in
+        let was = stay.maps map i u is standing there in
         let before = h.reads map i u it.0 it.1 it.2 it.3 was.0 was.1 in
         looked_as (is_incremental was.0.setting.mode) (is_incremental standing.setting.mode) map standing.chart log it.1.begun d.begun (it.1.steps + made i) (d.steps + made2 i) u
         (ap (λ (x : Setting). is_incremental x.mode) was.2) it.4 it.5
