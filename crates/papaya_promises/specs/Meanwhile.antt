@@ -1,5 +1,5 @@
 -- What lookups under way have read, where calls begin, step and come to an outcome meanwhile.
-use Rattle.std.specs.Prelude.{◌≡◌, ℕ, Bool, true, false, List, length, Some, None, if◌then◌else◌, Option}
+use Rattle.std.specs.Prelude.{◌≡◌, ℕ, Bool, true, false, List, length, Some, None, if◌then◌else◌, Option, []}
 use Rattle.papaya_runs.specs.Same.{is_same}
 use Rattle.papaya_tables.specs.declared.node.Node.{Node}
 use Rattle.papaya_resize.specs.declared.lookup.Lookup.{Lookup}
@@ -7,11 +7,12 @@ use Rattle.papaya_resize.specs.declared.lookup.Looking.TheVariants as looking
 use Rattle.papaya_raw.specs.declared.machines.call.Calling.TheVariants as at
 use Rattle.papaya_raw.specs.declared.machines.progress.Progress.{Progress}
 use Rattle.papaya_schedules.specs.declared.call.Call.{Call}
+use Rattle.papaya_schedules.specs.declared.call.Reply.{Reply}
 use Rattle.papaya_schedules.specs.declared.outcome.Outcome.{Outcome}
 use Rattle.papaya_schedules.specs.Beginning.{with_call}
 use Rattle.papaya_schedules.specs.Effects.{with_effects}
 use Rattle.papaya_schedules.specs.Entry.{Entry, ends_call}
-use Rattle.papaya_schedules.specs.Moment.{UnderWay as CallThere, Moment}
+use Rattle.papaya_schedules.specs.Moment.{UnderWay as CallThere, Moment, start}
 use Rattle.papaya_schedules.specs.Views.{call_of}
 use Rattle.papaya_callers.specs.Together.{CallOnKey, UnderWay, OnKey}
 use Rattle.papaya_effects.specs.Effects.{effects_of}
@@ -22,11 +23,11 @@ use Rattle.papaya_executor.specs.OnSlots.{HappensAt}
 use Rattle.papaya_finishes.specs.Maps.{Standing}
 use Rattle.papaya_others.specs.Rows.{scene_then}
 use Rattle.papaya_schedules.specs.declared.effect.Effect.{Effect}
-use Rattle.papaya_executor.specs.IsAt.{Scene, IsAt}
+use Rattle.papaya_executor.specs.IsAt.{Scene, IsAt, at_first}
 use Rattle.papaya_executor.specs.Replying.{scene_with}
 use Rattle.papaya_executor.specs.Stepping.{StepLeads, scene_after}
 use Rattle.papaya_executor.specs.declared.executor.Executor.{Executor}
-use Rattle.papaya_follows.specs.Calling.{NoneNamed, come_to}
+use Rattle.papaya_follows.specs.Calling.{NoneNamed, told, come_to}
 use Rattle.papaya_moments.specs.Whole.{ShowsWhole}
 use Rattle.papaya_promises.specs.Reading.{looks, HasStood, ShowsReading}
 
@@ -50,6 +51,18 @@ module _ (K V : Type 0) (same : K → K → Bool) where
       (name : ℕ → List ℕ) (log : List (Entry K V)) (m : Moment K V) (known : Known) (s : Scene K V) → ShowsWhole same name m known s → ShowsReading name log (λ i. 0) m s
       → (map i : ℕ) (u : UnderWay K V K) (call : Call K V) (guard : List ℕ) → NoneNamed name (name i) s → BeginsToLook u call → m.events ≡ length log
       → ShowsReading name log (λ i. 0) (with_call (name i) guard call (Some map) m) (scene_with map i u s)
+
+-- So it is before all events,
+abbrev pub ReadingsBegin : Type 0 → Type 0 → Type 0
+ReadingsBegin K V = (roots : ℕ) (name : ℕ → List ℕ) → ShowsReading {K = K} {V = V} name [] (λ i. 0) start (at_first roots)
+
+-- and where a call that is no lookup is told a reply.
+abbrev pub CallsTakeReadings : Type 0 → Type 0 → Type 0
+CallsTakeReadings K V =
+    (name : ℕ → List ℕ) (log : List (Entry K V)) (made : ℕ → ℕ) (m : Moment K V) (s : Scene K V) → ShowsReading name log made m s
+    → (shown : (map i : ℕ) (u : UnderWay K V K) → s.calls map i ≡ Some u → (c : CallThere K V) × (call_of (name i) m ≡ Some c))
+    → (map i : ℕ) (c : CallThere K V) → call_of (name i) m ≡ Some c → looks c.call ≡ false → (is_told : Reply V) (next : UnderWay K V K)
+    → ShowsReading name log made (told (name i) is_told m) (scene_with map i next s)
 
 module _ (K V S : Type 0) (same : K → K → Bool) (hash : K → ℕ) where
   -- So it is after a step of a call that is no lookup.

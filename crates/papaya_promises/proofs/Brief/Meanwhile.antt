@@ -10,7 +10,7 @@ use Rattle.papaya_schedules.specs.declared.outcome.Outcome.{Outcome}
 use Rattle.papaya_schedules.specs.declared.outcome.Outcome.TheVariants as outcome
 use Rattle.papaya_tables.specs.Chunks.{is_incremental}
 use Rattle.papaya_rule.specs.Chart.{Chart}
-use Rattle.papaya_schedules.specs.After.{moments_from, asks_on, comes_to, without_call}
+use Rattle.papaya_schedules.specs.After.{moments_from, asks_on, comes_to, without_call, replied}
 use Rattle.papaya_schedules.specs.Beginning.{fresh_call, with_call}
 use Rattle.papaya_schedules.specs.Effects.{due_for, call_by, with_effect, with_effects}
 use Rattle.papaya_schedules.specs.Entry.{ends_call}
@@ -20,18 +20,20 @@ use Rattle.papaya_callers.specs.Together.{UnderWay}
 use Rattle.papaya_effects.specs.Effects.{effects_of}
 use Rattle.papaya_effects.specs.declared.acting.Acting.TheVariants as acts
 use Rattle.papaya_executor.specs.IsAt.{Scene}
+use Rattle.papaya_executor.specs.Replying.{scene_with}
+use Rattle.papaya_schedules.specs.declared.call.Reply.{Reply}
 use Rattle.papaya_executor.specs.Stepping.{scene_after}
 use Rattle.papaya_finishes.specs.Maps.{Standing}
-use Rattle.papaya_follows.specs.Calling.{NoneNamed, come_to}
-use Rattle.papaya_follows.proofs.Calling.{is_same_refl, apart_back, come, come_of_same, found_kept}
+use Rattle.papaya_follows.specs.Calling.{NoneNamed, come_to, told}
+use Rattle.papaya_follows.proofs.Calling.{is_same_refl, apart_back, come, come_of_same, found_kept, replied_same}
 use Rattle.papaya_follows.proofs.Calls.{changed_same, changed, of_same, found}
 use Rattle.papaya_follows.proofs.Steps.{one_of}
 use Rattle.papaya_hands.proofs.Asking.{which}
 use Rattle.papaya_hands.proofs.Calling.{caller_is}
-use Rattle.papaya_histories.proofs.Begun.{effects_begun, comes_begun}
+use Rattle.papaya_histories.proofs.Begun.{effects_begun, comes_begun, if_begun, replied_begun}
 use Rattle.papaya_others.specs.Rows.{scene_then}
 use Rattle.papaya_promises.specs.Brief.{ReadsSince}
-use Rattle.papaya_promises.specs.Meanwhile.{CallsComeToReadings, CallsBeginReadings, OthersKeepReadings, OtherWorkKeepsReadings, RowsKeepReadings}
+use Rattle.papaya_promises.specs.Meanwhile.{CallsComeToReadings, CallsBeginReadings, OthersKeepReadings, OtherWorkKeepsReadings, RowsKeepReadings, ReadingsBegin, CallsTakeReadings}
 use Rattle.papaya_promises.specs.Reading.{looks, HasLooked, HasStood}
 use Rattle.papaya_promises.proofs.Brief.Maps.{same_stood, maps_stood}
 use Rattle.papaya_promises.proofs.Brief.Stays.{same_tables, readings_stay}
@@ -242,3 +244,46 @@ pub rows_keep_readings : (K V S : Type 0) (same : K → K → Bool) (hash : K �
 rows_keep_readings K V S same hash name log made m s old new event happened effects reading =
     other_work_keeps_readings K V name log made m s (scene_then same hash event s old new happened) None effects (λ n j x is. is)
     (λ n j x is st there. same_stood s.maps n (happened.2 n) (happened.3 n) st there) reading
+
+pub readings_begin : (K V : Type 0) → ReadingsBegin K V
+readings_begin K V roots name = record {
+  begun = λ n i u is c found_is looks_for. absurd (cc is);
+  reads = λ n i u is c found_is looks_for standing there. absurd (cc is);
+}
+
+-- a reply leaves what began the call, and its steps
+reply_steps : {K V : Type 0} (reply : Reply V) (c : CallThere K V) (stands : Stands) → (replied reply c stands).steps ≡ c.steps
+reply_steps reply c Going = refl
+reply_steps reply c (Asking q) = refl
+reply_steps reply c Told = refl
+reply_steps reply c IsReady = refl
+
+pub calls_take_readings : (K V : Type 0) → CallsTakeReadings K V
+calls_take_readings K V name log made m s reading shown map i c c_is no_look is_told next =
+    readings_stay K V name log made made m (told (name i) is_told m) s (scene_with map i next s) (record { calls = calls; maps = λ n j x here st is. stands_so s.maps n st is }) reading
+  where
+    tells : CallThere K V → CallThere K V
+    tells y = replied is_told y y.stands
+
+    as_it_was : (j : ℕ) (d b : CallThere K V) → call_of (name j) m ≡ Some b → call_of (name j) (told (name i) is_told m) ≡ Some d → (d.call ≡ b.call) × (d.begun ≡ b.begun) × (d.steps ≡ b.steps)
+    as_it_was j d b b_is d_is =
+        let one : d ≡ (if is_same b.caller (name i) then tells b else b) =
+        one_of d (if is_same b.caller (name i) then tells b else b) (sym d_is ∙ found tells (λ y. replied_same is_told y y.stands) (name i) (name j) m.calls b b_is) in (
+          ap (λ (y : CallThere K V). y.call) one ∙ (of_same tells (λ y. replied_same is_told y y.stands) (name i) b).2,
+          ap (λ (y : CallThere K V). y.begun) one ∙ if_begun tells (λ y. replied_begun is_told y y.stands) b (is_same b.caller (name i)),
+          ap (λ (y : CallThere K V). y.steps) one ∙ if_steps tells (λ y. reply_steps is_told y y.stands) b (is_same b.caller (name i)),
+        )
+
+    calls : (n j : ℕ) (x : UnderWay K V K) → (scene_with map i next s).calls n j ≡ Some x → (d : CallThere K V) → call_of (name j) (told (name i) is_told m) ≡ Some d → looks d.call ≡ true
+        → (s.calls n j ≡ Some x) × (b : CallThere K V) × (call_of (name j) m ≡ Some b) × (looks b.call ≡ true) × (d.begun ≡ b.begun) × (d.steps + made j ≡ b.steps + made j)
+    calls n j x is d d_is d_looks = by (which s.calls map i (Some next) n j x is)
+      where
+        by : ((n ≡ map) × (j ≡ i) × (◌≡◌ {A = Option (UnderWay K V K)} (Some next) (Some x))) ⊎ ((n ≡ map → j ≡ i → ⊥) × (s.calls n j ≡ Some x))
+            → (s.calls n j ≡ Some x) × (b : CallThere K V) × (call_of (name j) m ≡ Some b) × (looks b.call ≡ true) × (d.begun ≡ b.begun) × (d.steps + made j ≡ b.steps + made j)
+        by (inl its) =
+            absurd (let kept = as_it_was j d c (ap (λ (k : ℕ). call_of (name k) m) its.1 ∙ c_is) d_is in
+            let looks_so : looks c.call ≡ true = ap looks (sym kept.0) ∙ d_looks in cc (looks_so, no_look))
+        by (inr other) =
+            let was = shown n j x other.1 in
+            let kept = as_it_was j d was.0 was.1 d_is in
+            (other.1, was.0, was.1, ap looks (sym kept.0) ∙ d_looks, kept.1, ap (λ (k : ℕ). k + made j) kept.2)
