@@ -32,12 +32,13 @@ use Rattle.papaya_moments.specs.Whole.{ShowsWhole}
 use Rattle.papaya_promises.specs.Reading.{looks, HasStood, ShowsReading}
 
 module _ (K V : Type 0) (same : K → K → Bool) where
-  -- The promises: so it is where a call has come to an outcome by the steps that it has made, and nobody else has made some,
+  -- The promises: so it is where a call has come to an outcome by the steps that it has made, if it is a lookup, and no other one has made some,
   abbrev pub CallsComeToReadings : Type 0
   CallsComeToReadings =
       (name : ℕ → List ℕ) (log : List (Entry K V)) (made : ℕ → ℕ) (m : Moment K V) (known : Known) (s : Scene K V) → ShowsWhole same name m known s → ShowsReading name log made m s
       → (own : List ℕ) (outcome : Outcome V) (steps : ℕ) → (ends_call outcome ≡ true → NoneNamed name own s)
-      → ((map i : ℕ) (u : UnderWay K V K) → s.calls map i ≡ Some u → made i ≡ (if is_same (name i) own then steps else 0))
+      → ((map i : ℕ) (u : UnderWay K V K) → s.calls map i ≡ Some u → (c : CallThere K V) → call_of (name i) m ≡ Some c → looks c.call ≡ true
+      → made i ≡ (if is_same (name i) own then steps else 0))
       → ShowsReading name log (λ i. 0) (come_to own outcome steps m) s
 
   -- it begins to look for its key, if it is a lookup

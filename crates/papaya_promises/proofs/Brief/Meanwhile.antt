@@ -126,14 +126,17 @@ module _ {K V : Type 0} (name : ℕ → List ℕ) (m : Moment K V) (s : Scene K 
           ∙ ap (λ (l : List ℕ). if is_same l own then come o steps c else c) named
 
   -- it is the same one, with its steps
+  came_same : (c : CallThere K V) (q : Bool) → (if q then come o steps c else c).call ≡ c.call
+  came_same c true = (come_of_same o steps c).2
+  came_same c false = refl
+
   came_as : (c : CallThere K V) (made : ℕ) (q : Bool) → made ≡ (if q then steps else 0)
-      → (((if q then come o steps c else c).call) ≡ c.call) × (((if q then come o steps c else c).begun) ≡ c.begun) × (((if q then come o steps c else c).steps) + 0 ≡ c.steps + made)
+      → (((if q then come o steps c else c).begun) ≡ c.begun) × (((if q then come o steps c else c).steps) + 0 ≡ c.steps + made)
   came_as c made true e = (
-    (come_of_same o steps c).2,
     comes_begun o (record c { steps = c.steps + steps }),
     (let it = comes_steps o (record c { steps = c.steps + steps }) in omega (arith, it, e)),
   )
-  came_as c made false e = (refl, refl, omega (arith, e))
+  came_as c made false e = (refl, omega (arith, e))
 
 pub calls_come_to_readings : (K V : Type 0) (same : K → K → Bool) → CallsComeToReadings K V same
 calls_come_to_readings K V same name log made m known s whole reading own o steps ended counts =
@@ -144,13 +147,14 @@ calls_come_to_readings K V same name log made m known s whole reading own o step
     calls n j x is d d_is d_looks =
         let was = whole.all.shown.calls n j x is in
         let d_as = came name m s own o steps ended n j x is was.0 was.1 d d_is in
-        let same_so = came_as name m s own o steps ended was.0 (made j) (is_same (name j) own) (counts n j x is) in (
+        let looks_so : looks was.0.call ≡ true = ap looks (sym (ap (λ (y : CallThere K V). y.call) d_as ∙ came_same name m s own o steps ended was.0 (is_same (name j) own))) ∙ d_looks in
+        let same_so = came_as name m s own o steps ended was.0 (made j) (is_same (name j) own) (counts n j x is was.0 was.1 looks_so) in (
           is,
           was.0,
           was.1,
-          ap looks (sym (ap (λ (y : CallThere K V). y.call) d_as ∙ same_so.0)) ∙ d_looks,
-          ap (λ (y : CallThere K V). y.begun) d_as ∙ same_so.1,
-          ap (λ (y : CallThere K V). y.steps + 0) d_as ∙ same_so.2,
+          looks_so,
+          ap (λ (y : CallThere K V). y.begun) d_as ∙ same_so.0,
+          ap (λ (y : CallThere K V). y.steps + 0) d_as ∙ same_so.1,
         )
 
 pub calls_begin_readings : (K V : Type 0) (same : K → K → Bool) → CallsBeginReadings K V same
