@@ -3,4 +3,5 @@ pub mod Shelters
 pub mod Guards
 pub mod Protected
 pub mod Weights
+pub mod Brief
 mod Samples

@@ -4,3 +4,6 @@ pub mod Others
 pub mod Guards
 pub mod Protected
 pub mod Weights
+pub mod Brief
+pub mod Reading
+pub mod Meanwhile

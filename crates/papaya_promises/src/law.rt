@@ -1,5 +1,5 @@
 //! What is promised of a run, by single steps.
-ghost use Rattle.std.specs.Prelude.{ℕ, Bool};
+ghost use Rattle.std.specs.Prelude.{ℕ, Bool, List};
 ghost use Rattle.papaya_promises.specs.Guards.{SectionsHoldAtFirst, GuardsComeAndGo, OthersStayInside, OneIsInsideAgain};
 ghost use Rattle.papaya_promises.specs.Guards.{UsedSlotsAreInside, OnlyGuardsLeaveNobody};
 ghost use Rattle.papaya_promises.specs.Others.{MakingsShelter, EndingsShelter, RowsBeginShelter, SectionsGoOn};
@@ -7,6 +7,9 @@ ghost use Rattle.papaya_promises.specs.Protected.{EventsBeginProtected, EventsEn
 ghost use Rattle.papaya_promises.specs.Protected.{AllIsEndedProtected, IdleEventsAreProtected};
 ghost use Rattle.papaya_promises.specs.Protected.{CallsProtect, MakingsProtect, EndingsProtect, RowsBeginProtect, RowsProtect};
 ghost use Rattle.papaya_promises.specs.Shelters.{CallsShelter, RowsShelter, StepsProtect, EventsAreProtected};
+ghost use Rattle.papaya_promises.specs.Brief.{LookupsReadOn, LateLookupsReadOn, ReadingsLast, ReadingsAreFew, RootsAreShown};
+ghost use Rattle.papaya_promises.specs.Meanwhile.{CallsComeToReadings, CallsBeginReadings, OthersKeepReadings, RowsKeepReadings, OtherWorkKeepsReadings, ReadingsBegin, CallsTakeReadings};
+ghost use Rattle.papaya_promises.specs.Reading.{LookupsDoNothing, StepsLeaveTables, LookupsKeepReadings, ReadingsStay, EventsKeepReadings, EventsReadBriefly};
 ghost use Rattle.papaya_promises.specs.Weights.{OperationsAreSingle, PartsAddUp, GrantsAddUp};
 
 /// What a call takes out of its map, while guards are there, is sheltered: the critical section of each of them holds its block, until it ends. So it is
@@ -56,4 +59,31 @@ pub fn operations_are_single()
     ensures single { OperationsAreSingle }
     ensures parts { PartsAddUp }
     ensures grants { GrantsAddUp }
+{}
+
+/// A lookup has made a step for the root, and in each table that it entered one for each try and one for the link behind it at most: in incremental mode it
+/// enters none but those from the root's on, as the root was at a moment of its call, and in blocking mode the root's alone. So it is after each of its
+/// steps, be it in a table that the root has left, and where tables have come meanwhile; and with its next step it has read no more words than it may, by the
+/// tables that a moment shows. Its steps do nothing to pairs, tables and blocks. In a run so it is of all lookups under way after a step of one of them, of
+/// another call, or of a row, where a call begins, is told a reply or comes to an outcome, where they are under way as they were and tables last, and where
+/// an event is over; and an event whose last step is one of a lookup reads briefly.
+pub fn lookups_are_brief<K, V, S>()
+    ensures steps { (same : K → K → Bool) (hash : K → ℕ) → LookupsReadOn K V same hash }
+    ensures late { (same : K → K → Bool) (hash : K → ℕ) → LateLookupsReadOn K V same hash }
+    ensures lasts { ReadingsLast K }
+    ensures few { ReadingsAreFew K V }
+    ensures roots { RootsAreShown K V }
+    ensures nothing { (same : K → K → Bool) (hash : K → ℕ) → LookupsDoNothing K V S same hash }
+    ensures tables { (same : K → K → Bool) (hash : K → ℕ) → StepsLeaveTables K V S same hash }
+    ensures keeps { (same : K → K → Bool) (hash : K → ℕ) → LookupsKeepReadings K V S same hash }
+    ensures stays { (name : ℕ → List ℕ) → ReadingsStay K V name }
+    ensures events { (name : ℕ → List ℕ) → EventsKeepReadings K V name }
+    ensures comes_to { (same : K → K → Bool) → CallsComeToReadings K V same }
+    ensures begins { (same : K → K → Bool) → CallsBeginReadings K V same }
+    ensures others { (same : K → K → Bool) (hash : K → ℕ) → OthersKeepReadings K V S same hash }
+    ensures rows { (same : K → K → Bool) (hash : K → ℕ) → RowsKeepReadings K V S same hash }
+    ensures start { ReadingsBegin K V }
+    ensures replies { CallsTakeReadings K V }
+    ensures work { OtherWorkKeepsReadings K V }
+    ensures brief { (same : K → K → Bool) (hash : K → ℕ) → EventsReadBriefly K V S same hash }
 {}

@@ -1,0 +1,186 @@
+-- A step of a lookup, as one of many calls: it does nothing, and has read one word more.
+use Rattle.std.specs.Prelude.{◌≡◌, ℕ, suc, Bool, Option, Some, None, ◌⊎◌}
+use Rattle.std.proofs.Common.{ap, sym, subst, ◌∙◌, inl, inr}
+use Rattle.seize_words.specs.Mem.{Mem, Took, value_at}
+use Rattle.seize_words.specs.Plan.{Steps}
+use Rattle.seize_rule.proofs.Rows.Leaving.{steps_back}
+use Rattle.seize.specs.World.{Rests}
+use Rattle.seize.specs.declared.progress.Progress.{Progress as Stepped}
+use Rattle.papaya_tables.specs.Chunks.{is_incremental}
+use Rattle.papaya_tables.specs.declared.node.Node.{Node}
+use Rattle.papaya_resize.specs.Lookup.{lookup_plan}
+use Rattle.papaya_resize.specs.Lookup as lookups
+use Rattle.papaya_resize.specs.declared.lookup.Lookup.{Lookup}
+use Rattle.papaya_resize.specs.declared.lookup.Looking.{Looking}
+use Rattle.papaya_resize.specs.declared.lookup.Looking.TheVariants as looking
+use Rattle.papaya_raw.specs.Call.{call_plan, looked, looks_for, plan_at}
+use Rattle.papaya_raw.specs.Machine.{called, machine_plan}
+use Rattle.papaya_raw.specs.Progress.{of_called}
+use Rattle.papaya_raw.specs.declared.machines.answer.Called.{Called}
+use Rattle.papaya_raw.specs.declared.machines.call.Calling.{Calling}
+use Rattle.papaya_raw.specs.declared.machines.call.Calling.TheVariants as at
+use Rattle.papaya_raw.specs.declared.machines.call.KeyCall.{KeyCall}
+use Rattle.papaya_raw.specs.declared.machines.machine.Machine.{Machine}
+use Rattle.papaya_raw.specs.declared.machines.machine.Machine.TheVariants as kinds
+use Rattle.papaya_raw.specs.declared.machines.progress.Progress.{Progress}
+use Rattle.papaya_rule.specs.Chart.{Chart}
+use Rattle.papaya_rule.specs.InWorld.{IsMapIn}
+use Rattle.papaya_rule.specs.Words.{Blocks}
+use Rattle.papaya_points.specs.FactsCalls.{Unchanged, CallingFacts, CallFacts}
+use Rattle.papaya_points.specs.Steps.{AreLawful}
+use Rattle.papaya_points.specs.Told.{IsRowOfCall}
+use Rattle.papaya_points.proofs.Lookups.LooksAsked.{class_asked, lookup_asked}
+use Rattle.papaya_late.specs.LateCalls.{LateCalling, LateCallFacts}
+use Rattle.papaya_callers.specs.Rows.{row_of, once_over}
+use Rattle.papaya_callers.specs.Sights.{seen_by}
+use Rattle.papaya_callers.specs.Together.{CallOnKey, OnKey, ForRoom, Counting, OverAll, Together, Knows, in_slot}
+use Rattle.papaya_callers.proofs.Sights.Seen.{map_seen}
+use Rattle.papaya_callers.proofs.Together.Fits.{map_in_slot}
+use Rattle.papaya_teller.specs.Tells.{StepsTold}
+use Rattle.papaya_teller.specs.declared.changed.Changed.{Changed}
+use Rattle.papaya_teller.specs.declared.changed.Changed.TheVariants as changed
+use Rattle.papaya_others.proofs.Outcomes.{told_in}
+use Rattle.papaya_effects.specs.Effects.{effects_of}
+use Rattle.papaya_effects.specs.declared.acting.Acting.TheVariants as acts
+use Rattle.papaya_executor.specs.IsAt.{Scene, IsAt, slot_of}
+use Rattle.papaya_executor.specs.Stepping.{StepLeads}
+use Rattle.papaya_executor.specs.declared.executor.Executor.{Executor}
+use Rattle.papaya_executor.proofs.Forgotten.{as_step}
+use Rattle.papaya_promises.specs.Brief.{ReadsAt, ReadsOn, IsRootOf}
+use Rattle.papaya_promises.specs.Reading.{LookupsDoNothing}
+use Rattle.papaya_promises.proofs.Brief.Going.{lookups_read_on, late_reads_on}
+
+-- of a lookup's plan nothing is told
+
+module _ {K V : Type 0} (m m2 : Mem (Node K V)) (told : Changed) where
+  tells_none : (keys : K → Bool) (l : Lookup) (stands : Looking) (end : Lookup × Stepped (Option ℕ)) → StepsTold K V (Lookup × Stepped (Option ℕ)) m changed.Nothing (lookups.plan_at keys l stands) m2 told end
+      → told ≡ changed.Nothing
+  tells_none keys l looking.Roots end s = s.1.1
+  tells_none keys l (looking.Probes trial) end s = s.1.1
+  tells_none keys l (looking.Nexts table) end s = s.1.1
+  tells_none keys l (looking.Over found) end s = s.2
+
+  asked_none : (asks : K → K → Bool) (p : KeyCall K V K) (l : Lookup) (asked : Option K) (end : KeyCall K V K × Called (Node K V))
+      → StepsTold K V (KeyCall K V K × Called (Node K V)) m changed.Nothing (looks_for asks p l asked) m2 told end → told ≡ changed.Nothing
+  asked_none asks p l (Some q) end s = let it = told_in m m2 told (looked p) (lookup_plan (asks q) l) end s in tells_none (asks q) l l.stands it.0 it.2
+  asked_none asks p l None end s = s.2
+
+module _ (K V S : Type 0) (same : K → K → Bool) (hash : K → ℕ) where
+  -- what is told of its step
+  told_none : (old new : Executor K V S) (k : CallOnKey K V K) (l : Lookup) → k.call.stands ≡ at.Looks l → (end : Machine K V K × Progress (Node K V))
+      → StepsTold K V (Machine K V K × Progress (Node K V)) old.memory.memory changed.Nothing (machine_plan same same hash (kinds.Key k.call)) new.memory.memory new.memory.changed end
+      → new.memory.changed ≡ changed.Nothing
+  told_none old new k l e end s =
+      let it = told_in old.memory.memory new.memory.memory new.memory.changed called (call_plan same same hash k.call) end s in
+      asked_none old.memory.memory new.memory.memory new.memory.changed same k.call l k.call.asked it.0
+      (subst (λ (x : Calling). StepsTold K V (KeyCall K V K × Called (Node K V)) old.memory.memory changed.Nothing (plan_at same same hash k.call x) new.memory.memory new.memory.changed it.0) e it.2)
+
+  pub lookups_do_nothing : LookupsDoNothing K V S same hash
+  lookups_do_nothing known s old new i said leads map (OnKey k) here incremental c moments steps h =
+      let to = leads map (OnKey k) here in
+      ap (effects_of (acts.Call i map) known) (told_none old new k h.0 h.1 (to.1, said) to.3)
+  lookups_do_nothing known s old new i said leads map (ForRoom r) here incremental c moments steps h = absurd h
+  lookups_do_nothing known s old new i said leads map (Counting sum) here incremental c moments steps h = absurd h
+  lookups_do_nothing known s old new i said leads map (OverAll o) here incremental c moments steps h = absurd h
+
+module _ {K V S : Type 0} (same : K → K → Bool) (hash : K → ℕ) (s : Scene K V) (old new : Executor K V S) (at_old : IsAt same hash old s) (map i : ℕ) (k : CallOnKey K V K)
+    (here : s.calls map i ≡ Some (OnKey k)) (said : Progress (Node K V)) (leads : StepLeads same hash i said s old new) (l : Lookup) (is : k.call.stands ≡ at.Looks l) where
+  abbrev c : Chart K
+  c = (leads map (OnKey k) here).0.chart
+
+  abbrev inc : Bool
+  inc = is_incremental (leads map (OnKey k) here).0.setting.mode
+
+  abbrev seen : Blocks
+  seen = seen_by (leads map (OnKey k) here).0.blocks ((leads map (OnKey k) here).0.sights (slot_of i))
+
+  abbrev its_hash : K → ℕ
+  its_hash = (leads map (OnKey k) here).0.hash
+
+  stand : Together V same its_hash same (leads map (OnKey k) here).0.setting slot_of s.world c (leads map (OnKey k) here).0.blocks (leads map (OnKey k) here).0.sights (s.calls map)
+  stand = at_old.together.makings.standing.each map (leads map (OnKey k) here).0 (leads map (OnKey k) here).2
+
+  lawful : AreLawful same its_hash
+  lawful = (at_old.together.makings.standing.fit map (leads map (OnKey k) here).0 (leads map (OnKey k) here).2).0
+
+  -- what it sees of its map
+  is_map : IsMapIn same its_hash (in_slot (leads map (OnKey k) here).0.setting (slot_of i)) s.world c seen
+  is_map =
+      map_seen same its_hash (in_slot (leads map (OnKey k) here).0.setting (slot_of i)) s.world c (leads map (OnKey k) here).0.blocks ((leads map (OnKey k) here).0.sights (slot_of i))
+      (map_in_slot same its_hash (leads map (OnKey k) here).0.setting s.world c (leads map (OnKey k) here).0.blocks (slot_of i) stand.ground.map)
+      (stand.ground.sight (slot_of i) (stand.inside i (OnKey k) here)).0
+
+  -- what it knows
+  knows : Knows V same its_hash same (leads map (OnKey k) here).0.setting slot_of s.world c seen i k k.call
+  knows = by (stand.stand i (OnKey k) here)
+    where
+      by : ((s.world.row i ≡ Rests) × Knows V same its_hash same (leads map (OnKey k) here).0.setting slot_of s.world c seen i k k.call)
+          ⊎ ((s.world.row i ≡ row_of (slot_of i) k.call.stands) × IsRowOfCall k.call.stands × Knows V same its_hash same (leads map (OnKey k) here).0.setting slot_of s.world c seen i k (once_over k.call))
+          → Knows V same its_hash same (leads map (OnKey k) here).0.setting slot_of s.world c seen i k k.call
+      by (inl rests) = rests.1
+      by (inr within) = absurd (subst IsRowOfCall is within.1)
+
+  -- its step is one of the lookup's plan
+  pub record LookedOn (key : K) : Type 0 where
+    pub m2 : Mem (Node K V)
+    pub end : Lookup × Stepped (Option ℕ)
+    pub steps : Steps Took value_at s.world.memory (lookup_plan (same key) l) m2 end
+    pub leads_to : (kinds.Key (looked k.call end).0 ≡ (leads map (OnKey k) here).1) × (of_called (looked k.call end).1 ≡ said)
+
+  looked_so : (q : K) → k.call.asked ≡ Some q → LookedOn q
+  looked_so q asked =
+      let st = as_step old.memory.memory changed.Nothing (machine_plan same same hash (kinds.Key k.call)) new.memory.memory new.memory.changed ((leads map (OnKey k) here).1, said) (leads map (OnKey k) here).3 in
+      let it = steps_back called old.memory.memory new.memory.memory (call_plan same same hash k.call) ((leads map (OnKey k) here).1, said) st in
+      let at_look = subst (λ (x : Calling). Steps Took value_at old.memory.memory (plan_at same same hash k.call x) new.memory.memory it.0) is it.1 in
+      let of_key = subst (λ (o : Option K). Steps Took value_at old.memory.memory (looks_for same k.call l o) new.memory.memory it.0) asked at_look in
+      let by = steps_back (looked k.call) old.memory.memory new.memory.memory (lookup_plan (same q) l) it.0 of_key in
+      record {
+        m2 = new.memory.memory;
+        end = by.0;
+        steps = subst (λ (x : Mem (Node K V)). Steps Took value_at x (lookup_plan (same q) l) new.memory.memory by.0) (sym at_old.memory) by.1;
+        leads_to = (
+          ap (λ (x : KeyCall K V K × Called (Node K V)). kinds.Key x.0) (sym by.2) ∙ ap (λ (x : Machine K V K × Progress (Node K V)). x.0) (sym it.2),
+          ap (λ (x : KeyCall K V K × Called (Node K V)). of_called x.1) (sym by.2) ∙ ap (λ (x : Machine K V K × Progress (Node K V)). x.1) (sym it.2),
+        );
+      }
+
+  -- with it, it has read a word more
+  pub record HasReadOn (first steps : ℕ) : Type 0 where
+    pub key : K
+    pub on : LookedOn key
+    pub reads : ReadsOn inc c first (suc steps) on.end
+
+  pub has_read_on : (first steps : ℕ) → IsRootOf c first l.stands → ReadsAt inc c first steps l.stands → HasReadOn first steps
+  has_read_on first steps rooted reads = by knows.facts
+    where
+      fresh : CallFacts same its_hash same s.world i (in_slot (leads map (OnKey k) here).0.setting (slot_of i)) c seen k.keys k.change k.call
+          → CallingFacts same its_hash same s.world i (in_slot (leads map (OnKey k) here).0.setting (slot_of i)) c seen k.keys k.change k.call (at.Looks l) → HasReadOn first steps
+      fresh facts (own, missing, there, q, asked, agree, knows_so) =
+          let on = looked_so q asked in
+          record {
+            key = q;
+            on = on;
+            reads =
+                lookups_read_on K V same its_hash lawful (leads map (OnKey k) here).0.setting.mode (leads map (OnKey k) here).0.setting.root (same q) k.call.hash s.world.memory c seen l
+                (class_asked same its_hash (leads map (OnKey k) here).0.setting.mode (leads map (OnKey k) here).0.setting.root k.keys (same q) agree k.call.hash facts.class) is_map.map
+                (lookup_asked same its_hash (leads map (OnKey k) here).0.setting.mode (leads map (OnKey k) here).0.setting.root k.keys (same q) agree k.call.hash c seen l knows_so)
+                first steps rooted reads on.m2 on.end on.steps;
+          }
+
+      late : LateCallFacts same its_hash same s.world i (in_slot (leads map (OnKey k) here).0.setting (slot_of i)) c seen k.keys k.began k.call
+          → LateCalling same its_hash same s.world i (in_slot (leads map (OnKey k) here).0.setting (slot_of i)) c seen k.keys k.began k.call (at.Looks l) → HasReadOn first steps
+      late facts (own, missing, there, q, asked, agree, knows_so) =
+          let on = looked_so q asked in
+          record {
+            key = q;
+            on = on;
+            reads =
+                late_reads_on K V same its_hash lawful (leads map (OnKey k) here).0.setting.mode (leads map (OnKey k) here).0.setting.root k.keys (same q) k.call.hash k.began s.world.memory c seen l
+                (class_asked same its_hash (leads map (OnKey k) here).0.setting.mode (leads map (OnKey k) here).0.setting.root k.keys (same q) agree k.call.hash facts.class) is_map.map
+                knows_so first steps reads on.m2 on.end on.steps;
+          }
+
+      by : CallFacts same its_hash same s.world i (in_slot (leads map (OnKey k) here).0.setting (slot_of i)) c seen k.keys k.change k.call
+          ⊎ ((k.change ≡ Unchanged) × LateCallFacts same its_hash same s.world i (in_slot (leads map (OnKey k) here).0.setting (slot_of i)) c seen k.keys k.began k.call) → HasReadOn first steps
+      by (inl facts) = fresh facts (subst (CallingFacts same its_hash same s.world i (in_slot (leads map (OnKey k) here).0.setting (slot_of i)) c seen k.keys k.change k.call) is facts.point)
+      by (inr (none, facts)) = late facts (subst (LateCalling same its_hash same s.world i (in_slot (leads map (OnKey k) here).0.setting (slot_of i)) c seen k.keys k.began k.call) is facts.point)
