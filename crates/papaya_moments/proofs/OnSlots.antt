@@ -223,7 +223,7 @@ module _ {K V S : Type 0} (same : K → K → Bool) (hash : K → ℕ) (m : Mome
       }
 
 -- a row that begins leaves hands as they are
-begun_hands : {K V : Type 0} (size slot i : ℕ) (w v : World (Node K V)) (called : SlotCall) → Begins deferred_word size i (request_of slot called) w v → v.hand ≡ w.hand
+pub begun_hands : {K V : Type 0} (size slot i : ℕ) (w v : World (Node K V)) (called : SlotCall) → Begins deferred_word size i (request_of slot called) w v → v.hand ≡ w.hand
 begun_hands size slot i w v (call.Register enters) h = ap (λ (x : World (Node _ _)). x.hand) h
 begun_hands size slot i w v call.Enter h = ap (λ (x : World (Node _ _)). x.hand) h.1
 begun_hands size slot i w v call.Leave h = ap (λ (x : World (Node _ _)). x.hand) h.1

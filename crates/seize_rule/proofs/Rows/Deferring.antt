@@ -168,7 +168,7 @@ module _ {T : Type 0} {size : ℕ} (defers : T → Option ℕ) (n : ℕ) (w : Wo
   next_at at.Over here mem2 end w2 st e =
       subst (λ (v : World T). Next defers n size w good.state i v) (sym (e ∙ ap (λ (q : Mem T). defers_on w i s q end) st.0 ∙ ap (λ (q : Defer × Progress Unit). defers_on w i s w.memory q) st.1))
       (next_after defers n w good i w.memory Rests [] (with_at w.uses s (one_less (w.uses s))) (over_went (at_point at.Over here))
-      (DeferEnds s c is refl here (unmoved_kept n good.state (ends_call good.state i) refl refl refl refl refl refl refl)))
+      (DeferEnds s c is refl here (unmoved_kept n good.state (ends_call good.state i) refl refl refl refl refl refl refl (λ c e. refl) refl)))
 
   pub defers_next : (w2 : World T)
       → (mem2 : Mem T) × (end : Defer × Progress Unit) × Steps Took value_at w.memory (defer_plan c) mem2 end × (w2 ≡ defers_on w i s mem2 end) → Next defers n size w good.state i w2

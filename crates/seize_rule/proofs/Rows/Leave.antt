@@ -141,7 +141,7 @@ module _ {T : Type 0} {size : ℕ} (defers : T → Option ℕ) (n : ℕ) (last :
           → Next defers n size w good.state i (with_use (after_step w i w.memory Rests (if t then Entered c.slot ∷ [] else [])) c.slot (if t then Inside 0 else Outside 0))
       again_at true true e word s =
           next_after defers n w good i w.memory Rests (Entered c.slot ∷ []) (with_at w.uses c.slot (Inside 0)) (leaves_again_went defers n w good i c mine (calm_at leaving.Over at (λ t. refl)) on s)
-          (LeaveEnds c is (settled_at at) tt (unmoved_kept n good.state (Moves.reopened good.state c.slot) refl refl refl refl refl refl refl))
+          (LeaveEnds c is (settled_at at) tt (unmoved_kept n good.state (Moves.reopened good.state c.slot) refl refl refl refl refl refl refl (λ c e. refl) refl))
       again_at true false e word s = absurd (eqb-false c.becomes ACTIVE e word)
       again_at false true e word s = absurd (let a = eqb-true c.becomes ACTIVE e in cc (sym a ∙ word))
       again_at false false e word s =

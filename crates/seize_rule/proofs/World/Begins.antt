@@ -29,7 +29,7 @@ use Rattle.seize_rule.proofs.Rows.Teams.{Used, shares, is_shared, UseFits, used_
 use Rattle.seize_rule.proofs.Words.There.{live_pos}
 use Rattle.seize_rule.proofs.Rows.Slots.{stays_same}
 use Rattle.seize_rule.proofs.Rows.Short.{AllShort, StillShort, tries_on, still_short, short_after}
-use Rattle.seize_moves.proofs.Sets.Unmoved.{Unmoved, unmoved_kept, unmoved_same}
+use Rattle.seize_moves.proofs.Sets.Unmoved.{is_in_wait, put_waits, Unmoved, unmoved_kept, unmoved_same}
 use Rattle.seize_rule.proofs.Rows.Told.{BeginTold}
 use Rattle.seize_rule.proofs.World.Good.{Good, RowWent, good_after, after_state}
 
@@ -321,7 +321,7 @@ module _ {T : Type 0} (defers : T → Option ℕ) (n size : ℕ) (last : n ≡ L
               (λ u l q h. still_short n i s size m1 m2 (w.row i) (w.row i) moved2.keeps refl (λ v. ap (λ (p : Row). tries_on p v) rests) u l (ap (λ (p : Row). tries_on p u) rests)
               (λ e. still_short n i s size m m1 (w.row i) (w.row i) moved1.keeps refl (λ v. ap (λ (p : Row). tries_on p v) rests) u l (ap (λ (p : Row). tries_on p u) rests) h));
         },
-        unmoved_kept n good.state m2 refl refl refl refl refl refl refl,
+        unmoved_kept n good.state m2 refl refl refl refl refl refl refl (put_waits m.life b (IsDeferring i s t) (ap is_in_wait life)) refl,
       )
     where
       here : (g : ℕ → ℕ) (u : ℕ) → put g i u i ≡ u

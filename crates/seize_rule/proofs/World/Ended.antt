@@ -1,6 +1,6 @@
 -- What has ended: its blocks are left over with their further values, linked anew, and taken away. The world stays good.
 use Rattle.std.specs.Prelude.{Option, Some, None, IsSome, is_some, if◌then◌else◌}
-use Rattle.std.proofs.Common.{◌≡◌, ℕ, Bool, true, false, cond, eqb, List, [], ◌∷◌, length, refl, arith, subst, sym, ap, ◌∙◌}
+use Rattle.std.proofs.Common.{◌≡◌, ℕ, Bool, true, false, cond, eqb, List, [], ◌∷◌, length, refl, arith, subst, sym, ap, ◌∙◌, eqb-true}
 use Rattle.std.proofs.lemmas.Bool.{eq-eqb}
 use Rattle.seize.specs.World.{World, Hand, Cutting, LeftTo, NoBlock, with_hand, with_effect, all_left_to, IsOnto, MayClear}
 use Rattle.seize.specs.Further.{ListFrom, FurtherFrom, FurtherAre}
@@ -11,8 +11,9 @@ use Rattle.seize_words.specs.Mem.{Mem, value_at, word_at, with_word, with_block}
 use Rattle.seize_words.specs.declared.at.At.TheVariants.{Entry, Word}
 use Rattle.seize_waiting.specs.Held.{count}
 use Rattle.seize_waiting.proofs.Counts.{none_counted}
-use Rattle.seize_moves.proofs.State.Ghost.{State, Life, IsUnlinked, IsDeferring, IsLeft}
+use Rattle.seize_moves.proofs.State.Ghost.{State, Life, IsUnlinked, IsDeferring, IsDeferred, IsPending, IsLeft, is_deferred}
 use Rattle.seize_moves.proofs.State.Moves.{left_with, left_over}
+use Rattle.seize_moves.proofs.State.Rule.{AllDeferred}
 use Rattle.seize_moves.proofs.Moves.Ended.{is_on, ends_with, left_over_moves}
 use Rattle.seize_rule.proofs.Words.Chains.{Chain}
 use Rattle.seize_rule.proofs.Words.View.{View, view, list_in, view_next}
@@ -26,7 +27,7 @@ use Rattle.seize_rule.proofs.Rows.Onto.{row_onto}
 use Rattle.seize_rule.proofs.Words.There.{entry_there, stocked_written}
 use Rattle.seize_rule.proofs.Words.Room.{room_written, same_length}
 use Rattle.seize_rule.proofs.Rows.Known.{ListsLast}
-use Rattle.seize_moves.proofs.Sets.Unmoved.{Unmoved}
+use Rattle.seize_moves.proofs.Sets.Unmoved.{is_in_wait, Unmoved}
 use Rattle.seize_rule.proofs.World.Good.{Good, StillGood}
 use Rattle.seize_rule.proofs.World.Users.{shown_good, used_still, fits_of, stays_same, dropped_good}
 use Rattle.seize_rule.proofs.World.Own.{memory_good}
@@ -57,8 +58,8 @@ left_fits i b hand l false false e h = subst (λ (k : Life). HandFits hand k) (s
     off l e = grind (arith, e)
 
 -- where nothing was deferred until its end, what the sets show is as it was
-pub left_over_unmoved : (n i b : ℕ) (m : State) → m.deferred b ≡ [] → Unmoved n m (left_over m i b)
-left_over_unmoved n i b m empty = record {
+pub left_over_unmoved : (n i b holder : ℕ) (m : State) → m.life b ≡ IsUnlinked holder → AllDeferred m.deferred m.life → m.deferred b ≡ [] → Unmoved n m (left_over m i b)
+left_over_unmoved n i b holder m cut all empty = record {
   alike = record {
     opened = λ s l. refl;
     stages = λ x. refl;
@@ -69,7 +70,26 @@ left_over_unmoved n i b m empty = record {
     put = λ t. grind (arith, empty);
   };
   taken = refl;
+  waits = λ c e. waits_on c e (eqb c b) (eqb-true c b);
+  left = refl;
 }
+  where
+    none_on : (c : ℕ) → is_deferred b (m.life c) ≡ 0
+    none_on c = sym (all b c) ∙ ap (count c) empty
+
+    kept : (l : Life) → is_in_wait l ≡ true → is_deferred b l ≡ 0 → left_with i b l ≡ l
+    kept (IsDeferring j u t) e none = refl
+    kept (IsPending j) e none = refl
+    kept (IsDeferred t) e none = by (eqb t b) (eqb-true t b)
+      where
+        by : (q : Bool) → (q ≡ true → t ≡ b) → cond q (IsLeft i) (IsDeferred t) ≡ IsDeferred t
+        by false is = refl
+        by true is = absurd (let here : is_deferred b (IsDeferred t) ≡ 1 = ap (λ (z : Bool). cond z 1 0) (eq-eqb b t (sym (is refl))) in omega (arith, here, none))
+    kept _ e none = absurd (cc e)
+
+    waits_on : (c : ℕ) → is_in_wait (m.life c) ≡ true → (t : Bool) → (t ≡ true → c ≡ b) → cond t (IsLeft i) (left_with i b (m.life c)) ≡ m.life c
+    waits_on c e false is = kept (m.life c) e (none_on c)
+    waits_on c e true is = absurd (let same : is_in_wait (m.life c) ≡ false = ap (λ (x : ℕ). is_in_wait (m.life x)) (is refl) ∙ ap is_in_wait cut in cc (same, e))
 
 module _ {T : Type 0} {size : ℕ} (defers : T → Option ℕ) (n : ℕ) (w : World T) (good : Good defers n size w) where
   -- the list in the memory is the one that the rows know

@@ -10,7 +10,7 @@ use Rattle.seize.specs.declared.rows.settle.Settling.TheVariants as at
 use Rattle.seize.specs.declared.rows.settle.Settled.{Settled}
 use Rattle.seize.specs.Settle.{settle_plan}
 use Rattle.seize.specs.Law.{Effect, IsSound}
-use Rattle.seize.specs.World.{World, Row, Rests, Registers, Enters, Settles, Leaves, Defers, Frees, Event, Begin, Step, Makes, Drops, Links, Parts, Unlinks, Rewrites, Operates, Chooses, Happens, Runs, Steps', MayStep, RowsAreSound, RowsMayStep, at_start, settles_on, LeavesOver, Relinks, Clears, Ends}
+use Rattle.seize.specs.World.{World, Hand, Row, Rests, Registers, Enters, Settles, Leaves, Defers, Frees, Event, Begin, Step, Makes, Drops, Links, Parts, Unlinks, Rewrites, Operates, Chooses, Happens, Runs, Steps', MayStep, RowsAreSound, RowsMayStep, at_start, settles_on, LeavesOver, Relinks, Clears, Ends}
 use Rattle.seize_rule.proofs.Words.View.{view}
 use Rattle.seize_rule.proofs.Points.Known.{FitsAt, bare}
 use Rattle.seize_rule.proofs.Rows.Known.{FitsRow}
@@ -21,6 +21,7 @@ use Rattle.seize_rule.proofs.Rows.SizesKept.{happens_sized}
 use Rattle.seize_rule.proofs.Rows.Short.{tries_on}
 use Rattle.seize_rule.proofs.Points.Short.{settle_still}
 use Rattle.seize_rule.proofs.Points.Settle.{is_over, settle_steps}
+use Rattle.seize_rule.proofs.Points.Aside.{HandFits}
 use Rattle.seize_rule.proofs.Rows.Settled.{settles_next, settles_over_next}
 use Rattle.seize_rule.proofs.World.Begins.{begins_next}
 use Rattle.seize_rule.proofs.Rows.Slots.{enters_next, enters_may, frees_next, frees_may}
@@ -83,7 +84,7 @@ module _ {T : Type 0} (defers : T → Option ℕ) (n size : ℕ) (last : n ≡ L
   users_good (Ends i o) u h = end_good defers n size w w2 good i o h
   users_good (LeavesOver i b []) u h =
       let g = leaves_over_good defers n size w w2 good i b [] h in
-      (g.0, subst (λ (m : State). Unmoved n good.state m) (sym g.1) (left_over_unmoved n i b good.state (sym g.2)))
+      (g.0, subst (λ (m : State). Unmoved n good.state m) (sym g.1) (left_over_unmoved n i b h.0.0 good.state (subst (λ (k : Hand). HandFits k (good.state.life b)) h.0.1 (good.hands b)) good.inv.places.all_deferred (sym g.2)))
   users_good (LeavesOver i b (c ∷ further)) u h = absurd u
   users_good (Relinks i b word) u h = relinks_good defers n size w w2 good i b word h
   users_good (Clears i b) u h = clears_good defers n size w w2 good i b h

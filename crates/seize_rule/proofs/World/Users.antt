@@ -24,7 +24,7 @@ use Rattle.seize_rule.proofs.Rows.Teams.{Used}
 use Rattle.seize_rule.proofs.Words.There.{free_word, stocked_made, stocked_taken}
 use Rattle.seize_rule.proofs.Words.Room.{HasRoom, room_made, room_taken_block}
 use Rattle.seize_rule.proofs.Rows.Short.{short_by, no_longer}
-use Rattle.seize_moves.proofs.Sets.Unmoved.{Unmoved, unmoved_kept, unmoved_same}
+use Rattle.seize_moves.proofs.Sets.Unmoved.{is_in_wait, put_waits, Unmoved, unmoved_kept, unmoved_same}
 use Rattle.seize_rule.proofs.World.Good.{Good, StillGood, Stays}
 
 -- a number without a block is free
@@ -132,7 +132,7 @@ module _ {T : Type 0} {size : ℕ} (defers : T → Option ℕ) (n : ℕ) (w : Wo
       (λ k. keeps_lives n k 0 good.state (put good.state.life b IsLinked) good.state.carrier (Linked b o ∷ good.state.log)
       (λ j c h. (put_row good.state b j c IsLinked (rw owned refl) h, refl)) refl)
       same_words (hands_put b (InUse o) IsLinked refl) (used_still (Linked b o ∷ good.state.log) (λ s. refl)) good.room stays_same (λ t. refl) refl
-      (unmoved_kept n good.state (linked good.state b o) refl refl refl refl refl refl refl)
+      (unmoved_kept n good.state (linked good.state b o) refl refl refl refl refl refl refl (put_waits good.state.life b IsLinked (ap is_in_wait owned)) refl)
 
   -- a caller takes a block out of what it was in: only its hand is another one
   pub parts_good : (i b o : ℕ) → w.hand b ≡ InUse o → StillGood defers n size good.state (with_hand w b (Parting i))
@@ -153,7 +153,7 @@ module _ {T : Type 0} {size : ℕ} (defers : T → Option ℕ) (n : ℕ) (w : Wo
       let moved = ended_moves n 0 0 good.state o good.inv in
       users_good w.memory (ended good.state o) good.extra w.hand (Ended o ∷ w.log) moved.inv (record { entries = good.shows.entries; linkage = good.shows.linkage; lists = good.shows.lists }) good.pending (ap (λ (l : List Effect). Ended o ∷ l) good.logged)
       (λ k. (ended_moves n k 0 good.state o good.inv).keeps) same_words good.hands (used_still (Ended o ∷ good.state.log) (λ s. refl)) good.room stays_same (λ t. refl) refl
-      (unmoved_kept n good.state (ended good.state o) refl refl refl refl refl refl refl)
+      (unmoved_kept n good.state (ended good.state o) refl refl refl refl refl refl refl (λ c e. refl) refl)
 
   -- a block is unlinked by a caller, who is to retire it
   pub unlinks_good : (i b : ℕ) → MayCut i (w.hand b) → StillGood defers n size good.state (with_effect (with_hand w b (Cutting i)) (Unlinked b))
@@ -165,7 +165,7 @@ module _ {T : Type 0} {size : ℕ} (defers : T → Option ℕ) (n : ℕ) (w : Wo
       (λ k. keeps_lives n k 0 good.state (put good.state.life b (IsUnlinked i)) good.state.carrier (Unlinked b ∷ good.state.log)
       (λ j c h. (put_row good.state b j c (IsUnlinked i) (rw used refl) h, refl)) refl)
       same_words (hands_put b (Cutting i) (IsUnlinked i) refl) (used_still (Unlinked b ∷ good.state.log) (λ s. refl)) good.room stays_same (λ t. refl) refl
-      (unmoved_kept n good.state (unlinked good.state i b) refl refl refl refl refl refl refl)
+      (unmoved_kept n good.state (unlinked good.state i b) refl refl refl refl refl refl refl (put_waits good.state.life b (IsUnlinked i) (ap is_in_wait used)) refl)
 
   -- a caller makes a block
   pub made_good : (i b : ℕ) (value : T) (words : ℕ) → IsFreeNumber w.memory b → ((d : ℕ) → defers value ≡ Some d → d < words)
@@ -188,7 +188,7 @@ module _ {T : Type 0} {size : ℕ} (defers : T → Option ℕ) (n : ℕ) (w : Wo
         stocked = stocked_made defers w.memory value words b mem2 one enough good.stocked;
         lists = subst (λ (g : View). ListsLast (view defers w.memory) g) (sym seen) (λ c d has live. list_kept c d (eqb c b) (eqb-true c b) one.was_free has);
         more = omega arith;
-      }) (λ t. refl) refl (unmoved_kept n good.state (made good.state i b (is_some (defers value))) refl refl refl refl refl refl refl)
+      }) (λ t. refl) refl (unmoved_kept n good.state (made good.state i b (is_some (defers value))) refl refl refl refl refl refl refl (put_waits good.state.life b (IsOwned i) (ap is_in_wait free)) refl)
     where
       carrier_kept : (j c : ℕ) → of_row j (good.state.life b) ≡ false → of_row j (good.state.life c) ≡ true → put good.state.carrier b (is_some (defers value)) c ≡ good.state.carrier c
       carrier_kept j c none h = at (eqb c b) (eqb-true c b)
@@ -266,10 +266,13 @@ module _ {T : Type 0} {size : ℕ} (defers : T → Option ℕ) (n : ℕ) (w : Wo
         stocked = stocked_taken defers w.memory b mem2 one good.stocked;
         lists = subst (λ (g : View). ListsLast (view defers w.memory) g) (sym seen) (λ c d has live. list_kept c d (eqb c b) live has);
         more = same_more;
-      }) (λ t. refl) refl (unmoved_kept n good.state (dropped good.state b) refl refl refl refl refl refl refl)
+      }) (λ t. refl) refl (unmoved_kept n good.state (dropped good.state b) refl refl refl refl refl refl refl (put_waits good.state.life b IsFree (not_waits (good.state.life b) owned)) refl)
     where
       not_rows : (j : ℕ) (l : Life) → of_dropper i l ≡ true → of_row j l ≡ false
       not_rows j l e = grind arith
+
+      not_waits : (l : Life) → of_dropper i l ≡ true → is_in_wait l ≡ false
+      not_waits l e = grind arith
 
       same_more : length w.memory.slots ≤ length w.memory.slots
       same_more = omega arith

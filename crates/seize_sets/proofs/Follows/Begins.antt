@@ -14,11 +14,11 @@ use Rattle.seize_moves.proofs.State.Ghost.{Debt, Unscanned, Marked, Skipped, Owi
 use Rattle.seize_moves.proofs.State.Rule.{Inv, not_longer}
 use Rattle.seize_rule.proofs.Words.Shows.{Extra}
 use Rattle.seize_rule.proofs.Points.Known.{Empty}
-use Rattle.seize_moves.proofs.Sets.Shown.{waits, is_owing, batch_shown, batches_in, Models}
+use Rattle.seize_moves.proofs.Sets.Shown.{waits, is_owing, batch_shown, batches_in, Models, models_alike}
 use Rattle.seize_moves.proofs.Sets.ListTaken.{left_models, refreshed_models}
 use Rattle.seize_moves.proofs.Sets.Working.{AllWait, retiring_comes}
 use Rattle.seize_moves.proofs.Sets.Countdown.{all_done}
-use Rattle.seize_moves.proofs.Sets.Unmoved.{unmoved_kept, unmoved_models}
+use Rattle.seize_moves.proofs.Sets.Unmoved.{alike_kept}
 use Rattle.seize_rule.proofs.Points.Told.{Part, NoneLeft}
 use Rattle.seize_sets.proofs.Follows.Work.{Lined, Base, Plainly, Flushes, Alone, Setting}
 use Rattle.seize_sets.proofs.Follows.Kept.{behind_in, retires_plainly, plainly_retires}
@@ -71,7 +71,7 @@ retire_begins batch_size n i s b m order w r h =
       order = order;
       sets = w;
       bound = suc (size w);
-      base = none_aside batch_size n i s (Moves.begins_retire m i b) (taken_in m.log) (retired batch_size s b w) order w r.loose refl (unmoved_models n m (Moves.begins_retire m i b) order w (unmoved_kept n m (Moves.begins_retire m i b) refl refl refl refl refl refl refl) h);
+      base = none_aside batch_size n i s (Moves.begins_retire m i b) (taken_in m.log) (retired batch_size s b w) order w r.loose refl (models_alike n m (Moves.begins_retire m i b) order w h (alike_kept n m (Moves.begins_retire m i b) refl refl refl refl refl refl));
       enough = retired_bound w s b h.unused;
     })
 

@@ -1,0 +1,11 @@
+pub mod Logs
+pub mod Lives
+pub mod Rows
+pub mod Worlds
+pub mod Each
+pub mod Users
+pub mod Makings
+pub mod Calls
+pub mod OnSlots
+pub mod Waiting
+pub mod Ends

@@ -1,0 +1,165 @@
+-- A step of the making of a map leaves what waits behind tables there.
+use Rattle.std.specs.Prelude.{◌≡◌, ℕ, Bool, true, false, List, [], ◌∷◌, Option, Some, None, IsSome, if◌then◌else◌}
+use Rattle.std.proofs.Common.{refl, ap, sym, subst, ◌∙◌}
+use Rattle.seize_words.specs.Mem.{value_at, word_at}
+use Rattle.seize_words.specs.Word.{block_in}
+use Rattle.seize_words.specs.declared.at.At.TheVariants.{Root, Used, Slot, Entry, Word}
+use Rattle.seize.specs.declared.progress.Progress.{Progress}
+use Rattle.seize.specs.declared.progress.Progress.TheVariants as progress
+use Rattle.seize.specs.World.{World}
+use Rattle.papaya_tables.specs.declared.node.Node.{Node}
+use Rattle.papaya_tables.specs.declared.setting.Setting.{Setting}
+use Rattle.papaya_resize.specs.declared.new_map.NewMap.{NewMap}
+use Rattle.papaya_schedules.specs.declared.effect.Effect.{Effect}
+use Rattle.papaya_schedules.specs.declared.effect.Effect.TheVariants.{Asked}
+use Rattle.papaya_schedules.specs.declared.effect.Growth.TheVariants.{ABlock}
+use Rattle.papaya_schedules.specs.declared.effect.Table.{Table}
+use Rattle.papaya_schedules.specs.Effects.{with_effects}
+use Rattle.papaya_schedules.specs.Moment.{Place, Moment}
+use Rattle.papaya_teller.specs.declared.changed.Changed.{Changed}
+use Rattle.papaya_teller.specs.declared.changed.Changed.TheVariants as changed
+use Rattle.papaya_teller.specs.declared.changed.Kind.{Kind}
+use Rattle.papaya_teller.specs.declared.changed.Kind.TheVariants as kind
+use Rattle.papaya_finishes.specs.Makings.{Beginning}
+use Rattle.papaya_effects.specs.Effects.{made_by, taken_by, led_to, in_block, named, names_same, effects_of, known_after}
+use Rattle.papaya_effects.specs.Known.{Known}
+use Rattle.papaya_effects.specs.declared.acting.Acting.{Acting}
+use Rattle.papaya_effects.specs.declared.acting.Acting.TheVariants.{Making}
+use Rattle.papaya_effects.specs.declared.role.Role.{Role}
+use Rattle.papaya_effects.specs.declared.role.Role.TheVariants as role
+use Rattle.papaya_executor.specs.IsAt.{Scene, IsAt}
+use Rattle.papaya_executor.specs.Making.{MakingComesTo, MakingLeads}
+use Rattle.papaya_executor.specs.declared.executor.Executor.{Executor}
+use Rattle.papaya_follows.specs.Blocks.{HasRole}
+use Rattle.papaya_follows.proofs.Onward.{IsOfMap}
+use Rattle.papaya_follows.proofs.Operations.{LeavesBy}
+use Rattle.papaya_follows.proofs.Writes.{nothing_free}
+use Rattle.papaya_others.specs.Makings.{making_after, WasNew}
+use Rattle.papaya_others.proofs.MakingPlans.{TellsMaking}
+use Rattle.papaya_others.proofs.Makes.{tells, left, linked_stays, no_table_word}
+use Rattle.papaya_moments.specs.Whole.{ShowsWhole}
+use Rattle.papaya_moments.proofs.MakingSteps.{makings_go_beside}
+use Rattle.papaya_lives.specs.Behind.{ShowsWaiting}
+use Rattle.papaya_lives.specs.Steps.{MakingsKeepWaiting}
+use Rattle.papaya_lives.proofs.Users.{users_keep_waiting}
+
+module _ {K V : Type 0} (map : ℕ) (of : Option ℕ) (m : Moment K V) (known : Known) where
+  abbrev its : Acting
+  its = Making map
+
+  -- effects that neither put a pair behind a table nor move one
+  abbrev AreApart : List Effect → Type 0
+  AreApart effects = ((with_effects None of effects m).deferred ≡ m.deferred) × ((with_effects None of effects m).place ≡ m.place)
+
+  made_apart : (k : Kind) → AreApart (Asked ABlock ∷ made_by its k)
+  made_apart kind.Pair = (refl, refl)
+  made_apart (kind.Table len limit turn) = (refl, refl)
+  made_apart kind.Shards = (refl, refl)
+
+  taken_apart : (r : Role) → (IsOfMap r → ⊥) → AreApart (taken_by its r)
+  taken_apart role.Free none = (refl, refl)
+  taken_apart (role.OwnPair i) none = (refl, refl)
+  taken_apart (role.OwnTable turn shape) none = (refl, refl)
+  taken_apart (role.Pair n) none = absurd (none tt)
+  taken_apart (role.Table t len) none = absurd (none tt)
+  taken_apart (role.Counter c) none = (refl, refl)
+
+  led_apart : (q : Bool) (is : Role) → AreApart (if q then [] else led_to its role.Free is)
+  led_apart true is = (refl, refl)
+  led_apart false role.Free = (refl, refl)
+  led_apart false (role.OwnPair i) = (refl, refl)
+  led_apart false (role.OwnTable turn shape) = (refl, refl)
+  led_apart false (role.Pair n) = (refl, refl)
+  led_apart false (role.Table t len) = (refl, refl)
+  led_apart false (role.Counter c) = (refl, refl)
+
+  word_apart : (field : ℕ) (r : Role) (q : Bool) (was is : Role) → ((t : Table) (len : ℕ) → r ≡ role.Table t len → q ≡ true) → AreApart (in_block its r field known.stored q was is)
+  word_apart field role.Free q was is names = (refl, refl)
+  word_apart field (role.OwnPair i) q was is names = (refl, refl)
+  word_apart field (role.OwnTable turn shape) q was is names = (refl, refl)
+  word_apart field (role.Pair n) q was is names = (refl, refl)
+  word_apart field (role.Counter c) q was is names = (refl, refl)
+  word_apart field (role.Table t len) true was is names = (refl, refl)
+  word_apart field (role.Table t len) false was is names = absurd (let e = names t len refl in cc e)
+
+  module _ (w w2 : World (Node K V)) (i root : ℕ) (free : known.roles 0 ≡ role.Free)
+      (no_table : (x : ℕ) (q : Bool) → TellsMaking w i root (changed.Wrote (Word x 0) 0 0) → (t : Table) (len : ℕ) → known.roles x ≡ role.Table t len → q ≡ true)
+      (stays : (x : ℕ) → IsOfMap (known.roles x) → IsSome (value_at w2.memory x)) where
+    making_apart : (told : Changed) → TellsMaking w i root told → LeavesBy w.memory w2.memory told → AreApart (effects_of its known told)
+    making_apart changed.Nothing so l = (refl, refl)
+    making_apart (changed.Wrote (Root r) before after) so l =
+        subst (λ (x : Role). AreApart (if names_same before after then [] else led_to its x (named known after))) (sym was_free) (led_apart (names_same before after) (named known after))
+      where
+        nothing_before : before ≡ 0
+        nothing_before = let there : word_at w.memory (Root r) ≡ Some 0 = ap (λ (x : ℕ). word_at w.memory (Root x)) so.0 ∙ so.1 in let words = l.0 in cc (there, words)
+
+        was_free : named known before ≡ role.Free
+        was_free = ap (λ (x : ℕ). known.roles (block_in x)) nothing_before ∙ free
+    making_apart (changed.Wrote (Used r) before after) so l = (refl, refl)
+    making_apart (changed.Wrote (Slot t field) before after) so l = absurd so
+    making_apart (changed.Wrote (Entry x field) before after) so l = absurd so
+    making_apart (changed.Wrote (Word x field) before after) so l =
+        word_apart field (known.roles x) (names_same before after) (named known before) (named known after) (no_table x (names_same before after) so)
+    making_apart (changed.Made k x) so l = made_apart k
+    making_apart (changed.Unmade k) so l = (refl, refl)
+    making_apart (changed.Took x) so l = taken_apart (known.roles x) (λ its_map. gone (value_at w2.memory x) (stays x its_map) l.1)
+      where
+        gone : (o : Option (Node K V)) → IsSome o → o ≡ None → ⊥
+        gone o some is = (let it : IsSome {T = Node K V} None = subst (λ (q : Option (Node K V)). IsSome q) is some in cc it)
+    making_apart (changed.Roomed bucket had) so l = absurd so
+
+-- the world that a step of a making leads to
+module _ {K V S : Type 0} (same : K → K → Bool) (hash : K → ℕ) (s : Scene K V) (old new : Executor K V S) (i : ℕ) (b : Beginning K) (opening : NewMap) (w2 : World (Node K V)) where
+  world_then : (told : Progress Setting) (comes : MakingComesTo same hash s old new i b opening w2 told) → (making_after same hash s old new i b opening w2 told comes).world ≡ w2
+  world_then progress.Goes comes = refl
+  world_then progress.Waits comes = absurd comes
+  world_then (progress.Done setting) comes = refl
+  world_then (progress.Refused fault) comes = refl
+
+module _ {K V S : Type 0} (same : K → K → Bool) (hash : K → ℕ) (name : ℕ → List ℕ) (m : Moment K V) (known : Known) (s : Scene K V) (old new : Executor K V S) (at : IsAt same hash old s)
+    (whole : ShowsWhole same name m known s) (i : ℕ) (told : Progress Setting) (leads : MakingLeads same hash i told s old new) (b : Beginning K) (here : s.makers i ≡ Some b) (of : Option ℕ)
+    (was_new : WasNew b.map told m) where
+  abbrev w2 : World (Node K V)
+  w2 = (leads b here).2.step.w2
+
+  abbrev known2 : Known
+  known2 = known_after (Making b.map) new.memory.changed known
+
+  -- the block of a pair, or of a table, is there
+  of_map_there : (x : ℕ) (r : Role) → known.roles x ≡ r → IsOfMap r → IsSome (value_at w2.memory x)
+  of_map_there x r e its = by r its (subst (λ (z : Role). HasRole s.world m.stored x z) e (whole.all.shown.blocks.roles x))
+    where
+      some_of : (o : Option (Node K V)) (value : Node K V) → o ≡ Some value → IsSome o
+      some_of o value is = subst (λ (q : Option (Node K V)). IsSome q) (sym is) refl
+
+      by : (r : Role) → IsOfMap r → HasRole s.world m.stored x r → IsSome (value_at w2.memory x)
+      by role.Free its has = absurd its
+      by (role.OwnPair j) its has = absurd its
+      by (role.OwnTable turn shape) its has = absurd its
+      by (role.Counter c) its has = absurd its
+      by (role.Pair n) its has =
+          let to = leads b here in
+          some_of (value_at w2.memory x) _ ((linked_stays same hash name m known s old new at whole.all.shown i b here to.0 told to.1 to.2 of x _ has.3 has.4).0 ∙ has.3)
+      by (role.Table t len) its has =
+          let to = leads b here in
+          some_of (value_at w2.memory x) _ ((linked_stays same hash name m known s old new at whole.all.shown i b here to.0 told to.1 to.2 of x _ has.1 has.2).0 ∙ has.1)
+
+  role_kept : (x : ℕ) (r : Role) → known.roles x ≡ r → IsOfMap r → known2.roles x ≡ r
+  role_kept x r e its =
+      let to = leads b here in
+      let there = subst (λ (z : World (Node K V)). IsSome (value_at z.memory x)) (sym (world_then same hash s old new i b to.0 to.2.step.w2 told to.3)) (of_map_there x r e its) in
+      (makings_go_beside K V S same hash name m known s old new at whole i told leads b here of was_new).roles x there (subst IsOfMap (sym e) its) ∙ e
+
+  making_waiting : ShowsWaiting m known s.world → ShowsWaiting (with_effects None of (effects_of (Making b.map) known new.memory.changed) m) known2 w2
+  making_waiting waiting =
+      let to = leads b here in
+      let apart = making_apart b.map of m known s.world to.2.step.w2 i b.machine.setting.root (nothing_free s.world m.stored known whole.all.shown.blocks.roles)
+      (λ x q made. no_table_word same hash name m known s old new at whole.all.shown i b here to.0 told to.1 to.2 of x q made)
+      (λ x its. of_map_there x (known.roles x) refl its)
+      new.memory.changed (tells same hash name m known s old new at whole.all.shown i b here to.0 told to.1 to.2 of) (left same hash name m known s old new at whole.all.shown i b here to.0 told to.1 to.2 of) in
+      users_keep_waiting K V old.batch_size m (with_effects None of (effects_of (Making b.map) known new.memory.changed) m) known known2 s.world w2 at.together.makings.standing.came waiting
+      to.2.step.events to.2.step.users to.2.step.runs apart.0 (λ n t l is. ap (λ (f : ℕ → Place). f n) apart.1 ∙ is) (λ x n e. role_kept x (role.Pair n) e tt) (λ x len t e. role_kept x (role.Table t len) e tt)
+
+pub makings_keep_waiting : (K V S : Type 0) (same : K → K → Bool) (hash : K → ℕ) → MakingsKeepWaiting K V S same hash
+makings_keep_waiting K V S same hash name m known s old new at whole waiting i told leads b here of was_new =
+    making_waiting same hash name m known s old new at whole i told leads b here of was_new waiting

@@ -1,0 +1,129 @@
+-- How steps lead on from what waits behind tables: it waits there still, and none of it is reclaimed before the table is.
+use Rattle.std.specs.Prelude.{◌≡◌, ℕ, Bool, List, [], ◌∷◌, Option, Some, None}
+use Rattle.seize.specs.declared.progress.Progress.{Progress}
+use Rattle.seize.specs.declared.rows.settle.Settled.{Settled}
+use Rattle.seize.specs.World.{World, Event, Begin, Step, Runs}
+use Rattle.papaya_tables.specs.Nodes.{deferred_word}
+use Rattle.papaya_tables.specs.declared.node.Node.{Node}
+use Rattle.papaya_tables.specs.declared.setting.Setting.{Setting}
+use Rattle.papaya_raw.specs.declared.machines.progress.Progress.{Progress as CallTold}
+use Rattle.papaya_schedules.specs.declared.effect.Effect.{Effect}
+use Rattle.papaya_schedules.specs.declared.effect.Effect.TheVariants.{Deferred, Retired, Reclaimed, Ended, Taken}
+use Rattle.papaya_schedules.specs.Effects.{with_effects, AtEachEffect}
+use Rattle.papaya_schedules.specs.declared.effect.Table.{Table}
+use Rattle.papaya_schedules.specs.Moment.{Behind, Moment, start}
+use Rattle.papaya_rule.specs.InWorld.{AllUsers}
+use Rattle.papaya_callers.specs.Together.{CameAbout, UnderWay}
+use Rattle.papaya_effects.specs.Effects.{effects_of, known_after}
+use Rattle.papaya_effects.specs.Known.{Known, nothing_known}
+use Rattle.papaya_effects.specs.declared.acting.Acting.TheVariants.{Call, Ending, Making, Row}
+use Rattle.papaya_effects.specs.declared.role.Role.TheVariants as role
+use Rattle.papaya_executor.specs.Ending.{EndingLeads, ending_begun}
+use Rattle.papaya_executor.specs.IsAt.{Scene, IsAt, at_first, slot_of, work_of}
+use Rattle.papaya_executor.specs.Making.{MakingLeads}
+use Rattle.papaya_executor.specs.OnSlots.{MayBegin, RowBegins, RowLeads}
+use Rattle.papaya_executor.specs.Rows.{request_of}
+use Rattle.papaya_executor.specs.Stepping.{StepLeads}
+use Rattle.papaya_executor.specs.declared.executor.Executor.{Executor}
+use Rattle.papaya_executor.specs.declared.row.RowTold.{RowTold}
+use Rattle.papaya_executor.specs.declared.row.SlotCall.{SlotCall}
+use Rattle.papaya_executor.specs.declared.row.SlotRow.{SlotRow}
+use Rattle.papaya_executor.specs.declared.worker.Work.TheVariants.{OnSlot}
+use Rattle.papaya_finishes.specs.Endings.{Finishing}
+use Rattle.papaya_finishes.specs.Makings.{Beginning}
+use Rattle.papaya_finishes.specs.Maps.{Standing}
+use Rattle.papaya_follows.specs.Steps.{IsOfNoRow}
+use Rattle.papaya_others.specs.Makings.{WasNew}
+use Rattle.papaya_others.specs.Rows.{scene_then}
+use Rattle.papaya_spots.specs.OnSlots.{WaitUnreclaimed}
+use Rattle.papaya_moments.specs.Endings.{WaitsOn}
+use Rattle.papaya_moments.specs.Whole.{ShowsWhole}
+use Rattle.papaya_lives.specs.Behind.{LiesBehind, ShowsWaiting}
+
+-- The promises: nothing waits before all events,
+abbrev pub WaitingBegins : Type 0 → Type 0 → Type 0
+WaitingBegins K V = (roots : ℕ) → ShowsWaiting {K = K} {V = V} start nothing_known (at_first {K = K} {V = V} roots).world
+
+-- it is as it was where the same pairs wait, and pairs are where they were, as where a call begins, is told something or comes to an outcome, and where a map comes or
+-- is there no more,
+abbrev pub OthersLeaveWaiting : Type 0 → Type 0 → Type 0
+OthersLeaveWaiting K V =
+    (m v : Moment K V) (known : Known) (w : World (Node K V)) → ShowsWaiting m known w → v.deferred ≡ m.deferred → v.place ≡ m.place → ShowsWaiting v known w
+
+-- and where the end of a map begins.
+abbrev pub EndingsBeginWaiting : Type 0 → Type 0 → Type 0
+EndingsBeginWaiting K V =
+    (m : Moment K V) (known : Known) (s : Scene K V) → ShowsWaiting m known s.world → (map i : ℕ) (standing : Standing K) → ShowsWaiting m known (ending_begun map i standing s).world
+
+-- Whatever happens next, nothing is reclaimed that waits behind a table which is reclaimed, or ends with its map.
+abbrev pub EffectsFindWaiting : Type 0 → Type 0 → Type 0
+EffectsFindWaiting K V = (m : Moment K V) (known : Known) (s : Scene K V) → ShowsWaiting m known s.world → (f : Effect) → WaitUnreclaimed m f × WaitsOn m f
+
+-- And so it is after whatever users do, none of it a row's, where the same pairs wait, what is told to be behind a table is told so still, and blocks of pairs and tables
+-- are what they were.
+abbrev pub UsersKeepWaiting : Type 0 → Type 0 → Type 0
+UsersKeepWaiting K V =
+    (size : ℕ) (m v : Moment K V) (known known2 : Known) (w w2 : World (Node K V)) → CameAbout size w → ShowsWaiting m known w
+    → (events : List (Event (Node K V))) → AllUsers events → Runs deferred_word size events w w2 → v.deferred ≡ m.deferred
+    → ((n : ℕ) (t : Table) → LiesBehind known w n t → m.place n ≡ Behind → v.place n ≡ Behind)
+    → ((b n : ℕ) → known.roles b ≡ role.Pair n → known2.roles b ≡ role.Pair n) → ((b len : ℕ) (t : Table) → known.roles b ≡ role.Table t len → known2.roles b ≡ role.Table t len)
+    → ShowsWaiting v known2 w2
+
+-- it neither puts a pair behind a table, nor retires, reclaims or ends anything
+abbrev pub HandsNothing : Effect → Type 0
+HandsNothing (Deferred n t) = ⊥
+HandsNothing (Retired x) = ⊥
+HandsNothing (Reclaimed x) = ⊥
+HandsNothing (Ended n) = ⊥
+HandsNothing (Taken t) = ⊥
+HandsNothing _ = Unit {0}
+
+abbrev pub AllHandNothing : List Effect → Type 0
+AllHandNothing [] = Unit {0}
+AllHandNothing (f ∷ effects) = HandsNothing f × AllHandNothing effects
+
+module _ (K V S : Type 0) (same : K → K → Bool) (hash : K → ℕ) where
+  -- So it is where a row begins on a slot,
+  abbrev pub RowsBeginWaiting : Type 0
+  RowsBeginWaiting =
+      (m : Moment K V) (known : Known) (s : Scene K V) (old new : Executor K V S) → ShowsWaiting m known s.world
+      → (called : SlotCall) (i : ℕ) (may : MayBegin old (slot_of i) called) (leads : RowBegins same hash called i s old new)
+      → ShowsWaiting m known (scene_then same hash (Begin i (request_of (slot_of i) called)) s old new (leads may).3).world
+
+  -- and after a step of it.
+  abbrev pub RowsKeepWaiting : Type 0
+  RowsKeepWaiting =
+      (name : ℕ → List ℕ) (m : Moment K V) (known : Known) (s : Scene K V) (old new : Executor K V S) → IsAt same hash old s → ShowsWhole same name m known s → ShowsWaiting m known s.world
+      → (i : ℕ) (told : RowTold (Node K V)) (leads : RowLeads same hash i told s old new) (row : SlotRow) (here : work_of old i ≡ Some (OnSlot row))
+      → ShowsWaiting (with_effects None None (effects_of Row known new.memory.changed) m) (known_after Row new.memory.changed known) (scene_then same hash (Step i) s old new (leads row here).4).world
+
+  -- What waits behind a table that it reclaims is not reclaimed.
+  abbrev pub RowsFindWaiting : Type 0
+  RowsFindWaiting =
+      (m : Moment K V) (known : Known) (s : Scene K V) (old new : Executor K V S) → ShowsWaiting m known s.world
+      → (i : ℕ) (told : RowTold (Node K V)) → RowLeads same hash i told s old new → (row : SlotRow) → work_of old i ≡ Some (OnSlot row)
+      → AtEachEffect WaitUnreclaimed None None (effects_of Row known new.memory.changed) m
+
+  -- And it is so after each step of the making of a map, on whichever map its effects are told, if on any.
+  abbrev pub MakingsKeepWaiting : Type 0
+  MakingsKeepWaiting =
+      (name : ℕ → List ℕ) (m : Moment K V) (known : Known) (s : Scene K V) (old new : Executor K V S) → IsAt same hash old s → ShowsWhole same name m known s → ShowsWaiting m known s.world
+      → (i : ℕ) (told : Progress Setting) (leads : MakingLeads same hash i told s old new) (b : Beginning K) (here : s.makers i ≡ Some b) (of : Option ℕ) → WasNew b.map told m
+      → ShowsWaiting (with_effects None of (effects_of (Making b.map) known new.memory.changed) m) (known_after (Making b.map) new.memory.changed known) (leads b here).2.step.w2
+
+  -- And after a step of a call that is none of a row, and hands nothing over.
+  abbrev pub CallsKeepWaiting : Type 0
+  CallsKeepWaiting =
+      (name : ℕ → List ℕ) (m : Moment K V) (known : Known) (s : Scene K V) (old new : Executor K V S) → IsAt same hash old s → ShowsWhole same name m known s → ShowsWaiting m known s.world
+      → (map i : ℕ) (u : UnderWay K V K) (here : s.calls map i ≡ Some u) (told : CallTold (Node K V)) (leads : StepLeads same hash i told s old new)
+      → (let to = leads map u here in
+      IsOfNoRow same old.batch_size old.roots s.world s.maps s.calls s.makers s.enders map to.0 i new.memory.memory to.4.w2 to.4.maps2 to.4.next u to.1 told to.4.did
+      → AllHandNothing (effects_of (Call i map) known new.memory.changed)
+      → ShowsWaiting (with_effects (Some (name i)) (Some map) (effects_of (Call i map) known new.memory.changed) m) (known_after (Call i map) new.memory.changed known) to.4.w2)
+
+  -- And what waits behind a table is not reclaimed as that ends with its map.
+  abbrev pub EndingsFindWaiting : Type 0
+  EndingsFindWaiting =
+      (name : ℕ → List ℕ) (m : Moment K V) (known : Known) (s : Scene K V) (old new : Executor K V S) → IsAt same hash old s → ShowsWhole same name m known s → ShowsWaiting m known s.world
+      → (i : ℕ) (told : Settled (Node K V)) → EndingLeads same hash i told s old new → (f : Finishing K V) → s.enders i ≡ Some f → (map : ℕ) → s.maps map ≡ None
+      → AtEachEffect WaitsOn None (Some map) (effects_of (Ending map) known new.memory.changed) m

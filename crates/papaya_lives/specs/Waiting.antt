@@ -1,0 +1,24 @@
+-- Which block another one waits behind, by the log of effects; and that it is not retired while it does.
+use Rattle.std.specs.Prelude.{◌≡◌, ℕ, ◌==◌, false, List, [], ◌∷◌, Option, Some, None, if◌then◌else◌}
+use Rattle.seize.specs.Law.{Effect, Deferred, Taken, LeftOver, is_retired}
+use Rattle.seize.specs.World.{World, Handed, Event, Runs, at_start}
+
+-- the block, unless it is this one
+abbrev pub unless_it : ℕ → Option ℕ → Option ℕ
+unless_it c None = None
+unless_it c (Some t) = if t == c then None else Some t
+
+-- the block behind which this one was put last, as long as that is neither reclaimed nor left over
+abbrev pub waits_behind : ℕ → List Effect → Option ℕ
+waits_behind b [] = None
+waits_behind b (Deferred c t ∷ log) = if b == c then Some t else waits_behind b log
+waits_behind b (Taken c ∷ log) = unless_it c (waits_behind b log)
+waits_behind b (LeftOver c further ∷ log) = unless_it c (waits_behind b log)
+waits_behind b (_ ∷ log) = waits_behind b log
+
+module _ {T : Type 0} (defers : T → Option ℕ) where
+  -- The promise: whatever has happened, in whatever order, a block that waits behind another one is not retired, and the collector has it.
+  abbrev pub WaitUnretired : Type 0
+  WaitUnretired =
+      (batch_size roots : ℕ) (events : List (Event T)) (w : World T) → Runs defers batch_size events (at_start defers roots) w
+      → (b t : ℕ) → waits_behind b w.log ≡ Some t → (is_retired b w.log ≡ false) × (w.hand b ≡ Handed)
