@@ -140,7 +140,7 @@ effects_of acting known (changed.Wrote at old new) = written_by acting known at 
 effects_of acting known (changed.Made kind b) = effect.Asked ABlock ∷ made_by acting kind
 effects_of acting known (changed.Unmade kind) = effect.Asked ABlock ∷ []
 effects_of acting known (changed.Took b) = taken_by acting (known.roles b)
-effects_of acting known (changed.Roomed bucket had) = if nat_lt bucket known.buckets then [] else effect.Asked ABucket ∷ []
+effects_of acting known (changed.Roomed bucket had) = if had && nat_lt bucket known.buckets then [] else effect.Asked ABucket ∷ []
 
 -- What is known after it
 

@@ -1,5 +1,5 @@
 //! What an operation does to pairs and tables, and what is known after it.
-ghost use Rattle.std.specs.Prelude.{◌≡◌, ◌==◌, ◌<◌, ◌+◌, ◌^◌, nat_lt, Bool, [], ◌∷◌, if◌then◌else◌, OnOk, OnErr};
+ghost use Rattle.std.specs.Prelude.{◌≡◌, ◌==◌, ◌<◌, ◌+◌, ◌^◌, ◌&&◌, nat_lt, Bool, [], ◌∷◌, if◌then◌else◌, OnOk, OnErr};
 ghost use Rattle.seize.specs.declared.states.TheConstants.{FIRST};
 ghost use Rattle.papaya_schedules.specs.declared.effect.Effect.TheVariants.{Asked, Retired};
 ghost use Rattle.papaya_schedules.specs.declared.effect.Growth.TheVariants.{ABlock, ABucket};
@@ -276,11 +276,11 @@ impl Notes {
         }
     }
 
-    /// What a bucket that is asked for says.
-    fn roomed(&self, bucket: u64) -> Did
-        ensures { listed result ≡ if nat_lt bucket (known self.now).buckets then [] else Asked ABucket ∷ [] }
+    /// What a bucket that is asked for says, which was there, or for which there was no memory.
+    fn roomed(&self, bucket: u64, had: bool) -> Did
+        ensures { listed result ≡ if had && nat_lt bucket (known self.now).buckets then [] else Asked ABucket ∷ [] }
     {
-        if bucket < self.buckets() {
+        if had && bucket < self.buckets() {
             Did::Nothing
         } else {
             Did::One(Effect::Asked(Growth::ABucket))
@@ -298,7 +298,7 @@ impl Notes {
             Changed::Made { kind, .. } => acting.made(kind),
             Changed::Unmade { .. } => Did::One(Effect::Asked(Growth::ABlock)),
             Changed::Took { block } => acting.taken(self.role_of(block)),
-            Changed::Roomed { bucket, .. } => self.roomed(bucket),
+            Changed::Roomed { bucket, had } => self.roomed(bucket, had),
         }
     }
 

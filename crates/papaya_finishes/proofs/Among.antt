@@ -11,6 +11,7 @@ pub mod Machines
 pub mod MachinesTold
 pub mod Makings
 pub mod Begins
+pub mod Choices
 pub mod Own
 pub mod Owners
 mod Samples

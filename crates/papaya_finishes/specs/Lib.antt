@@ -8,3 +8,4 @@ pub mod Machines
 pub mod Maps
 pub mod Makings
 pub mod Owners
+pub mod Choices

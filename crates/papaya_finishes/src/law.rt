@@ -6,6 +6,7 @@ ghost use Rattle.papaya_callers.specs.Together.{UnderWay};
 ghost use Rattle.papaya_finishes.specs.Makings.{Beginning, NoMakingsBegin, MakingsBegin, MakingsStand, CallsBeginBeside, CallsStandBeside, RepliesStandBeside, RowsStandBeside, GuardsStandBeside};
 ghost use Rattle.papaya_finishes.specs.Owners.{OwnEndingsBegin, OwnEndingsStand};
 ghost use Rattle.papaya_finishes.specs.Maps.{Standing, NoMapsBegin, MapsCome, CallsBeginInMaps, CallsStandInMaps, RepliesStandInMaps, RowsStandInMaps, GuardsStandInMaps};
+ghost use Rattle.papaya_finishes.specs.Choices.{ChoicesStandAmong};
 ghost use Rattle.papaya_finishes.specs.Countings.{CountingsBeginAmong, CountingsStandAmong};
 ghost use Rattle.papaya_finishes.specs.Endings.{Finishing, NoEndingsBegin, EndingsBegin, EndingsStand, CallsBeginAmong, CallsStandAmong, RepliesStandAmong, RowsStandAmong, GuardsStandAmong, MakingsBeginAmong, MakingsStandAmong};
 ghost use Rattle.papaya_finishes.specs.Machines.{MachinesStandAmong, MachinesToldAmong};
@@ -30,6 +31,11 @@ pub fn maps_end_meanwhile<K, V, Q>()
     ensures guards { (same : K → K → Bool) (asks : Q → K → Bool) (batch_size : ℕ) (roots : ℕ) (slot : ℕ → ℕ) → GuardsStandAmong V same asks batch_size roots slot }
     ensures makings_begin { (same : K → K → Bool) (asks : Q → K → Bool) (batch_size : ℕ) (roots : ℕ) (slot : ℕ → ℕ) → MakingsBeginAmong {Q = Q} V same asks batch_size roots slot }
     ensures makings_step { (same : K → K → Bool) (asks : Q → K → Bool) (batch_size : ℕ) (roots : ℕ) (slot : ℕ → ℕ) → MakingsStandAmong {Q = Q} V same asks batch_size roots slot }
+{}
+
+/// And the number of the next block may be chosen at any moment: all stand together then as they were.
+pub fn choices_stand_among<K, V, Q>()
+    ensures stands { (same : K → K → Bool) (asks : Q → K → Bool) (batch_size : ℕ) (roots : ℕ) (slot : ℕ → ℕ) → ChoicesStandAmong V same asks batch_size roots slot }
 {}
 
 /// A map that owns its collector ends, where it is the only one that stands, nothing else is under way, and nobody is inside of a slot. Whoever ends it may

@@ -1,5 +1,5 @@
 -- A step of a row within a call: the moment after its effects shows the scene after it, where it takes no block away and hands over what has left its map.
-use Rattle.std.specs.Prelude.{◌≡◌, ℕ, nat_lt, Bool, true, false, List, [], ◌∷◌, Option, Some, None, length, ◌⊎◌, if◌then◌else◌}
+use Rattle.std.specs.Prelude.{◌&&◌, ◌≡◌, ℕ, nat_lt, Bool, true, false, List, [], ◌∷◌, Option, Some, None, length, ◌⊎◌, if◌then◌else◌}
 use Rattle.std.proofs.Common.{refl, ap, sym, subst, ◌∙◌, inl, inr}
 use Rattle.seize_words.specs.Mem.{Mem, value_at}
 use Rattle.seize.specs.World.{World}
@@ -87,7 +87,7 @@ module _ {K V : Type 0} (caller map : ℕ) (m : Moment K V) (known : Known) (w w
   row_done (changed.Unmade k) left none = record { hands = IsStill (Asked ABlock ∷ []) (refl, tt); roles = refl; as_many = refl; has = all_have left }
   row_done (changed.Took b) left none = absurd none
   row_done (changed.Roomed bucket had) left none =
-      let same = roomed_as_many its known bucket had in record { hands = roomed_hands (nat_lt bucket known.buckets); roles = same.0; as_many = same.1; has = all_have left }
+      let same = roomed_as_many its known bucket had in record { hands = roomed_hands (had && nat_lt bucket known.buckets); roles = same.0; as_many = same.1; has = all_have left }
 
 module _ {K V S : Type 0} (same : K → K → Bool) (hash : K → ℕ) (m : Moment K V) (known : Known) (s : Scene K V) (old new : Executor K V S) (at : IsAt same hash old s)
     (name : ℕ → List ℕ) (shown : Shows same name m known s)

@@ -1,5 +1,5 @@
 -- What a step of a call does, and leaves of the roles of blocks, where it moves no pair and no table.
-use Rattle.std.specs.Prelude.{◌≡◌, ◌≢◌, ℕ, zero, suc, ◌+◌, ◌<◌, nat_le, nat_lt, Bool, true, false, List, [], ◌∷◌, Some, None, if◌then◌else◌}
+use Rattle.std.specs.Prelude.{◌&&◌, ◌≡◌, ◌≢◌, ℕ, zero, suc, ◌+◌, ◌<◌, nat_le, nat_lt, Bool, true, false, List, [], ◌∷◌, Some, None, if◌then◌else◌}
 use Rattle.std.proofs.Common.{refl, ap, sym, subst, ◌∙◌, arith, inl, inr}
 use Rattle.std.proofs.lemmas.Bool.{ne_eqb, cases_eq}
 use Rattle.seize_words.specs.declared.at.At.{At}
@@ -173,4 +173,4 @@ module _ {K V : Type 0} (same : K → K → Bool) (hash : K → ℕ) (setting : 
       none last = (lasts b (known.roles b) (had b) last).1 left.1
   quiet_told (changed.Roomed bucket had) left quiet =
       let same_roles = roomed_as_many its known bucket had in
-      as_before (effects_of its known (changed.Roomed bucket had)) (roomed_still (nat_lt bucket known.buckets)) (known_after its (changed.Roomed bucket had) known) same_roles.0 same_roles.1 left
+      as_before (effects_of its known (changed.Roomed bucket had)) (roomed_still (had && nat_lt bucket known.buckets)) (known_after its (changed.Roomed bucket had) known) same_roles.0 same_roles.1 left

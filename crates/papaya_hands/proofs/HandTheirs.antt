@@ -1,5 +1,5 @@
 -- A row within a call hands over what has left its map.
-use Rattle.std.specs.Prelude.{◌≡◌, ℕ, zero, suc, ◌<◌, ◌==◌, ◌/◌, nat_lt, Bool, true, false, List, [], ◌∷◌, Some, None, if◌then◌else◌, ◌⊎◌}
+use Rattle.std.specs.Prelude.{◌&&◌, ◌≡◌, ℕ, zero, suc, ◌<◌, ◌==◌, ◌/◌, nat_lt, Bool, true, false, List, [], ◌∷◌, Some, None, if◌then◌else◌, ◌⊎◌}
 use Rattle.std.proofs.Common.{refl, ap, sym, subst, ◌∙◌, arith, inl, inr}
 use Rattle.std.proofs.lemmas.Bool.{eq-eqb, cases_lt}
 use Rattle.seize_words.specs.declared.at.At.{At}
@@ -267,4 +267,4 @@ module _ {K V : Type 0} (name : List ℕ) (caller map : ℕ) (m : Moment K V) (k
     all_left (changed.Made k b) left = made_left k
     all_left (changed.Unmade k) left = (tt, tt)
     all_left (changed.Took b) left = taken_left (known.roles b)
-    all_left (changed.Roomed bucket had) left = left_if (nat_lt bucket known.buckets) [] (effect.Asked ABucket ∷ []) (λ e. tt) (λ e. (tt, tt))
+    all_left (changed.Roomed bucket had) left = left_if (had && nat_lt bucket known.buckets) [] (effect.Asked ABucket ∷ []) (λ e. tt) (λ e. (tt, tt))

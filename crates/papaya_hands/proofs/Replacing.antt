@@ -1,5 +1,5 @@
 -- The effects of an operation leave a call replacing nothing: what is replaced gives way to what is stored by the same operation.
-use Rattle.std.specs.Prelude.{◌≡◌, ℕ, ◌==◌, nat_lt, Bool, true, false, List, [], ◌∷◌, Option, Some, None, if◌then◌else◌}
+use Rattle.std.specs.Prelude.{◌&&◌, ◌≡◌, ℕ, ◌==◌, nat_lt, Bool, true, false, List, [], ◌∷◌, Option, Some, None, if◌then◌else◌}
 use Rattle.std.proofs.Common.{refl, ap, sym, ◌∙◌}
 use Rattle.seize_words.specs.declared.at.At.{At}
 use Rattle.seize_words.specs.declared.at.At.TheVariants.{Root, Used, Slot, Entry, Word}
@@ -128,7 +128,7 @@ module _ (caller map : ℕ) where
     all_settle (changed.Made k b) = made_settles k
     all_settle (changed.Unmade k) = refl
     all_settle (changed.Took b) = taken_settles (known.roles b)
-    all_settle (changed.Roomed bucket had) = settle_if (nat_lt bucket known.buckets) [] (effect.Asked ABucket ∷ []) refl refl
+    all_settle (changed.Roomed bucket had) = settle_if (had && nat_lt bucket known.buckets) [] (effect.Asked ABucket ∷ []) refl refl
 
 module _ {K V : Type 0} where
   due_replacing : (its : Call K V) (c : CallThere K V) (old : Option ℕ) (new : ℕ)

@@ -5,3 +5,4 @@ pub mod Ended
 pub mod Makings
 pub mod Ends
 pub mod Reclaims
+pub mod Choosing

@@ -5,6 +5,9 @@ use Rattle.papaya_tables.specs.declared.node.Node.{Node}
 use Rattle.papaya_schedules.specs.declared.effect.Effect.{Effect}
 use Rattle.papaya_schedules.specs.Effects.{with_effects, AtEachEffect}
 use Rattle.papaya_schedules.specs.Moment.{Moment}
+use Rattle.papaya_effects.specs.Effects.{effects_of}
+use Rattle.papaya_effects.specs.Known.{Known}
+use Rattle.papaya_effects.specs.declared.acting.Acting.TheVariants as acts
 use Rattle.papaya_executor.specs.IsAt.{Scene, IsAt, slot_of, work_of}
 use Rattle.papaya_executor.specs.OnSlots.{MayBegin, RowBegins, RowLeads, row_on}
 use Rattle.papaya_executor.specs.Rows.{request_of}
@@ -82,3 +85,7 @@ module _ {K V S : Type 0} (i : ℕ) where
   -- and then the last one, which told this
   abbrev pub OnSlotLast : RowTold (Node K V) → (old new : Executor K V S) → Type 0
   OnSlotLast said old new = (mid : Executor K V S) × (n : ℕ) × GoesOnFor n old mid × StepsOn said mid new
+
+-- The list ends with what the last operation of a row did, by what was noted before it.
+abbrev pub EndsTelling : {K V S : Type 0} → List Effect → Executor K V S → Type 0
+EndsTelling effects e = (noted : Known) × (first : List Effect) × (effects ≡ first ++ effects_of acts.Row noted e.memory.changed)

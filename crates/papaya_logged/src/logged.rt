@@ -4,6 +4,7 @@ ghost use Rattle.papaya_schedules.specs.Moment.{start};
 ghost use Rattle.papaya_effects.specs.Effects.{effects_of, known_after, HasNumber};
 ghost use Rattle.papaya_effects.specs.Known.{known};
 ghost use Rattle.papaya_executor.specs.IsAt.{at_first};
+ghost use Rattle.papaya_logged.specs.Choosing.{ChoiceIsShown, logged_chosen};
 ghost use Rattle.papaya_logged.specs.Shown.{IsShown};
 
 use papaya_effects::acting::Acting;
@@ -49,6 +50,15 @@ impl<K: Drop, V: Drop, S: Drop> Logged<K, V, S> {
 }
 
 impl<K, V, S> Logged<K, V, S> {
+    /// Adds a choice of a free block number behind those that are left.
+    pub fn choose(&mut self, choice: u64) -> Result<(), AllocError>
+        ensures chosen { OnOk result (self.new ≡ logged_chosen choice self.old) }
+        ensures shown { OnOk result (ChoiceIsShown choice self.old self.new) }
+    {
+        self.executor.memory.memory.choose(choice)?;
+        Ok(())
+    }
+
     /// Notes what the last operation has changed, and adds to a list what it did. It is refused where the list, or the notes, find no more room.
     pub(crate) fn note(
         &mut self,

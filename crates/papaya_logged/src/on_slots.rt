@@ -1,6 +1,9 @@
 //! Rows on slots begin, and take steps.
-ghost use Rattle.std.specs.Prelude.{◌≡◌, ◌<◌, ◌+◌, ◌*◌, ℕ, Bool, true, List, length, Some, IfOk, IfErr};
+ghost use Rattle.std.specs.Prelude.{◌≡◌, ◌<◌, ◌+◌, ◌*◌, ◌++◌, ℕ, Bool, true, List, length, Some, IfOk, IfErr};
 ghost use Rattle.papaya_schedules.specs.Moment.{Moment};
+ghost use Rattle.papaya_effects.specs.Effects.{effects_of};
+ghost use Rattle.papaya_effects.specs.Known.{known};
+ghost use Rattle.papaya_effects.specs.declared.acting.Acting.TheVariants.{Row};
 ghost use Rattle.papaya_executor.specs.Beginning.{IsRefused};
 ghost use Rattle.papaya_executor.specs.IsAt.{Scene, IsAt, work_of};
 ghost use Rattle.papaya_executor.specs.OnSlots.{RowLeads};
@@ -8,7 +11,7 @@ ghost use Rattle.papaya_executor.specs.declared.row.SlotRow.{SlotRow};
 ghost use Rattle.papaya_executor.specs.declared.worker.TheConstants.{SLOTS};
 ghost use Rattle.papaya_executor.specs.declared.worker.Work.TheVariants.{OnSlot};
 ghost use Rattle.papaya_logged.specs.Ended.{has_ended, uses_ended};
-ghost use Rattle.papaya_logged.specs.OnSlots.{OnSlotBegins, OnSlotSteps, OnSlotRan, OnSlotComes, OnSlotLast, has_come};
+ghost use Rattle.papaya_logged.specs.OnSlots.{EndsTelling, OnSlotBegins, OnSlotSteps, OnSlotRan, OnSlotComes, OnSlotLast, has_come};
 ghost use Rattle.papaya_logged.specs.Shown.{IsShown};
 
 use crate::logged::Logged;
@@ -54,6 +57,7 @@ impl<K: Drop, V: Drop, S> Logged<K, V, S> {
         ensures leads { IfOk result (λ told. OnSlotSteps caller told effects.old.items effects.new.items self.old self.new) }
         ensures steps { IfOk result (λ told. (same : K → K → Bool) (hash : K → ℕ) (s : Scene K V) → IsAt same hash self.old.executor s
             → RowLeads same hash caller told s self.old.executor self.new.executor) }
+        ensures did { IfOk result (λ told. effects.new.items ≡ effects.old.items ++ effects_of Row (known self.old.notes) self.new.executor.memory.changed) }
     {
         let told = self.executor.step_on_slot(caller);
         self.note(Acting::Row, effects)?;
@@ -73,6 +77,7 @@ impl<K: Drop, V: Drop, S> Logged<K, V, S> {
         ensures used { IfOk result (λ told. (row : SlotRow) → work_of self.old.executor caller ≡ Some (OnSlot row) → has_ended told ≡ true
             → self.new.executor.slots.items ≡ uses_ended row told self.old.executor.slots.items) }
         ensures ran { IfOk result (λ told. OnSlotRan effects.old.items effects.new.items self.old self.new) }
+        ensures tells { IfOk result (λ told. EndsTelling effects.new.items self.new.executor) }
     {
         loop {
             let told = self.step_on_slot(caller, effects)?;

@@ -1,5 +1,5 @@
 -- A step of a row on a slot: what is told of it, by the blocks that it takes away.
-use Rattle.std.specs.Prelude.{◌==◌, ◌⊎◌, nat_lt, flat_map, if◌then◌else◌, Option, Some, None, IsSome}
+use Rattle.std.specs.Prelude.{◌&&◌, ◌==◌, ◌⊎◌, nat_lt, flat_map, if◌then◌else◌, Option, Some, None, IsSome}
 use Rattle.std.proofs.Common.{◌≡◌, ℕ, ◌+◌, Bool, true, false, List, [], ◌∷◌, ◌++◌, inl, inr, refl, ap, sym, subst, arith, eqb-true, ◌∙◌}
 use Rattle.std.proofs.lemmas.List.{append-nil}
 use Rattle.std.proofs.lemmas.List.Concat.{flat_map-cons}
@@ -159,7 +159,7 @@ module _ (known first : Known) where
     role_back (known.roles b) ∙ ap things_of (noted b refl) ∙ sym (ap Back so ∙ flat_map-cons (λ (c : ℕ). things_of (first.roles c)) b [] ∙ append-nil (things_of (first.roles b))),
     role_of_row (known.roles b),
   )
-  step_back (changed.Roomed bucket had) tells taken so noted = by (nat_lt bucket known.buckets)
+  step_back (changed.Roomed bucket had) tells taken so noted = by (had && nat_lt bucket known.buckets)
     where
       by : (q : Bool) → (flat_map thing_back (if q then [] else effect.Asked ABucket ∷ []) ≡ Back taken) × AreOfRow (if q then [] else effect.Asked ABucket ∷ [])
       by true = (sym (ap Back so), tt)

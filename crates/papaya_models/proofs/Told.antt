@@ -1,5 +1,5 @@
 -- What is told of a step of a row within a call: it hands over what it writes a batch into, and nothing where it writes no such word.
-use Rattle.std.specs.Prelude.{◌==◌, ◌%◌, ◌^◌, Option, Some, None, Ok, Err, IsSome, if◌then◌else◌, nat_lt}
+use Rattle.std.specs.Prelude.{◌&&◌, ◌==◌, ◌%◌, ◌^◌, Option, Some, None, Ok, Err, IsSome, if◌then◌else◌, nat_lt}
 use Rattle.std.proofs.Common.{◌≡◌, ℕ, ◌+◌, Bool, true, false, List, [], ◌∷◌, inl, inr, refl, ap, sym, subst, arith, ◌∙◌}
 use Rattle.std.proofs.lemmas.Bool.{eq-eqb}
 use Rattle.seize_words.specs.declared.at.At.{At}
@@ -106,7 +106,7 @@ module _ (i map : ℕ) (known : Known) where
   quiet_keeps (changed.Made k b) same = made_keeps k
   quiet_keeps (changed.Unmade k) same = (tt, tt)
   quiet_keeps (changed.Took b) same = taken_keeps (known.roles b)
-  quiet_keeps (changed.Roomed bucket had) same = by (nat_lt bucket known.buckets)
+  quiet_keeps (changed.Roomed bucket had) same = by (had && nat_lt bucket known.buckets)
     where
       by : (q : Bool) → AllKeep (if q then [] else effect.Asked ABucket ∷ [])
       by true = tt
@@ -183,7 +183,7 @@ module _ (i map : ℕ) (known : Known) where
   none_back (changed.Made k b) keeps = made_back k
   none_back (changed.Unmade k) keeps = (tt, tt)
   none_back (changed.Took b) keeps = taken_back b (known.roles b) refl keeps
-  none_back (changed.Roomed bucket had) keeps = back_if (nat_lt bucket known.buckets) [] (effect.Asked ABucket ∷ []) tt (tt, tt)
+  none_back (changed.Roomed bucket had) keeps = back_if (had && nat_lt bucket known.buckets) [] (effect.Asked ABucket ∷ []) tt (tt, tt)
 
   -- where it is written into a thing which batch that is of, the thing is retired
   pub first_retires : (b old new : ℕ) (x : Thing) → IsOfThing x (known.roles b) → names_same old new ≡ false → effects_of its known (changed.Wrote (Entry b FIRST) old new) ≡ effect.Retired x ∷ []

@@ -1,5 +1,5 @@
 -- Maps have numbers of their own, whatever happens.
-use Rattle.std.specs.Prelude.{◌≡◌, ℕ, suc, ◌+◌, ◌<◌, ◌==◌, nat_lt, Bool, true, false, not, cond, List, [], ◌∷◌, ◌++◌, filter, find, map, Option, Some, None, option_map, if◌then◌else◌}
+use Rattle.std.specs.Prelude.{◌&&◌, ◌≡◌, ℕ, suc, ◌+◌, ◌<◌, ◌==◌, nat_lt, Bool, true, false, not, cond, List, [], ◌∷◌, ◌++◌, filter, find, map, Option, Some, None, option_map, if◌then◌else◌}
 use Rattle.std.specs.List.{All}
 use Rattle.std.specs.Option.{option_or}
 use Rattle.std.proofs.Common.{refl, ap, sym, subst, ◌∙◌, arith}
@@ -210,7 +210,7 @@ module _ (made : ℕ) where
   acting_links acting known (changed.Made k x) l = (tt, made_links acting k)
   acting_links acting known (changed.Unmade k) l = (tt, tt)
   acting_links acting known (changed.Took x) l = taken_links acting (known.roles x)
-  acting_links acting known (changed.Roomed bucket had) l = by_test (nat_lt bucket known.buckets) [] (Asked ABucket ∷ []) tt (tt, tt)
+  acting_links acting known (changed.Roomed bucket had) l = by_test (had && nat_lt bucket known.buckets) [] (Asked ABucket ∷ []) tt (tt, tt)
 
   row_links : (known : Known) (told : Changed) → TellsRow told → AllLinkMade made (effects_of acts.Row known told)
   row_links known changed.Nothing is = tt
@@ -222,7 +222,7 @@ module _ (made : ℕ) where
   row_links known (changed.Made k x) is = absurd is
   row_links known (changed.Unmade k) is = absurd is
   row_links known (changed.Took x) is = taken_links acts.Row (known.roles x)
-  row_links known (changed.Roomed bucket had) is = by_test (nat_lt bucket known.buckets) [] (Asked ABucket ∷ []) tt (tt, tt)
+  row_links known (changed.Roomed bucket had) is = by_test (had && nat_lt bucket known.buckets) [] (Asked ABucket ∷ []) tt (tt, tt)
 
 pub numbers_begin : (K V : Type 0) → NumbersBegin K V
 numbers_begin K V = record { found = λ k d l. absurd (omega (arith, l)); below = λ k d l. absurd (omega (arith, l)); tables = λ k d l. absurd (omega (arith, l)) }

@@ -1,5 +1,5 @@
 -- Rows on slots keep all that a moment shows.
-use Rattle.std.specs.Prelude.{◌≡◌, ℕ, zero, suc, nat_lt, Bool, true, false, List, [], ◌∷◌, Option, Some, None, IsSome, if◌then◌else◌}
+use Rattle.std.specs.Prelude.{◌&&◌, ◌≡◌, ℕ, zero, suc, nat_lt, Bool, true, false, List, [], ◌∷◌, Option, Some, None, IsSome, if◌then◌else◌}
 use Rattle.std.proofs.Common.{refl, ap, sym, subst, ◌∙◌, arith, inl, inr}
 use Rattle.std.proofs.lemmas.Bool.{cases_eq}
 use Rattle.seize_words.specs.declared.at.At.TheVariants.{Root, Used, Slot, Entry, Word}
@@ -144,7 +144,7 @@ module _ {K V : Type 0} (m : Moment K V) where
   row_alone known (changed.Made kind b) is = absurd is
   row_alone known (changed.Unmade kind) is = absurd is
   row_alone known (changed.Took b) is = taken_alone (known.roles b)
-  row_alone known (changed.Roomed bucket had) is = roomed_alone (nat_lt bucket known.buckets)
+  row_alone known (changed.Roomed bucket had) is = roomed_alone (had && nat_lt bucket known.buckets)
 
 pub none_some : {T : Type 0} (o : Option T) → IsSome o → o ≡ None → ⊥
 none_some {T} o some none = (let it : IsSome {T = T} None = subst (λ (x : Option T). IsSome x) none some in cc it)

@@ -1,5 +1,5 @@
 -- A step of the end of a map: the moment after its effects shows the scene after it.
-use Rattle.std.specs.Prelude.{◌≡◌, ◌≢◌, ℕ, zero, suc, ◌<◌, ◌≤◌, nat_lt, Bool, true, false, List, [], ◌∷◌, ◌++◌, Option, Some, None, if◌then◌else◌, ◌⊎◌, ◌==◌, IsSome}
+use Rattle.std.specs.Prelude.{◌&&◌, ◌≡◌, ◌≢◌, ℕ, zero, suc, ◌<◌, ◌≤◌, nat_lt, Bool, true, false, List, [], ◌∷◌, ◌++◌, Option, Some, None, if◌then◌else◌, ◌⊎◌, ◌==◌, IsSome}
 use Rattle.std.proofs.Common.{refl, ap, sym, subst, ◌∙◌, arith, inl, inr}
 use Rattle.std.proofs.lemmas.Bool.{eq-eqb, cases_eq}
 use Rattle.seize_words.specs.declared.at.At.TheVariants.{Root, Used, Slot, Entry, Word}
@@ -228,7 +228,7 @@ module _ {K V S : Type 0} (same : K → K → Bool) (hash : K → ℕ) (name : �
     says_or_takes (changed.Made kind b) is l = absurd (not_made b l.1 l.0 l.3)
     says_or_takes (changed.Unmade kind) is l = inl ((refl, tt), refl)
     says_or_takes (changed.Took b) is l = inr (b, refl)
-    says_or_takes (changed.Roomed bucket had) is l = inl (roomed_calm (nat_lt bucket known.buckets), (roomed_as_many its known bucket had).0)
+    says_or_takes (changed.Roomed bucket had) is l = inl (roomed_calm (had && nat_lt bucket known.buckets), (roomed_as_many its known bucket had).0)
 
     -- the scene after it
     module _ (rest : Scene K V) (calls : ShowsCalls same name m rest.calls) (stand : (n : ℕ) (st : Standing K) → s.maps n ≡ Some st → IsMapIn same st.hash st.setting w2 st.chart st.blocks) where
@@ -287,7 +287,7 @@ module _ {K V S : Type 0} (same : K → K → Bool) (hash : K → ℕ) (name : �
       leads (changed.Unmade kind) is l may = still (Asked ABlock ∷ []) known (refl, tt) refl refl l
       leads (changed.Took b) is l may = taken b l.1 l.2 (known.roles b) refl may
       leads (changed.Roomed bucket had) is l may =
-          let alike = roomed_as_many its known bucket had in still (effects_of its known (changed.Roomed bucket had)) _ (roomed_still (nat_lt bucket known.buckets)) alike.0 alike.1 l
+          let alike = roomed_as_many its known bucket had in still (effects_of its known (changed.Roomed bucket had)) _ (roomed_still (had && nat_lt bucket known.buckets)) alike.0 alike.1 l
 
   -- so it is by what it says
   ending_shown : (t : Settled (Node K V)) → said ≡ t → (comes : EndingComesTo same hash s new i f end w2 did.deed t)

@@ -1,5 +1,5 @@
 -- A step of a row on a slot takes no block for a pair that is not stored: it takes what was handed to the collector.
-use Rattle.std.specs.Prelude.{◌≡◌, ℕ, nat_lt, Bool, List, [], ◌∷◌, Some, None}
+use Rattle.std.specs.Prelude.{◌&&◌, ◌≡◌, ℕ, nat_lt, Bool, List, [], ◌∷◌, Some, None}
 use Rattle.std.proofs.Common.{refl, subst}
 use Rattle.seize_words.specs.declared.at.At.TheVariants.{Root, Used, Slot, Entry, Word}
 use Rattle.seize.specs.World.{World, Step}
@@ -74,7 +74,7 @@ module _ {K V S : Type 0} (same : K → K → Bool) (hash : K → ℕ) (name : �
   stores_none (changed.Unmade k) is = absurd is
   stores_none (changed.Took b) is = taken_none Row (known.roles b)
   stores_none (changed.Roomed bucket had) is =
-      none_of (effects_of Row known (changed.Roomed bucket had)) (none_if of_block (nat_lt bucket known.buckets) [] (Asked ABucket ∷ []) tt (refl, tt))
+      none_of (effects_of Row known (changed.Roomed bucket had)) (none_if of_block (had && nat_lt bucket known.buckets) [] (Asked ABucket ∷ []) tt (refl, tt))
 
   alone : LeavesAlone Row known told
   alone = left_alone Row known told (does_so Row known told (makes_free told tells)) (unmade told tells) untaken

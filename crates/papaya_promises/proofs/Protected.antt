@@ -1,5 +1,5 @@
 -- Events reclaim nothing in a critical section that they do not end, in which it left its map.
-use Rattle.std.specs.Prelude.{◌≡◌, ℕ, nat_lt, Bool, true, false, List, [], ◌∷◌, ◌++◌, flat_map, Option, Some, None, if◌then◌else◌}
+use Rattle.std.specs.Prelude.{◌&&◌, ◌≡◌, ℕ, nat_lt, Bool, true, false, List, [], ◌∷◌, ◌++◌, flat_map, Option, Some, None, if◌then◌else◌}
 use Rattle.std.specs.List.{AllByRecursion}
 use Rattle.std.proofs.Common.{refl, ap, sym, subst, ◌∙◌}
 use Rattle.std.proofs.lemmas.Grind.{flat_map-append}
@@ -114,7 +114,7 @@ row_keeps_in known (changed.Wrote (Word b field) before now) is = absurd is
 row_keeps_in known (changed.Made kind b) is = absurd is
 row_keeps_in known (changed.Unmade kind) is = absurd is
 row_keeps_in known (changed.Took b) is = taken_keeps (known.roles b)
-row_keeps_in known (changed.Roomed bucket had) is = room_keeps (nat_lt bucket known.buckets)
+row_keeps_in known (changed.Roomed bucket had) is = room_keeps (had && nat_lt bucket known.buckets)
 
 -- work that is none of rows ends no section
 as_it_is : {K V : Type 0} (event : Event K V) → is_of_slots event ≡ false → (there : Present) (xs : List Sheltered) → (there_in event there ≡ there) × (sheltered_on event Done xs ≡ xs)

@@ -1,5 +1,5 @@
 -- An operation does one thing at most, and what it makes it has asked for.
-use Rattle.std.specs.Prelude.{◌≡◌, ◌==◌, ℕ, nat_lt, Bool, true, false, List, [], ◌∷◌, ◌++◌, if◌then◌else◌}
+use Rattle.std.specs.Prelude.{◌&&◌, ◌≡◌, ◌==◌, ℕ, nat_lt, Bool, true, false, List, [], ◌∷◌, ◌++◌, if◌then◌else◌}
 use Rattle.std.proofs.Common.{refl, arith}
 use Rattle.std.proofs.lemmas.List.Sums.{sum_by-append}
 use Rattle.seize_words.specs.Word.{block_in}
@@ -114,7 +114,7 @@ operation_is_one acting known (changed.Wrote at old new) = written_one acting kn
 operation_is_one acting known (changed.Made k b) = made_one acting k
 operation_is_one acting known (changed.Unmade k) = (omega arith, refl)
 operation_is_one acting known (changed.Took b) = taken_one acting (known.roles b)
-operation_is_one acting known (changed.Roomed bucket had) = if_one (nat_lt bucket known.buckets) [] (Asked ABucket ∷ []) none_one (omega arith, refl)
+operation_is_one acting known (changed.Roomed bucket had) = if_one (had && nat_lt bucket known.buckets) [] (Asked ABucket ∷ []) none_one (omega arith, refl)
 
 pub operations_are_single : OperationsAreSingle
 operations_are_single acting known told = operation_is_one acting known told

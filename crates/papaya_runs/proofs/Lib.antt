@@ -4,6 +4,6 @@ pub mod Laws
 mod PairLists
 mod Pairs
 mod Runs
-mod Sames
+pub mod Sames
 mod Samples
 mod Sets

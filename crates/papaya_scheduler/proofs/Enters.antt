@@ -46,12 +46,12 @@ use Rattle.papaya_scheduler.proofs.Seats.{stands_there}
 use Rattle.papaya_scheduler.proofs.There.{guard_is, is_inside, is_outside, registered_is, slot_is, slot_some, used_alike}
 use Rattle.papaya_scheduler.proofs.Rights.{entry, in_turn, out_of_turn, plays, quiet}
 
-none_is : {X : Type 0} (o : Option X) → is_some o ≡ false → o ≡ None
+pub none_is : {X : Type 0} (o : Option X) → is_some o ≡ false → o ≡ None
 none_is None e = refl
 none_is (Some x) e = absurd (cc e)
 
 -- guards that are there are found as before where one more comes
-found_more : (name : List ℕ) (guards more : List Guard) (slot : ℕ) → living_slot (guard_of name guards) ≡ Some slot → living_slot (guard_of name (guards ++ more)) ≡ Some slot
+pub found_more : (name : List ℕ) (guards more : List Guard) (slot : ℕ) → living_slot (guard_of name guards) ≡ Some slot → living_slot (guard_of name (guards ++ more)) ≡ Some slot
 found_more name [] more slot e = absurd (cc e)
 found_more name (g ∷ guards) more slot e = by (is_same g.name name) e (found_more name guards more slot)
   where

@@ -6,6 +6,9 @@ mod There
 mod Rights
 mod Quiet
 mod Simple
+mod Chosen
+mod KeptOut
+mod Refused
 mod Seats
 mod Facts
 mod Maps
@@ -25,3 +28,10 @@ mod Unregisters
 mod Begun
 mod RepliedSo
 mod BegunSo
+mod Refusals
+mod Taking
+mod Least
+mod Vacancies
+mod SlotTaken
+mod Registers
+mod Owns

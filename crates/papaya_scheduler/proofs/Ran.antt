@@ -59,7 +59,7 @@ module _ {K V S : Type 0} (same : K → K → Bool) (hash : K → ℕ) (i : ℕ)
       }
 
   -- and by each step of it,
-  step_led : (old new : Executor K V S) (said : RowTold (Node K V)) (row : SlotRow) → work_of old i ≡ Some (OnSlot row) → StepsOn i said old new → Led old → Led new
+  pub step_led : (old new : Executor K V S) (said : RowTold (Node K V)) (row : SlotRow) → work_of old i ≡ Some (OnSlot row) → StepsOn i said old new → Led old → Led new
   step_led old new said row here steps led =
       let then_at = record s { world = led.w; maps = led.maps } in
       let to = (steps same hash then_at led.at row here).4 in

@@ -14,7 +14,7 @@ use Rattle.papaya_executor.specs.declared.row.SlotUse.{SlotUse}
 use Rattle.papaya_executor.specs.declared.worker.TheConstants.{SLOTS}
 use Rattle.papaya_executor.specs.declared.worker.Work.TheVariants.{OnSlot}
 use Rattle.papaya_logged.specs.Ended.{has_ended, uses_ended}
-use Rattle.papaya_logged.specs.OnSlots.{OnSlotBegins, OnSlotComes, OnSlotLast, OnSlotRan}
+use Rattle.papaya_logged.specs.OnSlots.{EndsTelling, OnSlotBegins, OnSlotComes, OnSlotLast, OnSlotRan}
 use Rattle.papaya_logged.specs.Shown.{IsShown}
 use Rattle.papaya_logged.specs.declared.logged.Logged.{Logged}
 use Rattle.papaya_scheduler.specs.Rows.{RowRan}
@@ -44,8 +44,8 @@ module _ {K V S : Type 0} (slot : ℕ) (called : SlotCall) (caller : ℕ) (old b
     -- and has run
     pub has_run : (said : RowTold (Node K V)) (before after : List Effect) → OnSlotComes caller said new → OnSlotLast caller said began.executor new.executor
         → ((row : SlotRow) → work_of began.executor caller ≡ Some (OnSlot row) → has_ended said ≡ true → new.executor.slots.items ≡ uses_ended row said began.executor.slots.items)
-        → OnSlotRan before after began new → RowRan slot called said before after old new
-    has_run said before after comes last used ran = record {
+        → OnSlotRan before after began new → EndsTelling after new.executor → RowRan slot called said before after old new
+    has_run said before after comes last used ran tells = record {
       caller = caller;
       in_slot = in_slot;
       began = began;
@@ -54,6 +54,7 @@ module _ {K V S : Type 0} (slot : ℕ) (called : SlotCall) (caller : ℕ) (old b
       come = comes.0;
       used = λ ended. used (begun_row slot old.executor.batch_size called) row_is ended
           ∙ ap (λ (l : List SlotUse). uses_ended (begun_row slot old.executor.batch_size called) said l) uses_are;
+      tells = tells;
       did = ran.0;
       follows = ran.1;
       shown = λ same2 hash2 name2 m2 s2 shown2 may2 takes.

@@ -3,4 +3,7 @@ pub mod Machines
 pub mod Telling
 pub mod Shapes
 pub mod Rows
+pub mod Turns
+pub mod Taking
 pub mod Played
+pub mod KeptOut

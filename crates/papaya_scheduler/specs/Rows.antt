@@ -14,7 +14,7 @@ use Rattle.papaya_finishes.specs.Maps.{Standing}
 use Rattle.papaya_spots.specs.OnSlots.{WaitUnreclaimed}
 use Rattle.papaya_moments.specs.OnSlots.{HadRetired}
 use Rattle.papaya_logged.specs.Ended.{has_ended, uses_ended}
-use Rattle.papaya_logged.specs.OnSlots.{OnSlotBegins, OnSlotLast, has_come}
+use Rattle.papaya_logged.specs.OnSlots.{EndsTelling, OnSlotBegins, OnSlotLast, has_come}
 use Rattle.papaya_logged.specs.Shown.{IsShown}
 use Rattle.papaya_logged.specs.declared.logged.Logged.{Logged}
 
@@ -22,7 +22,7 @@ use Rattle.papaya_logged.specs.declared.logged.Logged.{Logged}
 abbrev pub TakesRetired : {K V : Type 0} → List Effect → Moment K V → Type 0
 TakesRetired did m = AtEachEffect HadRetired None None did m × AtEachEffect WaitUnreclaimed None None did m
 
--- A row has begun in this slot, and has run until it ended, or waits: which steps it took, what they did, and how slots are used then. The moment after all that
+-- A row has begun in this slot, and has run until it ended, or waits: which steps it took, what they did, the last one's at the end, and how slots are used then. The moment after all that
 -- shows the executor.
 pub record RowRan {K V S : Type 0} (slot : ℕ) (called : SlotCall) (said : RowTold (Node K V)) (before after : List Effect) (old new : Logged K V S) : Type 0 where
   pub caller : ℕ
@@ -32,6 +32,7 @@ pub record RowRan {K V S : Type 0} (slot : ℕ) (called : SlotCall) (said : RowT
   pub last : OnSlotLast caller said began.executor new.executor
   pub come : has_come said ≡ true
   pub used : has_ended said ≡ true → new.executor.slots.items ≡ uses_ended (begun_row slot old.executor.batch_size called) said (uses_begun slot called old.executor.slots.items)
+  pub tells : EndsTelling after new.executor
   pub did : List Effect
   pub follows : after ≡ before ++ did
   pub shown : (same : K → K → Bool) (hash : K → ℕ) (name : ℕ → List ℕ) (m : Moment K V) (s : Scene K V) → IsShown same hash name m old s → MayBegin old.executor slot called → TakesRetired did m

@@ -12,3 +12,4 @@ pub mod scheduler;
 pub mod setups;
 pub mod shapes;
 pub mod telling;
+pub mod turns;

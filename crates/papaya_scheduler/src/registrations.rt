@@ -1,16 +1,93 @@
-//! Registrations end.
+//! Slots are taken and given up: registrations, and guards that own theirs.
 ghost use Rattle.std.specs.Prelude.{◌≡◌, ℕ, Bool, List, IfOk};
+ghost use Rattle.papaya_schedules.specs.Moment.{Moment};
+ghost use Rattle.papaya_schedules.specs.Terms.{Terms};
 ghost use Rattle.papaya_schedules.specs.declared.event.Event.TheVariants as event;
-ghost use Rattle.papaya_scheduler.specs.Played.{MayPlay, PlaysTaking};
+ghost use Rattle.papaya_scheduler.specs.Played.{MayPlay, PlaysTaking, StandsFor};
+ghost use Rattle.papaya_scheduler.specs.Taking.{SlotTaken};
 
 use crate::played::Played;
 use crate::scheduler::Scheduler;
-use papaya_executor::row::SlotCall;
+use papaya_executor::row::{RowTold, SlotCall};
 use papaya_runs::token::Token;
+use papaya_schedules::effect::Effect;
 use papaya_schedules::outcome::Outcome;
+use seize_words::Fault;
 use std::alloc::AllocError;
 
 impl<K: Drop, V: Drop, S> Scheduler<K, V, S> {
+    /// Takes the least slot that is not in use, and enters it, too, if it is to. The fault is SlotsUsedUp, or Memory where there is none for the words of slots.
+    pub(crate) fn take_slot(
+        &mut self,
+        enters: bool,
+        effects: &mut Vec<Effect>,
+    ) -> Result<Result<u64, Fault>, AllocError>
+        requires { (same : K → K → Bool) × (hash : K → ℕ) × (terms : Terms) × (m : Moment K V) × StandsFor same hash terms m self.old }
+        ensures taken { IfOk result (λ slot. SlotTaken enters slot effects.old.items effects.new.items self.old.logged self.new.logged) }
+        ensures rest { self.new ≡ record self.old { logged = self.new.logged } }
+    {
+        let told = self.run_row(0, SlotCall::Register { enters }, effects)?;
+        match told {
+            RowTold::Registered(slot) => Ok(Ok(slot)),
+            RowTold::Refused(fault) => Ok(Err(fault)),
+            _ => unreachable!(),
+        }
+    }
+
+    /// A new registration, on the least slot that is not in use.
+    pub fn register(&mut self, registration: Token) -> Result<Played<V>, AllocError>
+        requires { (same : K → K → Bool) × (hash : K → ℕ) × MayPlay same hash (event.Register registration) self.old }
+        ensures plays { IfOk result (λ played. (same : K → K → Bool) (hash : K → ℕ) → PlaysTaking same hash (event.Register registration) played self.old self.new) }
+    {
+        if self.there.slot_of_registration(&registration).is_some() {
+            return Ok(self.busy());
+        }
+        let mut effects = self.no_effects();
+        let taken = self.take_slot(false, &mut effects)?;
+        match taken {
+            Err(fault) => Ok(Played {
+                outcome: Outcome::Refused(fault),
+                steps: 0,
+                effects,
+            }),
+            Ok(slot) => {
+                self.there.register(registration, slot)?;
+                Ok(Played {
+                    outcome: Outcome::Slot(slot),
+                    steps: 0,
+                    effects,
+                })
+            }
+        }
+    }
+
+    /// A new guard with a slot of its own: the least one that is not in use.
+    pub fn own(&mut self, guard: Token) -> Result<Played<V>, AllocError>
+        requires { (same : K → K → Bool) × (hash : K → ℕ) × MayPlay same hash (event.Own guard) self.old }
+        ensures plays { IfOk result (λ played. (same : K → K → Bool) (hash : K → ℕ) → PlaysTaking same hash (event.Own guard) played self.old self.new) }
+    {
+        if self.there.has_guard(&guard) {
+            return Ok(self.busy());
+        }
+        let mut effects = self.no_effects();
+        let taken = self.take_slot(true, &mut effects)?;
+        match taken {
+            Err(fault) => Ok(Played {
+                outcome: Outcome::Refused(fault),
+                steps: 0,
+                effects,
+            }),
+            Ok(slot) => {
+                self.there.enter(guard, slot)?;
+                Ok(Played {
+                    outcome: Outcome::Slot(slot),
+                    steps: 0,
+                    effects,
+                })
+            }
+        }
+    }
+
     /// The registration ends, where each guard of it was forgotten. A slot on which guards are left is not given up.
     pub fn unregister(&mut self, registration: &Token) -> Result<Played<V>, AllocError>
         requires { (same : K → K → Bool) × (hash : K → ℕ) × MayPlay same hash (event.Unregister registration.now) self.old }

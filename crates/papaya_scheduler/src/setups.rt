@@ -1,5 +1,5 @@
-//! Events that do nothing.
-ghost use Rattle.std.specs.Prelude.{[], ◌≡◌, ℕ, Bool, if◌then◌else◌};
+//! Events of the setup.
+ghost use Rattle.std.specs.Prelude.{[], ◌≡◌, ℕ, Bool, IfOk, if◌then◌else◌};
 ghost use Rattle.papaya_schedules.specs.declared.event.Event.TheVariants as event;
 ghost use Rattle.seize_words.specs.declared.fault.Fault.TheVariants.{Busy};
 ghost use Rattle.papaya_scheduler.specs.Played.{MayPlay, PlaysAt, PlaysFirst};
@@ -9,6 +9,7 @@ use crate::scheduler::Scheduler;
 use papaya_runs::event::Setup;
 use papaya_runs::key_hash::KeyHash;
 use papaya_schedules::outcome::Outcome;
+use std::alloc::AllocError;
 
 impl<K: Drop, V: Drop, S> Scheduler<K, V, S> {
     /// What an event comes to that does nothing, if it is in turn.
@@ -38,5 +39,14 @@ impl<K: Drop, V: Drop, S> Scheduler<K, V, S> {
         ensures plays { (same : K → K → Bool) (hash : K → ℕ) → PlaysAt same hash (event.Hash by) result self.now self.now }
     {
         self.if_so(!self.is_mapped)
+    }
+
+    /// Adds a choice of a free block number. On an error nothing is said: the list of choices found no memory.
+    pub fn choose(&mut self, choice: u64) -> Result<Played<V>, AllocError>
+        requires { (same : K → K → Bool) × (hash : K → ℕ) × MayPlay same hash (event.Choose choice) self.old }
+        ensures plays { IfOk result (λ played. (same : K → K → Bool) (hash : K → ℕ) → PlaysAt same hash (event.Choose choice) played self.old self.new) }
+    {
+        self.logged.choose(choice)?;
+        Ok(self.quietly(Outcome::Done))
     }
 }

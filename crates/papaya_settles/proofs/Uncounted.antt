@@ -1,5 +1,5 @@
 -- A step counts only by a word of a map's count.
-use Rattle.std.specs.Prelude.{◌≡◌, ◌==◌, ℕ, Bool, true, false, nat_lt, List, [], ◌∷◌, if◌then◌else◌}
+use Rattle.std.specs.Prelude.{◌&&◌, ◌≡◌, ◌==◌, ℕ, Bool, true, false, nat_lt, List, [], ◌∷◌, if◌then◌else◌}
 use Rattle.std.proofs.Common.{refl}
 use Rattle.seize_words.specs.declared.at.At.TheVariants.{Root, Used, Slot, Entry, Word}
 use Rattle.seize.specs.declared.states.TheConstants.{FIRST}
@@ -93,4 +93,4 @@ module _ (caller map : ℕ) (known : Known) where
   none_counts (changed.Made k b) never = (refl, made_none k)
   none_counts (changed.Unmade k) never = (refl, tt)
   none_counts (changed.Took b) never = taken_none (known.roles b)
-  none_counts (changed.Roomed bucket had) never = either (nat_lt bucket known.buckets) [] (effect.Asked ABucket ∷ []) tt (refl, tt)
+  none_counts (changed.Roomed bucket had) never = either (had && nat_lt bucket known.buckets) [] (effect.Asked ABucket ∷ []) tt (refl, tt)

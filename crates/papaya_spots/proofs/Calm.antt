@@ -1,5 +1,5 @@
 -- A step of a call that moves no pair and no table neither stores, nor copies, nor links: blocks of a map are those that they were.
-use Rattle.std.specs.Prelude.{◌≡◌, ℕ, ◌<◌, nat_lt, Bool, true, false, List, [], ◌∷◌, if◌then◌else◌}
+use Rattle.std.specs.Prelude.{◌&&◌, ◌≡◌, ℕ, ◌<◌, nat_lt, Bool, true, false, List, [], ◌∷◌, if◌then◌else◌}
 use Rattle.std.proofs.Common.{refl, sym, subst, ◌∙◌, inl, inr}
 use Rattle.std.proofs.lemmas.Bool.{cases_eq}
 use Rattle.seize_words.specs.declared.at.At.{At}
@@ -87,7 +87,7 @@ module _ {K V : Type 0} (same : K → K → Bool) (hash : K → ℕ) (setting : 
   calm_of (changed.Took b) e =
       let keeps = subst (λ (x : Changed). KeepsRoles known (known_after its x known)) e still.keeps in
       taken_calm (known.roles b) (λ last. (let one : role.Free ≡ known.roles b = sym (put_here b role.Free known.roles b refl) ∙ keeps b last in subst IsLasting (sym one) last))
-  calm_of (changed.Roomed bucket had2) e = roomed_calm (nat_lt bucket known.buckets)
+  calm_of (changed.Roomed bucket had2) e = roomed_calm (had2 && nat_lt bucket known.buckets)
 
   pub calm_done : IsCalm known (effects_of its known told) (known_after its told known)
   calm_done = record { calm = calm_of told refl; keeps = still.keeps; back = λ b of. sym (still.back b of) }

@@ -313,7 +313,7 @@ module _ {K V : Type 0} (caller map : ℕ) (m : Moment K V) (known : Known) (w w
   row_finds (changed.Made k b) left = absurd (let gone = leaves.none b left.0 in let there = left.3 in cc (gone, there))
   row_finds (changed.Unmade k) left = tt
   row_finds (changed.Took b) left = taken_finds caller map m (known.roles b)
-  row_finds (changed.Roomed bucket had) left = roomed (nat_lt bucket known.buckets)
+  row_finds (changed.Roomed bucket had) left = roomed (had && nat_lt bucket known.buckets)
     where
       roomed : (q : Bool) → FindPlaces map m (if q then [] else Asked ABucket ∷ [])
       roomed true = tt

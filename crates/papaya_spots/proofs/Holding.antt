@@ -169,7 +169,7 @@ module _ {K V : Type 0} (caller map : ℕ) (name : Option (List ℕ)) (m : Momen
     have_blocks (changed.Made k b) hands left none = absurd (let gone = leaves.none b left.0 in let there = left.3 in cc (gone, there))
     have_blocks (changed.Unmade k) hands left none = record { place = λ k. refl; tables = λ t. refl }
     have_blocks (changed.Took b) hands left none = absurd none
-    have_blocks (changed.Roomed bucket had) hands left none = roomed (nat_lt bucket known.buckets)
+    have_blocks (changed.Roomed bucket had) hands left none = roomed (had && nat_lt bucket known.buckets)
       where
         roomed : (q : Bool) → AsUnreclaimed m (with_effects name (Some map) (if q then [] else Asked ABucket ∷ []) m)
         roomed true = record { place = λ k. refl; tables = λ t. refl }

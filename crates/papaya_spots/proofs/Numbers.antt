@@ -1,5 +1,5 @@
 -- The effects of a step of a call find numbers as they must: of the pair that is stored next, and of one that is put behind a table.
-use Rattle.std.specs.Prelude.{◌≡◌, ℕ, ◌+◌, nat_lt, Bool, true, false, List, [], ◌∷◌, length, Option, Some, if◌then◌else◌}
+use Rattle.std.specs.Prelude.{◌&&◌, ◌≡◌, ℕ, ◌+◌, nat_lt, Bool, true, false, List, [], ◌∷◌, length, Option, Some, if◌then◌else◌}
 use Rattle.std.proofs.Common.{refl, ap, sym, subst, arith, inl, inr}
 use Rattle.seize_words.specs.Mem.{Mem}
 use Rattle.seize.specs.World.{World}
@@ -125,7 +125,7 @@ module _ {K V : Type 0} (caller map : ℕ) (name : Option (List ℕ)) (m : Momen
   row_numbers (changed.Made k b) left = absurd (let gone = leaves.none b left.0 in let there = left.3 in cc (gone, there))
   row_numbers (changed.Unmade k) left = (tt, tt)
   row_numbers (changed.Took b) left = taken_numbers (known.roles b)
-  row_numbers (changed.Roomed bucket had) left = roomed (nat_lt bucket known.buckets)
+  row_numbers (changed.Roomed bucket had) left = roomed (had && nat_lt bucket known.buckets)
     where
       roomed : (q : Bool) → RowFinds (if q then [] else Asked ABucket ∷ [])
       roomed true = tt

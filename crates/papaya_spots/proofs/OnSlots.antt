@@ -65,7 +65,7 @@ module _ {K V : Type 0} (m : Moment K V) (known : Known) where
   row_beside (changed.Unmade kind) is = absurd is
   row_beside (changed.Took b) is = (taken_beside (known.roles b), λ x k e. sym (put_back known.roles b role.Free (λ of. of) x (subst IsOfMap (sym e) tt)) ∙ e)
   row_beside (changed.Roomed bucket had) is = (
-    (roomed_aside (nat_lt bucket known.buckets), roomed_numbers (nat_lt bucket known.buckets)),
+    (roomed_aside (had && nat_lt bucket known.buckets), roomed_numbers (had && nat_lt bucket known.buckets)),
     same_pairs known (known_after Row (changed.Roomed bucket had) known) (roomed_as_many Row known bucket had).0,
   )
 
@@ -115,7 +115,7 @@ module _ (K V S : Type 0) (same : K → K → Bool) (hash : K → ℕ) where
     blocks_done (changed.Made kind b) is may = absurd is
     blocks_done (changed.Unmade kind) is may = absurd is
     blocks_done (changed.Took b) is may = taken_done b (known.roles b) refl may
-    blocks_done (changed.Roomed bucket had) is may = roomed_done (nat_lt bucket known.buckets) (known_after Row (changed.Roomed bucket had) known) (roomed_as_many Row known bucket had).0
+    blocks_done (changed.Roomed bucket had) is may = roomed_done (had && nat_lt bucket known.buckets) (known_after Row (changed.Roomed bucket had) known) (roomed_as_many Row known bucket had).0
 
   pub rows_keep_blocks : RowsKeepBlocks K V S same hash
   rows_keep_blocks name m known s old new shown i told leads row here may h =

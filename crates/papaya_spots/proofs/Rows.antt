@@ -1,5 +1,5 @@
 -- A step of a row within a call leaves pairs where they lie: it hands over, or takes away, what has left its map.
-use Rattle.std.specs.Prelude.{◌≡◌, ℕ, nat_lt, Bool, true, false, List, [], ◌∷◌, if◌then◌else◌}
+use Rattle.std.specs.Prelude.{◌&&◌, ◌≡◌, ℕ, nat_lt, Bool, true, false, List, [], ◌∷◌, if◌then◌else◌}
 use Rattle.std.proofs.Common.{refl, ap, sym, subst, ◌∙◌}
 use Rattle.seize.specs.World.{World}
 use Rattle.papaya_tables.specs.declared.node.Node.{Node}
@@ -62,4 +62,4 @@ module _ {K V : Type 0} (caller map : ℕ) (m : Moment K V) (known : Known) (w w
   row_aside (changed.Unmade k) left = ((refl, tt), same_pairs known known refl)
   row_aside (changed.Took b) left = (taken_aside caller map (known.roles b), λ x k is. sym (put_back known.roles b role.Free (λ of. of) x (subst IsOfMap (sym is) tt)) ∙ is)
   row_aside (changed.Roomed bucket had) left =
-      (roomed_aside (nat_lt bucket known.buckets), same_pairs known (known_after its (changed.Roomed bucket had) known) (roomed_as_many its known bucket had).0)
+      (roomed_aside (had && nat_lt bucket known.buckets), same_pairs known (known_after its (changed.Roomed bucket had) known) (roomed_as_many its known bucket had).0)

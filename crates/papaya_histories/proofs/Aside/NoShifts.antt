@@ -1,5 +1,5 @@
 -- By a step of a row on a slot, of a making or of an end of a map no pair comes or goes.
-use Rattle.std.specs.Prelude.{◌≡◌, ℕ, nat_lt, Bool, true, false, List, [], ◌∷◌, flat_map, Some, None, if◌then◌else◌}
+use Rattle.std.specs.Prelude.{◌&&◌, ◌≡◌, ℕ, nat_lt, Bool, true, false, List, [], ◌∷◌, flat_map, Some, None, if◌then◌else◌}
 use Rattle.std.proofs.Common.{refl, sym, subst, inl, inr}
 use Rattle.seize_words.specs.Word.{block_in}
 use Rattle.seize_words.specs.declared.at.At.TheVariants.{Root, Used, Slot, Entry, Word}
@@ -90,7 +90,7 @@ by_told known (changed.Wrote (Word b field) old new) is = absurd is
 by_told known (changed.Made kind b) is = absurd is
 by_told known (changed.Unmade kind) is = absurd is
 by_told known (changed.Took b) is = taken_none Row (known.roles b)
-by_told known (changed.Roomed bucket had) is = none_if (nat_lt bucket known.buckets) [] (Asked ABucket ∷ []) refl refl
+by_told known (changed.Roomed bucket had) is = none_if (had && nat_lt bucket known.buckets) [] (Asked ABucket ∷ []) refl refl
 
 pub rows_shift_none : (K V S : Type 0) (same : K → K → Bool) (hash : K → ℕ) → RowsShiftNone K V S same hash
 rows_shift_none K V S same hash known s old new i told leads row here =

@@ -1,5 +1,5 @@
 -- What an operation of a call does to tables that are not linked, and by which effects: it leaves them, makes one, gives one up, or links one.
-use Rattle.std.specs.Prelude.{◌≡◌, ◌≢◌, ℕ, ◌+◌, ◌==◌, nat_lt, Bool, true, false, List, [], ◌∷◌, Option, Some, None, if◌then◌else◌}
+use Rattle.std.specs.Prelude.{◌&&◌, ◌≡◌, ◌≢◌, ℕ, ◌+◌, ◌==◌, nat_lt, Bool, true, false, List, [], ◌∷◌, Option, Some, None, if◌then◌else◌}
 use Rattle.std.proofs.Common.{refl, ap, sym, subst, ◌∙◌, inl, inr}
 use Rattle.std.proofs.lemmas.Bool.{cases_eq}
 use Rattle.seize_words.specs.declared.at.At.{At}
@@ -177,4 +177,4 @@ module _ (its : Acting) (known : Known) where
   does_to_tables (changed.Unmade k) free = Leaves (λ x. refl) (refl, tt)
   does_to_tables (changed.Took b) free = taken_so b (known.roles b) refl
   does_to_tables (changed.Roomed bucket had) free =
-      Leaves (λ x. ap (λ (f : ℕ → Role). own_table_of (f x)) (roomed_as_many its known bucket had).0) (none_if of_table (nat_lt bucket known.buckets) [] (effect.Asked ABucket ∷ []) tt (refl, tt))
+      Leaves (λ x. ap (λ (f : ℕ → Role). own_table_of (f x)) (roomed_as_many its known bucket had).0) (none_if of_table (had && nat_lt bucket known.buckets) [] (effect.Asked ABucket ∷ []) tt (refl, tt))

@@ -1,5 +1,5 @@
 -- A step of a call shelters what it takes out of its map.
-use Rattle.std.specs.Prelude.{◌≡◌, ℕ, ◌≤◌, nat_lt, Bool, true, List, [], ◌∷◌, flat_map, Some, ◌⊎◌}
+use Rattle.std.specs.Prelude.{◌&&◌, ◌≡◌, ℕ, ◌≤◌, nat_lt, Bool, true, List, [], ◌∷◌, flat_map, Some, ◌⊎◌}
 use Rattle.std.specs.List.{AllByRecursion}
 use Rattle.std.proofs.Common.{refl, sym, subst, ap, ◌∙◌, arith, inl, inr}
 use Rattle.std.proofs.lemmas.Bool.{eq-eqb}
@@ -75,7 +75,7 @@ module _ {K V : Type 0} (caller map : ℕ) (m : Moment K V) (known : Known) (w w
   row_keeps (changed.Made k b) none left = absurd (let gone = leaves.none b left.0 in let there = left.3 in cc (gone, there))
   row_keeps (changed.Unmade k) none left = (tt, tt)
   row_keeps (changed.Took b) none left = absurd none
-  row_keeps (changed.Roomed bucket had) none left = room_keeps (nat_lt bucket known.buckets)
+  row_keeps (changed.Roomed bucket had) none left = room_keeps (had && nat_lt bucket known.buckets)
 
 -- a block that a call takes away was none of a map
 taken_few : (caller map : ℕ) (r : Role) → (IsLasting r → ⊥) → AreFew (taken_by (acts.Call caller map) r)

@@ -1,5 +1,5 @@
 -- Which effects of a step take something out of a map: the first one at most. A step of a call reclaims nothing but what was its own.
-use Rattle.std.specs.Prelude.{◌≡◌, ◌==◌, ℕ, nat_lt, Bool, true, false, List, [], ◌∷◌, ◌++◌, flat_map, Option, if◌then◌else◌}
+use Rattle.std.specs.Prelude.{◌&&◌, ◌≡◌, ◌==◌, ℕ, nat_lt, Bool, true, false, List, [], ◌∷◌, ◌++◌, flat_map, Option, if◌then◌else◌}
 use Rattle.std.specs.List.{AllByRecursion}
 use Rattle.std.proofs.Common.{refl, ap, ◌∙◌}
 use Rattle.std.proofs.lemmas.List.Concat.{flat_map-cons}
@@ -205,7 +205,7 @@ module _ (caller map : ℕ) where
   effects_few known (changed.Made k b) own = made_few (Call caller map) k
   effects_few known (changed.Unmade k) own = (tt, refl)
   effects_few known (changed.Took b) own = own
-  effects_few known (changed.Roomed bucket had) own = if_few (Call caller map) (nat_lt bucket known.buckets) [] (Asked ABucket ∷ []) (tt, refl) (tt, refl)
+  effects_few known (changed.Roomed bucket had) own = if_few (Call caller map) (had && nat_lt bucket known.buckets) [] (Asked ABucket ∷ []) (tt, refl) (tt, refl)
 
 -- an effect that takes nothing out shelters nothing more
 module _ {K V : Type 0} (caller : Option (List ℕ)) (map : Option ℕ) where

@@ -173,7 +173,7 @@ module _ {K V S : Type 0} (same : K → K → Bool) (hash : K → ℕ) (m : Mome
     told_back (changed.Made kind b) is tells_so xs all = absurd tells_so
     told_back (changed.Unmade kind) is tells_so xs all = absurd tells_so
     told_back (changed.Took b) is tells_so xs all = taken_back b is (known.roles b) refl xs all
-    told_back (changed.Roomed bucket had) is tells_so xs all = roomed_back (nat_lt bucket known.buckets) xs
+    told_back (changed.Roomed bucket had) is tells_so xs all = roomed_back (had && nat_lt bucket known.buckets) xs
 
     pub row_shelters : (xs : List Sheltered) → AreSheltered there w known xs
         → (GuardsAreInside there w → GuardsAreInside there w2) × AreSheltered there w2 known2 xs × NoneIsBack (effects_of Row known new.memory.changed) xs

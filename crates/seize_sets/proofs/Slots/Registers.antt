@@ -1,6 +1,6 @@
--- A row that registers while no other row is under way takes the first vacant slot, or none.
+-- A row that registers while no other row takes or frees a slot takes the first vacant one, or none.
 use Rattle.std.specs.Prelude.{Option, Some, None, slice_get, if◌then◌else◌, nat_lt}
-use Rattle.std.proofs.Common.{◌≡◌, ℕ, ◌+◌, ◌<◌, ◌≤◌, Bool, true, false, List, [], ◌∷◌, length, ◌⊎◌, inl, inr, refl, arith, sym, subst, ap, ◌∙◌}
+use Rattle.std.proofs.Common.{◌≡◌, ℕ, ◌+◌, ◌<◌, ◌≤◌, Bool, true, false, cond, eqb, eqb-true, List, [], ◌∷◌, length, ◌⊎◌, inl, inr, refl, arith, sym, subst, ap, ◌∙◌}
 use Rattle.std.proofs.lemmas.Bool.{cases_eq}
 use Rattle.std.proofs.Math.ListN.{get_or-eq_default}
 use Rattle.seize_words.specs.declared.at.At.TheVariants as at
@@ -75,6 +75,21 @@ no_team (j ∷ l) h = absurd (let k = h j in grind (arith, k))
 not_free : (v a : ℕ) → v ≡ a → can_be_taken a ≡ true → can_be_taken v ≡ false → ⊥
 not_free v a e h f = let k : can_be_taken v ≡ true = ap can_be_taken e ∙ h in cc (k, f)
 
+-- no other row works on a vacant slot
+abbrev pub NoneOnVacant : {T : Type 0} → ℕ → World T → Type 0
+NoneOnVacant i w = (j t : ℕ) → (j ≡ i → ⊥) → works_on (w.row j) ≡ t + 1 → w.uses t ≡ Vacant → ⊥
+
+-- so it is while all others rest
+rest_apart : {T : Type 0} (i : ℕ) (w : World T) → OthersRest i w → NoneOnVacant i w
+rest_apart i w others j t other on vacant = let k : works_on (w.row j) ≡ 0 = ap works_on (others j other) in omega (arith, k, on)
+
+not_same : (a b : ℕ) → (b ≡ a → ⊥) → same a b ≡ 0
+not_same a b ne = by (eqb a b) refl
+  where
+    by : (q : Bool) → eqb a b ≡ q → same a b ≡ 0
+    by true e = absurd (ne (sym (eqb-true a b e)))
+    by false e = ap {B = ℕ} (λ (q : Bool). cond q 1 0) e
+
 -- a slot that was never taken is vacant
 never_used : (u : Use) (h : Head) (k : ℕ) (o : Bool) → h ≡ Never → UseFits u (emptied h) k o → u ≡ Vacant
 never_used u h k o e f = by u (subst (λ (x : Head). UseFits u (emptied x) k o) e f)
@@ -93,7 +108,7 @@ not_vacant_head links v Idle k e f none u = cc (none, u)
 not_vacant_head links v (Active es) k e f none u = u
 
 module _ {T : Type 0} {size : ℕ} (defers : T → Option ℕ) (n : ℕ) (last : n ≡ LAST_SLOT + 1) (w : World T) (good : Good defers n size w) (i : ℕ) (c : Register) (is : w.row i ≡ Registers c)
-    (others : OthersRest i w) (uses : ℕ → Use) (enters : Bool) (on : RegistersOn uses enters w c) where
+    (apart : NoneOnVacant i w) (uses : ℕ → Use) (enters : Bool) (on : RegistersOn uses enters w c) where
   -- how it ends
 
   goes : (mem2 : Mem T) (c2 : Register) (end : Register × Progress ℕ) → end ≡ (c2, Goes) → c2.enters ≡ c.enters → LooksAt uses enters mem2 c2.slot c2.stands
@@ -117,20 +132,21 @@ module _ {T : Type 0} {size : ℕ} (defers : T → Option ℕ) (n : ℕ) (last :
 
   -- nobody works on a slot that it looks at
 
-  no_work : works_on (w.row i) ≡ 0 → (j : ℕ) → works_on (w.row j) ≡ 0
-  no_work mine j = elim (cases_eq j i) as (λ _. works_on (w.row j) ≡ 0) [
-    | inl same ↦ ap (λ k. works_on (w.row k)) same ∙ mine
-    | inr other ↦ ap works_on (others j other)
+  no_work : works_on (w.row i) ≡ 0 → w.uses c.slot ≡ Vacant → (j : ℕ) → works_on (w.row j) ≡ c.slot + 1 → ⊥
+  no_work mine vacant j at_it = elim (cases_eq j i) as (λ _. ⊥) [
+    | inl same_row ↦ (let k : works_on (w.row j) ≡ 0 = ap (λ k. works_on (w.row k)) same_row ∙ mine in omega (arith, k, at_it))
+    | inr other ↦ apart j c.slot other at_it vacant
   ]
 
-  no_one : works_on (w.row i) ≡ 0 → length (good.used.team c.slot) ≡ 0
-  no_one mine = no_team (good.used.team c.slot) (λ j. let k = no_work mine j in let q = good.used.teamed c.slot j in grind (arith, k, q))
+  no_one : works_on (w.row i) ≡ 0 → w.uses c.slot ≡ Vacant → length (good.used.team c.slot) ≡ 0
+  no_one mine vacant =
+      no_team (good.used.team c.slot) (λ j. good.used.teamed c.slot j ∙ not_same (c.slot + 1) (works_on (w.row j)) (no_work mine vacant j))
 
   not_vacant : (v : ℕ) → works_on (w.row i) ≡ 0 → words_of w.memory (at.Slot c.slot HEAD) ≡ v → can_be_taken v ≡ false → uses c.slot ≡ Vacant → ⊥
   not_vacant v mine e f u =
       let k : w.uses c.slot ≡ Vacant = ap (λ (g : ℕ → Use). g c.slot) on.uses_same ∙ u in
       not_vacant_head (view defers w.memory).links v (good.state.head c.slot) (length (good.used.team c.slot))
-      (subst (λ (x : ℕ). HeadIs (view defers w.memory).links x (good.state.head c.slot)) e (good.shows.entries.headed c.slot)) f (no_one mine)
+      (subst (λ (x : ℕ). HeadIs (view defers w.memory).links x (good.state.head c.slot)) e (good.shows.entries.headed c.slot)) f (no_one mine k)
       (rw k at (good.used.fits c.slot))
 
   -- it passes over a slot that isn't vacant
@@ -247,6 +263,12 @@ module _ {T : Type 0} {size : ℕ} (defers : T → Option ℕ) (n : ℕ) (last :
   fits_here : FitsRegister n i good.state good.extra (length w.memory.slots) c.slot c.stands
   fits_here = subst (λ (row : Row). FitsRow n i (view defers w.memory) good.state good.extra (length w.memory.slots) row) is (good.rows i)
 
-  pub registers_alone : (w2 : World T) (mem2 : Mem T) (end : Register × Progress ℕ) → Steps Took value_at w.memory (register_plan c) mem2 end → w2 ≡ registers_on w i c mem2 end
+  pub registers_apart : (w2 : World T) (mem2 : Mem T) (end : Register × Progress ℕ) → Steps Took value_at w.memory (register_plan c) mem2 end → w2 ≡ registers_on w i c mem2 end
       → Comes uses enters i w2 end
-  registers_alone w2 mem2 end st e = subst (λ (v : World T). Comes uses enters i v end) (sym e) (steps_at c.stands refl fits_here on.looks mem2 end st)
+  registers_apart w2 mem2 end st e = subst (λ (v : World T). Comes uses enters i v end) (sym e) (steps_at c.stands refl fits_here on.looks mem2 end st)
+
+-- while all others rest
+pub registers_alone : {T : Type 0} {size : ℕ} (defers : T → Option ℕ) (n : ℕ) (last : n ≡ LAST_SLOT + 1) (w : World T) (good : Good defers n size w) (i : ℕ) (c : Register) (is : w.row i ≡ Registers c)
+    (others : OthersRest i w) (uses : ℕ → Use) (enters : Bool) (on : RegistersOn uses enters w c) (w2 : World T) (mem2 : Mem T) (end : Register × Progress ℕ)
+    → Steps Took value_at w.memory (register_plan c) mem2 end → w2 ≡ registers_on w i c mem2 end → Comes uses enters i w2 end
+registers_alone defers n last w good i c is others uses enters on w2 mem2 end st e = registers_apart defers n last w good i c is (rest_apart i w others) uses enters on w2 mem2 end st e

@@ -1,5 +1,6 @@
 -- Each step may be taken, leads on, and leaves less to go, until the row has come so far.
 use Rattle.std.proofs.Common.{refl, suc, sym, ◌∙◌}
+use Rattle.papaya_effects.specs.Known.{known}
 use Rattle.papaya_logged.proofs.Runs.{ends_at_first, ends_now, ran_none, ran_on, run_goes, still_there}
 use Rattle.papaya_logged.proofs.logged.Logged.run_on_slot.Goals as goal
 
@@ -36,6 +37,9 @@ returns-then-has_come-clause-ran g c =
     let i = c.loop-told.invariant in
     let e = c.in_ok-told.ensures in
     ran_on _ _ _ _ _ _ c.args.caller c.in_ok-told.told i.under.0 i.under.1 i.ran e.leads e.steps
+
+pub returns-then-has_come-clause-tells : goal.returns-then-has_come-clause-tells
+returns-then-has_come-clause-tells g c = (known c.loop-told.self.notes, c.loop-told.effects.items, c.in_ok-told.ensures.did)
 
 pub loop-told-smaller-else-has_come : goal.loop-told-smaller-else-has_come
 loop-told-smaller-else-has_come g c =

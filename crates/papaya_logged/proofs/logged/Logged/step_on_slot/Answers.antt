@@ -1,5 +1,8 @@
 -- A step of a row on a slot.
-use Rattle.std.proofs.Common.{sym, subst}
+use Rattle.std.proofs.Common.{◌++◌, sym, ap, subst, ◌∙◌}
+use Rattle.papaya_effects.specs.Effects.{effects_of}
+use Rattle.papaya_effects.specs.Known.{known}
+use Rattle.papaya_effects.specs.declared.acting.Acting.TheVariants.{Row}
 use Rattle.papaya_executor.specs.OnSlots.{RowLeads}
 use Rattle.papaya_executor.specs.declared.executor.Executor.{Executor}
 use Rattle.papaya_logged.proofs.OnSlots.{on_slot_steps}
@@ -14,3 +17,8 @@ pub returns-clause-steps : goal.returns-clause-steps
 returns-clause-steps g c = λ same hash s at.
     subst (λ (e : Executor _ _ _). RowLeads same hash c.args.caller c.step_on_slot-told.result s c.args.self.now.executor e) (sym c.note.ensures.executor)
     (c.step_on_slot-told.ensures same hash s at)
+
+pub returns-clause-did : goal.returns-clause-did
+returns-clause-did g c =
+    c.in_ok-note.ensures.did
+    ∙ ap (λ (e : Executor _ _ _). c.args.effects.now.items ++ effects_of Row (known c.args.self.now.notes) e.memory.changed) (sym c.note.ensures.executor)

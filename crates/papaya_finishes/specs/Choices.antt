@@ -1,0 +1,17 @@
+-- Choices of free block numbers come while maps are made and end, and calls are under way on others.
+use Rattle.std.specs.Prelude.{ℕ, Bool, Option}
+use Rattle.seize.specs.World.{World, Chooses, Happens}
+use Rattle.papaya_tables.specs.Nodes.{deferred_word}
+use Rattle.papaya_tables.specs.declared.node.Node.{Node}
+use Rattle.papaya_callers.specs.Together.{UnderWay}
+use Rattle.papaya_finishes.specs.Endings.{Finishing, EndingsTogether}
+use Rattle.papaya_finishes.specs.Makings.{Beginning}
+use Rattle.papaya_finishes.specs.Maps.{Standing}
+
+module _ {K Q : Type 0} (V : Type 0) (same : K → K → Bool) (asks : Q → K → Bool) (batch_size roots : ℕ) (slot : ℕ → ℕ) where
+  -- The promise: which number the next block is to have is nothing to what stands together.
+  abbrev pub ChoicesStandAmong : Type 0
+  ChoicesStandAmong =
+      (w : World (Node K V)) (maps : ℕ → Option (Standing K)) (calls : ℕ → ℕ → Option (UnderWay K V Q)) (makers : ℕ → Option (Beginning K)) (enders : ℕ → Option (Finishing K V))
+      → EndingsTogether V same asks batch_size roots slot w maps calls makers enders → (choice : ℕ) (w2 : World (Node K V)) → Happens deferred_word batch_size (Chooses choice) w w2
+      → EndingsTogether V same asks batch_size roots slot w2 maps calls makers enders

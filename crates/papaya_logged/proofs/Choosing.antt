@@ -1,0 +1,92 @@
+-- Where a choice of a block number comes, the executor is there as before, and the moment shows it as before.
+use Rattle.std.specs.Prelude.{ℕ, Bool, List}
+use Rattle.std.proofs.Common.{◌≡◌, refl, ap}
+use Rattle.seize_words.specs.Mem.{Mem}
+use Rattle.seize.specs.World.{World}
+use Rattle.papaya_tables.specs.declared.node.Node.{Node}
+use Rattle.papaya_schedules.specs.Moment.{Moment}
+use Rattle.papaya_effects.specs.Known.{Known, known}
+use Rattle.papaya_effects.specs.declared.role.Role.{Role}
+use Rattle.papaya_effects.specs.declared.role.Role.TheVariants as role
+use Rattle.papaya_executor.specs.IsAt.{Scene, IsAt, slot_of}
+use Rattle.papaya_finishes.proofs.Among.Choices.{choices_stand_among}
+use Rattle.papaya_follows.specs.Blocks.{HasRole}
+use Rattle.papaya_hands.specs.Rows.{HoldsOne}
+use Rattle.papaya_hands.proofs.SettlingRows.{one_kept}
+use Rattle.papaya_moments.specs.Whole.{ShowsWhole}
+use Rattle.papaya_logged.specs.Choosing.{ChoiceIsShown, logged_chosen, memory_chosen, scene_chosen}
+use Rattle.papaya_logged.specs.declared.logged.Logged.{Logged}
+
+module _ {K V : Type 0} (choice : ℕ) (w : World (Node K V)) where
+  abbrev then_in : World (Node K V)
+  then_in = record w { memory = memory_chosen choice w.memory }
+
+  -- blocks have the roles that they had,
+  role_then : (stored : List (K × V)) (b : ℕ) (r : Role) → HasRole w stored b r → HasRole then_in stored b r
+  role_then stored b role.Free h = h
+  role_then stored b (role.OwnPair caller) h = h
+  role_then stored b (role.OwnTable turn shape) h = h
+  role_then stored b (role.Pair n) h = h
+  role_then stored b (role.Table t len) h = h
+  role_then stored b (role.Counter map) h = h
+
+  -- and a batch holds what it held
+  one_then : (slot first : ℕ) → HoldsOne w slot first → HoldsOne then_in slot first
+  one_then slot first one = record { block = one.block; held = one.held; retired = one.retired; is_first = one.is_first }
+
+module _ {K V : Type 0} (choice : ℕ) (same : K → K → Bool) (name : ℕ → List ℕ) (m : Moment K V) (noted : Known) (s : Scene K V) where
+  whole_then : ShowsWhole same name m noted s → ShowsWhole same name m noted (scene_chosen choice s)
+  whole_then whole =
+      let shown = whole.all.shown in
+      let hands = whole.all.hands in
+      let rows = whole.all.rows in
+      record {
+        all = record {
+          shown = record {
+            blocks = record { roles = λ b. role_then choice s.world m.stored b (noted.roles b) (shown.blocks.roles b); once = shown.blocks.once; stored = shown.blocks.stored };
+            number = shown.number;
+            maps = shown.maps;
+            calls = shown.calls;
+          };
+          asked = record { apart = whole.all.asked.apart; each = whole.all.asked.each };
+          hands = record { pairs = hands.pairs; tables = hands.tables; born = hands.born; stand = hands.stand };
+          rows = record {
+            none = rows.none;
+            one = λ map i u is.
+                one_kept (HoldsOne s.world (slot_of i)) (HoldsOne (then_in choice s.world) (slot_of i)) (one_then choice s.world (slot_of i)) (s.world.row i) (rows.one map i u is);
+          };
+        };
+        places = whole.places;
+        blocks = whole.blocks;
+        outside = whole.outside;
+        counters = whole.counters;
+      }
+
+module _ {K V S : Type 0} (choice : ℕ) (old : Logged K V S) where
+  at_then : (same : K → K → Bool) (hash : K → ℕ) (s : Scene K V) → IsAt same hash old.executor s → IsAt same hash (logged_chosen choice old).executor (scene_chosen choice s)
+  at_then same hash s at = record {
+    memory = ap (memory_chosen choice) at.memory;
+    together = choices_stand_among V same same old.executor.batch_size old.executor.roots slot_of s.world s.maps s.calls s.makers s.enders at.together choice (then_in choice s.world) refl;
+    maps = at.maps;
+    hashes = at.hashes;
+    calls = at.calls;
+    makers = at.makers;
+    enders = at.enders;
+    hashes_made = at.hashes_made;
+    numbers = at.numbers;
+    rows = at.rows;
+    on_slots = at.on_slots;
+    small = at.small;
+    slots = at.slots;
+    uses = at.uses;
+  }
+
+  pub choice_shown : ChoiceIsShown choice old (logged_chosen choice old)
+  choice_shown same hash name m s shown = record { is_at = at_then same hash s shown.is_at; shows = whole_then choice same name m (known old.notes) s shown.shows }
+
+  -- so it is by what the memory is then
+  abbrev pub with_memory : Mem (Node K V) → Logged K V S
+  with_memory memory = record old { executor = record old.executor { memory = record old.executor.memory { memory = memory } } }
+
+  pub chosen_is : (memory : Mem (Node K V)) → memory ≡ memory_chosen choice old.executor.memory.memory → with_memory memory ≡ logged_chosen choice old
+  chosen_is memory is = ap with_memory is

@@ -1,0 +1,105 @@
+//! Whose turn it is: events that are kept out.
+ghost use Rattle.std.specs.Prelude.{◌≡◌, ℕ, Bool, true, []};
+ghost use Rattle.papaya_runs.specs.Runs.{map_fault};
+ghost use Rattle.papaya_runs.specs.Same.{is_same};
+ghost use Rattle.papaya_schedules.specs.After.{mapped_on};
+ghost use Rattle.papaya_schedules.specs.Entry.{nameless};
+ghost use Rattle.papaya_schedules.specs.InTurn.{IsKeptOut};
+ghost use Rattle.papaya_scheduler.specs.KeptOut.{PlaysKeptOut};
+ghost use Rattle.papaya_scheduler.specs.Turns.{IsMakingOut, is_of, is_of_each, keeps_out};
+
+use crate::caller::Callers;
+use crate::played::Played;
+use crate::scheduler::Scheduler;
+use papaya_raw::{ResizeMode, entries_for};
+use papaya_runs::token::Token;
+use papaya_schedules::event::Event;
+use papaya_schedules::outcome::Outcome;
+use seize_words::Fault;
+
+/// Whether a name is that of a whole call that was begun without one.
+fn is_nameless(name: &Token) -> bool
+    ensures { result ≡ is_same name.now nameless }
+{
+    name.as_bytes() == b"-".as_slice()
+}
+
+/// Whether an event speaks of the call of this caller.
+fn is_of<K, V>(event: &Event<K, V>, name: &Token) -> bool
+    ensures { result ≡ is_of event.now name.now }
+{
+    match event {
+        Event::Replied { caller, .. }
+        | Event::Stop { caller }
+        | Event::Step { caller, .. }
+        | Event::Go { caller, .. }
+        | Event::Next { caller } => name.is(caller),
+        Event::OneCall { .. } => is_nameless(name),
+        _ => false,
+    }
+}
+
+/// What is wrong in making such a map.
+fn fault_of(mode: ResizeMode, capacity: u64) -> Option<Fault>
+    ensures { result ≡ map_fault mode capacity }
+{
+    if mode == ResizeMode::Incremental(0) {
+        return Some(Fault::ZeroChunk);
+    }
+    match entries_for(capacity) {
+        Ok(_) => None,
+        Err(fault) => Some(fault),
+    }
+}
+
+impl<V: Drop> Callers<V> {
+    /// Whether an event speaks of each call that is under way.
+    fn are_of<K>(&self, event: &Event<K, V>) -> bool
+        ensures { result ≡ is_of_each event.now self.now.items.items }
+    {
+        self.items.iter().all(|caller| is_of(event, &caller.name))
+    }
+}
+
+impl<K: Drop, V: Drop, S> Scheduler<K, V, S> {
+    /// Whether every event of this kind is refused: the collector has ended, or, where calls come one by one, the call of another caller is under way.
+    pub fn keeps_out(&self, event: &Event<K, V>) -> bool
+        ensures { result ≡ keeps_out event.now self.now }
+    {
+        if self.is_closed {
+            return true;
+        }
+        if !self.given.is_one_by_one {
+            return false;
+        }
+        !self.calls.are_of(event)
+    }
+
+    /// A map is not made, as busy, but that what is wrong in making it is told first.
+    fn refuse_map(&mut self, mode: ResizeMode, capacity: u64) -> Played<V>
+        ensures outcome { IsMakingOut mode capacity result.outcome }
+        ensures steps { result.steps ≡ 0 }
+        ensures effects { result.effects.items ≡ [] }
+        ensures mapped { self.new ≡ record self.old { is_mapped = true } }
+    {
+        self.is_mapped = true;
+        let Some(fault) = fault_of(mode, capacity) else {
+            return self.busy();
+        };
+        self.quietly(Outcome::Refused(fault))
+    }
+
+    /// An event that is kept out is refused, as busy, but that what is wrong in making a map is told first.
+    pub fn refuse(&mut self, event: Event<K, V>) -> Played<V>
+        ensures outcome { IsKeptOut event result.outcome }
+        ensures steps { result.steps ≡ 0 }
+        ensures effects { result.effects.items ≡ [] }
+        ensures mapped { self.new ≡ record self.old { is_mapped = mapped_on event self.old.is_mapped } }
+        ensures plays { (same : K → K → Bool) (hash : K → ℕ) → PlaysKeptOut same hash event result self.old self.new }
+    {
+        let Event::MakeMap { mode, capacity, .. } = event else {
+            return self.busy();
+        };
+        self.refuse_map(mode, capacity)
+    }
+}
