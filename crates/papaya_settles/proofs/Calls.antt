@@ -37,7 +37,7 @@ use Rattle.papaya_settles.proofs.Keys.{key_counts}
 use Rattle.papaya_settles.proofs.Rest.{room_counts, sum_counts, sweep_counts}
 
 -- a call that goes on is the machine that it has come to
-goes_as_one : {K V : Type 0} (machine : Machine K V K) (said : Progress (Node K V)) (next : Option (UnderWay K V K)) → GoesOnAs machine said next → (x : UnderWay K V K) → next ≡ Some x → machine_of x ≡ machine
+pub goes_as_one : {K V : Type 0} (machine : Machine K V K) (said : Progress (Node K V)) (next : Option (UnderWay K V K)) → GoesOnAs machine said next → (x : UnderWay K V K) → next ≡ Some x → machine_of x ≡ machine
 goes_as_one machine said next goes x is = by (has_ended said) refl
   where
     whole : Some (machine_of x) ≡ going_on machine said

@@ -3,7 +3,10 @@ use Rattle.std.specs.Prelude.{◌≡◌, ℕ, Bool, true, false, cond, List, Opt
 use Rattle.std.proofs.Common.{refl, ap, sym, subst, ◌∙◌, inl, inr}
 use Rattle.seize.specs.declared.rows.settle.Settled.{Settled}
 use Rattle.seize.specs.declared.rows.settle.Settled.TheVariants as settled
-use Rattle.seize.specs.World.{World}
+use Rattle.seize.specs.World.{World, Hand}
+use Rattle.seize_moves.proofs.State.Ghost.{IsOwned, can_carry}
+use Rattle.seize_rule.proofs.Points.Aside.{HandFits}
+use Rattle.seize_rule.proofs.Words.View.{view, list_in}
 use Rattle.seize_words.specs.Mem.{Mem, value_at}
 use Rattle.seize_alone.proofs.Histories.Reached.{Reached}
 use Rattle.papaya_tables.specs.Nodes.{deferred_word}
@@ -45,6 +48,8 @@ use Rattle.papaya_raw.specs.declared.machines.call.KeyCall.{KeyCall}
 use Rattle.papaya_raw.specs.declared.machines.machine.Machine.{Machine}
 use Rattle.papaya_raw.specs.declared.machines.machine.Machine.TheVariants as kinds
 use Rattle.papaya_raw.specs.declared.machines.progress.Progress.{Progress}
+use Rattle.papaya_runs.specs.declared.outcome.TableShape.{TableShape}
+use Rattle.papaya_schedules.specs.declared.effect.Table.{Table as Numbered}
 use Rattle.papaya_schedules.specs.Moment.{Moment}
 use Rattle.papaya_teller.specs.Tells.{StepsTold}
 use Rattle.papaya_teller.specs.declared.changed.Changed.{Changed}
@@ -72,6 +77,7 @@ use Rattle.papaya_callers.proofs.Together.Came.{came_reached}
 use Rattle.papaya_effects.specs.Effects.{effects_of}
 use Rattle.papaya_effects.specs.Known.{Known}
 use Rattle.papaya_effects.specs.declared.acting.Acting.TheVariants as acts
+use Rattle.papaya_effects.specs.declared.role.Role.{Role}
 use Rattle.papaya_effects.specs.declared.role.Role.TheVariants as role
 use Rattle.papaya_executor.specs.IsAt.{Scene, IsAt, slot_of}
 use Rattle.papaya_executor.specs.Stepping.{StepLeads, StepsFrom}
@@ -83,7 +89,8 @@ use Rattle.papaya_follows.specs.Shows.{Shows}
 use Rattle.papaya_follows.proofs.Steps.{WentTo, went_to, DidSo, OfNoRow}
 use Rattle.papaya_hands.specs.Rows.{ReclaimsNone, ShowsRows}
 use Rattle.papaya_others.proofs.Outcomes.{told_in}
-use Rattle.papaya_settles.specs.Due.{due_in_disposing, due_in_copying, due_in_calling, due_in_reserving, due_in_sweeping, due_in_row, RowTells, RowsTellDue}
+use Rattle.papaya_settles.specs.Due.{Due, due_in_disposing, due_in_copying, due_in_calling, due_in_reserving, due_in_sweeping, due_in_row, RowTells, OwnAreMade, RowsTellDue}
+use Rattle.papaya_settles.proofs.DueDefers.{AreTables}
 use Rattle.papaya_settles.specs.Entries.{IsSomebodys, IsBlank, RetiresOne, ShowsEntries}
 use Rattle.papaya_settles.proofs.DueRows.{GoesOn, IsSettling, IsToSettle, IsPutting, IsToPut, DisposingIs, CopyingIs, dispose_row, copier_row}
 use Rattle.papaya_settles.proofs.DueSettles.{effects_by}
@@ -208,11 +215,11 @@ module _ {K V : Type 0} (same : K → K → Bool) (hash : K → ℕ) (w : World 
 -- so its step tells of what it has in hand
 module _ {K V : Type 0} {size : ℕ} (w : World (Node K V)) (r : Reached deferred_word size w) (i map : ℕ) (known : Known) (m2 : Mem (Node K V)) (told : Changed)
     (blanks : (b : ℕ) → IsSomebodys (w.hand b) → IsBlank w.memory b) (none : ReclaimsNone (w.row i)) (own : RetiresOne (IsBlank w.memory) (w.row i))
-    (counters : (b map : ℕ) → known.roles b ≡ role.Counter map → value_at w.memory b ≡ Some node.Shards) where
-  abbrev TellsDue : Option ℕ → Option ℕ → Type 0
+    (tables : AreTables w.memory r.good.state.life known) where
+  abbrev TellsDue : Option Due → Option Due → Type 0
   TellsDue before after = RowTells i map known (effects_by i map known told) before after
 
-  spent : (before after after2 : Option ℕ) → after2 ≡ after → TellsDue before after → TellsDue before after2
+  spent : (before after after2 : Option Due) → after2 ≡ after → TellsDue before after → TellsDue before after2
   spent before after after2 e tells = subst (TellsDue before) (sym e) tells
 
   module _ (asks eq : K → K → Bool) (hash : K → ℕ) (x : KeyCall K V K) (end : KeyCall K V K × Called (Node K V))
@@ -220,24 +227,24 @@ module _ {K V : Type 0} {size : ℕ} (w : World (Node K V)) (r : Reached deferre
     abbrev CallAt : Calling → Type 0
     CallAt p = StepsTold K V (KeyCall K V K × Called (Node K V)) w.memory changed.Nothing (calls.plan_at asks eq hash x p) m2 told end
 
-    abbrev CallTo : Option ℕ → KeyCall K V K × Called (Node K V) → Type 0
+    abbrev CallTo : Option Due → KeyCall K V K × Called (Node K V) → Type 0
     CallTo before e = TellsDue before (due_in_calling e.0.stands)
 
-    disposed_to : (before : Option ℕ) (answer : KeyAnswer) (q : Dispose × Settled (Node K V)) → TellsDue before (due_in_disposing q.0.stands) → (q.1 ≡ settled.Done → due_in_disposing q.0.stands ≡ None)
+    disposed_to : (before : Option Due) (answer : KeyAnswer) (q : Dispose × Settled (Node K V)) → TellsDue before (due_in_disposing q.0.stands) → (q.1 ≡ settled.Done → due_in_disposing q.0.stands ≡ None)
         → CallTo before (disposed x answer q)
     disposed_to before answer (d, settled.Goes) tells done = tells
     disposed_to before answer (d, settled.Waits) tells done = tells
     disposed_to before answer (d, settled.Gave value) tells done = tells
     disposed_to before answer (d, settled.Done) tells done = spent before (due_in_disposing d.stands) None (sym (done refl)) tells
 
-    helped_to : (before : Option ℕ) (goal : Table) (q : Copier × Outcome (Node K V) Table) → TellsDue before (due_in_copying q.0.stands) → GoesOn q.1 → CallTo before (helped x goal q)
+    helped_to : (before : Option Due) (goal : Table) (q : Copier × Outcome (Node K V) Table) → TellsDue before (due_in_copying q.0.stands) → GoesOn q.1 → CallTo before (helped x goal q)
     helped_to before goal (c, outcome.Goes) tells goes = tells
     helped_to before goal (c, outcome.Waits) tells goes = tells
     helped_to before goal (c, outcome.Gave value) tells goes = tells
     helped_to before goal (c, outcome.Done table) tells goes = absurd goes
     helped_to before goal (c, outcome.Refused fault) tells goes = absurd goes
 
-    copied_to : (before : Option ℕ) (q : Copier × Outcome (Node K V) Table) → TellsDue before (due_in_copying q.0.stands) → GoesOn q.1 → CallTo before (copied x q)
+    copied_to : (before : Option Due) (q : Copier × Outcome (Node K V) Table) → TellsDue before (due_in_copying q.0.stands) → GoesOn q.1 → CallTo before (copied x q)
     copied_to before (c, outcome.Goes) tells goes = tells
     copied_to before (c, outcome.Waits) tells goes = tells
     copied_to before (c, outcome.Gave value) tells goes = tells
@@ -250,15 +257,15 @@ module _ {K V : Type 0} {size : ℕ} (w : World (Node K V)) (r : Reached deferre
         by : (p : Calling) → CallingIs w i p → CallAt p → CallTo (due_in_calling p) end
         by (calling.Disposes dispose answer) its st =
             let inner = told_in w.memory m2 told (disposed x answer) (dispose_plan dispose) end st in
-            let row = dispose_row w r i map known m2 told blanks none own counters dispose inner.0 inner.2 its in
+            let row = dispose_row w r i map known m2 told blanks none own tables dispose inner.0 inner.2 its in
             subst (CallTo (due_in_disposing dispose.stands)) (sym inner.1) (disposed_to (due_in_disposing dispose.stands) answer inner.0 row.0 row.1)
         by (calling.Helps copier goal) its st =
             let inner = told_in w.memory m2 told (helped x goal) (copier_plan hash copier) end st in
-            let row = copier_row w r i map known m2 told blanks none own counters hash copier inner.0 inner.2 its in
+            let row = copier_row w r i map known m2 told blanks none own tables hash copier inner.0 inner.2 its in
             subst (CallTo (due_in_copying copier.stands)) (sym inner.1) (helped_to (due_in_copying copier.stands) goal inner.0 row.0 row.1)
         by (calling.Copies copier) its st =
             let inner = told_in w.memory m2 told (copied x) (copier_plan hash copier) end st in
-            let row = copier_row w r i map known m2 told blanks none own counters hash copier inner.0 inner.2 its in
+            let row = copier_row w r i map known m2 told blanks none own tables hash copier inner.0 inner.2 its in
             subst (CallTo (due_in_copying copier.stands)) (sym inner.1) (copied_to (due_in_copying copier.stands) inner.0 row.0 row.1)
         by _ its st = absurd its
 
@@ -266,10 +273,10 @@ module _ {K V : Type 0} {size : ℕ} (w : World (Node K V)) (r : Reached deferre
     abbrev RoomAt : Reserving → Type 0
     RoomAt p = StepsTold K V (Reserve × Outcome (Node K V) Unit) w.memory changed.Nothing (reserves.plan_at {V = V} hash x p) m2 told end
 
-    abbrev RoomTo : Option ℕ → Reserve × Outcome (Node K V) Unit → Type 0
+    abbrev RoomTo : Option Due → Reserve × Outcome (Node K V) Unit → Type 0
     RoomTo before e = TellsDue before (due_in_reserving e.0.stands)
 
-    copied_room : (before : Option ℕ) (q : Copier × Outcome (Node K V) Table) → TellsDue before (due_in_copying q.0.stands) → GoesOn q.1 → RoomTo before (reserves.copied x q)
+    copied_room : (before : Option Due) (q : Copier × Outcome (Node K V) Table) → TellsDue before (due_in_copying q.0.stands) → GoesOn q.1 → RoomTo before (reserves.copied x q)
     copied_room before (c, outcome.Goes) tells goes = tells
     copied_room before (c, outcome.Waits) tells goes = tells
     copied_room before (c, outcome.Gave value) tells goes = tells
@@ -282,7 +289,7 @@ module _ {K V : Type 0} {size : ℕ} (w : World (Node K V)) (r : Reached deferre
         by : (p : Reserving) → ReservingIs w i p → RoomAt p → RoomTo (due_in_reserving p) end
         by (reserving.Copies copier) its st =
             let inner = told_in w.memory m2 told (reserves.copied x) (copier_plan hash copier) end st in
-            let row = copier_row w r i map known m2 told blanks none own counters hash copier inner.0 inner.2 its in
+            let row = copier_row w r i map known m2 told blanks none own tables hash copier inner.0 inner.2 its in
             subst (RoomTo (due_in_copying copier.stands)) (sym inner.1) (copied_room (due_in_copying copier.stands) inner.0 row.0 row.1)
         by _ its st = absurd its
 
@@ -290,7 +297,7 @@ module _ {K V : Type 0} {size : ℕ} (w : World (Node K V)) (r : Reached deferre
     abbrev SweepAt : Sweeping → Type 0
     SweepAt p = StepsTold K V (Sweep × Swept (Node K V)) w.memory changed.Nothing (sweeps.plan_at {V = V} hash x p) m2 told end
 
-    abbrev SweepTo : Option ℕ → Sweep × Swept (Node K V) → Type 0
+    abbrev SweepTo : Option Due → Sweep × Swept (Node K V) → Type 0
     SweepTo before e = TellsDue before (due_in_sweeping e.0.stands)
 
     further_none : due_in_sweeping (points.further x).stands ≡ None
@@ -300,14 +307,14 @@ module _ {K V : Type 0} {size : ℕ} (w : World (Node K V)) (r : Reached deferre
         points_none true a b e f = e
         points_none false a b e f = f
 
-    disposed_sweep : (before : Option ℕ) (q : Dispose × Settled (Node K V)) → TellsDue before (due_in_disposing q.0.stands) → (q.1 ≡ settled.Done → due_in_disposing q.0.stands ≡ None)
+    disposed_sweep : (before : Option Due) (q : Dispose × Settled (Node K V)) → TellsDue before (due_in_disposing q.0.stands) → (q.1 ≡ settled.Done → due_in_disposing q.0.stands ≡ None)
         → SweepTo before (sweeps.disposed x q)
     disposed_sweep before (d, settled.Goes) tells done = tells
     disposed_sweep before (d, settled.Waits) tells done = tells
     disposed_sweep before (d, settled.Gave value) tells done = tells
     disposed_sweep before (d, settled.Done) tells done = spent before (due_in_disposing d.stands) (due_in_sweeping (points.further x).stands) (further_none ∙ sym (done refl)) tells
 
-    copied_sweep : (before : Option ℕ) (q : Copier × Outcome (Node K V) Table) → TellsDue before (due_in_copying q.0.stands) → GoesOn q.1 → SweepTo before (sweeps.copied x q)
+    copied_sweep : (before : Option Due) (q : Copier × Outcome (Node K V) Table) → TellsDue before (due_in_copying q.0.stands) → GoesOn q.1 → SweepTo before (sweeps.copied x q)
     copied_sweep before (c, outcome.Goes) tells goes = tells
     copied_sweep before (c, outcome.Waits) tells goes = tells
     copied_sweep before (c, outcome.Gave value) tells goes = tells
@@ -320,16 +327,16 @@ module _ {K V : Type 0} {size : ℕ} (w : World (Node K V)) (r : Reached deferre
         by : (p : Sweeping) → SweepingIs w i p → SweepAt p → SweepTo (due_in_sweeping p) end
         by (sweeping.Copies copier) its st =
             let inner = told_in w.memory m2 told (sweeps.copied x) (copier_plan hash copier) end st in
-            let row = copier_row w r i map known m2 told blanks none own counters hash copier inner.0 inner.2 its in
+            let row = copier_row w r i map known m2 told blanks none own tables hash copier inner.0 inner.2 its in
             subst (SweepTo (due_in_copying copier.stands)) (sym inner.1) (copied_sweep (due_in_copying copier.stands) inner.0 row.0 row.1)
         by (sweeping.Disposes dispose) its st =
             let inner = told_in w.memory m2 told (sweeps.disposed x) (dispose_plan dispose) end st in
-            let row = dispose_row w r i map known m2 told blanks none own counters dispose inner.0 inner.2 its in
+            let row = dispose_row w r i map known m2 told blanks none own tables dispose inner.0 inner.2 its in
             subst (SweepTo (due_in_disposing dispose.stands)) (sym inner.1) (disposed_sweep (due_in_disposing dispose.stands) inner.0 row.0 row.1)
         by _ its st = absurd its
 
 module _ {K V S : Type 0} (same : K → K → Bool) (hash : K → ℕ) (name : ℕ → List ℕ) (m : Moment K V) (known : Known) (s : Scene K V) (old new : Executor K V S) (at_old : IsAt same hash old s)
-    (shown : Shows same name m known s) (rows : ShowsRows s) (entries : ShowsEntries s) (map i : ℕ) (u : UnderWay K V K) (under_way : s.calls map i ≡ Some u) (said : Progress (Node K V))
+    (shown : Shows same name m known s) (rows : ShowsRows s) (entries : ShowsEntries s) (owning : OwnAreMade known s.world) (map i : ℕ) (u : UnderWay K V K) (under_way : s.calls map i ≡ Some u) (said : Progress (Node K V))
     (leads : StepLeads same hash i said s old new) where
   abbrev to : WentTo same hash name m known s old new at_old shown map i u under_way said leads
   to = went_to same hash name m known s old new at_old shown map i u under_way said leads
@@ -346,8 +353,26 @@ module _ {K V S : Type 0} (same : K → K → Bool) (hash : K → ℕ) (name : �
   r : Reached deferred_word st.setting.batch_size s.world
   r = came_reached st.setting.batch_size s.world each.ground.came
 
-  counters_are : (b of : ℕ) → known.roles b ≡ role.Counter of → value_at s.world.memory b ≡ Some node.Shards
-  counters_are b of is = subst (HasRole s.world m.stored b) is (shown.blocks.roles b)
+  -- what carries others is noted as a table: one of somebody's own is in its maker's hands
+  tables_are : AreTables s.world.memory r.good.state.life known
+  tables_are b d list carries = by (known.roles b) refl (shown.blocks.roles b)
+    where
+      no_list : (o : Option (Node K V)) → value_at s.world.memory b ≡ o → list_in deferred_word o ≡ None → ⊥
+      no_list o is e = absurd (let lists : (view deferred_word s.world.memory).lists b ≡ None = ap (λ (x : Option (Node K V)). list_in deferred_word x) is ∙ e in cc (lists, list))
+
+      not_own : (turn : ℕ) (shape : TableShape) → known.roles b ≡ role.OwnTable turn shape → ⊥
+      not_own turn shape is =
+          let made = owning b turn shape is in
+          let life : r.good.state.life b ≡ IsOwned made.0 = subst (λ (h : Hand). HandFits h (r.good.state.life b)) made.1 (r.good.hands b) in
+          absurd (let never : can_carry (r.good.state.life b) ≡ false = ap can_carry life in cc (never, carries))
+
+      by : (x : Role) → known.roles b ≡ x → HasRole s.world m.stored b x → (t : Numbered) × (len : ℕ) × (known.roles b ≡ role.Table t len)
+      by role.Free is has = absurd (no_list None has refl)
+      by (role.OwnPair caller) is has = absurd (no_list (Some has.0) has.1 has.2)
+      by (role.OwnTable turn shape) is has = absurd (not_own turn shape is)
+      by (role.Pair n) is has = absurd (no_list (Some (node.Pair has.0 has.1)) has.3 refl)
+      by (role.Table t len) is has = (t, len, is)
+      by (role.Counter of) is has = absurd (no_list (Some node.Shards) has refl)
 
   abbrev Goal : UnderWay K V K → Type 0
   Goal x = RowTells i map known (effects_of (acts.Call i map) known told) (due_in_row (machine_of x)) (due_in_row to.1)
@@ -362,7 +387,7 @@ module _ {K V S : Type 0} (same : K → K → Bool) (hash : K → ℕ) (name : �
   key_tells x is row =
       let inner = told_in old.memory.memory new.memory.memory told of_key (call_plan same same hash x.call) (to.1, said) (stepped (OnKey x) is) in
       of_machine (OnKey x) (kinds.Key inner.0.0) (ap (λ (z : Machine K V K × Progress (Node K V)). z.0) inner.1)
-      (call_row s.world r i map known new.memory.memory told entries.blank (rows.none map i u under_way) (entries.one map i u under_way) counters_are same same hash x.call inner.0 (subst (λ (k : Mem (Node K V)). StepsTold K V (KeyCall K V K × Called (Node K V)) k changed.Nothing (call_plan same same hash x.call) new.memory.memory told inner.0) (sym at_old.memory) inner.2) its)
+      (call_row s.world r i map known new.memory.memory told entries.blank (rows.none map i u under_way) (entries.one map i u under_way) tables_are same same hash x.call inner.0 (subst (λ (k : Mem (Node K V)). StepsTold K V (KeyCall K V K × Called (Node K V)) k changed.Nothing (call_plan same same hash x.call) new.memory.memory told inner.0) (sym at_old.memory) inner.2) its)
     where
       its : CallingIs s.world i x.call.stands
       its = elim (each.stand i (OnKey x) (under_way ∙ ap Some is)) as (λ _. CallingIs s.world i x.call.stands) [
@@ -377,7 +402,7 @@ module _ {K V S : Type 0} (same : K → K → Bool) (hash : K → ℕ) (name : �
   room_tells x is row =
       let inner = told_in old.memory.memory new.memory.memory told of_room (reserve_plan hash x.reserve) (to.1, said) (stepped (ForRoom x) is) in
       of_machine (ForRoom x) (kinds.Reserve inner.0.0) (ap (λ (z : Machine K V K × Progress (Node K V)). z.0) inner.1)
-      (room_row s.world r i map known new.memory.memory told entries.blank (rows.none map i u under_way) (entries.one map i u under_way) counters_are hash x.reserve inner.0 (subst (λ (k : Mem (Node K V)). StepsTold K V (Reserve × Outcome (Node K V) Unit) k changed.Nothing (reserve_plan hash x.reserve) new.memory.memory told inner.0) (sym at_old.memory) inner.2) its)
+      (room_row s.world r i map known new.memory.memory told entries.blank (rows.none map i u under_way) (entries.one map i u under_way) tables_are hash x.reserve inner.0 (subst (λ (k : Mem (Node K V)). StepsTold K V (Reserve × Outcome (Node K V) Unit) k changed.Nothing (reserve_plan hash x.reserve) new.memory.memory told inner.0) (sym at_old.memory) inner.2) its)
     where
       its : ReservingIs s.world i x.reserve.stands
       its = elim (each.stand i (ForRoom x) (under_way ∙ ap Some is)) as (λ _. ReservingIs s.world i x.reserve.stands) [
@@ -392,7 +417,7 @@ module _ {K V S : Type 0} (same : K → K → Bool) (hash : K → ℕ) (name : �
   over_all_tells x is row =
       let inner = told_in old.memory.memory new.memory.memory told of_sweep (sweep_plan hash x.sweep) (to.1, said) (stepped (OverAll x) is) in
       of_machine (OverAll x) (kinds.Sweep inner.0.0) (ap (λ (z : Machine K V K × Progress (Node K V)). z.0) inner.1)
-      (sweep_row s.world r i map known new.memory.memory told entries.blank (rows.none map i u under_way) (entries.one map i u under_way) counters_are hash x.sweep inner.0 (subst (λ (k : Mem (Node K V)). StepsTold K V (Sweep × Swept (Node K V)) k changed.Nothing (sweep_plan hash x.sweep) new.memory.memory told inner.0) (sym at_old.memory) inner.2) its)
+      (sweep_row s.world r i map known new.memory.memory told entries.blank (rows.none map i u under_way) (entries.one map i u under_way) tables_are hash x.sweep inner.0 (subst (λ (k : Mem (Node K V)). StepsTold K V (Sweep × Swept (Node K V)) k changed.Nothing (sweep_plan hash x.sweep) new.memory.memory told inner.0) (sym at_old.memory) inner.2) its)
     where
       its : SweepingIs s.world i x.sweep.stands
       its = elim (each.stand i (OverAll x) (under_way ∙ ap Some is)) as (λ _. SweepingIs s.world i x.sweep.stands) [
@@ -414,5 +439,5 @@ module _ {K V S : Type 0} (same : K → K → Bool) (hash : K → ℕ) (name : �
       by (OverAll x) is (p2, end, machine_is, told_is, inr (row, stayed)) other = over_all_tells x is row.is_row
 
 pub rows_tell_due : (K V S : Type 0) (same : K → K → Bool) (hash : K → ℕ) → RowsTellDue K V S same hash
-rows_tell_due K V S same hash name m known s old new at_old shown rows entries map i u here said leads other =
-    tells_due same hash name m known s old new at_old shown rows entries map i u here said leads other
+rows_tell_due K V S same hash name m known s old new at_old shown rows entries owning map i u here said leads other =
+    tells_due same hash name m known s old new at_old shown rows entries owning map i u here said leads other

@@ -28,17 +28,22 @@ use Rattle.papaya_tables.specs.Nodes.{deferred_word}
 use Rattle.papaya_tables.specs.declared.node.Node.{Node}
 use Rattle.papaya_tables.specs.declared.node.Node.TheVariants as node
 use Rattle.papaya_tables.specs.declared.table_words.TheConstants.{DEFERRED}
+use Rattle.papaya_schedules.specs.declared.effect.Table.{Table}
 use Rattle.papaya_teller.specs.Tells.{StepsTold}
 use Rattle.papaya_teller.specs.declared.changed.Changed.{Changed}
 use Rattle.papaya_teller.specs.declared.changed.Changed.TheVariants as changed
-use Rattle.papaya_effects.specs.Effects.{in_block, named, names_same}
+use Rattle.papaya_effects.specs.Effects.{carried, in_block, named, names_same}
 use Rattle.papaya_effects.specs.Known.{Known}
 use Rattle.papaya_effects.specs.declared.acting.Acting.TheVariants as acts
 use Rattle.papaya_effects.specs.declared.role.Role.{Role}
 use Rattle.papaya_effects.specs.declared.role.Role.TheVariants as role
-use Rattle.papaya_settles.specs.Due.{due_in_defer, told_deferred, RowTells, TellsNone, TellsDeferred}
+use Rattle.papaya_settles.specs.Due.{ToPut, due_in_defer, RowTells, TellsNone, TellsDeferred}
 use Rattle.papaya_settles.proofs.DueSettles.{effects_by, plan_none}
 use Rattle.papaya_settles.proofs.EntryRows.{named as named_by}
+
+-- each block that has a list, and may carry what is put on it, is noted as a table
+abbrev pub AreTables : {K V : Type 0} → Mem (Node K V) → (ℕ → Life) → Known → Type 0
+AreTables memory life known = (b d : ℕ) → (view deferred_word memory).lists b ≡ Some d → can_carry (life b) ≡ true → (t : Table) × (len : ℕ) × (known.roles b ≡ role.Table t len)
 
 -- the list of a block that a section holds, and that may carry others, was not taken over
 undrained : (l : Life) (debt : ℕ → ℕ → Debt) (s : ℕ) (d : Bool) → IsGuarded l debt s → can_carry l ≡ true → DrainedIs l d → d ≡ false
@@ -64,7 +69,7 @@ word_of_list (Some _) d is = absurd (cc is)
 module _ {K V : Type 0} {size : ℕ} (w : World (Node K V)) (r : Reached deferred_word size w) (i caller map : ℕ) (known : Known) (m2 : Mem (Node K V)) (told : Changed) (s : ℕ) (c : Defer)
     (fits : FitsDefer (LAST_SLOT + 1) i (view deferred_word w.memory) r.good.state r.good.extra s c.block c.table_word c.stands) (end : Defer × Progress Unit)
     (steps : StepsTold K V (Defer × Progress Unit) w.memory changed.Nothing (plans.defer_plan c) m2 told end)
-    (counters : (b map : ℕ) → known.roles b ≡ role.Counter map → value_at w.memory b ≡ Some node.Shards) where
+    (tables : AreTables w.memory r.good.state.life known) where
   abbrev m : State
   m = r.good.state
 
@@ -78,18 +83,19 @@ module _ {K V : Type 0} {size : ℕ} (w : World (Node K V)) (r : Reached deferre
   abbrev Goes : Deferring → Type 0
   Goes p = RowTells caller map known (effects_by caller map known told) (due_in_defer c p) (due_in_defer end.0 end.0.stands)
 
+  -- it is in its section, behind which it is to be put, and that may carry it
+  way : (on : OnWay (LAST_SLOT + 1) i (view deferred_word w.memory) m r.good.extra s c.block c.table_word) → (m.section i ≡ s + 1) × (m.defers i ≡ on.b + 1) × (holds s on.t m.log ≡ true)
+  way on = r.good.inv.logged.on_way on.b i s on.t on.life
+
+  carries : (on : OnWay (LAST_SLOT + 1) i (view deferred_word w.memory) m r.good.extra s c.block c.table_word) → can_carry (m.life on.t) ≡ true
+  carries on = (r.good.inv.places.carries on.b on.t (ap (lies_with on.t) on.life ∙ eq-eqb on.t on.t refl)).2
+
   -- the head of the list is another block
   apart : (on : OnWay (LAST_SLOT + 1) i (view deferred_word w.memory) m r.good.extra s c.block c.table_word) (head : ℕ) → word_at w.memory (name.Word on.t on.d) ≡ Some head → names_same head c.block ≡ false
   apart on head found = ne_eqb (block_in head) (block_in c.block) (λ e. by (m.deferred on.t) refl (e ∙ named_by c.block on.b on.block_is))
     where
-      way : (m.section i ≡ s + 1) × (m.defers i ≡ on.b + 1) × (holds s on.t m.log ≡ true)
-      way = r.good.inv.logged.on_way on.b i s on.t on.life
-
-      carries : can_carry (m.life on.t) ≡ true
-      carries = (r.good.inv.places.carries on.b on.t (ap (lies_with on.t) on.life ∙ eq-eqb on.t on.t refl)).2
-
       fresh : r.good.extra.drained on.t ≡ false
-      fresh = undrained (m.life on.t) m.debt s (r.good.extra.drained on.t) (r.good.inv.logged.guarded s on.t way.2) carries (r.good.shows.lists.drains on.t)
+      fresh = undrained (m.life on.t) m.debt s (r.good.extra.drained on.t) (r.good.inv.logged.guarded s on.t (way on).2) (carries on) (r.good.shows.lists.drains on.t)
 
       chain : Chain 0 (view deferred_word w.memory).nexts ((view deferred_word w.memory).own on.t on.d) (m.deferred on.t)
       chain = chain_of (view deferred_word w.memory).nexts ((view deferred_word w.memory).own on.t) ((view deferred_word w.memory).lists on.t) (r.good.extra.drained on.t) (m.deferred on.t) on.d on.list fresh
@@ -114,20 +120,16 @@ module _ {K V : Type 0} {size : ℕ} (w : World (Node K V)) (r : Reached deferre
           absurd (omega (arith, none, some))
 
   -- a table carries its pairs by this word
-  put_told : (t d : ℕ) → (view deferred_word w.memory).lists t ≡ Some d → (x : Role) → known.roles t ≡ x → (was is : Role)
-      → in_block (acts.Call caller map) x DEFERRED known.stored false was is ≡ told_deferred x is
-  put_told t d list (role.Table table len) e was is = refl
-  put_told t d list (role.Counter of) e was is =
-      absurd (let none : (view deferred_word w.memory).lists t ≡ None = ap (λ (o : Option (Node K V)). list_in deferred_word o) (counters t of e) in cc (none, list))
-  put_told t d list _ e was is = refl
+  put_told : (x : Role) (t : Table) (len : ℕ) → x ≡ role.Table t len → (was is : Role) → in_block (acts.Call caller map) x DEFERRED known.stored false was is ≡ carried t is
+  put_told x t len e was is = ap (λ (y : Role). in_block (acts.Call caller map) y DEFERRED known.stored false was is) e
 
-  still : (p : Deferring) (word : ℕ) → due_in_defer c p ≡ Some word → due_in_defer end.0 end.0.stands ≡ Some word → effects_by caller map known told ≡ [] → Goes p
+  still : (p : Deferring) (word : ℕ) → due_in_defer c p ≡ Some (ToPut word) → due_in_defer end.0 end.0.stands ≡ Some (ToPut word) → effects_by caller map known told ≡ [] → Goes p
   still p word due after none = TellsNone none (after ∙ sym due)
 
   pub defer_tells : Goes c.stands
   defer_tells = by c.stands refl fits steps
     where
-      reads : c.stands ≡ at.Reads → SteppedAt at.Reads → due_in_defer end.0 end.0.stands ≡ Some c.block
+      reads : c.stands ≡ at.Reads → SteppedAt at.Reads → due_in_defer end.0 end.0.stands ≡ Some (ToPut c.block)
       reads is (Found head, (took, told_so), ends) = ap (λ (q : Defer × Progress Unit). due_in_defer q.0 q.0.stands) ends
       reads is (Stored, (took, told_so), ends) = absurd took.0
       reads is (Exchanged x, (took, told_so), ends) = absurd took.0
@@ -139,11 +141,12 @@ module _ {K V : Type 0} {size : ℕ} (w : World (Node K V)) (r : Reached deferre
       pushes head f (Exchanged (Ok found), (took, told_so), ends) =
           let told_at : told ≡ changed.Wrote (name.Word f.on.t f.on.d) found c.block = told_so ∙ ap (λ (a : At). changed.Wrote a found c.block) f.on.at_is in
           let there : word_at w.memory (name.Word f.on.t f.on.d) ≡ Some found = subst (λ (a : At). word_at w.memory a ≡ Some found) f.on.at_is took.0.0 in
-          TellsDeferred c.block f.on.t refl (ap (λ (q : Defer × Progress Unit). due_in_defer q.0 q.0.stands) ends)
+          let table = tables f.on.t f.on.d f.on.list (carries f.on) in
+          TellsDeferred c.block f.on.t table.0 table.1 refl (ap (λ (q : Defer × Progress Unit). due_in_defer q.0 q.0.stands) ends) table.2
           (ap (effects_by caller map known) told_at
           ∙ ap (λ (q : Bool). in_block (acts.Call caller map) (known.roles f.on.t) f.on.d known.stored q (named known found) (named known c.block)) (apart f.on found there)
           ∙ ap (λ (d : ℕ). in_block (acts.Call caller map) (known.roles f.on.t) d known.stored false (named known found) (named known c.block)) (word_of_list (value_at w.memory f.on.t) f.on.d f.on.list)
-          ∙ put_told f.on.t f.on.d f.on.list (known.roles f.on.t) refl (named known found) (named known c.block))
+          ∙ put_told (known.roles f.on.t) table.0 table.1 table.2 (named known found) (named known c.block))
       pushes head f (Exchanged (Err found), (took, told_so), ends) =
           TellsNone (ap (effects_by caller map known) told_so) (ap (λ (q : Defer × Progress Unit). due_in_defer q.0 q.0.stands) ends)
       pushes head f (Found x, (took, told_so), ends) = absurd took.0

@@ -38,7 +38,6 @@ use Rattle.seize_rule.proofs.World.Start.{words_good}
 use Rattle.seize_alone.proofs.Histories.Reached.{Reached}
 use Rattle.papaya_tables.specs.Nodes.{deferred_word}
 use Rattle.papaya_tables.specs.declared.node.Node.{Node}
-use Rattle.papaya_tables.specs.declared.node.Node.TheVariants as node
 use Rattle.papaya_tables.specs.declared.table.Table.{Table}
 use Rattle.papaya_resize.specs.Copier.{copier_plan}
 use Rattle.papaya_resize.specs.Copier as copiers
@@ -59,13 +58,12 @@ use Rattle.papaya_teller.specs.Tells.{StepsTold}
 use Rattle.papaya_teller.specs.declared.changed.Changed.{Changed}
 use Rattle.papaya_teller.specs.declared.changed.Changed.TheVariants as changed
 use Rattle.papaya_effects.specs.Known.{Known}
-use Rattle.papaya_effects.specs.declared.role.Role.TheVariants as role
 use Rattle.papaya_executor.proofs.Forgotten.{as_step}
 use Rattle.papaya_hands.specs.Rows.{SettlesAside, ReclaimsNone}
 use Rattle.papaya_others.proofs.Outcomes.{told_in}
-use Rattle.papaya_settles.specs.Due.{due_in_settle, due_in_defer, due_in_disposing, due_in_copying, RowTells, TellsNone}
+use Rattle.papaya_settles.specs.Due.{Due, ToPut, due_in_settle, due_in_defer, due_in_disposing, due_in_copying, RowTells, TellsNone}
 use Rattle.papaya_settles.specs.Entries.{IsSomebodys, IsBlank, OneAt, RetiresOne}
-use Rattle.papaya_settles.proofs.DueDefers.{defer_tells}
+use Rattle.papaya_settles.proofs.DueDefers.{AreTables, defer_tells}
 use Rattle.papaya_settles.proofs.DueSettles.{effects_by, settle_tells}
 use Rattle.papaya_settles.proofs.EntryRows.{named}
 
@@ -107,7 +105,7 @@ module _ {T : Type 0} (w : World T) (i : ℕ) where
 
 module _ {K V : Type 0} {size : ℕ} (w : World (Node K V)) (r : Reached deferred_word size w) (i map : ℕ) (known : Known) (m2 : Mem (Node K V)) (told : Changed)
     (blanks : (b : ℕ) → IsSomebodys (w.hand b) → IsBlank w.memory b) (none : ReclaimsNone (w.row i)) (own : RetiresOne (IsBlank w.memory) (w.row i))
-    (counters : (b map : ℕ) → known.roles b ≡ role.Counter map → value_at w.memory b ≡ Some node.Shards) where
+    (tables : AreTables w.memory r.good.state.life known) where
   abbrev n : ℕ
   n = LAST_SLOT + 1
 
@@ -117,7 +115,7 @@ module _ {K V : Type 0} {size : ℕ} (w : World (Node K V)) (r : Reached deferre
   abbrev effects : List Effect
   effects = effects_by i map known told
 
-  abbrev pub Tells : Option ℕ → Option ℕ → Type 0
+  abbrev pub Tells : Option Due → Option Due → Type 0
   Tells before after = RowTells i map known effects before after
 
   -- retiring
@@ -207,7 +205,7 @@ module _ {K V : Type 0} {size : ℕ} (w : World (Node K V)) (r : Reached deferre
     begun_on : c.stands ≡ deferring.Reads → DeferGoes
     begun_on stands = by (subst DeferAt stands steps)
       where
-        after : (x : Defer × Progress Unit) → end ≡ x → due_in_defer x.0 x.0.stands ≡ Some c.block → due_in_defer end.0 end.0.stands ≡ due_in_defer c c.stands
+        after : (x : Defer × Progress Unit) → end ≡ x → due_in_defer x.0 x.0.stands ≡ Some (ToPut c.block) → due_in_defer end.0 end.0.stands ≡ due_in_defer c c.stands
         after x is due = ap (λ (q : Defer × Progress Unit). due_in_defer q.0 q.0.stands) is ∙ due ∙ sym (ap (due_in_defer c) stands)
 
         by : DeferAt deferring.Reads → DeferGoes
@@ -220,7 +218,7 @@ module _ {K V : Type 0} {size : ℕ} (w : World (Node K V)) (r : Reached deferre
 
     pub defer_row : DeferIs w i c → DeferGoes
     defer_row (IsPutting slot is) =
-        defer_tells w r i i map known m2 told slot c (subst (λ (q : Row). FitsRow n i (view deferred_word w.memory) m r.good.extra (length w.memory.slots) q) is (r.good.rows i)) end steps counters
+        defer_tells w r i i map known m2 told slot c (subst (λ (q : Row). FitsRow n i (view deferred_word w.memory) m r.good.extra (length w.memory.slots) q) is (r.good.rows i)) end steps tables
     defer_row (IsToPut block word is) = begun_on (ap (λ (x : Defer). x.stands) is)
 
     -- it is over once it has nothing in hand
@@ -248,7 +246,7 @@ module _ {K V : Type 0} {size : ℕ} (w : World (Node K V)) (r : Reached deferre
         by (deferring.Pushes head) stands (Roomed x, (took, told_so), ends) = absurd took.0
 
   -- where what it has in hand after it is the same
-  as_after : (before after after2 : Option ℕ) → after2 ≡ after → Tells before after → Tells before after2
+  as_after : (before after after2 : Option Due) → after2 ≡ after → Tells before after → Tells before after2
   as_after before after after2 e tells = subst (Tells before) (sym e) tells
 
   -- within a disposal
@@ -259,16 +257,16 @@ module _ {K V : Type 0} {size : ℕ} (w : World (Node K V)) (r : Reached deferre
     abbrev DisposeGoes : Disposing → Type 0
     DisposeGoes p = Tells (due_in_disposing p) (due_in_disposing end.0.stands) × (end.1 ≡ settled.Done → due_in_disposing end.0.stands ≡ None)
 
-    abbrev GoesTo : Option ℕ → Dispose × Settled (Node K V) → Type 0
+    abbrev GoesTo : Option Due → Dispose × Settled (Node K V) → Type 0
     GoesTo before e = Tells before (due_in_disposing e.0.stands) × (e.1 ≡ settled.Done → due_in_disposing e.0.stands ≡ None)
 
-    settles_to : (before : Option ℕ) (q : Settle × Settled (Node K V)) → Tells before (due_in_settle q.0 q.0.stands) → (q.1 ≡ settled.Done → due_in_settle q.0 q.0.stands ≡ None) → GoesTo before (disposes.settled d q)
+    settles_to : (before : Option Due) (q : Settle × Settled (Node K V)) → Tells before (due_in_settle q.0 q.0.stands) → (q.1 ≡ settled.Done → due_in_settle q.0 q.0.stands ≡ None) → GoesTo before (disposes.settled d q)
     settles_to before (c, settled.Goes) tells done = (tells, λ e. absurd (cc e))
     settles_to before (c, settled.Waits) tells done = (tells, λ e. absurd (cc e))
     settles_to before (c, settled.Gave value) tells done = (tells, λ e. absurd (cc e))
     settles_to before (c, settled.Done) tells done = (as_after before (due_in_settle c c.stands) None (sym (done refl)) tells, λ e. refl)
 
-    defers_to : (before : Option ℕ) (c : Defer) (o : Progress Unit) → Tells before (due_in_defer c c.stands) → EndsNone c o → GoesTo before (disposes.deferred d (c, o))
+    defers_to : (before : Option Due) (c : Defer) (o : Progress Unit) → Tells before (due_in_defer c c.stands) → EndsNone c o → GoesTo before (disposes.deferred d (c, o))
     defers_to before c progress.Goes tells done = (tells, λ e. absurd (cc e))
     defers_to before c progress.Waits tells done = (tells, λ e. absurd (cc e))
     defers_to before c (progress.Done x) tells done = (as_after before (due_in_defer c c.stands) None (sym done) tells, λ e. refl)
@@ -295,10 +293,10 @@ module _ {K V : Type 0} {size : ℕ} (w : World (Node K V)) (r : Reached deferre
     abbrev CopierAt : Copying → Type 0
     CopierAt p = StepsTold K V (Copier × Outcome (Node K V) Table) w.memory changed.Nothing (copiers.plan_at {V = V} hash c p) m2 told end
 
-    abbrev CopiesTo : Option ℕ → Copier × Outcome (Node K V) Table → Type 0
+    abbrev CopiesTo : Option Due → Copier × Outcome (Node K V) Table → Type 0
     CopiesTo before e = Tells before (due_in_copying e.0.stands) × GoesOn e.1
 
-    abbrev RetiredTo : Option ℕ → ℕ → Settle × Settled (Node K V) → Type 0
+    abbrev RetiredTo : Option Due → ℕ → Settle × Settled (Node K V) → Type 0
     RetiredTo before rest q = CopiesTo before (retired c rest q)
 
     table_none : (rest : ℕ) → due_in_copying (table_retired c rest).stands ≡ None
@@ -308,7 +306,7 @@ module _ {K V : Type 0} {size : ℕ} (w : World (Node K V)) (r : Reached deferre
         by true = refl
         by false = refl
 
-    retires_to : (before : Option ℕ) (rest : ℕ) (q : Settle × Settled (Node K V)) → Tells before (due_in_settle q.0 q.0.stands) → (q.1 ≡ settled.Done → due_in_settle q.0 q.0.stands ≡ None) → RetiredTo before rest q
+    retires_to : (before : Option Due) (rest : ℕ) (q : Settle × Settled (Node K V)) → Tells before (due_in_settle q.0 q.0.stands) → (q.1 ≡ settled.Done → due_in_settle q.0 q.0.stands ≡ None) → RetiredTo before rest q
     retires_to before rest (s, settled.Goes) tells done = (tells, tt)
     retires_to before rest (s, settled.Waits) tells done = (tells, tt)
     retires_to before rest (s, settled.Gave value) tells done = (tells, tt)

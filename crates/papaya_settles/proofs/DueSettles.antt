@@ -31,7 +31,7 @@ use Rattle.papaya_effects.specs.declared.role.Role.{Role}
 use Rattle.papaya_effects.specs.declared.role.Role.TheVariants as role
 use Rattle.papaya_executor.proofs.Forgotten.{as_step}
 use Rattle.papaya_hands.specs.Rows.{IsAside, SettlesAside}
-use Rattle.papaya_settles.specs.Due.{due_in_settle, told_retired, RowTells, TellsNone, TellsRetired}
+use Rattle.papaya_settles.specs.Due.{ToRetire, due_in_settle, told_retired, RowTells, TellsNone, TellsRetired}
 use Rattle.papaya_settles.specs.Entries.{IsBlank, OneAt}
 use Rattle.papaya_settles.proofs.EntrySettles.{goes_one}
 
@@ -106,7 +106,7 @@ module _ (caller map : ℕ) (known : Known) where
 -- a row that has a block to retire still
 module _ (word : ℕ) where
   abbrev pub IsDue : Settle → Type 0
-  IsDue d = due_in_settle d d.stands ≡ Some word
+  IsDue d = due_in_settle d d.stands ≡ Some (ToRetire word)
 
   with_due : (c : Settle) → c.pending ≡ word → c.flushing ≡ false → IsDue (plans.with_batch c)
   with_due c is steady = by c.held c.flushing steady (c.last == 0)
@@ -114,8 +114,8 @@ module _ (word : ℕ) where
       by : (h f : Bool) → f ≡ false → (l : Bool)
           → IsDue (if h then (if f then (if l then record c { flushing = false; stands = at.Gives } else record c { flushing = false; stands = at.Firsts 0 }) else plans.standing c at.Pops) else plans.standing c at.Sees)
       by true true e l = absurd (cc e)
-      by true false e l = ap Some is
-      by false f e l = ap Some is
+      by true false e l = ap (λ (k : ℕ). Some (ToRetire k)) is
+      by false f e l = ap (λ (k : ℕ). Some (ToRetire k)) is
 
   onward_due : (c : Settle) → c.reclaiming ≡ 0 → c.pending ≢ 0 → c.pending ≡ word → c.flushing ≡ false → IsDue (plans.onward c)
   onward_due c idle some is steady =
@@ -144,24 +144,24 @@ module _ (word : ℕ) where
 
     module _ (c : Settle) (aside : SettlesAside c) (stays : IsDue c) where
       seen_due : c.pending ≡ word → (out : Out T) → AllDue (plans.seen c out)
-      seen_due is (Found w) = either (w == HELD) (Now (c, settled.Waits)) (plans.to (record c { last = w; stands = at.Holds })) (λ e. stays) (ap Some is)
+      seen_due is (Found w) = either (w == HELD) (Now (c, settled.Waits)) (plans.to (record c { last = w; stands = at.Holds })) (λ e. stays) (ap (λ (k : ℕ). Some (ToRetire k)) is)
       seen_due is _ = stays
 
       held_due : c.pending ≢ 0 → c.pending ≡ word → (out : Out T) → AllDue (plans.taken_hold c out)
       held_due some is (Exchanged (Ok w)) = onward_due (record c { held = true }) aside.0 some is aside.2
-      held_due some is (Exchanged (Err w)) = ap Some is
+      held_due some is (Exchanged (Err w)) = ap (λ (k : ℕ). Some (ToRetire k)) is
       held_due some is _ = stays
 
       popped_due : c.pending ≡ word → (out : Out T) → AllDue (plans.popped c out)
       popped_due is (Found w) =
           either (c.last == 0) (plans.to (record c { pending = w; first = c.pending; stands = at.Batches c.pending })) (plans.to (record c { pending = w; stands = at.Firsts c.pending }))
-          (λ e. ap Some is) (ap Some is)
+          (λ e. ap (λ (k : ℕ). Some (ToRetire k)) is) (ap (λ (k : ℕ). Some (ToRetire k)) is)
       popped_due is _ = stays
 
       first_due : (block : ℕ) → block ≢ 0 → block ≡ word → (out : Out T) → AllDue (plans.first_read c block out)
       first_due block some is (Found w) =
           either (block == 0) (plans.to (plans.scanning (record c { first = w }))) (plans.to (record c { first = w; stands = at.Batches block }))
-          (λ e. absurd (some (eqb-true block 0 e))) (ap Some is)
+          (λ e. absurd (some (eqb-true block 0 e))) (ap (λ (k : ℕ). Some (ToRetire k)) is)
       first_due block some is _ = stays
 
 module _ {K V : Type 0} (caller map : ℕ) (known : Known) (m m2 : Mem (Node K V)) (told : Changed) (c : Settle) (end : Settle × Settled (Node K V)) (aside : SettlesAside c) (one : OneAt (IsBlank m) c c.stands)
@@ -195,11 +195,11 @@ module _ {K V : Type 0} (caller map : ℕ) (known : Known) (m m2 : Mem (Node K V
       ∙ sym (none_due c p k)
       )
 
-  still : (p : Settling) → c.stands ≡ p → (word : ℕ) → due_in_settle c p ≡ Some word → IsDue word end.0 → effects_by caller map known told ≡ [] → Goes p
+  still : (p : Settling) → c.stands ≡ p → (word : ℕ) → due_in_settle c p ≡ Some (ToRetire word) → IsDue word end.0 → effects_by caller map known told ≡ [] → Goes p
   still p is word due after none = TellsNone none (after ∙ sym due)
 
-  due_here : (p : Settling) → c.stands ≡ p → (word : ℕ) → due_in_settle c p ≡ Some word → IsDue word c
-  due_here p is word due = subst (λ (q : Settling). due_in_settle c q ≡ Some word) (sym is) due
+  due_here : (p : Settling) → c.stands ≡ p → (word : ℕ) → due_in_settle c p ≡ Some (ToRetire word) → IsDue word c
+  due_here p is word due = subst (λ (q : Settling). due_in_settle c q ≡ Some (ToRetire word)) (sym is) due
 
   batch_told : (block : ℕ) → IsBlank m (block_in block) → block_in c.first ≢ 0 → SteppedAt (at.Batches block) → Goes (at.Batches block)
   batch_told block blank some (out, (took, told_so), ends) = TellsRetired block refl (ap (λ (q : Settle × Settled (Node K V)). due_in_settle q.0 q.0.stands) ends) (ap (effects_by caller map known) told_at ∙ by (known.roles (block_in block)))

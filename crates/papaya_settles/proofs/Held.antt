@@ -51,7 +51,7 @@ module _ {T A B : Type 0} (Q : A → Type 0) (P : B → Type 0) (f : A → B) (t
   always_then (Seeing block rest) always = λ value. always_then (rest value) (always value)
   always_then (Sure fact rest) always = always_then rest always
 
-  always_turned : (plan : Plan T A) → AlwaysOf Q plan → AlwaysOf P (plan_as f plan)
+  pub always_turned : (plan : Plan T A) → AlwaysOf Q plan → AlwaysOf P (plan_as f plan)
   always_turned (Turn rest) always = always_then rest always
   always_turned (Do op rest) always = λ out. always_then (rest out) (always out)
 

@@ -194,7 +194,7 @@ module _ {K V S : Type 0} (same : K → K → Bool) (hash : K → ℕ) (name : �
       before_seeks (at.Over e) before = absurd before
       before_seeks _ before = tt
 
-      unchanged : IsBefore x.call.stands → x.change ≡ Unchanged
+      pub unchanged : IsBefore x.call.stands → x.change ≡ Unchanged
       unchanged before = elim (knew.facts) as (λ _. x.change ≡ Unchanged) [
         | inl facts ↦ facts.unchanged (before_seeks x.call.stands before)
         | inr late ↦ late.0

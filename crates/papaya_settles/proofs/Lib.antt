@@ -25,3 +25,16 @@ pub mod DueRows
 pub mod DueCalls
 pub mod Owing
 pub mod Takings
+pub mod HandRoles
+pub mod Passed
+pub mod HandRows
+pub mod HandBehind
+pub mod HandSteps
+pub mod HandAsked
+pub mod HandBetween
+pub mod HandCalls
+pub mod Linked
+pub mod Nothing
+pub mod Unpromoted
+pub mod EndsOver
+pub mod HandKeys

@@ -1,6 +1,7 @@
 -- What the row within a call has in hand, and has neither retired nor put behind a table: by where its machine stands.
 use Rattle.std.specs.Prelude.{◌≡◌, ℕ, Bool, List, [], ◌∷◌, Option, Some, None}
 use Rattle.seize_words.specs.Word.{block_in}
+use Rattle.seize.specs.World.{World, Making}
 use Rattle.seize.specs.declared.rows.defer.Defer.{Defer}
 use Rattle.seize.specs.declared.rows.defer.Deferring.{Deferring}
 use Rattle.seize.specs.declared.rows.defer.Deferring.TheVariants as deferring
@@ -20,9 +21,11 @@ use Rattle.papaya_raw.specs.declared.machines.call.Calling.TheVariants as callin
 use Rattle.papaya_raw.specs.declared.machines.machine.Machine.{Machine}
 use Rattle.papaya_raw.specs.declared.machines.machine.Machine.TheVariants as kinds
 use Rattle.papaya_raw.specs.declared.machines.progress.Progress.{Progress}
+use Rattle.papaya_runs.specs.declared.outcome.TableShape.{TableShape}
 use Rattle.papaya_tables.specs.declared.node.Node.{Node}
 use Rattle.papaya_schedules.specs.declared.effect.Effect.{Effect}
 use Rattle.papaya_schedules.specs.declared.effect.Effect.TheVariants as effect
+use Rattle.papaya_schedules.specs.declared.effect.Table.{Table}
 use Rattle.papaya_schedules.specs.declared.effect.Thing.TheVariants.{APair, ATable}
 use Rattle.papaya_schedules.specs.Moment.{Moment}
 use Rattle.papaya_callers.specs.Together.{UnderWay}
@@ -40,45 +43,55 @@ use Rattle.papaya_follows.specs.Steps.{IsOfNoRow}
 use Rattle.papaya_hands.specs.Rows.{ShowsRows}
 use Rattle.papaya_settles.specs.Entries.{ShowsEntries}
 
--- the word of the block that a row is to retire, until its batch is told of
-abbrev pub due_in_settle : Settle → Settling → Option ℕ
-due_in_settle c settling.Sees = Some c.pending
-due_in_settle c settling.Holds = Some c.pending
-due_in_settle c settling.Pops = Some c.pending
-due_in_settle c (settling.Firsts block) = Some block
-due_in_settle c (settling.Batches block) = Some block
+-- the word of a block that a row is to retire, or to put behind another one
+pub data Due : Type 0 where
+  ToRetire : ℕ → Due
+  ToPut : ℕ → Due
+
+abbrev pub word_due : Option Due → Option ℕ
+word_due None = None
+word_due (Some (ToRetire word)) = Some word
+word_due (Some (ToPut word)) = Some word
+
+-- the one that it is to retire, until its batch is told of
+abbrev pub due_in_settle : Settle → Settling → Option Due
+due_in_settle c settling.Sees = Some (ToRetire c.pending)
+due_in_settle c settling.Holds = Some (ToRetire c.pending)
+due_in_settle c settling.Pops = Some (ToRetire c.pending)
+due_in_settle c (settling.Firsts block) = Some (ToRetire block)
+due_in_settle c (settling.Batches block) = Some (ToRetire block)
 due_in_settle c _ = None
 
--- and of the one that it is to put behind another, until it is there
-abbrev pub due_in_defer : Defer → Deferring → Option ℕ
+-- and the one that it is to put behind another, until it is there
+abbrev pub due_in_defer : Defer → Deferring → Option Due
 due_in_defer c deferring.Over = None
-due_in_defer c _ = Some c.block
+due_in_defer c _ = Some (ToPut c.block)
 
-abbrev pub due_in_disposing : Disposing → Option ℕ
+abbrev pub due_in_disposing : Disposing → Option Due
 due_in_disposing (disposing.Settles settle) = due_in_settle settle settle.stands
 due_in_disposing (disposing.Defers defer) = due_in_defer defer defer.stands
 due_in_disposing _ = None
 
-abbrev pub due_in_copying : Copying → Option ℕ
+abbrev pub due_in_copying : Copying → Option Due
 due_in_copying (copying.Retires settle rest) = due_in_settle settle settle.stands
 due_in_copying _ = None
 
-abbrev pub due_in_calling : Calling → Option ℕ
+abbrev pub due_in_calling : Calling → Option Due
 due_in_calling (calling.Disposes dispose answer) = due_in_disposing dispose.stands
 due_in_calling (calling.Helps copier goal) = due_in_copying copier.stands
 due_in_calling (calling.Copies copier) = due_in_copying copier.stands
 due_in_calling _ = None
 
-abbrev pub due_in_reserving : Reserving → Option ℕ
+abbrev pub due_in_reserving : Reserving → Option Due
 due_in_reserving (reserving.Copies copier) = due_in_copying copier.stands
 due_in_reserving _ = None
 
-abbrev pub due_in_sweeping : Sweeping → Option ℕ
+abbrev pub due_in_sweeping : Sweeping → Option Due
 due_in_sweeping (sweeping.Copies copier) = due_in_copying copier.stands
 due_in_sweeping (sweeping.Disposes dispose) = due_in_disposing dispose.stands
 due_in_sweeping _ = None
 
-abbrev pub due_in_row : {K V Q : Type 0} → Machine K V Q → Option ℕ
+abbrev pub due_in_row : {K V Q : Type 0} → Machine K V Q → Option Due
 due_in_row (kinds.Key p) = due_in_calling p.stands
 due_in_row (kinds.Reserve r) = due_in_reserving r.stands
 due_in_row (kinds.Sweep c) = due_in_sweeping c.stands
@@ -90,22 +103,22 @@ told_retired (role.Pair n) = effect.Retired (APair n) ∷ []
 told_retired (role.Table t len) = effect.Retired (ATable t) ∷ []
 told_retired _ = []
 
--- and as it is put behind a table
-abbrev pub told_deferred : Role → Role → List Effect
-told_deferred (role.Table t len) r = carried t r
-told_deferred _ r = []
-
 -- What a step of a row within a call tells: nothing, and what it had in hand it has still; or it retires that, or has put it behind a table, and has nothing in hand
 -- any more.
-pub data RowTells (caller map : ℕ) (known : Known) (effects : List Effect) (before after : Option ℕ) : Type 0 where
+pub data RowTells (caller map : ℕ) (known : Known) (effects : List Effect) (before after : Option Due) : Type 0 where
   TellsNone : effects ≡ [] → after ≡ before → RowTells caller map known effects before after
-  TellsRetired : (word : ℕ) → before ≡ Some word → after ≡ None → effects ≡ told_retired (known.roles (block_in word)) → RowTells caller map known effects before after
-  TellsDeferred : (word table : ℕ) → before ≡ Some word → after ≡ None → effects ≡ told_deferred (known.roles table) (named known word) → RowTells caller map known effects before after
+  TellsRetired : (word : ℕ) → before ≡ Some (ToRetire word) → after ≡ None → effects ≡ told_retired (known.roles (block_in word)) → RowTells caller map known effects before after
+  TellsDeferred : (word block : ℕ) (t : Table) (len : ℕ) → before ≡ Some (ToPut word) → after ≡ None → known.roles block ≡ role.Table t len → effects ≡ carried t (named known word)
+      → RowTells caller map known effects before after
 
--- The promise, of each step of a row within a call.
+-- each block that is noted as a table of somebody's own is one that somebody makes
+abbrev pub OwnAreMade : {T : Type 0} → Known → World T → Type 0
+OwnAreMade known w = (b turn : ℕ) (shape : TableShape) → known.roles b ≡ role.OwnTable turn shape → (j : ℕ) × (w.hand b ≡ Making j)
+
+-- The promise, of each step of a row within a call, where that is so.
 abbrev pub RowsTellDue : (K V S : Type 0) (same : K → K → Bool) (hash : K → ℕ) → Type 0
 RowsTellDue K V S same hash =
-    (name : ℕ → List ℕ) (m : Moment K V) (known : Known) (s : Scene K V) (old new : Executor K V S) → IsAt same hash old s → Shows same name m known s → ShowsRows s → ShowsEntries s
+    (name : ℕ → List ℕ) (m : Moment K V) (known : Known) (s : Scene K V) (old new : Executor K V S) → IsAt same hash old s → Shows same name m known s → ShowsRows s → ShowsEntries s → OwnAreMade known s.world
     → (map i : ℕ) (u : UnderWay K V K) (here : s.calls map i ≡ Some u) (said : Progress (Node K V)) (leads : StepLeads same hash i said s old new)
     → (let to = leads map u here in
     (IsOfNoRow same old.batch_size old.roots s.world s.maps s.calls s.makers s.enders map to.0 i new.memory.memory to.4.w2 to.4.maps2 to.4.next u to.1 said to.4.did → ⊥)

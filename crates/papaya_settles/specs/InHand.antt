@@ -28,13 +28,13 @@ use Rattle.papaya_executor.specs.Stepping.{StepLeads}
 use Rattle.papaya_executor.specs.declared.executor.Executor.{Executor}
 use Rattle.papaya_follows.specs.Shows.{Shows}
 use Rattle.papaya_follows.specs.Steps.{IsOfNoRow}
-use Rattle.papaya_settles.specs.Due.{due_in_disposing}
+use Rattle.papaya_settles.specs.Due.{due_in_disposing, word_due}
 
 -- the word of the pair that it disposes of
 abbrev pub pair_in_disposing : Dispose → Disposing → Option ℕ
 pair_in_disposing d disposing.Reads = Some d.pair
 pair_in_disposing d (disposing.Walks table) = Some d.pair
-pair_in_disposing d p = due_in_disposing p
+pair_in_disposing d p = word_due (due_in_disposing p)
 
 -- and of one that it counts first
 abbrev pub pair_in_calling : Calling → Option ℕ

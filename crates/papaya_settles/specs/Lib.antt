@@ -6,3 +6,5 @@ pub mod Entries
 pub mod Due
 pub mod Owing
 pub mod InHand
+pub mod Hand
+pub mod Owed

@@ -4,6 +4,7 @@ ghost use Rattle.papaya_settles.specs.Beside.{StaysCounts, EffectsLeaveCounts, W
 ghost use Rattle.papaya_settles.specs.Due.{RowsTellDue};
 ghost use Rattle.papaya_settles.specs.Entries.{EntriesBegin, CallsGoOnEntries, EndingsBeginEntries, CallsKeepEntries, RowsBeginEntries, RowsKeepEntries, MakingsKeepEntries, EndingsKeepEntries};
 ghost use Rattle.papaya_settles.specs.InHand.{CallsTakeInHand, CallsHoldTheirs, SweepsTakeInHand, SweepsHoldTheirs};
+ghost use Rattle.papaya_settles.specs.Owed.{OwedBegins, StaysOwed, EffectsLeaveOwed, CallsBeginOwed, CallsTakeOwed, CallsComeToOwed, WalksHaveNothing, RowsHandOver, KeysGoInHand, CallsKeepOwed, WalksGoOnOwed, WalksStopOwed};
 ghost use Rattle.papaya_settles.specs.Owing.{OwesFollow, HandingFollows, StepsTakeOut};
 ghost use Rattle.papaya_settles.specs.Shards.{CountsFindShards};
 ghost use Rattle.papaya_settles.specs.Keeping.{CountsBegin, CallsKeepCounts, CallsBeginCounts, CallsBeginUncounted, CallsTakeCounts, CallsComeToCounts};
@@ -46,7 +47,7 @@ pub fn entries_are_blank<K, V, S>()
 {}
 
 /// A step of a row within a call tells nothing, and what it had in hand it has still; or it retires that, a pair or a table, or has put it behind a table, of which
-/// it tells, and has nothing in hand any more. So a row hands one block over, and tells of it once.
+/// it tells, which is noted as one, and has nothing in hand any more. So a row hands one block over, and tells of it once.
 pub fn rows_tell_due<K, V, S>()
     ensures rows { (same : K → K → Bool) (hash : K → ℕ) → RowsTellDue K V S same hash }
 {}
@@ -68,4 +69,33 @@ pub fn calls_take_in_hand<K, V, S>()
     ensures held { (same : K → K → Bool) (hash : K → ℕ) → CallsHoldTheirs K V S same hash }
     ensures sweeps { (same : K → K → Bool) (hash : K → ℕ) → SweepsTakeInHand K V S same hash }
     ensures sweeps_held { (same : K → K → Bool) (hash : K → ℕ) → SweepsHoldTheirs K V S same hash }
+{}
+
+/// A row within a call hands over what the call has in hand first, by where its machine stands: the pair that it disposes of, or the next of the tables that its copier has
+/// unlinked. What it has in hand behind that, the tables that come after that one, it has still, and all of it is noted as what it is. A step of a call on one key that is
+/// none of a row, and copies no pairs, leaves it what it had in hand, or it takes a pair out of its map and has that in hand then; and once it has ended, it has nothing.
+pub fn rows_hand_over_first<K, V, S>()
+    ensures rows { (same : K → K → Bool) (hash : K → ℕ) → RowsHandOver K V S same hash }
+    ensures keys { (same : K → K → Bool) (hash : K → ℕ) → KeysGoInHand K V S same hash }
+{}
+
+/// At each moment of a run that shows the executor, a call under way owes just what its machine has in hand, in the order in which it hands that over. So it is before all
+/// events; after each step of a call, whoever's, by which what the call has in hand goes with the effects: these find what they hand over, and a call that has ended so owes
+/// nothing; where a call begins that has nothing in hand, takes a reply and comes to an outcome; and a walk that is ready has nothing in hand.
+pub fn calls_owe_what_they_have<K, V, S>()
+    ensures begins { OwedBegins K V }
+    ensures calls { (same : K → K → Bool) (hash : K → ℕ) → CallsKeepOwed K V S same hash }
+    ensures begun { CallsBeginOwed K V }
+    ensures told { CallsTakeOwed K V }
+    ensures come_to { CallsComeToOwed K V }
+    ensures ready { WalksHaveNothing K V }
+{}
+
+/// What is no call leaves that as it was, where the blocks that calls have in hand are what they were: the effects of a row on a slot, of the making of a map, and of the
+/// end of one; and so does a walk that goes on to its next pair, or is given up.
+pub fn others_leave_owed<K, V, S>()
+    ensures stays { StaysOwed K V }
+    ensures effects { EffectsLeaveOwed K V }
+    ensures goes_on { (same : K → K → Bool) (hash : K → ℕ) → WalksGoOnOwed K V S same hash }
+    ensures stops { (same : K → K → Bool) (hash : K → ℕ) → WalksStopOwed K V S same hash }
 {}

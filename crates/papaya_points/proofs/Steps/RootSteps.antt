@@ -74,7 +74,7 @@ module _ (K V : Type 0) where
   spares_dispose d (disposes.Defers defer) other = absurd (other tt)
   spares_dispose d disposes.Over other = tt
 
-  spares_copier : (hash : K → ℕ) (p : Copier) (stands : Copying) → is_promoting stands ≡ false → (IsRowOfCopier stands → ⊥) → PlanSparesRoot (copier_plan_at {K = K} {V = V} hash p stands)
+  pub spares_copier : (hash : K → ℕ) (p : Copier) (stands : Copying) → is_promoting stands ≡ false → (IsRowOfCopier stands → ⊥) → PlanSparesRoot (copier_plan_at {K = K} {V = V} hash p stands)
   spares_copier hash p copies.Begins e other = tt
   spares_copier hash p copies.Follows e other = tt
   spares_copier hash p copies.Asks e other = tt
@@ -127,7 +127,7 @@ module _ {K V Q : Type 0} (asks : Q → K → Bool) (same : K → K → Bool) (h
       by (Some key) = fill (value_for p.replies word) _ key
       by None = tt
 
-  spares_call : (stands : Calling) → call_is_promoting stands ≡ false → (IsRowOfCall stands → ⊥) → PlanSparesRoot (call_plan_at asks same hash p stands)
+  pub spares_call : (stands : Calling) → call_is_promoting stands ≡ false → (IsRowOfCall stands → ⊥) → PlanSparesRoot (call_plan_at asks same hash p stands)
   spares_call at.Makes e other = spares_makes p.unmade
   spares_call (at.Looks l) e other = spares_looks l p.asked
   spares_call at.Roots e other = tt

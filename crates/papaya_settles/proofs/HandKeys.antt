@@ -1,0 +1,331 @@
+-- A step of a call on one key that is none of a row, and copies no pairs: what the call has in hand goes with the effects of the step.
+use Rattle.std.specs.Prelude.{◌≡◌, ℕ, ◌==◌, ◌||◌, Bool, true, false, List, [], ◌∷◌, ◌++◌, Option, Some, None, if◌then◌else◌}
+use Rattle.std.specs.List.{list_any}
+use Rattle.std.proofs.Common.{refl, ap, sym, subst, ◌∙◌, inl, inr}
+use Rattle.seize_words.specs.Word.{block_in}
+use Rattle.seize.specs.declared.rows.settle.Settled.{Settled}
+use Rattle.seize.specs.declared.rows.settle.Settled.TheVariants as settled
+use Rattle.papaya_tables.specs.Chunks.{is_incremental}
+use Rattle.papaya_tables.specs.declared.node.Node.{Node}
+use Rattle.papaya_resize.specs.Dispose as disposes
+use Rattle.papaya_resize.specs.Dispose.{dispose_plan, disposing}
+use Rattle.papaya_resize.specs.declared.dispose.Dispose.{Dispose}
+use Rattle.papaya_resize.specs.declared.dispose.Disposing.{Disposing}
+use Rattle.papaya_resize.specs.declared.dispose.Disposing.TheVariants as disposal
+use Rattle.papaya_raw.specs.Call.{call_plan, plan_at, disposed}
+use Rattle.papaya_raw.specs.CallPoints.{counted, going, over}
+use Rattle.papaya_raw.specs.Progress.{of_called}
+use Rattle.papaya_raw.specs.declared.machines.answer.Called.{Called}
+use Rattle.papaya_raw.specs.declared.machines.answer.Called.TheVariants as called
+use Rattle.papaya_raw.specs.declared.machines.answer.End.TheVariants as ends
+use Rattle.papaya_raw.specs.declared.machines.answer.KeyAnswer.{KeyAnswer}
+use Rattle.papaya_raw.specs.declared.machines.answer.KeyAnswer.TheVariants as answers
+use Rattle.papaya_raw.specs.declared.machines.call.Calling.{Calling}
+use Rattle.papaya_raw.specs.declared.machines.call.Calling.TheVariants as at
+use Rattle.papaya_raw.specs.declared.machines.call.KeyCall.{KeyCall}
+use Rattle.papaya_raw.specs.declared.machines.machine.Machine.{Machine}
+use Rattle.papaya_raw.specs.declared.machines.machine.Machine.TheVariants as kinds
+use Rattle.papaya_raw.specs.declared.machines.progress.Progress.{Progress}
+use Rattle.papaya_schedules.specs.declared.effect.Effect.{Effect}
+use Rattle.papaya_schedules.specs.declared.effect.Effect.TheVariants as effect
+use Rattle.papaya_schedules.specs.declared.effect.Table.{Table}
+use Rattle.papaya_schedules.specs.declared.effect.Thing.{Thing}
+use Rattle.papaya_schedules.specs.declared.effect.Thing.TheVariants.{APair}
+use Rattle.papaya_schedules.specs.Moment.{Moment}
+use Rattle.papaya_teller.specs.declared.changed.Changed.{Changed}
+use Rattle.papaya_teller.specs.declared.changed.Changed.TheVariants as changed
+use Rattle.papaya_rule.proofs.Keys.Always.{AlwaysOf, always_steps}
+use Rattle.papaya_points.specs.FactsCalls.{Change, IsCopying}
+use Rattle.papaya_points.specs.Told.{IsRowOf, IsRowOfCall}
+use Rattle.papaya_points.proofs.Steps.RootSteps.{call_is_promoting, spares_call}
+use Rattle.papaya_alone.specs.Handed.{call_has_unlinked}
+use Rattle.papaya_callers.specs.Sights.{seen_by}
+use Rattle.papaya_callers.specs.Together.{CallOnKey, OnKey, Stands, change_told, next_of}
+use Rattle.papaya_effects.specs.Effects.{effects_of}
+use Rattle.papaya_effects.specs.Known.{Known}
+use Rattle.papaya_effects.specs.declared.acting.Acting.TheVariants as acts
+use Rattle.papaya_effects.specs.declared.role.Role.TheVariants as role
+use Rattle.papaya_executor.specs.IsAt.{Scene, IsAt, slot_of}
+use Rattle.papaya_executor.specs.Stepping.{StepLeads}
+use Rattle.papaya_executor.specs.declared.executor.Executor.{Executor}
+use Rattle.papaya_executor.proofs.Forgotten.{as_step}
+use Rattle.papaya_finishes.specs.Endings.{StepsAmong}
+use Rattle.papaya_finishes.specs.Maps.{Standing}
+use Rattle.papaya_follows.specs.Shows.{Shows}
+use Rattle.papaya_follows.proofs.Steps.{WentTo, went_to, DidSo, OfNoRow}
+use Rattle.papaya_follows.proofs.Writes.{nothing_free}
+use Rattle.papaya_hands.proofs.Done.{stepped, here}
+use Rattle.papaya_histories.proofs.Which.{DidOnce, DidNone, DidStore, DidReplace, DidRemove}
+use Rattle.papaya_settles.specs.Hand.{thing_as, things_at, in_hand_of_call, in_hand, IsPairRole, NotesPair, NotesOfCall, NotesInHand}
+use Rattle.papaya_settles.specs.InHand.{pair_in_disposing, pair_in_calling}
+use Rattle.papaya_settles.specs.Owed.{HandGoes, KeysGoInHand}
+use Rattle.papaya_settles.specs.Owing.{hands_over, HandsOver, AllLeave, OwesGo, KeepsOwed, TakesOut, PutsOver, Passes, HandsFirst}
+use Rattle.papaya_settles.proofs.EndsOver.{IsOverAt, IsEnded, ended_step}
+use Rattle.papaya_settles.proofs.Fresh.{IsBefore, IsFreshAt, IsFresh}
+use Rattle.papaya_settles.proofs.HandAsked.{NoneOfCall}
+use Rattle.papaya_settles.proofs.Held.{always_turned, calls_hold_theirs}
+use Rattle.papaya_settles.proofs.Keys.{Together2, change2, once, did, fresh, unchanged, steps}
+use Rattle.papaya_settles.proofs.Linked.{IsNoCopier, before_links, self_fresh}
+use Rattle.papaya_settles.proofs.Nothing.{TakesNone, stands_none}
+use Rattle.papaya_settles.proofs.Status.{KindOf, ToCount, ToDispose, IsAtEnd, ToChange, kind_at}
+use Rattle.papaya_settles.proofs.Taken.{calls_take_in_hand}
+use Rattle.papaya_settles.proofs.Takings.{steps_take_out}
+use Rattle.papaya_settles.proofs.Unpromoted.{NonePromotes, none_promotes, spared_tells}
+
+no_copier : (p : Calling) → (IsCopying p → ⊥) → IsNoCopier p
+no_copier (at.Helps copier goal) none = absurd (none tt)
+no_copier (at.Copies copier) none = absurd (none tt)
+no_copier _ none = tt
+
+promotes_none : (p : Calling) → (IsCopying p → ⊥) → call_is_promoting p ≡ false
+promotes_none (at.Helps copier goal) none = absurd (none tt)
+promotes_none (at.Copies copier) none = absurd (none tt)
+promotes_none _ none = refl
+
+-- what hands something over does so
+hands_it : (f : Effect) (x : Thing) → HandsOver f x → hands_over f ≡ true
+hands_it (effect.Deferred n t) x hands = refl
+hands_it (effect.Retired y) x hands = refl
+hands_it _ x hands = absurd hands
+
+module _ (known : Known) where
+  -- where it has a pair in hand, that is all
+  hand_of : (p : Calling) (word : ℕ) → pair_in_calling p ≡ Some word → in_hand_of_call known p ≡ thing_as (known.roles (block_in word))
+  hand_of (at.Helps copier goal) word e = absurd (cc e)
+  hand_of (at.Copies copier) word e = absurd (cc e)
+  hand_of p word e = ap (things_at known) e
+
+  note_of : (p : Calling) (word : ℕ) → pair_in_calling p ≡ Some word → NotesOfCall known p → IsPairRole (known.roles (block_in word))
+  note_of (at.Helps copier goal) word e notes = absurd (cc e)
+  note_of (at.Copies copier) word e notes = absurd (cc e)
+  note_of p word e notes = subst (NotesPair known) e notes
+
+  noted_of : (p : Calling) (word : ℕ) → pair_in_calling p ≡ Some word → IsPairRole (known.roles (block_in word)) → NotesOfCall known p
+  noted_of (at.Helps copier goal) word e pair = absurd (cc e)
+  noted_of (at.Copies copier) word e pair = absurd (cc e)
+  noted_of p word e pair = subst (NotesPair known) (sym e) pair
+
+  none_of : (p : Calling) → (IsCopying p → ⊥) → pair_in_calling p ≡ None → in_hand_of_call known p ≡ []
+  none_of (at.Helps copier goal) none e = absurd (none tt)
+  none_of (at.Copies copier) none e = absurd (none tt)
+  none_of p none e = ap (things_at known) e
+
+  over_none : (p : Calling) → IsOverAt p → NoneOfCall known p
+  over_none (at.Over end) is = (refl, tt)
+  over_none _ is = absurd is
+
+  -- a call that is past its change, and has no pair in hand, has none after its step
+  module _ {K V : Type 0} (asks same : K → K → Bool) (hash : K → ℕ) (p : KeyCall K V K) where
+    abbrev NoneThen : KeyCall K V K × Called (Node K V) → Type 0
+    NoneThen e = NoneOfCall known e.0.stands
+
+    counted_none : (removed : ℕ) → (if removed == 0 then None else Some removed) ≡ None → NoneThen (counted p removed)
+    counted_none removed e = by (removed == 0) e
+      where
+        by : (q : Bool) → (if q then None else Some removed) ≡ None
+            → NoneThen (if q then over p (ends.Answered (answers.Stored p.own)) else going p (at.Disposes (disposing p.setting removed p.trial.table) (answers.Removed removed)))
+        by true e = (refl, tt)
+        by false e = absurd (cc e)
+
+    abbrev IsDone : Dispose × Settled (Node K V) → Type 0
+    IsDone q = q.1 ≡ settled.Done
+
+    dispose_done : (d : Dispose) (stands : Disposing) → (IsRowOf stands → ⊥) → pair_in_disposing d stands ≡ None → AlwaysOf IsDone (disposes.plan_at {K = K} {V = V} d stands)
+    dispose_done d (disposal.Settles settle) row e = absurd (row tt)
+    dispose_done d (disposal.Defers defer) row e = absurd (row tt)
+    dispose_done d disposal.Reads row e = absurd (cc e)
+    dispose_done d (disposal.Walks table) row e = absurd (cc e)
+    dispose_done d disposal.Over row e = refl
+
+    done_none : (answer : KeyAnswer) (q : Dispose × Settled (Node K V)) → IsDone q → NoneThen (disposed p answer q)
+    done_none answer (d, settled.Goes) e = absurd (cc e)
+    done_none answer (d, settled.Waits) e = absurd (cc e)
+    done_none answer (d, settled.Gave value) e = absurd (cc e)
+    done_none answer (d, settled.Done) e = (refl, tt)
+
+    past_none : (stands : Calling) → p.stands ≡ stands → (IsRowOfCall stands → ⊥) → pair_in_calling stands ≡ None → (IsBefore stands → ⊥) → AlwaysOf NoneThen (plan_at asks same hash p stands)
+    past_none (at.Counts removed) is row e past = λ out. counted_none removed e
+    past_none (at.Disposes d answer) is row e past = always_turned IsDone NoneThen (disposed p answer) (done_none answer) (dispose_plan d) (dispose_done d d.stands row e)
+    past_none (at.Over end) is row e past = subst (NoneOfCall known) (sym is) (refl, tt)
+    past_none _ is row e past = absurd (past tt)
+
+module _ {K V S : Type 0} (same : K → K → Bool) (hash : K → ℕ) (name : ℕ → List ℕ) (m : Moment K V) (known : Known) (s : Scene K V) (old new : Executor K V S) (at_old : IsAt same hash old s)
+    (shown : Shows same name m known s) (map i : ℕ) (x : CallOnKey K V K) (under_way : s.calls map i ≡ Some (OnKey x)) (said : Progress (Node K V)) (leads : StepLeads same hash i said s old new)
+    (copies : IsCopying x.call.stands → ⊥) (notes : NotesOfCall known x.call.stands)
+    (own : OfNoRow same hash name m known s old new at_old shown map i (OnKey x) under_way said leads (OnKey x) (went_to same hash name m known s old new at_old shown map i (OnKey x) under_way said leads).4.did)
+    (p2 : KeyCall K V K) (end : Called (Node K V)) where
+  abbrev to : WentTo same hash name m known s old new at_old shown map i (OnKey x) under_way said leads
+  to = went_to same hash name m known s old new at_old shown map i (OnKey x) under_way said leads
+
+  abbrev st : Standing K
+  st = to.0
+
+  abbrev told : Changed
+  told = new.memory.changed
+
+  abbrev effects : List Effect
+  effects = effects_of (acts.Call i map) known told
+
+  abbrev before : List Thing
+  before = in_hand_of_call known x.call.stands
+
+  abbrev Goal : Machine K V K → Type 0
+  Goal machine = OwesGo m effects before (in_hand known machine) × NotesInHand known machine
+
+  taking : (taken : List Thing) × OwesGo m effects before (before ++ taken) × (list_any hands_over effects ≡ false)
+  taking = steps_take_out K V S same hash name m known s old new at_old shown map i (OnKey x) under_way said leads own before
+
+  no_handing : (f : Effect) (y : Thing) → effects ≡ f ∷ [] → HandsOver f y → ⊥
+  no_handing f y are hands =
+      (let none : list_any hands_over (f ∷ []) ≡ false = ap (list_any hands_over) (sym are) ∙ taking.2 in
+      let some : list_any hands_over (f ∷ []) ≡ true = ap (λ (q : Bool). q || false) (hands_it f y hands) in cc (none, some))
+
+  module _ (machine_is : to.1 ≡ kinds.Key p2) (told_is : said ≡ of_called end)
+      (step : StepsAmong V same same old.batch_size old.roots slot_of s.world s.maps s.calls s.makers s.enders map st i x new.memory.memory p2 end) where
+    no_promotion : (t : Table) → effects ≡ effect.Promoted t ∷ [] → ⊥
+    no_promotion t are =
+        (let none = none_promotes i map known (nothing_free s.world m.stored known shown.blocks.roles) told
+        (spared_tells old.memory.memory new.memory.memory told (call_plan same same hash x.call) (p2, end) (spares_call same same hash x.call x.call.stands (promotes_none x.call.stands copies) step.no_row)
+        (steps same hash name m known s old new at_old shown map i x under_way said leads p2 end machine_is told_is)) in
+        let no = (subst NonePromotes are none).0 in cc no)
+
+    -- it has a pair in hand, and has it still
+    some_goes : (word : ℕ) → pair_in_calling x.call.stands ≡ Some word → Goal to.1
+    some_goes word e =
+        let held = calls_hold_theirs K V S same hash name m known s old new at_old shown map i x under_way said leads own word e in
+        let same_hand : in_hand_of_call known held.0.stands ≡ before =
+        hand_of known held.0.stands held.2 held.3 ∙ ap (λ (b : ℕ). thing_as (known.roles b)) held.4 ∙ sym (hand_of known x.call.stands word e) in
+        subst Goal (sym held.1)
+        (KeepsOwed (by taking.1) same_hand, noted_of known held.0.stands held.2 held.3 (subst (λ (b : ℕ). IsPairRole (known.roles b)) (sym held.4) (note_of known x.call.stands word e notes)))
+      where
+        by : OwesGo m effects before (before ++ taking.0) → AllLeave effects
+        by (KeepsOwed all same_owed) = all
+        by (TakesOut p are more) = absurd (let none = (calls_take_in_hand K V S same hash name m known s old new at_old shown map i x under_way said leads own p (inl are)).0 in cc (none, e))
+        by (PutsOver p n sp are more) =
+            absurd (let none = (calls_take_in_hand K V S same hash name m known s old new at_old shown map i x under_way said leads own p (inr (n, sp, are))).0 in cc (none, e))
+        by (Passes t are more) = absurd (no_promotion t are)
+        by (HandsFirst f y are hands less) = absurd (no_handing f y are hands)
+
+    abbrev Tog : Called (Node K V) → Type 0
+    Tog = Together2 same hash name m known s old new at_old shown map i x under_way said leads p2 end machine_is told_is step
+
+    abbrev Took : (e : Called (Node K V)) → Tog e → Change
+    Took e tog = change_told V same st.hash same st.setting slot_of tog.went.told
+
+    on_none : (e : Called (Node K V)) (tog : Tog e) → IsFreshAt p2.stands → call_has_unlinked p2.stands ≡ false → TakesNone (Took e tog)
+        → Stands V same st.hash same st.setting slot_of tog.went.w2 tog.went.c2 (seen_by tog.blocks2 (tog.sights2 (slot_of i))) i
+        (OnKey (stepped same st.hash same st.setting slot_of s.world st.chart st.blocks st.sights (s.calls map) i x new.memory.memory p2 e tog)) → NoneOfCall known p2.stands
+    on_none e tog its linked takes stands =
+        stands_none known same st.hash st.setting slot_of tog.went.w2 tog.went.c2 (seen_by tog.blocks2 (tog.sights2 (slot_of i))) i
+        (stepped same st.hash same st.setting slot_of s.world st.chart st.blocks st.sights (s.calls map) i x new.memory.memory p2 e tog) its linked takes stands
+
+    -- where it goes on, or has ended, and took none out
+    none_by : (e : Called (Node K V)) (tog : Tog e) → IsFresh (p2, e) → IsEnded (p2, e) → call_has_unlinked p2.stands ≡ false → TakesNone (Took e tog) → NoneOfCall known p2.stands
+    none_by called.Goes tog its ended linked takes = on_none called.Goes tog its linked takes (tog.together.stand i _ (here same st.hash same st.setting slot_of s.world st.chart st.blocks st.sights (s.calls map) i x new.memory.memory p2 called.Goes tog))
+    none_by called.Waits tog its ended linked takes = on_none called.Waits tog its linked takes (tog.together.stand i _ (here same st.hash same st.setting slot_of s.world st.chart st.blocks st.sights (s.calls map) i x new.memory.memory p2 called.Waits tog))
+    none_by (called.Gave value) tog its ended linked takes = on_none (called.Gave value) tog its linked takes (tog.together.stand i _ (here same st.hash same st.setting slot_of s.world st.chart st.blocks st.sights (s.calls map) i x new.memory.memory p2 (called.Gave value) tog))
+    none_by (called.Unstored value) tog its ended linked takes = on_none (called.Unstored value) tog its linked takes (tog.together.stand i _ (here same st.hash same st.setting slot_of s.world st.chart st.blocks st.sights (s.calls map) i x new.memory.memory p2 (called.Unstored value) tog))
+    none_by (called.Asks about) tog its ended linked takes = on_none (called.Asks about) tog its linked takes (tog.together.stand i _ (here same st.hash same st.setting slot_of s.world st.chart st.blocks st.sights (s.calls map) i x new.memory.memory p2 (called.Asks about) tog))
+    none_by (called.Done answer) tog its ended linked takes = over_none known p2.stands ended
+    none_by (called.Refused fault) tog its ended linked takes = over_none known p2.stands ended
+
+    went : IsEnded (p2, end)
+    went = ended_step same same hash x.call old.memory.memory new.memory.memory (p2, end)
+        (as_step old.memory.memory changed.Nothing (call_plan same same hash x.call) new.memory.memory told (p2, end)
+        (steps same hash name m known s old new at_old shown map i x under_way said leads p2 end machine_is told_is))
+
+    abbrev OutNow : Change
+    OutNow = change2 same hash name m known s old new at_old shown map i x under_way said leads p2 end machine_is told_is step
+
+    -- effects that leave what is owed take none out
+    takes_by : AllLeave effects → DidOnce same st.hash (is_incremental st.setting.mode) x.keys st.chart step.step.went.c2 (shown.number map) known.stored effects OutNow → TakesNone OutNow
+    takes_by all (DidNone e none) = subst TakesNone (sym e) tt
+    takes_by all (DidStore sp are e absent comes) = subst TakesNone (sym e) tt
+    takes_by all (DidReplace k sp are e pair comes) = absurd (let no = (subst AllLeave are all).0 in cc no)
+    takes_by all (DidRemove k are e pair) = absurd (let no = (subst AllLeave are all).0 in cc no)
+
+    takes_none : IsBefore x.call.stands → AllLeave effects → TakesNone OutNow
+    takes_none early all = elim (once same hash name m known s old new at_old shown map i x under_way said leads p2 end machine_is told_is step) as (λ _. TakesNone OutNow) [
+      | inl kept ↦ subst TakesNone (sym (kept.0 ∙ unchanged same hash name m known s old new at_old shown map i x under_way said leads p2 end machine_is told_is step early)) tt
+      | inr changes ↦ takes_by all (did same hash name m known s old new at_old shown map i x under_way said leads p2 end machine_is told_is step OutNow changes.1)
+    ]
+
+    -- it has none in hand, and takes none out: it has none then
+    none_after : pair_in_calling x.call.stands ≡ None → AllLeave effects → NoneOfCall known p2.stands
+    none_after e all = by (kind_at x.call.stands)
+      where
+        its : (IsBefore x.call.stands → ⊥) → NoneOfCall known p2.stands
+        its past =
+            always_steps (NoneThen known same same hash x.call) old.memory.memory new.memory.memory (call_plan same same hash x.call) (p2, end)
+            (past_none known same same hash x.call x.call.stands refl step.no_row e past)
+            (as_step old.memory.memory changed.Nothing (call_plan same same hash x.call) new.memory.memory told (p2, end)
+            (steps same hash name m known s old new at_old shown map i x under_way said leads p2 end machine_is told_is))
+
+        by : KindOf x.call.stands → NoneOfCall known p2.stands
+        by (ToCount removed is) = its (λ early. subst IsBefore is early)
+        by (ToDispose dispose answer is) = its (λ early. subst IsBefore is early)
+        by (IsAtEnd over is) = its (λ early. subst IsBefore is early)
+        by (ToChange early) =
+            let none = no_copier x.call.stands copies in
+            none_by end step.step (fresh same hash name m known s old new at_old shown map i x under_way said leads p2 end machine_is told_is step early) went
+            (before_links same same hash x.call x.call.stands none early (self_fresh x.call x.call.stands none early) old.memory.memory new.memory.memory (p2, end)
+            (as_step old.memory.memory changed.Nothing (call_plan same same hash x.call) new.memory.memory told (p2, end)
+            (steps same hash name m known s old new at_old shown map i x under_way said leads p2 end machine_is told_is)))
+            (takes_none early all)
+
+    none_goes : pair_in_calling x.call.stands ≡ None → Goal to.1
+    none_goes e = by taking.1
+      where
+        nothing : before ≡ []
+        nothing = none_of known x.call.stands copies e
+
+        -- it has the pair in hand that it has taken out
+        out_goes : (p : ℕ) (q : KeyCall K V K) (word : ℕ) → pair_in_calling q.stands ≡ Some word → known.roles (block_in word) ≡ role.Pair p
+            → (in_hand_of_call known q.stands ≡ before ++ APair p ∷ []) × NotesOfCall known q.stands
+        out_goes p q word pair its_role = (
+          hand_of known q.stands word pair ∙ ap thing_as its_role ∙ ap (λ (l : List Thing). l ++ APair p ∷ []) (sym nothing),
+          noted_of known q.stands word pair (subst IsPairRole (sym its_role) tt),
+        )
+
+        by : OwesGo m effects before (before ++ taking.0) → Goal to.1
+        by (KeepsOwed all same_owed) = let none = none_after e all in subst Goal (sym machine_is) (KeepsOwed all (none.0 ∙ sym nothing), none.1)
+        by (TakesOut p are more) =
+            let it = calls_take_in_hand K V S same hash name m known s old new at_old shown map i x under_way said leads own p (inl are) in
+            let hand = out_goes p it.1 it.3 it.4 it.5 in
+            subst Goal (sym it.2) (TakesOut p are hand.0, hand.1)
+        by (PutsOver p n sp are more) =
+            let it = calls_take_in_hand K V S same hash name m known s old new at_old shown map i x under_way said leads own p (inr (n, sp, are)) in
+            let hand = out_goes p it.1 it.3 it.4 it.5 in
+            subst Goal (sym it.2) (PutsOver p n sp are hand.0, hand.1)
+        by (Passes t are more) = absurd (no_promotion t are)
+        by (HandsFirst f y are hands less) = absurd (no_handing f y are hands)
+
+    goes : Goal to.1
+    goes = by (pair_in_calling x.call.stands) refl
+      where
+        by : (o : Option ℕ) → pair_in_calling x.call.stands ≡ o → Goal to.1
+        by None e = none_goes e
+        by (Some word) e = some_goes word e
+
+    -- once it has ended it has nothing in hand
+    ended_none : (u : CallOnKey K V K) (e : Called (Node K V)) → IsEnded (p2, e) → next_of u e ≡ None → in_hand known to.1 ≡ []
+    ended_none u (called.Done answer) ended none = ap (in_hand known) machine_is ∙ (over_none known p2.stands ended).0
+    ended_none u (called.Refused fault) ended none = ap (in_hand known) machine_is ∙ (over_none known p2.stands ended).0
+    ended_none u called.Goes ended none = absurd (cc none)
+    ended_none u called.Waits ended none = absurd (cc none)
+    ended_none u (called.Gave value) ended none = absurd (cc none)
+    ended_none u (called.Unstored value) ended none = absurd (cc none)
+    ended_none u (called.Asks about) ended none = absurd (cc none)
+
+    pub key_goes : (u : CallOnKey K V K) → to.4.next ≡ next_of u end → Goal to.1 × (to.4.next ≡ None → in_hand known to.1 ≡ [])
+    key_goes u moved = (goes, λ none. ended_none u end went (sym moved ∙ none))
+
+pub keys_go_in_hand : (K V S : Type 0) (same : K → K → Bool) (hash : K → ℕ) → KeysGoInHand K V S same hash
+keys_go_in_hand K V S same hash name m known s old new at_old shown map i x under_way said leads copies notes own =
+    by (went_to same hash name m known s old new at_old shown map i (OnKey x) under_way said leads).4.did own
+  where
+    by : (done : DidSo same hash name m known s old new at_old shown map i (OnKey x) under_way said leads (OnKey x))
+        → OfNoRow same hash name m known s old new at_old shown map i (OnKey x) under_way said leads (OnKey x) done → HandGoes K V S same hash m known s old new map i (OnKey x) said under_way leads
+    by (p2, end, machine_is, told_is, inl (step, moved)) none =
+        let it = key_goes same hash name m known s old new at_old shown map i x under_way said leads copies notes own p2 end machine_is told_is step _ moved.2 in (it.0.0, it.0.1, it.1)
+    by (p2, end, machine_is, told_is, inr row) none = absurd none

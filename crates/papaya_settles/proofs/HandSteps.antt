@@ -1,0 +1,147 @@
+-- A step of a row within a call, of whichever kind the call is: what the call has in hand goes with the effects of the step.
+use Rattle.std.specs.Prelude.{◌≡◌, ℕ, Bool, true, false, List, [], Option, Some, None, option_map, if◌then◌else◌}
+use Rattle.std.proofs.Common.{refl, ap, sym, subst, ◌∙◌, inl, inr}
+use Rattle.papaya_tables.specs.declared.node.Node.{Node}
+use Rattle.papaya_reserves.specs.Reserve.{reserve_plan}
+use Rattle.papaya_sweeps.specs.Sweep.{sweep_plan}
+use Rattle.papaya_raw.specs.Call.{call_plan}
+use Rattle.papaya_raw.specs.Machine.{called as of_key, reserved as of_room, swept as of_sweep}
+use Rattle.papaya_raw.specs.declared.machines.machine.Machine.{Machine}
+use Rattle.papaya_raw.specs.declared.machines.machine.Machine.TheVariants as kinds
+use Rattle.papaya_raw.specs.declared.machines.progress.Progress.{Progress}
+use Rattle.papaya_schedules.specs.declared.effect.Effect.{Effect}
+use Rattle.papaya_schedules.specs.Moment.{Moment}
+use Rattle.papaya_teller.specs.declared.changed.Changed.{Changed}
+use Rattle.papaya_teller.specs.declared.changed.Changed.TheVariants as changed
+use Rattle.papaya_rule.proofs.Keys.Always.{always_steps}
+use Rattle.papaya_callers.specs.OverAll.{CallOverAll}
+use Rattle.papaya_callers.specs.Rooms.{CallForRoom}
+use Rattle.papaya_callers.specs.Together.{UnderWay, CallOnKey, OnKey, ForRoom, Counting, OverAll}
+use Rattle.papaya_effects.specs.Effects.{effects_of}
+use Rattle.papaya_effects.specs.Known.{Known}
+use Rattle.papaya_effects.specs.declared.acting.Acting.TheVariants as acts
+use Rattle.papaya_executor.specs.IsAt.{Scene, IsAt}
+use Rattle.papaya_executor.specs.Stepping.{has_ended, going_on, StepLeads, StepsFrom}
+use Rattle.papaya_executor.specs.declared.executor.Executor.{Executor}
+use Rattle.papaya_executor.proofs.Forgotten.{as_step}
+use Rattle.papaya_executor.proofs.Steps.{goes_as}
+use Rattle.papaya_finishes.specs.Machines.{machine_of}
+use Rattle.papaya_follows.specs.Shows.{Shows}
+use Rattle.papaya_follows.proofs.Steps.{WentTo, went_to, DidSo, OfNoRow}
+use Rattle.papaya_hands.specs.Rows.{ShowsRows}
+use Rattle.papaya_others.proofs.Outcomes.{told_in}
+use Rattle.papaya_points.specs.Told.{IsRowOfCall}
+use Rattle.papaya_late.specs.ToldReserves.{IsRowOfReserve}
+use Rattle.papaya_late.specs.ToldSweeps.{IsRowOfSweep}
+use Rattle.papaya_settles.specs.Due.{Due, due_in_row, RowTells, TellsNone, TellsRetired, TellsDeferred, OwnAreMade}
+use Rattle.papaya_settles.specs.Entries.{ShowsEntries}
+use Rattle.papaya_settles.specs.Hand.{in_hand, NotesInHand}
+use Rattle.papaya_settles.specs.Owed.{RowsHandOver}
+use Rattle.papaya_settles.specs.Owing.{OwesGo}
+use Rattle.papaya_settles.proofs.DueCalls.{rows_tell_due}
+use Rattle.papaya_settles.proofs.HandBehind.{GoesDue, KeyKeeps, key_keeps, key_puts, RoomKeeps, room_keeps, room_puts, SweepKeeps, sweep_keeps, sweep_puts}
+use Rattle.papaya_settles.proofs.HandRows.{KeepsBehind, PutsPair, row_goes}
+
+-- a row has in hand what it had, or nothing any more
+goes_due : (caller map : ℕ) (known : Known) (effects : List Effect) (due due2 : Option Due) → RowTells caller map known effects due due2 → GoesDue due due2
+goes_due caller map known effects due due2 (TellsNone none same) = inl same
+goes_due caller map known effects due due2 (TellsRetired word was gone are) = inr gone
+goes_due caller map known effects due due2 (TellsDeferred word block t len was gone table are) = inr gone
+
+module _ {K V S : Type 0} (same : K → K → Bool) (hash : K → ℕ) (name : ℕ → List ℕ) (m : Moment K V) (known : Known) (s : Scene K V) (old new : Executor K V S) (at_old : IsAt same hash old s)
+    (shown : Shows same name m known s) (rows : ShowsRows s) (entries : ShowsEntries s) (owning : OwnAreMade known s.world) (map i : ℕ) (u : UnderWay K V K) (under_way : s.calls map i ≡ Some u)
+    (said : Progress (Node K V)) (leads : StepLeads same hash i said s old new) (other : OfNoRow same hash name m known s old new at_old shown map i u under_way said leads u (leads map u under_way).4.did → ⊥) where
+  abbrev to : WentTo same hash name m known s old new at_old shown map i u under_way said leads
+  to = went_to same hash name m known s old new at_old shown map i u under_way said leads
+
+  abbrev told : Changed
+  told = new.memory.changed
+
+  abbrev effects : List Effect
+  effects = effects_of (acts.Call i map) known told
+
+  its_row : RowTells i map known effects (due_in_row (machine_of u)) (due_in_row to.1)
+  its_row = rows_tell_due K V S same hash name m known s old new at_old shown rows entries owning map i u under_way said leads other
+
+  abbrev Goal : Machine K V K → Type 0
+  Goal machine = OwesGo m effects (in_hand known (machine_of u)) (in_hand known machine) × NotesInHand known machine × (to.4.next ≡ None → in_hand known machine ≡ [])
+
+  -- a call that does not go on has ended
+  has_gone : to.4.next ≡ None → has_ended said ≡ true
+  has_gone none = by (has_ended said) refl
+    where
+      whole : ◌≡◌ {A = Option (Machine K V K)} None (going_on to.1 said)
+      whole = ap (option_map machine_of) (sym none) ∙ goes_as to.1 said to.4.next to.4.goes_on
+
+      by : (q : Bool) → has_ended said ≡ q → has_ended said ≡ true
+      by true e = e
+      by false e = absurd (let some : ◌≡◌ {A = Option (Machine K V K)} None (Some to.1) = whole ∙ ap (λ (q : Bool). if q then None else Some to.1) e in cc some)
+
+  -- of the machine that it has come to
+  come_to : (machine : Machine K V K) → to.1 ≡ machine → KeepsBehind known (in_hand known (machine_of u)) (in_hand known machine) (due_in_row (machine_of u)) (due_in_row machine)
+      → (GoesDue (due_in_row (machine_of u)) (due_in_row machine) → NotesInHand known machine) → PutsPair m known effects (due_in_row (machine_of u))
+      → (has_ended said ≡ true → in_hand known machine ≡ []) → Goal to.1
+  come_to machine is behind notes puts ended =
+      let row = subst (λ (z : Machine K V K). RowTells i map known effects (due_in_row (machine_of u)) (due_in_row z)) is its_row in
+      subst Goal (sym is) (
+        row_goes m known effects i map (in_hand known (machine_of u)) (in_hand known machine) (due_in_row (machine_of u)) (due_in_row machine) puts behind row,
+        notes (goes_due i map known effects (due_in_row (machine_of u)) (due_in_row machine) row),
+        λ none. ended (has_gone none),
+      )
+
+  -- the step, as one of this kind's machine
+  stepped : (x : UnderWay K V K) → u ≡ x → StepsFrom same hash (machine_of x) old new to.1 said
+  stepped x is = subst (λ (y : UnderWay K V K). StepsFrom same hash (machine_of y) old new to.1 said) is to.3
+
+  abbrev Keeps : UnderWay K V K → Machine K V K → Type 0
+  Keeps x machine =
+      KeepsBehind known (in_hand known (machine_of x)) (in_hand known machine) (due_in_row (machine_of x)) (due_in_row machine)
+      × (GoesDue (due_in_row (machine_of x)) (due_in_row machine) → NotesInHand known machine)
+
+  of_kind : (x : UnderWay K V K) → u ≡ x → (machine : Machine K V K) → to.1 ≡ machine → Keeps x machine → PutsPair m known effects (due_in_row (machine_of x))
+      → (has_ended said ≡ true → in_hand known machine ≡ []) → Goal to.1
+  of_kind x is machine machine_is keeps puts ended =
+      let its = subst (λ (y : UnderWay K V K). Keeps y machine) (sym is) keeps in
+      come_to machine machine_is its.0 its.1 (subst (λ (y : UnderWay K V K). PutsPair m known effects (due_in_row (machine_of y))) (sym is) puts) ended
+
+  key_goes : (x : CallOnKey K V K) → u ≡ OnKey x → IsRowOfCall x.call.stands → NotesInHand known (machine_of u) → Goal to.1
+  key_goes x is row noted =
+      let notes = subst (λ (y : UnderWay K V K). NotesInHand known (machine_of y)) is noted in
+      let inner = told_in old.memory.memory new.memory.memory told of_key (call_plan same same hash x.call) (to.1, said) (stepped (OnKey x) is) in
+      let keeps = always_steps (KeyKeeps known same same hash x.call x.call.stands) old.memory.memory new.memory.memory (call_plan same same hash x.call) inner.0
+      (key_keeps known same same hash x.call x.call.stands row notes)
+      (as_step old.memory.memory changed.Nothing (call_plan same same hash x.call) new.memory.memory told inner.0 inner.2) in
+      of_kind (OnKey x) is (kinds.Key inner.0.0) (ap (λ (z : Machine K V K × Progress (Node K V)). z.0) inner.1) (keeps.0, keeps.1) (λ word e. key_puts known x.call.stands notes word e) (λ e. keeps.2 (sym (ap (λ (z : Machine K V K × Progress (Node K V)). has_ended z.1) inner.1) ∙ e))
+
+  room_goes : (x : CallForRoom) → u ≡ ForRoom x → IsRowOfReserve x.reserve.stands → NotesInHand known (machine_of u) → Goal to.1
+  room_goes x is row noted =
+      let notes = subst (λ (y : UnderWay K V K). NotesInHand known (machine_of y)) is noted in
+      let inner = told_in old.memory.memory new.memory.memory told of_room (reserve_plan hash x.reserve) (to.1, said) (stepped (ForRoom x) is) in
+      let keeps = always_steps (RoomKeeps known hash x.reserve x.reserve.stands) old.memory.memory new.memory.memory (reserve_plan hash x.reserve) inner.0
+      (room_keeps known hash x.reserve x.reserve.stands row notes) (as_step old.memory.memory changed.Nothing (reserve_plan hash x.reserve) new.memory.memory told inner.0 inner.2) in
+      of_kind (ForRoom x) is (kinds.Reserve inner.0.0) (ap (λ (z : Machine K V K × Progress (Node K V)). z.0) inner.1) (keeps.0, keeps.1) (λ word e. absurd (room_puts x.reserve.stands word e)) (λ e. keeps.2 (sym (ap (λ (z : Machine K V K × Progress (Node K V)). has_ended z.1) inner.1) ∙ e))
+
+  sweep_goes : (x : CallOverAll) → u ≡ OverAll x → IsRowOfSweep x.sweep.stands → NotesInHand known (machine_of u) → Goal to.1
+  sweep_goes x is row noted =
+      let notes = subst (λ (y : UnderWay K V K). NotesInHand known (machine_of y)) is noted in
+      let inner = told_in old.memory.memory new.memory.memory told of_sweep (sweep_plan hash x.sweep) (to.1, said) (stepped (OverAll x) is) in
+      let keeps = always_steps (SweepKeeps known hash x.sweep x.sweep.stands) old.memory.memory new.memory.memory (sweep_plan hash x.sweep) inner.0
+      (sweep_keeps known hash x.sweep x.sweep.stands row notes) (as_step old.memory.memory changed.Nothing (sweep_plan hash x.sweep) new.memory.memory told inner.0 inner.2) in
+      of_kind (OverAll x) is (kinds.Sweep inner.0.0) (ap (λ (z : Machine K V K × Progress (Node K V)). z.0) inner.1) (keeps.0, keeps.1) (λ word e. sweep_puts known x.sweep.stands notes word e) (λ e. keeps.2 (sym (ap (λ (z : Machine K V K × Progress (Node K V)). has_ended z.1) inner.1) ∙ e))
+
+  pub row_hands : NotesInHand known (machine_of u) → Goal to.1
+  row_hands notes = by u refl to.4.did other
+    where
+      by : (x : UnderWay K V K) → u ≡ x → (did : DidSo same hash name m known s old new at_old shown map i u under_way said leads x)
+          → (OfNoRow same hash name m known s old new at_old shown map i u under_way said leads x did → ⊥) → Goal to.1
+      by (OnKey x) is (p2, end, machine_is, told_is, inl step) none = absurd (none tt)
+      by (OnKey x) is (p2, end, machine_is, told_is, inr (row, stayed)) none = key_goes x is row.is_row notes
+      by (ForRoom x) is (p2, end, machine_is, told_is, inl step) none = absurd (none tt)
+      by (ForRoom x) is (p2, end, machine_is, told_is, inr (row, stayed)) none = room_goes x is row.is_row notes
+      by (Counting x) is did none = absurd (none tt)
+      by (OverAll x) is (p2, end, machine_is, told_is, inl step) none = absurd (none tt)
+      by (OverAll x) is (p2, end, machine_is, told_is, inr (row, stayed)) none = sweep_goes x is row.is_row notes
+
+pub rows_hand_over : (K V S : Type 0) (same : K → K → Bool) (hash : K → ℕ) → RowsHandOver K V S same hash
+rows_hand_over K V S same hash name m known s old new at_old shown rows entries owning map i u here said leads notes other =
+    row_hands same hash name m known s old new at_old shown rows entries owning map i u here said leads other notes

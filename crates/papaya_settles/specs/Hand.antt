@@ -1,0 +1,158 @@
+-- What a call under way has taken out of its map, and is to hand over, by where its machine stands: a pair, or tables by their turns.
+use Rattle.std.specs.Prelude.{◌≡◌, ◌≢◌, ℕ, ◌==◌, List, [], ◌∷◌, ◌++◌, Option, Some, None, if◌then◌else◌}
+use Rattle.seize_words.specs.Word.{block_in}
+use Rattle.papaya_resize.specs.declared.copier.Copier.{Copier}
+use Rattle.papaya_resize.specs.declared.copier.Copying.{Copying}
+use Rattle.papaya_resize.specs.declared.copier.Copying.TheVariants as copying
+use Rattle.papaya_reserves.specs.declared.reserve.Reserving.{Reserving}
+use Rattle.papaya_reserves.specs.declared.reserve.Reserving.TheVariants as reserving
+use Rattle.papaya_sweeps.specs.declared.sweep.Sweeping.{Sweeping}
+use Rattle.papaya_sweeps.specs.declared.sweep.Sweeping.TheVariants as sweeping
+use Rattle.papaya_raw.specs.declared.machines.call.Calling.{Calling}
+use Rattle.papaya_raw.specs.declared.machines.call.Calling.TheVariants as calling
+use Rattle.papaya_raw.specs.declared.machines.machine.Machine.{Machine}
+use Rattle.papaya_raw.specs.declared.machines.machine.Machine.TheVariants as kinds
+use Rattle.papaya_schedules.specs.declared.effect.Thing.{Thing}
+use Rattle.papaya_schedules.specs.declared.effect.Thing.TheVariants.{APair, ATable}
+use Rattle.papaya_schedules.specs.Effects.{passed}
+use Rattle.papaya_schedules.specs.Moment.{UnderWay as CallThere, Moment}
+use Rattle.papaya_schedules.specs.Views.{call_of}
+use Rattle.papaya_callers.specs.Together.{UnderWay}
+use Rattle.papaya_effects.specs.Known.{Known}
+use Rattle.papaya_effects.specs.declared.role.Role.{Role}
+use Rattle.papaya_effects.specs.declared.role.Role.TheVariants as role
+use Rattle.papaya_executor.specs.IsAt.{Scene}
+use Rattle.papaya_finishes.specs.Machines.{machine_of}
+use Rattle.papaya_settles.specs.Due.{due_in_settle, word_due}
+use Rattle.papaya_settles.specs.InHand.{pair_in_calling, pair_in_sweeping}
+
+-- what a block is, by what is noted of it: a pair, or a table, of a map
+abbrev pub thing_as : Role → List Thing
+thing_as (role.Pair n) = APair n ∷ []
+thing_as (role.Table t len) = ATable t ∷ []
+thing_as _ = []
+
+-- what a word names, if there is one
+abbrev pub things_at : Known → Option ℕ → List Thing
+things_at known None = []
+things_at known (Some word) = thing_as (known.roles (block_in word))
+
+-- the tables of a map from this one up to that with this turn
+abbrev pub tables_up_to : ℕ → Role → List Thing
+tables_up_to turn (role.Table t len) = passed t.map t.turn turn
+tables_up_to turn _ = []
+
+-- those from the one that a word names up to a copier's target, if it names one
+abbrev pub tables_from : Known → Copier → ℕ → List Thing
+tables_from known p word = if word == 0 then [] else tables_up_to p.target.turn (known.roles (block_in word))
+
+-- a copier that has made its target the root has the tables in hand that the root has left, one after another; one that retires a table has that, and those behind it
+abbrev pub tables_in_hand : Known → Copier → Copying → List Thing
+tables_in_hand known p copying.Announces = tables_from known p p.source.link
+tables_in_hand known p (copying.Succeeds table) = tables_from known p table
+tables_in_hand known p (copying.Retires settle rest) = things_at known (word_due (due_in_settle settle settle.stands)) ++ tables_from known p rest
+tables_in_hand known p _ = []
+
+abbrev pub in_hand_of_call : Known → Calling → List Thing
+in_hand_of_call known (calling.Helps copier goal) = tables_in_hand known copier copier.stands
+in_hand_of_call known (calling.Copies copier) = tables_in_hand known copier copier.stands
+in_hand_of_call known p = things_at known (pair_in_calling p)
+
+abbrev pub in_hand_of_room : Known → Reserving → List Thing
+in_hand_of_room known (reserving.Copies copier) = tables_in_hand known copier copier.stands
+in_hand_of_room known _ = []
+
+abbrev pub in_hand_of_sweep : Known → Sweeping → List Thing
+in_hand_of_sweep known (sweeping.Copies copier) = tables_in_hand known copier copier.stands
+in_hand_of_sweep known p = things_at known (pair_in_sweeping p)
+
+abbrev pub in_hand : {K V Q : Type 0} → Known → Machine K V Q → List Thing
+in_hand known (kinds.Key p) = in_hand_of_call known p.stands
+in_hand known (kinds.Reserve r) = in_hand_of_room known r.stands
+in_hand known (kinds.Sweep c) = in_hand_of_sweep known c.stands
+in_hand known (kinds.Count sum) = []
+
+-- what it has in hand is noted: that of each pair's word as a pair, and that of each table's as a table
+
+abbrev pub IsPairRole : Role → Type 0
+IsPairRole (role.Pair n) = Unit {0}
+IsPairRole _ = ⊥
+
+abbrev pub IsTableRole : Role → Type 0
+IsTableRole (role.Table t len) = Unit {0}
+IsTableRole _ = ⊥
+
+abbrev pub NotesPair : Known → Option ℕ → Type 0
+NotesPair known None = Unit {0}
+NotesPair known (Some word) = IsPairRole (known.roles (block_in word))
+
+abbrev pub NotesDue : Known → Option ℕ → Type 0
+NotesDue known None = Unit {0}
+NotesDue known (Some word) = IsTableRole (known.roles (block_in word))
+
+abbrev pub NotesTable : Known → ℕ → Type 0
+NotesTable known word = word ≢ 0 → IsTableRole (known.roles (block_in word))
+
+abbrev pub NotesTables : Known → Copier → Copying → Type 0
+NotesTables known p copying.Announces = NotesTable known p.source.link
+NotesTables known p (copying.Succeeds table) = NotesTable known table
+NotesTables known p (copying.Retires settle rest) = NotesDue known (word_due (due_in_settle settle settle.stands)) × NotesTable known rest
+NotesTables known p _ = Unit {0}
+
+abbrev pub NotesOfCall : Known → Calling → Type 0
+NotesOfCall known (calling.Helps copier goal) = NotesTables known copier copier.stands
+NotesOfCall known (calling.Copies copier) = NotesTables known copier copier.stands
+NotesOfCall known p = NotesPair known (pair_in_calling p)
+
+abbrev pub NotesOfRoom : Known → Reserving → Type 0
+NotesOfRoom known (reserving.Copies copier) = NotesTables known copier copier.stands
+NotesOfRoom known _ = Unit {0}
+
+abbrev pub NotesOfSweep : Known → Sweeping → Type 0
+NotesOfSweep known (sweeping.Copies copier) = NotesTables known copier copier.stands
+NotesOfSweep known p = NotesPair known (pair_in_sweeping p)
+
+abbrev pub NotesInHand : {K V Q : Type 0} → Known → Machine K V Q → Type 0
+NotesInHand known (kinds.Key p) = NotesOfCall known p.stands
+NotesInHand known (kinds.Reserve r) = NotesOfRoom known r.stands
+NotesInHand known (kinds.Sweep c) = NotesOfSweep known c.stands
+NotesInHand known (kinds.Count sum) = Unit {0}
+
+-- each block of it is what it was
+
+abbrev pub SameAt : Known → Known → Option ℕ → Type 0
+SameAt known known2 None = Unit {0}
+SameAt known known2 (Some word) = known2.roles (block_in word) ≡ known.roles (block_in word)
+
+abbrev pub SameTable : Known → Known → ℕ → Type 0
+SameTable known known2 word = word ≢ 0 → known2.roles (block_in word) ≡ known.roles (block_in word)
+
+abbrev pub SameTables : Known → Known → Copier → Copying → Type 0
+SameTables known known2 p copying.Announces = SameTable known known2 p.source.link
+SameTables known known2 p (copying.Succeeds table) = SameTable known known2 table
+SameTables known known2 p (copying.Retires settle rest) = SameAt known known2 (word_due (due_in_settle settle settle.stands)) × SameTable known known2 rest
+SameTables known known2 p _ = Unit {0}
+
+abbrev pub SameOfCall : Known → Known → Calling → Type 0
+SameOfCall known known2 (calling.Helps copier goal) = SameTables known known2 copier copier.stands
+SameOfCall known known2 (calling.Copies copier) = SameTables known known2 copier copier.stands
+SameOfCall known known2 p = SameAt known known2 (pair_in_calling p)
+
+abbrev pub SameOfRoom : Known → Known → Reserving → Type 0
+SameOfRoom known known2 (reserving.Copies copier) = SameTables known known2 copier copier.stands
+SameOfRoom known known2 _ = Unit {0}
+
+abbrev pub SameOfSweep : Known → Known → Sweeping → Type 0
+SameOfSweep known known2 (sweeping.Copies copier) = SameTables known known2 copier copier.stands
+SameOfSweep known known2 p = SameAt known known2 (pair_in_sweeping p)
+
+abbrev pub SameInHand : {K V Q : Type 0} → Known → Known → Machine K V Q → Type 0
+SameInHand known known2 (kinds.Key p) = SameOfCall known known2 p.stands
+SameInHand known known2 (kinds.Reserve r) = SameOfRoom known known2 r.stands
+SameInHand known known2 (kinds.Sweep c) = SameOfSweep known known2 c.stands
+SameInHand known known2 (kinds.Count sum) = Unit {0}
+
+-- each call under way owes just what it has in hand, in the order in which it hands that over, and all of it is noted
+pub record ShowsOwed {K V : Type 0} (name : ℕ → List ℕ) (m : Moment K V) (known : Known) (s : Scene K V) : Type 0 where
+  pub owed : (map i : ℕ) (u : UnderWay K V K) → s.calls map i ≡ Some u → (c : CallThere K V) → call_of (name i) m ≡ Some c → c.owes ≡ in_hand known (machine_of u)
+  pub noted : (map i : ℕ) (u : UnderWay K V K) → s.calls map i ≡ Some u → NotesInHand known (machine_of u)
