@@ -38,7 +38,7 @@ match_both true A B a b = a
 match_both false A B a b = b
 
 module _ {K V : Type 0} where
-  due_owes : (its : Call K V) (c : CallThere K V) (old : Option ℕ) (new : ℕ) → ((due_for its c old new).owes ≡ c.owes) × ((due_for its c old new).has_handed ≡ c.has_handed)
+  pub due_owes : (its : Call K V) (c : CallThere K V) (old : Option ℕ) (new : ℕ) → ((due_for its c old new).owes ≡ c.owes) × ((due_for its c old new).has_handed ≡ c.has_handed)
   due_owes (call.On one) c old new = (refl, refl)
   due_owes (call.Reserve n) c old new = (refl, refl)
   due_owes call.Clear c old new = (refl, refl)
@@ -46,7 +46,7 @@ module _ {K V : Type 0} where
   due_owes call.Len c old new = (refl, refl)
   due_owes call.Walk c old new = (refl, refl)
 
-  leaves : (m : Moment K V) (f : Effect) (c : CallThere K V) → leaves_owed f ≡ true → (call_by m f c).owes ≡ c.owes
+  pub leaves : (m : Moment K V) (f : Effect) (c : CallThere K V) → leaves_owed f ≡ true → (call_by m f c).owes ≡ c.owes
   leaves m (effect.Asked growth) c e = refl
   leaves m effect.PairMade c e = refl
   leaves m effect.PairGivenUp c e = refl

@@ -1,0 +1,13 @@
+pub mod Lists
+pub mod Owed
+pub mod Counted
+pub mod Placed
+pub mod Life
+pub mod OwedTables
+pub mod Tables
+pub mod Orderly
+pub mod Somewhere
+pub mod TornDown
+pub mod Bounded
+pub mod Events
+pub mod Little

@@ -1,0 +1,48 @@
+//! What is promised of what waits: little of it where nobody is there, each pair and each table for a reason, and nothing in the end.
+ghost use Rattle.papaya_little.specs.Bounded.{LittleWaits, NothingRetiredOnceReclaimed};
+ghost use Rattle.papaya_little.specs.Events.{BeginningsKeepPlaced, EventsKeepPlaced, BeginningsKeepTables, EventsKeepTables};
+ghost use Rattle.papaya_little.specs.Life.{LifeFindsPlaced, LifeKeepsPlaced};
+ghost use Rattle.papaya_little.specs.Little.{EventsLeaveLittle};
+ghost use Rattle.papaya_little.specs.Orderly.{OrderAtFirst, OrderlyAtRest, EmptiedOnceReclaimed};
+ghost use Rattle.papaya_little.specs.Tables.{EffectsKeepTables, OthersKeepTables};
+ghost use Rattle.papaya_little.specs.TornDown.{SomewhereAtFirst, EffectsKeepSomewhere, OthersKeepSomewhere, TornDownInTheEnd};
+ghost use Rattle.papaya_little.specs.Waiting.{PlacedAtFirst, EffectsKeepPlaced, OthersKeepPlaced, EndedOweNothing};
+
+/// A pair that has left its map is with the call that took it out, which owes it once; or behind a table, once; or it was retired, or left over; or it was given back,
+/// once. So it is before all events, after any effects that find what they must, and where calls come to something or go that owe nothing;
+/// where a call begins or a map comes, and once an event is over. What effects have to find they find by the promise `life` of their event.
+pub fn pairs_are_placed_once<K, V>()
+    ensures begins { PlacedAtFirst K V }
+    ensures effects { EffectsKeepPlaced K V }
+    ensures others { OthersKeepPlaced K V }
+    ensures ended { EndedOweNothing K V }
+    ensures begun { BeginningsKeepPlaced K V }
+    ensures over { EventsKeepPlaced K V }
+    ensures finds { LifeFindsPlaced K V }
+    ensures life { LifeKeepsPlaced K V }
+{}
+
+/// While no call is under way each pair that waits was retired, or left over, or is behind a table that was retired, or that a map has and that has a next one; and each
+/// table is there for a reason. That tables are in order so is left by any effects that find what they must. Where nobody is there, as much is retired as the memory
+/// has of that, which is bounded.
+pub fn little_waits_at_rest<K, V>()
+    ensures begins { OrderAtFirst K V }
+    ensures tables { EffectsKeepTables K V }
+    ensures others { OthersKeepTables K V }
+    ensures begun { BeginningsKeepTables K V }
+    ensures over { EventsKeepTables K V }
+    ensures orderly { OrderlyAtRest K V }
+    ensures bounded { LittleWaits K V }
+{}
+
+/// Each pair that was stored is somewhere, and where it is in a map, that is there. Once all is reclaimed nothing waits but what is behind tables of resizes that go on; and
+/// once no map is there, either, each pair that was stored was given back, once. So an event leaves little, by what is so of the moment after it.
+pub fn all_comes_back<K, V>()
+    ensures begins { SomewhereAtFirst K V }
+    ensures effects { EffectsKeepSomewhere K V }
+    ensures others { OthersKeepSomewhere K V }
+    ensures nothing { NothingRetiredOnceReclaimed K V }
+    ensures emptied { EmptiedOnceReclaimed K V }
+    ensures torn_down { TornDownInTheEnd K V }
+    ensures little { EventsLeaveLittle K V }
+{}
