@@ -54,7 +54,7 @@ pub put_elsewhere : {X : Type 0} (k : ℕ) (x : X) (f : ℕ → X) (n : ℕ) →
 put_elsewhere k x f n ne = ap (λ q. if q then x else f n) (ne_eqb n k ne)
 
 -- of the maps another one is found as before
-others_found : (t : Table) (other : ℕ) → t.map ≢ other → (fs : List MapThere) → find (λ f. f.number == other) (map (promoted t) fs) ≡ find (λ f. f.number == other) fs
+pub others_found : (t : Table) (other : ℕ) → t.map ≢ other → (fs : List MapThere) → find (λ f. f.number == other) (map (promoted t) fs) ≡ find (λ f. f.number == other) fs
 others_found t other apart [] = refl
 others_found t other apart (f ∷ fs) = by (f.number == t.map) refl (others_found t other apart fs)
   where

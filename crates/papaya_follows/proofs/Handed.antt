@@ -25,7 +25,7 @@ use Rattle.papaya_follows.proofs.Onward.{StaysBlocks, tables_same, pairs_same, p
 use Rattle.papaya_follows.proofs.Rows.{HandsOn, IsStill, Puts, Retires}
 
 -- what is in no map is in none of a number
-not_in : (a : ℕ) (p : Place) → is_in_a_map p ≡ false → is_in_map a p ≡ false
+pub not_in : (a : ℕ) (p : Place) → is_in_a_map p ≡ false → is_in_map a p ≡ false
 not_in a (InMap b) e = absurd (cc e)
 not_in a Unborn e = refl
 not_in a Out e = refl

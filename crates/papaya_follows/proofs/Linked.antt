@@ -45,7 +45,7 @@ none_stored None t shape stored = (refl, refl)
 none_stored (Some c) t shape stored = (refl, refl)
 
 -- the map whose root has come to a table
-own_found : (t : Table) (fs : List MapThere) (f : MapThere) → find (λ g. g.number == t.map) fs ≡ Some f → find (λ g. g.number == t.map) (map (promoted t) fs) ≡ Some (record f { first = t.turn })
+pub own_found : (t : Table) (fs : List MapThere) (f : MapThere) → find (λ g. g.number == t.map) fs ≡ Some f → find (λ g. g.number == t.map) (map (promoted t) fs) ≡ Some (record f { first = t.turn })
 own_found t [] f is = absurd (cc is)
 own_found t (g ∷ fs) f is = by (g.number == t.map) refl (λ later. own_found t fs f later)
   where

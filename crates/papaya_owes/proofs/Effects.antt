@@ -67,7 +67,7 @@ module _ {K V : Type 0} where
   effect_block m (effect.Taken t) c = refl
 
   -- to ask for a growth leaves it the value
-  value_there : (growth : Growth) (m : Moment K V) (its : Call K V) (c : CallThere K V) → has_value_for its c ≡ has_value_for its (call_by m (effect.Asked growth) c)
+  pub value_there : (growth : Growth) (m : Moment K V) (its : Call K V) (c : CallThere K V) → has_value_for its c ≡ has_value_for its (call_by m (effect.Asked growth) c)
   value_there growth m (call.On one) c = refl
   value_there growth m (call.Reserve n) c = refl
   value_there growth m call.Clear c = refl

@@ -51,7 +51,7 @@ all_out p numbers place k out was = by (is_among k numbers)
     by false = was
 
 module _ {K V : Type 0} where
-  stays_out : (acted : Option ℕ) (f : Effect) (m : Moment K V) → FindsNumbers m f → (k : ℕ) → k ≤ length m.stored → is_in_a_map (m.place k) ≡ false → is_in_a_map (place_by acted m.deferred f m.place k) ≡ false
+  pub stays_out : (acted : Option ℕ) (f : Effect) (m : Moment K V) → FindsNumbers m f → (k : ℕ) → k ≤ length m.stored → is_in_a_map (m.place k) ≡ false → is_in_a_map (place_by acted m.deferred f m.place k) ≡ false
   stays_out acted (Stored n s) m finds k l was = ap is_in_a_map (put_elsewhere n (in_map acted) m.place k (λ e. omega (arith, e, finds, l))) ∙ was
   stays_out acted (Replaced n) m finds k l was = put_out Out n m.place k refl was
   stays_out acted (Removed n) m finds k l was = put_out Out n m.place k refl was

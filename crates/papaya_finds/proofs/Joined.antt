@@ -1,0 +1,144 @@
+-- The parts make up all that an effect of a call must find.
+use Rattle.std.specs.Prelude.{◌≡◌, ℕ, true, false, List, [], ◌∷◌, Option, Some, option_map}
+use Rattle.std.specs.List.{list_all}
+use Rattle.std.proofs.Common.{refl, ap, sym, subst, ◌∙◌, inl}
+use Rattle.papaya_schedules.specs.declared.effect.Effect.{Effect}
+use Rattle.papaya_schedules.specs.declared.effect.Effect.TheVariants as effect
+use Rattle.papaya_schedules.specs.declared.effect.Growth.TheVariants.{ABlock, ABucket}
+use Rattle.papaya_schedules.specs.declared.effect.Thing.TheVariants.{APair, ATable}
+use Rattle.papaya_schedules.specs.declared.event.Event.{Event}
+use Rattle.papaya_schedules.specs.declared.event.Event.TheVariants as event
+use Rattle.papaya_schedules.specs.After.{moments_from}
+use Rattle.papaya_schedules.specs.Effects.{call_by, with_effect, AtEachEffect}
+use Rattle.papaya_schedules.specs.Entry.{ByCall, acting, acted_on, caller_of}
+use Rattle.papaya_schedules.specs.declared.call.Call.{Call}
+use Rattle.papaya_schedules.specs.declared.call.Call.TheVariants as call
+use Rattle.papaya_schedules.specs.Growing.{only_looks, has_value_for, MayGrow}
+use Rattle.papaya_schedules.specs.Handing.{is_call_effect, gives_all, moments_of}
+use Rattle.papaya_schedules.specs.Lives.{CallFinds, Finds}
+use Rattle.papaya_schedules.specs.Moment.{UnderWay as CallThere, Moment}
+use Rattle.papaya_schedules.specs.Terms.{Terms}
+use Rattle.papaya_schedules.specs.Views.{call_of}
+use Rattle.papaya_follows.specs.Finds.{FindsMap}
+use Rattle.papaya_follows.proofs.Calls.{changed_same}
+use Rattle.papaya_owes.specs.Events.{FindsMade}
+use Rattle.papaya_owes.proofs.Effects.{value_there}
+use Rattle.papaya_owes.proofs.Events.{several_find}
+use Rattle.papaya_owes.proofs.Fields.{its_effect}
+use Rattle.papaya_settles.specs.Owing.{FindsOwed}
+use Rattle.papaya_settles.specs.Shards.{is_counting}
+use Rattle.papaya_spots.proofs.Unreclaimed.{and_both}
+use Rattle.papaya_finds.specs.Joined.{FindParts, PartsAreAll, SeveralFindAll, EventsFindAll, PairsAreAskedFor}
+use Rattle.papaya_finds.specs.Parts.{FindsPlace, FindsAhead, FindsRest, FindsAll, FindOwed, FindRest, FindAll}
+
+module _ {K V : Type 0} (terms : Terms) (moments : List (Moment K V)) where
+  -- by the kind of effect
+  joins : (m : Moment K V) (f : Effect) (c : CallThere K V) → is_call_effect f ≡ true → FindsMade terms moments m f c → FindsMap c.map m f → FindsPlace c.map m f c → FindsAhead c.map m f
+      → (is_counting f ≡ true → CallFinds terms moments m f c) → FindsOwed m f c → FindsRest terms moments m f c → CallFinds terms moments m f c
+  joins m (effect.Asked ABlock) c kind made on_map place ahead shard owed rest = (made, rest)
+  joins m (effect.Asked ABucket) c kind made on_map place ahead shard owed rest = absurd (cc kind)
+  joins m effect.PairMade c kind made on_map place ahead shard owed rest = made
+  joins m effect.PairGivenUp c kind made on_map place ahead shard owed rest = made
+  joins m (effect.TableMade t) c kind made on_map place ahead shard owed rest = made
+  joins m (effect.TableGivenUp t) c kind made on_map place ahead shard owed rest = made
+  joins m (effect.Linked t shape) c kind made on_map place ahead shard owed rest = (made, on_map.1, rest)
+  joins m (effect.Promoted t) c kind made on_map place ahead shard owed rest = (on_map.0, on_map.1.0, on_map.1.1, ahead)
+  joins m (effect.Copied n s) c kind made on_map place ahead shard owed rest = place
+  joins m (effect.Stored n s) c kind made on_map place ahead shard owed rest = (on_map.0, made, on_map.1.0, on_map.1.1, place)
+  joins m (effect.Replaced n) c kind made on_map place ahead shard owed rest = on_map
+  joins m (effect.Removed n) c kind made on_map place ahead shard owed rest = on_map
+  joins m (effect.Counted s) c kind made on_map place ahead shard owed rest = shard refl
+  joins m (effect.Deferred n t) c kind made on_map place ahead shard owed rest = (owed, rest)
+  joins m (effect.Retired (APair n)) c kind made on_map place ahead shard owed rest = (owed, rest)
+  joins m (effect.Retired (ATable t)) c kind made on_map place ahead shard owed rest = owed
+  joins m (effect.Reclaimed x) c kind made on_map place ahead shard owed rest = absurd (cc kind)
+  joins m (effect.Ended n) c kind made on_map place ahead shard owed rest = absurd (cc kind)
+  joins m (effect.Taken t) c kind made on_map place ahead shard owed rest = absurd (cc kind)
+
+  module _ (own : List ℕ) (map : ℕ) where
+    -- of the call that is found
+    of_call : (P : CallThere K V → Type 0) (m : Moment K V) (c : CallThere K V) → call_of own m ≡ Some c → ByCall P (acting (Some own) m) → P c
+    of_call P m c c_is by_call = subst (ByCall P) c_is by_call
+
+    one_joined : (m : Moment K V) (f : Effect) (c : CallThere K V) → call_of own m ≡ Some c → c.map ≡ map → is_call_effect f ≡ true
+        → ByCall (λ (d : CallThere K V). only_looks d.call ≡ false) (acting (Some own) m) → ByCall (FindsMade terms moments m f) (acting (Some own) m) → FindsMap map m f
+        → ByCall (FindsPlace map m f) (acting (Some own) m) → FindsAhead map m f → (is_counting f ≡ true → ByCall (CallFinds terms moments m f) (acting (Some own) m))
+        → ByCall (FindsOwed m f) (acting (Some own) m) → ByCall (FindsRest terms moments m f) (acting (Some own) m) → FindsAll terms moments own m f
+    one_joined m f c c_is on kind work made on_map place ahead shard owed rest =
+        subst (ByCall (λ (d : CallThere K V). (only_looks d.call ≡ false) × CallFinds terms moments m f d)) (sym c_is) (
+          of_call (λ (d : CallThere K V). only_looks d.call ≡ false) m c c_is work,
+          joins m f c kind (of_call (FindsMade terms moments m f) m c c_is made) (subst (λ (x : ℕ). FindsMap x m f) (sym on) on_map)
+              (subst (λ (x : ℕ). FindsPlace x m f c) (sym on) (of_call (FindsPlace map m f) m c c_is place)) (subst (λ (x : ℕ). FindsAhead x m f) (sym on) ahead)
+              (λ counts. of_call (CallFinds terms moments m f) m c c_is (shard counts)) (of_call (FindsOwed m f) m c c_is owed) (of_call (FindsRest terms moments m f) m c c_is rest),
+        )
+
+    all_joined : (effects : List Effect) (m : Moment K V) (c : CallThere K V) → call_of own m ≡ Some c → c.map ≡ map → FindParts terms moments own map effects m → FindOwed own map effects m
+        → FindRest terms moments own map effects m → FindAll terms moments own map effects m
+    all_joined [] m c c_is on parts owed rest = tt
+    all_joined (f ∷ fs) m c c_is on parts owed rest = (
+      one_joined m f c c_is on (and_both (is_call_effect f) (list_all is_call_effect fs) parts.kinds).0 parts.at_work.0 parts.made.0 parts.on_map.0 parts.places.0 parts.ahead.0 parts.shards.0 owed.0 rest.0,
+      all_joined fs (with_effect (Some own) (Some map) f m) (call_by m f c) (its_effect own map f m c c_is) ((changed_same m f c).1 ∙ on)
+          (record {
+            kinds = (and_both (is_call_effect f) (list_all is_call_effect fs) parts.kinds).1;
+            at_work = parts.at_work.1;
+            made = parts.made.1;
+            on_map = parts.on_map.1;
+            places = parts.places.1;
+            ahead = parts.ahead.1;
+            shards = parts.shards.1;
+          }) owed.1 rest.1,
+    )
+
+pub parts_are_all : (K V : Type 0) → PartsAreAll K V
+parts_are_all K V terms moments own map effects m c c_is on parts owed rest = all_joined terms moments own map effects m c c_is on parts owed rest
+
+pub several_find_all : (K V : Type 0) → SeveralFindAll K V
+several_find_all K V terms moments own map done effects m before after = several_find (FindsAll terms moments own) own map done effects m before after
+
+module _ {K V : Type 0} where
+  -- an event whose steps are of this caller acts on the map of the caller's call
+  acts_on_its : (its : Event K V) (b : Moment K V) (own : List ℕ) (c : CallThere K V) → caller_of its ≡ Some own → call_of own b ≡ Some c → acted_on its b ≡ Some c.map
+  acts_on_its (event.EndMap map) b own c caller c_is = absurd (cc caller)
+  acts_on_its (event.MakeMap map mode capacity) b own c caller c_is = absurd (cc caller)
+  acts_on_its its b own c caller c_is =
+      ap (λ (who : Option (List ℕ)). option_map (λ (d : CallThere K V). d.map) (acting who b)) caller ∙ ap (option_map (λ (d : CallThere K V). d.map)) c_is
+
+  -- what each effect finds, another way said
+  each_as : (P Q : Moment K V → Effect → Type 0) → ((m : Moment K V) (f : Effect) → P m f → Q m f) → (who : Option (List ℕ)) (map : Option ℕ) (effects : List Effect) (m : Moment K V)
+      → AtEachEffect P who map effects m → AtEachEffect Q who map effects m
+  each_as P Q as who map [] m all = tt
+  each_as P Q as who map (f ∷ fs) m all = (as m f all.0, each_as P Q as who map fs (with_effect who map f m) all.1)
+
+pub events_find_all : (K V : Type 0) → EventsFindAll K V
+events_find_all K V terms log e b own c caller c_is all =
+    subst (λ (map : Option ℕ). AllBy (caller_of e.event) map (acting (caller_of e.event) b)) (sym (acts_on_its e.event b own c caller c_is))
+    (subst (λ (who : Option (List ℕ)). AllBy who (Some c.map) (acting who b)) (sym caller)
+    (subst (λ (o : Option (CallThere K V)). AllBy (Some own) (Some c.map) o) (sym c_is)
+    (each_as (FindsAll terms (moments_from c.begun log) own) (Finds terms (Some own) (Some c.map) (gives_all e.event) (moments_from c.begun log)) (λ m f found. found) (Some own) (Some c.map) e.effects b all)))
+  where
+    AllBy : Option (List ℕ) → Option ℕ → Option (CallThere K V) → Type 0
+    AllBy who map o = AtEachEffect (Finds terms who map (gives_all e.event) (moments_of terms log o)) who map e.effects b
+
+module _ {K V : Type 0} (terms : Terms) (moments : List (Moment K V)) where
+  -- a call that has a value for a pair may ask for the block
+  valued_grows : (its : Call K V) (c : CallThere K V) → has_value_for its c ≡ true → MayGrow terms its c moments
+  valued_grows (call.Reserve more) c e = absurd (cc e)
+  valued_grows _ c e = inl e
+
+pub pairs_are_asked_for : (K V : Type 0) → PairsAreAskedFor K V
+pairs_are_asked_for K V terms moments all own map m c c_is made = (
+  valued_grows terms all c.call c valued,
+  (
+    subst (ByCall (FindsRest terms moments m (effect.Asked ABlock))) (sym c_is) (valued_grows terms (m ∷ moments) c.call c valued),
+    (subst (ByCall (FindsRest terms moments made_at effect.PairMade)) (sym made_is) tt, tt),
+  ),
+)
+  where
+    made_at : Moment K V
+    made_at = with_effect (Some own) (Some map) (effect.Asked ABlock) m
+
+    made_is : call_of own made_at ≡ Some (call_by m (effect.Asked ABlock) c)
+    made_is = its_effect own map (effect.Asked ABlock) m c c_is
+
+    valued : has_value_for c.call c ≡ true
+    valued = value_there ABlock m c.call c ∙ (subst (ByCall (FindsMade terms moments made_at effect.PairMade)) made_is made.1.0).2

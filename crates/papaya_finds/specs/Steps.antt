@@ -1,0 +1,62 @@
+-- What is promised of the effects of each step of a call: they find the parts.
+use Rattle.std.specs.Prelude.{◌≡◌, ℕ, ◌+◌, Bool, true, List, Some}
+use Rattle.std.specs.List.{list_all}
+use Rattle.papaya_tables.specs.declared.node.Node.{Node}
+use Rattle.papaya_raw.specs.declared.machines.progress.Progress.{Progress}
+use Rattle.papaya_runs.specs.Present.{slot_of_guard}
+use Rattle.papaya_schedules.specs.Effects.{AtEachEffect}
+use Rattle.papaya_schedules.specs.Handing.{is_call_effect}
+use Rattle.papaya_schedules.specs.Moment.{UnderWay as CallThere, Moment}
+use Rattle.papaya_schedules.specs.Terms.{Terms, shards_of}
+use Rattle.papaya_schedules.specs.Views.{call_of}
+use Rattle.papaya_callers.specs.Together.{UnderWay}
+use Rattle.papaya_effects.specs.Effects.{effects_of}
+use Rattle.papaya_effects.specs.Known.{Known}
+use Rattle.papaya_effects.specs.declared.acting.Acting.TheVariants as acts
+use Rattle.papaya_executor.specs.IsAt.{Scene, IsAt, slot_of}
+use Rattle.papaya_executor.specs.Stepping.{StepLeads}
+use Rattle.papaya_executor.specs.declared.executor.Executor.{Executor}
+use Rattle.papaya_follows.specs.Finds.{FindsMap}
+use Rattle.papaya_moments.specs.Whole.{ShowsWhole}
+use Rattle.papaya_owes.specs.Looking.{ShowsLooking}
+use Rattle.papaya_owes.specs.Made.{ShowsMade}
+use Rattle.papaya_owes.specs.Short.{ShowsShort}
+use Rattle.papaya_owes.specs.Tables.{ShowsTables}
+use Rattle.papaya_settles.specs.Counts.{ShowsCounts}
+use Rattle.papaya_finds.specs.Joined.{FindParts}
+use Rattle.papaya_finds.specs.Parts.{FindPlacesOf, FindAhead}
+
+-- all that a moment shows of what calls under way have made, have to count, and are
+pub record ShowsWork {K V : Type 0} (same : K → K → Bool) (name : ℕ → List ℕ) (m : Moment K V) (known : Known) (s : Scene K V) : Type 0 where
+  pub whole : ShowsWhole same name m known s
+  pub made : ShowsMade name m known s
+  pub tables : ShowsTables name m known s
+  pub short : ShowsShort name m s
+  pub looking : ShowsLooking name m s
+  pub counts : ShowsCounts name m s
+
+module _ (K V S : Type 0) (same : K → K → Bool) (hash : K → ℕ) where
+  -- The promises, of a step of a call, whether of a row or none: each of its effects is one of a call,
+  abbrev pub StepsDoTheirs : Type 0
+  StepsDoTheirs =
+      (name : ℕ → List ℕ) (m : Moment K V) (known : Known) (s : Scene K V) (old new : Executor K V S) → IsAt same hash old s → ShowsWhole same name m known s
+      → (map i : ℕ) (u : UnderWay K V K) → s.calls map i ≡ Some u → (said : Progress (Node K V)) → StepLeads same hash i said s old new
+      → list_all is_call_effect (effects_of (acts.Call i map) known new.memory.changed) ≡ true
+
+  -- and they find the map as they must; a pair is copied, and stored, where it may lie; and as the root
+  -- comes to a table, each pair of the map lies there or behind it, or has its copy there.
+  abbrev pub StepsFindPlaces : Type 0
+  StepsFindPlaces =
+      (name : ℕ → List ℕ) (m : Moment K V) (known : Known) (s : Scene K V) (old new : Executor K V S) → IsAt same hash old s → ShowsWhole same name m known s
+      → (map i : ℕ) (u : UnderWay K V K) → s.calls map i ≡ Some u → (said : Progress (Node K V)) → StepLeads same hash i said s old new
+      → (let effects = effects_of (acts.Call i map) known new.memory.changed in
+      AtEachEffect (FindsMap map) (Some (name i)) (Some map) effects m × FindPlacesOf (name i) map effects m × FindAhead (name i) map effects m)
+
+  -- So they find all parts that are promised, where the guard of the call is on the slot of its caller, and the map has as many shards as the terms say.
+  abbrev pub StepsFindParts : Type 0
+  StepsFindParts =
+      (name : ℕ → List ℕ) (m : Moment K V) (known : Known) (s : Scene K V) (old new : Executor K V S) → IsAt same hash old s → ShowsWork same name m known s
+      → (map i : ℕ) (u : UnderWay K V K) (here : s.calls map i ≡ Some u) (said : Progress (Node K V)) (leads : StepLeads same hash i said s old new)
+      → (terms : Terms) → (leads map u here).0.setting.mask + 1 ≡ shards_of terms
+      → (c : CallThere K V) → call_of (name i) m ≡ Some c → slot_of_guard c.guard m.there ≡ slot_of i
+      → (moments : List (Moment K V)) → FindParts terms moments (name i) map (effects_of (acts.Call i map) known new.memory.changed) m
