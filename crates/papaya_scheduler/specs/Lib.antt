@@ -3,4 +3,5 @@ pub mod Machines
 pub mod Telling
 pub mod Shapes
 pub mod Rows
+pub mod Handing
 pub mod Played

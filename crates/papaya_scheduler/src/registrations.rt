@@ -1,16 +1,62 @@
-//! Registrations end.
+//! Registrations come and go.
 ghost use Rattle.std.specs.Prelude.{◌≡◌, ℕ, Bool, List, IfOk};
+ghost use Rattle.papaya_schedules.specs.Moment.{Moment};
+ghost use Rattle.papaya_executor.specs.IsAt.{Scene};
+ghost use Rattle.papaya_logged.specs.Shown.{IsShown};
 ghost use Rattle.papaya_schedules.specs.declared.event.Event.TheVariants as event;
 ghost use Rattle.papaya_scheduler.specs.Played.{MayPlay, PlaysTaking};
+ghost use Rattle.papaya_scheduler.specs.Rows.{SlotTaken};
 
 use crate::played::Played;
 use crate::scheduler::Scheduler;
-use papaya_executor::row::SlotCall;
+use papaya_executor::row::{RowTold, SlotCall};
 use papaya_runs::token::Token;
+use papaya_schedules::effect::Effect;
 use papaya_schedules::outcome::Outcome;
+use seize_words::Fault;
 use std::alloc::AllocError;
 
 impl<K: Drop, V: Drop, S> Scheduler<K, V, S> {
+    /// Takes the least slot that is not in use, and enters it, too, if it is to. The fault is SlotsUsedUp, or Memory where there is none for the words of slots.
+    pub(crate) fn take_slot(
+        &mut self,
+        enters: bool,
+        effects: &mut Vec<Effect>,
+    ) -> Result<Result<u64, Fault>, AllocError>
+        requires { (same : K → K → Bool) × (hash : K → ℕ) × (name : ℕ → List ℕ) × (m : Moment K V) × (s : Scene K V) × IsShown same hash name m self.old.logged s }
+        ensures taken { IfOk result (λ slot. SlotTaken enters slot effects.old.items effects.new.items self.old.logged self.new.logged) }
+        ensures rest { self.new ≡ record self.old { logged = self.new.logged } }
+    {
+        match self.run_row(0, SlotCall::Register { enters }, effects)? {
+            RowTold::Registered(slot) => Ok(Ok(slot)),
+            RowTold::Refused(fault) => Ok(Err(fault)),
+            RowTold::Goes | RowTold::Waits | RowTold::Gave(_) | RowTold::Done => unreachable!(),
+        }
+    }
+
+    /// A new registration, on the least slot that is not in use.
+    pub fn register(&mut self, registration: Token) -> Result<Played<V>, AllocError>
+        requires { (same : K → K → Bool) × (hash : K → ℕ) × MayPlay same hash (event.Register registration) self.old }
+        ensures plays { IfOk result (λ played. (same : K → K → Bool) (hash : K → ℕ) → PlaysTaking same hash (event.Register registration) played self.old self.new) }
+    {
+        if self.there.slot_of_registration(&registration).is_some() {
+            return Ok(self.busy());
+        }
+        let mut effects = self.no_effects();
+        let outcome = match self.take_slot(false, &mut effects)? {
+            Err(fault) => Outcome::Refused(fault),
+            Ok(slot) => {
+                self.there.register(registration, slot)?;
+                Outcome::Slot(slot)
+            }
+        };
+        Ok(Played {
+            outcome,
+            steps: 0,
+            effects,
+        })
+    }
+
     /// The registration ends, where each guard of it was forgotten. A slot on which guards are left is not given up.
     pub fn unregister(&mut self, registration: &Token) -> Result<Played<V>, AllocError>
         requires { (same : K → K → Bool) × (hash : K → ℕ) × MayPlay same hash (event.Unregister registration.now) self.old }
