@@ -42,7 +42,7 @@ use Rattle.papaya_histories.proofs.Meanings.{refuses_it}
 use Rattle.papaya_histories.proofs.Roles.{stands_then, stands_is, roles_before, roles_after}
 use Rattle.papaya_histories.proofs.Steps.{to, led_on, v}
 
-refused : {T : Type 0} (end : Called T) (fault : Fault) → Refused fault ≡ of_called end → end ≡ called.Refused fault
+pub refused : {T : Type 0} (end : Called T) (fault : Fault) → Refused fault ≡ of_called end → end ≡ called.Refused fault
 refused called.Goes fault e = absurd (cc e)
 refused called.Waits fault e = absurd (cc e)
 refused (called.Gave value) fault e = absurd (cc e)

@@ -31,8 +31,8 @@ module _ {K V S : Type 0} (same : K → K → Bool) (hash : K → ℕ) where
       let to = leads map u here in
       let effects = effects_of (acts.Call i map) (known old.notes) stepped.memory.changed in (
         leads,
-        effects,
         did,
+        noted,
         record {
           is_at = to.5;
           shows = subst (λ (k : Known). ShowsWhole {K = K} {V = V} same name (with_effects (Some (name i)) (Some map) effects m) k (scene_after same hash s old.executor stepped map i to.0 u to.1 told to.4)) (sym noted)

@@ -14,6 +14,9 @@ use Rattle.papaya_schedules.specs.Effects.{with_effects}
 use Rattle.papaya_schedules.specs.Moment.{Asking, UnderWay as CallThere, Moment}
 use Rattle.papaya_schedules.specs.Views.{call_of}
 use Rattle.papaya_callers.specs.Together.{UnderWay}
+use Rattle.papaya_effects.specs.Effects.{effects_of, known_after}
+use Rattle.papaya_effects.specs.Known.{known}
+use Rattle.papaya_effects.specs.declared.acting.Acting.TheVariants as acts
 use Rattle.papaya_executor.specs.Beginning.{Begins}
 use Rattle.papaya_executor.specs.IsAt.{Scene, slot_of, use_at}
 use Rattle.papaya_executor.specs.Replying.{scene_with, unless_stopped}
@@ -30,13 +33,18 @@ use Rattle.papaya_logged.specs.Shown.{IsShown}
 use Rattle.papaya_logged.specs.declared.logged.Logged.{Logged}
 
 module _ {K V S : Type 0} (same : K → K → Bool) (hash : K → ℕ) (name : ℕ → List ℕ) (m : Moment K V) (s : Scene K V) where
-  -- A step of a caller's call on a map: what it does follows in the list, and the moment after that shows where the step has led.
+  -- what such a step does, by what the executor's memory tells of it
+  abbrev pub step_did : (i map : ℕ) → (old new : Logged K V S) → List Effect
+  step_did i map old new = effects_of (acts.Call i map) (known old.notes) new.executor.memory.changed
+
+  -- A step of a caller's call on a map: what it does follows in the list, what is known then is noted, and the moment after that shows where the step has led.
   abbrev pub CallGoesOn : (i map : ℕ) → Progress (Node K V) → (before after : List Effect) → (old new : Logged K V S) → Type 0
   CallGoesOn i map told before after old new =
       (u : UnderWay K V K) (here : s.calls map i ≡ Some u)
-      → (leads : StepLeads same hash i told s old.executor new.executor) × (did : List Effect) × (after ≡ before ++ did)
+      → (leads : StepLeads same hash i told s old.executor new.executor) × (after ≡ before ++ step_did i map old new)
+      × (known new.notes ≡ known_after (acts.Call i map) new.executor.memory.changed (known old.notes))
       × (let to = leads map u here in
-      IsShown same hash name (with_effects (Some (name i)) (Some map) did m) new (scene_after same hash s old.executor new.executor map i to.0 u to.1 told to.4))
+      IsShown same hash name (with_effects (Some (name i)) (Some map) (step_did i map old new) m) new (scene_after same hash s old.executor new.executor map i to.0 u to.1 told to.4))
 
   -- A call begins while its slot is entered, on a map that stands, by a name that no call under way has: from then on the moment at which it begins shows that it
   -- is under way, and the caller has that name.

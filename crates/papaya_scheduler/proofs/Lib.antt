@@ -25,6 +25,14 @@ mod Replied
 mod Stopped
 mod First
 mod Unregisters
+mod KeptOut
+mod Holders
+mod NeverWaits
+mod Dropped
+mod Refreshes
+mod Drops
+mod Flushes
+mod HeldTold
 mod Begun
 mod RepliedSo
 mod BegunSo

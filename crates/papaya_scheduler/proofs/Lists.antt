@@ -337,3 +337,30 @@ module _ {X : Type 0} where
   removed_any q [] (suc k) old is fails = refl
   removed_any q (x ∷ xs) zero old is fails = let e : x ≡ old = cc is in ap (λ (b : Bool). b || list_any q xs) (sym (ap q e ∙ fails))
   removed_any q (x ∷ xs) (suc k) old is fails = ap (λ (b : Bool). q x || b) (removed_any q xs k old is fails)
+
+-- where one passes a test whose passers pass another one, one passes that
+any_too : {X : Type 0} (p q : X → Bool) (xs : List X) → AllByRecursion (λ x. q x ≡ true → p x ≡ true) xs → list_any q xs ≡ true → list_any p xs ≡ true
+any_too p q [] so any = absurd (cc any)
+any_too p q (x ∷ xs) so any = one (q x) (p x) so.0 any (any_too p q xs so.1)
+  where
+    one : (a b : Bool) → (a ≡ true → b ≡ true) → (a || list_any q xs) ≡ true → (list_any q xs ≡ true → list_any p xs ≡ true) → (b || list_any p xs) ≡ true
+    one true true h any ih = refl
+    one false true h any ih = refl
+    one true false h any ih = absurd (let f = h refl in cc f)
+    one false false h any ih = ih any
+
+-- and if one alone passes that, the one that is found by it passes the first
+pub found_once : {X : Type 0} (p q : X → Bool) (xs : List X) → AllByRecursion (λ x. q x ≡ true → p x ≡ true) xs → length (filter p xs) ≤ 1 → list_any q xs ≡ true
+    → (y : X) → find p xs ≡ Some y → q y ≡ true
+found_once p q [] so few any y is = absurd (cc any)
+found_once {X} p q (x ∷ xs) so few any y is = one (p x) (q x) refl so.0 few any is (λ l a f. found_once p q xs so.1 l a y f)
+  where
+    the : (a b : X) → Some a ≡ Some b → a ≡ b
+    the a b s = cc s
+
+    one : (a b : Bool) → q x ≡ b → (b ≡ true → a ≡ true) → length (cond a (x ∷ filter p xs) (filter p xs)) ≤ 1 → (b || list_any q xs) ≡ true → cond a (Some x) (find p xs) ≡ Some y
+        → (length (filter p xs) ≤ 1 → list_any q xs ≡ true → find p xs ≡ Some y → q y ≡ true) → q y ≡ true
+    one true true e h l any f ih = ap q (sym (the x y f)) ∙ e
+    one true false e h l any f ih = absurd (some_kept (λ z. z) (λ z. z) p xs (any_too p q xs so.1 any) (omega (arith, l)))
+    one false true e h l any f ih = absurd (let k = h refl in cc k)
+    one false false e h l any f ih = ih l any f

@@ -117,32 +117,37 @@ module _ (K V : Type 0) where
   pub store_keeps : (m m2 : Mem (Node K V)) (changed : Changed) (row after : SlotRow) (said : RowTold (Node K V)) → StoresOnce row → RowSteps K V row m m2 changed (after, said) → has_come said ≡ false → StoresOnce after
   store_keeps m m2 changed row after said is st not_yet = absurd (let h = ap (λ (x : RowTold (Node K V)). has_come x) (store_done m m2 changed row after said is st) in cc (h, not_yet))
 
--- One that begins by a call of one store ends done.
+-- What has begun, and what has run
 module _ {K V S : Type 0} (same : K → K → Bool) (hash : K → ℕ) (name : ℕ → List ℕ) (m : Moment K V) (s : Scene K V) (old new : Logged K V S) (shown : IsShown same hash name m old s)
-    (slot : ℕ) (called : SlotCall) (said : RowTold (Node K V)) (before after : List Effect) (ran : RowRan slot called said before after old new) (may : MayBegin old.executor slot called)
-    (once : StoresOnce (begun_row slot old.executor.batch_size called)) where
+    (slot : ℕ) (called : SlotCall) (said : RowTold (Node K V)) (before after : List Effect) (ran : RowRan slot called said before after old new) (may : MayBegin old.executor slot called) where
   may_there : MayBegin old.executor (slot_of ran.caller) called
   may_there = subst (λ (x : ℕ). MayBegin old.executor x called) (sym ran.in_slot) may
 
   leads : RowBegins same hash called ran.caller s old.executor ran.began.executor
   leads = (ran.begins same hash name m s shown may_there).0
 
-  ended : Led same hash ran.caller s new.executor × ((m m2 : Mem (Node K V)) × (changed : Changed) × (row after : SlotRow) × StoresOnce row × RowSteps K V row m m2 changed (after, said) × (work_of new.executor ran.caller ≡ row_on after said))
-  ended =
-      last_led same hash ran.caller s StoresOnce (store_keeps K V) ran.began.executor new.executor said ran.last (
-        begun_led same hash ran.caller s called old.executor ran.began.executor may_there leads,
-        (
-          begun_row (slot_of ran.caller) old.executor.batch_size called,
-          (leads may_there).1,
-          subst (λ (x : ℕ). StoresOnce (begun_row x old.executor.batch_size called)) (sym ran.in_slot) once,
-        ),
-      )
+  -- It is under way then, as the row that it began as.
+  pub begun_way : (Is : SlotRow → Type 0) → Is (begun_row slot old.executor.batch_size called)
+      → Led same hash ran.caller s ran.began.executor × ((row : SlotRow) × (work_of ran.began.executor ran.caller ≡ Some (OnSlot row)) × Is row)
+  begun_way Is so = (
+    begun_led same hash ran.caller s called old.executor ran.began.executor may_there leads,
+    (
+      begun_row (slot_of ran.caller) old.executor.batch_size called,
+      (leads may_there).1,
+      subst (λ (x : ℕ). Is (begun_row x old.executor.batch_size called)) (sym ran.in_slot) so,
+    ),
+  )
 
-  pub led_once : Led same hash ran.caller s new.executor
-  led_once = ended.0
+  -- One that begins by a call of one store ends done.
+  module _ (once : StoresOnce (begun_row slot old.executor.batch_size called)) where
+    ended : Led same hash ran.caller s new.executor × ((m m2 : Mem (Node K V)) × (changed : Changed) × (row after : SlotRow) × StoresOnce row × RowSteps K V row m m2 changed (after, said) × (work_of new.executor ran.caller ≡ row_on after said))
+    ended = last_led same hash ran.caller s StoresOnce (store_keeps K V) ran.began.executor new.executor said ran.last (begun_way StoresOnce once)
 
-  pub done_once : said ≡ told.Done
-  done_once = store_done K V ended.1.0 ended.1.1 ended.1.2 ended.1.3 ended.1.4 said ended.1.5 ended.1.6
+    pub led_once : Led same hash ran.caller s new.executor
+    led_once = ended.0
 
-  pub over_once : work_of new.executor ran.caller ≡ None
-  over_once = ended.1.7 ∙ ap (λ (x : RowTold (Node K V)). row_on {K = K} {V = V} ended.1.4 x) done_once
+    pub done_once : said ≡ told.Done
+    done_once = store_done K V ended.1.0 ended.1.1 ended.1.2 ended.1.3 ended.1.4 said ended.1.5 ended.1.6
+
+    pub over_once : work_of new.executor ran.caller ≡ None
+    over_once = ended.1.7 ∙ ap (λ (x : RowTold (Node K V)). row_on {K = K} {V = V} ended.1.4 x) done_once

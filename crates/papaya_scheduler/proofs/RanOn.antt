@@ -59,14 +59,14 @@ some_setting : {K : Type 0} (o : Option (Standing K)) (x : Setting) → option_m
 some_setting None x e = absurd (cc e)
 some_setting (Some st) x e = (st, refl)
 
-both_true : (a b : Bool) → (a && b) ≡ true → (a ≡ true) × (b ≡ true)
+pub both_true : (a b : Bool) → (a && b) ≡ true → (a ≡ true) × (b ≡ true)
 both_true true b e = (refl, e)
 both_true false b e = absurd (cc e)
 
 module _ {K V S : Type 0} (same : K → K → Bool) (hash : K → ℕ) (terms : Terms) (m : Moment K V) (p : Scheduler K V S) (stands : StandsFor same hash terms m p) where
-  -- while no guard is on a slot, nobody has anything under way in it
-  pub nobody_in : (slot : ℕ) → guards_on slot p.there.guards ≡ 0 → NobodyIn p.logged.executor slot
-  nobody_in slot none i at = stands.rests i no_call
+  -- while no guard of calls is on a slot, nobody has anything under way in it
+  pub nobody_by : (there : Present) → AllByRecursion (IsUnderWay stands.name stands.scene there) p.calls.items.items → (slot : ℕ) → guards_on slot there.guards ≡ 0 → NobodyIn p.logged.executor slot
+  nobody_by there each slot none i at = stands.rests i no_call
     where
       no_call : (n : ℕ) → stands.scene.calls n i ≡ None
       no_call n = by (stands.scene.calls n i) refl
@@ -74,9 +74,13 @@ module _ {K V S : Type 0} (same : K → K → Bool) (hash : K → ℕ) (terms : 
           by : (o : Option (UnderWay K V K)) → stands.scene.calls n i ≡ o → stands.scene.calls n i ≡ None
           by None is = is
           by (Some u) is =
-              let d = one_of (IsUnderWay stands.name stands.scene p.there) (λ d. (d.map == n) && (d.number == i)) p.calls.items.items (stands.calls.only n i u is) stands.calls.each in
+              let d = one_of (IsUnderWay stands.name stands.scene there) (λ d. (d.map == n) && (d.number == i)) p.calls.items.items (stands.calls.only n i u is) each in
               let number = eqb-true d.0.number i (both_true (d.0.map == n) (d.0.number == i) d.2).1 in
-              absurd (on_its_slot d.0.guard p.there.guards slot (d.1.3 ∙ ap Some (ap slot_of number ∙ at)) none)
+              absurd (on_its_slot d.0.guard there.guards slot (d.1.3 ∙ ap Some (ap slot_of number ∙ at)) none)
+
+  -- so it is while none at all is on it
+  pub nobody_in : (slot : ℕ) → guards_on slot p.there.guards ≡ 0 → NobodyIn p.logged.executor slot
+  nobody_in slot none = nobody_by p.there stands.calls.each slot none
 
   module _ (slot : ℕ) (called : SlotCall) (said : RowTold (Node K V)) (before after : List Effect) (new : Logged K V S) (ran : RowRan slot called said before after p.logged new) (may : MayBegin p.logged.executor slot called)
       (led : Led same hash ran.caller stands.scene new.executor) (over : work_of new.executor ran.caller ≡ None) (takes : TakesRetired ran.did m) where

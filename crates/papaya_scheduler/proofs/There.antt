@@ -1,5 +1,5 @@
 -- Guards and registrations by name: what the tests of a moment say, by what is found; and how slots are used then.
-use Rattle.std.specs.Prelude.{◌==◌, ◌&&◌, ◌||◌, not, cond, is_some, option_map, Option, Some, None, if◌then◌else◌}
+use Rattle.std.specs.Prelude.{◌==◌, ◌&&◌, ◌||◌, not, cond, filter, is_some, option_map, Option, Some, None, if◌then◌else◌}
 use Rattle.std.specs.List.{list_any}
 use Rattle.std.proofs.Common.{◌≡◌, ◌≢◌, ℕ, ◌+◌, ◌≤◌, Bool, true, false, List, [], ◌∷◌, refl, sym, ap, ◌∙◌, arith}
 use Rattle.std.proofs.lemmas.Bool.{eq-eqb}
@@ -62,23 +62,37 @@ lives_in name (g ∷ guards) l = at (is_same g.name name) l (lives_in name guard
 pub living_is : (name : List ℕ) (there : Present) → guards_named name there.guards ≤ 1 → is_living name there ≡ is_some (living_slot (guard_of name there.guards))
 living_is name there l = lives_in name there.guards l
 
--- others are found as before where one is forgotten
+-- one of a name is of no other one
+not_other : (own name other : List ℕ) → is_same other name ≡ false → is_same own name ≡ true → is_same own other ≡ false
+not_other own name other ne e = by (is_same own other) refl
+  where
+    by : (b : Bool) → is_same own other ≡ b → is_same own other ≡ false
+    by true f = absurd (let h = ap (λ (x : List ℕ). is_same x name) (sym ((same_tells own other).0 f)) ∙ e in cc (h, ne))
+    by false f = f
+
+-- others are found as before where one is forgotten,
 pub others_found : (name other : List ℕ) (guards : List Guard) → is_same other name ≡ false → guard_of other (forgotten_if name guards) ≡ guard_of other guards
 others_found name other [] ne = refl
 others_found name other (g ∷ guards) ne = at (is_same g.name name) refl (others_found name other guards ne)
   where
-    off : is_same g.name name ≡ true → is_same g.name other ≡ false
-    off e = by (is_same g.name other) refl
-      where
-        by : (b : Bool) → is_same g.name other ≡ b → is_same g.name other ≡ false
-        by true f = absurd (let h = ap (λ (x : List ℕ). is_same x name) (sym ((same_tells g.name other).0 f)) ∙ e in cc (h, ne))
-        by false f = f
-
     at : (b : Bool) → is_same g.name name ≡ b → guard_of other (forgotten_if name guards) ≡ guard_of other guards
         → guard_of other ((if b then record g { forgotten = true } else g) ∷ forgotten_if name guards) ≡ guard_of other (g ∷ guards)
     at true e ih =
-        ap (λ (q : Bool). cond q (Some (record g { forgotten = true })) (guard_of other (forgotten_if name guards))) (off e) ∙ ih
-        ∙ sym (ap (λ (q : Bool). cond q (Some g) (guard_of other guards)) (off e))
+        ap (λ (q : Bool). cond q (Some (record g { forgotten = true })) (guard_of other (forgotten_if name guards))) (not_other g.name name other ne e) ∙ ih
+        ∙ sym (ap (λ (q : Bool). cond q (Some g) (guard_of other guards)) (not_other g.name name other ne e))
+    at false e ih = ap (λ (o : Option Guard). cond (is_same g.name other) (Some g) o) ih
+
+-- and where one is dropped
+pub others_left : (name other : List ℕ) (guards : List Guard) → is_same other name ≡ false → guard_of other (filter (λ h. not (is_same h.name name)) guards) ≡ guard_of other guards
+others_left name other [] ne = refl
+others_left name other (g ∷ guards) ne = at (is_same g.name name) refl (others_left name other guards ne)
+  where
+    rest : List Guard
+    rest = filter (λ h. not (is_same h.name name)) guards
+
+    at : (b : Bool) → is_same g.name name ≡ b → guard_of other rest ≡ guard_of other guards
+        → guard_of other (cond (not b) (g ∷ rest) rest) ≡ cond (is_same g.name other) (Some g) (guard_of other guards)
+    at true e ih = ih ∙ sym (ap (λ (q : Bool). cond q (Some g) (guard_of other guards)) (not_other g.name name other ne e))
     at false e ih = ap (λ (o : Option Guard). cond (is_same g.name other) (Some g) o) ih
 
 -- slots are used as before where one is forgotten

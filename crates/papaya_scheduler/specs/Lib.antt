@@ -5,5 +5,6 @@ pub mod Shapes
 pub mod Rows
 pub mod Turns
 pub mod Taking
+pub mod Handing
 pub mod Played
 pub mod KeptOut

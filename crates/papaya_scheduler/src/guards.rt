@@ -1,14 +1,19 @@
-//! Guards come, and are forgotten.
-ghost use Rattle.std.specs.Prelude.{ℕ, Bool, IfOk};
+//! Guards come, begin anew, and go.
+ghost use Rattle.std.specs.Prelude.{◌≡◌, ◌==◌, ℕ, Bool, Some, IfOk, IsSome};
+ghost use Rattle.seize.specs.declared.states.TheConstants.{BATCH, HELD};
+ghost use Rattle.seize_words.specs.Mem.{word_at};
+ghost use Rattle.seize_words.specs.declared.at.At.TheVariants.{Slot};
 ghost use Rattle.papaya_schedules.specs.declared.event.Event.TheVariants as event;
-ghost use Rattle.papaya_scheduler.specs.Played.{MayPlay, PlaysAt, PlaysTaking};
+ghost use Rattle.papaya_scheduler.specs.Played.{MayPlay, PlaysAt, PlaysFlushing, PlaysTaking};
+ghost use Rattle.papaya_scheduler.specs.Rows.{left_as};
 
 use crate::played::Played;
 use crate::scheduler::Scheduler;
 use papaya_executor::row::SlotCall;
 use papaya_runs::token::Token;
 use papaya_schedules::outcome::Outcome;
-use seize_words::Fault;
+use seize::states::{BATCH, HELD};
+use seize_words::{At, Fault, Look};
 use std::alloc::AllocError;
 
 /// A registration has so many guards at most.
@@ -35,6 +40,109 @@ impl<K: Drop, V: Drop, S> Scheduler<K, V, S> {
             self.do_row(slot, SlotCall::Enter, &mut effects)?;
         }
         self.there.enter(guard, slot)?;
+        Ok(Played {
+            outcome: Outcome::Done,
+            steps: 0,
+            effects,
+        })
+    }
+
+    /// A new guard with the least slot that is not in use.
+    pub fn own(&mut self, guard: Token) -> Result<Played<V>, AllocError>
+        requires { (same : K → K → Bool) × (hash : K → ℕ) × MayPlay same hash (event.Own guard) self.old }
+        ensures plays { IfOk result (λ played. (same : K → K → Bool) (hash : K → ℕ) → PlaysTaking same hash (event.Own guard) played self.old self.new) }
+    {
+        if self.there.has_guard(&guard) {
+            return Ok(self.busy());
+        }
+        let mut effects = self.no_effects();
+        let outcome = match self.take_slot(true, &mut effects)? {
+            Err(fault) => Outcome::Refused(fault),
+            Ok(slot) => {
+                self.there.enter(guard, slot)?;
+                Outcome::Slot(slot)
+            }
+        };
+        Ok(Played {
+            outcome,
+            steps: 0,
+            effects,
+        })
+    }
+
+    /// The guard's section begins anew, where the guard is the only one on its slot.
+    pub fn refresh(&mut self, guard: &Token) -> Result<Played<V>, AllocError>
+        requires { (same : K → K → Bool) × (hash : K → ℕ) × MayPlay same hash (event.Refresh guard.now) self.old }
+        ensures plays { IfOk result (λ played. (same : K → K → Bool) (hash : K → ℕ) → PlaysTaking same hash (event.Refresh guard.now) played self.old self.new) }
+    {
+        let Some(slot) = self.slot_of_free(guard) else {
+            return Ok(self.busy());
+        };
+        let mut effects = self.no_effects();
+        if self.there.guards_on(slot) == 1 {
+            self.do_row(slot, SlotCall::Refresh, &mut effects)?;
+        }
+        Ok(Played {
+            outcome: Outcome::Done,
+            steps: 0,
+            effects,
+        })
+    }
+
+    /// The open batch of the guard's slot is tried, unless a call holds it.
+    pub fn flush(&mut self, guard: &Token) -> Result<Played<V>, AllocError>
+        requires { (same : K → K → Bool) × (hash : K → ℕ) × MayPlay same hash (event.Flush guard.now) self.old }
+        ensures plays { IfOk result (λ played. (same : K → K → Bool) (hash : K → ℕ) → PlaysFlushing same hash (event.Flush guard.now) played self.old self.new) }
+    {
+        let Some(slot) = self.there.slot_of_living(guard) else {
+            return Ok(self.busy());
+        };
+        if self.is_held(slot) {
+            return Ok(self.busy());
+        }
+        let mut effects = self.no_effects();
+        self.do_row(slot, SlotCall::Flush, &mut effects)?;
+        Ok(Played {
+            outcome: Outcome::Done,
+            steps: 0,
+            effects,
+        })
+    }
+
+    /// Whether some row holds the batch of a slot.
+    fn is_held(&self, slot: u64) -> bool
+        requires { IsSome (word_at self.now.logged.executor.memory.memory (Slot slot BATCH)) }
+        ensures { (word : ℕ) → word_at self.now.logged.executor.memory.memory (Slot slot BATCH) ≡ Some word → result ≡ (word == HELD) }
+    {
+        let memory = &self.logged.executor.memory.memory;
+        memory.look().load(At::Slot(slot, BATCH)) == HELD
+    }
+
+    /// How the only guard on a slot leaves it: it gives the slot up, too, where no registration has it.
+    fn leaves_as(&self, slot: u64) -> SlotCall
+        ensures { result ≡ left_as slot self.now.there }
+    {
+        if self.there.has_registration(slot) {
+            SlotCall::Leave
+        } else {
+            SlotCall::LeaveOwned
+        }
+    }
+
+    /// The guard ends. The only one on its slot leaves the slot, and gives it up where that is its own.
+    pub fn drop_guard(&mut self, guard: &Token) -> Result<Played<V>, AllocError>
+        requires { (same : K → K → Bool) × (hash : K → ℕ) × MayPlay same hash (event.DropGuard guard.now) self.old }
+        ensures plays { IfOk result (λ played. (same : K → K → Bool) (hash : K → ℕ) → PlaysTaking same hash (event.DropGuard guard.now) played self.old self.new) }
+    {
+        let Some(slot) = self.slot_of_free(guard) else {
+            return Ok(self.busy());
+        };
+        let mut effects = self.no_effects();
+        if self.there.guards_on(slot) == 1 {
+            let called = self.leaves_as(slot);
+            self.do_row(slot, called, &mut effects)?;
+        }
+        self.there.leave(guard);
         Ok(Played {
             outcome: Outcome::Done,
             steps: 0,

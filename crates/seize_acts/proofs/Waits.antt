@@ -1,6 +1,7 @@
 -- A row waits only while another one has its slot's batch in hand.
 use Rattle.std.specs.Prelude.{Option, Some, None, Ok, Err, if◌then◌else◌, nat_lt}
-use Rattle.std.proofs.Common.{◌≡◌, ℕ, ◌+◌, Bool, true, false, eqb, length, refl, arith, ap, sym, subst, ◌∙◌, ◌⊎◌, inl, inr}
+use Rattle.std.proofs.Common.{◌≡◌, ℕ, ◌+◌, ◌<◌, Bool, true, false, cond, eqb, length, refl, arith, ap, sym, subst, ◌∙◌, ◌⊎◌, inl, inr}
+use Rattle.std.proofs.lemmas.Bool.{ne_eqb}
 use Rattle.seize_words.specs.Mem.{Mem, Took, value_at, with_word}
 use Rattle.seize_words.specs.Op.{Out, Found, Exchanged, Roomed}
 use Rattle.seize_words.specs.declared.at.At.TheVariants.{Slot}
@@ -32,9 +33,10 @@ use Rattle.seize.specs.Register as registers
 use Rattle.seize.specs.Enter.{enter_plan, unregister_plan}
 use Rattle.seize.specs.World.{World, Row, Rests, Registers, Enters, Settles, Leaves, Defers, Frees, at_start}
 use Rattle.seize_moves.proofs.State.Ghost.{State}
-use Rattle.seize_rule.proofs.Words.Named.{words_of}
+use Rattle.seize_rule.proofs.Words.Chains.{last_of}
+use Rattle.seize_rule.proofs.Words.Named.{link, words_of}
 use Rattle.seize_rule.proofs.Words.View.{View, view}
-use Rattle.seize_rule.proofs.Words.Shows.{Extra}
+use Rattle.seize_rule.proofs.Words.Shows.{Extra, batch_word}
 use Rattle.seize_rule.proofs.Points.Known.{FitsAt, Fits, FirstsOf, MayHold, bare}
 use Rattle.seize_rule.proofs.Rows.Known.{FitsRow, FitsLeave}
 use Rattle.seize_rule.proofs.Rows.Leaving.{steps_back}
@@ -226,6 +228,29 @@ module _ {T : Type 0} {size : ℕ} (defers : T → Option ℕ) (w : World T) (go
   holds i s (Defers t c) is has = absurd (cc has)
   holds i s (Frees c) is has = absurd (cc has)
 
+  -- its slot's word says so,
+  pub held_while : (i s : ℕ) → s < LAST_SLOT + 1 → has_batch s (w.row i) ≡ true → words_of w.memory (Slot s BATCH) ≡ HELD
+  held_while i s fits has =
+      good.shows.linkage.batched s fits
+      ∙ ap (λ (h : ℕ). batch_word h (good.state.blocks (good.state.open_batch s))) (holds i s (w.row i) refl has)
+      ∙ ap (λ (b : Bool). cond b (link (last_of (good.state.blocks (good.state.open_batch s)))) 1) (ne_eqb (i + 1) 0 (λ z. omega (arith, z)))
+
+  -- and it settles on that slot
+  pub has_its : (i s : ℕ) (row : Row) → w.row i ≡ row → has_batch s row ≡ true → SettlesOn s row
+  has_its i s Rests is has = absurd (cc has)
+  has_its i s (Registers c) is has = absurd (cc has)
+  has_its i s (Enters c) is has = absurd (cc has)
+  has_its i s (Settles c) is has = sym (has_on s c has).0
+  has_its i s (Leaves c) is has = by c.stands refl has
+    where
+      by : (p : Leaving) → c.stands ≡ p → leaving_has s p ≡ true → c.slot ≡ s
+      by leaving.Swaps e h = absurd (cc h)
+      by (leaving.Settles settle) e h = sym (settles_in i c settle is e).0 ∙ sym (has_on s settle h).0
+      by leaving.Frees e h = absurd (cc h)
+      by leaving.Over e h = absurd (cc h)
+  has_its i s (Defers t c) is has = absurd (cc has)
+  has_its i s (Frees c) is has = absurd (cc has)
+
   -- another row has it: this one hasn't
   abbrev pub HasAnother : ℕ → ℕ → Type 0
   HasAnother s i = (j : ℕ) × (has_batch s (w.row j) ≡ true) × (j ≡ i → ⊥) × ((k : ℕ) → has_batch s (w.row k) ≡ true → k ≡ j)
@@ -250,6 +275,20 @@ module _ {T : Type 0} {size : ℕ} (defers : T → Option ℕ) (w : World T) (go
       let sees = subst (λ (p : Settling). FitsAt (LAST_SLOT + 1) i (view defers w.memory) good.state good.extra (bare c) p) k.1 r in
       (k.0, (λ s has. let a = (has_on s c has).1 in let b = sees.retiring.holds in cc (a, b)))
 
+  -- where it waits, another one has the batch; so it is of one that leaves
+  pub settles_wait : (i : ℕ) (c d : Settle) (m : Mem T) → w.row i ≡ Settles c → Steps Took value_at w.memory (settle_plan defers c) m (d, settled.Waits) → HasAnother c.slot i
+  settles_wait i c d m is st =
+      let k = settle_waits i c d m (fits_at i (Settles c) is) st in
+      another i c.slot k.0 (λ has. k.1 c.slot (sym (ap (has_batch c.slot) is) ∙ has))
+
+  pub leaves_wait : (i : ℕ) (c d : Leave) (m : Mem T) → w.row i ≡ Leaves c → Steps Took value_at w.memory (leave_plan defers c) m (d, settled.Waits) → HasAnother c.slot i
+  leaves_wait i c d m is st =
+      let l = leave_waits defers c d w.memory m c.stands st in
+      let f = settles_in i c l.0 is l.2 in
+      let k = settle_waits i l.0 l.1 m f.1 l.3 in
+      another i c.slot (subst (λ (t : ℕ). words_of w.memory (Slot t BATCH) ≡ HELD) f.0 k.0)
+      (λ has. k.1 c.slot (sym (ap (leaving_has c.slot) l.2) ∙ sym (ap (has_batch c.slot) is) ∙ has))
+
   abbrev pub Found' : ℕ → Row → Type 0
   Found' i row = (s : ℕ) × SettlesOn s row × HasAnother s i
 
@@ -260,17 +299,9 @@ module _ {T : Type 0} {size : ℕ} (defers : T → Option ℕ) (w : World T) (go
   row_waits i g (Enters c) is h =
       absurd (plan_outcome NoWait w.memory h.0 (enter_plan c) (h.1, progress.Waits) (λ out. tt) (was_stepped w.memory g (enter_plan c) (h.0, (h.1, progress.Waits)) h.2))
   row_waits i g (Settles c) is h =
-      let k = settle_waits i c h.1 h.0 (fits_at i (Settles c) is) (was_stepped w.memory g (settle_plan defers c) (h.0, (h.1, settled.Waits)) h.2) in
-      (c.slot, refl, another i c.slot k.0 (λ has. k.1 c.slot (sym (ap (has_batch c.slot) is) ∙ has)))
+      (c.slot, refl, settles_wait i c h.1 h.0 is (was_stepped w.memory g (settle_plan defers c) (h.0, (h.1, settled.Waits)) h.2))
   row_waits i g (Leaves c) is h =
-      let l = leave_waits defers c h.1 w.memory h.0 c.stands (was_stepped w.memory g (leave_plan defers c) (h.0, (h.1, settled.Waits)) h.2) in
-      let f = settles_in i c l.0 is l.2 in
-      let k = settle_waits i l.0 l.1 h.0 f.1 l.3 in (
-        c.slot,
-        refl,
-        another i c.slot (subst (λ (t : ℕ). words_of w.memory (Slot t BATCH) ≡ HELD) f.0 k.0)
-            (λ has. k.1 c.slot (sym (ap (leaving_has c.slot) l.2) ∙ sym (ap (has_batch c.slot) is) ∙ has)),
-      )
+      (c.slot, refl, leaves_wait i c h.1 h.0 is (was_stepped w.memory g (leave_plan defers c) (h.0, (h.1, settled.Waits)) h.2))
   row_waits i g (Defers s c) is h =
       absurd (plan_outcome NoWait w.memory h.0 (defer.defer_plan c) (h.1, progress.Waits) (defer_goes T c c.stands) (was_stepped w.memory g (defer.defer_plan c) (h.0, (h.1, progress.Waits)) h.2))
   row_waits i g (Frees c) is h =
@@ -300,9 +331,7 @@ settling_waits_for_a_holder defers size roots events w runs i c d m row st = by 
     by : (w.row i ≡ Rests) ⊎ (w.row i ≡ Settles c) → AnotherHas w i c.slot
     by (inl rests) =
         another defers w good held i c.slot (waits_held defers w.memory m c d c.stands st).0 (λ has. let none = ap (has_batch c.slot) rests in cc (none, has))
-    by (inr is) =
-        let k = settle_waits defers w good held i c d m (fits_at defers w good held i (Settles c) is) st in
-        another defers w good held i c.slot k.0 (λ has. k.1 c.slot (sym (ap (has_batch c.slot) is) ∙ has))
+    by (inr is) = settles_wait defers w good held i c d m is st
 
 pub deferring_never_waits : {T : Type 0} (defers : T → Option ℕ) → DeferringNeverWaits defers
 deferring_never_waits {T} defers c d m m2 st = plan_outcome NoWait m m2 (defer.defer_plan c) (d, progress.Waits) (defer_goes T c c.stands) st

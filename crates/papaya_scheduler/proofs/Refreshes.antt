@@ -1,0 +1,129 @@
+-- A guard's section begins anew.
+use Rattle.std.specs.Prelude.{◌&&◌, ◌⊎◌, ◌≢◌, is_some, slice_index_or, slice_set, Some, None}
+use Rattle.std.proofs.Common.{[], ◌++◌, ◌≡◌, ℕ, ◌+◌, ◌<◌, Bool, true, List, length, refl, sym, ap, subst, ◌∙◌, inl, inr, arith}
+use Rattle.std.proofs.lemmas.Bool.{cases_eq}
+use Rattle.std.proofs.lemmas.List.{get_or-set_other, get_or-set_same, length-set}
+use Rattle.seize_words.specs.declared.fault.Fault.TheVariants.{Busy}
+use Rattle.seize_ends.specs.Holders.{has_batch}
+use Rattle.papaya_tables.specs.declared.node.Node.{Node}
+use Rattle.papaya_runs.specs.Present.{guards_on}
+use Rattle.papaya_schedules.specs.declared.effect.Effect.{Effect}
+use Rattle.papaya_schedules.specs.declared.event.Event.TheVariants.{Refresh}
+use Rattle.papaya_schedules.specs.declared.outcome.Outcome.TheVariants.{Done, Refused}
+use Rattle.papaya_schedules.specs.After.{is_alone_on, moment, unsheltered}
+use Rattle.papaya_schedules.specs.Effects.{with_effects}
+use Rattle.papaya_schedules.specs.Entry.{Entry}
+use Rattle.papaya_schedules.specs.InTurn.{IsDone}
+use Rattle.papaya_schedules.specs.InUse.{is_free_guard}
+use Rattle.papaya_schedules.specs.Moment.{Moment}
+use Rattle.papaya_schedules.specs.Terms.{Terms}
+use Rattle.papaya_executor.specs.IsAt.{use_at}
+use Rattle.papaya_executor.specs.OnSlots.{MayBegin}
+use Rattle.papaya_executor.specs.declared.row.RowTold.{RowTold}
+use Rattle.papaya_executor.specs.declared.row.RowTold.TheVariants as told
+use Rattle.papaya_executor.specs.declared.row.SlotCall.TheVariants as call
+use Rattle.papaya_executor.specs.declared.row.SlotUse.{SlotUse}
+use Rattle.papaya_executor.specs.declared.row.SlotUse.TheVariants as used
+use Rattle.papaya_executor.specs.declared.worker.TheConstants.{SLOTS}
+use Rattle.papaya_logged.specs.Ended.{has_ended}
+use Rattle.papaya_logged.specs.declared.logged.Logged.{Logged}
+use Rattle.papaya_scheduler.specs.Played.{IsDue, Plays, StandsFor, used_as}
+use Rattle.papaya_scheduler.specs.Rows.{RowRan, RowRanOn, TakesRetired}
+use Rattle.papaya_scheduler.specs.Seen.{free_slot}
+use Rattle.papaya_scheduler.specs.declared.scheduler.Scheduler.{Scheduler}
+use Rattle.papaya_scheduler.proofs.Dropped.{fits, free_lives, inside, nobody_else}
+use Rattle.papaya_scheduler.proofs.Holders.{none_has}
+use Rattle.papaya_scheduler.proofs.NeverWaits.{done_alone, led_alone, over_alone}
+use Rattle.papaya_scheduler.proofs.Quiet.{stands_on}
+use Rattle.papaya_scheduler.proofs.RanOn.{stands_ran, there_stays}
+use Rattle.papaya_scheduler.proofs.Rights.{entry, in_turn, out_of_turn, plays, quiet}
+use Rattle.papaya_scheduler.proofs.Seats.{free_is}
+
+module _ {K V S : Type 0} (same : K → K → Bool) (hash : K → ℕ) (terms : Terms) (log : List (Entry K V)) (p : Scheduler K V S) (guard : List ℕ)
+    (due : IsDue same hash terms log (Refresh guard) p) where
+  abbrev m : Moment K V
+  m = moment log
+
+  abbrev stands : StandsFor same hash terms m p
+  stands = due.played
+
+  pub not_free : free_slot guard p.there p.calls.items.items ≡ None → Plays same hash terms log (quiet (Refresh guard) (Refused Busy)) p
+  not_free none =
+      let e = quiet (Refresh guard) (Refused Busy) in
+      plays same hash terms log (Refresh guard) p due e refl (out_of_turn IsDone (is_free_guard guard m) (Refused Busy) (free_is same hash terms m p stands guard ∙ ap is_some none) refl)
+      (stands_on same hash terms m p stands (m.events + 1) (m.is_alone && is_alone_on e m) m.slots m.sheltered)
+
+  module _ (slot : ℕ) (free : free_slot guard p.there p.calls.items.items ≡ Some slot) where
+    -- while others are on its slot, the slot's section goes on
+    pub beside : Plays same hash terms log (quiet (Refresh guard) Done) p
+    beside =
+        let e = quiet (Refresh guard) Done in
+        plays same hash terms log (Refresh guard) p due e refl (in_turn IsDone (is_free_guard guard m) Done (free_is same hash terms m p stands guard ∙ ap is_some free) refl)
+        (stands_on same hash terms m p stands (m.events + 1) (m.is_alone && is_alone_on e m) m.slots (unsheltered guard m.sheltered))
+
+    -- and else its row runs, and ends
+    module _ (one : guards_on slot p.there.guards ≡ 1) where
+      is_inside : use_at p.logged.executor slot ≡ used.Inside
+      is_inside = inside same hash terms m p stands guard slot (free_lives same hash terms m p stands guard slot free)
+
+      pub may_refresh : MayBegin p.logged.executor slot call.Refresh
+      may_refresh = (is_inside, nobody_else same hash terms m p stands guard slot free one)
+
+      pub its_fits : slot < SLOTS
+      its_fits = fits same hash terms m p stands guard slot (free_lives same hash terms m p stands guard slot free)
+
+      alone : (j : ℕ) → has_batch slot (stands.scene.world.row j) ≡ true → ⊥
+      alone = none_has same hash p.logged.executor stands.scene stands.shown.is_at slot may_refresh.1
+
+      module _ (said : RowTold (Node K V)) (before after : List Effect) (logged : Logged K V S) (ran : RowRan slot call.Refresh said before after p.logged logged) (takes : TakesRetired ran.did m) where
+        is_done : said ≡ told.Done
+        is_done = done_alone same hash stands.name m stands.scene p.logged logged stands.shown slot call.Refresh said before after ran may_refresh tt alone
+
+        slots_now : logged.executor.slots.items ≡ slice_set (slice_set p.logged.executor.slots.items slot used.Changing) slot used.Inside
+        slots_now = ran.used (ap has_ended is_done)
+
+        use_now : (t : ℕ) → use_at logged.executor t ≡ used_as t p.there
+        use_now t = by (cases_eq t slot)
+          where
+            long : slot < length (slice_set p.logged.executor.slots.items slot used.Changing)
+            long = let n = stands.shown.is_at.slots in let l = length-set p.logged.executor.slots.items slot used.Changing in omega (arith, n, l, its_fits)
+
+            by : (t ≡ slot) ⊎ (t ≢ slot) → use_at logged.executor t ≡ used_as t p.there
+            by (inl e) =
+                ap (λ (xs : List SlotUse). slice_index_or xs t used.Vacant) slots_now
+                ∙ ap (λ (x : ℕ). slice_index_or (slice_set (slice_set p.logged.executor.slots.items slot used.Changing) slot used.Inside) x used.Vacant) e
+                ∙ get_or-set_same (slice_set p.logged.executor.slots.items slot used.Changing) slot used.Inside used.Vacant long
+                ∙ sym is_inside ∙ stands.slots slot ∙ ap (λ (x : ℕ). used_as x p.there) (sym e)
+            by (inr ne) =
+                ap (λ (xs : List SlotUse). slice_index_or xs t used.Vacant) slots_now
+                ∙ get_or-set_other (slice_set p.logged.executor.slots.items slot used.Changing) slot t used.Inside used.Vacant ne
+                ∙ get_or-set_other p.logged.executor.slots.items slot t used.Changing used.Vacant ne ∙ stands.slots t
+
+        pub refreshed : Plays same hash terms log (entry (Refresh guard) Done 0 ran.did) (record p { logged = logged })
+        refreshed =
+            let e = entry (Refresh guard) Done 0 ran.did in
+            let w = with_effects None None ran.did m in
+            plays same hash terms log (Refresh guard) (record p { logged = logged }) due e refl (in_turn IsDone (is_free_guard guard m) Done (free_is same hash terms m p stands guard ∙ ap is_some free) refl)
+            (stands_ran same hash terms m p stands slot call.Refresh said before after logged ran may_refresh
+            (led_alone same hash stands.name m stands.scene p.logged logged stands.shown slot call.Refresh said before after ran may_refresh tt alone)
+            (over_alone same hash stands.name m stands.scene p.logged logged stands.shown slot call.Refresh said before after ran may_refresh tt alone) takes p.there stands.calls.each use_now
+            stands.names w.there (there_stays None None ran.did m ∙ stands.there) (m.events + 1) (m.is_alone && is_alone_on e m) m.slots (unsheltered guard w.sheltered) m.remains)
+
+-- so it is, by what the code does
+module _ {K V S : Type 0} (same : K → K → Bool) (hash : K → ℕ) (terms : Terms) (log : List (Entry K V)) (p : Scheduler K V S) (guard : List ℕ)
+    (due : IsDue same hash terms log (Refresh guard) p) (slot : ℕ) (free : free_slot guard p.there p.calls.items.items ≡ Some slot) (p2 : Scheduler K V S) (effects : List Effect) where
+  abbrev Comes : Scheduler K V S → List Effect → Type 0
+  Comes q did = Plays same hash terms log (entry (Refresh guard) Done 0 did) q
+
+  pub joined : p2 ≡ p → effects ≡ [] → Comes p2 effects
+  joined same_p no_effects =
+      subst (λ (q : Scheduler K V S). Comes q effects) (sym same_p)
+      (subst (λ (did : List Effect). Comes p did) (sym no_effects) (beside same hash terms log p guard due slot free))
+
+  pub joined_alone : guards_on slot p.there.guards ≡ 1 → (before after : List Effect) → before ≡ [] → effects ≡ after → (q : Scheduler K V S) → p2 ≡ q → q ≡ record p { logged = q.logged }
+      → RowRanOn slot call.Refresh before after p.logged q.logged → TakesRetired effects (moment log) → Comes p2 effects
+  joined_alone one before after no_effects same_effects q same_q same_p (said, ran) takes =
+      let did : effects ≡ ran.did = same_effects ∙ ran.follows ∙ ap (λ (xs : List Effect). xs ++ ran.did) no_effects in
+      subst (λ (x : Scheduler K V S). Comes x effects) (sym (same_q ∙ same_p))
+      (subst (λ (xs : List Effect). Comes (record p { logged = q.logged }) xs) (sym did)
+      (refreshed same hash terms log p guard due slot free one said before after q.logged ran (subst (λ (xs : List Effect). TakesRetired xs (moment log)) did takes)))

@@ -1,0 +1,45 @@
+-- A guard ends.
+use Rattle.std.proofs.Common.{[], sym, ap, subst, ◌∙◌}
+use Rattle.seize_words.specs.declared.fault.Fault.TheVariants.{Busy}
+use Rattle.papaya_schedules.specs.declared.event.Event.TheVariants.{DropGuard}
+use Rattle.papaya_schedules.specs.declared.outcome.Outcome.TheVariants.{Refused}
+use Rattle.papaya_executor.specs.OnSlots.{MayBegin}
+use Rattle.papaya_executor.specs.declared.row.SlotCall.{SlotCall}
+use Rattle.papaya_scheduler.proofs.Drops.{not_free, may_leave, its_fits, joined, joined_alone}
+use Rattle.papaya_scheduler.proofs.Rights.{so_played}
+use Rattle.papaya_scheduler.proofs.scheduler.Scheduler.drop_guard.Goals as goal
+use Rattle.papaya_scheduler.proofs.scheduler.Scheduler.drop_guard.Goals.{then-guards_on-eq1+in_ok-do_row, else-guards_on-eq1}
+
+pub returns-in_default : goal.returns-in_default
+returns-in_default g c = record {
+  plays = λ same hash terms log due takes.
+      so_played same hash terms log c.args.self.now (DropGuard c.args.guard.now) c.busy.result (Refused Busy) 0 [] c.busy.ensures.outcome c.busy.ensures.steps c.busy.ensures.effects
+      (not_free same hash terms log c.args.self.now c.args.guard.now due (sym c.slot_of_free.ensures ∙ c.in_default.is));
+}
+
+pub do_row-requires : goal.do_row-requires
+do_row-requires g c =
+    let r = c.requires in
+    let free = sym c.slot_of_free.ensures ∙ c.in-Some.is in
+    let one = sym c.guards_on.ensures ∙ c.if-guards_on-eq1.true in
+    record {
+      fits = its_fits r.0 r.1 r.2.0 r.2.1 c.args.self.now c.args.guard.now r.2.2 c.in-Some.slot free one;
+      may = (r.0, r.1, r.2.2.played.name, _, r.2.2.played.scene, r.2.2.played.shown);
+      begins = subst (λ (x : SlotCall). MayBegin c.args.self.now.logged.executor c.in-Some.slot x) (sym c.leaves_as-called.ensures)
+          (may_leave r.0 r.1 r.2.0 r.2.1 c.args.self.now c.args.guard.now r.2.2 c.in-Some.slot free one);
+    }
+
+pub returns : goal.returns
+returns g c = record {
+  plays = λ same hash terms log due takes.
+      let free = sym c.slot_of_free.ensures ∙ c.in-Some.is in
+      elim c.if-guards_on-eq1.branch [
+        | then-guards_on-eq1+in_ok-do_row w ↦
+            joined_alone same hash terms log c.args.self.now c.args.guard.now due c.in-Some.slot free c.if-guards_on-eq1.self c.if-guards_on-eq1.effects.items c.leave.new.self c.leave.ensures
+            (sym c.guards_on.ensures ∙ w.if-guards_on-eq1.true) c.no_effects-effects.result.items w.do_row.new.effects.items c.no_effects-effects.ensures
+            (ap (λ v. v.items) w.effects-is) w.do_row.new.self w.self-is w.do_row.ensures.rest w.leaves_as-called.result w.leaves_as-called.ensures w.in_ok-do_row.ensures.ran takes
+        | else-guards_on-eq1 w ↦
+            joined same hash terms log c.args.self.now c.args.guard.now due c.in-Some.slot free c.if-guards_on-eq1.self c.if-guards_on-eq1.effects.items c.leave.new.self c.leave.ensures
+            (λ z. w.if-guards_on-eq1.false (c.guards_on.ensures ∙ z)) w.self-is (ap (λ v. v.items) w.effects-is ∙ c.no_effects-effects.ensures)
+      ];
+}

@@ -1,0 +1,206 @@
+//! Calls take steps, one or many.
+ghost use Rattle.std.specs.Prelude.{◌≡◌, IfOk};
+ghost use Rattle.papaya_schedules.specs.declared.event.Event.TheVariants as event;
+ghost use Rattle.papaya_scheduler.specs.Played.{MayPlay, PlaysAt};
+ghost use Rattle.papaya_scheduler.specs.Telling.{goes_on, value_of};
+
+use crate::caller::{Caller, Stands};
+use crate::kind::Kind;
+use crate::played::Played;
+use crate::scheduler::Scheduler;
+use crate::telling::{answer_of, number_by};
+use papaya_raw::machines::Progress;
+use papaya_raw::{Hashes, Node};
+use papaya_runs::token::Token;
+use papaya_schedules::call::Call;
+use papaya_schedules::effect::Effect;
+use papaya_schedules::outcome::Outcome;
+use std::alloc::AllocError;
+use std::hash::Hash;
+
+/// A call may take so many steps at once.
+const MOST_STEPS: u64 = 1_000_000;
+
+/// The value of a pair.
+fn value_of<K: Drop, V: Drop>(node: Node<K, V>) -> Option<V>
+    ensures { result ≡ value_of node }
+{
+    match node {
+        Node::Pair(_, value) => Some(value),
+        Node::Table { .. } | Node::Shards => None,
+    }
+}
+
+/// Whether a call goes on by itself.
+fn goes_on<V>(outcome: &Outcome<V>) -> bool
+    ensures { result ≡ goes_on outcome.now }
+{
+    matches!(outcome, Outcome::Goes)
+}
+
+impl<K: Drop, V: Drop, S> Scheduler<K, V, S> {
+    /// The call at this place is this far from now on.
+    fn stand(&mut self, place: usize, stands: Stands) {
+        self.calls.items[place].stands = stands;
+    }
+
+    /// The call at this place keeps the value that it has not stored, if it tells that.
+    fn keep(&mut self, place: usize, unstored: Node<K, V>) {
+        let caller = &mut self.calls.items[place];
+        if let Kind::TriesToInsert = caller.kind {
+            caller.value = value_of(unstored);
+        }
+    }
+
+    /// The call at this place has come to this.
+    fn come_to(&mut self, place: usize, progress: Progress<Node<K, V>>) -> Outcome<V> {
+        match progress {
+            Progress::Goes | Progress::Gave(_) => Outcome::Goes,
+            Progress::Unstored(node) => {
+                self.keep(place, node);
+                Outcome::Goes
+            }
+            Progress::Waits => Outcome::Waits,
+            Progress::Asks(word) => {
+                let question = word.map(|word| number_by(&self.logged.notes, word));
+                self.stand(place, Stands::Asks(question));
+                Outcome::Asks(question)
+            }
+            Progress::Ready => {
+                self.stand(place, Stands::Ready);
+                Outcome::Ready
+            }
+            Progress::Pair(word) => Outcome::Shows(number_by(&self.logged.notes, word)),
+            Progress::Done(said) => {
+                let Caller { kind, value, .. } = self.calls.items.remove(place);
+                Outcome::Answered(answer_of(&self.logged.notes, kind, value, said))
+            }
+            Progress::Refused(fault) => {
+                self.calls.items.remove(place);
+                Outcome::Refused(fault)
+            }
+        }
+    }
+}
+
+impl<K: Eq + Hash + Drop, V: Drop, S: Hashes<K>> Scheduler<K, V, S> {
+    /// The call at this place takes one step. What it does is added to the list.
+    fn take_step(
+        &mut self,
+        place: usize,
+        effects: &mut Vec<Effect>,
+    ) -> Result<Outcome<V>, AllocError> {
+        let Caller { number, map, .. } = &self.calls.items[place];
+        let progress = self.logged.step(*number, *map, effects)?;
+        Ok(self.come_to(place, progress))
+    }
+
+    /// The call at this place takes at most so many steps, while it goes on.
+    fn go_on(
+        &mut self,
+        place: usize,
+        most: u64,
+        effects: &mut Vec<Effect>,
+    ) -> Result<(Outcome<V>, u64), AllocError> {
+        for steps in 1..most {
+            let outcome = self.take_step(place, effects)?;
+            if !goes_on(&outcome) {
+                return Ok((outcome, steps));
+            }
+        }
+        let outcome = self.take_step(place, effects)?;
+        Ok((outcome, most))
+    }
+
+    /// The call at this place takes at most so many steps, while it goes on. The first growth that it asks for may be refused.
+    fn take_steps(
+        &mut self,
+        place: usize,
+        most: u64,
+        refuse: bool,
+    ) -> Result<Played<V>, AllocError> {
+        match self.calls.items[place].stands {
+            Stands::Asks(question) => return Ok(self.quietly(Outcome::Asks(question))),
+            Stands::Ready => return Ok(self.quietly(Outcome::Ready)),
+            Stands::Goes => {}
+        }
+        let mut effects = self.no_effects();
+        if refuse {
+            self.logged.executor.memory.memory.refuse_after(0);
+        }
+        let (outcome, steps) = self.go_on(place, most, &mut effects)?;
+        if refuse {
+            self.logged.executor.memory.memory.refuse_after(u64::MAX);
+        }
+        Ok(Played {
+            outcome,
+            steps,
+            effects,
+        })
+    }
+
+    /// One step of the caller's call. Its growth may be refused.
+    pub fn step(&mut self, caller: &Token, refuse: bool) -> Result<Played<V>, AllocError>
+        requires { MayPlay K.eq (S.hash self.old.logged.executor.hasher) (event.Step caller.now refuse) self.old }
+        ensures plays { IfOk result (λ played. PlaysAt K.eq (S.hash self.old.logged.executor.hasher) (event.Step caller.now refuse) played self.old self.new) }
+    {
+        match self.calls.place_of(caller) {
+            Some(place) => self.take_steps(place, 1, refuse),
+            None => Ok(self.busy()),
+        }
+    }
+
+    /// Steps of the caller's call while it goes on. The first growth that it asks for may be refused.
+    pub fn go(&mut self, caller: &Token, refuse: bool) -> Result<Played<V>, AllocError>
+        requires { MayPlay K.eq (S.hash self.old.logged.executor.hasher) (event.Go caller.now refuse) self.old }
+        ensures plays { IfOk result (λ played. PlaysAt K.eq (S.hash self.old.logged.executor.hasher) (event.Go caller.now refuse) played self.old self.new) }
+    {
+        match self.calls.place_of(caller) {
+            Some(place) => self.take_steps(place, MOST_STEPS, refuse),
+            None => Ok(self.busy()),
+        }
+    }
+
+    /// Begins a call of the caller without a name, and goes on with it.
+    pub fn one_call(
+        &mut self,
+        guard: Token,
+        map: &Token,
+        call: Call<K, V>,
+    ) -> Result<Played<V>, AllocError>
+        requires { MayPlay K.eq (S.hash self.old.logged.executor.hasher) (event.OneCall guard map.now call) self.old }
+        ensures plays { IfOk result (λ played. PlaysAt K.eq (S.hash self.old.logged.executor.hasher) (event.OneCall guard map.now call) played self.old self.new) }
+    {
+        let nameless = Token::copy_of(*self.maps.allocator(), b"-")?;
+        if self.begins(nameless, guard, map, call)? {
+            self.take_steps(0, MOST_STEPS, false)
+        } else {
+            Ok(self.busy())
+        }
+    }
+
+    /// The next pair of the caller's walk, or that there is none.
+    pub fn next(&mut self, caller: &Token) -> Result<Played<V>, AllocError>
+        requires { MayPlay K.eq (S.hash self.old.logged.executor.hasher) (event.Next caller.now) self.old }
+        ensures plays { IfOk result (λ played. PlaysAt K.eq (S.hash self.old.logged.executor.hasher) (event.Next caller.now) played self.old self.new) }
+    {
+        let Some(place) = self.place_of_ready(caller) else {
+            return Ok(self.busy());
+        };
+        let number = self.calls.items[place].number;
+        self.logged.next(number);
+        let mut effects = self.no_effects();
+        let mut steps = 0;
+        loop {
+            let outcome = self.take_step(place, &mut effects)?;
+            steps += 1;
+            if !goes_on(&outcome) {
+                return Ok(Played {
+                    outcome,
+                    steps,
+                    effects,
+                });
+            }
+        }
+    }
+}
