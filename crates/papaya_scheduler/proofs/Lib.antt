@@ -25,7 +25,6 @@ mod Replied
 mod Stopped
 mod First
 mod Unregisters
-mod KeptOut
 mod Holders
 mod NeverWaits
 mod Dropped
@@ -43,3 +42,19 @@ mod Vacancies
 mod SlotTaken
 mod Registers
 mod Owns
+mod AfterEffects
+mod SweepSays
+mod KeySays
+mod StepSays
+mod SweepSteps
+mod AnySays
+mod SteppedTo
+mod OneStep
+mod ComesOn
+mod StepsOn
+mod Again
+mod RightSteps
+mod PlaysSteps
+mod PlaysAgain
+mod TakenBy
+mod PlaysWhole

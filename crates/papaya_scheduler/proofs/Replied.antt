@@ -1,7 +1,7 @@
 -- A call that asks is told a reply.
-use Rattle.std.specs.Prelude.{◌≡◌, ◌≢◌, ◌⊎◌, ◌+◌, ◌≤◌, ◌==◌, ◌&&◌, ℕ, Bool, true, false, List, find, map, position, slice_get, slice_set, is_some, Option, Some, None, Result, Ok}
-use Rattle.std.specs.List.{AllByRecursion, list_any}
-use Rattle.std.proofs.Common.{refl, sym, ap, subst, ◌∙◌, inl, inr}
+use Rattle.std.specs.Prelude.{◌≡◌, ◌≢◌, ◌⊎◌, ◌+◌, ◌≤◌, ◌==◌, ◌&&◌, ℕ, Bool, true, false, not, List, ◌∷◌, length, filter, find, map, position, slice_get, slice_set, is_some, Option, Some, None, Result, Ok, Err, if◌then◌else◌}
+use Rattle.std.specs.List.{AllByRecursion, list_any, position_or_len}
+use Rattle.std.proofs.Common.{refl, sym, ap, subst, ◌∙◌, inl, inr, arith, eqb-true}
 use Rattle.std.proofs.lemmas.Bool.{cases_eq}
 use Rattle.seize_words.specs.declared.fault.Fault.TheVariants.{Busy}
 use Rattle.papaya_tables.specs.declared.node.Node.{Node}
@@ -23,6 +23,7 @@ use Rattle.papaya_raw.specs.declared.machines.asking.Reply.{Reply as MachineRepl
 use Rattle.papaya_raw.specs.declared.machines.call.Calling.{Calling}
 use Rattle.papaya_raw.specs.declared.machines.call.Calling.TheVariants as at
 use Rattle.papaya_raw.specs.declared.machines.machine.Machine.{Machine}
+use Rattle.papaya_runs.specs.Present.{guard_of, living_slot}
 use Rattle.papaya_runs.specs.Same.{is_same}
 use Rattle.papaya_schedules.specs.declared.call.Call.{Call}
 use Rattle.papaya_schedules.specs.declared.call.Call.TheVariants.{On, Reserve, Clear, Retain, Len, Walk}
@@ -40,10 +41,11 @@ use Rattle.papaya_schedules.specs.Moment.{Stands, Going, Asking as Asks, Told, I
 use Rattle.papaya_schedules.specs.Terms.{Terms}
 use Rattle.papaya_schedules.specs.Views.{call_of}
 use Rattle.papaya_callers.specs.Pairs.{Given, Begun, IsTold, KeepsGiven, IsOfKind, kind_of as kind_given}
+use Rattle.papaya_callers.specs.Rows.{once_over}
 use Rattle.papaya_callers.specs.Sights.{seen_by}
 use Rattle.papaya_callers.specs.Together.{CallOnKey, UnderWay, OnKey, ForRoom, Counting, OverAll, Together, Stands as TogetherStands}
 use Rattle.papaya_callers.proofs.Together.At.{at_other, at_same}
-use Rattle.papaya_executor.specs.IsAt.{Scene, HasCall, slot_of, work_of}
+use Rattle.papaya_executor.specs.IsAt.{Scene, IsAt, HasCall, slot_of, work_of}
 use Rattle.papaya_executor.specs.Replying.{ReplyLeads, scene_with}
 use Rattle.papaya_finishes.specs.Machines.{machine_of}
 use Rattle.papaya_finishes.specs.Maps.{Standing}
@@ -69,13 +71,13 @@ use Rattle.papaya_scheduler.specs.declared.kind.Kind.{Kind}
 use Rattle.papaya_scheduler.specs.declared.scheduler.Scheduler.{Scheduler}
 use Rattle.papaya_scheduler.proofs.Facts.{no_ending_of, no_making_of, no_work_at, row_rests, used_still}
 use Rattle.papaya_scheduler.proofs.Here.{Here, here_at, there_is}
-use Rattle.papaya_scheduler.proofs.Lists.{changed_at, set_all, set_any, set_count}
+use Rattle.papaya_scheduler.proofs.Lists.{both_some, changed_at, found_alike, set_all, set_any, set_count}
 use Rattle.papaya_scheduler.proofs.Quiet.{stands_on}
 use Rattle.papaya_scheduler.proofs.Takes.{key_takes, sweep_takes}
 use Rattle.papaya_scheduler.proofs.Rights.{in_turn, out_of_turn, plays, quiet}
 
 -- What a call on a key was begun with, and told since, says of which kind it is.
-of_kind : {K V : Type 0} (hash : K → ℕ) (m : Mem (Node K V)) (c : Chart K) (blocks : Blocks) (keys : K → Bool) (pair : Given K V) (change : Change) (p : KeyCall K V K) (stands : Calling)
+pub of_kind : {K V : Type 0} (hash : K → ℕ) (m : Mem (Node K V)) (c : Chart K) (blocks : Blocks) (keys : K → Bool) (pair : Given K V) (change : Change) (p : KeyCall K V K) (stands : Calling)
     → KeepsGiven hash m c blocks keys pair change p stands → IsOfKind (kind_given pair) p stands
 of_kind hash m c blocks keys (Begun kind pair) change p stands kept = kept.2
 of_kind hash m c blocks keys (IsTold kind its asked) change p stands kept = kept.2
@@ -119,7 +121,7 @@ asks_what (far.Asks question) e = (question, refl)
 asks_what far.Goes e = absurd (cc e)
 asks_what far.Ready e = absurd (cc e)
 
-far_asks : (stands : Stands) (question : Option ℕ) → far_of stands ≡ far.Asks question → stands ≡ Asks question
+pub far_asks : (stands : Stands) (question : Option ℕ) → far_of stands ≡ far.Asks question → stands ≡ Asks question
 far_asks Going question e = absurd (cc e)
 far_asks (Asks q) question e = ap Asks (the q question e)
   where
@@ -147,7 +149,8 @@ goes_far : {K V : Type 0} (kind : Kind) (question : Option ℕ) (machine : Machi
 goes_far kind question (kinds.Key call) told is = tt
 goes_far kind question (kinds.Reserve c) told is = tt
 goes_far kind question (kinds.Count c) told is = tt
-goes_far kind question (kinds.Sweep c) told is = (subst (IsFor kind) (sym (told_purpose c.stands c told)) is.0, tt)
+goes_far kind question (kinds.Sweep c) told is =
+    (subst (IsFor kind) (sym (told_purpose c.stands c told)) is.0, λ walks. absurd (let a = is.3 in let b = sym (told_purpose c.stands c told) ∙ walks in cc (a, b)))
 
 module _ {K V S : Type 0} (same : K → K → Bool) (hash : K → ℕ) (terms : Terms) (log : List (Entry K V)) (p : Scheduler K V S) (own : List ℕ) (reply : Reply V)
     (due : IsDue same hash terms log (Replied own reply) p) where

@@ -8,3 +8,4 @@ pub mod Taking
 pub mod Handing
 pub mod Played
 pub mod KeptOut
+pub mod Stepping

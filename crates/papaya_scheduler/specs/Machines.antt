@@ -14,6 +14,7 @@ use Rattle.papaya_sweeps.specs.declared.sweep.Purpose.{Purpose}
 use Rattle.papaya_sweeps.specs.declared.sweep.Purpose.TheVariants.{Walks, Clears, Retains}
 use Rattle.papaya_sweeps.specs.declared.sweep.Sweep.{Sweep}
 use Rattle.papaya_sweeps.specs.declared.sweep.Sweeping.TheVariants as at
+use Rattle.papaya_purposes.specs.Purposes.{IsBefore}
 use Rattle.papaya_schedules.specs.declared.call.Call.{Call}
 use Rattle.papaya_schedules.specs.declared.call.Call.TheVariants.{On, Reserve, Clear, Retain, Len, Walk}
 use Rattle.papaya_schedules.specs.declared.call.OneKey.{OneKey}
@@ -64,10 +65,10 @@ IsFor kind.Retains purpose = purpose ≡ Retains
 IsFor kind.Walks purpose = purpose ≡ Walks
 IsFor _ purpose = ⊥
 
--- where a sweep stands that asks, and one that shows pairs
+-- where a sweep stands: a walk that goes on has come to no pair yet, a retaining asks, and one that shows pairs is ready
 abbrev pub SweepIsAt : HowFar → Sweep → Type 0
-SweepIsAt far.Goes sweep = Unit {0}
-SweepIsAt (far.Asks question) sweep = (word : ℕ) × (sweep.stands ≡ at.Asks word)
+SweepIsAt far.Goes sweep = sweep.purpose ≡ Walks → IsBefore sweep.stands
+SweepIsAt (far.Asks question) sweep = (word : ℕ) × (sweep.stands ≡ at.Asks word) × (sweep.purpose ≡ Retains)
 SweepIsAt far.Ready sweep = sweep.stands ≡ at.Ready
 
 -- A machine is that of its call, and as far. Of a call on one key that asks, the moment says where it stands; other calls neither ask nor show.

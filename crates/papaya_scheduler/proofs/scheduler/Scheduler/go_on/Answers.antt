@@ -1,0 +1,57 @@
+-- A call takes steps while it goes on.
+use Rattle.std.proofs.Common.{◌+◌, refl, sym, ap, subst, ◌∙◌, arith}
+use Rattle.std.proofs.lemmas.List.{append-nil}
+use Rattle.papaya_scheduler.specs.Stepping.{IsStepped, MayStep}
+use Rattle.papaya_scheduler.proofs.ComesOn.{midst_first}
+use Rattle.papaya_scheduler.proofs.StepsOn.{goes_further, may_step, stops_at, takes_all}
+use Rattle.papaya_scheduler.proofs.scheduler.Scheduler.go_on.Goals as goal
+
+pub loop-steps-init : goal.loop-steps-init
+loop-steps-init g c =
+    (0, refl, refl, λ terms m own stands at. midst_first g.K.PartialEq.eq (g.S.Hashes.hash c.args.self.now.logged.executor.hasher) terms own c.args.place m c.args.self.now stands at c.args.effects.now.items
+    (sym (append-nil c.args.effects.now.items)))
+
+pub take_step-outcome-requires : goal.take_step-outcome-requires
+take_step-outcome-requires g c =
+    let r = c.requires.goes in
+    let i = c.loop-steps.invariant in
+    subst (λ h. MayStep g.K.PartialEq.eq (g.S.Hashes.hash h) c.args.place c.loop-steps.self) (sym i.2)
+    (may_step g.K.PartialEq.eq (g.S.Hashes.hash c.args.self.now.logged.executor.hasher) c.args.place c.args.self.now c.args.effects.now.items r.0 r.1 r.2 r.3 r.4 i.0 c.loop-steps.effects.items c.loop-steps.self i.3)
+
+pub returns-then-not-goes_on : goal.returns-then-not-goes_on
+returns-then-not-goes_on g c =
+    let i = c.loop-steps.invariant in
+    stops_at g.K.PartialEq.eq (g.S.Hashes.hash c.args.self.now.logged.executor.hasher) c.args.place c.args.self.now c.args.effects.now.items i.0 c.loop-steps.effects.items c.take_step-outcome.new.effects.items
+    c.loop-steps.self c.take_step-outcome.new.self c.in_ok-outcome.outcome i.3
+    (subst (λ h. IsStepped g.K.PartialEq.eq (g.S.Hashes.hash h) c.args.place c.in_ok-outcome.outcome c.loop-steps.effects.items c.take_step-outcome.new.effects.items c.loop-steps.self c.take_step-outcome.new.self) i.2
+    c.in_ok-outcome.ensures.stepped)
+    c.args.most c.loop-steps.steps i.1 c.loop-steps-test.true (sym c.goes_on.ensures ∙ c.if-not-goes_on.true)
+
+pub loop-steps-preserved : goal.loop-steps-preserved
+loop-steps-preserved g c =
+    let i = c.loop-steps.invariant in
+    (i.0 + 1, ap (λ k. k + 1) i.1, c.take_step-outcome.ensures.hasher ∙ i.2,
+    (goes_further g.K.PartialEq.eq (g.S.Hashes.hash c.args.self.now.logged.executor.hasher) c.args.place c.args.self.now c.args.effects.now.items i.0 c.loop-steps.effects.items c.take_step-outcome.new.effects.items
+    c.loop-steps.self c.take_step-outcome.new.self c.in_ok-outcome.outcome i.3
+    (subst (λ h. IsStepped g.K.PartialEq.eq (g.S.Hashes.hash h) c.args.place c.in_ok-outcome.outcome c.loop-steps.effects.items c.take_step-outcome.new.effects.items c.loop-steps.self c.take_step-outcome.new.self) i.2
+    c.in_ok-outcome.ensures.stepped)
+    (sym c.goes_on.ensures ∙ c.if-not-goes_on.false)))
+
+pub take_step-outcome-2-requires : goal.take_step-outcome-2-requires
+take_step-outcome-2-requires g c =
+    let r = c.requires.goes in
+    let i = c.loop-steps.invariant in
+    subst (λ h. MayStep g.K.PartialEq.eq (g.S.Hashes.hash h) c.args.place c.loop-steps.self) (sym i.2)
+    (may_step g.K.PartialEq.eq (g.S.Hashes.hash c.args.self.now.logged.executor.hasher) c.args.place c.args.self.now c.args.effects.now.items r.0 r.1 r.2 r.3 r.4 i.0 c.loop-steps.effects.items c.loop-steps.self i.3)
+
+pub returns : goal.returns
+returns g c =
+    let i = c.loop-steps.invariant in
+    let ended = c.loop-steps-test.false in
+    let few = c.loop-steps.auto.steps-end c.requires.some in
+    let is = i.1 in
+    takes_all g.K.PartialEq.eq (g.S.Hashes.hash c.args.self.now.logged.executor.hasher) c.args.place c.args.self.now c.args.effects.now.items i.0 c.loop-steps.effects.items c.take_step-outcome-2.new.effects.items
+    c.loop-steps.self c.take_step-outcome-2.new.self c.in_ok-outcome-2.outcome i.3
+    (subst (λ h. IsStepped g.K.PartialEq.eq (g.S.Hashes.hash h) c.args.place c.in_ok-outcome-2.outcome c.loop-steps.effects.items c.take_step-outcome-2.new.effects.items c.loop-steps.self c.take_step-outcome-2.new.self) i.2
+    c.in_ok-outcome-2.ensures.stepped)
+    c.args.most (omega (arith, ended, few, is))
