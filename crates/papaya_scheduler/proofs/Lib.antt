@@ -25,7 +25,6 @@ mod Replied
 mod Stopped
 mod First
 mod Unregisters
-mod KeptOut
 mod Holders
 mod NeverWaits
 mod Dropped
