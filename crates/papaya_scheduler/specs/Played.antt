@@ -3,9 +3,7 @@ use Rattle.std.specs.Prelude.{◌≡◌, ◌≤◌, ℕ, ◌==◌, Bool, true, f
 use Rattle.std.specs.List.{AllByRecursion, list_any}
 use Rattle.papaya_runs.specs.Present.{Present, HaveNames, guard_of, guards_on, has_registration, living_slot}
 use Rattle.papaya_schedules.specs.declared.call.Call.{Call}
-use Rattle.papaya_schedules.specs.declared.effect.Effect.{Effect}
 use Rattle.papaya_schedules.specs.declared.event.Event.{Event}
-use Rattle.papaya_schedules.specs.declared.event.Event.TheVariants.{Register, Unregister, Enter, Own, Refresh, Flush, DropGuard, ReclaimAll, Close, MakeMap, EndMap, Begin, Step, Go, Replied, OneCall, Next, Stop}
 use Rattle.papaya_schedules.specs.After.{moment}
 use Rattle.papaya_schedules.specs.Beginning.{with_call}
 use Rattle.papaya_schedules.specs.Entry.{Entry}
@@ -85,37 +83,6 @@ pub record StandsFor {K V S : Type 0} (same : K → K → Bool) (hash : K → �
   pub rests : (i : ℕ) → ((map : ℕ) → scene.calls map i ≡ None) → work_of p.logged.executor i ≡ None
   pub names : HaveNames p.there
 
-module _ {K V : Type 0} where
-  -- what is asked of the effects of an event of registrations or guards, and of who is there
-  abbrev pub AsksOfRows : {S : Type 0} → Event K V → List Effect → Moment K V → Scheduler K V S → Type 0
-  AsksOfRows (Register registration) did m p = TakesRetired did m
-  AsksOfRows (Unregister registration) did m p = TakesRetired did m
-  AsksOfRows (Enter guard registration) did m p = TakesRetired did m
-  AsksOfRows (Own guard) did m p = TakesRetired did m
-  AsksOfRows (Refresh guard) did m p = TakesRetired did m
-  AsksOfRows (Flush guard) did m p = HeldIsTold m p × TakesRetired did m
-  AsksOfRows (DropGuard guard) did m p = TakesRetired did m
-  AsksOfRows _ did m p = Unit {0}
-
-  -- by it a map is made or ends, or everything is reclaimed
-  abbrev pub is_of_maps : Event K V → Bool
-  is_of_maps (MakeMap name mode capacity) = true
-  is_of_maps (EndMap name) = true
-  is_of_maps ReclaimAll = true
-  is_of_maps Close = true
-  is_of_maps _ = false
-
-  -- it is one of a call
-  abbrev pub is_of_calls : Event K V → Bool
-  is_of_calls (Begin caller guard name call) = true
-  is_of_calls (Step caller refuse) = true
-  is_of_calls (Go caller refuse) = true
-  is_of_calls (Replied caller reply) = true
-  is_of_calls (OneCall guard name call) = true
-  is_of_calls (Next caller) = true
-  is_of_calls (Stop caller) = true
-  is_of_calls _ = false
-
 module _ {K V S : Type 0} (same : K → K → Bool) (hash : K → ℕ) where
   abbrev pub IsPlayed : Terms → List (Entry K V) → Scheduler K V S → Type 0
   IsPlayed terms log p = StandsFor same hash terms (moment log) p
@@ -152,18 +119,6 @@ module _ {K V S : Type 0} (same : K → K → Bool) (hash : K → ℕ) where
   abbrev pub PlaysFirst : Bool → Event K V → Played V → (old new : Scheduler K V S) → Type 0
   PlaysFirst is_first event played old new =
       (terms : Terms) (log : List (Entry K V)) → is_first ≡ ((moment log).events == 0) → IsDue terms log event old → Plays terms log (entry_of event played) new
-
-  -- so does whichever event it is that is in turn,
-  abbrev pub PlaysDue : Bool → Event K V → Played V → (old new : Scheduler K V S) → Type 0
-  PlaysDue is_first event played old new =
-      (terms : Terms) (log : List (Entry K V)) → is_first ≡ ((moment log).events == 0) → IsDue terms log event old → AsksOfRows event played.effects.items (moment log) old
-      → Plays terms log (entry_of event played) new
-
-  -- and whichever it is
-  abbrev pub PlaysAny : Bool → Event K V → Played V → (old new : Scheduler K V S) → Type 0
-  PlaysAny is_first event played old new =
-      (terms : Terms) (log : List (Entry K V)) → is_first ≡ ((moment log).events == 0) → IsPlayed terms log old → AsksOfRows event played.effects.items (moment log) old
-      → Plays terms log (entry_of event played) new
 
   -- A call begins if its name is free, its guard lives, and its map is there; then the scheduler stands for the moment at which it has begun.
   pub record BeginsSo (terms : Terms) (m : Moment K V) (own guard map : List ℕ) (call : Call K V) (begun : Bool) (old new : Scheduler K V S) : Type 0 where

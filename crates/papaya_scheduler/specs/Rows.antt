@@ -1,6 +1,5 @@
 -- What a caller does with its slot, run to its end.
-use Rattle.std.specs.Prelude.{◌≡◌, ℕ, Bool, true, List, ◌++◌, Option, None, Result, Ok, Err, if◌then◌else◌}
-use Rattle.seize_words.specs.declared.fault.Fault.{Fault}
+use Rattle.std.specs.Prelude.{◌≡◌, ℕ, true, List, ◌++◌, Option, None, if◌then◌else◌}
 use Rattle.seize.specs.World.{World}
 use Rattle.papaya_tables.specs.declared.node.Node.{Node}
 use Rattle.papaya_runs.specs.Present.{Present, has_registration}
@@ -11,7 +10,6 @@ use Rattle.papaya_executor.specs.IsAt.{Scene, slot_of}
 use Rattle.papaya_executor.specs.OnSlots.{MayBegin}
 use Rattle.papaya_executor.specs.Rows.{begun_row, uses_begun}
 use Rattle.papaya_executor.specs.declared.row.RowTold.{RowTold}
-use Rattle.papaya_executor.specs.declared.row.RowTold.TheVariants as told
 use Rattle.papaya_executor.specs.declared.row.SlotCall.{SlotCall}
 use Rattle.papaya_executor.specs.declared.row.SlotCall.TheVariants as call
 use Rattle.papaya_finishes.specs.Maps.{Standing}
@@ -41,14 +39,6 @@ pub record RowRan {K V S : Type 0} (slot : ℕ) (called : SlotCall) (said : RowT
   pub follows : after ≡ before ++ did
   pub shown : (same : K → K → Bool) (hash : K → ℕ) (name : ℕ → List ℕ) (m : Moment K V) (s : Scene K V) → IsShown same hash name m old s → MayBegin old.executor slot called → TakesRetired did m
       → (w : World (Node K V)) × (maps : ℕ → Option (Standing K)) × IsShown same hash name (with_effects None None did m) new (record s { world = w; maps = maps })
-
--- what a registering told, by the slot that it has found, or the fault
-abbrev pub told_as : {T : Type 0} → Result ℕ Fault → RowTold T
-told_as (Ok slot) = told.Registered slot
-told_as (Err fault) = told.Refused fault
-
-abbrev pub SlotTaken : {K V S : Type 0} → Bool → Result ℕ Fault → (before after : List Effect) → (old new : Logged K V S) → Type 0
-SlotTaken enters slot before after old new = RowRan 0 (call.Register enters) (told_as slot) before after old new
 
 -- it has run, whatever it told
 abbrev pub RowRanOn : {K V S : Type 0} → ℕ → SlotCall → (before after : List Effect) → (old new : Logged K V S) → Type 0

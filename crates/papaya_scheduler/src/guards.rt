@@ -47,29 +47,6 @@ impl<K: Drop, V: Drop, S> Scheduler<K, V, S> {
         })
     }
 
-    /// A new guard with the least slot that is not in use.
-    pub fn own(&mut self, guard: Token) -> Result<Played<V>, AllocError>
-        requires { (same : K → K → Bool) × (hash : K → ℕ) × MayPlay same hash (event.Own guard) self.old }
-        ensures plays { IfOk result (λ played. (same : K → K → Bool) (hash : K → ℕ) → PlaysTaking same hash (event.Own guard) played self.old self.new) }
-    {
-        if self.there.has_guard(&guard) {
-            return Ok(self.busy());
-        }
-        let mut effects = self.no_effects();
-        let outcome = match self.take_slot(true, &mut effects)? {
-            Err(fault) => Outcome::Refused(fault),
-            Ok(slot) => {
-                self.there.enter(guard, slot)?;
-                Outcome::Slot(slot)
-            }
-        };
-        Ok(Played {
-            outcome,
-            steps: 0,
-            effects,
-        })
-    }
-
     /// The guard's section begins anew, where the guard is the only one on its slot.
     pub fn refresh(&mut self, guard: &Token) -> Result<Played<V>, AllocError>
         requires { (same : K → K → Bool) × (hash : K → ℕ) × MayPlay same hash (event.Refresh guard.now) self.old }
