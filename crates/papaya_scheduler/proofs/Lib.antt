@@ -58,3 +58,7 @@ mod PlaysSteps
 mod PlaysAgain
 mod TakenBy
 mod PlaysWhole
+mod NextSays
+mod NextBegins
+mod NextOn
+mod NextEnds

@@ -377,6 +377,11 @@ module _ {X : Type 0} where
   set_seen {Z} g (x ∷ xs) zero old new is same = let e : x ≡ old = cc is in ap (λ (z : Z). z ∷ map g xs) (same ∙ ap g (sym e))
   set_seen {Z} g (x ∷ xs) (suc k) old new is same = ap (λ (l : List Z). g x ∷ l) (set_seen g xs k old new is same)
 
+  pub set_itself : (xs : List X) (k : ℕ) (x : X) → slice_get xs k ≡ Some x → slice_set xs k x ≡ xs
+  set_itself [] k x is = refl
+  set_itself (y ∷ xs) zero x is = let e : y ≡ x = cc is in ap (λ (z : X). z ∷ xs) (sym e)
+  set_itself (y ∷ xs) (suc k) x is = ap (λ (l : List X). y ∷ l) (set_itself xs k x is)
+
   set_long : (xs : List X) (k : ℕ) (new : X) → length (slice_set xs k new) ≡ length xs
   set_long [] k new = refl
   set_long (x ∷ xs) zero new = refl

@@ -35,7 +35,7 @@ use Rattle.papaya_logged.specs.declared.logged.Logged.{Logged}
 use Rattle.papaya_moments.proofs.Calls.{calls_come_to_whole}
 use Rattle.papaya_promises.proofs.Weights.{operations_are_single}
 use Rattle.papaya_scheduler.specs.Machines.{IsAsFar}
-use Rattle.papaya_scheduler.specs.Played.{StandsFor}
+use Rattle.papaya_scheduler.specs.Played.{AsFar, StandsFor}
 use Rattle.papaya_scheduler.specs.Seen.{Seen, far_of, is_named, seen, seen_of}
 use Rattle.papaya_scheduler.specs.Stepping.{ComesAs, ComesBy, GoesAt, IsStepped, caller_then, callers_then, far_then, kept, outcome_of}
 use Rattle.papaya_scheduler.specs.Telling.{goes_on}
@@ -122,12 +122,12 @@ module _ {K V : Type 0} where
   caller_as by d _ = refl
 
   -- a machine that has not ended goes on, and one that has does not
-  goes_next : (machine : Machine K V K) (said : Progress (Node K V)) (after : Option (UnderWay K V K)) → GoesOnAs machine said after → has_ended said ≡ false → (x : UnderWay K V K) × (after ≡ Some x)
+  pub goes_next : (machine : Machine K V K) (said : Progress (Node K V)) (after : Option (UnderWay K V K)) → GoesOnAs machine said after → has_ended said ≡ false → (x : UnderWay K V K) × (after ≡ Some x)
   goes_next machine (progress.Done answer) after is on = absurd (cc on)
   goes_next machine (progress.Refused fault) after is on = absurd (cc on)
   goes_next machine _ after is on = (is.0, is.1)
 
-  over_next : (machine : Machine K V K) (said : Progress (Node K V)) (after : Option (UnderWay K V K)) → GoesOnAs machine said after → has_ended said ≡ true → after ≡ None
+  pub over_next : (machine : Machine K V K) (said : Progress (Node K V)) (after : Option (UnderWay K V K)) → GoesOnAs machine said after → has_ended said ≡ true → after ≡ None
   over_next machine (progress.Done answer) after is over = is
   over_next machine (progress.Refused fault) after is over = is
   over_next machine _ after is over = absurd (cc over)
@@ -167,10 +167,10 @@ module _ {K V S : Type 0} (same : K → K → Bool) (hash : K → ℕ) (terms : 
     w = with_effects (Some own) (Some d.map) did m
 
     abbrev then_at : Scene K V
-    then_at = s2 same hash terms m p stands own place here said new leads
+    then_at = s2 AsFar AsFar own (λ x apart machine is. is) same hash terms m p stands place here said new leads
 
     its_name : stands.name d.number ≡ own
-    its_name = name_is same hash terms m p stands own place here said new leads
+    its_name = name_is AsFar AsFar own (λ x apart machine is. is) same hash terms m p stands place here said new leads
 
     shown : IsShown same hash stands.name w new then_at
     shown = subst (λ (x : List ℕ). IsShown same hash stands.name (with_effects (Some x) (Some d.map) did m) new then_at) its_name (leads_so here.way.0 here.way.1).3
@@ -194,7 +194,7 @@ module _ {K V S : Type 0} (same : K → K → Bool) (hash : K → ℕ) (terms : 
         d.value said leads here.way.0 here.way.1 (subst (λ (h : HowFar). IsAsFar d.kind h (machine_of here.way.0)) goes here.way.4)
 
     abbrev then_next : Option (UnderWay K V K)
-    then_next = next same hash terms m p stands own place here said new leads
+    then_next = next AsFar AsFar own (λ x apart machine is. is) same hash terms m p stands place here said new leads
 
     -- its caller then
     abbrev gone_on : Caller V
@@ -217,7 +217,7 @@ module _ {K V S : Type 0} (same : K → K → Bool) (hash : K → ℕ) (terms : 
       midst : goes_on outcome ≡ true → StandsFor same hash terms w p2
       midst on =
           let more = goes_next (leads d.map here.way.0 here.way.1).1 said then_next (leads d.map here.way.0 here.way.1).4.goes_on (going_not_ended by d.kind d.value said on) in
-          going_on same hash terms m p stands own place here said new leads w shown (there_stays (Some own) (Some d.map) did m) (mapped_stays (Some own) (Some d.map) did m)
+          going_on AsFar AsFar own (λ x apart machine is. is) same hash terms m p stands place here said new leads w shown (there_stays (Some own) (Some d.map) did m) (mapped_stays (Some own) (Some d.map) did m)
           (closed_stays (Some own) (Some d.map) did m) (maps_named (Some own) (Some d.map) did m) more.0 more.1 (far_then by said) (value_then by d.kind d.value said) (says.far more.0 more.1)
           (alike ∙ sym (set_seen seen_of calls place d gone_on here.at (ap (λ (h : HowFar). record (seen_of d) { far = h }) (far_goes by d.kind d.value said on ∙ sym goes))))
           callers (items_on (going_not_ended by d.kind d.value said on))
@@ -237,7 +237,7 @@ module _ {K V S : Type 0} (same : K → K → Bool) (hash : K → ℕ) (terms : 
         shown_told ended = record {
           is_at = shown.is_at;
           shows = calls_come_to_whole K V same stands.name w (known new.notes) then_at shown.shows own outcome counted
-              (λ e. none_named same hash terms m p stands own place here said new leads (over_next (leads d.map here.way.0 here.way.1).1 said then_next (leads d.map here.way.0 here.way.1).4.goes_on (ended e))) just;
+              (λ e. none_named AsFar AsFar own (λ x apart machine is. is) same hash terms m p stands place here said new leads (over_next (leads d.map here.way.0 here.way.1).1 said then_next (leads d.map here.way.0 here.way.1).4.goes_on (ended e))) just;
         }
           where
             -- no other call has its name
@@ -251,12 +251,12 @@ module _ {K V S : Type 0} (same : K → K → Bool) (hash : K → ℕ) (terms : 
 
                 of : (has_ended said ≡ true) ⊎ (has_ended said ≡ false) → AsksJust by x outcome
                 of (inl over) = absurd (
-                  let no = none_named same hash terms m p stands own place here said new leads (over_next (leads d.map here.way.0 here.way.1).1 said then_next (leads d.map here.way.0 here.way.1).4.goes_on over) n j x is in
+                  let no = none_named AsFar AsFar own (λ x apart machine is. is) same hash terms m p stands place here said new leads (over_next (leads d.map here.way.0 here.way.1).1 said then_next (leads d.map here.way.0 here.way.1).4.goes_on over) n j x is in
                   let a = apart_back own (stands.name j) no in cc (a, named_so)
                 )
                 of (inr on) =
                     let more = goes_next (leads d.map here.way.0 here.way.1).1 said then_next (leads d.map here.way.0 here.way.1).4.goes_on on in
-                    subst (λ (y : UnderWay K V K). AsksJust by y outcome) (sym (its more.0 (here_then same hash terms m p stands own place here said new leads ∙ more.1))) (says.asks more.0 more.1)
+                    subst (λ (y : UnderWay K V K). AsksJust by y outcome) (sym (its more.0 (here_then AsFar AsFar own (λ x apart machine is. is) same hash terms m p stands place here said new leads ∙ more.1))) (says.asks more.0 more.1)
 
         stands_told : StandsFor same hash terms told p2
         stands_told = of (ended_cases (has_ended said))
@@ -294,12 +294,12 @@ module _ {K V S : Type 0} (same : K → K → Bool) (hash : K → ℕ) (terms : 
 
             of : (has_ended said ≡ true) ⊎ (has_ended said ≡ false) → StandsFor same hash terms told p2
             of (inl over) =
-                has_gone same hash terms m p stands own place here said new leads told (shown_told ended) (there_stays (Some own) (Some d.map) did m) (mapped_stays (Some own) (Some d.map) did m)
+                has_gone AsFar AsFar own (λ x apart machine is. is) same hash terms m p stands place here said new leads told (shown_told ended) (there_stays (Some own) (Some d.map) did m) (mapped_stays (Some own) (Some d.map) did m)
                 (closed_stays (Some own) (Some d.map) did m) (maps_named (Some own) (Some d.map) did m)
                 (over_next (leads d.map here.way.0 here.way.1).1 said then_next (leads d.map here.way.0 here.way.1).4.goes_on over) (listed_gone over) callers (items_gone over)
             of (inr on) =
                 let more = goes_next (leads d.map here.way.0 here.way.1).1 said then_next (leads d.map here.way.0 here.way.1).4.goes_on on in
-                going_on same hash terms m p stands own place here said new leads told (shown_told ended) (there_stays (Some own) (Some d.map) did m) (mapped_stays (Some own) (Some d.map) did m)
+                going_on AsFar AsFar own (λ x apart machine is. is) same hash terms m p stands place here said new leads told (shown_told ended) (there_stays (Some own) (Some d.map) did m) (mapped_stays (Some own) (Some d.map) did m)
                 (closed_stays (Some own) (Some d.map) did m) (maps_named (Some own) (Some d.map) did m) more.0 more.1 (far_then by said) (value_then by d.kind d.value said) (says.far more.0 more.1)
                 (listed_on on) callers (items_on on)
 

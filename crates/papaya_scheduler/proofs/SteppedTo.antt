@@ -5,6 +5,7 @@ use Rattle.std.proofs.Common.{refl, sym, ap, subst, ◌∙◌, inl, inr, arith, 
 use Rattle.std.proofs.lemmas.Bool.{cases_eq, ne_eqb}
 use Rattle.seize.specs.World.{Use}
 use Rattle.papaya_tables.specs.declared.node.Node.{Node}
+use Rattle.papaya_raw.specs.declared.machines.machine.Machine.{Machine}
 use Rattle.papaya_raw.specs.declared.machines.progress.Progress.{Progress}
 use Rattle.papaya_runs.specs.Same.{is_same}
 use Rattle.papaya_schedules.specs.Moment.{Moment}
@@ -22,8 +23,7 @@ use Rattle.papaya_follows.specs.Calling.{NoneNamed}
 use Rattle.papaya_follows.proofs.Calling.{apart_back, is_same_refl}
 use Rattle.papaya_logged.specs.Shown.{IsShown}
 use Rattle.papaya_logged.specs.declared.logged.Logged.{Logged}
-use Rattle.papaya_scheduler.specs.Machines.{IsAsFar}
-use Rattle.papaya_scheduler.specs.Played.{CallsAre, IsUnderWay, StandsFor}
+use Rattle.papaya_scheduler.specs.Played.{CallsAs, IsUnderWayAs, StandsAs}
 use Rattle.papaya_scheduler.specs.Seen.{is_named, named, seen, seen_of}
 use Rattle.papaya_scheduler.specs.declared.caller.Caller.{Caller}
 use Rattle.papaya_scheduler.specs.declared.caller.Callers.{Callers}
@@ -31,7 +31,7 @@ use Rattle.papaya_scheduler.specs.declared.caller.Stands.{Stands as HowFar}
 use Rattle.papaya_scheduler.specs.declared.scheduler.NamedMap.{NamedMap}
 use Rattle.papaya_scheduler.specs.declared.scheduler.Scheduler.{Scheduler}
 use Rattle.papaya_scheduler.proofs.Facts.{no_ending_of, no_making_of, no_work_at, row_rests, used_once}
-use Rattle.papaya_scheduler.proofs.Here.{Here}
+use Rattle.papaya_scheduler.proofs.Here.{HereAs}
 use Rattle.papaya_scheduler.proofs.Lists.{all_so, one_of, removed_all, removed_any, removed_count, set_all, set_any, set_count}
 
 -- a slot that is used alike is used in that way
@@ -45,8 +45,10 @@ same_stands : {K : Type 0} (before after : Option (Standing K)) → IsSameMap be
 same_stands None after same st e = absurd (cc e)
 same_stands (Some x) after same st e = (record x { blocks = same.0; sights = same.1 }, same.2)
 
-module _ {K V S : Type 0} (same : K → K → Bool) (hash : K → ℕ) (terms : Terms) (m : Moment K V) (p : Scheduler K V S) (stands : StandsFor same hash terms m p) (own : List ℕ) (place : ℕ)
-    (here : Here same hash terms m p stands own place) (said : Progress (Node K V)) (new : Logged K V S)
+-- The machine of its caller is as far as is said of it then; those of others are as far as before.
+module _ {K V S : Type 0} (Far Then : Caller V → Machine K V K → Type 0) (own : List ℕ) (stays : (x : Caller V) → is_named own x ≡ false → (machine : Machine K V K) → Far x machine → Then x machine)
+    (same : K → K → Bool) (hash : K → ℕ) (terms : Terms) (m : Moment K V) (p : Scheduler K V S) (stands : StandsAs Far same hash terms m p) (place : ℕ)
+    (here : HereAs Far same hash terms m p stands own place) (said : Progress (Node K V)) (new : Logged K V S)
     (leads : StepLeads same hash here.caller.number said stands.scene p.logged.executor new.executor) where
   abbrev s : Scene K V
   s = stands.scene
@@ -97,8 +99,8 @@ module _ {K V S : Type 0} (same : K → K → Bool) (hash : K → ℕ) (terms : 
       by (Some x) e = absurd (ne (stands.shown.is_at.together.makings.standing.once n d.map i (λ z. cc (e, z)) (λ z. let a = under in cc (a, z))))
 
   -- other callers are as they were
-  pub still : (x : Caller V) → is_named own x ≡ false → IsUnderWay stands.name s p.there x → IsUnderWay stands.name s2 p.there x
-  still x apart way = (way.0, there_then x.map x.number ne ∙ way.1, way.2, way.3, way.4)
+  pub still : (x : Caller V) → is_named own x ≡ false → IsUnderWayAs Far stands.name s p.there x → IsUnderWayAs Then stands.name s2 p.there x
+  still x apart way = (way.0, there_then x.map x.number ne ∙ way.1, way.2, way.3, stays x apart (machine_of way.0) way.4)
     where
       ne : x.number ≢ i
       ne e = let a = subst (λ (y : List ℕ). is_same y own ≡ false) (sym way.2 ∙ ap stands.name e ∙ name_is) apart in let b = is_same_refl own in cc (a, b)
@@ -138,15 +140,15 @@ module _ {K V S : Type 0} (same : K → K → Bool) (hash : K → ℕ) (terms : 
         other false b e = refl
 
     abbrev Apart : Caller V → Type 0
-    Apart x = (is_same x.name own ≡ false) × IsUnderWay stands.name s2 p.there x
+    Apart x = (is_same x.name own ≡ false) × IsUnderWayAs Then stands.name s2 p.there x
 
     apart_gone : AllByRecursion Apart (remove calls place)
     apart_gone =
         subst (λ (k : ℕ). AllByRecursion Apart (remove calls k)) (sym here.first)
-        (removed_all (IsUnderWay stands.name s p.there) Apart (is_named own) (λ x apart way. (apart, still x apart way)) calls stands.calls.each (stands.calls.once own))
+        (removed_all (IsUnderWayAs Far stands.name s p.there) Apart (is_named own) (λ x apart way. (apart, still x apart way)) calls stands.calls.each (stands.calls.once own))
 
-    each_gone : AllByRecursion (IsUnderWay stands.name s2 p.there) (remove calls place)
-    each_gone = all_so Apart (IsUnderWay stands.name s2 p.there) (λ x both. both.1) (remove calls place) apart_gone
+    each_gone : AllByRecursion (IsUnderWayAs Then stands.name s2 p.there) (remove calls place)
+    each_gone = all_so Apart (IsUnderWayAs Then stands.name s2 p.there) (λ x both. both.1) (remove calls place) apart_gone
 
     pub none_named : NoneNamed stands.name own s2
     none_named n j x is =
@@ -173,8 +175,8 @@ module _ {K V S : Type 0} (same : K → K → Bool) (hash : K → ℕ) (terms : 
         ((leads d.map u under).4.rows j ne ∙ row_rests same hash p.logged.executor s at_s j before)
 
     module _ (there : m2.there ≡ m.there) (mapped : m2.is_mapped ≡ m.is_mapped) (closed : m2.is_closed ≡ m.is_closed) (maps : map named m2.maps ≡ map named m.maps) where
-      with_calls : (callers : Callers V) → CallsAre stands.name s2 p.there m2 callers.items.items → ((j : ℕ) → ((n : ℕ) → s2.calls n j ≡ None) → work_of new.executor j ≡ None)
-          → StandsFor same hash terms m2 (record p { logged = new; calls = callers })
+      with_calls : (callers : Callers V) → CallsAs Then stands.name s2 p.there m2 callers.items.items → ((j : ℕ) → ((n : ℕ) → s2.calls n j ≡ None) → work_of new.executor j ≡ None)
+          → StandsAs Then same hash terms m2 (record p { logged = new; calls = callers })
       with_calls callers are rests = record {
         name = stands.name;
         scene = s2;
@@ -194,23 +196,23 @@ module _ {K V S : Type 0} (same : K → K → Bool) (hash : K → ℕ) (terms : 
       }
 
       -- it goes on, this far
-      pub going_on : (x : UnderWay K V K) → next ≡ Some x → (h : HowFar) (value : Option V) → IsAsFar d.kind h (machine_of x)
+      pub going_on : (x : UnderWay K V K) → next ≡ Some x → (h : HowFar) (value : Option V) → Then (record d { stands = h; value = value }) (machine_of x)
           → map seen m2.calls ≡ map seen_of (slice_set calls place (record d { stands = h; value = value }))
           → (callers : Callers V) → callers.items.items ≡ slice_set calls place (record d { stands = h; value = value })
-          → StandsFor same hash terms m2 (record p { logged = new; calls = callers })
+          → StandsAs Then same hash terms m2 (record p { logged = new; calls = callers })
       going_on x goes h value as_far listed callers items =
-          with_calls callers (subst (λ (xs : List (Caller V)). CallsAre stands.name s2 p.there m2 xs) (sym items) (record { listed = listed; once = once_then; each = each_then; only = only_then })) rests_then
+          with_calls callers (subst (λ (xs : List (Caller V)). CallsAs Then stands.name s2 p.there m2 xs) (sym items) (record { listed = listed; once = once_then; each = each_then; only = only_then })) rests_then
         where
-          way_then : IsUnderWay stands.name s2 p.there (record d { stands = h; value = value })
+          way_then : IsUnderWayAs Then stands.name s2 p.there (record d { stands = h; value = value })
           way_then = (x, here_then ∙ goes, here.way.2, here.way.3, as_far)
 
           once_then : (other : List ℕ) → length (filter (is_named other) (slice_set calls place (record d { stands = h; value = value }))) ≤ 1
           once_then other = subst (λ (n : ℕ). n ≤ 1) (sym (set_count (is_named other) calls place d (record d { stands = h; value = value }) here.at refl)) (stands.calls.once other)
 
-          each_then : AllByRecursion (IsUnderWay stands.name s2 p.there) (slice_set calls place (record d { stands = h; value = value }))
+          each_then : AllByRecursion (IsUnderWayAs Then stands.name s2 p.there) (slice_set calls place (record d { stands = h; value = value }))
           each_then =
-              subst (λ (k : ℕ). AllByRecursion (IsUnderWay stands.name s2 p.there) (slice_set calls k (record d { stands = h; value = value }))) (sym here.first)
-              (set_all (IsUnderWay stands.name s p.there) (IsUnderWay stands.name s2 p.there) (is_named own) (record d { stands = h; value = value }) way_then still calls stands.calls.each (stands.calls.once own))
+              subst (λ (k : ℕ). AllByRecursion (IsUnderWayAs Then stands.name s2 p.there) (slice_set calls k (record d { stands = h; value = value }))) (sym here.first)
+              (set_all (IsUnderWayAs Far stands.name s p.there) (IsUnderWayAs Then stands.name s2 p.there) (is_named own) (record d { stands = h; value = value }) way_then still calls stands.calls.each (stands.calls.once own))
 
           only_then : (n j : ℕ) (y : UnderWay K V K) → s2.calls n j ≡ Some y → list_any (λ z. (z.map == n) && (z.number == j)) (slice_set calls place (record d { stands = h; value = value })) ≡ true
           only_then n j y is = set_any (λ z. (z.map == n) && (z.number == j)) calls place d (record d { stands = h; value = value }) here.at refl ∙ by (cases_eq j i)
@@ -235,9 +237,9 @@ module _ {K V S : Type 0} (same : K → K → Bool) (hash : K → ℕ) (terms : 
 
       -- it has ended
       pub has_gone : next ≡ None → map seen m2.calls ≡ map seen_of (remove calls place) → (callers : Callers V) → callers.items.items ≡ remove calls place
-          → StandsFor same hash terms m2 (record p { logged = new; calls = callers })
+          → StandsAs Then same hash terms m2 (record p { logged = new; calls = callers })
       has_gone over listed callers items =
-          with_calls callers (subst (λ (xs : List (Caller V)). CallsAre stands.name s2 p.there m2 xs) (sym items) (record {
+          with_calls callers (subst (λ (xs : List (Caller V)). CallsAs Then stands.name s2 p.there m2 xs) (sym items) (record {
             listed = listed;
             once = λ other. (let a = removed_count (is_named other) calls place in let b = stands.calls.once other in omega (arith, a, b));
             each = each_gone over;

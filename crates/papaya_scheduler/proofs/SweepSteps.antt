@@ -45,10 +45,10 @@ use Rattle.papaya_scheduler.proofs.SweepSays.{IsWalkSaying, ShowsNone, WalkSays,
 -- what a sweep knows where it stands, if it stands in no row
 module _ {K V : Type 0} (same : K → K → Bool) (s : Scene K V) (map i : ℕ) (st : Standing K)
     (together : Together V same st.hash same st.setting slot_of s.world st.chart st.blocks st.sights (s.calls map)) (o : CallOverAll) (under : s.calls map i ≡ Some (OverAll o)) where
-  abbrev Facts : Sweeping → Type 0
+  abbrev pub Facts : Sweeping → Type 0
   Facts stands = SweepingFacts same st.hash s.world i (in_slot st.setting (slot_of i)) st.chart (seen_by st.blocks (st.sights (slot_of i))) o.began o.sweep stands
 
-  knows_at : (stands : Sweeping) → (IsRowOfSweep stands → ⊥) → o.sweep.stands ≡ stands → Facts stands
+  pub knows_at : (stands : Sweeping) → (IsRowOfSweep stands → ⊥) → o.sweep.stands ≡ stands → Facts stands
   knows_at stands no_row is = by (together.stand i (OverAll o) under)
     where
       by : TogetherStands V same st.hash same st.setting slot_of s.world st.chart (seen_by st.blocks (st.sights (slot_of i))) i (OverAll o) → Facts stands

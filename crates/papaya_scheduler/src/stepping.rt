@@ -1,9 +1,9 @@
 //! Calls take steps, one or many.
-ghost use Rattle.std.specs.Prelude.{◌≡◌, ◌<◌, ◌≤◌, length, slice_get, Some, IfOk};
+ghost use Rattle.std.specs.Prelude.{◌≡◌, ◌↔◌, ◌<◌, ◌≤◌, true, length, slice_get, Some, IfOk};
 ghost use Rattle.papaya_schedules.specs.declared.event.Event.TheVariants as event;
 ghost use Rattle.papaya_effects.specs.Known.{known};
-ghost use Rattle.papaya_scheduler.specs.Played.{MayPlay, PlaysAt};
-ghost use Rattle.papaya_scheduler.specs.Stepping.{IsStepped, MayGo, MayStep, PlaysOnAt, PlaysWholeAt, StandsAt, StepsCome, TakenAs, callers_then, outcome_of};
+ghost use Rattle.papaya_scheduler.specs.Played.{MayPlay};
+ghost use Rattle.papaya_scheduler.specs.Stepping.{IsStepped, MayGo, MayStep, MayWalk, PlaysNextAt, PlaysOnAt, PlaysWholeAt, StandsAt, StepsCome, TakenAs, WalkComes, callers_then, outcome_of};
 ghost use Rattle.papaya_scheduler.specs.Telling.{goes_on};
 ghost use Rattle.papaya_scheduler.specs.declared.caller.Caller.{Caller};
 
@@ -28,6 +28,13 @@ fn goes_on<V>(outcome: &Outcome<V>) -> bool
     ensures { result ≡ goes_on outcome.now }
 {
     matches!(outcome, Outcome::Goes)
+}
+
+/// Whether a step says no more than that its call goes on.
+fn just_goes<K, V>(progress: &Progress<Node<K, V>>) -> bool
+    ensures { progress.now ≡ Progress.Goes ↔ result ≡ true }
+{
+    matches!(progress, Progress::Goes)
 }
 
 impl<K: Drop, V: Drop, S> Scheduler<K, V, S> {
@@ -186,10 +193,30 @@ impl<K: Eq + Hash + Drop, V: Drop, S: Hashes<K>> Scheduler<K, V, S> {
         }
     }
 
+    /// The walk at this place, which was asked for its next pair, takes steps until one tells more than that it goes on. What they do is added to the list.
+    fn walk_on(
+        &mut self,
+        place: usize,
+        effects: &mut Vec<Effect>,
+    ) -> Result<(Progress<Node<K, V>>, u64), AllocError>
+        requires { MayWalk K.eq (S.hash self.old.logged.executor.hasher) place self.old }
+        ensures { IfOk result (λ come. WalkComes K.eq (S.hash self.old.logged.executor.hasher) place come.1 come.0 effects.old.items effects.new.items self.old self.new) }
+    {
+        let Caller { number, map, .. } = &self.calls.items[place];
+        let (number, map) = (*number, *map);
+        for steps in 1..u64::MAX {
+            let progress = self.logged.step(number, map, effects)?;
+            if !just_goes(&progress) {
+                return Ok((progress, steps));
+            }
+        }
+        unreachable!()
+    }
+
     /// The next pair of the caller's walk, or that there is none.
     pub fn next(&mut self, caller: &Token) -> Result<Played<V>, AllocError>
         requires { MayPlay K.eq (S.hash self.old.logged.executor.hasher) (event.Next caller.now) self.old }
-        ensures plays { IfOk result (λ played. PlaysAt K.eq (S.hash self.old.logged.executor.hasher) (event.Next caller.now) played self.old self.new) }
+        ensures plays { IfOk result (λ played. PlaysNextAt K.eq (S.hash self.old.logged.executor.hasher) caller.now played self.old self.new) }
     {
         let Some(place) = self.place_of_ready(caller) else {
             return Ok(self.busy());
@@ -197,17 +224,12 @@ impl<K: Eq + Hash + Drop, V: Drop, S: Hashes<K>> Scheduler<K, V, S> {
         let number = self.calls.items[place].number;
         self.logged.next(number);
         let mut effects = self.no_effects();
-        let mut steps = 0;
-        loop {
-            let outcome = self.take_step(place, &mut effects)?;
-            steps += 1;
-            if !goes_on(&outcome) {
-                return Ok(Played {
-                    outcome,
-                    steps,
-                    effects,
-                });
-            }
-        }
+        let (progress, steps) = self.walk_on(place, &mut effects)?;
+        let outcome = self.come_to(place, progress);
+        Ok(Played {
+            outcome,
+            steps,
+            effects,
+        })
     }
 }
