@@ -29,7 +29,7 @@ use Rattle.papaya_scheduler.specs.declared.caller.Stands.{Stands as HowFar}
 use Rattle.papaya_scheduler.specs.declared.caller.Stands.TheVariants as far
 use Rattle.papaya_scheduler.specs.declared.scheduler.Scheduler.{Scheduler}
 use Rattle.papaya_scheduler.proofs.Here.{Here}
-use Rattle.papaya_scheduler.proofs.Lists.{changed_at, set_seen}
+use Rattle.papaya_rows.proofs.Lists.{changed_at, set_seen}
 use Rattle.papaya_scheduler.proofs.Replied.{far_asks}
 use Rattle.papaya_scheduler.proofs.StepSays.{the}
 

@@ -36,9 +36,9 @@ use Rattle.papaya_scheduler.specs.declared.caller.Stands.TheVariants as far
 use Rattle.papaya_scheduler.specs.declared.kind.Kind.{Kind}
 use Rattle.papaya_scheduler.specs.declared.kind.Kind.TheVariants as kind
 use Rattle.papaya_scheduler.specs.declared.scheduler.Scheduler.{Scheduler}
-use Rattle.papaya_scheduler.proofs.Facts.{no_ending_of, no_making_of, no_work_at, row_rests, used_still}
+use Rattle.papaya_rows.proofs.Facts.{no_ending_of, no_making_of, no_work_at, row_rests, used_still}
 use Rattle.papaya_scheduler.proofs.Here.{Here}
-use Rattle.papaya_scheduler.proofs.Lists.{set_all, set_itself}
+use Rattle.papaya_rows.proofs.Lists.{set_all, set_itself}
 use Rattle.papaya_scheduler.proofs.SweepSteps.{walks_at}
 
 -- a call that walks is of the kind of walks

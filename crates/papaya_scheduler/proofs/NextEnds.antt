@@ -48,7 +48,7 @@ use Rattle.papaya_scheduler.specs.declared.kind.Kind.{Kind}
 use Rattle.papaya_scheduler.specs.declared.scheduler.Scheduler.{Scheduler}
 use Rattle.papaya_scheduler.proofs.AfterEffects.{closed_stays, mapped_stays}
 use Rattle.papaya_scheduler.proofs.Here.{HereAs}
-use Rattle.papaya_scheduler.proofs.Lists.{changed_at, removed_at}
+use Rattle.papaya_rows.proofs.Lists.{changed_at, removed_at}
 use Rattle.papaya_scheduler.proofs.NextOn.{alike, all_did, few_all, follows_all, goes_as_said, here, is_ready, its_place, its_sweep, its_walk, leads_is, last_did, midst_w, saying, shown, then_at, then_next, under_way}
 use Rattle.papaya_scheduler.proofs.NextSays.{NextSays}
 use Rattle.papaya_scheduler.proofs.OneStep.{over_next}

@@ -43,7 +43,7 @@ use Rattle.papaya_scheduler.specs.declared.kind.Kind.TheVariants as kind
 use Rattle.papaya_scheduler.specs.declared.scheduler.Scheduler.{Scheduler}
 use Rattle.papaya_scheduler.proofs.AfterEffects.{calls_seen, closed_stays, mapped_stays}
 use Rattle.papaya_scheduler.proofs.Here.{HereAs, here_as_at}
-use Rattle.papaya_scheduler.proofs.Lists.{set_itself}
+use Rattle.papaya_rows.proofs.Lists.{set_itself}
 use Rattle.papaya_scheduler.proofs.NextSays.{IsNextSaying, NextSays, over_says, words_say}
 use Rattle.papaya_scheduler.proofs.OneStep.{goes_next}
 use Rattle.papaya_scheduler.proofs.RanOn.{maps_named, there_stays}

@@ -48,7 +48,7 @@ use Rattle.papaya_scheduler.specs.declared.scheduler.Scheduler.{Scheduler}
 use Rattle.papaya_scheduler.proofs.AfterEffects.{calls_seen, closed_stays, mapped_stays}
 use Rattle.papaya_scheduler.proofs.AnySays.{any_says}
 use Rattle.papaya_scheduler.proofs.Here.{Here, here_at}
-use Rattle.papaya_scheduler.proofs.Lists.{changed_at, removed_at, set_get, set_position, set_seen}
+use Rattle.papaya_rows.proofs.Lists.{changed_at, removed_at, set_get, set_position, set_seen}
 use Rattle.papaya_scheduler.proofs.RanOn.{maps_named, there_stays}
 use Rattle.papaya_scheduler.proofs.StepSays.{Says, the}
 use Rattle.papaya_scheduler.proofs.SteppedTo.{going_on, has_gone, here_then, name_is, next, none_named, s2}

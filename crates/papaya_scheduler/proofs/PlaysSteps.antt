@@ -27,7 +27,7 @@ use Rattle.papaya_scheduler.specs.Stepping.{ComesAs, ComesBy, IsInCase, PlaysOn,
 use Rattle.papaya_scheduler.specs.declared.caller.Stands.TheVariants as far
 use Rattle.papaya_scheduler.specs.declared.scheduler.Scheduler.{Scheduler}
 use Rattle.papaya_scheduler.proofs.AfterEffects.{closed_stays, mapped_stays}
-use Rattle.papaya_scheduler.proofs.Elsewhere.{elsewhere, shown_elsewhere}
+use Rattle.papaya_rows.proofs.Elsewhere.{elsewhere, shown_elsewhere}
 use Rattle.papaya_scheduler.proofs.Here.{Here, here_at}
 use Rattle.papaya_scheduler.proofs.RightSteps.{makes_many, makes_one, may_come, not_busy, progresses}
 use Rattle.papaya_scheduler.proofs.Rights.{entry, in_turn, plays}

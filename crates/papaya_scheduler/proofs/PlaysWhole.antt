@@ -27,9 +27,9 @@ use Rattle.papaya_scheduler.specs.Stepping.{ComesBy, GoesAt, IsInCase, PlaysOn, 
 use Rattle.papaya_scheduler.specs.declared.caller.Caller.{Caller}
 use Rattle.papaya_scheduler.specs.declared.caller.Stands.TheVariants as far
 use Rattle.papaya_scheduler.specs.declared.scheduler.Scheduler.{Scheduler}
-use Rattle.papaya_scheduler.proofs.Elsewhere.{elsewhere}
+use Rattle.papaya_rows.proofs.Elsewhere.{elsewhere}
 use Rattle.papaya_scheduler.proofs.Here.{here_at}
-use Rattle.papaya_scheduler.proofs.Lists.{first_position}
+use Rattle.papaya_rows.proofs.Lists.{first_position}
 use Rattle.papaya_scheduler.proofs.PlaysAgain.{busy_stands}
 use Rattle.papaya_scheduler.proofs.PlaysSteps.{few_steps, goes_right, stands_elsewhere, stands_then}
 use Rattle.papaya_scheduler.proofs.RightSteps.{makes_whole}

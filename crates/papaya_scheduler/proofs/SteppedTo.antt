@@ -30,9 +30,9 @@ use Rattle.papaya_scheduler.specs.declared.caller.Callers.{Callers}
 use Rattle.papaya_scheduler.specs.declared.caller.Stands.{Stands as HowFar}
 use Rattle.papaya_scheduler.specs.declared.scheduler.NamedMap.{NamedMap}
 use Rattle.papaya_scheduler.specs.declared.scheduler.Scheduler.{Scheduler}
-use Rattle.papaya_scheduler.proofs.Facts.{no_ending_of, no_making_of, no_work_at, row_rests, used_once}
+use Rattle.papaya_rows.proofs.Facts.{no_ending_of, no_making_of, no_work_at, row_rests, used_once}
 use Rattle.papaya_scheduler.proofs.Here.{HereAs}
-use Rattle.papaya_scheduler.proofs.Lists.{all_so, one_of, removed_all, removed_any, removed_count, set_all, set_any, set_count}
+use Rattle.papaya_rows.proofs.Lists.{all_so, one_of, removed_all, removed_any, removed_count, set_all, set_any, set_count}
 
 -- a slot that is used alike is used in that way
 used_alike : (v : SlotUse) (u u2 : Use) → IsUsedAs v u → IsUsedAlike u u2 → IsUsedAs v u2

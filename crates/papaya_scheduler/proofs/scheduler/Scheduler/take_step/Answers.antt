@@ -2,7 +2,7 @@
 use Rattle.std.proofs.Common.{sym, ap, subst, ◌∙◌}
 use Rattle.papaya_executor.specs.IsAt.{HasCall}
 use Rattle.papaya_logged.specs.Calling.{CallGoesOn}
-use Rattle.papaya_scheduler.proofs.Lists.{got, got_within}
+use Rattle.papaya_rows.proofs.Lists.{got, got_within}
 use Rattle.papaya_scheduler.proofs.scheduler.Scheduler.take_step.Goals as goal
 
 pub index-requires : goal.index-requires

@@ -2,7 +2,7 @@
 use Rattle.std.proofs.Common.{refl, sym, ap, subst, ◌∙◌}
 use Rattle.papaya_scheduler.specs.Stepping.{StepsCome, TakenBy}
 use Rattle.papaya_scheduler.proofs.Here.{here_at}
-use Rattle.papaya_scheduler.proofs.Lists.{got, got_within}
+use Rattle.papaya_rows.proofs.Lists.{got, got_within}
 use Rattle.papaya_scheduler.proofs.scheduler.Scheduler.take_steps.Goals as goal
 
 pub index-requires : goal.index-requires
