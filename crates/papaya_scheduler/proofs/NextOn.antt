@@ -1,5 +1,5 @@
 -- The steps of a walk to its next pair: what each says, and that the walk goes on over the places of its table.
-use Rattle.std.specs.Prelude.{◌≡◌, ◌≢◌, ◌<◌, ◌⊎◌, ◌≤◌, ◌+◌, ℕ, Bool, true, false, List, [], ◌++◌, map, slice_set, sum_by, Option, Some, None}
+use Rattle.std.specs.Prelude.{◌≡◌, ◌≢◌, ◌<◌, ◌⊎◌, ◌≤◌, ◌+◌, ℕ, Bool, true, false, List, [], ◌++◌, map, slice_get, sum_by, Option, Some, None}
 use Rattle.std.proofs.Common.{refl, sym, ap, subst, ◌∙◌, inl, inr, arith}
 use Rattle.std.proofs.lemmas.List.{append_assoc}
 use Rattle.papaya_tables.specs.declared.node.Node.{Node}
@@ -23,7 +23,7 @@ use Rattle.papaya_effects.specs.Known.{known}
 use Rattle.papaya_effects.specs.declared.acting.Acting.TheVariants as acts
 use Rattle.papaya_finishes.specs.Machines.{machine_of}
 use Rattle.papaya_finishes.specs.Maps.{Standing}
-use Rattle.papaya_executor.specs.IsAt.{Scene, slot_of}
+use Rattle.papaya_executor.specs.IsAt.{HasCall, IsAt, Scene, slot_of}
 use Rattle.papaya_executor.specs.Stepping.{StepLeads, StepsFrom, has_ended, scene_after}
 use Rattle.papaya_executor.specs.declared.executor.Executor.{Executor}
 use Rattle.papaya_executor.proofs.Changed.{standing_is}
@@ -265,3 +265,24 @@ module _ {K V S : Type 0} (same : K → K → Bool) (hash : K → ℕ) (terms : 
         (walk_goes same hash terms own n midst_w p midst.stands place midst.ready new.logged mid after (leads_is progress.Goes step)));
     ready = subst (λ (x : Scheduler K V S). ReadyAt own place x) (sym step.rest) midst.ready;
   }
+
+-- before the first one
+module _ {K V S : Type 0} (same : K → K → Bool) (hash : K → ℕ) (terms : Terms) (own : List ℕ) (place : ℕ) (m : Moment K V) where
+  pub mid_first : (p : Scheduler K V S) (stands : StandsAs (WalksFar own 0) same hash terms m p) → ReadyAt own place p → (list : List Effect) → list ≡ list ++ [] → IsMidWalk same hash terms own place m 0 list list p
+  mid_first p stands ready list none =
+      let it = here same hash terms own 0 m p stands place ready in
+      record { call = it.call; call_is = it.call_is; did = []; follows = none; few = omega arith; stands = stands; ready = ready }
+
+  module _ (n : ℕ) (before mid : List Effect) (p : Scheduler K V S) (midst : IsMidWalk same hash terms own place m n before mid p) where
+    abbrev w : Moment K V
+    w = with_effects (Some own) (Some midst.call.map) midst.did m
+
+    -- it may take a step
+    pub may_walk : (x : Caller V) → slice_get p.calls.items.items place ≡ Some x → (s : Scene K V) × IsAt same hash p.logged.executor s × HasCall s x.number
+    may_walk x at_x =
+        let it = here same hash terms own n w p midst.stands place midst.ready in
+        let same_one : it.caller ≡ x = the it.caller x (sym it.at ∙ at_x) in
+        (midst.stands.scene, midst.stands.shown.is_at, subst (λ (y : Caller V). HasCall midst.stands.scene y.number) same_one (it.caller.map, it.way.0, it.way.1))
+
+    pub mid_few : n ≤ 2 ^ 48
+    mid_few = few_steps same hash terms own n w p midst.stands place midst.ready

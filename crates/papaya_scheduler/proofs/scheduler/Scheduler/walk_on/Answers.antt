@@ -1,0 +1,27 @@
+-- A walk takes steps to its next pair.
+use Rattle.std.specs.Prelude.{slice_get, Some}
+use Rattle.std.proofs.Common.{◌+◌, refl, sym, ap, subst, ◌∙◌, arith}
+use Rattle.std.proofs.lemmas.List.{append-nil}
+use Rattle.papaya_executor.specs.IsAt.{HasCall, IsAt, Scene}
+use Rattle.papaya_logged.specs.Calling.{CallGoesOn}
+use Rattle.papaya_rows.proofs.Lists.{got, got_within}
+use Rattle.papaya_scheduler.specs.Stepping.{IsStepOf}
+use Rattle.papaya_scheduler.proofs.NextOn.{may_walk, mid_few, mid_first, mid_next}
+use Rattle.papaya_scheduler.proofs.scheduler.Scheduler.walk_on.Goals as goal
+
+pub index-requires : goal.index-requires
+index-requires g c = let r = c.requires in got_within c.args.self.now.calls.items.items c.args.place r.4.1 r.4.2
+
+pub loop-steps-init : goal.loop-steps-init
+loop-steps-init g c =
+    (0, refl, refl, refl, λ terms m own stands at. mid_first g.K.PartialEq.eq (g.S.Hashes.hash c.args.self.now.logged.executor.hasher) terms own c.args.place m c.args.self.now stands at c.args.effects.now.items
+    (sym (append-nil c.args.effects.now.items)))
+
+pub step-progress-requires : goal.step-progress-requires
+step-progress-requires g c =
+    let r = c.requires in
+    let i = c.loop-steps.invariant in
+    let there = ap (λ p. slice_get p.calls.items.items c.args.place) i.2 ∙ r.4.2 in
+    let read = c.index.ensures ∙ got c.args.self.now.calls.items.items c.args.place r.4.1 c.index.result.now r.4.2 in
+    let may = may_walk g.K.PartialEq.eq (g.S.Hashes.hash c.args.self.now.logged.executor.hasher) r.2 c.args.place r.1 i.0 c.args.effects.now.items c.loop-steps.effects.items c.loop-steps.self (i.4 r.0 r.1 r.2 r.3 r.4) r.4.1 there in
+    (may.0, subst (λ h. IsAt g.K.PartialEq.eq (g.S.Hashes.hash h) c.loop-steps.self.logged.executor may.0) (sym i.3) may.1, subst (λ x. HasCall may.0 x.number) (sym read) may.2)
