@@ -15,7 +15,7 @@ use Rattle.papaya_executor.specs.Stepping.{StepLeads}
 use Rattle.papaya_executor.specs.declared.executor.Executor.{Executor}
 use Rattle.papaya_follows.specs.Calls.{IsCalled}
 use Rattle.papaya_moments.specs.Whole.{ShowsWhole}
-use Rattle.papaya_scheduler.specs.Machines.{IsAsFar}
+use Rattle.papaya_scheduler.specs.Machines.{IsAsFar, RefusedForRoom}
 use Rattle.papaya_scheduler.specs.Seen.{kind_of}
 use Rattle.papaya_scheduler.specs.declared.caller.Stands.TheVariants as far
 use Rattle.papaya_scheduler.specs.declared.kind.Kind.{Kind}
@@ -28,14 +28,14 @@ module _ {K V S : Type 0} (same : K → K → Bool) (hash : K → ℕ) (name : �
   abbrev Its : (u : UnderWay K V K) → s.calls map i ≡ Some u → Type 0
   Its u under = Says same hash name m known s old new at_old whole map i c c_is its its_is value u under said leads
 
-  by_call : (u : UnderWay K V K) (under : s.calls map i ≡ Some u) → IsAsFar its far.Goes (machine_of u) → (call : Call K V) → c.call ≡ call → IsCalled same u call → Its u under
-  by_call (OnKey x) under now (On one) is called = key_says same hash name m known s old new at_old whole map i c c_is its its_is value x under one is said leads
-  by_call (ForRoom r) under now (Reserve more) is called = room_says same hash name m known s old new at_old whole map i c c_is its its_is value r under more is said leads
-  by_call (Counting sum) under now Len is called = sum_says same hash name m known s old new at_old whole map i c c_is its its_is value sum under is said leads
-  by_call (OverAll o) under now Clear is called = clear_says same hash name m known s old new at_old whole map i c c_is its its_is value o under said leads now is
-  by_call (OverAll o) under now Retain is called = retain_says same hash name m known s old new at_old whole map i c c_is its its_is value o under said leads now is
-  by_call (OverAll o) under now Walk is called = walk_step_says same hash name m known s old new at_old whole map i c c_is its its_is value o under said leads now is
-  by_call _ under now _ is called = absurd called
+  by_call : (u : UnderWay K V K) (under : s.calls map i ≡ Some u) → IsAsFar its far.Goes (machine_of u) → RefusedForRoom (machine_of u) → (call : Call K V) → c.call ≡ call → IsCalled same u call → Its u under
+  by_call (OnKey x) under now room (On one) is called = key_says same hash name m known s old new at_old whole map i c c_is its its_is value x under one is said leads
+  by_call (ForRoom r) under now room (Reserve more) is called = room_says same hash name m known s old new at_old whole map i c c_is its its_is value r under room more is said leads
+  by_call (Counting sum) under now room Len is called = sum_says same hash name m known s old new at_old whole map i c c_is its its_is value sum under is said leads
+  by_call (OverAll o) under now room Clear is called = clear_says same hash name m known s old new at_old whole map i c c_is its its_is value o under said leads now room is
+  by_call (OverAll o) under now room Retain is called = retain_says same hash name m known s old new at_old whole map i c c_is its its_is value o under said leads now room is
+  by_call (OverAll o) under now room Walk is called = walk_step_says same hash name m known s old new at_old whole map i c c_is its its_is value o under said leads now room is
+  by_call _ under now room _ is called = absurd called
 
-  pub any_says : (u : UnderWay K V K) (under : s.calls map i ≡ Some u) → IsAsFar its far.Goes (machine_of u) → Its u under
-  any_says u under now = by_call u under now c.call refl (is_called same hash name m known s old new at_old whole map i c c_is its its_is value u under)
+  pub any_says : (u : UnderWay K V K) (under : s.calls map i ≡ Some u) → IsAsFar its far.Goes (machine_of u) → RefusedForRoom (machine_of u) → Its u under
+  any_says u under now room = by_call u under now room c.call refl (is_called same hash name m known s old new at_old whole map i c c_is its its_is value u under)

@@ -21,7 +21,7 @@ use Rattle.papaya_executor.specs.IsAt.{slot_of}
 use Rattle.papaya_follows.specs.Calls.{IsCalled}
 use Rattle.papaya_hands.specs.Asked.{given_by}
 use Rattle.papaya_hands.specs.Calling.{IsBegunFor}
-use Rattle.papaya_scheduler.specs.Machines.{IsAsFar, machine_for, machine_on}
+use Rattle.papaya_scheduler.specs.Machines.{IsAsFar, RefusedForRoom, machine_for, machine_on}
 use Rattle.papaya_scheduler.specs.Seen.{kind_of}
 use Rattle.papaya_scheduler.specs.declared.caller.Stands.TheVariants as far
 
@@ -78,6 +78,15 @@ module _ {K V : Type 0} (same : K → K → Bool) (st : Standing K) (i : ℕ) wh
   is_as_far Retain = (refl, λ e. absurd (cc e))
   is_as_far Len = tt
   is_as_far Walk = (refl, λ e. tt)
+
+  -- it has no fault to tell
+  pub begins_for_room : (call : Call K V) → RefusedForRoom (machine_of (begun_call call))
+  begins_for_room (On one) = tt
+  begins_for_room (Reserve additional) = tt
+  begins_for_room Clear = tt
+  begins_for_room Retain = tt
+  begins_for_room Len = tt
+  begins_for_room Walk = tt
 
   module _ (are : AreLawful same st.hash) where
     key_begun : (one : OneKey K V) → IsBegun V same st.hash same st.setting slot_of i (same (key_of one)) (given_by one []) (machine_on (in_slot st.setting (slot_of i)) st.hash one)

@@ -32,6 +32,7 @@ mod Owns
 mod AfterEffects
 mod SweepSays
 mod KeySays
+mod RoomSays
 mod StepSays
 mod SweepSteps
 mod AnySays

@@ -80,7 +80,7 @@ module _ {K V S : Type 0} (same : K → K → Bool) (hash : K → ℕ) (terms : 
   name_is = here.way.2 ∙ here.named
 
   as_ready : IsAsFar d.kind far.Ready (machine_of u)
-  as_ready = subst (λ (x : HowFar). IsAsFar d.kind x (machine_of u)) ready here.way.4
+  as_ready = subst (λ (x : HowFar). IsAsFar d.kind x (machine_of u)) ready here.way.4.0
 
   abbrev st : (standing : Standing K) × (s.maps d.map ≡ Some standing)
   st = standing_is same hash p.logged.executor s stands.shown.is_at d.map i u under

@@ -191,7 +191,7 @@ module _ {K V S : Type 0} (same : K → K → Bool) (hash : K → ℕ) (terms : 
         d.value here.way.0 here.way.1 said leads
     says =
         any_says same hash stands.name m (known p.logged.notes) stands.scene p.logged.executor new.executor stands.shown.is_at stands.shown.shows d.map d.number c its_call d.kind (ap (λ (z : Seen). z.kind) here.as_seen)
-        d.value said leads here.way.0 here.way.1 (subst (λ (h : HowFar). IsAsFar d.kind h (machine_of here.way.0)) goes here.way.4)
+        d.value said leads here.way.0 here.way.1 (subst (λ (h : HowFar). IsAsFar d.kind h (machine_of here.way.0)) goes here.way.4.0) here.way.4.1
 
     abbrev then_next : Option (UnderWay K V K)
     then_next = next AsFar AsFar own (λ x apart machine is. is) same hash terms m p stands place here said new leads
@@ -218,7 +218,7 @@ module _ {K V S : Type 0} (same : K → K → Bool) (hash : K → ℕ) (terms : 
       midst on =
           let more = goes_next (leads d.map here.way.0 here.way.1).1 said then_next (leads d.map here.way.0 here.way.1).4.goes_on (going_not_ended by d.kind d.value said on) in
           going_on AsFar AsFar own (λ x apart machine is. is) same hash terms m p stands place here said new leads w shown (there_stays (Some own) (Some d.map) did m) (mapped_stays (Some own) (Some d.map) did m)
-          (closed_stays (Some own) (Some d.map) did m) (maps_named (Some own) (Some d.map) did m) more.0 more.1 (far_then by said) (value_then by d.kind d.value said) (says.far more.0 more.1)
+          (closed_stays (Some own) (Some d.map) did m) (maps_named (Some own) (Some d.map) did m) more.0 more.1 (far_then by said) (value_then by d.kind d.value said) (says.far more.0 more.1, says.room more.0 more.1)
           (alike ∙ sym (set_seen seen_of calls place d gone_on here.at (ap (λ (h : HowFar). record (seen_of d) { far = h }) (far_goes by d.kind d.value said on ∙ sym goes))))
           callers (items_on (going_not_ended by d.kind d.value said on))
 
@@ -300,7 +300,7 @@ module _ {K V S : Type 0} (same : K → K → Bool) (hash : K → ℕ) (terms : 
             of (inr on) =
                 let more = goes_next (leads d.map here.way.0 here.way.1).1 said then_next (leads d.map here.way.0 here.way.1).4.goes_on on in
                 going_on AsFar AsFar own (λ x apart machine is. is) same hash terms m p stands place here said new leads told (shown_told ended) (there_stays (Some own) (Some d.map) did m) (mapped_stays (Some own) (Some d.map) did m)
-                (closed_stays (Some own) (Some d.map) did m) (maps_named (Some own) (Some d.map) did m) more.0 more.1 (far_then by said) (value_then by d.kind d.value said) (says.far more.0 more.1)
+                (closed_stays (Some own) (Some d.map) did m) (maps_named (Some own) (Some d.map) did m) more.0 more.1 (far_then by said) (value_then by d.kind d.value said) (says.far more.0 more.1, says.room more.0 more.1)
                 (listed_on on) callers (items_on on)
 
       pub one_comes : ComesBy same hash terms own place m 1 outcome before after p2

@@ -55,7 +55,7 @@ module _ {K V S : Type 0} (same : K → K → Bool) (hash : K → ℕ) (terms : 
       let e = quiet (Step own refuse) (Refused Busy) in record {
         plays = λ within. plays same hash terms log (Step own refuse) p due e refl (out_of_turn (λ o. GoesOn terms log e) (is_some (call_of own m)) (Refused Busy) (no_call due.played none) refl)
             (stands_elsewhere same hash terms (come_to own (Refused Busy) 0 m) p (busy_stands due.played) (m.events + 1) m.is_mapped m.is_closed (m.is_alone && is_alone_on e m) m.there m.slots m.sheltered m.remains refl refl refl);
-        makes = λ within. refl;
+        makes = refl;
         does = omega arith;
       }
 
@@ -64,7 +64,7 @@ module _ {K V S : Type 0} (same : K → K → Bool) (hash : K → ℕ) (terms : 
       let e = quiet (Go own refuse) (Refused Busy) in record {
         plays = λ within. plays same hash terms log (Go own refuse) p due e refl (out_of_turn (λ o. GoesOn terms log e) (is_some (call_of own m)) (Refused Busy) (no_call due.played none) refl)
             (stands_elsewhere same hash terms (come_to own (Refused Busy) 0 m) p (busy_stands due.played) (m.events + 1) m.is_mapped m.is_closed (m.is_alone && is_alone_on e m) m.there m.slots m.sheltered m.remains refl refl refl);
-        makes = λ within. refl;
+        makes = refl;
         does = omega arith;
       }
 
@@ -93,7 +93,7 @@ module _ {K V S : Type 0} (same : K → K → Bool) (hash : K → ℕ) (terms : 
           let e = quiet (Step own refuse) (Asks question) in record {
             plays = λ within. plays same hash terms log (Step own refuse) p due e refl (in_turn (λ o. GoesOn terms log e) (is_some (call_of own m)) (Asks question) in_place asks_right)
                 (stands_on same hash terms (come_to own (Asks question) 0 m) p (asks_again same hash terms m p stands own place here 0 question is) (m.events + 1) (m.is_alone && is_alone_on e m) m.slots m.sheltered);
-            makes = λ within. subst (λ (x : Stands). MakesSteps {K} {V} (Step own refuse) x 0 (Asks question)) (sym stands_or_is) refl;
+            makes = subst (λ (x : Stands). MakesSteps {K} {V} (Step own refuse) x 0 (Asks question)) (sym stands_or_is) refl;
             does = omega arith;
           }
 
@@ -102,7 +102,7 @@ module _ {K V S : Type 0} (same : K → K → Bool) (hash : K → ℕ) (terms : 
           let e = quiet (Go own refuse) (Asks question) in record {
             plays = λ within. plays same hash terms log (Go own refuse) p due e refl (in_turn (λ o. GoesOn terms log e) (is_some (call_of own m)) (Asks question) in_place asks_right)
                 (stands_on same hash terms (come_to own (Asks question) 0 m) p (asks_again same hash terms m p stands own place here 0 question is) (m.events + 1) (m.is_alone && is_alone_on e m) m.slots m.sheltered);
-            makes = λ within. subst (λ (x : Stands). MakesSteps {K} {V} (Go own refuse) x 0 (Asks question)) (sym stands_or_is) refl;
+            makes = subst (λ (x : Stands). MakesSteps {K} {V} (Go own refuse) x 0 (Asks question)) (sym stands_or_is) refl;
             does = omega arith;
           }
 
@@ -123,7 +123,7 @@ module _ {K V S : Type 0} (same : K → K → Bool) (hash : K → ℕ) (terms : 
           let e = quiet (Step own refuse) Ready in record {
             plays = λ within. plays same hash terms log (Step own refuse) p due e refl (in_turn (λ o. GoesOn terms log e) (is_some (call_of own m)) Ready in_place ready_right)
                 (stands_on same hash terms (come_to own Ready 0 m) p (ready_again same hash terms m p stands own place here 0 is) (m.events + 1) (m.is_alone && is_alone_on e m) m.slots m.sheltered);
-            makes = λ within. subst (λ (x : Stands). MakesSteps {K} {V} (Step own refuse) x 0 (Ready {V})) (sym stands_or_ready) refl;
+            makes = subst (λ (x : Stands). MakesSteps {K} {V} (Step own refuse) x 0 (Ready {V})) (sym stands_or_ready) refl;
             does = omega arith;
           }
 
@@ -132,6 +132,6 @@ module _ {K V S : Type 0} (same : K → K → Bool) (hash : K → ℕ) (terms : 
           let e = quiet (Go own refuse) Ready in record {
             plays = λ within. plays same hash terms log (Go own refuse) p due e refl (in_turn (λ o. GoesOn terms log e) (is_some (call_of own m)) Ready in_place ready_right)
                 (stands_on same hash terms (come_to own Ready 0 m) p (ready_again same hash terms m p stands own place here 0 is) (m.events + 1) (m.is_alone && is_alone_on e m) m.slots m.sheltered);
-            makes = λ within. subst (λ (x : Stands). MakesSteps {K} {V} (Go own refuse) x 0 (Ready {V})) (sym stands_or_ready) refl;
+            makes = subst (λ (x : Stands). MakesSteps {K} {V} (Go own refuse) x 0 (Ready {V})) (sym stands_or_ready) refl;
             does = omega arith;
           }

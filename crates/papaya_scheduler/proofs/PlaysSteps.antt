@@ -90,12 +90,12 @@ module _ {K V S : Type 0} (same : K → K → Bool) (hash : K → ℕ) (terms : 
   d_comes : ComesAs d.call outcome
   d_comes = subst (λ (x : Call K V). ComesAs x outcome) (sym d_on.call) comes.comes
 
+  pub never_busy : outcome ≡ Refused Busy → ⊥
+  never_busy = not_busy d.call outcome d_comes
+
   module _ (within : IfCall (λ x. IsInCase terms x (moments_from x.begun log) w outcome) (call_of own w)) where
     case_of : IsInCase terms d (moments_from d.begun log) w outcome
     case_of = subst (λ (o : Option (CallThere K V)). IfCall (λ x. IsInCase terms x (moments_from x.begun log) w outcome) o) d_is within
-
-    pub never_busy : outcome ≡ Refused Busy → ⊥
-    never_busy = not_busy terms d (moments_from d.begun log) w outcome d_comes case_of
 
     pub goes_right : ByCall (λ x. Progresses terms x.stands x (moments_from x.begun log) w outcome) (call_of own w)
     goes_right = subst (λ (o : Option (CallThere K V)). ByCall (λ x. Progresses terms x.stands x (moments_from x.begun log) w outcome) o) (sym d_is)
@@ -130,7 +130,7 @@ module _ {K V S : Type 0} (same : K → K → Bool) (hash : K → ℕ) (terms : 
       let e = entry (Step own refuse) outcome steps effects in record {
         plays = λ within. plays same hash terms log (Step own refuse) new due e refl (in_turn (λ o. GoesOn terms log e) (is_some (call_of own m)) outcome (in_place same hash terms log m own old stands place placed goes steps outcome effects new comes) (goes_right same hash terms log m own old stands place placed goes steps outcome effects new comes within))
             (stands_then same hash terms log m own old stands place placed goes steps outcome effects new comes within (m.events + 1) m.is_mapped m.is_closed (m.is_alone && is_alone_on e m) (slots_on outcome m.slots) m.remains refl refl);
-        makes = λ within. makes_one {K} {V} own refuse (stands_or (call_of own m)) (stand_is same hash terms log m own old stands place placed goes steps outcome effects new comes) steps one outcome (never_busy same hash terms log m own old stands place placed goes steps outcome effects new comes within);
+        makes = makes_one {K} {V} own refuse (stands_or (call_of own m)) (stand_is same hash terms log m own old stands place placed goes steps outcome effects new comes) steps one outcome (never_busy same hash terms log m own old stands place placed goes steps outcome effects new comes);
         does = few_steps same hash terms log m own old stands place placed goes steps outcome effects new comes;
       }
 
@@ -140,6 +140,6 @@ module _ {K V S : Type 0} (same : K → K → Bool) (hash : K → ℕ) (terms : 
       let e = entry (Go own refuse) outcome steps effects in record {
         plays = λ within. plays same hash terms log (Go own refuse) new due e refl (in_turn (λ o. GoesOn terms log e) (is_some (call_of own m)) outcome (in_place same hash terms log m own old stands place placed goes steps outcome effects new comes) (goes_right same hash terms log m own old stands place placed goes steps outcome effects new comes within))
             (stands_then same hash terms log m own old stands place placed goes steps outcome effects new comes within (m.events + 1) m.is_mapped m.is_closed (m.is_alone && is_alone_on e m) (slots_on outcome m.slots) m.remains refl refl);
-        makes = λ within. makes_many {K} {V} own refuse (stands_or (call_of own m)) (stand_is same hash terms log m own old stands place placed goes steps outcome effects new comes) steps outcome takes (never_busy same hash terms log m own old stands place placed goes steps outcome effects new comes within);
+        makes = makes_many {K} {V} own refuse (stands_or (call_of own m)) (stand_is same hash terms log m own old stands place placed goes steps outcome effects new comes) steps outcome takes (never_busy same hash terms log m own old stands place placed goes steps outcome effects new comes);
         does = few_steps same hash terms log m own old stands place placed goes steps outcome effects new comes;
       }

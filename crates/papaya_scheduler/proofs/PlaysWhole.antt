@@ -21,19 +21,22 @@ use Rattle.papaya_schedules.specs.Terms.{Terms}
 use Rattle.papaya_schedules.specs.Views.{call_of, map_of, number_of}
 use Rattle.papaya_follows.specs.Calling.{come_to}
 use Rattle.papaya_follows.proofs.Calling.{is_same_refl}
-use Rattle.papaya_scheduler.specs.Played.{BeginsSo, IsDue, StandsFor}
+use Rattle.papaya_scheduler.specs.Played.{BeginsSo, IsDue, StandsFor, entry_of}
 use Rattle.papaya_scheduler.specs.Seen.{Seen, is_named, seen, seen_of}
-use Rattle.papaya_scheduler.specs.Stepping.{ComesBy, GoesAt, IsInCase, PlaysOn, TakesUpTo, may_begin}
+use Rattle.papaya_scheduler.specs.Stepping.{ComesBy, GoesAt, IsInCase, PlaysOn, StepsCome, TakenAs, TakenBy, TakesUpTo, may_begin}
 use Rattle.papaya_scheduler.specs.declared.caller.Caller.{Caller}
+use Rattle.papaya_scheduler.specs.declared.caller.Stands.{Stands as HowFar}
 use Rattle.papaya_scheduler.specs.declared.caller.Stands.TheVariants as far
+use Rattle.papaya_scheduler.specs.declared.played.Played.{Played}
 use Rattle.papaya_scheduler.specs.declared.scheduler.Scheduler.{Scheduler}
 use Rattle.papaya_rows.proofs.Elsewhere.{elsewhere}
-use Rattle.papaya_scheduler.proofs.Here.{here_at}
+use Rattle.papaya_scheduler.proofs.Here.{Here, here_at}
 use Rattle.papaya_rows.proofs.Lists.{first_position}
 use Rattle.papaya_scheduler.proofs.PlaysAgain.{busy_stands}
-use Rattle.papaya_scheduler.proofs.PlaysSteps.{few_steps, goes_right, stands_elsewhere, stands_then}
+use Rattle.papaya_scheduler.proofs.PlaysSteps.{few_steps, goes_right, never_busy, stands_elsewhere, stands_then}
 use Rattle.papaya_scheduler.proofs.RightSteps.{makes_whole}
 use Rattle.papaya_scheduler.proofs.Rights.{entry, in_turn, out_of_turn, plays, quiet}
+use Rattle.papaya_scheduler.proofs.StepSays.{the}
 
 plain : {V : Type 0} (o : Outcome V) → (o ≡ Refused Busy → ⊥) → is_busy o ≡ false
 plain (Refused Busy) never = absurd (never refl)
@@ -55,14 +58,17 @@ module _ {K V S : Type 0} (same : K → K → Bool) (hash : K → ℕ) (terms : 
         plays = λ within. plays same hash terms log (OneCall guard name call) old due e refl (out_of_turn (λ o. GoesOn terms log e) (may_begin guard name m) (Refused Busy) (sym begins.so) refl)
             (stands_elsewhere same hash terms (come_to nameless (Refused Busy) 0 m) old (busy_stands same hash terms log nameless false old due.played) (m.events + 1) m.is_mapped m.is_closed
             (m.is_alone && is_alone_on e m) m.there m.slots m.sheltered m.remains refl refl refl);
-        makes = λ within. refl;
+        makes = refl;
         does = omega arith;
       })
 
   -- it begins, and takes steps
   module _ (begins : BeginsSo same hash terms m nameless guard name call true old mid) (steps : ℕ) (outcome : Outcome V) (effects : List Effect) (new : Scheduler K V S)
       (placed : Some 0 ≡ position (is_named nameless) mid.calls.items.items) (goes : (here_at same hash terms m1 mid (begins.stands refl) nameless 0 placed).caller.stands ≡ far.Goes)
-      (comes : ComesBy same hash terms nameless 0 m1 steps outcome [] effects new) (takes : TakesUpTo most_steps steps outcome) (never : outcome ≡ Refused Busy → ⊥) where
+      (comes : ComesBy same hash terms nameless 0 m1 steps outcome [] effects new) (takes : TakesUpTo most_steps steps outcome) where
+    never : outcome ≡ Refused Busy → ⊥
+    never = never_busy same hash terms log m1 nameless mid (begins.stands refl) 0 placed goes steps outcome effects new comes
+
     abbrev b : Moment K V
     b = if is_busy outcome then m else m1
 
@@ -102,7 +108,7 @@ module _ {K V S : Type 0} (same : K → K → Bool) (hash : K → ℕ) (terms : 
           (subst (λ (x : Moment K V). StandsFor same hash terms (After x) new) b_is
           (stands_then same hash terms log m1 nameless mid (begins.stands refl) 0 placed goes steps outcome effects new comes at_m1 (m.events + 1) m.is_mapped m.is_closed (m.is_alone && is_alone_on e m)
           (slots_on outcome m.slots) m.remains (mapped_with (number_of name m)) (closed_with (number_of name m))));
-      makes = λ within. makes_whole guard name call (stands_or (call_of nameless b)) steps outcome takes never;
+      makes = makes_whole guard name call (stands_or (call_of nameless b)) steps outcome takes never;
       does = few_steps same hash terms log m1 nameless mid (begins.stands refl) 0 placed goes steps outcome effects new comes;
     }
 
@@ -144,3 +150,26 @@ map_there {K} {V} {m} {guard} {name} is = mapped (map_of name m) (third _ _ (is_
     mapped : (o : Option MapThere) → is_some o ≡ true → is_some (option_map (λ f. f.number) o) ≡ true
     mapped None e = e
     mapped (Some f) e = refl
+
+-- so it plays, where it has begun and taken its steps
+module _ {K V S : Type 0} (same : K → K → Bool) (hash : K → ℕ) (terms : Terms) (log : List (Entry K V)) (guard name : List ℕ) (call : Call K V) (old mid : Scheduler K V S)
+    (due : IsDue same hash terms log (OneCall guard name call) old) (begins : BeginsSo same hash terms (moment log) nameless guard name call true old mid) (played : Played V) (new : Scheduler K V S)
+    (taken : TakenAs same hash 0 most_steps played mid new) where
+  abbrev m2 : Moment K V
+  m2 = with_call nameless guard call (number_of name (moment log)) (moment log)
+
+  first : GoesAt nameless 0 mid
+  first = goes_first same hash terms (moment log) nameless guard call (number_of name (moment log)) (map_there {m = moment log} {guard = guard} {name = name} begins.so) mid (begins.stands refl)
+
+  abbrev here : Here same hash terms m2 mid (begins.stands refl) nameless 0
+  here = here_at same hash terms m2 mid (begins.stands refl) nameless 0 first.0
+
+  goes_here : here.caller.stands ≡ far.Goes
+  goes_here = ap (λ (x : Caller V). x.stands) (the here.caller first.1 (sym here.at ∙ first.2)) ∙ first.3
+
+  come : StepsCome same hash 0 most_steps played.steps played.outcome [] played.effects.items mid new
+  come = subst (λ (h : HowFar). TakenBy same hash 0 most_steps h played mid new) first.3 (taken first.1 first.2)
+
+  pub plays_begun : PlaysOn same hash terms log (entry_of (OneCall guard name call) played) new
+  plays_begun = plays_whole same hash terms log guard name call old mid due begins played.steps played.outcome played.effects.items new first.0 goes_here (come.1 terms m2 nameless (begins.stands refl) first) come.0
+

@@ -55,12 +55,14 @@ use Rattle.papaya_hands.specs.Asked.{IsAskedAs, as_told}
 use Rattle.papaya_effects.specs.Known.{known}
 use Rattle.papaya_executor.proofs.Changed.{standing_is}
 use Rattle.papaya_follows.proofs.Calling.{is_same_refl}
+use Rattle.papaya_late.specs.Faults.{RoomInSweeping}
+use Rattle.papaya_late.proofs.KindsKept.Laws.{told_sweeps_refuse_room}
 use Rattle.papaya_late.specs.Kinds.{FitsAsking, FitsAt}
 use Rattle.papaya_points.specs.Told.{IsRowOfCall}
 use Rattle.papaya_logged.specs.Calling.{CallTakes}
 use Rattle.papaya_logged.specs.Shown.{IsShown}
 use Rattle.papaya_logged.specs.declared.logged.Logged.{Logged}
-use Rattle.papaya_scheduler.specs.Machines.{IsAsFar, IsFor}
+use Rattle.papaya_scheduler.specs.Machines.{IsAsFar, IsFor, RefusedForRoom}
 use Rattle.papaya_scheduler.specs.Played.{CallsAre, IsDue, IsUnderWay, Plays, StandsFor}
 use Rattle.papaya_scheduler.specs.Seen.{Seen, asks, far_of, fits, is_named, kind_of, kind_on, seen, seen_of, takes}
 use Rattle.papaya_scheduler.specs.declared.caller.Caller.{Caller}
@@ -144,6 +146,21 @@ module _ {V : Type 0} where
   told_purpose (sweeping.Asks word) c machine_reply.Remove = refl
   told_purpose (sweeping.Asks word) c machine_reply.Abort = refl
   told_purpose _ c told = refl
+
+-- and it is refused for nothing else
+told_for_room : {K V : Type 0} (machine : Machine K V K) (told : MachineReply V) → RefusedForRoom machine → RefusedForRoom (machine_replied machine told).0
+told_for_room (kinds.Key call) told room = tt
+told_for_room (kinds.Reserve c) told room = room
+told_for_room (kinds.Count c) told room = tt
+told_for_room {K} {V} (kinds.Sweep c) told room = by c.stands told
+  where
+    by : (stage : Sweeping) (reply : MachineReply V) → RoomInSweeping (sweep_told stage c reply).0.stands
+    by (sweeping.Asks word) machine_reply.Yes = (told_sweeps_refuse_room c room).1 true
+    by (sweeping.Asks word) machine_reply.No = (told_sweeps_refuse_room c room).1 false
+    by (sweeping.Asks word) (machine_reply.Insert v) = room
+    by (sweeping.Asks word) machine_reply.Remove = room
+    by (sweeping.Asks word) machine_reply.Abort = room
+    by _ reply = room
 
 goes_far : {K V : Type 0} (kind : Kind) (question : Option ℕ) (machine : Machine K V K) (told : MachineReply V) → IsAsFar kind (far.Asks question) machine → IsAsFar kind far.Goes (machine_replied machine told).0
 goes_far kind question (kinds.Key call) told is = tt
@@ -237,7 +254,7 @@ module _ {K V S : Type 0} (same : K → K → Bool) (hash : K → ℕ) (terms : 
       call_named = ap (λ (x : List ℕ). call_of x m) name_is ∙ here.call_is
 
       as_far : IsAsFar d.kind (far.Asks question) (machine_of u)
-      as_far = subst (λ (x : HowFar). IsAsFar d.kind x (machine_of u)) asks_it here.way.4
+      as_far = subst (λ (x : HowFar). IsAsFar d.kind x (machine_of u)) asks_it here.way.4.0
 
       abbrev st : (standing : Standing K) × (s.maps d.map ≡ Some standing)
       st = standing_is same hash p.logged.executor s stands.shown.is_at d.map i u under
@@ -337,7 +354,7 @@ module _ {K V S : Type 0} (same : K → K → Bool) (hash : K → ℕ) (terms : 
           calls2 = slice_set calls place resumed
 
           way_then : IsUnderWay stands.name then_at p.there resumed
-          way_then = (to.0, here_then, here.way.2, here.way.3, subst (IsAsFar d.kind far.Goes) (sym to.1) (goes_far d.kind question (machine_of u) (as_told reply) as_far))
+          way_then = (to.0, here_then, here.way.2, here.way.3, (subst (IsAsFar d.kind far.Goes) (sym to.1) (goes_far d.kind question (machine_of u) (as_told reply) as_far), subst RefusedForRoom (sym to.1) (told_for_room (machine_of u) (as_told reply) here.way.4.1)))
 
           -- others have other numbers
           still : (x : Caller V) → is_named own x ≡ false → IsUnderWay stands.name s p.there x → IsUnderWay stands.name then_at p.there x

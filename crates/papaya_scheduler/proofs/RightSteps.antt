@@ -5,8 +5,7 @@ use Rattle.seize_words.specs.declared.fault.Fault.{Fault}
 use Rattle.seize_words.specs.declared.fault.Fault.TheVariants.{Busy, Capacity, Memory, RemoveNothing}
 use Rattle.papaya_runs.specs.Stopped.{most_steps}
 use Rattle.papaya_schedules.specs.declared.call.Call.{Call}
-use Rattle.papaya_schedules.specs.declared.call.Call.TheVariants.{On}
-use Rattle.papaya_schedules.specs.declared.call.OneKey.{OneKey}
+use Rattle.papaya_schedules.specs.declared.call.Call.TheVariants.{On, Reserve, Clear, Retain, Len, Walk}
 use Rattle.papaya_schedules.specs.declared.event.Event.TheVariants.{Go, OneCall, Step}
 use Rattle.papaya_schedules.specs.declared.outcome.Outcome.{Outcome}
 use Rattle.papaya_schedules.specs.declared.outcome.Outcome.TheVariants.{Answered, Asks, Goes, Ready, Refused, Waits}
@@ -15,18 +14,35 @@ use Rattle.papaya_schedules.specs.Moment.{Stands, Going, Asking, Told, IsReady, 
 use Rattle.papaya_schedules.specs.Steps.{MakesSteps}
 use Rattle.papaya_schedules.specs.Terms.{Terms}
 use Rattle.papaya_scheduler.specs.Seen.{far_of}
-use Rattle.papaya_scheduler.specs.Stepping.{ComesAs, IsFaultOn, IsInCase, TakesUpTo}
+use Rattle.papaya_scheduler.specs.Stepping.{ComesAs, IsInCase, TakesUpTo}
 use Rattle.papaya_scheduler.specs.declared.caller.Stands.TheVariants as far
 
 module _ {K V : Type 0} where
   -- a call on one key is refused as out of turn never, and for removing nothing only where it computes
-  fault_of_call : (call : Call K V) (one : OneKey K V) (fault : Fault) → call ≡ On one → ComesAs {K} {V} call (Refused fault) → IsFaultOn one fault
-  fault_of_call call one fault is comes = subst (λ (x : Call K V). ComesAs x (Refused fault)) is comes
+  faults_of : (call : Call K V) (fault : Fault) → ComesAs {K} {V} call (Refused fault) → (fault ≡ Memory) ⊎ (fault ≡ Capacity) ⊎ ((fault ≡ RemoveNothing) × (is_compute call ≡ true))
+  faults_of (On one) fault comes = comes
+  faults_of (Reserve more) fault (inl memory) = inl memory
+  faults_of (Reserve more) fault (inr capacity) = inr (inl capacity)
+  faults_of Clear fault (inl memory) = inl memory
+  faults_of Clear fault (inr capacity) = inr (inl capacity)
+  faults_of Retain fault (inl memory) = inl memory
+  faults_of Retain fault (inr capacity) = inr (inl capacity)
+  faults_of Len fault (inl memory) = inl memory
+  faults_of Len fault (inr capacity) = inr (inl capacity)
+  faults_of Walk fault (inl memory) = inl memory
+  faults_of Walk fault (inr capacity) = inr (inl capacity)
 
-  other_fault : (one : OneKey K V) (fault : Fault) → IsFaultOn one fault → (fault ≡ Memory → ⊥) → (fault ≡ Capacity → ⊥) → (fault ≡ RemoveNothing) × (is_compute {K} {V} (On one) ≡ true)
-  other_fault one fault (inl memory) no_memory no_capacity = absurd (no_memory memory)
-  other_fault one fault (inr (inl capacity)) no_memory no_capacity = absurd (no_capacity capacity)
-  other_fault one fault (inr (inr it)) no_memory no_capacity = it
+  other_fault : (call : Call K V) (fault : Fault) → ComesAs {K} {V} call (Refused fault) → (fault ≡ Memory → ⊥) → (fault ≡ Capacity → ⊥) → (fault ≡ RemoveNothing) × (is_compute call ≡ true)
+  other_fault call fault comes no_memory no_capacity = by (faults_of call fault comes)
+    where
+      by : (fault ≡ Memory) ⊎ (fault ≡ Capacity) ⊎ ((fault ≡ RemoveNothing) × (is_compute call ≡ true)) → (fault ≡ RemoveNothing) × (is_compute call ≡ true)
+      by (inl memory) = absurd (no_memory memory)
+      by (inr (inl capacity)) = absurd (no_capacity capacity)
+      by (inr (inr it)) = it
+
+  -- none is refused as out of turn
+  pub not_busy : (call : Call K V) (o : Outcome V) → ComesAs call o → o ≡ Refused Busy → ⊥
+  not_busy call o comes is = let it = (other_fault call Busy (subst (λ (x : Outcome V). ComesAs call x) is comes) (λ e. cc e) (λ e. cc e)).0 in cc it
 
   module _ (terms : Terms) (c : CallThere K V) (moments : List (Moment K V)) (now : Moment K V) where
     pub may_come : (o : Outcome V) → ComesAs c.call o → IsInCase terms c moments now o → MayCome terms c moments now o
@@ -37,10 +53,8 @@ module _ {K V : Type 0} where
     may_come (Answered a) comes within = comes
     may_come (Refused Memory) comes within = within
     may_come (Refused Capacity) comes within = within
-    may_come (Refused RemoveNothing) comes within =
-        let it = other_fault within.0 RemoveNothing (fault_of_call c.call within.0 RemoveNothing within.1 comes) (λ e. cc e) (λ e. cc e) in ap (λ (x : Call K V). is_compute x) within.1 ∙ it.1
-    may_come (Refused fault) comes within =
-        absurd (let it = (other_fault within.0 fault (fault_of_call c.call within.0 fault within.1 comes) (λ e. cc e) (λ e. cc e)).0 in cc it)
+    may_come (Refused RemoveNothing) comes within = (other_fault c.call RemoveNothing comes (λ e. cc e) (λ e. cc e)).1
+    may_come (Refused fault) comes within = absurd (let it = (other_fault c.call fault comes (λ e. cc e) (λ e. cc e)).0 in cc it)
     may_come _ comes within = absurd comes
 
     -- so it progresses, as far as it was
@@ -49,14 +63,6 @@ module _ {K V : Type 0} where
     progresses Told is o may = may
     progresses (Asking question) is o may = absurd (cc is)
     progresses IsReady is o may = absurd (cc is)
-
-    -- it is not refused as out of turn
-    pub not_busy : (o : Outcome V) → ComesAs c.call o → IsInCase terms c moments now o → o ≡ Refused Busy → ⊥
-    not_busy o comes within is =
-        let within2 = subst (λ (x : Outcome V). IsInCase terms c moments now x) is within in
-        let comes2 = subst (λ (x : Outcome V). ComesAs c.call x) is comes in
-        let it = (other_fault within2.0 Busy (fault_of_call c.call within2.0 Busy within2.1 comes2) (λ e. cc e) (λ e. cc e)).0 in
-        cc it
 
   -- how many steps: one,
   module _ (own : List ℕ) (refuse : Bool) where

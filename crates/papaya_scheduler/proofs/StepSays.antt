@@ -30,6 +30,7 @@ use Rattle.papaya_schedules.specs.Coming.{asks_of_key}
 use Rattle.papaya_schedules.specs.Effects.{with_effects}
 use Rattle.papaya_schedules.specs.Moment.{UnderWay as CallThere, Moment}
 use Rattle.papaya_schedules.specs.Views.{call_of}
+use Rattle.papaya_late.specs.Faults.{RoomInReserving}
 use Rattle.papaya_late.specs.Kinds.{FaultFits, FitsAsking, FitsAt}
 use Rattle.papaya_points.specs.Told.{IsRowOfCall}
 use Rattle.papaya_callers.specs.Pairs.{Given, kind_of as kind_given}
@@ -57,13 +58,14 @@ use Rattle.papaya_histories.specs.Asking.{IsToldQuestion}
 use Rattle.papaya_histories.proofs.AnyCall.HasWords.{questions_have_words}
 use Rattle.papaya_histories.proofs.Asking.{asking_steps_stand_there}
 use Rattle.papaya_histories.proofs.Refusals.{refused}
-use Rattle.papaya_scheduler.specs.Machines.{IsAsFar}
+use Rattle.papaya_scheduler.specs.Machines.{IsAsFar, RefusedForRoom}
 use Rattle.papaya_scheduler.specs.Seen.{kind_of}
 use Rattle.papaya_scheduler.specs.Stepping.{ComesAs, IsFaultOn, far_then, outcome_of}
 use Rattle.papaya_scheduler.specs.Telling.{number_by, number_in}
 use Rattle.papaya_scheduler.specs.declared.caller.Stands.TheVariants as far
 use Rattle.papaya_scheduler.specs.declared.kind.Kind.{Kind}
 use Rattle.papaya_scheduler.specs.declared.kind.Kind.TheVariants as kind
+use Rattle.papaya_scheduler.proofs.RoomSays.{SaysRoom, reserve_room, sum_room}
 use Rattle.papaya_scheduler.proofs.KeySays.{key_asks, key_refused}
 use Rattle.papaya_scheduler.proofs.Replied.{of_kind}
 use Rattle.papaya_scheduler.proofs.SweepSays.{WalkSays}
@@ -118,27 +120,27 @@ module _ {K V : Type 0} where
   sum_far its by p (counted.Done count) = tt
   sum_far its by p (counted.Refused fault) = tt
 
-  room_comes : (its : Kind) (by : Known) (value : Option V) (more : ℕ) (end : Room (Node K V) Unit) → ComesAs {K} (Reserves more) (outcome_of by its value (of_outcome end))
-  room_comes its by value more room.Goes = tt
-  room_comes its by value more room.Waits = tt
-  room_comes its by value more (room.Gave node) = tt
-  room_comes its by value more (room.Done end) = refl
-  room_comes its by value more (room.Refused fault) = tt
+  room_comes : (its : Kind) (by : Known) (value : Option V) (more : ℕ) (end : Room (Node K V) Unit) → SaysRoom {K} {V} (of_outcome end) → ComesAs {K} (Reserves more) (outcome_of by its value (of_outcome end))
+  room_comes its by value more room.Goes for = tt
+  room_comes its by value more room.Waits for = tt
+  room_comes its by value more (room.Gave node) for = tt
+  room_comes its by value more (room.Done end) for = refl
+  room_comes its by value more (room.Refused fault) for = for
 
-  sum_comes : (its : Kind) (by : Known) (value : Option V) (end : Counted ℕ) → ComesAs {K} Len (outcome_of {K} by its value (of_counting end))
-  sum_comes its by value counted.Goes = tt
-  sum_comes its by value counted.Waits = tt
-  sum_comes its by value (counted.Done count) = refl
-  sum_comes its by value (counted.Refused fault) = tt
+  sum_comes : (its : Kind) (by : Known) (value : Option V) (end : Counted ℕ) → SaysRoom {K} {V} (of_counting end) → ComesAs {K} Len (outcome_of {K} by its value (of_counting end))
+  sum_comes its by value counted.Goes for = tt
+  sum_comes its by value counted.Waits for = tt
+  sum_comes its by value (counted.Done count) for = refl
+  sum_comes its by value (counted.Refused fault) for = for
 
   -- a walk that has come to no pair yet
-  pub walk_comes : (by : Known) (value : Option V) (said : Progress (Node K V)) (stands : Sweeping) → WalkSays said stands → ComesAs {K} Walk (outcome_of by kind.Walks value said)
-  walk_comes by value progress.Goes stands says = tt
-  walk_comes by value progress.Waits stands says = tt
-  walk_comes by value (progress.Gave node) stands says = tt
-  walk_comes by value progress.Ready stands says = refl
-  walk_comes by value (progress.Refused fault) stands says = tt
-  walk_comes by value _ stands says = absurd says
+  pub walk_comes : (by : Known) (value : Option V) (said : Progress (Node K V)) (stands : Sweeping) → WalkSays said stands → SaysRoom said → ComesAs {K} Walk (outcome_of by kind.Walks value said)
+  walk_comes by value progress.Goes stands says for = tt
+  walk_comes by value progress.Waits stands says for = tt
+  walk_comes by value (progress.Gave node) stands says for = tt
+  walk_comes by value progress.Ready stands says for = refl
+  walk_comes by value (progress.Refused fault) stands says for = for
+  walk_comes by value _ stands says for = absurd says
 
   pub walk_far : (by : Known) (said : Progress (Node K V)) (q : Sweep) → q.purpose ≡ Walks → WalkSays said q.stands → ((fault : Fault) → said ≡ progress.Refused fault → ⊥)
       → IsAsFar {K} {V} kind.Walks (far_then by said) (kinds.Sweep q)
@@ -168,6 +170,7 @@ module _ {K V S : Type 0} (same : K → K → Bool) (hash : K → ℕ) (name : �
     pub comes : ComesAs c.call (outcome_of known2 its value said)
     pub far : (x : UnderWay K V K) → (leads map u under).4.next ≡ Some x → IsAsFar its (far_then known2 said) (machine_of x)
     pub asks : (x : UnderWay K V K) → (leads map u under).4.next ≡ Some x → AsksJust known2 x (outcome_of known2 its value said)
+    pub room : (x : UnderWay K V K) → (leads map u under).4.next ≡ Some x → RefusedForRoom (machine_of x)
 
   pub is_called : (u : UnderWay K V K) → s.calls map i ≡ Some u → IsCalled same u c.call
   is_called u under =
@@ -297,6 +300,8 @@ module _ {K V S : Type 0} (same : K → K → Bool) (hash : K → ℕ) (name : �
               (sym (goes_as (leads map (OnKey x) under).1 said (leads map (OnKey x) under).4.next (leads map (OnKey x) under).4.goes_on y goes ∙ did.2))
               (subst (λ (z : Progress (Node K V)). IsAsFar its (far_then known2 z) (kinds.Key did.0)) (sym did.3) (key_far its known2 did.0 did.1));
           asks = λ y goes. key_just said leads y goes;
+          room = λ y goes. subst RefusedForRoom
+              (sym (goes_as (leads map (OnKey x) under).1 said (leads map (OnKey x) under).4.next (leads map (OnKey x) under).4.goes_on y goes ∙ did.2)) tt;
         }
 
   -- one on no key stays so
@@ -305,16 +310,18 @@ module _ {K V S : Type 0} (same : K → K → Bool) (hash : K → ℕ) (name : �
   no_key u under said leads never y goes =
       asks_no_key known2 y (outcome_of known2 its value said) (λ z is. never z.call (sym (goes_as (leads map u under).1 said (leads map u under).4.next (leads map u under).4.goes_on y goes) ∙ ap machine_of is))
 
-  pub room_says : (r : CallForRoom) (under : s.calls map i ≡ Some (ForRoom r)) (more : ℕ) → c.call ≡ Reserves more → (said : Progress (Node K V)) (leads : StepLeads same hash i said s old new)
+  pub room_says : (r : CallForRoom) (under : s.calls map i ≡ Some (ForRoom r)) → RoomInReserving r.reserve.stands → (more : ℕ) → c.call ≡ Reserves more → (said : Progress (Node K V)) (leads : StepLeads same hash i said s old new)
       → Says (ForRoom r) under said leads
-  room_says r under more call_is said leads =
+  room_says r under room more call_is said leads =
       let to = leads map (ForRoom r) under in
+      let for = reserve_room same hash old new to.1 said r.reserve room to.3 in
       let did = to.4.did in record {
         comes = subst (λ (z : Call K V). ComesAs z (outcome_of known2 its value said)) (sym call_is)
-            (subst (λ (z : Progress (Node K V)). ComesAs (Reserves more) (outcome_of known2 its value z)) (sym did.3) (room_comes its known2 value more did.1));
+            (subst (λ (z : Progress (Node K V)). ComesAs (Reserves more) (outcome_of known2 its value z)) (sym did.3) (room_comes its known2 value more did.1 (subst SaysRoom did.3 for.1)));
         far = λ y goes. subst (λ (z : Machine K V K). IsAsFar its (far_then known2 said) z) (sym (goes_as to.1 said to.4.next to.4.goes_on y goes ∙ did.2))
             (subst (λ (z : Progress (Node K V)). IsAsFar its (far_then known2 z) (kinds.Reserve did.0)) (sym did.3) (room_far its known2 did.0 did.1));
         asks = λ y goes. no_key (ForRoom r) under said leads (λ p e. let a = did.2 in cc (a, e)) y goes;
+        room = λ y goes. subst RefusedForRoom (sym (goes_as to.1 said to.4.next to.4.goes_on y goes)) for.0;
       }
 
   pub sum_says : (sum : Sum) (under : s.calls map i ≡ Some (Counting sum)) → c.call ≡ Len → (said : Progress (Node K V)) (leads : StepLeads same hash i said s old new) → Says (Counting sum) under said leads
@@ -322,8 +329,9 @@ module _ {K V S : Type 0} (same : K → K → Bool) (hash : K → ℕ) (name : �
       let to = leads map (Counting sum) under in
       let did = to.4.did in record {
         comes = subst (λ (z : Call K V). ComesAs z (outcome_of known2 its value said)) (sym call_is)
-            (subst (λ (z : Progress (Node K V)). ComesAs Len (outcome_of known2 its value z)) (sym did.3) (sum_comes its known2 value did.1));
+            (subst (λ (z : Progress (Node K V)). ComesAs Len (outcome_of known2 its value z)) (sym did.3) (sum_comes its known2 value did.1 (subst SaysRoom did.3 (sum_room same hash old new to.1 said sum to.3))));
         far = λ y goes. subst (λ (z : Machine K V K). IsAsFar its (far_then known2 said) z) (sym (goes_as to.1 said to.4.next to.4.goes_on y goes ∙ did.2))
             (subst (λ (z : Progress (Node K V)). IsAsFar its (far_then known2 z) (kinds.Count did.0)) (sym did.3) (sum_far its known2 did.0 did.1));
         asks = λ y goes. no_key (Counting sum) under said leads (λ p e. let a = did.2 in cc (a, e)) y goes;
+        room = λ y goes. subst RefusedForRoom (sym (goes_as to.1 said to.4.next to.4.goes_on y goes ∙ did.2)) tt;
       }

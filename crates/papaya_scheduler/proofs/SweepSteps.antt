@@ -18,6 +18,7 @@ use Rattle.papaya_schedules.specs.declared.call.Call.{Call}
 use Rattle.papaya_schedules.specs.declared.call.Call.TheVariants.{Clear, Retain, Walk}
 use Rattle.papaya_schedules.specs.Moment.{UnderWay as CallThere, Moment}
 use Rattle.papaya_schedules.specs.Views.{call_of}
+use Rattle.papaya_late.specs.Faults.{RoomInSweeping}
 use Rattle.papaya_late.specs.FactsSweeps.{SweepingFacts}
 use Rattle.papaya_late.specs.ToldSweeps.{IsRowOfSweep}
 use Rattle.papaya_callers.specs.OverAll.{CallOverAll}
@@ -33,12 +34,13 @@ use Rattle.papaya_executor.proofs.Changed.{standing_is}
 use Rattle.papaya_hands.specs.Calling.{AsksJust}
 use Rattle.papaya_moments.specs.Whole.{ShowsWhole}
 use Rattle.papaya_histories.proofs.NoKey.Sweeps.{SweepsOn, sweeps_on}
-use Rattle.papaya_scheduler.specs.Machines.{IsAsFar, IsFor}
+use Rattle.papaya_scheduler.specs.Machines.{IsAsFar, IsFor, RefusedForRoom}
 use Rattle.papaya_scheduler.specs.Seen.{kind_of}
 use Rattle.papaya_scheduler.specs.Stepping.{ComesAs, far_then, outcome_of}
 use Rattle.papaya_scheduler.specs.declared.caller.Stands.TheVariants as far
 use Rattle.papaya_scheduler.specs.declared.kind.Kind.{Kind}
 use Rattle.papaya_scheduler.specs.declared.kind.Kind.TheVariants as kind
+use Rattle.papaya_scheduler.proofs.RoomSays.{SaysRoom, sweep_room}
 use Rattle.papaya_scheduler.proofs.StepSays.{Says, ended_not, goes_as, here_then, known2, no_key, s2, then_there, together2, walk_comes, walk_far}
 use Rattle.papaya_scheduler.proofs.SweepSays.{IsWalkSaying, ShowsNone, WalkSays, shows_none, walk_says}
 
@@ -63,25 +65,25 @@ module _ {K V : Type 0} (same : K → K → Bool) (s : Scene K V) (map i : ℕ) 
 
 module _ {K V : Type 0} where
   -- a clearing or a retaining, by what it says
-  clear_comes : (by : Known) (value : Option V) (end : Swept (Node K V)) → ShowsNone {K} {V} (of_swept end) → ((word : ℕ) → end ≡ ends.Asks word → ⊥) → ComesAs {K} Clear (outcome_of by kind.Clears value (of_swept end))
-  clear_comes by value ends.Goes shows asks = tt
-  clear_comes by value ends.Waits shows asks = tt
-  clear_comes by value (ends.Gave node) shows asks = tt
-  clear_comes by value ends.Ready shows asks = absurd shows
-  clear_comes by value (ends.Pair word) shows asks = absurd shows
-  clear_comes by value (ends.Asks word) shows asks = absurd (asks word refl)
-  clear_comes by value ends.Done shows asks = refl
-  clear_comes by value (ends.Refused fault) shows asks = tt
+  clear_comes : (by : Known) (value : Option V) (end : Swept (Node K V)) → ShowsNone {K} {V} (of_swept end) → SaysRoom {K} {V} (of_swept end) → ((word : ℕ) → end ≡ ends.Asks word → ⊥) → ComesAs {K} Clear (outcome_of by kind.Clears value (of_swept end))
+  clear_comes by value ends.Goes shows for asks = tt
+  clear_comes by value ends.Waits shows for asks = tt
+  clear_comes by value (ends.Gave node) shows for asks = tt
+  clear_comes by value ends.Ready shows for asks = absurd shows
+  clear_comes by value (ends.Pair word) shows for asks = absurd shows
+  clear_comes by value (ends.Asks word) shows for asks = absurd (asks word refl)
+  clear_comes by value ends.Done shows for asks = refl
+  clear_comes by value (ends.Refused fault) shows for asks = for
 
-  retain_comes : (by : Known) (value : Option V) (end : Swept (Node K V)) → ShowsNone {K} {V} (of_swept end) → ComesAs {K} Retain (outcome_of by kind.Retains value (of_swept end))
-  retain_comes by value ends.Goes shows = tt
-  retain_comes by value ends.Waits shows = tt
-  retain_comes by value (ends.Gave node) shows = tt
-  retain_comes by value ends.Ready shows = absurd shows
-  retain_comes by value (ends.Pair word) shows = absurd shows
-  retain_comes by value (ends.Asks word) shows = refl
-  retain_comes by value ends.Done shows = refl
-  retain_comes by value (ends.Refused fault) shows = tt
+  retain_comes : (by : Known) (value : Option V) (end : Swept (Node K V)) → ShowsNone {K} {V} (of_swept end) → SaysRoom {K} {V} (of_swept end) → ComesAs {K} Retain (outcome_of by kind.Retains value (of_swept end))
+  retain_comes by value ends.Goes shows for = tt
+  retain_comes by value ends.Waits shows for = tt
+  retain_comes by value (ends.Gave node) shows for = tt
+  retain_comes by value ends.Ready shows for = absurd shows
+  retain_comes by value (ends.Pair word) shows for = absurd shows
+  retain_comes by value (ends.Asks word) shows for = refl
+  retain_comes by value ends.Done shows for = refl
+  retain_comes by value (ends.Refused fault) shows for = for
 
   -- how far it is then
   removing_far : (its : Kind) (by : Known) (said : Progress (Node K V)) (q : Sweep) → IsFor its q.purpose → removes q.purpose ≡ true → ShowsNone said
@@ -105,7 +107,8 @@ module _ {K V : Type 0} where
 
 module _ {K V S : Type 0} (same : K → K → Bool) (hash : K → ℕ) (name : ℕ → List ℕ) (m : Moment K V) (known : Known) (s : Scene K V) (old new : Executor K V S) (at_old : IsAt same hash old s)
     (whole : ShowsWhole same name m known s) (map i : ℕ) (c : CallThere K V) (c_is : call_of (name i) m ≡ Some c) (its : Kind) (its_is : kind_of c.call ≡ its) (value : Option V)
-    (o : CallOverAll) (under : s.calls map i ≡ Some (OverAll o)) (said : Progress (Node K V)) (leads : StepLeads same hash i said s old new) (now : IsAsFar its far.Goes (machine_of (OverAll o))) where
+    (o : CallOverAll) (under : s.calls map i ≡ Some (OverAll o)) (said : Progress (Node K V)) (leads : StepLeads same hash i said s old new) (now : IsAsFar its far.Goes (machine_of (OverAll o)))
+    (room : RoomInSweeping o.sweep.stands) where
   abbrev by : Known
   by = known2 same hash name m known s old new at_old whole map i c c_is its its_is value
 
@@ -120,6 +123,12 @@ module _ {K V S : Type 0} (same : K → K → Bool) (hash : K → ℕ) (name : �
 
   machine_is : (leads map (OverAll o) under).1 ≡ kinds.Sweep p2
   machine_is = (leads map (OverAll o) under).4.did.2
+
+  for_room : RefusedForRoom (leads map (OverAll o) under).1 × SaysRoom said
+  for_room = sweep_room same hash old new (leads map (OverAll o) under).1 said o.sweep room (leads map (OverAll o) under).3
+
+  room_then : (y : UnderWay K V K) → (leads map (OverAll o) under).4.next ≡ Some y → RefusedForRoom (machine_of y)
+  room_then y goes = subst RefusedForRoom (sym (goes_as (leads map (OverAll o) under).1 said (leads map (OverAll o) under).4.next (leads map (OverAll o) under).4.goes_on y goes)) for_room.0
 
   said_is : said ≡ of_swept end
   said_is = (leads map (OverAll o) under).4.did.3
@@ -179,9 +188,10 @@ module _ {K V S : Type 0} (same : K → K → Bool) (hash : K → ℕ) (name : �
     comes = subst (λ (z : Call K V). ComesAs z (outcome_of by its value said)) (sym call_is)
         (subst (λ (k : Kind). ComesAs Clear (outcome_of by k value said)) its_clears
         (subst (λ (z : Progress (Node K V)). ComesAs Clear (outcome_of by kind.Clears value z)) (sym said_is)
-        (clear_comes by value end (subst ShowsNone said_is (shows takes)) never)));
+        (clear_comes by value end (subst ShowsNone said_is (shows takes)) (subst SaysRoom said_is for_room.1) never)));
     far = removing takes now.0;
     asks = asks_none;
+    room = room_then;
   }
     where
       its_clears : kind.Clears ≡ its
@@ -204,9 +214,10 @@ module _ {K V S : Type 0} (same : K → K → Bool) (hash : K → ℕ) (name : �
     comes = subst (λ (z : Call K V). ComesAs z (outcome_of by its value said)) (sym call_is)
         (subst (λ (k : Kind). ComesAs Retain (outcome_of by k value said)) its_retains
         (subst (λ (z : Progress (Node K V)). ComesAs Retain (outcome_of by kind.Retains value z)) (sym said_is)
-        (retain_comes by value end (subst ShowsNone said_is (shows takes)))));
+        (retain_comes by value end (subst ShowsNone said_is (shows takes)) (subst SaysRoom said_is for_room.1))));
     far = removing takes now.0;
     asks = asks_none;
+    room = room_then;
   }
     where
       its_retains : kind.Retains ≡ its
@@ -218,11 +229,12 @@ module _ {K V S : Type 0} (same : K → K → Bool) (hash : K → ℕ) (name : �
   pub walk_step_says : c.call ≡ Walk → Its
   walk_step_says call_is = record {
     comes = subst (λ (z : Call K V). ComesAs z (outcome_of by its value said)) (sym call_is)
-        (subst (λ (k : Kind). ComesAs Walk (outcome_of by k value said)) its_walks (walk_comes by value said p2.stands says));
+        (subst (λ (k : Kind). ComesAs Walk (outcome_of by k value said)) its_walks (walk_comes by value said p2.stands says for_room.1));
     far = λ y goes. subst (λ (z : Machine K V K). IsAsFar its (far_then by said) z) (sym (next_is y goes))
         (subst (λ (k : Kind). IsAsFar k (far_then by said) (kinds.Sweep p2)) its_walks
         (walk_far by said p2 (goes_on.0 ∙ walks) says (ended_not (leads map (OverAll o) under).1 said (leads map (OverAll o) under).4.next (leads map (OverAll o) under).4.goes_on y goes)));
     asks = asks_none;
+    room = room_then;
   }
     where
       its_walks : kind.Walks ≡ its

@@ -1,16 +1,14 @@
 -- That whichever event happens comes to what is right for it.
 use Rattle.std.specs.Prelude.{◌≡◌, ◌==◌, ℕ, Bool, true, false, List}
-use Rattle.seize_words.specs.declared.fault.Fault.TheVariants.{Busy}
 use Rattle.papaya_schedules.specs.declared.event.Event.{Event}
 use Rattle.papaya_schedules.specs.declared.event.Event.TheVariants.{Collector, Hash, Choose, Register, Unregister, Enter, Own, Refresh, Flush, DropGuard, ReclaimAll, Close, MakeMap, EndMap, ShowShape, Begin, Step, Go, Replied, OneCall, Next, Stop}
-use Rattle.papaya_schedules.specs.declared.outcome.Outcome.TheVariants.{Refused}
 use Rattle.papaya_schedules.specs.After.{moment}
 use Rattle.papaya_schedules.specs.Entry.{Entry}
 use Rattle.papaya_schedules.specs.Terms.{Terms}
 use Rattle.papaya_rows.specs.Rows.{TakesRetired}
 use Rattle.papaya_scheduler.specs.Handing.{HeldIsTold}
 use Rattle.papaya_scheduler.specs.Played.{IsDue, IsPlayed, Plays, entry_of}
-use Rattle.papaya_scheduler.specs.Stepping.{ComesInCase, may_begin}
+use Rattle.papaya_scheduler.specs.Stepping.{ComesInCase}
 use Rattle.papaya_scheduler.specs.declared.played.Played.{Played}
 use Rattle.papaya_scheduler.specs.declared.scheduler.Scheduler.{Scheduler}
 
@@ -27,8 +25,7 @@ module _ {K V S : Type 0} where
   Asks terms log (DropGuard guard) played p = TakesRetired played.effects.items (moment log)
   Asks terms log (Step caller refuse) played p = ComesInCase terms log (entry_of (Step caller refuse) played)
   Asks terms log (Go caller refuse) played p = ComesInCase terms log (entry_of (Go caller refuse) played)
-  Asks terms log (OneCall guard map call) played p =
-      (may_begin guard map (moment log) ≡ true → played.outcome ≡ Refused Busy → ⊥) × ComesInCase terms log (entry_of (OneCall guard map call) played)
+  Asks terms log (OneCall guard map call) played p = ComesInCase terms log (entry_of (OneCall guard map call) played)
   Asks terms log _ played p = Unit {0}
 
   -- by it a map is made or ends, or everything is reclaimed

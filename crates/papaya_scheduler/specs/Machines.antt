@@ -14,6 +14,7 @@ use Rattle.papaya_sweeps.specs.declared.sweep.Purpose.{Purpose}
 use Rattle.papaya_sweeps.specs.declared.sweep.Purpose.TheVariants.{Walks, Clears, Retains}
 use Rattle.papaya_sweeps.specs.declared.sweep.Sweep.{Sweep}
 use Rattle.papaya_sweeps.specs.declared.sweep.Sweeping.TheVariants as at
+use Rattle.papaya_late.specs.Faults.{RoomInReserving, RoomInSweeping}
 use Rattle.papaya_purposes.specs.Purposes.{IsBefore}
 use Rattle.papaya_schedules.specs.declared.call.Call.{Call}
 use Rattle.papaya_schedules.specs.declared.call.Call.TheVariants.{On, Reserve, Clear, Retain, Len, Walk}
@@ -78,3 +79,9 @@ IsAsFar kind far.Ready machine = ⊥
 IsAsFar kind (far.Asks question) (kinds.Key call) = Unit {0}
 IsAsFar kind (far.Asks question) machine = ⊥
 IsAsFar kind far.Goes machine = Unit {0}
+
+-- what it comes to be refused for, where its call is on no key, is room
+abbrev pub RefusedForRoom : {K V : Type 0} → Machine K V K → Type 0
+RefusedForRoom (kinds.Reserve reserve) = RoomInReserving reserve.stands
+RefusedForRoom (kinds.Sweep sweep) = RoomInSweeping sweep.stands
+RefusedForRoom machine = Unit {0}

@@ -19,7 +19,7 @@ use Rattle.papaya_finishes.specs.Machines.{machine_of}
 use Rattle.papaya_finishes.specs.Maps.{Standing}
 use Rattle.papaya_logged.specs.Shown.{IsShown}
 use Rattle.papaya_scheduler.specs.Handing.{HeldIsTold}
-use Rattle.papaya_scheduler.specs.Machines.{IsAsFar}
+use Rattle.papaya_scheduler.specs.Machines.{IsAsFar, RefusedForRoom}
 use Rattle.papaya_rows.specs.Rows.{TakesRetired, used_as}
 use Rattle.papaya_scheduler.specs.Seen.{is_named, named, named_of, seen, seen_of}
 use Rattle.papaya_scheduler.specs.declared.caller.Caller.{Caller}
@@ -42,9 +42,9 @@ terms_given given = record {
 abbrev pub entry_of : {K V : Type 0} → Event K V → Played V → Entry K V
 entry_of event played = record { event = event; outcome = played.outcome; steps = played.steps; effects = played.effects.items }
 
--- a machine is as far as its caller says
+-- a machine is as far as its caller says, and is refused for nothing else than what such a call may be
 abbrev pub AsFar : {K V : Type 0} → Caller V → Machine K V K → Type 0
-AsFar d machine = IsAsFar d.kind d.stands machine
+AsFar d machine = IsAsFar d.kind d.stands machine × RefusedForRoom machine
 
 -- where this is so of the machine of each caller
 module _ {K V : Type 0} (Far : Caller V → Machine K V K → Type 0) (name : ℕ → List ℕ) (s : Scene K V) (there : Present) where

@@ -15,7 +15,7 @@ use Rattle.papaya_schedules.specs.declared.call.Call.TheVariants.{On}
 use Rattle.papaya_schedules.specs.declared.call.OneKey.{OneKey}
 use Rattle.papaya_schedules.specs.declared.effect.Effect.{Effect}
 use Rattle.papaya_schedules.specs.declared.event.Event.{Event}
-use Rattle.papaya_schedules.specs.declared.event.Event.TheVariants.{OneCall, Next}
+use Rattle.papaya_schedules.specs.declared.event.Event.TheVariants.{Next}
 use Rattle.papaya_schedules.specs.declared.outcome.Outcome.{Outcome}
 use Rattle.papaya_schedules.specs.declared.outcome.Outcome.TheVariants.{Goes, Asks, Waits, Ready, Shows, Answered, Refused}
 use Rattle.papaya_schedules.specs.After.{moment, moments_from}
@@ -28,6 +28,7 @@ use Rattle.papaya_schedules.specs.Moment.{UnderWay as CallThere, Moment}
 use Rattle.papaya_schedules.specs.Steps.{DoesFew, MakesSteps, stands_or, weight}
 use Rattle.papaya_schedules.specs.Terms.{Terms}
 use Rattle.papaya_schedules.specs.Views.{call_of, map_of}
+use Rattle.papaya_late.specs.Faults.{IsRoom}
 use Rattle.papaya_effects.specs.Known.{Known, known}
 use Rattle.papaya_executor.specs.IsAt.{HasCall, IsAt, Scene}
 use Rattle.papaya_executor.specs.Stepping.{has_ended}
@@ -92,16 +93,14 @@ module _ {K V : Type 0} where
   ComesAs call Ready = is_walk call ≡ true
   ComesAs call (Answered a) = is_answer call a ≡ true
   ComesAs (On one) (Refused fault) = IsFaultOn one fault
-  ComesAs call (Refused fault) = Unit {0}
+  ComesAs call (Refused fault) = IsRoom fault
   ComesAs call _ = ⊥
 
-  -- That says: a call waits only where it may, and is refused for memory only where it is short of a growth, and for the length of a table only where it finds none; and one
-  -- on no key is refused for nothing else.
+  -- That says: a call waits only where it may, and is refused for memory only where it is short of a growth, and for the length of a table only where it finds none.
   abbrev pub IsInCase : Terms → CallThere K V → List (Moment K V) → Moment K V → Outcome V → Type 0
   IsInCase terms c moments now Waits = may_wait c now ≡ true
   IsInCase terms c moments now (Refused Memory) = c.is_short ≡ true
   IsInCase terms c moments now (Refused Capacity) = FindsNoTable terms c (now ∷ moments)
-  IsInCase terms c moments now (Refused fault) = (one : OneKey K V) × (c.call ≡ On one)
   IsInCase terms c moments now _ = Unit {0}
 
   -- so it is of the call of an event
@@ -233,17 +232,11 @@ module _ {K V S : Type 0} (same : K → K → Bool) (hash : K → ℕ) where
   -- What is promised of an event by which a call goes on: it comes to what is right, where it does so in its case; it makes as many steps as it may, and does not more.
   pub record PlaysOn (terms : Terms) (log : List (Entry K V)) (e : Entry K V) (p : Scheduler K V S) : Type 0 where
     pub plays : ComesInCase terms log e → Plays same hash terms log e p
-    pub makes : ComesInCase terms log e → MakesSteps e.event (stands_or (acting (caller_of e.event) (at_work e (moment log)))) e.steps e.outcome
+    pub makes : MakesSteps e.event (stands_or (acting (caller_of e.event) (at_work e (moment log)))) e.steps e.outcome
     pub does : DoesFew (caller_of e.event) e.steps e.effects
 
   abbrev pub PlaysOnAt : Event K V → Played V → (old new : Scheduler K V S) → Type 0
   PlaysOnAt event played old new = (terms : Terms) (log : List (Entry K V)) → IsDue same hash terms log event old → PlaysOn terms log (entry_of event played) new
-
-  -- A whole call without a name: so it is if it is not refused as out of turn once it has begun.
-  abbrev pub PlaysWholeAt : (guard map : List ℕ) → Call K V → Played V → (old new : Scheduler K V S) → Type 0
-  PlaysWholeAt guard map call played old new =
-      (terms : Terms) (log : List (Entry K V)) → IsDue same hash terms log (OneCall guard map call) old → (may_begin guard map (moment log) ≡ true → played.outcome ≡ Refused Busy → ⊥)
-      → PlaysOn terms log (entry_of (OneCall guard map call) played) new
 
   -- What is promised of the event by which a walk shows its next pair.
   pub record PlaysNext (terms : Terms) (log : List (Entry K V)) (e : Entry K V) (p : Scheduler K V S) : Type 0 where

@@ -3,7 +3,7 @@ ghost use Rattle.std.specs.Prelude.{◌≡◌, ◌↔◌, ◌<◌, ◌≤◌, tr
 ghost use Rattle.papaya_schedules.specs.declared.event.Event.TheVariants as event;
 ghost use Rattle.papaya_effects.specs.Known.{known};
 ghost use Rattle.papaya_scheduler.specs.Played.{MayPlay};
-ghost use Rattle.papaya_scheduler.specs.Stepping.{IsStepped, MayGo, MayStep, MayWalk, PlaysNextAt, PlaysOnAt, PlaysWholeAt, StandsAt, StepsCome, TakenAs, WalkComes, callers_then, outcome_of};
+ghost use Rattle.papaya_scheduler.specs.Stepping.{IsStepped, MayGo, MayStep, MayWalk, PlaysNextAt, PlaysOnAt, StandsAt, StepsCome, TakenAs, WalkComes, callers_then, outcome_of};
 ghost use Rattle.papaya_scheduler.specs.Telling.{goes_on};
 ghost use Rattle.papaya_scheduler.specs.declared.caller.Caller.{Caller};
 
@@ -183,7 +183,7 @@ impl<K: Eq + Hash + Drop, V: Drop, S: Hashes<K>> Scheduler<K, V, S> {
         call: Call<K, V>,
     ) -> Result<Played<V>, AllocError>
         requires { MayPlay K.eq (S.hash self.old.logged.executor.hasher) (event.OneCall guard map.now call) self.old }
-        ensures plays { IfOk result (λ played. PlaysWholeAt K.eq (S.hash self.old.logged.executor.hasher) guard map.now call played self.old self.new) }
+        ensures plays { IfOk result (λ played. PlaysOnAt K.eq (S.hash self.old.logged.executor.hasher) (event.OneCall guard map.now call) played self.old self.new) }
     {
         let nameless = Token::copy_of(*self.maps.allocator(), b"-")?;
         if self.begins(nameless, guard, map, call)? {

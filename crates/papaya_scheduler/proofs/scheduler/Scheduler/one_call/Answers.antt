@@ -1,5 +1,6 @@
 -- A call without a name begins, and goes on, or does not begin.
 use Rattle.std.proofs.Common.{Bool, false, refl, sym, subst}
+use Rattle.std.proofs.lemmas.Result.{IfOk-weaker}
 use Rattle.seize_words.specs.declared.fault.Fault.TheVariants.{Busy}
 use Rattle.papaya_schedules.specs.After.{moment}
 use Rattle.papaya_schedules.specs.Entry.{nameless}
@@ -8,7 +9,7 @@ use Rattle.papaya_schedules.specs.declared.event.Event.TheVariants.{OneCall}
 use Rattle.papaya_schedules.specs.declared.outcome.Outcome.TheVariants.{Refused}
 use Rattle.papaya_scheduler.specs.Played.{BeginsSo}
 use Rattle.papaya_scheduler.specs.Stepping.{PlaysOn}
-use Rattle.papaya_scheduler.proofs.PlaysWhole.{goes_first, map_there, whole_busy}
+use Rattle.papaya_scheduler.proofs.PlaysWhole.{goes_first, map_there, plays_begun, whole_busy}
 use Rattle.papaya_scheduler.proofs.Rights.{entry_is}
 use Rattle.papaya_scheduler.proofs.scheduler.Scheduler.one_call.Goals as goal
 
@@ -17,7 +18,7 @@ begins-requires g c = let r = c.requires in (r.0, moment r.1, r.2.played)
 
 pub returns-else-branch : goal.returns-else-branch
 returns-else-branch g c = record {
-  plays = λ terms log due never.
+  plays = λ terms log due.
       let hash = g.S.Hashes.hash c.args.self.now.logged.executor.hasher in
       let begun = c.in_ok-begins.ensures.begins terms (moment log) due.played in
       let begun_none = subst (λ (b : Bool). BeginsSo g.K.PartialEq.eq hash terms (moment log) c.in_ok-nameless.nameless c.args.guard c.args.map.now c.args.call b c.args.self.now c.begins.new.self) c.if-branch.false begun in
@@ -36,3 +37,12 @@ take_steps-requires g c =
           (c.in_ok-begins.ensures.begins r.0 (moment r.1) r.2.played)) in
     let first = goes_first g.K.PartialEq.eq hash r.0 (moment r.1) nameless c.args.guard c.args.call (number_of c.args.map.now (moment r.1)) (map_there begun.so) c.begins.new.self (begun.stands refl) in
     record { some = omega; stands = (r.0, _, nameless, begun.stands refl, first.0) }
+
+pub returns-then-branch : goal.returns-then-branch
+returns-then-branch g c =
+    let hash = g.S.Hashes.hash c.args.self.now.logged.executor.hasher in
+    IfOk-weaker c.take_steps.result _ _ (λ played taken. λ terms log due.
+      let begun = subst (λ (b : Bool). BeginsSo g.K.PartialEq.eq hash terms (moment log) nameless c.args.guard c.args.map.now c.args.call b c.args.self.now c.begins.new.self) c.if-branch.true
+            (subst (λ own. BeginsSo g.K.PartialEq.eq hash terms (moment log) own c.args.guard c.args.map.now c.args.call c.in_ok-begins.begins c.args.self.now c.begins.new.self) c.in_ok-nameless.ensures
+            (c.in_ok-begins.ensures.begins terms (moment log) due.played)) in
+      plays_begun g.K.PartialEq.eq hash terms log c.args.guard c.args.map.now c.args.call c.args.self.now c.begins.new.self due begun played c.take_steps.new.self taken) c.take_steps.ensures
