@@ -127,8 +127,10 @@ module _ {K V S : Type 0} (same : K → K → Bool) (hash : K → ℕ) (terms : 
       here_then,
       here.way.2,
       here.way.3,
-      (λ yes. ((its_walk u refl).1, subst (IsWalking 0) (sym to.1) (its_walk u refl).2),
-      λ no. absurd (let a = ap (λ (l : List ℕ). is_same l own) here.named ∙ is_same_refl own in cc (a, no))),
+      (
+        λ yes. ((its_walk u refl).1, subst (IsWalking 0) (sym to.1) (its_walk u refl).2),
+        λ no. absurd (let a = ap (λ (l : List ℕ). is_same l own) here.named ∙ is_same_refl own in cc (a, no)),
+      ),
     )
 
     -- others have other numbers

@@ -1,5 +1,5 @@
 -- The last step of a walk to its next pair: it shows a pair, or has shown all; and the event by which it does.
-use Rattle.std.specs.Prelude.{◌≡◌, ◌+◌, ◌≤◌, ◌&&◌, ℕ, Bool, true, false, not, List, [], ◌++◌, filter, find, map, slice_get, slice_set, sum_by, is_some, Option, Some, None, option_map, if◌then◌else◌}
+use Rattle.std.specs.Prelude.{◌≡◌, ◌+◌, ◌≤◌, ◌&&◌, ℕ, Bool, true, false, not, List, [], ◌++◌, filter, find, map, position, slice_get, slice_set, sum_by, is_some, Option, Some, None, option_map, if◌then◌else◌}
 use Rattle.std.specs.List.{remove}
 use Rattle.std.proofs.Common.{refl, sym, ap, subst, ◌∙◌, arith}
 use Rattle.seize_words.specs.declared.fault.Fault.TheVariants.{Busy}
@@ -29,15 +29,16 @@ use Rattle.papaya_schedules.specs.Views.{call_of}
 use Rattle.papaya_callers.specs.Together.{UnderWay}
 use Rattle.papaya_effects.specs.Known.{Known, known}
 use Rattle.papaya_finishes.specs.Machines.{machine_of}
+use Rattle.papaya_executor.specs.IsAt.{HasCall}
 use Rattle.papaya_executor.specs.Stepping.{has_ended}
 use Rattle.papaya_follows.specs.Calling.{come_to}
-use Rattle.papaya_logged.specs.Calling.{CallGoesOn, step_did}
+use Rattle.papaya_logged.specs.Calling.{CallGoesOn, WalkGoesOn, step_did}
 use Rattle.papaya_logged.specs.Shown.{IsShown}
 use Rattle.papaya_logged.specs.declared.logged.Logged.{Logged}
 use Rattle.papaya_moments.proofs.Calls.{calls_come_to_whole}
 use Rattle.papaya_scheduler.specs.Machines.{IsFor}
 use Rattle.papaya_scheduler.specs.Played.{AsFar, IsDue, StandsAs, StandsFor}
-use Rattle.papaya_scheduler.specs.Seen.{Seen, is_named, ready_place, seen, seen_of}
+use Rattle.papaya_scheduler.specs.Seen.{Seen, is_named, is_ready_there, ready_place, seen, seen_of}
 use Rattle.papaya_scheduler.specs.Stepping.{IsMidWalk, IsStepOf, PlaysNext, ReadyAt, WalkComes, WalksFar, callers_then, outcome_of}
 use Rattle.papaya_scheduler.specs.Telling.{answer_of, number_by, swept}
 use Rattle.papaya_scheduler.specs.declared.caller.Caller.{Caller}
@@ -47,8 +48,9 @@ use Rattle.papaya_scheduler.specs.declared.caller.Stands.TheVariants as far
 use Rattle.papaya_scheduler.specs.declared.kind.Kind.{Kind}
 use Rattle.papaya_scheduler.specs.declared.scheduler.Scheduler.{Scheduler}
 use Rattle.papaya_scheduler.proofs.AfterEffects.{closed_stays, mapped_stays}
-use Rattle.papaya_scheduler.proofs.Here.{HereAs}
+use Rattle.papaya_scheduler.proofs.Here.{Here, HereAs, here_at}
 use Rattle.papaya_rows.proofs.Lists.{changed_at, removed_at}
+use Rattle.papaya_scheduler.proofs.NextBegins.{has_walk, walk_begins}
 use Rattle.papaya_scheduler.proofs.NextOn.{alike, all_did, few_all, follows_all, goes_as_said, here, is_ready, its_place, its_sweep, its_walk, leads_is, last_did, midst_w, saying, shown, then_at, then_next, under_way}
 use Rattle.papaya_scheduler.proofs.NextSays.{NextSays}
 use Rattle.papaya_scheduler.proofs.OneStep.{over_next}
@@ -58,7 +60,7 @@ use Rattle.papaya_scheduler.proofs.RanOn.{maps_named, there_stays}
 use Rattle.papaya_scheduler.proofs.Rights.{entry, in_turn, out_of_turn, plays, quiet}
 use Rattle.papaya_scheduler.proofs.StepSays.{asks_nothing, the}
 use Rattle.papaya_scheduler.proofs.SteppedTo.{going_on, has_gone, none_named}
-use Rattle.papaya_scheduler.proofs.Stopped.{shows_by}
+use Rattle.papaya_scheduler.proofs.Stopped.{ready_parts, shows_by, shows_is}
 
 module _ {K V S : Type 0} (same : K → K → Bool) (hash : K → ℕ) (terms : Terms) (own : List ℕ) (n : ℕ) (w : Moment K V) (p : Scheduler K V S) (stands : StandsAs (WalksFar own n) same hash terms w p)
     (place : ℕ) (at_place : ReadyAt own place p) where
@@ -200,11 +202,30 @@ module _ {K V S : Type 0} (same : K → K → Bool) (hash : K → ℕ) (terms : 
         does = omega arith;
       }
 
+  -- the walk is asked for its next pair
+  module _ (place : ℕ) (ready : Some place ≡ ready_place own old.calls.items.items) where
+    abbrev parts : (Some place ≡ position (is_named own) old.calls.items.items) × (is_ready_there (slice_get old.calls.items.items place) ≡ true)
+    parts = ready_parts same hash terms log old own due.played place ready
+
+    abbrev pub asked_here : Here same hash terms m old due.played own place
+    asked_here = here_at same hash terms m old due.played own place parts.0
+
+    asked_ready : asked_here.caller.stands ≡ far.Ready
+    asked_ready = shows_is asked_here.caller.stands (sym (ap is_ready_there asked_here.at) ∙ parts.1)
+
+    pub next_may : HasCall due.played.scene asked_here.caller.number
+    next_may = has_walk same hash terms m old due.played own place asked_here asked_ready
+
+    pub next_asked : (was_ready : Bool) (new : Logged K V S) → WalkGoesOn same hash due.played.name m due.played.scene asked_here.caller.number was_ready old.logged new
+        → StandsAs (WalksFar own 0) same hash terms m (record old { logged = new })
+    next_asked was_ready new leads = walk_begins same hash terms m old due.played own place asked_here asked_ready was_ready new leads
+
+    pub next_ready : (new : Logged K V S) → ReadyAt own place (record old { logged = new })
+    next_ready new = (parts.0, asked_here.caller, asked_here.at, asked_ready)
+
   -- the walk was asked, has taken steps, and its caller is told
-  module _ (place : ℕ) (ready : Some place ≡ ready_place own old.calls.items.items) (asked : Scheduler K V S) (stands : StandsAs (WalksFar own 0) same hash terms m asked) (at_place : ReadyAt own place asked)
-      (steps : ℕ) (said : Progress (Node K V)) (effects : List Effect) (walked : Scheduler K V S) (comes : WalkComes same hash place steps said [] effects asked walked) (callers : Callers V)
-      (told : (caller : Caller V) → slice_get walked.calls.items.items place ≡ Some caller → callers.items.items ≡ callers_then (known walked.logged.notes) place caller said walked.calls.items.items)
-      (outcome : Outcome V) (comes_to_it : (caller : Caller V) → slice_get walked.calls.items.items place ≡ Some caller → outcome ≡ outcome_of (known walked.logged.notes) caller.kind caller.value said) where
+  module _ (place : ℕ) (asked : Scheduler K V S) (stands : StandsAs (WalksFar own 0) same hash terms m asked) (at_place : ReadyAt own place asked) (steps : ℕ) (said : Progress (Node K V))
+      (effects : List Effect) (walked : Scheduler K V S) (comes : WalkComes same hash place steps said [] effects asked walked) where
     abbrev n : ℕ
     n = comes.1
 
@@ -220,7 +241,7 @@ module _ {K V S : Type 0} (same : K → K → Bool) (hash : K → ℕ) (terms : 
     abbrev midst : IsMidWalk same hash terms own place m n [] mid p
     midst = comes.6 terms m own stands at_place
 
-    abbrev at_it : HereAs (WalksFar own n) same hash terms (midst_w same hash terms own place m n [] mid effects p walked midst) p midst.stands own place
+    abbrev pub at_it : HereAs (WalksFar own n) same hash terms (midst_w same hash terms own place m n [] mid effects p walked midst) p midst.stands own place
     at_it = its_place same hash terms own place m n [] mid effects p walked midst
 
     abbrev did : List Effect
@@ -229,46 +250,49 @@ module _ {K V S : Type 0} (same : K → K → Bool) (hash : K → ℕ) (terms : 
     calls_same : walked.calls.items.items ≡ p.calls.items.items
     calls_same = ap (λ (x : Scheduler K V S). x.calls.items.items) step.rest
 
-    there : slice_get walked.calls.items.items place ≡ Some at_it.caller
+    pub there : slice_get walked.calls.items.items place ≡ Some at_it.caller
     there = ap (λ (l : List (Caller V)). slice_get l place) calls_same ∙ at_it.at
 
-    ends : Ends same hash terms own n (midst_w same hash terms own place m n [] mid effects p walked midst) p midst.stands place midst.ready walked.logged mid effects callers steps said
-    ends = walk_ends same hash terms own n (midst_w same hash terms own place m n [] mid effects p walked midst) p midst.stands place midst.ready walked.logged mid effects callers steps said comes.0
-        (leads_is same hash terms own place m n [] mid effects p walked midst said step)
-        (told at_it.caller there ∙ ap (λ (l : List (Caller V)). callers_then (known walked.logged.notes) place at_it.caller said l) calls_same)
+    module _ (ready : Some place ≡ ready_place own old.calls.items.items) (callers : Callers V)
+        (told : (caller : Caller V) → slice_get walked.calls.items.items place ≡ Some caller → callers.items.items ≡ callers_then (known walked.logged.notes) place caller said walked.calls.items.items)
+        (outcome : Outcome V) (comes_to_it : (caller : Caller V) → slice_get walked.calls.items.items place ≡ Some caller → outcome ≡ outcome_of (known walked.logged.notes) caller.kind caller.value said) where
+      ends : Ends same hash terms own n (midst_w same hash terms own place m n [] mid effects p walked midst) p midst.stands place midst.ready walked.logged mid effects callers steps said
+      ends = walk_ends same hash terms own n (midst_w same hash terms own place m n [] mid effects p walked midst) p midst.stands place midst.ready walked.logged mid effects callers steps said comes.0
+          (leads_is same hash terms own place m n [] mid effects p walked midst said step)
+          (told at_it.caller there ∙ ap (λ (l : List (Caller V)). callers_then (known walked.logged.notes) place at_it.caller said l) calls_same)
 
-    outcome_is : outcome_of (known walked.logged.notes) at_it.caller.kind at_it.caller.value said ≡ outcome
-    outcome_is = sym (comes_to_it at_it.caller there)
+      outcome_is : outcome_of (known walked.logged.notes) at_it.caller.kind at_it.caller.value said ≡ outcome
+      outcome_is = sym (comes_to_it at_it.caller there)
 
-    abbrev then_new : Scheduler K V S
-    then_new = record walked { calls = callers }
+      abbrev then_new : Scheduler K V S
+      then_new = record walked { calls = callers }
 
-    abbrev w : Moment K V
-    w = with_effects (Some own) (option_map (λ x. x.map) (call_of own m)) effects m
+      abbrev w : Moment K V
+      w = with_effects (Some own) (option_map (λ x. x.map) (call_of own m)) effects m
 
-    worked_is : with_effects (Some own) (Some midst.call.map) did m ≡ w
-    worked_is =
-        ap (λ (l : List Effect). with_effects (Some own) (Some midst.call.map) l m) (sym (follows_all same hash terms own place m n [] mid effects p walked midst said step))
-        ∙ ap (λ (o : Option (CallThere K V)). with_effects (Some own) (option_map (λ x. x.map) o) effects m) (sym midst.call_is)
+      worked_is : with_effects (Some own) (Some midst.call.map) did m ≡ w
+      worked_is =
+          ap (λ (l : List Effect). with_effects (Some own) (Some midst.call.map) l m) (sym (follows_all same hash terms own place m n [] mid effects p walked midst said step))
+          ∙ ap (λ (o : Option (CallThere K V)). with_effects (Some own) (option_map (λ x. x.map) o) effects m) (sym midst.call_is)
 
-    stands_told : StandsFor same hash terms (come_to own outcome steps w) then_new
-    stands_told =
-        subst (λ (x : Scheduler K V S). StandsFor same hash terms (come_to own outcome steps w) (record x { calls = callers })) (sym step.rest)
-        (subst (λ (x : Moment K V). StandsFor same hash terms (come_to own outcome steps x) (record p { logged = walked.logged; calls = callers }))
-        (all_did same hash terms own place m n [] mid effects p walked midst said step ∙ worked_is)
-        (subst (λ (o : Outcome V). StandsFor same hash terms (come_to own o steps _) (record p { logged = walked.logged; calls = callers })) outcome_is ends.stands))
+      stands_told : StandsFor same hash terms (come_to own outcome steps w) then_new
+      stands_told =
+          subst (λ (x : Scheduler K V S). StandsFor same hash terms (come_to own outcome steps w) (record x { calls = callers })) (sym step.rest)
+          (subst (λ (x : Moment K V). StandsFor same hash terms (come_to own outcome steps x) (record p { logged = walked.logged; calls = callers }))
+          (all_did same hash terms own place m n [] mid effects p walked midst said step ∙ worked_is)
+          (subst (λ (o : Outcome V). StandsFor same hash terms (come_to own o steps _) (record p { logged = walked.logged; calls = callers })) outcome_is ends.stands))
 
-    is_next : IsNext outcome
-    is_next = subst (λ (o : Outcome V). IsNext o) outcome_is ends.next
+      is_next : IsNext outcome
+      is_next = subst (λ (o : Outcome V). IsNext o) outcome_is ends.next
 
-    pub plays_next : PlaysNext same hash terms log (entry (Next own) outcome steps effects) then_new
-    plays_next =
-        let e = entry (Next own) outcome steps effects in record {
-          plays = plays same hash terms log (Next own) then_new due e refl (in_turn IsNext (shows_now (call_of own m)) outcome (shows_by same hash terms log old own due.played (Some place) ready) is_next)
-              (stands_elsewhere same hash terms (come_to own outcome steps w) then_new stands_told (m.events + 1) m.is_mapped m.is_closed (m.is_alone && is_alone_on e m) w.there (slots_on outcome m.slots)
-              w.sheltered m.remains (sym (mapped_stays (Some own) (option_map (λ x. x.map) (call_of own m)) effects m)) (sym (closed_stays (Some own) (option_map (λ x. x.map) (call_of own m)) effects m)) refl);
-          makes = makes_next own (stands_or (call_of own m)) steps outcome is_next;
-          does = subst (λ (k : ℕ). sum_by weight effects ≤ k) (sym comes.2)
-              (subst (λ (l : List Effect). sum_by weight l ≤ n + 1) (sym (follows_all same hash terms own place m n [] mid effects p walked midst said step))
-              (few_all same hash terms own place m n [] mid effects p walked midst said step));
-        }
+      pub plays_next : PlaysNext same hash terms log (entry (Next own) outcome steps effects) then_new
+      plays_next =
+          let e = entry (Next own) outcome steps effects in record {
+            plays = plays same hash terms log (Next own) then_new due e refl (in_turn IsNext (shows_now (call_of own m)) outcome (shows_by same hash terms log old own due.played (Some place) ready) is_next)
+                (stands_elsewhere same hash terms (come_to own outcome steps w) then_new stands_told (m.events + 1) m.is_mapped m.is_closed (m.is_alone && is_alone_on e m) w.there (slots_on outcome m.slots)
+                w.sheltered m.remains (sym (mapped_stays (Some own) (option_map (λ x. x.map) (call_of own m)) effects m)) (sym (closed_stays (Some own) (option_map (λ x. x.map) (call_of own m)) effects m)) refl);
+            makes = makes_next own (stands_or (call_of own m)) steps outcome is_next;
+            does = subst (λ (k : ℕ). sum_by weight effects ≤ k) (sym comes.2)
+                (subst (λ (l : List Effect). sum_by weight l ≤ n + 1) (sym (follows_all same hash terms own place m n [] mid effects p walked midst said step))
+                (few_all same hash terms own place m n [] mid effects p walked midst said step));
+          }

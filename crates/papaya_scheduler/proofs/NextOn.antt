@@ -192,8 +192,11 @@ module _ {K V S : Type 0} (same : K → K → Bool) (hash : K → ℕ) (terms : 
   module _ (leads_so : CallGoesOn same hash stands.name w stands.scene its.caller.number its.caller.map progress.Goes before after p.logged new) where
     goes_far : (x : UnderWay K V K) → then_next same hash terms own n w p stands place at_place progress.Goes new before after leads_so ≡ Some x → WalksFar own (n + 1) its.caller (machine_of x)
     goes_far x goes = (
-      λ yes. ((its_walk same hash terms own n w p stands place at_place).0, subst (IsWalking (n + 1)) (sym (goes_as_said same hash terms own n w p stands place at_place progress.Goes new before after leads_so x goes))
-          (to.2 ∙ it.walks, inl (to.3.0, further_on {S = S} same hash n stands.scene its.caller.map its.caller.number _ _ its.way.0 its.way.1 (its_walk same hash terms own n w p stands place at_place).1 it.sweep it.over to.0.place to.3.1))),
+      λ yes. (
+        (its_walk same hash terms own n w p stands place at_place).0,
+        subst (IsWalking (n + 1)) (sym (goes_as_said same hash terms own n w p stands place at_place progress.Goes new before after leads_so x goes))
+            (to.2 ∙ it.walks, inl (to.3.0, further_on {S = S} same hash n stands.scene its.caller.map its.caller.number _ _ its.way.0 its.way.1 (its_walk same hash terms own n w p stands place at_place).1 it.sweep it.over to.0.place to.3.1)),
+      ),
       λ no. absurd (let a = ap (λ (l : List ℕ). is_same l own) its.named ∙ is_same_refl own in cc (a, no)),
     )
       where

@@ -224,9 +224,12 @@ module _ {K V S : Type 0} (same : K → K → Bool) (hash : K → ℕ) (terms : 
 
       going : goes_on outcome ≡ true → GoesAt own place p2
       going on =
-          let set = items_on (going_not_ended by d.kind d.value said on) in
-          (at.0 ∙ sym (ap (λ (l : List (Caller V)). position (is_named own) l) set ∙ set_position (is_named own) calls place d gone_on here.at refl), gone_on,
-          ap (λ (l : List (Caller V)). slice_get l place) set ∙ set_get calls place d gone_on here.at, far_goes by d.kind d.value said on)
+          let set = items_on (going_not_ended by d.kind d.value said on) in (
+            at.0 ∙ sym (ap (λ (l : List (Caller V)). position (is_named own) l) set ∙ set_position (is_named own) calls place d gone_on here.at refl),
+            gone_on,
+            ap (λ (l : List (Caller V)). slice_get l place) set ∙ set_get calls place d gone_on here.at,
+            far_goes by d.kind d.value said on,
+          )
 
       module _ (never : outcome ≡ Refused Busy → ⊥) (counted : ℕ) where
         abbrev told : Moment K V
@@ -251,9 +254,9 @@ module _ {K V S : Type 0} (same : K → K → Bool) (hash : K → ℕ) (terms : 
 
                 of : (has_ended said ≡ true) ⊎ (has_ended said ≡ false) → AsksJust by x outcome
                 of (inl over) = absurd (
-                  let no = none_named AsFar AsFar own (λ x apart machine is. is) same hash terms m p stands place here said new leads (over_next (leads d.map here.way.0 here.way.1).1 said then_next (leads d.map here.way.0 here.way.1).4.goes_on over) n j x is in
-                  let a = apart_back own (stands.name j) no in cc (a, named_so)
-                )
+                    let no = none_named AsFar AsFar own (λ x apart machine is. is) same hash terms m p stands place here said new leads (over_next (leads d.map here.way.0 here.way.1).1 said then_next (leads d.map here.way.0 here.way.1).4.goes_on over) n j x is in
+                    let a = apart_back own (stands.name j) no in cc (a, named_so)
+                    )
                 of (inr on) =
                     let more = goes_next (leads d.map here.way.0 here.way.1).1 said then_next (leads d.map here.way.0 here.way.1).4.goes_on on in
                     subst (λ (y : UnderWay K V K). AsksJust by y outcome) (sym (its more.0 (here_then AsFar AsFar own (λ x apart machine is. is) same hash terms m p stands place here said new leads ∙ more.1))) (says.asks more.0 more.1)

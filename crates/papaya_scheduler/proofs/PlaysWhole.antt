@@ -134,9 +134,12 @@ module _ {K V S : Type 0} (same : K → K → Bool) (hash : K → ℕ) (terms : 
       by None e so = absurd (cc e)
       by (Some number) e so =
           let it = first_there same hash terms m own guard call number p so in
-          let named_so : is_named own it.0 ≡ true = ap (λ (l : List ℕ). is_same l own) it.3 ∙ is_same_refl own in
-          (subst (λ (l : List (Caller V)). Some 0 ≡ position (is_named own) l) (sym it.2) (first_position (is_named own) it.0 it.1 named_so), it.0,
-          ap (λ (l : List (Caller V)). slice_get l 0) it.2, it.4)
+          let named_so : is_named own it.0 ≡ true = ap (λ (l : List ℕ). is_same l own) it.3 ∙ is_same_refl own in (
+            subst (λ (l : List (Caller V)). Some 0 ≡ position (is_named own) l) (sym it.2) (first_position (is_named own) it.0 it.1 named_so),
+            it.0,
+            ap (λ (l : List (Caller V)). slice_get l 0) it.2,
+            it.4,
+          )
 
 -- where it may begin, the map is there, and so has a number
 pub map_there : {K V : Type 0} {m : Moment K V} {guard name : List ℕ} → true ≡ may_begin guard name m → is_some (number_of name m) ≡ true
@@ -172,4 +175,3 @@ module _ {K V S : Type 0} (same : K → K → Bool) (hash : K → ℕ) (terms : 
 
   pub plays_begun : PlaysOn same hash terms log (entry_of (OneCall guard name call) played) new
   plays_begun = plays_whole same hash terms log guard name call old mid due begins played.steps played.outcome played.effects.items new first.0 goes_here (come.1 terms m2 nameless (begins.stands refl) first) come.0
-

@@ -110,7 +110,7 @@ module _ {K V S : Type 0} (Far Then : Caller V → Machine K V K → Type 0) (ow
   stand_then t st = by (cases_eq t.number d.map)
     where
       moved : MachineStepsAmong V same same p.logged.executor.batch_size p.logged.executor.roots slot_of s.world s.maps s.calls s.makers s.enders d.map (leads d.map u under).0 i new.executor.memory.memory u
-            (leads d.map u under).1 said
+          (leads d.map u under).1 said
       moved = (leads d.map u under).4
 
       by : (t.number ≡ d.map) ⊎ (t.number ≢ d.map) → (standing : Standing K) × (s2.maps t.number ≡ Some standing)

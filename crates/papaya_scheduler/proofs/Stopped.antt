@@ -56,7 +56,7 @@ shows_seen (Asking question) = refl
 shows_seen Told = refl
 shows_seen IsReady = refl
 
-shows_is : (how : HowFar) → shows how ≡ true → how ≡ far.Ready
+pub shows_is : (how : HowFar) → shows how ≡ true → how ≡ far.Ready
 shows_is far.Ready e = refl
 shows_is far.Goes e = absurd (cc e)
 shows_is (far.Asks question) e = absurd (cc e)

@@ -95,15 +95,15 @@ module _ {K V : Type 0} where
 
       of : (x : Progress (Node K V)) → ShowsNone x → ((about : Option ℕ) → x ≡ progress.Asks about → (word : ℕ) × (q.stands ≡ at.Asks word) × (q.purpose ≡ Retains))
           → IsAsFar {K} {V} its (far_then by x) (kinds.Sweep q)
-      of progress.Goes sh as = (for, λ walks. absurd (on walks))
-      of progress.Waits sh as = (for, λ walks. absurd (on walks))
-      of (progress.Gave node) sh as = (for, λ walks. absurd (on walks))
-      of (progress.Unstored node) sh as = (for, λ walks. absurd (on walks))
-      of (progress.Asks about) sh as = (for, as about refl)
-      of progress.Ready sh as = absurd sh
-      of (progress.Pair word) sh as = absurd sh
-      of (progress.Done answer) sh as = (for, λ walks. absurd (on walks))
-      of (progress.Refused fault) sh as = (for, λ walks. absurd (on walks))
+      of progress.Goes sh told = (for, λ walks. absurd (on walks))
+      of progress.Waits sh told = (for, λ walks. absurd (on walks))
+      of (progress.Gave node) sh told = (for, λ walks. absurd (on walks))
+      of (progress.Unstored node) sh told = (for, λ walks. absurd (on walks))
+      of (progress.Asks about) sh told = (for, told about refl)
+      of progress.Ready sh told = absurd sh
+      of (progress.Pair word) sh told = absurd sh
+      of (progress.Done answer) sh told = (for, λ walks. absurd (on walks))
+      of (progress.Refused fault) sh told = (for, λ walks. absurd (on walks))
 
 module _ {K V S : Type 0} (same : K → K → Bool) (hash : K → ℕ) (name : ℕ → List ℕ) (m : Moment K V) (known : Known) (s : Scene K V) (old new : Executor K V S) (at_old : IsAt same hash old s)
     (whole : ShowsWhole same name m known s) (map i : ℕ) (c : CallThere K V) (c_is : call_of (name i) m ≡ Some c) (its : Kind) (its_is : kind_of c.call ≡ its) (value : Option V)
@@ -168,8 +168,8 @@ module _ {K V S : Type 0} (same : K → K → Bool) (hash : K → ℕ) (name : �
       let here = here_then same hash name m known s old new at_old whole map i c c_is its its_is value (OverAll o) under said leads y goes ∙ ap Some x.1 in
       let there = then_there same hash name m known s old new at_old whole map i c c_is its its_is value (OverAll o) under said leads y goes in
       let retains = retains_at same (s2 same hash name m known s old new at_old whole map i c c_is its its_is value (OverAll o) under said leads) map i there.0
-            (together2 same hash name m known s old new at_old whole map i c c_is its its_is value (OverAll o) under said leads y goes) x.0 here says.1
-            (ap (λ (q : Sweep). q.stands) x.2 ∙ says.3) in
+      (together2 same hash name m known s old new at_old whole map i c c_is its its_is value (OverAll o) under said leads y goes) x.0 here says.1
+      (ap (λ (q : Sweep). q.stands) x.2 ∙ says.3) in
       (says.1, says.3, ap (λ (q : Sweep). q.purpose) (sym x.2) ∙ retains)
 
   -- a clearing never asks: it would be under way on, and for a retaining

@@ -123,12 +123,7 @@ impl<K: Eq + Hash + Drop, V: Drop, S: Hashes<K>> Scheduler<K, V, S> {
     }
 
     /// The call at this place takes at most so many steps, while it goes on. The first growth that it asks for may be refused.
-    fn take_steps(
-        &mut self,
-        place: usize,
-        most: u64,
-        refuse: bool,
-    ) -> Result<Played<V>, AllocError>
+    fn take_steps(&mut self, place: usize, most: u64, refuse: bool) -> Result<Played<V>, AllocError>
         requires some { 1 ≤ most }
         requires stands { StandsAt K.eq (S.hash self.old.logged.executor.hasher) place self.old }
         ensures { IfOk result (λ played. TakenAs K.eq (S.hash self.old.logged.executor.hasher) place most played self.old self.new) }

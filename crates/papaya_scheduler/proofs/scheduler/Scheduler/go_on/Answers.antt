@@ -7,9 +7,13 @@ use Rattle.papaya_scheduler.proofs.StepsOn.{goes_further, may_step, stops_at, ta
 use Rattle.papaya_scheduler.proofs.scheduler.Scheduler.go_on.Goals as goal
 
 pub loop-steps-init : goal.loop-steps-init
-loop-steps-init g c =
-    (0, refl, refl, λ terms m own stands at. midst_first g.K.PartialEq.eq (g.S.Hashes.hash c.args.self.now.logged.executor.hasher) terms own c.args.place m c.args.self.now stands at c.args.effects.now.items
-    (sym (append-nil c.args.effects.now.items)))
+loop-steps-init g c = (
+  0,
+  refl,
+  refl,
+  λ terms m own stands at. midst_first g.K.PartialEq.eq (g.S.Hashes.hash c.args.self.now.logged.executor.hasher) terms own c.args.place m c.args.self.now stands at c.args.effects.now.items
+      (sym (append-nil c.args.effects.now.items)),
+)
 
 pub take_step-outcome-requires : goal.take_step-outcome-requires
 take_step-outcome-requires g c =
@@ -29,13 +33,16 @@ returns-then-not-goes_on g c =
 
 pub loop-steps-preserved : goal.loop-steps-preserved
 loop-steps-preserved g c =
-    let i = c.loop-steps.invariant in
-    (i.0 + 1, ap (λ k. k + 1) i.1, c.take_step-outcome.ensures.hasher ∙ i.2,
-    (goes_further g.K.PartialEq.eq (g.S.Hashes.hash c.args.self.now.logged.executor.hasher) c.args.place c.args.self.now c.args.effects.now.items i.0 c.loop-steps.effects.items c.take_step-outcome.new.effects.items
-    c.loop-steps.self c.take_step-outcome.new.self c.in_ok-outcome.outcome i.3
-    (subst (λ h. IsStepped g.K.PartialEq.eq (g.S.Hashes.hash h) c.args.place c.in_ok-outcome.outcome c.loop-steps.effects.items c.take_step-outcome.new.effects.items c.loop-steps.self c.take_step-outcome.new.self) i.2
-    c.in_ok-outcome.ensures.stepped)
-    (sym c.goes_on.ensures ∙ c.if-not-goes_on.false)))
+    let i = c.loop-steps.invariant in (
+      i.0 + 1,
+      ap (λ k. k + 1) i.1,
+      c.take_step-outcome.ensures.hasher ∙ i.2,
+      (goes_further g.K.PartialEq.eq (g.S.Hashes.hash c.args.self.now.logged.executor.hasher) c.args.place c.args.self.now c.args.effects.now.items i.0 c.loop-steps.effects.items c.take_step-outcome.new.effects.items
+          c.loop-steps.self c.take_step-outcome.new.self c.in_ok-outcome.outcome i.3
+          (subst (λ h. IsStepped g.K.PartialEq.eq (g.S.Hashes.hash h) c.args.place c.in_ok-outcome.outcome c.loop-steps.effects.items c.take_step-outcome.new.effects.items c.loop-steps.self c.take_step-outcome.new.self) i.2
+          c.in_ok-outcome.ensures.stepped)
+          (sym c.goes_on.ensures ∙ c.if-not-goes_on.false)),
+    )
 
 pub take_step-outcome-2-requires : goal.take_step-outcome-2-requires
 take_step-outcome-2-requires g c =
