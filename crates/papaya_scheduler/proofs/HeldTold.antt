@@ -33,9 +33,9 @@ use Rattle.papaya_scheduler.specs.Seen.{Seen, is_named, seen, seen_of}
 use Rattle.papaya_scheduler.specs.declared.caller.Caller.{Caller}
 use Rattle.papaya_scheduler.specs.declared.scheduler.Scheduler.{Scheduler}
 use Rattle.papaya_scheduler.proofs.Dropped.{lives_on}
-use Rattle.papaya_scheduler.proofs.Facts.{row_rests}
-use Rattle.papaya_scheduler.proofs.Holders.{held, works_there}
-use Rattle.papaya_scheduler.proofs.Lists.{all_so, both_some, found_alike, found_has, found_once}
+use Rattle.papaya_rows.proofs.Facts.{row_rests}
+use Rattle.papaya_rows.proofs.Holders.{held, works_there}
+use Rattle.papaya_rows.proofs.Lists.{all_so, both_some, found_alike, found_has, found_once}
 use Rattle.papaya_scheduler.proofs.RanOn.{both_true}
 
 -- one that is found passes a test where some passes it

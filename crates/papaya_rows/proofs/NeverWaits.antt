@@ -32,9 +32,9 @@ use Rattle.papaya_executor.proofs.Forgotten.{as_step}
 use Rattle.papaya_logged.specs.OnSlots.{has_come}
 use Rattle.papaya_logged.specs.Shown.{IsShown}
 use Rattle.papaya_logged.specs.declared.logged.Logged.{Logged}
-use Rattle.papaya_scheduler.specs.Rows.{RowRan}
-use Rattle.papaya_scheduler.proofs.Holders.{good, held}
-use Rattle.papaya_scheduler.proofs.Ran.{Led, begun_way, goes_led, step_led}
+use Rattle.papaya_rows.specs.Rows.{RowRan}
+use Rattle.papaya_rows.proofs.Holders.{good, held}
+use Rattle.papaya_rows.proofs.Ran.{Led, begun_way, goes_led, step_led}
 
 -- a row that settles, by itself or as it leaves
 abbrev pub IsSettling : SlotRow → Type 0

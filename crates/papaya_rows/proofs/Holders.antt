@@ -26,7 +26,7 @@ use Rattle.papaya_executor.specs.declared.row.SlotUse.TheVariants as used
 use Rattle.papaya_executor.specs.declared.worker.TheConstants.{SLOTS}
 use Rattle.papaya_executor.proofs.Fresh.{caller_in, resting}
 use Rattle.papaya_executor.proofs.Uses.{reached, taken_now}
-use Rattle.papaya_scheduler.proofs.Facts.{row_rests}
+use Rattle.papaya_rows.proofs.Facts.{row_rests}
 
 -- a row that settles on a slot is on that one alone
 its_slot : (slot t : ℕ) (row : Row) → SettlesOn slot row → IsRowOn t row → t ≡ slot
