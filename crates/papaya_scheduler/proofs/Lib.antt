@@ -21,7 +21,6 @@ mod Dropped
 mod Refreshes
 mod Drops
 mod Flushes
-mod HeldTold
 mod Begun
 mod RepliedSo
 mod BegunSo
