@@ -139,7 +139,7 @@ module _ {K V S : Type 0} (same : K → K → Bool) (hash : K → ℕ) (i : ℕ)
   OnTheWay e = Led same hash i s e × ((c : Register) × (work_of e i ≡ Some (OnSlot (rows.Registers c))) × OnIt e c)
 
   ended_come : (e : Executor K V S) (said : RowTold (Node K V)) → Ends e said → has_come said ≡ true
-  ended_come e said (inl (fault, is, why)) = ap (λ (x : RowTold (Node K V)). has_come x) is
+  ended_come e said (inl (fault, is, why, asked)) = ap (λ (x : RowTold (Node K V)). has_come x) is
   ended_come e said (inr (slot, is, first)) = ap (λ (x : RowTold (Node K V)). has_come x) is
 
   goes_taking : (n : ℕ) (old new : Executor K V S) → GoesOnFor i n old new → OnTheWay old → OnTheWay new
@@ -162,7 +162,7 @@ module _ {K V S : Type 0} (same : K → K → Bool) (hash : K → ℕ) (i : ℕ)
       by leads.0 leads.2 (step_led same hash i s mid new said (rows.Registers on.1.0) on.1.1 steps on.0) (next mid new on.1.0 on.1.2 leads.0 said leads.1)
     where
       over : (after : SlotRow) → Ends new said → row_on {K = K} {V = V} after said ≡ None
-      over after (inl (fault, is, why)) = ap (λ (x : RowTold (Node K V)). row_on {K = K} {V = V} after x) is
+      over after (inl (fault, is, why, asked)) = ap (λ (x : RowTold (Node K V)). row_on {K = K} {V = V} after x) is
       over after (inr (slot, is, first)) = ap (λ (x : RowTold (Node K V)). row_on {K = K} {V = V} after x) is
 
       by : (after : SlotRow) → work_of new i ≡ row_on after said → Led same hash i s new → Next new after said → Led same hash i s new × Ends new said × (work_of new i ≡ None)
