@@ -49,10 +49,10 @@ kind_walks kind.Retains purpose for is = absurd (cc (for, is))
 kind_walks _ purpose for is = absurd for
 
 -- it has no place behind it, or none at all
-asked_walks : {K V : Type 0} (sweep : Sweep) → sweep.purpose ≡ Walks → sweep.stands ≡ at.Ready → IsWalking {K} {V} 0 (kinds.Sweep (next_at sweep.stands sweep))
-asked_walks {K} {V} sweep walks ready = subst (λ (x : Sweeping). IsWalking {K} {V} 0 (kinds.Sweep (next_at x sweep))) (sym ready) (by (nat_lt sweep.place sweep.table.len))
+asked_walks : (K V : Type 0) (sweep : Sweep) → sweep.purpose ≡ Walks → sweep.stands ≡ at.Ready → IsWalking {K = K} {V = V} 0 (kinds.Sweep (next_at sweep.stands sweep))
+asked_walks K V sweep walks ready = subst (λ (x : Sweeping). IsWalking {K = K} {V = V} 0 (kinds.Sweep (next_at x sweep))) (sym ready) (by (nat_lt sweep.place sweep.table.len))
   where
-    by : (b : Bool) → IsWalking {K} {V} 0 (kinds.Sweep (record sweep { stands = if b then at.Words else at.Over }))
+    by : (b : Bool) → IsWalking {K = K} {V = V} 0 (kinds.Sweep (record sweep { stands = if b then at.Words else at.Over }))
     by true = (walks, inl (refl, omega arith))
     by false = (walks, inr (refl, refl))
 
@@ -90,7 +90,7 @@ module _ {K V S : Type 0} (same : K → K → Bool) (hash : K → ℕ) (terms : 
   its_walk (OverAll o) is =
       let far_is = subst (λ (v : UnderWay K V K). IsAsFar d.kind far.Ready (machine_of v)) is as_ready in
       let walks = walks_at same s d.map i st.0 (stands.shown.is_at.together.makings.standing.each d.map st.0 st.1) o (under ∙ ap Some is) far_is.1 in
-      (ap (λ (x : Sweeping). sweep_is_ready x) far_is.1, kind_walks d.kind o.sweep.purpose far_is.0 walks, asked_walks o.sweep walks far_is.1)
+      (ap (λ (x : Sweeping). sweep_is_ready x) far_is.1, kind_walks d.kind o.sweep.purpose far_is.0 walks, asked_walks K V o.sweep walks far_is.1)
   its_walk (OnKey x) is = absurd (subst (λ (v : UnderWay K V K). IsAsFar d.kind far.Ready (machine_of v)) is as_ready)
   its_walk (ForRoom r) is = absurd (subst (λ (v : UnderWay K V K). IsAsFar d.kind far.Ready (machine_of v)) is as_ready)
   its_walk (Counting sum) is = absurd (subst (λ (v : UnderWay K V K). IsAsFar d.kind far.Ready (machine_of v)) is as_ready)
@@ -128,14 +128,14 @@ module _ {K V S : Type 0} (same : K → K → Bool) (hash : K → ℕ) (terms : 
       here.way.2,
       here.way.3,
       (
-        λ yes. ((its_walk u refl).1, subst (IsWalking 0) (sym to.1) (its_walk u refl).2),
-        λ no. absurd (let a = ap (λ (l : List ℕ). is_same l own) here.named ∙ is_same_refl own in cc (a, no)),
+        λ holds. ((its_walk u refl).1, subst (IsWalking 0) (sym to.1) (its_walk u refl).2),
+        λ fails. absurd (let a = ap (λ (l : List ℕ). is_same l own) here.named ∙ is_same_refl own in cc (a, fails)),
       ),
     )
 
     -- others have other numbers
     still : (x : Caller V) → is_named own x ≡ false → IsUnderWay stands.name s p.there x → IsUnderWayAs (WalksFar own 0) stands.name then_at p.there x
-    still x other way = (way.0, there_then x.map x.number ne ∙ way.1, way.2, way.3, (λ yes. absurd (cc (other, yes)), λ no. way.4))
+    still x other way = (way.0, there_then x.map x.number ne ∙ way.1, way.2, way.3, (λ holds. absurd (cc (other, holds)), λ fails. way.4))
       where
         ne : x.number ≢ i
         ne e = let a = subst (λ (y : List ℕ). is_same y own ≡ false) (sym way.2 ∙ ap stands.name e ∙ name_is) other in let b = is_same_refl own in cc (a, b)

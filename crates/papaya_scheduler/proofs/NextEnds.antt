@@ -38,7 +38,7 @@ use Rattle.papaya_logged.specs.declared.logged.Logged.{Logged}
 use Rattle.papaya_moments.proofs.Calls.{calls_come_to_whole}
 use Rattle.papaya_scheduler.specs.Machines.{IsFor}
 use Rattle.papaya_scheduler.specs.Played.{AsFar, IsDue, StandsAs, StandsFor}
-use Rattle.papaya_scheduler.specs.Seen.{Seen, is_named, is_ready_there, ready_place, seen, seen_of}
+use Rattle.papaya_scheduler.specs.Seen.{Seen, is_named, is_ready as is_ready_there, ready_place, seen, seen_of}
 use Rattle.papaya_scheduler.specs.Stepping.{IsMidWalk, IsStepOf, PlaysNext, ReadyAt, WalkComes, WalksFar, callers_then, outcome_of}
 use Rattle.papaya_scheduler.specs.Telling.{answer_of, number_by, swept}
 use Rattle.papaya_scheduler.specs.declared.caller.Caller.{Caller}
@@ -85,19 +85,19 @@ module _ {K V S : Type 0} (same : K → K → Bool) (hash : K → ℕ) (terms : 
     by = known new.notes
 
     abbrev w2 : Moment K V
-    w2 = with_effects (Some own) (Some d.map) (step_did d.number d.map p.logged new) w
+    w2 = with_effects (Some own) (Some d.map) (step_did same hash stands.name w stands.scene d.number d.map p.logged new) w
 
     abbrev p2 : Scheduler K V S
     p2 = record p { logged = new; calls = callers }
 
     -- it shows a pair, and is ready
-    shows_pair : (word : ℕ) → Leads (progress.Pair word) new before after → callers.items.items ≡ callers_then by place d (progress.Pair word) calls
+    shows_pair : (word : ℕ) → Leads (progress.Pair word) new before after → callers.items.items ≡ callers_then {K = K} by place d (progress.Pair word) calls
         → StandsFor same hash terms (come_to own (Shows (number_by by word)) counted w2) p2
     shows_pair word leads_so items =
         going_on (WalksFar own n) AsFar own others same hash terms w p stands place its (progress.Pair word) new (leads_so its.way.0 its.way.1).0
-        (come_to own (Shows (number_by by word)) counted w2) shown_told (there_stays (Some own) (Some d.map) (step_did d.number d.map p.logged new) w)
-        (mapped_stays (Some own) (Some d.map) (step_did d.number d.map p.logged new) w) (closed_stays (Some own) (Some d.map) (step_did d.number d.map p.logged new) w)
-        (maps_named (Some own) (Some d.map) (step_did d.number d.map p.logged new) w) more.0 more.1 far.Ready d.value as_far listed callers items
+        (come_to own (Shows (number_by by word)) counted w2) shown_told (there_stays (Some own) (Some d.map) (step_did same hash stands.name w stands.scene d.number d.map p.logged new) w)
+        (mapped_stays (Some own) (Some d.map) (step_did same hash stands.name w stands.scene d.number d.map p.logged new) w) (closed_stays (Some own) (Some d.map) (step_did same hash stands.name w stands.scene d.number d.map p.logged new) w)
+        (maps_named (Some own) (Some d.map) (step_did same hash stands.name w stands.scene d.number d.map p.logged new) w) more.0 more.1 far.Ready d.value as_far listed callers items
       where
         more : (x : UnderWay K V K) × (then_next same hash terms own n w p stands place at_place (progress.Pair word) new before after leads_so ≡ Some x)
         more = under_way same hash terms own n w p stands place at_place (progress.Pair word) new before after leads_so refl
@@ -133,13 +133,13 @@ module _ {K V S : Type 0} (same : K → K → Bool) (hash : K → ℕ) (terms : 
             }
 
     -- it has shown all, and is under way no more
-    shows_none : Leads (progress.Done answers.Swept) new before after → callers.items.items ≡ callers_then by place d (progress.Done answers.Swept) calls
+    shows_none : Leads (progress.Done answers.Swept) new before after → callers.items.items ≡ callers_then {K = K} by place d (progress.Done answers.Swept) calls
         → StandsFor same hash terms (come_to own (Answered (answer_of by d.kind d.value answers.Swept)) counted w2) p2
     shows_none leads_so items =
         has_gone (WalksFar own n) AsFar own others same hash terms w p stands place its (progress.Done answers.Swept) new (leads_so its.way.0 its.way.1).0
-        (come_to own answer counted w2) shown_told (there_stays (Some own) (Some d.map) (step_did d.number d.map p.logged new) w)
-        (mapped_stays (Some own) (Some d.map) (step_did d.number d.map p.logged new) w) (closed_stays (Some own) (Some d.map) (step_did d.number d.map p.logged new) w)
-        (maps_named (Some own) (Some d.map) (step_did d.number d.map p.logged new) w) over listed callers items
+        (come_to own answer counted w2) shown_told (there_stays (Some own) (Some d.map) (step_did same hash stands.name w stands.scene d.number d.map p.logged new) w)
+        (mapped_stays (Some own) (Some d.map) (step_did same hash stands.name w stands.scene d.number d.map p.logged new) w) (closed_stays (Some own) (Some d.map) (step_did same hash stands.name w stands.scene d.number d.map p.logged new) w)
+        (maps_named (Some own) (Some d.map) (step_did same hash stands.name w stands.scene d.number d.map p.logged new) w) over listed callers items
       where
         answer : Outcome V
         answer = Answered (answer_of by d.kind d.value answers.Swept)
@@ -164,9 +164,9 @@ module _ {K V S : Type 0} (same : K → K → Bool) (hash : K → ℕ) (terms : 
             }
 
     -- what it comes to
-    record Ends (said : Progress (Node K V)) : Type 0 where
-      pub next : IsNext (outcome_of by d.kind d.value said)
-      pub stands : StandsFor same hash terms (come_to own (outcome_of by d.kind d.value said) counted w2) p2
+    pub record Ends (said : Progress (Node K V)) : Type 0 where
+      pub is_next : IsNext (outcome_of by d.kind d.value said)
+      pub stands_told : StandsFor same hash terms (come_to own (outcome_of by d.kind d.value said) counted w2) p2
 
     pub walk_ends : (said : Progress (Node K V)) → (said ≡ progress.Goes → ⊥) → Leads said new before after → callers.items.items ≡ callers_then by place d said calls → Ends said
     walk_ends said never leads_so items =
@@ -174,16 +174,16 @@ module _ {K V S : Type 0} (same : K → K → Bool) (hash : K → ℕ) (terms : 
       where
         of : (x : Progress (Node K V)) → (x ≡ progress.Goes → ⊥) → Leads x new before after → callers.items.items ≡ callers_then by place d x calls → (after_it : Sweep)
             → NextSays (its_sweep same hash terms own n w p stands place at_place).sweep x after_it → Ends x
-        of progress.Goes no l it after_it so = absurd (no refl)
-        of (progress.Pair word) no l it after_it so = record { next = tt; stands = shows_pair word l it }
-        of (progress.Done answers.Swept) no l it after_it so = record {
-          next = subst (λ (k : Kind). IsNext {V} (Answered (swept k))) (sym (its_walk same hash terms own n w p stands place at_place).0) tt;
-          stands = shows_none l it;
+        of progress.Goes fails l it after_it so = absurd (fails refl)
+        of (progress.Pair word) fails l it after_it so = record { is_next = tt; stands_told = shows_pair word l it }
+        of (progress.Done answers.Swept) fails l it after_it so = record {
+          is_next = subst (λ (k : Kind). IsNext {V = V} (Answered (swept k))) (sym (its_walk same hash terms own n w p stands place at_place).0) tt;
+          stands_told = shows_none l it;
         }
-        of _ no l it after_it so = absurd so
+        of _ fails l it after_it so = absurd so
 
-module _ {K V : Type 0} where
-  makes_next : (own : List ℕ) (stand : Stands) (steps : ℕ) (o : Outcome V) → IsNext o → MakesSteps {K} {V} (Next own) stand steps o
+module _ (K V : Type 0) where
+  makes_next : (own : List ℕ) (stand : Stands) (steps : ℕ) (o : Outcome V) → IsNext o → MakesSteps {K = K} {V = V} (Next own) stand steps o
   makes_next own stand steps (Shows pair) is = tt
   makes_next own stand steps (Answered Absent) is = tt
   makes_next own stand steps _ is = absurd is
@@ -280,10 +280,10 @@ module _ {K V S : Type 0} (same : K → K → Bool) (hash : K → ℕ) (terms : 
           subst (λ (x : Scheduler K V S). StandsFor same hash terms (come_to own outcome steps w) (record x { calls = callers })) (sym step.rest)
           (subst (λ (x : Moment K V). StandsFor same hash terms (come_to own outcome steps x) (record p { logged = walked.logged; calls = callers }))
           (all_did same hash terms own place m n [] mid effects p walked midst said step ∙ worked_is)
-          (subst (λ (o : Outcome V). StandsFor same hash terms (come_to own o steps _) (record p { logged = walked.logged; calls = callers })) outcome_is ends.stands))
+          (subst (λ (o : Outcome V). StandsFor same hash terms (come_to own o steps _) (record p { logged = walked.logged; calls = callers })) outcome_is ends.stands_told))
 
       is_next : IsNext outcome
-      is_next = subst (λ (o : Outcome V). IsNext o) outcome_is ends.next
+      is_next = subst (λ (o : Outcome V). IsNext o) outcome_is ends.is_next
 
       pub plays_next : PlaysNext same hash terms log (entry (Next own) outcome steps effects) then_new
       plays_next =
@@ -291,7 +291,7 @@ module _ {K V S : Type 0} (same : K → K → Bool) (hash : K → ℕ) (terms : 
             plays = plays same hash terms log (Next own) then_new due e refl (in_turn IsNext (shows_now (call_of own m)) outcome (shows_by same hash terms log old own due.played (Some place) ready) is_next)
                 (stands_elsewhere same hash terms (come_to own outcome steps w) then_new stands_told (m.events + 1) m.is_mapped m.is_closed (m.is_alone && is_alone_on e m) w.there (slots_on outcome m.slots)
                 w.sheltered m.remains (sym (mapped_stays (Some own) (option_map (λ x. x.map) (call_of own m)) effects m)) (sym (closed_stays (Some own) (option_map (λ x. x.map) (call_of own m)) effects m)) refl);
-            makes = makes_next own (stands_or (call_of own m)) steps outcome is_next;
+            makes = makes_next K V own (stands_or (call_of own m)) steps outcome is_next;
             does = subst (λ (k : ℕ). sum_by weight effects ≤ k) (sym comes.2)
                 (subst (λ (l : List Effect). sum_by weight l ≤ n + 1) (sym (follows_all same hash terms own place m n [] mid effects p walked midst said step))
                 (few_all same hash terms own place m n [] mid effects p walked midst said step));

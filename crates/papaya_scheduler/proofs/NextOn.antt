@@ -1,5 +1,5 @@
 -- The steps of a walk to its next pair: what each says, and that the walk goes on over the places of its table.
-use Rattle.std.specs.Prelude.{◌≡◌, ◌≢◌, ◌<◌, ◌⊎◌, ◌≤◌, ◌+◌, ℕ, Bool, true, false, List, [], ◌++◌, map, slice_get, sum_by, Option, Some, None}
+use Rattle.std.specs.Prelude.{◌≡◌, ◌≢◌, ◌<◌, ◌⊎◌, ◌≤◌, ◌+◌, ◌^◌, ℕ, Bool, true, false, List, [], ◌++◌, map, slice_get, sum_by, Option, Some, None}
 use Rattle.std.proofs.Common.{refl, sym, ap, subst, ◌∙◌, inl, inr, arith}
 use Rattle.std.proofs.lemmas.List.{append_assoc}
 use Rattle.papaya_tables.specs.declared.node.Node.{Node}
@@ -154,7 +154,7 @@ module _ {K V S : Type 0} (same : K → K → Bool) (hash : K → ℕ) (terms : 
     leads = (leads_so here.way.0 here.way.1).0
 
     abbrev pub did : List Effect
-    did = step_did d.number d.map p.logged new
+    did = step_did same hash stands.name w stands.scene d.number d.map p.logged new
 
     abbrev pub w2 : Moment K V
     w2 = with_effects (Some own) (Some d.map) did w
@@ -192,12 +192,12 @@ module _ {K V S : Type 0} (same : K → K → Bool) (hash : K → ℕ) (terms : 
   module _ (leads_so : CallGoesOn same hash stands.name w stands.scene its.caller.number its.caller.map progress.Goes before after p.logged new) where
     goes_far : (x : UnderWay K V K) → then_next same hash terms own n w p stands place at_place progress.Goes new before after leads_so ≡ Some x → WalksFar own (n + 1) its.caller (machine_of x)
     goes_far x goes = (
-      λ yes. (
+      λ holds. (
         (its_walk same hash terms own n w p stands place at_place).0,
         subst (IsWalking (n + 1)) (sym (goes_as_said same hash terms own n w p stands place at_place progress.Goes new before after leads_so x goes))
             (to.2 ∙ it.walks, inl (to.3.0, further_on {S = S} same hash n stands.scene its.caller.map its.caller.number _ _ its.way.0 its.way.1 (its_walk same hash terms own n w p stands place at_place).1 it.sweep it.over to.0.place to.3.1)),
       ),
-      λ no. absurd (let a = ap (λ (l : List ℕ). is_same l own) its.named ∙ is_same_refl own in cc (a, no)),
+      λ fails. absurd (let a = ap (λ (l : List ℕ). is_same l own) its.named ∙ is_same_refl own in cc (a, fails)),
     )
       where
         it : Its same hash terms own n w p stands place at_place
@@ -206,11 +206,11 @@ module _ {K V S : Type 0} (same : K → K → Bool) (hash : K → ℕ) (terms : 
         to : (swept : Sweep) × (((leads_so its.way.0 its.way.1).0 its.caller.map its.way.0 its.way.1).1 ≡ kinds.Sweep swept) × (swept.purpose ≡ it.sweep.purpose) × NextSays it.sweep progress.Goes swept
         to = saying same hash terms own n w p stands place at_place progress.Goes new before after leads_so
 
-    pub walk_goes : StandsAs (WalksFar own (n + 1)) same hash terms (with_effects (Some own) (Some its.caller.map) (step_did its.caller.number its.caller.map p.logged new) w) (record p { logged = new })
+    pub walk_goes : StandsAs (WalksFar own (n + 1)) same hash terms (with_effects (Some own) (Some its.caller.map) (step_did same hash stands.name w stands.scene its.caller.number its.caller.map p.logged new) w) (record p { logged = new })
     walk_goes =
         let more = under_way same hash terms own n w p stands place at_place progress.Goes new before after leads_so refl in
-        let did = step_did its.caller.number its.caller.map p.logged new in
-        going_on (WalksFar own n) (WalksFar own (n + 1)) own (λ x apart machine is. (λ yes. absurd (cc (apart, yes)), is.1)) same hash terms w p stands place its progress.Goes new (leads_so its.way.0 its.way.1).0
+        let did = step_did same hash stands.name w stands.scene its.caller.number its.caller.map p.logged new in
+        going_on (WalksFar own n) (WalksFar own (n + 1)) own (λ x apart machine is. (λ holds. absurd (cc (apart, holds)), is.1)) same hash terms w p stands place its progress.Goes new (leads_so its.way.0 its.way.1).0
         (with_effects (Some own) (Some its.caller.map) did w) (shown same hash terms own n w p stands place at_place progress.Goes new before after leads_so) (there_stays (Some own) (Some its.caller.map) did w)
         (mapped_stays (Some own) (Some its.caller.map) did w) (closed_stays (Some own) (Some its.caller.map) did w) (maps_named (Some own) (Some its.caller.map) did w) more.0 more.1 its.caller.stands its.caller.value
         (goes_far more.0 more.1)
@@ -245,7 +245,7 @@ module _ {K V S : Type 0} (same : K → K → Bool) (hash : K → ℕ) (terms : 
         (step.leads midst.stands.name midst_w midst.stands.scene midst.stands.shown)
 
     abbrev pub last_did : List Effect
-    last_did = step_did its_place.caller.number its_place.caller.map p.logged new.logged
+    last_did = step_did same hash midst.stands.name midst_w midst.stands.scene its_place.caller.number its_place.caller.map p.logged new.logged
 
     pub all_did : with_effects (Some own) (Some its_place.caller.map) last_did midst_w ≡ with_effects (Some own) (Some c.map) (midst.did ++ last_did) m
     all_did = ap (λ (x : ℕ). with_effects (Some own) (Some x) last_did midst_w) same_map ∙ sym (effects_after (Some own) (Some c.map) midst.did last_did m)
@@ -289,3 +289,7 @@ module _ {K V S : Type 0} (same : K → K → Bool) (hash : K → ℕ) (terms : 
 
     pub mid_few : n ≤ 2 ^ 48
     mid_few = few_steps same hash terms own n w p midst.stands place midst.ready
+
+-- another state of the executor, in place of the one that it came to
+pub logged_on : {K V S : Type 0} (p first : Scheduler K V S) (new : Logged K V S) → p ≡ record first { logged = p.logged } → record p { logged = new } ≡ record first { logged = new }
+logged_on {K} {V} {S} p first new is = ap (λ (x : Scheduler K V S). record x { logged = new }) is

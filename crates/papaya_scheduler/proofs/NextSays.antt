@@ -1,5 +1,5 @@
 -- What a step of a walk says that was asked for its next pair: it goes on to the next place, shows a pair, or has shown all.
-use Rattle.std.specs.Prelude.{◌≡◌, ◌<◌, ◌+◌, ◌*◌, ◌%◌, ◌^◌, ◌==◌, ◌&&◌, ℕ, nat_lt, Bool, true, false, Ok, Err, if◌then◌else◌}
+use Rattle.std.specs.Prelude.{◌≡◌, ◌<◌, ◌≤◌, ◌+◌, ◌*◌, ◌%◌, ◌^◌, ◌==◌, ◌&&◌, ℕ, nat_lt, Bool, true, false, Ok, Err, if◌then◌else◌}
 use Rattle.std.proofs.Common.{refl, sym, ap, subst, arith}
 use Rattle.seize_words.specs.Mem.{Mem, Gives, value_at}
 use Rattle.seize_words.specs.Op.{Out, Load, Found, Stored, Exchanged, Made, Taken, Roomed}
@@ -51,17 +51,17 @@ module _ (K V : Type 0) (q : Sweep) (walks : q.purpose ≡ Walks) where
     further_so = by (nat_lt (past q).place q.table.len) (removes q.purpose && q.met) (keeps_all q.met)
       where
         by : (b c : Bool) → c ≡ false → So (swept (telling (standing (past q) (if b then at.Words else (if c then at.Follows else at.Over)))))
-        by true c no = (refl, refl, omega (arith, place, fits))
-        by false true no = absurd (cc no)
-        by false false no = (refl, tt)
+        by true c fails = (refl, refl, omega (arith, place, fits))
+        by false true fails = absurd (cc fails)
+        by false false fails = (refl, tt)
 
     seen_so : (word : ℕ) → So (swept (seen q word))
     seen_so word = by (removes q.purpose && has_mark word COPYING) (block_in word == 0) q.purpose (keeps_all (has_mark word COPYING)) walks
       where
         by : (a z : Bool) (x : Purpose) → a ≡ false → x ≡ Walks → So (swept (if a then telling (further (record q { met = true })) else (if z then telling (further q) else at_pair x q word)))
-        by true z x no is = absurd (cc no)
-        by false true x no is = further_so
-        by false false x no is = subst (λ (y : Purpose). So (swept (at_pair y q word))) (sym is) (refl, refl)
+        by true z x fails is = absurd (cc fails)
+        by false true x fails is = further_so
+        by false false x fails is = subst (λ (y : Purpose). So (swept (at_pair y q word))) (sym is) (refl, refl)
 
     found_so : (m n : Mem (Node K V)) (out : Out (Node K V)) (end : Machine K V K × Progress (Node K V)) → Gives m (Load (at_place q.table q.place)) out
         → Ends (value_at n) (then_as swept (word_found q out)) end → So end

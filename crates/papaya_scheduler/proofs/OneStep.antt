@@ -132,9 +132,9 @@ module _ {K V : Type 0} where
   over_next machine (progress.Refused fault) after is over = is
   over_next machine _ after is over = absurd (cc over)
 
-  ended_cases : (b : Bool) → (b ≡ true) ⊎ (b ≡ false)
-  ended_cases true = inl refl
-  ended_cases false = inr refl
+ended_cases : (b : Bool) → (b ≡ true) ⊎ (b ≡ false)
+ended_cases true = inl refl
+ended_cases false = inr refl
 
 module _ {K V S : Type 0} (same : K → K → Bool) (hash : K → ℕ) (terms : Terms) (m : Moment K V) (p : Scheduler K V S) (stands : StandsFor same hash terms m p) (own : List ℕ) (place : ℕ)
     (at : GoesAt own place p) (said : Progress (Node K V)) (new : Logged K V S) (before after : List Effect) where
@@ -161,7 +161,7 @@ module _ {K V S : Type 0} (same : K → K → Bool) (hash : K → ℕ) (terms : 
     leads = (leads_so here.way.0 here.way.1).0
 
     abbrev did : List Effect
-    did = step_did d.number d.map p.logged new
+    did = step_did same hash stands.name m stands.scene d.number d.map p.logged new
 
     abbrev w : Moment K V
     w = with_effects (Some own) (Some d.map) did m

@@ -35,7 +35,7 @@ module _ {K V S : Type 0} (same : K → K → Bool) (hash : K → ℕ) (terms : 
   no_call stands none = there_is same hash terms m p stands own None (sym none)
 
   -- a refusal as out of turn leaves all calls as they were, but for steps that are none
-  steps_none : (c : CallThere K V) → comes_to {K} {V} (Refused Busy) (record c { steps = c.steps + 0 }) ≡ c
+  steps_none : (c : CallThere K V) → comes_to {K = K} {V = V} (Refused Busy) (record c { steps = c.steps + 0 }) ≡ c
   steps_none c = let zero : c.steps + 0 ≡ c.steps = omega arith in ap (λ (n : ℕ). record c { steps = n }) zero
 
   calls_same : (calls : List (CallThere K V)) → map (λ c. if is_same c.caller own then comes_to (Refused Busy) (record c { steps = c.steps + 0 }) else c) calls ≡ calls
@@ -43,7 +43,7 @@ module _ {K V S : Type 0} (same : K → K → Bool) (hash : K → ℕ) (terms : 
   calls_same (c ∷ calls) = ap (λ (x : CallThere K V). x ∷ map (λ c. if is_same c.caller own then comes_to (Refused Busy) (record c { steps = c.steps + 0 }) else c) calls) (one (is_same c.caller own))
       ∙ ap (λ (l : List (CallThere K V)). c ∷ l) (calls_same calls)
     where
-      one : (b : Bool) → (if b then comes_to {K} {V} (Refused Busy) (record c { steps = c.steps + 0 }) else c) ≡ c
+      one : (b : Bool) → (if b then comes_to {K = K} {V = V} (Refused Busy) (record c { steps = c.steps + 0 }) else c) ≡ c
       one true = steps_none c
       one false = refl
 
@@ -93,7 +93,7 @@ module _ {K V S : Type 0} (same : K → K → Bool) (hash : K → ℕ) (terms : 
           let e = quiet (Step own refuse) (Asks question) in record {
             plays = λ within. plays same hash terms log (Step own refuse) p due e refl (in_turn (λ o. GoesOn terms log e) (is_some (call_of own m)) (Asks question) in_place asks_right)
                 (stands_on same hash terms (come_to own (Asks question) 0 m) p (asks_again same hash terms m p stands own place here 0 question is) (m.events + 1) (m.is_alone && is_alone_on e m) m.slots m.sheltered);
-            makes = subst (λ (x : Stands). MakesSteps {K} {V} (Step own refuse) x 0 (Asks question)) (sym stands_or_is) refl;
+            makes = subst (λ (x : Stands). MakesSteps {K = K} {V = V} (Step own refuse) x 0 (Asks question)) (sym stands_or_is) refl;
             does = omega arith;
           }
 
@@ -102,7 +102,7 @@ module _ {K V S : Type 0} (same : K → K → Bool) (hash : K → ℕ) (terms : 
           let e = quiet (Go own refuse) (Asks question) in record {
             plays = λ within. plays same hash terms log (Go own refuse) p due e refl (in_turn (λ o. GoesOn terms log e) (is_some (call_of own m)) (Asks question) in_place asks_right)
                 (stands_on same hash terms (come_to own (Asks question) 0 m) p (asks_again same hash terms m p stands own place here 0 question is) (m.events + 1) (m.is_alone && is_alone_on e m) m.slots m.sheltered);
-            makes = subst (λ (x : Stands). MakesSteps {K} {V} (Go own refuse) x 0 (Asks question)) (sym stands_or_is) refl;
+            makes = subst (λ (x : Stands). MakesSteps {K = K} {V = V} (Go own refuse) x 0 (Asks question)) (sym stands_or_is) refl;
             does = omega arith;
           }
 
@@ -123,7 +123,7 @@ module _ {K V S : Type 0} (same : K → K → Bool) (hash : K → ℕ) (terms : 
           let e = quiet (Step own refuse) Ready in record {
             plays = λ within. plays same hash terms log (Step own refuse) p due e refl (in_turn (λ o. GoesOn terms log e) (is_some (call_of own m)) Ready in_place ready_right)
                 (stands_on same hash terms (come_to own Ready 0 m) p (ready_again same hash terms m p stands own place here 0 is) (m.events + 1) (m.is_alone && is_alone_on e m) m.slots m.sheltered);
-            makes = subst (λ (x : Stands). MakesSteps {K} {V} (Step own refuse) x 0 (Ready {V})) (sym stands_or_ready) refl;
+            makes = subst (λ (x : Stands). MakesSteps {K = K} {V = V} (Step own refuse) x 0 Ready) (sym stands_or_ready) refl;
             does = omega arith;
           }
 
@@ -132,6 +132,6 @@ module _ {K V S : Type 0} (same : K → K → Bool) (hash : K → ℕ) (terms : 
           let e = quiet (Go own refuse) Ready in record {
             plays = λ within. plays same hash terms log (Go own refuse) p due e refl (in_turn (λ o. GoesOn terms log e) (is_some (call_of own m)) Ready in_place ready_right)
                 (stands_on same hash terms (come_to own Ready 0 m) p (ready_again same hash terms m p stands own place here 0 is) (m.events + 1) (m.is_alone && is_alone_on e m) m.slots m.sheltered);
-            makes = subst (λ (x : Stands). MakesSteps {K} {V} (Go own refuse) x 0 (Ready {V})) (sym stands_or_ready) refl;
+            makes = subst (λ (x : Stands). MakesSteps {K = K} {V = V} (Go own refuse) x 0 Ready) (sym stands_or_ready) refl;
             does = omega arith;
           }

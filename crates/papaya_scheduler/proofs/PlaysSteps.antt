@@ -130,7 +130,7 @@ module _ {K V S : Type 0} (same : K → K → Bool) (hash : K → ℕ) (terms : 
       let e = entry (Step own refuse) outcome steps effects in record {
         plays = λ within. plays same hash terms log (Step own refuse) new due e refl (in_turn (λ o. GoesOn terms log e) (is_some (call_of own m)) outcome (in_place same hash terms log m own old stands place placed goes steps outcome effects new comes) (goes_right same hash terms log m own old stands place placed goes steps outcome effects new comes within))
             (stands_then same hash terms log m own old stands place placed goes steps outcome effects new comes within (m.events + 1) m.is_mapped m.is_closed (m.is_alone && is_alone_on e m) (slots_on outcome m.slots) m.remains refl refl);
-        makes = makes_one {K} {V} own refuse (stands_or (call_of own m)) (stand_is same hash terms log m own old stands place placed goes steps outcome effects new comes) steps one outcome (never_busy same hash terms log m own old stands place placed goes steps outcome effects new comes);
+        makes = makes_one K V own refuse (stands_or (call_of own m)) (stand_is same hash terms log m own old stands place placed goes steps outcome effects new comes) steps one outcome (never_busy same hash terms log m own old stands place placed goes steps outcome effects new comes);
         does = few_steps same hash terms log m own old stands place placed goes steps outcome effects new comes;
       }
 
@@ -140,6 +140,6 @@ module _ {K V S : Type 0} (same : K → K → Bool) (hash : K → ℕ) (terms : 
       let e = entry (Go own refuse) outcome steps effects in record {
         plays = λ within. plays same hash terms log (Go own refuse) new due e refl (in_turn (λ o. GoesOn terms log e) (is_some (call_of own m)) outcome (in_place same hash terms log m own old stands place placed goes steps outcome effects new comes) (goes_right same hash terms log m own old stands place placed goes steps outcome effects new comes within))
             (stands_then same hash terms log m own old stands place placed goes steps outcome effects new comes within (m.events + 1) m.is_mapped m.is_closed (m.is_alone && is_alone_on e m) (slots_on outcome m.slots) m.remains refl refl);
-        makes = makes_many {K} {V} own refuse (stands_or (call_of own m)) (stand_is same hash terms log m own old stands place placed goes steps outcome effects new comes) steps outcome takes (never_busy same hash terms log m own old stands place placed goes steps outcome effects new comes);
+        makes = makes_many K V own refuse (stands_or (call_of own m)) (stand_is same hash terms log m own old stands place placed goes steps outcome effects new comes) steps outcome takes (never_busy same hash terms log m own old stands place placed goes steps outcome effects new comes);
         does = few_steps same hash terms log m own old stands place placed goes steps outcome effects new comes;
       }

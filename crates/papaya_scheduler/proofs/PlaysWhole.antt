@@ -1,5 +1,5 @@
 -- The event by which a call without a name begins, and goes on.
-use Rattle.std.specs.Prelude.{◌≡◌, ◌+◌, ◌&&◌, ℕ, Bool, true, false, List, [], ◌∷◌, is_some, map, position, slice_get, option_map, Option, Some, None, if◌then◌else◌}
+use Rattle.std.specs.Prelude.{◌≡◌, ◌+◌, ◌&&◌, ℕ, Bool, true, false, List, [], ◌∷◌, is_none, is_some, map, position, slice_get, option_map, Option, Some, None, if◌then◌else◌}
 use Rattle.std.proofs.Common.{refl, sym, ap, subst, ◌∙◌, arith}
 use Rattle.seize_words.specs.declared.fault.Fault.TheVariants.{Busy}
 use Rattle.papaya_runs.specs.Same.{is_same}
@@ -15,6 +15,7 @@ use Rattle.papaya_schedules.specs.Coming.{Progresses}
 use Rattle.papaya_schedules.specs.Effects.{with_effects}
 use Rattle.papaya_schedules.specs.Entry.{ByCall, Entry, IfCall, is_busy, nameless}
 use Rattle.papaya_schedules.specs.InTurn.{GoesOn}
+use Rattle.papaya_schedules.specs.InUse.{is_living}
 use Rattle.papaya_schedules.specs.Moment.{MapThere, Moment}
 use Rattle.papaya_schedules.specs.Steps.{stands_or}
 use Rattle.papaya_schedules.specs.Terms.{Terms}
@@ -142,8 +143,8 @@ module _ {K V S : Type 0} (same : K → K → Bool) (hash : K → ℕ) (terms : 
           )
 
 -- where it may begin, the map is there, and so has a number
-pub map_there : {K V : Type 0} {m : Moment K V} {guard name : List ℕ} → true ≡ may_begin guard name m → is_some (number_of name m) ≡ true
-map_there {K} {V} {m} {guard} {name} is = mapped (map_of name m) (third _ _ (is_some (map_of name m)) (sym is))
+pub map_there : {K V : Type 0} (m : Moment K V) (guard name : List ℕ) → true ≡ may_begin guard name m → is_some (number_of name m) ≡ true
+map_there m guard name is = mapped (map_of name m) (third (is_none (call_of nameless m)) (is_living guard m.there) (is_some (map_of name m)) (sym is))
   where
     third : (a b c : Bool) → (a && b && c) ≡ true → c ≡ true
     third true true c e = e
@@ -162,7 +163,7 @@ module _ {K V S : Type 0} (same : K → K → Bool) (hash : K → ℕ) (terms : 
   m2 = with_call nameless guard call (number_of name (moment log)) (moment log)
 
   first : GoesAt nameless 0 mid
-  first = goes_first same hash terms (moment log) nameless guard call (number_of name (moment log)) (map_there {m = moment log} {guard = guard} {name = name} begins.so) mid (begins.stands refl)
+  first = goes_first same hash terms (moment log) nameless guard call (number_of name (moment log)) (map_there (moment log) guard name begins.so) mid (begins.stands refl)
 
   abbrev here : Here same hash terms m2 mid (begins.stands refl) nameless 0
   here = here_at same hash terms m2 mid (begins.stands refl) nameless 0 first.0

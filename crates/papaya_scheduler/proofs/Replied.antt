@@ -167,7 +167,7 @@ goes_far kind question (kinds.Key call) told is = tt
 goes_far kind question (kinds.Reserve c) told is = tt
 goes_far kind question (kinds.Count c) told is = tt
 goes_far kind question (kinds.Sweep c) told is =
-    (subst (IsFor kind) (sym (told_purpose c.stands c told)) is.0, λ walks. absurd (let a = is.3 in let b = sym (told_purpose c.stands c told) ∙ walks in cc (a, b)))
+    (subst (IsFor kind) (sym (told_purpose c.stands c told)) is.0, λ walks. absurd (let a = is.1.2 in let b = sym (told_purpose c.stands c told) ∙ walks in cc (a, b)))
 
 module _ {K V S : Type 0} (same : K → K → Bool) (hash : K → ℕ) (terms : Terms) (log : List (Entry K V)) (p : Scheduler K V S) (own : List ℕ) (reply : Reply V)
     (due : IsDue same hash terms log (Replied own reply) p) where

@@ -1,5 +1,5 @@
 -- An event of steps of a call comes to what is right, where it does so in its case, and makes as many steps as it may.
-use Rattle.std.specs.Prelude.{◌≡◌, ℕ, Bool, true, List}
+use Rattle.std.specs.Prelude.{◌≡◌, ◌⊎◌, ℕ, Bool, true, List}
 use Rattle.std.proofs.Common.{refl, sym, ap, subst, ◌∙◌, arith, inl, inr}
 use Rattle.seize_words.specs.declared.fault.Fault.{Fault}
 use Rattle.seize_words.specs.declared.fault.Fault.TheVariants.{Busy, Capacity, Memory, RemoveNothing}
@@ -19,7 +19,7 @@ use Rattle.papaya_scheduler.specs.declared.caller.Stands.TheVariants as far
 
 module _ {K V : Type 0} where
   -- a call on one key is refused as out of turn never, and for removing nothing only where it computes
-  faults_of : (call : Call K V) (fault : Fault) → ComesAs {K} {V} call (Refused fault) → (fault ≡ Memory) ⊎ (fault ≡ Capacity) ⊎ ((fault ≡ RemoveNothing) × (is_compute call ≡ true))
+  faults_of : (call : Call K V) (fault : Fault) → ComesAs {K = K} {V = V} call (Refused fault) → (fault ≡ Memory) ⊎ (fault ≡ Capacity) ⊎ ((fault ≡ RemoveNothing) × (is_compute call ≡ true))
   faults_of (On one) fault comes = comes
   faults_of (Reserve more) fault (inl memory) = inl memory
   faults_of (Reserve more) fault (inr capacity) = inr (inl capacity)
@@ -32,7 +32,7 @@ module _ {K V : Type 0} where
   faults_of Walk fault (inl memory) = inl memory
   faults_of Walk fault (inr capacity) = inr (inl capacity)
 
-  other_fault : (call : Call K V) (fault : Fault) → ComesAs {K} {V} call (Refused fault) → (fault ≡ Memory → ⊥) → (fault ≡ Capacity → ⊥) → (fault ≡ RemoveNothing) × (is_compute call ≡ true)
+  other_fault : (call : Call K V) (fault : Fault) → ComesAs {K = K} {V = V} call (Refused fault) → (fault ≡ Memory → ⊥) → (fault ≡ Capacity → ⊥) → (fault ≡ RemoveNothing) × (is_compute call ≡ true)
   other_fault call fault comes no_memory no_capacity = by (faults_of call fault comes)
     where
       by : (fault ≡ Memory) ⊎ (fault ≡ Capacity) ⊎ ((fault ≡ RemoveNothing) × (is_compute call ≡ true)) → (fault ≡ RemoveNothing) × (is_compute call ≡ true)
@@ -64,32 +64,32 @@ module _ {K V : Type 0} where
     progresses (Asking question) is o may = absurd (cc is)
     progresses IsReady is o may = absurd (cc is)
 
-  -- how many steps: one,
-  module _ (own : List ℕ) (refuse : Bool) where
-    pub makes_one : (stand : Stands) → far_of stand ≡ far.Goes → (steps : ℕ) → steps ≡ 1 → (o : Outcome V) → (o ≡ Refused Busy → ⊥) → MakesSteps {K} {V} (Step own refuse) stand steps o
-    makes_one stand is steps one o never = subst (λ (n : ℕ). MakesSteps {K} {V} (Step own refuse) stand n o) (sym one) (of stand is o never)
-      where
-        of : (x : Stands) → far_of x ≡ far.Goes → (y : Outcome V) → (y ≡ Refused Busy → ⊥) → MakesSteps {K} {V} (Step own refuse) x 1 y
-        of x far_is (Refused Busy) no = absurd (no refl)
-        of (Asking question) far_is y no = absurd (cc far_is)
-        of IsReady far_is y no = absurd (cc far_is)
-        of Told far_is y no = omega arith
-        of Going far_is (Asks question) no = omega arith
-        of Going far_is Waits no = omega arith
-        of Going far_is Ready no = omega arith
-        of Going far_is y no = refl
-
-    -- or all that it may
-    pub makes_many : (stand : Stands) → far_of stand ≡ far.Goes → (steps : ℕ) (o : Outcome V) → TakesUpTo most_steps steps o → (o ≡ Refused Busy → ⊥) → MakesSteps {K} {V} (Go own refuse) stand steps o
-    makes_many stand is steps (Refused Busy) takes never = absurd (never refl)
-    makes_many (Asking question) is steps o takes never = absurd (cc is)
-    makes_many IsReady is steps o takes never = absurd (cc is)
-    makes_many Going is steps Goes takes never = takes.2 refl
-    makes_many Told is steps Goes takes never = takes.2 refl
-    makes_many Going is steps o takes never = takes.1
-    makes_many Told is steps o takes never = takes.1
-
   pub makes_whole : (guard map : List ℕ) (call : Call K V) (stand : Stands) (steps : ℕ) (o : Outcome V) → TakesUpTo most_steps steps o → (o ≡ Refused Busy → ⊥) → MakesSteps (OneCall guard map call) stand steps o
   makes_whole guard map call stand steps (Refused Busy) takes never = absurd (never refl)
   makes_whole guard map call stand steps Goes takes never = (takes.0, takes.2 refl)
   makes_whole guard map call stand steps o takes never = (takes.0, takes.1)
+
+-- how many steps: one,
+module _ (K V : Type 0) (own : List ℕ) (refuse : Bool) where
+  pub makes_one : (stand : Stands) → far_of stand ≡ far.Goes → (steps : ℕ) → steps ≡ 1 → (o : Outcome V) → (o ≡ Refused Busy → ⊥) → MakesSteps {K = K} {V = V} (Step own refuse) stand steps o
+  makes_one stand is steps one o never = subst (λ (n : ℕ). MakesSteps {K = K} {V = V} (Step own refuse) stand n o) (sym one) (of stand is o never)
+    where
+      of : (x : Stands) → far_of x ≡ far.Goes → (y : Outcome V) → (y ≡ Refused Busy → ⊥) → MakesSteps {K = K} {V = V} (Step own refuse) x 1 y
+      of x far_is (Refused Busy) fails = absurd (fails refl)
+      of (Asking question) far_is y fails = absurd (cc far_is)
+      of IsReady far_is y fails = absurd (cc far_is)
+      of Told far_is y fails = omega arith
+      of Going far_is (Asks question) fails = omega arith
+      of Going far_is Waits fails = omega arith
+      of Going far_is Ready fails = omega arith
+      of Going far_is y fails = refl
+
+  -- or all that it may
+  pub makes_many : (stand : Stands) → far_of stand ≡ far.Goes → (steps : ℕ) (o : Outcome V) → TakesUpTo most_steps steps o → (o ≡ Refused Busy → ⊥) → MakesSteps {K = K} {V = V} (Go own refuse) stand steps o
+  makes_many stand is steps (Refused Busy) takes never = absurd (never refl)
+  makes_many (Asking question) is steps o takes never = absurd (cc is)
+  makes_many IsReady is steps o takes never = absurd (cc is)
+  makes_many Going is steps Goes takes never = takes.2 refl
+  makes_many Told is steps Goes takes never = takes.2 refl
+  makes_many Going is steps o takes never = takes.1
+  makes_many Told is steps o takes never = takes.1

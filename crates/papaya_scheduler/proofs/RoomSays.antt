@@ -62,7 +62,8 @@ module _ {K V : Type 0} where
   abbrev CountSo : Machine K V K × Progress (Node K V) → Type 0
   CountSo (machine, said) = SaysRoom said
 
-  counted_room : (end : Sum × Counted ℕ) → CountsOn end → CountSo (counted end)
+module _ (K V : Type 0) where
+  counted_room : (end : Sum × Counted ℕ) → CountsOn end → CountSo (counted {K = K} {V = V} {Q = K} end)
   counted_room (sum, counts.Goes) so = tt
   counted_room (sum, counts.Waits) so = tt
   counted_room (sum, counts.Done count) so = tt
@@ -90,4 +91,4 @@ module _ {K V S : Type 0} (same : K → K → Bool) (hash : K → ℕ) (old new 
   pub sum_room : (sum : Sum) → StepsFrom same hash (kinds.Count sum) old new machine said → SaysRoom said
   sum_room sum steps =
       always_told CountSo m m2 Nothing new.memory.changed (plan_as counted (sum_plan sum)) (machine, said)
-      (always_turned CountsOn CountSo counted counted_room (sum_plan sum) (sum_counts (Node K V) sum)) steps
+      (always_turned CountsOn CountSo counted (counted_room K V) (sum_plan sum) (sum_counts (Node K V) sum)) steps

@@ -88,7 +88,7 @@ module _ {K V : Type 0} where
   goes_as machine _ next is x e = ap machine_of (the x is.0 (sym e ∙ is.1)) ∙ is.2
 
   -- what does not ask, asks nothing
-  asks_nothing : (by : Known) (x : UnderWay K V K) (o : Outcome V) → ((question : Option ℕ) → o ≡ Asks question → ⊥) → AsksJust by x o
+  pub asks_nothing : (by : Known) (x : UnderWay K V K) (o : Outcome V) → ((question : Option ℕ) → o ≡ Asks question → ⊥) → AsksJust by x o
   asks_nothing by (OnKey y) (Asks question) never = absurd (never question refl)
   asks_nothing by (OnKey y) _ never = tt
   asks_nothing by _ o never = tt
@@ -107,34 +107,22 @@ module _ {K V : Type 0} where
   key_far its by p (called.Done answer) = tt
   key_far its by p (called.Refused fault) = tt
 
-  room_far : (its : Kind) (by : Known) (p : Reserve) (end : Room (Node K V) Unit) → IsAsFar {K} {V} its (far_then by (of_outcome end)) (kinds.Reserve p)
+  room_far : (its : Kind) (by : Known) (p : Reserve) (end : Room (Node K V) Unit) → IsAsFar {K = K} {V = V} its (far_then by (of_outcome end)) (kinds.Reserve p)
   room_far its by p room.Goes = tt
   room_far its by p room.Waits = tt
   room_far its by p (room.Gave value) = tt
   room_far its by p (room.Done end) = tt
   room_far its by p (room.Refused fault) = tt
 
-  sum_far : (its : Kind) (by : Known) (p : Sum) (end : Counted ℕ) → IsAsFar {K} {V} its (far_then {K} {V} by (of_counting end)) (kinds.Count p)
-  sum_far its by p counted.Goes = tt
-  sum_far its by p counted.Waits = tt
-  sum_far its by p (counted.Done count) = tt
-  sum_far its by p (counted.Refused fault) = tt
-
-  room_comes : (its : Kind) (by : Known) (value : Option V) (more : ℕ) (end : Room (Node K V) Unit) → SaysRoom {K} {V} (of_outcome end) → ComesAs {K} (Reserves more) (outcome_of by its value (of_outcome end))
+  room_comes : (its : Kind) (by : Known) (value : Option V) (more : ℕ) (end : Room (Node K V) Unit) → SaysRoom {K = K} {V = V} (of_outcome end) → ComesAs {K = K} (Reserves more) (outcome_of by its value (of_outcome end))
   room_comes its by value more room.Goes for = tt
   room_comes its by value more room.Waits for = tt
   room_comes its by value more (room.Gave node) for = tt
   room_comes its by value more (room.Done end) for = refl
   room_comes its by value more (room.Refused fault) for = for
 
-  sum_comes : (its : Kind) (by : Known) (value : Option V) (end : Counted ℕ) → SaysRoom {K} {V} (of_counting end) → ComesAs {K} Len (outcome_of {K} by its value (of_counting end))
-  sum_comes its by value counted.Goes for = tt
-  sum_comes its by value counted.Waits for = tt
-  sum_comes its by value (counted.Done count) for = refl
-  sum_comes its by value (counted.Refused fault) for = for
-
   -- a walk that has come to no pair yet
-  pub walk_comes : (by : Known) (value : Option V) (said : Progress (Node K V)) (stands : Sweeping) → WalkSays said stands → SaysRoom said → ComesAs {K} Walk (outcome_of by kind.Walks value said)
+  pub walk_comes : (by : Known) (value : Option V) (said : Progress (Node K V)) (stands : Sweeping) → WalkSays said stands → SaysRoom said → ComesAs {K = K} Walk (outcome_of by kind.Walks value said)
   walk_comes by value progress.Goes stands says for = tt
   walk_comes by value progress.Waits stands says for = tt
   walk_comes by value (progress.Gave node) stands says for = tt
@@ -143,13 +131,26 @@ module _ {K V : Type 0} where
   walk_comes by value _ stands says for = absurd says
 
   pub walk_far : (by : Known) (said : Progress (Node K V)) (q : Sweep) → q.purpose ≡ Walks → WalkSays said q.stands → ((fault : Fault) → said ≡ progress.Refused fault → ⊥)
-      → IsAsFar {K} {V} kind.Walks (far_then by said) (kinds.Sweep q)
+      → IsAsFar {K = K} {V = V} kind.Walks (far_then by said) (kinds.Sweep q)
   walk_far by progress.Goes q walks says on = (walks, λ e. says)
   walk_far by progress.Waits q walks says on = (walks, λ e. says)
   walk_far by (progress.Gave node) q walks says on = (walks, λ e. says)
   walk_far by progress.Ready q walks says on = (walks, says)
   walk_far by (progress.Refused fault) q walks says on = absurd (on fault refl)
   walk_far by _ q walks says on = absurd says
+
+module _ (K V : Type 0) where
+  sum_far : (its : Kind) (by : Known) (p : Sum) (end : Counted ℕ) → IsAsFar {K = K} {V = V} its (far_then {K = K} {V = V} by (of_counting end)) (kinds.Count p)
+  sum_far its by p counted.Goes = tt
+  sum_far its by p counted.Waits = tt
+  sum_far its by p (counted.Done count) = tt
+  sum_far its by p (counted.Refused fault) = tt
+
+  sum_comes : (its : Kind) (by : Known) (value : Option V) (end : Counted ℕ) → SaysRoom {K = K} {V = V} (of_counting end) → ComesAs {K = K} Len (outcome_of {K = K} by its value (of_counting end))
+  sum_comes its by value counted.Goes for = tt
+  sum_comes its by value counted.Waits for = tt
+  sum_comes its by value (counted.Done count) for = refl
+  sum_comes its by value (counted.Refused fault) for = for
 
 -- one that has ended is under way no more
 pub ended_not : {K V : Type 0} (machine : Machine K V K) (said : Progress (Node K V)) (next : Option (UnderWay K V K)) → GoesOnAs machine said next → (x : UnderWay K V K) → next ≡ Some x
@@ -319,7 +320,7 @@ module _ {K V S : Type 0} (same : K → K → Bool) (hash : K → ℕ) (name : �
         comes = subst (λ (z : Call K V). ComesAs z (outcome_of known2 its value said)) (sym call_is)
             (subst (λ (z : Progress (Node K V)). ComesAs (Reserves more) (outcome_of known2 its value z)) (sym did.3) (room_comes its known2 value more did.1 (subst SaysRoom did.3 for.1)));
         far = λ y goes. subst (λ (z : Machine K V K). IsAsFar its (far_then known2 said) z) (sym (goes_as to.1 said to.4.next to.4.goes_on y goes ∙ did.2))
-            (subst (λ (z : Progress (Node K V)). IsAsFar its (far_then known2 z) (kinds.Reserve did.0)) (sym did.3) (room_far its known2 did.0 did.1));
+            (subst (λ (z : Progress (Node K V)). IsAsFar {K = K} {V = V} its (far_then known2 z) (kinds.Reserve did.0)) (sym did.3) (room_far its known2 did.0 did.1));
         asks = λ y goes. no_key (ForRoom r) under said leads (λ p e. let a = did.2 in cc (a, e)) y goes;
         room = λ y goes. subst RefusedForRoom (sym (goes_as to.1 said to.4.next to.4.goes_on y goes)) for.0;
       }
@@ -329,9 +330,9 @@ module _ {K V S : Type 0} (same : K → K → Bool) (hash : K → ℕ) (name : �
       let to = leads map (Counting sum) under in
       let did = to.4.did in record {
         comes = subst (λ (z : Call K V). ComesAs z (outcome_of known2 its value said)) (sym call_is)
-            (subst (λ (z : Progress (Node K V)). ComesAs Len (outcome_of known2 its value z)) (sym did.3) (sum_comes its known2 value did.1 (subst SaysRoom did.3 (sum_room same hash old new to.1 said sum to.3))));
+            (subst (λ (z : Progress (Node K V)). ComesAs {K = K} Len (outcome_of known2 its value z)) (sym did.3) (sum_comes K V its known2 value did.1 (subst SaysRoom did.3 (sum_room same hash old new to.1 said sum to.3))));
         far = λ y goes. subst (λ (z : Machine K V K). IsAsFar its (far_then known2 said) z) (sym (goes_as to.1 said to.4.next to.4.goes_on y goes ∙ did.2))
-            (subst (λ (z : Progress (Node K V)). IsAsFar its (far_then known2 z) (kinds.Count did.0)) (sym did.3) (sum_far its known2 did.0 did.1));
+            (subst (λ (z : Progress (Node K V)). IsAsFar {K = K} {V = V} its (far_then known2 z) (kinds.Count did.0)) (sym did.3) (sum_far K V its known2 did.0 did.1));
         asks = λ y goes. no_key (Counting sum) under said leads (λ p e. let a = did.2 in cc (a, e)) y goes;
         room = λ y goes. subst RefusedForRoom (sym (goes_as to.1 said to.4.next to.4.goes_on y goes ∙ did.2)) tt;
       }

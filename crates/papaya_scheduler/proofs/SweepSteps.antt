@@ -65,7 +65,7 @@ module _ {K V : Type 0} (same : K → K → Bool) (s : Scene K V) (map i : ℕ) 
 
 module _ {K V : Type 0} where
   -- a clearing or a retaining, by what it says
-  clear_comes : (by : Known) (value : Option V) (end : Swept (Node K V)) → ShowsNone {K} {V} (of_swept end) → SaysRoom {K} {V} (of_swept end) → ((word : ℕ) → end ≡ ends.Asks word → ⊥) → ComesAs {K} Clear (outcome_of by kind.Clears value (of_swept end))
+  clear_comes : (by : Known) (value : Option V) (end : Swept (Node K V)) → ShowsNone {K = K} {V = V} (of_swept end) → SaysRoom {K = K} {V = V} (of_swept end) → ((word : ℕ) → end ≡ ends.Asks word → ⊥) → ComesAs {K = K} Clear (outcome_of by kind.Clears value (of_swept end))
   clear_comes by value ends.Goes shows for asks = tt
   clear_comes by value ends.Waits shows for asks = tt
   clear_comes by value (ends.Gave node) shows for asks = tt
@@ -75,7 +75,7 @@ module _ {K V : Type 0} where
   clear_comes by value ends.Done shows for asks = refl
   clear_comes by value (ends.Refused fault) shows for asks = for
 
-  retain_comes : (by : Known) (value : Option V) (end : Swept (Node K V)) → ShowsNone {K} {V} (of_swept end) → SaysRoom {K} {V} (of_swept end) → ComesAs {K} Retain (outcome_of by kind.Retains value (of_swept end))
+  retain_comes : (by : Known) (value : Option V) (end : Swept (Node K V)) → ShowsNone {K = K} {V = V} (of_swept end) → SaysRoom {K = K} {V = V} (of_swept end) → ComesAs {K = K} Retain (outcome_of by kind.Retains value (of_swept end))
   retain_comes by value ends.Goes shows for = tt
   retain_comes by value ends.Waits shows for = tt
   retain_comes by value (ends.Gave node) shows for = tt
@@ -87,14 +87,14 @@ module _ {K V : Type 0} where
 
   -- how far it is then
   removing_far : (its : Kind) (by : Known) (said : Progress (Node K V)) (q : Sweep) → IsFor its q.purpose → removes q.purpose ≡ true → ShowsNone said
-      → ((about : Option ℕ) → said ≡ progress.Asks about → (word : ℕ) × (q.stands ≡ at.Asks word) × (q.purpose ≡ Retains)) → IsAsFar {K} {V} its (far_then by said) (kinds.Sweep q)
+      → ((about : Option ℕ) → said ≡ progress.Asks about → (word : ℕ) × (q.stands ≡ at.Asks word) × (q.purpose ≡ Retains)) → IsAsFar {K = K} {V = V} its (far_then by said) (kinds.Sweep q)
   removing_far its by said q for takes shows asks = of said shows asks
     where
       on : q.purpose ≡ Walks → ⊥
       on walks = let a = ap removes (sym walks) ∙ takes in cc a
 
       of : (x : Progress (Node K V)) → ShowsNone x → ((about : Option ℕ) → x ≡ progress.Asks about → (word : ℕ) × (q.stands ≡ at.Asks word) × (q.purpose ≡ Retains))
-          → IsAsFar {K} {V} its (far_then by x) (kinds.Sweep q)
+          → IsAsFar {K = K} {V = V} its (far_then by x) (kinds.Sweep q)
       of progress.Goes sh told = (for, λ walks. absurd (on walks))
       of progress.Waits sh told = (for, λ walks. absurd (on walks))
       of (progress.Gave node) sh told = (for, λ walks. absurd (on walks))
@@ -107,7 +107,7 @@ module _ {K V : Type 0} where
 
 module _ {K V S : Type 0} (same : K → K → Bool) (hash : K → ℕ) (name : ℕ → List ℕ) (m : Moment K V) (known : Known) (s : Scene K V) (old new : Executor K V S) (at_old : IsAt same hash old s)
     (whole : ShowsWhole same name m known s) (map i : ℕ) (c : CallThere K V) (c_is : call_of (name i) m ≡ Some c) (its : Kind) (its_is : kind_of c.call ≡ its) (value : Option V)
-    (o : CallOverAll) (under : s.calls map i ≡ Some (OverAll o)) (said : Progress (Node K V)) (leads : StepLeads same hash i said s old new) (now : IsAsFar its far.Goes (machine_of (OverAll o)))
+    (o : CallOverAll) (under : s.calls map i ≡ Some (OverAll o)) (said : Progress (Node K V)) (leads : StepLeads same hash i said s old new) (now : IsAsFar {K = K} {V = V} its far.Goes (machine_of (OverAll o)))
     (room : RoomInSweeping o.sweep.stands) where
   abbrev by : Known
   by = known2 same hash name m known s old new at_old whole map i c c_is its its_is value
@@ -168,9 +168,9 @@ module _ {K V S : Type 0} (same : K → K → Bool) (hash : K → ℕ) (name : �
       let here = here_then same hash name m known s old new at_old whole map i c c_is its its_is value (OverAll o) under said leads y goes ∙ ap Some x.1 in
       let there = then_there same hash name m known s old new at_old whole map i c c_is its its_is value (OverAll o) under said leads y goes in
       let retains = retains_at same (s2 same hash name m known s old new at_old whole map i c c_is its its_is value (OverAll o) under said leads) map i there.0
-      (together2 same hash name m known s old new at_old whole map i c c_is its its_is value (OverAll o) under said leads y goes) x.0 here says.1
-      (ap (λ (q : Sweep). q.stands) x.2 ∙ says.3) in
-      (says.1, says.3, ap (λ (q : Sweep). q.purpose) (sym x.2) ∙ retains)
+      (together2 same hash name m known s old new at_old whole map i c c_is its its_is value (OverAll o) under said leads y goes) x.0 here says.1.0
+      (ap (λ (q : Sweep). q.stands) x.2 ∙ says.1.2) in
+      (says.1.0, says.1.2, ap (λ (q : Sweep). q.purpose) (sym x.2) ∙ retains)
 
   -- a clearing never asks: it would be under way on, and for a retaining
   asks_next : (word : ℕ) → end ≡ ends.Asks word → (y : UnderWay K V K) × ((leads map (OverAll o) under).4.next ≡ Some y)
@@ -186,8 +186,8 @@ module _ {K V S : Type 0} (same : K → K → Bool) (hash : K → ℕ) (name : �
   pub clear_says : c.call ≡ Clear → Its
   clear_says call_is = record {
     comes = subst (λ (z : Call K V). ComesAs z (outcome_of by its value said)) (sym call_is)
-        (subst (λ (k : Kind). ComesAs Clear (outcome_of by k value said)) its_clears
-        (subst (λ (z : Progress (Node K V)). ComesAs Clear (outcome_of by kind.Clears value z)) (sym said_is)
+        (subst (λ (k : Kind). ComesAs {K = K} Clear (outcome_of by k value said)) its_clears
+        (subst (λ (z : Progress (Node K V)). ComesAs {K = K} Clear (outcome_of by kind.Clears value z)) (sym said_is)
         (clear_comes by value end (subst ShowsNone said_is (shows takes)) (subst SaysRoom said_is for_room.1) never)));
     far = removing takes now.0;
     asks = asks_none;
@@ -212,8 +212,8 @@ module _ {K V S : Type 0} (same : K → K → Bool) (hash : K → ℕ) (name : �
   pub retain_says : c.call ≡ Retain → Its
   retain_says call_is = record {
     comes = subst (λ (z : Call K V). ComesAs z (outcome_of by its value said)) (sym call_is)
-        (subst (λ (k : Kind). ComesAs Retain (outcome_of by k value said)) its_retains
-        (subst (λ (z : Progress (Node K V)). ComesAs Retain (outcome_of by kind.Retains value z)) (sym said_is)
+        (subst (λ (k : Kind). ComesAs {K = K} Retain (outcome_of by k value said)) its_retains
+        (subst (λ (z : Progress (Node K V)). ComesAs {K = K} Retain (outcome_of by kind.Retains value z)) (sym said_is)
         (retain_comes by value end (subst ShowsNone said_is (shows takes)) (subst SaysRoom said_is for_room.1))));
     far = removing takes now.0;
     asks = asks_none;
@@ -229,9 +229,9 @@ module _ {K V S : Type 0} (same : K → K → Bool) (hash : K → ℕ) (name : �
   pub walk_step_says : c.call ≡ Walk → Its
   walk_step_says call_is = record {
     comes = subst (λ (z : Call K V). ComesAs z (outcome_of by its value said)) (sym call_is)
-        (subst (λ (k : Kind). ComesAs Walk (outcome_of by k value said)) its_walks (walk_comes by value said p2.stands says for_room.1));
+        (subst (λ (k : Kind). ComesAs {K = K} Walk (outcome_of by k value said)) its_walks (walk_comes by value said p2.stands says for_room.1));
     far = λ y goes. subst (λ (z : Machine K V K). IsAsFar its (far_then by said) z) (sym (next_is y goes))
-        (subst (λ (k : Kind). IsAsFar k (far_then by said) (kinds.Sweep p2)) its_walks
+        (subst (λ (k : Kind). IsAsFar {K = K} {V = V} k (far_then by said) (kinds.Sweep p2)) its_walks
         (walk_far by said p2 (goes_on.0 ∙ walks) says (ended_not (leads map (OverAll o) under).1 said (leads map (OverAll o) under).4.next (leads map (OverAll o) under).4.goes_on y goes)));
     asks = asks_none;
     room = room_then;

@@ -28,7 +28,7 @@ module _ {K V S : Type 0} (same : K → K → Bool) (hash : K → ℕ) (terms : 
   m = moment log
 
   -- what is told, where the call says so again
-  again : (event : Event K V) (outcome : Outcome V) → SaysAgain outcome played old new → PlaysOn same hash terms log (quiet event outcome) old → PlaysOn same hash terms log (entry_of event played) new
+  again : (event : Event K V) (outcome : Outcome V) → SaysAgain same hash outcome played old new → PlaysOn same hash terms log (quiet event outcome) old → PlaysOn same hash terms log (entry_of event played) new
   again event outcome says so =
       subst (λ (x : Scheduler K V S). PlaysOn same hash terms log (entry_of event played) x) (sym says.3)
       (subst (λ (e : Entry K V). PlaysOn same hash terms log e old) (sym (entry_is event played outcome 0 [] says.0 says.1 says.2)) so)

@@ -82,7 +82,7 @@ module _ {K V : Type 0} (by : Known) where
 
 -- for what a call on one key is refused: for room, or, of `compute`, for removing what is not there
 abbrev pub IsFaultOn : {K V : Type 0} → OneKey K V → Fault → Type 0
-IsFaultOn {K} {V} one fault = (fault ≡ Memory) ⊎ (fault ≡ Capacity) ⊎ ((fault ≡ RemoveNothing) × (is_compute {K} {V} (On one) ≡ true))
+IsFaultOn {K} {V} one fault = (fault ≡ Memory) ⊎ (fault ≡ Capacity) ⊎ ((fault ≡ RemoveNothing) × (is_compute {K = K} {V = V} (On one) ≡ true))
 
 module _ {K V : Type 0} where
   -- What a call that goes on comes to, by its kind. In which case it waits, or is refused for room, this does not say.

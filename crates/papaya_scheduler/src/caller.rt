@@ -120,6 +120,23 @@ impl<V: Drop> Callers<V> {
         caller.value = value;
     }
 
+    /// The number of the caller at a place, and that of the map that its call is on.
+    pub fn way_of(&self, place: usize) -> (u64, u64)
+        requires { place < length self.now.items.items }
+        ensures { (caller : Caller V) → slice_get self.now.items.items place ≡ Some caller → result ≡ (caller.number, caller.map) }
+    {
+        let caller = &self.items[place];
+        (caller.number, caller.map)
+    }
+
+    /// How far the call at a place is.
+    pub fn far_of(&self, place: usize) -> Stands
+        requires { place < length self.now.items.items }
+        ensures { (caller : Caller V) → slice_get self.now.items.items place ≡ Some caller → result ≡ caller.stands }
+    {
+        self.items[place].stands
+    }
+
     /// The call at a place is this far from now on.
     pub fn stand(&mut self, place: usize, stands: Stands)
         requires { place < length self.old.items.items }

@@ -38,6 +38,15 @@ fn just_goes<K, V>(progress: &Progress<Node<K, V>>) -> bool
 }
 
 impl<K: Drop, V: Drop, S> Scheduler<K, V, S> {
+    /// If growths are to be refused, those are that come after so many more.
+    fn refuse_after(&mut self, refuse: bool, growths: u64)
+        ensures { self.new ≡ self.old }
+    {
+        if refuse {
+            self.logged.executor.memory.memory.refuse_after(growths);
+        }
+    }
+
     /// The call at this place has come to this. A walk that has shown a pair is ready.
     fn come_to(&mut self, place: usize, progress: Progress<Node<K, V>>) -> Outcome<V>
         requires { place < length self.old.calls.items.items }
@@ -96,8 +105,8 @@ impl<K: Eq + Hash + Drop, V: Drop, S: Hashes<K>> Scheduler<K, V, S> {
         ensures stepped { IfOk result (λ outcome. IsStepped K.eq (S.hash self.old.logged.executor.hasher) place outcome effects.old.items effects.new.items self.old self.new) }
         ensures hasher { self.new.logged.executor.hasher ≡ self.old.logged.executor.hasher }
     {
-        let Caller { number, map, .. } = &self.calls.items[place];
-        let progress = self.logged.step(*number, *map, effects)?;
+        let (number, map) = self.calls.way_of(place);
+        let progress = self.logged.step(number, map, effects)?;
         Ok(self.come_to(place, progress))
     }
 
@@ -128,22 +137,18 @@ impl<K: Eq + Hash + Drop, V: Drop, S: Hashes<K>> Scheduler<K, V, S> {
         requires stands { StandsAt K.eq (S.hash self.old.logged.executor.hasher) place self.old }
         ensures { IfOk result (λ played. TakenAs K.eq (S.hash self.old.logged.executor.hasher) place most played self.old self.new) }
     {
-        match self.calls.items[place].stands {
+        match self.calls.far_of(place) {
             Stands::Asks(question) => return Ok(self.quietly(Outcome::Asks(question))),
             Stands::Ready => return Ok(self.quietly(Outcome::Ready)),
             Stands::Goes => {}
         }
         let mut effects = self.no_effects();
-        if refuse {
-            self.logged.executor.memory.memory.refuse_after(0);
-        }
-        let (outcome, steps) = self.go_on(place, most, &mut effects)?;
-        if refuse {
-            self.logged.executor.memory.memory.refuse_after(u64::MAX);
-        }
+        self.refuse_after(refuse, 0);
+        let come = self.go_on(place, most, &mut effects)?;
+        self.refuse_after(refuse, u64::MAX);
         Ok(Played {
-            outcome,
-            steps,
+            outcome: come.0,
+            steps: come.1,
             effects,
         })
     }
@@ -197,8 +202,7 @@ impl<K: Eq + Hash + Drop, V: Drop, S: Hashes<K>> Scheduler<K, V, S> {
         requires { MayWalk K.eq (S.hash self.old.logged.executor.hasher) place self.old }
         ensures { IfOk result (λ come. WalkComes K.eq (S.hash self.old.logged.executor.hasher) place come.1 come.0 effects.old.items effects.new.items self.old self.new) }
     {
-        let Caller { number, map, .. } = &self.calls.items[place];
-        let (number, map) = (*number, *map);
+        let (number, map) = self.calls.way_of(place);
         for steps in 1..u64::MAX {
             let progress = self.logged.step(number, map, effects)?;
             if !just_goes(&progress) {
@@ -216,14 +220,14 @@ impl<K: Eq + Hash + Drop, V: Drop, S: Hashes<K>> Scheduler<K, V, S> {
         let Some(place) = self.place_of_ready(caller) else {
             return Ok(self.busy());
         };
-        let number = self.calls.items[place].number;
+        let (number, _) = self.calls.way_of(place);
         self.logged.next(number);
         let mut effects = self.no_effects();
-        let (progress, steps) = self.walk_on(place, &mut effects)?;
-        let outcome = self.come_to(place, progress);
+        let come = self.walk_on(place, &mut effects)?;
+        let outcome = self.come_to(place, come.0);
         Ok(Played {
             outcome,
-            steps,
+            steps: come.1,
             effects,
         })
     }

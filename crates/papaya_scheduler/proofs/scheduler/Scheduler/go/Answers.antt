@@ -1,5 +1,5 @@
 -- A caller's call goes on.
-use Rattle.std.proofs.Common.{sym, subst, ◌∙◌}
+use Rattle.std.proofs.Common.{sym, subst, ◌∙◌, arith}
 use Rattle.std.proofs.lemmas.Result.{IfOk-weaker}
 use Rattle.seize_words.specs.declared.fault.Fault.TheVariants.{Busy}
 use Rattle.papaya_schedules.specs.declared.event.Event.TheVariants.{Go}
@@ -15,14 +15,16 @@ take_steps-requires g c =
     let r = c.requires in
     let hash = g.S.Hashes.hash c.args.self.now.logged.executor.hasher in
     record {
-      some = omega;
+      some = omega arith;
       stands = stands_at g.K.PartialEq.eq hash r.0 r.1 c.args.caller.now c.args.refuse c.args.self.now c.args.self.now c.in-Some.place (sym c.in-Some.is ∙ c.place_of.ensures) _ r.2.played;
     }
 
 pub returns-in-Some : goal.returns-in-Some
-returns-in-Some g c = IfOk-weaker c.take_steps.result _ _ (λ played taken. λ terms log due.
-    plays_gone g.K.PartialEq.eq (g.S.Hashes.hash c.args.self.now.logged.executor.hasher) terms log c.args.caller.now c.args.refuse c.args.self.now c.take_steps.new.self c.in-Some.place
-    (sym c.in-Some.is ∙ c.place_of.ensures) played due taken) c.take_steps.ensures
+returns-in-Some g c = record {
+  plays = IfOk-weaker c.take_steps.result _ _ (λ played taken. λ terms log due.
+      plays_gone g.K.PartialEq.eq (g.S.Hashes.hash c.args.self.now.logged.executor.hasher) terms log c.args.caller.now c.args.refuse c.args.self.now c.take_steps.new.self c.in-Some.place
+      (sym c.in-Some.is ∙ c.place_of.ensures) played due taken) c.take_steps.ensures;
+}
 
 pub returns-in-None : goal.returns-in-None
 returns-in-None g c = record {

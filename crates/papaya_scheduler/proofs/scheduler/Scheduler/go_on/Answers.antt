@@ -15,8 +15,8 @@ loop-steps-init g c = (
       (sym (append-nil c.args.effects.now.items)),
 )
 
-pub take_step-outcome-requires : goal.take_step-outcome-requires
-take_step-outcome-requires g c =
+pub take_step-requires : goal.take_step-requires
+take_step-requires g c =
     let r = c.requires.goes in
     let i = c.loop-steps.invariant in
     subst (λ h. MayStep g.K.PartialEq.eq (g.S.Hashes.hash h) c.args.place c.loop-steps.self) (sym i.2)
@@ -25,9 +25,9 @@ take_step-outcome-requires g c =
 pub returns-then-not-goes_on : goal.returns-then-not-goes_on
 returns-then-not-goes_on g c =
     let i = c.loop-steps.invariant in
-    stops_at g.K.PartialEq.eq (g.S.Hashes.hash c.args.self.now.logged.executor.hasher) c.args.place c.args.self.now c.args.effects.now.items i.0 c.loop-steps.effects.items c.take_step-outcome.new.effects.items
-    c.loop-steps.self c.take_step-outcome.new.self c.in_ok-outcome.outcome i.3
-    (subst (λ h. IsStepped g.K.PartialEq.eq (g.S.Hashes.hash h) c.args.place c.in_ok-outcome.outcome c.loop-steps.effects.items c.take_step-outcome.new.effects.items c.loop-steps.self c.take_step-outcome.new.self) i.2
+    stops_at g.K.PartialEq.eq (g.S.Hashes.hash c.args.self.now.logged.executor.hasher) c.args.place c.args.self.now c.args.effects.now.items i.0 c.loop-steps.effects.items c.take_step.new.effects.items
+    c.loop-steps.self c.take_step.new.self c.in_ok-outcome.outcome i.3
+    (subst (λ h. IsStepped g.K.PartialEq.eq (g.S.Hashes.hash h) c.args.place c.in_ok-outcome.outcome c.loop-steps.effects.items c.take_step.new.effects.items c.loop-steps.self c.take_step.new.self) i.2
     c.in_ok-outcome.ensures.stepped)
     c.args.most c.loop-steps.steps i.1 c.loop-steps-test.true (sym c.goes_on.ensures ∙ c.if-not-goes_on.true)
 
@@ -36,16 +36,16 @@ loop-steps-preserved g c =
     let i = c.loop-steps.invariant in (
       i.0 + 1,
       ap (λ k. k + 1) i.1,
-      c.take_step-outcome.ensures.hasher ∙ i.2,
-      (goes_further g.K.PartialEq.eq (g.S.Hashes.hash c.args.self.now.logged.executor.hasher) c.args.place c.args.self.now c.args.effects.now.items i.0 c.loop-steps.effects.items c.take_step-outcome.new.effects.items
-          c.loop-steps.self c.take_step-outcome.new.self c.in_ok-outcome.outcome i.3
-          (subst (λ h. IsStepped g.K.PartialEq.eq (g.S.Hashes.hash h) c.args.place c.in_ok-outcome.outcome c.loop-steps.effects.items c.take_step-outcome.new.effects.items c.loop-steps.self c.take_step-outcome.new.self) i.2
+      c.take_step.ensures.hasher ∙ i.2,
+      (goes_further g.K.PartialEq.eq (g.S.Hashes.hash c.args.self.now.logged.executor.hasher) c.args.place c.args.self.now c.args.effects.now.items i.0 c.loop-steps.effects.items c.take_step.new.effects.items
+          c.loop-steps.self c.take_step.new.self c.in_ok-outcome.outcome i.3
+          (subst (λ h. IsStepped g.K.PartialEq.eq (g.S.Hashes.hash h) c.args.place c.in_ok-outcome.outcome c.loop-steps.effects.items c.take_step.new.effects.items c.loop-steps.self c.take_step.new.self) i.2
           c.in_ok-outcome.ensures.stepped)
           (sym c.goes_on.ensures ∙ c.if-not-goes_on.false)),
     )
 
-pub take_step-outcome-2-requires : goal.take_step-outcome-2-requires
-take_step-outcome-2-requires g c =
+pub take_step-requires-2 : goal.take_step-requires-2
+take_step-requires-2 g c =
     let r = c.requires.goes in
     let i = c.loop-steps.invariant in
     subst (λ h. MayStep g.K.PartialEq.eq (g.S.Hashes.hash h) c.args.place c.loop-steps.self) (sym i.2)
@@ -57,8 +57,8 @@ returns g c =
     let ended = c.loop-steps-test.false in
     let few = c.loop-steps.auto.steps-end c.requires.some in
     let is = i.1 in
-    takes_all g.K.PartialEq.eq (g.S.Hashes.hash c.args.self.now.logged.executor.hasher) c.args.place c.args.self.now c.args.effects.now.items i.0 c.loop-steps.effects.items c.take_step-outcome-2.new.effects.items
-    c.loop-steps.self c.take_step-outcome-2.new.self c.in_ok-outcome-2.outcome i.3
-    (subst (λ h. IsStepped g.K.PartialEq.eq (g.S.Hashes.hash h) c.args.place c.in_ok-outcome-2.outcome c.loop-steps.effects.items c.take_step-outcome-2.new.effects.items c.loop-steps.self c.take_step-outcome-2.new.self) i.2
+    takes_all g.K.PartialEq.eq (g.S.Hashes.hash c.args.self.now.logged.executor.hasher) c.args.place c.args.self.now c.args.effects.now.items i.0 c.loop-steps.effects.items c.take_step-2.new.effects.items
+    c.loop-steps.self c.take_step-2.new.self c.in_ok-outcome-2.outcome i.3
+    (subst (λ h. IsStepped g.K.PartialEq.eq (g.S.Hashes.hash h) c.args.place c.in_ok-outcome-2.outcome c.loop-steps.effects.items c.take_step-2.new.effects.items c.loop-steps.self c.take_step-2.new.self) i.2
     c.in_ok-outcome-2.ensures.stepped)
     c.args.most (omega (arith, ended, few, is))

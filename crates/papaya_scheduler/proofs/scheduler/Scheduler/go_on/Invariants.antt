@@ -10,5 +10,5 @@ abbrev pub invariant-loop-steps : goal.invariant-loop-steps
 invariant-loop-steps g l =
     (n : ℕ) × (l.steps ≡ n + 1) × (l.self.logged.executor.hasher ≡ l.fn.self.logged.executor.hasher)
     × ((terms : Terms) (m : Moment g.row.K.Denot g.row.V.Denot) (own : List ℕ)
-    → StandsFor g.row.K.PartialEq.eq (g.row.S.Hashes.hash l.fn.self.logged.executor.hasher) terms m l.fn.self → GoesAt own l.fn.place l.fn.self
-    → IsMidst g.row.K.PartialEq.eq (g.row.S.Hashes.hash l.fn.self.logged.executor.hasher) terms own l.fn.place m n l.fn.effects.items l.effects.items l.self)
+    → StandsFor g.K.PartialEq.eq (g.S.Hashes.hash l.fn.self.logged.executor.hasher) terms m l.fn.self → GoesAt own l.fn.place l.fn.self
+    → IsMidst g.K.PartialEq.eq (g.S.Hashes.hash l.fn.self.logged.executor.hasher) terms own l.fn.place m n l.fn.effects.items l.effects.items l.self)

@@ -6,21 +6,23 @@ use Rattle.papaya_schedules.specs.declared.event.Event.TheVariants.{Next}
 use Rattle.papaya_schedules.specs.declared.outcome.Outcome.TheVariants.{Refused}
 use Rattle.papaya_executor.specs.IsAt.{HasCall}
 use Rattle.papaya_logged.specs.Calling.{WalkGoesOn}
-use Rattle.papaya_rows.proofs.Lists.{got, got_within}
+use Rattle.papaya_rows.proofs.Lists.{got_within}
 use Rattle.papaya_scheduler.specs.Stepping.{PlaysNext, WalkComes}
 use Rattle.papaya_scheduler.proofs.NextEnds.{asked_here, next_asked, next_busy, next_may, next_ready, plays_next}
 use Rattle.papaya_scheduler.proofs.Rights.{entry_is}
 use Rattle.papaya_scheduler.proofs.scheduler.Scheduler.next.Goals as goal
 
 pub returns-in_default : goal.returns-in_default
-returns-in_default g c = λ terms log due.
-    let hash = g.S.Hashes.hash c.args.self.now.logged.executor.hasher in
-    subst (λ e. PlaysNext g.K.PartialEq.eq hash terms log e c.args.self.now)
-    (sym (entry_is (Next c.args.caller.now) c.busy.result (Refused Busy) 0 [] c.busy.ensures.outcome c.busy.ensures.steps c.busy.ensures.effects))
-    (next_busy g.K.PartialEq.eq hash terms log c.args.caller.now c.args.self.now due (sym c.in_default.is ∙ c.place_of_ready.ensures))
+returns-in_default g c = record {
+  plays = λ terms log due.
+      let hash = g.S.Hashes.hash c.args.self.now.logged.executor.hasher in
+      subst (λ e. PlaysNext g.K.PartialEq.eq hash terms log e c.args.self.now)
+      (sym (entry_is (Next c.args.caller.now) c.busy.result (Refused Busy) 0 [] c.busy.ensures.outcome c.busy.ensures.steps c.busy.ensures.effects))
+      (next_busy g.K.PartialEq.eq hash terms log c.args.caller.now c.args.self.now due (sym c.in_default.is ∙ c.place_of_ready.ensures));
+}
 
-pub index-requires : goal.index-requires
-index-requires g c =
+pub way_of-number-requires : goal.way_of-number-requires
+way_of-number-requires g c =
     let r = c.requires in
     let here = asked_here g.K.PartialEq.eq (g.S.Hashes.hash c.args.self.now.logged.executor.hasher) r.0 r.1 c.args.caller.now c.args.self.now r.2 c.in-Some.place (sym c.in-Some.is ∙ c.place_of_ready.ensures) in
     got_within c.args.self.now.calls.items.items c.in-Some.place here.caller here.at
@@ -31,12 +33,12 @@ next-requires g c =
     let hash = g.S.Hashes.hash c.args.self.now.logged.executor.hasher in
     let ready = sym c.in-Some.is ∙ c.place_of_ready.ensures in
     let here = asked_here g.K.PartialEq.eq hash r.0 r.1 c.args.caller.now c.args.self.now r.2 c.in-Some.place ready in
-    let read = c.index.ensures ∙ got c.args.self.now.calls.items.items c.in-Some.place here.caller c.index.result.now here.at in (
+    let read = c.way_of-number.ensures here.caller here.at in (
       g.K.PartialEq.eq,
       hash,
       r.2.played.scene,
       r.2.played.shown.is_at,
-      subst (λ x. HasCall r.2.played.scene x.number) (sym read) (next_may g.K.PartialEq.eq hash r.0 r.1 c.args.caller.now c.args.self.now r.2 c.in-Some.place ready),
+      subst (λ x. HasCall r.2.played.scene x.0) (sym read) (next_may g.K.PartialEq.eq hash r.0 r.1 c.args.caller.now c.args.self.now r.2 c.in-Some.place ready),
     )
 
 pub walk_on-requires : goal.walk_on-requires
@@ -45,12 +47,12 @@ walk_on-requires g c =
     let hash = g.S.Hashes.hash c.args.self.now.logged.executor.hasher in
     let ready = sym c.in-Some.is ∙ c.place_of_ready.ensures in
     let here = asked_here g.K.PartialEq.eq hash r.0 r.1 c.args.caller.now c.args.self.now r.2 c.in-Some.place ready in
-    let read = c.index.ensures ∙ got c.args.self.now.calls.items.items c.in-Some.place here.caller c.index.result.now here.at in (
+    let read = c.way_of-number.ensures here.caller here.at in (
       r.0,
       moment r.1,
       c.args.caller.now,
       next_asked g.K.PartialEq.eq hash r.0 r.1 c.args.caller.now c.args.self.now r.2 c.in-Some.place ready c.next.result c.next.new.self
-          (subst (λ x. WalkGoesOn g.K.PartialEq.eq hash r.2.played.name (moment r.1) r.2.played.scene x.number c.next.result c.args.self.now.logged c.next.new.self) read
+          (subst (λ x. WalkGoesOn g.K.PartialEq.eq hash r.2.played.name (moment r.1) r.2.played.scene x.0 c.next.result c.args.self.now.logged c.next.new.self) read
           (c.next.ensures.leads g.K.PartialEq.eq hash r.2.played.name (moment r.1) r.2.played.scene r.2.played.shown)),
       next_ready g.K.PartialEq.eq hash r.0 r.1 c.args.caller.now c.args.self.now r.2 c.in-Some.place ready c.next.new.self,
     )

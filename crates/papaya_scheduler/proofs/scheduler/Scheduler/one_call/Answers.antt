@@ -1,5 +1,5 @@
 -- A call without a name begins, and goes on, or does not begin.
-use Rattle.std.proofs.Common.{Bool, false, refl, sym, subst}
+use Rattle.std.proofs.Common.{Bool, false, refl, sym, subst, arith}
 use Rattle.std.proofs.lemmas.Result.{IfOk-weaker}
 use Rattle.seize_words.specs.declared.fault.Fault.TheVariants.{Busy}
 use Rattle.papaya_schedules.specs.After.{moment}
@@ -33,16 +33,18 @@ take_steps-requires g c =
     let r = c.requires in
     let hash = g.S.Hashes.hash c.args.self.now.logged.executor.hasher in
     let begun = subst (λ (b : Bool). BeginsSo g.K.PartialEq.eq hash r.0 (moment r.1) nameless c.args.guard c.args.map.now c.args.call b c.args.self.now c.begins.new.self) c.if-branch.true
-    (subst (λ own. BeginsSo g.K.PartialEq.eq hash r.0 (moment r.1) own c.args.guard c.args.map.now c.args.call c.in_ok-begins.begins c.args.self.now c.begins.new.self) c.in_ok-nameless.ensures
+    (subst (λ own. BeginsSo g.K.PartialEq.eq hash r.0 (moment r.1) own c.args.guard c.args.map.now c.args.call c.in_ok-begins.field-0 c.args.self.now c.begins.new.self) c.in_ok-nameless.ensures
     (c.in_ok-begins.ensures.begins r.0 (moment r.1) r.2.played)) in
-    let first = goes_first g.K.PartialEq.eq hash r.0 (moment r.1) nameless c.args.guard c.args.call (number_of c.args.map.now (moment r.1)) (map_there begun.so) c.begins.new.self (begun.stands refl) in
-    record { some = omega; stands = (r.0, _, nameless, begun.stands refl, first.0) }
+    let first = goes_first g.K.PartialEq.eq hash r.0 (moment r.1) nameless c.args.guard c.args.call (number_of c.args.map.now (moment r.1)) (map_there (moment r.1) c.args.guard c.args.map.now begun.so) c.begins.new.self (begun.stands refl) in
+    record { some = omega arith; stands = (r.0, _, nameless, begun.stands refl, first.0) }
 
 pub returns-then-branch : goal.returns-then-branch
 returns-then-branch g c =
     let hash = g.S.Hashes.hash c.args.self.now.logged.executor.hasher in
-    IfOk-weaker c.take_steps.result _ _ (λ played taken. λ terms log due.
-    let begun = subst (λ (b : Bool). BeginsSo g.K.PartialEq.eq hash terms (moment log) nameless c.args.guard c.args.map.now c.args.call b c.args.self.now c.begins.new.self) c.if-branch.true
-    (subst (λ own. BeginsSo g.K.PartialEq.eq hash terms (moment log) own c.args.guard c.args.map.now c.args.call c.in_ok-begins.begins c.args.self.now c.begins.new.self) c.in_ok-nameless.ensures
-    (c.in_ok-begins.ensures.begins terms (moment log) due.played)) in
-    plays_begun g.K.PartialEq.eq hash terms log c.args.guard c.args.map.now c.args.call c.args.self.now c.begins.new.self due begun played c.take_steps.new.self taken) c.take_steps.ensures
+    record {
+      plays = IfOk-weaker c.take_steps.result _ _ (λ played taken. λ terms log due.
+          let begun = subst (λ (b : Bool). BeginsSo g.K.PartialEq.eq hash terms (moment log) nameless c.args.guard c.args.map.now c.args.call b c.args.self.now c.begins.new.self) c.if-branch.true
+          (subst (λ own. BeginsSo g.K.PartialEq.eq hash terms (moment log) own c.args.guard c.args.map.now c.args.call c.in_ok-begins.field-0 c.args.self.now c.begins.new.self) c.in_ok-nameless.ensures
+          (c.in_ok-begins.ensures.begins terms (moment log) due.played)) in
+          plays_begun g.K.PartialEq.eq hash terms log c.args.guard c.args.map.now c.args.call c.args.self.now c.begins.new.self due begun played c.take_steps.new.self taken) c.take_steps.ensures;
+    }
