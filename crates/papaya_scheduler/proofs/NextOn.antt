@@ -61,7 +61,7 @@ module _ {K V : Type 0} where
   as_sweep q (kinds.Count sum) said so = absurd so
 
 -- a walk at a place of its table, by what all know on its map
-module _ {K V S : Type 0} (same : K → K → Bool) (hash : K → ℕ) (n : ℕ) (s : Scene K V) (map i : ℕ) (st : Standing K)
+module _ {K V : Type 0} (same : K → K → Bool) (hash : K → ℕ) (n : ℕ) (s : Scene K V) (map i : ℕ) (st : Standing K)
     (together : Together V same st.hash same st.setting slot_of s.world st.chart st.blocks st.sights (s.calls map)) (u : UnderWay K V K) (under : s.calls map i ≡ Some u) (walking : IsWalking n (machine_of u)) where
   abbrev pub GoesOver : Sweep → Type 0
   GoesOver sweep =
@@ -104,8 +104,8 @@ module _ {K V S : Type 0} (same : K → K → Bool) (hash : K → ℕ) (n : ℕ)
   further_on sweep (inr (over, none)) after less = omega (arith, none, less)
 
   -- what its next step says
-  pub says : (old new : Executor K V S) (machine : Machine K V K) (said : Progress (Node K V)) → StepsFrom same hash (machine_of u) old new machine said → (it : IsWalk) → IsNextSaying it.sweep (machine, said)
-  says old new machine said steps it = by it.over
+  pub says : {S : Type 0} (old new : Executor K V S) (machine : Machine K V K) (said : Progress (Node K V)) → StepsFrom same hash (machine_of u) old new machine said → (it : IsWalk) → IsNextSaying it.sweep (machine, said)
+  says {S} old new machine said steps it = by it.over
     where
       from : StepsFrom same hash (kinds.Sweep it.sweep) old new machine said
       from = subst (λ (x : Machine K V K). StepsFrom same hash x old new machine said) it.is steps
@@ -141,13 +141,13 @@ module _ {K V S : Type 0} (same : K → K → Bool) (hash : K → ℕ) (terms : 
   together = stands.shown.is_at.together.makings.standing.each d.map st.0 st.1
 
   abbrev pub Its : Type 0
-  Its = IsWalk {S = S} same hash n stands.scene d.map d.number st.0 together here.way.0 here.way.1 its_walk.1
+  Its = IsWalk same hash n stands.scene d.map d.number st.0 together here.way.0 here.way.1 its_walk.1
 
   pub its_sweep : Its
-  its_sweep = walk_is {S = S} same hash n stands.scene d.map d.number st.0 together here.way.0 here.way.1 its_walk.1
+  its_sweep = walk_is same hash n stands.scene d.map d.number st.0 together here.way.0 here.way.1 its_walk.1
 
   pub few_steps : n ≤ 2 ^ 48
-  few_steps = few_places {S = S} same hash n stands.scene d.map d.number st.0 together here.way.0 here.way.1 its_walk.1 its_sweep.sweep its_sweep.over
+  few_steps = few_places same hash n stands.scene d.map d.number st.0 together here.way.0 here.way.1 its_walk.1 its_sweep.sweep its_sweep.over
 
   module _ (said : Progress (Node K V)) (new : Logged K V S) (before after : List Effect) (leads_so : CallGoesOn same hash stands.name w stands.scene d.number d.map said before after p.logged new) where
     abbrev pub leads : StepLeads same hash d.number said stands.scene p.logged.executor new.executor
@@ -195,7 +195,7 @@ module _ {K V S : Type 0} (same : K → K → Bool) (hash : K → ℕ) (terms : 
       λ holds. (
         (its_walk same hash terms own n w p stands place at_place).0,
         subst (IsWalking (n + 1)) (sym (goes_as_said same hash terms own n w p stands place at_place progress.Goes new before after leads_so x goes))
-            (to.2 ∙ it.walks, inl (to.3.0, further_on {S = S} same hash n stands.scene its.caller.map its.caller.number _ _ its.way.0 its.way.1 (its_walk same hash terms own n w p stands place at_place).1 it.sweep it.over to.0.place to.3.1)),
+            (to.2 ∙ it.walks, inl (to.3.0, further_on same hash n stands.scene its.caller.map its.caller.number _ _ its.way.0 its.way.1 (its_walk same hash terms own n w p stands place at_place).1 it.sweep it.over to.0.place to.3.1)),
       ),
       λ fails. absurd (let a = ap (λ (l : List ℕ). is_same l own) its.named ∙ is_same_refl own in cc (a, fails)),
     )

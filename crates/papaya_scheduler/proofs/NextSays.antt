@@ -51,7 +51,7 @@ module _ (K V : Type 0) (q : Sweep) (walks : q.purpose ≡ Walks) where
     further_so = by (nat_lt (past q).place q.table.len) (removes q.purpose && q.met) (keeps_all q.met)
       where
         by : (b c : Bool) → c ≡ false → So (swept (telling (standing (past q) (if b then at.Words else (if c then at.Follows else at.Over)))))
-        by true c fails = (refl, refl, omega (arith, place, fits))
+        by true c fails = (refl, (refl, omega (arith, place, fits)))
         by false true fails = absurd (cc fails)
         by false false fails = (refl, tt)
 

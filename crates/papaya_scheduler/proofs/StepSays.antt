@@ -318,7 +318,7 @@ module _ {K V S : Type 0} (same : K → K → Bool) (hash : K → ℕ) (name : �
       let for = reserve_room same hash old new to.1 said r.reserve room to.3 in
       let did = to.4.did in record {
         comes = subst (λ (z : Call K V). ComesAs z (outcome_of known2 its value said)) (sym call_is)
-            (subst (λ (z : Progress (Node K V)). ComesAs (Reserves more) (outcome_of known2 its value z)) (sym did.3) (room_comes its known2 value more did.1 (subst SaysRoom did.3 for.1)));
+            (subst (λ (z : Progress (Node K V)). ComesAs {K = K} (Reserves more) (outcome_of known2 its value z)) (sym did.3) (room_comes its known2 value more did.1 (subst SaysRoom did.3 for.1)));
         far = λ y goes. subst (λ (z : Machine K V K). IsAsFar its (far_then known2 said) z) (sym (goes_as to.1 said to.4.next to.4.goes_on y goes ∙ did.2))
             (subst (λ (z : Progress (Node K V)). IsAsFar {K = K} {V = V} its (far_then known2 z) (kinds.Reserve did.0)) (sym did.3) (room_far its known2 did.0 did.1));
         asks = λ y goes. no_key (ForRoom r) under said leads (λ p e. let a = did.2 in cc (a, e)) y goes;

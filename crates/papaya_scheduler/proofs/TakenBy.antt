@@ -10,9 +10,9 @@ use Rattle.papaya_schedules.specs.After.{moment}
 use Rattle.papaya_schedules.specs.Entry.{Entry}
 use Rattle.papaya_schedules.specs.Moment.{Moment}
 use Rattle.papaya_schedules.specs.Terms.{Terms}
-use Rattle.papaya_scheduler.specs.Played.{IsDue, StandsFor, entry_of}
+use Rattle.papaya_scheduler.specs.Played.{IsDue, entry_of}
 use Rattle.papaya_scheduler.specs.Seen.{is_named}
-use Rattle.papaya_scheduler.specs.Stepping.{PlaysOn, SaysAgain, StandsAt, TakenAs, TakenBy}
+use Rattle.papaya_scheduler.specs.Stepping.{PlaysOn, SaysAgain, TakenAs, TakenBy}
 use Rattle.papaya_scheduler.specs.declared.caller.Stands.{Stands as HowFar}
 use Rattle.papaya_scheduler.specs.declared.caller.Stands.TheVariants as far
 use Rattle.papaya_scheduler.specs.declared.played.Played.{Played}
@@ -59,7 +59,3 @@ module _ {K V S : Type 0} (same : K → K → Bool) (hash : K → ℕ) (terms : 
 
     pub plays_gone : PlaysOn same hash terms log (entry_of (Go own refuse) played) new
     plays_gone = by_go there.caller.stands refl (taken there.caller there.at)
-
-  -- a call stands at its place
-  pub stands_at : StandsFor same hash terms m old → StandsAt same hash place old
-  stands_at stands = (terms, m, own, stands, placed)

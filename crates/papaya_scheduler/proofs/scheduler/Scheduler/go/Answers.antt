@@ -2,22 +2,19 @@
 use Rattle.std.proofs.Common.{sym, subst, ◌∙◌, arith}
 use Rattle.std.proofs.lemmas.Result.{IfOk-weaker}
 use Rattle.seize_words.specs.declared.fault.Fault.TheVariants.{Busy}
+use Rattle.papaya_schedules.specs.After.{moment}
 use Rattle.papaya_schedules.specs.declared.event.Event.TheVariants.{Go}
 use Rattle.papaya_schedules.specs.declared.outcome.Outcome.TheVariants.{Refused}
 use Rattle.papaya_scheduler.specs.Stepping.{PlaysOn}
 use Rattle.papaya_scheduler.proofs.PlaysAgain.{go_busy}
 use Rattle.papaya_scheduler.proofs.Rights.{entry_is}
-use Rattle.papaya_scheduler.proofs.TakenBy.{plays_gone, stands_at}
+use Rattle.papaya_scheduler.proofs.TakenBy.{plays_gone}
 use Rattle.papaya_scheduler.proofs.scheduler.Scheduler.go.Goals as goal
 
 pub take_steps-requires : goal.take_steps-requires
 take_steps-requires g c =
     let r = c.requires in
-    let hash = g.S.Hashes.hash c.args.self.now.logged.executor.hasher in
-    record {
-      some = omega arith;
-      stands = stands_at g.K.PartialEq.eq hash r.0 r.1 c.args.caller.now c.args.refuse c.args.self.now c.args.self.now c.in-Some.place (sym c.in-Some.is ∙ c.place_of.ensures) _ r.2.played;
-    }
+    record { some = omega arith; stands = (r.0, moment r.1, c.args.caller.now, r.2.played, sym c.in-Some.is ∙ c.place_of.ensures) }
 
 pub returns-in-Some : goal.returns-in-Some
 returns-in-Some g c = record {
