@@ -44,8 +44,3 @@ mod RightSteps
 mod PlaysSteps
 mod PlaysAgain
 mod TakenBy
-mod PlaysWhole
-mod NextSays
-mod NextBegins
-mod NextOn
-mod NextEnds

@@ -7,4 +7,3 @@ pub mod Handing
 pub mod Played
 pub mod KeptOut
 pub mod Stepping
-pub mod Happening

@@ -1,9 +1,9 @@
 //! Calls take steps, one or many.
-ghost use Rattle.std.specs.Prelude.{◌≡◌, ◌↔◌, ◌<◌, ◌≤◌, true, length, slice_get, Some, IfOk};
+ghost use Rattle.std.specs.Prelude.{◌≡◌, ◌<◌, ◌≤◌, length, slice_get, Some, IfOk};
 ghost use Rattle.papaya_schedules.specs.declared.event.Event.TheVariants as event;
 ghost use Rattle.papaya_effects.specs.Known.{known};
 ghost use Rattle.papaya_scheduler.specs.Played.{MayPlay};
-ghost use Rattle.papaya_scheduler.specs.Stepping.{IsStepped, MayGo, MayStep, MayWalk, PlaysNextAt, PlaysOnAt, StandsAt, StepsCome, TakenAs, WalkComes, callers_then, outcome_of};
+ghost use Rattle.papaya_scheduler.specs.Stepping.{IsStepped, MayGo, MayStep, PlaysOnAt, StandsAt, StepsCome, TakenAs, callers_then, outcome_of};
 ghost use Rattle.papaya_scheduler.specs.Telling.{goes_on};
 ghost use Rattle.papaya_scheduler.specs.declared.caller.Caller.{Caller};
 
@@ -14,7 +14,6 @@ use crate::telling::{answer_of, number_by};
 use papaya_raw::machines::Progress;
 use papaya_raw::{Hashes, Node};
 use papaya_runs::token::Token;
-use papaya_schedules::call::Call;
 use papaya_schedules::effect::Effect;
 use papaya_schedules::outcome::Outcome;
 use std::alloc::AllocError;
@@ -28,13 +27,6 @@ fn goes_on<V>(outcome: &Outcome<V>) -> bool
     ensures { result ≡ goes_on outcome.now }
 {
     matches!(outcome, Outcome::Goes)
-}
-
-/// Whether a step says no more than that its call goes on.
-fn just_goes<K, V>(progress: &Progress<Node<K, V>>) -> bool
-    ensures { progress.now ≡ Progress.Goes ↔ result ≡ true }
-{
-    matches!(progress, Progress::Goes)
 }
 
 impl<K: Drop, V: Drop, S> Scheduler<K, V, S> {
@@ -173,62 +165,5 @@ impl<K: Eq + Hash + Drop, V: Drop, S: Hashes<K>> Scheduler<K, V, S> {
             Some(place) => self.take_steps(place, MOST_STEPS, refuse),
             None => Ok(self.busy()),
         }
-    }
-
-    /// Begins a call of the caller without a name, and goes on with it.
-    pub fn one_call(
-        &mut self,
-        guard: Token,
-        map: &Token,
-        call: Call<K, V>,
-    ) -> Result<Played<V>, AllocError>
-        requires { MayPlay K.eq (S.hash self.old.logged.executor.hasher) (event.OneCall guard map.now call) self.old }
-        ensures plays { IfOk result (λ played. PlaysOnAt K.eq (S.hash self.old.logged.executor.hasher) (event.OneCall guard map.now call) played self.old self.new) }
-    {
-        let nameless = Token::copy_of(*self.maps.allocator(), b"-")?;
-        if self.begins(nameless, guard, map, call)? {
-            self.take_steps(0, MOST_STEPS, false)
-        } else {
-            Ok(self.busy())
-        }
-    }
-
-    /// The walk at this place, which was asked for its next pair, takes steps until one tells more than that it goes on. What they do is added to the list.
-    fn walk_on(
-        &mut self,
-        place: usize,
-        effects: &mut Vec<Effect>,
-    ) -> Result<(Progress<Node<K, V>>, u64), AllocError>
-        requires { MayWalk K.eq (S.hash self.old.logged.executor.hasher) place self.old }
-        ensures { IfOk result (λ come. WalkComes K.eq (S.hash self.old.logged.executor.hasher) place come.1 come.0 effects.old.items effects.new.items self.old self.new) }
-    {
-        let (number, map) = self.calls.way_of(place);
-        for steps in 1..u64::MAX {
-            let progress = self.logged.step(number, map, effects)?;
-            if !just_goes(&progress) {
-                return Ok((progress, steps));
-            }
-        }
-        unreachable!()
-    }
-
-    /// The next pair of the caller's walk, or that there is none.
-    pub fn next(&mut self, caller: &Token) -> Result<Played<V>, AllocError>
-        requires { MayPlay K.eq (S.hash self.old.logged.executor.hasher) (event.Next caller.now) self.old }
-        ensures plays { IfOk result (λ played. PlaysNextAt K.eq (S.hash self.old.logged.executor.hasher) caller.now played self.old self.new) }
-    {
-        let Some(place) = self.place_of_ready(caller) else {
-            return Ok(self.busy());
-        };
-        let (number, _) = self.calls.way_of(place);
-        self.logged.next(number);
-        let mut effects = self.no_effects();
-        let come = self.walk_on(place, &mut effects)?;
-        let outcome = self.come_to(place, come.0);
-        Ok(Played {
-            outcome,
-            steps: come.1,
-            effects,
-        })
     }
 }
