@@ -36,11 +36,11 @@ use Rattle.papaya_executor.specs.declared.row.SlotUse.TheVariants as used
 use Rattle.papaya_executor.specs.declared.worker.TheConstants.{SLOTS}
 use Rattle.papaya_logged.specs.Ended.{has_ended, uses_ended}
 use Rattle.papaya_logged.specs.declared.logged.Logged.{Logged}
-use Rattle.papaya_scheduler.specs.Played.{StandsFor, used_as}
-use Rattle.papaya_scheduler.specs.Rows.{RowRan}
+use Rattle.papaya_scheduler.specs.Played.{StandsFor}
+use Rattle.papaya_rows.specs.Rows.{RowRan, used_as}
 use Rattle.papaya_scheduler.specs.declared.scheduler.Scheduler.{Scheduler}
-use Rattle.papaya_scheduler.proofs.Ran.{Led}
-use Rattle.papaya_scheduler.proofs.Taking.{Ends, taken}
+use Rattle.papaya_rows.proofs.Ran.{Led}
+use Rattle.papaya_rows.proofs.Taking.{Ends, taken}
 use Rattle.papaya_scheduler.proofs.Vacancies.{IsFirst, first_is, none_left, none_on_vacant}
 
 -- what ends with a growth that was asked for has one
@@ -86,7 +86,7 @@ module _ {K V S : Type 0} (same : K → K → Bool) (hash : K → ℕ) (terms : 
   told_one no_slot no_fault = by all.1
     where
       by : Ended said → ⊥
-      by (inl (fault, is, why)) = no_fault fault is
+      by (inl (fault, is, why, asked)) = no_fault fault is
       by (inr (slot, is, first)) = no_slot slot is
 
   abbrev begun : Register
@@ -103,7 +103,7 @@ module _ {K V S : Type 0} (same : K → K → Bool) (hash : K → ℕ) (terms : 
     first = by all.1
       where
         by : Ended said → IsFirst same hash terms m p stands slot
-        by (inl (fault, refused, why)) = absurd (cc (is, refused))
+        by (inl (fault, refused, why, asked)) = absurd (cc (is, refused))
         by (inr (other, found, new_is)) =
             let alike : other ≡ slot = let both : ◌≡◌ {A = RowTold (Node K V)} (told.Registered other) (told.Registered slot) = sym found ∙ is in cc both in
             subst (IsFirst same hash terms m p stands) alike (first_is same hash terms m p stands other new_is)
