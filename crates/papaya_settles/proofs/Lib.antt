@@ -25,3 +25,13 @@ pub mod DueRows
 pub mod DueCalls
 pub mod Owing
 pub mod Takings
+pub mod WordOps
+pub mod Adds
+pub mod KeyAdds
+pub mod RestAdds
+pub mod ShardKept
+pub mod ShardCalls
+pub mod ShardOthers
+pub mod ShardBetween
+pub mod ShardMakes
+pub mod ShardNumbers

@@ -6,3 +6,6 @@ pub mod Entries
 pub mod Due
 pub mod Owing
 pub mod InHand
+pub mod Adds
+pub mod ShardWords
+pub mod ShardSteps

@@ -65,19 +65,19 @@ use Rattle.papaya_histories.specs.Elsewhere.{StaysElsewhere}
 
 -- where a making, and an end, has come, the executor is there
 module _ {K V S : Type 0} (same : K → K → Bool) (hash : K → ℕ) (s : Scene K V) (old new : Executor K V S) where
-  making_at : (i : ℕ) (b : Beginning K) (end : NewMap) (w2 : World (Node K V)) (told : Progress Setting) (it : MakingComesTo same hash s old new i b end w2 told)
+  pub making_at : (i : ℕ) (b : Beginning K) (end : NewMap) (w2 : World (Node K V)) (told : Progress Setting) (it : MakingComesTo same hash s old new i b end w2 told)
       → IsAt same hash new (making_after same hash s old new i b end w2 told it)
   making_at i b end w2 progress.Goes it = it
   making_at i b end w2 progress.Waits it = absurd it
   making_at i b end w2 (progress.Done setting) it = it.2
   making_at i b end w2 (progress.Refused fault) it = it
 
-  ending_at : (i : ℕ) (f : Finishing K V) (end : EndMap) (w2 : World (Node K V)) (deed : Deed) (told : Settled (Node K V)) (it : EndingComesTo same hash s new i f end w2 deed told)
-      → (let s2 = ending_after same hash s new i f end w2 deed told it in (s2.world ≡ w2) × (s2.calls ≡ s.calls) × (s2.maps ≡ s.maps) × IsAt same hash new s2)
-  ending_at i f end w2 deed settled.Goes it = (refl, refl, refl, it.1)
+  pub ending_at : (i : ℕ) (f : Finishing K V) (end : EndMap) (w2 : World (Node K V)) (deed : Deed) (told : Settled (Node K V)) (it : EndingComesTo same hash s new i f end w2 deed told)
+      → (let s2 = ending_after same hash s new i f end w2 deed told it in (s2.world ≡ w2) × (s2.calls ≡ s.calls) × (s2.maps ≡ s.maps) × IsAt same hash new s2 × (s2.makers ≡ s.makers))
+  ending_at i f end w2 deed settled.Goes it = (refl, refl, refl, it.1, refl)
   ending_at i f end w2 deed settled.Waits it = absurd it
-  ending_at i f end w2 deed (settled.Gave value) it = (refl, refl, refl, it.3)
-  ending_at i f end w2 deed settled.Done it = (refl, refl, refl, it.2)
+  ending_at i f end w2 deed (settled.Gave value) it = (refl, refl, refl, it.3, refl)
+  ending_at i f end w2 deed settled.Done it = (refl, refl, refl, it.2, refl)
 
 -- what is asked for its next pair is ready
 ready_is : (stands : Sweeping) → true ≡ is_ready stands → stands ≡ at.Ready
