@@ -59,7 +59,7 @@ apart_no (effect.Counted s) apart = absurd (cc apart)
 apart_no _ apart = refl
 
 module _ {K V : Type 0} where
-  due_same : (its : Call K V) (c : CallThere K V) (old : Option ℕ) (new : ℕ) → ((due_for its c old new).gained ≡ c.gained) × ((due_for its c old new).lost ≡ c.lost)
+  pub due_same : (its : Call K V) (c : CallThere K V) (old : Option ℕ) (new : ℕ) → ((due_for its c old new).gained ≡ c.gained) × ((due_for its c old new).lost ≡ c.lost)
   due_same (call.On one) c old new = (refl, refl)
   due_same (call.Reserve n) c old new = (refl, refl)
   due_same call.Clear c old new = (refl, refl)

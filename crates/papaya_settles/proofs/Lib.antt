@@ -38,3 +38,13 @@ pub mod Nothing
 pub mod Unpromoted
 pub mod EndsOver
 pub mod HandKeys
+pub mod WordOps
+pub mod Adds
+pub mod KeyAdds
+pub mod RestAdds
+pub mod ShardKept
+pub mod ShardCalls
+pub mod ShardOthers
+pub mod ShardBetween
+pub mod ShardMakes
+pub mod ShardNumbers
