@@ -196,7 +196,7 @@ module _ {K V S : Type 0} (same : K → K → Bool) (hash : K → ℕ) (name : �
           by : CountGoes (Unit {0}) shard effects (counts_in_calling x.call.stands) (counts_in_calling p2.stands) → counts_in_calling x.call.stands ≡ false → counts_in_calling p2.stands ≡ true → Brings (Unit {0}) removed effects
           by (KeepsCount apart e) none some = absurd (cc (e, none, some))
           by (AddsOne may n sp are e) none some = inl (tt, stored_none removed is before n sp are, n, sp, are)
-          by (GivesWay p n sp are e) none some = absurd (cc (e, none, some))
+          by (GivesWay may p n sp are e) none some = absurd (cc (e, none, some))
           by (TakesOne n are e) none some = inr (removed_some removed is n are, n, are)
           by (CountsAll are e f) none some = absurd (cc (e, none))
 

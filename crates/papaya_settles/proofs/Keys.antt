@@ -276,7 +276,7 @@ module _ {K V S : Type 0} (same : K → K → Bool) (hash : K → ℕ) (name : �
         once_goes (DidStore sp are e absent comes) (IsNew n is counts) = AddsOne tt (known.stored + 1) sp are counts
         once_goes (DidStore sp are e absent comes) (IsGone n is counts) = absurd (cc (e, is))
         once_goes (DidReplace k sp are e pair comes) (IsNone is never) = absurd (cc (e, is))
-        once_goes (DidReplace k sp are e pair comes) (IsOver o n is never) = GivesWay (shown.number map k) (known.stored + 1) sp are (never ∙ sym none_before)
+        once_goes (DidReplace k sp are e pair comes) (IsOver o n is never) = GivesWay tt (shown.number map k) (known.stored + 1) sp are (never ∙ sym none_before)
         once_goes (DidReplace k sp are e pair comes) (IsNew n is counts) = absurd (cc (e, is))
         once_goes (DidReplace k sp are e pair comes) (IsGone n is counts) = absurd (cc (e, is))
         once_goes (DidRemove k are e pair) (IsNone is never) = absurd (cc (e, is))

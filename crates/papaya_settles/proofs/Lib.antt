@@ -38,6 +38,15 @@ pub mod Nothing
 pub mod Unpromoted
 pub mod EndsOver
 pub mod HandKeys
+pub mod Leaving
+pub mod Spares
+pub mod CopierTables
+pub mod HandCopiers
+pub mod HandCopies
+pub mod HandKeyCopies
+pub mod HandRooms
+pub mod HandSweeps
+pub mod HandAll
 pub mod WordOps
 pub mod Adds
 pub mod KeyAdds

@@ -178,14 +178,18 @@ module _ {K V S : Type 0} (same : K → K → Bool) (hash : K → ℕ) (name : �
   room_uncounted : (x : CallForRoom) → u ≡ ForRoom x → NoneCounts effects
   room_uncounted x is = none_counts i map known told (room_nowhere x is)
 
+  -- no pair comes or goes by a step of one
+  pub room_shifts : (x : CallForRoom) (done : Did (ForRoom x)) → NoRow (ForRoom x) done → flat_map shift_of effects ≡ []
+  room_shifts x (p2, end, machine_is, told_is, inl (step, moved)) own =
+      none_kept step.step.went.c2
+      (moved_shifts same hash m known s old new at_old name shown map i st to.2 (name i) (made_so same hash name m known s old new at_old shown map i u under_way said leads)
+      (is_inside same hash name m known s old new at_old shown map i u under_way said leads) _ step.step.went step.step.blocks2 step.step.grown step.step.sights2) step.step.same_pairs
+  room_shifts x (p2, end, machine_is, told_is, inr row) own = absurd own
+
   pub room_counts : (x : CallForRoom) → u ≡ ForRoom x → (done : Did (ForRoom x)) → ((NoRow (ForRoom x) done → ⊥) → TakesNone told) → Goes false (is_to_count to.1) × (to.4.next ≡ None → is_to_count to.1 ≡ false)
   room_counts x is (p2, end, machine_is, told_is, inl (step, moved)) takes =
       let never : is_to_count to.1 ≡ false = ap is_to_count machine_is in (
-        KeepsCount (all_apart effects
-            (none_kept step.step.went.c2
-            (moved_shifts same hash m known s old new at_old name shown map i st to.2 (name i) (made_so same hash name m known s old new at_old shown map i u under_way said leads)
-            (is_inside same hash name m known s old new at_old shown map i u under_way said leads) _ step.step.went step.step.blocks2 step.step.grown step.step.sights2) step.step.same_pairs)
-            (room_uncounted x is)) never,
+        KeepsCount (all_apart effects (room_shifts x (p2, end, machine_is, told_is, inl (step, moved)) tt) (room_uncounted x is)) never,
         λ none. never,
       )
   room_counts x is (p2, end, machine_is, told_is, inr (row, stayed)) takes =
@@ -425,6 +429,11 @@ module _ {K V S : Type 0} (same : K → K → Bool) (hash : K → ℕ) (name : �
               (apart_goes p2 end machine_is told_is apart.0 apart.1 (row_none row.step.w2 row.step.memory row.step.happened (takes (λ own. own)))),
           λ none. after_is p2 end machine_is told_is ∙ idle p2 end machine_is told_is apart.1,
         )
+
+    -- elsewhere than at a try no pair comes or goes by a step of one
+    pub sweep_shifts : (done : Did (OverAll x)) → NoRow (OverAll x) done → IsNoTry x.sweep.stands → flat_map shift_of effects ≡ []
+    sweep_shifts (p2, end, machine_is, told_is, inl (step, moved)) none apart = none_moved p2 end machine_is told_is step apart
+    sweep_shifts (p2, end, machine_is, told_is, inr row) none apart = absurd none
 
     pub sweep_takes : (done : Did (OverAll x)) → NoRow (OverAll x) done → (p : ℕ) → effects ≡ effect.Removed p ∷ []
         → (q : Sweep) × (to.1 ≡ kinds.Sweep q) × (word : ℕ) × (q.stands ≡ sweeping.Counts word) × (known.roles (block_in word) ≡ role.Pair p)

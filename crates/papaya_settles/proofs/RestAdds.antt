@@ -108,7 +108,7 @@ module _ {K V S : Type 0} (same : K → K → Bool) (hash : K → ℕ) (name : �
             by : CountGoes ⊥ shard effects (counts_in_sweeping x.sweep.stands) (counts_in_sweeping p2.stands) → counts_in_sweeping x.sweep.stands ≡ false → counts_in_sweeping p2.stands ≡ true → Brings ⊥ removed effects
             by (KeepsCount apart e) none some = absurd (cc (e, none, some))
             by (AddsOne may n sp are e) none some = absurd may
-            by (GivesWay p n sp are e) none some = absurd (cc (e, none, some))
+            by (GivesWay may p n sp are e) none some = absurd (cc (e, none, some))
             by (TakesOne n are e) none some = inr (removed_some removed is n are, n, are)
             by (CountsAll are e f) none some = absurd (cc (e, none))
 

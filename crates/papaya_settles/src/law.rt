@@ -4,7 +4,7 @@ ghost use Rattle.papaya_settles.specs.Beside.{StaysCounts, EffectsLeaveCounts, W
 ghost use Rattle.papaya_settles.specs.Due.{RowsTellDue};
 ghost use Rattle.papaya_settles.specs.Entries.{EntriesBegin, CallsGoOnEntries, EndingsBeginEntries, CallsKeepEntries, RowsBeginEntries, RowsKeepEntries, MakingsKeepEntries, EndingsKeepEntries};
 ghost use Rattle.papaya_settles.specs.InHand.{CallsTakeInHand, CallsHoldTheirs, SweepsTakeInHand, SweepsHoldTheirs};
-ghost use Rattle.papaya_settles.specs.Owed.{OwedBegins, StaysOwed, EffectsLeaveOwed, CallsBeginOwed, CallsTakeOwed, CallsComeToOwed, WalksHaveNothing, RowsHandOver, KeysGoInHand, CallsKeepOwed, WalksGoOnOwed, WalksStopOwed};
+ghost use Rattle.papaya_settles.specs.Owed.{OwedBegins, StaysOwed, EffectsLeaveOwed, CallsBeginOwed, CallsTakeOwed, CallsComeToOwed, WalksHaveNothing, RowsHandOver, CallsGoInHand, CallsKeepOwed, WalksGoOnOwed, WalksStopOwed};
 ghost use Rattle.papaya_settles.specs.Owing.{OwesFollow, HandingFollows, StepsTakeOut};
 ghost use Rattle.papaya_settles.specs.ShardSteps.{CountersBegin, CallsKeepCounters, CallsKeepNumbers, RoomsCountNothing, RowsBeginCounters, RowsKeepCounters, MakingsKeepCounters, EndingsKeepCounters, MakingsBeginCounters, EndingsBeginCounters, CallsBeginCounters, CallsTakeCounters, CallsComeToCounters, CountersStay, NumbersBegin, NumbersStay};
 ghost use Rattle.papaya_settles.specs.Shards.{CountsFindShards};
@@ -73,11 +73,12 @@ pub fn calls_take_in_hand<K, V, S>()
 {}
 
 /// A row within a call hands over what the call has in hand first, by where its machine stands: the pair that it disposes of, or the next of the tables that its copier has
-/// unlinked. What it has in hand behind that, the tables that come after that one, it has still, and all of it is noted as what it is. A step of a call on one key that is
-/// none of a row, and copies no pairs, leaves it what it had in hand, or it takes a pair out of its map and has that in hand then; and once it has ended, it has nothing.
+/// unlinked. What it has in hand behind that, the tables that come after that one, it has still, and all of it is noted as what it is. A step of any other kind leaves a call
+/// what it had in hand, or it takes a pair out of its map, or makes a copier's target the root, and has that pair, or the tables that the root has left, in hand then, behind
+/// what it had; and once a call has ended, it has nothing.
 pub fn rows_hand_over_first<K, V, S>()
     ensures rows { (same : K → K → Bool) (hash : K → ℕ) → RowsHandOver K V S same hash }
-    ensures keys { (same : K → K → Bool) (hash : K → ℕ) → KeysGoInHand K V S same hash }
+    ensures calls { (same : K → K → Bool) (hash : K → ℕ) → CallsGoInHand K V S same hash }
 {}
 
 /// At each moment of a run that shows the executor, a call under way owes just what its machine has in hand, in the order in which it hands that over. So it is before all
