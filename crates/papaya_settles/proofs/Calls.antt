@@ -83,7 +83,7 @@ module _ {K V S : Type 0} (same : K → K → Bool) (hash : K → ℕ) (name : �
   abbrev Does : UnderWay K V K → Type 0
   Does x = CountGoes (MayStore x) shard effects (is_to_count (machine_of x)) (is_to_count to.1) × (to.4.next ≡ None → is_to_count to.1 ≡ false)
 
-  its : (c : CallThere K V) × (call_of (name i) m ≡ Some c) × (c.map ≡ map) × IsCalled same u c.call
+  abbrev pub its : (c : CallThere K V) × (call_of (name i) m ≡ Some c) × (c.map ≡ map) × IsCalled same u c.call
   its = shown.calls map i u here
 
   -- between its steps a call on one key replaces nothing

@@ -107,15 +107,12 @@ module _ (K V S : Type 0) (same : K → K → Bool) (hash : K → ℕ) where
     where
       did : DidSo same hash name m known s old new at_old shown map i (OverAll x) here said leads (OverAll x)
       did = (went_to same hash name m known s old new at_old shown map i (OverAll x) here said leads).4.did
-  calls_go_in_hand name m known s old new at_old shown rows entries owning map i (Counting x) here said leads notes = by to.4.did
+  calls_go_in_hand name m known s old new at_old shown rows entries owning map i (Counting x) here said leads notes = by (went_to same hash name m known s old new at_old shown map i (Counting x) here said leads).4.did
     where
-      abbrev to : WentTo same hash name m known s old new at_old shown map i (Counting x) here said leads
-      to = went_to same hash name m known s old new at_old shown map i (Counting x) here said leads
-
       by : DidSo same hash name m known s old new at_old shown map i (Counting x) here said leads (Counting x) → HandGoes K V S same hash m known s old new map i (Counting x) said here leads
       by (sum2, end, machine_is, told_is, still, stayed) =
+          let to = went_to same hash name m known s old new at_old shown map i (Counting x) here said leads in
           let none : in_hand known to.1 ≡ [] = ap (in_hand known) machine_is in
-          (KeepsOwed (all_calm _ (stayed_calm same hash m known s old new at_old name shown map i to.0 to.2 (name i)
-              (made_so same hash name m known s old new at_old shown map i (Counting x) here said leads)
-              (is_inside same hash name m known s old new at_old shown map i (Counting x) here said leads) still).calm).0 none,
-            subst (NotesInHand known) (sym machine_is) tt, λ ended. none)
+          let calm = stayed_calm same hash m known s old new at_old name shown map i to.0 to.2 (name i) (made_so same hash name m known s old new at_old shown map i (Counting x) here said leads)
+          (is_inside same hash name m known s old new at_old shown map i (Counting x) here said leads) still in
+          (KeepsOwed (all_calm _ calm.calm).0 none, subst (NotesInHand known) (sym machine_is) tt, λ ended. none)

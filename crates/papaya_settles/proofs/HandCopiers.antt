@@ -223,28 +223,28 @@ module _ {K V S : Type 0} (same : K → K → Bool) (hash : K → ℕ) (name : �
       s0_known : blocks.table_known s0 ≡ true
       s0_known = (cut.5 s0 (omega arith) cut.2).0
 
-      turn_is : p.target.turn ≡ t0
-      turn_is = ap (λ (z : Table). z.turn) cut.4.is
+      cut_turn : p.target.turn ≡ t0
+      cut_turn = ap (λ (z : Table). z.turn) cut.4.is
 
       abbrev next : ℕ → Copier
       next link = retiring_table p table (also_retired p link)
 
       module _ (link : ℕ) (link_is : link ≡ blocks.table (suc s0) * 2048) where
-        abbrev rest : ℕ
-        rest = also_retired p link
+        abbrev left : ℕ
+        left = also_retired p link
 
-        rest_goes : (tables_from known (next link) rest ≡ passed map (suc s0) t0) × NotesTable known rest
-        rest_goes = elim (cases_lt (suc s0) t0) as (λ _. (tables_from known (next link) rest ≡ passed map (suc s0) t0) × NotesTable known rest) [
+        rest_goes : (tables_from known (next link) left ≡ passed map (suc s0) t0) × NotesTable known left
+        rest_goes = elim (cases_lt (suc s0) t0) as (λ _. (tables_from known (next link) left ≡ passed map (suc s0) t0) × NotesTable known left) [
           | inl more ↦ (
             let is = rest_between same st.hash i setting s.world c blocks is_map p knows.0 s0 t0 cut.2 cut.4 cut.5 table cut.3 link link_is more in
             let made2 : suc s0 < c.past = (let there_made = cut.4.made in omega (arith, more, there_made)) in
             let its_known = (cut.5 (suc s0) (omega arith) more).0 in
-            (from_table (next link) (suc s0) t0 turn_is made2 its_known rest is, λ some. table_noted (suc s0) made2 its_known rest is)
+            (from_table (next link) (suc s0) t0 cut_turn made2 its_known left is, λ some. table_noted (suc s0) made2 its_known left is)
           )
           | inr last ↦ (
             let order = cut.2 in
             let none = rest_last same st.hash i setting s.world c blocks is_map p knows.0 s0 t0 cut.2 cut.4 cut.5 table cut.3 link link_is (omega (arith, order, last)) in
-            (tables_none known (next link) rest none ∙ sym (passed_none map (suc s0) t0 last), λ some. absurd (some none))
+            (tables_none known (next link) left none ∙ sym (passed_none map (suc s0) t0 last), λ some. absurd (some none))
           )
         ]
 
@@ -252,9 +252,9 @@ module _ {K V S : Type 0} (same : K → K → Bool) (hash : K → ℕ) (name : �
         succeeds_as e =
             let its_role = table_role s0 made s0_known table cut.3 in
             let first : things_at known (Some table) ≡ numbered map s0 ∷ [] = ap thing_as its_role in
-            let hand : things_at known (Some table) ++ tables_from known (next link) rest ≡ tables_from known p table =
-            ap (λ (l : List Thing). l ++ tables_from known (next link) rest) first ∙ ap (λ (l : List Thing). numbered map s0 ∷ l) rest_goes.0
-            ∙ sym (passed_first map s0 t0 cut.2) ∙ sym (from_table p s0 t0 turn_is made s0_known table cut.3) in
+            let hand : things_at known (Some table) ++ tables_from known (next link) left ≡ tables_from known p table =
+            ap (λ (l : List Thing). l ++ tables_from known (next link) left) first ∙ ap (λ (l : List Thing). numbered map s0 ∷ l) rest_goes.0
+            ∙ sym (passed_first map s0 t0 cut.2) ∙ sym (from_table p s0 t0 cut_turn made s0_known table cut.3) in
             subst (GoesFrom (copying.Succeeds table)) (sym e) (KeepsOwed all hand, (table_noted s0 made s0_known table cut.3, rest_goes.1), inr refl)
 
       succeeds_goes : SteppedAt (copying.Succeeds table) → GoesFrom (copying.Succeeds table) end

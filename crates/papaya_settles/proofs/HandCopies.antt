@@ -1,5 +1,5 @@
 -- A step of a call that copies pairs, none of a row: what its copier has in hand goes with the effects of the step, and the call has that in hand.
-use Rattle.std.specs.Prelude.{◌≡◌, ℕ, ◌==◌, Bool, true, false, List, [], Option, Some, None, ◌⊎◌, if◌then◌else◌}
+use Rattle.std.specs.Prelude.{◌≡◌, ℕ, ◌==◌, Bool, true, false, List, [], ◌∷◌, Option, Some, None, ◌⊎◌, if◌then◌else◌}
 use Rattle.std.proofs.Common.{refl, ap, sym, subst, ◌∙◌, inl, inr}
 use Rattle.papaya_tables.specs.declared.node.Node.{Node}
 use Rattle.papaya_tables.specs.declared.table.Table.{Table}
@@ -76,16 +76,26 @@ module _ {K V S : Type 0} (same : K → K → Bool) (hash : K → ℕ) (name : �
       → (GoesOrHas r → (in_hand known to.1 ≡ tables_in_hand known r.0 r.0.stands) × (NotesTables known r.0 r.0.stands → NotesInHand known to.1))
       → (has_ended said ≡ true → in_hand known to.1 ≡ []) → ((n : ℕ) → TakesPair effects n → ⊥) → (is_promoting p.stands ≡ false → (t : TableTurn) → effects ≡ effect.Promoted t ∷ [] → ⊥)
       → HandGoes K V S same hash m known s old new map i u said under_way leads
-  copying_goes own p knows row before notes r steps then ended no_pair no_table =
+  copying_goes own p knows row before notes r steps came ended no_pair no_table =
       let goes : CopierGoes same hash name m known s old new at_old shown map i u under_way said leads p knows r =
       copier_goes same hash name m known s old new at_old shown map i u under_way said leads p knows r row notes
       (λ other. leaves same hash name m known s old new at_old shown map i u under_way said leads own no_pair (no_table other)) steps in
-      let it = then goes.2 in (
+      let it = came goes.2 in (
         subst (λ (l : List Thing). OwesGo m effects l (in_hand known to.1)) (sym before)
             (subst (λ (l : List Thing). OwesGo m effects (tables_in_hand known p p.stands) l) (sym it.0) goes.0),
         it.1 goes.1,
         λ none. ended (has_gone same hash name m known s old new at_old shown map i u under_way said leads none),
       )
+
+module _ (known : Known) where
+  -- a sweep that enters a table has nothing in hand
+  beginning_none : (c : Sweep) → NoneOfSweep known (points.beginning c).stands
+  beginning_none c = sweeps_apart known (points.removes c.purpose) sweeping.Words sweeping.Ready (refl, tt) (refl, tt)
+
+  pub entering_none : (c : Sweep) (table : Table) → NoneOfSweep known (points.entering c table).stands
+  entering_none c table =
+      either_sweep known (is_incremental c.setting.mode) (record c { table = table; stands = sweeping.Follows }) (points.beginning (record c { table = table })) (refl, tt)
+      (beginning_none (record c { table = table }))
 
 module _ {K V : Type 0} (known : Known) where
   -- a copier that does not go on has none
@@ -144,18 +154,10 @@ module _ {K V : Type 0} (known : Known) where
       (GoesOrHas r → (in_hand_of_sweep known e.0.stands ≡ tables_in_hand known r.0 r.0.stands) × (NotesTables known r.0 r.0.stands → NotesOfSweep known e.0.stands))
       × (has_ended (of_swept e.1) ≡ true → in_hand_of_sweep known e.0.stands ≡ [])
 
-  beginning_none : (c : Sweep) → NoneOfSweep known (points.beginning c).stands
-  beginning_none c = sweeps_apart known (points.removes c.purpose) sweeping.Words sweeping.Ready (refl, tt) (refl, tt)
-
-  pub entering_none : (c : Sweep) (table : Table) → NoneOfSweep known (points.entering c table).stands
-  entering_none c table =
-      either_sweep known (is_incremental c.setting.mode) (record c { table = table; stands = sweeping.Follows }) (points.beginning (record c { table = table })) (refl, tt)
-      (beginning_none (record c { table = table }))
-
   pub sweep_then : (c : Sweep) (r : Copier × Outcome (Node K V) Table) → SweepThen r (sweeps.copied c r)
   sweep_then c (p, outcome.Goes) = (λ has. (refl, λ notes. notes), λ e. absurd (cc e))
   sweep_then c (p, outcome.Waits) = (λ has. (refl, λ notes. notes), λ e. absurd (cc e))
   sweep_then c (p, outcome.Gave value) = (λ has. (refl, λ notes. notes), λ e. absurd (cc e))
   sweep_then c (p, outcome.Done root) =
-      let none = entering_none c root in (λ has. (none.0 ∙ sym (none_has p (outcome.Done root) (λ e. cc e) has).0, λ notes. none.1), λ e. none.0)
+      let none = entering_none known c root in (λ has. (none.0 ∙ sym (none_has p (outcome.Done root) (λ e. cc e) has).0, λ notes. none.1), λ e. none.0)
   sweep_then c (p, outcome.Refused fault) = (λ has. (sym (none_has p (outcome.Refused fault) (λ e. cc e) has).0, λ notes. tt), λ e. refl)

@@ -108,7 +108,7 @@ module _ {K V S : Type 0} (same : K → K → Bool) (hash : K → ℕ) (name : �
   module _ (p : Copier) (its : Knows p) (row : IsRowOfCopier p.stands → ⊥) (before : in_hand_of_call known x.call.stands ≡ tables_in_hand known p p.stands) (noted : NotesTables known p p.stands)
       (other : is_promoting p.stands ≡ false → call_is_promoting x.call.stands ≡ false) (r : Copier × Outcome (Node K V) Table)
       (steps : StepsTold K V (Copier × Outcome (Node K V) Table) old.memory.memory changed.Nothing (copier_plan hash p) new.memory.memory told r)
-      (e : KeyCall K V K × Called (Node K V)) (is : inner.0 ≡ e) (then : KeyThen known r e) where
+      (e : KeyCall K V K × Called (Node K V)) (is : inner.0 ≡ e) (came : KeyThen known r e) where
     machine_is : to.1 ≡ kinds.Key e.0
     machine_is = ap (λ (z : Machine K V K × Progress (Node K V)). z.0) inner.1 ∙ ap (λ (z : KeyCall K V K × Called (Node K V)). kinds.Key z.0) is
 
@@ -117,17 +117,17 @@ module _ {K V S : Type 0} (same : K → K → Bool) (hash : K → ℕ) (name : �
 
     no_pair : (n : ℕ) → TakesPair effects n → ⊥
     no_pair n takes =
-        (let it = (calls_take_in_hand K V S same hash name m known s old new at_old shown map i x under_way said leads own n takes).1 in
-        let machines : kinds.Key it.0 ≡ kinds.Key e.0 = sym it.1 ∙ machine_is in
-        let one : it.0 ≡ e.0 = cc machines in
-        let some : pair_in_calling e.0.stands ≡ Some it.2 = ap (λ (z : KeyCall K V K). pair_in_calling z.stands) (sym one) ∙ it.3 in
-        let none = then.2 in cc (some, none))
+        (let it = calls_take_in_hand K V S same hash name m known s old new at_old shown map i x under_way said leads own n takes in
+        let machines : kinds.Key it.1 ≡ kinds.Key e.0 = sym it.2 ∙ machine_is in
+        let one : it.1 ≡ e.0 = cc machines in
+        let some : pair_in_calling e.0.stands ≡ Some it.3 = ap (λ (z : KeyCall K V K). pair_in_calling z.stands) (sym one) ∙ it.4 in
+        let none = came.2 in cc (some, none))
 
     goes_so : Goes
     goes_so =
         copying_goes same hash name m known s old new at_old shown map i (OnKey x) under_way said leads own p its row before noted r steps
-        (λ has. (ap (in_hand known) machine_is ∙ (then.0 has).0, λ n. subst (NotesInHand known) (sym machine_is) ((then.0 has).1 n)))
-        (λ ended. ap (in_hand known) machine_is ∙ then.1 (ap has_ended (sym said_is) ∙ ended)) no_pair
+        (λ has. (ap (in_hand known) machine_is ∙ (came.0 has).0, λ n. subst (NotesInHand known) (sym machine_is) ((came.0 has).1 n)))
+        (λ ended. ap (in_hand known) machine_is ∙ came.1 (ap has_ended (sym said_is) ∙ ended)) no_pair
         (λ no. no_promotion same hash name m known s old new at_old shown map i (OnKey x) under_way said leads (call_plan same same hash x.call) inner.0
         (spares_call same same hash x.call x.call.stands (other no) no_row) inner.2)
 

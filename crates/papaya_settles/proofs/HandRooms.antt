@@ -72,22 +72,25 @@ begins_none setting table next = by (is_incremental setting.mode) _ _ refl refl
     by true x y f g = f
     by false x y f g = g
 
-module _ {K V : Type 0} (known : Known) where
-  -- a reservation has nothing in hand
+module _ (known : Known) where
+  -- where it stands a reservation has nothing in hand
+  abbrev NoneOfRoom : Reserving → Type 0
+  NoneOfRoom p = (in_hand_of_room known p ≡ []) × NotesOfRoom known p
+
+  copying_none : (c : Reserve) (table next : Table) → NoneOfRoom (reserves.copying c table next).stands
+  copying_none c table next = copier_none known (copying_all c.setting table next) (copying_all c.setting table next).stands (begins_none c.setting table next)
+
+module _ (known : Known) (K V : Type 0) where
   abbrev HasNone : Reserve × Outcome (Node K V) Unit → Type 0
-  HasNone e = (in_hand_of_room known e.0.stands ≡ []) × NotesOfRoom known e.0.stands
+  HasNone e = NoneOfRoom known e.0.stands
 
   either : (b : Bool) (x y : Reserve × Outcome (Node K V) Unit) → HasNone x → HasNone y → HasNone (if b then x else y)
   either true x y f g = f
   either false x y f g = g
 
   module _ (c : Reserve) where
-    copying_none : (table next : Table) → (in_hand_of_room known (reserves.copying c table next).stands ≡ []) × NotesOfRoom known (reserves.copying c table next).stands
-    copying_none table next = copier_none known (copying_all c.setting table next) (copying_all c.setting table next).stands (begins_none c.setting table next)
-
     enough_none : (table : Table) (need : ℕ) → HasNone (reserves.enough c table need)
-    enough_none table need =
-        either (nat_lt (2 ^ 48) need) _ _ (refl, tt) (either (nat_lt table.len need) _ _ (refl, tt) (refl, tt))
+    enough_none table need = either (nat_lt (2 ^ 48) need) _ _ (refl, tt) (either (nat_lt table.len need) _ _ (refl, tt) (refl, tt))
 
     summed_none : (table : Table) (end : Sum × Counting ℕ) → HasNone (reserves.summed c table end)
     summed_none table (sum, progress.Goes) = (refl, tt)
@@ -104,10 +107,10 @@ module _ {K V : Type 0} (known : Known) where
     grown_none : (table : Table) (end : NewTable × Counting Table) → HasNone (reserves.grown c table end)
     grown_none table (making, progress.Goes) = (refl, tt)
     grown_none table (making, progress.Waits) = (refl, tt)
-    grown_none table (making, progress.Done next) = copying_none table next
+    grown_none table (making, progress.Done next) = copying_none known c table next
     grown_none table (making, progress.Refused fault) = (refl, tt)
 
-    module _ (self : (in_hand_of_room known c.stands ≡ []) × NotesOfRoom known c.stands) where
+    module _ (self : NoneOfRoom known c.stands) where
       root_none : (out : Out (Node K V)) → Always HasNone (reserves.root_read c out)
       root_none (Found root) = always_if HasNone (root == 0) _ _ (refl, tt) (λ value. (refl, tt))
       root_none Stored = self
@@ -117,7 +120,7 @@ module _ {K V : Type 0} (known : Known) where
       root_none (Roomed r) = self
 
       next_none : (table : Table) (need : ℕ) (out : Out (Node K V)) → Always HasNone (reserves.next_read c table need out)
-      next_none table need (Found link) = always_if HasNone (link == 0) _ _ (refl, tt) (λ value. copying_none table _)
+      next_none table need (Found link) = always_if HasNone (link == 0) _ _ (refl, tt) (λ value. copying_none known c table _)
       next_none table need Stored = self
       next_none table need (Exchanged r) = self
       next_none table need (Made r) = self
@@ -126,14 +129,14 @@ module _ {K V : Type 0} (known : Known) where
 
   -- so it is after a step of one that copies no pairs
   none_at : (hash : K → ℕ) (c : Reserve) (stands : Reserving) → c.stands ≡ stands → (CopiesPairs stands → ⊥) → AlwaysOf HasNone (reserves.plan_at hash c stands)
-  none_at hash c reserving.Reads is none = root_none c (subst (λ (p : Reserving). (in_hand_of_room known p ≡ []) × NotesOfRoom known p) (sym is) (refl, tt))
+  none_at hash c reserving.Reads is none = root_none c (subst (NoneOfRoom known) (sym is) (refl, tt))
   none_at hash c (reserving.Makes making) is none = always_plan_as HasNone (reserves.made c) (made_none c) (new_table_plan making)
   none_at hash c (reserving.Sums table sum) is none = always_plan_as HasNone (reserves.summed c table) (summed_none c table) (sum_plan sum)
-  none_at hash c (reserving.Follows table need) is none = next_none c (subst (λ (p : Reserving). (in_hand_of_room known p ≡ []) × NotesOfRoom known p) (sym is) (refl, tt)) table need
+  none_at hash c (reserving.Follows table need) is none = next_none c (subst (NoneOfRoom known) (sym is) (refl, tt)) table need
   none_at hash c (reserving.Grows table making) is none = always_plan_as HasNone (reserves.grown c table) (grown_none c table) (new_table_plan making)
   none_at hash c (reserving.Copies copier) is none = absurd (none tt)
-  none_at hash c reserving.Over is none = subst (λ (p : Reserving). (in_hand_of_room known p ≡ []) × NotesOfRoom known p) (sym is) (refl, tt)
-  none_at hash c (reserving.Refused fault) is none = subst (λ (p : Reserving). (in_hand_of_room known p ≡ []) × NotesOfRoom known p) (sym is) (refl, tt)
+  none_at hash c reserving.Over is none = subst (NoneOfRoom known) (sym is) (refl, tt)
+  none_at hash c (reserving.Refused fault) is none = subst (NoneOfRoom known) (sym is) (refl, tt)
 
 module _ {K V S : Type 0} (same : K → K → Bool) (hash : K → ℕ) (name : ℕ → List ℕ) (m : Moment K V) (known : Known) (s : Scene K V) (old new : Executor K V S) (at_old : IsAt same hash old s)
     (shown : Shows same name m known s) (map i : ℕ) (x : CallForRoom) (under_way : s.calls map i ≡ Some (ForRoom x)) (said : Progress (Node K V)) (leads : StepLeads same hash i said s old new)
@@ -196,7 +199,7 @@ module _ {K V S : Type 0} (same : K → K → Bool) (hash : K → ℕ) (name : �
   -- it copies no pairs, and has nothing in hand, before and after
   none_goes : (CopiesPairs x.reserve.stands → ⊥) → in_hand_of_room known x.reserve.stands ≡ [] → room_is_promoting x.reserve.stands ≡ false → Goes
   none_goes copies nothing other =
-      let after = always_steps (HasNone known) old.memory.memory new.memory.memory (reserve_plan hash x.reserve) inner.0 (none_at known hash x.reserve x.reserve.stands refl copies)
+      let after = always_steps (HasNone known K V) old.memory.memory new.memory.memory (reserve_plan hash x.reserve) inner.0 (none_at known K V hash x.reserve x.reserve.stands refl copies)
       (as_step old.memory.memory changed.Nothing (reserve_plan hash x.reserve) new.memory.memory told inner.0 inner.2) in
       let none : in_hand known to.1 ≡ [] = ap (in_hand known) machine_is ∙ after.0 in (
         KeepsOwed
@@ -211,14 +214,14 @@ module _ {K V S : Type 0} (same : K → K → Bool) (hash : K → ℕ) (name : �
   goes_at : (stands : Reserving) → x.reserve.stands ≡ stands → Goes
   goes_at (reserving.Copies copier) is =
       let d = told_in old.memory.memory new.memory.memory told (reserves.copied x.reserve) (copier_plan hash copier) inner.0 (subst (λ (z : Reserving). Stepped z inner.0) is inner.2) in
-      let then = room_then known x.reserve d.0 in
+      let came = room_then known x.reserve d.0 in
       let machine : to.1 ≡ kinds.Reserve (reserves.copied x.reserve d.0).0 = machine_is ∙ ap (λ (z : Reserve × Outcome (Node K V) Unit). kinds.Reserve z.0) d.1 in
       let says : said ≡ of_outcome (reserves.copied x.reserve d.0).1 =
       ap (λ (z : Machine K V K × Progress (Node K V)). z.1) inner.1 ∙ ap (λ (z : Reserve × Outcome (Node K V) Unit). of_outcome z.1) d.1 in
       copying_goes same hash name m known s old new at_old shown map i (ForRoom x) under_way said leads own copier (subst KnowsOf is knows) (λ row. no_row (subst IsRowOfReserve (sym is) row))
       (ap (in_hand_of_room known) is) (subst (NotesOfRoom known) is notes) d.0 d.2
-      (λ has. (ap (in_hand known) machine ∙ (then.0 has).0, λ n. subst (NotesInHand known) (sym machine) ((then.0 has).1 n)))
-      (λ ended. ap (in_hand known) machine ∙ then.1 (ap has_ended (sym says) ∙ ended)) no_pair
+      (λ has. (ap (in_hand known) machine ∙ (came.0 has).0, λ n. subst (NotesInHand known) (sym machine) ((came.0 has).1 n)))
+      (λ ended. ap (in_hand known) machine ∙ came.1 (ap has_ended (sym says) ∙ ended)) no_pair
       (λ no. no_promotion same hash name m known s old new at_old shown map i (ForRoom x) under_way said leads (reserve_plan hash x.reserve) inner.0
       (spares_room K V hash x.reserve x.reserve.stands (ap room_is_promoting is ∙ no) no_row) inner.2)
   goes_at stands is = none_goes (λ copies. subst CopiesPairs is copies) (ap (in_hand_of_room known) is) (ap room_is_promoting is)

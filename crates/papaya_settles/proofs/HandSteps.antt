@@ -106,16 +106,16 @@ module _ {K V S : Type 0} (same : K → K → Bool) (hash : K → ℕ) (name : �
   room_goes x is row noted =
       let notes = subst (λ (y : UnderWay K V K). NotesInHand known (machine_of y)) is noted in
       let inner = told_in old.memory.memory new.memory.memory told of_room (reserve_plan hash x.reserve) (to.1, said) (stepped (ForRoom x) is) in
-      let keeps = always_steps (RoomKeeps known hash x.reserve x.reserve.stands) old.memory.memory new.memory.memory (reserve_plan hash x.reserve) inner.0
-      (room_keeps known hash x.reserve x.reserve.stands row notes) (as_step old.memory.memory changed.Nothing (reserve_plan hash x.reserve) new.memory.memory told inner.0 inner.2) in
+      let keeps = always_steps (RoomKeeps V known hash x.reserve x.reserve.stands) old.memory.memory new.memory.memory (reserve_plan hash x.reserve) inner.0
+      (room_keeps V known hash x.reserve x.reserve.stands row notes) (as_step old.memory.memory changed.Nothing (reserve_plan hash x.reserve) new.memory.memory told inner.0 inner.2) in
       of_kind (ForRoom x) is (kinds.Reserve inner.0.0) (ap (λ (z : Machine K V K × Progress (Node K V)). z.0) inner.1) (keeps.0, keeps.1) (λ word e. absurd (room_puts x.reserve.stands word e)) (λ e. keeps.2 (sym (ap (λ (z : Machine K V K × Progress (Node K V)). has_ended z.1) inner.1) ∙ e))
 
   sweep_goes : (x : CallOverAll) → u ≡ OverAll x → IsRowOfSweep x.sweep.stands → NotesInHand known (machine_of u) → Goal to.1
   sweep_goes x is row noted =
       let notes = subst (λ (y : UnderWay K V K). NotesInHand known (machine_of y)) is noted in
       let inner = told_in old.memory.memory new.memory.memory told of_sweep (sweep_plan hash x.sweep) (to.1, said) (stepped (OverAll x) is) in
-      let keeps = always_steps (SweepKeeps known hash x.sweep x.sweep.stands) old.memory.memory new.memory.memory (sweep_plan hash x.sweep) inner.0
-      (sweep_keeps known hash x.sweep x.sweep.stands row notes) (as_step old.memory.memory changed.Nothing (sweep_plan hash x.sweep) new.memory.memory told inner.0 inner.2) in
+      let keeps = always_steps (SweepKeeps V known hash x.sweep x.sweep.stands) old.memory.memory new.memory.memory (sweep_plan hash x.sweep) inner.0
+      (sweep_keeps V known hash x.sweep x.sweep.stands row notes) (as_step old.memory.memory changed.Nothing (sweep_plan hash x.sweep) new.memory.memory told inner.0 inner.2) in
       of_kind (OverAll x) is (kinds.Sweep inner.0.0) (ap (λ (z : Machine K V K × Progress (Node K V)). z.0) inner.1) (keeps.0, keeps.1) (λ word e. sweep_puts known x.sweep.stands notes word e) (λ e. keeps.2 (sym (ap (λ (z : Machine K V K × Progress (Node K V)). has_ended z.1) inner.1) ∙ e))
 
   pub row_hands : NotesInHand known (machine_of u) → Goal to.1

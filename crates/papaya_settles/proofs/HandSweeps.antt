@@ -138,7 +138,7 @@ module _ (known : Known) where
         stays e = self
 
         root_none : (out : Out (Node K V)) → Always NoneThen (sweeps.root_read c out)
-        root_none (Found root) = always_if NoneThen (root == 0) _ _ (λ e. sweeps_apart known (points.removes c.purpose) sweeping.Over sweeping.Ready (refl, tt) (refl, tt)) (λ value e. entering_none {K = K} {V = V} known c _)
+        root_none (Found root) = always_if NoneThen (root == 0) _ _ (λ e. sweeps_apart known (points.removes c.purpose) sweeping.Over sweeping.Ready (refl, tt) (refl, tt)) (λ value e. entering_none known c _)
         root_none StoredOut = stays
         root_none (Exchanged r) = stays
         root_none (Made r) = stays
@@ -325,14 +325,14 @@ module _ {K V S : Type 0} (same : K → K → Bool) (hash : K → ℕ) (name : �
   copies_goes : (copier : Copier) → x.sweep.stands ≡ sweeping.Copies copier → Goes
   copies_goes copier is =
       let d = told_in old.memory.memory new.memory.memory told (sweeps.copied x.sweep) (copier_plan hash copier) inner.0 (subst (λ (z : Sweeping). Stepped z inner.0) is inner.2) in
-      let then = sweep_then known x.sweep d.0 in
+      let came = sweep_then known x.sweep d.0 in
       let machine : to.1 ≡ kinds.Sweep (sweeps.copied x.sweep d.0).0 = machine_is ∙ ap (λ (z : Sweep × Swept (Node K V)). kinds.Sweep z.0) d.1 in
       let says : said ≡ of_swept (sweeps.copied x.sweep d.0).1 =
       ap (λ (z : Machine K V K × Progress (Node K V)). z.1) inner.1 ∙ ap (λ (z : Sweep × Swept (Node K V)). of_swept z.1) d.1 in
       copying_goes same hash name m known s old new at_old shown map i (OverAll x) under_way said leads own copier (subst KnowsOf is knows) (λ row. no_row (subst IsRowOfSweep (sym is) row))
       (ap (in_hand_of_sweep known) is) (subst (NotesOfSweep known) is notes) d.0 d.2
-      (λ has. (ap (in_hand known) machine ∙ (then.0 has).0, λ n. subst (NotesInHand known) (sym machine) ((then.0 has).1 n)))
-      (λ ended. ap (in_hand known) machine ∙ then.1 (ap has_ended (sym says) ∙ ended)) (none_taken (subst IsNoTry (sym is) tt))
+      (λ has. (ap (in_hand known) machine ∙ (came.0 has).0, λ n. subst (NotesInHand known) (sym machine) ((came.0 has).1 n)))
+      (λ ended. ap (in_hand known) machine ∙ came.1 (ap has_ended (sym says) ∙ ended)) (none_taken (subst IsNoTry (sym is) tt))
       (λ no. no_promotion same hash name m known s old new at_old shown map i (OverAll x) under_way said leads (sweep_plan hash x.sweep) inner.0
       (spares_sweep K V hash x.sweep x.sweep.stands (ap sweep_is_promoting is ∙ no) no_row) inner.2)
 

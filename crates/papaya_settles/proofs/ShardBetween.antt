@@ -176,8 +176,8 @@ pub calls_come_to_counters : (K V : Type 0) → CallsComeToCounters K V
 calls_come_to_counters K V same name m known s whole counters own o steps ended = record { shards = counters.shards; makes = counters.makes; adds = by (ends_call o) refl }
   where
     by : (q : Bool) → ends_call o ≡ q → ShowsAdds name (record m { calls = if q then without_call own m.calls else map (λ c. if is_same c.caller own then come o steps c else c) m.calls }) s
-    by true e = fewer_add same name m _ s whole.all.shown.calls counters.adds own (ended e) refl
-    by false e = changed_add same name m _ s whole.all.shown.calls counters.adds (come o steps) (come_of_same o steps) (come_keeps o steps) own refl
+    by true e = fewer_add same name m (record m { calls = without_call own m.calls }) s whole.all.shown.calls counters.adds own (ended e) refl
+    by false e = changed_add same name m (record m { calls = map (λ c. if is_same c.caller own then come o steps c else c) m.calls }) s whole.all.shown.calls counters.adds (come o steps) (come_of_same o steps) (come_keeps o steps) own refl
 
 -- it is so at another moment that has the same calls and shards
 pub counters_stay : (K V : Type 0) → CountersStay K V
