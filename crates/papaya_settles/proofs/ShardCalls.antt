@@ -84,7 +84,7 @@ module _ {K V S : Type 0} (same : K → K → Bool) (hash : K → ℕ) (name : �
   abbrev mem2 : Mem (Node K V)
   mem2 = t.world.memory
 
-  its : (c : CallThere K V) × (call_of (name i) m ≡ Some c) × (c.map ≡ map) × IsCalled same u c.call
+  abbrev its : (c : CallThere K V) × (call_of (name i) m ≡ Some c) × (c.map ≡ map) × IsCalled same u c.call
   its = shown.calls map i u here
 
   made : Operated mem mem2 told
