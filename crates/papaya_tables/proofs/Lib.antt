@@ -5,4 +5,3 @@ pub mod Places
 mod Samples
 pub mod TableLens
 mod Triangular
-mod Words
