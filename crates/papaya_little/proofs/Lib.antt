@@ -10,4 +10,5 @@ pub mod Somewhere
 pub mod TornDown
 pub mod Bounded
 pub mod Events
+pub mod Endings
 pub mod Little

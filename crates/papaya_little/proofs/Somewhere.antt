@@ -119,7 +119,7 @@ module _ {K V : Type 0} where
     others : (f : Effect) → is_storing f ≡ false → StoredAreSomewhere (with_effect caller acted f m)
     others f e = record {
       born = λ n l u. on.born n (h.born n l (subst (λ (xs : List (K × V)). n ≤ length xs) (none_stored (acting caller m) f m.stored e) u));
-      there = λ n map is. maps_there map f m.maps (h.there n map (on.in_map n map is));
+      there = λ n map l is. maps_there map f m.maps (h.there n map l (on.in_map n map is));
     }
       where
         on : LeadsOn m.place (place_by acted m.deferred f m.place)
@@ -134,10 +134,10 @@ module _ {K V : Type 0} where
       | inl same ↦ ap is_unborn (put_here n (InMap to) m.place k same)
       | inr ne ↦ ap is_unborn (put_elsewhere n (InMap to) m.place k ne) ∙ h.born k l (before k u ne)
     ];
-    there = λ k map is. elim (cases_eq k n) as (λ _. list_any (λ (f : MapThere). f.number == map) m.maps ≡ true) [
+    there = λ k map l is. elim (cases_eq k n) as (λ _. list_any (λ (f : MapThere). f.number == map) m.maps ≡ true) [
       | inl same ↦ (let it : InMap to ≡ InMap map = sym (put_here n (InMap to) m.place k same) ∙ is in let one : to ≡ map = cc it in
           subst (λ (q : ℕ). list_any (λ (f : MapThere). f.number == q) m.maps ≡ true) one its)
-      | inr ne ↦ h.there k map (sym (put_elsewhere n (InMap to) m.place k ne) ∙ is)
+      | inr ne ↦ h.there k map l (sym (put_elsewhere n (InMap to) m.place k ne) ∙ is)
     ];
   }
     where
@@ -174,5 +174,5 @@ effects_keep_somewhere K V caller acted (f ∷ effects) m finds h =
 pub others_keep_somewhere : (K V : Type 0) → OthersKeepSomewhere K V
 others_keep_somewhere K V m v h place stored more = record {
   born = λ n l u. ap is_unborn (place n) ∙ h.born n l (subst (λ (xs : List (K × V)). n ≤ length xs) stored u);
-  there = λ n map is. let was : m.place n ≡ InMap map = sym (place n) ∙ is in more n map was (h.there n map was);
+  there = λ n map l is. let was : m.place n ≡ InMap map = sym (place n) ∙ is in more n map l was (h.there n map l was);
 }
