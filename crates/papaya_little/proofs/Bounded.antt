@@ -41,12 +41,12 @@ module _ (Q R : ℕ → Type 0) (so : (b : ℕ) → Q b → R b) (many : ℕ) (b
     blocks = b ∷ before.blocks;
     counted = (let was = before.counted in omega (arith, was, e));
     once = λ x. elim (cases_eq x b) as (λ _. times x (b ∷ before.blocks) ≤ 1) [
-      | inl same ↦ (let here : (if x == b then 1 else 0) ≡ 1 = ap (λ (q : Bool). if q then 1 else 0) (eq-eqb x b same) in let rest = none x same in omega (arith, here, rest))
-      | inr ne ↦ (let here : (if x == b then 1 else 0) ≡ 0 = ap (λ (q : Bool). if q then 1 else 0) (ne_eqb x b ne) in let rest = before.once x in omega (arith, here, rest))
+      | inl same ↦ (let here : once_if (x == b) ≡ 1 = ap once_if (eq-eqb x b same) in let rest = none x same in omega (arith, here, rest))
+      | inr ne ↦ (let here : once_if (x == b) ≡ 0 = ap once_if (ne_eqb x b ne) in let rest = before.once x in omega (arith, here, rest))
     ];
     each = λ x some. elim (cases_eq x b) as (λ _. R x) [
       | inl same ↦ subst R (sym same) its
-      | inr ne ↦ so x (before.each x (let here : (if x == b then 1 else 0) ≡ 0 = ap (λ (q : Bool). if q then 1 else 0) (ne_eqb x b ne) in omega (arith, here, some)))
+      | inr ne ↦ so x (before.each x (let here : once_if (x == b) ≡ 0 = ap once_if (ne_eqb x b ne) in omega (arith, here, some)))
     ];
   }
     where
@@ -72,7 +72,7 @@ module _ {K V : Type 0} (m : Moment K V) (known : Known) (w : World (Node K V)) 
       by : (q : Bool) → is_handed (m.place (suc k)) ≡ q → Blocks (IsPairUpTo k) (places_below is_handed m.place k) → Blocks (IsPairUpTo (suc k)) (places_below is_handed m.place (suc k))
       by true is before =
           let new = h.pairs (suc k) is in
-          let one : (if is_handed (m.place (suc k)) then 1 else 0) ≡ 1 = ap (λ (q : Bool). if q then 1 else 0) is in
+          let one : once_if (is_handed (m.place (suc k))) ≡ 1 = ap once_if is in
           one_more (IsPairUpTo k) (IsPairUpTo (suc k)) further (places_below is_handed m.place k) before new.0 (λ its. not_new new.0 new.1 its) (suc k, omega arith, new.1, new.2)
           (places_below is_handed m.place (suc k)) (omega (arith, one))
         where
@@ -83,7 +83,7 @@ module _ {K V : Type 0} (m : Moment K V) (known : Known) (w : World (Node K V)) 
               let l = its.1 in
               omega (arith, same, l)
       by false is before =
-          let none : (if is_handed (m.place (suc k)) then 1 else 0) ≡ 0 = ap (λ (q : Bool). if q then 1 else 0) is in
+          let none : once_if (is_handed (m.place (suc k))) ≡ 0 = ap once_if is in
           as_many (IsPairUpTo k) (IsPairUpTo (suc k)) further (places_below is_handed m.place k) before (places_below is_handed m.place (suc k)) (omega (arith, none))
 
   module _ (pairs : ℕ) (all_pairs : Blocks (IsPairUpTo pairs) (places_below is_handed m.place pairs)) where

@@ -30,7 +30,7 @@ use Rattle.papaya_others.proofs.Leads.{same_parts}
 use Rattle.papaya_spots.proofs.Unreclaimed.{same_itself}
 use Rattle.papaya_little.specs.Endings.{AreNamed, MakesNew, EndsWhole, NamedAtFirst, EventsKeepNamed, EventsKeepRoots, EventsKeepSomewhere}
 use Rattle.papaya_little.specs.TornDown.{StoredAreSomewhere}
-use Rattle.papaya_little.specs.Waiting.{is_unborn, PairsArePlaced}
+use Rattle.papaya_little.specs.Waiting.{is_unborn, once_if, PairsArePlaced}
 use Rattle.papaya_little.proofs.Lists.{one_of_them, any_kept, any_kept_among, all_so, all_both, each_is, each_among}
 use Rattle.papaya_little.proofs.Somewhere.{others_keep_somewhere}
 use Rattle.papaya_little.proofs.Tables.{all_under, any_under, all_append, all_kept}
@@ -119,6 +119,10 @@ events_keep_named K V e m named new =
 abbrev is_one : List Table → Table → Bool
 is_one tables t = list_any (same_table t) tables
 
+-- no table is linked that is none of these
+abbrev LinkedAre : (Table → Type 0) → List TableThere → Type 0
+LinkedAre Q tables = AllByRecursion (λ u. is_linked u.stage ≡ true → Q u.table) tables
+
 module _ {K V : Type 0} where
   -- such effects leave maps as they are, and no table linked that is taken
   ends_leave_maps : (acted : Option ℕ) (effects : List Effect) (m : Moment K V) → list_all is_ending effects ≡ true → (with_effects None acted effects m).maps ≡ m.maps
@@ -129,10 +133,6 @@ module _ {K V : Type 0} where
       one : (g : Effect) → is_ending g ≡ true → (with_effect None acted g m).maps ≡ m.maps
       one (effect.Promoted t) e = absurd (cc e)
       one _ e = refl
-
-  -- no table is linked that is none of these
-  abbrev LinkedAre : (Table → Type 0) → List TableThere → Type 0
-  LinkedAre Q tables = AllByRecursion (λ u. is_linked u.stage ≡ true → Q u.table) tables
 
   ends_take : (acted : Option ℕ) (Q : Table → Type 0) (effects : List Effect) (m : Moment K V) → list_all is_ending effects ≡ true → LinkedAre Q m.tables
       → LinkedAre (λ t. Q t × (is_one (flat_map tables_taken effects) t ≡ false)) (with_effects None acted effects m).tables
@@ -233,7 +233,7 @@ none_at test place (suc n) e k l u = by (test (place (suc n))) refl (cases_eq k 
     Below = places_below test place n ≡ 0 → (j : ℕ) → 1 ≤ j → j ≤ n → test (place j) ≡ false
 
     by : (q : Bool) → test (place (suc n)) ≡ q → (k ≡ suc n) ⊎ (k ≡ suc n → ⊥) → Below → test (place k) ≡ false
-    by true is at rest = absurd (let one : (if test (place (suc n)) then 1 else 0) ≡ 1 = ap (λ (q : Bool). if q then 1 else 0) is in omega (arith, e, one))
+    by true is at rest = absurd (let one : once_if (test (place (suc n))) ≡ 1 = ap once_if is in omega (arith, e, one))
     by false is (inl same) rest = ap (λ (j : ℕ). test (place j)) same ∙ is
     by false is (inr ne) rest = rest (omega (arith, e)) k l (omega (arith, u, ne))
 

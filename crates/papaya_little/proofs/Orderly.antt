@@ -40,7 +40,7 @@ behind_one test n q (d ∷ deferred) all there = by (n == d.pair) refl (behind_o
         → list_any (λ x. (x.pair == n) && test x.behind) (d ∷ deferred) ≡ true
     by true is rest = or_left ((d.pair == n) && test d.behind) (list_any (λ x. (x.pair == n) && test x.behind) deferred)
         (and_from (d.pair == n) (test d.behind) (eq-eqb d.pair n (sym (number_is n d.pair is))) all.0)
-    by false is rest = or_right ((d.pair == n) && test d.behind) (list_any (λ x. (x.pair == n) && test x.behind) deferred) (rest (subst Its is there))
+    by false is rest = or_right ((d.pair == n) && test d.behind) (list_any (λ x. (x.pair == n) && test x.behind) deferred) (rest (let its = subst Its is there in omega (arith, its)))
 
 module _ {K V : Type 0} (m : Moment K V) (h : WaitsInOrder m) (none : m.calls ≡ []) where
   -- nobody owes a table, so each is there for a reason

@@ -58,7 +58,7 @@ table_without k t (x ∷ things) = by (same_thing (ATable t) x) refl (table_with
     no_pair (ATable u) e = refl
 
     by : (q : Bool) → same_thing (ATable t) x ≡ q → owed_in k (without_one same_thing (ATable t) things) ≡ owed_in k things → Goal (same_thing (ATable t) x)
-    by true is rest = subst Goal (sym is) (sym (ap (λ (q : Bool). once_if q + owed_in k things) (no_pair x is)))
+    by true is rest = subst Goal (sym is) (let none : once_if (same_thing (APair k) x) ≡ 0 = ap once_if (no_pair x is) in omega (arith, none))
     by false is rest = subst Goal (sym is) (ap (λ (q : ℕ). once_if (same_thing (APair k) x) + q) rest)
 
 -- tables that a root passes are no pairs
@@ -78,7 +78,7 @@ owed_there n (x ∷ things) there = by (same_thing (APair n) x) refl there (owed
     by : (q : Bool) → same_thing (APair n) x ≡ q → (q || is_in same_thing (APair n) things) ≡ true
         → (is_in same_thing (APair n) things ≡ true → (m : ℕ) × (owed_in n things ≡ 1 + m)) → (m : ℕ) × (owed_in n (x ∷ things) ≡ 1 + m)
     by true is e rest = (owed_in n things, ap (λ (q : Bool). once_if q + owed_in n things) is)
-    by false is e rest = let it = rest e in (it.0, ap (λ (q : Bool). once_if q + owed_in n things) is ∙ it.1)
+    by false is e rest = let it = rest e in let more = it.1 in let none : once_if (same_thing (APair n) x) ≡ 0 = ap once_if is in (it.0, omega (arith, none, more))
 
 -- among what calls owe
 
@@ -99,7 +99,7 @@ module _ {K V : Type 0} (own : List ℕ) (change : UnderWay K V → UnderWay K V
   )
 
   module _ (n : ℕ) where
-    owes : UnderWay K V → ℕ
+    abbrev owes : UnderWay K V → ℕ
     owes c = owed_in n c.owes
 
     -- calls of others owe what they owed

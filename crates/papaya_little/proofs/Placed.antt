@@ -110,7 +110,7 @@ new_is_none None = record { out = refl; put = refl; back = refl }
 new_is_none (Some map) = record { out = refl; put = refl; back = refl }
 
 -- the effect changes nothing of what is owed of pairs
-keeps_owed : Effect → Bool
+abbrev keeps_owed : Effect → Bool
 keeps_owed (effect.Replaced n) = false
 keeps_owed (effect.Removed n) = false
 keeps_owed (effect.Deferred n t) = false
@@ -234,7 +234,7 @@ module _ {K V : Type 0} where
       -- and hands it over
       hands : (call_by m f c).owes ≡ without_one same_thing (APair n) c.owes → is_in same_thing (APair n) c.owes ≡ true → (to : Place) → is_out to ≡ false
           → Counts is_out (put n to m.place) (λ k. owed_by k (calls_by (Some own) (call_by m f) m.calls))
-      hands owes there to no = loses is_out m.place n to (λ k. owed_by k m.calls) (λ k. owed_by k (calls_by (Some own) (call_by m f) m.calls)) h.owed no (is_owed there).out fewer
+      hands owes there to is_not = loses is_out m.place n to (λ k. owed_by k m.calls) (λ k. owed_by k (calls_by (Some own) (call_by m f) m.calls)) h.owed is_not (is_owed there).out fewer
         where
           fewer : (k : ℕ) → owed_by k (calls_by (Some own) (call_by m f) m.calls) + once_if (k == n) ≡ owed_by k m.calls
           fewer k =

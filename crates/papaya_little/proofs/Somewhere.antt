@@ -68,8 +68,22 @@ all_lead to numbers place is = record { in_map = λ k map. into k map (is_among 
     some k true e = is.born
     some k false e = e
 
+-- maps keep their numbers
+numbered : (map : ℕ) (t : Table) (fs : List MapThere) → list_any (λ (f : MapThere). f.number == map) (each (promoted t) fs) ≡ list_any (λ (f : MapThere). f.number == map) fs
+numbered map t [] = refl
+numbered map t (f ∷ fs) = by (f.number == t.map) (numbered map t fs)
+  where
+    by : (q : Bool) → list_any (λ (g : MapThere). g.number == map) (each (promoted t) fs) ≡ list_any (λ (g : MapThere). g.number == map) fs
+        → (((if q then record f { first = t.turn } else f).number == map) || list_any (λ (g : MapThere). g.number == map) (each (promoted t) fs)) ≡ ((f.number == map) || list_any (λ (g : MapThere). g.number == map) fs)
+    by true rest = ap (λ (b : Bool). (f.number == map) || b) rest
+    by false rest = ap (λ (b : Bool). (f.number == map) || b) rest
+
+maps_there : (map : ℕ) (f : Effect) (fs : List MapThere) → list_any (λ (g : MapThere). g.number == map) fs ≡ true → list_any (λ (g : MapThere). g.number == map) (maps_by f fs) ≡ true
+maps_there map (effect.Promoted t) fs e = numbered map t fs ∙ e
+maps_there map _ fs e = e
+
 -- the effect stores a pair
-is_storing : Effect → Bool
+abbrev is_storing : Effect → Bool
 is_storing (effect.Stored n s) = true
 is_storing _ = false
 
@@ -100,20 +114,6 @@ module _ {K V : Type 0} where
   leads acted m (effect.Promoted t) e = same_leads m.place
   leads acted m (effect.Copied n s) e = same_leads m.place
   leads acted m (effect.Counted s) e = same_leads m.place
-
-  -- maps keep their numbers
-  numbered : (map : ℕ) (t : Table) (fs : List MapThere) → list_any (λ (f : MapThere). f.number == map) (each (promoted t) fs) ≡ list_any (λ (f : MapThere). f.number == map) fs
-  numbered map t [] = refl
-  numbered map t (f ∷ fs) = by (f.number == t.map) (numbered map t fs)
-    where
-      by : (q : Bool) → list_any (λ (g : MapThere). g.number == map) (each (promoted t) fs) ≡ list_any (λ (g : MapThere). g.number == map) fs
-          → (((if q then record f { first = t.turn } else f).number == map) || list_any (λ (g : MapThere). g.number == map) (each (promoted t) fs)) ≡ ((f.number == map) || list_any (λ (g : MapThere). g.number == map) fs)
-      by true rest = ap (λ (b : Bool). (f.number == map) || b) rest
-      by false rest = ap (λ (b : Bool). (f.number == map) || b) rest
-
-  maps_there : (map : ℕ) (f : Effect) (fs : List MapThere) → list_any (λ (g : MapThere). g.number == map) fs ≡ true → list_any (λ (g : MapThere). g.number == map) (maps_by f fs) ≡ true
-  maps_there map (effect.Promoted t) fs e = numbered map t fs ∙ e
-  maps_there map _ fs e = e
 
   module _ (caller : Option (List ℕ)) (acted : Option ℕ) (m : Moment K V) (h : StoredAreSomewhere m) where
     others : (f : Effect) → is_storing f ≡ false → StoredAreSomewhere (with_effect caller acted f m)

@@ -27,11 +27,11 @@ use Rattle.papaya_little.proofs.OwedTables.{still_in, then_in, in_without, passe
 -- lists
 
 module _ {X Y : Type 0} (g : X → Y) where
-  all_under : (P : X → Type 0) (Q : Y → Type 0) → ((x : X) → P x → Q (g x)) → (xs : List X) → AllByRecursion P xs → AllByRecursion Q (map g xs)
+  pub all_under : (P : X → Type 0) (Q : Y → Type 0) → ((x : X) → P x → Q (g x)) → (xs : List X) → AllByRecursion P xs → AllByRecursion Q (map g xs)
   all_under P Q so [] all = tt
   all_under P Q so (x ∷ xs) all = (so x all.0, all_under P Q so xs all.1)
 
-  any_under : (p : X → Bool) (q : Y → Bool) → ((x : X) → p x ≡ true → q (g x) ≡ true) → (xs : List X) → list_any p xs ≡ true → list_any q (map g xs) ≡ true
+  pub any_under : (p : X → Bool) (q : Y → Bool) → ((x : X) → p x ≡ true → q (g x) ≡ true) → (xs : List X) → list_any p xs ≡ true → list_any q (map g xs) ≡ true
   any_under p q so [] any = absurd (cc any)
   any_under p q so (x ∷ xs) any = by (p x) refl any (any_under p q so xs)
     where
@@ -44,12 +44,12 @@ module _ {X Y : Type 0} (g : X → Y) where
   under_all Q (x ∷ xs) all = (all.0, under_all Q xs all.1)
 
 module _ {X : Type 0} (P : X → Type 0) where
-  all_append : (xs : List X) (y : X) → AllByRecursion P xs → P y → AllByRecursion P (xs ++ y ∷ [])
+  pub all_append : (xs : List X) (y : X) → AllByRecursion P xs → P y → AllByRecursion P (xs ++ y ∷ [])
   all_append [] y all its = (its, tt)
   all_append (x ∷ xs) y all its = (all.0, all_append xs y all.1 its)
 
   -- of those that are kept, it is known that they are
-  all_kept : (keep : X → Bool) (xs : List X) → AllByRecursion P xs → AllByRecursion (λ x. P x × (keep x ≡ true)) (filter keep xs)
+  pub all_kept : (keep : X → Bool) (xs : List X) → AllByRecursion P xs → AllByRecursion (λ x. P x × (keep x ≡ true)) (filter keep xs)
   all_kept keep [] all = tt
   all_kept keep (x ∷ xs) all = by (keep x) refl (all_kept keep xs all.1)
     where
@@ -263,14 +263,14 @@ module _ {K V : Type 0} where
 
   -- a root comes to a later table: those that it passes its call owes
   module _ (acted : Option ℕ) (m : Moment K V) (h : TablesAreInOrder m) (own : List ℕ) (t : Table) (c : UnderWay K V) (c_is : call_of own m ≡ Some c) (found : AllByRecursion (λ (g : MapThere). map_at g.number m ≡ Some g) m.maps) where
-    f : Effect
+    abbrev f : Effect
     f = effect.Promoted t
 
-    v : Moment K V
+    abbrev v : Moment K V
     v = with_effect (Some own) acted f m
 
     -- the root of a map was at the table, or before it
-    at_root : TableThere → MapThere → Bool
+    abbrev at_root : TableThere → MapThere → Bool
     at_root u g = (g.number == u.table.map) && nat_le g.first u.table.turn
 
     -- it is not any more, as it has come from there to the later one
