@@ -16,6 +16,7 @@ use Rattle.papaya_schedules.specs.Views.{is_retired, places_below}
 use Rattle.papaya_spots.proofs.Unreclaimed.{same_itself}
 use Rattle.papaya_effects.specs.Known.{Known}
 use Rattle.papaya_effects.specs.declared.role.Role.TheVariants as role
+use Rattle.papaya_little.specs.Waiting.{once_if}
 use Rattle.papaya_little.specs.Bounded.{TablesApart, HasRetiredTable, ShowsRetired, LittleWaits, NothingRetiredOnceReclaimed}
 use Rattle.papaya_little.proofs.Lists.{all_so, each_passes}
 

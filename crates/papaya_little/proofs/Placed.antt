@@ -110,7 +110,7 @@ new_is_none None = record { out = refl; put = refl; back = refl }
 new_is_none (Some map) = record { out = refl; put = refl; back = refl }
 
 -- the effect changes nothing of what is owed of pairs
-abbrev keeps_owed : Effect → Bool
+abbrev pub keeps_owed : Effect → Bool
 keeps_owed (effect.Replaced n) = false
 keeps_owed (effect.Removed n) = false
 keeps_owed (effect.Deferred n t) = false
@@ -118,7 +118,7 @@ keeps_owed (effect.Retired (APair n)) = false
 keeps_owed _ = true
 
 module _ {K V : Type 0} where
-  its_same : (m : Moment K V) (f : Effect) (c : UnderWay K V) (n : ℕ) → keeps_owed f ≡ true → owed_in n (call_by m f c).owes ≡ owed_in n c.owes
+  pub its_same : (m : Moment K V) (f : Effect) (c : UnderWay K V) (n : ℕ) → keeps_owed f ≡ true → owed_in n (call_by m f c).owes ≡ owed_in n c.owes
   its_same m (effect.Asked growth) c n e = refl
   its_same m effect.PairMade c n e = refl
   its_same m effect.PairGivenUp c n e = refl

@@ -38,7 +38,7 @@ back_is : IsElsewhere GivenBack
 back_is = record { in_none = λ map e. cc e; born = refl }
 
 -- places of which none comes into a map, and none is unborn that was not
-record LeadsOn (before after : ℕ → Place) : Type 0 where
+pub record LeadsOn (before after : ℕ → Place) : Type 0 where
   pub in_map : (k map : ℕ) → after k ≡ InMap map → before k ≡ InMap map
   pub born : (k : ℕ) → is_unborn (before k) ≡ false → is_unborn (after k) ≡ false
 
@@ -78,23 +78,23 @@ numbered map t (f ∷ fs) = by (f.number == t.map) (numbered map t fs)
     by true rest = ap (λ (b : Bool). (f.number == map) || b) rest
     by false rest = ap (λ (b : Bool). (f.number == map) || b) rest
 
-maps_there : (map : ℕ) (f : Effect) (fs : List MapThere) → list_any (λ (g : MapThere). g.number == map) fs ≡ true → list_any (λ (g : MapThere). g.number == map) (maps_by f fs) ≡ true
+pub maps_there : (map : ℕ) (f : Effect) (fs : List MapThere) → list_any (λ (g : MapThere). g.number == map) fs ≡ true → list_any (λ (g : MapThere). g.number == map) (maps_by f fs) ≡ true
 maps_there map (effect.Promoted t) fs e = numbered map t fs ∙ e
 maps_there map _ fs e = e
 
 -- the effect stores a pair
-abbrev is_storing : Effect → Bool
+abbrev pub is_storing : Effect → Bool
 is_storing (effect.Stored n s) = true
 is_storing _ = false
 
 module _ {K V : Type 0} where
   -- any other effect leaves pairs stored as they were, and leads on from where they are
-  none_stored : (o : Option (UnderWay K V)) (f : Effect) (stored : List (K × V)) → is_storing f ≡ false → stored_by o f stored ≡ stored
+  pub none_stored : (o : Option (UnderWay K V)) (f : Effect) (stored : List (K × V)) → is_storing f ≡ false → stored_by o f stored ≡ stored
   none_stored None f stored e = refl
   none_stored (Some c) (effect.Stored n s) stored e = absurd (cc e)
   none_stored (Some c) _ stored e = refl
 
-  leads : (acted : Option ℕ) (m : Moment K V) (f : Effect) → is_storing f ≡ false → LeadsOn m.place (place_by acted m.deferred f m.place)
+  pub leads : (acted : Option ℕ) (m : Moment K V) (f : Effect) → is_storing f ≡ false → LeadsOn m.place (place_by acted m.deferred f m.place)
   leads acted m (effect.Stored n s) e = absurd (cc e)
   leads acted m (effect.Replaced n) e = put_leads n Out m.place out_is
   leads acted m (effect.Removed n) e = put_leads n Out m.place out_is

@@ -68,7 +68,7 @@ each_same P all (u ∷ tables) = (all u, each_same P all tables)
 -- tables at another stage
 
 module _ (t : Table) (to : Stage) where
-  same_length : (k : ℕ) (tables : List TableThere) → length (filter (λ u. u.table.map == k) (map (at_stage t to) tables)) ≡ length (filter (λ u. u.table.map == k) tables)
+  pub same_length : (k : ℕ) (tables : List TableThere) → length (filter (λ u. u.table.map == k) (map (at_stage t to) tables)) ≡ length (filter (λ u. u.table.map == k) tables)
   same_length k [] = refl
   same_length k (u ∷ tables) = by (same_table u.table t) (same_length k tables)
     where

@@ -6,4 +6,5 @@ pub mod TornDown
 pub mod Bounded
 pub mod Events
 pub mod Endings
+pub mod Within
 pub mod Little
