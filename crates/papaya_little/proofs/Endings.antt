@@ -4,7 +4,7 @@ use Rattle.std.specs.List.{AllByRecursion, list_any, list_all}
 use Rattle.std.specs.Option.{option_or}
 use Rattle.std.proofs.Common.{refl, ap, sym, subst, ◌∙◌, arith, inl, inr, le-leb}
 use Rattle.std.proofs.lemmas.Bool.{and_from, and_parts, cases_eq, eq-eqb, leb-true}
-use Rattle.std.proofs.lemmas.List.Elements.{recursion_from_All}
+use Rattle.std.proofs.lemmas.List.Elements.{recursion_from_All, All-from_recursion}
 use Rattle.std.proofs.lemmas.List.Folds.{find-append}
 use Rattle.papaya_runs.specs.Same.{is_same}
 use Rattle.papaya_schedules.specs.declared.effect.Effect.{Effect}
@@ -35,62 +35,86 @@ use Rattle.papaya_little.proofs.Lists.{one_of_them, any_kept, any_kept_among, al
 use Rattle.papaya_little.proofs.Somewhere.{others_keep_somewhere}
 use Rattle.papaya_little.proofs.Tables.{all_under, any_under, all_append, all_kept}
 
--- names
+-- maps are found by their names, and by their numbers
 
-abbrev Named : List MapThere → Type 0
-Named fs = AllByRecursion (λ f. find (λ g. is_same g.name f.name) fs ≡ Some f) fs
+module _ {X : Type 0} (of : MapThere → X) (same : X → X → Bool) where
+  -- each of these is the one that is found by what it has
+  abbrev pub FoundBy : List MapThere → Type 0
+  FoundBy fs = AllByRecursion (λ f. find (λ g. same (of g) (of f)) fs ≡ Some f) fs
 
-module _ (t : Table) where
-  name_same : (f : MapThere) → (promoted t f).name ≡ f.name
-  name_same f = by (f.number == t.map)
-    where
-      by : (q : Bool) → (if q then record f { first = t.turn } else f).name ≡ f.name
-      by true = refl
-      by false = refl
+  module _ (t : Table) (stays : (f : MapThere) → of (promoted t f) ≡ of f) where
+    found_promoted : (x : X) (fs : List MapThere) → find (λ f. same (of f) x) (map (promoted t) fs) ≡ option_map (promoted t) (find (λ f. same (of f) x) fs)
+    found_promoted x [] = refl
+    found_promoted x (f ∷ fs) =
+        ap (λ (y : X). cond (same y x) (Some (promoted t f)) (find (λ g. same (of g) x) (map (promoted t) fs))) (stays f) ∙ by (same (of f) x) (found_promoted x fs)
+      where
+        by : (q : Bool) → find (λ g. same (of g) x) (map (promoted t) fs) ≡ option_map (promoted t) (find (λ g. same (of g) x) fs)
+            → cond q (Some (promoted t f)) (find (λ g. same (of g) x) (map (promoted t) fs)) ≡ option_map (promoted t) (cond q (Some f) (find (λ g. same (of g) x) fs))
+        by true rest = refl
+        by false rest = rest
 
-  found_promoted : (name : List ℕ) (fs : List MapThere) → find (λ f. is_same f.name name) (map (promoted t) fs) ≡ option_map (promoted t) (find (λ f. is_same f.name name) fs)
-  found_promoted name [] = refl
-  found_promoted name (f ∷ fs) =
-      ap (λ (n : List ℕ). cond (is_same n name) (Some (promoted t f)) (find (λ f. is_same f.name name) (map (promoted t) fs))) (name_same f) ∙ by (is_same f.name name) (found_promoted name fs)
-    where
-      by : (q : Bool) → find (λ f. is_same f.name name) (map (promoted t) fs) ≡ option_map (promoted t) (find (λ f. is_same f.name name) fs)
-          → cond q (Some (promoted t f)) (find (λ f. is_same f.name name) (map (promoted t) fs)) ≡ option_map (promoted t) (cond q (Some f) (find (λ f. is_same f.name name) fs))
-      by true rest = refl
-      by false rest = rest
+    promoted_found : (fs : List MapThere) → FoundBy fs → FoundBy (map (promoted t) fs)
+    promoted_found fs found =
+        all_under (promoted t) (λ f. find (λ g. same (of g) (of f)) fs ≡ Some f) (λ f. find (λ g. same (of g) (of f)) (map (promoted t) fs) ≡ Some f)
+        (λ f is. found_promoted (of (promoted t f)) fs ∙ (ap (λ (x : X). option_map (promoted t) (find (λ g. same (of g) x) fs)) (stays f) ∙ ap (option_map (promoted t)) is)) fs found
 
-  promoted_named : (fs : List MapThere) → Named fs → Named (map (promoted t) fs)
-  promoted_named fs named =
-      all_under (promoted t) (λ f. find (λ g. is_same g.name f.name) fs ≡ Some f) (λ f. find (λ g. is_same g.name f.name) (map (promoted t) fs) ≡ Some f)
-      (λ f is. found_promoted (promoted t f).name fs ∙ (ap (λ (n : List ℕ). option_map (promoted t) (find (λ g. is_same g.name n) fs)) (name_same f) ∙ ap (option_map (promoted t)) is)) fs named
+  pub more_found : (fs : List MapThere) (f : MapThere) → same (of f) (of f) ≡ true → find (λ g. same (of g) (of f)) fs ≡ None → FoundBy fs → FoundBy (fs ++ f ∷ [])
+  more_found fs f itself none found =
+      all_append (λ g. find (λ x. same (of x) (of g)) (fs ++ f ∷ []) ≡ Some g) fs f
+      (all_so (λ g. find (λ x. same (of x) (of g)) fs ≡ Some g) (λ g. find (λ x. same (of x) (of g)) (fs ++ f ∷ []) ≡ Some g)
+      (λ g is. find-append (λ x. same (of x) (of g)) fs (f ∷ []) ∙ ap (λ (o : Option MapThere). option_or o (find (λ x. same (of x) (of g)) (f ∷ []))) is) fs found)
+      (find-append (λ x. same (of x) (of f)) fs (f ∷ []) ∙ (ap (λ (o : Option MapThere). option_or o (find (λ x. same (of x) (of f)) (f ∷ []))) none
+      ∙ ap (λ (q : Bool). cond q (Some f) None) itself))
 
-more_named : (fs : List MapThere) (f : MapThere) → find (λ g. is_same g.name f.name) fs ≡ None → Named fs → Named (fs ++ f ∷ [])
-more_named fs f none named =
-    all_append (λ g. find (λ x. is_same x.name g.name) (fs ++ f ∷ []) ≡ Some g) fs f
-    (all_so (λ g. find (λ x. is_same x.name g.name) fs ≡ Some g) (λ g. find (λ x. is_same x.name g.name) (fs ++ f ∷ []) ≡ Some g)
-    (λ g is. find-append (λ x. is_same x.name g.name) fs (f ∷ []) ∙ ap (λ (o : Option MapThere). option_or o (find (λ x. is_same x.name g.name) (f ∷ []))) is) fs named)
-    (find-append (λ x. is_same x.name f.name) fs (f ∷ []) ∙ (ap (λ (o : Option MapThere). option_or o (find (λ x. is_same x.name f.name) (f ∷ []))) none
-    ∙ ap (λ (q : Bool). cond q (Some f) None) (is_same_refl f.name)))
+  pub fewer_found : (keep : MapThere → Bool) (fs : List MapThere) → FoundBy fs → FoundBy (filter keep fs)
+  fewer_found keep fs found =
+      all_so (λ f. (find (λ g. same (of g) (of f)) fs ≡ Some f) × (keep f ≡ true)) (λ f. find (λ g. same (of g) (of f)) (filter keep fs) ≡ Some f)
+      (λ f its. found_still (λ g. same (of g) (of f)) keep fs f its.0 its.1) (filter keep fs) (all_kept (λ f. find (λ g. same (of g) (of f)) fs ≡ Some f) keep fs found)
 
-fewer_named : (own : List ℕ) (fs : List MapThere) → Named fs → Named (filter (λ f. not (is_same f.name own)) fs)
-fewer_named own fs named =
-    all_so (λ f. (find (λ g. is_same g.name f.name) fs ≡ Some f) × (not (is_same f.name own) ≡ true)) (λ f. find (λ g. is_same g.name f.name) (filter (λ g. not (is_same g.name own)) fs) ≡ Some f)
-    (λ f its. found_still (λ g. is_same g.name f.name) (λ g. not (is_same g.name own)) fs f its.0 its.1) (filter (λ f. not (is_same f.name own)) fs)
-    (all_kept (λ f. find (λ g. is_same g.name f.name) fs ≡ Some f) (λ f. not (is_same f.name own)) fs named)
+name_same : (t : Table) (f : MapThere) → (promoted t f).name ≡ f.name
+name_same t f = by (f.number == t.map)
+  where
+    by : (q : Bool) → (if q then record f { first = t.turn } else f).name ≡ f.name
+    by true = refl
+    by false = refl
+
+pub number_same : (t : Table) (f : MapThere) → (promoted t f).number ≡ f.number
+number_same t f = by (f.number == t.map)
+  where
+    by : (q : Bool) → (if q then record f { first = t.turn } else f).number ≡ f.number
+    by true = refl
+    by false = refl
+
+abbrev pub name_of : MapThere → List ℕ
+name_of f = f.name
+
+abbrev pub number_at : MapThere → ℕ
+number_at f = f.number
+
+abbrev pub same_number : ℕ → ℕ → Bool
+same_number a b = a == b
 
 pub named_at_first : (K V : Type 0) → NamedAtFirst K V
 named_at_first K V = tt
 
 module _ {K V : Type 0} where
-  one_named : (caller : Option (List ℕ)) (acted : Option ℕ) (f : Effect) (m : Moment K V) → AreNamed m → AreNamed (with_effect caller acted f m)
-  one_named caller acted (effect.Promoted t) m named = promoted_named t m.maps named
+  pub one_named : (caller : Option (List ℕ)) (acted : Option ℕ) (f : Effect) (m : Moment K V) → AreNamed m → AreNamed (with_effect caller acted f m)
+  one_named caller acted (effect.Promoted t) m named = promoted_found name_of is_same t (name_same t) m.maps named
   one_named caller acted _ m named = named
+
+  -- so are they by their numbers
+  pub numbers_stay : (caller : Option (List ℕ)) (acted : Option ℕ) (f : Effect) (m : Moment K V) → AreFound m → AreFound (with_effect caller acted f m)
+  numbers_stay caller acted (effect.Promoted t) m found =
+      All-from_recursion (λ g. map_at g.number (with_effect caller acted (effect.Promoted t) m) ≡ Some g) (map (promoted t) m.maps)
+      (promoted_found number_at same_number t (number_same t) m.maps (recursion_from_All (λ g. map_at g.number m ≡ Some g) m.maps found))
+  numbers_stay caller acted _ m found = found
 
   all_named : (caller : Option (List ℕ)) (acted : Option ℕ) (effects : List Effect) (m : Moment K V) → AreNamed m → AreNamed (with_effects caller acted effects m)
   all_named caller acted [] m named = named
   all_named caller acted (f ∷ effects) m named = all_named caller acted effects (with_effect caller acted f m) (one_named caller acted f m named)
 
   begun_named : (event : Event K V) (outcome : Outcome V) (m : Moment K V) → AreNamed m → MakesNew event outcome m → AreNamed (begun event outcome m)
-  begun_named (MakeMap name mode capacity) Done m named new = more_named m.maps _ new named
+  begun_named (MakeMap name mode capacity) Done m named new = more_found name_of is_same m.maps _ (is_same_refl name) new named
   begun_named (Begin caller guard name call) Goes m named new = by (number_of name m)
     where
       by : (o : Option ℕ) → AreNamed (with_call caller guard call o m)
@@ -104,8 +128,8 @@ module _ {K V : Type 0} where
       by false (Some number) = named
   begun_named _ _ m named new = named
 
-  maps_named : (event : Event K V) (outcome : Outcome V) (fs : List MapThere) → Named fs → Named (maps_on event outcome fs)
-  maps_named (EndMap own) Done fs named = fewer_named own fs named
+  maps_named : (event : Event K V) (outcome : Outcome V) (fs : List MapThere) → FoundBy name_of is_same fs → FoundBy name_of is_same (maps_on event outcome fs)
+  maps_named (EndMap own) Done fs named = fewer_found name_of is_same (λ f. not (is_same f.name own)) fs named
   maps_named _ _ fs named = named
 
 pub events_keep_named : (K V : Type 0) → EventsKeepNamed K V

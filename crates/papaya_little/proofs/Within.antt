@@ -14,7 +14,7 @@ use Rattle.papaya_schedules.specs.declared.effect.Spot.{Spot}
 use Rattle.papaya_schedules.specs.declared.effect.Table.{Table}
 use Rattle.papaya_schedules.specs.declared.effect.Thing.{Thing}
 use Rattle.papaya_schedules.specs.declared.effect.Thing.TheVariants.{APair, ATable}
-use Rattle.papaya_schedules.specs.Effects.{born_by, later, spot_by, is_chunked, at_stage, promoted, due_for, call_by, with_effect, with_effects, AtEachEffect}
+use Rattle.papaya_schedules.specs.Effects.{in_map, calls_by, born_by, later, spot_by, is_chunked, at_stage, promoted, due_for, call_by, with_effect, with_effects, AtEachEffect}
 use Rattle.papaya_schedules.specs.Entry.{ByCall, acting}
 use Rattle.papaya_schedules.specs.Growing.{only_looks, ComesNext}
 use Rattle.papaya_schedules.specs.Lists.{is_in, put, without_one}
@@ -25,13 +25,16 @@ use Rattle.papaya_schedules.specs.Things.{same_table, same_thing}
 use Rattle.papaya_schedules.specs.Views.{is_in_map, call_of, map_at, first_or, first_of, grows_in_chunks, is_linked, is_stage, is_place, tables_of}
 use Rattle.papaya_follows.proofs.Alike.{put_here, put_elsewhere}
 use Rattle.papaya_follows.proofs.Calling.{is_same_is}
-use Rattle.papaya_follows.proofs.Calls.{changed_same, changed}
+use Rattle.papaya_follows.proofs.Calls.{IsOfSame, changed_same, changed}
 use Rattle.papaya_others.proofs.Leads.{same_parts}
+use Rattle.papaya_spots.proofs.Elsewhere.{stored_grows}
+use Rattle.papaya_moments.specs.Numbers.{AreFound}
 use Rattle.papaya_little.specs.Life.{StoresOne}
 use Rattle.papaya_little.specs.Tables.{is_rooted, FindsTables}
 use Rattle.papaya_little.specs.TornDown.{FindsItsMap}
 use Rattle.papaya_little.specs.Waiting.{is_unborn, once_if, owed_in, AreApart, FindsPlaced}
 use Rattle.papaya_little.specs.Within.{many_of, HasItsMap, IsWithin, AllIsInOrder, ActsOn, LifeKeepsOrder}
+use Rattle.papaya_little.proofs.Endings.{number_same, one_named, numbers_stay}
 use Rattle.papaya_little.proofs.Life.{life_finds_placed}
 use Rattle.papaya_little.proofs.Lists.{one_of_them, none_of_them, any_so, all_so, all_both, each_is}
 use Rattle.papaya_little.proofs.Owed.{owed_append, owed_without, owed_there}
@@ -93,13 +96,6 @@ stage_same : (t : Table) (to : Stage) (u : TableThere) → (at_stage t to u).tab
 stage_same t to u = by (same_table u.table t)
   where
     by : (q : Bool) → (if q then record u { stage = to } else u).table ≡ u.table
-    by true = refl
-    by false = refl
-
-number_same : (t : Table) (f : MapThere) → (promoted t f).number ≡ f.number
-number_same t f = by (f.number == t.map)
-  where
-    by : (q : Bool) → (if q then record f { first = t.turn } else f).number ≡ f.number
     by true = refl
     by false = refl
 
@@ -448,3 +444,135 @@ module _ {K V : Type 0} (terms : Terms) (everything : Bool) (moments : List (Mom
   spots_within (effect.Retired x) b placed k l u = still_lies (effect.Retired x) refl placed k l u
   spots_within (effect.Reclaimed x) b placed k l u = still_lies (effect.Reclaimed x) refl placed k l u
   spots_within f b placed k l u = still_lies f refl placed k l u
+
+  maps_stay : (f : Effect) → is_storing f ≡ false → (k of : ℕ) → (then_at f).place k ≡ InMap of → (1 ≤ k) × (((then_at f).born k).map ≡ of)
+  maps_stay f stores k of is =
+      let was = h.within.maps k of ((leads acted m f stores).in_map k of is) in (was.0, ap (λ (g : ℕ → Table). (g k).map) (born_same acted f m.born stores) ∙ was.1)
+
+  maps_within : (f : Effect) → Whose f → FindsPlaced caller m f → (k of : ℕ) → (then_at f).place k ≡ InMap of → (1 ≤ k) × (((then_at f).born k).map ≡ of)
+  maps_within (effect.Stored n s) (NoCalls none finds) placed k of is = absurd (none_links n s acted finds)
+  maps_within (effect.Stored n s) (ACalls b) placed k of is =
+      subst (λ (o : Option ℕ). put n (in_map o) m.place k ≡ InMap of → (1 ≤ k) × ((born_by o (effect.Stored n s) m.born k).map ≡ of)) (sym b.acts) its is
+    where
+      its : put n (InMap b.c.map) m.place k ≡ InMap of → (1 ≤ k) × ((put n (record { map = b.c.map; turn = s.turn }) m.born k).map ≡ of)
+      its at = elim (cases_eq k n) as (λ _. (1 ≤ k) × ((put n (record { map = b.c.map; turn = s.turn }) m.born k).map ≡ of)) [
+        | inl e ↦ (
+            (let next = placed.0 in omega (arith, e, next)),
+            ap (λ (t : Table). t.map) (put_here n (record { map = b.c.map; turn = s.turn }) m.born k e)
+            ∙ (let two : InMap b.c.map ≡ InMap of = sym (put_here n (InMap b.c.map) m.place k e) ∙ at in let one : b.c.map ≡ of = cc two in one),
+        )
+        | inr ne ↦
+            (let was = h.within.maps k of (sym (put_elsewhere n (InMap b.c.map) m.place k ne) ∙ at) in
+            (was.0, ap (λ (t : Table). t.map) (put_elsewhere n (record { map = b.c.map; turn = s.turn }) m.born k ne) ∙ was.1))
+      ]
+  maps_within (effect.Retired x) b placed k of is = maps_stay (effect.Retired x) refl k of is
+  maps_within (effect.Reclaimed x) b placed k of is = maps_stay (effect.Reclaimed x) refl k of is
+  maps_within f b placed k of is = maps_stay f refl k of is
+
+  -- calls
+
+  more_stored : (f : Effect) (k : ℕ) → k ≤ length m.stored → k ≤ length (then_at f).stored
+  more_stored f k l = let more : length m.stored ≤ length (then_at f).stored = stored_grows caller acted (f ∷ []) m in omega (arith, l, more)
+
+  same_call : (f : Effect) (c : UnderWay K V) → FindsPlaced caller m f → HasItsMap m c → HasItsMap (then_at f) c
+  same_call f c placed its = record {
+    there = maps_there c.map f m.maps its.there;
+    table = its.table;
+    owes = λ n k e. (let it = its.owes n k e in (it.0, more_stored f n it.1, stored_born n it.1 f placed ∙ it.2));
+  }
+
+  table_within : (f : Effect) (c : UnderWay K V) → HasItsMap m c → CallFinds terms moments m f c → (t : Table) → (call_by m f c).table ≡ Some t → t.map ≡ c.map
+  table_within (effect.TableMade u) c its finds t is = let one : u ≡ t = cc is in ap (λ (x : Table). x.map) (sym one) ∙ finds.2
+  table_within (effect.TableGivenUp u) c its finds t is = absurd (cc is)
+  table_within (effect.Linked u shape) c its finds t is = absurd (cc is)
+  table_within (effect.Stored n s) c its finds t is = its.table t (sym (due_table c.call c c.replacing n) ∙ is)
+  table_within (effect.Removed p) c its finds t is = its.table t (sym (due_table c.call c (Some p) (length m.stored + 1)) ∙ is)
+  table_within _ c its finds t is = its.table t is
+
+  -- a pair that a call takes out was stored in its map, and what it hands over it owes no more often than before
+  module _ (f : Effect) (c : UnderWay K V) (its : HasItsMap m c) where
+    abbrev Owes : ℕ → Type 0
+    Owes n = (1 ≤ n) × (n ≤ length m.stored) × ((m.born n).map ≡ c.map)
+
+    takes_its : (p : ℕ) → m.place p ≡ InMap c.map → (n k : ℕ) → owed_in n (c.owes ++ APair p ∷ []) ≡ 1 + k → Owes n
+    takes_its p there n k e = elim (cases_eq n p) as (λ _. Owes n) [
+      | inl same ↦
+          (let at : m.place n ≡ InMap c.map = ap m.place same ∙ there in let was = h.within.maps n c.map at in
+          (was.0, h.waits.placed.stored n (ap is_unborn at), was.1))
+      | inr ne ↦
+          (let sum = owed_append n c.owes (APair p ∷ []) in let none : once_if (n == p) ≡ 0 = ap once_if (ne_eqb n p ne) in
+          its.owes n k (omega (arith, e, sum, none)))
+    ]
+
+    hands_its : (p : ℕ) → is_in same_thing (APair p) c.owes ≡ true → (n k : ℕ) → owed_in n (without_one same_thing (APair p) c.owes) ≡ 1 + k → Owes n
+    hands_its p there n k e = let less = owed_without p n c.owes there in its.owes n (k + once_if (same_thing (APair n) (APair p))) (omega (arith, e, less))
+
+    keeps_its : keeps_owed f ≡ true → (n k : ℕ) → owed_in n (call_by m f c).owes ≡ 1 + k → Owes n
+    keeps_its keeps n k e = its.owes n k (sym (its_same m f c n keeps) ∙ e)
+
+  owed_within : (f : Effect) (c : UnderWay K V) (its : HasItsMap m c) → CallFinds terms moments m f c → (n k : ℕ) → owed_in n (call_by m f c).owes ≡ 1 + k → (1 ≤ n) × (n ≤ length m.stored) × ((m.born n).map ≡ c.map)
+  owed_within (effect.Replaced p) c its finds n k e = takes_its (effect.Replaced p) c its p finds n k e
+  owed_within (effect.Removed p) c its finds n k e = takes_its (effect.Removed p) c its p finds n k e
+  owed_within (effect.Deferred p t) c its finds n k e = hands_its (effect.Deferred p t) c its p finds.0 n k e
+  owed_within (effect.Retired (APair p)) c its finds n k e = hands_its (effect.Retired (APair p)) c its p finds.0 n k e
+  owed_within (effect.Retired (ATable t)) c its finds n k e = keeps_its (effect.Retired (ATable t)) c its refl n k e
+  owed_within f c its finds n k e = keeps_its f c its refl n k e
+
+  its_call : (f : Effect) (b : OfCall f) → FindsPlaced caller m f → HasItsMap (then_at f) (call_by m f b.c)
+  its_call f b placed = record {
+    there = subst (λ (q : ℕ). list_any (λ (g : MapThere). g.number == q) (then_at f).maps ≡ true) (sym same.1) (maps_there b.c.map f m.maps b.its.there);
+    table = λ t is. table_within f b.c b.its b.finds t is ∙ sym same.1;
+    owes = λ n k e. (let it = owed_within f b.c b.its b.finds n k e in (it.0, more_stored f n it.1, stored_born n it.1 f placed ∙ (it.2 ∙ sym same.1)));
+  }
+    where
+      same : IsOfSame b.c (call_by m f b.c)
+      same = changed_same m f b.c
+
+  calls_within : (f : Effect) → Whose f → FindsPlaced caller m f → AllByRecursion (HasItsMap (then_at f)) (then_at f).calls
+  calls_within f (NoCalls none finds) placed =
+      subst (λ (o : Option (List ℕ)). AllByRecursion (HasItsMap (then_at f)) (calls_by o (call_by m f) m.calls)) (sym none)
+      (all_so (HasItsMap m) (HasItsMap (then_at f)) (λ c its. same_call f c placed its) m.calls h.within.calls)
+  calls_within f (ACalls b) placed =
+      subst (λ (o : Option (List ℕ)). AllByRecursion (HasItsMap (then_at f)) (calls_by o (call_by m f) m.calls)) (sym b.caller_is)
+      (all_under (changed (call_by m f) (changed_same m f) b.own) (λ c. HasItsMap m c × (is_same c.caller b.own ≡ true → c ≡ b.c)) (HasItsMap (then_at f)) one m.calls
+      (all_both (HasItsMap m) (λ c. is_same c.caller b.own ≡ true → c ≡ b.c) m.calls h.within.calls (only_one b.own m.calls b.c h.waits.placed.apart b.found)))
+    where
+      one : (c : UnderWay K V) → HasItsMap m c × (is_same c.caller b.own ≡ true → c ≡ b.c) → HasItsMap (then_at f) (changed (call_by m f) (changed_same m f) b.own c)
+      one c its = by (is_same c.caller b.own) refl
+        where
+          Goal : Bool → Type 0
+          Goal q = HasItsMap (then_at f) (if q then call_by m f c else c)
+
+          by : (q : Bool) → is_same c.caller b.own ≡ q → Goal (is_same c.caller b.own)
+          by true is = subst Goal (sym is) (subst (λ (x : UnderWay K V). HasItsMap (then_at f) (call_by m f x)) (sym (its.1 is)) (its_call f b placed))
+          by false is = subst Goal (sym is) (same_call f c placed its.0)
+
+  -- so all is in order after the effect
+  module _ (f : Effect) (finds : Finds terms caller acted everything moments m f) (one : StoresOne caller m f) where
+    its_whose : Whose f
+    its_whose = whose f finds
+
+    its_placed : FindsPlaced caller m f
+    its_placed = life_finds_placed K V terms caller acted everything moments m f finds one
+
+    found_then : AreFound (then_at f)
+    found_then = numbers_stay caller acted f m h.waits.found
+
+    in_order : AllIsInOrder (then_at f)
+    in_order = record {
+      waits = record {
+        placed = effects_keep_placed K V caller acted (f ∷ []) m (its_placed, tt) h.waits.placed;
+        tables = effects_keep_tables K V caller acted (f ∷ []) m (finds_tables f its_whose, tt) h.waits.tables;
+        found = found_then;
+      };
+      named = one_named caller acted f m h.named;
+      somewhere = effects_keep_somewhere K V caller acted (f ∷ []) m ((its_placed, finds_map acted refl f its_whose), tt) h.somewhere;
+      within = record {
+        tables = tables_within f its_whose;
+        roots = roots_within f its_whose;
+        made = made_within f;
+        spots = spots_within f its_whose its_placed;
+        maps = maps_within f its_whose its_placed;
+        calls = calls_within f its_whose its_placed;
+      };
+    }
