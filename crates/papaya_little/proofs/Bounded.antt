@@ -60,7 +60,7 @@ module _ (Q R : ℕ → Type 0) (so : (b : ℕ) → Q b → R b) (many : ℕ) (b
 
 module _ {K V : Type 0} (m : Moment K V) (known : Known) (w : World (Node K V)) (h : ShowsRetired m known w) where
   -- the block is that of a pair with a number up to this one
-  IsPairUpTo : ℕ → ℕ → Type 0
+  abbrev IsPairUpTo : ℕ → ℕ → Type 0
   IsPairUpTo k b = (n : ℕ) × (n ≤ k) × (known.roles b ≡ role.Pair n) × (is_retired_in b w.log ≡ true)
 
   pairs_retired : (k : ℕ) → Blocks (IsPairUpTo k) (places_below is_handed m.place k)
@@ -89,10 +89,10 @@ module _ {K V : Type 0} (m : Moment K V) (known : Known) (w : World (Node K V)) 
 
   module _ (pairs : ℕ) (all_pairs : Blocks (IsPairUpTo pairs) (places_below is_handed m.place pairs)) where
     -- or it is that of one of these tables
-    IsTableOf : List TableThere → ℕ → Type 0
+    abbrev IsTableOf : List TableThere → ℕ → Type 0
     IsTableOf tables b = (t : Table) × (len : ℕ) × (list_any (λ v. same_table v.table t) tables ≡ true) × (known.roles b ≡ role.Table t len) × (is_retired_in b w.log ≡ true)
 
-    IsEither : List TableThere → ℕ → Type 0
+    abbrev IsEither : List TableThere → ℕ → Type 0
     IsEither tables b = IsPairUpTo pairs b ⊎ IsTableOf tables b
 
     abbrev how_many : List TableThere → ℕ

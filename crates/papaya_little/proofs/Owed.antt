@@ -1,14 +1,16 @@
 -- How often a pair stands among what calls owe: an effect of a call changes that by what it does to what this call owes.
-use Rattle.std.specs.Prelude.{◌≡◌, ℕ, zero, suc, ◌+◌, ◌==◌, nat_lt, Bool, true, false, not, cond, ◌||◌, List, [], ◌∷◌, ◌++◌, find, map, Some, if◌then◌else◌}
+use Rattle.std.specs.Prelude.{◌≡◌, ℕ, zero, suc, ◌+◌, ◌==◌, nat_lt, Bool, true, false, not, cond, ◌||◌, List, [], ◌∷◌, ◌++◌, find, map, Option, Some, if◌then◌else◌}
 use Rattle.std.specs.List.{AllByRecursion, list_any}
 use Rattle.std.proofs.Common.{refl, ap, sym, subst, ◌∙◌, arith}
 use Rattle.std.proofs.lemmas.Bool.{or_parts, or_from}
 use Rattle.papaya_runs.specs.Same.{is_same}
+use Rattle.papaya_schedules.specs.declared.call.Call.{Call}
+use Rattle.papaya_schedules.specs.declared.call.Call.TheVariants as call
 use Rattle.papaya_schedules.specs.declared.effect.Table.{Table}
 use Rattle.papaya_schedules.specs.declared.effect.Thing.{Thing}
 use Rattle.papaya_schedules.specs.declared.effect.Thing.TheVariants.{APair, ATable}
 use Rattle.papaya_schedules.specs.After.{without_call}
-use Rattle.papaya_schedules.specs.Effects.{passed}
+use Rattle.papaya_schedules.specs.Effects.{passed, due_for}
 use Rattle.papaya_schedules.specs.Lists.{is_in, without_one}
 use Rattle.papaya_schedules.specs.Moment.{UnderWay}
 use Rattle.papaya_schedules.specs.Things.{same_thing}
@@ -81,6 +83,15 @@ owed_there n (x ∷ things) there = by (same_thing (APair n) x) refl there (owed
     by false is e rest = let it = rest e in let more = it.1 in let none : once_if (same_thing (APair n) x) ≡ 0 = ap once_if is in (it.0, omega (arith, none, more))
 
 -- among what calls owe
+
+-- a call that owes an answer owes the same things, and has the table that it had
+pub due_keeps : {K V : Type 0} (its : Call K V) (c : UnderWay K V) (old : Option ℕ) (new : ℕ) → ((due_for its c old new).owes ≡ c.owes) × ((due_for its c old new).table ≡ c.table)
+due_keeps (call.On one) c old new = (refl, refl)
+due_keeps (call.Reserve n) c old new = (refl, refl)
+due_keeps call.Clear c old new = (refl, refl)
+due_keeps call.Retain c old new = (refl, refl)
+due_keeps call.Len c old new = (refl, refl)
+due_keeps call.Walk c old new = (refl, refl)
 
 module _ {K V : Type 0} (own : List ℕ) (change : UnderWay K V → UnderWay K V) (same : (c : UnderWay K V) → IsOfSame c (change c)) where
   -- whether a call is of this caller, its own change makes no other one of it

@@ -17,10 +17,9 @@ use Rattle.papaya_schedules.specs.Views.{call_of, first_of, is_in_a_map}
 use Rattle.papaya_follows.proofs.Alike.{put_elsewhere}
 use Rattle.papaya_follows.proofs.Calls.{changed_same}
 use Rattle.papaya_spots.proofs.Elsewhere.{stored_grows}
-use Rattle.papaya_settles.proofs.Owing.{leaves}
 use Rattle.papaya_little.specs.Waiting.{is_unborn, is_out, is_behind_one, is_back, is_let_go, once_if, owed_in, put_in, owed_by, AreApart, PairsArePlaced, OwesPair, TakesOut, FindsPlaced, PlacedAtFirst, EffectsKeepPlaced, OthersKeepPlaced}
 use Rattle.papaya_little.proofs.Counted.{Counts, gains, loses, stays, lets_go, others_stay, born_stay}
-use Rattle.papaya_little.proofs.Owed.{owed_append, owed_without, table_without, passed_none, owed_there, apart_still, all_owe, its_owe, owed_at_least}
+use Rattle.papaya_little.proofs.Owed.{due_keeps, owed_append, owed_without, table_without, passed_none, owed_there, apart_still, all_owe, its_owe, owed_at_least}
 
 pub placed_at_first : (K V : Type 0) → PlacedAtFirst K V
 placed_at_first K V = record { owed = λ n. refl; put = λ n. refl; back = λ n. refl; stored = λ n e. absurd (cc e); apart = tt }
@@ -130,7 +129,7 @@ module _ {K V : Type 0} where
       let none = passed_none n t.map (first_of t.map m) t.turn in
       omega (arith, more, none)
   its_same m (effect.Copied k s) c n e = refl
-  its_same m (effect.Stored k s) c n e = ap (owed_in n) (leaves m (effect.Stored k s) c refl)
+  its_same m (effect.Stored k s) c n e = ap (owed_in n) (due_keeps c.call c c.replacing k).0
   its_same m (effect.Replaced k) c n e = absurd (cc e)
   its_same m (effect.Removed k) c n e = absurd (cc e)
   its_same m (effect.Counted s) c n e = refl

@@ -18,10 +18,10 @@ use Rattle.papaya_schedules.specs.Reclaims.{is_kept}
 use Rattle.papaya_schedules.specs.Things.{same_table, same_thing}
 use Rattle.papaya_schedules.specs.Views.{call_of, map_at, first_or, first_of, is_there, is_linked, is_stage, tables_of}
 use Rattle.papaya_follows.proofs.Calls.{changed_same}
-use Rattle.papaya_settles.proofs.Owing.{leaves}
 use Rattle.papaya_spots.proofs.Unreclaimed.{table_is, same_itself}
 use Rattle.papaya_little.specs.Tables.{is_owed_table, PassedIsOwed, WaitsBehindOne, TablesAreInOrder, FindsTables, EffectsKeepTables, OthersKeepTables}
 use Rattle.papaya_little.proofs.Lists.{one_of_them, none_of_them, all_so, all_both}
+use Rattle.papaya_little.proofs.Owed.{due_keeps}
 use Rattle.papaya_little.proofs.OwedTables.{still_in, then_in, in_without, passed_in, owed_still, owed_now}
 
 -- lists
@@ -120,7 +120,7 @@ module _ {K V : Type 0} where
   keeps m (effect.Removed n) t c apart e = still_in t c.owes (APair n ∷ []) e
   keeps m (effect.Deferred n u) t c apart e = in_without t (APair n) c.owes (λ is. cc is) e
   keeps m (effect.Retired x) t c apart e = in_without t x c.owes (λ is. apart (ap effect.Retired is)) e
-  keeps m (effect.Stored n s) t c apart e = ap (is_in same_thing (ATable t)) (leaves m (effect.Stored n s) c refl) ∙ e
+  keeps m (effect.Stored n s) t c apart e = ap (is_in same_thing (ATable t)) (due_keeps c.call c c.replacing n).0 ∙ e
   keeps m (effect.Asked growth) t c apart e = e
   keeps m effect.PairMade t c apart e = e
   keeps m effect.PairGivenUp t c apart e = e

@@ -6,8 +6,6 @@ use Rattle.std.proofs.lemmas.Bool.{and_from, and_parts, cases_eq, eq-eqb, ne_eqb
 use Rattle.std.proofs.lemmas.List.Elements.{recursion_from_All, All-from_recursion, filter-append}
 use Rattle.papaya_runs.specs.Same.{is_same}
 use Rattle.papaya_runs.specs.declared.outcome.TableShape.{TableShape}
-use Rattle.papaya_schedules.specs.declared.call.Call.{Call}
-use Rattle.papaya_schedules.specs.declared.call.Call.TheVariants as call
 use Rattle.papaya_schedules.specs.declared.effect.Effect.{Effect}
 use Rattle.papaya_schedules.specs.declared.effect.Effect.TheVariants as effect
 use Rattle.papaya_schedules.specs.declared.effect.Spot.{Spot}
@@ -37,7 +35,7 @@ use Rattle.papaya_little.specs.Within.{many_of, HasItsMap, IsWithin, AllIsInOrde
 use Rattle.papaya_little.proofs.Endings.{number_same, one_named, numbers_stay}
 use Rattle.papaya_little.proofs.Life.{life_finds_placed}
 use Rattle.papaya_little.proofs.Lists.{one_of_them, none_of_them, any_so, all_so, all_both, each_is}
-use Rattle.papaya_little.proofs.Owed.{owed_append, owed_without, owed_there}
+use Rattle.papaya_little.proofs.Owed.{due_keeps, owed_append, owed_without, owed_there}
 use Rattle.papaya_little.proofs.Placed.{keeps_owed, its_same, effects_keep_placed}
 use Rattle.papaya_little.proofs.Somewhere.{is_storing, LeadsOn, none_stored, leads, maps_there, effects_keep_somewhere}
 use Rattle.papaya_little.proofs.Tables.{all_under, all_append, same_length, effects_keep_tables}
@@ -119,14 +117,6 @@ module _ {K V : Type 0} where
   many_grow caller acted m (effect.Retired (APair n)) of = omega arith
   many_grow caller acted m (effect.Reclaimed (APair n)) of = omega arith
   many_grow caller acted m _ of = omega arith
-
-  due_table : (its : Call K V) (c : UnderWay K V) (old : Option ℕ) (new : ℕ) → (due_for its c old new).table ≡ c.table
-  due_table (call.On one) c old new = refl
-  due_table (call.Reserve n) c old new = refl
-  due_table call.Clear c old new = refl
-  due_table call.Retain c old new = refl
-  due_table call.Len c old new = refl
-  due_table call.Walk c old new = refl
 
 -- a table that has just been linked
 abbrev linked_as : Table → TableShape → TableThere
@@ -485,8 +475,8 @@ module _ {K V : Type 0} (terms : Terms) (everything : Bool) (moments : List (Mom
   table_within (effect.TableMade u) c its finds t is = let one : u ≡ t = cc is in ap (λ (x : Table). x.map) (sym one) ∙ finds.2
   table_within (effect.TableGivenUp u) c its finds t is = absurd (cc is)
   table_within (effect.Linked u shape) c its finds t is = absurd (cc is)
-  table_within (effect.Stored n s) c its finds t is = its.table t (sym (due_table c.call c c.replacing n) ∙ is)
-  table_within (effect.Removed p) c its finds t is = its.table t (sym (due_table c.call c (Some p) (length m.stored + 1)) ∙ is)
+  table_within (effect.Stored n s) c its finds t is = its.table t (sym (due_keeps c.call c c.replacing n).1 ∙ is)
+  table_within (effect.Removed p) c its finds t is = its.table t (sym (due_keeps c.call c (Some p) (length m.stored + 1)).1 ∙ is)
   table_within _ c its finds t is = its.table t is
 
   -- a pair that a call takes out was stored in its map, and what it hands over it owes no more often than before
