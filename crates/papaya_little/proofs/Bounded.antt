@@ -1,5 +1,5 @@
 -- What is retired at a moment of a run is in as many blocks, each of which is retired in the memory: so it is bounded as these are.
-use Rattle.std.specs.Prelude.{◌≡◌, ℕ, zero, suc, ◌+◌, ◌-◌, ◌*◌, ◌<◌, ◌≤◌, ◌==◌, ◌⊎◌, max, Bool, true, false, not, cond, ◌||◌, List, [], ◌∷◌, length, filter, if◌then◌else◌}
+use Rattle.std.specs.Prelude.{◌≡◌, ℕ, zero, suc, ◌+◌, ◌-◌, ◌*◌, ◌<◌, ◌≤◌, ◌==◌, ◌⊎◌, max, Bool, true, false, not, cond, ◌||◌, List, [], ◌∷◌, length, filter}
 use Rattle.std.specs.List.{AllByRecursion, list_any}
 use Rattle.std.proofs.Common.{refl, ap, sym, subst, ◌∙◌, arith, inl, inr}
 use Rattle.std.proofs.lemmas.Bool.{cases_eq, eq-eqb, ne_eqb}
@@ -143,7 +143,7 @@ little_waits K V batch_size m known w word came nobody shows =
     let pairs = pairs_retired m known w shows (length m.stored) in
     let all = with_tables m known w shows (length m.stored) pairs m.tables shows.apart shows.tables in
     let most = garbage_bounded deferred_word batch_size came.0 came.1 w word came.2 nobody.rests nobody.outside m.slots shows.slots all.blocks all.once
-      (λ b some. retired m known w shows (length m.stored) pairs m.tables b (all.each b some)) in
+    (λ b some. retired m known w shows (length m.stored) pairs m.tables b (all.each b some)) in
     let same : max (max batch_size m.slots) 1 ≡ max batch_size (max m.slots 1) = omega arith in
     subst (λ (q : ℕ). waiting_things m ≤ m.slots * (q - 1)) same (subst (λ (q : ℕ). q ≤ m.slots * (max (max batch_size m.slots) 1 - 1)) all.counted most)
 

@@ -1,5 +1,5 @@
 -- A pair that is put elsewhere: how often pairs stand in a list, by where they are, once one has come to it, or has gone.
-use Rattle.std.specs.Prelude.{◌≡◌, ◌≢◌, ℕ, ◌+◌, ◌==◌, Bool, true, false, not, cond, ◌||◌, List, [], ◌∷◌, filter, map, if◌then◌else◌}
+use Rattle.std.specs.Prelude.{◌≡◌, ℕ, ◌+◌, ◌==◌, Bool, true, false, not, cond, ◌||◌, List, [], ◌∷◌, filter, map, if◌then◌else◌}
 use Rattle.std.proofs.Common.{refl, ap, sym, subst, ◌∙◌, arith, inl, inr}
 use Rattle.std.proofs.lemmas.Bool.{cases_eq, eq-eqb, ne_eqb}
 use Rattle.papaya_schedules.specs.declared.effect.Table.{Table}
@@ -80,11 +80,11 @@ module _ (t : Table) where
 
       by : (q : Bool) → same_table d.behind t ≡ q → (is_among n (behind t deferred) ≡ false → put_in n (filter stays_put deferred) ≡ put_in n deferred) → Goal (same_table d.behind t)
       by true is rest = subst Goal (sym is) (
-        let two = first_is (n == d.pair) (is_among n (behind t deferred)) (subst Among is none) in
-        let here : once_if (n == d.pair) ≡ 0 = ap once_if two.0 in
-        let others = rest two.1 in
-        omega (arith, here, others)
-      )
+          let two = first_is (n == d.pair) (is_among n (behind t deferred)) (subst Among is none) in
+          let here : once_if (n == d.pair) ≡ 0 = ap once_if two.0 in
+          let others = rest two.1 in
+          omega (arith, here, others)
+          )
       by false is rest = subst Goal (sym is) (let others = rest (subst Among is none) in omega (arith, others))
 
   -- one that is behind it, and stands there once, is behind none then
@@ -131,10 +131,10 @@ module _ (t : Table) where
         by : (q : Bool) → is_behind_one (place k) ≡ q → is_behind_one (place k) ≡ true
         by true is = is
         by false is = absurd (
-          let some = all_gone k deferred there in let e = some.1 in
-          let none : put_in k deferred ≡ 0 = counts k ∙ ap once_if is in
-          omega (arith, e, none)
-        )
+            let some = all_gone k deferred there in let e = some.1 in
+            let none : put_in k deferred ≡ 0 = counts k ∙ ap once_if is in
+            omega (arith, e, none)
+            )
 
     here : (k : ℕ) → is_among k (behind t deferred) ≡ true → after k ≡ to
     here k e = ap (λ (q : Bool). if q then to else place k) e

@@ -1,9 +1,9 @@
 -- Maps keep their names, and as one ends its tables and its pairs go with it.
-use Rattle.std.specs.Prelude.{◌≡◌, ℕ, zero, suc, ◌+◌, ◌≤◌, ◌⊎◌, ◌==◌, nat_le, Bool, true, false, not, cond, ◌&&◌, ◌||◌, List, [], ◌∷◌, ◌++◌, length, filter, find, map, flat_map, Option, Some, None, option_map, if◌then◌else◌}
+use Rattle.std.specs.Prelude.{◌≡◌, ℕ, zero, suc, ◌≤◌, ◌⊎◌, ◌==◌, nat_le, Bool, true, false, not, cond, ◌&&◌, ◌||◌, List, [], ◌∷◌, ◌++◌, length, filter, find, map, flat_map, Option, Some, None, option_map, if◌then◌else◌}
 use Rattle.std.specs.List.{AllByRecursion, list_any, list_all}
 use Rattle.std.specs.Option.{option_or}
 use Rattle.std.proofs.Common.{refl, ap, sym, subst, ◌∙◌, arith, inl, inr, le-leb}
-use Rattle.std.proofs.lemmas.Bool.{and_from, and_parts, cases_eq, eq-eqb, leb-true}
+use Rattle.std.proofs.lemmas.Bool.{and_parts, cases_eq, eq-eqb, leb-true}
 use Rattle.std.proofs.lemmas.List.Elements.{recursion_from_All, All-from_recursion}
 use Rattle.std.proofs.lemmas.List.Folds.{find-append}
 use Rattle.papaya_runs.specs.Same.{is_same}
@@ -18,7 +18,7 @@ use Rattle.papaya_schedules.specs.After.{tables_taken, maps_on, after}
 use Rattle.papaya_schedules.specs.Beginning.{with_call, begun}
 use Rattle.papaya_schedules.specs.Effects.{at_stage, promoted, with_effect, with_effects, worked}
 use Rattle.papaya_schedules.specs.Entry.{Entry, is_busy, nameless, caller_of, acted_on}
-use Rattle.papaya_schedules.specs.Handing.{is_ending, may_do, tables_in, EndsMap, EndsNamed, IsWhole}
+use Rattle.papaya_schedules.specs.Handing.{is_ending, may_do, EndsMap, EndsNamed, IsWhole}
 use Rattle.papaya_schedules.specs.Moment.{Place, InMap, MapThere, IsTaken, TableThere, Moment}
 use Rattle.papaya_schedules.specs.Reclaims.{is_kept}
 use Rattle.papaya_schedules.specs.Things.{same_table}
@@ -28,10 +28,10 @@ use Rattle.papaya_follows.proofs.Calling.{is_same_refl, is_same_is}
 use Rattle.papaya_others.proofs.EndBegins.{found_still}
 use Rattle.papaya_others.proofs.Leads.{same_parts}
 use Rattle.papaya_spots.proofs.Unreclaimed.{same_itself}
-use Rattle.papaya_little.specs.Endings.{AreNamed, MakesNew, EndsWhole, NamedAtFirst, EventsKeepNamed, EventsKeepRoots, EventsKeepSomewhere}
+use Rattle.papaya_little.specs.Endings.{AreNamed, MakesNew, NamedAtFirst, EventsKeepNamed, EventsKeepRoots, EventsKeepSomewhere}
 use Rattle.papaya_little.specs.TornDown.{StoredAreSomewhere}
 use Rattle.papaya_little.specs.Waiting.{is_unborn, once_if, PairsArePlaced}
-use Rattle.papaya_little.proofs.Lists.{one_of_them, any_kept, any_kept_among, all_so, all_both, each_is, each_among}
+use Rattle.papaya_little.proofs.Lists.{any_kept, any_kept_among, all_so, all_both, each_is, each_among}
 use Rattle.papaya_little.proofs.Somewhere.{others_keep_somewhere}
 use Rattle.papaya_little.proofs.Tables.{all_under, any_under, all_append, all_kept}
 
@@ -305,11 +305,11 @@ module _ {K V : Type 0} where
         where
           one : (f : MapThere) → (f.number == number) ≡ true → Stands m w name effects named found whole f → (q : Bool) → is_same f.name name ≡ q → not (is_same f.name name) ≡ true
           one f at stands true same = absurd (
-            let below : n ≤ length w.stored = placed.stored n (ap is_unborn is) in
-            let none = none_at (is_in_map f.number) w.place (length w.stored) (ends m w name effects named found whole f stands same).all n l below in
-            let there : is_in_map f.number (w.place n) ≡ true = ap (is_in_map f.number) is ∙ at in
-            cc (none, there)
-          )
+              let below : n ≤ length w.stored = placed.stored n (ap is_unborn is) in
+              let none = none_at (is_in_map f.number) w.place (length w.stored) (ends m w name effects named found whole f stands same).all n l below in
+              let there : is_in_map f.number (w.place n) ≡ true = ap (is_in_map f.number) is ∙ at in
+              cc (none, there)
+              )
           one f at stands false same = ap not same
   pairs_go event outcome steps effects m named found may whole placed h =
       others_keep_somewhere K V (worked (entry event outcome steps effects) m) (after (entry event outcome steps effects) m) h (λ n. refl) refl (λ n number l is e. e)

@@ -105,7 +105,7 @@ module _ {K V : Type 0} (own : List ℕ) (change : UnderWay K V → UnderWay K V
   apart_still [] apart = tt
   apart_still (c ∷ calls) apart = (
     ap (λ (l : List ℕ). list_any (λ d. is_same d.caller l) (map (changed change same own) calls)) (of_same change same own c).0
-    ∙ (named_still c.caller calls ∙ apart.0),
+        ∙ (named_still c.caller calls ∙ apart.0),
     apart_still calls apart.1,
   )
 
@@ -148,7 +148,7 @@ module _ {K V : Type 0} (own : List ℕ) (change : UnderWay K V → UnderWay K V
             let name : d.caller ≡ own = is_same_is d.caller own e in
             let others = others_owe calls (subst (λ (l : List ℕ). list_any (λ x. is_same x.caller l) calls ≡ false) name apart.0) in
             let here : owed_in n (changed change same own d).owes ≡ owed_in n (change c).owes =
-              ap (λ (q : Bool). owed_in n (if q then change d else d).owes) e ∙ ap (λ (x : UnderWay K V). owed_in n (change x).owes) it in
+            ap (λ (q : Bool). owed_in n (if q then change d else d).owes) e ∙ ap (λ (x : UnderWay K V). owed_in n (change x).owes) it in
             let was : owed_in n d.owes ≡ owed_in n c.owes = ap owes it in
             omega (arith, others, here, was)
         by false e found rest =

@@ -224,11 +224,11 @@ module _ {K V : Type 0} where
           by : (q : Bool) → is_out (m.place n) ≡ q → is_out (m.place n) ≡ true
           by true e = e
           by false e = absurd (
-            let some = owed_there n c.owes there in let one = some.1 in
-            let all = owed_at_least n own m.calls c c_is in let its = all.1 in
-            let none : owed_by n m.calls ≡ 0 = h.owed n ∙ ap once_if e in
-            omega (arith, one, its, none)
-          )
+              let some = owed_there n c.owes there in let one = some.1 in
+              let all = owed_at_least n own m.calls c c_is in let its = all.1 in
+              let none : owed_by n m.calls ≡ 0 = h.owed n ∙ ap once_if e in
+              omega (arith, one, its, none)
+              )
 
       -- and hands it over
       hands : (call_by m f c).owes ≡ without_one same_thing (APair n) c.owes → is_in same_thing (APair n) c.owes ≡ true → (to : Place) → is_out to ≡ false

@@ -187,9 +187,9 @@ module _ {K V : Type 0} where
             where
               by : (q : Bool) → same_table u.table t ≡ q → Q (if same_table u.table t then record u { stage = to } else u)
               by true is = subst (λ (q : Bool). Q (if q then record u { stage = to } else u)) (sym is) (λ e. absurd (
-                let kept : is_kept m (record u { stage = to }) ≡ true = or_left (not (is_linked to)) (list_any (λ (g : MapThere). (g.number == u.table.map) && nat_le g.first u.table.turn) m.maps) (ap not not_linked) in
-                cc (kept, e)
-              ))
+                  let kept : is_kept m (record u { stage = to }) ≡ true = or_left (not (is_linked to)) (list_any (λ (g : MapThere). (g.number == u.table.map) && nat_le g.first u.table.turn) m.maps) (ap not not_linked) in
+                  cc (kept, e)
+                  ))
               by false is = subst (λ (q : Bool). Q (if q then record u { stage = to } else u)) (sym is) (λ e. owed_on caller acted m f u.table (apart u.table is) (was e))
 
       staged_behind : (ds : List Deferral) → AllByRecursion (λ d. WaitsBehindOne m d × ((is_there to ≡ true) ⊎ (same_table d.behind t ≡ false))) ds
@@ -293,9 +293,9 @@ module _ {K V : Type 0} where
             let from : g.first ≤ u.table.turn = leb-true g.first u.table.turn two.1 in
             let below : u.table.turn < t.turn = leb-false t.turn u.table.turn before in
             let there : is_in same_thing (ATable (record { map = t.map; turn = u.table.turn })) (passed t.map (first_of t.map m) t.turn) ≡ true =
-              passed_in t.map (first_of t.map m) t.turn u.table.turn (omega (arith, first_is, from)) below in
+            passed_in t.map (first_of t.map m) t.turn u.table.turn (omega (arith, first_is, from)) below in
             let it : is_in same_thing (ATable u.table) (passed t.map (first_of t.map m) t.turn) ≡ true =
-              subst (λ (q : ℕ). is_in same_thing (ATable (record { map = q; turn = u.table.turn })) (passed t.map (first_of t.map m) t.turn) ≡ true) (sym map_is) there in
+            subst (λ (q : ℕ). is_in same_thing (ATable (record { map = q; turn = u.table.turn })) (passed t.map (first_of t.map m) t.turn) ≡ true) (sym map_is) there in
             owed_now own (call_by m f) (changed_same m f) u.table m.calls c c_is (then_in u.table c.owes (passed t.map (first_of t.map m) t.turn) it)
 
     each : (u : TableThere) → PassedIsOwed m u → PassedIsOwed v u
@@ -309,9 +309,9 @@ module _ {K V : Type 0} where
         by true e =
             let rooted : list_any (at_root u) m.maps ≡ true = ap (λ (q : Bool). q || list_any (at_root u) m.maps) (sym two.0) ∙ e in
             let none : AllByRecursion (λ g. at_root u (promoted t g) ≡ false) m.maps =
-              under_all (promoted t) (λ g. at_root u g ≡ false) m.maps (none_of_them (at_root u) (map (promoted t) m.maps) two.1) in
+            under_all (promoted t) (λ g. at_root u g ≡ false) m.maps (none_of_them (at_root u) (map (promoted t) m.maps) two.1) in
             let it = one_of_them (at_root u) (λ g. (at_root u (promoted t g) ≡ false) × (map_at g.number m ≡ Some g)) m.maps rooted
-              (all_both (λ g. at_root u (promoted t g) ≡ false) (λ g. map_at g.number m ≡ Some g) m.maps none found) in
+            (all_both (λ g. at_root u (promoted t g) ≡ false) (λ g. map_at g.number m ≡ Some g) m.maps none found) in
             passes u it.0 it.1 it.2.0 it.2.1
 
     promotes : TablesAreInOrder v

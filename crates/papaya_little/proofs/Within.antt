@@ -1,18 +1,17 @@
 -- Effects that find what the promise `life` asks leave tables, pairs and calls within what their maps have had.
-use Rattle.std.specs.Prelude.{◌≡◌, ◌≢◌, ℕ, zero, ◌+◌, ◌<◌, ◌≤◌, ◌⊎◌, ◌==◌, nat_le, nat_lt, Bool, true, false, cond, ◌&&◌, ◌||◌, List, [], ◌∷◌, ◌++◌, length, filter, find, map, Option, Some, None, if◌then◌else◌}
+use Rattle.std.specs.Prelude.{◌≡◌, ◌≢◌, ℕ, ◌+◌, ◌<◌, ◌≤◌, ◌==◌, nat_le, nat_lt, Bool, true, false, cond, ◌&&◌, ◌||◌, List, [], ◌∷◌, ◌++◌, length, filter, find, map, Option, Some, None, if◌then◌else◌}
 use Rattle.std.specs.List.{AllByRecursion, list_any}
 use Rattle.std.proofs.Common.{refl, ap, sym, subst, ◌∙◌, arith, inl, inr, length-append, le-leb}
 use Rattle.std.proofs.lemmas.Bool.{and_from, and_parts, cases_eq, eq-eqb, ne_eqb}
-use Rattle.std.proofs.lemmas.List.Elements.{recursion_from_All, All-from_recursion, filter-append}
+use Rattle.std.proofs.lemmas.List.Elements.{filter-append}
 use Rattle.papaya_runs.specs.Same.{is_same}
 use Rattle.papaya_runs.specs.declared.outcome.TableShape.{TableShape}
 use Rattle.papaya_schedules.specs.declared.effect.Effect.{Effect}
 use Rattle.papaya_schedules.specs.declared.effect.Effect.TheVariants as effect
 use Rattle.papaya_schedules.specs.declared.effect.Spot.{Spot}
 use Rattle.papaya_schedules.specs.declared.effect.Table.{Table}
-use Rattle.papaya_schedules.specs.declared.effect.Thing.{Thing}
 use Rattle.papaya_schedules.specs.declared.effect.Thing.TheVariants.{APair, ATable}
-use Rattle.papaya_schedules.specs.Effects.{in_map, calls_by, born_by, later, spot_by, is_chunked, at_stage, promoted, due_for, call_by, with_effect, with_effects, AtEachEffect}
+use Rattle.papaya_schedules.specs.Effects.{in_map, calls_by, born_by, later, spot_by, is_chunked, at_stage, promoted, call_by, with_effect}
 use Rattle.papaya_schedules.specs.Entry.{ByCall, acting}
 use Rattle.papaya_schedules.specs.Growing.{only_looks, ComesNext}
 use Rattle.papaya_schedules.specs.Lists.{is_in, put, without_one}
@@ -28,16 +27,16 @@ use Rattle.papaya_others.proofs.Leads.{same_parts}
 use Rattle.papaya_spots.proofs.Elsewhere.{stored_grows}
 use Rattle.papaya_moments.specs.Numbers.{AreFound}
 use Rattle.papaya_little.specs.Life.{StoresOne}
-use Rattle.papaya_little.specs.Tables.{is_rooted, FindsTables}
+use Rattle.papaya_little.specs.Tables.{FindsTables}
 use Rattle.papaya_little.specs.TornDown.{FindsItsMap}
 use Rattle.papaya_little.specs.Waiting.{is_unborn, once_if, owed_in, AreApart, FindsPlaced}
-use Rattle.papaya_little.specs.Within.{many_of, HasItsMap, IsWithin, AllIsInOrder, ActsOn, LifeKeepsOrder}
+use Rattle.papaya_little.specs.Within.{many_of, HasItsMap, AllIsInOrder, ActsOn}
 use Rattle.papaya_little.proofs.Endings.{number_same, one_named, numbers_stay}
 use Rattle.papaya_little.proofs.Life.{life_finds_placed}
 use Rattle.papaya_little.proofs.Lists.{one_of_them, none_of_them, any_so, all_so, all_both, each_is}
 use Rattle.papaya_little.proofs.Owed.{due_keeps, owed_append, owed_without, owed_there}
 use Rattle.papaya_little.proofs.Placed.{keeps_owed, its_same, effects_keep_placed}
-use Rattle.papaya_little.proofs.Somewhere.{is_storing, LeadsOn, none_stored, leads, maps_there, effects_keep_somewhere}
+use Rattle.papaya_little.proofs.Somewhere.{is_storing, none_stored, leads, maps_there, effects_keep_somewhere}
 use Rattle.papaya_little.proofs.Tables.{all_under, all_append, same_length, effects_keep_tables}
 
 -- lists
@@ -108,7 +107,7 @@ module _ {K V : Type 0} where
   many_grow caller acted m (effect.Linked t shape) of =
       let new : TableThere = record { table = t; shape = shape; stage = IsLinked } in
       let parts : length (filter (λ (u : TableThere). u.table.map == of) (m.tables ++ new ∷ [])) ≡ length (tables_of of m ++ filter (λ (u : TableThere). u.table.map == of) (new ∷ [])) =
-        ap length (filter-append (λ (u : TableThere). u.table.map == of) m.tables (new ∷ [])) in
+      ap length (filter-append (λ (u : TableThere). u.table.map == of) m.tables (new ∷ [])) in
       let sum = length-append (tables_of of m) (filter (λ (u : TableThere). u.table.map == of) (new ∷ [])) in
       omega (arith, parts, sum)
   many_grow caller acted m (effect.Retired (ATable t)) of = let same = same_length t IsRetired of m.tables in omega (arith, same)
@@ -245,7 +244,7 @@ module _ {K V : Type 0} (terms : Terms) (everything : Bool) (moments : List (Mom
       let next = links_next t shape b in
       any_so (λ (f : MapThere). f.number == t.map) (λ f. (f.number == t.map) && nat_le f.first t.turn) (λ f. f.first ≤ many f.number)
       (λ f e l. and_from (f.number == t.map) (nat_le f.first t.turn) e (le-leb f.first t.turn (
-        let turn = next.turn in let here : f.first ≤ many t.map = subst (λ (q : ℕ). f.first ≤ many q) (number_is f.number t.map e) l in omega (arith, here, turn)
+      let turn = next.turn in let here : f.first ≤ many t.map = subst (λ (q : ℕ). f.first ≤ many q) (number_is f.number t.map e) l in omega (arith, here, turn)
       ))) m.maps next.there h.within.roots
   finds_tables (effect.Promoted t) (NoCalls none finds) = absurd (none_promotes t acted finds)
   finds_tables (effect.Promoted t) (ACalls b) =
@@ -294,12 +293,12 @@ module _ {K V : Type 0} (terms : Terms) (everything : Bool) (moments : List (Mom
   tables_within : (f : Effect) → Whose f → AllByRecursion (λ u. u.table.turn < many_of u.table.map (then_at f)) (then_at f).tables
   tables_within (effect.Linked t shape) b =
       all_append (λ u. u.table.turn < many_of u.table.map (then_at (effect.Linked t shape))) m.tables (linked_as t shape) (grown_tables (effect.Linked t shape)) (
-        let turn = (links_next t shape b).turn in
-        let one : length (filter (λ (u : TableThere). u.table.map == t.map) (linked_as t shape ∷ [])) ≡ 1 = ap (λ (q : Bool). length (cond q (linked_as t shape ∷ []) [])) (eq-eqb t.map t.map refl) in
-        let parts : many_of t.map (then_at (effect.Linked t shape)) ≡ length (tables_of t.map m ++ filter (λ (u : TableThere). u.table.map == t.map) (linked_as t shape ∷ [])) =
-          ap length (filter-append (λ (u : TableThere). u.table.map == t.map) m.tables (linked_as t shape ∷ [])) in
-        let sum = length-append (tables_of t.map m) (filter (λ (u : TableThere). u.table.map == t.map) (linked_as t shape ∷ [])) in
-        omega (arith, turn, one, parts, sum)
+      let turn = (links_next t shape b).turn in
+      let one : length (filter (λ (u : TableThere). u.table.map == t.map) (linked_as t shape ∷ [])) ≡ 1 = ap (λ (q : Bool). length (cond q (linked_as t shape ∷ []) [])) (eq-eqb t.map t.map refl) in
+      let parts : many_of t.map (then_at (effect.Linked t shape)) ≡ length (tables_of t.map m ++ filter (λ (u : TableThere). u.table.map == t.map) (linked_as t shape ∷ [])) =
+      ap length (filter-append (λ (u : TableThere). u.table.map == t.map) m.tables (linked_as t shape ∷ [])) in
+      let sum = length-append (tables_of t.map m) (filter (λ (u : TableThere). u.table.map == t.map) (linked_as t shape ∷ [])) in
+      omega (arith, turn, one, parts, sum)
       )
   tables_within (effect.Retired (ATable t)) b = staged_tables (effect.Retired (ATable t)) t IsRetired
   tables_within (effect.Retired (APair n)) b = grown_tables (effect.Retired (APair n))
@@ -324,10 +323,10 @@ module _ {K V : Type 0} (terms : Terms) (everything : Bool) (moments : List (Mom
 
           by : (q : Bool) → (g.number == t.map) ≡ q → Goal (g.number == t.map)
           by true is = subst Goal (sym is) (
-            let below = below_many is_linked t b.finds.1 in
-            let here : t.turn < many g.number = subst (λ (q : ℕ). t.turn < many q) (sym (number_is g.number t.map is)) below in
-            omega (arith, here)
-          )
+              let below = below_many is_linked t b.finds.1 in
+              let here : t.turn < many g.number = subst (λ (q : ℕ). t.turn < many q) (sym (number_is g.number t.map is)) below in
+              omega (arith, here)
+              )
           by false is = subst Goal (sym is) l
   roots_within f b = grown_roots f
 
@@ -447,9 +446,9 @@ module _ {K V : Type 0} (terms : Terms) (everything : Bool) (moments : List (Mom
       its : put n (InMap b.c.map) m.place k ≡ InMap of → (1 ≤ k) × ((put n (record { map = b.c.map; turn = s.turn }) m.born k).map ≡ of)
       its at = elim (cases_eq k n) as (λ _. (1 ≤ k) × ((put n (record { map = b.c.map; turn = s.turn }) m.born k).map ≡ of)) [
         | inl e ↦ (
-            (let next = placed.0 in omega (arith, e, next)),
-            ap (λ (t : Table). t.map) (put_here n (record { map = b.c.map; turn = s.turn }) m.born k e)
-            ∙ (let two : InMap b.c.map ≡ InMap of = sym (put_here n (InMap b.c.map) m.place k e) ∙ at in let one : b.c.map ≡ of = cc two in one),
+          (let next = placed.0 in omega (arith, e, next)),
+          ap (λ (t : Table). t.map) (put_here n (record { map = b.c.map; turn = s.turn }) m.born k e)
+              ∙ (let two : InMap b.c.map ≡ InMap of = sym (put_here n (InMap b.c.map) m.place k e) ∙ at in let one : b.c.map ≡ of = cc two in one),
         )
         | inr ne ↦
             (let was = h.within.maps k of (sym (put_elsewhere n (InMap b.c.map) m.place k ne) ∙ at) in
