@@ -6,4 +6,3 @@ pub mod Turns
 pub mod Handing
 pub mod Played
 pub mod KeptOut
-pub mod Stepping

@@ -3,8 +3,7 @@ ghost use Rattle.std.specs.Prelude.{◌≡◌, ◌<◌, ◌∷◌, [], length, p
 ghost use Rattle.std.specs.List.{list_any};
 ghost use Rattle.papaya_runs.specs.Same.{is_same};
 ghost use Rattle.papaya_scheduler.specs.Seen.{is_named, shows, takes};
-ghost use Rattle.papaya_scheduler.specs.Stepping.{kept};
-ghost use Rattle.papaya_scheduler.specs.Telling.{value_of};
+ghost use Rattle.papaya_scheduler.specs.Telling.{kept, value_of};
 
 use crate::kind::Kind;
 use papaya_raw::Node;

@@ -11,6 +11,5 @@ pub mod registrations;
 pub mod scheduler;
 pub mod setups;
 pub mod shapes;
-pub mod stepping;
 pub mod telling;
 pub mod turns;

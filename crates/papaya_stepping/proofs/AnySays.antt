@@ -19,8 +19,8 @@ use Rattle.papaya_scheduler.specs.Machines.{IsAsFar, RefusedForRoom}
 use Rattle.papaya_scheduler.specs.Seen.{kind_of}
 use Rattle.papaya_scheduler.specs.declared.caller.Stands.TheVariants as far
 use Rattle.papaya_scheduler.specs.declared.kind.Kind.{Kind}
-use Rattle.papaya_scheduler.proofs.StepSays.{Says, is_called, key_says, room_says, sum_says}
-use Rattle.papaya_scheduler.proofs.SweepSteps.{clear_says, retain_says, walk_step_says}
+use Rattle.papaya_stepping.proofs.StepSays.{Says, is_called, key_says, room_says, sum_says}
+use Rattle.papaya_stepping.proofs.SweepSteps.{clear_says, retain_says, walk_step_says}
 
 module _ {K V S : Type 0} (same : K → K → Bool) (hash : K → ℕ) (name : ℕ → List ℕ) (m : Moment K V) (known : Known) (s : Scene K V) (old new : Executor K V S) (at_old : IsAt same hash old s)
     (whole : ShowsWhole same name m known s) (map i : ℕ) (c : CallThere K V) (c_is : call_of (name i) m ≡ Some c) (its : Kind) (its_is : kind_of c.call ≡ its) (value : Option V)

@@ -31,7 +31,7 @@ use Rattle.papaya_scheduler.specs.declared.scheduler.Scheduler.{Scheduler}
 use Rattle.papaya_scheduler.proofs.Here.{Here}
 use Rattle.papaya_rows.proofs.Lists.{changed_at, set_seen}
 use Rattle.papaya_scheduler.proofs.Replied.{far_asks}
-use Rattle.papaya_scheduler.proofs.StepSays.{the}
+use Rattle.papaya_stepping.proofs.StepSays.{the}
 
 pub far_ready : (stand : Stands) → far_of stand ≡ far.Ready → stand ≡ IsReady
 far_ready IsReady e = refl

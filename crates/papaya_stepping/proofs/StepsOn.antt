@@ -6,10 +6,10 @@ use Rattle.papaya_schedules.specs.declared.outcome.Outcome.{Outcome}
 use Rattle.papaya_schedules.specs.Moment.{Moment}
 use Rattle.papaya_schedules.specs.Terms.{Terms}
 use Rattle.papaya_scheduler.specs.Played.{StandsFor}
-use Rattle.papaya_scheduler.specs.Stepping.{ComesBy, GoesAt, IsMidst, IsStepped, MayStep, StepsCome}
+use Rattle.papaya_stepping.specs.Stepping.{ComesBy, GoesAt, IsMidst, IsStepped, MayStep, StepsCome}
 use Rattle.papaya_scheduler.specs.Telling.{goes_on}
 use Rattle.papaya_scheduler.specs.declared.scheduler.Scheduler.{Scheduler}
-use Rattle.papaya_scheduler.proofs.ComesOn.{comes_next, midst_next}
+use Rattle.papaya_stepping.proofs.ComesOn.{comes_next, midst_next}
 use Rattle.papaya_scheduler.proofs.Here.{here_at}
 
 module _ {K V S : Type 0} (same : K → K → Bool) (hash : K → ℕ) (place : ℕ) (first : Scheduler K V S) (before : List Effect) where

@@ -14,7 +14,7 @@ use Rattle.papaya_schedules.specs.Moment.{Stands, Going, Asking, Told, IsReady, 
 use Rattle.papaya_schedules.specs.Steps.{MakesSteps}
 use Rattle.papaya_schedules.specs.Terms.{Terms}
 use Rattle.papaya_scheduler.specs.Seen.{far_of}
-use Rattle.papaya_scheduler.specs.Stepping.{ComesAs, IsInCase, TakesUpTo}
+use Rattle.papaya_stepping.specs.Stepping.{ComesAs, IsInCase, TakesUpTo}
 use Rattle.papaya_scheduler.specs.declared.caller.Stands.TheVariants as far
 
 module _ {K V : Type 0} where

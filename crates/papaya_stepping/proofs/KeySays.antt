@@ -13,7 +13,7 @@ use Rattle.papaya_callers.specs.Asked.{Asked}
 use Rattle.papaya_callers.specs.Pairs.{kind_of}
 use Rattle.papaya_effects.specs.Known.{Known}
 use Rattle.papaya_hands.specs.Asked.{IsQuestion, given_by}
-use Rattle.papaya_scheduler.specs.Stepping.{IsFaultOn}
+use Rattle.papaya_stepping.specs.Stepping.{IsFaultOn}
 
 module _ {K V : Type 0} where
   -- only one that asks stands where one asks

@@ -13,12 +13,12 @@ use Rattle.papaya_hands.proofs.Replacing.{IsOn, calls_after}
 use Rattle.papaya_moments.proofs.After.{effects_after}
 use Rattle.papaya_promises.proofs.Weights.{parts_add_up}
 use Rattle.papaya_scheduler.specs.Played.{StandsFor}
-use Rattle.papaya_scheduler.specs.Stepping.{ComesAs, ComesBy, GoesAt, IsMidst, IsStepped}
+use Rattle.papaya_stepping.specs.Stepping.{ComesAs, ComesBy, GoesAt, IsMidst, IsStepped}
 use Rattle.papaya_scheduler.specs.Telling.{goes_on}
 use Rattle.papaya_scheduler.specs.declared.scheduler.Scheduler.{Scheduler}
 use Rattle.papaya_scheduler.proofs.Here.{here_at}
-use Rattle.papaya_scheduler.proofs.OneStep.{step_comes}
-use Rattle.papaya_scheduler.proofs.StepSays.{the}
+use Rattle.papaya_stepping.proofs.OneStep.{step_comes}
+use Rattle.papaya_stepping.proofs.StepSays.{the}
 
 module _ {K V S : Type 0} (same : K → K → Bool) (hash : K → ℕ) (terms : Terms) (own : List ℕ) (place : ℕ) (m : Moment K V) where
   -- before the first one

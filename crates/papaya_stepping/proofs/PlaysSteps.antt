@@ -23,13 +23,13 @@ use Rattle.papaya_follows.specs.Calling.{come_to}
 use Rattle.papaya_hands.proofs.Replacing.{IsOn, calls_after}
 use Rattle.papaya_scheduler.specs.Played.{IsDue, StandsFor}
 use Rattle.papaya_scheduler.specs.Seen.{Seen, far_of, is_named}
-use Rattle.papaya_scheduler.specs.Stepping.{ComesAs, ComesBy, IsInCase, PlaysOn, TakesUpTo}
+use Rattle.papaya_stepping.specs.Stepping.{ComesAs, ComesBy, IsInCase, PlaysOn, TakesUpTo}
 use Rattle.papaya_scheduler.specs.declared.caller.Stands.TheVariants as far
 use Rattle.papaya_scheduler.specs.declared.scheduler.Scheduler.{Scheduler}
-use Rattle.papaya_scheduler.proofs.AfterEffects.{closed_stays, mapped_stays}
+use Rattle.papaya_stepping.proofs.AfterEffects.{closed_stays, mapped_stays}
 use Rattle.papaya_rows.proofs.Elsewhere.{elsewhere, shown_elsewhere}
 use Rattle.papaya_scheduler.proofs.Here.{Here, here_at}
-use Rattle.papaya_scheduler.proofs.RightSteps.{makes_many, makes_one, may_come, not_busy, progresses}
+use Rattle.papaya_stepping.proofs.RightSteps.{makes_many, makes_one, may_come, not_busy, progresses}
 use Rattle.papaya_scheduler.proofs.Rights.{entry, in_turn, plays}
 
 -- it stands for a moment that is elsewhere as it says

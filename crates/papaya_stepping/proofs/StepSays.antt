@@ -60,15 +60,15 @@ use Rattle.papaya_histories.proofs.Asking.{asking_steps_stand_there}
 use Rattle.papaya_histories.proofs.Refusals.{refused}
 use Rattle.papaya_scheduler.specs.Machines.{IsAsFar, RefusedForRoom}
 use Rattle.papaya_scheduler.specs.Seen.{kind_of}
-use Rattle.papaya_scheduler.specs.Stepping.{ComesAs, IsFaultOn, far_then, outcome_of}
+use Rattle.papaya_stepping.specs.Stepping.{ComesAs, IsFaultOn, far_then, outcome_of}
 use Rattle.papaya_scheduler.specs.Telling.{number_by, number_in}
 use Rattle.papaya_scheduler.specs.declared.caller.Stands.TheVariants as far
 use Rattle.papaya_scheduler.specs.declared.kind.Kind.{Kind}
 use Rattle.papaya_scheduler.specs.declared.kind.Kind.TheVariants as kind
-use Rattle.papaya_scheduler.proofs.RoomSays.{SaysRoom, reserve_room, sum_room}
-use Rattle.papaya_scheduler.proofs.KeySays.{key_asks, key_refused}
+use Rattle.papaya_stepping.proofs.RoomSays.{SaysRoom, reserve_room, sum_room}
+use Rattle.papaya_stepping.proofs.KeySays.{key_asks, key_refused}
 use Rattle.papaya_scheduler.proofs.Replied.{of_kind}
-use Rattle.papaya_scheduler.proofs.SweepSays.{WalkSays}
+use Rattle.papaya_stepping.proofs.SweepSays.{WalkSays}
 
 pub the : {X : Type 0} (a b : X) → ◌≡◌ {A = Option X} (Some a) (Some b) → a ≡ b
 the a b e = cc e

@@ -16,12 +16,12 @@ use Rattle.papaya_schedules.specs.Views.{call_of}
 use Rattle.papaya_follows.specs.Calling.{come_to}
 use Rattle.papaya_scheduler.specs.Played.{IsDue, StandsFor}
 use Rattle.papaya_scheduler.specs.Seen.{Seen, is_named}
-use Rattle.papaya_scheduler.specs.Stepping.{PlaysOn}
+use Rattle.papaya_stepping.specs.Stepping.{PlaysOn}
 use Rattle.papaya_scheduler.specs.declared.caller.Stands.TheVariants as far
 use Rattle.papaya_scheduler.specs.declared.scheduler.Scheduler.{Scheduler}
-use Rattle.papaya_scheduler.proofs.Again.{asks_again, far_ready, ready_again}
+use Rattle.papaya_stepping.proofs.Again.{asks_again, far_ready, ready_again}
 use Rattle.papaya_scheduler.proofs.Here.{Here, here_at, there_is}
-use Rattle.papaya_scheduler.proofs.PlaysSteps.{stands_elsewhere}
+use Rattle.papaya_stepping.proofs.PlaysSteps.{stands_elsewhere}
 use Rattle.papaya_scheduler.proofs.Quiet.{stands_on}
 use Rattle.papaya_scheduler.proofs.Replied.{far_asks}
 use Rattle.papaya_scheduler.proofs.Rights.{in_turn, out_of_turn, plays, quiet}

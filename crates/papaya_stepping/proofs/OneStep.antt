@@ -37,21 +37,21 @@ use Rattle.papaya_promises.proofs.Weights.{operations_are_single}
 use Rattle.papaya_scheduler.specs.Machines.{IsAsFar}
 use Rattle.papaya_scheduler.specs.Played.{AsFar, StandsFor}
 use Rattle.papaya_scheduler.specs.Seen.{Seen, far_of, is_named, seen, seen_of}
-use Rattle.papaya_scheduler.specs.Stepping.{ComesAs, ComesBy, GoesAt, IsStepped, caller_then, callers_then, far_then, kept, outcome_of}
-use Rattle.papaya_scheduler.specs.Telling.{goes_on}
+use Rattle.papaya_stepping.specs.Stepping.{ComesAs, ComesBy, GoesAt, IsStepped, caller_then, callers_then, far_then, outcome_of}
+use Rattle.papaya_scheduler.specs.Telling.{goes_on, kept}
 use Rattle.papaya_scheduler.specs.declared.caller.Caller.{Caller}
 use Rattle.papaya_scheduler.specs.declared.caller.Callers.{Callers}
 use Rattle.papaya_scheduler.specs.declared.caller.Stands.{Stands as HowFar}
 use Rattle.papaya_scheduler.specs.declared.caller.Stands.TheVariants as far
 use Rattle.papaya_scheduler.specs.declared.kind.Kind.{Kind}
 use Rattle.papaya_scheduler.specs.declared.scheduler.Scheduler.{Scheduler}
-use Rattle.papaya_scheduler.proofs.AfterEffects.{calls_seen, closed_stays, mapped_stays}
-use Rattle.papaya_scheduler.proofs.AnySays.{any_says}
+use Rattle.papaya_stepping.proofs.AfterEffects.{calls_seen, closed_stays, mapped_stays}
+use Rattle.papaya_stepping.proofs.AnySays.{any_says}
 use Rattle.papaya_scheduler.proofs.Here.{Here, here_at}
 use Rattle.papaya_rows.proofs.Lists.{changed_at, removed_at, set_get, set_position, set_seen}
 use Rattle.papaya_scheduler.proofs.RanOn.{maps_named, there_stays}
-use Rattle.papaya_scheduler.proofs.StepSays.{Says, the}
-use Rattle.papaya_scheduler.proofs.SteppedTo.{going_on, has_gone, here_then, name_is, next, none_named, s2}
+use Rattle.papaya_stepping.proofs.StepSays.{Says, the}
+use Rattle.papaya_stepping.proofs.SteppedTo.{going_on, has_gone, here_then, name_is, next, none_named, s2}
 
 module _ {K V : Type 0} (by : Known) (its : Kind) (value : Option V) where
   -- what a caller keeps

@@ -32,7 +32,7 @@ use Rattle.papaya_logged.specs.Calling.{CallGoesOn}
 use Rattle.papaya_logged.specs.Shown.{IsShown}
 use Rattle.papaya_scheduler.specs.Played.{IsDue, Plays, StandsFor, entry_of}
 use Rattle.papaya_scheduler.specs.Seen.{is_named}
-use Rattle.papaya_scheduler.specs.Telling.{answer_of, goes_on, number_by, value_of}
+use Rattle.papaya_scheduler.specs.Telling.{answer_of, goes_on, number_by, value_of, kept}
 use Rattle.papaya_scheduler.specs.declared.caller.Caller.{Caller}
 use Rattle.papaya_scheduler.specs.declared.caller.Stands.{Stands as HowFar}
 use Rattle.papaya_scheduler.specs.declared.caller.Stands.TheVariants as far
@@ -40,11 +40,6 @@ use Rattle.papaya_scheduler.specs.declared.kind.Kind.{Kind}
 use Rattle.papaya_scheduler.specs.declared.kind.Kind.TheVariants as kind
 use Rattle.papaya_scheduler.specs.declared.played.Played.{Played}
 use Rattle.papaya_scheduler.specs.declared.scheduler.Scheduler.{Scheduler}
-
--- the value that a call keeps once its pair was not stored: one that tells it
-abbrev pub kept : {K V : Type 0} → Kind → Node K V → Option V → Option V
-kept kind.TriesToInsert unstored value = value_of unstored
-kept _ unstored value = value
 
 module _ {K V : Type 0} (by : Known) where
   -- what a step says, in the words of an outcome, of a call of this kind that keeps this value

@@ -12,14 +12,14 @@ use Rattle.papaya_schedules.specs.Moment.{Moment}
 use Rattle.papaya_schedules.specs.Terms.{Terms}
 use Rattle.papaya_scheduler.specs.Played.{IsDue, entry_of}
 use Rattle.papaya_scheduler.specs.Seen.{is_named}
-use Rattle.papaya_scheduler.specs.Stepping.{PlaysOn, SaysAgain, TakenAs, TakenBy}
+use Rattle.papaya_stepping.specs.Stepping.{PlaysOn, SaysAgain, TakenAs, TakenBy}
 use Rattle.papaya_scheduler.specs.declared.caller.Stands.{Stands as HowFar}
 use Rattle.papaya_scheduler.specs.declared.caller.Stands.TheVariants as far
 use Rattle.papaya_scheduler.specs.declared.played.Played.{Played}
 use Rattle.papaya_scheduler.specs.declared.scheduler.Scheduler.{Scheduler}
 use Rattle.papaya_scheduler.proofs.Here.{Here, here_at}
-use Rattle.papaya_scheduler.proofs.PlaysAgain.{go_asks, go_ready, step_asks, step_ready}
-use Rattle.papaya_scheduler.proofs.PlaysSteps.{plays_go, plays_step}
+use Rattle.papaya_stepping.proofs.PlaysAgain.{go_asks, go_ready, step_asks, step_ready}
+use Rattle.papaya_stepping.proofs.PlaysSteps.{plays_go, plays_step}
 use Rattle.papaya_scheduler.proofs.Rights.{entry_is, quiet}
 
 module _ {K V S : Type 0} (same : K → K → Bool) (hash : K → ℕ) (terms : Terms) (log : List (Entry K V)) (own : List ℕ) (refuse : Bool) (old new : Scheduler K V S) (place : ℕ)
