@@ -7,13 +7,13 @@ ghost use Rattle.papaya_stepping.specs.Stepping.{IsStepped, MayGo, MayStep, Play
 ghost use Rattle.papaya_scheduler.specs.Telling.{goes_on};
 ghost use Rattle.papaya_scheduler.specs.declared.caller.Caller.{Caller};
 
+use papaya_raw::machines::Progress;
+use papaya_raw::{Hashes, Node};
+use papaya_runs::token::Token;
 use papaya_scheduler::caller::{Caller, Stands};
 use papaya_scheduler::played::Played;
 use papaya_scheduler::scheduler::Scheduler;
 use papaya_scheduler::telling::{answer_of, number_by};
-use papaya_raw::machines::Progress;
-use papaya_raw::{Hashes, Node};
-use papaya_runs::token::Token;
 use papaya_schedules::effect::Effect;
 use papaya_schedules::outcome::Outcome;
 use std::alloc::AllocError;
@@ -34,12 +34,21 @@ fn refuse_after<K: Drop, V: Drop, S>(scheduler: &mut Scheduler<K, V, S>, refuse:
     ensures { scheduler.new ≡ scheduler.old }
 {
     if refuse {
-        scheduler.logged.executor.memory.memory.refuse_after(growths);
+        scheduler
+            .logged
+            .executor
+            .memory
+            .memory
+            .refuse_after(growths);
     }
 }
 
 /// The call at this place has come to this. A walk that has shown a pair is ready.
-fn come_to<K: Drop, V: Drop, S>(scheduler: &mut Scheduler<K, V, S>, place: usize, progress: Progress<Node<K, V>>) -> Outcome<V>
+fn come_to<K: Drop, V: Drop, S>(
+    scheduler: &mut Scheduler<K, V, S>,
+    place: usize,
+    progress: Progress<Node<K, V>>,
+) -> Outcome<V>
     requires { place < length scheduler.old.calls.items.items }
     ensures outcome { (caller : Caller V) → slice_get scheduler.old.calls.items.items place ≡ Some caller
         → result ≡ outcome_of (known scheduler.old.logged.notes) caller.kind caller.value progress }
@@ -121,7 +130,12 @@ fn go_on<K: Eq + Hash + Drop, V: Drop, S: Hashes<K>>(
 }
 
 /// The call at this place takes at most so many steps, while it goes on. The first growth that it asks for may be refused.
-fn take_steps<K: Eq + Hash + Drop, V: Drop, S: Hashes<K>>(scheduler: &mut Scheduler<K, V, S>, place: usize, most: u64, refuse: bool) -> Result<Played<V>, AllocError>
+fn take_steps<K: Eq + Hash + Drop, V: Drop, S: Hashes<K>>(
+    scheduler: &mut Scheduler<K, V, S>,
+    place: usize,
+    most: u64,
+    refuse: bool,
+) -> Result<Played<V>, AllocError>
     requires some { 1 ≤ most }
     requires stands { StandsAt K.eq (S.hash scheduler.old.logged.executor.hasher) place scheduler.old }
     ensures { IfOk result (λ played. TakenAs K.eq (S.hash scheduler.old.logged.executor.hasher) place most played scheduler.old scheduler.new) }
@@ -143,7 +157,11 @@ fn take_steps<K: Eq + Hash + Drop, V: Drop, S: Hashes<K>>(scheduler: &mut Schedu
 }
 
 /// One step of the caller's call. Its growth may be refused.
-pub fn step<K: Eq + Hash + Drop, V: Drop, S: Hashes<K>>(scheduler: &mut Scheduler<K, V, S>, caller: &Token, refuse: bool) -> Result<Played<V>, AllocError>
+pub fn step<K: Eq + Hash + Drop, V: Drop, S: Hashes<K>>(
+    scheduler: &mut Scheduler<K, V, S>,
+    caller: &Token,
+    refuse: bool,
+) -> Result<Played<V>, AllocError>
     requires { MayPlay K.eq (S.hash scheduler.old.logged.executor.hasher) (event.Step caller.now refuse) scheduler.old }
     ensures plays { IfOk result (λ played. PlaysOnAt K.eq (S.hash scheduler.old.logged.executor.hasher) (event.Step caller.now refuse) played scheduler.old scheduler.new) }
 {
@@ -154,7 +172,11 @@ pub fn step<K: Eq + Hash + Drop, V: Drop, S: Hashes<K>>(scheduler: &mut Schedule
 }
 
 /// Steps of the caller's call while it goes on. The first growth that it asks for may be refused.
-pub fn go<K: Eq + Hash + Drop, V: Drop, S: Hashes<K>>(scheduler: &mut Scheduler<K, V, S>, caller: &Token, refuse: bool) -> Result<Played<V>, AllocError>
+pub fn go<K: Eq + Hash + Drop, V: Drop, S: Hashes<K>>(
+    scheduler: &mut Scheduler<K, V, S>,
+    caller: &Token,
+    refuse: bool,
+) -> Result<Played<V>, AllocError>
     requires { MayPlay K.eq (S.hash scheduler.old.logged.executor.hasher) (event.Go caller.now refuse) scheduler.old }
     ensures plays { IfOk result (λ played. PlaysOnAt K.eq (S.hash scheduler.old.logged.executor.hasher) (event.Go caller.now refuse) played scheduler.old scheduler.new) }
 {
