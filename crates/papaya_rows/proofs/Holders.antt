@@ -1,5 +1,5 @@
 -- Who has the batch of a slot in hand, wherever the executor is: its row works on that slot, and the slot's word says that the batch is held.
-use Rattle.std.specs.Prelude.{◌≡◌, ◌<◌, ◌+◌, ◌⊎◌, ℕ, true, IsSome}
+use Rattle.std.specs.Prelude.{◌≡◌, ◌<◌, ◌+◌, ◌⊎◌, ℕ, Bool, true, IsSome}
 use Rattle.std.proofs.Common.{refl, sym, ap, subst, ◌∙◌, arith}
 use Rattle.seize.specs.Settle.{flushing}
 use Rattle.seize.specs.World.{World, Row, Rests, Registers, Enters, Settles, Leaves, Defers, Frees, Begin, Flush, at_start, one_more, with_row, with_use}
@@ -66,7 +66,7 @@ module _ {K V S : Type 0} (same : K → K → Bool) (hash : K → ℕ) (e : Exec
   pub word_there : (slot : ℕ) → slot < SLOTS → (use_at e slot ≡ used.Outside) ⊎ (use_at e slot ≡ used.Inside) → IsSome (word_at e.memory.memory (Slot slot BATCH))
   word_there slot fits may =
       let can = row_may deferred_word (LAST_SLOT + 1) e.batch_size refl begun good_then (caller_in e slot) (Settles (flushing slot e.batch_size))
-            (with_here s.world.row (caller_in e slot) (Settles (flushing slot e.batch_size))) in
+      (with_here s.world.row (caller_in e slot) (Settles (flushing slot e.batch_size))) in
       subst (λ (m : Mem (Node K V)). IsSome (word_at m (Slot slot BATCH))) at.memory can.0
     where
       begun : World (Node K V)
