@@ -1,5 +1,5 @@
 -- Who has the batch of a slot in hand, wherever the executor is: its row works on that slot, and the slot's word says that the batch is held.
-use Rattle.std.specs.Prelude.{◌≡◌, ◌<◌, ◌+◌, ◌⊎◌, ℕ, Bool, true, IsSome, Option}
+use Rattle.std.specs.Prelude.{◌≡◌, ◌<◌, ◌+◌, ◌⊎◌, ℕ, Bool, true, IsSome}
 use Rattle.std.proofs.Common.{refl, sym, ap, subst, ◌∙◌, arith}
 use Rattle.seize.specs.Settle.{flushing}
 use Rattle.seize.specs.World.{World, Row, Rests, Registers, Enters, Settles, Leaves, Defers, Frees, Begin, Flush, at_start, one_more, with_row, with_use}
@@ -39,9 +39,6 @@ its_slot slot t (Defers u c) settles on = absurd settles
 its_slot slot t (Frees c) settles on = absurd settles
 
 module _ {K V S : Type 0} (same : K → K → Bool) (hash : K → ℕ) (e : Executor K V S) (s : Scene K V) (at : IsAt same hash e s) where
-  abbrev defers : Node K V → Option ℕ
-  defers = deferred_word
-
   abbrev pub good : Good deferred_word (LAST_SLOT + 1) e.batch_size s.world
   good = (reached same hash e s at).good
 
@@ -50,7 +47,8 @@ module _ {K V S : Type 0} (same : K → K → Bool) (hash : K → ℕ) (e : Exec
     where
       by : CameAbout {K = K} {V = V} e.batch_size s.world → HeldByRows s.world
       by (roots, events, runs) =
-          runs_held defers e.batch_size events (at_start defers roots) s.world (start_good defers (LAST_SLOT + 1) e.batch_size roots) (λ i. tt) runs (start_held defers e.batch_size roots)
+          runs_held (deferred_word {K = K} {V = V}) e.batch_size events (at_start deferred_word roots) s.world (start_good (deferred_word {K = K} {V = V}) (LAST_SLOT + 1) e.batch_size roots) (λ i. tt) runs
+          (start_held (deferred_word {K = K} {V = V}) e.batch_size roots)
 
   pub works_there : (j slot : ℕ) → has_batch slot (s.world.row j) ≡ true → slot_of j ≡ slot
   works_there j slot has = its_slot slot (slot_of j) (s.world.row j) (has_its deferred_word s.world good held j slot (s.world.row j) refl has) (at.on_slots j)
