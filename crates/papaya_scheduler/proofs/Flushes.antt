@@ -32,16 +32,16 @@ use Rattle.papaya_executor.specs.declared.worker.TheConstants.{SLOTS}
 use Rattle.papaya_logged.specs.Ended.{has_ended}
 use Rattle.papaya_logged.specs.declared.logged.Logged.{Logged}
 use Rattle.papaya_scheduler.specs.Handing.{HeldIsTold}
-use Rattle.papaya_scheduler.specs.Played.{IsDue, Plays, StandsFor, used_as}
-use Rattle.papaya_scheduler.specs.Rows.{RowRan, RowRanOn, TakesRetired}
+use Rattle.papaya_scheduler.specs.Played.{IsDue, Plays, StandsFor}
+use Rattle.papaya_rows.specs.Rows.{RowRan, RowRanOn, TakesRetired, used_as}
 use Rattle.papaya_scheduler.specs.declared.scheduler.Scheduler.{Scheduler}
 use Rattle.papaya_scheduler.proofs.Dropped.{fits, inside, lives_on}
-use Rattle.papaya_scheduler.proofs.Holders.{word_says, word_there}
-use Rattle.papaya_scheduler.proofs.NeverWaits.{done_alone, led_alone, over_alone}
+use Rattle.papaya_rows.proofs.Holders.{word_says, word_there}
+use Rattle.papaya_rows.proofs.NeverWaits.{done_alone, led_alone, over_alone}
 use Rattle.papaya_scheduler.proofs.Quiet.{stands_on}
 use Rattle.papaya_scheduler.proofs.RanOn.{stands_ran, there_stays}
 use Rattle.papaya_scheduler.proofs.Rights.{entry, in_turn, out_of_turn, plays, quiet}
-use Rattle.papaya_scheduler.proofs.There.{living_is}
+use Rattle.papaya_rows.proofs.There.{living_is}
 
 -- a word that is there is read so
 read_there : (o : Option ℕ) → IsSome o → (word : ℕ) × (o ≡ Some word)

@@ -33,9 +33,9 @@ use Rattle.papaya_scheduler.specs.Seen.{Seen, is_named, seen, seen_of}
 use Rattle.papaya_scheduler.specs.declared.caller.Caller.{Caller}
 use Rattle.papaya_scheduler.specs.declared.scheduler.Scheduler.{Scheduler}
 use Rattle.papaya_scheduler.proofs.Dropped.{lives_on}
-use Rattle.papaya_scheduler.proofs.Facts.{row_rests}
-use Rattle.papaya_scheduler.proofs.Holders.{held, works_there}
-use Rattle.papaya_scheduler.proofs.Lists.{all_so, both_some, found_alike, found_has, found_once}
+use Rattle.papaya_rows.proofs.Facts.{row_rests}
+use Rattle.papaya_rows.proofs.Holders.{held, works_there}
+use Rattle.papaya_rows.proofs.Lists.{all_so, both_some, found_alike, found_has, found_once}
 use Rattle.papaya_scheduler.proofs.RanOn.{both_true}
 
 -- one that is found passes a test where some passes it
@@ -99,7 +99,7 @@ module _ {K V S : Type 0} (same : K → K → Bool) (hash : K → ℕ) (terms : 
       by None is = absurd (idle is)
       by (Some (work.Call map machine)) is =
           let h : option_map machine_of (stands.scene.calls map j) ≡ (if map == map then Some machine else None) =
-                stands.shown.is_at.calls map j ∙ ap (λ (x : Option (Work K V)). call_in x map) is in
+          stands.shown.is_at.calls map j ∙ ap (λ (x : Option (Work K V)). call_in x map) is in
           (map, some_call (stands.scene.calls map j) machine (h ∙ ap (λ (b : Bool). if b then Some machine else None) (eq-eqb map map refl)))
       by (Some (work.Making map opening)) is = absurd (others (Some (work.Making map opening)) is (λ n. refl))
       by (Some (work.Ending ending)) is = absurd (others (Some (work.Ending ending)) is (λ n. refl))
@@ -125,7 +125,7 @@ module _ {K V S : Type 0} (same : K → K → Bool) (hash : K → ℕ) (terms : 
     found : (d : Caller V) × (find (is_named own) calls ≡ Some d) × (seen there.0 ≡ seen_of d)
     found =
         let it = both_some seen_of seen (find (is_named own) calls) (call_of own m)
-              (sym (found_alike seen seen_of m.calls calls stands.calls.listed (λ (z : Seen). is_same z.name own))) there.0 there.1 in
+        (sym (found_alike seen seen_of m.calls calls stands.calls.listed (λ (z : Seen). is_same z.name own))) there.0 there.1 in
         (it.0, it.1, sym it.2)
 
     its_own : its found.0 ≡ true
@@ -160,7 +160,7 @@ module _ {K V S : Type 0} (same : K → K → Bool) (hash : K → ℕ) (terms : 
   held_is_told hands slot word =
       let at = stands.shown.is_at in
       let says : words_of stands.scene.world.memory (Slot slot BATCH) ≡ HELD =
-            ap (λ (x : Mem (Node K V)). words_of x (Slot slot BATCH)) at.memory ∙ word_found p.logged.executor.memory.memory (Slot slot BATCH) HELD word in
+      ap (λ (x : Mem (Node K V)). words_of x (Slot slot BATCH)) at.memory ∙ word_found p.logged.executor.memory.memory (Slot slot BATCH) HELD word in
       let holder = held same hash p.logged.executor stands.scene at slot says in
       let call = has_call holder.0 slot holder.1 in
       told_there call.0 holder.0 call.1 call.2 slot holder.1 hands

@@ -25,8 +25,8 @@ use Rattle.papaya_scheduler.specs.Played.{IsPlayed, Plays, StandsFor, terms_give
 use Rattle.papaya_scheduler.specs.Seen.{Seen, seen, seen_of}
 use Rattle.papaya_scheduler.specs.Turns.{is_that, keeps_out}
 use Rattle.papaya_scheduler.specs.declared.scheduler.Scheduler.{Scheduler}
-use Rattle.papaya_scheduler.proofs.Elsewhere.{elsewhere, shown_elsewhere}
-use Rattle.papaya_scheduler.proofs.Lists.{all_alike, all_same, unseen}
+use Rattle.papaya_rows.proofs.Elsewhere.{elsewhere, shown_elsewhere}
+use Rattle.papaya_rows.proofs.Lists.{all_alike, all_same, unseen}
 use Rattle.papaya_scheduler.proofs.Quiet.{stands_on}
 use Rattle.papaya_scheduler.proofs.Rights.{quiet}
 

@@ -1,8 +1,3 @@
-mod Lists
-mod Elsewhere
-mod Names
-mod Registered
-mod There
 mod Rights
 mod Quiet
 mod Simple
@@ -10,14 +5,11 @@ mod Chosen
 mod KeptOut
 mod Refused
 mod Seats
-mod Facts
 mod Maps
 mod Called
 mod Begins
 mod ShapesHere
-mod Ran
 mod RanOn
-mod RunRow
 mod Enters
 mod Takes
 mod Here
@@ -25,8 +17,6 @@ mod Replied
 mod Stopped
 mod First
 mod Unregisters
-mod Holders
-mod NeverWaits
 mod Dropped
 mod Refreshes
 mod Drops
@@ -35,9 +25,6 @@ mod HeldTold
 mod Begun
 mod RepliedSo
 mod BegunSo
-mod Refusals
-mod Taking
-mod Least
 mod Vacancies
 mod SlotTaken
 mod Registers

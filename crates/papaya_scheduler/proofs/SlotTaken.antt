@@ -36,11 +36,11 @@ use Rattle.papaya_executor.specs.declared.row.SlotUse.TheVariants as used
 use Rattle.papaya_executor.specs.declared.worker.TheConstants.{SLOTS}
 use Rattle.papaya_logged.specs.Ended.{has_ended, uses_ended}
 use Rattle.papaya_logged.specs.declared.logged.Logged.{Logged}
-use Rattle.papaya_scheduler.specs.Played.{StandsFor, used_as}
-use Rattle.papaya_scheduler.specs.Rows.{RowRan}
+use Rattle.papaya_scheduler.specs.Played.{StandsFor}
+use Rattle.papaya_rows.specs.Rows.{RowRan, used_as}
 use Rattle.papaya_scheduler.specs.declared.scheduler.Scheduler.{Scheduler}
-use Rattle.papaya_scheduler.proofs.Ran.{Led}
-use Rattle.papaya_scheduler.proofs.Taking.{Ends, taken}
+use Rattle.papaya_rows.proofs.Ran.{Led}
+use Rattle.papaya_rows.proofs.Taking.{Ends, taken}
 use Rattle.papaya_scheduler.proofs.Vacancies.{IsFirst, first_is, none_left, none_on_vacant}
 
 -- what ends with a growth that was asked for has one

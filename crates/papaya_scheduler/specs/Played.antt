@@ -1,7 +1,7 @@
 -- That a scheduler has played a log, and what is promised of an event that happens then.
-use Rattle.std.specs.Prelude.{◌≡◌, ◌≤◌, ℕ, ◌==◌, Bool, true, false, ◌&&◌, List, ◌∷◌, length, filter, map, is_some, is_none, Some, None, if◌then◌else◌}
+use Rattle.std.specs.Prelude.{◌≡◌, ◌≤◌, ℕ, ◌==◌, Bool, true, false, ◌&&◌, List, ◌∷◌, length, filter, map, is_some, is_none, Some, None}
 use Rattle.std.specs.List.{AllByRecursion, list_any}
-use Rattle.papaya_runs.specs.Present.{Present, HaveNames, guard_of, guards_on, has_registration, living_slot}
+use Rattle.papaya_runs.specs.Present.{Present, HaveNames, guard_of, living_slot}
 use Rattle.papaya_schedules.specs.declared.call.Call.{Call}
 use Rattle.papaya_schedules.specs.declared.event.Event.{Event}
 use Rattle.papaya_schedules.specs.After.{moment}
@@ -14,14 +14,12 @@ use Rattle.papaya_schedules.specs.Terms.{Terms}
 use Rattle.papaya_schedules.specs.Views.{call_of, map_of, number_of}
 use Rattle.papaya_callers.specs.Together.{UnderWay}
 use Rattle.papaya_executor.specs.IsAt.{Scene, slot_of, use_at, work_of}
-use Rattle.papaya_executor.specs.declared.row.SlotUse.{SlotUse}
-use Rattle.papaya_executor.specs.declared.row.SlotUse.TheVariants as used
 use Rattle.papaya_finishes.specs.Machines.{machine_of}
 use Rattle.papaya_finishes.specs.Maps.{Standing}
 use Rattle.papaya_logged.specs.Shown.{IsShown}
 use Rattle.papaya_scheduler.specs.Handing.{HeldIsTold}
 use Rattle.papaya_scheduler.specs.Machines.{IsAsFar}
-use Rattle.papaya_scheduler.specs.Rows.{TakesRetired}
+use Rattle.papaya_rows.specs.Rows.{TakesRetired, used_as}
 use Rattle.papaya_scheduler.specs.Seen.{is_named, named, named_of, seen, seen_of}
 use Rattle.papaya_scheduler.specs.declared.caller.Caller.{Caller}
 use Rattle.papaya_scheduler.specs.declared.played.Played.{Played}
@@ -42,11 +40,6 @@ terms_given given = record {
 -- an event, with what it came to
 abbrev pub entry_of : {K V : Type 0} → Event K V → Played V → Entry K V
 entry_of event played = record { event = event; outcome = played.outcome; steps = played.steps; effects = played.effects.items }
-
--- how a slot is used by those who are there: it is entered while a guard is on it, also one that was forgotten
-abbrev pub used_as : ℕ → Present → SlotUse
-used_as slot there =
-    if guards_on slot there.guards == 0 then (if has_registration slot there.registrations then used.Outside else used.Vacant) else used.Inside
 
 module _ {K V : Type 0} (name : ℕ → List ℕ) (s : Scene K V) (there : Present) where
   -- a caller has its call under way in the scene, by its name, in the slot of its guard, which lives, and is as far

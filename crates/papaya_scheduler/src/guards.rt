@@ -5,7 +5,7 @@ ghost use Rattle.seize_words.specs.Mem.{word_at};
 ghost use Rattle.seize_words.specs.declared.at.At.TheVariants.{Slot};
 ghost use Rattle.papaya_schedules.specs.declared.event.Event.TheVariants as event;
 ghost use Rattle.papaya_scheduler.specs.Played.{MayPlay, PlaysAt, PlaysFlushing, PlaysTaking};
-ghost use Rattle.papaya_scheduler.specs.Rows.{left_as};
+ghost use Rattle.papaya_rows.specs.Rows.{left_as};
 
 use crate::played::Played;
 use crate::scheduler::Scheduler;

@@ -1,8 +1,8 @@
 -- What a caller does with its slot, run to its end.
-use Rattle.std.specs.Prelude.{◌≡◌, ℕ, true, List, ◌++◌, Option, None, if◌then◌else◌}
+use Rattle.std.specs.Prelude.{◌≡◌, ◌==◌, ℕ, true, List, ◌++◌, Option, None, if◌then◌else◌}
 use Rattle.seize.specs.World.{World}
 use Rattle.papaya_tables.specs.declared.node.Node.{Node}
-use Rattle.papaya_runs.specs.Present.{Present, has_registration}
+use Rattle.papaya_runs.specs.Present.{Present, guards_on, has_registration}
 use Rattle.papaya_schedules.specs.declared.effect.Effect.{Effect}
 use Rattle.papaya_schedules.specs.Effects.{with_effects, AtEachEffect}
 use Rattle.papaya_schedules.specs.Moment.{Moment}
@@ -12,6 +12,8 @@ use Rattle.papaya_executor.specs.Rows.{begun_row, uses_begun}
 use Rattle.papaya_executor.specs.declared.row.RowTold.{RowTold}
 use Rattle.papaya_executor.specs.declared.row.SlotCall.{SlotCall}
 use Rattle.papaya_executor.specs.declared.row.SlotCall.TheVariants as call
+use Rattle.papaya_executor.specs.declared.row.SlotUse.{SlotUse}
+use Rattle.papaya_executor.specs.declared.row.SlotUse.TheVariants as used
 use Rattle.papaya_finishes.specs.Maps.{Standing}
 use Rattle.papaya_spots.specs.OnSlots.{WaitUnreclaimed}
 use Rattle.papaya_moments.specs.OnSlots.{HadRetired}
@@ -47,3 +49,8 @@ RowRanOn {K} {V} slot called before after old new = (said : RowTold (Node K V)) 
 -- how the only guard on a slot leaves it: it gives the slot up, too, where no registration has it
 abbrev pub left_as : ℕ → Present → SlotCall
 left_as slot there = if has_registration slot there.registrations then call.Leave else call.LeaveOwned
+
+-- how a slot is used by those who are there: it is entered while a guard is on it, also one that was forgotten
+abbrev pub used_as : ℕ → Present → SlotUse
+used_as slot there =
+    if guards_on slot there.guards == 0 then (if has_registration slot there.registrations then used.Outside else used.Vacant) else used.Inside

@@ -10,8 +10,8 @@ use Rattle.papaya_runs.specs.Same.{is_same}
 use Rattle.papaya_runs.proofs.Laws.{same_tells, forgets_counts}
 use Rattle.papaya_executor.specs.declared.row.SlotUse.TheVariants as used
 use Rattle.papaya_schedules.specs.InUse.{is_registered, is_guard, is_living}
-use Rattle.papaya_scheduler.specs.Played.{used_as}
-use Rattle.papaya_scheduler.proofs.Lists.{is_found}
+use Rattle.papaya_rows.specs.Rows.{used_as}
+use Rattle.papaya_rows.proofs.Lists.{is_found}
 
 -- a guard of this name is there, or a registration
 pub guard_is : (name : List ℕ) (there : Present) → is_guard name there ≡ is_some (guard_of name there.guards)

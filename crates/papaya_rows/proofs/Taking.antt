@@ -42,9 +42,9 @@ use Rattle.papaya_executor.proofs.Forgotten.{as_step}
 use Rattle.papaya_logged.specs.OnSlots.{GoesOnFor, OnSlotLast, has_come}
 use Rattle.papaya_logged.specs.Shown.{IsShown}
 use Rattle.papaya_logged.specs.declared.logged.Logged.{Logged}
-use Rattle.papaya_scheduler.specs.Rows.{RowRan}
-use Rattle.papaya_scheduler.proofs.Ran.{Led, begun_led, step_led}
-use Rattle.papaya_scheduler.proofs.Refusals.{found_none}
+use Rattle.papaya_rows.specs.Rows.{RowRan}
+use Rattle.papaya_rows.proofs.Ran.{Led, begun_led, step_led}
+use Rattle.papaya_rows.proofs.Refusals.{found_none}
 
 module _ {K V S : Type 0} (same : K → K → Bool) (hash : K → ℕ) (i : ℕ) (s : Scene K V) (size : ℕ) (enters : Bool) (apart : NoneOnVacant i s.world) where
   abbrev uses : ℕ → Use

@@ -30,7 +30,8 @@ use Rattle.papaya_logged.specs.OnSlots.{GoesOnFor, OnSlotLast, StepsOn, has_come
 use Rattle.papaya_logged.specs.Shown.{IsShown}
 use Rattle.papaya_logged.specs.declared.logged.Logged.{Logged}
 use Rattle.papaya_logged.proofs.RowsFall.{under_way_on}
-use Rattle.papaya_scheduler.specs.Rows.{RowRan}
+use Rattle.papaya_rows.specs.Rows.{RowRan}
+use Rattle.papaya_rows.specs.Stores.{StoresOnce}
 
 -- a map that is the same has its setting
 setting_same : {K : Type 0} (before after : Option (Standing K)) → IsSameMap before after → option_map (λ st. st.setting) after ≡ option_map (λ st. st.setting) before
@@ -94,12 +95,6 @@ module _ {K V S : Type 0} (same : K → K → Bool) (hash : K → ℕ) (i : ℕ)
           step_led mid new said on.1.0 on.1.1 steps on.0,
           (mid.memory.memory, new.memory.memory, new.memory.changed, on.1.0, leads.0, on.1.2, leads.1, leads.2),
         )
-
--- a row that makes one store
-abbrev pub StoresOnce : SlotRow → Type 0
-StoresOnce (rows.Enters c) = Unit {0}
-StoresOnce (rows.Frees c) = Unit {0}
-StoresOnce _ = ⊥
 
 module _ (K V : Type 0) where
   -- its step is the last

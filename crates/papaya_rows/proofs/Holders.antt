@@ -26,7 +26,7 @@ use Rattle.papaya_executor.specs.declared.row.SlotUse.TheVariants as used
 use Rattle.papaya_executor.specs.declared.worker.TheConstants.{SLOTS}
 use Rattle.papaya_executor.proofs.Fresh.{caller_in, resting}
 use Rattle.papaya_executor.proofs.Uses.{reached, taken_now}
-use Rattle.papaya_scheduler.proofs.Facts.{row_rests}
+use Rattle.papaya_rows.proofs.Facts.{row_rests}
 
 -- a row that settles on a slot is on that one alone
 its_slot : (slot t : ℕ) (row : Row) → SettlesOn slot row → IsRowOn t row → t ≡ slot
@@ -66,7 +66,7 @@ module _ {K V S : Type 0} (same : K → K → Bool) (hash : K → ℕ) (e : Exec
   pub word_there : (slot : ℕ) → slot < SLOTS → (use_at e slot ≡ used.Outside) ⊎ (use_at e slot ≡ used.Inside) → IsSome (word_at e.memory.memory (Slot slot BATCH))
   word_there slot fits may =
       let can = row_may deferred_word (LAST_SLOT + 1) e.batch_size refl begun good_then (caller_in e slot) (Settles (flushing slot e.batch_size))
-            (with_here s.world.row (caller_in e slot) (Settles (flushing slot e.batch_size))) in
+      (with_here s.world.row (caller_in e slot) (Settles (flushing slot e.batch_size))) in
       subst (λ (m : Mem (Node K V)). IsSome (word_at m (Slot slot BATCH))) at.memory can.0
     where
       begun : World (Node K V)

@@ -6,7 +6,7 @@ use Rattle.papaya_executor.specs.declared.row.RowTold.{RowTold}
 use Rattle.papaya_executor.specs.declared.row.RowTold.TheVariants as told
 use Rattle.papaya_executor.specs.declared.row.SlotCall.TheVariants as call
 use Rattle.papaya_logged.specs.declared.logged.Logged.{Logged}
-use Rattle.papaya_scheduler.specs.Rows.{RowRan}
+use Rattle.papaya_rows.specs.Rows.{RowRan}
 
 -- what it told, by the slot that it has found, or the fault
 abbrev pub told_as : {T : Type 0} → Result ℕ Fault → RowTold T

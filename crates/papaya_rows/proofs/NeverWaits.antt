@@ -32,9 +32,9 @@ use Rattle.papaya_executor.proofs.Forgotten.{as_step}
 use Rattle.papaya_logged.specs.OnSlots.{has_come}
 use Rattle.papaya_logged.specs.Shown.{IsShown}
 use Rattle.papaya_logged.specs.declared.logged.Logged.{Logged}
-use Rattle.papaya_scheduler.specs.Rows.{RowRan}
-use Rattle.papaya_scheduler.proofs.Holders.{good, held}
-use Rattle.papaya_scheduler.proofs.Ran.{Led, begun_way, goes_led, step_led}
+use Rattle.papaya_rows.specs.Rows.{RowRan}
+use Rattle.papaya_rows.proofs.Holders.{good, held}
+use Rattle.papaya_rows.proofs.Ran.{Led, begun_way, goes_led, step_led}
 
 -- a row that settles, by itself or as it leaves
 abbrev pub IsSettling : SlotRow → Type 0
@@ -96,17 +96,17 @@ module _ {K V S : Type 0} (same : K → K → Bool) (hash : K → ℕ) (i : ℕ)
       → RowSteps K V row e.memory.memory m2 changed (after, told.Waits) → ⊥
   never_waits (rows.Leaves c) here is m2 changed after st =
       let steps = subst (λ (m : Mem (Node K V)). Steps Took value_at m (leave_plan deferred_word c) m2 st.0) (sym led.at.memory)
-            (as_step e.memory.memory Nothing (leave_plan deferred_word c) m2 changed st.0 st.1) in
+      (as_step e.memory.memory Nothing (leave_plan deferred_word c) m2 changed st.0 st.1) in
       let waits = waits_by K V st.0.1 told.Waits (ap (λ (x : SlotRow × RowTold (Node K V)). x.1) st.2) refl in
       let other = leaves_wait deferred_word led.w (good same hash e then_at led.at) (held same hash e then_at led.at) i c st.0.0 m2 (is_row (rows.Leaves c) here)
-            (subst (λ (o : Settled (Node K V)). Steps Took value_at led.w.memory (leave_plan deferred_word c) m2 (st.0.0, o)) waits steps) in
+      (subst (λ (o : Settled (Node K V)). Steps Took value_at led.w.memory (leave_plan deferred_word c) m2 (st.0.0, o)) waits steps) in
       alone_then c.slot (is_on (rows.Leaves c) here) other.0 other.2 other.1
   never_waits (rows.Flushes c) here is m2 changed after st =
       let steps = subst (λ (m : Mem (Node K V)). Steps Took value_at m (settle_plan deferred_word c) m2 st.0) (sym led.at.memory)
-            (as_step e.memory.memory Nothing (settle_plan deferred_word c) m2 changed st.0 st.1) in
+      (as_step e.memory.memory Nothing (settle_plan deferred_word c) m2 changed st.0 st.1) in
       let waits = waits_by K V st.0.1 told.Waits (ap (λ (x : SlotRow × RowTold (Node K V)). x.1) st.2) refl in
       let other = settles_wait deferred_word led.w (good same hash e then_at led.at) (held same hash e then_at led.at) i c st.0.0 m2 (is_row (rows.Flushes c) here)
-            (subst (λ (o : Settled (Node K V)). Steps Took value_at led.w.memory (settle_plan deferred_word c) m2 (st.0.0, o)) waits steps) in
+      (subst (λ (o : Settled (Node K V)). Steps Took value_at led.w.memory (settle_plan deferred_word c) m2 (st.0.0, o)) waits steps) in
       alone_then c.slot (is_on (rows.Flushes c) here) other.0 other.2 other.1
   never_waits (rows.Registers c) here is m2 changed after st = absurd is
   never_waits (rows.Enters c) here is m2 changed after st = absurd is
