@@ -86,13 +86,19 @@ another : (root : ℕ) (taken : ℕ → Bool) (r : ℕ) → r ≢ root → with_
 another root taken r ne = ap (λ (q : Bool). q || taken r) (ne_eqb r root ne)
 
 -- a bit that is read
-is_zero : (q : Bool) (o w : ℕ) → Some (bit q) ≡ Some w → w ≡ 0 → q ≡ false
-is_zero true o w e z = absurd (cc (e, z))
-is_zero false o w e z = refl
+is_zero : (q : Bool) (w : ℕ) → Some (bit q) ≡ Some w → w ≡ 0 → q ≡ false
+is_zero true w e z = absurd (cc (e, z))
+is_zero false w e z = refl
 
 is_one : (q : Bool) (w : ℕ) → Some (bit q) ≡ Some w → w ≢ 0 → q ≡ true
 is_one true w e z = refl
 is_one false w e z = absurd (z (let h : 0 ≡ w = cc e in sym h))
+
+-- with this counter its map is there, or its first table is to be made
+abbrev made_with : NewMap → ℕ → Bool → NewMap × Progress Setting
+made_with n b q =
+    if q then new_map.done (record n { setting = new_map.with_counter n.setting b })
+    else new_map.goes (record n { setting = new_map.with_counter n.setting b }) (opens.Tables (new_table.first_table (new_map.with_counter n.setting b) n.len))
 
 module _ {K V : Type 0} (map : ℕ) (known : Known) (roots : ℕ) (taken : ℕ → Bool) (did : List Effect) (m m2 : Mem (Node K V)) (told : Changed) (n : NewMap) where
   abbrev did2 : List Effect
@@ -182,7 +188,7 @@ module _ {K V : Type 0} (map : ℕ) (known : Known) (roots : ℕ) (taken : ℕ �
           elim (exchanged m (new_map.taken n) (Used n.setting.root) 0 1 m2 end (as_step m changed.Nothing (new_map.takes n) m2 told end s)) as (λ _. RootThen end) [
             | inl d ↦
                 subst RootThen (sym d.3)
-                (as_many, small, (below, is_zero (taken n.setting.root) 0 d.0 (sym (are n.setting.root below) ∙ d.1.0) d.1.1, lower), found_now (subst (LeavesOthers roots m m2 n) d.3 leaves) (subst (HasItsRoot roots m m2 n) d.3 its))
+                (as_many, small, ((below, is_zero (taken n.setting.root) d.0 (sym (are n.setting.root below) ∙ d.1.0) d.1.1, lower), found_now (subst (LeavesOthers roots m m2 n) d.3 leaves) (subst (HasItsRoot roots m m2 n) d.3 its)))
             | inr d ↦
                 subst RootThen (sym d.3)
                 (next_then below lower (is_one (taken n.setting.root) d.0 (sym (are n.setting.root below) ∙ d.1.0) d.1.1) (subst (λ (x : Mem (Node K V)). AreTaken roots taken x) (sym d.2) are))
@@ -218,16 +224,9 @@ module _ {K V : Type 0} (map : ℕ) (known : Known) (roots : ℕ) (taken : ℕ �
               subst RootThen (sym e)
               (two (n.len == 0) (subst (LeavesOthers roots m m2 n) e leaves) (subst (HasItsRoot roots m m2 n) e its))
             where
-              c : NewMap
-              c = record n { setting = new_map.with_counter n.setting b }
-
-              abbrev Of : Bool → NewMap × Progress Setting
-              Of q = if q then new_map.done (record n { setting = new_map.with_counter n.setting b })
-                  else new_map.goes (record n { setting = new_map.with_counter n.setting b }) (opens.Tables (new_table.first_table (new_map.with_counter n.setting b) n.len))
-
-              two : (q : Bool) → LeavesOthers roots m m2 n (Of q) → HasItsRoot roots m m2 n (Of q) → RootThen (Of q)
+              two : (q : Bool) → LeavesOthers roots m m2 n (made_with n b q) → HasItsRoot roots m m2 n (made_with n b q) → RootThen (made_with n b q)
               two true leaves2 its2 = done_then found has (record n { setting = new_map.with_counter n.setting b }) refl leaves2 its2
-              two false leaves2 its2 = (as_many, small, found_on found has (Of false) leaves2 (λ r same. sym same) (its2 tt), begins_first (new_map.with_counter n.setting b) n.len small)
+              two false leaves2 its2 = (as_many, small, (found_on found has (made_with n b false) leaves2 (λ r same. sym same) (its2 tt), begins_first (new_map.with_counter n.setting b) n.len small))
 
           by : (o : Out (Node K V)) → told ≡ told_as m (Make node.Shards ((n.setting.mask + 1) % 2 ^ 64)) o → Ends (value_at m2) (new_map.made n o) end → RootThen end
           by (Found word) t e = same_point e
@@ -236,23 +235,23 @@ module _ {K V : Type 0} (map : ℕ) (known : Known) (roots : ℕ) (taken : ℕ �
           by (Made (Ok b)) t e = with_block b e
           by (Made (Err back)) t e =
               subst RootThen (sym e)
-              (as_many, small, goes_then found has (opens.Frees Memory) tt (subst (LeavesOthers roots m m2 n) e leaves) (subst (HasItsRoot roots m m2 n) e its), refl,
-              grown_now (subst (HasAsked map known) (sym t) refl))
+              (as_many, small, (goes_then found has (opens.Frees Memory) tt (subst (LeavesOthers roots m m2 n) e leaves) (subst (HasItsRoot roots m m2 n) e its), refl,
+              grown_now (subst (HasAsked map known) (sym t) refl)))
           by (Taken value) t e = same_point e
           by (Roomed roomed) t e = same_point e
 
       -- a step of the making of its table
       opened_then : (e : NewTable × Progress Table) → TableThen map known told e → (end : NewMap × Progress Setting) → end ≡ new_map.opened n e → LeavesOthers roots m m2 n end
           → HasItsRoot roots m m2 n end → RootThen end
-      opened_then (t, progress.Goes) then end e leaves its =
+      opened_then (t, progress.Goes) so end e leaves its =
           subst RootThen (sym e)
-          (as_many, small, goes_then found has (opens.Tables t) tt (subst (LeavesOthers roots m m2 n) e leaves) (subst (HasItsRoot roots m m2 n) e its), then)
-      opened_then (t, progress.Waits) then end e leaves its = absurd then
-      opened_then (t, progress.Done table) then end e leaves its =
+          (as_many, small, (goes_then found has (opens.Tables t) tt (subst (LeavesOthers roots m m2 n) e leaves) (subst (HasItsRoot roots m m2 n) e its), so))
+      opened_then (t, progress.Waits) so end e leaves its = absurd so
+      opened_then (t, progress.Done table) so end e leaves its =
           subst RootThen (sym e) (done_then found has n refl (subst (LeavesOthers roots m m2 n) e leaves) (subst (HasItsRoot roots m m2 n) e its))
-      opened_then (t, progress.Refused fault) then end e leaves its =
+      opened_then (t, progress.Refused fault) so end e leaves its =
           subst RootThen (sym e)
-          (as_many, small, goes_then found has (opens.Unmakes fault) tt (subst (LeavesOthers roots m m2 n) e leaves) (subst (HasItsRoot roots m m2 n) e its), then.0, grown_now then.1)
+          (as_many, small, (goes_then found has (opens.Unmakes fault) tt (subst (LeavesOthers roots m m2 n) e leaves) (subst (HasItsRoot roots m m2 n) e its), so.0, grown_now so.1))
 
     point_then : (stands : Opening) → n.stands ≡ stands → RootSoFar roots taken (has_grown did) m n stands → (end : NewMap × Progress Setting)
         → StepsTold K V (NewMap × Progress Setting) m changed.Nothing (new_map.plan_at n stands) m2 told end → LeavesOthers roots m m2 n end → HasItsRoot roots m m2 n end → RootThen end
@@ -263,7 +262,7 @@ module _ {K V : Type 0} (map : ℕ) (known : Known) (roots : ℕ) (taken : ℕ �
         opened_then (opens.Tables making) is (subst HasTaken (sym is) tt) so.0 b.0 (first_tables_then map known m m2 told making so.1 b.0 b.1) end b.2 leaves its
     point_then (opens.Unmakes fault) is so end s leaves its =
         subst RootThen (sym s.2)
-        (as_many, small, goes_then so.0 (subst HasTaken (sym is) tt) (opens.Frees fault) tt (subst (LeavesOthers roots m m2 n) s.2 leaves) (subst (HasItsRoot roots m m2 n) s.2 its), so.1, grown_on so.2)
+        (as_many, small, (goes_then so.0 (subst HasTaken (sym is) tt) (opens.Frees fault) tt (subst (LeavesOthers roots m m2 n) s.2 leaves) (subst (HasItsRoot roots m m2 n) s.2 its), so.1, grown_on so.2))
     point_then (opens.Frees fault) is so end s leaves its =
         subst RootThen (sym s.2)
         (refused_then so.0 (subst HasTaken (sym is) tt) fault so.1 (grown_on so.2) (subst (LeavesOthers roots m m2 n) s.2 leaves) (subst (HasItsRoot roots m m2 n) s.2 its))

@@ -1,6 +1,6 @@
 -- The making of a map runs on, and takes the first root that is free.
 use Rattle.std.specs.Prelude.{◌≡◌, ◌≢◌, ◌<◌, ◌≤◌, ◌^◌, ◌⊎◌, ℕ, Bool, true, false, List, [], ◌++◌, max, Option, Some, None, option_map}
-use Rattle.std.proofs.Common.{refl, ap, subst, sym, ◌∙◌, inl, inr}
+use Rattle.std.proofs.Common.{refl, ap, subst, sym, ◌∙◌, inl, inr, arith}
 use Rattle.std.proofs.lemmas.List.{append-nil, append_assoc}
 use Rattle.seize_words.specs.declared.at.At.TheVariants.{Used}
 use Rattle.seize_words.specs.Mem.{Mem, word_at}
@@ -195,7 +195,7 @@ module _ {K V S : Type 0} (i map : ℕ) where
     where
       by : (told : Progress Setting) → is_over told ≡ false
           → ((same : K → K → Bool) (hash : K → ℕ) (s : Scene K V) → IsAt same hash mid.executor s → MakingLeads same hash i told s mid.executor new.executor) → MakingFindsSoFar i map xs zs old new
-      by progress.Goes more stepping same hash s at b here of_map begins small taken are =
+      by progress.Goes more stepping = λ same hash s at b here of_map begins small taken are.
           let x = led old mid new xs ys zs progress.Goes ran so stepping did_it same hash s at b here of_map begins small taken are in
           let v = u old mid new xs ys zs progress.Goes ran so stepping did_it same hash s at b here of_map begins small taken are in
           let c : Beginning K = record b { machine = v.1.maker.0 } in

@@ -32,7 +32,7 @@ returns-then-is_over-clause-ran g c =
 pub returns-then-is_over-clause-finds : goal.returns-then-is_over-clause-finds
 returns-then-is_over-clause-finds g c =
     let e = c.in_ok-told.ensures in
-    last_found c.args.caller c.args.map _ _ _ _ _ _ c.in_ok-told.told c.loop-told.invariant.ran c.loop-told.invariant.finds e.steps e.did (sym c.is_over.ensures ∙ c.if-is_over.true)
+    last_found c.args.caller c.args.map c.args.self.now c.loop-told.self c.step_making.new.self _ _ _ c.in_ok-told.told c.loop-told.invariant.ran c.loop-told.invariant.finds e.steps e.did (sym c.is_over.ensures ∙ c.if-is_over.true)
 
 pub loop-told-smaller : goal.loop-told-smaller
 loop-told-smaller g c =
@@ -46,6 +46,6 @@ loop-told-preserved g c =
     let e = c.in_ok-told.ensures in
     record {
       ran = ran_goes c.args.caller c.args.map r.0 r.1 r.2 _ _ _ _ _ _ c.in_ok-told.told r.3 r.4 r.5 r.6 c.loop-told.invariant.ran e.leads e.steps (sym c.is_over.ensures ∙ c.if-is_over.false);
-      finds = goes_found c.args.caller c.args.map r.0 r.1 r.2 _ _ _ _ _ _ c.in_ok-told.told r.3 r.4 r.5 r.6 c.loop-told.invariant.ran c.loop-told.invariant.finds e.steps e.did (sym c.is_over.ensures ∙ c.if-is_over.false);
+      finds = goes_found c.args.caller c.args.map r.0 r.1 r.2 c.args.self.now c.loop-told.self c.step_making.new.self _ _ _ c.in_ok-told.told r.3 r.4 r.5 r.6 c.loop-told.invariant.ran c.loop-told.invariant.finds e.steps e.did (sym c.is_over.ensures ∙ c.if-is_over.false);
       numbers = e.numbers ∙ c.loop-told.invariant.numbers;
     }
