@@ -215,9 +215,12 @@ module _ {K V : Type 0} (map : ℕ) (known : Known) (roots : ℕ) (taken : ℕ �
           -- as if nothing had come of it
           same_point : end ≡ (n, progress.Goes) → RootThen end
           same_point e =
-              subst RootThen (sym e)
-              (as_many, small, subst (RootSoFar roots taken (has_grown did2) m2 n) (sym (is ∙ at))
-              (found_on found has (n, progress.Goes) (subst (LeavesOthers roots m m2 n) e leaves) (λ r same. sym same) (subst (HasItsRoot roots m m2 n) e its has)))
+              subst RootThen (sym e) (
+                as_many,
+                small,
+                subst (RootSoFar roots taken (has_grown did2) m2 n) (sym (is ∙ at))
+                    (found_on found has (n, progress.Goes) (subst (LeavesOthers roots m m2 n) e leaves) (λ r same. sym same) (subst (HasItsRoot roots m m2 n) e its has)),
+              )
 
           with_block : (b : ℕ) → end ≡ new_map.with_shards (record n { setting = new_map.with_counter n.setting b }) → RootThen end
           with_block b e =
@@ -234,9 +237,15 @@ module _ {K V : Type 0} (map : ℕ) (known : Known) (roots : ℕ) (taken : ℕ �
           by (Exchanged word) t e = same_point e
           by (Made (Ok b)) t e = with_block b e
           by (Made (Err back)) t e =
-              subst RootThen (sym e)
-              (as_many, small, (goes_then found has (opens.Frees Memory) tt (subst (LeavesOthers roots m m2 n) e leaves) (subst (HasItsRoot roots m m2 n) e its), refl,
-              grown_now (subst (HasAsked map known) (sym t) refl)))
+              subst RootThen (sym e) (
+                as_many,
+                small,
+                (
+                  goes_then found has (opens.Frees Memory) tt (subst (LeavesOthers roots m m2 n) e leaves) (subst (HasItsRoot roots m m2 n) e its),
+                  refl,
+                  grown_now (subst (HasAsked map known) (sym t) refl),
+                ),
+              )
           by (Taken value) t e = same_point e
           by (Roomed roomed) t e = same_point e
 

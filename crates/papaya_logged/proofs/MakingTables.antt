@@ -1,6 +1,6 @@
 -- The making of a first table: which machine it may be, and that it is refused for want of memory alone.
 use Rattle.std.specs.Prelude.{◌≡◌, ◌+◌, ◌/◌, ◌%◌, ◌^◌, ◌≤◌, nat_le, ℕ, Bool, true, false, max, Ok, Err, if◌then◌else◌}
-use Rattle.std.proofs.Common.{refl, ap, subst, sym, ◌∙◌, inl, inr, arith}
+use Rattle.std.proofs.Common.{refl, subst, sym, arith}
 use Rattle.seize_words.specs.declared.at.At.{At}
 use Rattle.seize_words.specs.declared.at.At.TheVariants.{Root, Used, Slot, Entry, Word}
 use Rattle.seize_words.specs.declared.fault.Fault.TheVariants.{Capacity, Memory}

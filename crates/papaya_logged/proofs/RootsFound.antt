@@ -1,31 +1,28 @@
 -- The making of a map runs on, and takes the first root that is free.
-use Rattle.std.specs.Prelude.{◌≡◌, ◌≢◌, ◌<◌, ◌≤◌, ◌^◌, ◌⊎◌, ℕ, Bool, true, false, List, [], ◌++◌, max, Option, Some, None, option_map}
+use Rattle.std.specs.Prelude.{◌≡◌, ◌<◌, ◌≤◌, ◌^◌, ◌⊎◌, ℕ, Bool, true, false, List, [], ◌++◌, max, Option, Some, option_map}
 use Rattle.std.proofs.Common.{refl, ap, subst, sym, ◌∙◌, inl, inr, arith}
 use Rattle.std.proofs.lemmas.List.{append-nil, append_assoc}
 use Rattle.seize_words.specs.declared.at.At.TheVariants.{Used}
 use Rattle.seize_words.specs.Mem.{Mem, word_at}
-use Rattle.seize.specs.World.{World, with_at}
+use Rattle.seize.specs.World.{World}
 use Rattle.seize.specs.declared.progress.Progress.{Progress}
 use Rattle.seize.specs.declared.progress.Progress.TheVariants as progress
 use Rattle.papaya_tables.specs.declared.node.Node.{Node}
 use Rattle.papaya_tables.specs.declared.setting.Setting.{Setting}
-use Rattle.papaya_resize.specs.NewMap.{new_map_plan, opening}
+use Rattle.papaya_resize.specs.NewMap.{opening}
 use Rattle.papaya_resize.specs.declared.new_map.NewMap.{NewMap}
 use Rattle.papaya_resize.specs.declared.new_map.Opening.{Opening}
 use Rattle.papaya_resize.specs.declared.new_map.Opening.TheVariants as opens
 use Rattle.papaya_schedules.specs.declared.effect.Effect.{Effect}
 use Rattle.papaya_schedules.specs.InTurn.{has_grown}
-use Rattle.papaya_teller.specs.Tells.{StepsTold}
-use Rattle.papaya_teller.specs.declared.changed.Changed.TheVariants.{Nothing}
 use Rattle.papaya_effects.specs.Effects.{effects_of}
 use Rattle.papaya_effects.specs.Known.{Known, known}
 use Rattle.papaya_effects.specs.declared.acting.Acting.TheVariants.{Making}
 use Rattle.papaya_callers.proofs.Together.At.{at_same}
-use Rattle.papaya_finishes.specs.Makings.{Beginning, HasTaken, HasComeTo, IsTakenRoot, KeepsIts, LeavesRest, MakingFacts, OpeningFacts, StepsOfMaking}
+use Rattle.papaya_finishes.specs.Makings.{Beginning, HasTaken, HasComeTo, MakingFacts, OpeningFacts, StepsOfMaking}
 use Rattle.papaya_executor.specs.IsAt.{Scene, IsAt, slot_of, work_of}
 use Rattle.papaya_executor.specs.Making.{MakingLeads}
 use Rattle.papaya_executor.specs.declared.executor.Executor.{Executor}
-use Rattle.papaya_executor.specs.declared.worker.Work.{Work}
 use Rattle.papaya_executor.specs.declared.worker.Work.TheVariants as work
 use Rattle.papaya_logged.specs.Makings.{is_over, MakingCame, MakingRan}
 use Rattle.papaya_logged.specs.Roots.{AreTaken, FindsRoot, MakingFinds}
