@@ -1,5 +1,5 @@
 -- Who has the batch of a slot in hand, wherever the executor is: its row works on that slot, and the slot's word says that the batch is held.
-use Rattle.std.specs.Prelude.{◌≡◌, ◌<◌, ◌+◌, ◌⊎◌, ℕ, true, IsSome}
+use Rattle.std.specs.Prelude.{◌≡◌, ◌<◌, ◌+◌, ◌⊎◌, ℕ, Bool, true, IsSome}
 use Rattle.std.proofs.Common.{refl, sym, ap, subst, ◌∙◌, arith}
 use Rattle.seize.specs.Settle.{flushing}
 use Rattle.seize.specs.World.{World, Row, Rests, Registers, Enters, Settles, Leaves, Defers, Frees, Begin, Flush, at_start, one_more, with_row, with_use}
@@ -47,8 +47,8 @@ module _ {K V S : Type 0} (same : K → K → Bool) (hash : K → ℕ) (e : Exec
     where
       by : CameAbout {K = K} {V = V} e.batch_size s.world → HeldByRows s.world
       by (roots, events, runs) =
-          runs_held deferred_word e.batch_size events (at_start deferred_word roots) s.world (start_good deferred_word (LAST_SLOT + 1) e.batch_size roots) (λ i. tt) runs
-          (start_held deferred_word e.batch_size roots)
+          runs_held (deferred_word {K = K} {V = V}) e.batch_size events (at_start deferred_word roots) s.world (start_good (deferred_word {K = K} {V = V}) (LAST_SLOT + 1) e.batch_size roots) (λ i. tt) runs
+          (start_held (deferred_word {K = K} {V = V}) e.batch_size roots)
 
   pub works_there : (j slot : ℕ) → has_batch slot (s.world.row j) ≡ true → slot_of j ≡ slot
   works_there j slot has = its_slot slot (slot_of j) (s.world.row j) (has_its deferred_word s.world good held j slot (s.world.row j) refl has) (at.on_slots j)
@@ -75,4 +75,4 @@ module _ {K V S : Type 0} (same : K → K → Bool) (hash : K → ℕ) (e : Exec
       good_then : Good deferred_word (LAST_SLOT + 1) e.batch_size begun
       good_then =
           happens_good deferred_word (LAST_SLOT + 1) e.batch_size refl s.world begun good (reached same hash e s at).sized (Begin (caller_in e slot) (Flush slot))
-          (resting same hash e s at slot fits, taken_now same hash e s at slot may, refl)
+          (resting same hash e s at slot fits, (taken_now same hash e s at slot may, refl))

@@ -52,27 +52,27 @@ as_many (suc k) xs all =
 module _ (used : List ℕ) where
   at_least : (k n first : ℕ) → AllBefore k used → k ≤ first + n → k ≤ free_from first n used
   at_least k zero first all l = omega (arith, l)
-  at_least k (suc n) first all l = by (is_among first used) refl
+  at_least k (suc n) first all l = by (is_among first used) refl (at_least k n (suc first) all (omega (arith, l)))
     where
-      by : (b : Bool) → is_among first used ≡ b → k ≤ (if b then free_from (suc first) n used else first)
-      by true e = at_least k n (suc first) all (omega (arith, l))
-      by false e = past (cases_lt first k)
-        where
-          past : (first < k) ⊎ (k ≤ first) → k ≤ first
-          past (inl low) = absurd (let there = all first low in cc (there, e))
-          past (inr high) = high
+      past : is_among first used ≡ false → (first < k) ⊎ (k ≤ first) → k ≤ first
+      past e (inl low) = absurd (let there = all first low in cc (there, e))
+      past e (inr high) = high
+
+      by : (b : Bool) → is_among first used ≡ b → k ≤ free_from (suc first) n used → k ≤ (if b then free_from (suc first) n used else first)
+      by true e on = on
+      by false e on = past e (cases_lt first k)
 
   at_most : (k n first : ℕ) → is_among k used ≡ false → first ≤ k → free_from first n used ≤ k
   at_most k zero first none l = l
-  at_most k (suc n) first none l = by (is_among first used) refl
+  at_most k (suc n) first none l = by (is_among first used) refl (λ further. at_most k n (suc first) none further)
     where
-      by : (b : Bool) → is_among first used ≡ b → (if b then free_from (suc first) n used else first) ≤ k
-      by true e = at_most k n (suc first) none (before (cases_lt first k))
-        where
-          before : (first < k) ⊎ (k ≤ first) → suc first ≤ k
-          before (inl low) = low
-          before (inr high) = absurd (let same : first ≡ k = omega (arith, l, high) in let there = sym (ap (λ (x : ℕ). is_among x used) same) ∙ e in cc (there, none))
-      by false e = l
+      before : is_among first used ≡ true → (first < k) ⊎ (k ≤ first) → suc first ≤ k
+      before e (inl low) = low
+      before e (inr high) = absurd (let same : first ≡ k = omega (arith, l, high) in let there = sym (ap (λ (x : ℕ). is_among x used) same) ∙ e in cc (there, none))
+
+      by : (b : Bool) → is_among first used ≡ b → (suc first ≤ k → free_from (suc first) n used ≤ k) → (if b then free_from (suc first) n used else first) ≤ k
+      by true e on = on (before e (cases_lt first k))
+      by false e on = l
 
   pub least_past : (k : ℕ) → AllBefore k used → k ≤ least_free used
   least_past k all = at_least k (length used) 0 all (let many = as_many k used all in omega (arith, many))

@@ -58,19 +58,27 @@ sweep_light slot (sweeping.Copies copier) = copier_light copier.stands
 sweep_light slot (sweeping.Disposes dispose) = disposal_light slot dispose.stands
 sweep_light slot _ = inl refl
 
-either_light : {X Y : Type 0} (row within : Row) → ((row ≡ Rests) × X) ⊎ ((row ≡ within) × Y) → IsLight within → IsLight row
-either_light row within (inl h) light = subst IsLight (sym h.0) (inl refl)
-either_light row within (inr h) light = subst IsLight (sym h.0) light
+rests_light : (row : Row) → row ≡ Rests → IsLight row
+rests_light row is = subst IsLight (sym is) (inl refl)
 
 module _ {K V S : Type 0} (same : K → K → Bool) (hash : K → ℕ) (e : Executor K V S) (s : Scene K V) (at : IsAt same hash e s) where
   on_map : (map j : ℕ) (standing : Standing K) → s.maps map ≡ Some standing → (u : UnderWay K V K) → s.calls map j ≡ Some u → IsLight (s.world.row j)
   on_map map j standing here (OnKey u) is =
-      either_light (s.world.row j) (row_of (slot_of j) u.call.stands) ((at.together.makings.standing.each map standing here).stand j (OnKey u) is) (call_light (slot_of j) u.call.stands)
+      elim ((at.together.makings.standing.each map standing here).stand j (OnKey u) is) as (λ _. IsLight (s.world.row j)) [
+        | inl d ↦ rests_light (s.world.row j) d.0
+        | inr d ↦ subst IsLight (sym d.0) (call_light (slot_of j) u.call.stands)
+      ]
   on_map map j standing here (ForRoom r) is =
-      either_light (s.world.row j) (row_of_room r.reserve.stands) ((at.together.makings.standing.each map standing here).stand j (ForRoom r) is) (room_light r.reserve.stands)
-  on_map map j standing here (Counting sum) is = subst IsLight (sym ((at.together.makings.standing.each map standing here).stand j (Counting sum) is).0) (inl refl)
+      elim ((at.together.makings.standing.each map standing here).stand j (ForRoom r) is) as (λ _. IsLight (s.world.row j)) [
+        | inl d ↦ rests_light (s.world.row j) d.0
+        | inr d ↦ subst IsLight (sym d.0) (room_light r.reserve.stands)
+      ]
+  on_map map j standing here (Counting sum) is = rests_light (s.world.row j) ((at.together.makings.standing.each map standing here).stand j (Counting sum) is).0
   on_map map j standing here (OverAll o) is =
-      either_light (s.world.row j) (row_of_sweep (slot_of j) o.sweep.stands) ((at.together.makings.standing.each map standing here).stand j (OverAll o) is) (sweep_light (slot_of j) o.sweep.stands)
+      elim ((at.together.makings.standing.each map standing here).stand j (OverAll o) is) as (λ _. IsLight (s.world.row j)) [
+        | inl d ↦ rests_light (s.world.row j) d.0
+        | inr d ↦ subst IsLight (sym d.0) (sweep_light (slot_of j) o.sweep.stands)
+      ]
 
   pub within_call : (map j : ℕ) (u : UnderWay K V K) → s.calls map j ≡ Some u → IsLight (s.world.row j)
   within_call map j u is = by (s.maps map) refl

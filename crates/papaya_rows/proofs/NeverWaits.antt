@@ -33,14 +33,9 @@ use Rattle.papaya_logged.specs.OnSlots.{has_come}
 use Rattle.papaya_logged.specs.Shown.{IsShown}
 use Rattle.papaya_logged.specs.declared.logged.Logged.{Logged}
 use Rattle.papaya_rows.specs.Rows.{RowRan}
+use Rattle.papaya_rows.specs.Settling.{IsSettling}
 use Rattle.papaya_rows.proofs.Holders.{good, held}
 use Rattle.papaya_rows.proofs.Ran.{Led, begun_way, goes_led, step_led}
-
--- a row that settles, by itself or as it leaves
-abbrev pub IsSettling : SlotRow → Type 0
-IsSettling (rows.Leaves c) = Unit {0}
-IsSettling (rows.Flushes c) = Unit {0}
-IsSettling _ = ⊥
 
 module _ (K V : Type 0) where
   abbrev Told : Type 0

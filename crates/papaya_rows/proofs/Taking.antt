@@ -47,23 +47,20 @@ use Rattle.papaya_rows.proofs.Ran.{Led, begun_led, step_led}
 use Rattle.papaya_rows.proofs.Refusals.{found_none}
 
 module _ {K V S : Type 0} (same : K → K → Bool) (hash : K → ℕ) (i : ℕ) (s : Scene K V) (size : ℕ) (enters : Bool) (apart : NoneOnVacant i s.world) where
-  abbrev uses : ℕ → Use
-  uses = s.world.uses
-
   -- It registers on in a world with this memory, which came about from the start, and in which the others have the rows that they had.
   pub record OnIt (e : Executor K V S) (c : Register) : Type 0 where
     pub w : World (Node K V)
     pub came : CameAbout size w
     pub memory : w.memory ≡ e.memory.memory
     pub row : w.row i ≡ Registers c
-    pub on : RegistersOn uses enters w c
+    pub on : RegistersOn s.world.uses enters w c
     pub others : (j : ℕ) → (j ≡ i → ⊥) → w.row j ≡ s.world.row j
 
   -- what the last step of it has told: it was refused, and for want of memory by the operation that found none; or it has taken the first slot that was vacant
   abbrev pub Ends : Executor K V S → RowTold (Node K V) → Type 0
   Ends e said =
-      ((fault : Fault) × (said ≡ told.Refused fault) × WhyRefused e.memory.memory uses fault × (fault ≡ Memory → (bucket : ℕ) × (e.memory.changed ≡ changed.Roomed bucket false)))
-      ⊎ ((slot : ℕ) × (said ≡ told.Registered slot) × (new_slot uses ≡ Some slot))
+      ((fault : Fault) × (said ≡ told.Refused fault) × WhyRefused e.memory.memory s.world.uses fault × (fault ≡ Memory → (bucket : ℕ) × (e.memory.changed ≡ changed.Roomed bucket false)))
+      ⊎ ((slot : ℕ) × (said ≡ told.Registered slot) × (new_slot s.world.uses ≡ Some slot))
 
   abbrev Next : Executor K V S → SlotRow → RowTold (Node K V) → Type 0
   Next e after said = ((c2 : Register) × (said ≡ told.Goes) × (after ≡ rows.Registers c2) × OnIt e c2) ⊎ Ends e said
@@ -93,8 +90,8 @@ module _ {K V S : Type 0} (same : K → K → Bool) (hash : K → ℕ) (i : ℕ)
     apart_then j t other at_it vacant =
         apart j t other (sym (ap works_on (here.others j other)) ∙ at_it) (sym (ap (λ (f : ℕ → Use). f t) here.on.uses_same) ∙ vacant)
 
-    comes : Comes uses enters i v end
-    comes = registers_apart deferred_word (LAST_SLOT + 1) refl now good i c here.row apart_then uses enters here.on v e2.memory.memory end steps refl
+    comes : Comes s.world.uses enters i v end
+    comes = registers_apart deferred_word (LAST_SLOT + 1) refl now good i c here.row apart_then s.world.uses enters here.on v e2.memory.memory end steps refl
 
     -- it stands where it goes on
     under : (fault : Fault) → c.stands ≡ at.Refused fault → ⊥
@@ -108,7 +105,7 @@ module _ {K V S : Type 0} (same : K → K → Bool) (hash : K → ℕ) (i : ℕ)
     told_by : (end2 : Register × Progress ℕ) → end ≡ end2 → said ≡ of_registering end2.1
     told_by end2 is = told_is ∙ ap (λ (q : Register × Progress ℕ). of_registering {T = Node K V} q.1) is
 
-    next_by : Comes uses enters i v end → Next e2 after said
+    next_by : Comes s.world.uses enters i v end → Next e2 after said
     next_by (GoesOn c2 is row2 on2) =
         inl (
           c2,
@@ -127,7 +124,7 @@ module _ {K V S : Type 0} (same : K → K → Bool) (hash : K → ℕ) (i : ℕ)
         inr (inl (
           fault,
           told_by (c2, progress.Refused fault) is,
-          subst (λ (m : Mem (Node K V)). WhyRefused m uses fault) (ap (λ (q : Register × Progress ℕ). (registers_on now i c e2.memory.memory q).memory) is) why,
+          subst (λ (m : Mem (Node K V)). WhyRefused m s.world.uses fault) (ap (λ (q : Register × Progress ℕ). (registers_on now i c e2.memory.memory q).memory) is) why,
           λ memory.
               found_none e.memory.memory e2.memory.memory e2.memory.changed c end
               (ap (λ (q : Register × Progress ℕ). q.1) is ∙ ap progress.Refused memory) c.stands under went.1,
@@ -142,7 +139,7 @@ module _ {K V S : Type 0} (same : K → K → Bool) (hash : K → ℕ) (i : ℕ)
   OnTheWay e = Led same hash i s e × ((c : Register) × (work_of e i ≡ Some (OnSlot (rows.Registers c))) × OnIt e c)
 
   ended_come : (e : Executor K V S) (said : RowTold (Node K V)) → Ends e said → has_come said ≡ true
-  ended_come e said (inl (fault, is, why)) = ap (λ (x : RowTold (Node K V)). has_come x) is
+  ended_come e said (inl (fault, is, why, asked)) = ap (λ (x : RowTold (Node K V)). has_come x) is
   ended_come e said (inr (slot, is, first)) = ap (λ (x : RowTold (Node K V)). has_come x) is
 
   goes_taking : (n : ℕ) (old new : Executor K V S) → GoesOnFor i n old new → OnTheWay old → OnTheWay new
@@ -165,7 +162,7 @@ module _ {K V S : Type 0} (same : K → K → Bool) (hash : K → ℕ) (i : ℕ)
       by leads.0 leads.2 (step_led same hash i s mid new said (rows.Registers on.1.0) on.1.1 steps on.0) (next mid new on.1.0 on.1.2 leads.0 said leads.1)
     where
       over : (after : SlotRow) → Ends new said → row_on {K = K} {V = V} after said ≡ None
-      over after (inl (fault, is, why)) = ap (λ (x : RowTold (Node K V)). row_on {K = K} {V = V} after x) is
+      over after (inl (fault, is, why, asked)) = ap (λ (x : RowTold (Node K V)). row_on {K = K} {V = V} after x) is
       over after (inr (slot, is, first)) = ap (λ (x : RowTold (Node K V)). row_on {K = K} {V = V} after x) is
 
       by : (after : SlotRow) → work_of new i ≡ row_on after said → Led same hash i s new → Next new after said → Led same hash i s new × Ends new said × (work_of new i ≡ None)

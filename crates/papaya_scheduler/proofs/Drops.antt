@@ -37,7 +37,8 @@ use Rattle.papaya_scheduler.specs.declared.scheduler.Scheduler.{Scheduler}
 use Rattle.papaya_scheduler.proofs.Dropped.{each_left, fits, free_lives, inside, nobody_else, none_left, others_used, used_still}
 use Rattle.papaya_rows.proofs.Holders.{none_has}
 use Rattle.papaya_rows.proofs.Names.{drops_named}
-use Rattle.papaya_rows.proofs.NeverWaits.{IsSettling, done_alone, led_alone, over_alone}
+use Rattle.papaya_rows.specs.Settling.{IsSettling}
+use Rattle.papaya_rows.proofs.NeverWaits.{done_alone, led_alone, over_alone}
 use Rattle.papaya_scheduler.proofs.Quiet.{stands_on}
 use Rattle.papaya_scheduler.proofs.RanOn.{stands_ran, there_stays}
 use Rattle.papaya_scheduler.proofs.Rights.{entry, in_turn, out_of_turn, plays, quiet}

@@ -26,7 +26,6 @@ mod Dropped
 mod Refreshes
 mod Drops
 mod Flushes
-mod HeldTold
 mod Begun
 mod RepliedSo
 mod BegunSo

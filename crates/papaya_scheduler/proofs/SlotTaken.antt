@@ -86,7 +86,7 @@ module _ {K V S : Type 0} (same : K → K → Bool) (hash : K → ℕ) (terms : 
   told_one no_slot no_fault = by all.1
     where
       by : Ended said → ⊥
-      by (inl (fault, is, why)) = no_fault fault is
+      by (inl (fault, is, why, asked)) = no_fault fault is
       by (inr (slot, is, first)) = no_slot slot is
 
   abbrev begun : Register
@@ -103,7 +103,7 @@ module _ {K V S : Type 0} (same : K → K → Bool) (hash : K → ℕ) (terms : 
     first = by all.1
       where
         by : Ended said → IsFirst same hash terms m p stands slot
-        by (inl (fault, refused, why)) = absurd (cc (is, refused))
+        by (inl (fault, refused, why, asked)) = absurd (cc (is, refused))
         by (inr (other, found, new_is)) =
             let alike : other ≡ slot = let both : ◌≡◌ {A = RowTold (Node K V)} (told.Registered other) (told.Registered slot) = sym found ∙ is in cc both in
             subst (IsFirst same hash terms m p stands) alike (first_is same hash terms m p stands other new_is)

@@ -38,3 +38,5 @@ pub mod Nothing
 pub mod Unpromoted
 pub mod EndsOver
 pub mod HandKeys
+pub mod HandingRows
+pub mod Handing

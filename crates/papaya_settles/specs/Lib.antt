@@ -8,3 +8,4 @@ pub mod Owing
 pub mod InHand
 pub mod Hand
 pub mod Owed
+pub mod Handing
