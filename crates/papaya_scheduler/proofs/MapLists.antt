@@ -26,27 +26,28 @@ module _ {X : Type 0} where
 
   passes_on : (p q : X → Bool) (xs : List X) (b : X) → find q xs ≡ Some b → p b ≡ true → 1 ≤ length (filter p xs)
   passes_on p q [] b is has = absurd (cc is)
-  passes_on p q (x ∷ xs) b is has = by (q x) (p x) refl is
+  passes_on p q (x ∷ xs) b is has = by (q x) (p x) refl is (λ f. passes_on p q xs b f has)
     where
       long : (r : Bool) → 1 ≤ length (filter p xs) → 1 ≤ length (if r then x ∷ filter p xs else filter p xs)
       long true l = omega arith
       long false l = l
 
-      by : (r t : Bool) → p x ≡ t → cond r (Some x) (find q xs) ≡ Some b → 1 ≤ length (if t then x ∷ filter p xs else filter p xs)
-      by true true e f = omega arith
-      by true false e f = absurd (let h = ap p (some_is x b f) in cc (h, has, e))
-      by false t e f = long t (passes_on p q xs b f has)
+      by : (r t : Bool) → p x ≡ t → cond r (Some x) (find q xs) ≡ Some b → (find q xs ≡ Some b → 1 ≤ length (filter p xs)) → 1 ≤ length (if t then x ∷ filter p xs else filter p xs)
+      by true true e f ih = omega arith
+      by true false e f ih = absurd (let h = ap p (some_is x b f) in cc (h, has, e))
+      by false t e f ih = long t (ih f)
 
   -- what two searches find that passes one test, which only one passes, is one
   pub found_same : (p q : X → Bool) (xs : List X) (a b : X) → length (filter p xs) ≤ 1 → find p xs ≡ Some a → find q xs ≡ Some b → p b ≡ true → a ≡ b
   found_same p q [] a b few first other has = absurd (cc first)
-  found_same p q (x ∷ xs) a b few first other has = by (p x) (q x) refl few first other
+  found_same p q (x ∷ xs) a b few first other has = by (p x) (q x) refl few first other (λ few2 f g. found_same p q xs a b few2 f g has)
     where
-      by : (t r : Bool) → p x ≡ t → length (if t then x ∷ filter p xs else filter p xs) ≤ 1 → cond t (Some x) (find p xs) ≡ Some a → cond r (Some x) (find q xs) ≡ Some b → a ≡ b
-      by true true e few f g = sym (some_is x a f) ∙ some_is x b g
-      by true false e few f g = absurd (let l = passes_on p q xs b g has in omega (arith, l, few))
-      by false true e few f g = absurd (let h = ap p (some_is x b g) in cc (h, has, e))
-      by false false e few f g = found_same p q xs a b few f g has
+      by : (t r : Bool) → p x ≡ t → length (if t then x ∷ filter p xs else filter p xs) ≤ 1 → cond t (Some x) (find p xs) ≡ Some a → cond r (Some x) (find q xs) ≡ Some b
+          → (length (filter p xs) ≤ 1 → find p xs ≡ Some a → find q xs ≡ Some b → a ≡ b) → a ≡ b
+      by true true e few f g ih = sym (some_is x a f) ∙ some_is x b g
+      by true false e few f g ih = absurd (let l = passes_on p q xs b g has in omega (arith, l, few))
+      by false true e few f g ih = absurd (let h = ap p (some_is x b g) in cc (h, has, e))
+      by false false e few f g ih = ih few f g
 
 module _ {X Z : Type 0} (f : X → Z) where
   pub kept_map : (p : Z → Bool) (xs : List X) → map f (filter (λ x. p (f x)) xs) ≡ filter p (map f xs)

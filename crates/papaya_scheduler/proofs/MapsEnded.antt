@@ -141,7 +141,7 @@ module _ {K V S : Type 0} (same : K → K → Bool) (hash : K → ℕ) (terms : 
         shown_mid = (begun no_call).4
 
         pub may_run : (t : Scene K V) × IsAt same hash mid.executor t × IsEnding t i
-        may_run = (s1, shown_mid.is_at, f, here)
+        may_run = (s1, shown_mid.is_at, (f, here))
 
         module _ (new : Logged K V S) (before after : List Effect) (empty : before ≡ []) (ran : EndRan i number true before after mid new) (over : EndIsOver new) (are : AreApart m)
             (waits : AtEachEffect WaitsOn None (acted_on {K = K} {V = V} (EndMap own) m) after m) where
@@ -271,4 +271,4 @@ module _ {K V S : Type 0} (same : K → K → Bool) (hash : K → ℕ) (terms : 
               stands_still : (t : NamedMap) → not (is_same t.name own) ≡ true → ((standing : Standing K) × (s.maps t.number ≡ Some standing)) → IsApart (named_of t)
                   → (standing : Standing K) × (s2.maps t.number ≡ Some standing)
               stands_still t keep st its_name =
-                  (st.0, others_stand t.number (Some st.0) (λ same_one. (let yes = its_name same_one in let no = ap not yes in cc (no, keep))) st.1)
+                  (st.0, others_stand t.number (Some st.0) (λ same_one. (let yes = its_name same_one in cc (yes, keep))) st.1)

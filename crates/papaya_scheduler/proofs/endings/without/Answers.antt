@@ -5,4 +5,4 @@ use Rattle.papaya_runs.specs.Same.{is_same}
 use Rattle.papaya_scheduler.proofs.endings.without.Goals as goal
 
 pub returns : goal.returns
-returns g c = filter_same _ (λ t. not (is_same t.name c.args.own.now)) _ (λ x b f' k. search rules) c.args.maps.now.items c.retain.new.self.items c.retain.ensures.filtered
+returns c = filter_same _ (λ t. not (is_same t.name c.args.own.now)) _ (λ x b f' k. search rules) c.args.maps.now.items c.retain.new.self.items c.retain.ensures.filtered

@@ -19,7 +19,7 @@ returns-in_default g c = record {
 pub returns-then-are_on : goal.returns-then-are_on
 returns-then-are_on g c = record {
   plays = λ same hash terms log due apart waits.
-      so_played same hash terms log c.args.self.now (EndMap c.args.map.now) c.busy.result (Refused Busy) 0 [] c.busy.ensures.outcome c.busy.ensures.steps c.busy.ensures.effects
+      so_played same hash terms log c.args.self.now (EndMap c.args.map.now) c.busy-then-are_on.result (Refused Busy) 0 [] c.busy-then-are_on.ensures.outcome c.busy-then-are_on.ensures.steps c.busy-then-are_on.ensures.effects
       (has_calls same hash terms log c.args.self.now c.args.map.now due c.in-Some.number (sym c.number_of.ensures ∙ c.in-Some.is) (sym c.are_on.ensures ∙ c.if-are_on.true));
 }
 
