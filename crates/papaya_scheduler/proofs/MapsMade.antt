@@ -132,7 +132,7 @@ module _ {K V S : Type 0} (same : K → K → Bool) (hash : K → ℕ) (terms : 
       pub no_roots : p.logged.executor.roots ≡ 0 → Plays same hash terms log (quiet event (Refused RootsUsedUp)) p1
       no_roots zero = refused RootsUsedUp (turns [] (Refused RootsUsedUp) (none_free [] (λ q l. absurd (omega (arith, l, zero)))))
 
-      module _ (some : 0 < p.logged.executor.roots) (places : ℕ) (first : IsFirstLen places) (given : Setting) (is_given : IsGivenFor mode places p given) (i : ℕ) (mid : Logged K V S)
+      module _ (some : 0 < p.logged.executor.roots) (places : ℕ) (first : IsFirstLen places) (given : Setting) (is_given : IsGivenFor mode places p1 given) (i : ℕ) (mid : Logged K V S)
           (begins : MakingIsBegun same hash stands.name m s given places i p.logged mid) where
         abbrev b : Beginning K
         b = next_making hash given places p.logged.executor
@@ -191,38 +191,38 @@ module _ {K V S : Type 0} (same : K → K → Bool) (hash : K → ℕ) (terms : 
           -- it was refused
           module _ (fault : Fault) (new : Logged K V S) (before after : List Effect) (empty : before ≡ []) (ran : MakingRan i number (progress.Refused fault) before after mid new)
               (finds : MakingFinds i number (progress.Refused fault) before after mid new) where
-            abbrev told : Progress Setting
-            told = progress.Refused fault
+            abbrev no_map : Progress Setting
+            no_map = progress.Refused fault
 
             right_by : (x : Fault) → FindsRoot p.logged.executor.roots (λ q. is_among q used) after new.executor.memory.memory (progress.Refused x) → Wanted after (Refused x)
             right_by RootsUsedUp so = none_free after so.0
             right_by Memory so = one_free after (Refused Memory) so.1.0 so.1.1 (inr (refl, so.0))
             right_by _ so = absurd so
 
-            abbrev u : (t : Scene K V) × (came : MakingCame s1 t i b told) × IsShown same hash stands.name (with_effects None (number_of own m) ran.0 m) new t
-                × (CameBare s1 t i b told came.maker → JustAsks b ran.0) × HasTable told b (with_effects None (number_of own m) ran.0 m)
-            u = (ran.3 same hash stands.name m s1 shown_mid b here (sym is_number) (number_of own m)).1 tt
+            abbrev went : (t : Scene K V) × (came : MakingCame s1 t i b no_map) × IsShown same hash stands.name (with_effects None (number_of own m) ran.0 m) new t
+                × (CameBare s1 t i b no_map came.maker → JustAsks b ran.0) × HasTable no_map b (with_effects None (number_of own m) ran.0 m)
+            went = (ran.3 same hash stands.name m s1 shown_mid b here (sym is_number) (number_of own m)).1 tt
 
-            abbrev e : Entry K V
-            e = entry event (Refused fault) 0 after
+            abbrev refusal : Entry K V
+            refusal = entry event (Refused fault) 0 after
 
-            abbrev Then : List Effect → Moment K V
-            Then did =
+            abbrev Then_refused : List Effect → Moment K V
+            Then_refused did =
                 let x = with_effects None (number_of own m) did m in
-                elsewhere (m.events + 1) true m.is_closed (m.is_alone && is_alone_on e m) x.there m.slots x.sheltered m.remains x
+                elsewhere (m.events + 1) true m.is_closed (m.is_alone && is_alone_on refusal m) x.there m.slots x.sheltered m.remains x
 
             pub not_made : (p2 : Scheduler K V S) → p2 ≡ record p { logged = new; maps = p2.maps; is_mapped = p2.is_mapped } → p2.is_mapped ≡ true → p2.maps.items ≡ p.maps.items
                 → Plays same hash terms log (entry event (Refused fault) 0 after) p2
             not_made p2 is mapped kept =
-                plays same hash terms log event p2 may.due e refl (turns after (Refused fault) (right_by fault (found told new before after empty ran finds)))
-                (subst (λ (xs : List Effect). StandsFor same hash terms (Then xs) p2) (sym (did_is told new before after empty ran finds))
-                (stands_mapped same hash terms m p stands new (with_effects None (number_of own m) ran.0 m) u.0 u.2 u.1.calls u.1.rows u.1.uses (makers_then told new before after empty ran finds u.0 u.1 u.1.maker)
-                (enders_then told new before after empty ran finds u.0 u.1 u.1.maker) (calls_none (number_of own m) ran.0 m) p2 is true (sym mapped)
+                plays same hash terms log event p2 may.due refusal refl (turns after (Refused fault) (right_by fault (found no_map new before after empty ran finds)))
+                (subst (λ (xs : List Effect). StandsFor same hash terms (Then_refused xs) p2) (sym (did_is no_map new before after empty ran finds))
+                (stands_mapped same hash terms m p stands new (with_effects None (number_of own m) ran.0 m) went.0 went.2 went.1.calls went.1.rows went.1.uses (makers_then no_map new before after empty ran finds went.0 went.1 went.1.maker)
+                (enders_then no_map new before after empty ran finds went.0 went.1 went.1.maker) (calls_none (number_of own m) ran.0 m) p2 is true (sym mapped)
                 (maps_named None (number_of own m) ran.0 m ∙ stands.maps.listed ∙ ap (map named_of) (sym kept))
-                (subst (AllByRecursion (λ t. (standing : Standing K) × (u.0.maps t.number ≡ Some standing))) (sym kept)
-                (all_so (λ t. (standing : Standing K) × (s.maps t.number ≡ Some standing)) (λ t. (standing : Standing K) × (u.0.maps t.number ≡ Some standing))
-                (λ t st. (st.0, ap (λ (g : ℕ → Option (Standing K)). g t.number) u.1.maps ∙ st.1)) p.maps.items stands.maps.stand))
-                (with_effects None (number_of own m) ran.0 m).there (there_stays None (number_of own m) ran.0 m ∙ stands.there) (m.events + 1) (m.is_alone && is_alone_on e m) m.slots
+                (subst (AllByRecursion (λ t. (standing : Standing K) × (went.0.maps t.number ≡ Some standing))) (sym kept)
+                (all_so (λ t. (standing : Standing K) × (s.maps t.number ≡ Some standing)) (λ t. (standing : Standing K) × (went.0.maps t.number ≡ Some standing))
+                (λ t st. (st.0, ap (λ (g : ℕ → Option (Standing K)). g t.number) went.1.maps ∙ st.1)) p.maps.items stands.maps.stand))
+                (with_effects None (number_of own m) ran.0 m).there (there_stays None (number_of own m) ran.0 m ∙ stands.there) (m.events + 1) (m.is_alone && is_alone_on refusal m) m.slots
                 (with_effects None (number_of own m) ran.0 m).sheltered m.remains))
 
           -- it was made

@@ -35,7 +35,7 @@ off_among j t (x ∷ xs) e = by (j == x) refl e (off_among j t xs)
 
     here : (q : Bool) → (j == x) ≡ false → (t == x) ≡ q → (q || is_among t (off j xs)) ≡ true → (is_among t (off j xs) ≡ true → (is_among t xs ≡ true) × (t ≢ j))
         → ((q || is_among t xs) ≡ true) × (t ≢ j)
-    here true apart same f ih = (refl, λ one. (let a = eqb-true t x same in let b = eq-eqb j x (sym one ∙ a) in cc (b, apart)))
+    here true apart same f ih = (refl, λ one. (let a = eqb-true t x same in let it : true ≡ false = sym (eq-eqb j x (sym one ∙ a)) ∙ apart in cc it))
     here false apart same f ih = ih f
 
     by : (b : Bool) → (j == x) ≡ b → is_among t (if b then off j xs else x ∷ off j xs) ≡ true → (is_among t (off j xs) ≡ true → (is_among t xs ≡ true) × (t ≢ j))
@@ -60,7 +60,7 @@ none_times r (x ∷ xs) e = by (r == x) e (none_times r xs)
   where
     by : (q : Bool) → (q || is_among r xs) ≡ false → (is_among r xs ≡ false → times r xs ≡ 0) → (if q then 1 else 0) + times r xs ≡ 0
     by true f ih = absurd (cc f)
-    by false f ih = ih f
+    by false f ih = (let none = ih f in omega (arith, none))
 
 module _ (used : List ℕ) (roots : ℕ) where
   pub all_used : ((q : ℕ) → q < roots → is_among q used ≡ true) → nat_lt (length used) roots ≡ false
@@ -74,7 +74,7 @@ module _ (used : List ℕ) (roots : ℕ) where
         where
           by : (q : Bool) → (t == r) ≡ q → (if q then 1 else 0) + times t used ≤ 1
           by true e = let none = ap (λ (x : ℕ). times x used) (eqb-true t r e) ∙ none_times r used free in omega (arith, none)
-          by false e = once t
+          by false e = let one = once t in omega (arith, one)
 
       below_more : (t : ℕ) → is_among t (r ∷ used) ≡ true → t < roots
       below_more t e = by (t == r) refl e

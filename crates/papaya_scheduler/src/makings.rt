@@ -68,7 +68,8 @@ impl<K: Drop, V: Drop, S> Scheduler<K, V, S> {
         let number = self.logged.executor.maps.len() as u64;
         let mut effects = self.no_effects();
         let caller = self.logged.begin_making(0, given, places)?;
-        match self.logged.run_making(caller, number, &mut effects)? {
+        let told = self.logged.run_making(caller, number, &mut effects)?;
+        match told {
             Progress::Done(_) => {
                 self.maps.push(NamedMap { name: map, number })?;
                 Ok(Played {
