@@ -15,15 +15,15 @@ use Rattle.papaya_schedules.specs.declared.effect.Thing.TheVariants.{ATable}
 use Rattle.papaya_schedules.specs.After.{asks_on, comes_to, replied, without_call, stepped, calls_on, after}
 use Rattle.papaya_schedules.specs.Beginning.{with_call, with_map}
 use Rattle.papaya_schedules.specs.Effects.{worked}
-use Rattle.papaya_schedules.specs.Entry.{Entry, ends_call, caller_of}
+use Rattle.papaya_schedules.specs.Entry.{ends_call, caller_of}
 use Rattle.papaya_schedules.specs.Lists.{is_in}
-use Rattle.papaya_schedules.specs.Moment.{Stands, Going, Asking, Told, IsReady, UnderWay, MapThere, TableThere, Moment}
+use Rattle.papaya_schedules.specs.Moment.{Stands, Going, Asking, Told, IsReady, UnderWay, MapThere, TableThere}
 use Rattle.papaya_schedules.specs.Reclaims.{is_kept}
 use Rattle.papaya_schedules.specs.Things.{same_thing}
 use Rattle.papaya_schedules.specs.Views.{is_linked}
 use Rattle.papaya_follows.proofs.Calls.{IsOfSame}
 use Rattle.papaya_little.specs.Events.{ended_by, EndedOwesNone, BeginningsKeepPlaced, EventsKeepPlaced, BeginningsKeepTables, EventsKeepTables}
-use Rattle.papaya_little.specs.Waiting.{owed_in, owed_by, AreApart, PairsArePlaced}
+use Rattle.papaya_little.specs.Waiting.{owed_in, owed_by, AreApart}
 use Rattle.papaya_little.proofs.Owed.{apart_still, all_owe, ended_owe_nothing}
 use Rattle.papaya_little.proofs.OwedTables.{owed_still}
 use Rattle.papaya_little.proofs.Placed.{others_keep_placed}

@@ -10,4 +10,6 @@ pub mod Somewhere
 pub mod TornDown
 pub mod Bounded
 pub mod Events
+pub mod Endings
+pub mod Within
 pub mod Little

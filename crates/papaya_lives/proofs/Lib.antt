@@ -6,6 +6,7 @@ pub mod Each
 pub mod Users
 pub mod Makings
 pub mod Calls
+pub mod Taken
 pub mod OnSlots
 pub mod Waiting
 pub mod Ends

@@ -1,5 +1,5 @@
 -- What waits behind tables does so where nothing happens to it, and none of it is reclaimed.
-use Rattle.std.specs.Prelude.{◌≡◌, ◌⊎◌, ℕ, nat_lt, Bool, true, false, List, [], ◌∷◌, Some, None, if◌then◌else◌}
+use Rattle.std.specs.Prelude.{◌≡◌, ◌⊎◌, ℕ, nat_lt, ◌&&◌, Bool, true, false, List, [], ◌∷◌, Some, None, if◌then◌else◌}
 use Rattle.std.proofs.Common.{refl, ap, sym, subst, ◌∙◌, inl, inr}
 use Rattle.seize_words.specs.Mem.{Mem}
 use Rattle.seize_words.specs.declared.at.At.TheVariants.{Root, Used, Slot, Entry, Word}
@@ -15,7 +15,6 @@ use Rattle.papaya_schedules.specs.declared.effect.Table.{Table}
 use Rattle.papaya_schedules.specs.declared.effect.Thing.TheVariants.{APair, ATable}
 use Rattle.papaya_schedules.specs.Effects.{AtEachEffect}
 use Rattle.papaya_schedules.specs.Moment.{Place, Behind, Moment}
-use Rattle.papaya_schedules.specs.Views.{behind}
 use Rattle.papaya_teller.specs.declared.changed.Changed.{Changed}
 use Rattle.papaya_teller.specs.declared.changed.Changed.TheVariants as changed
 use Rattle.papaya_callers.proofs.Together.Came.{came_reached}
@@ -113,7 +112,7 @@ module _ {K V : Type 0} (m : Moment K V) (known : Known) (w : World (Node K V)) 
   row_finds (changed.Made kind b) is = absurd is
   row_finds (changed.Unmade kind) is = absurd is
   row_finds (changed.Took b) is = took_finds (known.roles b)
-  row_finds (changed.Roomed bucket had) is = roomed_finds (nat_lt bucket known.buckets)
+  row_finds (changed.Roomed bucket had) is = roomed_finds (had && nat_lt bucket known.buckets)
 
 pub effects_find_waiting : (K V : Type 0) → EffectsFindWaiting K V
 effects_find_waiting K V m known s waiting f = (unreclaimed m known s.world waiting f, waits_on m known s.world waiting f)

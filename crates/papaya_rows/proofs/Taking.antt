@@ -21,7 +21,6 @@ use Rattle.seize_rule.proofs.World.Good.{Good}
 use Rattle.seize_sets.proofs.Slots.Registers.{Comes, GoesOn, IsRefused, NoneOnVacant, RegistersOn, TakesFirst, WhyRefused, registers_apart}
 use Rattle.papaya_tables.specs.Nodes.{deferred_word}
 use Rattle.papaya_tables.specs.declared.node.Node.{Node}
-use Rattle.papaya_teller.specs.declared.changed.Changed.{Changed}
 use Rattle.papaya_teller.specs.declared.changed.Changed.TheVariants as changed
 use Rattle.papaya_callers.specs.Together.{CameAbout}
 use Rattle.papaya_callers.proofs.Together.Came.{came_next, came_reached}
@@ -29,7 +28,7 @@ use Rattle.papaya_schedules.specs.declared.effect.Effect.{Effect}
 use Rattle.papaya_schedules.specs.Moment.{Moment}
 use Rattle.papaya_executor.specs.IsAt.{Scene, HasRow, slot_of, work_of}
 use Rattle.papaya_executor.specs.OnSlots.{RowBegins, RowSteps, row_on}
-use Rattle.papaya_executor.specs.Rows.{begun_row, of_registering, request_of}
+use Rattle.papaya_executor.specs.Rows.{of_registering, request_of}
 use Rattle.papaya_executor.specs.declared.executor.Executor.{Executor}
 use Rattle.papaya_executor.specs.declared.row.RowTold.{RowTold}
 use Rattle.papaya_executor.specs.declared.row.RowTold.TheVariants as told

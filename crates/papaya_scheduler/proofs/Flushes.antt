@@ -99,9 +99,9 @@ module _ {K V S : Type 0} (same : K → K → Bool) (hash : K → ℕ) (terms : 
 
     -- a batch that is held is told so
     pub is_held_now : HeldIsTold m p → (held : Bool) → IsRead held → held ≡ true → Plays same hash terms log (quiet (Flush guard) (Refused Busy)) p
-    is_held_now tells held reads yes =
+    is_held_now tells held reads so =
         let e = quiet (Flush guard) (Refused Busy) in
-        let word : word_at p.logged.executor.memory.memory (Slot slot BATCH) ≡ Some HELD = read.1 ∙ ap Some (eqb-true read.0 HELD (sym (reads read.0 read.1) ∙ yes)) in
+        let word : word_at p.logged.executor.memory.memory (Slot slot BATCH) ≡ Some HELD = read.1 ∙ ap Some (eqb-true read.0 HELD (sym (reads read.0 read.1) ∙ so)) in
         plays same hash terms log (Flush guard) p due e refl
         (in_turn wanted (is_living guard m.there) (Refused Busy) is_turn (inr (ap (λ (x : ℕ). is_held x m) its_slot ∙ tells slot word, refl)))
         (stands_on same hash terms m p stands (m.events + 1) (m.is_alone && is_alone_on e m) m.slots m.sheltered)
