@@ -1,9 +1,8 @@
 -- A map ends: where it is not there, or some call is on it, and where its end has run.
-use Rattle.std.specs.Prelude.{◌≡◌, ◌≢◌, ◌≤◌, ◌<◌, ◌+◌, ◌-◌, ◌==◌, ◌&&◌, ◌⊎◌, ℕ, zero, suc, Bool, true, false, not, List, [], ◌∷◌, ◌++◌, length, filter, find, map, is_some, Option, Some, None, option_map}
+use Rattle.std.specs.Prelude.{◌≡◌, ◌≢◌, ◌+◌, ◌-◌, ◌==◌, ◌&&◌, ◌⊎◌, ℕ, zero, suc, Bool, true, false, not, List, [], ◌∷◌, ◌++◌, filter, find, map, is_some, Option, Some, None, option_map}
 use Rattle.std.specs.List.{All, AllByRecursion, list_any}
-use Rattle.std.proofs.Common.{refl, ap, sym, subst, ◌∙◌, inl, inr, arith, eqb-true}
+use Rattle.std.proofs.Common.{refl, ap, sym, subst, ◌∙◌, inl, inr, eqb-true}
 use Rattle.std.proofs.lemmas.Bool.{cases_eq}
-use Rattle.seize.specs.World.{with_at}
 use Rattle.seize_words.specs.declared.fault.Fault.TheVariants.{Busy}
 use Rattle.papaya_runs.specs.Same.{is_same}
 use Rattle.papaya_tables.specs.Chunks.{is_incremental}
@@ -23,7 +22,7 @@ use Rattle.papaya_callers.proofs.Together.At.{at_other, at_same}
 use Rattle.papaya_callers.specs.Together.{UnderWay}
 use Rattle.papaya_effects.specs.Known.{known}
 use Rattle.papaya_executor.specs.Ending.{NoCallOn, ending_begun}
-use Rattle.papaya_executor.specs.IsAt.{Scene, IsAt, IsEnding, call_in, work_of}
+use Rattle.papaya_executor.specs.IsAt.{Scene, IsAt, IsEnding}
 use Rattle.papaya_finishes.specs.Makings.{Beginning}
 use Rattle.papaya_finishes.specs.Endings.{Finishing, finishing_of}
 use Rattle.papaya_finishes.specs.Machines.{machine_of}
@@ -44,12 +43,11 @@ use Rattle.papaya_rows.proofs.Lists.{all_but, all_so, any_alike, found_passes, o
 use Rattle.papaya_scheduler.specs.Mapping.{AreApart}
 use Rattle.papaya_scheduler.specs.Played.{IsDue, IsUnderWay, Plays, StandsFor}
 use Rattle.papaya_scheduler.specs.Seen.{named, named_of, number_named, seen, seen_of}
-use Rattle.papaya_scheduler.specs.declared.caller.Caller.{Caller}
 use Rattle.papaya_scheduler.specs.declared.scheduler.NamedMap.{NamedMap}
 use Rattle.papaya_scheduler.specs.declared.scheduler.Scheduler.{Scheduler}
 use Rattle.papaya_scheduler.proofs.MapLists.{all_back, all_seen, by_recursion, found_same, kept_map, kept_of}
 use Rattle.papaya_scheduler.proofs.Mapped.{stands_mapped}
-use Rattle.papaya_scheduler.proofs.Maps.{map_some, number_is, stands_by}
+use Rattle.papaya_scheduler.proofs.Maps.{map_some, number_is}
 use Rattle.papaya_scheduler.proofs.Quiet.{stands_on}
 use Rattle.papaya_scheduler.proofs.RanOn.{both_true, there_stays}
 use Rattle.papaya_scheduler.proofs.Rights.{entry, in_turn, out_of_turn, plays, quiet}

@@ -1,5 +1,5 @@
 -- A map is made by name, or is not: its mode or capacity has a fault, none may be made, no root is free, or memory was refused.
-use Rattle.std.specs.Prelude.{◌≡◌, ◌≢◌, ◌≤◌, ◌<◌, ◌+◌, ◌^◌, ◌==◌, ◌&&◌, ◌⊎◌, nat_lt, ℕ, Bool, true, false, not, List, [], ◌∷◌, ◌++◌, length, map, max, is_none, Option, Some, None, MatchOption, MatchBool, IfSome}
+use Rattle.std.specs.Prelude.{◌≡◌, ◌<◌, ◌+◌, ◌^◌, ◌&&◌, ◌⊎◌, nat_lt, ℕ, Bool, true, false, not, List, [], ◌∷◌, ◌++◌, length, map, is_none, Option, Some, None, MatchOption, MatchBool}
 use Rattle.std.specs.Int.{IsPowerOfTwo}
 use Rattle.std.specs.List.{AllByRecursion}
 use Rattle.std.proofs.Common.{refl, ap, sym, subst, ◌∙◌, inl, inr, arith}
@@ -8,15 +8,11 @@ use Rattle.std.proofs.lemmas.List.{map-append}
 use Rattle.seize.specs.World.{with_at}
 use Rattle.seize.specs.declared.progress.Progress.{Progress}
 use Rattle.seize.specs.declared.progress.Progress.TheVariants as progress
-use Rattle.seize_words.specs.Mem.{Mem}
 use Rattle.seize_words.specs.declared.fault.Fault.{Fault}
-use Rattle.seize_words.specs.declared.fault.Fault.TheVariants.{SlotsUsedUp, RootsUsedUp, GuardsFull, Busy, Memory}
-use Rattle.papaya_tables.specs.Lengths.{IsTableLen}
-use Rattle.papaya_tables.specs.declared.node.Node.{Node}
+use Rattle.seize_words.specs.declared.fault.Fault.TheVariants.{RootsUsedUp, Busy, Memory}
 use Rattle.papaya_tables.specs.declared.resize_mode.ResizeMode.{ResizeMode}
 use Rattle.papaya_tables.specs.declared.setting.Setting.{Setting}
 use Rattle.papaya_resize.specs.NewMap.{opening}
-use Rattle.papaya_resize.specs.declared.new_map.NewMap.{NewMap}
 use Rattle.papaya_runs.specs.Runs.{map_fault}
 use Rattle.papaya_schedules.specs.declared.effect.Effect.{Effect}
 use Rattle.papaya_schedules.specs.declared.event.Event.{Event}
@@ -51,7 +47,7 @@ use Rattle.papaya_rows.proofs.Least.{least_is}
 use Rattle.papaya_rows.proofs.Lists.{all_so}
 use Rattle.papaya_scheduler.specs.Mapping.{CountsMaps, IsGivenFor, MayMap, may_make_of}
 use Rattle.papaya_scheduler.specs.Played.{Plays, StandsFor}
-use Rattle.papaya_scheduler.specs.Seen.{named, named_of, number_named}
+use Rattle.papaya_scheduler.specs.Seen.{named, named_of}
 use Rattle.papaya_scheduler.specs.declared.scheduler.NamedMap.{NamedMap}
 use Rattle.papaya_scheduler.specs.declared.scheduler.Scheduler.{Scheduler}
 use Rattle.papaya_scheduler.proofs.KeptOut.{faulty_stands}

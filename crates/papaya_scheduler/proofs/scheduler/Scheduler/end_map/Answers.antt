@@ -1,9 +1,9 @@
 -- A map ends.
-use Rattle.std.proofs.Common.{[], sym, refl, ap, ◌∙◌, arith}
+use Rattle.std.proofs.Common.{[], sym, refl, ◌∙◌, arith}
 use Rattle.seize_words.specs.declared.fault.Fault.TheVariants.{Busy}
 use Rattle.papaya_schedules.specs.After.{moment}
 use Rattle.papaya_schedules.specs.declared.event.Event.TheVariants.{EndMap}
-use Rattle.papaya_schedules.specs.declared.outcome.Outcome.TheVariants.{Done, Refused}
+use Rattle.papaya_schedules.specs.declared.outcome.Outcome.TheVariants.{Refused}
 use Rattle.papaya_scheduler.proofs.Maps.{stands_by}
 use Rattle.papaya_scheduler.proofs.MapsEnded.{not_there, has_calls, may_run, ended}
 use Rattle.papaya_scheduler.proofs.Rights.{so_played}

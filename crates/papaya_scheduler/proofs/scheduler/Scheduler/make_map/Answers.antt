@@ -1,5 +1,5 @@
 -- A map is made.
-use Rattle.std.proofs.Common.{◌≡◌, [], length, sym, refl, ap, subst, ◌∙◌, arith, rules}
+use Rattle.std.proofs.Common.{◌≡◌, [], length, sym, refl, subst, ◌∙◌, arith, rules}
 use Rattle.seize.specs.declared.progress.Progress.{Progress}
 use Rattle.papaya_tables.specs.declared.setting.Setting.{Setting}
 use Rattle.papaya_logged.specs.Makings.{MakingRan}
@@ -7,7 +7,7 @@ use Rattle.papaya_logged.specs.Roots.{MakingFinds}
 use Rattle.seize_words.specs.declared.fault.Fault.TheVariants.{Busy, RootsUsedUp}
 use Rattle.papaya_schedules.specs.After.{moment}
 use Rattle.papaya_schedules.specs.declared.event.Event.TheVariants.{MakeMap}
-use Rattle.papaya_schedules.specs.declared.outcome.Outcome.TheVariants.{Done, Refused}
+use Rattle.papaya_schedules.specs.declared.outcome.Outcome.TheVariants.{Refused}
 use Rattle.papaya_scheduler.proofs.MapsMade.{has_fault, not_now, no_roots, may_run, not_made, made}
 use Rattle.papaya_scheduler.proofs.Rights.{so_played}
 use Rattle.papaya_scheduler.proofs.scheduler.Scheduler.make_map.Goals as goal
