@@ -28,3 +28,8 @@ pub mod Vacancies
 pub mod SlotTaken
 pub mod Registers
 pub mod Owns
+pub mod MapLists
+pub mod Mapped
+pub mod MapsEnded
+pub mod RootsUsed
+pub mod MapsMade
