@@ -13,9 +13,9 @@ use Rattle.papaya_sweeps.specs.SweepPoints.{sweeping}
 use Rattle.papaya_sweeps.specs.declared.sweep.Purpose.{Purpose}
 use Rattle.papaya_sweeps.specs.declared.sweep.Purpose.TheVariants.{Walks, Clears, Retains}
 use Rattle.papaya_sweeps.specs.declared.sweep.Sweep.{Sweep}
+use Rattle.papaya_sweeps.specs.declared.sweep.Sweeping.{Sweeping}
 use Rattle.papaya_sweeps.specs.declared.sweep.Sweeping.TheVariants as at
 use Rattle.papaya_late.specs.Faults.{RoomInReserving, RoomInSweeping}
-use Rattle.papaya_purposes.specs.Purposes.{IsBefore}
 use Rattle.papaya_schedules.specs.declared.call.Call.{Call}
 use Rattle.papaya_schedules.specs.declared.call.Call.TheVariants.{On, Reserve, Clear, Retain, Len, Walk}
 use Rattle.papaya_schedules.specs.declared.call.OneKey.{OneKey}
@@ -65,6 +65,13 @@ IsFor kind.Clears purpose = purpose ≡ Clears
 IsFor kind.Retains purpose = purpose ≡ Retains
 IsFor kind.Walks purpose = purpose ≡ Walks
 IsFor _ purpose = ⊥
+
+-- it goes over no table yet
+abbrev pub IsBefore : Sweeping → Type 0
+IsBefore at.Reads = Unit {0}
+IsBefore at.Follows = Unit {0}
+IsBefore (at.Copies copier) = Unit {0}
+IsBefore _ = ⊥
 
 -- where a sweep stands: a walk that goes on has come to no pair yet, a retaining asks, and one that shows pairs is ready
 abbrev pub SweepIsAt : HowFar → Sweep → Type 0

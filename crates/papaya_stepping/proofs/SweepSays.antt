@@ -37,7 +37,7 @@ use Rattle.papaya_teller.specs.declared.changed.Changed.TheVariants.{Nothing}
 use Rattle.papaya_executor.specs.Stepping.{StepsFrom}
 use Rattle.papaya_executor.specs.declared.executor.Executor.{Executor}
 use Rattle.papaya_histories.proofs.Asking.{always_told, always_turned}
-use Rattle.papaya_purposes.specs.Purposes.{IsBefore}
+use Rattle.papaya_scheduler.specs.Machines.{IsBefore}
 
 -- a walk before its first pair
 module _ (K V : Type 0) (p : Sweep) (walks : p.purpose ≡ Walks) where
