@@ -235,7 +235,7 @@ module _ {X Y Z : Type 0} (f : X → Z) (g : Y → Z) (p : Z → Bool) where
       one : (b : Bool) → p (g y) ≡ b → length (cond b (y ∷ filter (λ z. p (g z)) ys) (filter (λ z. p (g z)) ys)) ≤ 1 → (b || list_any (λ z. p (g z)) ys) ≡ true
           → ((z : X) (w : Y) → cond b (Some y) (find (λ v. p (g v)) ys) ≡ Some w → f z ≡ g w → f (change z) ≡ g new)
           → (length (filter (λ z. p (g z)) ys) ≤ 1 → list_any (λ z. p (g z)) ys ≡ true → ((z : X) (w : Y) → find (λ v. p (g v)) ys ≡ Some w → f z ≡ g w → f (change z) ≡ g new)
-            → map f Rest ≡ map g (slice_set ys (position_or_len (λ z. p (g z)) ys) new))
+          → map f Rest ≡ map g (slice_set ys (position_or_len (λ z. p (g z)) ys) new))
           → f (if p (f x) then change x else x) ∷ map f Rest ≡ map g (slice_set (y ∷ ys) (cond (not b) (1 + position_or_len (λ z. p (g z)) ys) 0) new)
       one true e o t s ih =
           ap (λ (b : Bool). f (if b then change x else x) ∷ map f Rest) (ap p two.0 ∙ e) ∙ ap (λ (z : Z). z ∷ map f Rest) (s x y refl two.0)
