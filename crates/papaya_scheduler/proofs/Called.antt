@@ -1,7 +1,6 @@
 -- A call as it begins on a map: what is under way then, and that it is what was called.
-use Rattle.std.specs.Prelude.{◌≡◌, ◌<◌, ◌^◌, ℕ, Bool, true, [], Some, None}
+use Rattle.std.specs.Prelude.{◌≡◌, ◌^◌, ℕ, Bool, true, [], Some, None}
 use Rattle.std.proofs.Common.{refl, sym, arith}
-use Rattle.papaya_raw.specs.declared.machines.call.KeyCall.{KeyCall}
 use Rattle.papaya_reserves.specs.Reserve.{reserving}
 use Rattle.papaya_resize.specs.Sum.{summing}
 use Rattle.papaya_rule.specs.Maps.{IsClass}
