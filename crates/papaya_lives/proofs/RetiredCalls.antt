@@ -7,7 +7,7 @@ use Rattle.seize_words.specs.Word.{block_in}
 use Rattle.seize.specs.declared.progress.Progress.{Progress}
 use Rattle.seize.specs.declared.rows.defer.Deferring.{Deferring}
 use Rattle.seize.specs.declared.rows.defer.Deferring.TheVariants as deferring
-use Rattle.seize.specs.World.{World, Row, Rests, Settles, Hand, NoBlock, Making, InUse, Parting, Cutting, Handed, LeftTo, Request, Retire, Event, Begin, Step, Begins, Runs, Happens, Steps', with_at}
+use Rattle.seize.specs.World.{World, Row, Rests, Hand, NoBlock, Making, InUse, Parting, Cutting, Handed, LeftTo, Request, Event, Begin, Step, Begins, Runs, Happens, Steps', with_at}
 use Rattle.seize_alone.proofs.Histories.NotTaken.{did, nobodys}
 use Rattle.seize_alone.proofs.Histories.Reached.{Reached, happens_reached}
 use Rattle.papaya_tables.specs.Nodes.{deferred_word}
@@ -29,7 +29,7 @@ use Rattle.papaya_raw.specs.declared.machines.machine.Machine.{Machine}
 use Rattle.papaya_raw.specs.declared.machines.progress.Progress.{Progress as CallTold}
 use Rattle.papaya_raw.specs.declared.machines.progress.Progress.TheVariants as progress
 use Rattle.papaya_schedules.specs.declared.effect.Effect.{Effect}
-use Rattle.papaya_schedules.specs.declared.effect.Effect.TheVariants.{Deferred, Retired, Reclaimed, Ended, Taken}
+use Rattle.papaya_schedules.specs.declared.effect.Effect.TheVariants.{Reclaimed, Taken}
 use Rattle.papaya_schedules.specs.declared.effect.Table.{Table}
 use Rattle.papaya_schedules.specs.declared.effect.Thing.TheVariants.{APair, ATable}
 use Rattle.papaya_schedules.specs.Effects.{with_effects}
@@ -61,14 +61,14 @@ use Rattle.papaya_executor.specs.Stepping.{StepLeads, scene_after}
 use Rattle.papaya_executor.specs.declared.executor.Executor.{Executor}
 use Rattle.papaya_finishes.specs.Machines.{machine_of, GoesOnAs}
 use Rattle.papaya_finishes.specs.Makings.{Beginning}
-use Rattle.papaya_finishes.specs.Maps.{Standing, with_call}
+use Rattle.papaya_finishes.specs.Maps.{Standing}
 use Rattle.papaya_follows.specs.Blocks.{HasRole}
 use Rattle.papaya_follows.proofs.Steps.{WentTo, went_to, DidSo, OfNoRow}
 use Rattle.papaya_others.specs.Makings.{WasNew}
 use Rattle.papaya_spots.proofs.Handing.{HandsNothing, AllHandNothing}
 use Rattle.papaya_spots.proofs.Steps.{hands_nothing}
 use Rattle.papaya_moments.specs.Whole.{ShowsWhole}
-use Rattle.papaya_settles.specs.Due.{Due, ToRetire, ToPut, due_in_settle, due_in_defer, due_in_disposing, due_in_copying, due_in_calling, due_in_reserving, due_in_sweeping, due_in_row, told_retired, RowTells, TellsNone, TellsRetired, TellsDeferred, OwnAreMade}
+use Rattle.papaya_settles.specs.Due.{Due, due_in_defer, due_in_disposing, due_in_copying, due_in_calling, due_in_reserving, due_in_sweeping, due_in_row, told_retired, RowTells, TellsNone, TellsRetired, TellsDeferred, OwnAreMade}
 use Rattle.papaya_settles.specs.Entries.{ShowsEntries}
 use Rattle.papaya_settles.proofs.DueCalls.{rows_tell_due}
 use Rattle.papaya_lives.specs.Retired.{IsDue, IsToRetire, ShowsRetired, CallsStay, MakingsKeepRetired, CallsKeepRetired}

@@ -1,11 +1,11 @@
 -- A block that a row is to retire is pending with it in the state of the collector: so it was not retired. A row begins to retire a block so, and it is not over
 -- while it has it.
-use Rattle.std.specs.Prelude.{Option, Some, None, IsSome, ◌==◌, if◌then◌else◌}
-use Rattle.std.proofs.Common.{◌≡◌, ℕ, ◌+◌, ◌/◌, ◌<◌, Bool, true, false, eqb, List, [], ◌∷◌, length, refl, ap, sym, subst, ◌∙◌, arith, eqb-true}
+use Rattle.std.specs.Prelude.{Option, Some, None, ◌==◌, if◌then◌else◌}
+use Rattle.std.proofs.Common.{◌≡◌, ℕ, ◌+◌, ◌<◌, Bool, true, false, eqb, List, [], ◌∷◌, refl, ap, sym, subst, ◌∙◌, arith, eqb-true}
 use Rattle.std.proofs.lemmas.Bool.{eq-eqb}
-use Rattle.seize_words.specs.Mem.{Mem, Took, value_at}
-use Rattle.seize_words.specs.Op.{Out, Found, Stored, Exchanged, Made, Taken, Roomed}
-use Rattle.seize_words.specs.Plan.{Steps, Ends, Now}
+use Rattle.seize_words.specs.Mem.{Mem, value_at}
+use Rattle.seize_words.specs.Op.{Found, Stored, Exchanged, Made, Taken, Roomed}
+use Rattle.seize_words.specs.Plan.{Ends, Now}
 use Rattle.seize_words.specs.Word.{block_in, link_to}
 use Rattle.seize.specs.Settle as plans
 use Rattle.seize.specs.Law.{Effect, Taken as TakenBlock}
@@ -26,10 +26,10 @@ use Rattle.seize_rule.proofs.Rows.Told.{RowTold, SettleGoes, SettleEnds, LeaveSw
 use Rattle.seize_rule.proofs.Words.Chains.{Chain, waiting}
 use Rattle.seize_rule.proofs.Words.Named.{link, link-block}
 use Rattle.seize_rule.proofs.Words.Shows.{Extra, Shows}
-use Rattle.seize_rule.proofs.Words.View.{View, view}
+use Rattle.seize_rule.proofs.Words.View.{View}
 use Rattle.seize_rule.proofs.World.Kept.{steps_next}
 use Rattle.seize_alone.proofs.Histories.Reached.{Reached}
-use Rattle.papaya_settles.specs.Due.{Due, ToRetire, ToPut, due_in_settle}
+use Rattle.papaya_settles.specs.Due.{due_in_settle}
 use Rattle.papaya_lives.specs.Retired.{IsDue, IsToRetire}
 
 module _ (n i : ℕ) (f : View) (m : State) (x : Extra) (inv : Inv n m) (shows : Shows n f m x) (b : ℕ) (some : 0 < b) where
