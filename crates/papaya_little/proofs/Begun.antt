@@ -1,5 +1,5 @@
 -- All is in order still where an event begins a call, or makes a map; and what is right for an event says of the names that it takes.
-use Rattle.std.specs.Prelude.{◌≡◌, ℕ, ◌+◌, ◌<◌, ◌≤◌, ◌==◌, Bool, true, false, cond, not, ◌&&◌, ◌||◌, List, [], ◌∷◌, ◌++◌, find, Option, Some, None, option_map, is_none, MatchBool, MatchOption, if◌then◌else◌}
+use Rattle.std.specs.Prelude.{◌≡◌, ℕ, ◌+◌, ◌<◌, ◌≤◌, ◌==◌, Bool, true, false, cond, not, ◌&&◌, ◌||◌, List, [], ◌∷◌, ◌++◌, find, Option, Some, None, option_map, is_some, is_none, MatchBool, MatchOption, if◌then◌else◌}
 use Rattle.std.specs.List.{AllByRecursion, list_any}
 use Rattle.std.proofs.Common.{refl, ap, sym, subst, ◌∙◌, arith}
 use Rattle.std.proofs.lemmas.Bool.{and_parts, or_left, eq-eqb, ne_eqb}
@@ -115,6 +115,14 @@ module _ {K V : Type 0} (m : Moment K V) (h : AllIsInOrder m) where
       more map e = list_any-append (λ (g : MapThere). g.number == map) m.maps (f ∷ [])
           ∙ or_left (list_any (λ (g : MapThere). g.number == map) m.maps) (list_any (λ (g : MapThere). g.number == map) (f ∷ [])) e
 
+-- what was made had no fault
+abbrev was_done : (V : Type 0) → Outcome V
+was_done V = Done
+
+of_fault : (V : Type 0) (o : Option Fault) (A : Type 0) → MatchOption o A (λ fault. was_done V ≡ Refused fault) → A
+of_fault V None A its = its
+of_fault V (Some fault) A its = absurd (cc its)
+
 module _ {K V : Type 0} (terms : Terms) (log : List (Entry K V)) (e : Entry K V) where
   abbrev m : Moment K V
   m = moment log
@@ -135,23 +143,20 @@ module _ {K V : Type 0} (terms : Terms) (log : List (Entry K V)) (e : Entry K V)
   pub makes_new : (event : Event K V) (outcome : Outcome V) → Right event outcome → MakesNew event outcome m
   makes_new (MakeMap name mode capacity) Done right = by (is_kept_out terms (MakeMap name mode capacity) m) right
     where
-      of_fault : (o : Option Fault) (A : Type 0) → MatchOption o A (λ fault. Done ≡ Refused fault) → A
-      of_fault None A its = its
-      of_fault (Some fault) A its = absurd (cc its)
-
-      by : (q : Bool) → MatchBool q (IsKeptOut (MakeMap name mode capacity) Done) (ComesTo terms log m e (MakeMap name mode capacity) Done) → map_of name m ≡ None
-      by true out = absurd (let busy = of_fault (map_fault mode capacity) (Done ≡ Refused Busy) out in cc busy)
-      by false its = no_one (map_of name m) (and_parts (is_none (map_of name m)) _ (in_turn _ _ Done (of_fault (map_fault mode capacity) _ its) refl)).0
+      by : (q : Bool) → MatchBool q (IsKeptOut {K = K} (MakeMap name mode capacity) (was_done V)) (ComesTo terms log m e (MakeMap name mode capacity) (was_done V)) → map_of name m ≡ None
+      by true out = absurd (let busy = of_fault V (map_fault mode capacity) (was_done V ≡ Refused Busy) out in cc busy)
+      by false its = no_one (map_of name m) (and_parts (is_none (map_of name m)) _ (in_turn _ _ Done (of_fault V (map_fault mode capacity) _ its) refl)).0
   makes_new _ _ right = tt
 
   -- no call is on a map that ends
   pub ends_uncalled : (name : List ℕ) → Right (EndMap name) Done → is_called (number_of name m) m ≡ false
   ends_uncalled name right = by (is_called (number_of name m) m) refl
     where
+      turn : (is_some (map_of name m) && not (is_called (number_of name m) m)) ≡ true
       turn = in_turn _ _ Done (not_kept_out (is_kept_out terms (EndMap name) m) _ _ Done (λ out. out) right refl) refl
 
       by : (q : Bool) → is_called (number_of name m) m ≡ q → is_called (number_of name m) m ≡ false
-      by true is = absurd (let two = (and_parts _ (not (is_called (number_of name m) m)) turn).1 in let no_more : not (is_called (number_of name m) m) ≡ false = ap not is in cc (two, no_more))
+      by true is = absurd (let two = (and_parts (is_some (map_of name m)) (not (is_called (number_of name m) m)) turn).1 in let no_more : not (is_called (number_of name m) m) ≡ false = ap not is in cc (two, no_more))
       by false is = is
 
   pub all_begun : (event : Event K V) (outcome : Outcome V) → Right event outcome → AllIsInOrder m → AllIsInOrder (begun event outcome m)

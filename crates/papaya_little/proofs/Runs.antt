@@ -72,6 +72,10 @@ life_keeps_order K V terms caller acted everything moments (f ∷ effects) m fin
 
 -- calls once an event is over
 
+is_clear : {V : Type 0} (came : Outcome V) → ends_call came ≡ true → comes_clear came ≡ true
+is_clear outcome.Ready ends = refl
+is_clear came ends = ends
+
 module _ {K V : Type 0} where
   acts : (its : Event K V) (b : Moment K V) → ActsOn (caller_of its) (acted_on its b) b
   acts (event.EndMap name) b own c caller c_is = absurd (cc caller)
@@ -133,10 +137,6 @@ module _ {K V : Type 0} where
       by : (o : Option (UnderWay K V)) → find (λ c. is_same c.caller own) calls ≡ o → IfCall (λ c. c.owes ≡ []) o → AllByRecursion (λ c. is_same c.caller own ≡ true → c.owes ≡ []) calls
       by None is nothing = none (list_any (λ c. is_same c.caller own) calls) refl is
       by (Some c) is owes = all_so (λ d. is_same d.caller own ≡ true → d ≡ c) (λ d. is_same d.caller own ≡ true → d.owes ≡ []) (λ d one same. ap (λ (x : UnderWay K V). x.owes) (one same) ∙ owes) calls (only_one own calls c apart is)
-
-  is_clear : (came : Outcome V) → ends_call came ≡ true → comes_clear came ≡ true
-  is_clear outcome.Ready ends = refl
-  is_clear came ends = ends
 
   ended_owes_none : (its : Event K V) (came : Outcome V) (w : Moment K V) → AreApart w.calls → IfCall (LeavesOf (comes_clear came) came) (acting (caller_of its) w) → StoppedOwesNone its came w.calls
       → EndedOwesNone (ended_by its came) w.calls
