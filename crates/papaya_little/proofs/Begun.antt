@@ -1,5 +1,5 @@
 -- All is in order still where an event begins a call, or makes a map; and what is right for an event says of the names that it takes.
-use Rattle.std.specs.Prelude.{◌≡◌, ℕ, ◌+◌, ◌<◌, ◌≤◌, ◌==◌, Bool, true, false, cond, not, ◌&&◌, ◌||◌, List, [], ◌∷◌, ◌++◌, find, Option, Some, None, option_map, is_some, is_none, MatchBool, MatchOption, if◌then◌else◌}
+use Rattle.std.specs.Prelude.{◌≡◌, ℕ, ◌+◌, ◌<◌, ◌≤◌, ◌==◌, Bool, true, false, cond, not, ◌&&◌, List, [], ◌∷◌, ◌++◌, find, Option, Some, None, option_map, is_some, is_none, MatchBool, MatchOption, if◌then◌else◌}
 use Rattle.std.specs.List.{AllByRecursion, list_any}
 use Rattle.std.proofs.Common.{refl, ap, sym, subst, ◌∙◌, arith}
 use Rattle.std.proofs.lemmas.Bool.{and_parts, or_left, eq-eqb, ne_eqb}
@@ -22,13 +22,11 @@ use Rattle.papaya_schedules.specs.Moment.{UnderWay, MapThere, Moment}
 use Rattle.papaya_schedules.specs.Terms.{Terms}
 use Rattle.papaya_schedules.specs.Views.{call_of, map_of, number_of, map_at}
 use Rattle.papaya_follows.proofs.Calling.{is_same_refl, is_same_is}
-use Rattle.papaya_moments.specs.Numbers.{AreFound}
 use Rattle.papaya_little.specs.Endings.{MakesNew}
-use Rattle.papaya_little.specs.Waiting.{owed_in}
 use Rattle.papaya_little.specs.Within.{many_of, HasItsMap, AllIsInOrder}
 use Rattle.papaya_little.proofs.Endings.{name_of, number_at, same_number, more_found}
 use Rattle.papaya_little.proofs.Events.{beginnings_keep_placed, beginnings_keep_tables}
-use Rattle.papaya_little.proofs.Lists.{none_of_them, any_so, all_so}
+use Rattle.papaya_little.proofs.Lists.{any_so, all_so}
 use Rattle.papaya_little.proofs.Tables.{all_append}
 use Rattle.papaya_little.proofs.Within.{found_any, any_found}
 
@@ -83,9 +81,9 @@ module _ {K V : Type 0} (m : Moment K V) (h : AllIsInOrder m) where
           its_map =
               any_so (λ (g : MapThere). is_same g.name name) (λ (g : MapThere). g.number == f.number) (λ (g : MapThere). map_of g.name m ≡ Some g)
               (λ g same found. (
-                let here : map_of name m ≡ Some g = subst (λ (l : List ℕ). map_of l m ≡ Some g) (is_same_is g.name name same) found in
-                let one : g ≡ f = (let two : Some g ≡ Some f = sym here ∙ is in cc two) in
-                eq-eqb g.number f.number (ap (λ (x : MapThere). x.number) one)
+              let here : map_of name m ≡ Some g = subst (λ (l : List ℕ). map_of l m ≡ Some g) (is_same_is g.name name same) found in
+              let one : g ≡ f = (let two : Some g ≡ Some f = sym here ∙ is in cc two) in
+              eq-eqb g.number f.number (ap (λ (x : MapThere). x.number) one)
               )) m.maps (found_any (λ (g : MapThere). is_same g.name name) m.maps f is) h.named
 
   -- a map is made, by the next number and a name that none has

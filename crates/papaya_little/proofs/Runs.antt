@@ -1,36 +1,33 @@
 -- All is in order after each event that comes to what is right for it and keeps the promise `life`, and so at each moment of a run.
-use Rattle.std.specs.Prelude.{◌≡◌, ℕ, ◌+◌, ◌<◌, ◌≤◌, ◌==◌, Bool, true, false, not, cond, List, [], ◌∷◌, filter, find, map, Option, Some, None, option_map, if◌then◌else◌}
+use Rattle.std.specs.Prelude.{◌≡◌, ℕ, ◌+◌, ◌<◌, ◌≤◌, ◌==◌, Bool, true, false, not, List, [], ◌∷◌, filter, find, map, Option, Some, None, option_map, if◌then◌else◌}
 use Rattle.std.specs.List.{AllByRecursion, list_any}
 use Rattle.std.proofs.Common.{refl, ap, sym, subst, ◌∙◌, arith}
 use Rattle.std.proofs.lemmas.Bool.{eq-eqb}
 use Rattle.std.proofs.lemmas.List.Elements.{recursion_from_All, All-from_recursion}
 use Rattle.papaya_runs.specs.Same.{is_same}
-use Rattle.papaya_schedules.specs.declared.call.Reply.{Reply}
 use Rattle.papaya_schedules.specs.declared.effect.Effect.{Effect}
-use Rattle.papaya_schedules.specs.declared.effect.Table.{Table}
 use Rattle.papaya_schedules.specs.declared.event.Event.{Event}
 use Rattle.papaya_schedules.specs.declared.event.Event.TheVariants as event
 use Rattle.papaya_schedules.specs.declared.outcome.Outcome.{Outcome}
 use Rattle.papaya_schedules.specs.declared.outcome.Outcome.TheVariants as outcome
-use Rattle.papaya_schedules.specs.After.{moment, after, without_call, stepped, calls_on, maps_on, comes_to, replied, AtEachEvent}
+use Rattle.papaya_schedules.specs.After.{moment, after, without_call, stepped, calls_on, maps_on, comes_to, replied}
 use Rattle.papaya_schedules.specs.Beginning.{begun}
-use Rattle.papaya_schedules.specs.Effects.{call_by, calls_by, with_effect, with_effects, worked, AtEachEffect}
+use Rattle.papaya_schedules.specs.Effects.{call_by, with_effect, with_effects, worked, AtEachEffect}
 use Rattle.papaya_schedules.specs.Entry.{Entry, IfCall, ends_call, caller_of, acting, acted_on}
-use Rattle.papaya_schedules.specs.Handing.{is_ending, IsClear, HasGrown, LeavesOf, comes_clear, gives_all, moments_of}
+use Rattle.papaya_schedules.specs.Handing.{LeavesOf, comes_clear, gives_all, moments_of}
 use Rattle.papaya_schedules.specs.InTurn.{is_called}
 use Rattle.papaya_schedules.specs.Lives.{Finds}
 use Rattle.papaya_schedules.specs.Moment.{UnderWay, MapThere, Moment}
 use Rattle.papaya_schedules.specs.Terms.{Terms}
-use Rattle.papaya_schedules.specs.Views.{call_of, map_of, number_of, map_at}
+use Rattle.papaya_schedules.specs.Views.{map_of, number_of, map_at}
 use Rattle.papaya_follows.proofs.Calling.{is_same_is}
 use Rattle.papaya_follows.proofs.Calls.{changed_same, changed, of_same, found}
-use Rattle.papaya_moments.specs.Numbers.{AreFound}
 use Rattle.papaya_little.specs.Endings.{EndsWhole}
 use Rattle.papaya_little.specs.Events.{ended_by, EndedOwesNone}
 use Rattle.papaya_little.specs.Life.{StoresOne}
 use Rattle.papaya_little.specs.Waiting.{owed_in, AreApart}
-use Rattle.papaya_little.specs.Within.{many_of, HasItsMap, IsWithin, AllIsInOrder, ActsOn, StoppedOwesNone, GoesInOrder, AllInOrderAtFirst, LifeKeepsOrder, EventsKeepOrder, RunsAreInOrder}
-use Rattle.papaya_little.proofs.Begun.{none_found, makes_new, ends_uncalled, all_begun}
+use Rattle.papaya_little.specs.Within.{many_of, HasItsMap, AllIsInOrder, ActsOn, StoppedOwesNone, GoesInOrder, AllInOrderAtFirst, LifeKeepsOrder, EventsKeepOrder, RunsAreInOrder}
+use Rattle.papaya_little.proofs.Begun.{makes_new, ends_uncalled, all_begun}
 use Rattle.papaya_little.proofs.Endings.{entry, number_at, same_number, fewer_found, ends_leave_maps, events_keep_named, events_keep_roots, events_keep_somewhere}
 use Rattle.papaya_little.proofs.Events.{OwesSame, comes_same, told_same, events_keep_placed, events_keep_tables}
 use Rattle.papaya_little.proofs.Lists.{none_of_them, any_so, any_kept_among, all_so, all_both, each_is, each_among}
@@ -57,7 +54,7 @@ module _ {K V : Type 0} where
   acts_still (Some who) acted m f on own c caller_is c_is =
       let one : who ≡ own = cc caller_is in
       let here : find (λ (d : UnderWay K V). is_same d.caller who) (map (changed (call_by m f) (changed_same m f) who) m.calls) ≡ Some c =
-        subst (λ (l : List ℕ). find (λ (d : UnderWay K V). is_same d.caller l) (map (changed (call_by m f) (changed_same m f) who) m.calls) ≡ Some c) (sym one) c_is in
+      subst (λ (l : List ℕ). find (λ (d : UnderWay K V). is_same d.caller l) (map (changed (call_by m f) (changed_same m f) who) m.calls) ≡ Some c) (sym one) c_is in
       let any = found_any (λ (d : UnderWay K V). is_same d.caller who) (map (changed (call_by m f) (changed_same m f) who) m.calls) c here in
       let some = any_found (λ (d : UnderWay K V). is_same d.caller who) m.calls (sym (named_still who (call_by m f) (changed_same m f) who m.calls) ∙ any) in
       let now = found (call_by m f) (changed_same m f) who who m.calls some.0 some.1 in
@@ -170,11 +167,11 @@ module _ {K V : Type 0} where
 
       one : (f : MapThere) → (f.number == c.map) ≡ true → map_of f.name m ≡ Some f → (q : Bool) → is_same f.name name ≡ q → not (is_same f.name name) ≡ true
       one f at found_it true same = absurd (
-        let here : map_of name m ≡ Some f = subst (λ (l : List ℕ). map_of l m ≡ Some f) (is_same_is f.name name same) found_it in
-        let number : number_of name m ≡ Some c.map = ap (option_map (λ (g : MapThere). g.number)) here ∙ ap Some (number_is f.number c.map at) in
-        let none : list_any (λ (d : UnderWay K V). d.map == c.map) m.calls ≡ false = subst (λ (o : Option ℕ). is_called o m ≡ false) number uncalled in
-        cc (called, none)
-      )
+          let here : map_of name m ≡ Some f = subst (λ (l : List ℕ). map_of l m ≡ Some f) (is_same_is f.name name same) found_it in
+          let number : number_of name m ≡ Some c.map = ap (option_map (λ (g : MapThere). g.number)) here ∙ ap Some (number_is f.number c.map at) in
+          let none : list_any (λ (d : UnderWay K V). d.map == c.map) m.calls ≡ false = subst (λ (o : Option ℕ). is_called o m ≡ false) number uncalled in
+          cc (called, none)
+          )
       one f at found_it false same = ap not same
 
   -- what an event leaves of maps, and of calls on them
