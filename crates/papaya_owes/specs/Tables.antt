@@ -1,6 +1,7 @@
 -- The table that a call has made and has not linked: which one its machine has, what a moment of a run says of it, and what is promised of steps of calls.
 use Rattle.std.specs.Prelude.{◌≡◌, ◌<◌, ◌≤◌, ℕ, Bool, true, List, length, Option, Some, None, option_map, ◌⊎◌}
 use Rattle.seize_words.specs.Word.{block_in}
+use Rattle.seize.specs.World.{Making as IsMaking}
 use Rattle.papaya_tables.specs.declared.node.Node.{Node}
 use Rattle.papaya_tables.specs.declared.table.Table.{Table as Planned}
 use Rattle.papaya_resize.specs.declared.new_table.Making.{Making}
@@ -115,3 +116,9 @@ abbrev pub CallsComeToTables : Type 0 → Type 0 → Type 0
 CallsComeToTables K V =
     (same : K → K → Bool) (name : ℕ → List ℕ) (m : Moment K V) (known : Known) (s : Scene K V) → ShowsWhole same name m known s → ShowsTables name m known s
     → (own : List ℕ) (outcome : Outcome V) (steps : ℕ) → (ends_call outcome ≡ true → NoneNamed name own s) → ShowsTables name (come_to own outcome steps m) known s
+
+-- So each block that is noted as a table of somebody's own is in the hands of the one who makes it.
+abbrev pub TablesAreMade : (K V S : Type 0) (same : K → K → Bool) (hash : K → ℕ) → Type 0
+TablesAreMade K V S same hash =
+    (name : ℕ → List ℕ) (m : Moment K V) (known : Known) (s : Scene K V) (e : Executor K V S) → IsAt same hash e s → Shows same name m known s → ShowsTables name m known s
+    → (b turn : ℕ) (shape : TableShape) → known.roles b ≡ role.OwnTable turn shape → (j : ℕ) × (s.world.hand b ≡ IsMaking j)

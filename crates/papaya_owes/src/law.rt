@@ -1,7 +1,7 @@
 //! What is promised of what a call under way has in hand.
 ghost use Rattle.std.specs.Prelude.{ℕ, Bool};
 ghost use Rattle.papaya_owes.specs.Beside.{StaysMade, WalksGoOnMade, WalksStopMade, RowsKeepMade, MakingsKeepMade, EndingsKeepMade};
-ghost use Rattle.papaya_owes.specs.Tables.{CallsKeepTables, CallsBeginTables, CallsTakeTables, CallsComeToTables};
+ghost use Rattle.papaya_owes.specs.Tables.{CallsKeepTables, CallsBeginTables, CallsTakeTables, CallsComeToTables, TablesAreMade};
 ghost use Rattle.papaya_owes.specs.Short.{ShortBegins, StaysShort, CallsKeepShort, CallsBeginShort, CallsTakeShort, CallsComeToShort, WalksGoOnShort, WalksStopShort};
 ghost use Rattle.papaya_owes.specs.TablesBeside.{TablesBegin, StaysTables, WalksGoOnTables, WalksStopTables, RowsKeepTables, MakingsBeginTables, MakingsKeepTables, EndingsKeepTables};
 ghost use Rattle.papaya_owes.specs.Looking.{CallsKeepLooking, SeveralFindAtWork, LookingBegins, StaysLooking, CallsBeginLooking, LookupsBegin, CallsTakeLooking, CallsComeToLooking, WalksGoOnLooking, WalksStopLooking};
@@ -34,7 +34,7 @@ pub fn others_leave_blocks<K, V, S>()
 {}
 
 /// A call under way has made just that table, and has not linked it, which the moment says: it is the one that its machine has made. Each block that is noted as such
-/// a table is one of a call's, or of the making of a map. So it is before all events; after each step of a call, whoever's, by which a table of the call's map is made
+/// a table is one of a call's, or of the making of a map, and in the hands of the one who makes it. So it is before all events; after each step of a call, whoever's, by which a table of the call's map is made
 /// where the call asks for one and has none, and the one that it has is linked, or given up where its turn was taken, and a call that has ended has none; and where a
 /// call begins, takes a reply and comes to an outcome.
 pub fn calls_have_their_tables<K, V, S>()
@@ -43,6 +43,7 @@ pub fn calls_have_their_tables<K, V, S>()
     ensures begun { (same : K → K → Bool) (hash : K → ℕ) → CallsBeginTables K V S same hash }
     ensures told { (same : K → K → Bool) (hash : K → ℕ) → CallsTakeTables K V S same hash }
     ensures come_to { CallsComeToTables K V }
+    ensures made { (same : K → K → Bool) (hash : K → ℕ) → TablesAreMade K V S same hash }
 {}
 
 /// A step that is of no call leaves all such tables as they were, but that the making of a map makes and links its own first one: one of a row on a slot, of the making

@@ -30,8 +30,9 @@ use Rattle.papaya_finishes.specs.Machines.{GoesOnAs}
 use Rattle.papaya_finishes.specs.Maps.{Standing}
 use Rattle.papaya_teller.specs.declared.changed.Changed.TheVariants.{Nothing}
 use Rattle.papaya_histories.proofs.Logs.{last_there}
+use Rattle.papaya_settles.specs.ShardWords.{ShowsShards}
 use Rattle.papaya_purposes.specs.Purposes.{HasAdded}
-use Rattle.papaya_purposes.specs.Shards.{ShowsShards, NoneCounted}
+use Rattle.papaya_purposes.specs.Shards.{NoneCounted}
 use Rattle.papaya_purposes.proofs.Sums.{After, counting_on}
 
 module _ {K V S : Type 0} (same : K → K → Bool) (hash : K → ℕ) (log : List (Entry K V)) (m : Moment K V) (s : Scene K V) (old new : Executor K V S) (at : IsAt same hash old s)

@@ -34,3 +34,5 @@ mod Stored
 mod ShowsAll
 mod FindsRoom
 mod Nothing
+mod Elsewhere
+mod ShardsRead

@@ -4,3 +4,4 @@ pub mod Shards
 pub mod Kept
 pub mod Rows
 pub mod Swept
+pub mod Elsewhere

@@ -1,31 +1,40 @@
--- The words of a map's count, as the memory has them, and as the moment says.
-use Rattle.std.specs.Prelude.{◌≡◌, ℕ, ◌≤◌, List, Some}
-use Rattle.seize_words.specs.Mem.{word_at}
-use Rattle.seize_words.specs.declared.at.At.TheVariants.{Word}
+-- Which words of a map's count a call that adds them up reads, in the words of a run.
+use Rattle.std.specs.Prelude.{◌≡◌, ℕ, Bool, List, Some}
+use Rattle.papaya_tables.specs.declared.node.Node.{Node}
+use Rattle.papaya_raw.specs.declared.machines.progress.Progress.{Progress}
 use Rattle.papaya_schedules.specs.After.{moment}
+use Rattle.papaya_schedules.specs.Effects.{with_effects}
 use Rattle.papaya_schedules.specs.Entry.{Entry}
 use Rattle.papaya_schedules.specs.Moment.{Moment}
-use Rattle.papaya_callers.specs.Together.{UnderWay, ForRoom, Counting}
-use Rattle.papaya_executor.specs.IsAt.{Scene}
-use Rattle.papaya_finishes.specs.Maps.{Standing}
+use Rattle.papaya_callers.specs.Together.{UnderWay}
+use Rattle.papaya_effects.specs.Effects.{effects_of}
+use Rattle.papaya_effects.specs.Known.{Known}
+use Rattle.papaya_effects.specs.declared.acting.Acting.TheVariants as acts
+use Rattle.papaya_executor.specs.IsAt.{Scene, IsAt}
+use Rattle.papaya_executor.specs.Stepping.{StepLeads}
+use Rattle.papaya_executor.specs.declared.executor.Executor.{Executor}
+use Rattle.papaya_moments.specs.Whole.{ShowsWhole}
+use Rattle.papaya_settles.specs.ShardSteps.{AddsUp}
+use Rattle.papaya_settles.specs.ShardWords.{ShowsShards, ShowsCounters}
 
 module _ {K V : Type 0} where
-  -- it counts, or may
-  abbrev pub MayCount : UnderWay K V K → Type 0
-  MayCount (ForRoom r) = Unit {0}
-  MayCount (Counting sum) = Unit {0}
-  MayCount _ = ⊥
-
-  -- each shard says what the moment says
-  abbrev pub ShowsShards : Moment K V → Scene K V → Type 0
-  ShowsShards m s =
-      (of : ℕ) (standing : Standing K) → s.maps of ≡ Some standing → (shard : ℕ) → shard ≤ standing.setting.mask
-      → word_at s.world.memory (Word standing.setting.counter shard) ≡ Some (m.shards of shard)
-
   -- no shard of this map has changed since the last event of the log
   abbrev pub NoneCounted : List (Entry K V) → Moment K V → ℕ → Type 0
   NoneCounted log m of = (shard : ℕ) → m.shards of shard ≡ (moment log).shards of shard
 
-  -- what a call that counts may read: the shards that the moment says, and that it said as the last event of the log ended
+  -- what a call that adds shards up may read: those that the moment says, and that it said as the last event of the log ended
   abbrev pub ReadsShards : List (Entry K V) → Moment K V → Scene K V → ℕ → UnderWay K V K → Type 0
-  ReadsShards log m s of u = MayCount u → ShowsShards m s × NoneCounted log m of
+  ReadsShards log m s of u = AddsUp u → ShowsShards m s × NoneCounted log m of
+
+-- The promises: as an event begins nothing has been counted in it,
+abbrev pub EventsBeginUncounted : Type 0 → Type 0 → Type 0
+EventsBeginUncounted K V = (log : List (Entry K V)) (m : Moment K V) (of : ℕ) → m.shards ≡ (moment log).shards → NoneCounted log m of
+
+module _ (K V S : Type 0) (same : K → K → Bool) (hash : K → ℕ) where
+  -- and until something is, a call reads what it may; by its steps nothing is counted, if it adds shards up.
+  abbrev pub StepsReadShards : Type 0
+  StepsReadShards =
+      (name : ℕ → List ℕ) (log : List (Entry K V)) (m : Moment K V) (known : Known) (s : Scene K V) (old new : Executor K V S) → IsAt same hash old s
+      → ShowsWhole same name m known s → ShowsCounters name m s
+      → (of i : ℕ) (u : UnderWay K V K) (here : s.calls of i ≡ Some u) (said : Progress (Node K V)) (leads : StepLeads same hash i said s old new) → NoneCounted log m of
+      → ReadsShards log m s of u × (AddsUp u → NoneCounted log (with_effects (Some (name i)) (Some of) (effects_of (acts.Call i of) known new.memory.changed) m) of)

@@ -1,7 +1,9 @@
 //! What is promised of calls on whole maps: that they do what they are for.
 ghost use Rattle.std.specs.Prelude.{ℕ, Bool};
+ghost use Rattle.papaya_purposes.specs.Elsewhere.{PurposesStay};
 ghost use Rattle.papaya_purposes.specs.Kept.{PurposesBegin, CallsKeepPurposes, WalksShowPurposes, CallsBeginPurposes, CallsTakePurposes, WalksStopPurposes, WalksGoOnPurposes, CallsComeToPurposes, EventsKeepPurposes, FirstStepsChangePairsFirst, StillStepsChangePairsFirst, RemovalsChangePairsFirst};
 ghost use Rattle.papaya_purposes.specs.Rows.{RowsBeginPurposes, RowsKeepPurposes};
+ghost use Rattle.papaya_purposes.specs.Shards.{EventsBeginUncounted, StepsReadShards};
 ghost use Rattle.papaya_purposes.specs.Swept.{CountingsAreSwept, ReservationsAreSwept, WalksShow, WalksShowAll, ClearingsAreSwept, RetainingsAreSwept, OtherOutcomesAreSwept, CallsOnKeysAreSwept, NoCallsAreSwept};
 
 /// At each moment of a run that shows the executor, each call is for what was called, and has come to what the moment says: pair by pair and class by class, what a
@@ -9,7 +11,7 @@ ghost use Rattle.papaya_purposes.specs.Swept.{CountingsAreSwept, ReservationsAre
 /// all the time, but for those to which it is still to come; a retaining has done such pairs about which the last reply was yes; and a counting has added up shards, each
 /// as it was at a moment of the call. So it is before all events; after each step of a call, whoever's, if no pair comes and goes, and no class changes twice, within one
 /// event; where a step shows a pair, and its event has come to that; where a call begins, takes a reply, is asked for its next pair, is given up, and comes to an
-/// outcome; where an event is over; and where a row begins on a slot, and after each step of it.
+/// outcome; where an event is over; where a row begins on a slot, and after each step of it; and where a map is made, and where one ends, from the first step to the last.
 pub fn purposes_are_kept<K, V, S>()
     ensures begins { PurposesBegin K V }
     ensures calls { (same : K → K → Bool) (hash : K → ℕ) → CallsKeepPurposes K V S same hash }
@@ -22,9 +24,17 @@ pub fn purposes_are_kept<K, V, S>()
     ensures events { (same : K → K → Bool) → EventsKeepPurposes K V same }
     ensures rows_begin { (same : K → K → Bool) (hash : K → ℕ) → RowsBeginPurposes K V S same hash }
     ensures rows { (same : K → K → Bool) (hash : K → ℕ) → RowsKeepPurposes K V S same hash }
+    ensures elsewhere { (same : K → K → Bool) (hash : K → ℕ) → PurposesStay K V S same hash }
     ensures first { FirstStepsChangePairsFirst K V }
     ensures still { StillStepsChangePairsFirst K V }
     ensures removals { RemovalsChangePairsFirst K V }
+{}
+
+/// A reservation and a counting read the shards as the moment has them, which are those that it had as the last event ended: where the memory's shards are the moment's,
+/// as an event begins nothing has been counted in it, and by their steps nothing is.
+pub fn shards_are_read<K, V, S>()
+    ensures begins { EventsBeginUncounted K V }
+    ensures steps { (same : K → K → Bool) (hash : K → ℕ) → StepsReadShards K V S same hash }
 {}
 
 /// `len` answers a count of the shards, each as it was at a moment of the call, if its steps read them as the moment has them.

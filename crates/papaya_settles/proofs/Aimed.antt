@@ -70,7 +70,7 @@ module _ {K V : Type 0} (same : K → K → Bool) (hash : K → ℕ) (w : World 
   link_aims link turn (inl (is, zero)) = subst (AimsAt P) (sym is) tt
   link_aims link turn (inr (t, is, next, there, seen, aborted)) = subst (AimsAt P) (sym is) (tables t there seen)
 
-  new_aims : (link : At) (turn : ℕ) (n : NewTable) → NewTableFacts w caller setting c blocks link turn n → NewAims P n
+  pub new_aims : (link : At) (turn : ℕ) (n : NewTable) → NewTableFacts w caller setting c blocks link turn n → NewAims P n
   new_aims link turn n facts = by n.stands facts.point
     where
       by : (p : Making) → MakingFacts w caller setting c blocks link turn p → MakingAims P n p

@@ -218,7 +218,7 @@ module _ (P : ℕ → Type 0) where
     sum_at c (summing.Adds shard total) = tt
     sum_at c (summing.Over count) = tt
 
-    table_at : (c : NewTable) (p : Making) → MakingAims c p → PlanAims (tables.plan_at {K = K} {V = V} c p)
+    pub table_at : (c : NewTable) (p : Making) → MakingAims c p → PlanAims (tables.plan_at {K = K} {V = V} c p)
     table_at c (making.Sums before reason sum) so = aims_as (tables.counted c before reason) (sum_plan sum) (sum_at sum sum.stands)
     table_at c (making.Makes table) so = tt
     table_at c (making.Promotes table) so = so

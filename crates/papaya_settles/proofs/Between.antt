@@ -137,7 +137,7 @@ module _ {K V : Type 0} where
   key_told p (at.Asks (asking.Present word)) told is = let none = ap counts_in_calling is in present_none p.replies.takes p word told none ∙ sym none
   key_told p _ told is = refl
 
-  told_same : (machine : Machine K V K) (told : MachineReply V) → is_to_count (machine_replied machine told).0 ≡ is_to_count machine
+  pub told_same : (machine : Machine K V K) (told : MachineReply V) → is_to_count (machine_replied machine told).0 ≡ is_to_count machine
   told_same (kinds.Key p) told = key_told p p.stands told refl
   told_same (kinds.Sweep c) told = sweep_told_so c c.stands told refl
   told_same (kinds.Reserve r) told = refl

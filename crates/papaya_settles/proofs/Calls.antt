@@ -75,7 +75,7 @@ module _ {K V S : Type 0} (same : K → K → Bool) (hash : K → ℕ) (name : �
   takes other = (rows_hand_theirs K V S same hash name m known s old new at whole.all map i u here said leads other).1
 
   -- a call on one key may store a pair
-  abbrev MayStore : UnderWay K V K → Type 0
+  abbrev pub MayStore : UnderWay K V K → Type 0
   MayStore (OnKey x) = Unit {0}
   MayStore _ = ⊥
 
@@ -83,11 +83,11 @@ module _ {K V S : Type 0} (same : K → K → Bool) (hash : K → ℕ) (name : �
   abbrev Does : UnderWay K V K → Type 0
   Does x = CountGoes (MayStore x) shard effects (is_to_count (machine_of x)) (is_to_count to.1) × (to.4.next ≡ None → is_to_count to.1 ≡ false)
 
-  its : (c : CallThere K V) × (call_of (name i) m ≡ Some c) × (c.map ≡ map) × IsCalled same u c.call
+  abbrev pub its : (c : CallThere K V) × (call_of (name i) m ≡ Some c) × (c.map ≡ map) × IsCalled same u c.call
   its = shown.calls map i u here
 
   -- between its steps a call on one key replaces nothing
-  replaces_none : MayStore u → its.0.replacing ≡ None
+  pub replaces_none : MayStore u → its.0.replacing ≡ None
   replaces_none may = by u refl may its.0.call its.3 refl
     where
       by : (x : UnderWay K V K) → u ≡ x → MayStore x → (called : Call K V) → IsCalled same u called → its.0.call ≡ called → its.0.replacing ≡ None

@@ -50,7 +50,7 @@ all_apart (f ∷ fs) none never = let two = none_of (shift_of f) (flat_map shift
 pub data CountGoes (MayStore : Type 0) (shard : ℕ) (effects : List Effect) (before after : Bool) : Type 0 where
   KeepsCount : AllApart effects → after ≡ before → CountGoes MayStore shard effects before after
   AddsOne : MayStore → (n : ℕ) (s : Spot) → effects ≡ effect.Stored n s ∷ [] → after ≡ true → CountGoes MayStore shard effects before after
-  GivesWay : (p n : ℕ) (s : Spot) → effects ≡ effect.Replaced p ∷ effect.Stored n s ∷ [] → after ≡ before → CountGoes MayStore shard effects before after
+  GivesWay : MayStore → (p n : ℕ) (s : Spot) → effects ≡ effect.Replaced p ∷ effect.Stored n s ∷ [] → after ≡ before → CountGoes MayStore shard effects before after
   TakesOne : (n : ℕ) → effects ≡ effect.Removed n ∷ [] → after ≡ true → CountGoes MayStore shard effects before after
   CountsAll : effects ≡ effect.Counted shard ∷ [] → before ≡ true → after ≡ false → CountGoes MayStore shard effects before after
 
@@ -59,7 +59,7 @@ apart_no (effect.Counted s) apart = absurd (cc apart)
 apart_no _ apart = refl
 
 module _ {K V : Type 0} where
-  due_same : (its : Call K V) (c : CallThere K V) (old : Option ℕ) (new : ℕ) → ((due_for its c old new).gained ≡ c.gained) × ((due_for its c old new).lost ≡ c.lost)
+  pub due_same : (its : Call K V) (c : CallThere K V) (old : Option ℕ) (new : ℕ) → ((due_for its c old new).gained ≡ c.gained) × ((due_for its c old new).lost ≡ c.lost)
   due_same (call.On one) c old new = (refl, refl)
   due_same (call.Reserve n) c old new = (refl, refl)
   due_same call.Clear c old new = (refl, refl)
@@ -173,7 +173,7 @@ module _ {K V : Type 0} where
           in_place effects effects (λ k. k ≡ to_count c) (HasToCount after) refl (λ k f. has_as before after (to_count c) k e f has) (apart_left effects m c is apart)
       counts_left MayStore effects before after none has (AddsOne may n s effects_are e) =
           in_place effects (effect.Stored n s ∷ []) (λ k. k ≡ to_count c + 1) (HasToCount after) effects_are (λ k f. some_more after (to_count c) k e f) (stored_left n s (none may))
-      counts_left MayStore effects before after none has (GivesWay p n s effects_are e) =
+      counts_left MayStore effects before after none has (GivesWay may p n s effects_are e) =
           in_place effects (effect.Replaced p ∷ effect.Stored n s ∷ []) (λ k. k ≡ to_count c) (HasToCount after) effects_are (λ k f. has_as before after (to_count c) k e f has) (over_left p n s)
       counts_left MayStore effects before after none has (TakesOne n effects_are e) =
           in_place effects (effect.Removed n ∷ []) (λ k. k ≡ to_count c + 1) (HasToCount after) effects_are (λ k f. some_more after (to_count c) k e f) (removed_left n)

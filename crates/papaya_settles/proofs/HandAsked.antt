@@ -41,11 +41,11 @@ module _ (known : Known) where
   abbrev pub NoneOfSweep : Sweeping → Type 0
   NoneOfSweep p = (in_hand_of_sweep known p ≡ []) × NotesOfSweep known p
 
-  sweeps_apart : (b : Bool) (p q : Sweeping) → NoneOfSweep p → NoneOfSweep q → NoneOfSweep (if b then p else q)
+  pub sweeps_apart : (b : Bool) (p q : Sweeping) → NoneOfSweep p → NoneOfSweep q → NoneOfSweep (if b then p else q)
   sweeps_apart true p q f g = f
   sweeps_apart false p q f g = g
 
-  either_sweep : (b : Bool) (x y : Sweep) → NoneOfSweep x.stands → NoneOfSweep y.stands → NoneOfSweep (if b then x else y).stands
+  pub either_sweep : (b : Bool) (x y : Sweep) → NoneOfSweep x.stands → NoneOfSweep y.stands → NoneOfSweep (if b then x else y).stands
   either_sweep true x y f g = f
   either_sweep false x y f g = g
 
@@ -86,7 +86,7 @@ module _ (known : Known) where
     either true x y f g = f
     either false x y f g = g
 
-    ending_none : (p : KeyCall K V K) (end : End) → NoneInHand (ending p end).0
+    pub ending_none : (p : KeyCall K V K) (end : End) → NoneInHand (ending p end).0
     ending_none p end = either (p.own == 0) (over p end) (going p (at.Drops end)) (refl, tt) (refl, tt)
 
     burying_none : (p : KeyCall K V K) (word : ℕ) → NoneInHand (burying p word).0

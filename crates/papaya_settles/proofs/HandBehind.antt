@@ -117,8 +117,8 @@ module _ (known : Known) where
   alone_behind o due is = ap (things_at known) is ∙ sym (append-nil (things_at known (word_due due)))
 
   pair_noted : (o o2 : Option ℕ) (due due2 : Option Due) → o ≡ word_due due → o2 ≡ word_due due2 → NotesPair known o → GoesDue due due2 → NotesPair known o2
-  pair_noted o o2 due due2 is then noted (inl same) = subst (NotesPair known) (sym (then ∙ ap word_due same ∙ sym is)) noted
-  pair_noted o o2 due due2 is then noted (inr none) = subst (NotesPair known) (sym (then ∙ ap word_due none)) tt
+  pair_noted o o2 due due2 is is2 noted (inl same) = subst (NotesPair known) (sym (is2 ∙ ap word_due same ∙ sym is)) noted
+  pair_noted o o2 due due2 is is2 noted (inr none) = subst (NotesPair known) (sym (is2 ∙ ap word_due none)) tt
 
   due_noted : (due due2 : Option Due) → NotesDue known (word_due due) → GoesDue due due2 → NotesDue known (word_due due2)
   due_noted due due2 noted (inl same) = subst (λ (d : Option Due). NotesDue known (word_due d)) (sym same) noted
@@ -244,7 +244,7 @@ key_puts known (calling.Copies c) notes word e = absurd (copying_puts c.stands w
 key_puts known _ notes word e = absurd (cc e)
 
 -- a reservation
-module _ {K V : Type 0} (known : Known) (hash : K → ℕ) (x : Reserve) where
+module _ {K : Type 0} (V : Type 0) (known : Known) (hash : K → ℕ) (x : Reserve) where
   abbrev pub RoomKeeps : Reserving → Reserve × Outcome (Node K V) Unit → Type 0
   RoomKeeps before e =
       KeepsBehind known (in_hand_of_room known before) (in_hand_of_room known e.0.stands) (due_in_reserving before) (due_in_reserving e.0.stands)
@@ -270,13 +270,7 @@ room_puts (reserving.Copies c) word e = copying_puts c.stands word e
 room_puts _ word e = absurd (cc e)
 
 -- a sweep
-module _ {K V : Type 0} (known : Known) (hash : K → ℕ) (x : Sweep) where
-  abbrev pub SweepKeeps : Sweeping → Sweep × Swept (Node K V) → Type 0
-  SweepKeeps before e =
-      KeepsBehind known (in_hand_of_sweep known before) (in_hand_of_sweep known e.0.stands) (due_in_sweeping before) (due_in_sweeping e.0.stands)
-      × (GoesDue (due_in_sweeping before) (due_in_sweeping e.0.stands) → NotesOfSweep known e.0.stands)
-      × (has_ended (of_swept e.1) ≡ true → in_hand_of_sweep known e.0.stands ≡ [])
-
+module _ (known : Known) where
   -- it has nothing in hand
   abbrev HasNone : Sweeping → Type 0
   HasNone p = (in_hand_of_sweep known p ≡ []) × (due_in_sweeping p ≡ None) × NotesOfSweep known p
@@ -285,8 +279,15 @@ module _ {K V : Type 0} (known : Known) (hash : K → ℕ) (x : Sweep) where
   either true p q f g = f
   either false p q f g = g
 
-  further_none : HasNone (points.further x).stands
-  further_none = either _ sweeping.Words (points.at_end x) (refl, refl, tt) (either _ sweeping.Follows sweeping.Over (refl, refl, tt) (refl, refl, tt))
+  further_none : (x : Sweep) → HasNone (points.further x).stands
+  further_none x = either _ sweeping.Words (points.at_end x) (refl, refl, tt) (either _ sweeping.Follows sweeping.Over (refl, refl, tt) (refl, refl, tt))
+
+module _ {K : Type 0} (V : Type 0) (known : Known) (hash : K → ℕ) (x : Sweep) where
+  abbrev pub SweepKeeps : Sweeping → Sweep × Swept (Node K V) → Type 0
+  SweepKeeps before e =
+      KeepsBehind known (in_hand_of_sweep known before) (in_hand_of_sweep known e.0.stands) (due_in_sweeping before) (due_in_sweeping e.0.stands)
+      × (GoesDue (due_in_sweeping before) (due_in_sweeping e.0.stands) → NotesOfSweep known e.0.stands)
+      × (has_ended (of_swept e.1) ≡ true → in_hand_of_sweep known e.0.stands ≡ [])
 
   sweep_disposed : (d : Dispose) (row : IsRowOf d.stands) (noted : NotesPair known (pair_in_disposing d d.stands)) (q : Dispose × Settled (Node K V)) → IsDueAlone q.0 q.0.stands
       → SweepKeeps (sweeping.Disposes d) (sweeps.disposed x q)
@@ -294,9 +295,9 @@ module _ {K V : Type 0} (known : Known) (hash : K → ℕ) (x : Sweep) where
   sweep_disposed d row noted (d2, settled.Waits) alone = let it = dispose_keeps known d row noted d2 alone in (it.0, it.1, λ e. absurd (cc e))
   sweep_disposed d row noted (d2, settled.Gave value) alone = let it = dispose_keeps known d row noted d2 alone in (it.0, it.1, λ e. absurd (cc e))
   sweep_disposed d row noted (d2, settled.Done) alone = (
-    Behind [] (alone_before known d row noted) (further_none.0 ∙ sym (ap (λ (due : Option Due). things_at known (word_due due) ++ []) further_none.1)),
-    λ goes. further_none.2,
-    λ e. further_none.0,
+    Behind [] (alone_before known d row noted) ((further_none known x).0 ∙ sym (ap (λ (due : Option Due). things_at known (word_due due) ++ []) (further_none known x).1)),
+    λ goes. (further_none known x).2,
+    λ e. (further_none known x).0,
   )
 
   sweep_copied : (c : Copier) (row : IsRowOfCopier c.stands) (notes : NotesTables known c c.stands) (q : Copier × Outcome (Node K V) Table)

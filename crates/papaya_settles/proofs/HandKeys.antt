@@ -1,5 +1,5 @@
 -- A step of a call on one key that is none of a row, and copies no pairs: what the call has in hand goes with the effects of the step.
-use Rattle.std.specs.Prelude.{◌≡◌, ℕ, ◌==◌, ◌||◌, Bool, true, false, List, [], ◌∷◌, ◌++◌, Option, Some, None, if◌then◌else◌}
+use Rattle.std.specs.Prelude.{◌≡◌, ℕ, ◌==◌, Bool, true, false, List, [], ◌∷◌, ◌++◌, Option, Some, None, if◌then◌else◌}
 use Rattle.std.specs.List.{list_any}
 use Rattle.std.proofs.Common.{refl, ap, sym, subst, ◌∙◌, inl, inr}
 use Rattle.seize_words.specs.Word.{block_in}
@@ -7,11 +7,8 @@ use Rattle.seize.specs.declared.rows.settle.Settled.{Settled}
 use Rattle.seize.specs.declared.rows.settle.Settled.TheVariants as settled
 use Rattle.papaya_tables.specs.Chunks.{is_incremental}
 use Rattle.papaya_tables.specs.declared.node.Node.{Node}
-use Rattle.papaya_resize.specs.Dispose as disposes
 use Rattle.papaya_resize.specs.Dispose.{dispose_plan, disposing}
 use Rattle.papaya_resize.specs.declared.dispose.Dispose.{Dispose}
-use Rattle.papaya_resize.specs.declared.dispose.Disposing.{Disposing}
-use Rattle.papaya_resize.specs.declared.dispose.Disposing.TheVariants as disposal
 use Rattle.papaya_raw.specs.Call.{call_plan, plan_at, disposed}
 use Rattle.papaya_raw.specs.CallPoints.{counted, going, over}
 use Rattle.papaya_raw.specs.Progress.{of_called}
@@ -36,7 +33,7 @@ use Rattle.papaya_teller.specs.declared.changed.Changed.{Changed}
 use Rattle.papaya_teller.specs.declared.changed.Changed.TheVariants as changed
 use Rattle.papaya_rule.proofs.Keys.Always.{AlwaysOf, always_steps}
 use Rattle.papaya_points.specs.FactsCalls.{Change, IsCopying}
-use Rattle.papaya_points.specs.Told.{IsRowOf, IsRowOfCall}
+use Rattle.papaya_points.specs.Told.{IsRowOfCall}
 use Rattle.papaya_points.proofs.Steps.RootSteps.{call_is_promoting, spares_call}
 use Rattle.papaya_alone.specs.Handed.{call_has_unlinked}
 use Rattle.papaya_callers.specs.Sights.{seen_by}
@@ -50,20 +47,23 @@ use Rattle.papaya_executor.specs.Stepping.{StepLeads}
 use Rattle.papaya_executor.specs.declared.executor.Executor.{Executor}
 use Rattle.papaya_executor.proofs.Forgotten.{as_step}
 use Rattle.papaya_finishes.specs.Endings.{StepsAmong}
+use Rattle.papaya_finishes.specs.Machines.{machine_of}
 use Rattle.papaya_finishes.specs.Maps.{Standing}
 use Rattle.papaya_follows.specs.Shows.{Shows}
+use Rattle.papaya_follows.specs.Steps.{IsOfNoRow}
 use Rattle.papaya_follows.proofs.Steps.{WentTo, went_to, DidSo, OfNoRow}
 use Rattle.papaya_follows.proofs.Writes.{nothing_free}
 use Rattle.papaya_hands.proofs.Done.{stepped, here}
 use Rattle.papaya_histories.proofs.Which.{DidOnce, DidNone, DidStore, DidReplace, DidRemove}
 use Rattle.papaya_settles.specs.Hand.{thing_as, things_at, in_hand_of_call, in_hand, IsPairRole, NotesPair, NotesOfCall, NotesInHand}
-use Rattle.papaya_settles.specs.InHand.{pair_in_disposing, pair_in_calling}
-use Rattle.papaya_settles.specs.Owed.{HandGoes, KeysGoInHand}
+use Rattle.papaya_settles.specs.InHand.{pair_in_calling}
+use Rattle.papaya_settles.specs.Owed.{HandGoes}
 use Rattle.papaya_settles.specs.Owing.{hands_over, HandsOver, AllLeave, OwesGo, KeepsOwed, TakesOut, PutsOver, Passes, HandsFirst}
 use Rattle.papaya_settles.proofs.EndsOver.{IsOverAt, IsEnded, ended_step}
 use Rattle.papaya_settles.proofs.Fresh.{IsBefore, IsFreshAt, IsFresh}
 use Rattle.papaya_settles.proofs.HandAsked.{NoneOfCall}
-use Rattle.papaya_settles.proofs.Held.{always_turned, calls_hold_theirs}
+use Rattle.papaya_settles.proofs.Held.{always_turned, IsDone, dispose_done, calls_hold_theirs}
+use Rattle.papaya_settles.proofs.Leaving.{no_handing}
 use Rattle.papaya_settles.proofs.Keys.{Together2, change2, once, did, fresh, unchanged, steps}
 use Rattle.papaya_settles.proofs.Linked.{IsNoCopier, before_links, self_fresh}
 use Rattle.papaya_settles.proofs.Nothing.{TakesNone, stands_none}
@@ -81,12 +81,6 @@ promotes_none : (p : Calling) → (IsCopying p → ⊥) → call_is_promoting p 
 promotes_none (at.Helps copier goal) none = absurd (none tt)
 promotes_none (at.Copies copier) none = absurd (none tt)
 promotes_none _ none = refl
-
--- what hands something over does so
-hands_it : (f : Effect) (x : Thing) → HandsOver f x → hands_over f ≡ true
-hands_it (effect.Deferred n t) x hands = refl
-hands_it (effect.Retired y) x hands = refl
-hands_it _ x hands = absurd hands
 
 module _ (known : Known) where
   -- where it has a pair in hand, that is all
@@ -127,17 +121,7 @@ module _ (known : Known) where
         by true e = (refl, tt)
         by false e = absurd (cc e)
 
-    abbrev IsDone : Dispose × Settled (Node K V) → Type 0
-    IsDone q = q.1 ≡ settled.Done
-
-    dispose_done : (d : Dispose) (stands : Disposing) → (IsRowOf stands → ⊥) → pair_in_disposing d stands ≡ None → AlwaysOf IsDone (disposes.plan_at {K = K} {V = V} d stands)
-    dispose_done d (disposal.Settles settle) row e = absurd (row tt)
-    dispose_done d (disposal.Defers defer) row e = absurd (row tt)
-    dispose_done d disposal.Reads row e = absurd (cc e)
-    dispose_done d (disposal.Walks table) row e = absurd (cc e)
-    dispose_done d disposal.Over row e = refl
-
-    done_none : (answer : KeyAnswer) (q : Dispose × Settled (Node K V)) → IsDone q → NoneThen (disposed p answer q)
+    done_none : (answer : KeyAnswer) (q : Dispose × Settled (Node K V)) → IsDone K V q → NoneThen (disposed p answer q)
     done_none answer (d, settled.Goes) e = absurd (cc e)
     done_none answer (d, settled.Waits) e = absurd (cc e)
     done_none answer (d, settled.Gave value) e = absurd (cc e)
@@ -145,7 +129,7 @@ module _ (known : Known) where
 
     past_none : (stands : Calling) → p.stands ≡ stands → (IsRowOfCall stands → ⊥) → pair_in_calling stands ≡ None → (IsBefore stands → ⊥) → AlwaysOf NoneThen (plan_at asks same hash p stands)
     past_none (at.Counts removed) is row e past = λ out. counted_none removed e
-    past_none (at.Disposes d answer) is row e past = always_turned IsDone NoneThen (disposed p answer) (done_none answer) (dispose_plan d) (dispose_done d d.stands row e)
+    past_none (at.Disposes d answer) is row e past = always_turned (IsDone K V) NoneThen (disposed p answer) (done_none answer) (dispose_plan d) (dispose_done K V d d.stands row e)
     past_none (at.Over end) is row e past = subst (NoneOfCall known) (sym is) (refl, tt)
     past_none _ is row e past = absurd (past tt)
 
@@ -175,10 +159,8 @@ module _ {K V S : Type 0} (same : K → K → Bool) (hash : K → ℕ) (name : �
   taking : (taken : List Thing) × OwesGo m effects before (before ++ taken) × (list_any hands_over effects ≡ false)
   taking = steps_take_out K V S same hash name m known s old new at_old shown map i (OnKey x) under_way said leads own before
 
-  no_handing : (f : Effect) (y : Thing) → effects ≡ f ∷ [] → HandsOver f y → ⊥
-  no_handing f y are hands =
-      (let none : list_any hands_over (f ∷ []) ≡ false = ap (list_any hands_over) (sym are) ∙ taking.2 in
-      let some : list_any hands_over (f ∷ []) ≡ true = ap (λ (q : Bool). q || false) (hands_it f y hands) in cc (none, some))
+  none_handed : (f : Effect) (y : Thing) → effects ≡ f ∷ [] → HandsOver f y → ⊥
+  none_handed = no_handing effects taking.2
 
   module _ (machine_is : to.1 ≡ kinds.Key p2) (told_is : said ≡ of_called end)
       (step : StepsAmong V same same old.batch_size old.roots slot_of s.world s.maps s.calls s.makers s.enders map st i x new.memory.memory p2 end) where
@@ -204,7 +186,7 @@ module _ {K V S : Type 0} (same : K → K → Bool) (hash : K → ℕ) (name : �
         by (PutsOver p n sp are more) =
             absurd (let none = (calls_take_in_hand K V S same hash name m known s old new at_old shown map i x under_way said leads own p (inr (n, sp, are))).0 in cc (none, e))
         by (Passes t are more) = absurd (no_promotion t are)
-        by (HandsFirst f y are hands less) = absurd (no_handing f y are hands)
+        by (HandsFirst f y are hands less) = absurd (none_handed f y are hands)
 
     abbrev Tog : Called (Node K V) → Type 0
     Tog = Together2 same hash name m known s old new at_old shown map i x under_way said leads p2 end machine_is told_is step
@@ -298,7 +280,7 @@ module _ {K V S : Type 0} (same : K → K → Bool) (hash : K → ℕ) (name : �
             let hand = out_goes p it.1 it.3 it.4 it.5 in
             subst Goal (sym it.2) (PutsOver p n sp are hand.0, hand.1)
         by (Passes t are more) = absurd (no_promotion t are)
-        by (HandsFirst f y are hands less) = absurd (no_handing f y are hands)
+        by (HandsFirst f y are hands less) = absurd (none_handed f y are hands)
 
     goes : Goal to.1
     goes = by (pair_in_calling x.call.stands) refl
@@ -319,6 +301,16 @@ module _ {K V S : Type 0} (same : K → K → Bool) (hash : K → ℕ) (name : �
 
     pub key_goes : (u : CallOnKey K V K) → to.4.next ≡ next_of u end → Goal to.1 × (to.4.next ≡ None → in_hand known to.1 ≡ [])
     key_goes u moved = (goes, λ none. ended_none u end went (sym moved ∙ none))
+
+-- A step of a call on one key that is none of a row, where the call copies no pairs: what it has in hand goes so.
+abbrev KeysGoInHand : (K V S : Type 0) (same : K → K → Bool) (hash : K → ℕ) → Type 0
+KeysGoInHand K V S same hash =
+    (name : ℕ → List ℕ) (m : Moment K V) (known : Known) (s : Scene K V) (old new : Executor K V S) → IsAt same hash old s → Shows same name m known s
+    → (map i : ℕ) (x : CallOnKey K V K) (here : s.calls map i ≡ Some (OnKey x)) (said : Progress (Node K V)) (leads : StepLeads same hash i said s old new)
+    → (IsCopying x.call.stands → ⊥) → NotesInHand known (machine_of (OnKey x))
+    → (let to = leads map (OnKey x) here in
+    IsOfNoRow same old.batch_size old.roots s.world s.maps s.calls s.makers s.enders map to.0 i new.memory.memory to.4.w2 to.4.maps2 to.4.next (OnKey x) to.1 said to.4.did
+    → HandGoes K V S same hash m known s old new map i (OnKey x) said here leads)
 
 pub keys_go_in_hand : (K V S : Type 0) (same : K → K → Bool) (hash : K → ℕ) → KeysGoInHand K V S same hash
 keys_go_in_hand K V S same hash name m known s old new at_old shown map i x under_way said leads copies notes own =

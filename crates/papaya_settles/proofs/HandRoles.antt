@@ -20,7 +20,7 @@ use Rattle.papaya_effects.specs.declared.role.Role.{Role}
 use Rattle.papaya_effects.specs.declared.role.Role.TheVariants as role
 use Rattle.papaya_follows.proofs.Onward.{IsLasting, KeepsRoles}
 use Rattle.papaya_settles.specs.Due.{due_in_settle, word_due}
-use Rattle.papaya_settles.specs.Hand.{thing_as, things_at, tables_up_to, tables_from, tables_in_hand, in_hand_of_call, in_hand_of_room, in_hand_of_sweep, in_hand, IsPairRole, IsTableRole, NotesPair, NotesDue, NotesTable, NotesTables, NotesOfCall, NotesOfRoom, NotesOfSweep, NotesInHand, SameAt, SameTable, SameTables, SameOfCall, SameOfRoom, SameOfSweep, SameInHand}
+use Rattle.papaya_settles.specs.Hand.{thing_as, things_at, tables_up_to, tables_from, tables_in_hand, in_hand_of_call, in_hand_of_room, in_hand_of_sweep, in_hand, IsPairRole, IsTableRole, HoldsAt, HoldsOf, HoldsTables, HoldsOfCall, HoldsOfRoom, HoldsOfSweep, HoldsInHand, IsPairAt, IsTableAt, NotesInHand, IsSameRole, SameInHand}
 use Rattle.papaya_settles.specs.InHand.{pair_in_calling, pair_in_sweeping}
 
 pair_lasts : (r : Role) → IsPairRole r → IsLasting r
@@ -34,11 +34,11 @@ table_lasts _ is = absurd is
 module _ (known known2 : Known) where
   -- where its blocks are what they were, it is the same things
 
-  things_same : (o : Option ℕ) → SameAt known known2 o → things_at known2 o ≡ things_at known o
+  things_same : (o : Option ℕ) → HoldsAt (IsSameRole known known2) o → things_at known2 o ≡ things_at known o
   things_same None same = refl
   things_same (Some word) same = ap thing_as same
 
-  tables_same : (p : Copier) (word : ℕ) → SameTable known known2 word → tables_from known2 p word ≡ tables_from known p word
+  tables_same : (p : Copier) (word : ℕ) → HoldsOf (IsSameRole known known2) word → tables_from known2 p word ≡ tables_from known p word
   tables_same p word same = by (word == 0) refl
     where
       by : (q : Bool) → (word == 0) ≡ q
@@ -46,7 +46,7 @@ module _ (known known2 : Known) where
       by true e = refl
       by false e = ap (tables_up_to p.target.turn) (same (λ zero. (let yes = eq-eqb word 0 zero in cc (e, yes))))
 
-  copier_same : (p : Copier) (stands : Copying) → SameTables known known2 p stands → tables_in_hand known2 p stands ≡ tables_in_hand known p stands
+  copier_same : (p : Copier) (stands : Copying) → HoldsTables (IsSameRole known known2) p stands → tables_in_hand known2 p stands ≡ tables_in_hand known p stands
   copier_same p copying.Announces same = tables_same p p.source.link same
   copier_same p (copying.Succeeds table) same = tables_same p table same
   copier_same p (copying.Retires settle rest) same =
@@ -54,16 +54,16 @@ module _ (known known2 : Known) where
       ∙ ap (λ (l : List Thing). things_at known (word_due (due_in_settle settle settle.stands)) ++ l) (tables_same p rest same.1)
   copier_same p _ same = refl
 
-  call_same : (p : Calling) → SameOfCall known known2 p → in_hand_of_call known2 p ≡ in_hand_of_call known p
+  call_same : (p : Calling) → HoldsOfCall (IsSameRole known known2) (IsSameRole known known2) p → in_hand_of_call known2 p ≡ in_hand_of_call known p
   call_same (calling.Helps copier goal) same = copier_same copier copier.stands same
   call_same (calling.Copies copier) same = copier_same copier copier.stands same
   call_same p same = things_same (pair_in_calling p) same
 
-  room_same : (p : Reserving) → SameOfRoom known known2 p → in_hand_of_room known2 p ≡ in_hand_of_room known p
+  room_same : (p : Reserving) → HoldsOfRoom (IsSameRole known known2) (IsSameRole known known2) p → in_hand_of_room known2 p ≡ in_hand_of_room known p
   room_same (reserving.Copies copier) same = copier_same copier copier.stands same
   room_same _ same = refl
 
-  sweep_same : (p : Sweeping) → SameOfSweep known known2 p → in_hand_of_sweep known2 p ≡ in_hand_of_sweep known p
+  sweep_same : (p : Sweeping) → HoldsOfSweep (IsSameRole known known2) (IsSameRole known known2) p → in_hand_of_sweep known2 p ≡ in_hand_of_sweep known p
   sweep_same (sweeping.Copies copier) same = copier_same copier copier.stands same
   sweep_same p same = things_same (pair_in_sweeping p) same
 
@@ -73,78 +73,50 @@ module _ (known known2 : Known) where
   hand_same (kinds.Sweep c) same = sweep_same c.stands same
   hand_same (kinds.Count sum) same = refl
 
+-- what is so of each block that it has in hand, for two reasons
+module _ (P P1 P2 Q Q1 Q2 : ℕ → Type 0) (pairs : (b : ℕ) → P b → P1 b → P2 b) (tables : (b : ℕ) → Q b → Q1 b → Q2 b) where
+  at_both : (o : Option ℕ) → HoldsAt P o → HoldsAt P1 o → HoldsAt P2 o
+  at_both None is so = tt
+  at_both (Some word) is so = pairs (block_in word) is so
+
+  due_both : (o : Option ℕ) → HoldsAt Q o → HoldsAt Q1 o → HoldsAt Q2 o
+  due_both None is so = tt
+  due_both (Some word) is so = tables (block_in word) is so
+
+  copier_both : (p : Copier) (stands : Copying) → HoldsTables Q p stands → HoldsTables Q1 p stands → HoldsTables Q2 p stands
+  copier_both p copying.Announces is so = λ some. tables (block_in p.source.link) (is some) (so some)
+  copier_both p (copying.Succeeds table) is so = λ some. tables (block_in table) (is some) (so some)
+  copier_both p (copying.Retires settle rest) is so = (due_both (word_due (due_in_settle settle settle.stands)) is.0 so.0, λ some. tables (block_in rest) (is.1 some) (so.1 some))
+  copier_both p _ is so = tt
+
+  call_both : (p : Calling) → HoldsOfCall P Q p → HoldsOfCall P1 Q1 p → HoldsOfCall P2 Q2 p
+  call_both (calling.Helps copier goal) is so = copier_both copier copier.stands is so
+  call_both (calling.Copies copier) is so = copier_both copier copier.stands is so
+  call_both p is so = at_both (pair_in_calling p) is so
+
+  room_both : (p : Reserving) → HoldsOfRoom P Q p → HoldsOfRoom P1 Q1 p → HoldsOfRoom P2 Q2 p
+  room_both (reserving.Copies copier) is so = copier_both copier copier.stands is so
+  room_both _ is so = tt
+
+  sweep_both : (p : Sweeping) → HoldsOfSweep P Q p → HoldsOfSweep P1 Q1 p → HoldsOfSweep P2 Q2 p
+  sweep_both (sweeping.Copies copier) is so = copier_both copier copier.stands is so
+  sweep_both p is so = at_both (pair_in_sweeping p) is so
+
+  pub hand_both : {K V M : Type 0} (machine : Machine K V M) → HoldsInHand P Q machine → HoldsInHand P1 Q1 machine → HoldsInHand P2 Q2 machine
+  hand_both (kinds.Key p) is so = call_both p.stands is so
+  hand_both (kinds.Reserve r) is so = room_both r.stands is so
+  hand_both (kinds.Sweep c) is so = sweep_both c.stands is so
+  hand_both (kinds.Count sum) is so = tt
+
+module _ (known known2 : Known) where
   -- and is noted as it was
-
-  pair_noted : (o : Option ℕ) → SameAt known known2 o → NotesPair known o → NotesPair known2 o
-  pair_noted None same noted = tt
-  pair_noted (Some word) same noted = subst IsPairRole (sym same) noted
-
-  due_noted : (o : Option ℕ) → SameAt known known2 o → NotesDue known o → NotesDue known2 o
-  due_noted None same noted = tt
-  due_noted (Some word) same noted = subst IsTableRole (sym same) noted
-
-  table_noted : (word : ℕ) → SameTable known known2 word → NotesTable known word → NotesTable known2 word
-  table_noted word same noted some = subst IsTableRole (sym (same some)) (noted some)
-
-  copier_noted : (p : Copier) (stands : Copying) → SameTables known known2 p stands → NotesTables known p stands → NotesTables known2 p stands
-  copier_noted p copying.Announces same noted = table_noted p.source.link same noted
-  copier_noted p (copying.Succeeds table) same noted = table_noted table same noted
-  copier_noted p (copying.Retires settle rest) same noted = (due_noted (word_due (due_in_settle settle settle.stands)) same.0 noted.0, table_noted rest same.1 noted.1)
-  copier_noted p _ same noted = tt
-
-  call_noted : (p : Calling) → SameOfCall known known2 p → NotesOfCall known p → NotesOfCall known2 p
-  call_noted (calling.Helps copier goal) same noted = copier_noted copier copier.stands same noted
-  call_noted (calling.Copies copier) same noted = copier_noted copier copier.stands same noted
-  call_noted p same noted = pair_noted (pair_in_calling p) same noted
-
-  room_noted : (p : Reserving) → SameOfRoom known known2 p → NotesOfRoom known p → NotesOfRoom known2 p
-  room_noted (reserving.Copies copier) same noted = copier_noted copier copier.stands same noted
-  room_noted _ same noted = tt
-
-  sweep_noted : (p : Sweeping) → SameOfSweep known known2 p → NotesOfSweep known p → NotesOfSweep known2 p
-  sweep_noted (sweeping.Copies copier) same noted = copier_noted copier copier.stands same noted
-  sweep_noted p same noted = pair_noted (pair_in_sweeping p) same noted
-
-  pub hand_noted : {K V Q : Type 0} (machine : Machine K V Q) → SameInHand known known2 machine → NotesInHand known machine → NotesInHand known2 machine
-  hand_noted (kinds.Key p) same noted = call_noted p.stands same noted
-  hand_noted (kinds.Reserve r) same noted = room_noted r.stands same noted
-  hand_noted (kinds.Sweep c) same noted = sweep_noted c.stands same noted
-  hand_noted (kinds.Count sum) same noted = tt
+  pub hand_noted : {K V M : Type 0} (machine : Machine K V M) → SameInHand known known2 machine → NotesInHand known machine → NotesInHand known2 machine
+  hand_noted machine =
+      hand_both (IsSameRole known known2) (IsPairAt known) (IsPairAt known2) (IsSameRole known known2) (IsTableAt known) (IsTableAt known2)
+      (λ b same noted. subst IsPairRole (sym same) noted) (λ b same noted. subst IsTableRole (sym same) noted) machine
 
   -- such blocks last
-  module _ (keeps : KeepsRoles known known2) where
-    pair_kept : (o : Option ℕ) → NotesPair known o → SameAt known known2 o
-    pair_kept None noted = tt
-    pair_kept (Some word) noted = keeps (block_in word) (pair_lasts (known.roles (block_in word)) noted)
-
-    due_kept : (o : Option ℕ) → NotesDue known o → SameAt known known2 o
-    due_kept None noted = tt
-    due_kept (Some word) noted = keeps (block_in word) (table_lasts (known.roles (block_in word)) noted)
-
-    table_kept : (word : ℕ) → NotesTable known word → SameTable known known2 word
-    table_kept word noted some = keeps (block_in word) (table_lasts (known.roles (block_in word)) (noted some))
-
-    copier_kept : (p : Copier) (stands : Copying) → NotesTables known p stands → SameTables known known2 p stands
-    copier_kept p copying.Announces noted = table_kept p.source.link noted
-    copier_kept p (copying.Succeeds table) noted = table_kept table noted
-    copier_kept p (copying.Retires settle rest) noted = (due_kept (word_due (due_in_settle settle settle.stands)) noted.0, table_kept rest noted.1)
-    copier_kept p _ noted = tt
-
-    call_kept : (p : Calling) → NotesOfCall known p → SameOfCall known known2 p
-    call_kept (calling.Helps copier goal) noted = copier_kept copier copier.stands noted
-    call_kept (calling.Copies copier) noted = copier_kept copier copier.stands noted
-    call_kept p noted = pair_kept (pair_in_calling p) noted
-
-    room_kept : (p : Reserving) → NotesOfRoom known p → SameOfRoom known known2 p
-    room_kept (reserving.Copies copier) noted = copier_kept copier copier.stands noted
-    room_kept _ noted = tt
-
-    sweep_kept : (p : Sweeping) → NotesOfSweep known p → SameOfSweep known known2 p
-    sweep_kept (sweeping.Copies copier) noted = copier_kept copier copier.stands noted
-    sweep_kept p noted = pair_kept (pair_in_sweeping p) noted
-
-    pub hand_kept : {K V Q : Type 0} (machine : Machine K V Q) → NotesInHand known machine → SameInHand known known2 machine
-    hand_kept (kinds.Key p) noted = call_kept p.stands noted
-    hand_kept (kinds.Reserve r) noted = room_kept r.stands noted
-    hand_kept (kinds.Sweep c) noted = sweep_kept c.stands noted
-    hand_kept (kinds.Count sum) noted = tt
+  pub hand_kept : KeepsRoles known known2 → {K V M : Type 0} (machine : Machine K V M) → NotesInHand known machine → SameInHand known known2 machine
+  hand_kept keeps machine noted =
+      hand_both (IsPairAt known) (IsPairAt known) (IsSameRole known known2) (IsTableAt known) (IsTableAt known) (IsSameRole known known2)
+      (λ b is so. keeps b (pair_lasts (known.roles b) is)) (λ b is so. keeps b (table_lasts (known.roles b) is)) machine noted noted

@@ -1,5 +1,5 @@
 -- A step of a row within a call, of whichever kind the call is: what the call has in hand goes with the effects of the step.
-use Rattle.std.specs.Prelude.{◌≡◌, ℕ, Bool, true, false, List, [], Option, Some, None, option_map, if◌then◌else◌}
+use Rattle.std.specs.Prelude.{◌≡◌, ℕ, Bool, true, List, [], Option, Some, None}
 use Rattle.std.proofs.Common.{refl, ap, sym, subst, ◌∙◌, inl, inr}
 use Rattle.papaya_tables.specs.declared.node.Node.{Node}
 use Rattle.papaya_reserves.specs.Reserve.{reserve_plan}
@@ -21,10 +21,9 @@ use Rattle.papaya_effects.specs.Effects.{effects_of}
 use Rattle.papaya_effects.specs.Known.{Known}
 use Rattle.papaya_effects.specs.declared.acting.Acting.TheVariants as acts
 use Rattle.papaya_executor.specs.IsAt.{Scene, IsAt}
-use Rattle.papaya_executor.specs.Stepping.{has_ended, going_on, StepLeads, StepsFrom}
+use Rattle.papaya_executor.specs.Stepping.{has_ended, StepLeads, StepsFrom}
 use Rattle.papaya_executor.specs.declared.executor.Executor.{Executor}
 use Rattle.papaya_executor.proofs.Forgotten.{as_step}
-use Rattle.papaya_executor.proofs.Steps.{goes_as}
 use Rattle.papaya_finishes.specs.Machines.{machine_of}
 use Rattle.papaya_follows.specs.Shows.{Shows}
 use Rattle.papaya_follows.proofs.Steps.{WentTo, went_to, DidSo, OfNoRow}
@@ -40,6 +39,7 @@ use Rattle.papaya_settles.specs.Owed.{RowsHandOver}
 use Rattle.papaya_settles.specs.Owing.{OwesGo}
 use Rattle.papaya_settles.proofs.DueCalls.{rows_tell_due}
 use Rattle.papaya_settles.proofs.HandBehind.{GoesDue, KeyKeeps, key_keeps, key_puts, RoomKeeps, room_keeps, room_puts, SweepKeeps, sweep_keeps, sweep_puts}
+use Rattle.papaya_settles.proofs.Leaving.{has_gone}
 use Rattle.papaya_settles.proofs.HandRows.{KeepsBehind, PutsPair, row_goes}
 
 -- a row has in hand what it had, or nothing any more
@@ -66,17 +66,6 @@ module _ {K V S : Type 0} (same : K → K → Bool) (hash : K → ℕ) (name : �
   abbrev Goal : Machine K V K → Type 0
   Goal machine = OwesGo m effects (in_hand known (machine_of u)) (in_hand known machine) × NotesInHand known machine × (to.4.next ≡ None → in_hand known machine ≡ [])
 
-  -- a call that does not go on has ended
-  has_gone : to.4.next ≡ None → has_ended said ≡ true
-  has_gone none = by (has_ended said) refl
-    where
-      whole : ◌≡◌ {A = Option (Machine K V K)} None (going_on to.1 said)
-      whole = ap (option_map machine_of) (sym none) ∙ goes_as to.1 said to.4.next to.4.goes_on
-
-      by : (q : Bool) → has_ended said ≡ q → has_ended said ≡ true
-      by true e = e
-      by false e = absurd (let some : ◌≡◌ {A = Option (Machine K V K)} None (Some to.1) = whole ∙ ap (λ (q : Bool). if q then None else Some to.1) e in cc some)
-
   -- of the machine that it has come to
   come_to : (machine : Machine K V K) → to.1 ≡ machine → KeepsBehind known (in_hand known (machine_of u)) (in_hand known machine) (due_in_row (machine_of u)) (due_in_row machine)
       → (GoesDue (due_in_row (machine_of u)) (due_in_row machine) → NotesInHand known machine) → PutsPair m known effects (due_in_row (machine_of u))
@@ -86,7 +75,7 @@ module _ {K V S : Type 0} (same : K → K → Bool) (hash : K → ℕ) (name : �
       subst Goal (sym is) (
         row_goes m known effects i map (in_hand known (machine_of u)) (in_hand known machine) (due_in_row (machine_of u)) (due_in_row machine) puts behind row,
         notes (goes_due i map known effects (due_in_row (machine_of u)) (due_in_row machine) row),
-        λ none. ended (has_gone none),
+        λ none. ended (has_gone same hash name m known s old new at_old shown map i u under_way said leads none),
       )
 
   -- the step, as one of this kind's machine
@@ -117,16 +106,16 @@ module _ {K V S : Type 0} (same : K → K → Bool) (hash : K → ℕ) (name : �
   room_goes x is row noted =
       let notes = subst (λ (y : UnderWay K V K). NotesInHand known (machine_of y)) is noted in
       let inner = told_in old.memory.memory new.memory.memory told of_room (reserve_plan hash x.reserve) (to.1, said) (stepped (ForRoom x) is) in
-      let keeps = always_steps (RoomKeeps known hash x.reserve x.reserve.stands) old.memory.memory new.memory.memory (reserve_plan hash x.reserve) inner.0
-      (room_keeps known hash x.reserve x.reserve.stands row notes) (as_step old.memory.memory changed.Nothing (reserve_plan hash x.reserve) new.memory.memory told inner.0 inner.2) in
+      let keeps = always_steps (RoomKeeps V known hash x.reserve x.reserve.stands) old.memory.memory new.memory.memory (reserve_plan hash x.reserve) inner.0
+      (room_keeps V known hash x.reserve x.reserve.stands row notes) (as_step old.memory.memory changed.Nothing (reserve_plan hash x.reserve) new.memory.memory told inner.0 inner.2) in
       of_kind (ForRoom x) is (kinds.Reserve inner.0.0) (ap (λ (z : Machine K V K × Progress (Node K V)). z.0) inner.1) (keeps.0, keeps.1) (λ word e. absurd (room_puts x.reserve.stands word e)) (λ e. keeps.2 (sym (ap (λ (z : Machine K V K × Progress (Node K V)). has_ended z.1) inner.1) ∙ e))
 
   sweep_goes : (x : CallOverAll) → u ≡ OverAll x → IsRowOfSweep x.sweep.stands → NotesInHand known (machine_of u) → Goal to.1
   sweep_goes x is row noted =
       let notes = subst (λ (y : UnderWay K V K). NotesInHand known (machine_of y)) is noted in
       let inner = told_in old.memory.memory new.memory.memory told of_sweep (sweep_plan hash x.sweep) (to.1, said) (stepped (OverAll x) is) in
-      let keeps = always_steps (SweepKeeps known hash x.sweep x.sweep.stands) old.memory.memory new.memory.memory (sweep_plan hash x.sweep) inner.0
-      (sweep_keeps known hash x.sweep x.sweep.stands row notes) (as_step old.memory.memory changed.Nothing (sweep_plan hash x.sweep) new.memory.memory told inner.0 inner.2) in
+      let keeps = always_steps (SweepKeeps V known hash x.sweep x.sweep.stands) old.memory.memory new.memory.memory (sweep_plan hash x.sweep) inner.0
+      (sweep_keeps V known hash x.sweep x.sweep.stands row notes) (as_step old.memory.memory changed.Nothing (sweep_plan hash x.sweep) new.memory.memory told inner.0 inner.2) in
       of_kind (OverAll x) is (kinds.Sweep inner.0.0) (ap (λ (z : Machine K V K × Progress (Node K V)). z.0) inner.1) (keeps.0, keeps.1) (λ word e. sweep_puts known x.sweep.stands notes word e) (λ e. keeps.2 (sym (ap (λ (z : Machine K V K × Progress (Node K V)). has_ended z.1) inner.1) ∙ e))
 
   pub row_hands : NotesInHand known (machine_of u) → Goal to.1

@@ -65,6 +65,17 @@ IsGoingOn settled.Done = ⊥
 IsGoingOn _ = Unit {0}
 
 module _ (K V : Type 0) where
+  -- a disposal that has no pair in hand is done
+  abbrev pub IsDone : Dispose × Settled (Node K V) → Type 0
+  IsDone q = q.1 ≡ settled.Done
+
+  pub dispose_done : (d : Dispose) (stands : Disposing) → (IsRowOf stands → ⊥) → pair_in_disposing d stands ≡ None → AlwaysOf IsDone (disposes.plan_at {K = K} {V = V} d stands)
+  dispose_done d (disposal.Settles settle) row e = absurd (row tt)
+  dispose_done d (disposal.Defers defer) row e = absurd (row tt)
+  dispose_done d disposal.Reads row e = absurd (cc e)
+  dispose_done d (disposal.Walks table) row e = absurd (cc e)
+  dispose_done d disposal.Over row e = refl
+
   -- a disposal has its pair in hand, and is not done
   abbrev Keeps : ℕ → Dispose × Settled (Node K V) → Type 0
   Keeps block e = IsOf block (pair_in_disposing e.0 e.0.stands) × IsGoingOn e.1

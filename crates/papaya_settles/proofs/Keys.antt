@@ -69,7 +69,7 @@ use Rattle.papaya_settles.proofs.Gains.{AllApart, all_apart, NoneCounts, CountGo
 use Rattle.papaya_settles.proofs.Here.{IsNoCount, each, key_no}
 use Rattle.papaya_settles.proofs.Points.{IsBeyond, past_step}
 use Rattle.papaya_settles.proofs.Status.{same_called, KindOf, ToCount, ToDispose, IsAtEnd, ToChange, kind_at, before_elsewhere, before_not, elsewhere_not, row_beyond, Status, IsNone, IsOver, IsNew, IsGone, plain_tells, unchanged_tells, stands_status}
-use Rattle.papaya_settles.proofs.Uncounted.{none_counts}
+use Rattle.papaya_settles.proofs.Uncounted.{CountsNowhere, none_counts}
 
 module _ {K V S : Type 0} (same : K → K → Bool) (hash : K → ℕ) (name : ℕ → List ℕ) (m : Moment K V) (known : Known) (s : Scene K V) (old new : Executor K V S) (at_old : IsAt same hash old s)
     (shown : Shows same name m known s) (map i : ℕ) (x : CallOnKey K V K) (under_way : s.calls map i ≡ Some (OnKey x)) (said : Progress (Node K V)) (leads : StepLeads same hash i said s old new) where
@@ -116,15 +116,18 @@ module _ {K V S : Type 0} (same : K → K → Bool) (hash : K → ℕ) (name : �
     after_is = ap is_to_count machine_is
 
     -- where it is not about to count, nothing is counted
-    uncounted : CallsElsewhere x.call.stands → NoneCounts effects
-    uncounted elsewhere = none_counts i map known told (λ b field old_word new_word of is role_is.
+    pub nowhere : CallsElsewhere x.call.stands → CountsNowhere known told
+    nowhere elsewhere b field old_word new_word of is role_is =
         plan_aimed (IsNoCount known) old.memory.memory new.memory.memory told (call_plan same same hash x.call) (p2, end) steps
-        (call_aims (IsNoCount known) K V same same hash x.call (key_no same hash name m known s old at_old shown map i st to.2 (OnKey x) under_way x under_way elsewhere)) b field old_word new_word is of role_is)
+        (call_aims (IsNoCount known) K V same same hash x.call (key_no same hash name m known s old at_old shown map i st to.2 (OnKey x) under_way x under_way elsewhere)) b field old_word new_word is of role_is
+
+    pub uncounted : CallsElsewhere x.call.stands → NoneCounts effects
+    uncounted elsewhere = none_counts i map known told (nowhere elsewhere)
 
     keeps : (before after : Bool) → CallsElsewhere x.call.stands → flat_map shift_of effects ≡ [] → after ≡ before → Goes before after
     keeps before after elsewhere none e = KeepsCount (all_apart effects none (uncounted elsewhere)) e
 
-    past : IsBeyond x.call.stands → counts_in_calling p2.stands ≡ false
+    pub past : IsBeyond x.call.stands → counts_in_calling p2.stands ≡ false
     past beyond = past_step same same hash x.call beyond old.memory.memory new.memory.memory (p2, end) (as_step old.memory.memory changed.Nothing (call_plan same same hash x.call) new.memory.memory told (p2, end) steps)
 
     -- one of a row
@@ -273,7 +276,7 @@ module _ {K V S : Type 0} (same : K → K → Bool) (hash : K → ℕ) (name : �
         once_goes (DidStore sp are e absent comes) (IsNew n is counts) = AddsOne tt (known.stored + 1) sp are counts
         once_goes (DidStore sp are e absent comes) (IsGone n is counts) = absurd (cc (e, is))
         once_goes (DidReplace k sp are e pair comes) (IsNone is never) = absurd (cc (e, is))
-        once_goes (DidReplace k sp are e pair comes) (IsOver o n is never) = GivesWay (shown.number map k) (known.stored + 1) sp are (never ∙ sym none_before)
+        once_goes (DidReplace k sp are e pair comes) (IsOver o n is never) = GivesWay tt (shown.number map k) (known.stored + 1) sp are (never ∙ sym none_before)
         once_goes (DidReplace k sp are e pair comes) (IsNew n is counts) = absurd (cc (e, is))
         once_goes (DidReplace k sp are e pair comes) (IsGone n is counts) = absurd (cc (e, is))
         once_goes (DidRemove k are e pair) (IsNone is never) = absurd (cc (e, is))
@@ -292,8 +295,8 @@ module _ {K V S : Type 0} (same : K → K → Bool) (hash : K → ℕ) (name : �
       SteppedAt p = StepsTold K V (KeyCall K V K × Called (Node K V)) old.memory.memory changed.Nothing (plan_at same same hash x.call p) new.memory.memory told (p2, end)
 
       wrote_count : (removed : ℕ) → SteppedAt (at.Counts removed)
-          → (o : ℕ) × (n : ℕ) × (told ≡ changed.Wrote (Word x.call.setting.counter (bit_and x.call.setting.slot x.call.setting.mask)) o n)
-      wrote_count removed (Found word, (took, told_so), ends) = (word, (word + count_change removed) % 2 ^ 64, told_so)
+          → (o : ℕ) × (told ≡ changed.Wrote (Word x.call.setting.counter (bit_and x.call.setting.slot x.call.setting.mask)) o ((o + count_change removed) % 2 ^ 64))
+      wrote_count removed (Found word, (took, told_so), ends) = (word, told_so)
       wrote_count removed (StoredOut, (took, told_so), ends) = absurd took.0
       wrote_count removed (Exchanged r, (took, told_so), ends) = absurd took.0
       wrote_count removed (Made r, (took, told_so), ends) = absurd took.0
@@ -303,13 +306,18 @@ module _ {K V S : Type 0} (same : K → K → Bool) (hash : K → ℕ) (name : �
       abbrev its : Acting
       its = acts.Call i map
 
+      -- in its shard, by as much as it is to count
+      pub adds_now : (removed : ℕ) → x.call.stands ≡ at.Counts removed → (o : ℕ) × (told ≡ changed.Wrote (Word st.setting.counter shard) o ((o + count_change removed) % 2 ^ 64))
+      adds_now removed is =
+          let wrote = wrote_count removed (subst SteppedAt is steps) in
+          (wrote.0, wrote.1 ∙ ap (λ (z : Setting). changed.Wrote (Word z.counter (bit_and z.slot z.mask)) wrote.0 ((wrote.0 + count_change removed) % 2 ^ 64)) its_setting)
+
       pub counts_now : (removed : ℕ) → x.call.stands ≡ at.Counts removed → effects ≡ effect.Counted shard ∷ []
       counts_now removed is =
-          let wrote = wrote_count removed (subst SteppedAt is steps) in
-          let at_counter : told ≡ changed.Wrote (Word st.setting.counter shard) wrote.0 wrote.1 =
-          wrote.2 ∙ ap (λ (z : Setting). changed.Wrote (Word z.counter (bit_and z.slot z.mask)) wrote.0 wrote.1) its_setting in
-          ap (effects_of its known) at_counter
-          ∙ ap (λ (r : Role). in_block its r shard known.stored (names_same wrote.0 wrote.1) (named known wrote.0) (named known wrote.1)) (shown.maps map st to.2).counter
+          let o = (adds_now removed is).0 in
+          let n = (o + count_change removed) % 2 ^ 64 in
+          ap (effects_of its known) (adds_now removed is).1
+          ∙ ap (λ (r : Role). in_block its r shard known.stored (names_same o n) (named known o) (named known n)) (shown.maps map st to.2).counter
 
       counting_goes : (removed : ℕ) → x.call.stands ≡ at.Counts removed → Goes before_counts after_counts
       counting_goes removed is = CountsAll (counts_now removed is) (ap counts_in_calling is) (past (subst IsBeyond (sym is) tt))
@@ -371,7 +379,7 @@ module _ {K V S : Type 0} (same : K → K → Bool) (hash : K → ℕ) (name : �
   NoRow done = OfNoRow same hash name m known s old new at_old shown map i (OnKey x) under_way said leads (OnKey x) done
 
   -- what rows hand over shifts no pair
-  row_none : (w2 : World (Node K V)) → w2.memory ≡ new.memory.memory → IsOneStep st.setting i s.world w2 → TakesNone told → flat_map shift_of effects ≡ []
+  pub row_none : (w2 : World (Node K V)) → w2.memory ≡ new.memory.memory → IsOneStep st.setting i s.world w2 → TakesNone told → flat_map shift_of effects ≡ []
   row_none w2 memory happened none =
       hands_shift effects (row_done i map m known s.world w2 shown.blocks
       (one_step_leaves st.setting i s.world w2 (each same hash name m known s old at_old shown map i st to.2 (OnKey x) under_way).ground.came happened) told

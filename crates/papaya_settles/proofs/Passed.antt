@@ -69,7 +69,7 @@ module _ (known : Known) (p : Copier) where
 
   -- from none
   pub tables_none : (word : ℕ) → word ≡ 0 → tables_from known p word ≡ []
-  tables_none word zero = ap (λ (q : Bool). if q then [] else tables_up_to p.target.turn (known.roles (block_in word))) (eq-eqb word 0 zero)
+  tables_none word none = ap (λ (q : Bool). if q then [] else tables_up_to p.target.turn (known.roles (block_in word))) (eq-eqb word 0 none)
 
   -- a copier that has unlinked none has none in hand
   pub copier_none : (stands : Copying) → has_unlinked stands ≡ false → (tables_in_hand known p stands ≡ []) × NotesTables known p stands

@@ -80,7 +80,7 @@ use Rattle.papaya_settles.proofs.Aims.{plan_aimed, sum_at, reserve_aims, sweep_a
 use Rattle.papaya_settles.proofs.Gains.{AllApart, all_apart, NoneCounts, CountGoes, KeepsCount, TakesOne, CountsAll}
 use Rattle.papaya_settles.proofs.Here.{IsNoCount, each, is_sight, room_no, over_all_no}
 use Rattle.papaya_settles.proofs.Points.{IsNoTry, seen_idle, idle_step}
-use Rattle.papaya_settles.proofs.Uncounted.{none_counts}
+use Rattle.papaya_settles.proofs.Uncounted.{CountsNowhere, none_counts}
 
 -- what a sweep says of how far it is, it says in one way
 pub same_swept : {T : Type 0} (a b : Swept T) → of_swept a ≡ of_swept b → a ≡ b
@@ -100,16 +100,16 @@ pub data KindOf (p : Sweeping) : Type 0 where
   ToTry : (word : ℕ) → p ≡ sweeping.Tries word → KindOf p
   IsApart : IsElsewhere p → IsNoTry p → KindOf p
 
-kind_at : (p : Sweeping) → KindOf p
+pub kind_at : (p : Sweeping) → KindOf p
 kind_at (sweeping.Counts removed) = ToCount removed refl
 kind_at (sweeping.Tries word) = ToTry word refl
 kind_at _ = IsApart tt tt
 
-elsewhere_not : (p : Sweeping) → IsElsewhere p → counts_in_sweeping p ≡ false
+pub elsewhere_not : (p : Sweeping) → IsElsewhere p → counts_in_sweeping p ≡ false
 elsewhere_not (sweeping.Counts removed) elsewhere = absurd elsewhere
 elsewhere_not _ elsewhere = refl
 
-row_apart : (p : Sweeping) → IsRowOfSweep p → IsElsewhere p × IsNoTry p
+pub row_apart : (p : Sweeping) → IsRowOfSweep p → IsElsewhere p × IsNoTry p
 row_apart (sweeping.Copies copier) row = (tt, tt)
 row_apart (sweeping.Disposes dispose) row = (tt, tt)
 row_apart _ row = absurd row
@@ -168,21 +168,28 @@ module _ {K V S : Type 0} (same : K → K → Bool) (hash : K → ℕ) (name : �
   NoRow x done = OfNoRow same hash name m known s old new at_old shown map i u under_way said leads x done
 
   -- a reservation
-  room_uncounted : (x : CallForRoom) → u ≡ ForRoom x → NoneCounts effects
-  room_uncounted x is = none_counts i map known told (λ b field old_word new_word of told_is role_is.
+  pub room_nowhere : (x : CallForRoom) → u ≡ ForRoom x → CountsNowhere known told
+  room_nowhere x is b field old_word new_word of told_is role_is =
       let stepped = subst (λ (y : UnderWay K V K). StepsFrom same hash (machine_of y) old new to.1 said) is to.3 in
       let inner = told_in old.memory.memory new.memory.memory told of_room (reserve_plan hash x.reserve) (to.1, said) stepped in
       plan_aimed (IsNoCount known) old.memory.memory new.memory.memory told (reserve_plan hash x.reserve) inner.0 inner.2
-      (reserve_aims (IsNoCount known) K V hash x.reserve (room_no same hash name m known s old at_old shown map i st to.2 u under_way x (under_way ∙ ap Some is))) b field old_word new_word told_is of role_is)
+      (reserve_aims (IsNoCount known) K V hash x.reserve (room_no same hash name m known s old at_old shown map i st to.2 u under_way x (under_way ∙ ap Some is))) b field old_word new_word told_is of role_is
+
+  room_uncounted : (x : CallForRoom) → u ≡ ForRoom x → NoneCounts effects
+  room_uncounted x is = none_counts i map known told (room_nowhere x is)
+
+  -- no pair comes or goes by a step of one
+  pub room_shifts : (x : CallForRoom) (done : Did (ForRoom x)) → NoRow (ForRoom x) done → flat_map shift_of effects ≡ []
+  room_shifts x (p2, end, machine_is, told_is, inl (step, moved)) own =
+      none_kept step.step.went.c2
+      (moved_shifts same hash m known s old new at_old name shown map i st to.2 (name i) (made_so same hash name m known s old new at_old shown map i u under_way said leads)
+      (is_inside same hash name m known s old new at_old shown map i u under_way said leads) _ step.step.went step.step.blocks2 step.step.grown step.step.sights2) step.step.same_pairs
+  room_shifts x (p2, end, machine_is, told_is, inr row) own = absurd own
 
   pub room_counts : (x : CallForRoom) → u ≡ ForRoom x → (done : Did (ForRoom x)) → ((NoRow (ForRoom x) done → ⊥) → TakesNone told) → Goes false (is_to_count to.1) × (to.4.next ≡ None → is_to_count to.1 ≡ false)
   room_counts x is (p2, end, machine_is, told_is, inl (step, moved)) takes =
       let never : is_to_count to.1 ≡ false = ap is_to_count machine_is in (
-        KeepsCount (all_apart effects
-            (none_kept step.step.went.c2
-            (moved_shifts same hash m known s old new at_old name shown map i st to.2 (name i) (made_so same hash name m known s old new at_old shown map i u under_way said leads)
-            (is_inside same hash name m known s old new at_old shown map i u under_way said leads) _ step.step.went step.step.blocks2 step.step.grown step.step.sights2) step.step.same_pairs)
-            (room_uncounted x is)) never,
+        KeepsCount (all_apart effects (room_shifts x (p2, end, machine_is, told_is, inl (step, moved)) tt) (room_uncounted x is)) never,
         λ none. never,
       )
   room_counts x is (p2, end, machine_is, told_is, inr (row, stayed)) takes =
@@ -192,6 +199,12 @@ module _ {K V S : Type 0} (same : K → K → Bool) (hash : K → ℕ) (name : �
       )
 
   -- a counting
+  pub sum_nowhere : (x : Sum) → u ≡ Counting x → CountsNowhere known told
+  sum_nowhere x is b field old_word new_word of told_so role_is =
+      let stepped = subst (λ (y : UnderWay K V K). StepsFrom same hash (machine_of y) old new to.1 said) is to.3 in
+      let inner = told_in old.memory.memory new.memory.memory told of_sum (sum_plan x) (to.1, said) stepped in
+      plan_aimed (IsNoCount known) old.memory.memory new.memory.memory told (sum_plan x) inner.0 inner.2 (sum_at (IsNoCount known) K V x x.stands) b field old_word new_word told_so of role_is
+
   pub sum_counts : (x : Sum) → u ≡ Counting x → Did (Counting x) → Goes false (is_to_count to.1) × (to.4.next ≡ None → is_to_count to.1 ≡ false)
   sum_counts x is (sum2, end, machine_is, told_is, still, stayed) =
       let never : is_to_count to.1 ≡ false = ap is_to_count machine_is in (
@@ -203,10 +216,7 @@ module _ {K V S : Type 0} (same : K → K → Bool) (hash : K → ℕ) (name : �
       )
     where
       uncounted : NoneCounts effects
-      uncounted = none_counts i map known told (λ b field old_word new_word of told_so role_is.
-          let stepped = subst (λ (y : UnderWay K V K). StepsFrom same hash (machine_of y) old new to.1 said) is to.3 in
-          let inner = told_in old.memory.memory new.memory.memory told of_sum (sum_plan x) (to.1, said) stepped in
-          plan_aimed (IsNoCount known) old.memory.memory new.memory.memory told (sum_plan x) inner.0 inner.2 (sum_at (IsNoCount known) K V x x.stands) b field old_word new_word told_so of role_is)
+      uncounted = none_counts i map known told (sum_nowhere x is)
 
   -- a sweep
   module _ (x : CallOverAll) (is_over : u ≡ OverAll x) where
@@ -239,12 +249,15 @@ module _ {K V S : Type 0} (same : K → K → Bool) (hash : K → ℕ) (name : �
       after_is : is_to_count to.1 ≡ after_counts
       after_is = ap is_to_count machine_is
 
-      uncounted : IsElsewhere x.sweep.stands → NoneCounts effects
-      uncounted elsewhere = none_counts i map known told (λ b field old_word new_word of told_so role_is.
+      pub nowhere : IsElsewhere x.sweep.stands → CountsNowhere known told
+      nowhere elsewhere b field old_word new_word of told_so role_is =
           plan_aimed (IsNoCount known) old.memory.memory new.memory.memory told (sweep_plan hash x.sweep) (p2, end) steps
-          (sweep_aims (IsNoCount known) K V hash x.sweep (over_all_no same hash name m known s old at_old shown map i st to.2 u under_way x under_over elsewhere)) b field old_word new_word told_so of role_is)
+          (sweep_aims (IsNoCount known) K V hash x.sweep (over_all_no same hash name m known s old at_old shown map i st to.2 u under_way x under_over elsewhere)) b field old_word new_word told_so of role_is
 
-      idle : IsNoTry x.sweep.stands → after_counts ≡ false
+      uncounted : IsElsewhere x.sweep.stands → NoneCounts effects
+      uncounted elsewhere = none_counts i map known told (nowhere elsewhere)
+
+      pub idle : IsNoTry x.sweep.stands → after_counts ≡ false
       idle none =
           idle_step K V x.sweep hash none old.memory.memory new.memory.memory (p2, end) (as_step old.memory.memory changed.Nothing (sweep_plan hash x.sweep) new.memory.memory told (p2, end) steps)
 
@@ -279,21 +292,26 @@ module _ {K V S : Type 0} (same : K → K → Bool) (hash : K → ℕ) (name : �
 
         -- it counts
         wrote_count : (removed : ℕ) → SteppedAt (sweeping.Counts removed)
-            → (o : ℕ) × (n : ℕ) × (told ≡ changed.Wrote (Word x.sweep.setting.counter (bit_and x.sweep.setting.slot x.sweep.setting.mask)) o n)
-        wrote_count removed (Found word, (took, told_so), ends) = (word, (word + count_change removed) % 2 ^ 64, told_so)
+            → (o : ℕ) × (told ≡ changed.Wrote (Word x.sweep.setting.counter (bit_and x.sweep.setting.slot x.sweep.setting.mask)) o ((o + count_change removed) % 2 ^ 64))
+        wrote_count removed (Found word, (took, told_so), ends) = (word, told_so)
         wrote_count removed (StoredOut, (took, told_so), ends) = absurd took.0
         wrote_count removed (Exchanged r, (took, told_so), ends) = absurd took.0
         wrote_count removed (Made r, (took, told_so), ends) = absurd took.0
         wrote_count removed (Taken r, (took, told_so), ends) = absurd took.0
         wrote_count removed (Roomed r, (took, told_so), ends) = absurd took.0
 
-        counts_now : (removed : ℕ) → x.sweep.stands ≡ sweeping.Counts removed → effects ≡ effect.Counted shard ∷ []
-        counts_now removed is =
+        -- in its shard, by as much as it is to count
+        pub adds_now : (removed : ℕ) → x.sweep.stands ≡ sweeping.Counts removed → (o : ℕ) × (told ≡ changed.Wrote (Word st.setting.counter shard) o ((o + count_change removed) % 2 ^ 64))
+        adds_now removed is =
             let wrote = wrote_count removed (subst SteppedAt is steps) in
-            let at_counter : told ≡ changed.Wrote (Word st.setting.counter shard) wrote.0 wrote.1 =
-            wrote.2 ∙ ap (λ (z : Setting). changed.Wrote (Word z.counter (bit_and z.slot z.mask)) wrote.0 wrote.1) knew.0 in
-            ap (effects_of its known) at_counter
-            ∙ ap (λ (r : Role). in_block its r shard known.stored (names_same wrote.0 wrote.1) (named known wrote.0) (named known wrote.1)) (shown.maps map st to.2).counter
+            (wrote.0, wrote.1 ∙ ap (λ (z : Setting). changed.Wrote (Word z.counter (bit_and z.slot z.mask)) wrote.0 ((wrote.0 + count_change removed) % 2 ^ 64)) knew.0)
+
+        pub counts_now : (removed : ℕ) → x.sweep.stands ≡ sweeping.Counts removed → effects ≡ effect.Counted shard ∷ []
+        counts_now removed is =
+            let o = (adds_now removed is).0 in
+            let n = (o + count_change removed) % 2 ^ 64 in
+            ap (effects_of its known) (adds_now removed is).1
+            ∙ ap (λ (r : Role). in_block its r shard known.stored (names_same o n) (named known o) (named known n)) (shown.maps map st to.2).counter
 
         -- it removes a pair
         module _ (word : ℕ) (facts : Facts (sweeping.Tries word)) where
@@ -411,6 +429,11 @@ module _ {K V S : Type 0} (same : K → K → Bool) (hash : K → ℕ) (name : �
               (apart_goes p2 end machine_is told_is apart.0 apart.1 (row_none row.step.w2 row.step.memory row.step.happened (takes (λ own. own)))),
           λ none. after_is p2 end machine_is told_is ∙ idle p2 end machine_is told_is apart.1,
         )
+
+    -- elsewhere than at a try no pair comes or goes by a step of one
+    pub sweep_shifts : (done : Did (OverAll x)) → NoRow (OverAll x) done → IsNoTry x.sweep.stands → flat_map shift_of effects ≡ []
+    sweep_shifts (p2, end, machine_is, told_is, inl (step, moved)) none apart = none_moved p2 end machine_is told_is step apart
+    sweep_shifts (p2, end, machine_is, told_is, inr row) none apart = absurd none
 
     pub sweep_takes : (done : Did (OverAll x)) → NoRow (OverAll x) done → (p : ℕ) → effects ≡ effect.Removed p ∷ []
         → (q : Sweep) × (to.1 ≡ kinds.Sweep q) × (word : ℕ) × (q.stands ≡ sweeping.Counts word) × (known.roles (block_in word) ≡ role.Pair p)

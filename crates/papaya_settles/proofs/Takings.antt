@@ -53,7 +53,7 @@ calm_leaves (effect.Deferred n t) e = absurd (cc e)
 calm_leaves (effect.Retired x) e = absurd (cc e)
 calm_leaves _ e = (refl, refl)
 
-all_calm : (effects : List Effect) → AllCalm effects → AllLeave effects × (list_any hands_over effects ≡ false)
+pub all_calm : (effects : List Effect) → AllCalm effects → AllLeave effects × (list_any hands_over effects ≡ false)
 all_calm [] all = (tt, refl)
 all_calm (f ∷ fs) all = let one = calm_leaves f all.0 in let rest = all_calm fs all.1 in ((one.0, rest.0), ap (λ (q : Bool). q || list_any hands_over fs) one.1 ∙ rest.1)
 

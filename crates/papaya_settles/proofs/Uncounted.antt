@@ -22,6 +22,10 @@ use Rattle.papaya_effects.specs.declared.role.Role.{Role}
 use Rattle.papaya_effects.specs.declared.role.Role.TheVariants as role
 use Rattle.papaya_settles.proofs.Gains.{NoneCounts}
 
+-- no word of a map's count is written
+abbrev pub CountsNowhere : Known → Changed → Type 0
+CountsNowhere known told = (b field old new of : ℕ) → told ≡ changed.Wrote (Word b field) old new → known.roles b ≡ role.Counter of → ⊥
+
 module _ (caller map : ℕ) (known : Known) where
   abbrev its : Acting
   its = acts.Call caller map
@@ -78,11 +82,7 @@ module _ (caller map : ℕ) (known : Known) where
       (either (is_place len field) (placed (spot_at t field) stored was is) [] (placed_none (spot_at t field) stored was is) tt)))
   block_none _ field stored q was is never = tt
 
-  -- the word of a count is not written
-  abbrev pub CountsNowhere : Changed → Type 0
-  CountsNowhere told = (b field old new of : ℕ) → told ≡ changed.Wrote (Word b field) old new → known.roles b ≡ role.Counter of → ⊥
-
-  pub none_counts : (told : Changed) → CountsNowhere told → NoneCounts (effects_of its known told)
+  pub none_counts : (told : Changed) → CountsNowhere known told → NoneCounts (effects_of its known told)
   none_counts changed.Nothing never = tt
   none_counts (changed.Wrote (Root r) old new) never = either (names_same old new) [] (led_to its (named known old) (named known new)) tt (led_none (named known old) (named known new))
   none_counts (changed.Wrote (Used r) old new) never = tt

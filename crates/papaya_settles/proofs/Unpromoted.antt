@@ -1,5 +1,5 @@
 -- A step makes no table the root but by the exchange that promotes one: each other step writes no root that names a table.
-use Rattle.std.specs.Prelude.{◌≡◌, ◌==◌, ℕ, Bool, true, false, Ok, Err, nat_lt, List, [], ◌∷◌, if◌then◌else◌}
+use Rattle.std.specs.Prelude.{◌≡◌, ◌==◌, ◌&&◌, ℕ, Bool, true, false, Ok, Err, nat_lt, List, [], ◌∷◌, if◌then◌else◌}
 use Rattle.std.proofs.Common.{refl, ap, sym, subst, ◌∙◌, inl, inr}
 use Rattle.seize_words.specs.Mem.{Mem, Took}
 use Rattle.seize_words.specs.Op.{Op, Out, Load, Store, Swap, Add, Or, Exchange, Make, Take, Rewrite, Room, Found, Exchanged, Made, Roomed}
@@ -143,4 +143,4 @@ module _ (caller map : ℕ) (known : Known) (free : known.roles 0 ≡ role.Free)
   none_promotes (changed.Made k b) no_root = (refl, made_none k)
   none_promotes (changed.Unmade k) no_root = (refl, tt)
   none_promotes (changed.Took b) no_root = taken_none (known.roles b)
-  none_promotes (changed.Roomed bucket had) no_root = either (nat_lt bucket known.buckets) [] (effect.Asked ABucket ∷ []) tt (refl, tt)
+  none_promotes (changed.Roomed bucket had) no_root = either (had && nat_lt bucket known.buckets) [] (effect.Asked ABucket ∷ []) tt (refl, tt)

@@ -72,8 +72,6 @@ in_hand known (kinds.Reserve r) = in_hand_of_room known r.stands
 in_hand known (kinds.Sweep c) = in_hand_of_sweep known c.stands
 in_hand known (kinds.Count sum) = []
 
--- what it has in hand is noted: that of each pair's word as a pair, and that of each table's as a table
-
 abbrev pub IsPairRole : Role → Type 0
 IsPairRole (role.Pair n) = Unit {0}
 IsPairRole _ = ⊥
@@ -82,75 +80,80 @@ abbrev pub IsTableRole : Role → Type 0
 IsTableRole (role.Table t len) = Unit {0}
 IsTableRole _ = ⊥
 
-abbrev pub NotesPair : Known → Option ℕ → Type 0
-NotesPair known None = Unit {0}
-NotesPair known (Some word) = IsPairRole (known.roles (block_in word))
+-- This is so of each block that it has in hand, of that one of a pair, and of that one of a table: of its word, if there is one.
+module _ (P : ℕ → Type 0) where
+  abbrev pub HoldsAt : Option ℕ → Type 0
+  HoldsAt None = Unit {0}
+  HoldsAt (Some word) = P (block_in word)
 
-abbrev pub NotesDue : Known → Option ℕ → Type 0
-NotesDue known None = Unit {0}
-NotesDue known (Some word) = IsTableRole (known.roles (block_in word))
+  abbrev pub HoldsOf : ℕ → Type 0
+  HoldsOf word = word ≢ 0 → P (block_in word)
 
-abbrev pub NotesTable : Known → ℕ → Type 0
-NotesTable known word = word ≢ 0 → IsTableRole (known.roles (block_in word))
+  abbrev pub HoldsTables : Copier → Copying → Type 0
+  HoldsTables p copying.Announces = HoldsOf p.source.link
+  HoldsTables p (copying.Succeeds table) = HoldsOf table
+  HoldsTables p (copying.Retires settle rest) = HoldsAt (word_due (due_in_settle settle settle.stands)) × HoldsOf rest
+  HoldsTables p _ = Unit {0}
 
-abbrev pub NotesTables : Known → Copier → Copying → Type 0
-NotesTables known p copying.Announces = NotesTable known p.source.link
-NotesTables known p (copying.Succeeds table) = NotesTable known table
-NotesTables known p (copying.Retires settle rest) = NotesDue known (word_due (due_in_settle settle settle.stands)) × NotesTable known rest
-NotesTables known p _ = Unit {0}
+module _ (OfPair OfTable : ℕ → Type 0) where
+  abbrev pub HoldsOfCall : Calling → Type 0
+  HoldsOfCall (calling.Helps copier goal) = HoldsTables OfTable copier copier.stands
+  HoldsOfCall (calling.Copies copier) = HoldsTables OfTable copier copier.stands
+  HoldsOfCall p = HoldsAt OfPair (pair_in_calling p)
 
-abbrev pub NotesOfCall : Known → Calling → Type 0
-NotesOfCall known (calling.Helps copier goal) = NotesTables known copier copier.stands
-NotesOfCall known (calling.Copies copier) = NotesTables known copier copier.stands
-NotesOfCall known p = NotesPair known (pair_in_calling p)
+  abbrev pub HoldsOfRoom : Reserving → Type 0
+  HoldsOfRoom (reserving.Copies copier) = HoldsTables OfTable copier copier.stands
+  HoldsOfRoom _ = Unit {0}
 
-abbrev pub NotesOfRoom : Known → Reserving → Type 0
-NotesOfRoom known (reserving.Copies copier) = NotesTables known copier copier.stands
-NotesOfRoom known _ = Unit {0}
+  abbrev pub HoldsOfSweep : Sweeping → Type 0
+  HoldsOfSweep (sweeping.Copies copier) = HoldsTables OfTable copier copier.stands
+  HoldsOfSweep p = HoldsAt OfPair (pair_in_sweeping p)
 
-abbrev pub NotesOfSweep : Known → Sweeping → Type 0
-NotesOfSweep known (sweeping.Copies copier) = NotesTables known copier copier.stands
-NotesOfSweep known p = NotesPair known (pair_in_sweeping p)
+  abbrev pub HoldsInHand : {K V Q : Type 0} → Machine K V Q → Type 0
+  HoldsInHand (kinds.Key p) = HoldsOfCall p.stands
+  HoldsInHand (kinds.Reserve r) = HoldsOfRoom r.stands
+  HoldsInHand (kinds.Sweep c) = HoldsOfSweep c.stands
+  HoldsInHand (kinds.Count sum) = Unit {0}
 
-abbrev pub NotesInHand : {K V Q : Type 0} → Known → Machine K V Q → Type 0
-NotesInHand known (kinds.Key p) = NotesOfCall known p.stands
-NotesInHand known (kinds.Reserve r) = NotesOfRoom known r.stands
-NotesInHand known (kinds.Sweep c) = NotesOfSweep known c.stands
-NotesInHand known (kinds.Count sum) = Unit {0}
+-- what it has in hand is noted: that of each pair's word as a pair, and that of each table's as a table
+module _ (known : Known) where
+  abbrev pub IsPairAt : ℕ → Type 0
+  IsPairAt b = IsPairRole (known.roles b)
+
+  abbrev pub IsTableAt : ℕ → Type 0
+  IsTableAt b = IsTableRole (known.roles b)
+
+  abbrev pub NotesPair : Option ℕ → Type 0
+  NotesPair o = HoldsAt IsPairAt o
+
+  abbrev pub NotesDue : Option ℕ → Type 0
+  NotesDue o = HoldsAt IsTableAt o
+
+  abbrev pub NotesTable : ℕ → Type 0
+  NotesTable word = HoldsOf IsTableAt word
+
+  abbrev pub NotesTables : Copier → Copying → Type 0
+  NotesTables p stands = HoldsTables IsTableAt p stands
+
+  abbrev pub NotesOfCall : Calling → Type 0
+  NotesOfCall p = HoldsOfCall IsPairAt IsTableAt p
+
+  abbrev pub NotesOfRoom : Reserving → Type 0
+  NotesOfRoom p = HoldsOfRoom IsPairAt IsTableAt p
+
+  abbrev pub NotesOfSweep : Sweeping → Type 0
+  NotesOfSweep p = HoldsOfSweep IsPairAt IsTableAt p
+
+  abbrev pub NotesInHand : {K V Q : Type 0} → Machine K V Q → Type 0
+  NotesInHand machine = HoldsInHand IsPairAt IsTableAt machine
 
 -- each block of it is what it was
+module _ (known known2 : Known) where
+  abbrev pub IsSameRole : ℕ → Type 0
+  IsSameRole b = known2.roles b ≡ known.roles b
 
-abbrev pub SameAt : Known → Known → Option ℕ → Type 0
-SameAt known known2 None = Unit {0}
-SameAt known known2 (Some word) = known2.roles (block_in word) ≡ known.roles (block_in word)
-
-abbrev pub SameTable : Known → Known → ℕ → Type 0
-SameTable known known2 word = word ≢ 0 → known2.roles (block_in word) ≡ known.roles (block_in word)
-
-abbrev pub SameTables : Known → Known → Copier → Copying → Type 0
-SameTables known known2 p copying.Announces = SameTable known known2 p.source.link
-SameTables known known2 p (copying.Succeeds table) = SameTable known known2 table
-SameTables known known2 p (copying.Retires settle rest) = SameAt known known2 (word_due (due_in_settle settle settle.stands)) × SameTable known known2 rest
-SameTables known known2 p _ = Unit {0}
-
-abbrev pub SameOfCall : Known → Known → Calling → Type 0
-SameOfCall known known2 (calling.Helps copier goal) = SameTables known known2 copier copier.stands
-SameOfCall known known2 (calling.Copies copier) = SameTables known known2 copier copier.stands
-SameOfCall known known2 p = SameAt known known2 (pair_in_calling p)
-
-abbrev pub SameOfRoom : Known → Known → Reserving → Type 0
-SameOfRoom known known2 (reserving.Copies copier) = SameTables known known2 copier copier.stands
-SameOfRoom known known2 _ = Unit {0}
-
-abbrev pub SameOfSweep : Known → Known → Sweeping → Type 0
-SameOfSweep known known2 (sweeping.Copies copier) = SameTables known known2 copier copier.stands
-SameOfSweep known known2 p = SameAt known known2 (pair_in_sweeping p)
-
-abbrev pub SameInHand : {K V Q : Type 0} → Known → Known → Machine K V Q → Type 0
-SameInHand known known2 (kinds.Key p) = SameOfCall known known2 p.stands
-SameInHand known known2 (kinds.Reserve r) = SameOfRoom known known2 r.stands
-SameInHand known known2 (kinds.Sweep c) = SameOfSweep known known2 c.stands
-SameInHand known known2 (kinds.Count sum) = Unit {0}
+  abbrev pub SameInHand : {K V Q : Type 0} → Machine K V Q → Type 0
+  SameInHand machine = HoldsInHand IsSameRole IsSameRole machine
 
 -- each call under way owes just what it has in hand, in the order in which it hands that over, and all of it is noted
 pub record ShowsOwed {K V : Type 0} (name : ℕ → List ℕ) (m : Moment K V) (known : Known) (s : Scene K V) : Type 0 where

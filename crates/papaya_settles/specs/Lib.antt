@@ -8,3 +8,6 @@ pub mod Owing
 pub mod InHand
 pub mod Hand
 pub mod Owed
+pub mod Adds
+pub mod ShardWords
+pub mod ShardSteps

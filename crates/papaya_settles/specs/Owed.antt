@@ -14,8 +14,7 @@ use Rattle.papaya_schedules.specs.Effects.{AtEachEffect, with_effects}
 use Rattle.papaya_schedules.specs.Entry.{ByCall, acting, ends_call}
 use Rattle.papaya_schedules.specs.Moment.{UnderWay as CallThere, Moment, start}
 use Rattle.papaya_schedules.specs.Views.{call_of}
-use Rattle.papaya_points.specs.FactsCalls.{IsCopying}
-use Rattle.papaya_callers.specs.Together.{CallOnKey, UnderWay, OnKey}
+use Rattle.papaya_callers.specs.Together.{UnderWay}
 use Rattle.papaya_effects.specs.Effects.{effects_of, known_after}
 use Rattle.papaya_effects.specs.Known.{Known, nothing_known}
 use Rattle.papaya_effects.specs.declared.acting.Acting.TheVariants.{Call as OfCall}
@@ -55,23 +54,21 @@ module _ (K V S : Type 0) (same : K → K → Bool) (hash : K → ℕ) where
       (IsOfNoRow same old.batch_size old.roots s.world s.maps s.calls s.makers s.enders map to.0 i new.memory.memory to.4.w2 to.4.maps2 to.4.next u to.1 said to.4.did → ⊥)
       → HandGoes m known s old new map i u said here leads)
 
-  -- The promise, of a step of a call on one key that is none of a row, where the call copies no pairs: what it has in hand goes so.
-  abbrev pub KeysGoInHand : Type 0
-  KeysGoInHand =
-      (name : ℕ → List ℕ) (m : Moment K V) (known : Known) (s : Scene K V) (old new : Executor K V S) → IsAt same hash old s → Shows same name m known s
-      → (map i : ℕ) (x : CallOnKey K V K) (here : s.calls map i ≡ Some (OnKey x)) (said : Progress (Node K V)) (leads : StepLeads same hash i said s old new)
-      → (IsCopying x.call.stands → ⊥) → NotesInHand known (machine_of (OnKey x))
-      → (let to = leads map (OnKey x) here in
-      IsOfNoRow same old.batch_size old.roots s.world s.maps s.calls s.makers s.enders map to.0 i new.memory.memory to.4.w2 to.4.maps2 to.4.next (OnKey x) to.1 said to.4.did
-      → HandGoes m known s old new map i (OnKey x) said here leads)
+  -- The promise, of each step of a call, whichever it is: what it has in hand goes so.
+  abbrev pub CallsGoInHand : Type 0
+  CallsGoInHand =
+      (name : ℕ → List ℕ) (m : Moment K V) (known : Known) (s : Scene K V) (old new : Executor K V S)
+      → IsAt same hash old s → Shows same name m known s → ShowsRows s → ShowsEntries s → OwnAreMade known s.world
+      → (map i : ℕ) (u : UnderWay K V K) (here : s.calls map i ≡ Some u) (said : Progress (Node K V)) (leads : StepLeads same hash i said s old new) → NotesInHand known (machine_of u)
+      → HandGoes m known s old new map i u said here leads
 
-  -- The promise, of a step by which what the call has in hand goes so: its effects find what they hand over, each call owes after them what it has in hand, whoever's step
-  -- it was, and a call that has ended owes nothing.
+  -- So, over each step of a call: its effects find what they hand over, each call owes after them what it has in hand, whoever's step it was, and a call that has ended
+  -- owes nothing.
   abbrev pub CallsKeepOwed : Type 0
   CallsKeepOwed =
-      (name : ℕ → List ℕ) (m : Moment K V) (known : Known) (s : Scene K V) (old new : Executor K V S) → IsAt same hash old s → ShowsWhole same name m known s → ShowsOwed name m known s
+      (name : ℕ → List ℕ) (m : Moment K V) (known : Known) (s : Scene K V) (old new : Executor K V S)
+      → IsAt same hash old s → ShowsWhole same name m known s → ShowsEntries s → OwnAreMade known s.world → ShowsOwed name m known s
       → (map i : ℕ) (u : UnderWay K V K) (here : s.calls map i ≡ Some u) (said : Progress (Node K V)) (leads : StepLeads same hash i said s old new)
-      → HandGoes m known s old new map i u said here leads
       → (let to = leads map u here in
       let effects = effects_of (OfCall i map) known new.memory.changed in
       let v = with_effects (Some (name i)) (Some map) effects m in

@@ -4,8 +4,9 @@ ghost use Rattle.papaya_settles.specs.Beside.{StaysCounts, EffectsLeaveCounts, W
 ghost use Rattle.papaya_settles.specs.Due.{RowsTellDue};
 ghost use Rattle.papaya_settles.specs.Entries.{EntriesBegin, CallsGoOnEntries, EndingsBeginEntries, CallsKeepEntries, RowsBeginEntries, RowsKeepEntries, MakingsKeepEntries, EndingsKeepEntries};
 ghost use Rattle.papaya_settles.specs.InHand.{CallsTakeInHand, CallsHoldTheirs, SweepsTakeInHand, SweepsHoldTheirs};
-ghost use Rattle.papaya_settles.specs.Owed.{OwedBegins, StaysOwed, EffectsLeaveOwed, CallsBeginOwed, CallsTakeOwed, CallsComeToOwed, WalksHaveNothing, RowsHandOver, KeysGoInHand, CallsKeepOwed, WalksGoOnOwed, WalksStopOwed};
+ghost use Rattle.papaya_settles.specs.Owed.{OwedBegins, StaysOwed, EffectsLeaveOwed, CallsBeginOwed, CallsTakeOwed, CallsComeToOwed, WalksHaveNothing, RowsHandOver, CallsGoInHand, CallsKeepOwed, WalksGoOnOwed, WalksStopOwed};
 ghost use Rattle.papaya_settles.specs.Owing.{OwesFollow, HandingFollows, StepsTakeOut};
+ghost use Rattle.papaya_settles.specs.ShardSteps.{CountersBegin, CallsKeepCounters, CallsKeepNumbers, RoomsCountNothing, RowsBeginCounters, RowsKeepCounters, MakingsKeepCounters, EndingsKeepCounters, MakingsBeginCounters, EndingsBeginCounters, CallsBeginCounters, CallsTakeCounters, CallsComeToCounters, CountersStay, NumbersBegin, NumbersStay};
 ghost use Rattle.papaya_settles.specs.Shards.{CountsFindShards};
 ghost use Rattle.papaya_settles.specs.Keeping.{CountsBegin, CallsKeepCounts, CallsBeginCounts, CallsBeginUncounted, CallsTakeCounts, CallsComeToCounts};
 
@@ -72,16 +73,17 @@ pub fn calls_take_in_hand<K, V, S>()
 {}
 
 /// A row within a call hands over what the call has in hand first, by where its machine stands: the pair that it disposes of, or the next of the tables that its copier has
-/// unlinked. What it has in hand behind that, the tables that come after that one, it has still, and all of it is noted as what it is. A step of a call on one key that is
-/// none of a row, and copies no pairs, leaves it what it had in hand, or it takes a pair out of its map and has that in hand then; and once it has ended, it has nothing.
+/// unlinked. What it has in hand behind that, the tables that come after that one, it has still, and all of it is noted as what it is. A step of any other kind leaves a call
+/// what it had in hand, or it takes a pair out of its map, or makes a copier's target the root, and has that pair, or the tables that the root has left, in hand then, behind
+/// what it had; and once a call has ended, it has nothing.
 pub fn rows_hand_over_first<K, V, S>()
     ensures rows { (same : K → K → Bool) (hash : K → ℕ) → RowsHandOver K V S same hash }
-    ensures keys { (same : K → K → Bool) (hash : K → ℕ) → KeysGoInHand K V S same hash }
+    ensures calls { (same : K → K → Bool) (hash : K → ℕ) → CallsGoInHand K V S same hash }
 {}
 
 /// At each moment of a run that shows the executor, a call under way owes just what its machine has in hand, in the order in which it hands that over. So it is before all
-/// events; after each step of a call, whoever's, by which what the call has in hand goes with the effects: these find what they hand over, and a call that has ended so owes
-/// nothing; where a call begins that has nothing in hand, takes a reply and comes to an outcome; and a walk that is ready has nothing in hand.
+/// events; after each step of a call, whoever's: its effects find what they hand over, and a call that has ended owes nothing; where a call begins that has nothing in hand,
+/// takes a reply and comes to an outcome; and a walk that is ready has nothing in hand.
 pub fn calls_owe_what_they_have<K, V, S>()
     ensures begins { OwedBegins K V }
     ensures calls { (same : K → K → Bool) (hash : K → ℕ) → CallsKeepOwed K V S same hash }
@@ -98,4 +100,29 @@ pub fn others_leave_owed<K, V, S>()
     ensures effects { EffectsLeaveOwed K V }
     ensures goes_on { (same : K → K → Bool) (hash : K → ℕ) → WalksGoOnOwed K V S same hash }
     ensures stops { (same : K → K → Bool) (hash : K → ℕ) → WalksStopOwed K V S same hash }
+{}
+
+/// At each moment of a run that shows the executor, each shard of a map that stands has the word in the memory that the moment says; and a call that is about to count
+/// adds what the moment says that it has gained or lost: one pair more, or one less. So it is before all events; after each step of a call, whoever's, of which one that
+/// counts changes its shard alone, and one of a reservation or of a counting none; where a call begins, takes a reply and comes to an outcome; where a row begins on a
+/// slot, and after each step of it; where a map is made on which nothing was counted, whose shards are 0 then, and where one ends, from the first step to the last; and
+/// as long as calls, maps, makings, shards and the memory are as they were. Nothing was counted on a map whose number none has had yet, before all events, after each step
+/// of a call, and as long as shards are as they were.
+pub fn shards_follow<K, V, S>()
+    ensures begins { CountersBegin K V }
+    ensures calls { (same : K → K → Bool) (hash : K → ℕ) → CallsKeepCounters K V S same hash }
+    ensures nothing { (same : K → K → Bool) (hash : K → ℕ) → RoomsCountNothing K V S same hash }
+    ensures begun { CallsBeginCounters K V }
+    ensures told { CallsTakeCounters K V }
+    ensures come_to { CallsComeToCounters K V }
+    ensures rows_begin { (same : K → K → Bool) (hash : K → ℕ) → RowsBeginCounters K V S same hash }
+    ensures rows { (same : K → K → Bool) (hash : K → ℕ) → RowsKeepCounters K V S same hash }
+    ensures makings_begin { MakingsBeginCounters K V }
+    ensures makings { (same : K → K → Bool) (hash : K → ℕ) → MakingsKeepCounters K V S same hash }
+    ensures endings_begin { EndingsBeginCounters K V }
+    ensures endings { (same : K → K → Bool) (hash : K → ℕ) → EndingsKeepCounters K V S same hash }
+    ensures stays { CountersStay K V }
+    ensures numbers_begin { NumbersBegin K V S }
+    ensures numbers { (same : K → K → Bool) (hash : K → ℕ) → CallsKeepNumbers K V S same hash }
+    ensures numbers_stay { NumbersStay K V S }
 {}

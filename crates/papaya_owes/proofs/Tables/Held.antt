@@ -37,7 +37,7 @@ use Rattle.papaya_follows.specs.Shows.{Shows}
 use Rattle.papaya_follows.proofs.Finds.{tables_many}
 use Rattle.papaya_follows.proofs.Writes.{own_table}
 use Rattle.papaya_owes.specs.Making.{making_of, making_in_opening}
-use Rattle.papaya_owes.specs.Tables.{table_in, table_made, HoldsTable}
+use Rattle.papaya_owes.specs.Tables.{table_in, table_made, HoldsTable, TablesAreMade}
 use Rattle.papaya_owes.proofs.Held.{IsInHand}
 use Rattle.papaya_owes.proofs.Machines.{call_none, room_none, sweep_none}
 use Rattle.papaya_owes.proofs.Planned.{IsInHands, IsMadeBy, HasLink, IsInTurn, IsItsMaking, key_made, reserve_made, over_all_made, new_made}
@@ -177,3 +177,7 @@ module _ {K V S : Type 0} (same : K → K → Bool) (hash : K → ℕ) (name : �
   pub noted_by : (j b : ℕ) → HoldsTable s j b → IsNoted known b
   noted_by j b (inl (map, u, here, t, has, is)) = (t.turn, shape_of t, ap known.roles is ∙ role_there j t (call_hands map j u here t has))
   noted_by j b (inr (d, here, t, has, is)) = (t.turn, shape_of t, ap known.roles is ∙ role_there j t (maker_hands j d here t has))
+
+pub tables_are_made : (K V S : Type 0) (same : K → K → Bool) (hash : K → ℕ) → TablesAreMade K V S same hash
+tables_are_made K V S same hash name m known s e at shown tables b turn shape is =
+    let its = tables.whose b turn shape is in (its.0, (held_by same hash name m known s e at shown its.0 b its.1).hand)

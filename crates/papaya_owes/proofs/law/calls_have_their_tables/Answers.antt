@@ -2,6 +2,7 @@
 use Rattle.papaya_owes.proofs.Tables.Aside.{tables_begin}
 use Rattle.papaya_owes.proofs.Tables.Between.{calls_begin_tables, calls_take_tables, calls_come_to_tables}
 use Rattle.papaya_owes.proofs.Tables.Calls.{calls_keep_tables}
+use Rattle.papaya_owes.proofs.Tables.Held.{tables_are_made}
 use Rattle.papaya_owes.proofs.law.calls_have_their_tables.Goals as goal
 
 pub returns : goal.returns
@@ -11,4 +12,5 @@ returns c d = record {
   begun = calls_begin_tables _ _ _;
   told = calls_take_tables _ _ _;
   come_to = calls_come_to_tables _ _;
+  made = tables_are_made _ _ _;
 }

@@ -1,5 +1,6 @@
 -- What calls on whole maps have come to is kept.
 use Rattle.papaya_purposes.proofs.Between.{purposes_begin, events_keep_purposes, calls_come_to_purposes, calls_begin_purposes, walks_go_on_purposes, first_steps_change_pairs_first, still_steps_change_pairs_first, removals_change_pairs_first}
+use Rattle.papaya_purposes.proofs.Elsewhere.{purposes_stay}
 use Rattle.papaya_purposes.proofs.Kept.{calls_keep_purposes}
 use Rattle.papaya_purposes.proofs.Rows.{rows_begin_purposes, rows_keep_purposes}
 use Rattle.papaya_purposes.proofs.Stops.{walks_stop_purposes}
@@ -20,6 +21,7 @@ returns c d = record {
   events = events_keep_purposes _ _;
   rows_begin = rows_begin_purposes _ _ _;
   rows = rows_keep_purposes _ _ _;
+  elsewhere = purposes_stay _ _ _;
   first = first_steps_change_pairs_first _ _;
   still = still_steps_change_pairs_first _ _;
   removals = removals_change_pairs_first _ _;

@@ -1,7 +1,7 @@
--- Rows within calls hand over what these have in hand first, and calls on one key have in hand what they take out.
-use Rattle.papaya_settles.proofs.HandKeys.{keys_go_in_hand}
+-- Rows within calls hand over what these have in hand first, and calls have in hand what they take out.
+use Rattle.papaya_settles.proofs.HandAll.{calls_go_in_hand}
 use Rattle.papaya_settles.proofs.HandSteps.{rows_hand_over}
 use Rattle.papaya_settles.proofs.law.rows_hand_over_first.Goals as goal
 
 pub returns : goal.returns
-returns c d = record { rows = rows_hand_over _ _ _; keys = keys_go_in_hand _ _ _ }
+returns c d = record { rows = rows_hand_over _ _ _; calls = calls_go_in_hand _ _ _ }

@@ -1,0 +1,50 @@
+-- What calls on whole maps have come to stays so where anything else happens than a step of a call.
+use Rattle.std.specs.Prelude.{◌≡◌, ℕ, Bool, List, find, Option, Some}
+use Rattle.std.proofs.Common.{ap, sym, subst, ◌∙◌}
+use Rattle.seize_words.specs.declared.fault.Fault.TheVariants.{Memory}
+use Rattle.papaya_runs.specs.Same.{is_same}
+use Rattle.papaya_schedules.specs.declared.outcome.Outcome.TheVariants.{Refused}
+use Rattle.papaya_schedules.specs.Entry.{Entry}
+use Rattle.papaya_schedules.specs.Moment.{UnderWay as CallThere, Moment}
+use Rattle.papaya_schedules.specs.Views.{call_of}
+use Rattle.papaya_callers.specs.Together.{UnderWay}
+use Rattle.papaya_effects.specs.Known.{Known}
+use Rattle.papaya_executor.specs.IsAt.{Scene}
+use Rattle.papaya_finishes.specs.Maps.{Standing}
+use Rattle.papaya_histories.proofs.Aside.Elsewhere.{stays_elsewhere}
+use Rattle.papaya_others.specs.After.{ShowsAfter}
+use Rattle.papaya_purposes.specs.Elsewhere.{PurposesStay}
+use Rattle.papaya_purposes.specs.Purposes.{HasCome, ShowsPurposes}
+use Rattle.papaya_purposes.proofs.Between.{calls_come_to_purposes, walks_go_on_purposes}
+use Rattle.papaya_purposes.proofs.Rows.{beside_purposes}
+use Rattle.papaya_purposes.proofs.Shown.{same_still}
+use Rattle.papaya_purposes.proofs.Still.{come_still}
+
+-- the same pairs were stored and lie where they lay, and no call comes
+module _ {K V : Type 0} (same : K → K → Bool) (name : ℕ → List ℕ) (log : List (Entry K V)) (m m2 : Moment K V) (known : Known) (s s2 : Scene K V) (purposes : ShowsPurposes same name log m known s)
+    (place : m2.place ≡ m.place) (stored : m2.stored ≡ m.stored) (calls : m2.calls ≡ m.calls) (after : ShowsAfter same name m known s purposes.shown m2 known s2)
+    (fewer : (n j : ℕ) (x : UnderWay K V K) → s2.calls n j ≡ Some x → s.calls n j ≡ Some x) (maps : s2.maps ≡ s.maps) where
+  was_called : (j : ℕ) (c : CallThere K V) → call_of (name j) m2 ≡ Some c → call_of (name j) m ≡ Some c
+  was_called j c found = ap (λ (cs : List (CallThere K V)). find (λ x. is_same x.caller (name j)) cs) (sym calls) ∙ found
+
+  stood : (n : ℕ) (st : Standing K) → s2.maps n ≡ Some st → s.maps n ≡ Some st
+  stood n st is = subst (λ (f : ℕ → Option (Standing K)). f n ≡ Some st) maps is
+
+  between_purposes : ShowsPurposes same name log m2 known s2
+  between_purposes = record {
+    shown = after.shows;
+    begun = λ n j x is c found. purposes.begun n j x (fewer n j x is) c (was_called j c found);
+    is_for = λ n j x is c found. purposes.is_for n j x (fewer n j x is) c (was_called j c found);
+    come = λ n j x is st there c found.
+        subst (λ (f : ℕ → ℕ). HasCome same n st f log m2 x c) (sym (after.numbers n st (stood n st there)))
+        (come_still same n st (purposes.shown.number n) log m m2 place stored c c (same_still c) x
+        (purposes.come n j x (fewer n j x is) st (stood n st there) c (was_called j c found)));
+  }
+
+pub purposes_stay : (K V S : Type 0) (same : K → K → Bool) (hash : K → ℕ) → PurposesStay K V S same hash
+purposes_stay K V S same hash name log = stays_elsewhere S same hash name (ShowsPurposes same name log)
+    (λ m m2 known known2 s s2 old new at_old at_new purposes after beside.
+    beside_purposes same hash name log m m2 known known2 s s2 old new at_old at_new purposes (after purposes.shown) beside)
+    (λ m m2 known s s2 purposes place stored calls after fewer maps. between_purposes same name log m m2 known s s2 purposes place stored calls (after purposes.shown) fewer maps)
+    (λ m known s purposes map i o here ready. walks_go_on_purposes K V same name log m known s purposes map i o here ready)
+    (λ m known s purposes own none. calls_come_to_purposes K V same name log m known s purposes own (Refused Memory) 0 tt (λ ends. none))

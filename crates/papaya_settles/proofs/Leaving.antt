@@ -1,0 +1,92 @@
+-- A step of a call that is none of a row, which takes no pair out of its map and makes no table the root: its effects leave what the call owes; and a call that does not go on
+-- has ended.
+use Rattle.std.specs.Prelude.{◌≡◌, ℕ, ◌||◌, Bool, true, false, List, [], ◌∷◌, ◌++◌, flat_map, Option, Some, None, option_map, if◌then◌else◌}
+use Rattle.std.specs.List.{list_any}
+use Rattle.std.proofs.Common.{refl, ap, sym, subst, ◌∙◌, inl, inr}
+use Rattle.seize_words.specs.Plan.{Plan}
+use Rattle.papaya_tables.specs.declared.node.Node.{Node}
+use Rattle.papaya_raw.specs.declared.machines.machine.Machine.{Machine}
+use Rattle.papaya_raw.specs.declared.machines.progress.Progress.{Progress}
+use Rattle.papaya_schedules.specs.declared.effect.Effect.{Effect}
+use Rattle.papaya_schedules.specs.declared.effect.Effect.TheVariants as effect
+use Rattle.papaya_schedules.specs.declared.effect.Table.{Table}
+use Rattle.papaya_schedules.specs.declared.effect.Thing.{Thing}
+use Rattle.papaya_schedules.specs.Linearizable.{shift_of}
+use Rattle.papaya_schedules.specs.Moment.{Moment}
+use Rattle.papaya_teller.specs.Tells.{StepsTold}
+use Rattle.papaya_teller.specs.declared.changed.Changed.TheVariants as changed
+use Rattle.papaya_rule.proofs.World.RootSpared.{PlanSparesRoot}
+use Rattle.papaya_callers.specs.Together.{UnderWay}
+use Rattle.papaya_effects.specs.Effects.{effects_of}
+use Rattle.papaya_effects.specs.Known.{Known}
+use Rattle.papaya_effects.specs.declared.acting.Acting.TheVariants as acts
+use Rattle.papaya_executor.specs.IsAt.{Scene, IsAt}
+use Rattle.papaya_executor.specs.Stepping.{has_ended, going_on, StepLeads}
+use Rattle.papaya_executor.specs.declared.executor.Executor.{Executor}
+use Rattle.papaya_executor.proofs.Steps.{goes_as}
+use Rattle.papaya_finishes.specs.Machines.{machine_of}
+use Rattle.papaya_follows.specs.Shows.{Shows}
+use Rattle.papaya_follows.proofs.Steps.{WentTo, went_to, OfNoRow}
+use Rattle.papaya_follows.proofs.Writes.{nothing_free}
+use Rattle.papaya_settles.specs.InHand.{TakesPair}
+use Rattle.papaya_settles.specs.Owing.{hands_over, HandsOver, AllLeave, OwesGo, KeepsOwed, TakesOut, PutsOver, Passes, HandsFirst}
+use Rattle.papaya_settles.proofs.Takings.{steps_take_out}
+use Rattle.papaya_settles.proofs.Unpromoted.{NonePromotes, none_promotes, spared_tells}
+
+-- what hands something over does so
+hands_it : (f : Effect) (x : Thing) → HandsOver f x → hands_over f ≡ true
+hands_it (effect.Deferred n t) x hands = refl
+hands_it (effect.Retired y) x hands = refl
+hands_it _ x hands = absurd hands
+
+pub no_handing : (effects : List Effect) → list_any hands_over effects ≡ false → (f : Effect) (y : Thing) → effects ≡ f ∷ [] → HandsOver f y → ⊥
+no_handing effects none f y are hands =
+    (let still : list_any hands_over (f ∷ []) ≡ false = ap (list_any hands_over) (sym are) ∙ none in
+    let some : list_any hands_over (f ∷ []) ≡ true = ap (λ (q : Bool). q || false) (hands_it f y hands) in cc (still, some))
+
+-- where no pair comes or goes, none is taken out
+pub shifts_take : (effects : List Effect) → flat_map shift_of effects ≡ [] → (p : ℕ) → TakesPair effects p → ⊥
+shifts_take effects none p (inl are) = (let gone = ap (λ (l : List Effect). flat_map shift_of l) are in cc (gone, none))
+shifts_take effects none p (inr (n, s, are)) = (let gone = ap (λ (l : List Effect). flat_map shift_of l) are in cc (gone, none))
+
+module _ {K V S : Type 0} (same : K → K → Bool) (hash : K → ℕ) (name : ℕ → List ℕ) (m : Moment K V) (known : Known) (s : Scene K V) (old new : Executor K V S) (at_old : IsAt same hash old s)
+    (shown : Shows same name m known s) (map i : ℕ) (u : UnderWay K V K) (under_way : s.calls map i ≡ Some u) (said : Progress (Node K V)) (leads : StepLeads same hash i said s old new) where
+  abbrev to : WentTo same hash name m known s old new at_old shown map i u under_way said leads
+  to = went_to same hash name m known s old new at_old shown map i u under_way said leads
+
+  abbrev effects : List Effect
+  effects = effects_of (acts.Call i map) known new.memory.changed
+
+  -- a call that does not go on has ended
+  pub has_gone : to.4.next ≡ None → has_ended said ≡ true
+  has_gone none = by (has_ended said) refl
+    where
+      whole : ◌≡◌ {A = Option (Machine K V K)} None (going_on to.1 said)
+      whole = ap (option_map machine_of) (sym none) ∙ goes_as to.1 said to.4.next to.4.goes_on
+
+      by : (q : Bool) → has_ended said ≡ q → has_ended said ≡ true
+      by true e = e
+      by false e = absurd (let some : ◌≡◌ {A = Option (Machine K V K)} None (Some to.1) = whole ∙ ap (λ (q : Bool). if q then None else Some to.1) e in cc some)
+
+  -- a step that spares the roots makes no table the root
+  pub no_promotion : {R : Type 0} (plan : Plan (Node K V) R) (end : R) → PlanSparesRoot plan → StepsTold K V R old.memory.memory changed.Nothing plan new.memory.memory new.memory.changed end
+      → (t : Table) → effects ≡ effect.Promoted t ∷ [] → ⊥
+  no_promotion plan end spares steps t are =
+      (let none = none_promotes i map known (nothing_free s.world m.stored known shown.blocks.roles) new.memory.changed
+      (spared_tells old.memory.memory new.memory.memory new.memory.changed plan end spares steps) in
+      let no = (subst NonePromotes are none).0 in cc no)
+
+  -- so its effects leave what is owed
+  pub leaves : OfNoRow same hash name m known s old new at_old shown map i u under_way said leads u to.4.did → ((p : ℕ) → TakesPair effects p → ⊥) → ((t : Table) → effects ≡ effect.Promoted t ∷ [] → ⊥)
+      → AllLeave effects
+  leaves own no_pair no_table = by taking.0 taking.1
+    where
+      taking : (taken : List Thing) × OwesGo m effects [] ([] ++ taken) × (list_any hands_over effects ≡ false)
+      taking = steps_take_out K V S same hash name m known s old new at_old shown map i u under_way said leads own []
+
+      by : (taken : List Thing) → OwesGo m effects [] ([] ++ taken) → AllLeave effects
+      by taken (KeepsOwed all same_owed) = all
+      by taken (TakesOut p are more) = absurd (no_pair p (inl are))
+      by taken (PutsOver p n sp are more) = absurd (no_pair p (inr (n, sp, are)))
+      by taken (Passes t are more) = absurd (no_table t are)
+      by taken (HandsFirst f y are hands less) = absurd (no_handing effects taking.2 f y are hands)
