@@ -149,7 +149,7 @@ LinkedAre Q tables = AllByRecursion (λ u. is_linked u.stage ≡ true → Q u.ta
 
 module _ {K V : Type 0} where
   -- such effects leave maps as they are, and no table linked that is taken
-  ends_leave_maps : (acted : Option ℕ) (effects : List Effect) (m : Moment K V) → list_all is_ending effects ≡ true → (with_effects None acted effects m).maps ≡ m.maps
+  pub ends_leave_maps : (acted : Option ℕ) (effects : List Effect) (m : Moment K V) → list_all is_ending effects ≡ true → (with_effects None acted effects m).maps ≡ m.maps
   ends_leave_maps acted [] m all = refl
   ends_leave_maps acted (f ∷ effects) m all =
       let two = and_parts (is_ending f) (list_all is_ending effects) all in ends_leave_maps acted effects (with_effect None acted f m) two.1 ∙ one f two.0
@@ -262,7 +262,7 @@ none_at test place (suc n) e k l u = by (test (place (suc n))) refl (cases_eq k 
     by false is (inr ne) rest = rest (omega (arith, e)) k l (omega (arith, u, ne))
 
 module _ {K V : Type 0} where
-  abbrev entry : Event K V → Outcome V → ℕ → List Effect → Entry K V
+  abbrev pub entry : Event K V → Outcome V → ℕ → List Effect → Entry K V
   entry event outcome steps effects = record { event = event; outcome = outcome; steps = steps; effects = effects }
 
   roots_go : (event : Event K V) (outcome : Outcome V) (steps : ℕ) (effects : List Effect) (m : Moment K V) → AreNamed m → AreFound m → list_all (may_do event m) effects ≡ true

@@ -12,4 +12,6 @@ pub mod Bounded
 pub mod Events
 pub mod Endings
 pub mod Within
+pub mod Begun
+pub mod Runs
 pub mod Little

@@ -95,7 +95,7 @@ due_keeps call.Walk c old new = (refl, refl)
 
 module _ {K V : Type 0} (own : List ℕ) (change : UnderWay K V → UnderWay K V) (same : (c : UnderWay K V) → IsOfSame c (change c)) where
   -- whether a call is of this caller, its own change makes no other one of it
-  named_still : (caller : List ℕ) (calls : List (UnderWay K V)) → list_any (λ d. is_same d.caller caller) (map (changed change same own) calls) ≡ list_any (λ d. is_same d.caller caller) calls
+  pub named_still : (caller : List ℕ) (calls : List (UnderWay K V)) → list_any (λ d. is_same d.caller caller) (map (changed change same own) calls) ≡ list_any (λ d. is_same d.caller caller) calls
   named_still caller [] = refl
   named_still caller (c ∷ calls) =
       ap (λ (l : List ℕ). is_same l caller || list_any (λ d. is_same d.caller caller) (map (changed change same own) calls)) (of_same change same own c).0

@@ -51,7 +51,7 @@ module _ {X : Type 0} (test : X → Bool) where
       by true e here rest = let it : y ≡ x = cc here in (ap test (sym it) ∙ e, subst P it all.0)
       by false e here rest = rest here
 
-  found_any : (xs : List X) (x : X) → find test xs ≡ Some x → list_any test xs ≡ true
+  pub found_any : (xs : List X) (x : X) → find test xs ≡ Some x → list_any test xs ≡ true
   found_any [] x is = absurd (cc is)
   found_any (y ∷ ys) x is = by (test y) is (found_any ys x)
     where
@@ -60,7 +60,7 @@ module _ {X : Type 0} (test : X → Bool) where
       by false here rest = rest here
 
   -- and where one does, one is found
-  any_found : (xs : List X) → list_any test xs ≡ true → (x : X) × (find test xs ≡ Some x)
+  pub any_found : (xs : List X) → list_any test xs ≡ true → (x : X) × (find test xs ≡ Some x)
   any_found [] any = absurd (cc any)
   any_found (y ∷ ys) any = by (test y) any (any_found ys)
     where
@@ -72,7 +72,7 @@ number_is : (a b : ℕ) → (a == b) ≡ true → a ≡ b
 number_is a b e = grind (arith, e)
 
 -- of callers that are apart only the one that is found has the name
-only_one : {K V : Type 0} (own : List ℕ) (calls : List (UnderWay K V)) (c : UnderWay K V) → AreApart calls → find (λ d. is_same d.caller own) calls ≡ Some c
+pub only_one : {K V : Type 0} (own : List ℕ) (calls : List (UnderWay K V)) (c : UnderWay K V) → AreApart calls → find (λ d. is_same d.caller own) calls ≡ Some c
     → AllByRecursion (λ d. is_same d.caller own ≡ true → d ≡ c) calls
 only_one own [] c apart is = tt
 only_one {K} {V} own (d ∷ calls) c apart is = by (is_same d.caller own) refl is (only_one own calls c apart.1)
@@ -547,7 +547,7 @@ module _ {K V : Type 0} (terms : Terms) (everything : Bool) (moments : List (Mom
     found_then : AreFound (then_at f)
     found_then = numbers_stay caller acted f m h.waits.found
 
-    in_order : AllIsInOrder (then_at f)
+    pub in_order : AllIsInOrder (then_at f)
     in_order = record {
       waits = record {
         placed = effects_keep_placed K V caller acted (f ∷ []) m (its_placed, tt) h.waits.placed;

@@ -7,6 +7,7 @@ ghost use Rattle.papaya_little.specs.Little.{EventsLeaveLittle};
 ghost use Rattle.papaya_little.specs.Orderly.{OrderAtFirst, OrderlyAtRest, EmptiedOnceReclaimed};
 ghost use Rattle.papaya_little.specs.Tables.{EffectsKeepTables, OthersKeepTables};
 ghost use Rattle.papaya_little.specs.TornDown.{SomewhereAtFirst, EffectsKeepSomewhere, OthersKeepSomewhere, TornDownInTheEnd};
+ghost use Rattle.papaya_little.specs.Within.{AllInOrderAtFirst, LifeKeepsOrder, EventsKeepOrder, RunsAreInOrder};
 ghost use Rattle.papaya_little.specs.Waiting.{PlacedAtFirst, EffectsKeepPlaced, OthersKeepPlaced, EndedOweNothing};
 
 /// A pair that has left its map is with the call that took it out, which owes it once; or behind a table, once; or it was retired, or left over; or it was given back,
@@ -50,4 +51,14 @@ pub fn all_comes_back<K, V>()
     ensures emptied { EmptiedOnceReclaimed K V }
     ensures torn_down { TornDownInTheEnd K V }
     ensures little { EventsLeaveLittle K V }
+{}
+
+/// All this is so at each moment of a run whose events come to what is right for them and keep the promise `life`: pairs that have left their maps are in their places,
+/// tables in order, each stored pair somewhere, and tables, pairs and calls within what their maps have had. It is so before all events, after effects that find what
+/// their event's life asks, and after each event: it is asked that an effect that stores a pair stores one, and that a walk that is stopped owes nothing.
+pub fn all_waits_in_order<K, V>()
+    ensures begins { AllInOrderAtFirst K V }
+    ensures life { LifeKeepsOrder K V }
+    ensures events { EventsKeepOrder K V }
+    ensures runs { RunsAreInOrder K V }
 {}

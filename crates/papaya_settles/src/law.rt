@@ -83,8 +83,8 @@ pub fn rows_hand_over_first<K, V, S>()
 {}
 
 /// At each moment of a run that shows the executor, a call under way owes just what its machine has in hand, in the order in which it hands that over. So it is before all
-/// events; after each step of a call, whoever's, by which what the call has in hand goes with the effects: these find what they hand over, and a call that has ended so owes
-/// nothing; where a call begins that has nothing in hand, takes a reply and comes to an outcome; and a walk that is ready has nothing in hand.
+/// events; after each step of a call, whoever's: its effects find what they hand over, and a call that has ended owes nothing; where a call begins that has nothing in hand,
+/// takes a reply and comes to an outcome; and a walk that is ready has nothing in hand.
 pub fn calls_owe_what_they_have<K, V, S>()
     ensures begins { OwedBegins K V }
     ensures calls { (same : K → K → Bool) (hash : K → ℕ) → CallsKeepOwed K V S same hash }
