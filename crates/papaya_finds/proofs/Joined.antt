@@ -106,8 +106,8 @@ module _ {K V : Type 0} where
   -- what each effect finds, another way said
   each_as : (P Q : Moment K V → Effect → Type 0) → ((m : Moment K V) (f : Effect) → P m f → Q m f) → (who : Option (List ℕ)) (map : Option ℕ) (effects : List Effect) (m : Moment K V)
       → AtEachEffect P who map effects m → AtEachEffect Q who map effects m
-  each_as P Q as who map [] m all = tt
-  each_as P Q as who map (f ∷ fs) m all = (as m f all.0, each_as P Q as who map fs (with_effect who map f m) all.1)
+  each_as P Q so who map [] m all = tt
+  each_as P Q so who map (f ∷ fs) m all = (so m f all.0, each_as P Q so who map fs (with_effect who map f m) all.1)
 
 pub events_find_all : (K V : Type 0) → EventsFindAll K V
 events_find_all K V terms log e b own c caller c_is all =

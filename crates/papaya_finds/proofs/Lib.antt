@@ -9,4 +9,4 @@ pub mod Found
 pub mod Joined
 pub mod Past
 pub mod Quiet
-pub mod Kinds
+pub mod Doing

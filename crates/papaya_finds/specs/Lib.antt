@@ -3,4 +3,4 @@ pub mod Joined
 pub mod Steps
 pub mod Past
 pub mod Quiet
-pub mod Kinds
+pub mod Doing

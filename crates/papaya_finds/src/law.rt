@@ -1,7 +1,7 @@
 //! What is promised of the effects of calls: each finds what it must.
 ghost use Rattle.std.specs.Prelude.{ℕ, Bool};
 ghost use Rattle.papaya_finds.specs.Joined.{PartsAreAll, SeveralFindAll, EventsFindAll, PairsAreAskedFor};
-ghost use Rattle.papaya_finds.specs.Kinds.{SeveralDoTheirs, EventsMayDo};
+ghost use Rattle.papaya_finds.specs.Doing.{SeveralDoTheirs, EventsMayDo};
 ghost use Rattle.papaya_finds.specs.Past.{EffectsLeavePast, CallsFindOnward};
 ghost use Rattle.papaya_finds.specs.Quiet.{FoundLeaveNothing, OthersOweNothing};
 ghost use Rattle.papaya_finds.specs.Steps.{StepsDoTheirs, StepsFindPlaces, StepsFindParts};

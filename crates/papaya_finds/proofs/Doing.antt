@@ -7,7 +7,7 @@ use Rattle.papaya_schedules.specs.declared.effect.Effect.{Effect}
 use Rattle.papaya_schedules.specs.declared.event.Event.TheVariants.{Step, Go, OneCall}
 use Rattle.papaya_schedules.specs.Handing.{is_call_effect, may_do}
 use Rattle.papaya_spots.proofs.Unreclaimed.{and_both}
-use Rattle.papaya_finds.specs.Kinds.{SeveralDoTheirs, EventsMayDo}
+use Rattle.papaya_finds.specs.Doing.{SeveralDoTheirs, EventsMayDo}
 
 pub several_do_theirs : SeveralDoTheirs
 several_do_theirs done effects before after = list_all-append is_call_effect done effects ∙ ap (λ (q : Bool). q && list_all is_call_effect effects) before ∙ after
