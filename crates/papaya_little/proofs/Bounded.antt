@@ -1,5 +1,5 @@
 -- What is retired at a moment of a run is in as many blocks, each of which is retired in the memory: so it is bounded as these are.
-use Rattle.std.specs.Prelude.{◌≡◌, ℕ, zero, suc, ◌+◌, ◌-◌, ◌*◌, ◌<◌, ◌≤◌, ◌==◌, ◌⊎◌, max, Bool, true, false, not, cond, ◌||◌, List, [], ◌∷◌, length, filter, if◌then◌else◌}
+use Rattle.std.specs.Prelude.{◌≡◌, ℕ, zero, suc, ◌+◌, ◌-◌, ◌*◌, ◌<◌, ◌≤◌, ◌==◌, ◌⊎◌, max, Bool, true, false, not, cond, ◌||◌, List, [], ◌∷◌, length, filter}
 use Rattle.std.specs.List.{AllByRecursion, list_any}
 use Rattle.std.proofs.Common.{refl, ap, sym, subst, ◌∙◌, arith, inl, inr}
 use Rattle.std.proofs.lemmas.Bool.{cases_eq, eq-eqb, ne_eqb}
@@ -16,6 +16,7 @@ use Rattle.papaya_schedules.specs.Views.{is_retired, places_below}
 use Rattle.papaya_spots.proofs.Unreclaimed.{same_itself}
 use Rattle.papaya_effects.specs.Known.{Known}
 use Rattle.papaya_effects.specs.declared.role.Role.TheVariants as role
+use Rattle.papaya_little.specs.Waiting.{once_if}
 use Rattle.papaya_little.specs.Bounded.{TablesApart, HasRetiredTable, ShowsRetired, LittleWaits, NothingRetiredOnceReclaimed}
 use Rattle.papaya_little.proofs.Lists.{all_so, each_passes}
 
@@ -41,12 +42,12 @@ module _ (Q R : ℕ → Type 0) (so : (b : ℕ) → Q b → R b) (many : ℕ) (b
     blocks = b ∷ before.blocks;
     counted = (let was = before.counted in omega (arith, was, e));
     once = λ x. elim (cases_eq x b) as (λ _. times x (b ∷ before.blocks) ≤ 1) [
-      | inl same ↦ (let here : (if x == b then 1 else 0) ≡ 1 = ap (λ (q : Bool). if q then 1 else 0) (eq-eqb x b same) in let rest = none x same in omega (arith, here, rest))
-      | inr ne ↦ (let here : (if x == b then 1 else 0) ≡ 0 = ap (λ (q : Bool). if q then 1 else 0) (ne_eqb x b ne) in let rest = before.once x in omega (arith, here, rest))
+      | inl same ↦ (let here : once_if (x == b) ≡ 1 = ap once_if (eq-eqb x b same) in let rest = none x same in omega (arith, here, rest))
+      | inr ne ↦ (let here : once_if (x == b) ≡ 0 = ap once_if (ne_eqb x b ne) in let rest = before.once x in omega (arith, here, rest))
     ];
     each = λ x some. elim (cases_eq x b) as (λ _. R x) [
       | inl same ↦ subst R (sym same) its
-      | inr ne ↦ so x (before.each x (let here : (if x == b then 1 else 0) ≡ 0 = ap (λ (q : Bool). if q then 1 else 0) (ne_eqb x b ne) in omega (arith, here, some)))
+      | inr ne ↦ so x (before.each x (let here : once_if (x == b) ≡ 0 = ap once_if (ne_eqb x b ne) in omega (arith, here, some)))
     ];
   }
     where
@@ -59,7 +60,7 @@ module _ (Q R : ℕ → Type 0) (so : (b : ℕ) → Q b → R b) (many : ℕ) (b
 
 module _ {K V : Type 0} (m : Moment K V) (known : Known) (w : World (Node K V)) (h : ShowsRetired m known w) where
   -- the block is that of a pair with a number up to this one
-  IsPairUpTo : ℕ → ℕ → Type 0
+  abbrev IsPairUpTo : ℕ → ℕ → Type 0
   IsPairUpTo k b = (n : ℕ) × (n ≤ k) × (known.roles b ≡ role.Pair n) × (is_retired_in b w.log ≡ true)
 
   pairs_retired : (k : ℕ) → Blocks (IsPairUpTo k) (places_below is_handed m.place k)
@@ -72,7 +73,7 @@ module _ {K V : Type 0} (m : Moment K V) (known : Known) (w : World (Node K V)) 
       by : (q : Bool) → is_handed (m.place (suc k)) ≡ q → Blocks (IsPairUpTo k) (places_below is_handed m.place k) → Blocks (IsPairUpTo (suc k)) (places_below is_handed m.place (suc k))
       by true is before =
           let new = h.pairs (suc k) is in
-          let one : (if is_handed (m.place (suc k)) then 1 else 0) ≡ 1 = ap (λ (q : Bool). if q then 1 else 0) is in
+          let one : once_if (is_handed (m.place (suc k))) ≡ 1 = ap once_if is in
           one_more (IsPairUpTo k) (IsPairUpTo (suc k)) further (places_below is_handed m.place k) before new.0 (λ its. not_new new.0 new.1 its) (suc k, omega arith, new.1, new.2)
           (places_below is_handed m.place (suc k)) (omega (arith, one))
         where
@@ -83,15 +84,15 @@ module _ {K V : Type 0} (m : Moment K V) (known : Known) (w : World (Node K V)) 
               let l = its.1 in
               omega (arith, same, l)
       by false is before =
-          let none : (if is_handed (m.place (suc k)) then 1 else 0) ≡ 0 = ap (λ (q : Bool). if q then 1 else 0) is in
+          let none : once_if (is_handed (m.place (suc k))) ≡ 0 = ap once_if is in
           as_many (IsPairUpTo k) (IsPairUpTo (suc k)) further (places_below is_handed m.place k) before (places_below is_handed m.place (suc k)) (omega (arith, none))
 
   module _ (pairs : ℕ) (all_pairs : Blocks (IsPairUpTo pairs) (places_below is_handed m.place pairs)) where
     -- or it is that of one of these tables
-    IsTableOf : List TableThere → ℕ → Type 0
+    abbrev IsTableOf : List TableThere → ℕ → Type 0
     IsTableOf tables b = (t : Table) × (len : ℕ) × (list_any (λ v. same_table v.table t) tables ≡ true) × (known.roles b ≡ role.Table t len) × (is_retired_in b w.log ≡ true)
 
-    IsEither : List TableThere → ℕ → Type 0
+    abbrev IsEither : List TableThere → ℕ → Type 0
     IsEither tables b = IsPairUpTo pairs b ⊎ IsTableOf tables b
 
     abbrev how_many : List TableThere → ℕ
@@ -142,7 +143,7 @@ little_waits K V batch_size m known w word came nobody shows =
     let pairs = pairs_retired m known w shows (length m.stored) in
     let all = with_tables m known w shows (length m.stored) pairs m.tables shows.apart shows.tables in
     let most = garbage_bounded deferred_word batch_size came.0 came.1 w word came.2 nobody.rests nobody.outside m.slots shows.slots all.blocks all.once
-      (λ b some. retired m known w shows (length m.stored) pairs m.tables b (all.each b some)) in
+    (λ b some. retired m known w shows (length m.stored) pairs m.tables b (all.each b some)) in
     let same : max (max batch_size m.slots) 1 ≡ max batch_size (max m.slots 1) = omega arith in
     subst (λ (q : ℕ). waiting_things m ≤ m.slots * (q - 1)) same (subst (λ (q : ℕ). q ≤ m.slots * (max (max batch_size m.slots) 1 - 1)) all.counted most)
 

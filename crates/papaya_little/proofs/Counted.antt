@@ -1,5 +1,5 @@
 -- A pair that is put elsewhere: how often pairs stand in a list, by where they are, once one has come to it, or has gone.
-use Rattle.std.specs.Prelude.{◌≡◌, ◌≢◌, ℕ, ◌+◌, ◌==◌, Bool, true, false, not, cond, ◌||◌, List, [], ◌∷◌, filter, map, if◌then◌else◌}
+use Rattle.std.specs.Prelude.{◌≡◌, ℕ, ◌+◌, ◌==◌, Bool, true, false, not, cond, ◌||◌, List, [], ◌∷◌, filter, map, if◌then◌else◌}
 use Rattle.std.proofs.Common.{refl, ap, sym, subst, ◌∙◌, arith, inl, inr}
 use Rattle.std.proofs.lemmas.Bool.{cases_eq, eq-eqb, ne_eqb}
 use Rattle.papaya_schedules.specs.declared.effect.Table.{Table}
@@ -18,10 +18,10 @@ Counts test place count = (k : ℕ) → count k ≡ once_if (test (place k))
 module _ (test : Place → Bool) (place : ℕ → Place) (n : ℕ) (to : Place) (count count2 : ℕ → ℕ) (counts : Counts test place count) where
   -- a pair has come to it
   pub gains : test to ≡ true → test (place n) ≡ false → ((k : ℕ) → count2 k ≡ count k + once_if (k == n)) → Counts test (put n to place) count2
-  gains yes no more k = elim (cases_eq k n) as (λ _. count2 k ≡ once_if (test (put n to place k))) [
+  gains is_so is_not more k = elim (cases_eq k n) as (λ _. count2 k ≡ once_if (test (put n to place k))) [
     | inl e ↦
-        let now : once_if (test (put n to place k)) ≡ 1 = ap once_if (ap test (put_here n to place k e) ∙ yes) in
-        let was : count k ≡ 0 = counts k ∙ ap once_if (ap (λ (q : ℕ). test (place q)) e ∙ no) in
+        let now : once_if (test (put n to place k)) ≡ 1 = ap once_if (ap test (put_here n to place k e) ∙ is_so) in
+        let was : count k ≡ 0 = counts k ∙ ap once_if (ap (λ (q : ℕ). test (place q)) e ∙ is_not) in
         let one : once_if (k == n) ≡ 1 = ap once_if (eq-eqb k n e) in
         let all = more k in
         omega (arith, now, was, one, all)
@@ -35,10 +35,10 @@ module _ (test : Place → Bool) (place : ℕ → Place) (n : ℕ) (to : Place) 
 
   -- one has gone from it
   pub loses : test to ≡ false → test (place n) ≡ true → ((k : ℕ) → count2 k + once_if (k == n) ≡ count k) → Counts test (put n to place) count2
-  loses no yes fewer k = elim (cases_eq k n) as (λ _. count2 k ≡ once_if (test (put n to place k))) [
+  loses is_not is_so fewer k = elim (cases_eq k n) as (λ _. count2 k ≡ once_if (test (put n to place k))) [
     | inl e ↦
-        let now : once_if (test (put n to place k)) ≡ 0 = ap once_if (ap test (put_here n to place k e) ∙ no) in
-        let was : count k ≡ 1 = counts k ∙ ap once_if (ap (λ (q : ℕ). test (place q)) e ∙ yes) in
+        let now : once_if (test (put n to place k)) ≡ 0 = ap once_if (ap test (put_here n to place k e) ∙ is_not) in
+        let was : count k ≡ 1 = counts k ∙ ap once_if (ap (λ (q : ℕ). test (place q)) e ∙ is_so) in
         let one : once_if (k == n) ≡ 1 = ap once_if (eq-eqb k n e) in
         let all = fewer k in
         omega (arith, now, was, one, all)
@@ -52,8 +52,8 @@ module _ (test : Place → Bool) (place : ℕ → Place) (n : ℕ) (to : Place) 
 
   -- the pair was not there, and is not
   pub stays : test to ≡ false → test (place n) ≡ false → ((k : ℕ) → count2 k ≡ count k) → Counts test (put n to place) count2
-  stays no was_no same k = elim (cases_eq k n) as (λ _. count2 k ≡ once_if (test (put n to place k))) [
-    | inl e ↦ same k ∙ (counts k ∙ (ap once_if (ap (λ (q : ℕ). test (place q)) e ∙ was_no) ∙ sym (ap once_if (ap test (put_here n to place k e) ∙ no))))
+  stays is_not was_no same k = elim (cases_eq k n) as (λ _. count2 k ≡ once_if (test (put n to place k))) [
+    | inl e ↦ same k ∙ (counts k ∙ (ap once_if (ap (λ (q : ℕ). test (place q)) e ∙ was_no) ∙ sym (ap once_if (ap test (put_here n to place k e) ∙ is_not))))
     | inr ne ↦ same k ∙ (counts k ∙ sym (ap (λ (p : Place). once_if (test p)) (put_elsewhere n to place k ne)))
   ]
 
@@ -80,11 +80,11 @@ module _ (t : Table) where
 
       by : (q : Bool) → same_table d.behind t ≡ q → (is_among n (behind t deferred) ≡ false → put_in n (filter stays_put deferred) ≡ put_in n deferred) → Goal (same_table d.behind t)
       by true is rest = subst Goal (sym is) (
-        let two = first_is (n == d.pair) (is_among n (behind t deferred)) (subst Among is none) in
-        let here : once_if (n == d.pair) ≡ 0 = ap once_if two.0 in
-        let others = rest two.1 in
-        omega (arith, here, others)
-      )
+          let two = first_is (n == d.pair) (is_among n (behind t deferred)) (subst Among is none) in
+          let here : once_if (n == d.pair) ≡ 0 = ap once_if two.0 in
+          let others = rest two.1 in
+          omega (arith, here, others)
+          )
       by false is rest = subst Goal (sym is) (let others = rest (subst Among is none) in omega (arith, others))
 
   -- one that is behind it, and stands there once, is behind none then
@@ -131,10 +131,10 @@ module _ (t : Table) where
         by : (q : Bool) → is_behind_one (place k) ≡ q → is_behind_one (place k) ≡ true
         by true is = is
         by false is = absurd (
-          let some = all_gone k deferred there in let e = some.1 in
-          let none : put_in k deferred ≡ 0 = counts k ∙ ap once_if is in
-          omega (arith, e, none)
-        )
+            let some = all_gone k deferred there in let e = some.1 in
+            let none : put_in k deferred ≡ 0 = counts k ∙ ap once_if is in
+            omega (arith, e, none)
+            )
 
     here : (k : ℕ) → is_among k (behind t deferred) ≡ true → after k ≡ to
     here k e = ap (λ (q : Bool). if q then to else place k) e
@@ -144,23 +144,23 @@ module _ (t : Table) where
 
     -- the others are behind tables still
     pub lets_go : is_behind_one to ≡ false → Counts is_behind_one after (λ k. put_in k (filter stays_put deferred))
-    lets_go no k = by (is_among k (behind t deferred)) refl
+    lets_go is_not k = by (is_among k (behind t deferred)) refl
       where
         by : (q : Bool) → is_among k (behind t deferred) ≡ q → put_in k (filter stays_put deferred) ≡ once_if (is_behind_one (after k))
         by true e =
             let some = all_gone k deferred e in let its = some.1 in
             let one : put_in k deferred ≡ 1 = counts k ∙ ap once_if (was_behind k e) in
-            let none : once_if (is_behind_one (after k)) ≡ 0 = ap once_if (ap is_behind_one (here k e) ∙ no) in
+            let none : once_if (is_behind_one (after k)) ≡ 0 = ap once_if (ap is_behind_one (here k e) ∙ is_not) in
             omega (arith, its, one, none)
         by false e = let_go k deferred e ∙ (counts k ∙ sym (ap (λ (p : Place). once_if (is_behind_one p)) (elsewhere k e)))
 
     -- and of no other kind of place is there one more, or less
     pub others_stay : (test : Place → Bool) → test to ≡ false → test Behind ≡ false → ((p : Place) → is_behind_one p ≡ true → p ≡ Behind) → (count : ℕ → ℕ) → Counts test place count
         → Counts test after count
-    others_stay test no not_it is_it count counted k = by (is_among k (behind t deferred)) refl
+    others_stay test is_not not_it is_it count counted k = by (is_among k (behind t deferred)) refl
       where
         by : (q : Bool) → is_among k (behind t deferred) ≡ q → count k ≡ once_if (test (after k))
-        by true e = counted k ∙ (ap once_if (ap test (is_it (place k) (was_behind k e)) ∙ not_it) ∙ sym (ap once_if (ap test (here k e) ∙ no)))
+        by true e = counted k ∙ (ap once_if (ap test (is_it (place k) (was_behind k e)) ∙ not_it) ∙ sym (ap once_if (ap test (here k e) ∙ is_not)))
         by false e = counted k ∙ sym (ap (λ (p : Place). once_if (test p)) (elsewhere k e))
 
     -- none of them comes to be unborn

@@ -15,15 +15,15 @@ use Rattle.papaya_schedules.specs.declared.effect.Thing.TheVariants.{ATable}
 use Rattle.papaya_schedules.specs.After.{asks_on, comes_to, replied, without_call, stepped, calls_on, after}
 use Rattle.papaya_schedules.specs.Beginning.{with_call, with_map}
 use Rattle.papaya_schedules.specs.Effects.{worked}
-use Rattle.papaya_schedules.specs.Entry.{Entry, ends_call, caller_of}
+use Rattle.papaya_schedules.specs.Entry.{ends_call, caller_of}
 use Rattle.papaya_schedules.specs.Lists.{is_in}
-use Rattle.papaya_schedules.specs.Moment.{Stands, Going, Asking, Told, IsReady, UnderWay, MapThere, TableThere, Moment}
+use Rattle.papaya_schedules.specs.Moment.{Stands, Going, Asking, Told, IsReady, UnderWay, MapThere, TableThere}
 use Rattle.papaya_schedules.specs.Reclaims.{is_kept}
 use Rattle.papaya_schedules.specs.Things.{same_thing}
 use Rattle.papaya_schedules.specs.Views.{is_linked}
 use Rattle.papaya_follows.proofs.Calls.{IsOfSame}
 use Rattle.papaya_little.specs.Events.{ended_by, EndedOwesNone, BeginningsKeepPlaced, EventsKeepPlaced, BeginningsKeepTables, EventsKeepTables}
-use Rattle.papaya_little.specs.Waiting.{owed_in, owed_by, AreApart, PairsArePlaced}
+use Rattle.papaya_little.specs.Waiting.{owed_in, owed_by, AreApart}
 use Rattle.papaya_little.proofs.Owed.{apart_still, all_owe, ended_owe_nothing}
 use Rattle.papaya_little.proofs.OwedTables.{owed_still}
 use Rattle.papaya_little.proofs.Placed.{others_keep_placed}
@@ -36,29 +36,29 @@ beginnings_keep_placed K V m h = (
 )
 
 module _ {K V : Type 0} where
-  -- the same call of the same caller, which owes what it owed
-  abbrev OwesSame : UnderWay K V → UnderWay K V → Type 0
-  OwesSame c d = IsOfSame c d × (d.owes ≡ c.owes)
+  -- the same call of the same caller, which owes what it owed, and has the table that it had
+  abbrev pub OwesSame : UnderWay K V → UnderWay K V → Type 0
+  OwesSame c d = IsOfSame c d × (d.owes ≡ c.owes) × (d.table ≡ c.table)
 
   asks_same : (question : Option ℕ) (c : UnderWay K V) (stands : Stands) → OwesSame c (asks_on question c stands)
-  asks_same question c (Asking q) = ((refl, refl, refl), refl)
-  asks_same question c Going = ((refl, refl, refl), refl)
-  asks_same question c Told = ((refl, refl, refl), refl)
-  asks_same question c IsReady = ((refl, refl, refl), refl)
+  asks_same question c (Asking q) = ((refl, refl, refl), refl, refl)
+  asks_same question c Going = ((refl, refl, refl), refl, refl)
+  asks_same question c Told = ((refl, refl, refl), refl, refl)
+  asks_same question c IsReady = ((refl, refl, refl), refl, refl)
 
-  comes_same : (outcome : Outcome V) (c : UnderWay K V) → OwesSame c (comes_to outcome c)
+  pub comes_same : (outcome : Outcome V) (c : UnderWay K V) → OwesSame c (comes_to outcome c)
   comes_same (Asks question) c = asks_same question c c.stands
-  comes_same Goes c = ((refl, refl, refl), refl)
-  comes_same Waits c = ((refl, refl, refl), refl)
-  comes_same Ready c = ((refl, refl, refl), refl)
-  comes_same (Shows k) c = ((refl, refl, refl), refl)
-  comes_same _ c = ((refl, refl, refl), refl)
+  comes_same Goes c = ((refl, refl, refl), refl, refl)
+  comes_same Waits c = ((refl, refl, refl), refl, refl)
+  comes_same Ready c = ((refl, refl, refl), refl, refl)
+  comes_same (Shows k) c = ((refl, refl, refl), refl, refl)
+  comes_same _ c = ((refl, refl, refl), refl, refl)
 
-  told_same : (reply : Reply V) (c : UnderWay K V) (stands : Stands) → OwesSame c (replied reply c stands)
-  told_same reply c (Asking q) = ((refl, refl, refl), refl)
-  told_same reply c Going = ((refl, refl, refl), refl)
-  told_same reply c Told = ((refl, refl, refl), refl)
-  told_same reply c IsReady = ((refl, refl, refl), refl)
+  pub told_same : (reply : Reply V) (c : UnderWay K V) (stands : Stands) → OwesSame c (replied reply c stands)
+  told_same reply c (Asking q) = ((refl, refl, refl), refl, refl)
+  told_same reply c Going = ((refl, refl, refl), refl, refl)
+  told_same reply c Told = ((refl, refl, refl), refl, refl)
+  told_same reply c IsReady = ((refl, refl, refl), refl, refl)
 
   -- what is owed is the same, and callers are apart still
   abbrev IsSame : List (UnderWay K V) → List (UnderWay K V) → Type 0

@@ -10,4 +10,8 @@ pub mod Somewhere
 pub mod TornDown
 pub mod Bounded
 pub mod Events
+pub mod Endings
+pub mod Within
+pub mod Begun
+pub mod Runs
 pub mod Little

@@ -24,22 +24,6 @@ module _ {X : Type 0} where
       by true is e rest = or_left (q x) (list_any q xs) (so x is all.0)
       by false is e rest = or_right (q x) (list_any q xs) (rest e)
 
-  -- where those that pass are kept, one that passes is among those that are
-  pub any_kept : (p keep : X → Bool) → ((x : X) → p x ≡ true → keep x ≡ true) → (xs : List X) → list_any p xs ≡ true → list_any p (filter keep xs) ≡ true
-  any_kept p keep so [] any = any
-  any_kept p keep so (x ∷ xs) any = by (p x) refl (keep x) refl (any_kept p keep so xs)
-    where
-      Goal : Bool → Type 0
-      Goal q = list_any p (cond q (x ∷ filter keep xs) (filter keep xs)) ≡ true
-
-      later : p x ≡ false → list_any p xs ≡ true
-      later is = ap (λ (b : Bool). b || list_any p xs) (sym is) ∙ any
-
-      by : (a : Bool) → p x ≡ a → (b : Bool) → keep x ≡ b → (list_any p xs ≡ true → list_any p (filter keep xs) ≡ true) → Goal (keep x)
-      by true is b kept rest = subst Goal (sym (so x is)) (or_left (p x) (list_any p (filter keep xs)) is)
-      by false is true kept rest = subst Goal (sym kept) (or_right (p x) (list_any p (filter keep xs)) (rest (later is)))
-      by false is false kept rest = subst Goal (sym kept) (rest (later is))
-
   -- of all a further fact follows
   pub all_so : (P Q : X → Type 0) → ((x : X) → P x → Q x) → (xs : List X) → AllByRecursion P xs → AllByRecursion Q xs
   all_so P Q so [] all = tt
@@ -48,6 +32,39 @@ module _ {X : Type 0} where
   pub all_both : (P Q : X → Type 0) (xs : List X) → AllByRecursion P xs → AllByRecursion Q xs → AllByRecursion (λ x. P x × Q x) xs
   all_both P Q [] all also = tt
   all_both P Q (x ∷ xs) all also = ((all.0, also.0), all_both P Q xs all.1 also.1)
+
+  -- where those that pass are kept, one that passes is among those that are
+  pub any_kept_among : (p keep : X → Bool) (P : X → Type 0) → ((x : X) → p x ≡ true → P x → keep x ≡ true) → (xs : List X) → list_any p xs ≡ true → AllByRecursion P xs
+      → list_any p (filter keep xs) ≡ true
+  any_kept_among p keep P so [] any all = any
+  any_kept_among p keep P so (x ∷ xs) any all = by (p x) refl (keep x) refl (λ e. any_kept_among p keep P so xs e all.1)
+    where
+      Goal : Bool → Type 0
+      Goal q = list_any p (cond q (x ∷ filter keep xs) (filter keep xs)) ≡ true
+
+      later : p x ≡ false → list_any p xs ≡ true
+      later is = ap (λ (b : Bool). b || list_any p xs) (sym is) ∙ any
+
+      by : (a : Bool) → p x ≡ a → (b : Bool) → keep x ≡ b → (list_any p xs ≡ true → list_any p (filter keep xs) ≡ true) → Goal (keep x)
+      by true is b kept rest = subst Goal (sym (so x is all.0)) (or_left (p x) (list_any p (filter keep xs)) is)
+      by false is true kept rest = subst Goal (sym kept) (or_right (p x) (list_any p (filter keep xs)) (rest (later is)))
+      by false is false kept rest = subst Goal (sym kept) (rest (later is))
+
+  -- of each of them nothing need be known
+  pub each_is : (P : X → Type 0) → ((x : X) → P x) → (xs : List X) → AllByRecursion P xs
+  each_is P is [] = tt
+  each_is P is (x ∷ xs) = (is x, each_is P is xs)
+
+  pub any_kept : (p keep : X → Bool) → ((x : X) → p x ≡ true → keep x ≡ true) → (xs : List X) → list_any p xs ≡ true → list_any p (filter keep xs) ≡ true
+  any_kept p keep so xs any = any_kept_among p keep (λ x. Unit {0}) (λ x e known. so x e) xs any (each_is (λ x. Unit {0}) (λ x. tt) xs)
+
+  -- each is among all of them
+  pub each_among : (same : X → X → Bool) → ((x : X) → same x x ≡ true) → (xs : List X) → AllByRecursion (λ x. list_any (same x) xs ≡ true) xs
+  each_among same itself [] = tt
+  each_among same itself (x ∷ xs) = (
+    or_left (same x x) (list_any (same x) xs) (itself x),
+    all_so (λ y. list_any (same y) xs ≡ true) (λ y. list_any (same y) (x ∷ xs) ≡ true) (λ y e. or_right (same y x) (list_any (same y) xs) e) xs (each_among same itself xs),
+  )
 
   -- none passes
   pub none_of_them : (p : X → Bool) (xs : List X) → list_any p xs ≡ false → AllByRecursion (λ x. p x ≡ false) xs

@@ -42,7 +42,7 @@ module _ {K V : Type 0} where
   all_emptied _ _ before m things order all = tt
 
   module _ (terms : Terms) (log : List (Entry K V)) (e : Entry K V) (known : Known) (w : World (Node K V)) (word : terms.batch_size < 2 ^ 64) (h : IsLeftSo terms log e known w) where
-    v : Moment K V
+    abbrev v : Moment K V
     v = after e (moment log)
 
     bounded : is_quiescent v ≡ true → IsBounded terms.batch_size v

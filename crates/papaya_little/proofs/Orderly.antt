@@ -40,7 +40,7 @@ behind_one test n q (d ∷ deferred) all there = by (n == d.pair) refl (behind_o
         → list_any (λ x. (x.pair == n) && test x.behind) (d ∷ deferred) ≡ true
     by true is rest = or_left ((d.pair == n) && test d.behind) (list_any (λ x. (x.pair == n) && test x.behind) deferred)
         (and_from (d.pair == n) (test d.behind) (eq-eqb d.pair n (sym (number_is n d.pair is))) all.0)
-    by false is rest = or_right ((d.pair == n) && test d.behind) (list_any (λ x. (x.pair == n) && test x.behind) deferred) (rest (subst Its is there))
+    by false is rest = or_right ((d.pair == n) && test d.behind) (list_any (λ x. (x.pair == n) && test x.behind) deferred) (rest (let its = subst Its is there in omega (arith, its)))
 
 module _ {K V : Type 0} (m : Moment K V) (h : WaitsInOrder m) (none : m.calls ≡ []) where
   -- nobody owes a table, so each is there for a reason
@@ -50,10 +50,10 @@ module _ {K V : Type 0} (m : Moment K V) (h : WaitsInOrder m) (none : m.calls �
       by : (u : TableThere) → PassedIsOwed m u → (q : Bool) → is_kept m u ≡ q → is_kept m u ≡ true
       by u owed true e = e
       by u owed false e = absurd (
-        let some = owed e in
-        let nobody : is_owed_table m u.table ≡ false = ap (λ (l : List (UnderWay K V)). list_any (λ c. is_in same_thing (ATable u.table) c.owes) l) none in
-        cc (some, nobody)
-      )
+          let some = owed e in
+          let nobody : is_owed_table m u.table ≡ false = ap (λ (l : List (UnderWay K V)). list_any (λ c. is_in same_thing (ATable u.table) c.owes) l) none in
+          cc (some, nobody)
+          )
 
   -- a table that is there was retired, or is linked
   at_stage : (s : Stage) → is_there s ≡ true → (is_retired s ≡ true) ⊎ (is_linked s ≡ true)
@@ -125,7 +125,7 @@ module _ {K V : Type 0} (m : Moment K V) (h : WaitsInOrder m) (none : m.calls �
         by true is = or_left (is_stage is_retired t m) (has_next m t) is
         by false is =
             let it = one_of_them (λ u. same_table u.table t && is_there u.stage) (λ u. (is_kept m u ≡ true) × ((same_table u.table t && is_retired u.stage) ≡ false)) m.tables there
-              (all_both (λ u. is_kept m u ≡ true) (λ u. (same_table u.table t && is_retired u.stage) ≡ false) m.tables kept (none_of_them (λ u. same_table u.table t && is_retired u.stage) m.tables is)) in
+            (all_both (λ u. is_kept m u ≡ true) (λ u. (same_table u.table t && is_retired u.stage) ≡ false) m.tables kept (none_of_them (λ u. same_table u.table t && is_retired u.stage) m.tables is)) in
             let two = and_parts (same_table it.0.table t) (is_there it.0.stage) it.1 in
             or_right (is_stage is_retired t m) (has_next m t) (from_root it.0 two.0 (linked it.0 two.0 it.2.1 (at_stage it.0.stage two.1)) it.2.0)
 
@@ -142,10 +142,10 @@ module _ {K V : Type 0} (m : Moment K V) (h : WaitsInOrder m) (none : m.calls �
     where
       by : (q : Bool) → is_out (m.place n) ≡ q → is_out (m.place n) ≡ false
       by true e = absurd (
-        let one : owed_by n m.calls ≡ 1 = h.placed.owed n ∙ ap once_if e in
-        let nobody : owed_by n m.calls ≡ 0 = ap (owed_by n) none in
-        omega (arith, one, nobody)
-      )
+          let one : owed_by n m.calls ≡ 1 = h.placed.owed n ∙ ap once_if e in
+          let nobody : owed_by n m.calls ≡ 0 = ap (owed_by n) none in
+          omega (arith, one, nobody)
+          )
       by false e = e
 
   -- one that is behind a table is on its list
@@ -174,11 +174,11 @@ module _ {K V : Type 0} (m : Moment K V) (h : WaitsInOrder m) (none : m.calls �
       where
         by : (q : Bool) → is_stage is_retired t m ≡ q → is_stage is_retired t m ≡ false
         by true e = absurd (
-          let it = one_of_them (λ u. same_table u.table t && is_retired u.stage) (λ u. not (is_retired u.stage) ≡ true) m.tables e (passes_each (λ u. not (is_retired u.stage)) m.tables nothing.tables) in
-          let yes = (and_parts (same_table it.0.table t) (is_retired it.0.stage) it.1).1 in
-          let no : not true ≡ true = ap not (sym yes) ∙ it.2 in
-          cc no
-        )
+            let it = one_of_them (λ u. same_table u.table t && is_retired u.stage) (λ u. not (is_retired u.stage) ≡ true) m.tables e (passes_each (λ u. not (is_retired u.stage)) m.tables nothing.tables) in
+            let yes = (and_parts (same_table it.0.table t) (is_retired it.0.stage) it.1).1 in
+            let no : not true ≡ true = ap not (sym yes) ∙ it.2 in
+            cc no
+            )
         by false e = e
 
     last_reasons : AllByRecursion (λ d. has_next m d.behind ≡ true) m.deferred

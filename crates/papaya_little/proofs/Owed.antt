@@ -1,14 +1,16 @@
 -- How often a pair stands among what calls owe: an effect of a call changes that by what it does to what this call owes.
-use Rattle.std.specs.Prelude.{◌≡◌, ℕ, zero, suc, ◌+◌, ◌==◌, nat_lt, Bool, true, false, not, cond, ◌||◌, List, [], ◌∷◌, ◌++◌, find, map, Some, if◌then◌else◌}
+use Rattle.std.specs.Prelude.{◌≡◌, ℕ, zero, suc, ◌+◌, ◌==◌, nat_lt, Bool, true, false, not, cond, ◌||◌, List, [], ◌∷◌, ◌++◌, find, map, Option, Some, if◌then◌else◌}
 use Rattle.std.specs.List.{AllByRecursion, list_any}
 use Rattle.std.proofs.Common.{refl, ap, sym, subst, ◌∙◌, arith}
 use Rattle.std.proofs.lemmas.Bool.{or_parts, or_from}
 use Rattle.papaya_runs.specs.Same.{is_same}
+use Rattle.papaya_schedules.specs.declared.call.Call.{Call}
+use Rattle.papaya_schedules.specs.declared.call.Call.TheVariants as call
 use Rattle.papaya_schedules.specs.declared.effect.Table.{Table}
 use Rattle.papaya_schedules.specs.declared.effect.Thing.{Thing}
 use Rattle.papaya_schedules.specs.declared.effect.Thing.TheVariants.{APair, ATable}
 use Rattle.papaya_schedules.specs.After.{without_call}
-use Rattle.papaya_schedules.specs.Effects.{passed}
+use Rattle.papaya_schedules.specs.Effects.{passed, due_for}
 use Rattle.papaya_schedules.specs.Lists.{is_in, without_one}
 use Rattle.papaya_schedules.specs.Moment.{UnderWay}
 use Rattle.papaya_schedules.specs.Things.{same_thing}
@@ -58,7 +60,7 @@ table_without k t (x ∷ things) = by (same_thing (ATable t) x) refl (table_with
     no_pair (ATable u) e = refl
 
     by : (q : Bool) → same_thing (ATable t) x ≡ q → owed_in k (without_one same_thing (ATable t) things) ≡ owed_in k things → Goal (same_thing (ATable t) x)
-    by true is rest = subst Goal (sym is) (sym (ap (λ (q : Bool). once_if q + owed_in k things) (no_pair x is)))
+    by true is rest = subst Goal (sym is) (let none : once_if (same_thing (APair k) x) ≡ 0 = ap once_if (no_pair x is) in omega (arith, none))
     by false is rest = subst Goal (sym is) (ap (λ (q : ℕ). once_if (same_thing (APair k) x) + q) rest)
 
 -- tables that a root passes are no pairs
@@ -78,13 +80,22 @@ owed_there n (x ∷ things) there = by (same_thing (APair n) x) refl there (owed
     by : (q : Bool) → same_thing (APair n) x ≡ q → (q || is_in same_thing (APair n) things) ≡ true
         → (is_in same_thing (APair n) things ≡ true → (m : ℕ) × (owed_in n things ≡ 1 + m)) → (m : ℕ) × (owed_in n (x ∷ things) ≡ 1 + m)
     by true is e rest = (owed_in n things, ap (λ (q : Bool). once_if q + owed_in n things) is)
-    by false is e rest = let it = rest e in (it.0, ap (λ (q : Bool). once_if q + owed_in n things) is ∙ it.1)
+    by false is e rest = let it = rest e in let more = it.1 in let none : once_if (same_thing (APair n) x) ≡ 0 = ap once_if is in (it.0, omega (arith, none, more))
 
 -- among what calls owe
 
+-- a call that owes an answer owes the same things, and has the table that it had
+pub due_keeps : {K V : Type 0} (its : Call K V) (c : UnderWay K V) (old : Option ℕ) (new : ℕ) → ((due_for its c old new).owes ≡ c.owes) × ((due_for its c old new).table ≡ c.table)
+due_keeps (call.On one) c old new = (refl, refl)
+due_keeps (call.Reserve n) c old new = (refl, refl)
+due_keeps call.Clear c old new = (refl, refl)
+due_keeps call.Retain c old new = (refl, refl)
+due_keeps call.Len c old new = (refl, refl)
+due_keeps call.Walk c old new = (refl, refl)
+
 module _ {K V : Type 0} (own : List ℕ) (change : UnderWay K V → UnderWay K V) (same : (c : UnderWay K V) → IsOfSame c (change c)) where
   -- whether a call is of this caller, its own change makes no other one of it
-  named_still : (caller : List ℕ) (calls : List (UnderWay K V)) → list_any (λ d. is_same d.caller caller) (map (changed change same own) calls) ≡ list_any (λ d. is_same d.caller caller) calls
+  pub named_still : (caller : List ℕ) (calls : List (UnderWay K V)) → list_any (λ d. is_same d.caller caller) (map (changed change same own) calls) ≡ list_any (λ d. is_same d.caller caller) calls
   named_still caller [] = refl
   named_still caller (c ∷ calls) =
       ap (λ (l : List ℕ). is_same l caller || list_any (λ d. is_same d.caller caller) (map (changed change same own) calls)) (of_same change same own c).0
@@ -94,12 +105,12 @@ module _ {K V : Type 0} (own : List ℕ) (change : UnderWay K V → UnderWay K V
   apart_still [] apart = tt
   apart_still (c ∷ calls) apart = (
     ap (λ (l : List ℕ). list_any (λ d. is_same d.caller l) (map (changed change same own) calls)) (of_same change same own c).0
-    ∙ (named_still c.caller calls ∙ apart.0),
+        ∙ (named_still c.caller calls ∙ apart.0),
     apart_still calls apart.1,
   )
 
   module _ (n : ℕ) where
-    owes : UnderWay K V → ℕ
+    abbrev owes : UnderWay K V → ℕ
     owes c = owed_in n c.owes
 
     -- calls of others owe what they owed
@@ -137,7 +148,7 @@ module _ {K V : Type 0} (own : List ℕ) (change : UnderWay K V → UnderWay K V
             let name : d.caller ≡ own = is_same_is d.caller own e in
             let others = others_owe calls (subst (λ (l : List ℕ). list_any (λ x. is_same x.caller l) calls ≡ false) name apart.0) in
             let here : owed_in n (changed change same own d).owes ≡ owed_in n (change c).owes =
-              ap (λ (q : Bool). owed_in n (if q then change d else d).owes) e ∙ ap (λ (x : UnderWay K V). owed_in n (change x).owes) it in
+            ap (λ (q : Bool). owed_in n (if q then change d else d).owes) e ∙ ap (λ (x : UnderWay K V). owed_in n (change x).owes) it in
             let was : owed_in n d.owes ≡ owed_in n c.owes = ap owes it in
             omega (arith, others, here, was)
         by false e found rest =

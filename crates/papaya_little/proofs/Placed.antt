@@ -17,10 +17,9 @@ use Rattle.papaya_schedules.specs.Views.{call_of, first_of, is_in_a_map}
 use Rattle.papaya_follows.proofs.Alike.{put_elsewhere}
 use Rattle.papaya_follows.proofs.Calls.{changed_same}
 use Rattle.papaya_spots.proofs.Elsewhere.{stored_grows}
-use Rattle.papaya_settles.proofs.Owing.{leaves}
 use Rattle.papaya_little.specs.Waiting.{is_unborn, is_out, is_behind_one, is_back, is_let_go, once_if, owed_in, put_in, owed_by, AreApart, PairsArePlaced, OwesPair, TakesOut, FindsPlaced, PlacedAtFirst, EffectsKeepPlaced, OthersKeepPlaced}
 use Rattle.papaya_little.proofs.Counted.{Counts, gains, loses, stays, lets_go, others_stay, born_stay}
-use Rattle.papaya_little.proofs.Owed.{owed_append, owed_without, table_without, passed_none, owed_there, apart_still, all_owe, its_owe, owed_at_least}
+use Rattle.papaya_little.proofs.Owed.{due_keeps, owed_append, owed_without, table_without, passed_none, owed_there, apart_still, all_owe, its_owe, owed_at_least}
 
 pub placed_at_first : (K V : Type 0) → PlacedAtFirst K V
 placed_at_first K V = record { owed = λ n. refl; put = λ n. refl; back = λ n. refl; stored = λ n e. absurd (cc e); apart = tt }
@@ -110,7 +109,7 @@ new_is_none None = record { out = refl; put = refl; back = refl }
 new_is_none (Some map) = record { out = refl; put = refl; back = refl }
 
 -- the effect changes nothing of what is owed of pairs
-keeps_owed : Effect → Bool
+abbrev pub keeps_owed : Effect → Bool
 keeps_owed (effect.Replaced n) = false
 keeps_owed (effect.Removed n) = false
 keeps_owed (effect.Deferred n t) = false
@@ -118,7 +117,7 @@ keeps_owed (effect.Retired (APair n)) = false
 keeps_owed _ = true
 
 module _ {K V : Type 0} where
-  its_same : (m : Moment K V) (f : Effect) (c : UnderWay K V) (n : ℕ) → keeps_owed f ≡ true → owed_in n (call_by m f c).owes ≡ owed_in n c.owes
+  pub its_same : (m : Moment K V) (f : Effect) (c : UnderWay K V) (n : ℕ) → keeps_owed f ≡ true → owed_in n (call_by m f c).owes ≡ owed_in n c.owes
   its_same m (effect.Asked growth) c n e = refl
   its_same m effect.PairMade c n e = refl
   its_same m effect.PairGivenUp c n e = refl
@@ -130,7 +129,7 @@ module _ {K V : Type 0} where
       let none = passed_none n t.map (first_of t.map m) t.turn in
       omega (arith, more, none)
   its_same m (effect.Copied k s) c n e = refl
-  its_same m (effect.Stored k s) c n e = ap (owed_in n) (leaves m (effect.Stored k s) c refl)
+  its_same m (effect.Stored k s) c n e = ap (owed_in n) (due_keeps c.call c c.replacing k).0
   its_same m (effect.Replaced k) c n e = absurd (cc e)
   its_same m (effect.Removed k) c n e = absurd (cc e)
   its_same m (effect.Counted s) c n e = refl
@@ -225,16 +224,16 @@ module _ {K V : Type 0} where
           by : (q : Bool) → is_out (m.place n) ≡ q → is_out (m.place n) ≡ true
           by true e = e
           by false e = absurd (
-            let some = owed_there n c.owes there in let one = some.1 in
-            let all = owed_at_least n own m.calls c c_is in let its = all.1 in
-            let none : owed_by n m.calls ≡ 0 = h.owed n ∙ ap once_if e in
-            omega (arith, one, its, none)
-          )
+              let some = owed_there n c.owes there in let one = some.1 in
+              let all = owed_at_least n own m.calls c c_is in let its = all.1 in
+              let none : owed_by n m.calls ≡ 0 = h.owed n ∙ ap once_if e in
+              omega (arith, one, its, none)
+              )
 
       -- and hands it over
       hands : (call_by m f c).owes ≡ without_one same_thing (APair n) c.owes → is_in same_thing (APair n) c.owes ≡ true → (to : Place) → is_out to ≡ false
           → Counts is_out (put n to m.place) (λ k. owed_by k (calls_by (Some own) (call_by m f) m.calls))
-      hands owes there to no = loses is_out m.place n to (λ k. owed_by k m.calls) (λ k. owed_by k (calls_by (Some own) (call_by m f) m.calls)) h.owed no (is_owed there).out fewer
+      hands owes there to is_not = loses is_out m.place n to (λ k. owed_by k m.calls) (λ k. owed_by k (calls_by (Some own) (call_by m f) m.calls)) h.owed is_not (is_owed there).out fewer
         where
           fewer : (k : ℕ) → owed_by k (calls_by (Some own) (call_by m f) m.calls) + once_if (k == n) ≡ owed_by k m.calls
           fewer k =

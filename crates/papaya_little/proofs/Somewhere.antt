@@ -1,5 +1,5 @@
 -- Effects leave each stored pair somewhere, and where it is in a map, that is there.
-use Rattle.std.specs.Prelude.{◌≡◌, ◌≢◌, ℕ, ◌+◌, ◌≤◌, ◌==◌, Bool, true, false, ◌||◌, List, [], ◌∷◌, length, map as each, Option, Some, None, if◌then◌else◌}
+use Rattle.std.specs.Prelude.{◌≡◌, ◌≢◌, ℕ, ◌≤◌, ◌==◌, Bool, true, false, ◌||◌, List, [], ◌∷◌, length, map as each, Option, Some, None, if◌then◌else◌}
 use Rattle.std.specs.List.{list_any}
 use Rattle.std.proofs.Common.{refl, ap, sym, subst, ◌∙◌, arith, inl, inr}
 use Rattle.std.proofs.lemmas.Bool.{cases_eq}
@@ -38,7 +38,7 @@ back_is : IsElsewhere GivenBack
 back_is = record { in_none = λ map e. cc e; born = refl }
 
 -- places of which none comes into a map, and none is unborn that was not
-record LeadsOn (before after : ℕ → Place) : Type 0 where
+pub record LeadsOn (before after : ℕ → Place) : Type 0 where
   pub in_map : (k map : ℕ) → after k ≡ InMap map → before k ≡ InMap map
   pub born : (k : ℕ) → is_unborn (before k) ≡ false → is_unborn (after k) ≡ false
 
@@ -68,19 +68,33 @@ all_lead to numbers place is = record { in_map = λ k map. into k map (is_among 
     some k true e = is.born
     some k false e = e
 
+-- maps keep their numbers
+numbered : (map : ℕ) (t : Table) (fs : List MapThere) → list_any (λ (f : MapThere). f.number == map) (each (promoted t) fs) ≡ list_any (λ (f : MapThere). f.number == map) fs
+numbered map t [] = refl
+numbered map t (f ∷ fs) = by (f.number == t.map) (numbered map t fs)
+  where
+    by : (q : Bool) → list_any (λ (g : MapThere). g.number == map) (each (promoted t) fs) ≡ list_any (λ (g : MapThere). g.number == map) fs
+        → (((if q then record f { first = t.turn } else f).number == map) || list_any (λ (g : MapThere). g.number == map) (each (promoted t) fs)) ≡ ((f.number == map) || list_any (λ (g : MapThere). g.number == map) fs)
+    by true rest = ap (λ (b : Bool). (f.number == map) || b) rest
+    by false rest = ap (λ (b : Bool). (f.number == map) || b) rest
+
+pub maps_there : (map : ℕ) (f : Effect) (fs : List MapThere) → list_any (λ (g : MapThere). g.number == map) fs ≡ true → list_any (λ (g : MapThere). g.number == map) (maps_by f fs) ≡ true
+maps_there map (effect.Promoted t) fs e = numbered map t fs ∙ e
+maps_there map _ fs e = e
+
 -- the effect stores a pair
-is_storing : Effect → Bool
+abbrev pub is_storing : Effect → Bool
 is_storing (effect.Stored n s) = true
 is_storing _ = false
 
 module _ {K V : Type 0} where
   -- any other effect leaves pairs stored as they were, and leads on from where they are
-  none_stored : (o : Option (UnderWay K V)) (f : Effect) (stored : List (K × V)) → is_storing f ≡ false → stored_by o f stored ≡ stored
+  pub none_stored : (o : Option (UnderWay K V)) (f : Effect) (stored : List (K × V)) → is_storing f ≡ false → stored_by o f stored ≡ stored
   none_stored None f stored e = refl
   none_stored (Some c) (effect.Stored n s) stored e = absurd (cc e)
   none_stored (Some c) _ stored e = refl
 
-  leads : (acted : Option ℕ) (m : Moment K V) (f : Effect) → is_storing f ≡ false → LeadsOn m.place (place_by acted m.deferred f m.place)
+  pub leads : (acted : Option ℕ) (m : Moment K V) (f : Effect) → is_storing f ≡ false → LeadsOn m.place (place_by acted m.deferred f m.place)
   leads acted m (effect.Stored n s) e = absurd (cc e)
   leads acted m (effect.Replaced n) e = put_leads n Out m.place out_is
   leads acted m (effect.Removed n) e = put_leads n Out m.place out_is
@@ -101,25 +115,11 @@ module _ {K V : Type 0} where
   leads acted m (effect.Copied n s) e = same_leads m.place
   leads acted m (effect.Counted s) e = same_leads m.place
 
-  -- maps keep their numbers
-  numbered : (map : ℕ) (t : Table) (fs : List MapThere) → list_any (λ (f : MapThere). f.number == map) (each (promoted t) fs) ≡ list_any (λ (f : MapThere). f.number == map) fs
-  numbered map t [] = refl
-  numbered map t (f ∷ fs) = by (f.number == t.map) (numbered map t fs)
-    where
-      by : (q : Bool) → list_any (λ (g : MapThere). g.number == map) (each (promoted t) fs) ≡ list_any (λ (g : MapThere). g.number == map) fs
-          → (((if q then record f { first = t.turn } else f).number == map) || list_any (λ (g : MapThere). g.number == map) (each (promoted t) fs)) ≡ ((f.number == map) || list_any (λ (g : MapThere). g.number == map) fs)
-      by true rest = ap (λ (b : Bool). (f.number == map) || b) rest
-      by false rest = ap (λ (b : Bool). (f.number == map) || b) rest
-
-  maps_there : (map : ℕ) (f : Effect) (fs : List MapThere) → list_any (λ (g : MapThere). g.number == map) fs ≡ true → list_any (λ (g : MapThere). g.number == map) (maps_by f fs) ≡ true
-  maps_there map (effect.Promoted t) fs e = numbered map t fs ∙ e
-  maps_there map _ fs e = e
-
   module _ (caller : Option (List ℕ)) (acted : Option ℕ) (m : Moment K V) (h : StoredAreSomewhere m) where
     others : (f : Effect) → is_storing f ≡ false → StoredAreSomewhere (with_effect caller acted f m)
     others f e = record {
       born = λ n l u. on.born n (h.born n l (subst (λ (xs : List (K × V)). n ≤ length xs) (none_stored (acting caller m) f m.stored e) u));
-      there = λ n map is. maps_there map f m.maps (h.there n map (on.in_map n map is));
+      there = λ n map l is. maps_there map f m.maps (h.there n map l (on.in_map n map is));
     }
       where
         on : LeadsOn m.place (place_by acted m.deferred f m.place)
@@ -134,10 +134,10 @@ module _ {K V : Type 0} where
       | inl same ↦ ap is_unborn (put_here n (InMap to) m.place k same)
       | inr ne ↦ ap is_unborn (put_elsewhere n (InMap to) m.place k ne) ∙ h.born k l (before k u ne)
     ];
-    there = λ k map is. elim (cases_eq k n) as (λ _. list_any (λ (f : MapThere). f.number == map) m.maps ≡ true) [
+    there = λ k map l is. elim (cases_eq k n) as (λ _. list_any (λ (f : MapThere). f.number == map) m.maps ≡ true) [
       | inl same ↦ (let it : InMap to ≡ InMap map = sym (put_here n (InMap to) m.place k same) ∙ is in let one : to ≡ map = cc it in
           subst (λ (q : ℕ). list_any (λ (f : MapThere). f.number == q) m.maps ≡ true) one its)
-      | inr ne ↦ h.there k map (sym (put_elsewhere n (InMap to) m.place k ne) ∙ is)
+      | inr ne ↦ h.there k map l (sym (put_elsewhere n (InMap to) m.place k ne) ∙ is)
     ];
   }
     where
@@ -174,5 +174,5 @@ effects_keep_somewhere K V caller acted (f ∷ effects) m finds h =
 pub others_keep_somewhere : (K V : Type 0) → OthersKeepSomewhere K V
 others_keep_somewhere K V m v h place stored more = record {
   born = λ n l u. ap is_unborn (place n) ∙ h.born n l (subst (λ (xs : List (K × V)). n ≤ length xs) stored u);
-  there = λ n map is. let was : m.place n ≡ InMap map = sym (place n) ∙ is in more n map was (h.there n map was);
+  there = λ n map l is. let was : m.place n ≡ InMap map = sym (place n) ∙ is in more n map l was (h.there n map l was);
 }

@@ -18,20 +18,20 @@ use Rattle.papaya_schedules.specs.Reclaims.{is_kept}
 use Rattle.papaya_schedules.specs.Things.{same_table, same_thing}
 use Rattle.papaya_schedules.specs.Views.{call_of, map_at, first_or, first_of, is_there, is_linked, is_stage, tables_of}
 use Rattle.papaya_follows.proofs.Calls.{changed_same}
-use Rattle.papaya_settles.proofs.Owing.{leaves}
 use Rattle.papaya_spots.proofs.Unreclaimed.{table_is, same_itself}
 use Rattle.papaya_little.specs.Tables.{is_owed_table, PassedIsOwed, WaitsBehindOne, TablesAreInOrder, FindsTables, EffectsKeepTables, OthersKeepTables}
 use Rattle.papaya_little.proofs.Lists.{one_of_them, none_of_them, all_so, all_both}
+use Rattle.papaya_little.proofs.Owed.{due_keeps}
 use Rattle.papaya_little.proofs.OwedTables.{still_in, then_in, in_without, passed_in, owed_still, owed_now}
 
 -- lists
 
 module _ {X Y : Type 0} (g : X → Y) where
-  all_under : (P : X → Type 0) (Q : Y → Type 0) → ((x : X) → P x → Q (g x)) → (xs : List X) → AllByRecursion P xs → AllByRecursion Q (map g xs)
+  pub all_under : (P : X → Type 0) (Q : Y → Type 0) → ((x : X) → P x → Q (g x)) → (xs : List X) → AllByRecursion P xs → AllByRecursion Q (map g xs)
   all_under P Q so [] all = tt
   all_under P Q so (x ∷ xs) all = (so x all.0, all_under P Q so xs all.1)
 
-  any_under : (p : X → Bool) (q : Y → Bool) → ((x : X) → p x ≡ true → q (g x) ≡ true) → (xs : List X) → list_any p xs ≡ true → list_any q (map g xs) ≡ true
+  pub any_under : (p : X → Bool) (q : Y → Bool) → ((x : X) → p x ≡ true → q (g x) ≡ true) → (xs : List X) → list_any p xs ≡ true → list_any q (map g xs) ≡ true
   any_under p q so [] any = absurd (cc any)
   any_under p q so (x ∷ xs) any = by (p x) refl any (any_under p q so xs)
     where
@@ -44,12 +44,12 @@ module _ {X Y : Type 0} (g : X → Y) where
   under_all Q (x ∷ xs) all = (all.0, under_all Q xs all.1)
 
 module _ {X : Type 0} (P : X → Type 0) where
-  all_append : (xs : List X) (y : X) → AllByRecursion P xs → P y → AllByRecursion P (xs ++ y ∷ [])
+  pub all_append : (xs : List X) (y : X) → AllByRecursion P xs → P y → AllByRecursion P (xs ++ y ∷ [])
   all_append [] y all its = (its, tt)
   all_append (x ∷ xs) y all its = (all.0, all_append xs y all.1 its)
 
   -- of those that are kept, it is known that they are
-  all_kept : (keep : X → Bool) (xs : List X) → AllByRecursion P xs → AllByRecursion (λ x. P x × (keep x ≡ true)) (filter keep xs)
+  pub all_kept : (keep : X → Bool) (xs : List X) → AllByRecursion P xs → AllByRecursion (λ x. P x × (keep x ≡ true)) (filter keep xs)
   all_kept keep [] all = tt
   all_kept keep (x ∷ xs) all = by (keep x) refl (all_kept keep xs all.1)
     where
@@ -68,7 +68,7 @@ each_same P all (u ∷ tables) = (all u, each_same P all tables)
 -- tables at another stage
 
 module _ (t : Table) (to : Stage) where
-  same_length : (k : ℕ) (tables : List TableThere) → length (filter (λ u. u.table.map == k) (map (at_stage t to) tables)) ≡ length (filter (λ u. u.table.map == k) tables)
+  pub same_length : (k : ℕ) (tables : List TableThere) → length (filter (λ u. u.table.map == k) (map (at_stage t to) tables)) ≡ length (filter (λ u. u.table.map == k) tables)
   same_length k [] = refl
   same_length k (u ∷ tables) = by (same_table u.table t) (same_length k tables)
     where
@@ -120,7 +120,7 @@ module _ {K V : Type 0} where
   keeps m (effect.Removed n) t c apart e = still_in t c.owes (APair n ∷ []) e
   keeps m (effect.Deferred n u) t c apart e = in_without t (APair n) c.owes (λ is. cc is) e
   keeps m (effect.Retired x) t c apart e = in_without t x c.owes (λ is. apart (ap effect.Retired is)) e
-  keeps m (effect.Stored n s) t c apart e = ap (is_in same_thing (ATable t)) (leaves m (effect.Stored n s) c refl) ∙ e
+  keeps m (effect.Stored n s) t c apart e = ap (is_in same_thing (ATable t)) (due_keeps c.call c c.replacing n).0 ∙ e
   keeps m (effect.Asked growth) t c apart e = e
   keeps m effect.PairMade t c apart e = e
   keeps m effect.PairGivenUp t c apart e = e
@@ -187,9 +187,9 @@ module _ {K V : Type 0} where
             where
               by : (q : Bool) → same_table u.table t ≡ q → Q (if same_table u.table t then record u { stage = to } else u)
               by true is = subst (λ (q : Bool). Q (if q then record u { stage = to } else u)) (sym is) (λ e. absurd (
-                let kept : is_kept m (record u { stage = to }) ≡ true = or_left (not (is_linked to)) (list_any (λ (g : MapThere). (g.number == u.table.map) && nat_le g.first u.table.turn) m.maps) (ap not not_linked) in
-                cc (kept, e)
-              ))
+                  let kept : is_kept m (record u { stage = to }) ≡ true = or_left (not (is_linked to)) (list_any (λ (g : MapThere). (g.number == u.table.map) && nat_le g.first u.table.turn) m.maps) (ap not not_linked) in
+                  cc (kept, e)
+                  ))
               by false is = subst (λ (q : Bool). Q (if q then record u { stage = to } else u)) (sym is) (λ e. owed_on caller acted m f u.table (apart u.table is) (was e))
 
       staged_behind : (ds : List Deferral) → AllByRecursion (λ d. WaitsBehindOne m d × ((is_there to ≡ true) ⊎ (same_table d.behind t ≡ false))) ds
@@ -263,14 +263,14 @@ module _ {K V : Type 0} where
 
   -- a root comes to a later table: those that it passes its call owes
   module _ (acted : Option ℕ) (m : Moment K V) (h : TablesAreInOrder m) (own : List ℕ) (t : Table) (c : UnderWay K V) (c_is : call_of own m ≡ Some c) (found : AllByRecursion (λ (g : MapThere). map_at g.number m ≡ Some g) m.maps) where
-    f : Effect
+    abbrev f : Effect
     f = effect.Promoted t
 
-    v : Moment K V
+    abbrev v : Moment K V
     v = with_effect (Some own) acted f m
 
     -- the root of a map was at the table, or before it
-    at_root : TableThere → MapThere → Bool
+    abbrev at_root : TableThere → MapThere → Bool
     at_root u g = (g.number == u.table.map) && nat_le g.first u.table.turn
 
     -- it is not any more, as it has come from there to the later one
@@ -293,9 +293,9 @@ module _ {K V : Type 0} where
             let from : g.first ≤ u.table.turn = leb-true g.first u.table.turn two.1 in
             let below : u.table.turn < t.turn = leb-false t.turn u.table.turn before in
             let there : is_in same_thing (ATable (record { map = t.map; turn = u.table.turn })) (passed t.map (first_of t.map m) t.turn) ≡ true =
-              passed_in t.map (first_of t.map m) t.turn u.table.turn (omega (arith, first_is, from)) below in
+            passed_in t.map (first_of t.map m) t.turn u.table.turn (omega (arith, first_is, from)) below in
             let it : is_in same_thing (ATable u.table) (passed t.map (first_of t.map m) t.turn) ≡ true =
-              subst (λ (q : ℕ). is_in same_thing (ATable (record { map = q; turn = u.table.turn })) (passed t.map (first_of t.map m) t.turn) ≡ true) (sym map_is) there in
+            subst (λ (q : ℕ). is_in same_thing (ATable (record { map = q; turn = u.table.turn })) (passed t.map (first_of t.map m) t.turn) ≡ true) (sym map_is) there in
             owed_now own (call_by m f) (changed_same m f) u.table m.calls c c_is (then_in u.table c.owes (passed t.map (first_of t.map m) t.turn) it)
 
     each : (u : TableThere) → PassedIsOwed m u → PassedIsOwed v u
@@ -309,9 +309,9 @@ module _ {K V : Type 0} where
         by true e =
             let rooted : list_any (at_root u) m.maps ≡ true = ap (λ (q : Bool). q || list_any (at_root u) m.maps) (sym two.0) ∙ e in
             let none : AllByRecursion (λ g. at_root u (promoted t g) ≡ false) m.maps =
-              under_all (promoted t) (λ g. at_root u g ≡ false) m.maps (none_of_them (at_root u) (map (promoted t) m.maps) two.1) in
+            under_all (promoted t) (λ g. at_root u g ≡ false) m.maps (none_of_them (at_root u) (map (promoted t) m.maps) two.1) in
             let it = one_of_them (at_root u) (λ g. (at_root u (promoted t g) ≡ false) × (map_at g.number m ≡ Some g)) m.maps rooted
-              (all_both (λ g. at_root u (promoted t g) ≡ false) (λ g. map_at g.number m ≡ Some g) m.maps none found) in
+            (all_both (λ g. at_root u (promoted t g) ≡ false) (λ g. map_at g.number m ≡ Some g) m.maps none found) in
             passes u it.0 it.1 it.2.0 it.2.1
 
     promotes : TablesAreInOrder v

@@ -14,7 +14,7 @@ use Rattle.papaya_little.specs.TornDown.{StoredAreSomewhere, SomewhereAtFirst, T
 use Rattle.papaya_little.proofs.Lists.{numbers_pass, number_passes}
 
 pub somewhere_at_first : (K V : Type 0) → SomewhereAtFirst K V
-somewhere_at_first K V = record { born = λ n l u. absurd (omega (arith, l, u)); there = λ n map e. absurd (cc e) }
+somewhere_at_first K V = record { born = λ n l u. absurd (omega (arith, l, u)); there = λ n map l e. absurd (cc e) }
 
 module _ {K V : Type 0} (m : Moment K V) (placed : PairsArePlaced m) (somewhere : StoredAreSomewhere m) (none : m.maps ≡ []) (emptied : IsEmptied m) where
   -- no table has a next one in a map that is there
@@ -32,10 +32,10 @@ module _ {K V : Type 0} (m : Moment K V) (placed : PairsArePlaced m) (somewhere 
   is_given : (n : ℕ) → 1 ≤ n → n ≤ length m.stored → (p : Place) → m.place n ≡ p → has_last_reason m n p ≡ true → p ≡ GivenBack
   is_given n l u Unborn is waits = absurd (let born = somewhere.born n l u in let unborn : is_unborn (m.place n) ≡ true = ap is_unborn is in cc (born, unborn))
   is_given n l u (InMap map) is waits = absurd (
-    let there = somewhere.there n map is in
-    let no : list_any (λ (f : MapThere). f.number == map) m.maps ≡ false = ap (list_any (λ (f : MapThere). f.number == map)) none in
-    cc (there, no)
-  )
+      let there = somewhere.there n map l is in
+      let no : list_any (λ (f : MapThere). f.number == map) m.maps ≡ false = ap (list_any (λ (f : MapThere). f.number == map)) none in
+      cc (there, no)
+      )
   is_given n l u Out is waits = absurd (cc waits)
   is_given n l u Handed is waits = absurd (cc waits)
   is_given n l u Behind is waits = absurd (let no = none_behind n m.deferred in cc (waits, no))

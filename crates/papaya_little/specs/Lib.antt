@@ -5,4 +5,6 @@ pub mod Orderly
 pub mod TornDown
 pub mod Bounded
 pub mod Events
+pub mod Endings
+pub mod Within
 pub mod Little

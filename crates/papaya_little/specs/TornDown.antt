@@ -13,7 +13,7 @@ module _ {K V : Type 0} (m : Moment K V) where
     -- each pair that was stored is somewhere,
     pub born : (n : ℕ) → 1 ≤ n → n ≤ length m.stored → is_unborn (m.place n) ≡ false
     -- and where it is in a map, that is there
-    pub there : (n map : ℕ) → m.place n ≡ InMap map → list_any (λ (f : MapThere). f.number == map) m.maps ≡ true
+    pub there : (n map : ℕ) → 1 ≤ n → m.place n ≡ InMap map → list_any (λ (f : MapThere). f.number == map) m.maps ≡ true
 
 -- The promises: so it is before all events;
 abbrev pub SomewhereAtFirst : Type 0 → Type 0 → Type 0
@@ -35,7 +35,7 @@ EffectsKeepSomewhere K V =
 abbrev pub OthersKeepSomewhere : Type 0 → Type 0 → Type 0
 OthersKeepSomewhere K V =
     (m v : Moment K V) → StoredAreSomewhere m → ((n : ℕ) → v.place n ≡ m.place n) → v.stored ≡ m.stored
-    → ((n map : ℕ) → m.place n ≡ InMap map → list_any (λ (f : MapThere). f.number == map) m.maps ≡ true → list_any (λ (f : MapThere). f.number == map) v.maps ≡ true)
+    → ((n map : ℕ) → 1 ≤ n → m.place n ≡ InMap map → list_any (λ (f : MapThere). f.number == map) m.maps ≡ true → list_any (λ (f : MapThere). f.number == map) v.maps ≡ true)
     → StoredAreSomewhere v
 
 -- and where all is reclaimed that waits, and no map is there, each pair was given back once.

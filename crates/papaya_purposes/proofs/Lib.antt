@@ -35,4 +35,4 @@ mod ShowsAll
 mod FindsRoom
 mod Nothing
 mod Elsewhere
-mod Reads
+mod ShardsRead

@@ -1,9 +1,7 @@
 -- What a call has in hand goes with the effects of each of its steps, whichever call it is, and whether the step is one of a row or not.
 use Rattle.std.specs.Prelude.{◌≡◌, ℕ, Bool, List, [], Some, ◌⊎◌}
-use Rattle.std.proofs.Common.{refl, ap, sym, subst, ◌∙◌, inl, inr}
+use Rattle.std.proofs.Common.{ap, sym, subst, inl, inr}
 use Rattle.papaya_tables.specs.declared.node.Node.{Node}
-use Rattle.papaya_resize.specs.Sum.{sum_plan}
-use Rattle.papaya_resize.specs.declared.sum.Sum.{Sum}
 use Rattle.papaya_raw.specs.declared.machines.call.Calling.{Calling}
 use Rattle.papaya_raw.specs.declared.machines.call.Calling.TheVariants as at
 use Rattle.papaya_raw.specs.declared.machines.progress.Progress.{Progress}
@@ -15,19 +13,13 @@ use Rattle.papaya_late.specs.ToldSweeps.{IsRowOfSweep}
 use Rattle.papaya_callers.specs.OverAll.{CallOverAll}
 use Rattle.papaya_callers.specs.Rooms.{CallForRoom}
 use Rattle.papaya_callers.specs.Together.{CallOnKey, UnderWay, OnKey, ForRoom, Counting, OverAll}
-use Rattle.papaya_effects.specs.Effects.{effects_of}
 use Rattle.papaya_effects.specs.Known.{Known}
-use Rattle.papaya_effects.specs.declared.acting.Acting.TheVariants as acts
 use Rattle.papaya_executor.specs.IsAt.{Scene, IsAt}
 use Rattle.papaya_executor.specs.Stepping.{StepLeads}
 use Rattle.papaya_executor.specs.declared.executor.Executor.{Executor}
-use Rattle.papaya_finishes.specs.Machines.{machine_of}
 use Rattle.papaya_follows.specs.Shows.{Shows}
-use Rattle.papaya_follows.proofs.Steps.{WentTo, went_to, made_so, is_inside, DidSo, OfNoRow}
-use Rattle.papaya_hands.specs.Rows.{ShowsRows}
+use Rattle.papaya_follows.proofs.Steps.{went_to, made_so, is_inside, DidSo, OfNoRow}
 use Rattle.papaya_spots.proofs.Steps.{stayed_calm}
-use Rattle.papaya_settles.specs.Due.{OwnAreMade}
-use Rattle.papaya_settles.specs.Entries.{ShowsEntries}
 use Rattle.papaya_settles.specs.Hand.{in_hand, NotesInHand}
 use Rattle.papaya_settles.specs.Owed.{HandGoes, CallsGoInHand}
 use Rattle.papaya_settles.specs.Owing.{KeepsOwed}

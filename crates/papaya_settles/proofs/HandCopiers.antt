@@ -1,5 +1,5 @@
 -- A step of a copier that is none of a row: what it has in hand goes with the effects of the step.
-use Rattle.std.specs.Prelude.{◌≡◌, ◌≢◌, ℕ, suc, ◌<◌, ◌≤◌, ◌*◌, ◌/◌, ◌==◌, Bool, true, false, List, [], ◌∷◌, ◌++◌, Some, Ok, Err, ◌⊎◌, if◌then◌else◌}
+use Rattle.std.specs.Prelude.{◌≡◌, ◌≢◌, ℕ, suc, ◌<◌, ◌*◌, ◌/◌, Bool, true, false, List, [], ◌∷◌, ◌++◌, Some, Ok, Err, ◌⊎◌, if◌then◌else◌}
 use Rattle.std.proofs.Common.{refl, ap, sym, subst, ◌∙◌, arith, inl, inr}
 use Rattle.std.proofs.lemmas.Bool.{cases_lt}
 use Rattle.seize_words.specs.declared.at.At.TheVariants.{Root, Word}
@@ -15,7 +15,7 @@ use Rattle.papaya_tables.specs.declared.table_words.TheConstants.{NEXT}
 use Rattle.papaya_resize.specs.Copier.{copier_plan}
 use Rattle.papaya_resize.specs.Copier as copiers
 use Rattle.papaya_resize.specs.CopierPromotes.{successor_read, also_retired, retiring_table}
-use Rattle.papaya_resize.specs.CopierStates.{standing, behind}
+use Rattle.papaya_resize.specs.CopierStates.{standing}
 use Rattle.papaya_resize.specs.declared.copier.Copier.{Copier}
 use Rattle.papaya_resize.specs.declared.copier.Copying.{Copying}
 use Rattle.papaya_resize.specs.declared.copier.Copying.TheVariants as copying
@@ -33,7 +33,6 @@ use Rattle.papaya_teller.specs.declared.changed.Changed.{Changed}
 use Rattle.papaya_teller.specs.declared.changed.Changed.TheVariants as changed
 use Rattle.papaya_rule.specs.Chart.{Chart}
 use Rattle.papaya_rule.specs.InWorld.{IsMapIn}
-use Rattle.papaya_rule.specs.Maps.{IsTable}
 use Rattle.papaya_rule.specs.Words.{Blocks}
 use Rattle.papaya_rule.proofs.Words.LinksSeen.{link_made, root_leads}
 use Rattle.papaya_rule.proofs.Words.TablesSeen.{block_of_link}
@@ -50,7 +49,6 @@ use Rattle.papaya_effects.specs.Effects.{effects_of}
 use Rattle.papaya_effects.specs.Known.{Known}
 use Rattle.papaya_effects.specs.declared.acting.Acting.{Acting}
 use Rattle.papaya_effects.specs.declared.acting.Acting.TheVariants as acts
-use Rattle.papaya_effects.specs.declared.role.Role.{Role}
 use Rattle.papaya_effects.specs.declared.role.Role.TheVariants as role
 use Rattle.papaya_executor.specs.IsAt.{Scene, IsAt, slot_of}
 use Rattle.papaya_executor.specs.Stepping.{StepLeads}
@@ -59,7 +57,7 @@ use Rattle.papaya_executor.proofs.Forgotten.{as_step}
 use Rattle.papaya_finishes.specs.Maps.{Standing}
 use Rattle.papaya_follows.specs.Maps.{table_of}
 use Rattle.papaya_follows.specs.Shows.{Shows}
-use Rattle.papaya_follows.proofs.Steps.{WentTo, went_to}
+use Rattle.papaya_follows.proofs.Steps.{went_to}
 use Rattle.papaya_follows.proofs.Writes.{root_says}
 use Rattle.papaya_settles.specs.Hand.{thing_as, things_at, tables_from, tables_in_hand, IsTableRole, NotesTable, NotesTables}
 use Rattle.papaya_settles.specs.Owing.{AllLeave, OwesGo, KeepsOwed, Passes}
@@ -236,16 +234,16 @@ module _ {K V S : Type 0} (same : K → K → Bool) (hash : K → ℕ) (name : �
         rest_goes : (tables_from known (next link) left ≡ passed map (suc s0) t0) × NotesTable known left
         rest_goes = elim (cases_lt (suc s0) t0) as (λ _. (tables_from known (next link) left ≡ passed map (suc s0) t0) × NotesTable known left) [
           | inl more ↦ (
-            let is = rest_between same st.hash i setting s.world c blocks is_map p knows.0 s0 t0 cut.2 cut.4 cut.5 table cut.3 link link_is more in
-            let made2 : suc s0 < c.past = (let there_made = cut.4.made in omega (arith, more, there_made)) in
-            let its_known = (cut.5 (suc s0) (omega arith) more).0 in
-            (from_table (next link) (suc s0) t0 cut_turn made2 its_known left is, λ some. table_noted (suc s0) made2 its_known left is)
-          )
+              let is = rest_between same st.hash i setting s.world c blocks is_map p knows.0 s0 t0 cut.2 cut.4 cut.5 table cut.3 link link_is more in
+              let made2 : suc s0 < c.past = (let there_made = cut.4.made in omega (arith, more, there_made)) in
+              let its_known = (cut.5 (suc s0) (omega arith) more).0 in
+              (from_table (next link) (suc s0) t0 cut_turn made2 its_known left is, λ some. table_noted (suc s0) made2 its_known left is)
+              )
           | inr last ↦ (
-            let order = cut.2 in
-            let none = rest_last same st.hash i setting s.world c blocks is_map p knows.0 s0 t0 cut.2 cut.4 cut.5 table cut.3 link link_is (omega (arith, order, last)) in
-            (tables_none known (next link) left none ∙ sym (passed_none map (suc s0) t0 last), λ some. absurd (some none))
-          )
+              let order = cut.2 in
+              let none = rest_last same st.hash i setting s.world c blocks is_map p knows.0 s0 t0 cut.2 cut.4 cut.5 table cut.3 link link_is (omega (arith, order, last)) in
+              (tables_none known (next link) left none ∙ sym (passed_none map (suc s0) t0 last), λ some. absurd (some none))
+              )
         ]
 
         succeeds_as : end ≡ (next link, outcome.Goes) → GoesFrom (copying.Succeeds table) end

@@ -1,6 +1,6 @@
 -- A step of a call that copies pairs, none of a row: what its copier has in hand goes with the effects of the step, and the call has that in hand.
-use Rattle.std.specs.Prelude.{◌≡◌, ℕ, ◌==◌, Bool, true, false, List, [], ◌∷◌, Option, Some, None, ◌⊎◌, if◌then◌else◌}
-use Rattle.std.proofs.Common.{refl, ap, sym, subst, ◌∙◌, inl, inr}
+use Rattle.std.specs.Prelude.{◌≡◌, ℕ, ◌==◌, Bool, true, false, List, [], ◌∷◌, Some, None, if◌then◌else◌}
+use Rattle.std.proofs.Common.{refl, sym, subst, ◌∙◌, inl, inr}
 use Rattle.papaya_tables.specs.declared.node.Node.{Node}
 use Rattle.papaya_tables.specs.declared.table.Table.{Table}
 use Rattle.papaya_resize.specs.Copier.{copier_plan}
@@ -12,7 +12,6 @@ use Rattle.papaya_reserves.specs.declared.reserve.Reserve.{Reserve}
 use Rattle.papaya_sweeps.specs.Sweep as sweeps
 use Rattle.papaya_sweeps.specs.SweepPoints as points
 use Rattle.papaya_sweeps.specs.declared.sweep.Sweep.{Sweep}
-use Rattle.papaya_sweeps.specs.declared.sweep.Sweeping.{Sweeping}
 use Rattle.papaya_sweeps.specs.declared.sweep.Sweeping.TheVariants as sweeping
 use Rattle.papaya_sweeps.specs.declared.sweep.Swept.{Swept}
 use Rattle.papaya_raw.specs.Call.{helped, copied}
@@ -33,7 +32,6 @@ use Rattle.papaya_teller.specs.Tells.{StepsTold}
 use Rattle.papaya_teller.specs.declared.changed.Changed.TheVariants as changed
 use Rattle.papaya_tables.specs.Chunks.{is_incremental}
 use Rattle.papaya_points.specs.Told.{IsRowOfCopier}
-use Rattle.papaya_points.specs.Unlinked.{has_unlinked}
 use Rattle.papaya_points.proofs.Steps.RootSteps.{is_promoting}
 use Rattle.papaya_callers.specs.Sights.{seen_by}
 use Rattle.papaya_callers.specs.Together.{UnderWay, in_slot}
@@ -52,7 +50,7 @@ use Rattle.papaya_settles.specs.InHand.{TakesPair, pair_in_calling}
 use Rattle.papaya_settles.specs.Owed.{HandGoes}
 use Rattle.papaya_settles.specs.Owing.{OwesGo}
 use Rattle.papaya_settles.proofs.CopierTables.{KnowsTables}
-use Rattle.papaya_settles.proofs.HandAsked.{NoneOfCall, NoneOfSweep, either_sweep, ending_none, sweeps_apart}
+use Rattle.papaya_settles.proofs.HandAsked.{NoneOfSweep, either_sweep, ending_none, sweeps_apart}
 use Rattle.papaya_settles.proofs.HandCopiers.{GoesOrHas, CopierGoes, copier_goes}
 use Rattle.papaya_settles.proofs.Leaving.{has_gone, leaves}
 use Rattle.papaya_settles.proofs.Passed.{copier_none}

@@ -1,5 +1,5 @@
 -- A step of a call on one key that copies pairs, none of a row: what the call has in hand goes with the effects of the step.
-use Rattle.std.specs.Prelude.{◌≡◌, ℕ, Bool, true, false, List, [], Some, None}
+use Rattle.std.specs.Prelude.{◌≡◌, ℕ, Bool, false, List, Some}
 use Rattle.std.proofs.Common.{refl, ap, sym, subst, ◌∙◌, inl, inr}
 use Rattle.papaya_tables.specs.declared.node.Node.{Node}
 use Rattle.papaya_resize.specs.Copier.{copier_plan}
@@ -21,7 +21,6 @@ use Rattle.papaya_schedules.specs.Moment.{Moment}
 use Rattle.papaya_teller.specs.Tells.{StepsTold}
 use Rattle.papaya_teller.specs.declared.changed.Changed.{Changed}
 use Rattle.papaya_teller.specs.declared.changed.Changed.TheVariants as changed
-use Rattle.papaya_rule.specs.Chart.{Chart}
 use Rattle.papaya_rule.specs.Words.{Blocks}
 use Rattle.papaya_points.specs.FactsCalls.{IsCopying, CallingFacts}
 use Rattle.papaya_points.specs.Told.{IsRowOfCopier, IsRowOfCall}
@@ -37,7 +36,7 @@ use Rattle.papaya_executor.specs.Stepping.{has_ended, StepLeads}
 use Rattle.papaya_executor.specs.declared.executor.Executor.{Executor}
 use Rattle.papaya_finishes.specs.Maps.{Standing}
 use Rattle.papaya_follows.specs.Shows.{Shows}
-use Rattle.papaya_follows.proofs.Steps.{WentTo, went_to, DidSo, OfNoRow}
+use Rattle.papaya_follows.proofs.Steps.{WentTo, went_to, OfNoRow}
 use Rattle.papaya_others.proofs.Outcomes.{told_in}
 use Rattle.papaya_settles.specs.Hand.{tables_in_hand, in_hand_of_call, in_hand, NotesTables, NotesOfCall, NotesInHand}
 use Rattle.papaya_settles.specs.InHand.{TakesPair, pair_in_calling}

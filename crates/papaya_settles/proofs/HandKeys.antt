@@ -1,5 +1,5 @@
 -- A step of a call on one key that is none of a row, and copies no pairs: what the call has in hand goes with the effects of the step.
-use Rattle.std.specs.Prelude.{◌≡◌, ℕ, ◌==◌, ◌||◌, Bool, true, false, List, [], ◌∷◌, ◌++◌, Option, Some, None, if◌then◌else◌}
+use Rattle.std.specs.Prelude.{◌≡◌, ℕ, ◌==◌, Bool, true, false, List, [], ◌∷◌, ◌++◌, Option, Some, None, if◌then◌else◌}
 use Rattle.std.specs.List.{list_any}
 use Rattle.std.proofs.Common.{refl, ap, sym, subst, ◌∙◌, inl, inr}
 use Rattle.seize_words.specs.Word.{block_in}
@@ -7,11 +7,8 @@ use Rattle.seize.specs.declared.rows.settle.Settled.{Settled}
 use Rattle.seize.specs.declared.rows.settle.Settled.TheVariants as settled
 use Rattle.papaya_tables.specs.Chunks.{is_incremental}
 use Rattle.papaya_tables.specs.declared.node.Node.{Node}
-use Rattle.papaya_resize.specs.Dispose as disposes
 use Rattle.papaya_resize.specs.Dispose.{dispose_plan, disposing}
 use Rattle.papaya_resize.specs.declared.dispose.Dispose.{Dispose}
-use Rattle.papaya_resize.specs.declared.dispose.Disposing.{Disposing}
-use Rattle.papaya_resize.specs.declared.dispose.Disposing.TheVariants as disposal
 use Rattle.papaya_raw.specs.Call.{call_plan, plan_at, disposed}
 use Rattle.papaya_raw.specs.CallPoints.{counted, going, over}
 use Rattle.papaya_raw.specs.Progress.{of_called}
@@ -36,7 +33,7 @@ use Rattle.papaya_teller.specs.declared.changed.Changed.{Changed}
 use Rattle.papaya_teller.specs.declared.changed.Changed.TheVariants as changed
 use Rattle.papaya_rule.proofs.Keys.Always.{AlwaysOf, always_steps}
 use Rattle.papaya_points.specs.FactsCalls.{Change, IsCopying}
-use Rattle.papaya_points.specs.Told.{IsRowOf, IsRowOfCall}
+use Rattle.papaya_points.specs.Told.{IsRowOfCall}
 use Rattle.papaya_points.proofs.Steps.RootSteps.{call_is_promoting, spares_call}
 use Rattle.papaya_alone.specs.Handed.{call_has_unlinked}
 use Rattle.papaya_callers.specs.Sights.{seen_by}
@@ -59,7 +56,7 @@ use Rattle.papaya_follows.proofs.Writes.{nothing_free}
 use Rattle.papaya_hands.proofs.Done.{stepped, here}
 use Rattle.papaya_histories.proofs.Which.{DidOnce, DidNone, DidStore, DidReplace, DidRemove}
 use Rattle.papaya_settles.specs.Hand.{thing_as, things_at, in_hand_of_call, in_hand, IsPairRole, NotesPair, NotesOfCall, NotesInHand}
-use Rattle.papaya_settles.specs.InHand.{pair_in_disposing, pair_in_calling}
+use Rattle.papaya_settles.specs.InHand.{pair_in_calling}
 use Rattle.papaya_settles.specs.Owed.{HandGoes}
 use Rattle.papaya_settles.specs.Owing.{hands_over, HandsOver, AllLeave, OwesGo, KeepsOwed, TakesOut, PutsOver, Passes, HandsFirst}
 use Rattle.papaya_settles.proofs.EndsOver.{IsOverAt, IsEnded, ended_step}

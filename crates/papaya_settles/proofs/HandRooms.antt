@@ -1,5 +1,5 @@
 -- A step of a reservation that is none of a row: what it has in hand goes with the effects of the step.
-use Rattle.std.specs.Prelude.{◌≡◌, ◌^◌, ℕ, ◌==◌, nat_lt, Bool, true, false, List, [], Some, None, if◌then◌else◌}
+use Rattle.std.specs.Prelude.{◌≡◌, ◌^◌, ℕ, ◌==◌, nat_lt, Bool, true, false, List, [], Some, if◌then◌else◌}
 use Rattle.std.proofs.Common.{refl, ap, sym, subst, ◌∙◌, inl, inr}
 use Rattle.seize_words.specs.Op.{Out, Found, Stored, Exchanged, Made, Taken, Roomed}
 use Rattle.seize.specs.declared.progress.Progress.{Progress as Counting}
@@ -33,7 +33,6 @@ use Rattle.papaya_teller.specs.declared.changed.Changed.{Changed}
 use Rattle.papaya_teller.specs.declared.changed.Changed.TheVariants as changed
 use Rattle.papaya_rule.specs.Words.{Blocks}
 use Rattle.papaya_rule.proofs.Keys.Always.{Always, AlwaysOf, always_if, always_plan_as, always_steps}
-use Rattle.papaya_points.specs.Told.{IsRowOfCopier}
 use Rattle.papaya_points.specs.Unlinked.{has_unlinked}
 use Rattle.papaya_late.specs.FactsReserves.{CopiesPairs, ReservingFacts}
 use Rattle.papaya_late.specs.LateReserves.{LateReserving}

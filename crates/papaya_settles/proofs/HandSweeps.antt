@@ -13,7 +13,6 @@ use Rattle.papaya_resize.specs.CopierStates.{copying_all}
 use Rattle.papaya_resize.specs.Dispose.{dispose_plan}
 use Rattle.papaya_resize.specs.declared.copier.Copier.{Copier}
 use Rattle.papaya_resize.specs.declared.dispose.Dispose.{Dispose}
-use Rattle.papaya_resize.specs.declared.outcome.Outcome.{Outcome}
 use Rattle.papaya_sweeps.specs.Sweep as sweeps
 use Rattle.papaya_sweeps.specs.Sweep.{sweep_plan}
 use Rattle.papaya_sweeps.specs.SweepPoints as points
@@ -39,7 +38,6 @@ use Rattle.papaya_teller.specs.declared.changed.Changed.{Changed}
 use Rattle.papaya_teller.specs.declared.changed.Changed.TheVariants as changed
 use Rattle.papaya_rule.specs.Words.{Blocks}
 use Rattle.papaya_rule.proofs.Keys.Always.{Always, AlwaysOf, always_if, always_steps}
-use Rattle.papaya_points.specs.Told.{IsRowOfCopier}
 use Rattle.papaya_late.specs.FactsSweeps.{SweepingFacts}
 use Rattle.papaya_late.specs.ToldSweeps.{IsRowOfSweep, TellsSo}
 use Rattle.papaya_callers.specs.OverAll.{CallOverAll}
@@ -48,7 +46,6 @@ use Rattle.papaya_callers.specs.Together.{OverAll, in_slot, next_over_all}
 use Rattle.papaya_effects.specs.Effects.{effects_of}
 use Rattle.papaya_effects.specs.Known.{Known}
 use Rattle.papaya_effects.specs.declared.acting.Acting.TheVariants as acts
-use Rattle.papaya_effects.specs.declared.role.Role.TheVariants as role
 use Rattle.papaya_executor.specs.IsAt.{Scene, IsAt, slot_of}
 use Rattle.papaya_executor.specs.Stepping.{has_ended, StepLeads}
 use Rattle.papaya_executor.specs.declared.executor.Executor.{Executor}
@@ -64,7 +61,7 @@ use Rattle.papaya_settles.specs.Owed.{HandGoes}
 use Rattle.papaya_settles.specs.Owing.{AllLeave, OwesGo, KeepsOwed, TakesOut}
 use Rattle.papaya_settles.proofs.CopierTables.{KnowsTables, whole_knows, late_knows}
 use Rattle.papaya_settles.proofs.Gains.{AllApart, CountGoes, KeepsCount, AddsOne, GivesWay, TakesOne, CountsAll}
-use Rattle.papaya_settles.proofs.HandAsked.{NoneOfSweep, sweeps_apart, either_sweep, further_none}
+use Rattle.papaya_settles.proofs.HandAsked.{NoneOfSweep, sweeps_apart, further_none}
 use Rattle.papaya_settles.proofs.HandCopies.{copying_goes, entering_none, sweep_then}
 use Rattle.papaya_settles.proofs.HandRooms.{begins_none}
 use Rattle.papaya_settles.proofs.Held.{always_turned, IsDone, dispose_done, sweeps_take_in_hand, sweeps_hold_theirs}

@@ -38,6 +38,8 @@ pub mod Nothing
 pub mod Unpromoted
 pub mod EndsOver
 pub mod HandKeys
+pub mod HandingRows
+pub mod Handing
 pub mod Leaving
 pub mod Spares
 pub mod CopierTables

@@ -160,9 +160,9 @@ module _ {K V S : Type 0} (same : K → K → Bool) (hash : K → ℕ) (name : �
         let was : Some o ≡ Some (m.shards map shard) = sym words.0 ∙ counters.shards map st to.2 shard few in
         let old_is : o ≡ m.shards map shard = one_of o (m.shards map shard) was in
         words.1 ∙ ap Some (
-          sym (word_added removed o its.0 adds)
-          ∙ ap (word_with its.0) old_is
-          ∙ sym (ap (λ (f : ℕ → ℕ). f shard) its_now ∙ put_here shard (word_with its.0 (m.shards map shard)) (m.shards map) shard refl)
+        sym (word_added removed o its.0 adds)
+        ∙ ap (word_with its.0) old_is
+        ∙ sym (ap (λ (f : ℕ → ℕ). f shard) its_now ∙ put_here shard (word_with its.0 (m.shards map shard)) (m.shards map) shard refl)
         )
 
     -- another one of its map
@@ -171,8 +171,8 @@ module _ {K V S : Type 0} (same : K → K → Bool) (hash : K → ℕ) (name : �
         let now = shard_there same hash m v s t new to.5 map x is f (subst (λ (z : Setting). f ≤ z.mask) (sym set) few) in
         let there : word_at mem2 (Word st.setting.counter f) ≡ Some now.0 = ap (λ (z : Setting). word_at mem2 (Word z.counter f)) (sym set) ∙ now.1 in
         there ∙ ap Some (
-          spared st.setting.counter f (m.shards map f) now.0 (λ same_counter same_shard. ne same_shard) (counters.shards map st to.2 f few) there
-          ∙ sym (ap (λ (g : ℕ → ℕ). g f) its_now ∙ put_elsewhere shard (word_with its.0 (m.shards map shard)) (m.shards map) f ne)
+        spared st.setting.counter f (m.shards map f) now.0 (λ same_counter same_shard. ne same_shard) (counters.shards map st to.2 f few) there
+        ∙ sym (ap (λ (g : ℕ → ℕ). g f) its_now ∙ put_elsewhere shard (word_with its.0 (m.shards map shard)) (m.shards map) f ne)
         )
 
     at_shard : (x : Standing K) → t.maps map ≡ Some x → x.setting ≡ st.setting → (f : ℕ) → f ≤ st.setting.mask → Says map st.setting f
@@ -191,9 +191,9 @@ module _ {K V S : Type 0} (same : K → K → Bool) (hash : K → ℕ) (name : �
         let before : word_at mem (Word x.setting.counter f) ≡ Some (m.shards n f) =
         ap (λ (z : Setting). word_at mem (Word z.counter f)) was.2 ∙ counters.shards n was.0 was.1 f (subst (λ (z : Setting). f ≤ z.mask) was.2 few) in
         now.1 ∙ ap Some (
-          spared x.setting.counter f (m.shards n f) now.0
-              (λ same_counter same_shard. at_old.together.makings.standing.counters n map was.0 st ne was.1 to.2 (ap (λ (z : Setting). z.counter) (sym was.2) ∙ same_counter)) before now.1
-          ∙ sym (ap (λ (g : ℕ → ℕ). g f) (others_now n ne))
+        spared x.setting.counter f (m.shards n f) now.0
+        (λ same_counter same_shard. at_old.together.makings.standing.counters n map was.0 st ne was.1 to.2 (ap (λ (z : Setting). z.counter) (sym was.2) ∙ same_counter)) before now.1
+        ∙ sym (ap (λ (g : ℕ → ℕ). g f) (others_now n ne))
         )
 
     counted_shards : ShowsShards v t

@@ -146,13 +146,13 @@ module _ (K V : Type 0) where
       makes_then : MakesUncounted m (record s { makers = with_at s.makers i (Some b) })
       makes_then j d is = elim (cases_eq j i) as (λ _. IsUncounted d.map m
           × (HasMade d.machine.stands → (shard : ℕ) → shard ≤ d.machine.setting.mask → word_at s.world.memory (Word d.machine.setting.counter shard) ≡ Some 0)) [
-        | inl e ↦
-            let one : b ≡ d = one_of b d (sym (at_same s.makers i (Some b) j e) ∙ is) in (
-              subst (λ (x : Beginning K). IsUncounted x.map m) one uncounted,
-              λ has_made shard few. absurd (none (subst (λ (x : Beginning K). HasMade x.machine.stands) (sym one) has_made)),
-            )
-        | inr ne ↦ counters.makes j d (sym (at_other s.makers i (Some b) j ne) ∙ is)
-      ]
+            | inl e ↦
+                let one : b ≡ d = one_of b d (sym (at_same s.makers i (Some b) j e) ∙ is) in (
+                  subst (λ (x : Beginning K). IsUncounted x.map m) one uncounted,
+                  λ has_made shard few. absurd (none (subst (λ (x : Beginning K). HasMade x.machine.stands) (sym one) has_made)),
+                )
+            | inr ne ↦ counters.makes j d (sym (at_other s.makers i (Some b) j ne) ∙ is)
+          ]
 
   pub endings_begin_counters : EndingsBeginCounters K V
   endings_begin_counters name m s counters map i standing = record { shards = shards_then; makes = counters.makes; adds = counters.adds }

@@ -3,6 +3,7 @@ ghost use Rattle.std.specs.Prelude.{ℕ, Bool};
 ghost use Rattle.papaya_settles.specs.Beside.{StaysCounts, EffectsLeaveCounts, WalksGoOnCounts, WalksStopCounts};
 ghost use Rattle.papaya_settles.specs.Due.{RowsTellDue};
 ghost use Rattle.papaya_settles.specs.Entries.{EntriesBegin, CallsGoOnEntries, EndingsBeginEntries, CallsKeepEntries, RowsBeginEntries, RowsKeepEntries, MakingsKeepEntries, EndingsKeepEntries};
+ghost use Rattle.papaya_settles.specs.Handing.{CallsBeginHanding, CallsComeToHanding, CallsKeepHanding, CallsTakeHanding, HandingBegins, OthersLeaveHanding, WalksGoOnHanding, WalksStopHanding};
 ghost use Rattle.papaya_settles.specs.InHand.{CallsTakeInHand, CallsHoldTheirs, SweepsTakeInHand, SweepsHoldTheirs};
 ghost use Rattle.papaya_settles.specs.Owed.{OwedBegins, StaysOwed, EffectsLeaveOwed, CallsBeginOwed, CallsTakeOwed, CallsComeToOwed, WalksHaveNothing, RowsHandOver, CallsGoInHand, CallsKeepOwed, WalksGoOnOwed, WalksStopOwed};
 ghost use Rattle.papaya_settles.specs.Owing.{OwesFollow, HandingFollows, StepsTakeOut};
@@ -82,8 +83,8 @@ pub fn rows_hand_over_first<K, V, S>()
 {}
 
 /// At each moment of a run that shows the executor, a call under way owes just what its machine has in hand, in the order in which it hands that over. So it is before all
-/// events; after each step of a call, whoever's, by which what the call has in hand goes with the effects: these find what they hand over, and a call that has ended so owes
-/// nothing; where a call begins that has nothing in hand, takes a reply and comes to an outcome; and a walk that is ready has nothing in hand.
+/// events; after each step of a call, whoever's: its effects find what they hand over, and a call that has ended owes nothing; where a call begins that has nothing in hand,
+/// takes a reply and comes to an outcome; and a walk that is ready has nothing in hand.
 pub fn calls_owe_what_they_have<K, V, S>()
     ensures begins { OwedBegins K V }
     ensures calls { (same : K → K → Bool) (hash : K → ℕ) → CallsKeepOwed K V S same hash }
@@ -100,6 +101,20 @@ pub fn others_leave_owed<K, V, S>()
     ensures effects { EffectsLeaveOwed K V }
     ensures goes_on { (same : K → K → Bool) (hash : K → ℕ) → WalksGoOnOwed K V S same hash }
     ensures stops { (same : K → K → Bool) (hash : K → ℕ) → WalksStopOwed K V S same hash }
+{}
+
+/// At each moment of a run that shows the executor, each call whose row is under way hands something over: it owes something, or has handed something over. So who has
+/// the batch of a slot in hand is told to, and others may wait for it. So it is before all events; after each step of a call, whoever's, where calls owed what they had in
+/// hand, and after what is no call; where a walk goes on, or is given up, and where a call begins, takes a reply, and comes to an outcome.
+pub fn rows_under_way_hand_over<K, V, S>()
+    ensures begins { HandingBegins K V }
+    ensures calls { (same : K → K → Bool) (hash : K → ℕ) → CallsKeepHanding K V S same hash }
+    ensures others { (same : K → K → Bool) (hash : K → ℕ) → OthersLeaveHanding K V S same hash }
+    ensures goes_on { (same : K → K → Bool) (hash : K → ℕ) → WalksGoOnHanding K V S same hash }
+    ensures stops { (same : K → K → Bool) (hash : K → ℕ) → WalksStopHanding K V S same hash }
+    ensures begun { CallsBeginHanding K V }
+    ensures told { CallsTakeHanding K V }
+    ensures come_to { CallsComeToHanding K V }
 {}
 
 /// At each moment of a run that shows the executor, each shard of a map that stands has the word in the memory that the moment says; and a call that is about to count

@@ -1,5 +1,6 @@
 -- What waits once all is reclaimed, and in the end; and what an event leaves.
 use Rattle.papaya_little.proofs.Bounded.{nothing_retired_once_reclaimed}
+use Rattle.papaya_little.proofs.Endings.{events_keep_somewhere}
 use Rattle.papaya_little.proofs.Little.{events_leave_little}
 use Rattle.papaya_little.proofs.Orderly.{emptied_once_reclaimed}
 use Rattle.papaya_little.proofs.Somewhere.{effects_keep_somewhere, others_keep_somewhere}
@@ -11,6 +12,7 @@ returns c d = record {
   begins = somewhere_at_first _ _;
   effects = effects_keep_somewhere _ _;
   others = others_keep_somewhere _ _;
+  over = events_keep_somewhere _ _;
   nothing = nothing_retired_once_reclaimed _ _;
   emptied = emptied_once_reclaimed _ _;
   torn_down = torn_down_in_the_end _ _;

@@ -1,5 +1,6 @@
 -- What waits while no call is under way, and while nobody is there.
 use Rattle.papaya_little.proofs.Bounded.{little_waits}
+use Rattle.papaya_little.proofs.Endings.{named_at_first, events_keep_named, events_keep_roots}
 use Rattle.papaya_little.proofs.Events.{beginnings_keep_tables, events_keep_tables}
 use Rattle.papaya_little.proofs.Orderly.{order_at_first, orderly_at_rest}
 use Rattle.papaya_little.proofs.Tables.{effects_keep_tables, others_keep_tables}
@@ -12,6 +13,9 @@ returns c d = record {
   others = others_keep_tables _ _;
   begun = beginnings_keep_tables _ _;
   over = events_keep_tables _ _;
+  named_first = named_at_first c.row.K.Denot c.row.V.Denot;
+  named = events_keep_named _ _;
+  roots = events_keep_roots _ _;
   orderly = orderly_at_rest _ _;
   bounded = little_waits _ _;
 }

@@ -1,5 +1,5 @@
 -- Calls that add shards up read those of the moment.
-use Rattle.papaya_purposes.proofs.Reads.{events_begin_uncounted, steps_read_shards}
+use Rattle.papaya_purposes.proofs.ShardsRead.{events_begin_uncounted, steps_read_shards}
 use Rattle.papaya_purposes.proofs.law.shards_are_read.Goals as goal
 
 pub returns : goal.returns
