@@ -175,9 +175,11 @@ module _ {K V S : Type 0} (same : K → K → Bool) (hash : K → ℕ) (name : �
   stays_so (changed.Unmade kind) is = absurd is
   stays_so (changed.Took x) is = λ b len t e.
       let of_map : IsOfMap ((with_role x role.Free known).roles b) = subst IsOfMap (sym e) tt in
-      let was = sym (put_back known.roles x role.Free (λ of. of) b of_map) ∙ e in
-      (was, taken_ends t Row (known.roles x) (λ u n its_table one.
-      subst IsOfMap (put_here x role.Free known.roles b (whole.blocks.tables_once b x len n t was (its_table ∙ ap (λ (y : Table). role.Table y n) one))) of_map))
+      let was = sym (put_back known.roles x role.Free (λ of. of) b of_map) ∙ e in (
+        was,
+        taken_ends t Row (known.roles x) (λ u n its_table one.
+            subst IsOfMap (put_here x role.Free known.roles b (whole.blocks.tables_once b x len n t was (its_table ∙ ap (λ (y : Table). role.Table y n) one))) of_map),
+      )
   stays_so (changed.Roomed bucket had) is =
       same_roles (known_after Row (changed.Roomed bucket had) known) (if had && nat_lt bucket known.buckets then [] else Asked ABucket ∷ []) (roomed_as_many Row known bucket had).0
       (roomed_ends (had && nat_lt bucket known.buckets))

@@ -6,7 +6,7 @@ use Rattle.seize.specs.declared.rows.settle.Settled.{Settled}
 use Rattle.seize.specs.declared.rows.settle.Settled.TheVariants as settled
 use Rattle.seize.specs.declared.states.TheConstants.{LAST_SLOT}
 use Rattle.seize.specs.Sequence.{IsBetween}
-use Rattle.seize.specs.World.{World, Row, Rests, Hand, LeftTo, Handed, Event, Runs, times}
+use Rattle.seize.specs.World.{World, Row, Hand, LeftTo, Handed, Event, Runs, times}
 use Rattle.seize_moves.proofs.State.Ghost.{Life, IsDeferring, IsDeferred, IsPending, IsIn, IsDoomed}
 use Rattle.seize_rule.proofs.Points.Aside.{HandFits, is_handed}
 use Rattle.seize_rule.proofs.Rows.Others.{users_rows}
@@ -27,7 +27,7 @@ use Rattle.papaya_teller.specs.declared.changed.Changed.{Changed}
 use Rattle.papaya_teller.specs.declared.changed.Changed.TheVariants as changed
 use Rattle.papaya_callers.specs.Together.{UnderWay}
 use Rattle.papaya_callers.proofs.Together.Came.{came_reached}
-use Rattle.papaya_effects.specs.Effects.{taken_by, effects_of, known_after}
+use Rattle.papaya_effects.specs.Effects.{effects_of, known_after}
 use Rattle.papaya_effects.specs.Known.{Known}
 use Rattle.papaya_effects.specs.declared.acting.Acting.TheVariants.{Ending}
 use Rattle.papaya_effects.specs.declared.role.Role.TheVariants as role
@@ -137,7 +137,7 @@ module _ {K V S : Type 0} (same : K → K → Bool) (hash : K → ℕ) (name : �
           | inl so ↦ inl (still_retired t None (Some map) (effects_of (Ending map) known told) m (ends_none b len t is) so)
           | inr due ↦
               let rows = ap (λ (z : World (Node K V)). z.row due.0) world
-                  ∙ ap (λ (g : ℕ → Row). g due.0) (between_rows deferred_word old.batch_size (events_of i did.deed) s.world did.w2 (deed_between (Node K V) i did.deed) did.runs) in
+              ∙ ap (λ (g : ℕ → Row). g due.0) (between_rows deferred_word old.batch_size (events_of i did.deed) s.world did.w2 (deed_between (Node K V) i did.deed) did.runs) in
               inr (due.0, (due.1.0, due.1.1, ap (λ (g : ℕ → ℕ → Option (UnderWay K V K)). g due.1.0 due.0) calls ∙ due.1.2), subst (IsToRetire b) (sym rows) due.2)
         ];
     lengths = λ b len t is. shows.lengths b len t (was_table b len t is);
