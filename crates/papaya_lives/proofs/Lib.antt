@@ -14,3 +14,4 @@ pub mod Waiting
 pub mod Ends
 pub mod Reclaimed
 pub mod RetiredCalls
+pub mod RetiredEnds

@@ -51,7 +51,7 @@ use Rattle.papaya_moments.specs.Whole.{ShowsWhole}
 use Rattle.papaya_moments.proofs.OnSlots.{begun_hands}
 use Rattle.papaya_lives.specs.Retired.{IsToRetire, ShowsRetired, RetiredBegins, OthersLeaveRetired, EndingsBeginRetired, RowsBeginRetired, RowsKeepRetired, RowsFindRetired}
 use Rattle.papaya_lives.proofs.Retires.{row_life, given_hand, handed_before}
-use Rattle.papaya_lives.proofs.Stages.{NoneEnds, still_retired}
+use Rattle.papaya_lives.proofs.Stages.{NoneEnds, still_retired, taken_ends}
 use Rattle.papaya_lives.proofs.Taken.{kept, it, told_retired}
 use Rattle.papaya_lives.proofs.Waiting.{left, reached}
 use Rattle.papaya_lives.proofs.Worlds.{Kept}
@@ -164,14 +164,6 @@ module _ {K V S : Type 0} (same : K → K → Bool) (hash : K → ℕ) (name : �
   roomed_ends true t = tt
   roomed_ends false t = (λ z. z, tt)
 
-  taken_ends : (x : ℕ) (r : Role) → known.roles x ≡ r → (b len : ℕ) (t : Table) → (b ≡ x → ⊥) → known.roles b ≡ role.Table t len → NoneEnds t (taken_by Row r)
-  taken_ends x role.Free e b len t ne is = tt
-  taken_ends x (role.OwnPair j) e b len t ne is = (λ z. z, tt)
-  taken_ends x (role.OwnTable turn shape) e b len t ne is = (λ z. z, tt)
-  taken_ends x (role.Pair n) e b len t ne is = (λ z. z, tt)
-  taken_ends x (role.Table u n) e b len t ne is = (λ one. ne (whole.blocks.tables_once b x len n t is (e ∙ ap (λ (y : Table). role.Table y n) one)), tt)
-  taken_ends x (role.Counter of) e b len t ne is = tt
-
   stays_so : (x : Changed) → TellsRow x → StaysSo x
   stays_so changed.Nothing is = same_roles known [] refl (λ t. tt)
   stays_so (changed.Wrote (Slot t field) before after) is = same_roles known [] refl (λ t. tt)
@@ -183,8 +175,11 @@ module _ {K V S : Type 0} (same : K → K → Bool) (hash : K → ℕ) (name : �
   stays_so (changed.Unmade kind) is = absurd is
   stays_so (changed.Took x) is = λ b len t e.
       let of_map : IsOfMap ((with_role x role.Free known).roles b) = subst IsOfMap (sym e) tt in
-      let was = sym (put_back known.roles x role.Free (λ of. of) b of_map) ∙ e in
-      (was, taken_ends x (known.roles x) refl b len t (λ same_one. subst IsOfMap (put_here x role.Free known.roles b same_one) of_map) was)
+      let was = sym (put_back known.roles x role.Free (λ of. of) b of_map) ∙ e in (
+        was,
+        taken_ends t Row (known.roles x) (λ u n its_table one.
+            subst IsOfMap (put_here x role.Free known.roles b (whole.blocks.tables_once b x len n t was (its_table ∙ ap (λ (y : Table). role.Table y n) one))) of_map),
+      )
   stays_so (changed.Roomed bucket had) is =
       same_roles (known_after Row (changed.Roomed bucket had) known) (if had && nat_lt bucket known.buckets then [] else Asked ABucket ∷ []) (roomed_as_many Row known bucket had).0
       (roomed_ends (had && nat_lt bucket known.buckets))

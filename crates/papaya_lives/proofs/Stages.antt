@@ -20,9 +20,10 @@ use Rattle.papaya_teller.specs.declared.changed.Changed.{Changed}
 use Rattle.papaya_teller.specs.declared.changed.Changed.TheVariants as changed
 use Rattle.papaya_teller.specs.declared.changed.Kind.{Kind}
 use Rattle.papaya_teller.specs.declared.changed.Kind.TheVariants as kind
-use Rattle.papaya_effects.specs.Effects.{names_same, named, table_at, is_place, made_role, linked_on, stored_on, in_table_on, in_block_on, known_after}
+use Rattle.papaya_effects.specs.Effects.{names_same, named, table_at, pair_taken, table_taken, taken_by, is_place, made_role, linked_on, stored_on, in_table_on, in_block_on, known_after}
 use Rattle.papaya_effects.specs.Known.{Known, with_role}
 use Rattle.papaya_effects.specs.declared.acting.Acting.{Acting}
+use Rattle.papaya_effects.specs.declared.acting.Acting.TheVariants as acts
 use Rattle.papaya_effects.specs.declared.role.Role.{Role}
 use Rattle.papaya_effects.specs.declared.role.Role.TheVariants as role
 use Rattle.papaya_follows.proofs.Alike.{put_here, put_elsewhere}
@@ -117,6 +118,28 @@ module _ (t : Table) where
     pub still_retired : (effects : List Effect) (m : Moment K V) → NoneEnds effects → is_stage is_retired t m ≡ true → is_stage is_retired t (with_effects caller acted effects m) ≡ true
     still_retired [] m none is = is
     still_retired (f ∷ effects) m none is = still_retired effects (with_effect caller acted f m) none.1 (still_one f m none.0 is)
+
+module _ (t : Table) (acting : Acting) where
+  table_ends : (a : Acting) (u : Table) → EndsIt t (table_taken a u) → u ≡ t
+  table_ends (acts.Ending map) u ends = ends
+  table_ends (acts.Call caller map) u ends = ends
+  table_ends (acts.Making map) u ends = ends
+  table_ends acts.Row u ends = ends
+
+  pair_ends : (a : Acting) (n : ℕ) → EndsIt t (pair_taken a n) → ⊥
+  pair_ends (acts.Ending map) n ends = ends
+  pair_ends (acts.Call caller map) n ends = ends
+  pair_ends (acts.Making map) n ends = ends
+  pair_ends acts.Row n ends = ends
+
+  -- what is taken ends another table, if one
+  pub taken_ends : (r : Role) → ((u : Table) (n : ℕ) → r ≡ role.Table u n → u ≡ t → ⊥) → NoneEnds t (taken_by acting r)
+  taken_ends role.Free other = tt
+  taken_ends (role.OwnPair i) other = (λ z. z, tt)
+  taken_ends (role.OwnTable turn shape) other = (λ z. z, tt)
+  taken_ends (role.Pair n) other = (pair_ends acting n, tt)
+  taken_ends (role.Table u n) other = (λ ends. other u n refl (table_ends acting u ends), tt)
+  taken_ends (role.Counter of) other = tt
 
 -- a table of a map, or of somebody's own
 abbrev pub WasTable : Known → ℕ → Table → ℕ → Type 0

@@ -1,7 +1,7 @@
 //! What is promised of what waits behind a table, and of its blocks.
 ghost use Rattle.std.specs.Prelude.{Option, ℕ, Bool};
 ghost use Rattle.papaya_lives.specs.Behind.{WaitingIsThere};
-ghost use Rattle.papaya_lives.specs.Retired.{RetiredBegins, OthersLeaveRetired, EndingsBeginRetired, RowsBeginRetired, RowsKeepRetired, RowsFindRetired, MakingsKeepRetired, CallsKeepRetired};
+ghost use Rattle.papaya_lives.specs.Retired.{RetiredBegins, OthersLeaveRetired, EndingsBeginRetired, RowsBeginRetired, RowsKeepRetired, RowsFindRetired, MakingsKeepRetired, CallsKeepRetired, EndingsKeepRetired};
 ghost use Rattle.papaya_lives.specs.Steps.{WaitingBegins, OthersLeaveWaiting, EndingsBeginWaiting, EffectsFindWaiting, UsersKeepWaiting, RowsBeginWaiting, RowsKeepWaiting, RowsFindWaiting, MakingsKeepWaiting, CallsKeepWaiting, EndingsFindWaiting};
 ghost use Rattle.papaya_lives.specs.Waiting.{WaitUnretired};
 
@@ -31,8 +31,8 @@ pub fn pairs_wait_behind_tables<K, V, S>()
 {}
 
 /// Each table whose block the collector has is told to be retired, or the row within a call is to retire it: so it is before all events, where calls begin, are told
-/// something or come to outcomes, where maps come or go, where rows begin on slots, and after each step of a row on a slot, of a call, whoever's row it is, and of the
-/// making of a map. So a table that a row on a slot reclaims was retired.
+/// something or come to outcomes, where maps come or go, where rows begin on slots, and after each step of a row on a slot, of a call, whoever's row it is, of the
+/// making of a map, and of the end of one. So a table that a row on a slot reclaims was retired.
 pub fn collected_tables_are_retired<K, V, S>()
     ensures begins { RetiredBegins K V }
     ensures others { OthersLeaveRetired K V }
@@ -42,4 +42,5 @@ pub fn collected_tables_are_retired<K, V, S>()
     ensures rows_find { (same : K → K → Bool) (hash : K → ℕ) → RowsFindRetired K V S same hash }
     ensures makings { (same : K → K → Bool) (hash : K → ℕ) → MakingsKeepRetired K V S same hash }
     ensures calls { (same : K → K → Bool) (hash : K → ℕ) → CallsKeepRetired K V S same hash }
+    ensures endings { (same : K → K → Bool) (hash : K → ℕ) → EndingsKeepRetired K V S same hash }
 {}
