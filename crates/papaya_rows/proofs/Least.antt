@@ -9,7 +9,7 @@ abbrev pub AllBefore : ℕ → List ℕ → Type 0
 AllBefore k used = (t : ℕ) → t < k → is_among t used ≡ true
 
 -- the list without one number
-abbrev off : ℕ → List ℕ → List ℕ
+abbrev pub off : ℕ → List ℕ → List ℕ
 off j [] = []
 off j (x ∷ xs) = if j == x then off j xs else x ∷ off j xs
 
@@ -42,7 +42,7 @@ off_others j t (x ∷ xs) ne = by (j == x) refl (off_others j t xs ne)
     by false e ih = ap (λ (q : Bool). (t == x) || q) ih
 
 -- so there are as many
-as_many : (k : ℕ) (xs : List ℕ) → AllBefore k xs → k ≤ length xs
+pub as_many : (k : ℕ) (xs : List ℕ) → AllBefore k xs → k ≤ length xs
 as_many zero xs all = omega arith
 as_many (suc k) xs all =
     let less = off_fewer k xs (all k (omega arith)) in

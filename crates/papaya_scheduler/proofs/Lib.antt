@@ -6,6 +6,11 @@ mod KeptOut
 mod Refused
 mod Seats
 mod Maps
+mod MapLists
+mod Mapped
+mod MapsEnded
+mod RootsUsed
+mod MapsMade
 mod Called
 mod Begins
 mod ShapesHere

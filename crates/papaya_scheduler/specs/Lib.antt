@@ -6,3 +6,4 @@ pub mod Turns
 pub mod Handing
 pub mod Played
 pub mod KeptOut
+pub mod Mapping

@@ -3,9 +3,11 @@
 
 pub mod caller;
 pub mod calls;
+pub mod endings;
 pub mod guards;
 pub mod kind;
 pub mod machines;
+pub mod makings;
 pub mod played;
 pub mod registrations;
 pub mod scheduler;
