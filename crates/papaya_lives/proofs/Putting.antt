@@ -1,8 +1,7 @@
 -- A row that is putting a block behind another one was doing so before its step, and the other one is held in its section: so it is not taken.
-use Rattle.std.specs.Prelude.{Some, ◌≢◌, ◌⊎◌, ◌++◌}
+use Rattle.std.specs.Prelude.{◌≢◌, ◌⊎◌, ◌++◌}
 use Rattle.std.proofs.Common.{◌≡◌, ℕ, Bool, true, false, List, [], ◌∷◌, refl, ap, sym, subst, ◌∙◌, inl, inr}
 use Rattle.std.proofs.lemmas.Bool.{cases_eq}
-use Rattle.seize_words.specs.Word.{link_to}
 use Rattle.seize_words.specs.declared.at.At.{At}
 use Rattle.seize_words.specs.declared.at.At.TheVariants.{Root, Used, Slot, Entry, Word}
 use Rattle.seize.specs.Further.{IsWordOf}
