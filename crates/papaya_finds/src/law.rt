@@ -9,7 +9,7 @@ ghost use Rattle.papaya_finds.specs.Bounded.{LittleWaits, NothingRetiredOnceRecl
 ghost use Rattle.papaya_finds.specs.Endings.{NamedAtFirst, EventsKeepNamed, EventsKeepRoots, EventsKeepSomewhere};
 ghost use Rattle.papaya_finds.specs.Events.{BeginningsKeepPlaced, EventsKeepPlaced, BeginningsKeepTables, EventsKeepTables};
 ghost use Rattle.papaya_finds.specs.Life.{LifeFindsPlaced, LifeKeepsPlaced};
-ghost use Rattle.papaya_finds.specs.Little.{EventsLeaveLittle};
+ghost use Rattle.papaya_finds.specs.Little.{EventsLeaveLittle, OverStaysBack, RunsLeaveLittle};
 ghost use Rattle.papaya_finds.specs.Orderly.{OrderAtFirst, OrderlyAtRest, EmptiedOnceReclaimed};
 ghost use Rattle.papaya_finds.specs.Tables.{EffectsKeepTables, OthersKeepTables};
 ghost use Rattle.papaya_finds.specs.TornDown.{SomewhereAtFirst, EffectsKeepSomewhere, OthersKeepSomewhere, TornDownInTheEnd};
@@ -82,7 +82,8 @@ pub fn little_waits_at_rest<K, V>()
 {}
 
 /// Each pair that was stored is somewhere, and where it is in a map, that is there: so it is after each event, as a map ends all of whose pairs were given back. Once all is reclaimed nothing waits but what is behind tables of resizes that go on; and
-/// once no map is there, either, each pair that was stored was given back, once. So an event leaves little, by what is so of the moment after it.
+/// once no map is there, either, each pair that was stored was given back, once; after the collector has ended that stays so. So each event of a run leaves little, if its
+/// events go in order, and all is back where they reclaim all; the bound is asked for where nobody is there, of a world that the moment shows.
 pub fn all_comes_back<K, V>()
     ensures begins { SomewhereAtFirst K V }
     ensures effects { EffectsKeepSomewhere K V }
@@ -92,6 +93,8 @@ pub fn all_comes_back<K, V>()
     ensures emptied { EmptiedOnceReclaimed K V }
     ensures torn_down { TornDownInTheEnd K V }
     ensures little { EventsLeaveLittle K V }
+    ensures over_stays { OverStaysBack K V }
+    ensures runs { RunsLeaveLittle K V }
 {}
 
 /// All this is so at each moment of a run whose events come to what is right for them and keep the promise `life`: pairs that have left their maps are in their places,
