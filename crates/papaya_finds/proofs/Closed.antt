@@ -20,11 +20,11 @@ use Rattle.papaya_schedules.specs.Handing.{IsWhole}
 use Rattle.papaya_schedules.specs.InTurn.{is_growth, is_kept_out, IsKeptOut, ComesTo}
 use Rattle.papaya_schedules.specs.InUse.{is_left}
 use Rattle.papaya_schedules.specs.Lists.{is_empty}
-use Rattle.papaya_schedules.specs.Moment.{Place, MapThere, TableThere, UnderWay, Moment}
+use Rattle.papaya_schedules.specs.Moment.{Place, TableThere, Moment}
 use Rattle.papaya_schedules.specs.Terms.{Terms}
 use Rattle.papaya_schedules.specs.Reclaims.{is_handed}
 use Rattle.papaya_schedules.specs.Views.{number_of, is_retired}
-use Rattle.papaya_finds.specs.Little.{AllIsBack, ReclaimsAll, OverIsBack, OverStaysBack}
+use Rattle.papaya_finds.specs.Little.{AllIsBack, ReclaimsAll, OverStaysBack}
 use Rattle.papaya_finds.specs.Orderly.{is_left_over}
 use Rattle.papaya_finds.specs.Within.{GoesInOrder}
 use Rattle.papaya_finds.proofs.Begun.{was_done, in_turn, not_kept_out}
