@@ -4,7 +4,7 @@ ghost use Rattle.papaya_finds.specs.Joined.{PartsAreAll, SeveralFindAll, EventsF
 ghost use Rattle.papaya_finds.specs.Doing.{SeveralDoTheirs, EventsMayDo};
 ghost use Rattle.papaya_finds.specs.Past.{EffectsLeavePast, CallsFindOnward};
 ghost use Rattle.papaya_finds.specs.Quiet.{FoundLeaveNothing, OthersOweNothing};
-ghost use Rattle.papaya_finds.specs.Steps.{StepsDoTheirs, StepsFindPlaces, StepsFindParts};
+ghost use Rattle.papaya_finds.specs.Steps.{StepsDoTheirs, StepsFindPlaces, StepsStoreOne, StepsFindParts};
 ghost use Rattle.papaya_finds.specs.Bounded.{LittleWaits, NothingRetiredOnceReclaimed};
 ghost use Rattle.papaya_finds.specs.Endings.{NamedAtFirst, EventsKeepNamed, EventsKeepRoots, EventsKeepSomewhere};
 ghost use Rattle.papaya_finds.specs.Events.{BeginningsKeepPlaced, EventsKeepPlaced, BeginningsKeepTables, EventsKeepTables};
@@ -19,10 +19,11 @@ ghost use Rattle.papaya_finds.specs.Waiting.{PlacedAtFirst, EffectsKeepPlaced, O
 /// The effects of a step of a call, whether it is one of a row or none, are such as calls have: it asks for no bucket, and reclaims nothing. They find the pairs
 /// and the tables of the call's map as they must: one that leaves the map is in it; a pair is copied to where a copy may lie, and stored where no pair of the map
 /// lies, or the one that it replaces; and as the root comes to a table, each pair of the map lies there or behind it, or has its copy there, so that none is left
-/// behind. So they find all that is promised of what the call has made, of what it counts, and of what it is.
+/// behind. Who stores a pair has one to store. So they find all that is promised of what the call has made, of what it counts, and of what it is.
 pub fn steps_find_theirs<K, V, S>()
     ensures kinds { (same : K → K → Bool) (hash : K → ℕ) → StepsDoTheirs K V S same hash }
     ensures places { (same : K → K → Bool) (hash : K → ℕ) → StepsFindPlaces K V S same hash }
+    ensures stores { (same : K → K → Bool) (hash : K → ℕ) → StepsStoreOne K V S same hash }
     ensures parts { (same : K → K → Bool) (hash : K → ℕ) → StepsFindParts K V S same hash }
 {}
 
