@@ -107,7 +107,7 @@ events_find_all K V terms log e b own c caller c_is all =
 
 module _ {K V : Type 0} (terms : Terms) (moments : List (Moment K V)) where
   -- a call that has a value for a pair may ask for the block
-  valued_grows : (its : Call K V) (c : CallThere K V) → has_value_for its c ≡ true → MayGrow terms its c moments
+  pub valued_grows : (its : Call K V) (c : CallThere K V) → has_value_for its c ≡ true → MayGrow terms its c moments
   valued_grows (call.Reserve more) c e = absurd (cc e)
   valued_grows _ c e = inl e
 

@@ -3,7 +3,7 @@ ghost use Rattle.std.specs.Prelude.{ℕ, Bool};
 ghost use Rattle.papaya_finds.specs.Joined.{PartsAreAll, SeveralFindAll, EventsFindAll, PairsAreAskedFor};
 ghost use Rattle.papaya_finds.specs.Doing.{SeveralDoTheirs, EventsMayDo};
 ghost use Rattle.papaya_finds.specs.Past.{EffectsLeavePast, CallsFindOnward};
-ghost use Rattle.papaya_finds.specs.Quiet.{FoundLeaveNothing, OthersOweNothing};
+ghost use Rattle.papaya_finds.specs.Quiet.{FoundLeaveNothing, OthersOweNothing, SeveralStoreOne, ValuedMayAsk};
 ghost use Rattle.papaya_finds.specs.Steps.{StepsDoTheirs, StepsFindPlaces, StepsStoreOne, StepsFindParts};
 ghost use Rattle.papaya_finds.specs.Bounded.{LittleWaits, NothingRetiredOnceReclaimed};
 ghost use Rattle.papaya_finds.specs.Endings.{NamedAtFirst, EventsKeepNamed, EventsKeepRoots, EventsKeepSomewhere};
@@ -29,7 +29,8 @@ pub fn steps_find_theirs<K, V, S>()
 
 /// These parts, with what is left, make up all that an effect of a call must find, for each kind of effect: so it is for the effects of a step, of several steps,
 /// and of an event of the call. Where a block for a pair is made nothing is left: the call has a value for it, so it may ask for the block. Nothing is left of an effect
-/// that asks for no block, links no table, and hands no pair over; and one that hands nothing over need find nothing that is owed.
+/// that asks for no block, links no table, and hands no pair over, nor of one that asks for a block, if the call began with the value that it stores; and one that hands nothing over need find
+/// nothing that is owed. Effects of several steps store one pair each, too.
 pub fn parts_are_all<K, V>()
     ensures joined { PartsAreAll K V }
     ensures several { SeveralFindAll K V }
@@ -37,6 +38,8 @@ pub fn parts_are_all<K, V>()
     ensures pairs { PairsAreAskedFor K V }
     ensures found { FoundLeaveNothing K V }
     ensures others { OthersOweNothing K V }
+    ensures stores { SeveralStoreOne K V }
+    ensures valued { ValuedMayAsk K V }
 {}
 
 /// A pair that has left its map lies where it lay after any effects, whoever makes them, and the root of no map goes back: so a pair that may be retired, as it lies
