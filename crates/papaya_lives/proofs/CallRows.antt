@@ -1,5 +1,5 @@
 -- A step of a row within a call leaves what waits behind tables there: it takes nothing away, and what it retires did not wait.
-use Rattle.std.specs.Prelude.{◌≡◌, ◌≢◌, ◌⊎◌, ℕ, zero, suc, ◌+◌, ◌<◌, ◌==◌, Bool, true, false, List, [], ◌∷◌, length, Option, Some, None, if◌then◌else◌}
+use Rattle.std.specs.Prelude.{◌≡◌, ◌⊎◌, ℕ, zero, suc, ◌+◌, ◌==◌, Bool, true, false, List, [], ◌∷◌, length, Option, Some, if◌then◌else◌}
 use Rattle.std.proofs.Common.{refl, ap, sym, subst, ◌∙◌, inl, inr, arith}
 use Rattle.std.proofs.lemmas.Bool.{cases_eq, eq-eqb, ne_eqb}
 use Rattle.seize_words.specs.Mem.{Mem, value_at}
@@ -17,7 +17,7 @@ use Rattle.seize.specs.declared.rows.settle.Settled.TheVariants as settled
 use Rattle.seize.specs.declared.rows.settle.Settling.{Settling}
 use Rattle.seize.specs.declared.rows.settle.Settling.TheVariants as at_point
 use Rattle.seize.specs.declared.states.TheConstants.{LAST_SLOT}
-use Rattle.seize.specs.World.{World, Row, Rests, Registers, Enters, Settles, Leaves, Defers, Frees, Hand, NoBlock, Making, InUse, Parting, Cutting, Handed, LeftTo, MayCut, Request, Register', Enter', Leave', LeaveOwned, Refresh, Unregister', Retire, Flush, Defer', Begin, Step, Begins, Happens, Steps', settles_on, defers_on, with_at, times}
+use Rattle.seize.specs.World.{World, Row, Rests, Registers, Enters, Settles, Leaves, Defers, Frees, Hand, NoBlock, Making, InUse, Parting, Cutting, Handed, LeftTo, MayCut, Request, Register', Enter', Leave', LeaveOwned, Refresh, Unregister', Retire, Flush, Defer', Begin, Begins, Steps', settles_on, defers_on, with_at, times}
 use Rattle.seize_moves.proofs.State.Ghost.{Life, IsDeferring, IsDeferred, IsPending, State}
 use Rattle.seize_moves.proofs.Sets.Unmoved.{is_in_wait}
 use Rattle.seize_rule.proofs.Points.Aside.{HandFits}
@@ -34,9 +34,9 @@ use Rattle.papaya_tables.specs.Nodes.{deferred_word}
 use Rattle.papaya_tables.specs.declared.node.Node.{Node}
 use Rattle.papaya_raw.specs.declared.machines.progress.Progress.{Progress as CallTold}
 use Rattle.papaya_schedules.specs.declared.effect.Effect.{Effect}
-use Rattle.papaya_schedules.specs.declared.effect.Effect.TheVariants.{Deferred, Retired}
+use Rattle.papaya_schedules.specs.declared.effect.Effect.TheVariants.{Retired}
 use Rattle.papaya_schedules.specs.declared.effect.Table.{Table}
-use Rattle.papaya_schedules.specs.declared.effect.Thing.TheVariants.{APair, ATable}
+use Rattle.papaya_schedules.specs.declared.effect.Thing.TheVariants.{APair}
 use Rattle.papaya_schedules.specs.Effects.{with_effects}
 use Rattle.papaya_schedules.specs.Lists.{put}
 use Rattle.papaya_schedules.specs.Moment.{Place, Behind, Handed as IsHanded, Moment}
@@ -54,7 +54,7 @@ use Rattle.papaya_executor.specs.Stepping.{StepLeads}
 use Rattle.papaya_executor.specs.declared.executor.Executor.{Executor}
 use Rattle.papaya_finishes.specs.Machines.{machine_of}
 use Rattle.papaya_follows.specs.Blocks.{HasRole}
-use Rattle.papaya_follows.proofs.Alike.{is_calm, AllCalm, put_here, put_elsewhere}
+use Rattle.papaya_follows.proofs.Alike.{AllCalm, put_here, put_elsewhere}
 use Rattle.papaya_follows.proofs.Onward.{IsLasting}
 use Rattle.papaya_follows.proofs.RowSteps.{row_step_shown}
 use Rattle.papaya_follows.proofs.Steps.{WentTo, went_to, made_so, is_inside, DidSo, OfNoRow}
@@ -62,7 +62,7 @@ use Rattle.papaya_hands.specs.Rows.{ReclaimsNone}
 use Rattle.papaya_hands.proofs.RowSteps.{rows_hand_theirs}
 use Rattle.papaya_spots.proofs.Steps.{stayed_calm}
 use Rattle.papaya_moments.specs.Whole.{ShowsWhole}
-use Rattle.papaya_settles.specs.Due.{Due, ToRetire, due_in_settle, due_in_row, told_retired, RowTells, TellsNone, TellsRetired, TellsDeferred, OwnAreMade}
+use Rattle.papaya_settles.specs.Due.{ToRetire, due_in_settle, due_in_row, told_retired, RowTells, TellsNone, TellsRetired, TellsDeferred, OwnAreMade}
 use Rattle.papaya_settles.specs.Entries.{ShowsEntries}
 use Rattle.papaya_settles.proofs.DueCalls.{rows_tell_due}
 use Rattle.papaya_lives.specs.Behind.{IsLeft, LiesBehind, EachWaits, ShowsWaiting}
