@@ -15,4 +15,5 @@ pub mod Waiting
 pub mod Ends
 pub mod Reclaimed
 pub mod RetiredCalls
+pub mod CallRows
 pub mod RetiredEnds
