@@ -1,6 +1,6 @@
 -- A walk that is ready owes nothing: it comes to that with nothing left, and stays so until it is told to go on, or to stop.
-use Rattle.std.specs.Prelude.{◌≡◌, ℕ, ◌+◌, Bool, true, false, ◌&&◌, not, List, [], ◌∷◌, find, map, Option, Some, None, is_some, MatchBool, ◌⊎◌, if◌then◌else◌}
-use Rattle.std.specs.List.{AllByRecursion, list_any, list_all}
+use Rattle.std.specs.Prelude.{◌≡◌, ℕ, ◌+◌, Bool, true, false, not, List, [], ◌∷◌, map, Option, Some, None, MatchBool, ◌⊎◌, if◌then◌else◌}
+use Rattle.std.specs.List.{AllByRecursion, list_all}
 use Rattle.std.proofs.Common.{refl, ap, sym, subst, ◌∙◌, inl, inr}
 use Rattle.seize_words.specs.declared.fault.Fault.TheVariants.{Busy}
 use Rattle.papaya_runs.specs.Same.{is_same}
@@ -54,8 +54,8 @@ module _ {K V : Type 0} where
 
       by : (d : UnderWay K V) → (IsOther (Some who) d → ReadyOwesNone d) → (q : Bool) → is_same d.caller who ≡ q → Goal d (is_same d.caller who)
       by d its true is = subst (Goal d) (sym is) (λ other. absurd (
-        let no : is_same d.caller who ≡ false = sym (ap (λ (l : List ℕ). is_same l who) (changed_same m f d).0) ∙ other who refl in cc (is, no)
-      ))
+          let no : is_same d.caller who ≡ false = sym (ap (λ (l : List ℕ). is_same l who) (changed_same m f d).0) ∙ other who refl in cc (is, no)
+          ))
       by d its false is = subst (Goal d) (sym is) its
 
   others_stay : (caller : Option (List ℕ)) (acted : Option ℕ) (effects : List Effect) (m : Moment K V) → Others caller m.calls → Others caller (with_effects caller acted effects m).calls

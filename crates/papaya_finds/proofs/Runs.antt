@@ -12,7 +12,7 @@ use Rattle.papaya_schedules.specs.declared.outcome.Outcome.{Outcome}
 use Rattle.papaya_schedules.specs.declared.outcome.Outcome.TheVariants as outcome
 use Rattle.papaya_schedules.specs.After.{moment, after, maps_on}
 use Rattle.papaya_schedules.specs.Beginning.{begun}
-use Rattle.papaya_schedules.specs.Effects.{call_by, with_effect, with_effects, worked}
+use Rattle.papaya_schedules.specs.Effects.{call_by, with_effect, worked}
 use Rattle.papaya_schedules.specs.Entry.{Entry, caller_of, acting, acted_on}
 use Rattle.papaya_schedules.specs.Handing.{gives_all, moments_of}
 use Rattle.papaya_schedules.specs.InTurn.{is_called}

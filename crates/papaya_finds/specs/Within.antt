@@ -11,7 +11,7 @@ use Rattle.papaya_schedules.specs.declared.outcome.Outcome.TheVariants.{Done}
 use Rattle.papaya_schedules.specs.After.{moment, after, AtEachEvent}
 use Rattle.papaya_schedules.specs.Beginning.{at_work}
 use Rattle.papaya_schedules.specs.Coming.{is_ready}
-use Rattle.papaya_schedules.specs.Effects.{with_effects, worked, AtEachEffect}
+use Rattle.papaya_schedules.specs.Effects.{with_effects, AtEachEffect}
 use Rattle.papaya_schedules.specs.Entry.{Entry, caller_of, acted_on}
 use Rattle.papaya_schedules.specs.Handing.{MovesOn}
 use Rattle.papaya_schedules.specs.InTurn.{ComesRight}
