@@ -26,6 +26,7 @@ pub mod Endings
 pub mod Grown
 pub mod Within
 pub mod Over
+pub mod Ready
 pub mod Begun
 pub mod Runs
 pub mod Closed

@@ -77,4 +77,4 @@ module _ {K V : Type 0} (terms : Terms) where
 
 pub runs_leave_little : (K V : Type 0) → RunsLeaveLittle K V
 runs_leave_little K V terms log e known w word all shows =
-    events_leave_little K V terms log e known w word (runs_are_in_order K V terms (e ∷ log) (only_order terms (e ∷ log) all)) all.0.1 (over_at_each terms (e ∷ log) all) shows
+    events_leave_little K V terms log e known w word (runs_are_in_order K V terms (e ∷ log) (only_order terms (e ∷ log) all)).0 all.0.1 (over_at_each terms (e ∷ log) all) shows

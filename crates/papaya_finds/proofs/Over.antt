@@ -9,7 +9,7 @@ use Rattle.papaya_schedules.specs.declared.event.Event.TheVariants as event
 use Rattle.papaya_schedules.specs.declared.outcome.Outcome.{Outcome}
 use Rattle.papaya_schedules.specs.declared.outcome.Outcome.TheVariants as outcome
 use Rattle.papaya_schedules.specs.After.{without_call, stepped, calls_on, comes_to, replied}
-use Rattle.papaya_schedules.specs.Effects.{with_effect, AtEachEffect}
+use Rattle.papaya_schedules.specs.Effects.{with_effects, with_effect, AtEachEffect}
 use Rattle.papaya_schedules.specs.Entry.{IfCall, ends_call, caller_of, acting, acted_on}
 use Rattle.papaya_schedules.specs.Handing.{LeavesOf, comes_clear}
 use Rattle.papaya_schedules.specs.Moment.{UnderWay, MapThere, Moment}
@@ -78,7 +78,7 @@ module _ {K V : Type 0} where
     over_have its came steps calls all = stepped_have (caller_of its) came steps calls all
 
   -- a call that an event ends owes nothing
-  none_of_name : (own : List ℕ) (calls : List (UnderWay K V)) → AreApart calls → IfCall (λ c. c.owes ≡ []) (find (λ c. is_same c.caller own) calls) → AllByRecursion (λ c. is_same c.caller own ≡ true → c.owes ≡ []) calls
+  pub none_of_name : (own : List ℕ) (calls : List (UnderWay K V)) → AreApart calls → IfCall (λ c. c.owes ≡ []) (find (λ c. is_same c.caller own) calls) → AllByRecursion (λ c. is_same c.caller own ≡ true → c.owes ≡ []) calls
   none_of_name own calls apart clear = by (find (λ c. is_same c.caller own) calls) refl clear
     where
       none : (q : Bool) → list_any (λ c. is_same c.caller own) calls ≡ q → find (λ c. is_same c.caller own) calls ≡ None → AllByRecursion (λ c. is_same c.caller own ≡ true → c.owes ≡ []) calls
@@ -89,6 +89,15 @@ module _ {K V : Type 0} where
       by None is nothing = none (list_any (λ c. is_same c.caller own) calls) refl is
       by (Some c) is owes = all_so (λ d. is_same d.caller own ≡ true → d ≡ c) (λ d. is_same d.caller own ≡ true → d.owes ≡ []) (λ d one same. ap (λ (x : UnderWay K V). x.owes) (one same) ∙ owes) calls (only_one own calls c apart is)
 
+  pub if_clear : (came : Outcome V) (o : Option (UnderWay K V)) → comes_clear came ≡ true → IfCall (LeavesOf (comes_clear came) came) o → IfCall (λ (c : UnderWay K V). c.owes ≡ []) o
+  if_clear came None clear its_leaves = tt
+  if_clear came (Some c) clear its_leaves = (subst (λ (q : Bool). LeavesOf q came c) clear its_leaves).0.owes
+
+  -- an event that is no call's leaves calls as they are
+  pub calls_stay : (acted : Option ℕ) (effects : List Effect) (m : Moment K V) → (with_effects None acted effects m).calls ≡ m.calls
+  calls_stay acted [] m = refl
+  calls_stay acted (f ∷ effects) m = calls_stay acted effects (with_effect None acted f m)
+
   pub ended_owes_none : (its : Event K V) (came : Outcome V) (w : Moment K V) → AreApart w.calls → IfCall (LeavesOf (comes_clear came) came) (acting (caller_of its) w) → StoppedOwesNone its came w.calls
       → EndedOwesNone (ended_by its came) w.calls
   ended_owes_none (event.Stop caller) outcome.Done w apart leaves stops = stops
@@ -98,10 +107,6 @@ module _ {K V : Type 0} where
       of None clear = tt
       of (Some own) clear = none_of_name own w.calls apart clear
 
-      clear_call : (o : Option (UnderWay K V)) → comes_clear came ≡ true → IfCall (LeavesOf (comes_clear came) came) o → IfCall (λ (c : UnderWay K V). c.owes ≡ []) o
-      clear_call None clear its_leaves = tt
-      clear_call (Some c) clear its_leaves = (subst (λ (q : Bool). LeavesOf q came c) clear its_leaves).0.owes
-
       by : (q : Bool) → ends_call came ≡ q → EndedOwesNone (if q then caller_of its else None) w.calls
-      by true ends = of (caller_of its) (clear_call (acting (caller_of its) w) (is_clear came ends) leaves)
+      by true ends = of (caller_of its) (if_clear came (acting (caller_of its) w) (is_clear came ends) leaves)
       by false goes = tt

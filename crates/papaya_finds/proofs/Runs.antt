@@ -12,7 +12,7 @@ use Rattle.papaya_schedules.specs.declared.outcome.Outcome.{Outcome}
 use Rattle.papaya_schedules.specs.declared.outcome.Outcome.TheVariants as outcome
 use Rattle.papaya_schedules.specs.After.{moment, after, maps_on}
 use Rattle.papaya_schedules.specs.Beginning.{begun}
-use Rattle.papaya_schedules.specs.Effects.{call_by, with_effect, with_effects, worked}
+use Rattle.papaya_schedules.specs.Effects.{call_by, with_effect, worked}
 use Rattle.papaya_schedules.specs.Entry.{Entry, caller_of, acting, acted_on}
 use Rattle.papaya_schedules.specs.Handing.{gives_all, moments_of}
 use Rattle.papaya_schedules.specs.InTurn.{is_called}
@@ -25,18 +25,19 @@ use Rattle.papaya_follows.proofs.Calls.{changed_same, changed, of_same, found}
 use Rattle.papaya_finds.specs.Endings.{EndsWhole}
 use Rattle.papaya_finds.specs.Events.{ended_by, EndedOwesNone}
 use Rattle.papaya_finds.specs.Life.{StoresOne}
-use Rattle.papaya_finds.specs.Within.{many_of, HasItsMap, AllIsInOrder, ActsOn, GoesInOrder, AllInOrderAtFirst, LifeKeepsOrder, EventsKeepOrder, RunsAreInOrder}
+use Rattle.papaya_finds.specs.Within.{ReadyOweNone, many_of, HasItsMap, AllIsInOrder, ActsOn, GoesInOrder, AllInOrderAtFirst, LifeKeepsOrder, EventsKeepOrder, RunsAreInOrder}
 use Rattle.papaya_finds.proofs.Begun.{makes_new, ends_uncalled, all_begun}
 use Rattle.papaya_finds.proofs.Endings.{entry, number_at, same_number, fewer_found, ends_leave_maps, events_keep_named, events_keep_roots, events_keep_somewhere}
 use Rattle.papaya_finds.proofs.Events.{events_keep_placed, events_keep_tables}
 use Rattle.papaya_finds.proofs.Lists.{any_so, any_kept_among, all_so, all_both, each_is, each_among}
 use Rattle.papaya_finds.proofs.Orderly.{order_at_first}
 use Rattle.papaya_finds.proofs.Owed.{named_still}
+use Rattle.papaya_finds.proofs.Ready.{after_ready, stopped_owes_none}
 use Rattle.papaya_finds.proofs.Tables.{all_kept}
 use Rattle.papaya_finds.proofs.TornDown.{somewhere_at_first}
 use Rattle.papaya_finds.proofs.Grown.{found_any, any_found}
 use Rattle.papaya_finds.proofs.Within.{in_order}
-use Rattle.papaya_finds.proofs.Over.{acts, both_at, over_have, ended_owes_none}
+use Rattle.papaya_finds.proofs.Over.{acts, calls_stay, both_at, over_have, ended_owes_none}
 
 pub all_in_order_at_first : (K V : Type 0) → AllInOrderAtFirst K V
 all_in_order_at_first K V = record {
@@ -105,10 +106,6 @@ module _ {K V : Type 0} where
     calls = all_so (HasItsMap w) (λ c. list_any (λ (f : MapThere). f.number == c.map) w.maps ≡ true) (λ c its. its.there) w.calls h.within.calls;
   }
 
-  ends_leave_calls : (acted : Option ℕ) (effects : List Effect) (m : Moment K V) → (with_effects None acted effects m).calls ≡ m.calls
-  ends_leave_calls acted [] m = refl
-  ends_leave_calls acted (f ∷ effects) m = ends_leave_calls acted effects (with_effect None acted f m)
-
 module _ {K V : Type 0} (terms : Terms) (log : List (Entry K V)) where
   abbrev m : Moment K V
   m = moment log
@@ -144,7 +141,7 @@ module _ {K V : Type 0} (terms : Terms) (log : List (Entry K V)) where
       same_maps = ends_leave_maps (number_of name m) effects m goes.life.may
 
       same_calls : w.calls ≡ m.calls
-      same_calls = ends_leave_calls (number_of name m) effects m
+      same_calls = calls_stay (number_of name m) effects m
 
       uncalled : is_called (number_of name m) m ≡ false
       uncalled = ends_uncalled terms log (entry (event.EndMap name) outcome.Done steps effects) name goes.right
@@ -157,7 +154,7 @@ module _ {K V : Type 0} (terms : Terms) (log : List (Entry K V)) where
           number_is a b e = grind (arith, e)
   leaves_on its came steps effects goes before h = leaves_all (worked (entry its came steps effects) m) h
 
-  module _ (e : Entry K V) (goes : GoesInOrder terms log e) (h : AllIsInOrder m) where
+  module _ (e : Entry K V) (goes : GoesInOrder terms log e) (h : AllIsInOrder m) (ready : ReadyOweNone m) where
     abbrev b : Moment K V
     b = begun e.event e.outcome m
 
@@ -177,7 +174,7 @@ module _ {K V : Type 0} (terms : Terms) (log : List (Entry K V)) where
     ends = record { named = h.named; found = h.waits.found; may = goes.life.may; whole = goes.life.whole }
 
     owes : EndedOwesNone (ended_by e.event e.outcome) w.calls
-    owes = ended_owes_none e.event e.outcome w then_worked.waits.placed.apart goes.life.leaves goes.stops
+    owes = ended_owes_none e.event e.outcome w then_worked.waits.placed.apart goes.life.leaves (stopped_owes_none terms log e.event e.outcome e.steps e.effects goes ready h.waits.placed.apart)
 
     left : Leaves w v.maps
     left = leaves_on e.event e.outcome e.steps e.effects goes h then_worked
@@ -210,8 +207,9 @@ module _ {K V : Type 0} (terms : Terms) (log : List (Entry K V)) where
     }
 
 pub events_keep_order : (K V : Type 0) → EventsKeepOrder K V
-events_keep_order K V terms log e goes h = then_after terms log e goes h
+events_keep_order K V terms log e goes h =
+    (then_after terms log e goes h.0 h.1, after_ready terms log e.event e.outcome e.steps e.effects goes h.1 (then_worked terms log e goes h.0 h.1).waits.placed.apart)
 
 pub runs_are_in_order : (K V : Type 0) → RunsAreInOrder K V
-runs_are_in_order K V terms [] all = all_in_order_at_first K V
+runs_are_in_order K V terms [] all = (all_in_order_at_first K V, tt)
 runs_are_in_order K V terms (e ∷ log) all = events_keep_order K V terms log e all.0 (runs_are_in_order K V terms log all.1)

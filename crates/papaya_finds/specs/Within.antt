@@ -1,6 +1,6 @@
 -- What is so at each moment of a run whose events come to what is right for them, and keep the promise `life`: tables, pairs and calls stay within what their maps have
 -- had. So all that waits does so in order.
-use Rattle.std.specs.Prelude.{◌≡◌, ℕ, ◌+◌, ◌<◌, ◌≤◌, ◌==◌, Bool, true, List, length, Option, Some}
+use Rattle.std.specs.Prelude.{◌≡◌, ℕ, ◌+◌, ◌<◌, ◌≤◌, ◌==◌, Bool, true, List, [], length, Option, Some}
 use Rattle.std.specs.List.{AllByRecursion, list_any}
 use Rattle.papaya_schedules.specs.declared.effect.Effect.{Effect}
 use Rattle.papaya_schedules.specs.declared.effect.Table.{Table}
@@ -10,7 +10,8 @@ use Rattle.papaya_schedules.specs.declared.outcome.Outcome.{Outcome}
 use Rattle.papaya_schedules.specs.declared.outcome.Outcome.TheVariants.{Done}
 use Rattle.papaya_schedules.specs.After.{moment, after, AtEachEvent}
 use Rattle.papaya_schedules.specs.Beginning.{at_work}
-use Rattle.papaya_schedules.specs.Effects.{with_effects, worked, AtEachEffect}
+use Rattle.papaya_schedules.specs.Coming.{is_ready}
+use Rattle.papaya_schedules.specs.Effects.{with_effects, AtEachEffect}
 use Rattle.papaya_schedules.specs.Entry.{Entry, caller_of, acted_on}
 use Rattle.papaya_schedules.specs.Handing.{MovesOn}
 use Rattle.papaya_schedules.specs.InTurn.{ComesRight}
@@ -62,12 +63,18 @@ module _ {K V : Type 0} where
   StoppedOwesNone (Stop caller) Done calls = EndedOwesNone (Some caller) calls
   StoppedOwesNone event outcome calls = Unit {0}
 
-  -- An event comes to what is right for it, keeps the promise `life`, stores one pair by each effect that stores, and stops no walk that owes anything.
+  -- a walk that is ready owes nothing
+  abbrev pub ReadyOwesNone : UnderWay K V → Type 0
+  ReadyOwesNone c = is_ready c.stands ≡ true → c.owes ≡ []
+
+  abbrev pub ReadyOweNone : Moment K V → Type 0
+  ReadyOweNone m = AllByRecursion ReadyOwesNone m.calls
+
+  -- An event comes to what is right for it, keeps the promise `life`, and stores one pair by each effect that stores.
   pub record GoesInOrder (terms : Terms) (log : List (Entry K V)) (e : Entry K V) : Type 0 where
     pub right : ComesRight terms log e
     pub life : MovesOn terms log e
     pub stores : (let b = at_work e (moment log) in AtEachEffect (StoresOne (caller_of e.event)) (caller_of e.event) (acted_on e.event b) e.effects b)
-    pub stops : StoppedOwesNone e.event e.outcome (worked e (moment log)).calls
 
 -- The promises: so it is before all events,
 abbrev pub AllInOrderAtFirst : Type 0 → Type 0 → Type 0
@@ -82,8 +89,8 @@ LifeKeepsOrder K V =
 
 -- after each event that goes in order,
 abbrev pub EventsKeepOrder : Type 0 → Type 0 → Type 0
-EventsKeepOrder K V = (terms : Terms) (log : List (Entry K V)) (e : Entry K V) → GoesInOrder terms log e → AllIsInOrder (moment log) → AllIsInOrder (after e (moment log))
+EventsKeepOrder K V = (terms : Terms) (log : List (Entry K V)) (e : Entry K V) → GoesInOrder terms log e → AllIsInOrder (moment log) × ReadyOweNone (moment log) → AllIsInOrder (after e (moment log)) × ReadyOweNone (after e (moment log))
 
 -- and so at each moment of a run.
 abbrev pub RunsAreInOrder : Type 0 → Type 0 → Type 0
-RunsAreInOrder K V = (terms : Terms) (log : List (Entry K V)) → AtEachEvent (GoesInOrder terms) log → AllIsInOrder (moment log)
+RunsAreInOrder K V = (terms : Terms) (log : List (Entry K V)) → AtEachEvent (GoesInOrder terms) log → AllIsInOrder (moment log) × ReadyOweNone (moment log)

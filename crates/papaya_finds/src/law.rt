@@ -103,7 +103,7 @@ pub fn all_comes_back<K, V>()
 
 /// All this is so at each moment of a run whose events come to what is right for them and keep the promise `life`: pairs that have left their maps are in their places,
 /// tables in order, each stored pair somewhere, and tables, pairs and calls within what their maps have had. It is so before all events, after effects that find what
-/// their event's life asks, and after each event: it is asked that an effect that stores a pair stores one, and that a walk that is stopped owes nothing.
+/// their event's life asks, and after each event: it is asked that an effect that stores a pair stores one. A walk that is ready owes nothing, so one that is stopped does not.
 pub fn all_waits_in_order<K, V>()
     ensures begins { AllInOrderAtFirst K V }
     ensures life { LifeKeepsOrder K V }
