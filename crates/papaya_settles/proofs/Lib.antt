@@ -47,6 +47,8 @@ pub mod HandKeyCopies
 pub mod HandRooms
 pub mod HandSweeps
 pub mod HandAll
+pub mod HandsFresh
+pub mod HandsOn
 pub mod WordOps
 pub mod Adds
 pub mod KeyAdds

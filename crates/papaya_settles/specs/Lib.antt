@@ -8,6 +8,7 @@ pub mod Owing
 pub mod InHand
 pub mod Hand
 pub mod Owed
+pub mod Handing
 pub mod Adds
 pub mod ShardWords
 pub mod ShardSteps

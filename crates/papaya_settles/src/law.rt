@@ -3,6 +3,7 @@ ghost use Rattle.std.specs.Prelude.{ℕ, Bool};
 ghost use Rattle.papaya_settles.specs.Beside.{StaysCounts, EffectsLeaveCounts, WalksGoOnCounts, WalksStopCounts};
 ghost use Rattle.papaya_settles.specs.Due.{RowsTellDue};
 ghost use Rattle.papaya_settles.specs.Entries.{EntriesBegin, CallsGoOnEntries, EndingsBeginEntries, CallsKeepEntries, RowsBeginEntries, RowsKeepEntries, MakingsKeepEntries, EndingsKeepEntries};
+ghost use Rattle.papaya_settles.specs.Handing.{StaysHanding, CallsKeepHanding};
 ghost use Rattle.papaya_settles.specs.InHand.{CallsTakeInHand, CallsHoldTheirs, SweepsTakeInHand, SweepsHoldTheirs};
 ghost use Rattle.papaya_settles.specs.Owed.{OwedBegins, StaysOwed, EffectsLeaveOwed, CallsBeginOwed, CallsTakeOwed, CallsComeToOwed, WalksHaveNothing, RowsHandOver, CallsGoInHand, CallsKeepOwed, WalksGoOnOwed, WalksStopOwed};
 ghost use Rattle.papaya_settles.specs.Owing.{OwesFollow, HandingFollows, StepsTakeOut};
@@ -91,6 +92,13 @@ pub fn calls_owe_what_they_have<K, V, S>()
     ensures told { CallsTakeOwed K V }
     ensures come_to { CallsComeToOwed K V }
     ensures ready { WalksHaveNothing K V }
+{}
+
+/// A call that stands at a row of the collector hands something over, by the moment: it owes something, or has handed something over. So it is after each step of a call,
+/// whoever's, where each owes just what it has in hand, and as long as calls are as they were.
+pub fn calls_at_rows_hand_over<K, V, S>()
+    ensures stays { StaysHanding K V }
+    ensures calls { (same : K → K → Bool) (hash : K → ℕ) → CallsKeepHanding K V S same hash }
 {}
 
 /// What is no call leaves that as it was, where the blocks that calls have in hand are what they were: the effects of a row on a slot, of the making of a map, and of the
