@@ -49,6 +49,8 @@ pub mod HandSweeps
 pub mod HandAll
 pub mod HandsFresh
 pub mod HandsOn
+pub mod HandLives
+pub mod HandThere
 pub mod WordOps
 pub mod Adds
 pub mod KeyAdds
