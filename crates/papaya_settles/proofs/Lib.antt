@@ -51,6 +51,7 @@ pub mod HandsFresh
 pub mod HandsOn
 pub mod HandLives
 pub mod HandThere
+pub mod HandOthers
 pub mod WordOps
 pub mod Adds
 pub mod KeyAdds

@@ -9,6 +9,7 @@ pub mod InHand
 pub mod Hand
 pub mod Owed
 pub mod Handing
+pub mod OwedBeside
 pub mod Adds
 pub mod ShardWords
 pub mod ShardSteps
