@@ -35,7 +35,7 @@ use Rattle.papaya_rule.proofs.Words.TablesSeen.{block_of_link}
 use Rattle.papaya_points.specs.FactsCalls.{Change, CallingFacts}
 use Rattle.papaya_points.specs.FactsCopies.{CopyingFacts, CopierFacts}
 use Rattle.papaya_points.specs.FactsCopiesBlocking.{CopyingFactsBlocking, CopierFactsBlocking}
-use Rattle.papaya_points.specs.FactsDisposes.{IsToRetire, DisposingFacts, DisposeFacts}
+use Rattle.papaya_points.specs.FactsDisposes.{IsToRetire, DisposingFacts}
 use Rattle.papaya_points.specs.Steps.{AreLawful}
 use Rattle.papaya_points.specs.Told.{IsRowOf, IsRowOfCopier, IsRowOfCall}
 use Rattle.papaya_late.specs.FactsReserves.{CopiesWhole, IsEnding, ReservingFacts}
@@ -48,9 +48,9 @@ use Rattle.papaya_late.specs.ToldSweeps.{IsRowOfSweep}
 use Rattle.papaya_callers.specs.OverAll.{row_of_sweep, past_sweeping}
 use Rattle.papaya_callers.specs.Rooms.{row_of_room, past_room}
 use Rattle.papaya_callers.specs.Rows.{past_copying, row_of_disposal, row_of_copier, row_of, past_row}
-use Rattle.papaya_settles.specs.Due.{word_due, due_in_settle, due_in_defer, due_in_disposing}
+use Rattle.papaya_settles.specs.Due.{word_due, due_in_settle, due_in_defer}
 use Rattle.papaya_settles.specs.Hand.{HoldsAt, HoldsOf, HoldsTables, HoldsOfCall, HoldsOfRoom, HoldsOfSweep}
-use Rattle.papaya_settles.specs.InHand.{pair_in_disposing, pair_in_calling, pair_in_sweeping}
+use Rattle.papaya_settles.specs.InHand.{pair_in_disposing, pair_in_calling}
 use Rattle.papaya_settles.proofs.HandLives.{IsKeptYet, cut_kept, parting_kept, settle_kept, defer_kept}
 
 module _ {K V : Type 0} (size : ℕ) (w : World (Node K V)) (r : Reached deferred_word size w) (i : ℕ) (setting : Setting) (c : Chart K) (blocks : Blocks) where

@@ -1,6 +1,6 @@
 -- A call that has come to a row of the collector, which has not begun, has something to hand over.
-use Rattle.std.specs.Prelude.{◌≡◌, ℕ, ◌*◌, Bool, true, false, cond, List, [], ◌∷◌, ◌++◌, Option, Some, None}
-use Rattle.std.proofs.Common.{refl, ap, sym, ◌∙◌, inl, inr}
+use Rattle.std.specs.Prelude.{◌≡◌, ℕ, ◌*◌, Bool, true, false, cond, List, ◌++◌, Option, Some, None}
+use Rattle.std.proofs.Common.{refl, ap, ◌∙◌, inl, inr}
 use Rattle.seize_words.specs.Word.{block_in}
 use Rattle.seize.specs.World.{World, Rests}
 use Rattle.seize.specs.declared.rows.defer.Defer.{Defer}

@@ -1,5 +1,5 @@
 -- A call that stands at a row of the collector hands something over, by the moment, after each step of a call.
-use Rattle.std.specs.Prelude.{◌≡◌, ℕ, ◌||◌, Bool, true, false, not, List, [], ◌∷◌, ◌++◌, Option, Some, None, if◌then◌else◌}
+use Rattle.std.specs.Prelude.{◌≡◌, ℕ, ◌||◌, Bool, true, false, not, List, [], ◌∷◌, ◌++◌, Option, Some, if◌then◌else◌}
 use Rattle.std.proofs.Common.{refl, ap, sym, subst, ◌∙◌, inl, inr}
 use Rattle.seize.specs.World.{World, Row, Rests}
 use Rattle.papaya_tables.specs.declared.node.Node.{Node}
@@ -35,7 +35,7 @@ use Rattle.papaya_settles.specs.Entries.{ShowsEntries}
 use Rattle.papaya_settles.specs.Hand.{in_hand, ShowsOwed}
 use Rattle.papaya_settles.specs.Handing.{StandsAtRow, ShowsHanding, StaysHanding, CallsKeepHanding}
 use Rattle.papaya_settles.specs.Owed.{HandGoes}
-use Rattle.papaya_settles.specs.Owing.{hands_over, HandsOver, leaves_owed, AllLeave, OwesGo, KeepsOwed, TakesOut, PutsOver, Passes, HandsFirst, handed_after}
+use Rattle.papaya_settles.specs.Owing.{hands_over, leaves_owed, AllLeave, OwesGo, KeepsOwed, TakesOut, PutsOver, Passes, HandsFirst, handed_after}
 use Rattle.papaya_settles.proofs.Gains.{others_stay}
 use Rattle.papaya_settles.proofs.HandAll.{calls_go_in_hand, own_or_row, key_rests, room_rests, sweep_rests}
 use Rattle.papaya_settles.proofs.HandCalls.{calls_keep_owed}

@@ -4,7 +4,7 @@ use Rattle.papaya_tables.specs.declared.node.Node.{Node}
 use Rattle.papaya_raw.specs.declared.machines.progress.Progress.{Progress}
 use Rattle.papaya_schedules.specs.Effects.{with_effects}
 use Rattle.papaya_schedules.specs.InUse.{is_handing}
-use Rattle.papaya_schedules.specs.Moment.{UnderWay as CallThere, Moment, start}
+use Rattle.papaya_schedules.specs.Moment.{UnderWay as CallThere, Moment}
 use Rattle.papaya_schedules.specs.Views.{call_of}
 use Rattle.papaya_points.specs.Told.{IsRowOfCall}
 use Rattle.papaya_late.specs.ToldReserves.{IsRowOfReserve}
