@@ -2,14 +2,17 @@
 use Rattle.std.specs.Prelude.{◌≡◌, ◌≢◌, ℕ, Bool, List, Option, Some, None, IsSome}
 use Rattle.std.proofs.Common.{refl, ap, sym, subst, ◌∙◌, inl, inr}
 use Rattle.seize_words.specs.Mem.{value_at}
-use Rattle.seize.specs.World.{Step}
-use Rattle.seize_alone.proofs.Histories.Reached.{Reached}
+use Rattle.seize.specs.World.{World, Step}
+use Rattle.seize_alone.proofs.Histories.Reached.{Reached, runs_reached}
 use Rattle.papaya_tables.specs.Nodes.{deferred_word}
 use Rattle.papaya_tables.specs.declared.node.Node.{Node}
 use Rattle.papaya_tables.specs.declared.setting.Setting.{Setting}
 use Rattle.papaya_raw.specs.declared.machines.machine.Machine.{Machine}
 use Rattle.papaya_schedules.specs.Effects.{with_effects}
 use Rattle.papaya_schedules.specs.Moment.{Moment}
+use Rattle.seize.specs.declared.progress.Progress.{Progress}
+use Rattle.seize.specs.declared.progress.Progress.TheVariants as progress
+use Rattle.papaya_rule.specs.InWorld.{IsOut}
 use Rattle.papaya_rule.specs.Words.{Blocks}
 use Rattle.papaya_points.specs.Steps.{AreLawful}
 use Rattle.papaya_callers.specs.Sights.{seen_by}
@@ -30,18 +33,24 @@ use Rattle.papaya_executor.specs.declared.row.RowTold.{RowTold}
 use Rattle.papaya_executor.specs.declared.row.SlotRow.{SlotRow}
 use Rattle.papaya_executor.specs.declared.worker.Work.TheVariants as work
 use Rattle.papaya_executor.proofs.Changed.{standing_is}
+use Rattle.papaya_executor.specs.Making.{MakingComesTo, MakingLeads}
 use Rattle.papaya_finishes.specs.Machines.{machine_of}
+use Rattle.papaya_finishes.specs.Makings.{Beginning}
 use Rattle.papaya_finishes.specs.Maps.{Standing}
 use Rattle.papaya_follows.specs.Blocks.{HasRole}
 use Rattle.papaya_follows.specs.Shows.{Shows}
 use Rattle.papaya_follows.proofs.Onward.{IsOfMap}
 use Rattle.papaya_follows.proofs.Writes.{nothing_free}
+use Rattle.papaya_moments.specs.Whole.{ShowsWhole}
+use Rattle.papaya_moments.proofs.Beside.{IsBeside}
+use Rattle.papaya_moments.proofs.MakingSteps.{makings_go_beside}
 use Rattle.papaya_moments.proofs.OnSlots.{row_beside}
+use Rattle.papaya_others.specs.Makings.{WasNew, making_after}
 use Rattle.papaya_others.specs.Rows.{scene_then}
 use Rattle.papaya_settles.specs.Hand.{HoldsOfCall, HoldsOfRoom, HoldsInHand, IsPairRole, IsTableRole, IsPairAt, IsTableAt, NotesInHand, IsSameRole, SameInHand, ShowsOwed}
-use Rattle.papaya_settles.specs.OwedBeside.{RowsLeaveOwed}
+use Rattle.papaya_settles.specs.OwedBeside.{RowsLeaveOwed, MakingsLeaveOwed}
 use Rattle.papaya_settles.proofs.HandBetween.{effects_leave_owed}
-use Rattle.papaya_settles.proofs.HandLives.{IsKeptYet, value_kept}
+use Rattle.papaya_settles.proofs.HandLives.{IsKeptYet, taken_is_out, value_kept, out_there}
 use Rattle.papaya_settles.proofs.HandRoles.{hand_both}
 use Rattle.papaya_settles.proofs.HandThere.{key_fresh, key_late, room_fresh, room_late, sweep_fresh, key_row, room_row, sweep_row}
 
@@ -165,3 +174,49 @@ module _ {K V S : Type 0} (same : K → K → Bool) (hash : K → ℕ) (name : �
 pub rows_leave_owed : (K V S : Type 0) (same : K → K → Bool) (hash : K → ℕ) → RowsLeaveOwed K V S same hash
 rows_leave_owed K V S same hash name m known s old new at shown shows i told leads row here =
     let to = leads row here in row_leaves same hash name m known s old new at shown shows i row here (to.0, told) to.1 to.4
+
+-- so it is after a step of the making of a map
+module _ {K V S : Type 0} (same : K → K → Bool) (hash : K → ℕ) (name : ℕ → List ℕ) (m : Moment K V) (known : Known) (s : Scene K V) (old new : Executor K V S) (at : IsAt same hash old s)
+    (whole : ShowsWhole same name m known s) (shows : ShowsOwed name m known s) (i : ℕ) (told : Progress Setting) (leads : MakingLeads same hash i told s old new) (b : Beginning K) (here : s.makers i ≡ Some b)
+    (of : Option ℕ) (was_new : WasNew b.map told m) where
+  abbrev shown : Shows same name m known s
+  shown = whole.all.shown
+
+  abbrev made2 : Known
+  made2 = known_after (acts.Making b.map) new.memory.changed known
+
+  abbrev w2 : World (Node K V)
+  w2 = (leads b here).2.step.w2
+
+  abbrev led : Scene K V
+  led = making_after same hash s old new i b (leads b here).0 w2 told (leads b here).3
+
+  world_is : (said : Progress Setting) (comes : MakingComesTo same hash s old new i b (leads b here).0 w2 said) → (making_after same hash s old new i b (leads b here).0 w2 said comes).world ≡ w2
+  world_is progress.Goes comes = refl
+  world_is progress.Waits comes = absurd comes
+  world_is (progress.Done setting) comes = refl
+  world_is (progress.Refused fault) comes = refl
+
+  beside : IsBeside m (with_effects None of (effects_of (acts.Making b.map) known new.memory.changed) m) known made2 s led
+  beside = makings_go_beside K V S same hash name m known s old new at whole i told leads b here of was_new
+
+  some_then : (x : ℕ) → IsThere same hash name m known s old at shown x → IsSome (value_at led.world.memory x)
+  some_then x kept =
+      let did = (leads b here).2.step in
+      let then_reached = runs_reached deferred_word old.batch_size did.events s.world did.w2 (reached same hash name m known s old at shown) did.runs in
+      let out = taken_is_out (s.world.hand x) kept.1 in
+      subst (λ (w : World (Node K V)). IsSome (value_at w.memory x)) (sym (world_is told (leads b here).3))
+      (out_there deferred_word old.batch_size did.w2 then_reached x (subst IsOut (sym (did.outs x out)) out))
+
+  made_same : (map j : ℕ) (u : UnderWay K V K) → s.calls map j ≡ Some u → SameInHand known made2 (machine_of u)
+  made_same map j u is =
+      hand_both (IsThere same hash name m known s old at shown) (IsPairAt known) (IsSameRole known made2) (IsThere same hash name m known s old at shown) (IsTableAt known) (IsSameRole known made2)
+      (λ x kept noted. beside.roles x (some_then x kept) (pair_of_map (known.roles x) noted)) (λ x kept noted. beside.roles x (some_then x kept) (table_of_map (known.roles x) noted)) (machine_of u)
+      (all_there same hash name m known s old at shown map j u is (shows.noted map j u is)) (shows.noted map j u is)
+
+  pub making_leaves : ShowsOwed name (with_effects None of (effects_of (acts.Making b.map) known new.memory.changed) m) made2 led
+  making_leaves = effects_leave_owed K V name m known made2 s led shows beside.same_calls made_same of (effects_of (acts.Making b.map) known new.memory.changed)
+
+pub makings_leave_owed : (K V S : Type 0) (same : K → K → Bool) (hash : K → ℕ) → MakingsLeaveOwed K V S same hash
+makings_leave_owed K V S same hash name m known s old new at whole shows i told leads b here of was_new =
+    making_leaves same hash name m known s old new at whole shows i told leads b here of was_new

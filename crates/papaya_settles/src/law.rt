@@ -6,7 +6,7 @@ ghost use Rattle.papaya_settles.specs.Entries.{EntriesBegin, CallsGoOnEntries, E
 ghost use Rattle.papaya_settles.specs.Handing.{StaysHanding, CallsKeepHanding};
 ghost use Rattle.papaya_settles.specs.InHand.{CallsTakeInHand, CallsHoldTheirs, SweepsTakeInHand, SweepsHoldTheirs};
 ghost use Rattle.papaya_settles.specs.Owed.{OwedBegins, StaysOwed, EffectsLeaveOwed, CallsBeginOwed, CallsTakeOwed, CallsComeToOwed, WalksHaveNothing, RowsHandOver, CallsGoInHand, CallsKeepOwed, WalksGoOnOwed, WalksStopOwed};
-ghost use Rattle.papaya_settles.specs.OwedBeside.{RowsLeaveOwed};
+ghost use Rattle.papaya_settles.specs.OwedBeside.{RowsLeaveOwed, MakingsLeaveOwed};
 ghost use Rattle.papaya_settles.specs.Owing.{OwesFollow, HandingFollows, StepsTakeOut};
 ghost use Rattle.papaya_settles.specs.ShardSteps.{CountersBegin, CallsKeepCounters, CallsKeepNumbers, RoomsCountNothing, RowsBeginCounters, RowsKeepCounters, MakingsKeepCounters, EndingsKeepCounters, MakingsBeginCounters, EndingsBeginCounters, CallsBeginCounters, CallsTakeCounters, CallsComeToCounters, CountersStay, NumbersBegin, NumbersStay};
 ghost use Rattle.papaya_settles.specs.Shards.{CountsFindShards};
@@ -102,12 +102,13 @@ pub fn calls_at_rows_hand_over<K, V, S>()
     ensures calls { (same : K → K → Bool) (hash : K → ℕ) → CallsKeepHanding K V S same hash }
 {}
 
-/// What is no call leaves that as it was: each step of a row on a slot, which takes nothing away that a call has in hand; the effects of the making of a map, and of the end
-/// of one, where the blocks that calls have in hand are what they were; and a walk that goes on to its next pair, or is given up.
+/// What is no call leaves that as it was: each step of a row on a slot, and of the making of a map, which take nothing away that a call has in hand; the effects of the end
+/// of a map, where the blocks that calls have in hand are what they were; and a walk that goes on to its next pair, or is given up.
 pub fn others_leave_owed<K, V, S>()
     ensures stays { StaysOwed K V }
     ensures effects { EffectsLeaveOwed K V }
     ensures rows { (same : K → K → Bool) (hash : K → ℕ) → RowsLeaveOwed K V S same hash }
+    ensures makings { (same : K → K → Bool) (hash : K → ℕ) → MakingsLeaveOwed K V S same hash }
     ensures goes_on { (same : K → K → Bool) (hash : K → ℕ) → WalksGoOnOwed K V S same hash }
     ensures stops { (same : K → K → Bool) (hash : K → ℕ) → WalksStopOwed K V S same hash }
 {}
