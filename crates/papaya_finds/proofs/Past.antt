@@ -22,6 +22,7 @@ use Rattle.papaya_spots.proofs.Deferred.{stays_out}
 use Rattle.papaya_spots.proofs.Effects.{aside_all, spot_copied_other, spot_promoted_other}
 use Rattle.papaya_spots.proofs.Elsewhere.{stored_grows}
 use Rattle.papaya_finds.specs.Parts.{FindsPlace, FindPlacesOf}
+use Rattle.papaya_finds.proofs.Grown.{comes_on}
 use Rattle.papaya_finds.specs.Past.{HasLeftMaps, IsPastRoot, FindsOnward, EffectsLeavePast, CallsFindOnward}
 
 itself : (n : ℕ) → n ≤ n
@@ -104,11 +105,6 @@ pub effects_leave_past : (K V : Type 0) → EffectsLeavePast K V
 effects_leave_past K V who acted [] m finds on map n left past = (left, past)
 effects_leave_past K V who acted (f ∷ fs) m finds on map n left past =
     let one = one_past who acted f m finds.0 on.0 map n left past in effects_leave_past K V who acted fs (with_effect who acted f m) finds.1 on.1 map n one.0 one.1
-
--- the root comes to no earlier table
-comes_on : (q : Bool) (first turn : ℕ) (tables : List TableThere) → ComesNext q first turn tables → first ≤ turn
-comes_on true first turn tables h = let next : turn ≡ first + 1 = h in omega (arith, next)
-comes_on false first turn tables h = let l = h.0 in omega (arith, l)
 
 module _ {K V : Type 0} (own : List ℕ) (map : ℕ) where
   one_onward : (f : Effect) (m : Moment K V) (c : CallThere K V) → FindsMap map m f → FindsPlace map m f c → FindsOnward (Some map) m f

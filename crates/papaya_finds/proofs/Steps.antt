@@ -98,7 +98,7 @@ module _ {K V S : Type 0} (same : K → K → Bool) (hash : K → ℕ) (name : �
   c = its_call.0
 
   -- what is to be known of a single effect that stores a pair, or brings the root on
-  pub record Single : Type 0 where
+  record Single : Type 0 where
     pub on_map : AtEachEffect (FindsMap map) (Some (name i)) (Some map) effects m
     pub stores : (n : ℕ) (sp : Spot) → effects ≡ effect.Stored n sp ∷ [] → c.replacing ≡ None
     pub promotes : (t : Table) → effects ≡ effect.Promoted t ∷ [] → none_before map t.turn m ≡ true
@@ -122,7 +122,7 @@ module _ {K V S : Type 0} (same : K → K → Bool) (hash : K → ℕ) (name : �
     own_stores n sp is =
         let first = (subst (λ (l : List Effect). AtEachEffect (λ v f. Has (acting (Some (name i)) v) f) (Some (name i)) (Some map) l m) is theirs).0 in
         let has : HasToStore s.world.memory (named_now new.memory.changed) (Some c) n =
-            subst (λ (o : Option (CallThere K V)). HasToStore s.world.memory (named_now new.memory.changed) o n) its_call.1 first in
+        subst (λ (o : Option (CallThere K V)). HasToStore s.world.memory (named_now new.memory.changed) o n) its_call.1 first in
         replaces_none same (whole.all.shown.number map) to.0.chart.stored known u c.call c refl its_call.3 (whole.all.asked.each map i u here to.0 to.2 c its_call.1) has.0 has.1 n has.2
 
     own_promotes : (t : Table) → effects ≡ effect.Promoted t ∷ [] → none_before map t.turn m ≡ true
@@ -137,11 +137,11 @@ module _ {K V S : Type 0} (same : K → K → Bool) (hash : K → ℕ) (name : �
     own_takes : (b : ℕ) → new.memory.changed ≡ changed.Took b → IsOfMap (known.roles b) → ⊥
     own_takes b is of_map =
         let gone : known2.roles b ≡ role.Free =
-            ap (λ (x : Changed). (known_after (acts.Call i map) x known).roles b) is ∙ put_here b role.Free known.roles b refl in
+        ap (λ (x : Changed). (known_after (acts.Call i map) x known).roles b) is ∙ put_here b role.Free known.roles b refl in
         let kept = (step_shown same hash name m known s old new at whole.all.shown map i u here said leads own theirs).1.keeps b (lasting_of_map (known.roles b) of_map) in
         subst IsOfMap (sym kept ∙ gone) of_map
 
-    pub own_single : Single
+    own_single : Single
     own_single = record { on_map = finds_map; stores = own_stores; promotes = own_promotes; takes = own_takes }
 
   -- a step of a row
@@ -170,7 +170,7 @@ module _ {K V S : Type 0} (same : K → K → Bool) (hash : K → ℕ) (name : �
     hands : HandsOn effects
     hands = by_kind u to.4.did other
 
-    pub row_single : Single
+    row_single : Single
     row_single = record {
       on_map = rows_find_map (name i) map effects m hands;
       stores = λ n sp is. absurd (rows_store_none effects hands n sp is);

@@ -1,4 +1,4 @@
--- A step of a call that is none of a row, and hands nothing over, leaves what waits behind tables there.
+-- A step of a call that is none of a row leaves what waits behind tables there.
 use Rattle.std.specs.Prelude.{◌≡◌, ℕ, ◌≤◌, Bool, List, [], ◌∷◌, length, Option, Some}
 use Rattle.std.proofs.Common.{refl, ap, sym, subst, ◌∙◌, arith, inl, inr}
 use Rattle.seize.specs.World.{World, Event, Runs}
@@ -28,9 +28,11 @@ use Rattle.papaya_follows.proofs.Onward.{IsLasting, KeepsRoles}
 use Rattle.papaya_follows.proofs.Steps.{WentTo, went_to, DidSo, OfNoRow, step_shown}
 use Rattle.papaya_hands.proofs.Steps.{calls_store_theirs}
 use Rattle.papaya_spots.proofs.Elsewhere.{stored_grows}
+use Rattle.papaya_spots.proofs.Handing.{HandsNothing, AllHandNothing}
+use Rattle.papaya_spots.proofs.Steps.{hands_nothing}
 use Rattle.papaya_moments.specs.Whole.{ShowsWhole}
 use Rattle.papaya_lives.specs.Behind.{LiesBehind, ShowsWaiting}
-use Rattle.papaya_lives.specs.Steps.{HandsNothing, AllHandNothing, CallsKeepWaiting}
+use Rattle.papaya_lives.specs.Steps.{CallsKeepWaiting}
 use Rattle.papaya_lives.proofs.Users.{users_keep_waiting}
 
 module _ {K V : Type 0} (map : ℕ) (caller : Option (List ℕ)) (acted : Option ℕ) where
@@ -126,7 +128,8 @@ module _ {K V S : Type 0} (same : K → K → Bool) (hash : K → ℕ) (name : �
     by_did (OverAll x) (p2, end, machine_is, told_is, inr (row, stayed)) own = absurd own
 
 pub calls_keep_waiting : (K V S : Type 0) (same : K → K → Bool) (hash : K → ℕ) → CallsKeepWaiting K V S same hash
-calls_keep_waiting K V S same hash name m known s old new at whole waiting map i u here told leads own hands =
+calls_keep_waiting K V S same hash name m known s old new at whole waiting map i u here told leads own =
+    let hands = hands_nothing same hash name m known s old new at whole.all.shown map i u here told leads own in
     let stores = (calls_store_theirs K V S same hash name m known s old new at whole.all map i u here told leads own).0 in
     let led = step_shown same hash name m known s old new at whole.all.shown map i u here told leads own stores in
     by_did same hash name m known s old new at whole waiting map i u here told leads hands led.0 led.1.keeps u (leads map u here).4.did own

@@ -31,12 +31,15 @@ module _ (P : ℕ → Table → Type 0) where
 
   pub found : (n : ℕ) (t : Table) (ds : List Deferral) → EachWaits P ds → is_among n (behind t ds) ≡ true → WaitsAt n t
   found n t [] each among = absurd (cc among)
-  found n t (d ∷ ds) each among = by (same_table d.behind t) refl among
+  found n t (d ∷ ds) each among = by (same_table d.behind t) refl among (found n t ds each.1)
     where
-      here : (q : Bool) → (n == d.pair) ≡ q → same_table d.behind t ≡ true → (q || is_among n (behind t ds)) ≡ true → WaitsAt n t
-      here true is its e = record { one = d; its = its; number = (let same : n ≡ d.pair = grind (arith, is) in sym same); so = each.0 }
-      here false is its e = found n t ds each.1 e
+      Further : Type 0
+      Further = is_among n (behind t ds) ≡ true → WaitsAt n t
 
-      by : (q : Bool) → same_table d.behind t ≡ q → is_among n (map (λ x. x.pair) (if q then d ∷ filter (λ x. same_table x.behind t) ds else filter (λ x. same_table x.behind t) ds)) ≡ true → WaitsAt n t
-      by true its e = here (n == d.pair) refl its e
-      by false its e = found n t ds each.1 e
+      here : (q : Bool) → (n == d.pair) ≡ q → same_table d.behind t ≡ true → (q || is_among n (behind t ds)) ≡ true → Further → WaitsAt n t
+      here true is its e further = record { one = d; its = its; number = (let same : n ≡ d.pair = grind (arith, is) in sym same); so = each.0 }
+      here false is its e further = further e
+
+      by : (q : Bool) → same_table d.behind t ≡ q → is_among n (map (λ x. x.pair) (if q then d ∷ filter (λ x. same_table x.behind t) ds else filter (λ x. same_table x.behind t) ds)) ≡ true → Further → WaitsAt n t
+      by true its e further = here (n == d.pair) refl its e further
+      by false its e further = further e

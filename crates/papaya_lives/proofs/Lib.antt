@@ -3,9 +3,15 @@ pub mod Lives
 pub mod Rows
 pub mod Worlds
 pub mod Each
+pub mod Stages
+pub mod Retires
 pub mod Users
 pub mod Makings
 pub mod Calls
+pub mod Taken
 pub mod OnSlots
 pub mod Waiting
 pub mod Ends
+pub mod Reclaimed
+pub mod RetiredCalls
+pub mod RetiredEnds

@@ -1,18 +1,15 @@
 -- A step of a row on a slot leaves what waits behind tables there: of the blocks of what waits it takes none, and with a table it takes what waits behind that off
 -- the list.
-use Rattle.std.specs.Prelude.{◌≡◌, ◌≢◌, ◌⊎◌, ℕ, zero, suc, nat_lt, Bool, true, false, not, List, [], ◌∷◌, ◌++◌, filter, Option, Some, None, IsSome, if◌then◌else◌}
-use Rattle.std.proofs.Common.{refl, ap, sym, subst, ◌∙◌, arith, inl, inr}
-use Rattle.std.proofs.lemmas.Bool.{cases_eq}
+use Rattle.std.specs.Prelude.{◌≡◌, ◌⊎◌, ℕ, nat_lt, ◌&&◌, Bool, true, false, not, List, [], ◌∷◌, filter, Option, Some, None, if◌then◌else◌}
+use Rattle.std.proofs.Common.{refl, ap, sym, subst, ◌∙◌, inl, inr}
 use Rattle.seize_words.specs.declared.at.At.TheVariants.{Root, Used, Slot, Entry, Word}
-use Rattle.seize_words.specs.Mem.{Mem, value_at}
-use Rattle.seize.specs.Law.{Effect as LogEffect, Entered, Left as LeftSlot, Retired, Taken, is_retired, IsSound}
+use Rattle.seize_words.specs.Mem.{value_at}
+use Rattle.seize.specs.Law.{is_retired}
 use Rattle.seize.specs.Sequence.{taken_in}
-use Rattle.seize.specs.World.{World, Hand, NoBlock, Making, InUse, Parting, Cutting, Handed, LeftTo, Steps', times}
-use Rattle.seize_moves.proofs.State.Ghost.{Life, is_given}
-use Rattle.seize_rule.proofs.Points.Aside.{HandFits}
-use Rattle.seize_rule.proofs.Rows.Effects.{IsOneStep, hand_kept}
-use Rattle.seize_alone.proofs.Histories.NotTaken.{did, taken_gone}
-use Rattle.seize_alone.proofs.Histories.Reached.{Reached, steps_reached}
+use Rattle.seize.specs.World.{World, Hand, Handed, Steps', times}
+use Rattle.seize_rule.proofs.Rows.Effects.{hand_kept}
+use Rattle.seize_alone.proofs.Histories.NotTaken.{did}
+use Rattle.seize_alone.proofs.Histories.Reached.{Reached}
 use Rattle.seize_alone.proofs.Spared.Rows.{RowStepped}
 use Rattle.papaya_tables.specs.Nodes.{deferred_word}
 use Rattle.papaya_tables.specs.declared.node.Node.{Node}
@@ -44,45 +41,13 @@ use Rattle.papaya_spots.proofs.Unreclaimed.{table_is, same_itself}
 use Rattle.papaya_lives.specs.Behind.{IsLeft, LiesBehind, EachWaits, ShowsWaiting}
 use Rattle.papaya_lives.specs.Waiting.{waits_behind}
 use Rattle.papaya_lives.proofs.Each.{WaitsAt, each_on, each_kept, found}
-use Rattle.papaya_lives.proofs.Logs.{one_apart, waits_on}
-use Rattle.papaya_lives.proofs.Worlds.{Kept, runs_kept, start_kept, unretired, has_it}
+use Rattle.papaya_lives.proofs.Logs.{waits_on}
+use Rattle.papaya_lives.proofs.Taken.{there_still, kept as its_kept, not_taken as its_not_taken, left_unretired, told_retired}
+use Rattle.papaya_lives.proofs.Worlds.{Kept, unretired, has_it}
 
--- what is left over was not retired
-left_not_given : (h : Hand) (l : Life) → IsLeft h → HandFits h l → is_given l ≡ false
-left_not_given NoBlock l left fits = absurd left
-left_not_given (Making i) l left fits = absurd left
-left_not_given (InUse o) l left fits = absurd left
-left_not_given (Parting i) l left fits = absurd left
-left_not_given (Cutting i) l left fits = absurd left
-left_not_given Handed l left fits = absurd left
-left_not_given (LeftTo i) l left fits = ap is_given fits
-
+-- what is left over the collector has not
 left_no_handed : (h : Hand) → IsLeft h → h ≡ Handed → ⊥
 left_no_handed h left is = subst IsLeft is left
-
--- what one step of a row takes was retired
-taken_retired : (x : ℕ) (effects log : List LogEffect) → IsOneStep effects → IsSound (effects ++ log) → (times x (taken_in effects) ≡ 0 → ⊥) → is_retired x log ≡ true
-taken_retired x [] log one sound some = absurd (some refl)
-taken_retired x (Entered s ∷ []) log one sound some = absurd (some refl)
-taken_retired x (LeftSlot s ∷ []) log one sound some = absurd (some refl)
-taken_retired x (Retired c ∷ []) log one sound some = absurd (some refl)
-taken_retired x (Taken c ∷ []) log one sound some = by (cases_eq x c)
-  where
-    by : (x ≡ c) ⊎ (x ≢ c) → is_retired x log ≡ true
-    by (inl e) = ap (λ (k : ℕ). is_retired k log) e ∙ sound.0
-    by (inr ne) = absurd (some (one_apart x c ne))
-taken_retired x (_ ∷ []) log one sound some = absurd one
-taken_retired x (e ∷ f ∷ effects) log one sound some = absurd one
-
--- a block is there still, unless it was taken
-module _ {K V : Type 0} (m m2 : Mem (Node K V)) where
-  there_still : (told : Changed) → TellsRow told → LeavesBy m m2 told → (x : ℕ) (value : Node K V) → value_at m x ≡ Some value → (told ≡ changed.Took x → ⊥) → (after : Node K V) × (value_at m2 x ≡ Some after)
-  there_still changed.Nothing is l x value there ne = (l x).there value there
-  there_still (changed.Wrote at old new) is l x value there ne = (value, l.2 x ∙ there)
-  there_still (changed.Made kind b) is l x value there ne = absurd is
-  there_still (changed.Unmade kind) is l x value there ne = absurd is
-  there_still (changed.Took b) is l x value there ne = (l.2 x (λ e. ne (ap changed.Took (sym e)))).there value there
-  there_still (changed.Roomed bucket had) is l x value there ne = (l x).there value there
 
 module _ {K V : Type 0} (same : K → K → Bool) (name : ℕ → List ℕ) (size : ℕ) (m : Moment K V) (known : Known) (s : Scene K V) (shown : Shows same name m known s) (blocks : ShowsUnreclaimed m known)
     (waiting : ShowsWaiting m known s.world) (came : CameAbout size s.world) (reached : Reached deferred_word size s.world) (i : ℕ) (w2 : World (Node K V)) (step : Steps' deferred_word i (s.world.row i) s.world w2)
@@ -91,34 +56,20 @@ module _ {K V : Type 0} (same : K → K → Bool) (name : ℕ → List ℕ) (siz
   w = s.world
 
   kept : Kept deferred_word size w
-  kept = runs_kept deferred_word size came.1 _ w (start_kept deferred_word size came.0) came.2
+  kept = its_kept size w came reached i w2 step
 
   abbrev it : RowStepped deferred_word i w w2
   it = did deferred_word size w reached i w2 step
 
-  sound : IsSound (it.effects ++ w.log)
-  sound = let good2 = (steps_reached deferred_word size i w w2 reached step).good in subst IsSound (good2.logged ∙ it.logged) good2.inv.logged.sound
-
-  -- a block that is there after it was not taken
   not_taken : (x : ℕ) (after : Node K V) → value_at w2.memory x ≡ Some after → times x (taken_in it.effects) ≡ 0
-  not_taken x after there = by (times x (taken_in it.effects)) refl
-    where
-      by : (n : ℕ) → times x (taken_in it.effects) ≡ n → times x (taken_in it.effects) ≡ 0
-      by zero e = e
-      by (suc n) e = absurd (let gone = taken_gone deferred_word size w reached i w2 step x (λ z. omega (arith, e, z)) in cc (gone, there))
+  not_taken = its_not_taken size w came reached i w2 step
 
   -- one that is told to be taken was retired
-  told_retired : (x : ℕ) → told ≡ changed.Took x → is_retired x w.log ≡ true
-  told_retired x is =
-      let l : LeavesBy w.memory w2.memory (changed.Took x) = subst (LeavesBy w.memory w2.memory) is left in
-      taken_retired x it.effects w.log it.one sound (λ none. no_value (value_at w.memory x) l.0 (sym (it.frames.values x none) ∙ l.1))
-    where
-      no_value : (o : Option (Node K V)) → IsSome o → o ≡ None → ⊥
-      no_value o some none = (let it_is : IsSome {T = Node K V} None = subst (λ (q : Option (Node K V)). IsSome q) none some in cc it_is)
+  was_retired : (x : ℕ) → told ≡ changed.Took x → is_retired x w.log ≡ true
+  was_retired = told_retired size w came reached i w2 step told left
 
-  left_unretired : (x : ℕ) → IsLeft (w.hand x) → is_retired x w.log ≡ false
-  left_unretired x its =
-      ap (is_retired x) (sym kept.good.logged) ∙ kept.good.inv.logged.given x ∙ left_not_given (w.hand x) (kept.good.state.life x) its (kept.good.hands x)
+  left_is : (x : ℕ) → IsLeft (w.hand x) → is_retired x w.log ≡ false
+  left_is = left_unretired size w came reached i w2 step
 
   -- the block of what waits was not
   pair_unretired : (n : ℕ) (t : Table) (l : LiesBehind known w n t) → is_retired l.pair w.log ≡ false
@@ -126,10 +77,10 @@ module _ {K V : Type 0} (same : K → K → Bool) (name : ℕ → List ℕ) (siz
     where
       by : (waits_behind l.pair w.log ≡ Some l.table) ⊎ (IsLeft (w.hand l.pair) × IsLeft (w.hand l.table)) → is_retired l.pair w.log ≡ false
       by (inl waits) = unretired deferred_word size w kept l.pair l.table waits
-      by (inr both) = left_unretired l.pair both.0
+      by (inr both) = left_is l.pair both.0
 
   pair_stays : (n : ℕ) (t : Table) (l : LiesBehind known w n t) → told ≡ changed.Took l.pair → ⊥
-  pair_stays n t l is = (let yes = told_retired l.pair is in let no = pair_unretired n t l in cc (yes, no))
+  pair_stays n t l is = (let yes = was_retired l.pair is in let no = pair_unretired n t l in cc (yes, no))
 
   value_of_pair : (n : ℕ) (t : Table) (l : LiesBehind known w n t) → (value : Node K V) × (value_at w.memory l.pair ≡ Some value)
   value_of_pair n t l = (let has = subst (λ (r : Role). HasRole w m.stored l.pair r) l.is_pair (shown.blocks.roles l.pair) in (_, has.3))
@@ -203,9 +154,9 @@ module _ {K V : Type 0} (same : K → K → Bool) (name : ℕ → List ℕ) (siz
 
     -- that of nothing of a map
     took_other : (r : Role) → known.roles x ≡ r → ((t : Table) (len : ℕ) → r ≡ role.Table t len → ⊥) → (v : Moment K V) → v.place ≡ m.place → v.deferred ≡ m.deferred → ShowsWaiting v known2 w2
-    took_other r e no v place deferred =
+    took_other r e never v place deferred =
         none_moved v known2 place deferred
-        (λ n t l. let apart : l.table ≡ x → ⊥ = (λ z. no t l.len (sym e ∙ ap known.roles (sym z) ∙ l.is_table)) in
+        (λ n t l. let apart : l.table ≡ x → ⊥ = (λ z. never t l.len (sym e ∙ ap known.roles (sym z) ∙ l.is_table)) in
         (role_same l.pair (took_pair n t l), role_same l.table apart, other_table x is n t l apart))
 
     -- that of a pair
@@ -252,7 +203,7 @@ module _ {K V : Type 0} (same : K → K → Bool) (name : ℕ → List ℕ) (siz
             clash : (waits_behind l.pair w.log ≡ Some l.table) ⊎ (IsLeft (w.hand l.pair) × IsLeft (w.hand l.table))
                 → (waits_behind b.pair w.log ≡ Some b.table) ⊎ (IsLeft (w.hand b.pair) × IsLeft (w.hand b.table)) → ⊥
             clash first (inr both) =
-                (let yes = told_retired x is in let no = left_unretired x (subst (λ (k : ℕ). IsLeft (w.hand k)) its_table both.1) in cc (yes, no))
+                (let yes = was_retired x is in let no = left_is x (subst (λ (k : ℕ). IsLeft (w.hand k)) its_table both.1) in cc (yes, no))
             clash (inl first) (inl second) =
                 apart n t other l
                 (let one : ◌≡◌ {A = Option ℕ} (Some l.table) (Some b.table) = sym first ∙ ap (λ (k : ℕ). waits_behind k w.log) same_pair ∙ second in let alike : l.table ≡ b.table = cc one in alike ∙ its_table)
@@ -302,7 +253,7 @@ module _ {K V : Type 0} (same : K → K → Bool) (name : ℕ → List ℕ) (siz
   row_waiting (changed.Made kind b) is l = absurd is
   row_waiting (changed.Unmade kind) is l = absurd is
   row_waiting (changed.Took x) is l = took same name size m known s shown blocks waiting came reached i w2 step (changed.Took x) is l x refl (known.roles x) refl
-  row_waiting (changed.Roomed bucket had) is l = by (nat_lt bucket known.buckets)
+  row_waiting (changed.Roomed bucket had) is l = by (had && nat_lt bucket known.buckets)
     where
       known2 : Known
       known2 = known_after Row (changed.Roomed bucket had) known

@@ -1,5 +1,5 @@
 -- What waits behind tables does so where nothing happens to it, and none of it is reclaimed.
-use Rattle.std.specs.Prelude.{◌≡◌, ◌⊎◌, ℕ, nat_lt, Bool, true, false, List, [], ◌∷◌, Some, None, if◌then◌else◌}
+use Rattle.std.specs.Prelude.{◌≡◌, ◌⊎◌, ℕ, nat_lt, ◌&&◌, Bool, true, false, List, [], ◌∷◌, Some, None, if◌then◌else◌}
 use Rattle.std.proofs.Common.{refl, ap, sym, subst, ◌∙◌, inl, inr}
 use Rattle.seize_words.specs.Mem.{Mem}
 use Rattle.seize_words.specs.declared.at.At.TheVariants.{Root, Used, Slot, Entry, Word}
@@ -15,7 +15,6 @@ use Rattle.papaya_schedules.specs.declared.effect.Table.{Table}
 use Rattle.papaya_schedules.specs.declared.effect.Thing.TheVariants.{APair, ATable}
 use Rattle.papaya_schedules.specs.Effects.{AtEachEffect}
 use Rattle.papaya_schedules.specs.Moment.{Place, Behind, Moment}
-use Rattle.papaya_schedules.specs.Views.{behind}
 use Rattle.papaya_teller.specs.declared.changed.Changed.{Changed}
 use Rattle.papaya_teller.specs.declared.changed.Changed.TheVariants as changed
 use Rattle.papaya_callers.proofs.Together.Came.{came_reached}
@@ -113,7 +112,7 @@ module _ {K V : Type 0} (m : Moment K V) (known : Known) (w : World (Node K V)) 
   row_finds (changed.Made kind b) is = absurd is
   row_finds (changed.Unmade kind) is = absurd is
   row_finds (changed.Took b) is = took_finds (known.roles b)
-  row_finds (changed.Roomed bucket had) is = roomed_finds (nat_lt bucket known.buckets)
+  row_finds (changed.Roomed bucket had) is = roomed_finds (had && nat_lt bucket known.buckets)
 
 pub effects_find_waiting : (K V : Type 0) → EffectsFindWaiting K V
 effects_find_waiting K V m known s waiting f = (unreclaimed m known s.world waiting f, waits_on m known s.world waiting f)
@@ -137,14 +136,14 @@ module _ (K V S : Type 0) (same : K → K → Bool) (hash : K → ℕ) where
 
   module _ (s : Scene K V) (old new : Executor K V S) (at : IsAt same hash old s) (i : ℕ) (row : SlotRow) (here : work_of old i ≡ Some (work.OnSlot row)) (end : SlotRow × RowTold (Node K V))
       (steps : RowSteps K V row old.memory.memory new.memory.memory new.memory.changed end) (happened : HappensAt same hash (Step i) s old new) where
-    left : LeavesBy s.world.memory happened.0.memory new.memory.changed
+    pub left : LeavesBy s.world.memory happened.0.memory new.memory.changed
     left =
         subst (λ (n : Mem (Node K V)). LeavesBy s.world.memory n new.memory.changed) (sym happened.4.memory)
         (subst (λ (n : Mem (Node K V)). LeavesBy n new.memory.memory new.memory.changed) (sym at.memory)
         (operated_leaves old.memory.memory new.memory.memory new.memory.changed
         (row_operated old.memory.memory new.memory.memory new.memory.changed end row (may_taken same hash old s at i row here (slot_of i) row (row_at same hash old s at i row here)) steps)))
 
-    reached : Reached deferred_word old.batch_size s.world
+    pub reached : Reached deferred_word old.batch_size s.world
     reached = came_reached old.batch_size s.world at.together.makings.standing.came
 
   pub rows_keep_waiting : RowsKeepWaiting K V S same hash

@@ -152,7 +152,7 @@ module _ {T : Type 0} (defers : T → Option ℕ) (size : ℕ) (w w2 : World T) 
     begin_waits (Refresh s) h told = quiet g (same_log (ap (λ (z : World T). z.log) h.1)) told
     begin_waits (Unregister' s) h told = quiet g (same_log (ap (λ (z : World T). z.log) h.1)) told
     begin_waits (Retire s c) h told = begin_retire c h.1.0 h.1.1 (ap (λ (z : World T). z.log) h.2) told
-    begin_waits (Flush s) h told b t e = subst (λ (z : State). WaitsIn z b t) (sym told) (k.waits b t (same_log (ap (λ (z : World T). z.log) h.1) b t e))
+    begin_waits (Flush s) h told = λ b t e. subst (λ (z : State). WaitsIn z b t) (sym told) (k.waits b t (same_log (ap (λ (z : World T). z.log) h.1) b t e))
     begin_waits (Defer' s c u) h told = begin_defer s c u h.0 (ap (λ (z : World T). z.log) h.7) (row_put s c u h.0 _ h.7 refl) told
 
   by_users : (e : Event T) → IsStill e → IsAside e → Happens defers size e w w2 → Kept defers size w2

@@ -1,5 +1,5 @@
 -- How steps lead on from what waits behind tables: it waits there still, and none of it is reclaimed before the table is.
-use Rattle.std.specs.Prelude.{◌≡◌, ℕ, Bool, List, [], ◌∷◌, Option, Some, None}
+use Rattle.std.specs.Prelude.{◌≡◌, ℕ, Bool, List, Option, Some, None}
 use Rattle.seize.specs.declared.progress.Progress.{Progress}
 use Rattle.seize.specs.declared.rows.settle.Settled.{Settled}
 use Rattle.seize.specs.World.{World, Event, Begin, Step, Runs}
@@ -8,7 +8,6 @@ use Rattle.papaya_tables.specs.declared.node.Node.{Node}
 use Rattle.papaya_tables.specs.declared.setting.Setting.{Setting}
 use Rattle.papaya_raw.specs.declared.machines.progress.Progress.{Progress as CallTold}
 use Rattle.papaya_schedules.specs.declared.effect.Effect.{Effect}
-use Rattle.papaya_schedules.specs.declared.effect.Effect.TheVariants.{Deferred, Retired, Reclaimed, Ended, Taken}
 use Rattle.papaya_schedules.specs.Effects.{with_effects, AtEachEffect}
 use Rattle.papaya_schedules.specs.declared.effect.Table.{Table}
 use Rattle.papaya_schedules.specs.Moment.{Behind, Moment, start}
@@ -69,19 +68,6 @@ UsersKeepWaiting K V =
     → ((b n : ℕ) → known.roles b ≡ role.Pair n → known2.roles b ≡ role.Pair n) → ((b len : ℕ) (t : Table) → known.roles b ≡ role.Table t len → known2.roles b ≡ role.Table t len)
     → ShowsWaiting v known2 w2
 
--- it neither puts a pair behind a table, nor retires, reclaims or ends anything
-abbrev pub HandsNothing : Effect → Type 0
-HandsNothing (Deferred n t) = ⊥
-HandsNothing (Retired x) = ⊥
-HandsNothing (Reclaimed x) = ⊥
-HandsNothing (Ended n) = ⊥
-HandsNothing (Taken t) = ⊥
-HandsNothing _ = Unit {0}
-
-abbrev pub AllHandNothing : List Effect → Type 0
-AllHandNothing [] = Unit {0}
-AllHandNothing (f ∷ effects) = HandsNothing f × AllHandNothing effects
-
 module _ (K V S : Type 0) (same : K → K → Bool) (hash : K → ℕ) where
   -- So it is where a row begins on a slot,
   abbrev pub RowsBeginWaiting : Type 0
@@ -111,14 +97,13 @@ module _ (K V S : Type 0) (same : K → K → Bool) (hash : K → ℕ) where
       → (i : ℕ) (told : Progress Setting) (leads : MakingLeads same hash i told s old new) (b : Beginning K) (here : s.makers i ≡ Some b) (of : Option ℕ) → WasNew b.map told m
       → ShowsWaiting (with_effects None of (effects_of (Making b.map) known new.memory.changed) m) (known_after (Making b.map) new.memory.changed known) (leads b here).2.step.w2
 
-  -- And after a step of a call that is none of a row, and hands nothing over.
+  -- And after a step of a call that is none of a row.
   abbrev pub CallsKeepWaiting : Type 0
   CallsKeepWaiting =
       (name : ℕ → List ℕ) (m : Moment K V) (known : Known) (s : Scene K V) (old new : Executor K V S) → IsAt same hash old s → ShowsWhole same name m known s → ShowsWaiting m known s.world
       → (map i : ℕ) (u : UnderWay K V K) (here : s.calls map i ≡ Some u) (told : CallTold (Node K V)) (leads : StepLeads same hash i told s old new)
       → (let to = leads map u here in
       IsOfNoRow same old.batch_size old.roots s.world s.maps s.calls s.makers s.enders map to.0 i new.memory.memory to.4.w2 to.4.maps2 to.4.next u to.1 told to.4.did
-      → AllHandNothing (effects_of (Call i map) known new.memory.changed)
       → ShowsWaiting (with_effects (Some (name i)) (Some map) (effects_of (Call i map) known new.memory.changed) m) (known_after (Call i map) new.memory.changed known) to.4.w2)
 
   -- And what waits behind a table is not reclaimed as that ends with its map.

@@ -63,6 +63,8 @@ module _ {K V : Type 0} (s : Scene K V) (i : ℕ) (f : Finishing K V) where
     maps = refl;
     calls = refl;
     makers = refl;
+    rows = refl;
+    uses = refl;
   }
 
   -- from where it has come, a step leads on
@@ -97,6 +99,8 @@ module _ {K V : Type 0} (s : Scene K V) (i : ℕ) (f : Finishing K V) where
           maps = came.maps;
           calls = came.calls;
           makers = came.makers;
+          rows = to.2.spares.rows ∙ came.rows;
+          uses = to.2.spares.uses ∙ came.uses;
         }
     came_on settled.Waits leads = absurd (leads f1 here1).3
     came_on (settled.Gave value) leads =
@@ -110,6 +114,8 @@ module _ {K V : Type 0} (s : Scene K V) (i : ℕ) (f : Finishing K V) where
           maps = came.maps;
           calls = came.calls;
           makers = came.makers;
+          rows = to.2.spares.rows ∙ came.rows;
+          uses = to.2.spares.uses ∙ came.uses;
         }
     came_on settled.Done leads =
         let to = leads f1 here1 in
@@ -119,6 +125,8 @@ module _ {K V : Type 0} (s : Scene K V) (i : ℕ) (f : Finishing K V) where
           maps = came.maps;
           calls = came.calls;
           makers = came.makers;
+          rows = to.2.spares.rows ∙ came.rows;
+          uses = to.2.spares.uses ∙ came.uses;
         }
 
     -- it was under way, and it is still, with less to do

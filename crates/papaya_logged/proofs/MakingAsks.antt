@@ -49,7 +49,7 @@ module _ {K V A B : Type 0} (f : A → B) where
   ends_back m (Seeing block rest) end h = let k = ends_back m (rest h.0) end h.2 in (k.0, (h.0, h.1, k.1), k.2)
   ends_back m (Sure fact rest) end h = ends_back m rest end h
 
-  told_back : (m m2 : Mem (Node K V)) (before told : Changed) (plan : Plan (Node K V) A) (end : B) → StepsTold K V B m before (plan_as f plan) m2 told end
+  pub told_back : (m m2 : Mem (Node K V)) (before told : Changed) (plan : Plan (Node K V) A) (end : B) → StepsTold K V B m before (plan_as f plan) m2 told end
       → (e : A) × StepsTold K V A m before plan m2 told e × (end ≡ f e)
   told_back m m2 before told (Turn rest) end s = let k = ends_back m2 rest end s.1 in (k.0, (s.0, k.1, s.2), k.2)
   told_back m m2 before told (Do op rest) end s = let k = ends_back m2 (rest s.0) end s.2 in (k.0, (s.0, s.1, k.1), k.2)
@@ -81,7 +81,7 @@ bare_below n (t, progress.Done table) bare = bare
 bare_below n (t, progress.Refused fault) bare = tt
 
 module _ {K V : Type 0} where
-  abbrev told_as : Mem (Node K V) → Op (Node K V) → Out (Node K V) → Changed
+  abbrev pub told_as : Mem (Node K V) → Op (Node K V) → Out (Node K V) → Changed
   told_as m op out = told_of op out (seen_of m op out)
 
 module _ (map : ℕ) (known : Known) where

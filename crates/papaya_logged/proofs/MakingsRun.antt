@@ -18,12 +18,13 @@ use Rattle.papaya_schedules.specs.InTurn.{is_growth}
 use Rattle.papaya_schedules.specs.Moment.{Stage, TableThere, Moment}
 use Rattle.papaya_teller.specs.declared.changed.Changed.TheVariants.{Nothing}
 use Rattle.papaya_callers.proofs.Together.At.{at_other, at_same}
+use Rattle.papaya_callers.proofs.Together.Users.{events_rows, events_uses}
 use Rattle.papaya_follows.specs.Maps.{shape_at, table_of, tables_to}
-use Rattle.papaya_finishes.specs.Makings.{Beginning, IsNewChart}
+use Rattle.papaya_finishes.specs.Makings.{Beginning, IsNewChart, StepsOfMaking}
 use Rattle.papaya_finishes.specs.Maps.{Standing}
 use Rattle.papaya_maps.specs.MeasuresBegins.{new_map_left}
 use Rattle.papaya_maps.proofs.Begins.ComesToEnd.{beginnings_leave_less}
-use Rattle.papaya_executor.specs.IsAt.{Scene, IsAt, IsMaking, making_in, work_of}
+use Rattle.papaya_executor.specs.IsAt.{Scene, IsAt, IsMaking, making_in, slot_of, work_of}
 use Rattle.papaya_executor.specs.Making.{MakingLeads}
 use Rattle.papaya_executor.specs.declared.executor.Executor.{Executor}
 use Rattle.papaya_executor.specs.declared.worker.Work.{Work}
@@ -42,7 +43,7 @@ making_left_of (Some (work.Making map opening)) = new_map_left opening
 making_left_of _ = 0
 
 -- what a caller has under way, if it is a making
-making_of : {K V : Type 0} (x : Option (Work K V)) (map : ℕ) (opening : NewMap) → making_in x ≡ Some (map, opening) → x ≡ Some (work.Making map opening)
+pub making_of : {K V : Type 0} (x : Option (Work K V)) (map : ℕ) (opening : NewMap) → making_in x ≡ Some (map, opening) → x ≡ Some (work.Making map opening)
 making_of None map opening is = absurd (cc is)
 making_of (Some (work.Call other machine)) map opening is = absurd (cc is)
 making_of (Some (work.Making other machine)) map opening is =
@@ -54,7 +55,7 @@ making_of (Some (work.OnSlot row)) map opening is = absurd (cc is)
 module _ {K V : Type 0} (s : Scene K V) (i : ℕ) (b : Beginning K) where
   -- it has not gone on yet
   came_first : s.makers i ≡ Some b → MakingCame s s i b progress.Goes
-  came_first here = record { maker = (b.machine, here); makers = λ j ne. refl; maps = refl; calls = refl; enders = refl }
+  came_first here = record { maker = (b.machine, here); makers = λ j ne. refl; maps = refl; calls = refl; enders = refl; rows = refl; uses = refl }
 
   -- from where it has come, a step leads on
   module _ {S : Type 0} (same : K → K → Bool) (hash : K → ℕ) (mid new : Executor K V S) (s1 : Scene K V) (came : MakingCame s s1 i b progress.Goes) where
@@ -68,6 +69,17 @@ module _ {K V : Type 0} (s : Scene K V) (i : ℕ) (b : Beginning K) where
     others : (next : Option (Beginning K)) (j : ℕ) → j ≢ i → with_at s1.makers i next j ≡ s.makers j
     others next j ne = at_other s1.makers i next j ne ∙ came.makers j ne
 
+    -- a step leaves rows and uses of slots as they are
+    module _ (told : Progress Setting) (leads : MakingLeads same hash i told s1 mid new) where
+      abbrev step : StepsOfMaking V same same mid.batch_size mid.roots slot_of s1.world s1.maps s1.calls s1.makers i b1 new.memory.memory ((leads b1 here1).0, told)
+      step = (leads b1 here1).2.step
+
+      rows_on : step.w2.row ≡ s.world.row
+      rows_on = events_rows mid.batch_size step.events s1.world step.w2 step.users step.runs ∙ came.rows
+
+      uses_on : step.w2.uses ≡ s.world.uses
+      uses_on = events_uses mid.batch_size step.events s1.world step.w2 step.users step.runs ∙ came.uses
+
     pub came_on : (told : Progress Setting) (leads : MakingLeads same hash i told s1 mid new)
         → MakingCame s (making_after same hash s1 mid new i b1 (leads b1 here1).0 (leads b1 here1).2.step.w2 told (leads b1 here1).3) i b told
     came_on progress.Goes leads = record {
@@ -76,6 +88,8 @@ module _ {K V : Type 0} (s : Scene K V) (i : ℕ) (b : Beginning K) where
       maps = came.maps;
       calls = came.calls;
       enders = came.enders;
+      rows = rows_on progress.Goes leads;
+      uses = uses_on progress.Goes leads;
     }
     came_on progress.Waits leads = absurd (leads b1 here1).3
     came_on (progress.Done setting) leads =
@@ -95,8 +109,18 @@ module _ {K V : Type 0} (s : Scene K V) (i : ℕ) (b : Beginning K) where
           };
           calls = came.calls;
           enders = came.enders;
+          rows = rows_on (progress.Done setting) leads;
+          uses = uses_on (progress.Done setting) leads;
         }
-    came_on (progress.Refused fault) leads = record { maker = at_same s1.makers i None i refl; makers = others None; maps = came.maps; calls = came.calls; enders = came.enders }
+    came_on (progress.Refused fault) leads = record {
+      maker = at_same s1.makers i None i refl;
+      makers = others None;
+      maps = came.maps;
+      calls = came.calls;
+      enders = came.enders;
+      rows = rows_on (progress.Refused fault) leads;
+      uses = uses_on (progress.Refused fault) leads;
+    }
 
     -- if it has made no table there, neither has its machine
     pub bare_on : (told : Progress Setting) (leads : MakingLeads same hash i told s1 mid new)

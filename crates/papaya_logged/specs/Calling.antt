@@ -65,8 +65,9 @@ module _ {K V S : Type 0} (same : K → K → Bool) (hash : K → ℕ) (name : �
   -- A walk that was ready goes on to its next pair,
   abbrev pub WalkGoesOn : ℕ → Bool → (old new : Logged K V S) → Type 0
   WalkGoesOn i ready old new =
-      (map : ℕ) (u : UnderWay K V K) → s.calls map i ≡ Some u → ready ≡ true
-      → (next : UnderWay K V K) × (machine_of next ≡ (machine_asked (machine_of u)).0) × IsShown same hash name m new (scene_with map i next s)
+      (map : ℕ) (u : UnderWay K V K) → s.calls map i ≡ Some u
+      → (ready ≡ (machine_asked (machine_of u)).1)
+      × (ready ≡ true → (next : UnderWay K V K) × (machine_of next ≡ (machine_asked (machine_of u)).0) × IsShown same hash name m new (scene_with map i next s))
 
   -- or is under way no more, where no other call under way has its name.
   abbrev pub WalkStops : ℕ → Bool → (old new : Logged K V S) → Type 0

@@ -78,7 +78,7 @@ module _ {K V S : Type 0} (same : K → K → Bool) (hash : K → ℕ) (name : �
       → IsShown same hash name (with_effects None (Some map) did m) new (ending_after same hash s new.executor i f (leads f here).0 (leads f here).2.w2 (leads f here).2.deed said (leads f here).3))
 
 -- Where an end has come that was there so, and has reclaimed these further blocks: it goes on, as another machine; or it is over, has reclaimed all that it was to, and what
--- it left over waits behind its root, which is free without that. All else that is under way is so as before, and so are the maps that stand.
+-- it left over waits behind its root, which is free without that. All else that is under way is so as before, and so are the maps that stand, and the uses of slots.
 module _ {K V : Type 0} (s s2 : Scene K V) (i : ℕ) (f : Finishing K V) (gone : List ℕ) where
   abbrev pub EnderIs : Bool → Type 0
   EnderIs false = (machine : EndMap) × (waits : List ℕ) × (s2.enders i ≡ Some (record f { machine = machine; back = f.back ++ gone; waits = waits }))
@@ -91,6 +91,8 @@ module _ {K V : Type 0} (s s2 : Scene K V) (i : ℕ) (f : Finishing K V) (gone :
     pub maps : s2.maps ≡ s.maps
     pub calls : s2.calls ≡ s.calls
     pub makers : s2.makers ≡ s.makers
+    pub rows : s2.world.row ≡ s.world.row
+    pub uses : s2.world.uses ≡ s.world.uses
 
 module _ {K V S : Type 0} where
   -- What a step does follows in the list, whatever shows the executor.

@@ -98,7 +98,7 @@ module _ {K V S : Type 0} (same : K → K → Bool) (hash : K → ℕ) (name : �
       → IsShown same hash name (with_effects None of did m) new (making_after same hash s old.executor new.executor i b (leads b here).0 (leads b here).2.step.w2 told (leads b here).3)))
 
 -- Where a making has come that began so, by what its last step told: it goes on, as another machine; or its map stands, as it was to be made; or it is over without
--- a map. All else that is under way is so as before.
+-- a map. All else that is under way is so as before, and so are the uses of slots.
 module _ {K V : Type 0} (s s2 : Scene K V) (i : ℕ) (b : Beginning K) where
   abbrev pub MakerIs : Progress Setting → Type 0
   MakerIs progress.Goes = (opening : NewMap) × (s2.makers i ≡ Some (record b { machine = opening }))
@@ -130,6 +130,8 @@ module _ {K V : Type 0} (s s2 : Scene K V) (i : ℕ) (b : Beginning K) where
     pub maps : MapsAre told
     pub calls : s2.calls ≡ s.calls
     pub enders : s2.enders ≡ s.enders
+    pub rows : s2.world.row ≡ s.world.row
+    pub uses : s2.world.uses ≡ s.world.uses
 
 module _ {K V S : Type 0} where
   -- What a step does follows in the list, whatever shows the executor.

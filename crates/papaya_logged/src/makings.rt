@@ -1,5 +1,8 @@
 //! Makings of maps begin, take steps, and run to their ends.
-ghost use Rattle.std.specs.Prelude.{◌≡◌, ◌<◌, ◌+◌, ◌*◌, ℕ, Bool, true, List, length, Some, IfOk, IfErr};
+ghost use Rattle.std.specs.Prelude.{◌≡◌, ◌<◌, ◌+◌, ◌*◌, ◌++◌, ℕ, Bool, true, List, length, Some, IfOk, IfErr};
+ghost use Rattle.papaya_effects.specs.Effects.{effects_of};
+ghost use Rattle.papaya_effects.specs.Known.{known};
+ghost use Rattle.papaya_effects.specs.declared.acting.Acting.TheVariants.{Making};
 ghost use Rattle.papaya_finishes.specs.Makings.{Beginning};
 ghost use Rattle.papaya_schedules.specs.Moment.{Moment};
 ghost use Rattle.papaya_executor.specs.Beginning.{IsRefused};
@@ -7,6 +10,7 @@ ghost use Rattle.papaya_executor.specs.IsAt.{Scene, IsAt, IsMaking};
 ghost use Rattle.papaya_executor.specs.Making.{MakingLeads};
 ghost use Rattle.papaya_executor.specs.declared.worker.TheConstants.{SLOTS};
 ghost use Rattle.papaya_logged.specs.Makings.{MakingIsBegun, MakingSteps, MakingRan, MapIsThere, given_back, is_over, numbers_then};
+ghost use Rattle.papaya_logged.specs.Roots.{MakingFinds};
 ghost use Rattle.papaya_logged.specs.Shown.{IsShown};
 
 use crate::logged::Logged;
@@ -73,6 +77,7 @@ impl<K: Drop, V: Drop, S> Logged<K, V, S> {
         ensures steps { IfOk result (λ told. (same : K → K → Bool) (hash : K → ℕ) (s : Scene K V) → IsAt same hash self.old.executor s
             → MakingLeads same hash caller told s self.old.executor self.new.executor) }
         ensures numbers { IfOk result (λ told. length self.new.executor.maps.items ≡ length self.old.executor.maps.items) }
+        ensures did { IfOk result (λ told. effects.new.items ≡ effects.old.items ++ effects_of (Making map) (known self.old.notes) self.new.executor.memory.changed) }
     {
         let told = self.executor.step_making(caller);
         self.note(Acting::Making { map }, effects)?;
@@ -91,6 +96,7 @@ impl<K: Drop, V: Drop, S> Logged<K, V, S> {
         ensures over { IfOk result (λ told. is_over told ≡ true) }
         ensures numbers { IfOk result (λ told. length self.new.executor.maps.items ≡ numbers_then map told (length self.old.executor.maps.items)) }
         ensures ran { IfOk result (λ told. MakingRan caller map told effects.old.items effects.new.items self.old self.new) }
+        ensures finds { IfOk result (λ told. MakingFinds caller map told effects.old.items effects.new.items self.old self.new) }
     {
         loop {
             let told = self.step_making(caller, map, effects)?;

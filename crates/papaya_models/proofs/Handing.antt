@@ -1,6 +1,6 @@
 -- A step of a call that is none of a row hands nothing over, whichever kind of call it is.
 use Rattle.std.specs.Prelude.{◌≡◌, ℕ, Bool, List, [], ◌∷◌, ◌++◌, flat_map, Some}
-use Rattle.std.proofs.Common.{refl, ap, ◌∙◌, inl, inr}
+use Rattle.std.proofs.Common.{refl, ap, ◌∙◌}
 use Rattle.std.proofs.lemmas.List.Concat.{flat_map-cons}
 use Rattle.seize.specs.WaitingSets.{Change}
 use Rattle.papaya_tables.specs.declared.node.Node.{Node}
@@ -10,7 +10,7 @@ use Rattle.papaya_schedules.specs.declared.effect.Effect.{Effect}
 use Rattle.papaya_schedules.specs.declared.effect.Effect.TheVariants.{Retired, Deferred, Taken}
 use Rattle.papaya_schedules.specs.declared.effect.Thing.{Thing}
 use Rattle.papaya_raw.specs.declared.machines.progress.Progress.{Progress}
-use Rattle.papaya_callers.specs.Together.{UnderWay, OnKey, ForRoom, Counting, OverAll}
+use Rattle.papaya_callers.specs.Together.{UnderWay}
 use Rattle.papaya_effects.specs.Effects.{effects_of}
 use Rattle.papaya_effects.specs.Known.{Known}
 use Rattle.papaya_effects.specs.declared.acting.Acting.TheVariants.{Call}
@@ -18,9 +18,9 @@ use Rattle.papaya_executor.specs.IsAt.{Scene, IsAt}
 use Rattle.papaya_executor.specs.Stepping.{StepLeads}
 use Rattle.papaya_executor.specs.declared.executor.Executor.{Executor}
 use Rattle.papaya_follows.specs.Shows.{Shows}
-use Rattle.papaya_follows.proofs.Steps.{WentTo, went_to, made_so, is_inside, DidSo, OfNoRow}
-use Rattle.papaya_spots.proofs.Handing.{KeepsAll, AllKeep, calm_keep}
-use Rattle.papaya_spots.proofs.Steps.{moved_keep, stayed_calm}
+use Rattle.papaya_follows.proofs.Steps.{WentTo, went_to, DidSo, OfNoRow}
+use Rattle.papaya_spots.proofs.Handing.{KeepsAll, AllKeep, nothing_keep}
+use Rattle.papaya_spots.proofs.Steps.{hands_nothing}
 use Rattle.papaya_models.specs.Numbers.{IsOfThings, AreOfThings}
 
 pub nothing_handed : (things : List Thing) (slot : ℕ) (effects : List Effect) → AllKeep effects → flat_map (handing things slot) effects ≡ []
@@ -58,22 +58,4 @@ module _ {K V S : Type 0} (same : K → K → Bool) (hash : K → ℕ) (name : �
   NoRow x did = OfNoRow same hash name m known s old new at shown map i u here told leads x did
 
   pub keeps_all : NoRow u to.4.did → AllKeep (effects_of (Call i map) known new.memory.changed)
-  keeps_all own = by u to.4.did own
-    where
-      by : (x : UnderWay K V K) (did : Did x) → NoRow x did → AllKeep (effects_of (Call i map) known new.memory.changed)
-      by (OnKey x) (p2, end, machine_is, told_is, inl (step, has)) own =
-          moved_keep same hash m known s old new at name shown map i to.0 to.2 (name i) (made_so same hash name m known s old new at shown map i u here told leads)
-          (is_inside same hash name m known s old new at shown map i u here told leads) _ step.step.went step.step.blocks2 step.step.grown step.step.sights2
-      by (OnKey x) (p2, end, machine_is, told_is, inr row) own = absurd own
-      by (ForRoom x) (p2, end, machine_is, told_is, inl (step, has)) own =
-          moved_keep same hash m known s old new at name shown map i to.0 to.2 (name i) (made_so same hash name m known s old new at shown map i u here told leads)
-          (is_inside same hash name m known s old new at shown map i u here told leads) _ step.step.went step.step.blocks2 step.step.grown step.step.sights2
-      by (ForRoom x) (p2, end, machine_is, told_is, inr row) own = absurd own
-      by (Counting x) (p2, end, machine_is, told_is, same_memory, has) own =
-          calm_keep (effects_of (Call i map) known new.memory.changed)
-          (stayed_calm same hash m known s old new at name shown map i to.0 to.2 (name i) (made_so same hash name m known s old new at shown map i u here told leads)
-          (is_inside same hash name m known s old new at shown map i u here told leads) same_memory).calm
-      by (OverAll x) (p2, end, machine_is, told_is, inl (step, has)) own =
-          moved_keep same hash m known s old new at name shown map i to.0 to.2 (name i) (made_so same hash name m known s old new at shown map i u here told leads)
-          (is_inside same hash name m known s old new at shown map i u here told leads) _ step.step.went step.step.blocks2 step.step.grown step.step.sights2
-      by (OverAll x) (p2, end, machine_is, told_is, inr row) own = absurd own
+  keeps_all own = nothing_keep (effects_of (Call i map) known new.memory.changed) (hands_nothing same hash name m known s old new at shown map i u here told leads own)

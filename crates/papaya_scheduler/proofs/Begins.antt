@@ -35,10 +35,10 @@ use Rattle.papaya_scheduler.specs.declared.caller.Callers.{Callers}
 use Rattle.papaya_scheduler.specs.declared.caller.Stands.TheVariants as far
 use Rattle.papaya_scheduler.specs.declared.scheduler.Scheduler.{Scheduler}
 use Rattle.papaya_scheduler.proofs.Called.{begun_call, begins_so, is_as_far, is_begun_for, is_called, its_machine}
-use Rattle.papaya_scheduler.proofs.Facts.{no_ending_of, no_making_of, no_work_at, row_rests, slot_fits, used_still}
-use Rattle.papaya_scheduler.proofs.Lists.{all_but, all_so, as_some, found_alike, is_found, none_kept, one_of}
+use Rattle.papaya_rows.proofs.Facts.{no_ending_of, no_making_of, no_work_at, row_rests, slot_fits, used_still}
+use Rattle.papaya_rows.proofs.Lists.{all_but, all_so, as_some, found_alike, is_found, none_kept, one_of}
 use Rattle.papaya_scheduler.proofs.Maps.{setting_of_it, setting_some}
-use Rattle.papaya_scheduler.proofs.There.{is_inside, living_is, on_its_slot}
+use Rattle.papaya_rows.proofs.There.{is_inside, living_is, on_its_slot}
 
 and_parts : (a b : Bool) → (a && b) ≡ true → (a ≡ true) × (b ≡ true)
 and_parts true b e = (refl, e)

@@ -15,7 +15,7 @@ use Rattle.papaya_schedules.specs.Terms.{Terms}
 use Rattle.papaya_schedules.specs.Views.{call_of, map_of, number_of}
 use Rattle.papaya_scheduler.specs.Played.{BeginsSo, IsDue, Plays, StandsFor}
 use Rattle.papaya_scheduler.specs.declared.scheduler.Scheduler.{Scheduler}
-use Rattle.papaya_scheduler.proofs.Elsewhere.{elsewhere}
+use Rattle.papaya_rows.proofs.Elsewhere.{elsewhere}
 use Rattle.papaya_scheduler.proofs.Quiet.{stands_on}
 use Rattle.papaya_scheduler.proofs.Rights.{in_turn, out_of_turn, plays, quiet}
 

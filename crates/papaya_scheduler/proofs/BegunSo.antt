@@ -24,7 +24,7 @@ use Rattle.papaya_scheduler.specs.declared.caller.Stands.TheVariants as far
 use Rattle.papaya_scheduler.specs.declared.kind.Kind.{Kind}
 use Rattle.papaya_scheduler.specs.declared.scheduler.Scheduler.{Scheduler}
 use Rattle.papaya_scheduler.proofs.Begins.{begun, called_is, lives_is, not_begun}
-use Rattle.papaya_scheduler.proofs.Lists.{place_some}
+use Rattle.papaya_rows.proofs.Lists.{place_some}
 use Rattle.papaya_scheduler.proofs.Maps.{setting_some}
 
 module _ {K V S : Type 0} (same : K → K → Bool) (hash : K → ℕ) (terms : Terms) (m : Moment K V) (p : Scheduler K V S) (stands : StandsFor same hash terms m p) (own guard name : List ℕ)

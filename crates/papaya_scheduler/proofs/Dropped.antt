@@ -13,14 +13,15 @@ use Rattle.papaya_executor.specs.IsAt.{use_at}
 use Rattle.papaya_executor.specs.OnSlots.{NobodyIn}
 use Rattle.papaya_executor.specs.declared.row.SlotUse.TheVariants as used
 use Rattle.papaya_executor.specs.declared.worker.TheConstants.{SLOTS}
-use Rattle.papaya_scheduler.specs.Played.{IsUnderWay, StandsFor, used_as}
+use Rattle.papaya_rows.specs.Rows.{used_as}
+use Rattle.papaya_scheduler.specs.Played.{IsUnderWay, StandsFor}
 use Rattle.papaya_scheduler.specs.Seen.{free_slot}
 use Rattle.papaya_scheduler.specs.declared.scheduler.Scheduler.{Scheduler}
-use Rattle.papaya_scheduler.proofs.Facts.{slot_fits}
-use Rattle.papaya_scheduler.proofs.Lists.{all_but}
+use Rattle.papaya_rows.proofs.Facts.{slot_fits}
+use Rattle.papaya_rows.proofs.Lists.{all_but}
 use Rattle.papaya_scheduler.proofs.RanOn.{nobody_by}
 use Rattle.papaya_scheduler.proofs.Seats.{none_uses}
-use Rattle.papaya_scheduler.proofs.There.{is_inside, on_its_slot, others_left, used_alike}
+use Rattle.papaya_rows.proofs.There.{is_inside, on_its_slot, others_left, used_alike}
 
 -- the guard that lives on a slot
 pub lives_on : (o : Option Guard) (slot : ℕ) → living_slot o ≡ Some slot → (g : Guard) × (o ≡ Some g) × (g.slot ≡ slot)

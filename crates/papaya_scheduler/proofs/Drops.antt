@@ -30,14 +30,15 @@ use Rattle.papaya_executor.specs.declared.row.SlotUse.TheVariants as used
 use Rattle.papaya_executor.specs.declared.worker.TheConstants.{SLOTS}
 use Rattle.papaya_logged.specs.Ended.{has_ended, uses_ended}
 use Rattle.papaya_logged.specs.declared.logged.Logged.{Logged}
-use Rattle.papaya_scheduler.specs.Played.{IsDue, IsUnderWay, Plays, StandsFor, used_as}
-use Rattle.papaya_scheduler.specs.Rows.{RowRan, RowRanOn, TakesRetired, left_as}
+use Rattle.papaya_scheduler.specs.Played.{IsDue, IsUnderWay, Plays, StandsFor}
+use Rattle.papaya_rows.specs.Rows.{RowRan, RowRanOn, TakesRetired, left_as, used_as}
 use Rattle.papaya_scheduler.specs.Seen.{free_slot}
 use Rattle.papaya_scheduler.specs.declared.scheduler.Scheduler.{Scheduler}
 use Rattle.papaya_scheduler.proofs.Dropped.{each_left, fits, free_lives, inside, nobody_else, none_left, others_used, used_still}
-use Rattle.papaya_scheduler.proofs.Holders.{none_has}
-use Rattle.papaya_scheduler.proofs.Names.{drops_named}
-use Rattle.papaya_scheduler.proofs.NeverWaits.{IsSettling, done_alone, led_alone, over_alone}
+use Rattle.papaya_rows.proofs.Holders.{none_has}
+use Rattle.papaya_rows.proofs.Names.{drops_named}
+use Rattle.papaya_rows.specs.Settling.{IsSettling}
+use Rattle.papaya_rows.proofs.NeverWaits.{done_alone, led_alone, over_alone}
 use Rattle.papaya_scheduler.proofs.Quiet.{stands_on}
 use Rattle.papaya_scheduler.proofs.RanOn.{stands_ran, there_stays}
 use Rattle.papaya_scheduler.proofs.Rights.{entry, in_turn, out_of_turn, plays, quiet}

@@ -32,18 +32,18 @@ use Rattle.papaya_executor.specs.declared.row.SlotUse.TheVariants as used
 use Rattle.papaya_executor.specs.declared.worker.TheConstants.{SLOTS}
 use Rattle.papaya_logged.specs.Ended.{has_ended}
 use Rattle.papaya_logged.specs.declared.logged.Logged.{Logged}
-use Rattle.papaya_scheduler.specs.Played.{IsDue, IsUnderWay, Plays, StandsFor, used_as}
-use Rattle.papaya_scheduler.specs.Rows.{RowRan, RowRanOn, TakesRetired}
+use Rattle.papaya_scheduler.specs.Played.{IsDue, IsUnderWay, Plays, StandsFor}
+use Rattle.papaya_rows.specs.Rows.{RowRan, RowRanOn, TakesRetired, used_as}
 use Rattle.papaya_scheduler.specs.declared.scheduler.Scheduler.{Scheduler}
-use Rattle.papaya_scheduler.proofs.Facts.{slot_fits}
-use Rattle.papaya_scheduler.proofs.Lists.{all_so}
-use Rattle.papaya_scheduler.proofs.Names.{enters_named}
+use Rattle.papaya_rows.proofs.Facts.{slot_fits}
+use Rattle.papaya_rows.proofs.Lists.{all_so}
+use Rattle.papaya_rows.proofs.Names.{enters_named}
 use Rattle.papaya_scheduler.proofs.Quiet.{stands_on}
-use Rattle.papaya_scheduler.proofs.Ran.{done_once, led_once, over_once}
+use Rattle.papaya_rows.proofs.Ran.{done_once, led_once, over_once}
 use Rattle.papaya_scheduler.proofs.RanOn.{nobody_in, stands_ran, there_stays}
-use Rattle.papaya_scheduler.proofs.Registered.{found_has, slot_found}
+use Rattle.papaya_rows.proofs.Registered.{found_has, slot_found}
 use Rattle.papaya_scheduler.proofs.Seats.{stands_there}
-use Rattle.papaya_scheduler.proofs.There.{guard_is, is_inside, is_outside, registered_is, slot_is, slot_some, used_alike}
+use Rattle.papaya_rows.proofs.There.{guard_is, is_inside, is_outside, registered_is, slot_is, slot_some, used_alike}
 use Rattle.papaya_scheduler.proofs.Rights.{entry, in_turn, out_of_turn, plays, quiet}
 
 pub none_is : {X : Type 0} (o : Option X) → is_some o ≡ false → o ≡ None

@@ -7,12 +7,13 @@ use Rattle.papaya_schedules.specs.Moment.{start}
 use Rattle.papaya_executor.specs.IsAt.{at_first, use_at}
 use Rattle.papaya_executor.specs.declared.row.SlotUse.TheVariants as used
 use Rattle.papaya_logged.specs.Shown.{IsShown}
-use Rattle.papaya_scheduler.specs.Played.{CallsAre, IsPlayed, MapsAre, terms_given, used_as}
+use Rattle.papaya_rows.specs.Rows.{used_as}
+use Rattle.papaya_scheduler.specs.Played.{CallsAre, IsPlayed, MapsAre, terms_given}
 use Rattle.papaya_scheduler.specs.declared.caller.Caller.{Caller}
 use Rattle.papaya_scheduler.specs.declared.scheduler.NamedMap.{NamedMap}
 use Rattle.papaya_scheduler.specs.declared.scheduler.Scheduler.{Scheduler}
-use Rattle.papaya_scheduler.proofs.Facts.{no_work_at, used_once}
-use Rattle.papaya_scheduler.proofs.Names.{nobody_named}
+use Rattle.papaya_rows.proofs.Facts.{no_work_at, used_once}
+use Rattle.papaya_rows.proofs.Names.{nobody_named}
 
 module _ {K V S : Type 0} (same : K → K → Bool) (hash : K → ℕ) (p : Scheduler K V S) (roots : ℕ)
     (shown : (name : ℕ → List ℕ) → IsShown {K = K} {V = V} {S = S} same hash name start p.logged (at_first roots))

@@ -32,16 +32,16 @@ use Rattle.papaya_executor.specs.declared.worker.TheConstants.{SLOTS}
 use Rattle.papaya_logged.specs.Ended.{has_ended}
 use Rattle.papaya_logged.specs.declared.logged.Logged.{Logged}
 use Rattle.papaya_scheduler.specs.Handing.{HeldIsTold}
-use Rattle.papaya_scheduler.specs.Played.{IsDue, Plays, StandsFor, used_as}
-use Rattle.papaya_scheduler.specs.Rows.{RowRan, RowRanOn, TakesRetired}
+use Rattle.papaya_scheduler.specs.Played.{IsDue, Plays, StandsFor}
+use Rattle.papaya_rows.specs.Rows.{RowRan, RowRanOn, TakesRetired, used_as}
 use Rattle.papaya_scheduler.specs.declared.scheduler.Scheduler.{Scheduler}
 use Rattle.papaya_scheduler.proofs.Dropped.{fits, inside, lives_on}
-use Rattle.papaya_scheduler.proofs.Holders.{word_says, word_there}
-use Rattle.papaya_scheduler.proofs.NeverWaits.{done_alone, led_alone, over_alone}
+use Rattle.papaya_rows.proofs.Holders.{word_says, word_there}
+use Rattle.papaya_rows.proofs.NeverWaits.{done_alone, led_alone, over_alone}
 use Rattle.papaya_scheduler.proofs.Quiet.{stands_on}
 use Rattle.papaya_scheduler.proofs.RanOn.{stands_ran, there_stays}
 use Rattle.papaya_scheduler.proofs.Rights.{entry, in_turn, out_of_turn, plays, quiet}
-use Rattle.papaya_scheduler.proofs.There.{living_is}
+use Rattle.papaya_rows.proofs.There.{living_is}
 
 -- a word that is there is read so
 read_there : (o : Option ℕ) → IsSome o → (word : ℕ) × (o ≡ Some word)
@@ -99,9 +99,9 @@ module _ {K V S : Type 0} (same : K → K → Bool) (hash : K → ℕ) (terms : 
 
     -- a batch that is held is told so
     pub is_held_now : HeldIsTold m p → (held : Bool) → IsRead held → held ≡ true → Plays same hash terms log (quiet (Flush guard) (Refused Busy)) p
-    is_held_now tells held reads yes =
+    is_held_now tells held reads so =
         let e = quiet (Flush guard) (Refused Busy) in
-        let word : word_at p.logged.executor.memory.memory (Slot slot BATCH) ≡ Some HELD = read.1 ∙ ap Some (eqb-true read.0 HELD (sym (reads read.0 read.1) ∙ yes)) in
+        let word : word_at p.logged.executor.memory.memory (Slot slot BATCH) ≡ Some HELD = read.1 ∙ ap Some (eqb-true read.0 HELD (sym (reads read.0 read.1) ∙ so)) in
         plays same hash terms log (Flush guard) p due e refl
         (in_turn wanted (is_living guard m.there) (Refused Busy) is_turn (inr (ap (λ (x : ℕ). is_held x m) its_slot ∙ tells slot word, refl)))
         (stands_on same hash terms m p stands (m.events + 1) (m.is_alone && is_alone_on e m) m.slots m.sheltered)

@@ -11,7 +11,7 @@ use Rattle.papaya_scheduler.specs.Played.{IsUnderWay, StandsFor}
 use Rattle.papaya_scheduler.specs.Seen.{Seen, is_named, seen, seen_of}
 use Rattle.papaya_scheduler.specs.declared.caller.Caller.{Caller}
 use Rattle.papaya_scheduler.specs.declared.scheduler.Scheduler.{Scheduler}
-use Rattle.papaya_scheduler.proofs.Lists.{got, as_some, both_some, found_alike, found_has, found_passes, is_found, place_found, place_is, place_some}
+use Rattle.papaya_rows.proofs.Lists.{got, as_some, both_some, found_alike, found_has, found_passes, is_found, place_found, place_is, place_some}
 
 module _ {K V S : Type 0} (same : K → K → Bool) (hash : K → ℕ) (terms : Terms) (m : Moment K V) (p : Scheduler K V S) (stands : StandsFor same hash terms m p) (own : List ℕ) where
   abbrev calls : List (Caller V)

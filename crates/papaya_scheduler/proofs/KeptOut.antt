@@ -1,5 +1,5 @@
 -- An event that is out of turn changes nothing, and every event is where it is kept out.
-use Rattle.std.specs.Prelude.{◌≡◌, ◌+◌, ◌&&◌, ◌||◌, ℕ, Bool, true, false, not, List, [], ◌∷◌, map, Option, Some, None, MatchOption, MatchBool, if◌then◌else◌}
+use Rattle.std.specs.Prelude.{◌≡◌, ◌+◌, ◌&&◌, ◌||◌, ℕ, Bool, true, false, not, List, Option, Some, None, MatchOption, MatchBool, if◌then◌else◌}
 use Rattle.std.specs.List.{list_all}
 use Rattle.std.proofs.Common.{refl, sym, ap, subst, ◌∙◌}
 use Rattle.seize_words.specs.declared.fault.Fault.{Fault}
@@ -21,12 +21,12 @@ use Rattle.papaya_effects.specs.Known.{Known, known}
 use Rattle.papaya_follows.specs.Calling.{come_to}
 use Rattle.papaya_hands.specs.Calling.{AsksJust}
 use Rattle.papaya_moments.proofs.Calls.{calls_come_to_whole}
-use Rattle.papaya_scheduler.specs.Played.{IsPlayed, Plays, StandsFor, terms_given}
+use Rattle.papaya_scheduler.specs.Played.{IsPlayed, Plays, StandsFor}
 use Rattle.papaya_scheduler.specs.Seen.{Seen, seen, seen_of}
 use Rattle.papaya_scheduler.specs.Turns.{is_that, keeps_out}
 use Rattle.papaya_scheduler.specs.declared.scheduler.Scheduler.{Scheduler}
-use Rattle.papaya_scheduler.proofs.Elsewhere.{elsewhere, shown_elsewhere}
-use Rattle.papaya_scheduler.proofs.Lists.{all_alike, all_same, unseen}
+use Rattle.papaya_rows.proofs.Elsewhere.{elsewhere, shown_elsewhere}
+use Rattle.papaya_rows.proofs.Lists.{all_alike, all_same, unseen}
 use Rattle.papaya_scheduler.proofs.Quiet.{stands_on}
 use Rattle.papaya_scheduler.proofs.Rights.{quiet}
 

@@ -11,7 +11,7 @@ use Rattle.papaya_scheduler.specs.Played.{StandsFor}
 use Rattle.papaya_scheduler.specs.Seen.{named, named_of, number_named, setting_named, with_setting}
 use Rattle.papaya_scheduler.specs.declared.scheduler.NamedMap.{NamedMap}
 use Rattle.papaya_scheduler.specs.declared.scheduler.Scheduler.{Scheduler}
-use Rattle.papaya_scheduler.proofs.Lists.{found_alike, found_has}
+use Rattle.papaya_rows.proofs.Lists.{found_alike, found_has}
 
 -- of a pair that is seen, the number
 numbers_of : (o : Option MapThere) → option_map (λ z. z.1) (option_map named o) ≡ option_map (λ f. f.number) o

@@ -23,17 +23,17 @@ use Rattle.papaya_executor.specs.declared.row.RowTold.TheVariants as told
 use Rattle.papaya_executor.specs.declared.row.SlotCall.TheVariants as call
 use Rattle.papaya_executor.specs.declared.row.SlotUse.TheVariants as used
 use Rattle.papaya_logged.specs.declared.logged.Logged.{Logged}
-use Rattle.papaya_scheduler.specs.Played.{IsDue, IsUnderWay, Plays, StandsFor, used_as}
-use Rattle.papaya_scheduler.specs.Rows.{RowRan, TakesRetired}
-use Rattle.papaya_scheduler.specs.Taking.{SlotTaken, told_as}
+use Rattle.papaya_scheduler.specs.Played.{IsDue, IsUnderWay, Plays, StandsFor}
+use Rattle.papaya_rows.specs.Rows.{RowRan, TakesRetired, used_as}
+use Rattle.papaya_rows.specs.Taking.{SlotTaken, told_as}
 use Rattle.papaya_scheduler.specs.declared.scheduler.Scheduler.{Scheduler}
 use Rattle.papaya_scheduler.proofs.Enters.{found_more, none_is, used_now}
-use Rattle.papaya_scheduler.proofs.Lists.{all_so}
-use Rattle.papaya_scheduler.proofs.Names.{enters_named}
+use Rattle.papaya_rows.proofs.Lists.{all_so}
+use Rattle.papaya_rows.proofs.Names.{enters_named}
 use Rattle.papaya_scheduler.proofs.Quiet.{stands_on}
 use Rattle.papaya_scheduler.proofs.RanOn.{stands_ran, there_stays}
 use Rattle.papaya_scheduler.proofs.SlotTaken.{gets_none, gets_slot, led_taking, over_taking, use_still, use_then}
-use Rattle.papaya_scheduler.proofs.There.{guard_is}
+use Rattle.papaya_rows.proofs.There.{guard_is}
 use Rattle.papaya_scheduler.proofs.Rights.{entry, in_turn, out_of_turn, plays, quiet}
 
 module _ {K V S : Type 0} (same : K → K → Bool) (hash : K → ℕ) (terms : Terms) (log : List (Entry K V)) (p : Scheduler K V S) (guard : List ℕ)

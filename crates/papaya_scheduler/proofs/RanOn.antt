@@ -23,16 +23,16 @@ use Rattle.papaya_logged.specs.Shown.{IsShown}
 use Rattle.papaya_logged.specs.declared.logged.Logged.{Logged}
 use Rattle.papaya_others.proofs.Quiet.{calls_none}
 use Rattle.papaya_tables.specs.declared.node.Node.{Node}
-use Rattle.papaya_scheduler.specs.Played.{IsUnderWay, StandsFor, used_as}
-use Rattle.papaya_scheduler.specs.Rows.{RowRan, TakesRetired}
+use Rattle.papaya_scheduler.specs.Played.{IsUnderWay, StandsFor}
+use Rattle.papaya_rows.specs.Rows.{RowRan, TakesRetired, used_as}
 use Rattle.papaya_scheduler.specs.Seen.{named, seen}
 use Rattle.papaya_scheduler.specs.declared.scheduler.NamedMap.{NamedMap}
 use Rattle.papaya_scheduler.specs.declared.scheduler.Scheduler.{Scheduler}
-use Rattle.papaya_scheduler.proofs.Elsewhere.{elsewhere, shown_elsewhere}
-use Rattle.papaya_scheduler.proofs.Facts.{no_ending_of, no_making_of, no_work_at, row_rests}
-use Rattle.papaya_scheduler.proofs.Lists.{all_so, one_of, unseen}
-use Rattle.papaya_scheduler.proofs.Ran.{Led}
-use Rattle.papaya_scheduler.proofs.There.{on_its_slot}
+use Rattle.papaya_rows.proofs.Elsewhere.{elsewhere, shown_elsewhere}
+use Rattle.papaya_rows.proofs.Facts.{no_ending_of, no_making_of, no_work_at, row_rests}
+use Rattle.papaya_rows.proofs.Lists.{all_so, one_of, unseen}
+use Rattle.papaya_rows.proofs.Ran.{Led}
+use Rattle.papaya_rows.proofs.There.{on_its_slot}
 
 -- names and numbers of maps stay, whatever effects there are
 same_named : (t : Table) (f : MapThere) → named (promoted t f) ≡ named f

@@ -22,8 +22,8 @@ use Rattle.papaya_scheduler.proofs.Rights.{so_played}
 
 -- another caller's call is under way, where calls come one by one
 pub held_out : (closed one all told : Bool) → closed ≡ false → one ≡ true → told ≡ all → not told ≡ (closed || (one && not all))
-held_out closed one all told open so is =
-    ap not is ∙ sym (ap (λ (b : Bool). b || (one && not all)) open ∙ ap (λ (b : Bool). b && not all) so)
+held_out closed one all told still so is =
+    ap not is ∙ sym (ap (λ (b : Bool). b || (one && not all)) still ∙ ap (λ (b : Bool). b && not all) so)
 
 -- what is told of the making of a map
 module _ {V : Type 0} (mode : ResizeMode) (capacity : ℕ) (outcome : Outcome V) where

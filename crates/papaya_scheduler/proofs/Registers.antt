@@ -22,17 +22,17 @@ use Rattle.papaya_executor.specs.declared.row.RowTold.TheVariants as told
 use Rattle.papaya_executor.specs.declared.row.SlotCall.TheVariants as call
 use Rattle.papaya_logged.specs.declared.logged.Logged.{Logged}
 use Rattle.papaya_scheduler.specs.Played.{IsDue, Plays, StandsFor}
-use Rattle.papaya_scheduler.specs.Rows.{RowRan, TakesRetired}
-use Rattle.papaya_scheduler.specs.Taking.{SlotTaken, told_as}
+use Rattle.papaya_rows.specs.Rows.{RowRan, TakesRetired}
+use Rattle.papaya_rows.specs.Taking.{SlotTaken, told_as}
 use Rattle.papaya_scheduler.specs.declared.scheduler.Scheduler.{Scheduler}
 use Rattle.papaya_scheduler.proofs.Enters.{none_is}
 use Rattle.papaya_scheduler.proofs.Quiet.{stands_on}
 use Rattle.papaya_scheduler.proofs.RanOn.{stands_ran, there_stays}
-use Rattle.papaya_scheduler.proofs.Registered.{has_more, registers_named}
+use Rattle.papaya_rows.proofs.Registered.{has_more, registers_named}
 use Rattle.papaya_scheduler.proofs.SlotTaken.{first, gets_none, gets_slot, led_taking, over_taking, use_still, use_then}
-use Rattle.papaya_scheduler.proofs.There.{is_outside, registered_is, slot_some, used_alike}
+use Rattle.papaya_rows.proofs.There.{is_outside, registered_is, slot_some, used_alike}
 use Rattle.papaya_scheduler.proofs.Rights.{entry, in_turn, out_of_turn, plays, quiet}
-use Rattle.papaya_scheduler.proofs.Vacancies.{vacant_free}
+use Rattle.papaya_rows.proofs.InUse.{vacant_free}
 
 module _ {K V S : Type 0} (same : K → K → Bool) (hash : K → ℕ) (terms : Terms) (log : List (Entry K V)) (p : Scheduler K V S) (registration : List ℕ)
     (due : IsDue same hash terms log (Register registration) p) where

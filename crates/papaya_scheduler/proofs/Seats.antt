@@ -14,14 +14,15 @@ use Rattle.papaya_schedules.specs.InUse.{is_free_guard, is_living}
 use Rattle.papaya_schedules.specs.Moment.{Sheltered, Moment}
 use Rattle.papaya_schedules.specs.Terms.{Terms}
 use Rattle.papaya_effects.specs.Known.{known}
-use Rattle.papaya_scheduler.specs.Played.{IsDue, IsUnderWay, Plays, StandsFor, used_as}
+use Rattle.papaya_rows.specs.Rows.{used_as}
+use Rattle.papaya_scheduler.specs.Played.{IsDue, IsUnderWay, Plays, StandsFor}
 use Rattle.papaya_scheduler.specs.Seen.{Seen, free_slot, seen, seen_of}
 use Rattle.papaya_scheduler.specs.declared.scheduler.Scheduler.{Scheduler}
-use Rattle.papaya_scheduler.proofs.Elsewhere.{elsewhere, shown_elsewhere}
-use Rattle.papaya_scheduler.proofs.Lists.{all_but, any_alike}
-use Rattle.papaya_scheduler.proofs.Names.{forgets_named}
+use Rattle.papaya_rows.proofs.Elsewhere.{elsewhere, shown_elsewhere}
+use Rattle.papaya_rows.proofs.Lists.{all_but, any_alike}
+use Rattle.papaya_rows.proofs.Names.{forgets_named}
 use Rattle.papaya_scheduler.proofs.Quiet.{stands_on}
-use Rattle.papaya_scheduler.proofs.There.{forgets_used, living_is, others_found}
+use Rattle.papaya_rows.proofs.There.{forgets_used, living_is, others_found}
 use Rattle.papaya_scheduler.proofs.Rights.{in_turn, out_of_turn, plays, quiet}
 
 module _ {K V S : Type 0} (same : K → K → Bool) (hash : K → ℕ) (terms : Terms) (m : Moment K V) (p : Scheduler K V S) (stands : StandsFor same hash terms m p) where

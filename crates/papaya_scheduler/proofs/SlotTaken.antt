@@ -1,11 +1,10 @@
 -- A registering that has run has taken the least slot that is not in use, or is refused as it must be; how slots are used then.
 use Rattle.std.specs.Prelude.{◌≢◌, ◌||◌, nat_lt, slice_index_or, slice_set, None, MatchBool, if◌then◌else◌}
-use Rattle.std.proofs.Common.{◌≡◌, ℕ, ◌+◌, ◌<◌, Bool, true, false, List, [], ◌∷◌, ◌++◌, length, ◌⊎◌, inl, inr, refl, sym, ap, subst, ◌∙◌, arith}
+use Rattle.std.proofs.Common.{◌≡◌, ℕ, ◌<◌, Bool, true, false, List, [], ◌∷◌, ◌++◌, length, ◌⊎◌, inl, inr, refl, sym, ap, subst, ◌∙◌, arith}
 use Rattle.std.proofs.lemmas.Bool.{cases_eq, le-ltb, lt-ltb}
 use Rattle.std.proofs.lemmas.List.{get_or-set_other, get_or-set_same}
 use Rattle.seize_words.specs.declared.fault.Fault.{Fault}
 use Rattle.seize_words.specs.declared.fault.Fault.TheVariants.{Memory, SlotsUsedUp}
-use Rattle.seize.specs.declared.states.TheConstants.{LAST_SLOT}
 use Rattle.seize.specs.declared.rows.register.Register.{Register}
 use Rattle.seize.specs.declared.rows.register.Registering.TheVariants as at
 use Rattle.seize_sets.proofs.Slots.Registers.{NoneOnVacant, WhyRefused}
@@ -36,11 +35,11 @@ use Rattle.papaya_executor.specs.declared.row.SlotUse.TheVariants as used
 use Rattle.papaya_executor.specs.declared.worker.TheConstants.{SLOTS}
 use Rattle.papaya_logged.specs.Ended.{has_ended, uses_ended}
 use Rattle.papaya_logged.specs.declared.logged.Logged.{Logged}
-use Rattle.papaya_scheduler.specs.Played.{StandsFor, used_as}
-use Rattle.papaya_scheduler.specs.Rows.{RowRan}
+use Rattle.papaya_scheduler.specs.Played.{StandsFor}
+use Rattle.papaya_rows.specs.Rows.{RowRan, used_as}
 use Rattle.papaya_scheduler.specs.declared.scheduler.Scheduler.{Scheduler}
-use Rattle.papaya_scheduler.proofs.Ran.{Led}
-use Rattle.papaya_scheduler.proofs.Taking.{Ends, taken}
+use Rattle.papaya_rows.proofs.Ran.{Led}
+use Rattle.papaya_rows.proofs.Taking.{Ends, taken}
 use Rattle.papaya_scheduler.proofs.Vacancies.{IsFirst, first_is, none_left, none_on_vacant}
 
 -- what ends with a growth that was asked for has one
@@ -86,7 +85,7 @@ module _ {K V S : Type 0} (same : K → K → Bool) (hash : K → ℕ) (terms : 
   told_one no_slot no_fault = by all.1
     where
       by : Ended said → ⊥
-      by (inl (fault, is, why)) = no_fault fault is
+      by (inl (fault, is, why, asked)) = no_fault fault is
       by (inr (slot, is, first)) = no_slot slot is
 
   abbrev begun : Register
@@ -103,7 +102,7 @@ module _ {K V S : Type 0} (same : K → K → Bool) (hash : K → ℕ) (terms : 
     first = by all.1
       where
         by : Ended said → IsFirst same hash terms m p stands slot
-        by (inl (fault, refused, why)) = absurd (cc (is, refused))
+        by (inl (fault, refused, why, asked)) = absurd (cc (is, refused))
         by (inr (other, found, new_is)) =
             let alike : other ≡ slot = let both : ◌≡◌ {A = RowTold (Node K V)} (told.Registered other) (told.Registered slot) = sym found ∙ is in cc both in
             subst (IsFirst same hash terms m p stands) alike (first_is same hash terms m p stands other new_is)

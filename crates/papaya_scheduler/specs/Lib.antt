@@ -2,9 +2,8 @@ pub mod Seen
 pub mod Machines
 pub mod Telling
 pub mod Shapes
-pub mod Rows
 pub mod Turns
-pub mod Taking
 pub mod Handing
 pub mod Played
 pub mod KeptOut
+pub mod Mapping

@@ -1,11 +1,9 @@
 -- That a scheduler has played a log, and what is promised of an event that happens then.
-use Rattle.std.specs.Prelude.{◌≡◌, ◌≤◌, ℕ, ◌==◌, Bool, true, false, ◌&&◌, List, ◌∷◌, length, filter, map, is_some, is_none, Some, None, if◌then◌else◌}
+use Rattle.std.specs.Prelude.{◌≡◌, ◌≤◌, ℕ, ◌==◌, Bool, true, false, ◌&&◌, List, ◌∷◌, length, filter, map, is_some, is_none, Some, None}
 use Rattle.std.specs.List.{AllByRecursion, list_any}
-use Rattle.papaya_runs.specs.Present.{Present, HaveNames, guard_of, guards_on, has_registration, living_slot}
+use Rattle.papaya_runs.specs.Present.{Present, HaveNames, guard_of, living_slot}
 use Rattle.papaya_schedules.specs.declared.call.Call.{Call}
-use Rattle.papaya_schedules.specs.declared.effect.Effect.{Effect}
 use Rattle.papaya_schedules.specs.declared.event.Event.{Event}
-use Rattle.papaya_schedules.specs.declared.event.Event.TheVariants.{Register, Unregister, Enter, Own, Refresh, Flush, DropGuard, ReclaimAll, Close, MakeMap, EndMap, Begin, Step, Go, Replied, OneCall, Next, Stop}
 use Rattle.papaya_schedules.specs.After.{moment}
 use Rattle.papaya_schedules.specs.Beginning.{with_call}
 use Rattle.papaya_schedules.specs.Entry.{Entry}
@@ -16,14 +14,12 @@ use Rattle.papaya_schedules.specs.Terms.{Terms}
 use Rattle.papaya_schedules.specs.Views.{call_of, map_of, number_of}
 use Rattle.papaya_callers.specs.Together.{UnderWay}
 use Rattle.papaya_executor.specs.IsAt.{Scene, slot_of, use_at, work_of}
-use Rattle.papaya_executor.specs.declared.row.SlotUse.{SlotUse}
-use Rattle.papaya_executor.specs.declared.row.SlotUse.TheVariants as used
 use Rattle.papaya_finishes.specs.Machines.{machine_of}
 use Rattle.papaya_finishes.specs.Maps.{Standing}
 use Rattle.papaya_logged.specs.Shown.{IsShown}
 use Rattle.papaya_scheduler.specs.Handing.{HeldIsTold}
 use Rattle.papaya_scheduler.specs.Machines.{IsAsFar}
-use Rattle.papaya_scheduler.specs.Rows.{TakesRetired}
+use Rattle.papaya_rows.specs.Rows.{TakesRetired, used_as}
 use Rattle.papaya_scheduler.specs.Seen.{is_named, named, named_of, seen, seen_of}
 use Rattle.papaya_scheduler.specs.declared.caller.Caller.{Caller}
 use Rattle.papaya_scheduler.specs.declared.played.Played.{Played}
@@ -44,11 +40,6 @@ terms_given given = record {
 -- an event, with what it came to
 abbrev pub entry_of : {K V : Type 0} → Event K V → Played V → Entry K V
 entry_of event played = record { event = event; outcome = played.outcome; steps = played.steps; effects = played.effects.items }
-
--- how a slot is used by those who are there: it is entered while a guard is on it, also one that was forgotten
-abbrev pub used_as : ℕ → Present → SlotUse
-used_as slot there =
-    if guards_on slot there.guards == 0 then (if has_registration slot there.registrations then used.Outside else used.Vacant) else used.Inside
 
 module _ {K V : Type 0} (name : ℕ → List ℕ) (s : Scene K V) (there : Present) where
   -- a caller has its call under way in the scene, by its name, in the slot of its guard, which lives, and is as far
@@ -84,37 +75,6 @@ pub record StandsFor {K V S : Type 0} (same : K → K → Bool) (hash : K → �
   pub slots : (slot : ℕ) → use_at p.logged.executor slot ≡ used_as slot p.there
   pub rests : (i : ℕ) → ((map : ℕ) → scene.calls map i ≡ None) → work_of p.logged.executor i ≡ None
   pub names : HaveNames p.there
-
-module _ {K V : Type 0} where
-  -- what is asked of the effects of an event of registrations or guards, and of who is there
-  abbrev pub AsksOfRows : {S : Type 0} → Event K V → List Effect → Moment K V → Scheduler K V S → Type 0
-  AsksOfRows (Register registration) did m p = TakesRetired did m
-  AsksOfRows (Unregister registration) did m p = TakesRetired did m
-  AsksOfRows (Enter guard registration) did m p = TakesRetired did m
-  AsksOfRows (Own guard) did m p = TakesRetired did m
-  AsksOfRows (Refresh guard) did m p = TakesRetired did m
-  AsksOfRows (Flush guard) did m p = HeldIsTold m p × TakesRetired did m
-  AsksOfRows (DropGuard guard) did m p = TakesRetired did m
-  AsksOfRows _ did m p = Unit {0}
-
-  -- by it a map is made or ends, or everything is reclaimed
-  abbrev pub is_of_maps : Event K V → Bool
-  is_of_maps (MakeMap name mode capacity) = true
-  is_of_maps (EndMap name) = true
-  is_of_maps ReclaimAll = true
-  is_of_maps Close = true
-  is_of_maps _ = false
-
-  -- it is one of a call
-  abbrev pub is_of_calls : Event K V → Bool
-  is_of_calls (Begin caller guard name call) = true
-  is_of_calls (Step caller refuse) = true
-  is_of_calls (Go caller refuse) = true
-  is_of_calls (Replied caller reply) = true
-  is_of_calls (OneCall guard name call) = true
-  is_of_calls (Next caller) = true
-  is_of_calls (Stop caller) = true
-  is_of_calls _ = false
 
 module _ {K V S : Type 0} (same : K → K → Bool) (hash : K → ℕ) where
   abbrev pub IsPlayed : Terms → List (Entry K V) → Scheduler K V S → Type 0
@@ -152,18 +112,6 @@ module _ {K V S : Type 0} (same : K → K → Bool) (hash : K → ℕ) where
   abbrev pub PlaysFirst : Bool → Event K V → Played V → (old new : Scheduler K V S) → Type 0
   PlaysFirst is_first event played old new =
       (terms : Terms) (log : List (Entry K V)) → is_first ≡ ((moment log).events == 0) → IsDue terms log event old → Plays terms log (entry_of event played) new
-
-  -- so does whichever event it is that is in turn,
-  abbrev pub PlaysDue : Bool → Event K V → Played V → (old new : Scheduler K V S) → Type 0
-  PlaysDue is_first event played old new =
-      (terms : Terms) (log : List (Entry K V)) → is_first ≡ ((moment log).events == 0) → IsDue terms log event old → AsksOfRows event played.effects.items (moment log) old
-      → Plays terms log (entry_of event played) new
-
-  -- and whichever it is
-  abbrev pub PlaysAny : Bool → Event K V → Played V → (old new : Scheduler K V S) → Type 0
-  PlaysAny is_first event played old new =
-      (terms : Terms) (log : List (Entry K V)) → is_first ≡ ((moment log).events == 0) → IsPlayed terms log old → AsksOfRows event played.effects.items (moment log) old
-      → Plays terms log (entry_of event played) new
 
   -- A call begins if its name is free, its guard lives, and its map is there; then the scheduler stands for the moment at which it has begun.
   pub record BeginsSo (terms : Terms) (m : Moment K V) (own guard map : List ℕ) (call : Call K V) (begun : Bool) (old new : Scheduler K V S) : Type 0 where

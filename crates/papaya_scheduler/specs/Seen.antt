@@ -1,6 +1,6 @@
 -- What is seen of calls and maps by name, in a moment of a run and in the scheduler.
-use Rattle.std.specs.Prelude.{ℕ, Bool, true, false, not, ◌&&◌, ◌||◌, List, find, position, Option, Some, None, option_map, slice_get, slice_index_or, if◌then◌else◌}
-use Rattle.std.specs.List.{list_any, list_all}
+use Rattle.std.specs.Prelude.{ℕ, Bool, true, false, not, ◌&&◌, List, find, position, Option, Some, None, option_map, slice_get, slice_index_or, if◌then◌else◌}
+use Rattle.std.specs.List.{list_any}
 use Rattle.papaya_tables.specs.declared.setting.Setting.{Setting}
 use Rattle.papaya_runs.specs.Present.{Present, guard_of, living_slot}
 use Rattle.papaya_runs.specs.Same.{is_same}
@@ -10,8 +10,6 @@ use Rattle.papaya_schedules.specs.declared.call.OneKey.{OneKey}
 use Rattle.papaya_schedules.specs.declared.call.OneKey.TheVariants.{Get, GetKeyValue, ContainsKey, Insert, TryInsert, TryInsertWith, GetOrInsert, GetOrInsertWith, Update, UpdateOrInsert, UpdateOrInsertWith, Compute, Remove, RemoveEntry, RemoveIf}
 use Rattle.papaya_schedules.specs.declared.call.Reply.{Reply}
 use Rattle.papaya_schedules.specs.declared.call.Reply.TheVariants.{Gives, Decides}
-use Rattle.papaya_schedules.specs.declared.event.Event.{Event}
-use Rattle.papaya_schedules.specs.Entry.{speaker}
 use Rattle.papaya_schedules.specs.Moment.{Stands, Going, Asking, Told, IsReady, UnderWay, MapThere}
 use Rattle.papaya_scheduler.specs.declared.caller.Caller.{Caller}
 use Rattle.papaya_scheduler.specs.declared.caller.Stands.{Stands as HowFar}
@@ -19,7 +17,6 @@ use Rattle.papaya_scheduler.specs.declared.caller.Stands.TheVariants as far
 use Rattle.papaya_scheduler.specs.declared.kind.Kind.{Kind}
 use Rattle.papaya_scheduler.specs.declared.kind.Kind.TheVariants as kind
 use Rattle.papaya_scheduler.specs.declared.scheduler.NamedMap.{NamedMap}
-use Rattle.papaya_scheduler.specs.declared.scheduler.Scheduler.{Scheduler}
 
 -- what a call is, without its keys and values
 module _ {K V : Type 0} where
@@ -139,15 +136,3 @@ with_setting settings (Some number) = option_map (λ setting. (number, setting))
 
 abbrev pub setting_named : List ℕ → List NamedMap → List (Option Setting) → Option (ℕ × Setting)
 setting_named own maps settings = with_setting settings (number_named own maps)
-
--- of turns: whether an event speaks of the call of a caller, and whether every event of its kind is refused
-abbrev pub is_that : Option (List ℕ) → List ℕ → Bool
-is_that None own = false
-is_that (Some caller) own = is_same own caller
-
-module _ {K V : Type 0} where
-  abbrev pub is_of : Event K V → List ℕ → Bool
-  is_of event own = is_that (speaker event) own
-
-  abbrev pub keeps_out : {S : Type 0} → Event K V → Scheduler K V S → Bool
-  keeps_out event p = p.is_closed || (p.given.is_one_by_one && not (list_all (λ d. is_of event d.name) p.calls.items.items))

@@ -5,7 +5,7 @@ ghost use Rattle.seize_words.specs.Mem.{word_at};
 ghost use Rattle.seize_words.specs.declared.at.At.TheVariants.{Slot};
 ghost use Rattle.papaya_schedules.specs.declared.event.Event.TheVariants as event;
 ghost use Rattle.papaya_scheduler.specs.Played.{MayPlay, PlaysAt, PlaysFlushing, PlaysTaking};
-ghost use Rattle.papaya_scheduler.specs.Rows.{left_as};
+ghost use Rattle.papaya_rows.specs.Rows.{left_as};
 
 use crate::played::Played;
 use crate::scheduler::Scheduler;
@@ -42,29 +42,6 @@ impl<K: Drop, V: Drop, S> Scheduler<K, V, S> {
         self.there.enter(guard, slot)?;
         Ok(Played {
             outcome: Outcome::Done,
-            steps: 0,
-            effects,
-        })
-    }
-
-    /// A new guard with the least slot that is not in use.
-    pub fn own(&mut self, guard: Token) -> Result<Played<V>, AllocError>
-        requires { (same : K → K → Bool) × (hash : K → ℕ) × MayPlay same hash (event.Own guard) self.old }
-        ensures plays { IfOk result (λ played. (same : K → K → Bool) (hash : K → ℕ) → PlaysTaking same hash (event.Own guard) played self.old self.new) }
-    {
-        if self.there.has_guard(&guard) {
-            return Ok(self.busy());
-        }
-        let mut effects = self.no_effects();
-        let outcome = match self.take_slot(true, &mut effects)? {
-            Err(fault) => Outcome::Refused(fault),
-            Ok(slot) => {
-                self.there.enter(guard, slot)?;
-                Outcome::Slot(slot)
-            }
-        };
-        Ok(Played {
-            outcome,
             steps: 0,
             effects,
         })

@@ -3,14 +3,15 @@
 
 pub mod caller;
 pub mod calls;
+pub mod endings;
 pub mod guards;
-pub mod happening;
 pub mod kind;
 pub mod machines;
+pub mod makings;
 pub mod played;
 pub mod registrations;
 pub mod scheduler;
+pub mod setups;
 pub mod shapes;
-pub mod stepping;
 pub mod telling;
 pub mod turns;

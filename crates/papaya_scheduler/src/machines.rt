@@ -31,11 +31,7 @@ fn key_of<K, V>(one: &OneKey<K, V>) -> &K
 }
 
 /// The machine of a call on one key.
-fn machine_on<K, V, S: Hashes<K>>(
-    setting: Setting,
-    hasher: &S,
-    one: OneKey<K, V>,
-) -> KeyCall<K, V>
+fn machine_on<K, V, S: Hashes<K>>(setting: Setting, hasher: &S, one: OneKey<K, V>) -> KeyCall<K, V>
     ensures { result ≡ machine_on setting (S.hash hasher.now) one }
 {
     let hash = hasher.hash_of(key_of(&one));

@@ -4,7 +4,7 @@ ghost use Rattle.papaya_schedules.specs.Moment.{Moment};
 ghost use Rattle.papaya_schedules.specs.Terms.{Terms};
 ghost use Rattle.papaya_schedules.specs.declared.event.Event.TheVariants as event;
 ghost use Rattle.papaya_scheduler.specs.Played.{MayPlay, PlaysTaking, StandsFor};
-ghost use Rattle.papaya_scheduler.specs.Taking.{SlotTaken};
+ghost use Rattle.papaya_rows.specs.Taking.{SlotTaken};
 
 use crate::played::Played;
 use crate::scheduler::Scheduler;

@@ -7,7 +7,7 @@ ghost use Rattle.papaya_executor.specs.OnSlots.{MayBegin};
 ghost use Rattle.papaya_executor.specs.declared.worker.TheConstants.{SLOTS};
 ghost use Rattle.papaya_scheduler.specs.Seen.{free_slot, number_named, setting_named};
 ghost use Rattle.papaya_scheduler.specs.Played.{IsPlayed, terms_given};
-ghost use Rattle.papaya_scheduler.specs.Rows.{RowRan, RowRanOn};
+ghost use Rattle.papaya_rows.specs.Rows.{RowRan, RowRanOn};
 ghost use Rattle.seize_words.specs.declared.fault.Fault.TheVariants.{Busy};
 
 use crate::caller::Callers;

@@ -42,12 +42,7 @@ fn aborted_with<V>(value: Option<V>) -> Answer<V>
 }
 
 /// What a call on one key answers.
-fn answer_on<V: Drop>(
-    notes: &Notes,
-    kind: Kind,
-    value: Option<V>,
-    said: KeyAnswer,
-) -> Answer<V>
+fn answer_on<V: Drop>(notes: &Notes, kind: Kind, value: Option<V>, said: KeyAnswer) -> Answer<V>
     ensures { result ≡ answer_on (known notes.now) kind value said }
 {
     match said {

@@ -187,26 +187,26 @@ module _ {K V : Type 0} (same : K → K → Bool) (hash : K → ℕ) (w : World 
     | inr late ↦ late_new began x late.1 row
   ]
 
-  reserving_new : (p : Reserving) → ReservingFacts same hash w i setting c blocks p → IsRowOfReserve p → ReservingIs w i p
+  pub reserving_new : (p : Reserving) → ReservingFacts same hash w i setting c blocks p → IsRowOfReserve p → ReservingIs w i p
   reserving_new (reserving.Copies copier) facts row = whole_new copier facts row
   reserving_new _ facts row = absurd row
 
-  late_reserving_new : (began : ℕ) (p : Reserving) → LateReserving same hash w i setting c blocks began p → IsRowOfReserve p → ReservingIs w i p
+  pub late_reserving_new : (began : ℕ) (p : Reserving) → LateReserving same hash w i setting c blocks began p → IsRowOfReserve p → ReservingIs w i p
   late_reserving_new began (reserving.Copies copier) facts row = late_new began copier facts row
   late_reserving_new began _ facts row = absurd row
 
-  sweeping_new : (began : ℕ) (x : Sweep) (p : Sweeping) → SweepingFacts same hash w i setting c blocks began x p → IsRowOfSweep p → SweepingIs w i p
+  pub sweeping_new : (began : ℕ) (x : Sweep) (p : Sweeping) → SweepingFacts same hash w i setting c blocks began x p → IsRowOfSweep p → SweepingIs w i p
   sweeping_new began x (sweeping.Copies copier) facts row = any_new began copier facts row
   sweeping_new began x (sweeping.Disposes dispose) facts row = disposing_new dispose facts.3 row
   sweeping_new began x _ facts row = absurd row
 
-  calling_new : (keys : K → Bool) (change : Change) (x : KeyCall K V K) (p : Calling) → CallingFacts same hash same w i setting c blocks keys change x p → IsRowOfCall p → CallingIs w i p
+  pub calling_new : (keys : K → Bool) (change : Change) (x : KeyCall K V K) (p : Calling) → CallingFacts same hash same w i setting c blocks keys change x p → IsRowOfCall p → CallingIs w i p
   calling_new keys change x (calling.Disposes dispose answer) facts row = disposing_new dispose facts.0 row
   calling_new keys change x (calling.Helps copier goal) facts row = copying_new copier facts.6 row
   calling_new keys change x (calling.Copies copier) facts row = blocking_new copier facts.2 row
   calling_new keys change x _ facts row = absurd row
 
-  late_calling_new : (keys : K → Bool) (began : ℕ) (x : KeyCall K V K) (p : Calling) → LateCalling same hash same w i setting c blocks keys began x p → IsRowOfCall p → CallingIs w i p
+  pub late_calling_new : (keys : K → Bool) (began : ℕ) (x : KeyCall K V K) (p : Calling) → LateCalling same hash same w i setting c blocks keys began x p → IsRowOfCall p → CallingIs w i p
   late_calling_new keys began x (calling.Disposes dispose answer) facts row = absurd facts
   late_calling_new keys began x (calling.Helps copier goal) facts row = absurd facts
   late_calling_new keys began x (calling.Copies copier) facts row = late_new began copier facts.1 row

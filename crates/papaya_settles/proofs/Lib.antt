@@ -38,6 +38,8 @@ pub mod Nothing
 pub mod Unpromoted
 pub mod EndsOver
 pub mod HandKeys
+pub mod HandingRows
+pub mod Handing
 pub mod Leaving
 pub mod Spares
 pub mod CopierTables
@@ -47,8 +49,6 @@ pub mod HandKeyCopies
 pub mod HandRooms
 pub mod HandSweeps
 pub mod HandAll
-pub mod HandsFresh
-pub mod HandsOn
 pub mod HandLives
 pub mod HandThere
 pub mod HandOthers

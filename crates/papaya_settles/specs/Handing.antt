@@ -1,48 +1,86 @@
--- Which calls hand something over: each that stands at a row of the collector, which retires something for it, or puts it behind a table.
-use Rattle.std.specs.Prelude.{◌≡◌, ℕ, Bool, true, List, Option, Some}
+-- Calls whose rows are under way: the moment says of each that it hands something over.
+use Rattle.std.specs.Prelude.{◌≡◌, ℕ, Bool, true, List, Some}
+use Rattle.seize.specs.World.{Rests}
 use Rattle.papaya_tables.specs.declared.node.Node.{Node}
 use Rattle.papaya_raw.specs.declared.machines.progress.Progress.{Progress}
+use Rattle.papaya_schedules.specs.declared.call.Call.{Call}
+use Rattle.papaya_schedules.specs.declared.call.Reply.{Reply}
+use Rattle.papaya_schedules.specs.declared.outcome.Outcome.{Outcome}
+use Rattle.papaya_schedules.specs.Beginning.{with_call}
 use Rattle.papaya_schedules.specs.Effects.{with_effects}
+use Rattle.papaya_schedules.specs.Entry.{ends_call}
 use Rattle.papaya_schedules.specs.InUse.{is_handing}
-use Rattle.papaya_schedules.specs.Moment.{UnderWay as CallThere, Moment}
+use Rattle.papaya_schedules.specs.Moment.{UnderWay as CallThere, Moment, start}
 use Rattle.papaya_schedules.specs.Views.{call_of}
-use Rattle.papaya_points.specs.Told.{IsRowOfCall}
-use Rattle.papaya_late.specs.ToldReserves.{IsRowOfReserve}
-use Rattle.papaya_late.specs.ToldSweeps.{IsRowOfSweep}
-use Rattle.papaya_callers.specs.Together.{UnderWay, OnKey, ForRoom, Counting, OverAll}
+use Rattle.papaya_callers.specs.Together.{UnderWay}
 use Rattle.papaya_effects.specs.Effects.{effects_of}
 use Rattle.papaya_effects.specs.Known.{Known}
 use Rattle.papaya_effects.specs.declared.acting.Acting.TheVariants.{Call as OfCall}
-use Rattle.papaya_executor.specs.IsAt.{Scene, IsAt}
+use Rattle.papaya_executor.specs.IsAt.{Scene, IsAt, at_first}
+use Rattle.papaya_executor.specs.Replying.{AskLeads, StopLeads, scene_with, unless_stopped}
 use Rattle.papaya_executor.specs.Stepping.{StepLeads, scene_after}
 use Rattle.papaya_executor.specs.declared.executor.Executor.{Executor}
+use Rattle.papaya_finishes.specs.Maps.{with_call as with_in}
+use Rattle.papaya_follows.specs.Calling.{NoneNamed, told, come_to}
+use Rattle.papaya_follows.specs.Calls.{ShowsCalls}
 use Rattle.papaya_moments.specs.Whole.{ShowsWhole}
-use Rattle.papaya_settles.specs.Due.{OwnAreMade}
-use Rattle.papaya_settles.specs.Entries.{ShowsEntries}
+use Rattle.papaya_others.specs.Walks.{given_up}
 use Rattle.papaya_settles.specs.Hand.{ShowsOwed}
 
--- it stands at a row of the collector, under way or to begin
-abbrev pub StandsAtRow : {K V : Type 0} → UnderWay K V K → Type 0
-StandsAtRow (OnKey x) = IsRowOfCall x.call.stands
-StandsAtRow (ForRoom x) = IsRowOfReserve x.reserve.stands
-StandsAtRow (Counting sum) = ⊥
-StandsAtRow (OverAll x) = IsRowOfSweep x.sweep.stands
+-- each call whose row is under way hands something over
+abbrev pub HandsTold : {K V : Type 0} → (ℕ → List ℕ) → Moment K V → Scene K V → Type 0
+HandsTold {K} {V} name m s =
+    (map i : ℕ) (u : UnderWay K V K) → s.calls map i ≡ Some u → (s.world.row i ≡ Rests → ⊥) → (c : CallThere K V) → call_of (name i) m ≡ Some c → is_handing c ≡ true
 
--- each call that does hands something over, by the moment: it owes something, or has handed something over
-abbrev pub ShowsHanding : {K V : Type 0} → (ℕ → List ℕ) → Moment K V → (ℕ → ℕ → Option (UnderWay K V K)) → Type 0
-ShowsHanding {K} {V} name m calls =
-    (map i : ℕ) (u : UnderWay K V K) → calls map i ≡ Some u → StandsAtRow u → (c : CallThere K V) → call_of (name i) m ≡ Some c → is_handing c ≡ true
+module _ (K V S : Type 0) (same : K → K → Bool) (hash : K → ℕ) where
+  -- The promise: so it is after each step of a call, whoever's, where calls owed what they had in hand.
+  abbrev pub CallsKeepHanding : Type 0
+  CallsKeepHanding =
+      (name : ℕ → List ℕ) (m : Moment K V) (known : Known) (s : Scene K V) (old new : Executor K V S) → IsAt same hash old s → ShowsWhole same name m known s → ShowsOwed name m known s → HandsTold name m s
+      → (map i : ℕ) (u : UnderWay K V K) (here : s.calls map i ≡ Some u) (said : Progress (Node K V)) (leads : StepLeads same hash i said s old new)
+      → (let to = leads map u here in
+      HandsTold name (with_effects (Some (name i)) (Some map) (effects_of (OfCall i map) known new.memory.changed) m) (scene_after same hash s old new map i to.0 u to.1 said to.4))
 
--- The promises: so it is as long as calls are as they were,
-abbrev pub StaysHanding : Type 0 → Type 0 → Type 0
-StaysHanding K V =
-    (name : ℕ → List ℕ) (m v : Moment K V) (calls calls2 : ℕ → ℕ → Option (UnderWay K V K)) → ShowsHanding name m calls → v.calls ≡ m.calls → calls2 ≡ calls → ShowsHanding name v calls2
+  -- What is no call leaves it as it was, where calls owe what they have in hand: a row on a slot, the making of a map, and the end of one.
+  abbrev pub OthersLeaveHanding : Type 0
+  OthersLeaveHanding =
+      (name : ℕ → List ℕ) (m v : Moment K V) (known : Known) (s t : Scene K V) (old new : Executor K V S) → IsAt same hash old s → IsAt same hash new t → ShowsOwed name m known s → HandsTold name m s
+      → v.calls ≡ m.calls → t.calls ≡ s.calls → HandsTold name v t
 
--- and after each step of a call, whoever's.
-abbrev pub CallsKeepHanding : (K V S : Type 0) (same : K → K → Bool) (hash : K → ℕ) → Type 0
-CallsKeepHanding K V S same hash =
-    (name : ℕ → List ℕ) (m : Moment K V) (known : Known) (s : Scene K V) (old new : Executor K V S)
-    → IsAt same hash old s → ShowsWhole same name m known s → ShowsEntries s → OwnAreMade known s.world → ShowsOwed name m known s → ShowsHanding name m s.calls
-    → (map i : ℕ) (u : UnderWay K V K) (here : s.calls map i ≡ Some u) (said : Progress (Node K V)) (leads : StepLeads same hash i said s old new)
-    → (let to = leads map u here in
-    ShowsHanding name (with_effects (Some (name i)) (Some map) (effects_of (OfCall i map) known new.memory.changed) m) (scene_after same hash s old new map i to.0 u to.1 said to.4).calls)
+  -- So does a walk that goes on to its next pair,
+  abbrev pub WalksGoOnHanding : Type 0
+  WalksGoOnHanding =
+      (name : ℕ → List ℕ) (m : Moment K V) (s : Scene K V) (old new : Executor K V S) → HandsTold name m s
+      → (i : ℕ) (leads : AskLeads same hash i true s old new) (map : ℕ) (u : UnderWay K V K) (here : s.calls map i ≡ Some u) → HandsTold name m (scene_with map i (leads map u here).0 s)
+
+  -- or is given up: no call that is under way then has its name.
+  abbrev pub WalksStopHanding : Type 0
+  WalksStopHanding =
+      (name : ℕ → List ℕ) (m : Moment K V) (s : Scene K V) (old new : Executor K V S) → ShowsCalls same name m s.calls → HandsTold name m s
+      → (i : ℕ) (stopped : Bool) → StopLeads same hash i stopped s old new → (map : ℕ) (u : UnderWay K V K) → s.calls map i ≡ Some u
+      → (let after = record s { calls = with_in s.calls map i (unless_stopped stopped u) } in
+      (stopped ≡ true → NoneNamed name (name i) after) → HandsTold name (given_up (name i) stopped m) after)
+
+module _ (K V : Type 0) where
+  -- The promises: so it is before all events,
+  abbrev pub HandingBegins : Type 0
+  HandingBegins = (roots : ℕ) (name : ℕ → List ℕ) → HandsTold {K = K} {V = V} name start (at_first roots)
+
+  -- where a call begins by a name that no call under way has, and its row rests,
+  abbrev pub CallsBeginHanding : Type 0
+  CallsBeginHanding =
+      (name : ℕ → List ℕ) (m : Moment K V) (s : Scene K V) → HandsTold name m s
+      → (map i : ℕ) (u : UnderWay K V K) (call : Call K V) (guard : List ℕ) → NoneNamed name (name i) s → s.world.row i ≡ Rests
+      → HandsTold name (with_call (name i) guard call (Some map) m) (scene_with map i u s)
+
+  -- where one that asks goes on by what it is told,
+  abbrev pub CallsTakeHanding : Type 0
+  CallsTakeHanding =
+      (same : K → K → Bool) (name : ℕ → List ℕ) (m : Moment K V) (s : Scene K V) → ShowsCalls same name m s.calls → HandsTold name m s
+      → (map i : ℕ) (u : UnderWay K V K) → s.calls map i ≡ Some u → (next : UnderWay K V K) (is_told : Reply V) → HandsTold name (told (name i) is_told m) (scene_with map i next s)
+
+  -- and where one comes to an outcome: where that is its end, no call under way has its name any more.
+  abbrev pub CallsComeToHanding : Type 0
+  CallsComeToHanding =
+      (same : K → K → Bool) (name : ℕ → List ℕ) (m : Moment K V) (s : Scene K V) → ShowsCalls same name m s.calls → HandsTold name m s
+      → (own : List ℕ) (outcome : Outcome V) (steps : ℕ) → (ends_call outcome ≡ true → NoneNamed name own s) → HandsTold name (come_to own outcome steps m) s

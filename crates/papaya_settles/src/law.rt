@@ -3,7 +3,7 @@ ghost use Rattle.std.specs.Prelude.{ℕ, Bool};
 ghost use Rattle.papaya_settles.specs.Beside.{StaysCounts, EffectsLeaveCounts, WalksGoOnCounts, WalksStopCounts};
 ghost use Rattle.papaya_settles.specs.Due.{RowsTellDue};
 ghost use Rattle.papaya_settles.specs.Entries.{EntriesBegin, CallsGoOnEntries, EndingsBeginEntries, CallsKeepEntries, RowsBeginEntries, RowsKeepEntries, MakingsKeepEntries, EndingsKeepEntries};
-ghost use Rattle.papaya_settles.specs.Handing.{StaysHanding, CallsKeepHanding};
+ghost use Rattle.papaya_settles.specs.Handing.{CallsBeginHanding, CallsComeToHanding, CallsKeepHanding, CallsTakeHanding, HandingBegins, OthersLeaveHanding, WalksGoOnHanding, WalksStopHanding};
 ghost use Rattle.papaya_settles.specs.InHand.{CallsTakeInHand, CallsHoldTheirs, SweepsTakeInHand, SweepsHoldTheirs};
 ghost use Rattle.papaya_settles.specs.Owed.{OwedBegins, StaysOwed, EffectsLeaveOwed, CallsBeginOwed, CallsTakeOwed, CallsComeToOwed, WalksHaveNothing, RowsHandOver, CallsGoInHand, CallsKeepOwed, WalksGoOnOwed, WalksStopOwed};
 ghost use Rattle.papaya_settles.specs.OwedBeside.{RowsLeaveOwed, MakingsLeaveOwed};
@@ -95,13 +95,6 @@ pub fn calls_owe_what_they_have<K, V, S>()
     ensures ready { WalksHaveNothing K V }
 {}
 
-/// A call that stands at a row of the collector hands something over, by the moment: it owes something, or has handed something over. So it is after each step of a call,
-/// whoever's, where each owes just what it has in hand, and as long as calls are as they were.
-pub fn calls_at_rows_hand_over<K, V, S>()
-    ensures stays { StaysHanding K V }
-    ensures calls { (same : K → K → Bool) (hash : K → ℕ) → CallsKeepHanding K V S same hash }
-{}
-
 /// What is no call leaves that as it was: each step of a row on a slot, and of the making of a map, which take nothing away that a call has in hand; the effects of the end
 /// of a map, where the blocks that calls have in hand are what they were; and a walk that goes on to its next pair, or is given up.
 pub fn others_leave_owed<K, V, S>()
@@ -111,6 +104,20 @@ pub fn others_leave_owed<K, V, S>()
     ensures makings { (same : K → K → Bool) (hash : K → ℕ) → MakingsLeaveOwed K V S same hash }
     ensures goes_on { (same : K → K → Bool) (hash : K → ℕ) → WalksGoOnOwed K V S same hash }
     ensures stops { (same : K → K → Bool) (hash : K → ℕ) → WalksStopOwed K V S same hash }
+{}
+
+/// At each moment of a run that shows the executor, each call whose row is under way hands something over: it owes something, or has handed something over. So who has
+/// the batch of a slot in hand is told to, and others may wait for it. So it is before all events; after each step of a call, whoever's, where calls owed what they had in
+/// hand, and after what is no call; where a walk goes on, or is given up, and where a call begins, takes a reply, and comes to an outcome.
+pub fn rows_under_way_hand_over<K, V, S>()
+    ensures begins { HandingBegins K V }
+    ensures calls { (same : K → K → Bool) (hash : K → ℕ) → CallsKeepHanding K V S same hash }
+    ensures others { (same : K → K → Bool) (hash : K → ℕ) → OthersLeaveHanding K V S same hash }
+    ensures goes_on { (same : K → K → Bool) (hash : K → ℕ) → WalksGoOnHanding K V S same hash }
+    ensures stops { (same : K → K → Bool) (hash : K → ℕ) → WalksStopHanding K V S same hash }
+    ensures begun { CallsBeginHanding K V }
+    ensures told { CallsTakeHanding K V }
+    ensures come_to { CallsComeToHanding K V }
 {}
 
 /// At each moment of a run that shows the executor, each shard of a map that stands has the word in the memory that the moment says; and a call that is about to count

@@ -1,4 +1,4 @@
--- What hands nothing over: a step of a call that is none of a row.
+-- What hands nothing over, and reclaims nothing: a step of a call that is none of a row.
 use Rattle.std.specs.Prelude.{◌≡◌, ℕ, Bool, true, List, [], ◌∷◌, Option}
 use Rattle.std.proofs.Common.{sym, subst, inl, inr}
 use Rattle.seize_words.specs.Mem.{Mem}
@@ -6,7 +6,7 @@ use Rattle.seize.specs.World.{World}
 use Rattle.papaya_tables.specs.declared.node.Node.{Node}
 use Rattle.papaya_schedules.specs.Moment.{Moment}
 use Rattle.papaya_schedules.specs.declared.effect.Effect.{Effect}
-use Rattle.papaya_schedules.specs.declared.effect.Effect.TheVariants.{Retired, Deferred, Taken}
+use Rattle.papaya_schedules.specs.declared.effect.Effect.TheVariants.{Retired, Deferred, Reclaimed, Ended, Taken}
 use Rattle.papaya_teller.specs.declared.changed.Changed.{Changed}
 use Rattle.papaya_rule.specs.Chart.{Chart}
 use Rattle.papaya_rule.specs.InWorld.{IsMapIn, Moved, Went}
@@ -37,15 +37,42 @@ abbrev pub AllKeep : List Effect → Type 0
 AllKeep [] = Unit {0}
 AllKeep (e ∷ effects) = KeepsAll e × AllKeep effects
 
-calm_keeps : (e : Effect) → is_calm e ≡ true → KeepsAll e
-calm_keeps (Retired x) is = absurd (cc is)
-calm_keeps (Deferred n t) is = absurd (cc is)
-calm_keeps (Taken t) is = absurd (cc is)
-calm_keeps _ is = tt
+-- nor does it reclaim or end anything
+abbrev pub HandsNothing : Effect → Type 0
+HandsNothing (Reclaimed x) = ⊥
+HandsNothing (Ended n) = ⊥
+HandsNothing e = KeepsAll e
+
+abbrev pub AllHandNothing : List Effect → Type 0
+AllHandNothing [] = Unit {0}
+AllHandNothing (e ∷ effects) = HandsNothing e × AllHandNothing effects
+
+nothing_keeps : (e : Effect) → HandsNothing e → KeepsAll e
+nothing_keeps (Reclaimed x) hands = tt
+nothing_keeps (Ended n) hands = tt
+nothing_keeps (Retired x) hands = hands
+nothing_keeps (Deferred n t) hands = hands
+nothing_keeps (Taken t) hands = hands
+nothing_keeps _ hands = tt
+
+pub nothing_keep : (effects : List Effect) → AllHandNothing effects → AllKeep effects
+nothing_keep [] all = tt
+nothing_keep (e ∷ effects) all = (nothing_keeps e all.0, nothing_keep effects all.1)
+
+calm_hands_nothing : (e : Effect) → is_calm e ≡ true → HandsNothing e
+calm_hands_nothing (Retired x) is = absurd (cc is)
+calm_hands_nothing (Deferred n t) is = absurd (cc is)
+calm_hands_nothing (Taken t) is = absurd (cc is)
+calm_hands_nothing (Reclaimed x) is = absurd (cc is)
+calm_hands_nothing (Ended n) is = absurd (cc is)
+calm_hands_nothing _ is = tt
+
+pub calm_hand : (effects : List Effect) → AllCalm effects → AllHandNothing effects
+calm_hand [] all = tt
+calm_hand (e ∷ effects) all = (calm_hands_nothing e all.0, calm_hand effects all.1)
 
 pub calm_keep : (effects : List Effect) → AllCalm effects → AllKeep effects
-calm_keep [] all = tt
-calm_keep (e ∷ effects) all = (calm_keeps e all.0, calm_keep effects all.1)
+calm_keep effects all = nothing_keep effects (calm_hand effects all)
 
 module _ {K V : Type 0} (same : K → K → Bool) (slot caller map : ℕ) (name : Option (List ℕ)) (number : ℕ → ℕ) (s : Standing K) (lawful : AreLawful same s.hash)
     (w : World (Node K V)) (sight : Sight) (is_sight : IsSight s.chart s.blocks sight) (is_map : IsMapIn same s.hash (in_slot s.setting slot) w s.chart (seen_by s.blocks sight))
@@ -58,13 +85,13 @@ module _ {K V : Type 0} (same : K → K → Bool) (slot caller map : ℕ) (name 
   abbrev By : Move K → Type 0
   By = DidBy same slot caller map name number s lawful w sight is_sight is_map m2 Told went blocks2 grown sights2 m known shown shown_blocks told left
 
-  as_these : (these : List Effect) → effects ≡ these → AllKeep these → AllKeep effects
-  as_these these is all = subst AllKeep (sym is) all
+  as_these : (these : List Effect) → effects ≡ these → AllHandNothing these → AllHandNothing effects
+  as_these these is all = subst AllHandNothing (sym is) all
 
-  calm : IsCalm known effects (known_after (Call caller map) told known) → AllKeep effects
-  calm is = calm_keep effects is.calm
+  calm : IsCalm known effects (known_after (Call caller map) told known) → AllHandNothing effects
+  calm is = calm_hand effects is.calm
 
-  by_move : (move : Move K) → By move → AllKeep effects
+  by_move : (move : Move K) → By move → AllHandNothing effects
   by_move (Links len limit) (b, own, did) = as_these _ did.0 (tt, tt)
   by_move (Stores t k j) (j2, b, own, b_is, did) = as_these _ did.0 (tt, tt)
   by_move (Replaces t i k) (n, borrowed, held, (j, b, own, b_is, did)) = as_these _ did.0 (tt, (tt, tt))
@@ -84,10 +111,10 @@ module _ {K V : Type 0} (same : K → K → Bool) (slot caller map : ℕ) (name 
   by_move (Aborts t) did = calm did
   by_move (Announces t) did = calm did
 
-  pub moved_keeps : DidMoved same slot caller map name number s lawful w sight is_sight is_map m2 Told went blocks2 grown sights2 m known shown shown_blocks told left went.moved → AllKeep effects
-  moved_keeps did = by went.moved did
+  pub moved_hand : DidMoved same slot caller map name number s lawful w sight is_sight is_map m2 Told went blocks2 grown sights2 m known shown shown_blocks told left went.moved → AllHandNothing effects
+  moved_hand did = by went.moved did
     where
       by : (moved : Moved same s.hash s.setting.mode caller s.chart went.c2)
-          → DidMoved same slot caller map name number s lawful w sight is_sight is_map m2 Told went blocks2 grown sights2 m known shown shown_blocks told left moved → AllKeep effects
+          → DidMoved same slot caller map name number s lawful w sight is_sight is_map m2 Told went blocks2 grown sights2 m known shown shown_blocks told left moved → AllHandNothing effects
       by (inl still) is_calm = calm is_calm
       by (inr made) did = by_move made.0 did

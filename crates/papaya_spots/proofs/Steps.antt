@@ -61,7 +61,7 @@ use Rattle.papaya_spots.proofs.Done.{DidMoved, did_moved}
 use Rattle.papaya_spots.proofs.Effects.{calm_aside}
 use Rattle.papaya_spots.proofs.Elsewhere.{Leaves, moved_leaves, other_lies, stored_grows}
 use Rattle.papaya_spots.proofs.Finding.{calm_finds, moved_finds, row_finds}
-use Rattle.papaya_spots.proofs.Handing.{AllKeep, moved_keeps}
+use Rattle.papaya_spots.proofs.Handing.{AllHandNothing, calm_hand, moved_hand}
 use Rattle.papaya_spots.proofs.Holding.{moved_holds, calm_holds, row_holds}
 use Rattle.papaya_spots.proofs.Numbers.{calm_numbers, moved_numbers, row_numbers}
 use Rattle.papaya_spots.proofs.Own.{own_lies}
@@ -181,8 +181,8 @@ module _ {K V S : Type 0} (same : K → K → Bool) (hash : K → ℕ) (m : Mome
       moved_shifts = shifted same (slot_of i) i map (Some caller) (shown.number map) standing lawful w sight is_sight is_map m2 (λ w2 c2 blocks2. Unit {0}) went blocks2 grown sights2 m known is_shown shown.blocks told left did
 
       -- it hands nothing over
-      pub moved_keep : AllKeep effects
-      moved_keep = moved_keeps same (slot_of i) i map (Some caller) (shown.number map) standing lawful w sight is_sight is_map m2 (λ w2 c2 blocks2. Unit {0}) went blocks2 grown sights2 m known is_shown shown.blocks told left did
+      moved_hands : AllHandNothing effects
+      moved_hands = moved_hand same (slot_of i) i map (Some caller) (shown.number map) standing lawful w sight is_sight is_map m2 (λ w2 c2 blocks2. Unit {0}) went blocks2 grown sights2 m known is_shown shown.blocks told left did
 
       -- where pairs lie
       module _ (lying : ShowsPlaces m known s.maps) where
@@ -303,6 +303,13 @@ module _ {K V S : Type 0} (same : K → K → Bool) (hash : K → ℕ) (name : �
         by (Counting x) (p2, end, machine_is, told_is, same_memory, has) row = still same_memory has.1
         by (OverAll x) (p2, end, machine_is, told_is, inl (step, has)) row = moved _ step.step.went step.step.blocks2 step.step.grown step.step.sights2 has.1
         by (OverAll x) (p2, end, machine_is, told_is, inr (step, has)) row = row step.step.w2 step.step.memory step.step.happened has.1 (λ no. no)
+
+  -- what is none of a row hands nothing over
+  pub hands_nothing : NoRow u to.4.did → AllHandNothing (effects_of (Call i map) known new.memory.changed)
+  hands_nothing own = by_kind _
+      (λ Told had blocks2 grown sights2 are. moved_hands same hash m known s old new at name shown map i to.0 to.2 (name i) made inside Told had blocks2 grown sights2)
+      (λ w2 memory happened stayed no. absurd (no own))
+      (λ same_memory stayed. calm_hand (effects_of (Call i map) known new.memory.changed) (stayed_calm same hash m known s old new at name shown map i to.0 to.2 (name i) made inside same_memory).calm)
 
   -- where pairs lie then
   keeps_places : ShowsPlaces m known s.maps → ShowsPlaces (with_effects (Some (name i)) (Some map) (effects_of (Call i map) known new.memory.changed) m) (known_after (Call i map) new.memory.changed known) to.4.maps2

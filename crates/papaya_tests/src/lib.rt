@@ -16,8 +16,6 @@ mod left_over;
 #[cfg(test)]
 mod machines;
 #[cfg(test)]
-mod places;
-#[cfg(test)]
 mod resizes;
 #[cfg(test)]
 mod sweeps;

@@ -8,7 +8,7 @@ use Rattle.papaya_lives.proofs.law.pairs_wait_behind_tables.Goals as goal
 
 pub returns : goal.returns
 returns c d = record {
-  begins = waiting_begins _ _;
+  begins = waiting_begins c.row.K.Denot c.row.V.Denot;
   there = waiting_is_there _ _;
   others = others_leave_waiting _ _;
   endings_begin = endings_begin_waiting _ _;

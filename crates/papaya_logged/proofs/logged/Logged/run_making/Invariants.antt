@@ -4,12 +4,14 @@ use Rattle.seize.specs.declared.progress.Progress.TheVariants as progress
 use Rattle.papaya_executor.specs.IsAt.{work_of}
 use Rattle.papaya_logged.specs.Makings.{MakingRan}
 use Rattle.papaya_logged.proofs.MakingsRun.{making_left_of}
+use Rattle.papaya_logged.proofs.RootsFound.{MakingFindsSoFar}
 use Rattle.papaya_logged.proofs.logged.Logged.run_making.Given as goal
 
 -- the making goes on, what it did stands in the list, and there are as many numbers
 abbrev pub invariant-loop-told : goal.invariant-loop-told
 invariant-loop-told g l = record {
   ran : MakingRan l.fn.caller l.fn.map progress.Goes l.fn.effects.items l.effects.items l.fn.self l.self;
+  finds : MakingFindsSoFar l.fn.caller l.fn.map l.fn.effects.items l.effects.items l.fn.self l.self;
   numbers : length l.self.executor.maps.items ≡ length l.fn.self.executor.maps.items;
 }
 

@@ -1,5 +1,8 @@
 -- A step of the making of a map.
-use Rattle.std.proofs.Common.{length, ap, sym, subst, ◌∙◌}
+use Rattle.std.proofs.Common.{◌++◌, length, ap, sym, subst, ◌∙◌}
+use Rattle.papaya_effects.specs.Effects.{effects_of}
+use Rattle.papaya_effects.specs.Known.{known}
+use Rattle.papaya_effects.specs.declared.acting.Acting.TheVariants.{Making}
 use Rattle.papaya_executor.specs.Making.{MakingLeads}
 use Rattle.papaya_executor.specs.declared.executor.Executor.{Executor}
 use Rattle.papaya_logged.proofs.MakingSteps.{making_steps}
@@ -17,3 +20,8 @@ returns-clause-steps g c = λ same hash s at.
 
 pub returns-clause-numbers : goal.returns-clause-numbers
 returns-clause-numbers g c = ap (λ (e : Executor _ _ _). length e.maps.items) c.note.ensures.executor ∙ c.step_making-told.ensures.numbers
+
+pub returns-clause-did : goal.returns-clause-did
+returns-clause-did g c =
+    c.in_ok-note.ensures.did
+    ∙ ap (λ (e : Executor _ _ _). c.args.effects.now.items ++ effects_of (Making c.args.map) (known c.args.self.now.notes) e.memory.changed) (sym c.note.ensures.executor)

@@ -1,0 +1,78 @@
+-- Who has the batch of a slot in hand, wherever the executor is: its row works on that slot, and the slot's word says that the batch is held.
+use Rattle.std.specs.Prelude.{◌≡◌, ◌<◌, ◌+◌, ◌⊎◌, ℕ, Bool, true, IsSome}
+use Rattle.std.proofs.Common.{refl, sym, ap, subst, ◌∙◌, arith}
+use Rattle.seize.specs.Settle.{flushing}
+use Rattle.seize.specs.World.{World, Row, Rests, Registers, Enters, Settles, Leaves, Defers, Frees, Begin, Flush, at_start, one_more, with_row, with_use}
+use Rattle.seize.specs.declared.states.TheConstants.{BATCH, HELD, LAST_SLOT}
+use Rattle.seize_words.specs.Mem.{Mem, word_at}
+use Rattle.seize_words.specs.declared.at.At.TheVariants.{Slot}
+use Rattle.seize_rule.proofs.Rows.Others.{with_here}
+use Rattle.seize_rule.proofs.Words.Named.{words_of}
+use Rattle.seize_rule.proofs.World.Good.{Good}
+use Rattle.seize_rule.proofs.World.Kept.{happens_good, row_may}
+use Rattle.seize_rule.proofs.World.Start.{start_good}
+use Rattle.seize_ends.specs.Holders.{has_batch}
+use Rattle.seize_ends.proofs.Batches.Rows.{HeldByRows, runs_held, start_held}
+use Rattle.seize_acts.specs.Waits.{SettlesOn}
+use Rattle.seize_acts.proofs.Waits.{has_its, held_while}
+use Rattle.papaya_tables.specs.Nodes.{deferred_word}
+use Rattle.papaya_tables.specs.declared.node.Node.{Node}
+use Rattle.papaya_callers.specs.Rows.{IsRowOn}
+use Rattle.papaya_callers.specs.Together.{CameAbout}
+use Rattle.papaya_executor.specs.IsAt.{Scene, IsAt, slot_of, use_at}
+use Rattle.papaya_executor.specs.OnSlots.{NobodyIn}
+use Rattle.papaya_executor.specs.declared.executor.Executor.{Executor}
+use Rattle.papaya_executor.specs.declared.row.SlotUse.TheVariants as used
+use Rattle.papaya_executor.specs.declared.worker.TheConstants.{SLOTS}
+use Rattle.papaya_executor.proofs.Fresh.{caller_in, resting}
+use Rattle.papaya_executor.proofs.Uses.{reached, taken_now}
+use Rattle.papaya_rows.proofs.Facts.{row_rests}
+
+-- a row that settles on a slot is on that one alone
+its_slot : (slot t : ℕ) (row : Row) → SettlesOn slot row → IsRowOn t row → t ≡ slot
+its_slot slot t (Settles c) settles on = sym on ∙ settles
+its_slot slot t (Leaves c) settles on = sym on ∙ settles
+its_slot slot t Rests settles on = absurd settles
+its_slot slot t (Registers c) settles on = absurd settles
+its_slot slot t (Enters c) settles on = absurd settles
+its_slot slot t (Defers u c) settles on = absurd settles
+its_slot slot t (Frees c) settles on = absurd settles
+
+module _ {K V S : Type 0} (same : K → K → Bool) (hash : K → ℕ) (e : Executor K V S) (s : Scene K V) (at : IsAt same hash e s) where
+  abbrev pub good : Good deferred_word (LAST_SLOT + 1) e.batch_size s.world
+  good = (reached same hash e s at).good
+
+  pub held : HeldByRows s.world
+  held = by at.together.makings.standing.came
+    where
+      by : CameAbout {K = K} {V = V} e.batch_size s.world → HeldByRows s.world
+      by (roots, events, runs) =
+          runs_held (deferred_word {K = K} {V = V}) e.batch_size events (at_start deferred_word roots) s.world (start_good (deferred_word {K = K} {V = V}) (LAST_SLOT + 1) e.batch_size roots) (λ i. tt) runs
+          (start_held (deferred_word {K = K} {V = V}) e.batch_size roots)
+
+  pub works_there : (j slot : ℕ) → has_batch slot (s.world.row j) ≡ true → slot_of j ≡ slot
+  works_there j slot has = its_slot slot (slot_of j) (s.world.row j) (has_its deferred_word s.world good held j slot (s.world.row j) refl has) (at.on_slots j)
+
+  pub word_says : (j slot : ℕ) → slot < SLOTS → has_batch slot (s.world.row j) ≡ true → words_of s.world.memory (Slot slot BATCH) ≡ HELD
+  word_says j slot fits has = held_while deferred_word s.world good held j slot (omega (arith, fits)) has
+
+  -- nobody has it of a slot in which nobody has anything under way
+  pub none_has : (slot : ℕ) → NobodyIn e slot → (j : ℕ) → has_batch slot (s.world.row j) ≡ true → ⊥
+  none_has slot nobody j has =
+      let rests = ap (has_batch slot) (row_rests same hash e s at j (nobody j (works_there j slot has))) in
+      cc (rests, has)
+
+  -- The word of a slot that is registered is there: a row that flushed it could read it.
+  pub word_there : (slot : ℕ) → slot < SLOTS → (use_at e slot ≡ used.Outside) ⊎ (use_at e slot ≡ used.Inside) → IsSome (word_at e.memory.memory (Slot slot BATCH))
+  word_there slot fits may =
+      let can = row_may deferred_word (LAST_SLOT + 1) e.batch_size refl begun good_then (caller_in e slot) (Settles (flushing slot e.batch_size))
+      (with_here s.world.row (caller_in e slot) (Settles (flushing slot e.batch_size))) in
+      subst (λ (m : Mem (Node K V)). IsSome (word_at m (Slot slot BATCH))) at.memory can.0
+    where
+      begun : World (Node K V)
+      begun = with_use (with_row s.world (caller_in e slot) (Settles (flushing slot e.batch_size))) slot (one_more (s.world.uses slot))
+
+      good_then : Good deferred_word (LAST_SLOT + 1) e.batch_size begun
+      good_then =
+          happens_good deferred_word (LAST_SLOT + 1) e.batch_size refl s.world begun good (reached same hash e s at).sized (Begin (caller_in e slot) (Flush slot))
+          (resting same hash e s at slot fits, (taken_now same hash e s at slot may, refl))

@@ -1,0 +1,63 @@
+-- A row on a slot begins, and runs: what is told of that.
+use Rattle.std.specs.Prelude.{◌≡◌, ℕ, Bool, true, List, Some}
+use Rattle.std.proofs.Common.{◌<◌, ◌+◌, ◌*◌, sym, ap, subst, ◌∙◌, arith}
+use Rattle.papaya_tables.specs.declared.node.Node.{Node}
+use Rattle.papaya_schedules.specs.declared.effect.Effect.{Effect}
+use Rattle.papaya_schedules.specs.Moment.{Moment}
+use Rattle.papaya_executor.specs.IsAt.{Scene, IsAt, slot_of, work_of}
+use Rattle.papaya_executor.specs.OnSlots.{MayBegin, RowBegins}
+use Rattle.papaya_executor.specs.Rows.{begun_row, uses_begun}
+use Rattle.papaya_executor.specs.declared.row.RowTold.{RowTold}
+use Rattle.papaya_executor.specs.declared.row.SlotCall.{SlotCall}
+use Rattle.papaya_executor.specs.declared.row.SlotRow.{SlotRow}
+use Rattle.papaya_executor.specs.declared.row.SlotUse.{SlotUse}
+use Rattle.papaya_executor.specs.declared.worker.TheConstants.{SLOTS}
+use Rattle.papaya_executor.specs.declared.worker.Work.TheVariants.{OnSlot}
+use Rattle.papaya_logged.specs.Ended.{has_ended, uses_ended}
+use Rattle.papaya_logged.specs.OnSlots.{EndsTelling, OnSlotBegins, OnSlotComes, OnSlotLast, OnSlotRan}
+use Rattle.papaya_logged.specs.Shown.{IsShown}
+use Rattle.papaya_logged.specs.declared.logged.Logged.{Logged}
+use Rattle.papaya_rows.specs.Rows.{RowRan}
+
+pub in_its_slot : (n slot caller : ℕ) → slot < SLOTS → caller ≡ n * SLOTS + slot → slot_of caller ≡ slot
+in_its_slot n slot caller fits is = omega (arith, fits, is)
+
+module _ {K V S : Type 0} (slot : ℕ) (called : SlotCall) (caller : ℕ) (old began new : Logged K V S) (in_slot : slot_of caller ≡ slot) (may : MayBegin old.executor slot called)
+    (begins : (same : K → K → Bool) (hash : K → ℕ) (name : ℕ → List ℕ) (m : Moment K V) (s : Scene K V) → IsShown same hash name m old s → OnSlotBegins same hash name m s called caller old began) where
+  may_there : MayBegin old.executor (slot_of caller) called
+  may_there = subst (λ (x : ℕ). MayBegin old.executor x called) (sym in_slot) may
+
+  module _ (same : K → K → Bool) (hash : K → ℕ) (name : ℕ → List ℕ) (m : Moment K V) (s : Scene K V) (shown : IsShown same hash name m old s) where
+    leads : RowBegins same hash called caller s old.executor began.executor
+    leads = (begins same hash name m s shown may_there).0
+
+    row_is : work_of began.executor caller ≡ Some (OnSlot (begun_row slot old.executor.batch_size called))
+    row_is = (leads may_there).1 ∙ ap (λ (x : ℕ). Some (OnSlot (begun_row x old.executor.batch_size called))) in_slot
+
+    uses_are : began.executor.slots.items ≡ uses_begun slot called old.executor.slots.items
+    uses_are = (leads may_there).2 ∙ ap (λ (x : ℕ). uses_begun x called old.executor.slots.items) in_slot
+
+    -- then it runs,
+    pub begun_there : (same2 : K → K → Bool) × (hash2 : K → ℕ) × (s2 : Scene K V) × IsAt same2 hash2 began.executor s2 × (row : SlotRow) × (work_of began.executor caller ≡ Some (OnSlot row))
+    begun_there = (same, hash, record s { world = (leads may_there).3.0; maps = (leads may_there).3.2 }, (leads may_there).3.4, begun_row slot old.executor.batch_size called, row_is)
+
+    -- and has run
+    pub has_run : (said : RowTold (Node K V)) (before after : List Effect) → OnSlotComes caller said new → OnSlotLast caller said began.executor new.executor
+        → ((row : SlotRow) → work_of began.executor caller ≡ Some (OnSlot row) → has_ended said ≡ true → new.executor.slots.items ≡ uses_ended row said began.executor.slots.items)
+        → OnSlotRan before after began new → EndsTelling after new.executor → RowRan slot called said before after old new
+    has_run said before after comes last used ran tells = record {
+      caller = caller;
+      in_slot = in_slot;
+      began = began;
+      begins = begins;
+      last = last;
+      come = comes.0;
+      used = λ ended. used (begun_row slot old.executor.batch_size called) row_is ended
+          ∙ ap (λ (l : List SlotUse). uses_ended (begun_row slot old.executor.batch_size called) said l) uses_are;
+      tells = tells;
+      did = ran.0;
+      follows = ran.1;
+      shown = λ same2 hash2 name2 m2 s2 shown2 may2 takes.
+          (let began2 = begins same2 hash2 name2 m2 s2 shown2 may_there in
+          ran.3 same2 hash2 name2 m2 (record s2 { world = (began2.0 may_there).3.0; maps = (began2.0 may_there).3.2 }) began2.1 takes.0 takes.1);
+    }

@@ -1,0 +1,4 @@
+pub mod Rows
+pub mod Taking
+pub mod Stores
+pub mod Settling

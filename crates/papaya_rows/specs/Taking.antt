@@ -1,0 +1,18 @@
+-- What comes of a registering.
+use Rattle.std.specs.Prelude.{ℕ, Bool, List, Result, Ok, Err}
+use Rattle.seize_words.specs.declared.fault.Fault.{Fault}
+use Rattle.papaya_schedules.specs.declared.effect.Effect.{Effect}
+use Rattle.papaya_executor.specs.declared.row.RowTold.{RowTold}
+use Rattle.papaya_executor.specs.declared.row.RowTold.TheVariants as told
+use Rattle.papaya_executor.specs.declared.row.SlotCall.TheVariants as call
+use Rattle.papaya_logged.specs.declared.logged.Logged.{Logged}
+use Rattle.papaya_rows.specs.Rows.{RowRan}
+
+-- what it told, by the slot that it has found, or the fault
+abbrev pub told_as : {T : Type 0} → Result ℕ Fault → RowTold T
+told_as (Ok slot) = told.Registered slot
+told_as (Err fault) = told.Refused fault
+
+-- A registering has run, which has told this.
+abbrev pub SlotTaken : {K V S : Type 0} → Bool → Result ℕ Fault → (before after : List Effect) → (old new : Logged K V S) → Type 0
+SlotTaken enters slot before after old new = RowRan 0 (call.Register enters) (told_as slot) before after old new

@@ -1,0 +1,67 @@
+-- What is asked of a moment before a map is made or ends, and what is promised then.
+use Rattle.std.specs.Prelude.{◌≡◌, ◌<◌, ◌≤◌, ◌+◌, ◌^◌, ℕ, Bool, true, List, length, filter, is_none, max, not, ◌&&◌, nat_lt, None}
+use Rattle.std.specs.Int.{IsNextPowerOfTwo}
+use Rattle.papaya_tables.specs.declared.resize_mode.ResizeMode.{ResizeMode}
+use Rattle.papaya_tables.specs.declared.setting.Setting.{Setting}
+use Rattle.papaya_points.specs.Steps.{AreLawful}
+use Rattle.papaya_runs.specs.LifeCycle.{times}
+use Rattle.papaya_runs.specs.Same.{is_same}
+use Rattle.papaya_schedules.specs.declared.event.Event.{Event}
+use Rattle.papaya_schedules.specs.After.{moment}
+use Rattle.papaya_schedules.specs.Beginning.{used_roots}
+use Rattle.papaya_schedules.specs.Effects.{AtEachEffect}
+use Rattle.papaya_schedules.specs.Entry.{Entry, acted_on}
+use Rattle.papaya_schedules.specs.Lists.{is_among}
+use Rattle.papaya_schedules.specs.Moment.{Moment}
+use Rattle.papaya_schedules.specs.Terms.{Terms}
+use Rattle.papaya_moments.specs.Endings.{WaitsOn}
+use Rattle.papaya_moments.specs.Numbers.{NumbersMaps, PairsAreBelow}
+use Rattle.papaya_logged.specs.Roots.{AreTaken}
+use Rattle.papaya_scheduler.specs.Played.{IsDue, Plays, entry_of}
+use Rattle.papaya_scheduler.specs.Seen.{number_named}
+use Rattle.papaya_scheduler.specs.declared.played.Played.{Played}
+use Rattle.papaya_scheduler.specs.declared.scheduler.NamedMap.{NamedMap}
+use Rattle.papaya_scheduler.specs.declared.scheduler.Scheduler.{Scheduler}
+
+-- a map of this name can be made: none has it, and there may be one more
+abbrev pub may_make_of : List ℕ → Bool → ℕ → List NamedMap → Bool
+may_make_of own is_one_map made maps = is_none (number_named own maps) && not (is_one_map && nat_lt 0 made)
+
+-- with this a map begins that is to have so many places at first
+pub record IsGivenFor {K V S : Type 0} (mode : ResizeMode) (places : ℕ) (p : Scheduler K V S) (given : Setting) : Type 0 where
+  pub batches : given.batch_size ≡ p.logged.executor.batch_size
+  pub mode_is : given.mode ≡ mode
+  pub mask : IsNextPowerOfTwo p.given.setup.processors (given.mask + 1)
+  pub initial : given.initial ≡ max places 1
+
+-- each map that is there has a number and a name of its own, and the numbers of all are below that of the next one
+pub record AreApart {K V : Type 0} (m : Moment K V) : Type 0 where
+  pub numbers : NumbersMaps m
+  pub names : (own : List ℕ) → length (filter (λ f. is_same f.name own) m.maps) ≤ 1
+
+-- So it is, and the executor has as many numbers and roots as the moment says: the roots that are taken are those of maps that are there, and of what maps left over, each once.
+pub record CountsMaps {K V S : Type 0} (m : Moment K V) (p : Scheduler K V S) : Type 0 where
+  pub apart : AreApart m
+  pub pairs : PairsAreBelow m
+  pub next : length p.logged.executor.maps.items ≡ m.made
+  pub taken : AreTaken p.logged.executor.roots (λ r. is_among r (used_roots m)) p.logged.executor.memory.memory
+  pub once : (r : ℕ) → times r (used_roots m) ≤ 1
+  pub below : (r : ℕ) → is_among r (used_roots m) ≡ true → r < p.logged.executor.roots
+  pub roots : p.logged.executor.roots ≡ p.given.setup.roots
+  pub processors : p.given.setup.processors ≤ 2 ^ 63
+
+module _ {K V S : Type 0} (same : K → K → Bool) (hash : K → ℕ) where
+  -- the event may happen, where keys have lawful hashes, and roots and numbers are so
+  pub record MayMap (terms : Terms) (log : List (Entry K V)) (event : Event K V) (p : Scheduler K V S) : Type 0 where
+    pub due : IsDue same hash terms log event p
+    pub lawful : AreLawful same hash
+    pub counts : CountsMaps (moment log) p
+
+  abbrev pub PlaysMaking : Event K V → Played V → (old new : Scheduler K V S) → Type 0
+  PlaysMaking event played old new = (terms : Terms) (log : List (Entry K V)) → MayMap terms log event old → Plays same hash terms log (entry_of event played) new
+
+  -- where what waits behind a table that ends with its map is not reclaimed
+  abbrev pub PlaysEnding : Event K V → Played V → (old new : Scheduler K V S) → Type 0
+  PlaysEnding event played old new =
+      (terms : Terms) (log : List (Entry K V)) → IsDue same hash terms log event old → AreApart (moment log)
+      → AtEachEffect WaitsOn None (acted_on event (moment log)) played.effects.items (moment log) → Plays same hash terms log (entry_of event played) new
