@@ -52,13 +52,3 @@ pub mod HandAll
 pub mod HandLives
 pub mod HandThere
 pub mod HandOthers
-pub mod WordOps
-pub mod Adds
-pub mod KeyAdds
-pub mod RestAdds
-pub mod ShardKept
-pub mod ShardCalls
-pub mod ShardOthers
-pub mod ShardBetween
-pub mod ShardMakes
-pub mod ShardNumbers

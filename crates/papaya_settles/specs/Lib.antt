@@ -10,6 +10,3 @@ pub mod Hand
 pub mod Owed
 pub mod Handing
 pub mod OwedBeside
-pub mod Adds
-pub mod ShardWords
-pub mod ShardSteps
