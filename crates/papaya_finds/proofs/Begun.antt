@@ -114,7 +114,7 @@ module _ {K V : Type 0} (m : Moment K V) (h : AllIsInOrder m) where
           ∙ or_left (list_any (λ (g : MapThere). g.number == map) m.maps) (list_any (λ (g : MapThere). g.number == map) (f ∷ [])) e
 
 -- what was made had no fault
-abbrev was_done : (V : Type 0) → Outcome V
+abbrev pub was_done : (V : Type 0) → Outcome V
 was_done V = Done
 
 of_fault : (V : Type 0) (o : Option Fault) (A : Type 0) → MatchOption o A (λ fault. was_done V ≡ Refused fault) → A
@@ -129,12 +129,12 @@ module _ {K V : Type 0} (terms : Terms) (log : List (Entry K V)) (e : Entry K V)
   Right event outcome = MatchBool (is_kept_out terms event m) (IsKeptOut event outcome) (ComesTo terms log m e event outcome)
 
   -- an event in turn has what it needs
-  in_turn : (turn : Bool) (Wanted : Type 0) (outcome : Outcome V) → MatchBool turn Wanted (outcome ≡ Refused Busy) → is_busy outcome ≡ false → turn ≡ true
+  pub in_turn : (turn : Bool) (Wanted : Type 0) (outcome : Outcome V) → MatchBool turn Wanted (outcome ≡ Refused Busy) → is_busy outcome ≡ false → turn ≡ true
   in_turn true Wanted outcome right calm = refl
   in_turn false Wanted outcome right calm = absurd (let busy : is_busy outcome ≡ true = ap is_busy right in cc (busy, calm))
 
   -- one that is not kept out, since it is not busy
-  not_kept_out : (q : Bool) (Out In : Type 0) (outcome : Outcome V) → (Out → outcome ≡ Refused Busy) → MatchBool q Out In → is_busy outcome ≡ false → In
+  pub not_kept_out : (q : Bool) (Out In : Type 0) (outcome : Outcome V) → (Out → outcome ≡ Refused Busy) → MatchBool q Out In → is_busy outcome ≡ false → In
   not_kept_out true Out In outcome so right calm = absurd (let busy : is_busy outcome ≡ true = ap is_busy (so right) in cc (busy, calm))
   not_kept_out false Out In outcome so right calm = right
 

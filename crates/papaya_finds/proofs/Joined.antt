@@ -1,16 +1,14 @@
 -- The parts make up all that an effect of a call must find.
-use Rattle.std.specs.Prelude.{◌≡◌, ℕ, true, false, List, [], ◌∷◌, Option, Some, option_map}
+use Rattle.std.specs.Prelude.{◌≡◌, ℕ, true, false, List, [], ◌∷◌, Option, Some}
 use Rattle.std.specs.List.{list_all}
-use Rattle.std.proofs.Common.{refl, ap, sym, subst, ◌∙◌, inl}
+use Rattle.std.proofs.Common.{refl, sym, subst, ◌∙◌, inl}
 use Rattle.papaya_schedules.specs.declared.effect.Effect.{Effect}
 use Rattle.papaya_schedules.specs.declared.effect.Effect.TheVariants as effect
 use Rattle.papaya_schedules.specs.declared.effect.Growth.TheVariants.{ABlock, ABucket}
 use Rattle.papaya_schedules.specs.declared.effect.Thing.TheVariants.{APair, ATable}
-use Rattle.papaya_schedules.specs.declared.event.Event.{Event}
-use Rattle.papaya_schedules.specs.declared.event.Event.TheVariants as event
 use Rattle.papaya_schedules.specs.After.{moments_from}
 use Rattle.papaya_schedules.specs.Effects.{call_by, with_effect, AtEachEffect}
-use Rattle.papaya_schedules.specs.Entry.{ByCall, acting, acted_on, caller_of}
+use Rattle.papaya_schedules.specs.Entry.{ByCall, acting, caller_of}
 use Rattle.papaya_schedules.specs.declared.call.Call.{Call}
 use Rattle.papaya_schedules.specs.declared.call.Call.TheVariants as call
 use Rattle.papaya_schedules.specs.Growing.{only_looks, has_value_for, MayGrow}
@@ -109,7 +107,7 @@ events_find_all K V terms log e b own c caller c_is all =
 
 module _ {K V : Type 0} (terms : Terms) (moments : List (Moment K V)) where
   -- a call that has a value for a pair may ask for the block
-  valued_grows : (its : Call K V) (c : CallThere K V) → has_value_for its c ≡ true → MayGrow terms its c moments
+  pub valued_grows : (its : Call K V) (c : CallThere K V) → has_value_for its c ≡ true → MayGrow terms its c moments
   valued_grows (call.Reserve more) c e = absurd (cc e)
   valued_grows _ c e = inl e
 

@@ -28,4 +28,5 @@ pub mod Within
 pub mod Over
 pub mod Begun
 pub mod Runs
+pub mod Closed
 pub mod Little

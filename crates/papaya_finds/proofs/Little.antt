@@ -8,7 +8,7 @@ use Rattle.papaya_schedules.specs.declared.event.Event.{Event}
 use Rattle.papaya_schedules.specs.declared.event.Event.TheVariants.{ReclaimAll, Close}
 use Rattle.papaya_schedules.specs.declared.outcome.Outcome.{Outcome}
 use Rattle.papaya_schedules.specs.declared.outcome.Outcome.TheVariants.{Done}
-use Rattle.papaya_schedules.specs.After.{after, moment}
+use Rattle.papaya_schedules.specs.After.{after, moment, AtEachEvent}
 use Rattle.papaya_schedules.specs.Entry.{Entry}
 use Rattle.papaya_schedules.specs.Lists.{is_empty}
 use Rattle.papaya_schedules.specs.Model.{thing_back, all_left}
@@ -16,7 +16,10 @@ use Rattle.papaya_schedules.specs.Moment.{Moment}
 use Rattle.papaya_schedules.specs.Reclaims.{is_quiescent, ComesLast, IsBounded, IsOrderly, IsEmptied, IsTornDown, IfAll, LeavesLittle}
 use Rattle.papaya_schedules.specs.Terms.{Terms}
 use Rattle.papaya_effects.specs.Known.{Known}
-use Rattle.papaya_finds.specs.Little.{WhereAll, AllIsBack, IsLeftSo, EventsLeaveLittle}
+use Rattle.papaya_finds.specs.Little.{WhereAll, AllIsBack, ReclaimsAll, OverIsBack, ShowsNobody, EventsLeaveLittle, RunsLeaveLittle}
+use Rattle.papaya_finds.specs.Within.{AllIsInOrder, GoesInOrder}
+use Rattle.papaya_finds.proofs.Closed.{none_there, over_stays_back}
+use Rattle.papaya_finds.proofs.Runs.{runs_are_in_order}
 use Rattle.papaya_finds.specs.Orderly.{WaitsInOrder}
 use Rattle.papaya_finds.proofs.Bounded.{little_waits}
 use Rattle.papaya_finds.proofs.Orderly.{orderly_at_rest, emptied_once_reclaimed}
@@ -26,10 +29,6 @@ use Rattle.papaya_finds.proofs.TornDown.{torn_down_in_the_end}
 where_so : (q : Bool) (A : Type 0) → (q ≡ true → A) → MatchBool q A (Unit {0})
 where_so true A so = so refl
 where_so false A so = tt
-
-none_there : {X : Type 0} (xs : List X) → is_empty xs ≡ true → xs ≡ []
-none_there [] e = refl
-none_there (x ∷ xs) e = absurd (cc e)
 
 module _ {K V : Type 0} where
   is_emptied : (m : Moment K V) → WaitsInOrder m → AllIsBack m → IsEmptied m
@@ -41,26 +40,41 @@ module _ {K V : Type 0} where
   all_emptied Close Done before m things order all = (is_emptied m order all.0, all.1)
   all_emptied _ _ before m things order all = tt
 
-  module _ (terms : Terms) (log : List (Entry K V)) (e : Entry K V) (known : Known) (w : World (Node K V)) (word : terms.batch_size < 2 ^ 64) (h : IsLeftSo terms log e known w) where
+  module _ (terms : Terms) (log : List (Entry K V)) (e : Entry K V) (known : Known) (w : World (Node K V)) (word : terms.batch_size < 2 ^ 64) (h : AllIsInOrder (after e (moment log)))
+      (reclaims : ReclaimsAll log e) (over : OverIsBack (after e (moment log))) (shows : ShowsNobody terms (after e (moment log)) known w) where
     abbrev v : Moment K V
     v = after e (moment log)
 
     bounded : is_quiescent v ≡ true → IsBounded terms.batch_size v
-    bounded quiet = let nobody = h.nobody quiet in little_waits K V terms.batch_size v known w word h.came nobody.0 nobody.1
+    bounded quiet = let nobody = shows.nobody quiet in little_waits K V terms.batch_size v known w word shows.came nobody.0 nobody.1
 
     orderly : is_empty v.calls ≡ true → IsOrderly v
-    orderly none = orderly_at_rest K V v h.order (none_there v.calls none)
+    orderly none = orderly_at_rest K V v h.waits (none_there v.calls none)
 
     torn_down : v.is_closed ≡ true → IsTornDown v
-    torn_down closed = let over = h.over closed in torn_down_in_the_end K V v h.order.placed h.somewhere over.1 (is_emptied v h.order over.0)
+    torn_down closed = let back = over closed in torn_down_in_the_end K V v h.waits.placed h.somewhere back.1 (is_emptied v h.waits back.0)
 
     leaves : LeavesLittle terms log e
     leaves = record {
       bounded = where_so (is_quiescent v) (IsBounded terms.batch_size v) bounded;
       orderly = where_so (is_empty v.calls) (IsOrderly v) orderly;
-      emptied = all_emptied e.event e.outcome (moment log) v (flat_map thing_back e.effects) h.order h.all;
+      emptied = all_emptied e.event e.outcome (moment log) v (flat_map thing_back e.effects) h.waits reclaims;
       torn_down = where_so v.is_closed (IsTornDown v) torn_down;
     }
 
 pub events_leave_little : (K V : Type 0) → EventsLeaveLittle K V
-events_leave_little K V terms log e known w word h = leaves terms log e known w word h
+events_leave_little K V terms log e known w word h reclaims over shows = leaves terms log e known w word h reclaims over shows
+
+module _ {K V : Type 0} (terms : Terms) where
+  -- so it is once the collector has ended, at each moment
+  over_at_each : (log : List (Entry K V)) → AtEachEvent (λ before f. GoesInOrder terms before f × ReclaimsAll before f) log → OverIsBack (moment log)
+  over_at_each [] all closed = absurd (cc closed)
+  over_at_each (e ∷ log) all closed = over_stays_back K V terms log e all.0.0 all.0.1 (over_at_each log all.1) closed
+
+  only_order : (log : List (Entry K V)) → AtEachEvent (λ before f. GoesInOrder terms before f × ReclaimsAll before f) log → AtEachEvent (GoesInOrder terms) log
+  only_order [] all = tt
+  only_order (e ∷ log) all = (all.0.0, only_order log all.1)
+
+pub runs_leave_little : (K V : Type 0) → RunsLeaveLittle K V
+runs_leave_little K V terms log e known w word all shows =
+    events_leave_little K V terms log e known w word (runs_are_in_order K V terms (e ∷ log) (only_order terms (e ∷ log) all)) all.0.1 (over_at_each terms (e ∷ log) all) shows

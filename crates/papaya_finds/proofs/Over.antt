@@ -1,41 +1,25 @@
 -- Calls once an event is over: each has its map, and one that the event ends owes nothing.
-use Rattle.std.specs.Prelude.{◌≡◌, ℕ, ◌+◌, ◌<◌, ◌≤◌, ◌==◌, Bool, true, false, not, List, [], ◌∷◌, filter, find, map, Option, Some, None, option_map, if◌then◌else◌}
+use Rattle.std.specs.Prelude.{◌≡◌, ℕ, ◌+◌, ◌==◌, Bool, true, false, not, List, [], ◌∷◌, find, map, Option, Some, None, option_map, if◌then◌else◌}
 use Rattle.std.specs.List.{AllByRecursion, list_any}
-use Rattle.std.proofs.Common.{refl, ap, sym, subst, ◌∙◌, arith}
-use Rattle.std.proofs.lemmas.Bool.{eq-eqb}
-use Rattle.std.proofs.lemmas.List.Elements.{recursion_from_All, All-from_recursion}
+use Rattle.std.proofs.Common.{refl, ap, sym, subst, ◌∙◌}
 use Rattle.papaya_runs.specs.Same.{is_same}
 use Rattle.papaya_schedules.specs.declared.effect.Effect.{Effect}
 use Rattle.papaya_schedules.specs.declared.event.Event.{Event}
 use Rattle.papaya_schedules.specs.declared.event.Event.TheVariants as event
 use Rattle.papaya_schedules.specs.declared.outcome.Outcome.{Outcome}
 use Rattle.papaya_schedules.specs.declared.outcome.Outcome.TheVariants as outcome
-use Rattle.papaya_schedules.specs.After.{moment, after, without_call, stepped, calls_on, maps_on, comes_to, replied}
-use Rattle.papaya_schedules.specs.Beginning.{begun}
-use Rattle.papaya_schedules.specs.Effects.{call_by, with_effect, with_effects, worked, AtEachEffect}
-use Rattle.papaya_schedules.specs.Entry.{Entry, IfCall, ends_call, caller_of, acting, acted_on}
-use Rattle.papaya_schedules.specs.Handing.{LeavesOf, comes_clear, gives_all, moments_of}
-use Rattle.papaya_schedules.specs.InTurn.{is_called}
-use Rattle.papaya_schedules.specs.Lives.{Finds}
+use Rattle.papaya_schedules.specs.After.{without_call, stepped, calls_on, comes_to, replied}
+use Rattle.papaya_schedules.specs.Effects.{with_effect, AtEachEffect}
+use Rattle.papaya_schedules.specs.Entry.{IfCall, ends_call, caller_of, acting, acted_on}
+use Rattle.papaya_schedules.specs.Handing.{LeavesOf, comes_clear}
 use Rattle.papaya_schedules.specs.Moment.{UnderWay, MapThere, Moment}
-use Rattle.papaya_schedules.specs.Terms.{Terms}
-use Rattle.papaya_schedules.specs.Views.{map_of, number_of, map_at}
-use Rattle.papaya_follows.proofs.Calling.{is_same_is}
-use Rattle.papaya_follows.proofs.Calls.{changed_same, changed, of_same, found}
-use Rattle.papaya_finds.specs.Endings.{EndsWhole}
 use Rattle.papaya_finds.specs.Events.{ended_by, EndedOwesNone}
-use Rattle.papaya_finds.specs.Life.{StoresOne}
 use Rattle.papaya_finds.specs.Waiting.{owed_in, AreApart}
-use Rattle.papaya_finds.specs.Within.{many_of, HasItsMap, AllIsInOrder, ActsOn, StoppedOwesNone, GoesInOrder, AllInOrderAtFirst, LifeKeepsOrder, EventsKeepOrder, RunsAreInOrder}
-use Rattle.papaya_finds.proofs.Begun.{makes_new, ends_uncalled, all_begun}
-use Rattle.papaya_finds.proofs.Endings.{entry, number_at, same_number, fewer_found, ends_leave_maps, events_keep_named, events_keep_roots, events_keep_somewhere}
-use Rattle.papaya_finds.proofs.Events.{OwesSame, comes_same, told_same, events_keep_placed, events_keep_tables}
-use Rattle.papaya_finds.proofs.Lists.{none_of_them, any_so, any_kept_among, all_so, all_both, each_is, each_among}
-use Rattle.papaya_finds.proofs.Orderly.{order_at_first}
-use Rattle.papaya_finds.proofs.Owed.{named_still}
+use Rattle.papaya_finds.specs.Within.{HasItsMap, ActsOn, StoppedOwesNone}
+use Rattle.papaya_finds.proofs.Events.{OwesSame, comes_same, told_same}
+use Rattle.papaya_finds.proofs.Lists.{none_of_them, all_so}
 use Rattle.papaya_finds.proofs.Tables.{all_under, all_kept}
-use Rattle.papaya_finds.proofs.TornDown.{somewhere_at_first}
-use Rattle.papaya_finds.proofs.Grown.{found_any, any_found, only_one}
+use Rattle.papaya_finds.proofs.Grown.{any_found, only_one}
 
 -- calls once an event is over
 

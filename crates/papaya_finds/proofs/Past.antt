@@ -1,5 +1,5 @@
 -- A pair that has left its map lies where it lay, and the root of a map does not go back.
-use Rattle.std.specs.Prelude.{◌≡◌, ◌≢◌, ℕ, ◌+◌, ◌≤◌, ◌==◌, nat_lt, Bool, true, false, MatchBool, List, [], ◌∷◌, find, length, map as list_map, Option, Some, None}
+use Rattle.std.specs.Prelude.{◌≡◌, ◌≢◌, ℕ, ◌≤◌, ◌==◌, nat_lt, Bool, true, false, MatchBool, List, [], ◌∷◌, find, length, map as list_map, Option, Some, None}
 use Rattle.std.proofs.Common.{refl, ap, sym, subst, ◌∙◌, arith, inl, inr}
 use Rattle.std.proofs.lemmas.Bool.{cases_eq}
 use Rattle.papaya_schedules.specs.declared.effect.Effect.{Effect}
@@ -8,9 +8,8 @@ use Rattle.papaya_schedules.specs.declared.effect.Spot.{Spot}
 use Rattle.papaya_schedules.specs.declared.effect.Table.{Table}
 use Rattle.papaya_schedules.specs.Effects.{promoted, born_by, spot_by, is_chunked, call_by, with_effect, AtEachEffect}
 use Rattle.papaya_schedules.specs.Entry.{ByCall}
-use Rattle.papaya_schedules.specs.Growing.{ComesNext}
 use Rattle.papaya_schedules.specs.Lives.{IsPast, MayCopy}
-use Rattle.papaya_schedules.specs.Moment.{Place, UnderWay as CallThere, MapThere, TableThere, Moment}
+use Rattle.papaya_schedules.specs.Moment.{Place, UnderWay as CallThere, MapThere, Moment}
 use Rattle.papaya_schedules.specs.Views.{call_of, is_in_a_map, first_or, first_of, map_at, grows_in_chunks, tables_of}
 use Rattle.papaya_follows.specs.Finds.{FindsMap}
 use Rattle.papaya_follows.proofs.Alike.{put_elsewhere, others_found}

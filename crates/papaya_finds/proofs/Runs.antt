@@ -1,5 +1,5 @@
 -- All is in order after each event that comes to what is right for it and keeps the promise `life`, and so at each moment of a run.
-use Rattle.std.specs.Prelude.{◌≡◌, ℕ, ◌+◌, ◌<◌, ◌≤◌, ◌==◌, Bool, true, false, not, List, [], ◌∷◌, filter, find, map, Option, Some, None, option_map, if◌then◌else◌}
+use Rattle.std.specs.Prelude.{◌≡◌, ℕ, ◌<◌, ◌≤◌, ◌==◌, Bool, true, false, not, List, [], ◌∷◌, filter, find, map, Option, Some, None, option_map}
 use Rattle.std.specs.List.{AllByRecursion, list_any}
 use Rattle.std.proofs.Common.{refl, ap, sym, subst, ◌∙◌, arith}
 use Rattle.std.proofs.lemmas.Bool.{eq-eqb}
@@ -10,11 +10,11 @@ use Rattle.papaya_schedules.specs.declared.event.Event.{Event}
 use Rattle.papaya_schedules.specs.declared.event.Event.TheVariants as event
 use Rattle.papaya_schedules.specs.declared.outcome.Outcome.{Outcome}
 use Rattle.papaya_schedules.specs.declared.outcome.Outcome.TheVariants as outcome
-use Rattle.papaya_schedules.specs.After.{moment, after, without_call, stepped, calls_on, maps_on, comes_to, replied}
+use Rattle.papaya_schedules.specs.After.{moment, after, maps_on}
 use Rattle.papaya_schedules.specs.Beginning.{begun}
-use Rattle.papaya_schedules.specs.Effects.{call_by, with_effect, with_effects, worked, AtEachEffect}
-use Rattle.papaya_schedules.specs.Entry.{Entry, IfCall, ends_call, caller_of, acting, acted_on}
-use Rattle.papaya_schedules.specs.Handing.{LeavesOf, comes_clear, gives_all, moments_of}
+use Rattle.papaya_schedules.specs.Effects.{call_by, with_effect, with_effects, worked}
+use Rattle.papaya_schedules.specs.Entry.{Entry, caller_of, acting, acted_on}
+use Rattle.papaya_schedules.specs.Handing.{gives_all, moments_of}
 use Rattle.papaya_schedules.specs.InTurn.{is_called}
 use Rattle.papaya_schedules.specs.Lives.{Finds}
 use Rattle.papaya_schedules.specs.Moment.{UnderWay, MapThere, Moment}
@@ -25,17 +25,16 @@ use Rattle.papaya_follows.proofs.Calls.{changed_same, changed, of_same, found}
 use Rattle.papaya_finds.specs.Endings.{EndsWhole}
 use Rattle.papaya_finds.specs.Events.{ended_by, EndedOwesNone}
 use Rattle.papaya_finds.specs.Life.{StoresOne}
-use Rattle.papaya_finds.specs.Waiting.{owed_in, AreApart}
-use Rattle.papaya_finds.specs.Within.{many_of, HasItsMap, AllIsInOrder, ActsOn, StoppedOwesNone, GoesInOrder, AllInOrderAtFirst, LifeKeepsOrder, EventsKeepOrder, RunsAreInOrder}
+use Rattle.papaya_finds.specs.Within.{many_of, HasItsMap, AllIsInOrder, ActsOn, GoesInOrder, AllInOrderAtFirst, LifeKeepsOrder, EventsKeepOrder, RunsAreInOrder}
 use Rattle.papaya_finds.proofs.Begun.{makes_new, ends_uncalled, all_begun}
 use Rattle.papaya_finds.proofs.Endings.{entry, number_at, same_number, fewer_found, ends_leave_maps, events_keep_named, events_keep_roots, events_keep_somewhere}
-use Rattle.papaya_finds.proofs.Events.{OwesSame, comes_same, told_same, events_keep_placed, events_keep_tables}
-use Rattle.papaya_finds.proofs.Lists.{none_of_them, any_so, any_kept_among, all_so, all_both, each_is, each_among}
+use Rattle.papaya_finds.proofs.Events.{events_keep_placed, events_keep_tables}
+use Rattle.papaya_finds.proofs.Lists.{any_so, any_kept_among, all_so, all_both, each_is, each_among}
 use Rattle.papaya_finds.proofs.Orderly.{order_at_first}
 use Rattle.papaya_finds.proofs.Owed.{named_still}
-use Rattle.papaya_finds.proofs.Tables.{all_under, all_kept}
+use Rattle.papaya_finds.proofs.Tables.{all_kept}
 use Rattle.papaya_finds.proofs.TornDown.{somewhere_at_first}
-use Rattle.papaya_finds.proofs.Grown.{found_any, any_found, only_one}
+use Rattle.papaya_finds.proofs.Grown.{found_any, any_found}
 use Rattle.papaya_finds.proofs.Within.{in_order}
 use Rattle.papaya_finds.proofs.Over.{acts, both_at, over_have, ended_owes_none}
 

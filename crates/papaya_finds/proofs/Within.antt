@@ -1,5 +1,5 @@
 -- Effects that find what the promise `life` asks leave tables, pairs and calls within what their maps have had.
-use Rattle.std.specs.Prelude.{◌≡◌, ◌≢◌, ℕ, ◌+◌, ◌<◌, ◌≤◌, ◌==◌, nat_le, nat_lt, Bool, true, false, cond, ◌&&◌, ◌||◌, List, [], ◌∷◌, ◌++◌, length, filter, find, map, Option, Some, None, if◌then◌else◌}
+use Rattle.std.specs.Prelude.{◌≡◌, ◌≢◌, ℕ, ◌+◌, ◌<◌, ◌≤◌, ◌==◌, nat_le, nat_lt, Bool, true, false, cond, ◌&&◌, List, [], ◌∷◌, ◌++◌, length, filter, map, Option, Some, None, if◌then◌else◌}
 use Rattle.std.specs.List.{AllByRecursion, list_any}
 use Rattle.std.proofs.Common.{refl, ap, sym, subst, ◌∙◌, arith, inl, inr, length-append, le-leb}
 use Rattle.std.proofs.lemmas.Bool.{and_from, and_parts, cases_eq, eq-eqb, ne_eqb}
@@ -13,15 +13,14 @@ use Rattle.papaya_schedules.specs.declared.effect.Table.{Table}
 use Rattle.papaya_schedules.specs.declared.effect.Thing.TheVariants.{APair, ATable}
 use Rattle.papaya_schedules.specs.Effects.{in_map, calls_by, born_by, later, spot_by, is_chunked, at_stage, promoted, call_by, with_effect}
 use Rattle.papaya_schedules.specs.Entry.{ByCall, acting}
-use Rattle.papaya_schedules.specs.Growing.{only_looks, ComesNext}
+use Rattle.papaya_schedules.specs.Growing.{only_looks}
 use Rattle.papaya_schedules.specs.Lists.{is_in, put, without_one}
 use Rattle.papaya_schedules.specs.Lives.{MayCopy, MayDefer, IsMapsFirst, CallFinds, EventFinds, Finds}
-use Rattle.papaya_schedules.specs.Moment.{Place, InMap, UnderWay, MapThere, Stage, IsLinked, IsRetired, IsReclaimed, IsTaken, TableThere, Moment}
+use Rattle.papaya_schedules.specs.Moment.{Place, InMap, UnderWay, MapThere, Stage, IsRetired, IsReclaimed, IsTaken, TableThere, Moment}
 use Rattle.papaya_schedules.specs.Terms.{Terms}
 use Rattle.papaya_schedules.specs.Things.{same_table, same_thing}
 use Rattle.papaya_schedules.specs.Views.{is_in_map, call_of, map_at, first_or, first_of, grows_in_chunks, is_linked, is_stage, is_place, tables_of}
 use Rattle.papaya_follows.proofs.Alike.{put_here, put_elsewhere}
-use Rattle.papaya_follows.proofs.Calling.{is_same_is}
 use Rattle.papaya_follows.proofs.Calls.{IsOfSame, changed_same, changed}
 use Rattle.papaya_others.proofs.Leads.{same_parts}
 use Rattle.papaya_spots.proofs.Elsewhere.{stored_grows}
@@ -29,15 +28,15 @@ use Rattle.papaya_moments.specs.Numbers.{AreFound}
 use Rattle.papaya_finds.specs.Life.{StoresOne}
 use Rattle.papaya_finds.specs.Tables.{FindsTables}
 use Rattle.papaya_finds.specs.TornDown.{FindsItsMap}
-use Rattle.papaya_finds.specs.Waiting.{is_unborn, once_if, owed_in, AreApart, FindsPlaced}
+use Rattle.papaya_finds.specs.Waiting.{is_unborn, once_if, owed_in, FindsPlaced}
 use Rattle.papaya_finds.specs.Within.{many_of, HasItsMap, AllIsInOrder, ActsOn}
 use Rattle.papaya_finds.proofs.Endings.{number_same, one_named, numbers_stay}
 use Rattle.papaya_finds.proofs.Life.{life_finds_placed}
-use Rattle.papaya_finds.proofs.Lists.{one_of_them, none_of_them, any_so, all_so, all_both, each_is}
+use Rattle.papaya_finds.proofs.Lists.{one_of_them, any_so, all_so, all_both, each_is}
 use Rattle.papaya_finds.proofs.Owed.{due_keeps, owed_append, owed_without, owed_there}
 use Rattle.papaya_finds.proofs.Placed.{keeps_owed, its_same, effects_keep_placed}
 use Rattle.papaya_finds.proofs.Somewhere.{is_storing, none_stored, leads, maps_there, effects_keep_somewhere}
-use Rattle.papaya_finds.proofs.Tables.{all_under, all_append, same_length, effects_keep_tables}
+use Rattle.papaya_finds.proofs.Tables.{all_under, all_append, effects_keep_tables}
 use Rattle.papaya_finds.proofs.Grown.{found_of, found_any, any_found, only_one, number_is, stage_same, many_grow, born_same, linked_as, comes_on, is_moving, spot_same, stores_none}
 
 module _ {K V : Type 0} (terms : Terms) (everything : Bool) (moments : List (Moment K V)) (caller : Option (List ℕ)) (acted : Option ℕ) (m : Moment K V) (h : AllIsInOrder m) (on : ActsOn caller acted m) where

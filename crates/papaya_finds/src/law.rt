@@ -3,13 +3,13 @@ ghost use Rattle.std.specs.Prelude.{ℕ, Bool};
 ghost use Rattle.papaya_finds.specs.Joined.{PartsAreAll, SeveralFindAll, EventsFindAll, PairsAreAskedFor};
 ghost use Rattle.papaya_finds.specs.Doing.{SeveralDoTheirs, EventsMayDo};
 ghost use Rattle.papaya_finds.specs.Past.{EffectsLeavePast, CallsFindOnward};
-ghost use Rattle.papaya_finds.specs.Quiet.{FoundLeaveNothing, OthersOweNothing};
-ghost use Rattle.papaya_finds.specs.Steps.{StepsDoTheirs, StepsFindPlaces, StepsFindParts};
+ghost use Rattle.papaya_finds.specs.Quiet.{FoundLeaveNothing, OthersOweNothing, SeveralStoreOne, ValuedMayAsk};
+ghost use Rattle.papaya_finds.specs.Steps.{StepsDoTheirs, StepsFindPlaces, StepsStoreOne, StepsFindParts};
 ghost use Rattle.papaya_finds.specs.Bounded.{LittleWaits, NothingRetiredOnceReclaimed};
 ghost use Rattle.papaya_finds.specs.Endings.{NamedAtFirst, EventsKeepNamed, EventsKeepRoots, EventsKeepSomewhere};
 ghost use Rattle.papaya_finds.specs.Events.{BeginningsKeepPlaced, EventsKeepPlaced, BeginningsKeepTables, EventsKeepTables};
 ghost use Rattle.papaya_finds.specs.Life.{LifeFindsPlaced, LifeKeepsPlaced};
-ghost use Rattle.papaya_finds.specs.Little.{EventsLeaveLittle};
+ghost use Rattle.papaya_finds.specs.Little.{EventsLeaveLittle, OverStaysBack, RunsLeaveLittle};
 ghost use Rattle.papaya_finds.specs.Orderly.{OrderAtFirst, OrderlyAtRest, EmptiedOnceReclaimed};
 ghost use Rattle.papaya_finds.specs.Tables.{EffectsKeepTables, OthersKeepTables};
 ghost use Rattle.papaya_finds.specs.TornDown.{SomewhereAtFirst, EffectsKeepSomewhere, OthersKeepSomewhere, TornDownInTheEnd};
@@ -19,16 +19,18 @@ ghost use Rattle.papaya_finds.specs.Waiting.{PlacedAtFirst, EffectsKeepPlaced, O
 /// The effects of a step of a call, whether it is one of a row or none, are such as calls have: it asks for no bucket, and reclaims nothing. They find the pairs
 /// and the tables of the call's map as they must: one that leaves the map is in it; a pair is copied to where a copy may lie, and stored where no pair of the map
 /// lies, or the one that it replaces; and as the root comes to a table, each pair of the map lies there or behind it, or has its copy there, so that none is left
-/// behind. So they find all that is promised of what the call has made, of what it counts, and of what it is.
+/// behind. Who stores a pair has one to store. So they find all that is promised of what the call has made, of what it counts, and of what it is.
 pub fn steps_find_theirs<K, V, S>()
     ensures kinds { (same : K → K → Bool) (hash : K → ℕ) → StepsDoTheirs K V S same hash }
     ensures places { (same : K → K → Bool) (hash : K → ℕ) → StepsFindPlaces K V S same hash }
+    ensures stores { (same : K → K → Bool) (hash : K → ℕ) → StepsStoreOne K V S same hash }
     ensures parts { (same : K → K → Bool) (hash : K → ℕ) → StepsFindParts K V S same hash }
 {}
 
 /// These parts, with what is left, make up all that an effect of a call must find, for each kind of effect: so it is for the effects of a step, of several steps,
 /// and of an event of the call. Where a block for a pair is made nothing is left: the call has a value for it, so it may ask for the block. Nothing is left of an effect
-/// that asks for no block, links no table, and hands no pair over; and one that hands nothing over need find nothing that is owed.
+/// that asks for no block, links no table, and hands no pair over, nor of one that asks for a block, if the call began with the value that it stores; and one that hands nothing over need find
+/// nothing that is owed. Effects of several steps store one pair each, too.
 pub fn parts_are_all<K, V>()
     ensures joined { PartsAreAll K V }
     ensures several { SeveralFindAll K V }
@@ -36,6 +38,8 @@ pub fn parts_are_all<K, V>()
     ensures pairs { PairsAreAskedFor K V }
     ensures found { FoundLeaveNothing K V }
     ensures others { OthersOweNothing K V }
+    ensures stores { SeveralStoreOne K V }
+    ensures valued { ValuedMayAsk K V }
 {}
 
 /// A pair that has left its map lies where it lay after any effects, whoever makes them, and the root of no map goes back: so a pair that may be retired, as it lies
@@ -82,7 +86,8 @@ pub fn little_waits_at_rest<K, V>()
 {}
 
 /// Each pair that was stored is somewhere, and where it is in a map, that is there: so it is after each event, as a map ends all of whose pairs were given back. Once all is reclaimed nothing waits but what is behind tables of resizes that go on; and
-/// once no map is there, either, each pair that was stored was given back, once. So an event leaves little, by what is so of the moment after it.
+/// once no map is there, either, each pair that was stored was given back, once; after the collector has ended that stays so. So each event of a run leaves little, if its
+/// events go in order, and all is back where they reclaim all; the bound is asked for where nobody is there, of a world that the moment shows.
 pub fn all_comes_back<K, V>()
     ensures begins { SomewhereAtFirst K V }
     ensures effects { EffectsKeepSomewhere K V }
@@ -92,6 +97,8 @@ pub fn all_comes_back<K, V>()
     ensures emptied { EmptiedOnceReclaimed K V }
     ensures torn_down { TornDownInTheEnd K V }
     ensures little { EventsLeaveLittle K V }
+    ensures over_stays { OverStaysBack K V }
+    ensures runs { RunsLeaveLittle K V }
 {}
 
 /// All this is so at each moment of a run whose events come to what is right for them and keep the promise `life`: pairs that have left their maps are in their places,

@@ -1,6 +1,7 @@
 pub mod Logs
 pub mod Lives
 pub mod Rows
+pub mod Putting
 pub mod Worlds
 pub mod Each
 pub mod Stages

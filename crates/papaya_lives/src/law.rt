@@ -3,12 +3,13 @@ ghost use Rattle.std.specs.Prelude.{Option, ℕ, Bool};
 ghost use Rattle.papaya_lives.specs.Behind.{WaitingIsThere};
 ghost use Rattle.papaya_lives.specs.Retired.{RetiredBegins, OthersLeaveRetired, EndingsBeginRetired, RowsBeginRetired, RowsKeepRetired, RowsFindRetired, MakingsKeepRetired, CallsKeepRetired, EndingsKeepRetired};
 ghost use Rattle.papaya_lives.specs.Steps.{WaitingBegins, OthersLeaveWaiting, EndingsBeginWaiting, EffectsFindWaiting, UsersKeepWaiting, RowsBeginWaiting, RowsKeepWaiting, RowsFindWaiting, MakingsKeepWaiting, CallsKeepWaiting, EndingsFindWaiting};
-ghost use Rattle.papaya_lives.specs.Waiting.{WaitUnretired};
+ghost use Rattle.papaya_lives.specs.Waiting.{WaitUnretired, PutsWait};
 
 /// A block that was put behind another one is not retired before that is reclaimed or left over, and the collector has it meanwhile, whatever callers do, in
-/// whatever order they take their steps.
+/// whatever order they take their steps. One that a row is putting behind another one waits behind that.
 pub fn waiting_blocks_are_unretired<T>()
-    ensures { (defers : T → Option ℕ) → WaitUnretired defers }
+    ensures waits { (defers : T → Option ℕ) → WaitUnretired defers }
+    ensures puts { (defers : T → Option ℕ) → PutsWait defers }
 {}
 
 /// Each pair that waits behind a table is told to be behind one, and its block waits behind the table's, or both are left over: so it is before all events,

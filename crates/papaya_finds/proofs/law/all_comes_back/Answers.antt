@@ -1,7 +1,8 @@
 -- What waits once all is reclaimed, and in the end; and what an event leaves.
 use Rattle.papaya_finds.proofs.Bounded.{nothing_retired_once_reclaimed}
+use Rattle.papaya_finds.proofs.Closed.{over_stays_back}
 use Rattle.papaya_finds.proofs.Endings.{events_keep_somewhere}
-use Rattle.papaya_finds.proofs.Little.{events_leave_little}
+use Rattle.papaya_finds.proofs.Little.{events_leave_little, runs_leave_little}
 use Rattle.papaya_finds.proofs.Orderly.{emptied_once_reclaimed}
 use Rattle.papaya_finds.proofs.Somewhere.{effects_keep_somewhere, others_keep_somewhere}
 use Rattle.papaya_finds.proofs.TornDown.{somewhere_at_first, torn_down_in_the_end}
@@ -17,4 +18,6 @@ returns c d = record {
   emptied = emptied_once_reclaimed _ _;
   torn_down = torn_down_in_the_end _ _;
   little = events_leave_little _ _;
+  over_stays = over_stays_back _ _;
+  runs = runs_leave_little _ _;
 }
