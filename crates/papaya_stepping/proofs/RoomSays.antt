@@ -1,6 +1,6 @@
 -- For what a call on no key is refused: for room alone, at each of its steps.
-use Rattle.std.specs.Prelude.{◌≡◌, ℕ, Bool}
-use Rattle.std.proofs.Common.{refl, sym, ap, subst}
+use Rattle.std.specs.Prelude.{ℕ, Bool}
+use Rattle.std.proofs.Common.{sym, subst}
 use Rattle.seize_words.specs.Mem.{Mem}
 use Rattle.seize_words.specs.Plan.{plan_as}
 use Rattle.seize.specs.declared.progress.Progress.{Progress as Counted}
@@ -18,7 +18,7 @@ use Rattle.papaya_sweeps.specs.declared.sweep.Sweep.{Sweep}
 use Rattle.papaya_sweeps.specs.declared.sweep.Swept.{Swept}
 use Rattle.papaya_sweeps.specs.declared.sweep.Swept.TheVariants as ends
 use Rattle.papaya_raw.specs.Machine.{counted, reserved, swept}
-use Rattle.papaya_raw.specs.Progress.{of_counting, of_outcome, of_swept}
+use Rattle.papaya_raw.specs.Progress.{of_outcome, of_swept}
 use Rattle.papaya_raw.specs.declared.machines.machine.Machine.{Machine}
 use Rattle.papaya_raw.specs.declared.machines.machine.Machine.TheVariants as kinds
 use Rattle.papaya_raw.specs.declared.machines.progress.Progress.{Progress}
