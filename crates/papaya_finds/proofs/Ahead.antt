@@ -39,7 +39,7 @@ ahead_or_copied false place copy spot t n l = by ((copy n).turn == t.turn) refl 
     by true copied y e = or_right (nat_le t.turn (spot n).turn) ((copy n).turn == t.turn) copied
     by false copied true e =
         let stays : (spot_by false place copy (effect.Promoted t) spot n) ≡ spot n =
-            ap (λ (z : Bool). if z && ((copy n).turn == t.turn) then copy n else spot n) e ∙ ap (λ (z : Bool). if z then copy n else spot n) copied in
+        ap (λ (z : Bool). if z && ((copy n).turn == t.turn) then copy n else spot n) e ∙ ap (λ (z : Bool). if z then copy n else spot n) copied in
         let there : t.turn ≤ (spot n).turn = subst (λ (x : Spot). t.turn ≤ x.turn) stays l in
         ap (λ (z : Bool). z || ((copy n).turn == t.turn)) (at_most t.turn (spot n).turn there)
     by false copied false e =

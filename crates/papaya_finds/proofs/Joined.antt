@@ -1,16 +1,14 @@
 -- The parts make up all that an effect of a call must find.
-use Rattle.std.specs.Prelude.{◌≡◌, ℕ, true, false, List, [], ◌∷◌, Option, Some, option_map}
+use Rattle.std.specs.Prelude.{◌≡◌, ℕ, true, false, List, [], ◌∷◌, Option, Some}
 use Rattle.std.specs.List.{list_all}
-use Rattle.std.proofs.Common.{refl, ap, sym, subst, ◌∙◌, inl}
+use Rattle.std.proofs.Common.{refl, sym, subst, ◌∙◌, inl}
 use Rattle.papaya_schedules.specs.declared.effect.Effect.{Effect}
 use Rattle.papaya_schedules.specs.declared.effect.Effect.TheVariants as effect
 use Rattle.papaya_schedules.specs.declared.effect.Growth.TheVariants.{ABlock, ABucket}
 use Rattle.papaya_schedules.specs.declared.effect.Thing.TheVariants.{APair, ATable}
-use Rattle.papaya_schedules.specs.declared.event.Event.{Event}
-use Rattle.papaya_schedules.specs.declared.event.Event.TheVariants as event
 use Rattle.papaya_schedules.specs.After.{moments_from}
 use Rattle.papaya_schedules.specs.Effects.{call_by, with_effect, AtEachEffect}
-use Rattle.papaya_schedules.specs.Entry.{ByCall, acting, acted_on, caller_of}
+use Rattle.papaya_schedules.specs.Entry.{ByCall, acting, caller_of}
 use Rattle.papaya_schedules.specs.declared.call.Call.{Call}
 use Rattle.papaya_schedules.specs.declared.call.Call.TheVariants as call
 use Rattle.papaya_schedules.specs.Growing.{only_looks, has_value_for, MayGrow}
@@ -28,6 +26,8 @@ use Rattle.papaya_owes.proofs.Fields.{its_effect}
 use Rattle.papaya_settles.specs.Owing.{FindsOwed}
 use Rattle.papaya_settles.specs.Shards.{is_counting}
 use Rattle.papaya_spots.proofs.Unreclaimed.{and_both}
+use Rattle.papaya_finds.proofs.Life.{each_so}
+use Rattle.papaya_finds.proofs.Over.{acts}
 use Rattle.papaya_finds.specs.Joined.{FindParts, PartsAreAll, SeveralFindAll, EventsFindAll, PairsAreAskedFor}
 use Rattle.papaya_finds.specs.Parts.{FindsPlace, FindsAhead, FindsRest, FindsAll, FindOwed, FindRest, FindAll}
 
@@ -95,33 +95,19 @@ parts_are_all K V terms moments own map effects m c c_is on parts owed rest = al
 pub several_find_all : (K V : Type 0) → SeveralFindAll K V
 several_find_all K V terms moments own map done effects m before after = several_find (FindsAll terms moments own) own map done effects m before after
 
-module _ {K V : Type 0} where
-  -- an event whose steps are of this caller acts on the map of the caller's call
-  acts_on_its : (its : Event K V) (b : Moment K V) (own : List ℕ) (c : CallThere K V) → caller_of its ≡ Some own → call_of own b ≡ Some c → acted_on its b ≡ Some c.map
-  acts_on_its (event.EndMap map) b own c caller c_is = absurd (cc caller)
-  acts_on_its (event.MakeMap map mode capacity) b own c caller c_is = absurd (cc caller)
-  acts_on_its its b own c caller c_is =
-      ap (λ (who : Option (List ℕ)). option_map (λ (d : CallThere K V). d.map) (acting who b)) caller ∙ ap (option_map (λ (d : CallThere K V). d.map)) c_is
-
-  -- what each effect finds, another way said
-  each_as : (P Q : Moment K V → Effect → Type 0) → ((m : Moment K V) (f : Effect) → P m f → Q m f) → (who : Option (List ℕ)) (map : Option ℕ) (effects : List Effect) (m : Moment K V)
-      → AtEachEffect P who map effects m → AtEachEffect Q who map effects m
-  each_as P Q as who map [] m all = tt
-  each_as P Q as who map (f ∷ fs) m all = (as m f all.0, each_as P Q as who map fs (with_effect who map f m) all.1)
-
 pub events_find_all : (K V : Type 0) → EventsFindAll K V
 events_find_all K V terms log e b own c caller c_is all =
-    subst (λ (map : Option ℕ). AllBy (caller_of e.event) map (acting (caller_of e.event) b)) (sym (acts_on_its e.event b own c caller c_is))
+    subst (λ (map : Option ℕ). AllBy (caller_of e.event) map (acting (caller_of e.event) b)) (sym (acts e.event b own c caller c_is))
     (subst (λ (who : Option (List ℕ)). AllBy who (Some c.map) (acting who b)) (sym caller)
     (subst (λ (o : Option (CallThere K V)). AllBy (Some own) (Some c.map) o) (sym c_is)
-    (each_as (FindsAll terms (moments_from c.begun log) own) (Finds terms (Some own) (Some c.map) (gives_all e.event) (moments_from c.begun log)) (λ m f found. found) (Some own) (Some c.map) e.effects b all)))
+    (each_so (FindsAll terms (moments_from c.begun log) own) (Finds terms (Some own) (Some c.map) (gives_all e.event) (moments_from c.begun log)) (λ m f found. found) (Some own) (Some c.map) e.effects b all)))
   where
     AllBy : Option (List ℕ) → Option ℕ → Option (CallThere K V) → Type 0
     AllBy who map o = AtEachEffect (Finds terms who map (gives_all e.event) (moments_of terms log o)) who map e.effects b
 
 module _ {K V : Type 0} (terms : Terms) (moments : List (Moment K V)) where
   -- a call that has a value for a pair may ask for the block
-  valued_grows : (its : Call K V) (c : CallThere K V) → has_value_for its c ≡ true → MayGrow terms its c moments
+  pub valued_grows : (its : Call K V) (c : CallThere K V) → has_value_for its c ≡ true → MayGrow terms its c moments
   valued_grows (call.Reserve more) c e = absurd (cc e)
   valued_grows _ c e = inl e
 

@@ -1,5 +1,5 @@
 -- A pair that has left its map lies where it lay, and the root of a map does not go back.
-use Rattle.std.specs.Prelude.{◌≡◌, ◌≢◌, ℕ, ◌+◌, ◌≤◌, ◌==◌, nat_lt, Bool, true, false, MatchBool, List, [], ◌∷◌, find, length, map as list_map, Option, Some, None}
+use Rattle.std.specs.Prelude.{◌≡◌, ◌≢◌, ℕ, ◌≤◌, ◌==◌, nat_lt, Bool, true, false, MatchBool, List, [], ◌∷◌, find, length, map as list_map, Option, Some, None}
 use Rattle.std.proofs.Common.{refl, ap, sym, subst, ◌∙◌, arith, inl, inr}
 use Rattle.std.proofs.lemmas.Bool.{cases_eq}
 use Rattle.papaya_schedules.specs.declared.effect.Effect.{Effect}
@@ -8,9 +8,8 @@ use Rattle.papaya_schedules.specs.declared.effect.Spot.{Spot}
 use Rattle.papaya_schedules.specs.declared.effect.Table.{Table}
 use Rattle.papaya_schedules.specs.Effects.{promoted, born_by, spot_by, is_chunked, call_by, with_effect, AtEachEffect}
 use Rattle.papaya_schedules.specs.Entry.{ByCall}
-use Rattle.papaya_schedules.specs.Growing.{ComesNext}
 use Rattle.papaya_schedules.specs.Lives.{IsPast, MayCopy}
-use Rattle.papaya_schedules.specs.Moment.{Place, UnderWay as CallThere, MapThere, TableThere, Moment}
+use Rattle.papaya_schedules.specs.Moment.{Place, UnderWay as CallThere, MapThere, Moment}
 use Rattle.papaya_schedules.specs.Views.{call_of, is_in_a_map, first_or, first_of, map_at, grows_in_chunks, tables_of}
 use Rattle.papaya_follows.specs.Finds.{FindsMap}
 use Rattle.papaya_follows.proofs.Alike.{put_elsewhere, others_found}
@@ -22,6 +21,7 @@ use Rattle.papaya_spots.proofs.Deferred.{stays_out}
 use Rattle.papaya_spots.proofs.Effects.{aside_all, spot_copied_other, spot_promoted_other}
 use Rattle.papaya_spots.proofs.Elsewhere.{stored_grows}
 use Rattle.papaya_finds.specs.Parts.{FindsPlace, FindPlacesOf}
+use Rattle.papaya_finds.proofs.Grown.{comes_on}
 use Rattle.papaya_finds.specs.Past.{HasLeftMaps, IsPastRoot, FindsOnward, EffectsLeavePast, CallsFindOnward}
 
 itself : (n : ℕ) → n ≤ n
@@ -104,11 +104,6 @@ pub effects_leave_past : (K V : Type 0) → EffectsLeavePast K V
 effects_leave_past K V who acted [] m finds on map n left past = (left, past)
 effects_leave_past K V who acted (f ∷ fs) m finds on map n left past =
     let one = one_past who acted f m finds.0 on.0 map n left past in effects_leave_past K V who acted fs (with_effect who acted f m) finds.1 on.1 map n one.0 one.1
-
--- the root comes to no earlier table
-comes_on : (q : Bool) (first turn : ℕ) (tables : List TableThere) → ComesNext q first turn tables → first ≤ turn
-comes_on true first turn tables h = let next : turn ≡ first + 1 = h in omega (arith, next)
-comes_on false first turn tables h = let l = h.0 in omega (arith, l)
 
 module _ {K V : Type 0} (own : List ℕ) (map : ℕ) where
   one_onward : (f : Effect) (m : Moment K V) (c : CallThere K V) → FindsMap map m f → FindsPlace map m f c → FindsOnward (Some map) m f

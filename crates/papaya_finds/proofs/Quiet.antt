@@ -11,11 +11,21 @@ use Rattle.papaya_schedules.specs.Entry.{ByCall}
 use Rattle.papaya_schedules.specs.Moment.{UnderWay as CallThere, Moment}
 use Rattle.papaya_schedules.specs.Terms.{Terms}
 use Rattle.papaya_schedules.specs.Views.{call_of}
+use Rattle.papaya_schedules.specs.declared.call.Call.{Call}
+use Rattle.papaya_schedules.specs.declared.call.Call.TheVariants as call
+use Rattle.papaya_schedules.specs.declared.call.OneKey.{OneKey}
+use Rattle.papaya_schedules.specs.declared.call.OneKey.TheVariants as key
+use Rattle.papaya_schedules.specs.Growing.{has_value_for}
+use Rattle.papaya_schedules.specs.Sequential.{has_value}
+use Rattle.papaya_schedules.specs.Views.{has_gift}
+use Rattle.papaya_owes.proofs.Events.{several_find}
 use Rattle.papaya_owes.proofs.Fields.{its_effect}
 use Rattle.papaya_settles.specs.Owing.{FindsOwed, hands_over}
 use Rattle.papaya_spots.proofs.Unreclaimed.{and_both}
 use Rattle.papaya_finds.specs.Parts.{FindsRest, FindOwed, FindRest}
-use Rattle.papaya_finds.specs.Quiet.{is_found, FoundLeaveNothing, OthersOweNothing}
+use Rattle.papaya_finds.specs.Quiet.{is_found, FoundLeaveNothing, OthersOweNothing, SeveralStoreOne, has_own_value, ValuedMayAsk}
+use Rattle.papaya_finds.specs.Life.{StoresOne}
+use Rattle.papaya_finds.proofs.Joined.{valued_grows}
 
 neither : (a b : Bool) → (a || b) ≡ false → (a ≡ false) × (b ≡ false)
 neither true b e = absurd (cc e)
@@ -59,3 +69,27 @@ module _ {K V : Type 0} where
 
 pub others_owe_nothing : (K V : Type 0) → OthersOweNothing K V
 others_owe_nothing K V own map effects m c c_is e = all_owed own map effects m c c_is e
+
+pub several_store_one : (K V : Type 0) → SeveralStoreOne K V
+several_store_one K V own map done effects m before after = several_find (StoresOne (Some own)) own map done effects m before after
+
+-- what is so without a reply is so with one
+value_still : {K V : Type 0} (one : OneKey K V) (told : Bool) → has_value one false ≡ true → has_value one told ≡ true
+value_still {K} {V} one true e = by one e
+  where
+    by : (its : OneKey K V) → has_value its false ≡ true → has_value its true ≡ true
+    by (key.Insert k v) e = refl
+    by (key.TryInsert k v) e = refl
+    by (key.GetOrInsert k v) e = refl
+    by (key.UpdateOrInsert k v) e = refl
+    by _ e = absurd (cc e)
+value_still one false e = e
+
+valued_there : {K V : Type 0} (its : Call K V) (c : CallThere K V) → has_own_value its ≡ true → has_value_for its c ≡ true
+valued_there (call.On one) c e = value_still one (has_gift c.replies) e
+valued_there (call.Reserve more) c e = absurd (cc e)
+valued_there _ c e = absurd (cc e)
+
+pub valued_may_ask : (K V : Type 0) → ValuedMayAsk K V
+valued_may_ask K V terms moments m c e =
+    let there = valued_there c.call c e in (valued_grows terms moments c.call c there, valued_grows terms (m ∷ moments) c.call c there)

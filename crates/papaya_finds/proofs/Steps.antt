@@ -1,7 +1,7 @@
 -- The effects of a step of a call find pairs and tables of its map as they must, whether it is one of a row or none.
-use Rattle.std.specs.Prelude.{◌≡◌, ℕ, Bool, true, List, [], ◌∷◌, Option, Some, None}
+use Rattle.std.specs.Prelude.{◌≡◌, ℕ, ◌+◌, Bool, true, List, [], ◌∷◌, length, Option, Some, None}
 use Rattle.std.specs.List.{list_all}
-use Rattle.std.proofs.Common.{refl, ap, sym, subst, ◌∙◌, inl, inr}
+use Rattle.std.proofs.Common.{refl, ap, sym, subst, ◌∙◌, inl, inr, length-append}
 use Rattle.seize_words.specs.Mem.{Mem}
 use Rattle.seize.specs.World.{World}
 use Rattle.papaya_tables.specs.declared.node.Node.{Node}
@@ -10,7 +10,7 @@ use Rattle.papaya_schedules.specs.declared.effect.Effect.{Effect}
 use Rattle.papaya_schedules.specs.declared.effect.Effect.TheVariants as effect
 use Rattle.papaya_schedules.specs.declared.effect.Spot.{Spot}
 use Rattle.papaya_schedules.specs.declared.effect.Table.{Table}
-use Rattle.papaya_schedules.specs.Effects.{with_effects, AtEachEffect}
+use Rattle.papaya_schedules.specs.Effects.{new_pair, stored_by, with_effect, with_effects, AtEachEffect}
 use Rattle.papaya_schedules.specs.Entry.{acting}
 use Rattle.papaya_schedules.specs.Growing.{none_before}
 use Rattle.papaya_schedules.specs.Handing.{is_call_effect}
@@ -33,7 +33,7 @@ use Rattle.papaya_follows.specs.Calls.{IsCalled}
 use Rattle.papaya_follows.specs.Finds.{FindsMap}
 use Rattle.papaya_follows.specs.Shows.{Shows}
 use Rattle.papaya_follows.specs.Steps.{HasPair, HasToStore, StoreTheirs, TakesNone, named_now}
-use Rattle.papaya_follows.proofs.Alike.{calm_still, put_here}
+use Rattle.papaya_follows.proofs.Alike.{is_calm, AllCalm, calm_still, put_here}
 use Rattle.papaya_follows.proofs.Finds.{still_find}
 use Rattle.papaya_follows.proofs.Onward.{IsLasting, IsOfMap}
 use Rattle.papaya_follows.proofs.Operations.{LeavesBy, operated_leaves}
@@ -49,7 +49,9 @@ use Rattle.papaya_owes.proofs.Tables.Kinds.{no_room}
 use Rattle.papaya_spots.specs.Spots.{ShowsPlaces}
 use Rattle.papaya_spots.proofs.Steps.{calls_find_places}
 use Rattle.papaya_finds.specs.Parts.{FindPlacesOf, FindAhead}
-use Rattle.papaya_finds.specs.Steps.{StepsDoTheirs, StepsFindPlaces}
+use Rattle.papaya_finds.specs.Steps.{StepsDoTheirs, StepsFindPlaces, StepsStoreOne}
+use Rattle.papaya_finds.specs.Life.{StoresOne}
+use Rattle.papaya_finds.proofs.Life.{each_so}
 use Rattle.papaya_finds.proofs.Ahead.{none_behind}
 use Rattle.papaya_finds.proofs.Replaces.{replaces_none}
 use Rattle.papaya_finds.proofs.Shaped.{placed_all, ahead_all, rows_store_none, rows_promote_none}
@@ -63,6 +65,29 @@ lasting_of_map role.Free of = absurd of
 lasting_of_map (role.OwnPair i) of = absurd of
 lasting_of_map (role.OwnTable turn shape) of = absurd of
 lasting_of_map (role.Counter map) of = absurd of
+
+-- a call that has a pair to store stores one
+has_one : {K V : Type 0} (memory : Mem (Node K V)) (b : ℕ) (own : List ℕ) (m : Moment K V) (f : Effect) → HasPair memory b (acting (Some own) m) f → StoresOne (Some own) m f
+has_one {K} {V} memory b own m (effect.Stored n s) has = by (acting (Some own) m) has
+  where
+    by : (o : Option (CallThere K V)) → HasToStore memory b o n → length (stored_by o (effect.Stored n s) m.stored) ≡ length m.stored + 1
+    by None none = absurd none
+    by (Some c) its = length-append m.stored (new_pair c.call c n) ∙ ap (λ (l : List (K × V)). length m.stored + length l) its.2
+has_one memory b own m _ has = tt
+
+calms_store : {K V : Type 0} (own : List ℕ) (map : ℕ) (effects : List Effect) (m : Moment K V) → AllCalm effects → AtEachEffect (StoresOne (Some own)) (Some own) (Some map) effects m
+calms_store own map [] m calm = tt
+calms_store {K} {V} own map (f ∷ effects) m calm = (one f calm.0, calms_store own map effects (with_effect (Some own) (Some map) f m) calm.1)
+  where
+    one : (g : Effect) → is_calm g ≡ true → StoresOne (Some own) m g
+    one (effect.Stored n s) e = absurd (cc e)
+    one _ e = tt
+
+-- a row stores none
+rows_store : {K V : Type 0} (own : List ℕ) (map : ℕ) (effects : List Effect) (m : Moment K V) → HandsOn effects → AtEachEffect (StoresOne (Some own)) (Some own) (Some map) effects m
+rows_store own map _ m (IsStill effects calm) = calms_store own map effects m calm
+rows_store own map _ m (Puts n t) = (tt, tt)
+rows_store own map _ m (Retires x) = (tt, tt)
 
 -- what a row tells of finds nothing of the map
 rows_find_map : {K V : Type 0} (own : List ℕ) (map : ℕ) (effects : List Effect) (m : Moment K V) → HandsOn effects → AtEachEffect (FindsMap map) (Some own) (Some map) effects m
@@ -98,11 +123,12 @@ module _ {K V S : Type 0} (same : K → K → Bool) (hash : K → ℕ) (name : �
   c = its_call.0
 
   -- what is to be known of a single effect that stores a pair, or brings the root on
-  pub record Single : Type 0 where
+  record Single : Type 0 where
     pub on_map : AtEachEffect (FindsMap map) (Some (name i)) (Some map) effects m
     pub stores : (n : ℕ) (sp : Spot) → effects ≡ effect.Stored n sp ∷ [] → c.replacing ≡ None
     pub promotes : (t : Table) → effects ≡ effect.Promoted t ∷ [] → none_before map t.turn m ≡ true
     pub takes : (b : ℕ) → new.memory.changed ≡ changed.Took b → IsOfMap (known.roles b) → ⊥
+    pub one : AtEachEffect (StoresOne (Some (name i))) (Some (name i)) (Some map) effects m
 
   -- a step that is none of a row
   module _ (own : NoRow u to.4.did) where
@@ -122,7 +148,7 @@ module _ {K V S : Type 0} (same : K → K → Bool) (hash : K → ℕ) (name : �
     own_stores n sp is =
         let first = (subst (λ (l : List Effect). AtEachEffect (λ v f. Has (acting (Some (name i)) v) f) (Some (name i)) (Some map) l m) is theirs).0 in
         let has : HasToStore s.world.memory (named_now new.memory.changed) (Some c) n =
-            subst (λ (o : Option (CallThere K V)). HasToStore s.world.memory (named_now new.memory.changed) o n) its_call.1 first in
+        subst (λ (o : Option (CallThere K V)). HasToStore s.world.memory (named_now new.memory.changed) o n) its_call.1 first in
         replaces_none same (whole.all.shown.number map) to.0.chart.stored known u c.call c refl its_call.3 (whole.all.asked.each map i u here to.0 to.2 c its_call.1) has.0 has.1 n has.2
 
     own_promotes : (t : Table) → effects ≡ effect.Promoted t ∷ [] → none_before map t.turn m ≡ true
@@ -137,12 +163,19 @@ module _ {K V S : Type 0} (same : K → K → Bool) (hash : K → ℕ) (name : �
     own_takes : (b : ℕ) → new.memory.changed ≡ changed.Took b → IsOfMap (known.roles b) → ⊥
     own_takes b is of_map =
         let gone : known2.roles b ≡ role.Free =
-            ap (λ (x : Changed). (known_after (acts.Call i map) x known).roles b) is ∙ put_here b role.Free known.roles b refl in
+        ap (λ (x : Changed). (known_after (acts.Call i map) x known).roles b) is ∙ put_here b role.Free known.roles b refl in
         let kept = (step_shown same hash name m known s old new at whole.all.shown map i u here said leads own theirs).1.keeps b (lasting_of_map (known.roles b) of_map) in
         subst IsOfMap (sym kept ∙ gone) of_map
 
-    pub own_single : Single
-    own_single = record { on_map = finds_map; stores = own_stores; promotes = own_promotes; takes = own_takes }
+    own_single : Single
+    own_single = record {
+      on_map = finds_map;
+      stores = own_stores;
+      promotes = own_promotes;
+      takes = own_takes;
+      one = each_so (λ v f. Has (acting (Some (name i)) v) f) (StoresOne (Some (name i))) (λ v f has. has_one s.world.memory (named_now new.memory.changed) (name i) v f has) (Some (name i)) (Some map)
+          effects m theirs;
+    }
 
   -- a step of a row
   module _ (other : NoRow u to.4.did → ⊥) where
@@ -170,12 +203,13 @@ module _ {K V S : Type 0} (same : K → K → Bool) (hash : K → ℕ) (name : �
     hands : HandsOn effects
     hands = by_kind u to.4.did other
 
-    pub row_single : Single
+    row_single : Single
     row_single = record {
       on_map = rows_find_map (name i) map effects m hands;
       stores = λ n sp is. absurd (rows_store_none effects hands n sp is);
       promotes = λ t is. absurd (rows_promote_none effects hands t is);
       takes = λ b is of_map. subst TakesNone is takes_none;
+      one = rows_store (name i) map effects m hands;
     }
 
   single : Single
@@ -195,6 +229,9 @@ module _ {K V S : Type 0} (same : K → K → Bool) (hash : K → ℕ) (name : �
   pub do_theirs : list_all is_call_effect effects ≡ true
   do_theirs = all_of_calls effects shaped
 
+  pub store_one : AtEachEffect (StoresOne (Some (name i))) (Some (name i)) (Some map) effects m
+  store_one = single.one
+
   pub find_places : AtEachEffect (FindsMap map) (Some (name i)) (Some map) effects m × FindPlacesOf (name i) map effects m × FindAhead (name i) map effects m
   find_places = (
     single.on_map,
@@ -208,3 +245,6 @@ steps_do_theirs K V S same hash name m known s old new at whole map i u here sai
 
 pub steps_find_places : (K V S : Type 0) (same : K → K → Bool) (hash : K → ℕ) → StepsFindPlaces K V S same hash
 steps_find_places K V S same hash name m known s old new at whole map i u here said leads = find_places same hash name m known s old new at whole map i u here said leads
+
+pub steps_store_one : (K V S : Type 0) (same : K → K → Bool) (hash : K → ℕ) → StepsStoreOne K V S same hash
+steps_store_one K V S same hash name m known s old new at whole map i u here said leads = store_one same hash name m known s old new at whole map i u here said leads

@@ -3,4 +3,14 @@ pub mod Joined
 pub mod Steps
 pub mod Past
 pub mod Quiet
-pub mod Kinds
+pub mod Doing
+pub mod Waiting
+pub mod Life
+pub mod Tables
+pub mod Orderly
+pub mod TornDown
+pub mod Bounded
+pub mod Events
+pub mod Endings
+pub mod Within
+pub mod Little

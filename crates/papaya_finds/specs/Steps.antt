@@ -24,6 +24,7 @@ use Rattle.papaya_owes.specs.Short.{ShowsShort}
 use Rattle.papaya_owes.specs.Tables.{ShowsTables}
 use Rattle.papaya_settles.specs.Counts.{ShowsCounts}
 use Rattle.papaya_finds.specs.Joined.{FindParts}
+use Rattle.papaya_finds.specs.Life.{StoresOne}
 use Rattle.papaya_finds.specs.Parts.{FindPlacesOf, FindAhead}
 
 -- all that a moment shows of what calls under way have made, have to count, and are
@@ -51,6 +52,13 @@ module _ (K V S : Type 0) (same : K → K → Bool) (hash : K → ℕ) where
       → (map i : ℕ) (u : UnderWay K V K) → s.calls map i ≡ Some u → (said : Progress (Node K V)) → StepLeads same hash i said s old new
       → (let effects = effects_of (acts.Call i map) known new.memory.changed in
       AtEachEffect (FindsMap map) (Some (name i)) (Some map) effects m × FindPlacesOf (name i) map effects m × FindAhead (name i) map effects m)
+
+  -- Each that stores a pair stores one, which the call had to store.
+  abbrev pub StepsStoreOne : Type 0
+  StepsStoreOne =
+      (name : ℕ → List ℕ) (m : Moment K V) (known : Known) (s : Scene K V) (old new : Executor K V S) → IsAt same hash old s → ShowsWhole same name m known s
+      → (map i : ℕ) (u : UnderWay K V K) → s.calls map i ≡ Some u → (said : Progress (Node K V)) → StepLeads same hash i said s old new
+      → AtEachEffect (StoresOne (Some (name i))) (Some (name i)) (Some map) (effects_of (acts.Call i map) known new.memory.changed) m
 
   -- So they find all parts that are promised, where the guard of the call is on the slot of its caller, and the map has as many shards as the terms say.
   abbrev pub StepsFindParts : Type 0

@@ -1,8 +1,11 @@
 pub mod Logs
 pub mod Lives
 pub mod Rows
+pub mod Putting
 pub mod Worlds
 pub mod Each
+pub mod Stages
+pub mod Retires
 pub mod Users
 pub mod Makings
 pub mod Calls
@@ -10,3 +13,7 @@ pub mod Taken
 pub mod OnSlots
 pub mod Waiting
 pub mod Ends
+pub mod Reclaimed
+pub mod RetiredCalls
+pub mod CallRows
+pub mod RetiredEnds

@@ -41,52 +41,53 @@ use Rattle.papaya_moments.specs.Whole.{ShowsWhole}
 use Rattle.papaya_moments.proofs.MakingSteps.{makings_go_beside}
 use Rattle.papaya_lives.specs.Behind.{ShowsWaiting}
 use Rattle.papaya_lives.specs.Steps.{MakingsKeepWaiting}
+use Rattle.papaya_lives.proofs.Stages.{NoneEnds}
 use Rattle.papaya_lives.proofs.Users.{users_keep_waiting}
 
 module _ {K V : Type 0} (map : ℕ) (of : Option ℕ) (m : Moment K V) (known : Known) where
   abbrev its : Acting
   its = Making map
 
-  -- effects that neither put a pair behind a table nor move one
+  -- effects that neither put a pair behind a table nor move one, and end no table
   abbrev AreApart : List Effect → Type 0
-  AreApart effects = ((with_effects None of effects m).deferred ≡ m.deferred) × ((with_effects None of effects m).place ≡ m.place)
+  AreApart effects = ((with_effects None of effects m).deferred ≡ m.deferred) × ((with_effects None of effects m).place ≡ m.place) × ((t : Table) → NoneEnds t effects)
 
   made_apart : (k : Kind) → AreApart (Asked ABlock ∷ made_by its k)
-  made_apart kind.Pair = (refl, refl)
-  made_apart (kind.Table len limit turn) = (refl, refl)
-  made_apart kind.Shards = (refl, refl)
+  made_apart kind.Pair = (refl, refl, λ t. (λ z. z, (λ z. z, tt)))
+  made_apart (kind.Table len limit turn) = (refl, refl, λ t. (λ z. z, (λ z. z, tt)))
+  made_apart kind.Shards = (refl, refl, λ t. (λ z. z, tt))
 
   taken_apart : (r : Role) → (IsOfMap r → ⊥) → AreApart (taken_by its r)
-  taken_apart role.Free none = (refl, refl)
-  taken_apart (role.OwnPair i) none = (refl, refl)
-  taken_apart (role.OwnTable turn shape) none = (refl, refl)
+  taken_apart role.Free none = (refl, refl, λ t. tt)
+  taken_apart (role.OwnPair i) none = (refl, refl, λ t. (λ z. z, tt))
+  taken_apart (role.OwnTable turn shape) none = (refl, refl, λ t. (λ z. z, tt))
   taken_apart (role.Pair n) none = absurd (none tt)
   taken_apart (role.Table t len) none = absurd (none tt)
-  taken_apart (role.Counter c) none = (refl, refl)
+  taken_apart (role.Counter c) none = (refl, refl, λ t. tt)
 
   led_apart : (q : Bool) (is : Role) → AreApart (if q then [] else led_to its role.Free is)
-  led_apart true is = (refl, refl)
-  led_apart false role.Free = (refl, refl)
-  led_apart false (role.OwnPair i) = (refl, refl)
-  led_apart false (role.OwnTable turn shape) = (refl, refl)
-  led_apart false (role.Pair n) = (refl, refl)
-  led_apart false (role.Table t len) = (refl, refl)
-  led_apart false (role.Counter c) = (refl, refl)
+  led_apart true is = (refl, refl, λ t. tt)
+  led_apart false role.Free = (refl, refl, λ t. tt)
+  led_apart false (role.OwnPair i) = (refl, refl, λ t. tt)
+  led_apart false (role.OwnTable turn shape) = (refl, refl, λ t. (λ z. z, tt))
+  led_apart false (role.Pair n) = (refl, refl, λ t. tt)
+  led_apart false (role.Table t len) = (refl, refl, λ t. tt)
+  led_apart false (role.Counter c) = (refl, refl, λ t. tt)
 
   word_apart : (field : ℕ) (r : Role) (q : Bool) (was is : Role) → ((t : Table) (len : ℕ) → r ≡ role.Table t len → q ≡ true) → AreApart (in_block its r field known.stored q was is)
-  word_apart field role.Free q was is names = (refl, refl)
-  word_apart field (role.OwnPair i) q was is names = (refl, refl)
-  word_apart field (role.OwnTable turn shape) q was is names = (refl, refl)
-  word_apart field (role.Pair n) q was is names = (refl, refl)
-  word_apart field (role.Counter c) q was is names = (refl, refl)
-  word_apart field (role.Table t len) true was is names = (refl, refl)
+  word_apart field role.Free q was is names = (refl, refl, λ t. tt)
+  word_apart field (role.OwnPair i) q was is names = (refl, refl, λ t. tt)
+  word_apart field (role.OwnTable turn shape) q was is names = (refl, refl, λ t. tt)
+  word_apart field (role.Pair n) q was is names = (refl, refl, λ t. tt)
+  word_apart field (role.Counter c) q was is names = (refl, refl, λ t. (λ z. z, tt))
+  word_apart field (role.Table t len) true was is names = (refl, refl, λ t. tt)
   word_apart field (role.Table t len) false was is names = absurd (let e = names t len refl in cc e)
 
   module _ (w w2 : World (Node K V)) (i root : ℕ) (free : known.roles 0 ≡ role.Free)
       (no_table : (x : ℕ) (q : Bool) → TellsMaking w i root (changed.Wrote (Word x 0) 0 0) → (t : Table) (len : ℕ) → known.roles x ≡ role.Table t len → q ≡ true)
       (stays : (x : ℕ) → IsOfMap (known.roles x) → IsSome (value_at w2.memory x)) where
     making_apart : (told : Changed) → TellsMaking w i root told → LeavesBy w.memory w2.memory told → AreApart (effects_of its known told)
-    making_apart changed.Nothing so l = (refl, refl)
+    making_apart changed.Nothing so l = (refl, refl, λ t. tt)
     making_apart (changed.Wrote (Root r) before after) so l =
         subst (λ (x : Role). AreApart (if names_same before after then [] else led_to its x (named known after))) (sym was_free) (led_apart (names_same before after) (named known after))
       where
@@ -95,13 +96,13 @@ module _ {K V : Type 0} (map : ℕ) (of : Option ℕ) (m : Moment K V) (known : 
 
         was_free : named known before ≡ role.Free
         was_free = ap (λ (x : ℕ). known.roles (block_in x)) nothing_before ∙ free
-    making_apart (changed.Wrote (Used r) before after) so l = (refl, refl)
+    making_apart (changed.Wrote (Used r) before after) so l = (refl, refl, λ t. tt)
     making_apart (changed.Wrote (Slot t field) before after) so l = absurd so
     making_apart (changed.Wrote (Entry x field) before after) so l = absurd so
     making_apart (changed.Wrote (Word x field) before after) so l =
         word_apart field (known.roles x) (names_same before after) (named known before) (named known after) (no_table x (names_same before after) so)
     making_apart (changed.Made k x) so l = made_apart k
-    making_apart (changed.Unmade k) so l = (refl, refl)
+    making_apart (changed.Unmade k) so l = (refl, refl, λ t. (λ z. z, tt))
     making_apart (changed.Took x) so l = taken_apart (known.roles x) (λ its_map. gone (value_at w2.memory x) (stays x its_map) l.1)
       where
         gone : (o : Option (Node K V)) → IsSome o → o ≡ None → ⊥
@@ -150,13 +151,17 @@ module _ {K V S : Type 0} (same : K → K → Bool) (hash : K → ℕ) (name : �
       let there = subst (λ (z : World (Node K V)). IsSome (value_at z.memory x)) (sym (world_then same hash s old new i b to.0 to.2.step.w2 told to.3)) (of_map_there x r e its) in
       (makings_go_beside K V S same hash name m known s old new at whole i told leads b here of was_new).roles x there (subst IsOfMap (sym e) its) ∙ e
 
+  pub apart : AreApart b.map of m known (effects_of (Making b.map) known new.memory.changed)
+  apart =
+      let to = leads b here in
+      making_apart b.map of m known s.world to.2.step.w2 i b.machine.setting.root (nothing_free s.world m.stored known whole.all.shown.blocks.roles)
+      (λ x q made. no_table_word same hash name m known s old new at whole.all.shown i b here to.0 told to.1 to.2 of x q made)
+      (λ x its. of_map_there x (known.roles x) refl its)
+      new.memory.changed (tells same hash name m known s old new at whole.all.shown i b here to.0 told to.1 to.2 of) (left same hash name m known s old new at whole.all.shown i b here to.0 told to.1 to.2 of)
+
   making_waiting : ShowsWaiting m known s.world → ShowsWaiting (with_effects None of (effects_of (Making b.map) known new.memory.changed) m) known2 w2
   making_waiting waiting =
       let to = leads b here in
-      let apart = making_apart b.map of m known s.world to.2.step.w2 i b.machine.setting.root (nothing_free s.world m.stored known whole.all.shown.blocks.roles)
-      (λ x q made. no_table_word same hash name m known s old new at whole.all.shown i b here to.0 told to.1 to.2 of x q made)
-      (λ x its. of_map_there x (known.roles x) refl its)
-      new.memory.changed (tells same hash name m known s old new at whole.all.shown i b here to.0 told to.1 to.2 of) (left same hash name m known s old new at whole.all.shown i b here to.0 told to.1 to.2 of) in
       users_keep_waiting K V old.batch_size m (with_effects None of (effects_of (Making b.map) known new.memory.changed) m) known known2 s.world w2 at.together.makings.standing.came waiting
       to.2.step.events to.2.step.users to.2.step.runs apart.0 (λ n t l is. ap (λ (f : ℕ → Place). f n) apart.1 ∙ is) (λ x n e. role_kept x (role.Pair n) e tt) (λ x len t e. role_kept x (role.Table t len) e tt)
 

@@ -25,7 +25,7 @@ here : (f : ℕ → Life) (k : ℕ) (x : Life) (j : ℕ) → j ≡ k → put f k
 here f k x j e = ap (λ (q : Bool). if q then x else f j) (eq-eqb j k e)
 
 -- a link names one block
-same_link : (b d : ℕ) → link b ≡ link d → b ≡ d
+pub same_link : (b d : ℕ) → link b ≡ link d → b ≡ d
 same_link b d e = sym (link-block b) ∙ ap (λ (k : ℕ). k / 2048) e ∙ link-block d
 
 word_of : (t u d field : ℕ) → Word t d ≡ Word u field → t ≡ u
@@ -41,13 +41,13 @@ off_left false m i s es = refl
 
 module _ (n i : ℕ) (f : View) (m : State) (x : Extra) where
   -- a row on its way to a list is to put this block there
-  on_the_way : (s block : ℕ) (word : At) (p : Deferring) → IsOnWay p → FitsDefer n i f m x s block word p → IsOnTheWay n i f m x s block word
+  pub on_the_way : (s block : ℕ) (word : At) (p : Deferring) → IsOnWay p → FitsDefer n i f m x s block word p → IsOnTheWay n i f m x s block word
   on_the_way s block word at.Reads on fits = fits
   on_the_way s block word (at.Links head) on fits = fits
   on_the_way s block word (at.Pushes head) on fits = fits.on
   on_the_way s block word at.Over on fits = absurd on
 
-  its_life : (s d u field : ℕ) (block : ℕ) (word : At) → block ≡ link d → word ≡ Word u field → IsOnTheWay n i f m x s block word → m.life d ≡ IsDeferring i s u
+  pub its_life : (s d u field : ℕ) (block : ℕ) (word : At) → block ≡ link d → word ≡ Word u field → IsOnTheWay n i f m x s block word → m.life d ≡ IsDeferring i s u
   its_life s d u field block word is names r =
       let one : r.b ≡ d = same_link r.b d (sym r.block_is ∙ is) in
       ap m.life (sym one) ∙ r.life ∙ ap (IsDeferring i s) (word_of r.t u r.d field (sym r.at_is ∙ names))

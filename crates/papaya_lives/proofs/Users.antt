@@ -21,7 +21,7 @@ use Rattle.papaya_lives.specs.Waiting.{waits_behind}
 use Rattle.papaya_lives.proofs.Each.{each_on}
 use Rattle.papaya_lives.proofs.Worlds.{Kept, IsAside, log_back, happens_kept, runs_kept, start_kept}
 
-cut_left : (i : ℕ) (h : Hand) → MayCut i h → IsLeft h → ⊥
+pub cut_left : (i : ℕ) (h : Hand) → MayCut i h → IsLeft h → ⊥
 cut_left i NoBlock may left = absurd left
 cut_left i (Making j) may left = absurd left
 cut_left i (InUse o) may left = absurd left
@@ -30,7 +30,7 @@ cut_left i (Cutting j) may left = absurd left
 cut_left i Handed may left = absurd left
 cut_left i (LeftTo j) may left = absurd may
 
-left_lives : (h : Hand) (l : Life) → IsLeft h → HandFits h l → lives l ≡ true
+pub left_lives : (h : Hand) (l : Life) → IsLeft h → HandFits h l → lives l ≡ true
 left_lives NoBlock l left fits = absurd left
 left_lives (Making i) l left fits = absurd left
 left_lives (InUse o) l left fits = absurd left

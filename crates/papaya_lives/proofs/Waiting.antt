@@ -136,14 +136,14 @@ module _ (K V S : Type 0) (same : K → K → Bool) (hash : K → ℕ) where
 
   module _ (s : Scene K V) (old new : Executor K V S) (at : IsAt same hash old s) (i : ℕ) (row : SlotRow) (here : work_of old i ≡ Some (work.OnSlot row)) (end : SlotRow × RowTold (Node K V))
       (steps : RowSteps K V row old.memory.memory new.memory.memory new.memory.changed end) (happened : HappensAt same hash (Step i) s old new) where
-    left : LeavesBy s.world.memory happened.0.memory new.memory.changed
+    pub left : LeavesBy s.world.memory happened.0.memory new.memory.changed
     left =
         subst (λ (n : Mem (Node K V)). LeavesBy s.world.memory n new.memory.changed) (sym happened.4.memory)
         (subst (λ (n : Mem (Node K V)). LeavesBy n new.memory.memory new.memory.changed) (sym at.memory)
         (operated_leaves old.memory.memory new.memory.memory new.memory.changed
         (row_operated old.memory.memory new.memory.memory new.memory.changed end row (may_taken same hash old s at i row here (slot_of i) row (row_at same hash old s at i row here)) steps)))
 
-    reached : Reached deferred_word old.batch_size s.world
+    pub reached : Reached deferred_word old.batch_size s.world
     reached = came_reached old.batch_size s.world at.together.makings.standing.came
 
   pub rows_keep_waiting : RowsKeepWaiting K V S same hash

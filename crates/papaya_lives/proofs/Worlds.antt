@@ -1,20 +1,22 @@
 -- In each world that came about from the start, what waits behind a block by the log does so in the state of the collector: so it is retired by no row.
-use Rattle.std.specs.Prelude.{Option, Some, Ok, Err, ◌==◌, if◌then◌else◌}
-use Rattle.std.proofs.Common.{◌≡◌, ℕ, ◌+◌, Bool, true, false, List, [], ◌∷◌, length, refl, arith, ap, sym, subst, ◌∙◌}
-use Rattle.std.proofs.lemmas.Bool.{eq-eqb}
+use Rattle.std.specs.Prelude.{Option, Some, Ok, Err, ◌==◌, ◌⊎◌, ◌++◌, zero, suc, if◌then◌else◌}
+use Rattle.std.proofs.Common.{◌≡◌, ℕ, ◌+◌, Bool, true, false, List, [], ◌∷◌, length, refl, arith, ap, sym, subst, ◌∙◌, inl, inr}
+use Rattle.std.proofs.lemmas.Bool.{cases_eq, eq-eqb, ne_eqb}
 use Rattle.seize_words.specs.Mem.{Mem}
 use Rattle.seize_words.specs.Op.{Out, Found, Stored, Exchanged, Made, Taken, Roomed}
 use Rattle.seize_words.specs.Word.{link_to}
 use Rattle.seize_words.specs.declared.at.At.TheVariants.{Word}
 use Rattle.seize.specs.Defer.{deferring}
-use Rattle.seize.specs.Law.{Deferred, is_retired}
+use Rattle.seize.specs.Law.{Effect, Deferred, is_retired, holds, IsSound}
+use Rattle.seize.specs.Sequence.{IsBetween, taken_in}
 use Rattle.seize.specs.declared.states.TheConstants.{LAST_SLOT}
-use Rattle.seize.specs.World.{World, Row, Hand, NoBlock, Making, InUse, Parting, Cutting, Handed, LeftTo, Defers, Request, Register', Enter', Leave', LeaveOwned, Refresh, Unregister', Retire, Flush, Defer', Begins, Event, Begin, Step, Makes, Drops, Links, Parts, Unlinks, Rewrites, Operates, Ends, LeavesOver, Relinks, Clears, Chooses, Happens, Runs, Steps', made_by, at_start}
+use Rattle.seize.specs.World.{World, Row, Hand, NoBlock, Making, InUse, Parting, Cutting, Handed, LeftTo, Defers, Request, Register', Enter', Leave', LeaveOwned, Refresh, Unregister', Retire, Flush, Defer', Begins, Event, Begin, Step, Makes, Drops, Links, Parts, Unlinks, Rewrites, Operates, Ends, LeavesOver, Relinks, Clears, Chooses, Happens, Runs, Steps', made_by, at_start, with_at, times, IsOnto, MayCut}
 use Rattle.seize_moves.proofs.Sets.Unmoved.{is_in_wait, Unmoved}
 use Rattle.seize_moves.proofs.State.Ghost.{Life, IsDeferring, IsPending, State}
 use Rattle.seize_moves.proofs.State.Moves
 use Rattle.seize_rule.proofs.Points.Aside.{HandFits}
 use Rattle.seize_rule.proofs.Rows.Known.{FitsRow}
+use Rattle.seize_rule.proofs.Rows.Others.{users_rows}
 use Rattle.seize_rule.proofs.Rows.Sizes.{AllSized}
 use Rattle.seize_rule.proofs.Rows.SizesKept.{happens_sized}
 use Rattle.seize_rule.proofs.Rows.Told.{BeginTold}
@@ -25,16 +27,18 @@ use Rattle.seize_rule.proofs.World.Good.{Good, Next}
 use Rattle.seize_rule.proofs.World.Kept.{IsStill, steps_next, users_good}
 use Rattle.seize_rule.proofs.World.Start.{start_good}
 use Rattle.seize_alone.proofs.Spared.Rows.{RowStepped, row_stepped}
-use Rattle.papaya_lives.specs.Waiting.{waits_behind, WaitUnretired}
+use Rattle.papaya_lives.specs.Waiting.{IsPutting, waits_behind, WaitUnretired, PutsWait}
 use Rattle.papaya_lives.proofs.Lives.{WaitsIn, OnWay, elsewhere, other_block, in_wait, not_given, as_before, by_unmoved, leaves}
-use Rattle.papaya_lives.proofs.Logs.{unless_is, waited}
-use Rattle.papaya_lives.proofs.Rows.{new_way, row_waits}
+use Rattle.papaya_lives.proofs.Logs.{unless_is, unless_other, waited, waits_on}
+use Rattle.papaya_lives.proofs.Putting.{puts_onto, putting_life, taken_free, put_before}
+use Rattle.papaya_lives.proofs.Rows.{same_link, new_way, row_waits}
 
 -- the world is good, and in a state of it all waits that waits by the log
 pub record Kept {T : Type 0} (defers : T → Option ℕ) (size : ℕ) (w : World T) : Type 0 where
   pub good : Good defers (LAST_SLOT + 1) size w
   pub sized : AllSized size w.row
   pub waits : (b t : ℕ) → waits_behind b w.log ≡ Some t → WaitsIn good.state b t
+  pub putting : (i b t : ℕ) → IsPutting b t (w.row i) → waits_behind b w.log ≡ Some t
 
 -- what is unlinked waits nowhere
 cut_waits : (h : Hand) (i : ℕ) (l : Life) → h ≡ Cutting i → HandFits h l → is_in_wait l ≡ false
@@ -107,6 +111,28 @@ module _ {T : Type 0} (defers : T → Option ℕ) (size : ℕ) (w w2 : World T) 
         row_waits n i (view defers w.memory) m k.good.extra k.good.inv b t (k.waits b t (waited b t did.effects w.log did.one (sym (ap (waits_behind b) did.logged) ∙ e)).0)
         (length w.memory.slots) (w.row i) (w2.row i) w.uses w2.uses next.good.state (k.good.rows i) next.told (ap (waits_behind b) next.good.logged ∙ e)
 
+    -- what a row is putting behind a block waits behind that still
+    step_puts : (j b t : ℕ) → IsPutting b t (w2.row j) → waits_behind b w2.log ≡ Some t
+    step_puts j b t puts = elim (cases_eq j i) as (λ _. waits_behind b w2.log ≡ Some t) [
+      | inl e ↦ on i (put_before n i b t (w.row i) (w2.row i) w.uses w2.uses m next.good.state (subst (λ (x : ℕ). IsPutting b t (w2.row x)) e puts) next.told)
+      | inr ne ↦ on j (subst (IsPutting b t) (did.rows j ne) puts)
+    ]
+      where
+        sound : IsSound (did.effects ++ w.log)
+        sound = subst IsSound (next.good.logged ∙ did.logged) next.good.inv.logged.sound
+
+        on : (x : ℕ) → IsPutting b t (w.row x) → waits_behind b w2.log ≡ Some t
+        on x was = ap (waits_behind b) did.logged ∙ waits_on b t did.effects w.log did.one (k.putting x b t was) (by (times t (taken_in did.effects)) refl)
+          where
+            by : (many : ℕ) → times t (taken_in did.effects) ≡ many → times t (taken_in did.effects) ≡ 0
+            by zero e = e
+            by (suc many) e =
+                let its = putting_life n x (view defers w.memory) m k.good.extra (length w.memory.slots) b t (w.row x) (k.good.rows x) was in
+                let held = (k.good.inv.logged.on_way b x its.0 t its.1).2 in
+                let free : holds its.0 t w.log ≡ false = ap (holds its.0 t) (sym k.good.logged) ∙ taken_free t did.effects k.good.state.log did.one (subst (λ (l : List Effect). IsSound (did.effects ++ l)) (sym k.good.logged) sound) (λ none. cc (none, e)) its.0 in
+                let held2 : holds its.0 t w.log ≡ true = ap (holds its.0 t) (sym k.good.logged) ∙ held in
+                absurd (cc (free, held2))
+
   -- what leaves all that waits, and tells of no more that does
   quiet : (g : Good defers n size w2) → ((b t : ℕ) → waits_behind b w2.log ≡ Some t → waits_behind b w.log ≡ Some t) → Unmoved n m g.state
       → (b t : ℕ) → waits_behind b w2.log ≡ Some t → WaitsIn g.state b t
@@ -155,10 +181,58 @@ module _ {T : Type 0} (defers : T → Option ℕ) (size : ℕ) (w w2 : World T) 
     begin_waits (Flush s) h told = λ b t e. subst (λ (z : State). WaitsIn z b t) (sym told) (k.waits b t (same_log (ap (λ (z : World T). z.log) h.1) b t e))
     begin_waits (Defer' s c u) h told = begin_defer s c u h.0 (ap (λ (z : World T). z.log) h.7) (row_put s c u h.0 _ h.7 refl) told
 
+    -- what a row is putting behind another block waits behind that
+    abbrev AllPut : Type 0
+    AllPut = (j b t : ℕ) → IsPutting b t (w2.row j) → waits_behind b w2.log ≡ Some t
+
+    either_row : (row : Row) (j b t : ℕ) → w2.row j ≡ with_at w.row i row j → IsPutting b t (w2.row j) → IsPutting b t row ⊎ IsPutting b t (w.row j)
+    either_row row j b t is puts = by (j == i) (subst (IsPutting b t) is puts)
+      where
+        by : (q : Bool) → IsPutting b t (if q then row else w.row j) → IsPutting b t row ⊎ IsPutting b t (w.row j)
+        by true its = inl its
+        by false its = inr its
+
+    plain_puts : (row : Row) → ((b t : ℕ) → IsPutting b t row → ⊥) → ((j : ℕ) → w2.row j ≡ with_at w.row i row j) → w2.log ≡ w.log → AllPut
+    plain_puts row none rows same j b t puts = elim (either_row row j b t (rows j) puts) as (λ _. waits_behind b w2.log ≡ Some t) [
+      | inl its ↦ absurd (none b t its)
+      | inr was ↦ ap (waits_behind b) same ∙ k.putting j b t was
+    ]
+
+    defer_puts : (s c u field : ℕ) → MayCut i (w.hand c) → w2.log ≡ Deferred c u ∷ w.log → ((j : ℕ) → w2.row j ≡ with_at w.row i (Defers s (deferring (link_to c) (Word u field))) j) → AllPut
+    defer_puts s c u field may logged rows j b t puts = elim (either_row (Defers s (deferring (link_to c) (Word u field))) j b t (rows j) puts) as (λ _. waits_behind b w2.log ≡ Some t) [
+      | inl its ↦
+          let one : b ≡ c = sym (same_link c b its.1) in
+          ap (waits_behind b) logged ∙ ap (λ (q : Bool). if q then Some u else waits_behind b w.log) (eq-eqb b c one) ∙ ap (λ (x : ℕ). Some x) (sym its.2)
+      | inr was ↦
+          let old = k.putting j b t was in
+          let handed = waiting_hand (w.hand b) (m.life b) (in_wait m b t (k.waits b t old)) (k.good.hands b) in
+          ap (waits_behind b) logged ∙ ap (λ (q : Bool). if q then Some u else waits_behind b w.log) (ne_eqb b c (λ e. subst (MayCut i) (ap w.hand (sym e) ∙ handed) may)) ∙ old
+    ]
+
+    begin_puts : (request : Request) → Begins defers size i request w w2 → AllPut
+    begin_puts (Register' enters) h = plain_puts _ (λ b t z. z) (λ j. ap (λ (z : World T). z.row j) h) (ap (λ (z : World T). z.log) h)
+    begin_puts (Enter' s) h = plain_puts _ (λ b t z. z) (λ j. ap (λ (z : World T). z.row j) h.1) (ap (λ (z : World T). z.log) h.1)
+    begin_puts (Leave' s) h = plain_puts _ (λ b t z. z) (λ j. ap (λ (z : World T). z.row j) h.1) (ap (λ (z : World T). z.log) h.1)
+    begin_puts (LeaveOwned s) h = plain_puts _ (λ b t z. z) (λ j. ap (λ (z : World T). z.row j) h.1) (ap (λ (z : World T). z.log) h.1)
+    begin_puts (Refresh s) h = plain_puts _ (λ b t z. z) (λ j. ap (λ (z : World T). z.row j) h.1) (ap (λ (z : World T). z.log) h.1)
+    begin_puts (Unregister' s) h = plain_puts _ (λ b t z. z) (λ j. ap (λ (z : World T). z.row j) h.1) (ap (λ (z : World T). z.log) h.1)
+    begin_puts (Retire s c) h = plain_puts _ (λ b t z. z) (λ j. ap (λ (z : World T). z.row j) h.2) (ap (λ (z : World T). z.log) h.2)
+    begin_puts (Flush s) h = plain_puts _ (λ b t z. z) (λ j. ap (λ (z : World T). z.row j) h.1) (ap (λ (z : World T). z.log) h.1)
+    begin_puts (Defer' s c u) h = defer_puts s c u h.0 h.2 (ap (λ (z : World T). z.log) h.7) (λ j. ap (λ (z : World T). z.row j) h.7)
+
+  aside_between : (e : Event T) → IsAside e → IsBetween e
+  aside_between (Begin i request) aside = aside
+  aside_between (Step i) aside = aside
+  aside_between _ aside = tt
+
+  -- where rows are as they were
+  puts_on : w2.row ≡ w.row → ((b t : ℕ) → waits_behind b w.log ≡ Some t → ((j : ℕ) → IsPutting b t (w.row j) → waits_behind b w2.log ≡ Some t)) → (j b t : ℕ) → IsPutting b t (w2.row j) → waits_behind b w2.log ≡ Some t
+  puts_on rows on j b t puts = (let was = subst (λ (g : ℕ → Row). IsPutting b t (g j)) rows puts in on b t (k.putting j b t was) j was)
+
   by_users : (e : Event T) → IsStill e → IsAside e → Happens defers size e w w2 → Kept defers size w2
   by_users e still aside h =
       let g = users_good defers n size refl w w2 k.good k.sized e still h in
-      record { good = g.0; sized = happens_sized defers size w w2 k.sized e h; waits = quiet g.0 (λ b t is. log_back defers size w w2 e aside h b ∙ is) g.1 }
+      record { good = g.0; sized = happens_sized defers size w w2 k.sized e h; waits = quiet g.0 (λ b t is. log_back defers size w w2 e aside h b ∙ is) g.1; putting = puts_on (users_rows defers size w w2 e (aside_between e aside) h) (λ b t old j was. sym (log_back defers size w w2 e aside h b) ∙ old) }
 
   leaves_kept : (i c : ℕ) (further : List ℕ) → Happens defers size (LeavesOver i c further) w w2 → Kept defers size w2
   leaves_kept i c further h =
@@ -170,13 +244,15 @@ module _ {T : Type 0} (defers : T → Option ℕ) (size : ℕ) (w w2 : World T) 
             let was = unless_is c (waits_behind b w.log) t (sym (ap (λ (z : World T). waits_behind b z.log) h.4) ∙ e) in
             subst (λ (z : State). WaitsIn z b t) (sym g.1)
             (leaves n i m k.good.inv b t (k.waits b t was.0) c (cut_waits (w.hand c) h.0.0 (m.life c) h.0.1 (k.good.hands c)) was.1);
+        putting = puts_on (users_rows defers size w w2 (LeavesOver i c further) tt h) (λ b t old j was.
+            ap (λ (z : World T). waits_behind b z.log) h.4 ∙ unless_other c (waits_behind b w.log) t old (λ e. h.2 j (subst (λ (x : ℕ). IsOnto x (w.row j)) e (puts_onto b t (w.row j) was))));
       }
 
   pub happens_kept : (e : Event T) → Happens defers size e w w2 → Kept defers size w2
   happens_kept (Begin i request) h =
       let g = begins_next defers n size refl w w2 k.good i h.0 request h.1 in
-      record { good = g.0; sized = happens_sized defers size w w2 k.sized (Begin i request) h; waits = begin_waits i g.0 request h.1 g.1 }
-  happens_kept (Step i) h = record { good = (next i h).good; sized = happens_sized defers size w w2 k.sized (Step i) h; waits = step_waits i h }
+      record { good = g.0; sized = happens_sized defers size w w2 k.sized (Begin i request) h; waits = begin_waits i g.0 request h.1 g.1; putting = begin_puts i g.0 request h.1 }
+  happens_kept (Step i) h = record { good = (next i h).good; sized = happens_sized defers size w w2 k.sized (Step i) h; waits = step_waits i h; putting = step_puts i h }
   happens_kept (LeavesOver i c further) h = leaves_kept i c further h
   happens_kept (Makes i value words) h = by_users (Makes i value words) tt tt h
   happens_kept (Drops i c) h = by_users (Drops i c) tt tt h
@@ -196,7 +272,7 @@ module _ {T : Type 0} (defers : T → Option ℕ) (size : ℕ) where
   runs_kept (e ∷ events) w w2 k h = runs_kept events h.0 w2 (happens_kept defers size w h.0 k e h.1) h.2
 
   pub start_kept : (roots : ℕ) → Kept defers size (at_start defers roots)
-  start_kept roots = record { good = start_good defers (LAST_SLOT + 1) size roots; sized = λ i. tt; waits = λ b t e. absurd (cc e) }
+  start_kept roots = record { good = start_good defers (LAST_SLOT + 1) size roots; sized = λ i. tt; waits = λ b t e. absurd (cc e); putting = λ i b t puts. absurd puts }
 
   module _ (w : World T) (k : Kept defers size w) (b t : ℕ) (waits : waits_behind b w.log ≡ Some t) where
     pub unretired : is_retired b w.log ≡ false
@@ -209,3 +285,6 @@ pub wait_unretired : {T : Type 0} (defers : T → Option ℕ) → WaitUnretired 
 wait_unretired defers size roots events w h b t waits =
     let k = runs_kept defers size events (at_start defers roots) w (start_kept defers size roots) h in
     (unretired defers size w k b t waits, has_it defers size w k b t waits)
+
+pub puts_wait : {T : Type 0} (defers : T → Option ℕ) → PutsWait defers
+puts_wait defers size roots events w h = (runs_kept defers size events (at_start defers roots) w (start_kept defers size roots) h).putting

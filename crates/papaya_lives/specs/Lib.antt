@@ -1,3 +1,4 @@
 pub mod Waiting
 pub mod Behind
 pub mod Steps
+pub mod Retired

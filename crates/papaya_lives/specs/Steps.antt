@@ -37,6 +37,8 @@ use Rattle.papaya_others.specs.Rows.{scene_then}
 use Rattle.papaya_spots.specs.OnSlots.{WaitUnreclaimed}
 use Rattle.papaya_moments.specs.Endings.{WaitsOn}
 use Rattle.papaya_moments.specs.Whole.{ShowsWhole}
+use Rattle.papaya_settles.specs.Due.{OwnAreMade}
+use Rattle.papaya_settles.specs.Entries.{ShowsEntries}
 use Rattle.papaya_lives.specs.Behind.{LiesBehind, ShowsWaiting}
 
 -- The promises: nothing waits before all events,
@@ -105,6 +107,17 @@ module _ (K V S : Type 0) (same : K → K → Bool) (hash : K → ℕ) where
       → (let to = leads map u here in
       IsOfNoRow same old.batch_size old.roots s.world s.maps s.calls s.makers s.enders map to.0 i new.memory.memory to.4.w2 to.4.maps2 to.4.next u to.1 told to.4.did
       → ShowsWaiting (with_effects (Some (name i)) (Some map) (effects_of (Call i map) known new.memory.changed) m) (known_after (Call i map) new.memory.changed known) to.4.w2)
+
+  -- And after a step of a row within a call, unless that puts a further pair behind a table.
+  abbrev pub CallRowsKeepWaiting : Type 0
+  CallRowsKeepWaiting =
+      (name : ℕ → List ℕ) (m : Moment K V) (known : Known) (s : Scene K V) (old new : Executor K V S) → IsAt same hash old s → ShowsWhole same name m known s
+      → ShowsEntries s → OwnAreMade known s.world → ShowsWaiting m known s.world
+      → (map i : ℕ) (u : UnderWay K V K) (here : s.calls map i ≡ Some u) (told : CallTold (Node K V)) (leads : StepLeads same hash i told s old new)
+      → (let to = leads map u here in
+      let v = with_effects (Some (name i)) (Some map) (effects_of (Call i map) known new.memory.changed) m in
+      (IsOfNoRow same old.batch_size old.roots s.world s.maps s.calls s.makers s.enders map to.0 i new.memory.memory to.4.w2 to.4.maps2 to.4.next u to.1 told to.4.did → ⊥)
+      → v.deferred ≡ m.deferred → ShowsWaiting v (known_after (Call i map) new.memory.changed known) to.4.w2)
 
   -- And what waits behind a table is not reclaimed as that ends with its map.
   abbrev pub EndingsFindWaiting : Type 0

@@ -1,18 +1,20 @@
 //! What is promised of what waits behind a table, and of its blocks.
 ghost use Rattle.std.specs.Prelude.{Option, ℕ, Bool};
 ghost use Rattle.papaya_lives.specs.Behind.{WaitingIsThere};
-ghost use Rattle.papaya_lives.specs.Steps.{WaitingBegins, OthersLeaveWaiting, EndingsBeginWaiting, EffectsFindWaiting, UsersKeepWaiting, RowsBeginWaiting, RowsKeepWaiting, RowsFindWaiting, MakingsKeepWaiting, CallsKeepWaiting, EndingsFindWaiting};
-ghost use Rattle.papaya_lives.specs.Waiting.{WaitUnretired};
+ghost use Rattle.papaya_lives.specs.Retired.{RetiredBegins, OthersLeaveRetired, EndingsBeginRetired, RowsBeginRetired, RowsKeepRetired, RowsFindRetired, MakingsKeepRetired, CallsKeepRetired, EndingsKeepRetired};
+ghost use Rattle.papaya_lives.specs.Steps.{WaitingBegins, OthersLeaveWaiting, EndingsBeginWaiting, EffectsFindWaiting, UsersKeepWaiting, RowsBeginWaiting, RowsKeepWaiting, RowsFindWaiting, MakingsKeepWaiting, CallsKeepWaiting, CallRowsKeepWaiting, EndingsFindWaiting};
+ghost use Rattle.papaya_lives.specs.Waiting.{WaitUnretired, PutsWait};
 
 /// A block that was put behind another one is not retired before that is reclaimed or left over, and the collector has it meanwhile, whatever callers do, in
-/// whatever order they take their steps.
+/// whatever order they take their steps. One that a row is putting behind another one waits behind that.
 pub fn waiting_blocks_are_unretired<T>()
-    ensures { (defers : T → Option ℕ) → WaitUnretired defers }
+    ensures waits { (defers : T → Option ℕ) → WaitUnretired defers }
+    ensures puts { (defers : T → Option ℕ) → PutsWait defers }
 {}
 
 /// Each pair that waits behind a table is told to be behind one, and its block waits behind the table's, or both are left over: so it is before all events,
 /// where the same pairs wait and none has moved, where the end of a map begins, where a row begins on a slot, and after each step of one; after each step of the
-/// making of a map, after one of a call that is none of a row, and after whatever users do that moves no such pair. So what waits behind a
+/// making of a map, after one of a call that puts no further pair behind a table, and after whatever users do that moves no such pair. So what waits behind a
 /// table is not reclaimed as a row on a slot reclaims the table, or as the table ends with its map.
 pub fn pairs_wait_behind_tables<K, V, S>()
     ensures begins { WaitingBegins K V }
@@ -26,5 +28,21 @@ pub fn pairs_wait_behind_tables<K, V, S>()
     ensures rows_find { (same : K → K → Bool) (hash : K → ℕ) → RowsFindWaiting K V S same hash }
     ensures makings { (same : K → K → Bool) (hash : K → ℕ) → MakingsKeepWaiting K V S same hash }
     ensures steps { (same : K → K → Bool) (hash : K → ℕ) → CallsKeepWaiting K V S same hash }
+    ensures call_rows { (same : K → K → Bool) (hash : K → ℕ) → CallRowsKeepWaiting K V S same hash }
     ensures endings_find { (same : K → K → Bool) (hash : K → ℕ) → EndingsFindWaiting K V S same hash }
+{}
+
+/// Each table whose block the collector has is told to be retired, or the row within a call is to retire it: so it is before all events, where calls begin, are told
+/// something or come to outcomes, where maps come or go, where rows begin on slots, and after each step of a row on a slot, of a call, whoever's row it is, of the
+/// making of a map, and of the end of one. So a table that a row on a slot reclaims was retired.
+pub fn collected_tables_are_retired<K, V, S>()
+    ensures begins { RetiredBegins K V }
+    ensures others { OthersLeaveRetired K V }
+    ensures endings_begin { EndingsBeginRetired K V }
+    ensures rows_begin { (same : K → K → Bool) (hash : K → ℕ) → RowsBeginRetired K V S same hash }
+    ensures rows { (same : K → K → Bool) (hash : K → ℕ) → RowsKeepRetired K V S same hash }
+    ensures rows_find { (same : K → K → Bool) (hash : K → ℕ) → RowsFindRetired K V S same hash }
+    ensures makings { (same : K → K → Bool) (hash : K → ℕ) → MakingsKeepRetired K V S same hash }
+    ensures calls { (same : K → K → Bool) (hash : K → ℕ) → CallsKeepRetired K V S same hash }
+    ensures endings { (same : K → K → Bool) (hash : K → ℕ) → EndingsKeepRetired K V S same hash }
 {}

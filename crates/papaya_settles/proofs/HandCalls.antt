@@ -32,6 +32,7 @@ use Rattle.papaya_settles.specs.Owed.{HandGoes, CallsKeepOwed}
 use Rattle.papaya_settles.specs.Owing.{OwesGo, FindsOwed}
 use Rattle.papaya_settles.proofs.Calls.{goes_as_one}
 use Rattle.papaya_settles.proofs.Gains.{others_stay}
+use Rattle.papaya_settles.proofs.HandAll.{calls_go_in_hand}
 use Rattle.papaya_settles.proofs.HandRoles.{hand_same, hand_noted, hand_kept}
 use Rattle.papaya_settles.proofs.Owing.{owes_follow}
 
@@ -113,4 +114,6 @@ module _ {K V S : Type 0} (same : K → K → Bool) (hash : K → ℕ) (name : �
   kept = (follows.0, record { owed = owes_then; noted = noted_then }, λ none d is. own_owes d is ∙ goes.2 none)
 
 pub calls_keep_owed : (K V S : Type 0) (same : K → K → Bool) (hash : K → ℕ) → CallsKeepOwed K V S same hash
-calls_keep_owed K V S same hash name m known s old new at whole shows map i u here said leads goes = kept same hash name m known s old new at whole shows map i u here said leads goes
+calls_keep_owed K V S same hash name m known s old new at whole entries owning shows map i u here said leads =
+    kept same hash name m known s old new at whole shows map i u here said leads
+    (calls_go_in_hand K V S same hash name m known s old new at whole.all.shown whole.all.rows entries owning map i u here said leads (shows.noted map i u here))

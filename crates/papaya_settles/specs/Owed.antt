@@ -62,13 +62,13 @@ module _ (K V S : Type 0) (same : K → K → Bool) (hash : K → ℕ) where
       → (map i : ℕ) (u : UnderWay K V K) (here : s.calls map i ≡ Some u) (said : Progress (Node K V)) (leads : StepLeads same hash i said s old new) → NotesInHand known (machine_of u)
       → HandGoes m known s old new map i u said here leads
 
-  -- The promise, of a step by which what the call has in hand goes so: its effects find what they hand over, each call owes after them what it has in hand, whoever's step
-  -- it was, and a call that has ended owes nothing.
+  -- So, over each step of a call: its effects find what they hand over, each call owes after them what it has in hand, whoever's step it was, and a call that has ended
+  -- owes nothing.
   abbrev pub CallsKeepOwed : Type 0
   CallsKeepOwed =
-      (name : ℕ → List ℕ) (m : Moment K V) (known : Known) (s : Scene K V) (old new : Executor K V S) → IsAt same hash old s → ShowsWhole same name m known s → ShowsOwed name m known s
+      (name : ℕ → List ℕ) (m : Moment K V) (known : Known) (s : Scene K V) (old new : Executor K V S)
+      → IsAt same hash old s → ShowsWhole same name m known s → ShowsEntries s → OwnAreMade known s.world → ShowsOwed name m known s
       → (map i : ℕ) (u : UnderWay K V K) (here : s.calls map i ≡ Some u) (said : Progress (Node K V)) (leads : StepLeads same hash i said s old new)
-      → HandGoes m known s old new map i u said here leads
       → (let to = leads map u here in
       let effects = effects_of (OfCall i map) known new.memory.changed in
       let v = with_effects (Some (name i)) (Some map) effects m in

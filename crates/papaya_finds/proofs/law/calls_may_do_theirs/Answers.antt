@@ -1,5 +1,5 @@
 -- Events may have the effects of calls.
-use Rattle.papaya_finds.proofs.Kinds.{several_do_theirs, events_may_do}
+use Rattle.papaya_finds.proofs.Doing.{several_do_theirs, events_may_do}
 use Rattle.papaya_finds.proofs.law.calls_may_do_theirs.Goals as goal
 
 pub returns : goal.returns

@@ -1,4 +1,5 @@
 -- Pairs wait behind tables, and none of them is reclaimed before the table is.
+use Rattle.papaya_lives.proofs.CallRows.{call_rows_keep_waiting}
 use Rattle.papaya_lives.proofs.Calls.{calls_keep_waiting}
 use Rattle.papaya_lives.proofs.Ends.{endings_find_waiting}
 use Rattle.papaya_lives.proofs.Makings.{makings_keep_waiting}
@@ -19,5 +20,6 @@ returns c d = record {
   rows_find = rows_find_waiting _ _ _;
   makings = makings_keep_waiting _ _ _;
   steps = calls_keep_waiting _ _ _;
+  call_rows = call_rows_keep_waiting _ _ _;
   endings_find = endings_find_waiting _ _ _;
 }

@@ -1,0 +1,29 @@
+-- What effects find by the promise `life` of their event is what they have to find for pairs to be in their places.
+use Rattle.std.specs.Prelude.{◌≡◌, ℕ, ◌+◌, Bool, List, length, Option}
+use Rattle.papaya_schedules.specs.declared.effect.Effect.{Effect}
+use Rattle.papaya_schedules.specs.declared.effect.Effect.TheVariants.{Stored}
+use Rattle.papaya_schedules.specs.Effects.{stored_by, with_effects, AtEachEffect}
+use Rattle.papaya_schedules.specs.Entry.{acting}
+use Rattle.papaya_schedules.specs.Lives.{Finds}
+use Rattle.papaya_schedules.specs.Moment.{Moment}
+use Rattle.papaya_schedules.specs.Terms.{Terms}
+use Rattle.papaya_finds.specs.Waiting.{PairsArePlaced, FindsPlaced}
+
+module _ {K V : Type 0} where
+  -- an effect that stores a pair is of a call that has one to store
+  abbrev pub StoresOne : Option (List ℕ) → Moment K V → Effect → Type 0
+  StoresOne caller m (Stored n s) = length (stored_by (acting caller m) (Stored n s) m.stored) ≡ length m.stored + 1
+  StoresOne caller m _ = Unit {0}
+
+-- The promises: so it is of each effect,
+abbrev pub LifeFindsPlaced : Type 0 → Type 0 → Type 0
+LifeFindsPlaced K V =
+    (terms : Terms) (caller : Option (List ℕ)) (acted : Option ℕ) (everything : Bool) (moments : List (Moment K V)) (m : Moment K V) (f : Effect)
+    → Finds terms caller acted everything moments m f → StoresOne caller m f → FindsPlaced caller m f
+
+-- and so an event that keeps the promise leaves pairs in their places.
+abbrev pub LifeKeepsPlaced : Type 0 → Type 0 → Type 0
+LifeKeepsPlaced K V =
+    (terms : Terms) (caller : Option (List ℕ)) (acted : Option ℕ) (everything : Bool) (moments : List (Moment K V)) (effects : List Effect) (m : Moment K V)
+    → AtEachEffect (λ v f. Finds terms caller acted everything moments v f × StoresOne caller v f) caller acted effects m → PairsArePlaced m
+    → PairsArePlaced (with_effects caller acted effects m)

@@ -1,0 +1,61 @@
+-- The promise `little` of an event: what waits where nobody is there, while no call is under way, once all was reclaimed, and once the collector has ended.
+use Rattle.std.specs.Prelude.{◌≡◌, ◌<◌, ◌^◌, true, List, [], ◌∷◌, flat_map}
+use Rattle.seize.specs.World.{World}
+use Rattle.papaya_tables.specs.declared.node.Node.{Node}
+use Rattle.papaya_schedules.specs.declared.event.Event.{Event}
+use Rattle.papaya_schedules.specs.declared.event.Event.TheVariants.{ReclaimAll, Close}
+use Rattle.papaya_schedules.specs.declared.outcome.Outcome.{Outcome}
+use Rattle.papaya_schedules.specs.declared.outcome.Outcome.TheVariants.{Done}
+use Rattle.papaya_schedules.specs.After.{after, moment, AtEachEvent}
+use Rattle.papaya_schedules.specs.Entry.{Entry}
+use Rattle.papaya_schedules.specs.Model.{thing_back, all_left}
+use Rattle.papaya_schedules.specs.Moment.{Moment}
+use Rattle.papaya_schedules.specs.Reclaims.{is_quiescent, ComesLast, LeavesLittle}
+use Rattle.papaya_schedules.specs.Terms.{Terms}
+use Rattle.papaya_callers.specs.Together.{CameAbout}
+use Rattle.papaya_effects.specs.Known.{Known}
+use Rattle.papaya_finds.specs.Bounded.{ShowsRetired, NobodyIsThere}
+use Rattle.papaya_finds.specs.Orderly.{NothingIsRetired}
+use Rattle.papaya_finds.specs.Within.{AllIsInOrder, GoesInOrder}
+
+module _ {K V : Type 0} where
+  -- P, of an event that reclaims all
+  abbrev pub WhereAll : Event K V → Outcome V → Type 0 → Type 0
+  WhereAll ReclaimAll Done P = P
+  WhereAll Close Done P = P
+  WhereAll _ _ P = Unit {0}
+
+  -- no call is under way, and nothing is retired, or left over
+  pub record AllIsBack (m : Moment K V) : Type 0 where
+    pub calls : m.calls ≡ []
+    pub nothing : NothingIsRetired m
+
+  -- Where all was reclaimed all is back, and what ended maps left over came last.
+  abbrev pub ReclaimsAll : List (Entry K V) → Entry K V → Type 0
+  ReclaimsAll log e = WhereAll e.event e.outcome (AllIsBack (after e (moment log)) × ComesLast (all_left (moment log)) (flat_map thing_back e.effects))
+
+  -- once the collector has ended all is back, and no map is there
+  abbrev pub OverIsBack : Moment K V → Type 0
+  OverIsBack m = m.is_closed ≡ true → AllIsBack m × (m.maps ≡ [])
+
+  -- The bound is of moments at which nobody is there: then nobody is in the world, and what is retired is so in its log.
+  pub record ShowsNobody (terms : Terms) (m : Moment K V) (known : Known) (w : World (Node K V)) : Type 0 where
+    pub came : CameAbout terms.batch_size w
+    pub nobody : is_quiescent m ≡ true → NobodyIsThere w × ShowsRetired m known w
+
+-- The promises: an event leaves little where all is in order after it, by what it reclaims and shows;
+abbrev pub EventsLeaveLittle : Type 0 → Type 0 → Type 0
+EventsLeaveLittle K V =
+    (terms : Terms) (log : List (Entry K V)) (e : Entry K V) (known : Known) (w : World (Node K V)) → terms.batch_size < 2 ^ 64 → AllIsInOrder (after e (moment log))
+    → ReclaimsAll log e → OverIsBack (after e (moment log)) → ShowsNobody terms (after e (moment log)) known w → LeavesLittle terms log e
+
+-- after the collector has ended nothing comes any more,
+abbrev pub OverStaysBack : Type 0 → Type 0 → Type 0
+OverStaysBack K V =
+    (terms : Terms) (log : List (Entry K V)) (e : Entry K V) → GoesInOrder terms log e → ReclaimsAll log e → OverIsBack (moment log) → OverIsBack (after e (moment log))
+
+-- and so each event of a run leaves little, if its events go in order, and reclaim all where they reclaim all.
+abbrev pub RunsLeaveLittle : Type 0 → Type 0 → Type 0
+RunsLeaveLittle K V =
+    (terms : Terms) (log : List (Entry K V)) (e : Entry K V) (known : Known) (w : World (Node K V)) → terms.batch_size < 2 ^ 64
+    → AtEachEvent (λ before f. GoesInOrder terms before f × ReclaimsAll before f) (e ∷ log) → ShowsNobody terms (after e (moment log)) known w → LeavesLittle terms log e

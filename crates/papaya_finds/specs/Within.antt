@@ -1,0 +1,96 @@
+-- What is so at each moment of a run whose events come to what is right for them, and keep the promise `life`: tables, pairs and calls stay within what their maps have
+-- had. So all that waits does so in order.
+use Rattle.std.specs.Prelude.{◌≡◌, ℕ, ◌+◌, ◌<◌, ◌≤◌, ◌==◌, Bool, true, List, [], length, Option, Some}
+use Rattle.std.specs.List.{AllByRecursion, list_any}
+use Rattle.papaya_schedules.specs.declared.effect.Effect.{Effect}
+use Rattle.papaya_schedules.specs.declared.effect.Table.{Table}
+use Rattle.papaya_schedules.specs.declared.event.Event.{Event}
+use Rattle.papaya_schedules.specs.declared.event.Event.TheVariants.{Stop}
+use Rattle.papaya_schedules.specs.declared.outcome.Outcome.{Outcome}
+use Rattle.papaya_schedules.specs.declared.outcome.Outcome.TheVariants.{Done}
+use Rattle.papaya_schedules.specs.After.{moment, after, AtEachEvent}
+use Rattle.papaya_schedules.specs.Beginning.{at_work}
+use Rattle.papaya_schedules.specs.Coming.{is_ready}
+use Rattle.papaya_schedules.specs.Effects.{with_effects, AtEachEffect}
+use Rattle.papaya_schedules.specs.Entry.{Entry, caller_of, acted_on}
+use Rattle.papaya_schedules.specs.Handing.{MovesOn}
+use Rattle.papaya_schedules.specs.InTurn.{ComesRight}
+use Rattle.papaya_schedules.specs.Lives.{Finds}
+use Rattle.papaya_schedules.specs.Moment.{InMap, UnderWay, MapThere, Moment, start}
+use Rattle.papaya_schedules.specs.Terms.{Terms}
+use Rattle.papaya_schedules.specs.Views.{call_of, tables_of}
+use Rattle.papaya_finds.specs.Endings.{AreNamed}
+use Rattle.papaya_finds.specs.Events.{EndedOwesNone}
+use Rattle.papaya_finds.specs.Life.{StoresOne}
+use Rattle.papaya_finds.specs.Orderly.{WaitsInOrder}
+use Rattle.papaya_finds.specs.TornDown.{StoredAreSomewhere}
+use Rattle.papaya_finds.specs.Waiting.{owed_in}
+
+module _ {K V : Type 0} where
+  -- how many tables a map has had
+  abbrev pub many_of : ℕ → Moment K V → ℕ
+  many_of map m = length (tables_of map m)
+
+  -- The map of a call is there, a table that it has made is for that map, and the pairs that it owes were stored there.
+  pub record HasItsMap (m : Moment K V) (c : UnderWay K V) : Type 0 where
+    pub there : list_any (λ (f : MapThere). f.number == c.map) m.maps ≡ true
+    pub table : (t : Table) → c.table ≡ Some t → t.map ≡ c.map
+    pub owes : (n k : ℕ) → owed_in n c.owes ≡ 1 + k → (1 ≤ n) × (n ≤ length m.stored) × ((m.born n).map ≡ c.map)
+
+  pub record IsWithin (m : Moment K V) : Type 0 where
+    -- each table has a turn below how many its map has had, and each root one that is no higher;
+    pub tables : AllByRecursion (λ u. u.table.turn < many_of u.table.map m) m.tables
+    pub roots : AllByRecursion (λ f. f.first ≤ many_of f.number m) m.maps
+    pub made : AllByRecursion (λ f. f.number < m.made) m.maps
+    -- each pair lies in a table of the map in which it was stored, which is that in which it is;
+    pub spots : (n : ℕ) → 1 ≤ n → n ≤ length m.stored → (m.spot n).turn < many_of (m.born n).map m
+    pub maps : (n map : ℕ) → m.place n ≡ InMap map → (1 ≤ n) × ((m.born n).map ≡ map)
+    -- and each call has its map
+    pub calls : AllByRecursion (HasItsMap m) m.calls
+
+  pub record AllIsInOrder (m : Moment K V) : Type 0 where
+    pub waits : WaitsInOrder m
+    pub named : AreNamed m
+    pub somewhere : StoredAreSomewhere m
+    pub within : IsWithin m
+
+  -- the effects of a call are on its map
+  abbrev pub ActsOn : Option (List ℕ) → Option ℕ → Moment K V → Type 0
+  ActsOn caller acted m = (own : List ℕ) (c : UnderWay K V) → caller ≡ Some own → call_of own m ≡ Some c → acted ≡ Some c.map
+
+  -- a walk that is stopped owes nothing
+  abbrev pub StoppedOwesNone : Event K V → Outcome V → List (UnderWay K V) → Type 0
+  StoppedOwesNone (Stop caller) Done calls = EndedOwesNone (Some caller) calls
+  StoppedOwesNone event outcome calls = Unit {0}
+
+  -- a walk that is ready owes nothing
+  abbrev pub ReadyOwesNone : UnderWay K V → Type 0
+  ReadyOwesNone c = is_ready c.stands ≡ true → c.owes ≡ []
+
+  abbrev pub ReadyOweNone : Moment K V → Type 0
+  ReadyOweNone m = AllByRecursion ReadyOwesNone m.calls
+
+  -- An event comes to what is right for it, keeps the promise `life`, and stores one pair by each effect that stores.
+  pub record GoesInOrder (terms : Terms) (log : List (Entry K V)) (e : Entry K V) : Type 0 where
+    pub right : ComesRight terms log e
+    pub life : MovesOn terms log e
+    pub stores : (let b = at_work e (moment log) in AtEachEffect (StoresOne (caller_of e.event)) (caller_of e.event) (acted_on e.event b) e.effects b)
+
+-- The promises: so it is before all events,
+abbrev pub AllInOrderAtFirst : Type 0 → Type 0 → Type 0
+AllInOrderAtFirst K V = AllIsInOrder (start {K = K} {V = V})
+
+-- after any effects that find what `life` asks,
+abbrev pub LifeKeepsOrder : Type 0 → Type 0 → Type 0
+LifeKeepsOrder K V =
+    (terms : Terms) (caller : Option (List ℕ)) (acted : Option ℕ) (everything : Bool) (moments : List (Moment K V)) (effects : List Effect) (m : Moment K V)
+    → AtEachEffect (λ v f. Finds terms caller acted everything moments v f × StoresOne caller v f) caller acted effects m → ActsOn caller acted m → AllIsInOrder m
+    → AllIsInOrder (with_effects caller acted effects m)
+
+-- after each event that goes in order,
+abbrev pub EventsKeepOrder : Type 0 → Type 0 → Type 0
+EventsKeepOrder K V = (terms : Terms) (log : List (Entry K V)) (e : Entry K V) → GoesInOrder terms log e → AllIsInOrder (moment log) × ReadyOweNone (moment log) → AllIsInOrder (after e (moment log)) × ReadyOweNone (after e (moment log))
+
+-- and so at each moment of a run.
+abbrev pub RunsAreInOrder : Type 0 → Type 0 → Type 0
+RunsAreInOrder K V = (terms : Terms) (log : List (Entry K V)) → AtEachEvent (GoesInOrder terms) log → AllIsInOrder (moment log) × ReadyOweNone (moment log)

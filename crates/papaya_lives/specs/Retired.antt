@@ -1,0 +1,119 @@
+-- The tables that the collector has at a moment of a run: each is told to be retired, or the row of a call is to retire it.
+use Rattle.std.specs.Prelude.{◌≡◌, ◌≢◌, ◌⊎◌, ℕ, Bool, true, List, Option, Some, None}
+use Rattle.seize_words.specs.Word.{block_in}
+use Rattle.seize.specs.declared.progress.Progress.{Progress}
+use Rattle.seize.specs.declared.rows.settle.Settled.{Settled}
+use Rattle.seize.specs.World.{Row, Settles, Rests, Handed, Begin, Step}
+use Rattle.papaya_tables.specs.declared.node.Node.{Node}
+use Rattle.papaya_tables.specs.declared.setting.Setting.{Setting}
+use Rattle.papaya_raw.specs.declared.machines.progress.Progress.{Progress as CallTold}
+use Rattle.papaya_schedules.specs.declared.effect.Table.{Table}
+use Rattle.papaya_schedules.specs.Effects.{with_effects, AtEachEffect}
+use Rattle.papaya_schedules.specs.Moment.{Moment, start}
+use Rattle.papaya_schedules.specs.Views.{is_stage, is_retired}
+use Rattle.papaya_callers.specs.Together.{UnderWay}
+use Rattle.papaya_effects.specs.Effects.{effects_of, known_after}
+use Rattle.papaya_effects.specs.Known.{Known, nothing_known}
+use Rattle.papaya_effects.specs.declared.acting.Acting.TheVariants.{Call, Making, Ending, Row as OfRow}
+use Rattle.papaya_effects.specs.declared.role.Role.TheVariants as role
+use Rattle.papaya_executor.specs.Ending.{EndingLeads, ending_begun}
+use Rattle.papaya_executor.specs.IsAt.{Scene, HasCall, IsAt, at_first, slot_of, work_of}
+use Rattle.papaya_executor.specs.Making.{MakingLeads}
+use Rattle.papaya_executor.specs.OnSlots.{MayBegin, RowBegins, RowLeads}
+use Rattle.papaya_executor.specs.Rows.{request_of}
+use Rattle.papaya_executor.specs.Stepping.{StepLeads, scene_after}
+use Rattle.papaya_executor.specs.declared.executor.Executor.{Executor}
+use Rattle.papaya_executor.specs.declared.row.RowTold.{RowTold}
+use Rattle.papaya_executor.specs.declared.row.SlotCall.{SlotCall}
+use Rattle.papaya_executor.specs.declared.row.SlotRow.{SlotRow}
+use Rattle.papaya_executor.specs.declared.worker.Work.TheVariants.{OnSlot}
+use Rattle.papaya_finishes.specs.Endings.{Finishing}
+use Rattle.papaya_finishes.specs.Makings.{Beginning}
+use Rattle.papaya_finishes.specs.Maps.{Standing}
+use Rattle.papaya_others.specs.Endings.{ending_after}
+use Rattle.papaya_others.specs.Makings.{WasNew}
+use Rattle.papaya_others.specs.Rows.{scene_then}
+use Rattle.papaya_moments.specs.OnSlots.{HadRetired}
+use Rattle.papaya_moments.specs.Whole.{ShowsWhole}
+use Rattle.papaya_settles.specs.Due.{Due, ToRetire, due_in_settle, OwnAreMade}
+use Rattle.papaya_settles.specs.Entries.{ShowsEntries}
+
+-- this block is the one to be retired
+abbrev pub IsDue : ℕ → Option Due → Type 0
+IsDue b (Some (ToRetire word)) = block_in word ≡ b
+IsDue b _ = ⊥
+
+-- the row is to retire this block, and has not told its batch of it
+abbrev pub IsToRetire : ℕ → Row → Type 0
+IsToRetire b (Settles c) = IsDue b (due_in_settle c c.stands)
+IsToRetire b _ = ⊥
+
+-- Each block of a table that the collector has is of one that is told to be retired, or the row within a call is to retire it. A table has a place.
+pub record ShowsRetired {K V : Type 0} (m : Moment K V) (known : Known) (s : Scene K V) : Type 0 where
+  pub tables : (b len : ℕ) (t : Table) → known.roles b ≡ role.Table t len → s.world.hand b ≡ Handed
+      → (is_stage is_retired t m ≡ true) ⊎ ((i : ℕ) × HasCall s i × IsToRetire b (s.world.row i))
+  pub lengths : (b len : ℕ) (t : Table) → known.roles b ≡ role.Table t len → len ≢ 0
+
+-- whoever has a call under way has one still, or its row is over
+abbrev pub CallsStay : {K V : Type 0} → Scene K V → Scene K V → Type 0
+CallsStay s t = (i : ℕ) → HasCall s i → HasCall t i ⊎ (t.world.row i ≡ Rests)
+
+-- The promises: the collector has nothing before all events,
+abbrev pub RetiredBegins : Type 0 → Type 0 → Type 0
+RetiredBegins K V = (roots : ℕ) → ShowsRetired {K = K} {V = V} start nothing_known (at_first roots)
+
+-- it is as it was where no table and no block changes, as where a call begins, is told something or comes to an outcome, and where a map comes or is there no more,
+abbrev pub OthersLeaveRetired : Type 0 → Type 0 → Type 0
+OthersLeaveRetired K V = (m v : Moment K V) (known : Known) (s t : Scene K V) → ShowsRetired m known s → v.tables ≡ m.tables → t.world ≡ s.world → CallsStay s t → ShowsRetired v known t
+
+-- and where the end of a map begins.
+abbrev pub EndingsBeginRetired : Type 0 → Type 0 → Type 0
+EndingsBeginRetired K V = (m : Moment K V) (known : Known) (s : Scene K V) → ShowsRetired m known s → (map i : ℕ) (standing : Standing K) → ShowsRetired m known (ending_begun map i standing s)
+
+module _ (K V S : Type 0) (same : K → K → Bool) (hash : K → ℕ) where
+  -- So it is where a row begins on a slot,
+  abbrev pub RowsBeginRetired : Type 0
+  RowsBeginRetired =
+      (m : Moment K V) (known : Known) (s : Scene K V) (old new : Executor K V S) → IsAt same hash old s → ShowsRetired m known s
+      → (called : SlotCall) (i : ℕ) (may : MayBegin old (slot_of i) called) (leads : RowBegins same hash called i s old new)
+      → ShowsRetired m known (scene_then same hash (Begin i (request_of (slot_of i) called)) s old new (leads may).3)
+
+  -- and after a step of it.
+  abbrev pub RowsKeepRetired : Type 0
+  RowsKeepRetired =
+      (name : ℕ → List ℕ) (m : Moment K V) (known : Known) (s : Scene K V) (old new : Executor K V S) → IsAt same hash old s → ShowsWhole same name m known s → ShowsRetired m known s
+      → (i : ℕ) (told : RowTold (Node K V)) (leads : RowLeads same hash i told s old new) (row : SlotRow) (here : work_of old i ≡ Some (OnSlot row))
+      → ShowsRetired (with_effects None None (effects_of OfRow known new.memory.changed) m) (known_after OfRow new.memory.changed known) (scene_then same hash (Step i) s old new (leads row here).4)
+
+  -- A table that it reclaims was retired.
+  abbrev pub RowsFindRetired : Type 0
+  RowsFindRetired =
+      (name : ℕ → List ℕ) (m : Moment K V) (known : Known) (s : Scene K V) (old new : Executor K V S) → IsAt same hash old s → ShowsWhole same name m known s → ShowsRetired m known s
+      → (i : ℕ) (told : RowTold (Node K V)) → RowLeads same hash i told s old new → (row : SlotRow) → work_of old i ≡ Some (OnSlot row)
+      → AtEachEffect HadRetired None None (effects_of OfRow known new.memory.changed) m
+
+  -- And it is so after each step of the making of a map,
+  abbrev pub MakingsKeepRetired : Type 0
+  MakingsKeepRetired =
+      (name : ℕ → List ℕ) (m : Moment K V) (known : Known) (s : Scene K V) (old new : Executor K V S) → IsAt same hash old s → ShowsWhole same name m known s → OwnAreMade known s.world → ShowsRetired m known s
+      → (i : ℕ) (told : Progress Setting) (leads : MakingLeads same hash i told s old new) (b : Beginning K) (here : s.makers i ≡ Some b) (of : Option ℕ) → WasNew b.map told m
+      → ShowsRetired (with_effects None of (effects_of (Making b.map) known new.memory.changed) m) (known_after (Making b.map) new.memory.changed known) (record s { world = (leads b here).2.step.w2 })
+
+  -- and of a call, of its row, too.
+  abbrev pub CallsKeepRetired : Type 0
+  CallsKeepRetired =
+      (name : ℕ → List ℕ) (m : Moment K V) (known : Known) (s : Scene K V) (old new : Executor K V S) → IsAt same hash old s → ShowsWhole same name m known s
+      → ShowsEntries s → OwnAreMade known s.world → ShowsRetired m known s
+      → (map i : ℕ) (u : UnderWay K V K) (here : s.calls map i ≡ Some u) (told : CallTold (Node K V)) (leads : StepLeads same hash i told s old new)
+      → (let to = leads map u here in
+      ShowsRetired (with_effects (Some (name i)) (Some map) (effects_of (Call i map) known new.memory.changed) m) (known_after (Call i map) new.memory.changed known)
+      (scene_after same hash s old new map i to.0 u to.1 told to.4))
+
+  -- And of the end of a map, which does not stand then.
+  abbrev pub EndingsKeepRetired : Type 0
+  EndingsKeepRetired =
+      (name : ℕ → List ℕ) (m : Moment K V) (known : Known) (s : Scene K V) (old new : Executor K V S) → IsAt same hash old s → ShowsWhole same name m known s → ShowsRetired m known s
+      → (i : ℕ) (told : Settled (Node K V)) (leads : EndingLeads same hash i told s old new) (f : Finishing K V) (here : s.enders i ≡ Some f) (map : ℕ) → s.maps map ≡ None
+      → (let to = leads f here in
+      ShowsRetired (with_effects None (Some map) (effects_of (Ending map) known new.memory.changed) m) (known_after (Ending map) new.memory.changed known)
+      (ending_after same hash s new i f to.0 to.2.w2 to.2.deed told to.3))

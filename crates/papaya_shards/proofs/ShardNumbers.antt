@@ -1,0 +1,64 @@
+-- Nothing was counted on a number that no map has had yet.
+use Rattle.std.specs.Prelude.{◌≡◌, ◌≢◌, ℕ, ◌≤◌, Bool, List, length, Some, None, option_map, slice_index_or}
+use Rattle.std.proofs.Common.{refl, ap, sym, subst, ◌∙◌, arith}
+use Rattle.std.proofs.Math.ListN.{get_or-eq_default}
+use Rattle.papaya_schedules.specs.Effects.{with_effects}
+use Rattle.papaya_schedules.specs.Moment.{Moment}
+use Rattle.papaya_callers.specs.Together.{OnKey, ForRoom, Counting, OverAll}
+use Rattle.papaya_effects.specs.Effects.{effects_of}
+use Rattle.papaya_effects.specs.Known.{Known}
+use Rattle.papaya_effects.specs.declared.acting.Acting.TheVariants as acts
+use Rattle.papaya_executor.specs.IsAt.{Scene, IsAt}
+use Rattle.papaya_executor.specs.declared.executor.Executor.{Executor}
+use Rattle.papaya_finishes.specs.Maps.{Standing}
+use Rattle.papaya_shards.specs.ShardSteps.{CallsKeepNumbers, NumbersBegin, NumbersStay}
+use Rattle.papaya_shards.specs.ShardWords.{NumbersUncounted}
+use Rattle.papaya_shards.proofs.KeyAdds.{key_adds}
+use Rattle.papaya_shards.proofs.RestAdds.{room_adds, sum_adds, sweep_adds}
+use Rattle.papaya_shards.proofs.ShardCalls.{others_then}
+
+-- a map that stands has its number
+module _ {K V S : Type 0} (same : K → K → Bool) (hash : K → ℕ) (s : Scene K V) (e : Executor K V S) (at_e : IsAt same hash e s) (map : ℕ) (st : Standing K) (there : s.maps map ≡ Some st) where
+  none_past : length e.maps.items ≤ map → ⊥
+  none_past past =
+      let some : Some st.setting ≡ slice_index_or e.maps.items map None = sym (ap (option_map (λ (x : Standing K). x.setting)) there) ∙ at_e.maps map in
+      absurd (let none : slice_index_or e.maps.items map None ≡ None = get_or-eq_default e.maps.items None past in cc (some, none))
+
+-- where no shard of another map is another one
+module _ {K V S : Type 0} (same : K → K → Bool) (hash : K → ℕ) (name : ℕ → List ℕ) (m : Moment K V) (known : Known) (s : Scene K V) (old new : Executor K V S) (at_old : IsAt same hash old s)
+    (numbers : NumbersUncounted old m) (map i : ℕ) (st : Standing K) (there : s.maps map ≡ Some st) (more : length old.maps.items ≤ length new.maps.items) where
+  abbrev v : Moment K V
+  v = with_effects (Some (name i)) (Some map) (effects_of (acts.Call i map) known new.memory.changed) m
+
+  numbers_then : ((n : ℕ) → n ≢ map → v.shards n ≡ m.shards n) → NumbersUncounted new v
+  numbers_then others n past shard =
+      let past_then : length old.maps.items ≤ n = omega (arith, more, past) in
+      let ne : n ≢ map = (λ e. none_past same hash s old at_old map st there (subst (λ (k : ℕ). length old.maps.items ≤ k) e past_then)) in
+      ap (λ (f : ℕ → ℕ). f shard) (others n ne) ∙ numbers n past_then shard
+
+pub calls_keep_numbers : (K V S : Type 0) (same : K → K → Bool) (hash : K → ℕ) → CallsKeepNumbers K V S same hash
+calls_keep_numbers K V S same hash name m known s old new at_old whole counts counters numbers map i (OnKey x) here said leads more =
+    let to = leads map (OnKey x) here in
+    numbers_then same hash name m known s old new at_old numbers map i to.0 to.2 more
+    (others_then same hash name m known s old new at_old whole counts counters map i (OnKey x) here said leads (key_adds same hash name m known s old new at_old whole.all.shown map i x here said leads to.4.did))
+calls_keep_numbers K V S same hash name m known s old new at_old whole counts counters numbers map i (ForRoom x) here said leads more =
+    let to = leads map (ForRoom x) here in
+    numbers_then same hash name m known s old new at_old numbers map i to.0 to.2 more
+    (others_then same hash name m known s old new at_old whole counts counters map i (ForRoom x) here said leads
+    (room_adds same hash name m known s old new at_old whole.all.shown map i (ForRoom x) here said leads x refl to.4.did))
+calls_keep_numbers K V S same hash name m known s old new at_old whole counts counters numbers map i (Counting x) here said leads more =
+    let to = leads map (Counting x) here in
+    numbers_then same hash name m known s old new at_old numbers map i to.0 to.2 more
+    (others_then same hash name m known s old new at_old whole counts counters map i (Counting x) here said leads
+    (sum_adds same hash name m known s old new at_old whole.all.shown map i (Counting x) here said leads x refl to.4.did))
+calls_keep_numbers K V S same hash name m known s old new at_old whole counts counters numbers map i (OverAll x) here said leads more =
+    let to = leads map (OverAll x) here in
+    numbers_then same hash name m known s old new at_old numbers map i to.0 to.2 more
+    (others_then same hash name m known s old new at_old whole counts counters map i (OverAll x) here said leads
+    (sweep_adds same hash name m known s old new at_old whole.all.shown map i (OverAll x) here said leads x refl to.4.did))
+
+pub numbers_begin : (K V S : Type 0) → NumbersBegin K V S
+numbers_begin K V S e of past shard = refl
+
+pub numbers_stay : (K V S : Type 0) → NumbersStay K V S
+numbers_stay K V S m v e e2 numbers same more of past shard = ap (λ (f : ℕ → ℕ → ℕ). f of shard) same ∙ numbers of (omega (arith, more, past)) shard

@@ -1,0 +1,164 @@
+-- Where a row on a slot, or the end of a map, takes a step, and where any of these or the making of a map begins, shards are what they were.
+use Rattle.std.specs.Prelude.{◌≡◌, ℕ, zero, suc, ◌≤◌, Bool, List, Option, Some, None}
+use Rattle.std.proofs.Common.{refl, ap, sym, subst, ◌∙◌, arith, inl, inr}
+use Rattle.std.proofs.lemmas.Bool.{cases_eq}
+use Rattle.seize_words.specs.Mem.{Mem, word_at}
+use Rattle.seize_words.specs.declared.at.At.TheVariants.{Word}
+use Rattle.seize.specs.World.{World, Begin, Step, with_at, times}
+use Rattle.papaya_tables.specs.declared.node.Node.{Node}
+use Rattle.papaya_tables.specs.declared.setting.Setting.{Setting}
+use Rattle.papaya_schedules.specs.declared.effect.Effect.{Effect}
+use Rattle.papaya_schedules.specs.Effects.{with_effects}
+use Rattle.papaya_schedules.specs.Moment.{Moment}
+use Rattle.papaya_teller.specs.declared.changed.Changed.{Changed}
+use Rattle.papaya_teller.specs.declared.teller.Teller.{Teller}
+use Rattle.papaya_callers.proofs.Together.At.{at_other, at_same}
+use Rattle.papaya_effects.specs.Effects.{effects_of}
+use Rattle.papaya_effects.specs.Known.{Known}
+use Rattle.papaya_effects.specs.declared.acting.Acting.TheVariants as acts
+use Rattle.papaya_effects.specs.declared.role.Role.TheVariants as role
+use Rattle.papaya_executor.specs.Ending.{ending_begun}
+use Rattle.papaya_executor.specs.IsAt.{Scene, IsAt, slot_of, work_of}
+use Rattle.papaya_executor.specs.OnSlots.{HappensAt, RowSteps}
+use Rattle.papaya_executor.specs.Rows.{request_of}
+use Rattle.papaya_executor.specs.declared.executor.Executor.{Executor}
+use Rattle.papaya_executor.specs.declared.row.RowTold.{RowTold}
+use Rattle.papaya_executor.specs.declared.row.SlotRow.{SlotRow}
+use Rattle.papaya_executor.specs.declared.worker.Work.TheVariants.{OnSlot}
+use Rattle.papaya_executor.proofs.OnSlots.{row_at, may_taken}
+use Rattle.papaya_finishes.specs.FactsEnds.{Deed, Spares, taken_by}
+use Rattle.papaya_finishes.specs.Makings.{Beginning, HasMade}
+use Rattle.papaya_finishes.specs.Maps.{Standing}
+use Rattle.papaya_follows.proofs.Operations.{Operated}
+use Rattle.papaya_follows.proofs.Steps.{one_of}
+use Rattle.papaya_moments.specs.Whole.{ShowsWhole}
+use Rattle.papaya_others.specs.Endings.{ending_after}
+use Rattle.papaya_others.specs.Rows.{scene_then}
+use Rattle.papaya_others.proofs.RowPlans.{TellsRow, row_tells, row_operated}
+use Rattle.papaya_histories.proofs.Aside.Elsewhere.{ending_at}
+use Rattle.papaya_shards.specs.ShardSteps.{CountersBegin, RowsBeginCounters, RowsKeepCounters, EndingsKeepCounters, MakingsBeginCounters, EndingsBeginCounters}
+use Rattle.papaya_shards.specs.ShardWords.{ShowsShards, IsUncounted, MakesUncounted, ShowsCounters}
+use Rattle.papaya_settles.proofs.Gains.{none_changed}
+use Rattle.papaya_shards.proofs.ShardKept.{none_shards, same_setting, word_kept, shards_kept, makes_kept, adds_kept}
+use Rattle.papaya_settles.proofs.Uncounted.{CountsNowhere}
+use Rattle.papaya_shards.proofs.WordOps.{gone_there}
+
+pub counters_begin : (K V : Type 0) → CountersBegin K V
+counters_begin K V roots name = record {
+  shards = λ n st is shard few. absurd (cc is);
+  makes = λ i b is. absurd (cc is);
+  adds = λ n i u is removed to_add c found. absurd (cc is);
+}
+
+-- in the same memory words are the same
+memory_kept : {K V : Type 0} (m m2 : Mem (Node K V)) → m2 ≡ m → (c f x y : ℕ) → word_at m (Word c f) ≡ Some x → word_at m2 (Word c f) ≡ Some y → y ≡ x
+memory_kept {K} {V} m m2 same c f x y was is = one_of y x (sym is ∙ ap (λ (n : Mem (Node K V)). word_at n (Word c f)) same ∙ was)
+
+-- what a row tells is no word of a count
+row_nowhere : (known : Known) (told : Changed) → TellsRow told → CountsNowhere known told
+row_nowhere known told tells b field old new of is counter = absurd (subst TellsRow is tells)
+
+module _ {K V S : Type 0} (same : K → K → Bool) (hash : K → ℕ) (name : ℕ → List ℕ) (m : Moment K V) (known : Known) (s : Scene K V) (old new : Executor K V S) (at_old : IsAt same hash old s)
+    (whole : ShowsWhole same name m known s) (counters : ShowsCounters name m s) (i : ℕ) (row : SlotRow) (here : work_of old i ≡ Some (OnSlot row)) (end : SlotRow × RowTold (Node K V))
+    (steps : RowSteps K V row old.memory.memory new.memory.memory new.memory.changed end) (happened : HappensAt same hash (Step i) s old new) where
+  abbrev t : Scene K V
+  t = scene_then same hash (Step i) s old new happened
+
+  abbrev told : Changed
+  told = new.memory.changed
+
+  made : Operated s.world.memory t.world.memory told
+  made =
+      subst (λ (n : Mem (Node K V)). Operated s.world.memory n told) (sym happened.4.memory)
+      (subst (λ (n : Mem (Node K V)). Operated n new.memory.memory told) (sym at_old.memory)
+      (row_operated old.memory.memory new.memory.memory told end row (may_taken same hash old s at_old i row here (slot_of i) row (row_at same hash old s at_old i row here)) steps))
+
+  -- counters are noted as such
+  abbrev IsCounter : ℕ → Type 0
+  IsCounter c = (of : ℕ) × (known.roles c ≡ role.Counter of)
+
+  keeps : (c f x y : ℕ) → IsCounter c → word_at s.world.memory (Word c f) ≡ Some x → word_at t.world.memory (Word c f) ≡ Some y → y ≡ x
+  keeps c f x y its was is =
+      word_kept known s.world.memory t.world.memory told made (row_nowhere known told (row_tells old.memory.memory new.memory.memory told end row steps)) c f x y its.0 its.1 was is
+
+  row_counters : ShowsCounters name (with_effects None None (effects_of acts.Row known told) m) t
+  row_counters =
+      let v : Moment K V = with_effects None None (effects_of acts.Row known told) m in
+      let shards = none_shards None (effects_of acts.Row known told) m in
+      record {
+        shards = shards_kept same hash m v s t new happened.4 IsCounter keeps shards (λ n st is. (n, (whole.all.shown.maps n st is).counter))
+            (λ n st is. same_setting (s.maps n) (happened.2 n) (happened.3 n) st is) counters.shards;
+        makes = makes_kept same hash m v s t new happened.4 IsCounter keeps shards refl (λ j b is has_made. (b.map, whole.counters j b is has_made)) counters.makes;
+        adds = adds_kept name m v s t (none_changed None (effects_of acts.Row known told) m) refl counters.adds;
+      }
+
+-- a block that is there after a step of an end was not taken away, and has its words
+module _ {K V : Type 0} (setting : Setting) (caller : ℕ) (w w2 : World (Node K V)) (deed : Deed) (spares : Spares setting caller w w2 deed) where
+  spared : (c f x y : ℕ) → word_at w.memory (Word c f) ≡ Some x → word_at w2.memory (Word c f) ≡ Some y → y ≡ x
+  spared c f x y was is = by (times c (taken_by deed)) refl
+    where
+      by : (n : ℕ) → times c (taken_by deed) ≡ n → y ≡ x
+      by zero e = one_of y x (sym is ∙ spares.words c f e ∙ was)
+      by (suc n) e = absurd (gone_there w2.memory c f (spares.gone c (omega (arith, e))) y is)
+
+-- where each word that is there is what it was, and calls, maps and makings are as they were
+module _ {K V S : Type 0} (same : K → K → Bool) (hash : K → ℕ) (name : ℕ → List ℕ) (m v : Moment K V) (s t : Scene K V) (new : Executor K V S) (at_new : IsAt same hash new t)
+    (counters : ShowsCounters name m s) (shards : v.shards ≡ m.shards) (calls : v.calls ≡ m.calls) where
+  abbrev AnyBlock : ℕ → Type 0
+  AnyBlock c = Unit {0}
+
+  words_kept : ((c f x y : ℕ) → word_at s.world.memory (Word c f) ≡ Some x → word_at t.world.memory (Word c f) ≡ Some y → y ≡ x)
+      → ((n : ℕ) (st : Standing K) → t.maps n ≡ Some st → (before : Standing K) × (s.maps n ≡ Some before) × (st.setting ≡ before.setting)) → t.calls ≡ s.calls → t.makers ≡ s.makers → ShowsCounters name v t
+  words_kept keeps stood under_way makers = record {
+    shards = shards_kept same hash m v s t new at_new AnyBlock (λ c f x y its was is. keeps c f x y was is) shards (λ n st is. tt) stood counters.shards;
+    makes = makes_kept same hash m v s t new at_new AnyBlock (λ c f x y its was is. keeps c f x y was is) shards makers (λ j b is has_made. tt) counters.makes;
+    adds = adds_kept name m v s t calls under_way counters.adds;
+  }
+
+module _ (K V S : Type 0) (same : K → K → Bool) (hash : K → ℕ) where
+  pub rows_begin_counters : RowsBeginCounters K V S same hash
+  rows_begin_counters name m s old new at_old counters called i may leads =
+      let to = leads may in
+      let t : Scene K V = scene_then same hash (Begin i (request_of (slot_of i) called)) s old new to.3 in
+      words_kept same hash name m m s t new to.3.4 counters refl refl
+      (λ c f x y was is. memory_kept s.world.memory t.world.memory
+      (to.3.4.memory ∙ ap (λ (n : Teller (Mem (Node K V))). n.memory) to.0 ∙ sym at_old.memory) c f x y was is)
+      (λ n st is. same_setting (s.maps n) (to.3.2 n) (to.3.3 n) st is) refl refl
+
+  pub rows_keep_counters : RowsKeepCounters K V S same hash
+  rows_keep_counters name m known s old new at_old whole counters i told leads row here =
+      let to = leads row here in row_counters same hash name m known s old new at_old whole counters i row here (to.0, told) to.1 to.4
+
+  pub endings_keep_counters : EndingsKeepCounters K V S same hash
+  endings_keep_counters name m known s old new at_old counters i told leads f here map =
+      let to = leads f here in
+      let it = ending_at same hash s old new i f to.0 to.2.w2 to.2.deed told to.3 in
+      let t : Scene K V = ending_after same hash s new i f to.0 to.2.w2 to.2.deed told to.3 in
+      let effects : List Effect = effects_of (acts.Ending map) known new.memory.changed in
+      words_kept same hash name m (with_effects None (Some map) effects m) s t new it.3 counters (none_shards (Some map) effects m) (none_changed (Some map) effects m)
+      (λ c x a b was is. spared f.setting i s.world to.2.w2 to.2.deed to.2.spares c x a b was (subst (λ (w : World (Node K V)). word_at w.memory (Word c x) ≡ Some b) it.0 is))
+      (λ n st is. (st, subst (λ (g : ℕ → Option (Standing K)). g n ≡ Some st) it.2 is, refl)) it.1 it.4
+
+module _ (K V : Type 0) where
+  pub makings_begin_counters : MakingsBeginCounters K V
+  makings_begin_counters name m s counters i b none uncounted = record { shards = counters.shards; makes = makes_then; adds = counters.adds }
+    where
+      makes_then : MakesUncounted m (record s { makers = with_at s.makers i (Some b) })
+      makes_then j d is = elim (cases_eq j i) as (λ _. IsUncounted d.map m
+          × (HasMade d.machine.stands → (shard : ℕ) → shard ≤ d.machine.setting.mask → word_at s.world.memory (Word d.machine.setting.counter shard) ≡ Some 0)) [
+            | inl e ↦
+                let one : b ≡ d = one_of b d (sym (at_same s.makers i (Some b) j e) ∙ is) in (
+                  subst (λ (x : Beginning K). IsUncounted x.map m) one uncounted,
+                  λ has_made shard few. absurd (none (subst (λ (x : Beginning K). HasMade x.machine.stands) (sym one) has_made)),
+                )
+            | inr ne ↦ counters.makes j d (sym (at_other s.makers i (Some b) j ne) ∙ is)
+          ]
+
+  pub endings_begin_counters : EndingsBeginCounters K V
+  endings_begin_counters name m s counters map i standing = record { shards = shards_then; makes = counters.makes; adds = counters.adds }
+    where
+      shards_then : ShowsShards m (ending_begun map i standing s)
+      shards_then n st is shard few = elim (cases_eq n map) as (λ _. word_at s.world.memory (Word st.setting.counter shard) ≡ Some (m.shards n shard)) [
+        | inl e ↦ absurd (let none = at_same s.maps map None n e in cc (none, is))
+        | inr ne ↦ counters.shards n st (sym (at_other s.maps map None n ne) ∙ is) shard few
+      ]
