@@ -54,11 +54,11 @@ use Rattle.papaya_settles.proofs.HandLives.{IsKeptYet, taken_is_out, value_kept,
 use Rattle.papaya_settles.proofs.HandRoles.{hand_both}
 use Rattle.papaya_settles.proofs.HandThere.{key_fresh, key_late, room_fresh, room_late, sweep_fresh, key_row, room_row, sweep_row}
 
-pair_of_map : (r : Role) → IsPairRole r → IsOfMap r
+pub pair_of_map : (r : Role) → IsPairRole r → IsOfMap r
 pair_of_map (role.Pair n) is = tt
 pair_of_map _ is = absurd is
 
-table_of_map : (r : Role) → IsTableRole r → IsOfMap r
+pub table_of_map : (r : Role) → IsTableRole r → IsOfMap r
 table_of_map (role.Table t len) is = tt
 table_of_map _ is = absurd is
 

@@ -2,23 +2,27 @@
 use Rattle.std.specs.Prelude.{◌≡◌, ℕ, Bool, List, Option, Some, None}
 use Rattle.seize.specs.World.{Step}
 use Rattle.seize.specs.declared.progress.Progress.{Progress}
+use Rattle.seize.specs.declared.rows.settle.Settled.{Settled}
 use Rattle.papaya_tables.specs.declared.node.Node.{Node}
 use Rattle.papaya_tables.specs.declared.setting.Setting.{Setting}
 use Rattle.papaya_schedules.specs.Effects.{with_effects}
 use Rattle.papaya_schedules.specs.Moment.{Moment}
 use Rattle.papaya_effects.specs.Effects.{effects_of, known_after}
 use Rattle.papaya_effects.specs.Known.{Known}
-use Rattle.papaya_effects.specs.declared.acting.Acting.TheVariants.{Row, Making}
+use Rattle.papaya_effects.specs.declared.acting.Acting.TheVariants.{Row, Making, Ending}
 use Rattle.papaya_executor.specs.IsAt.{Scene, IsAt, work_of}
+use Rattle.papaya_executor.specs.Ending.{EndingLeads}
 use Rattle.papaya_executor.specs.Making.{MakingLeads}
 use Rattle.papaya_executor.specs.OnSlots.{RowLeads}
 use Rattle.papaya_executor.specs.declared.executor.Executor.{Executor}
 use Rattle.papaya_executor.specs.declared.row.RowTold.{RowTold}
 use Rattle.papaya_executor.specs.declared.row.SlotRow.{SlotRow}
 use Rattle.papaya_executor.specs.declared.worker.Work.TheVariants.{OnSlot}
+use Rattle.papaya_finishes.specs.Endings.{Finishing}
 use Rattle.papaya_finishes.specs.Makings.{Beginning}
 use Rattle.papaya_follows.specs.Shows.{Shows}
 use Rattle.papaya_moments.specs.Whole.{ShowsWhole}
+use Rattle.papaya_others.specs.Endings.{ending_after}
 use Rattle.papaya_others.specs.Makings.{WasNew, making_after}
 use Rattle.papaya_others.specs.Rows.{scene_then}
 use Rattle.papaya_settles.specs.Hand.{ShowsOwed}
@@ -39,3 +43,12 @@ MakingsLeaveOwed K V S same hash =
     → (let to = leads b here in
     let effects = effects_of (Making b.map) known new.memory.changed in
     ShowsOwed name (with_effects None of effects m) (known_after (Making b.map) new.memory.changed known) (making_after same hash s old new i b to.0 to.2.step.w2 told to.3))
+
+-- And of a step of the end of a map, by whose number none stands.
+abbrev pub EndingsLeaveOwed : (K V S : Type 0) (same : K → K → Bool) (hash : K → ℕ) → Type 0
+EndingsLeaveOwed K V S same hash =
+    (name : ℕ → List ℕ) (m : Moment K V) (known : Known) (s : Scene K V) (old new : Executor K V S) → IsAt same hash old s → ShowsWhole same name m known s → ShowsOwed name m known s
+    → (i : ℕ) (told : Settled (Node K V)) (leads : EndingLeads same hash i told s old new) (f : Finishing K V) (here : s.enders i ≡ Some f) (map : ℕ) → s.maps map ≡ None
+    → (let to = leads f here in
+    let effects = effects_of (Ending map) known new.memory.changed in
+    ShowsOwed name (with_effects None (Some map) effects m) (known_after (Ending map) new.memory.changed known) (ending_after same hash s new i f to.0 to.2.w2 to.2.deed told to.3))

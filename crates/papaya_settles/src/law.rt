@@ -6,7 +6,7 @@ ghost use Rattle.papaya_settles.specs.Entries.{EntriesBegin, CallsGoOnEntries, E
 ghost use Rattle.papaya_settles.specs.Handing.{CallsBeginHanding, CallsComeToHanding, CallsKeepHanding, CallsTakeHanding, HandingBegins, OthersLeaveHanding, WalksGoOnHanding, WalksStopHanding};
 ghost use Rattle.papaya_settles.specs.InHand.{CallsTakeInHand, CallsHoldTheirs, SweepsTakeInHand, SweepsHoldTheirs};
 ghost use Rattle.papaya_settles.specs.Owed.{OwedBegins, StaysOwed, EffectsLeaveOwed, CallsBeginOwed, CallsTakeOwed, CallsComeToOwed, WalksHaveNothing, RowsHandOver, CallsGoInHand, CallsKeepOwed, WalksGoOnOwed, WalksStopOwed};
-ghost use Rattle.papaya_settles.specs.OwedBeside.{RowsLeaveOwed, MakingsLeaveOwed};
+ghost use Rattle.papaya_settles.specs.OwedBeside.{RowsLeaveOwed, MakingsLeaveOwed, EndingsLeaveOwed};
 ghost use Rattle.papaya_settles.specs.Owing.{OwesFollow, HandingFollows, StepsTakeOut};
 ghost use Rattle.papaya_settles.specs.Shards.{CountsFindShards};
 ghost use Rattle.papaya_settles.specs.Keeping.{CountsBegin, CallsKeepCounts, CallsBeginCounts, CallsBeginUncounted, CallsTakeCounts, CallsComeToCounts};
@@ -94,13 +94,14 @@ pub fn calls_owe_what_they_have<K, V, S>()
     ensures ready { WalksHaveNothing K V }
 {}
 
-/// What is no call leaves that as it was: each step of a row on a slot, and of the making of a map, which take nothing away that a call has in hand; the effects of the end
-/// of a map, where the blocks that calls have in hand are what they were; and a walk that goes on to its next pair, or is given up.
+/// What is no call leaves that as it was: each step of a row on a slot, of the making of a map, and of the end of one, which take nothing away that a call has in hand; what
+/// leaves calls, and the blocks that they have in hand, as they were; and a walk that goes on to its next pair, or is given up.
 pub fn others_leave_owed<K, V, S>()
     ensures stays { StaysOwed K V }
     ensures effects { EffectsLeaveOwed K V }
     ensures rows { (same : K → K → Bool) (hash : K → ℕ) → RowsLeaveOwed K V S same hash }
     ensures makings { (same : K → K → Bool) (hash : K → ℕ) → MakingsLeaveOwed K V S same hash }
+    ensures endings { (same : K → K → Bool) (hash : K → ℕ) → EndingsLeaveOwed K V S same hash }
     ensures goes_on { (same : K → K → Bool) (hash : K → ℕ) → WalksGoOnOwed K V S same hash }
     ensures stops { (same : K → K → Bool) (hash : K → ℕ) → WalksStopOwed K V S same hash }
 {}
