@@ -1,7 +1,7 @@
 //! Gives each word of its input a number, and prints each line in numbers; then the numbers of all words as JSON, which it reads back.
 #![tactic(auto)]
 
-ghost use Rattle.std.specs.Prelude.{◌≡◌, ◌×◌, ℕ, Ok, OnErr, IfOk, None, Some};
+ghost use Rattle.std.specs.Prelude.{◌≡◌, ℕ, Ok, OnErr, IfOk, None, Some};
 ghost use Rattle.std.specs.List.Sorted.{IsPermutation};
 ghost use Rattle.interner.specs.Numbers.{number_of, HasNext};
 
