@@ -1,11 +1,9 @@
 //! Gives each word of its input a number, and prints each line in numbers; then the numbers of all words as JSON, which it reads back.
 #![tactic(auto)]
 
-ghost use Rattle.std.specs.Prelude.{◌≡◌, ℕ, [], ◌∷◌, ◌++◌, length, Ok, OnErr, OnOk, IfOk, None, Some};
+ghost use Rattle.std.specs.Prelude.{◌≡◌, ℕ, Ok, OnErr, IfOk, None, Some};
 ghost use Rattle.std.specs.List.Sorted.{IsPermutation};
-ghost use Rattle.std.specs.Str.{bytes_eq};
-ghost use Rattle.papaya_seq.specs.Pairs.{left_by};
-ghost use Rattle.interner.specs.Numbers.{number_of};
+ghost use Rattle.interner.specs.Numbers.{number_of, HasNext};
 
 use papaya_forms::{Text, TextRef};
 use papaya_seq::{Fault, HashMap};
@@ -17,36 +15,20 @@ use std::io;
 /// The number of each word, and the hasher of std's maps.
 type Numbers = HashMap<Text, u64, BuildHasherDefault<FoldHasher>>;
 
-/// The number of this word, if it has one. The map owns its words, and is asked with one that is lent.
-fn number_of(numbers: &Numbers, word: &str) -> Option<u64>
-    ensures { result ≡ number_of word.now numbers.now.pairs }
-{
-    numbers.get(&TextRef::new(word)).copied()
-}
-
-/// Gives a word the next number. After a fault each word has the number that it had.
-fn add(numbers: &mut Numbers, alloc: Global, word: &str) -> Result<u64, Fault>
-    ensures next { IfOk result (λ number. number ≡ length numbers.old.pairs) }
-    ensures stored { OnOk result (IsPermutation numbers.new.pairs (left_by (bytes_eq word.now) numbers.old.pairs ++ ((word.now, length numbers.old.pairs) ∷ []))) }
+/// The number of this word: the one that it has, or else the next one, which it then has. After a fault each word has the number that it had.
+fn intern(numbers: &mut Numbers, alloc: Global, word: &str) -> Result<u64, Fault>
+    ensures known { (number : ℕ) → number_of word.now numbers.old.pairs ≡ Some number → (result ≡ Ok number) × (numbers.new.pairs ≡ numbers.old.pairs) }
+    ensures next { number_of word.now numbers.old.pairs ≡ None → IfOk result (λ number. HasNext word.now number numbers.old.pairs numbers.new.pairs) }
     ensures refused { OnErr result (IsPermutation numbers.new.pairs numbers.old.pairs) }
 {
+    // The map owns its words, and is asked with one that is lent.
+    if let Some(number) = numbers.get(&TextRef::new(word)).copied() {
+        return Ok(number);
+    }
     let next = numbers.len();
     match numbers.insert(Text::new(alloc, word)?, next) {
         Ok(_) => Ok(next),
         Err(refused) => Err(refused.fault),
-    }
-}
-
-/// The number of this word: the one that it has, or else the next one, which it then has. After a fault each word has the number that it had.
-fn intern(numbers: &mut Numbers, alloc: Global, word: &str) -> Result<u64, Fault>
-    ensures known { (number : ℕ) → number_of word.now numbers.old.pairs ≡ Some number → (result ≡ Ok number) × (numbers.new.pairs ≡ numbers.old.pairs) }
-    ensures next { number_of word.now numbers.old.pairs ≡ None → IfOk result (λ number. number ≡ length numbers.old.pairs) }
-    ensures stored { number_of word.now numbers.old.pairs ≡ None → OnOk result (IsPermutation numbers.new.pairs (left_by (bytes_eq word.now) numbers.old.pairs ++ ((word.now, length numbers.old.pairs) ∷ []))) }
-    ensures refused { OnErr result (IsPermutation numbers.new.pairs numbers.old.pairs) }
-{
-    match number_of(numbers, word) {
-        Some(number) => Ok(number),
-        None => add(numbers, alloc, word),
     }
 }
 
@@ -63,48 +45,31 @@ fn in_numbers(numbers: &mut Numbers, alloc: Global, line: &str) -> io::Result<St
     Ok(text)
 }
 
-/// The numbers that a text of JSON has.
-fn read_back(alloc: Global, text: &str) -> io::Result<Numbers> {
-    let Ok(value) = Value::from_str(alloc, text) else {
-        return Err(io::Error::other("what was written is no JSON"));
-    };
-    Numbers::from_value(alloc, &value).map_err(|_| io::Error::other("what was written is no map"))
-}
-
-/// Prints each line of the input in numbers.
-fn print_lines<R: Input + Print>(rt: &R, alloc: Global, numbers: &mut Numbers) -> io::Result<()> {
-    for line in rt.lines(alloc) {
-        let line = line?;
-        println!(rt; "{}", in_numbers(numbers, alloc, line.as_str())?)?;
-    }
-    Ok(())
-}
-
 /// Whether a text of JSON has just these numbers.
 fn is_of(alloc: Global, text: &str, numbers: &Numbers) -> io::Result<bool> {
-    let read = read_back(alloc, text)?;
+    let value = Value::from_str(alloc, text).map_err(|_| io::Error::other("this is no JSON"))?;
+    let read = Numbers::from_value(alloc, &value).map_err(|_| io::Error::other("this is no map"))?;
     Ok(read == *numbers)
 }
 
-/// Prints all numbers as JSON, which is read back.
+/// Prints all numbers as JSON, and whether the same are read back.
 fn print_all<R: Print>(rt: &R, alloc: Global, numbers: &Numbers) -> io::Result<()> {
     let text = numbers.to_value(alloc)?.to_string(alloc)?;
     println!(rt; "{text}")?;
-    if !is_of(alloc, text.as_str(), numbers)? {
-        return Err(io::Error::other("other numbers were read back"));
-    }
-    println!(rt; "{} words read back", numbers.len())?;
+    let same = is_of(alloc, text.as_str(), numbers)?;
+    println!(rt; "{} words, the same are read back: {same}", numbers.len())?;
     Ok(())
 }
 
 /// Prints the lines in numbers, and then all of these.
 fn run<R: Input + Print>(rt: &R, alloc: Global, numbers: &mut Numbers) -> io::Result<()> {
-    print_lines(rt, alloc, numbers)?;
+    for line in rt.lines(alloc) {
+        println!(rt; "{}", in_numbers(numbers, alloc, line?.as_str())?)?;
+    }
     print_all(rt, alloc, numbers)
 }
 
 fn main(rt: HostRuntime) -> io::Result<()> {
-    let alloc = rt.alloc();
-    let mut numbers = Numbers::new(alloc).map_err(|fault| io::Error::other(fault.name()))?;
-    run(&rt, alloc, &mut numbers)
+    let mut numbers = Numbers::new(rt.alloc()).map_err(|fault| io::Error::other(fault.name()))?;
+    run(&rt, rt.alloc(), &mut numbers)
 }

@@ -47,18 +47,17 @@ fn fibonacci(memo: &mut Memo, n: u64) -> Result<u64, Fault>
     let number = if n < 2 {
         n
     } else {
-        let before = fibonacci(memo, n - 1)?;
-        before.wrapping_add(fibonacci(memo, n - 2)?)
+        fibonacci(memo, n - 1)?.wrapping_add(fibonacci(memo, n - 2)?)
     };
     keep(memo, n, number)?;
     Ok(number)
 }
 
-/// The place in a line, if there is one that is computed.
-fn place(line: &str) -> Option<u64> {
+/// The place in a line.
+fn place(line: &str) -> io::Result<u64> {
     match line.parse::<u64>() {
-        Ok(n) if n <= LAST => Some(n),
-        _ => None,
+        Ok(n) if n <= LAST => Ok(n),
+        _ => Err(io::Error::other("a line has a number of at most 1000")),
     }
 }
 
@@ -67,21 +66,15 @@ fn print_numbers<R: Input + Print>(rt: &R, alloc: Global, memo: &mut Memo) -> io
     requires { AreRight memo.old.pairs }
 {
     for line in rt.lines(alloc) {
-        let Some(n) = place(line?.as_str()) else {
-            return Err(io::Error::other("a line has a number of at most 1000"));
-        };
-        match fibonacci(memo, n) {
-            Ok(number) => println!(rt; "{n}: {number}")?,
-            Err(fault) => return Err(io::Error::other(fault.name())),
-        }
+        let n = place(line?.as_str())?;
+        let number = fibonacci(memo, n).map_err(|fault| io::Error::other(fault.name()))?;
+        println!(rt; "{n}: {number}")?;
     }
     println!(rt; "{} known", memo.len())?;
     Ok(())
 }
 
 fn main(rt: HostRuntime) -> io::Result<()> {
-    match Memo::new(rt.alloc()) {
-        Ok(mut memo) => print_numbers(&rt, rt.alloc(), &mut memo),
-        Err(fault) => Err(io::Error::other(fault.name())),
-    }
+    let mut memo = Memo::new(rt.alloc()).map_err(|fault| io::Error::other(fault.name()))?;
+    print_numbers(&rt, rt.alloc(), &mut memo)
 }

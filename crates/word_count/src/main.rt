@@ -1,11 +1,9 @@
 //! Counts the words of its input in a map, and prints each with its count, in the order in which they came first.
 #![tactic(auto)]
 
-ghost use Rattle.std.specs.Prelude.{◌≡◌, ◌+◌, [], ◌∷◌, ◌++◌, is_some, not, IfOk, OnOk, OnErr};
+ghost use Rattle.std.specs.Prelude.{◌≡◌, ◌+◌, ℕ, List, IfOk, OnOk, OnErr};
 ghost use Rattle.std.specs.List.Sorted.{IsPermutation};
-ghost use Rattle.std.specs.Str.{bytes_eq};
-ghost use Rattle.papaya_seq.specs.Pairs.{found_by, left_by};
-ghost use Rattle.word_count.specs.Counts.{count_of};
+ghost use Rattle.word_count.specs.Counts.{IsCounted, count_of};
 
 use papaya_forms::{Text, TextRef};
 use papaya_seq::{Fault, HashMap};
@@ -18,44 +16,41 @@ type Counts = HashMap<Text, u64, BuildHasherDefault<FoldHasher>>;
 
 /// How often this word came. The map owns its words, and is asked with one that is lent.
 fn count_of(counts: &Counts, word: &str) -> u64
-    ensures { result ≡ count_of word.now counts.now.pairs }
+    ensures count { result ≡ count_of word.now counts.now.pairs }
+    ensures in_any_order { (pairs : List (List ℕ × ℕ)) → IsPermutation counts.now.pairs pairs → result ≡ count_of word.now pairs }
 {
     counts.get(&TextRef::new(word)).copied().unwrap_or(0)
 }
 
-/// Counts this word once more, and answers whether it is new. A count past 64 bits is `Fault::Capacity`, too. After a fault each count is as before.
-fn count(counts: &mut Counts, alloc: Global, word: &str) -> Result<bool, Fault>
-    ensures new { IfOk result (λ new. new ≡ not (is_some (found_by (bytes_eq word.now) counts.old.pairs))) }
-    ensures counted { OnOk result (IsPermutation counts.new.pairs (left_by (bytes_eq word.now) counts.old.pairs ++ ((word.now, count_of word.now counts.old.pairs + 1) ∷ []))) }
+/// Counts this word once more, and answers what is found of it then. A count past 64 bits is `Fault::Capacity`, too. After a fault each count is as before.
+fn count(counts: &mut Counts, alloc: Global, word: &str) -> Result<u64, Fault>
+    ensures found { IfOk result (λ count. count ≡ count_of word.now counts.new.pairs) }
+    ensures one_more { IfOk result (λ count. count ≡ count_of word.now counts.old.pairs + 1) }
+    ensures counted { OnOk result (IsCounted word.now counts.old.pairs counts.new.pairs) }
     ensures refused { OnErr result (IsPermutation counts.new.pairs counts.old.pairs) }
 {
     let Some(count) = count_of(counts, word).checked_add(1) else {
         return Err(Fault::Capacity);
     };
-    let key = Text::new(alloc, word)?;
-    match counts.insert(key, count) {
-        Ok(was) => Ok(!was),
+    match counts.insert(Text::new(alloc, word)?, count) {
+        Ok(_) => Ok(count_of(counts, word)),
         Err(refused) => Err(refused.fault),
     }
 }
 
-/// Counts the words of the input, and lists each as it comes first.
-fn read<R: Input>(
-    rt: &R,
-    alloc: Global,
-    counts: &mut Counts,
-    words: &mut Vec<String>,
-) -> io::Result<()> {
+/// Counts the words of the input, and answers each, in the order in which they came first.
+fn read<R: Input>(rt: &R, alloc: Global, counts: &mut Counts) -> io::Result<Vec<String>> {
+    let mut words = Vec::new(alloc);
     for line in rt.lines(alloc) {
         for word in line?.as_str().split_whitespace() {
             match count(counts, alloc, word) {
-                Ok(true) => words.push(String::from_str(alloc, word)?)?,
-                Ok(false) => {}
+                Ok(1) => words.push(String::from_str(alloc, word)?)?,
+                Ok(_) => {}
                 Err(fault) => return Err(io::Error::other(fault.name())),
             }
         }
     }
-    Ok(())
+    Ok(words)
 }
 
 /// Prints these words with their counts, and how many there are.
@@ -69,14 +64,11 @@ fn print<R: Print>(rt: &R, counts: &Counts, words: &[String]) -> io::Result<()> 
 
 /// Reads all words, and prints them.
 fn run<R: Input + Print>(rt: &R, alloc: Global, counts: &mut Counts) -> io::Result<()> {
-    let mut words = Vec::new(alloc);
-    read(rt, alloc, counts, &mut words)?;
+    let words = read(rt, alloc, counts)?;
     print(rt, counts, words.as_slice())
 }
 
 fn main(rt: HostRuntime) -> io::Result<()> {
-    match Counts::new(rt.alloc()) {
-        Ok(mut counts) => run(&rt, rt.alloc(), &mut counts),
-        Err(fault) => Err(io::Error::other(fault.name())),
-    }
+    let mut counts = Counts::new(rt.alloc()).map_err(|fault| io::Error::other(fault.name()))?;
+    run(&rt, rt.alloc(), &mut counts)
 }
