@@ -102,13 +102,13 @@ module _ {K V : Type 0} (same : K → K → Bool) (classes : IsEquivalence same)
       let its = pair_found (same q) xs x is in
       let members : of_xs.members ≡ of_ys.members = members_are of_xs.members of_ys.members (sym of_xs.is ∙ of_ys.is) in
       let there : get_member (text x.0) of_ys.members ≡ Some (value x.1) =
-          subst (λ ms. get_member (text x.0) ms ≡ Some (value x.1)) members (All-contains (λ z. get_member (text z.0) of_xs.members ≡ Some (value z.1)) xs x of_xs.each its.0) in
+      subst (λ ms. get_member (text x.0) ms ≡ Some (value x.1)) members (All-contains (λ z. get_member (text z.0) of_xs.members ≡ Some (value z.1)) xs x of_xs.each its.0) in
       let twin = of_ys.only (text x.0) (value x.1) there in
       let y = some_found (same q) ys twin.0 twin.1 (classes.congr q x.0 twin.0.0 its.1 ∙ (tells x twin.0 its.0 twin.1).1 (sym twin.2)) in
       let one = pair_found (same q) ys y.0 y.1 in
       let texts : text x.0 ≡ text y.0.0 = (tells x y.0 its.0 one.0).0 (sym (classes.congr q x.0 y.0.0 its.1) ∙ one.1) in
       let both : Some (value x.1) ≡ Some (value y.0.1) =
-          sym there ∙ ap (λ t. get_member t of_ys.members) texts ∙ All-contains (λ z. get_member (text z.0) of_ys.members ≡ Some (value z.1)) ys y.0 of_ys.each one.0 in
+      sym there ∙ ap (λ t. get_member t of_ys.members) texts ∙ All-contains (λ z. get_member (text z.0) of_ys.members ≡ Some (value z.1)) ys y.0 of_ys.each one.0 in
       let values : value x.1 ≡ value y.0.1 = cc both in
       (y.0, y.1, one.0, values)
 
@@ -119,9 +119,9 @@ module _ {K V : Type 0} (same : K → K → Bool) (classes : IsEquivalence same)
     both_equal None None none neither = refl
     both_equal None (Some y) none is =
         let x =
-            found_beside ys xs
-            (λ z w inz inw.
-            let told = (tells w z inw inz).0 in (λ so. sym (told.0 (classes.symm w.0 z.0 ∙ so)), λ so. classes.symm z.0 w.0 ∙ told.1 (sym so))) d of_ys of_xs q y is in
+        found_beside ys xs
+        (λ z w inz inw.
+        let told = (tells w z inw inz).0 in (λ so. sym (told.0 (classes.symm w.0 z.0 ∙ so)), λ so. classes.symm z.0 w.0 ∙ told.1 (sym so))) d of_ys of_xs q y is in
         absurd (true≢false (ap is_some (sym x.1 ∙ none)))
     both_equal (Some x) p is other =
         let y = found_beside xs ys (λ z w inz inw. (tells z w inz inw).0) d of_xs of_ys q x is in
