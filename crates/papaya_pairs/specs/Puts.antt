@@ -2,7 +2,6 @@
 use Rattle.std.specs.Prelude.{◌≡◌, Bool, true, false, Some, List, [], ◌∷◌, ◌++◌, Option, Result, MatchResult}
 use Rattle.std.specs.Cmp.{IsEquivalence}
 use Rattle.std.specs.Iterator.{Drains, Yields}
-use Rattle.std.specs.List.Sorted.{IsPermutation}
 use Rattle.papaya_owned.specs.Owned.{found_by, left_by}
 
 -- An iterator gave these: all that it gives; or what it gave before the one that was refused, which is handed back, and no further one was asked for.

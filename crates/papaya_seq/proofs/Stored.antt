@@ -1,11 +1,10 @@
 -- Elements that are stored in a set one after another.
-use Rattle.std.specs.List.{AllZip}
 use Rattle.std.specs.List.Sorted.{IsPermutation}
 use Rattle.std.specs.Map.{keys_of}
 use Rattle.std.proofs.Common.{◌≡◌, Bool, List, [], ◌∷◌, ◌++◌, find, Option, None, Some, option_map, refl, ap, sym, subst, ◌∙◌}
 use Rattle.std.proofs.lemmas.List.{map-append}
 use Rattle.std.proofs.lemmas.List.Sorted.{IsPermutation-refl}
-use Rattle.papaya_seq_map.specs.Given.{Balanced, IsCloneOf, found_by, last_put, last_taken, put, put_all}
+use Rattle.papaya_seq_map.specs.Given.{Balanced, found_by, last_put, last_taken, put, put_all}
 use Rattle.papaya_seq_map.specs.Maps.{Map}
 use Rattle.papaya_seq_map.specs.Stored.{IsMadeOf, IsMadeOfClones}
 use Rattle.papaya_seq_map.proofs.Given.{balanced_first, balanced_more, kept_balances, put_is_last}

@@ -1,5 +1,4 @@
 -- Pairs that are stored in a map one after another.
-use Rattle.std.specs.List.{AllZip}
 use Rattle.std.specs.List.Sorted.{IsPermutation}
 use Rattle.std.proofs.Common.{◌≡◌, Bool, List, [], ◌∷◌, ◌++◌, Option, None, refl, sym, subst, ◌∙◌}
 use Rattle.std.proofs.lemmas.List.Elements.{AllZip-push}
