@@ -12,7 +12,7 @@ use Rattle.std.proofs.lemmas.Map.Keys.{IsDistinct-IsPermutation, IsDistinct-from
 use Rattle.serde_json.specs.Data.{Data, array}
 use Rattle.serde_json.specs.View.{view, items_view}
 use Rattle.serde_json.specs.declared.value.Value.{Value}
-use Rattle.papaya_forms.specs.Arrays.{FirstBad, HasElements, IsElementOf, IsNoElement, IsRefused}
+use Rattle.papaya_forms.specs.Arrays.{AreElementsOf, FirstBad, HasElements, IsElementOf, IsNoElement, IsRefused}
 use Rattle.papaya_forms.specs.declared.fault.JsonFault.{JsonFault}
 use Rattle.papaya_forms.proofs.Members.{first_is, later_is}
 
@@ -96,6 +96,20 @@ module _ {K : Type 0} (in_range : K → Type 0) (value : K → Data) (same : K �
         → (x : K) × IsElementOf in_range value (view v) x × IsPermutation new (others same x old ++ (x ∷ [])) → AreRead (take (i + 1) items) new
     goes_on items i v old new below is so (x, its, order) =
         subst (λ l. AreRead l new) (sym (take_more items i v below ∙ ap (λ w. take i items ++ w ∷ []) (sym is))) (one_on (take i items) v old new x so its order)
+
+  -- the items so far stand for elements, in their order, and so they do with one more
+  behind : (given : List K) (done : List Value) (x : K) (v : Value) → AreElementsOf in_range value given (items_view done) → IsElementOf in_range value (view v) x
+      → AreElementsOf in_range value (given ++ (x ∷ [])) (items_view (done ++ v ∷ []))
+  behind [] [] x v so its = (its, tt)
+  behind (y ∷ given) (w ∷ done) x v so its = (so.0, behind given done x v so.1 its)
+  behind [] (w ∷ done) x v so its = absurd so
+  behind (y ∷ given) [] x v so its = absurd so
+
+  pub one_behind : (items : List Value) (i : ℕ) (v : Value) (given : List K) (x : K) → i < length items → v ≡ get_or items i v → AreElementsOf in_range value given (items_view (take i items))
+      → IsElementOf in_range value (view v) x → AreElementsOf in_range value (given ++ (x ∷ [])) (items_view (take (i + 1) items))
+  one_behind items i v given x below is so its =
+      subst (λ l. AreElementsOf in_range value (given ++ (x ∷ [])) (items_view l)) (sym (take_more items i v below ∙ ap (λ w. take i items ++ w ∷ []) (sym is)))
+      (behind given (take i items) x v so its)
 
   -- the fault of the item behind them is the first one
   bad_behind : (why : JsonFault) (items : List Value) (i : ℕ) (v : Value) → i < length items → v ≡ get_or items i v → All (λ w. (x : K) × IsElementOf in_range value (view w) x) (take i items)

@@ -1,5 +1,5 @@
 -- Elements as the items of a JSON array.
-use Rattle.std.specs.Prelude.{◌≡◌, ◌⊎◌, List, None, map}
+use Rattle.std.specs.Prelude.{◌≡◌, ◌⊎◌, List, [], ◌∷◌, None, map}
 use Rattle.std.specs.Cmp.Lexicographic.{slice_cmp}
 use Rattle.std.specs.List.{All, Contains}
 use Rattle.std.specs.List.Sorted.{IsStrictlySortedBy}
@@ -39,6 +39,17 @@ module _ {K : Type 0} (in_range : K → Type 0) (value : K → Data) where
   -- it stands for none
   abbrev pub IsNoElement : JsonFault → Data → Type 0
   IsNoElement why d = (why ≡ BadElement) × IsNone in_range value d
+
+  -- These items stand for these elements, in their order.
+  abbrev pub AreElementsOf : List K → Items → Type 0
+  AreElementsOf [] no_items = Unit {0}
+  AreElementsOf (x ∷ xs) (item d ds) = IsElementOf d x × AreElementsOf xs ds
+  AreElementsOf [] (item d ds) = ⊥
+  AreElementsOf (x ∷ xs) no_items = ⊥
+
+  -- so of the items of an array
+  abbrev pub AreItemsOf : List K → Data → Type 0
+  AreItemsOf xs d = (ds : Items) × (d ≡ array ds) × AreElementsOf xs ds
 
   -- The first item that stands for no element is one for this: all before it do.
   abbrev pub FirstBad : JsonFault → Items → Type 0

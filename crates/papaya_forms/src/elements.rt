@@ -4,7 +4,7 @@ ghost use Rattle.std.specs.List.{All, IsDistinct};
 ghost use Rattle.std.specs.List.Sorted.{IsPermutation};
 ghost use Rattle.serde_json.specs.Data.{array};
 ghost use Rattle.serde_json.specs.View.{view, items_view};
-ghost use Rattle.papaya_forms.specs.Arrays.{FirstBad, HasElements, IsElementOf, IsNoElement, IsNotRead, IsRefused};
+ghost use Rattle.papaya_forms.specs.Arrays.{AreItemsOf, FirstBad, HasElements, IsElementOf, IsNoElement, IsNotRead, IsRefused};
 
 use crate::fault::JsonFault;
 use crate::gathers::Gathers;
@@ -19,7 +19,8 @@ fn put_element<K: JsonForm, C: Gathers<K>>(
     item: &Value,
 ) -> Result<(), JsonFault>
     ensures put { OnOk result ((x : K) × IsElementOf K.JsonForm.in_range K.JsonForm.json_value (view item.now) x
-        × IsPermutation (C.Gathers.elements found.new) (filter (λ y. not (K.eq x y)) (C.Gathers.elements found.old) ++ (x ∷ []))) }
+        × IsPermutation (C.Gathers.elements found.new) (filter (λ y. not (K.eq x y)) (C.Gathers.elements found.old) ++ (x ∷ []))
+        × ((given : List K) → C.Gathers.made_of found.old given → C.Gathers.made_of found.new (given ++ (x ∷ [])))) }
     ensures fault { IfErr result (λ why. IsNoElement K.JsonForm.in_range K.JsonForm.json_value why (view item.now) ⊎ IsRefused why) }
 {
     let element = K::from_value(alloc, item)?;
@@ -35,6 +36,7 @@ fn elements_among<K: JsonForm, C: Gathers<K> + Drop>(
     ensures elements { IfOk result (λ found. HasElements K.JsonForm.json_value (C.Gathers.elements found) (array (items_view items.now))) }
     ensures in_range { IfOk result (λ found. All K.JsonForm.in_range (C.Gathers.elements found)) }
     ensures once { IfOk result (λ found. IsDistinct K.eq (C.Gathers.elements found)) }
+    ensures made { IfOk result (λ found. (given : List K) × AreItemsOf K.JsonForm.in_range K.JsonForm.json_value given (array (items_view items.now)) × C.Gathers.made_of found given) }
     ensures fault { IfErr result (λ why. FirstBad K.JsonForm.in_range K.JsonForm.json_value why (items_view items.now) ⊎ IsRefused why) }
 {
     let mut found = C::none(alloc)?;
@@ -53,6 +55,7 @@ pub fn elements_of<K: JsonForm, C: Gathers<K> + Drop>(
     ensures elements { IfOk result (λ found. HasElements K.JsonForm.json_value (C.Gathers.elements found) (view value.now)) }
     ensures in_range { IfOk result (λ found. All K.JsonForm.in_range (C.Gathers.elements found)) }
     ensures once { IfOk result (λ found. IsDistinct K.eq (C.Gathers.elements found)) }
+    ensures made { IfOk result (λ found. (given : List K) × AreItemsOf K.JsonForm.in_range K.JsonForm.json_value given (view value.now) × C.Gathers.made_of found given) }
     ensures fault { IfErr result (λ why. IsNotRead K.JsonForm.in_range K.JsonForm.json_value why (view value.now)) }
 {
     match value.as_array() {

@@ -25,6 +25,8 @@ impl<K> Listed<K> {
 impl<K: Eq + Drop> Gathers<K> for Listed<K> {
     ghost elements = { λ listed. listed.elements.items };
 
+    ghost made_of = { λ listed given. Unit {0} };
+
     fn none(alloc: Global) -> Result<Self, AllocError> {
         Ok(Listed {
             elements: Vec::new(alloc),

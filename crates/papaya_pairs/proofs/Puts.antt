@@ -1,15 +1,15 @@
 -- Pairs that are put one after another, and clones of them.
 use Rattle.std.specs.Prelude.{if◌then◌else◌}
 use Rattle.std.specs.Cmp.{IsEquivalence}
-use Rattle.std.specs.List.{AllByRecursion, IsDistinct}
+use Rattle.std.specs.List.{AllByRecursion, AllZip, IsDistinct}
 use Rattle.std.specs.List.Sorted.{IsPermutation}
 use Rattle.std.specs.Map.{keys_of}
-use Rattle.std.proofs.Common.{◌≡◌, Bool, false, List, [], ◌∷◌, ◌++◌, refl, ap, sym, subst, ◌∙◌, append_assoc, append-nil}
-use Rattle.std.proofs.lemmas.List.Elements.{AllZip-push, same_from_all_zip}
+use Rattle.std.proofs.Common.{◌≡◌, Bool, false, List, [], ◌∷◌, ◌++◌, Option, Some, refl, ap, sym, subst, ◌∙◌, append_assoc, append-nil}
+use Rattle.std.proofs.lemmas.List.Elements.{same_from_all_zip}
 use Rattle.std.proofs.lemmas.List.Sorted.{IsPermutation-trans}
 use Rattle.std.proofs.lemmas.Map.Keys.{IsDistinct-head, IsDistinct-tail}
-use Rattle.papaya_owned.specs.Owned.{left_by}
-use Rattle.papaya_pairs.specs.Puts.{put, put_all, ClonesAreSame, IsCloneOf, PutsClones}
+use Rattle.papaya_owned.specs.Owned.{found_by, left_by}
+use Rattle.papaya_pairs.specs.Puts.{put, put_all, last_put, last_taken, ClonesAreSame, IsCloneOf}
 use Rattle.papaya_pairs.proofs.Orders.{left_and}
 
 -- what holds of each, holds of the one in the midst
@@ -56,19 +56,23 @@ module _ {K V : Type 0} (same : K → K → Bool) where
         ∙ apart_are_put (xs ++ (y ∷ [])) ys (subst (λ l. IsDistinct same (keys_of l)) (sym (append_assoc xs (y ∷ []) ys)) apart)
         ∙ append_assoc xs (y ∷ []) ys
 
-  module _ (key_clone : K → K → Type 0) (value_clone : V → V → Type 0) where
-    -- the clone of one more was put
-    pub clones_more : (originals new newer : List (K × V)) (x y : K × V) → PutsClones same key_clone value_clone originals new → IsCloneOf key_clone value_clone x y → IsPermutation newer (put same new y)
-        → PutsClones same key_clone value_clone (originals ++ (x ∷ [])) newer
-    clones_more originals new newer x y so clone more =
-        (so.0 ++ (y ∷ []), AllZip-push (IsCloneOf key_clone value_clone) originals so.0 x y so.1 clone, puts_more [] so.0 new newer y so.2 more)
+  -- what the last of them took out, where one more was put
+  pub taken_last : (before : Option (K × V)) (xs ys : List (K × V)) (y : K × V) → last_taken same before xs (ys ++ (y ∷ [])) ≡ found_by (same y.0) (put_all same xs ys)
+  taken_last before xs [] y = refl
+  taken_last before xs (z ∷ ys) y = taken_last (found_by (same z.0) xs) (put same xs z) ys y
 
-    module _ (keys_so : ClonesAreSame key_clone) (values_so : ClonesAreSame value_clone) where
-      pub clones_same : (originals new : List (K × V)) → PutsClones same key_clone value_clone originals new → IsPermutation new (put_all same [] originals)
-      clones_same originals new so =
-          subst (λ l. IsPermutation new (put_all same [] l))
-          (same_from_all_zip (IsCloneOf key_clone value_clone) originals so.0 so.1
-          (λ x y c i. (keys_so x.0 y.0 c.0 i, values_so x.1 y.1 c.1 i))) so.2
+  module _ (key_clone : K → K → Type 0) (value_clone : V → V → Type 0) (keys_so : ClonesAreSame key_clone) (values_so : ClonesAreSame value_clone) where
+    pub clones_same : (originals clones new : List (K × V)) → AllZip (IsCloneOf key_clone value_clone) originals clones → IsPermutation new (put_all same [] clones)
+        → IsPermutation new (put_all same [] originals)
+    clones_same originals clones new each =
+        subst (λ l. IsPermutation new (put_all same [] l))
+        (same_from_all_zip (IsCloneOf key_clone value_clone) originals clones each (λ x y c i. (keys_so x.0 y.0 c.0 i, values_so x.1 y.1 c.1 i)))
 
-      pub clones_same_apart : IsEquivalence same → (originals new : List (K × V)) → IsDistinct same (keys_of originals) → PutsClones same key_clone value_clone originals new → IsPermutation new originals
-      clones_same_apart classes originals new apart so = subst (IsPermutation new) (apart_are_put classes [] originals apart) (clones_same originals new so)
+    pub clones_same_apart : IsEquivalence same → (originals clones new : List (K × V)) → IsDistinct same (keys_of originals) → AllZip (IsCloneOf key_clone value_clone) originals clones
+        → IsPermutation new (put_all same [] clones) → IsPermutation new originals
+    clones_same_apart classes originals clones new apart each so = subst (IsPermutation new) (apart_are_put classes [] originals apart) (clones_same originals clones new each so)
+
+-- the last one that was put, where one more was
+pub put_is_last : {X : Type 0} (before : Option X) (xs : List X) (x : X) → last_put before (xs ++ (x ∷ [])) ≡ Some x
+put_is_last before [] x = refl
+put_is_last before (y ∷ xs) x = put_is_last (Some y) xs x

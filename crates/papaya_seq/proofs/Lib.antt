@@ -1,3 +1,4 @@
 -- Lemmas on sets for one owner.
 mod Sets
+mod Stored
 pub mod Given

@@ -10,8 +10,8 @@ use Rattle.std.proofs.lemmas.List.{map-append}
 use Rattle.std.proofs.lemmas.List.Sorted.{IsPermutation-trans, IsPermutation-append_left, IsPermutation-map}
 use Rattle.papaya_seq_map.specs.Given.{AskedAlong, IsCloneOf, KeepsOf, PutsClones, found_by, left_by, put, put_all, with_no_values}
 use Rattle.papaya_seq_map.specs.Maps.{Keeps, Map}
-use Rattle.papaya_seq.specs.Sets.{KeepsElements, KeepsIn, PutsElementClones, Set, left_in, put_in, put_all_in, set_of}
-use Rattle.papaya_seq_map.proofs.Given.{found_as, kept_in_any_order, no_values, there_as}
+use Rattle.papaya_seq.specs.Sets.{KeepsElements, KeepsIn, PutsElementClones, Set, left_in, put_in, put_all_in, set_of, last_taken_in}
+use Rattle.papaya_seq_map.proofs.Given.{found_as, kept_in_any_order, no_values, there_as, lifts}
 
 -- what was not there is new
 pub new_so : {X : Type 0} (was : Bool) (o : Option X) → was ≡ is_some o → not was ≡ is_none o
@@ -37,6 +37,12 @@ module _ {K V : Type 0} where
   -- so of a pair that is the one found
   pub key_found : (test : K → Bool) (xs : List (K × V)) (o : Option (K × V)) → o ≡ found_by test xs → option_map (λ x. x.0) o ≡ find test (keys_of xs)
   key_found test xs o is = ap (option_map (λ (x : K × V). x.0)) is ∙ sym (keys_found test xs)
+
+  -- and of one that is found in any order
+  pub key_found_in_order : (test : K → Bool) (old : List (K × V)) (o : Option (K × V)) → ((ys : List (K × V)) → IsPermutation old ys → o ≡ found_by test ys)
+      → (xs : List K) → IsPermutation (keys_of old) xs → option_map (λ x. x.0) o ≡ find test xs
+  key_found_in_order test old o so xs order =
+      let ys = lifts (λ (x : K × V). x.0) (keys_of old) xs order old refl in key_found test ys.0 o (so ys.0 ys.2) ∙ ap (find test) ys.1
 
   pub keys_left : (test : K → Bool) (xs : List (K × V)) → keys_of (left_by test xs) ≡ left_in test (keys_of xs)
   keys_left test [] = refl
@@ -85,7 +91,7 @@ module _ {K V : Type 0} where
   pub kept_in_order : (test : K → Bool) (xs ys : List (K × V)) → IsPermutation xs (filter (λ x. test x.0) ys) → IsPermutation (keys_of xs) (filter test (keys_of ys))
   kept_in_order test xs ys order = subst (IsPermutation (keys_of xs)) (keys_kept test ys) (keys_in_order xs (filter (λ x. test x.0) ys) order)
 
-  keys_cloned : (key_clone : K → K → Type 0) (value_clone : V → V → Type 0) (xs ys : List (K × V)) → AllZip (IsCloneOf key_clone value_clone) xs ys → AllZip key_clone (keys_of xs) (keys_of ys)
+  pub keys_cloned : (key_clone : K → K → Type 0) (value_clone : V → V → Type 0) (xs ys : List (K × V)) → AllZip (IsCloneOf key_clone value_clone) xs ys → AllZip key_clone (keys_of xs) (keys_of ys)
   keys_cloned key_clone value_clone [] [] so = tt
   keys_cloned key_clone value_clone [] (y ∷ ys) so = absurd so
   keys_cloned key_clone value_clone (x ∷ xs) [] so = absurd so
@@ -114,6 +120,11 @@ module _ {K : Type 0} (same : K → K → Bool) where
   put_in_last : (xs ys : List K) (y : K) → put_all_in same xs (ys ++ (y ∷ [])) ≡ put_in same (put_all_in same xs ys) y
   put_in_last xs [] y = refl
   put_in_last xs (z ∷ ys) y = put_in_last (put_in same xs z) ys y
+
+  -- what the last of them took out, where one more was put
+  pub taken_last_in : (before : Option K) (xs ys : List K) (y : K) → last_taken_in same before xs (ys ++ (y ∷ [])) ≡ find (same y) (put_all_in same xs ys)
+  taken_last_in before xs [] y = refl
+  taken_last_in before xs (z ∷ ys) y = taken_last_in (find (same z) xs) (put_in same xs z) ys y
 
   put_in_any_order : (xs ys : List K) (y : K) → IsPermutation xs ys → IsPermutation (put_in same xs y) (put_in same ys y)
   put_in_any_order xs ys y order =

@@ -1,3 +1,4 @@
 pub mod Sets
+pub mod Stored
 pub mod Pairs
 pub mod Each

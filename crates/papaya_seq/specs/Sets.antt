@@ -1,12 +1,11 @@
--- A set for one owner, as its callers see it, and elements that are put into it one after another.
+-- A set for one owner, as its callers see it, and its elements, once some were put into it.
 use denote.Ref.{Bor}
-use Rattle.std.specs.Prelude.{◌≡◌, Bool, List, [], ◌∷◌, ◌++◌, Option, Result, MatchResult, filter, map, option_map}
+use Rattle.std.specs.Prelude.{◌≡◌, Bool, List, [], ◌∷◌, ◌++◌, Option, Result, MatchResult, filter, map, option_map, find, not}
 use Rattle.std.specs.Fn.{Called, CalledAt, Mut}
-use Rattle.std.specs.Iterator.{Drains, Yields}
-use Rattle.std.specs.List.{AllZip, FoldsTo}
+use Rattle.std.specs.List.{FoldsTo}
 use Rattle.std.specs.List.Sorted.{IsPermutation}
 use Rattle.std.specs.Map.{keys_of}
-use Rattle.papaya_seq_map.specs.Given.{HoldsOn, RefusedKey}
+use Rattle.papaya_seq_map.specs.Given.{HoldsOn}
 use Rattle.papaya_seq_map.specs.Maps.{Map}
 pub use Rattle.papaya_seq_map.specs.Given.{left_in}
 
@@ -44,15 +43,10 @@ module _ {K : Type 0} (same : K → K → Bool) where
   put_all_in xs [] = xs
   put_all_in xs (y ∷ ys) = put_all_in (put_in xs y) ys
 
-  -- What an iterator gives is put one after another: all that it gives, or what came before the element that was refused and is handed back.
-  abbrev pub PutsElements : {I T : Type 0} → (I → T → Type 0) → (T → Option K → T → Type 0) → I → List K → List K → Result (Unit {0}) (RefusedKey K) → Type 0
-  PutsElements {I} {T} becomes steps items old new result =
-      (it : T) × (given : List K) × becomes items it × IsPermutation new (put_all_in old given)
-      × MatchResult result (λ _. Drains steps it given) (λ refused. (rest : T) × Yields steps it (given ++ (refused.key ∷ [])) rest)
-
-  -- Clones of these elements are put one after another, and nothing else.
-  abbrev pub PutsElementClones : (K → K → Type 0) → List K → List K → Type 0
-  PutsElementClones is_clone originals new = (clones : List K) × AllZip is_clone originals clones × IsPermutation new (put_all_in [] clones)
+  -- the element whose place the last of these took as they were put one after another, if it took one's, or else, where none was put, what was taken out before
+  abbrev pub last_taken_in : Option K → List K → List K → Option K
+  last_taken_in before xs [] = before
+  last_taken_in before xs (y ∷ ys) = last_taken_in (find (same y) xs) (put_in xs y) ys
 
 -- whatever it has answered before, a closure answers by this test
 abbrev pub AnswersByTestOf : {F K : Type 0} → Mut F (Bor K × Unit {0}) Bool → (K → Bool) → Type 0

@@ -41,6 +41,11 @@ module _ {K V : Type 0} (same : K → K → Bool) (hash : K → ℕ) (setting : 
     holds_err (Ok x) xs taken met so = tt
     holds_err (Err e) xs taken met so = so.holds
 
+    -- what was taken out, as it is told of pairs in another order
+    pub ok_taken : (r : Result T E) (xs : List (K × V)) (taken met : Option (K × V)) → OnOk r (With xs taken met) → (was : Option (K × V)) → was ≡ taken → OnOk r (pair_in m last.taken ≡ was)
+    ok_taken (Ok x) xs taken met done was is = taken_shown same hash setting m last xs taken met done ∙ sym is
+    ok_taken (Err e) xs taken met done was is = tt
+
     pub either_rested : (r : Result T E) (xs ys : List (K × V)) (taken met t u : Option (K × V)) → OnOk r (With xs taken met) → OnErr r (With ys t u) → Rested
     either_rested (Ok x) xs ys taken met t u done refused = rested xs taken met done
     either_rested (Err e) xs ys taken met t u done refused = rested ys t u refused

@@ -4,5 +4,6 @@ mod Kept
 mod Members
 mod Ordered
 mod Shows
+mod Stored
 pub mod Walked
 pub mod Given

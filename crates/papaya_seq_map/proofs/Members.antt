@@ -6,10 +6,10 @@ use Rattle.std.specs.Iterator.{Drains, YieldsFirstBy}
 use Rattle.std.specs.List.{All, AllByRecursion, IsDistinct}
 use Rattle.std.specs.List.Sorted.{IsPermutation, IsStrictlySortedBy}
 use Rattle.std.specs.Map.{keys_of}
-use Rattle.std.proofs.Common.{◌≡◌, ◌≢◌, ℕ, Bool, true, false, List, [], ◌∷◌, ◌++◌, map, inl, inr, String, Global, Less, string_bytes, string_cmp, nat_cmp, append-nil, append_assoc, refl, ap, sym, subst, ◌∙◌}
+use Rattle.std.proofs.Common.{◌≡◌, ◌≢◌, ℕ, Bool, true, false, List, [], ◌∷◌, ◌++◌, map, inl, inr, String, Global, Less, string_bytes, string_cmp, nat_cmp, append-nil, append_assoc, refl, ap, sym, subst, ◌∙◌, suc, ◌+◌, length, Option, Some, None, Result, Ok, Err, length-append, arith}
 use Rattle.std.proofs.lemmas.Cmp.{nat_list_cmp_total, tied_itself}
 use Rattle.std.proofs.lemmas.List.Elements.{All-cons, All-nil, All-head, All-map, All-tail}
-use Rattle.std.proofs.lemmas.List.Sorted.{All-permutation, IsPermutation-refl, IsPermutation-sym, IsPermutation-trans}
+use Rattle.std.proofs.lemmas.List.Sorted.{All-permutation, IsPermutation-cons, IsPermutation-refl, IsPermutation-sym, IsPermutation-to_front, IsPermutation-trans, length_permutation}
 use Rattle.std.proofs.lemmas.Map.Keys.{IsDistinct-head, IsDistinct-tail}
 use Rattle.serde_json.specs.Data.{Data, object, no_members, put}
 use Rattle.serde_json.specs.View.{view, members_view}
@@ -18,9 +18,13 @@ use Rattle.papaya_forms.specs.Objects.{AreApart, IsObjectOf, members_with}
 use Rattle.papaya_forms.specs.declared.fault.JsonFault.{JsonFault}
 use Rattle.papaya_forms.proofs.Members.{objects_have_their_pairs, objects_have_no_order}
 use Rattle.papaya_shown.specs.Lent.{pair_shown}
-use Rattle.papaya_resting.specs.Given.{left_by}
-use Rattle.papaya_seq_map.specs.Json.{FirstFault, IsNoPair, IsPairOf, IsRefusal}
+use Rattle.papaya_resting.specs.Given.{HoldsOn, found_by, left_by}
+use Rattle.papaya_seq_map.specs.Json.{FirstFault, IsLastOf, IsNoPair, IsPairOf, IsRefusal, LastIsOf}
+use Rattle.papaya_seq_map.specs.Maps.{LastTook, Map}
+use Rattle.papaya_seq_map.specs.Stored.{HasPut}
+use Rattle.papaya_pairs.specs.Puts.{last_put}
 use Rattle.papaya_pairs.proofs.Orders.{left_and}
+use Rattle.papaya_pairs.proofs.Puts.{put_is_last}
 use Rattle.papaya_seq_map.proofs.Walked.{shown_to_end}
 
 -- names of which one stands before the other are two
@@ -34,6 +38,18 @@ first_below first (d ∷ es) e more below = first_below first es e more below.1
 
 abbrev pub AreOrdered : List Entry → Type 0
 AreOrdered es = IsStrictlySortedBy string_cmp (keys_of es)
+
+-- where nothing waits, nothing does once one more was stored beside those that are there
+held_more : {X : Type 0} (pairs read held after : List X) (x : X) → IsPermutation pairs read → IsPermutation held read → HoldsOn (x ∷ []) pairs held after → IsPermutation after (read ++ x ∷ [])
+held_more pairs read held after x order all ([], given, was, is) =
+    IsPermutation-trans after (x ∷ pairs) (read ++ x ∷ []) (subst (λ l. IsPermutation after (x ∷ l)) (append-nil pairs) is)
+    (IsPermutation-trans (x ∷ pairs) (x ∷ read) (read ++ x ∷ []) (IsPermutation-cons x pairs read order) (IsPermutation-sym (read ++ x ∷ []) (x ∷ read) (IsPermutation-to_front read x)))
+held_more pairs read held after x order all (w ∷ waiting, given, was, is) =
+    let a = length_permutation pairs read order in
+    let b = length_permutation held read all in
+    let c = length_permutation held (pairs ++ (w ∷ (waiting ++ given))) was in
+    let d : length (pairs ++ (w ∷ (waiting ++ given))) ≡ length pairs + suc (length (waiting ++ given)) = length-append pairs (w ∷ (waiting ++ given)) in
+    absurd (omega (arith, a, b, c, d))
 
 module _ {K V : Type 0} (key_in : K → Type 0) (text : K → List ℕ) (value_in : V → Type 0) (value : V → Data) where
   abbrev pub InRange : K × V → Type 0
@@ -76,6 +92,14 @@ module _ {K V : Type 0} (key_in : K → Type 0) (text : K → List ℕ) (value_i
       inl (subst (λ l. FirstFault key_in text value_in value why (members_view l)) (sym all)
       (fault_behind why xs done e more read (subst (λ n. IsNoPair key_in text value_in value why n (view e.1)) named none)))
   fault_at why xs done e more es name read all named (inr refused) = inr refused
+
+  -- the last of them is that of the last member
+  last_read : (Else : Option (K × V) → Type 0) (before : Option (K × V)) (xs : List (K × V)) (es : List Entry) → AreRead xs es → Else before
+      → IsLastOf key_in text value_in value Else (members_view es) (last_put before xs)
+  last_read Else before [] [] read so = so
+  last_read Else before (x ∷ xs) (e ∷ es) read so = last_read (λ o. (y : K × V) × (o ≡ Some y) × IsReadOf e y) (Some x) xs es read.1 (x, refl, read.0)
+  last_read Else before [] (e ∷ es) read so = absurd read
+  last_read Else before (x ∷ xs) [] read so = absurd read
 
   -- no key before a member has its name for a text
   other_names : (xs : List (K × V)) (done : List Entry) (e : Entry) (more : List Entry) → AreRead xs done → AreOrdered (done ++ e ∷ more) → All (λ x. string_bytes e.0 ≢ text x.0) xs
@@ -130,42 +154,69 @@ module _ {K V : Type 0} (key_in : K → Type 0) (text : K → List ℕ) (value_i
 
   module _ (same : K → K → Bool) (tells : (x y : K) → key_in x → key_in y → IsTrue (same x y) ↔ (text x ≡ text y)) where
     -- no pair so far has the key of the next one
-    none_leaves : (key : K) → key_in key → (xs : List (K × V)) → All InRange xs → All (λ x. text key ≢ text x.0) xs → left_by (same key) xs ≡ xs
-    none_leaves key in_range [] all others = refl
-    none_leaves key in_range (x ∷ xs) all others =
-        by (same key x.0) refl (none_leaves key in_range xs (All-tail InRange x xs all) (All-tail (λ y. text key ≢ text y.0) x xs others))
+    none_there : (key : K) → key_in key → (xs : List (K × V)) → All InRange xs → All (λ x. text key ≢ text x.0) xs → (left_by (same key) xs ≡ xs) × (found_by (same key) xs ≡ None)
+    none_there key in_range [] all others = (refl, refl)
+    none_there key in_range (x ∷ xs) all others =
+        by (same key x.0) refl (none_there key in_range xs (All-tail InRange x xs all) (All-tail (λ y. text key ≢ text y.0) x xs others))
       where
-        by : (b : Bool) → same key x.0 ≡ b → left_by (same key) xs ≡ xs → (if b then left_by (same key) xs else x ∷ left_by (same key) xs) ≡ x ∷ xs
+        by : (b : Bool) → same key x.0 ≡ b → (left_by (same key) xs ≡ xs) × (found_by (same key) xs ≡ None)
+            → ((if b then left_by (same key) xs else x ∷ left_by (same key) xs) ≡ x ∷ xs) × ((if b then Some x else found_by (same key) xs) ≡ None)
         by true is more =
             absurd (All-head (λ y. text key ≢ text y.0) x xs others ((tells key x.0 in_range (All-head InRange x xs all).0).0 is))
-        by false is more = ap (λ l. x ∷ l) more
+        by false is more = (ap (λ l. x ∷ l) more.0, more.1)
 
-    pub stored_on : (before now xs : List (K × V)) (done : List Entry) (x : K × V) (e : Entry) (more : List Entry) → AreRead xs done → AreOrdered (done ++ e ∷ more) → IsReadOf e x
-        → IsPermutation before xs → IsPermutation now (left_by (same x.0) before ++ (x ∷ [])) → IsPermutation now (xs ++ x ∷ [])
-    stored_on before now xs done x e more read ordered one order stored =
-        let others = subst (λ t. All (λ y. t ≢ text y.0) xs) (sym one.0.1) (other_names xs done e more read ordered) in
-        IsPermutation-trans now (left_by (same x.0) before ++ (x ∷ [])) (xs ++ x ∷ []) stored
-        (subst (λ l. IsPermutation (left_by (same x.0) before ++ (x ∷ [])) (l ++ x ∷ [])) (none_leaves x.0 one.0.0 xs (read_in_range xs done read) others)
-        (left_and (same x.0) before xs (x ∷ []) order))
+    module _ {S : Type 0} where
+      -- The members so far stand for these pairs, which are those of the map, and no more are held; the last one was put last. The other members are left.
+      pub record IsSoFar (es left : List Entry) (map : Map K V S) : Type 0 where
+        pub done : List Entry
+        pub read : List (K × V)
+        pub all : es ≡ done ++ left
+        pub each : AreRead read done
+        pub order : IsPermutation map.pairs read
+        pub held : IsPermutation map.held read
+        pub last : LastTook map None (last_put None read)
 
-    -- The members so far stand for these pairs, which are those of the map, and the others are left.
-    abbrev pub IsSoFar : List Entry → List Entry → List (K × V) → Type 0
-    IsSoFar es left now = (done : List Entry) × (xs : List (K × V)) × (es ≡ done ++ left) × AreRead xs done × IsPermutation now xs
+      pub none_yet : (es left : List Entry) (map : Map K V S) → left ≡ es → map.pairs ≡ [] → map.held ≡ [] → LastTook map None None → IsSoFar es left map
+      none_yet es left map all is bare last = record {
+        done = [];
+        read = [];
+        all = sym all;
+        each = tt;
+        order = subst (λ (ys : List (K × V)). IsPermutation ys []) (sym is) (IsPermutation-refl []);
+        held = subst (λ (ys : List (K × V)). IsPermutation ys []) (sym bare) (IsPermutation-refl []);
+        last = last;
+      }
 
-    pub none_yet : (es left : List Entry) (now : List (K × V)) → left ≡ es → now ≡ [] → IsSoFar es left now
-    none_yet es left now all is = ([], [], sym all, tt, subst (λ ys. IsPermutation ys []) (sym is) (IsPermutation-refl []))
+      pub goes_on : (es left more : List Entry) (before now : Map K V S) (e : Entry) (name : List ℕ) → IsSoFar es left before → left ≡ e ∷ more → AreOrdered es → name ≡ string_bytes e.0
+          → (x : K × V) × IsPairOf key_in text value_in value name (view e.1) x × HasPut same x before now → IsSoFar es more now
+      goes_on es left more before now e name so is ordered named (x, one, stored) =
+          let its : IsReadOf e x = subst (λ n. IsPairOf key_in text value_in value n (view e.1) x) named one in
+          let here : es ≡ so.done ++ e ∷ more = so.all ∙ ap (λ l. so.done ++ l) is in
+          let others = subst (λ t. All (λ y. t ≢ text y.0) so.read) (sym its.0.1) (other_names so.read so.done e more so.each (subst AreOrdered here ordered)) in
+          let none = none_there x.0 its.0.0 so.read (read_in_range so.read so.done so.each) others in record {
+            done = so.done ++ e ∷ [];
+            read = so.read ++ x ∷ [];
+            all = here ∙ sym (append_assoc so.done (e ∷ []) more);
+            each = read_on so.read so.done x e so.each its;
+            order =
+                IsPermutation-trans now.pairs (left_by (same x.0) before.pairs ++ (x ∷ [])) (so.read ++ x ∷ []) stored.pairs
+                (subst (λ l. IsPermutation (left_by (same x.0) before.pairs ++ (x ∷ [])) (l ++ x ∷ [])) none.0 (left_and (same x.0) before.pairs so.read (x ∷ []) so.order));
+            held = held_more before.pairs so.read before.held now.held x so.order so.held stored.held;
+            last = (stored.taken so.read so.order ∙ none.1, stored.met ∙ sym (put_is_last None so.read x));
+          }
 
-    pub goes_on : (es left more : List Entry) (before now : List (K × V)) (e : Entry) (name : List ℕ) → IsSoFar es left before → left ≡ e ∷ more → AreOrdered es → name ≡ string_bytes e.0
-        → (x : K × V) × IsPairOf key_in text value_in value name (view e.1) x × IsPermutation now (left_by (same x.0) before ++ (x ∷ [])) → IsSoFar es more now
-    goes_on es left more before now e name (done, xs, all, read, order) is ordered named (x, one, stored) =
-        let its : IsReadOf e x = subst (λ n. IsPairOf key_in text value_in value n (view e.1) x) named one in
-        let here : es ≡ done ++ e ∷ more = all ∙ ap (λ l. done ++ l) is in (
-          done ++ e ∷ [],
-          xs ++ x ∷ [],
-          here ∙ sym (append_assoc done (e ∷ []) more),
-          read_on xs done x e read its,
-          stored_on before now xs done x e more read (subst AreOrdered here ordered) its order stored,
-        )
+      -- where no member is left
+      pub last_so : (es left : List Entry) (map : Map K V S) → IsSoFar es left map → left ≡ [] → LastIsOf key_in text value_in value (object (members_view es)) map
+      last_so es left map so none = (
+        so.last.0,
+        members_view es,
+        refl,
+        subst (IsLastOf key_in text value_in value (λ o. o ≡ None) (members_view es)) (sym so.last.1)
+            (last_read (λ o. o ≡ None) None so.read es (subst (AreRead so.read) (sym (all_done map.pairs so.read so.done left es so.each so.all none so.order)) so.each) refl),
+      )
+
+      pub held_so : (es left : List Entry) (map : Map K V S) → IsSoFar es left map → IsPermutation map.held map.pairs
+      held_so es left map so = IsPermutation-trans map.held so.read map.pairs so.held (IsPermutation-sym map.pairs so.read so.order)
 
     -- keys in range that are not equal have two texts
     pub distinct_apart : (xs : List (K × V)) → All InRange xs → IsDistinct same (keys_of xs) → AreApart text value xs

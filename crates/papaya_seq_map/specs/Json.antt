@@ -1,5 +1,5 @@
 -- What a JSON value says of a map that is read of it: each member stands for a pair, or there is a first one that does not.
-use Rattle.std.specs.Prelude.{◌≡◌, ℕ, List, None, ◌⊎◌}
+use Rattle.std.specs.Prelude.{◌≡◌, ℕ, List, Option, Some, None, ◌⊎◌}
 use Rattle.seize_words.specs.declared.fault.Fault.{Fault}
 use Rattle.serde_json.specs.Data.{Data, Members, no_members, member, object}
 use Rattle.serde_json.specs.Find.{as_object}
@@ -7,6 +7,7 @@ use Rattle.papaya_forms.specs.Forms.{IsNone}
 use Rattle.papaya_forms.specs.declared.fault.JsonFault.{JsonFault}
 use Rattle.papaya_forms.specs.declared.fault.JsonFault.TheVariants.{NotAnObject, BadKey, BadElement, Refused}
 use Rattle.papaya_owned.specs.Given.Late.Faults.{IsRoom}
+use Rattle.papaya_seq_map.specs.Maps.{Map}
 
 -- a call of the map was refused, for want of memory, or as a table would have been too long
 abbrev pub IsRefusal : JsonFault → Type 0
@@ -28,6 +29,15 @@ module _ {K V : Type 0} (key_in : K → Type 0) (text : K → List ℕ) (value_i
   abbrev pub FirstFault : JsonFault → Members → Type 0
   FirstFault why no_members = ⊥
   FirstFault why (member name d ms) = IsNoPair why name d ⊎ (((x : K × V) × IsPairOf name d x) × FirstFault why ms)
+
+  -- The last member stands for this pair; where there is no member, this is so of it.
+  abbrev pub IsLastOf : (Option (K × V) → Type 0) → Members → Option (K × V) → Type 0
+  IsLastOf Else no_members met = Else met
+  IsLastOf Else (member name d ms) met = IsLastOf (λ o. (x : K × V) × (o ≡ Some x) × IsPairOf name d x) ms met
+
+  -- of a map that was read: nothing was taken out of it, and the pair of the object's last member was put there last, or none where it has no member
+  abbrev pub LastIsOf : {S : Type 0} → Data → Map K V S → Type 0
+  LastIsOf d map = (map.taken ≡ None) × (ms : Members) × (d ≡ object ms) × IsLastOf (λ o. o ≡ None) ms map.met
 
   -- Why a value was not read as a map: it is no object; or it is one, and this is its first fault, or a call of the map was refused.
   abbrev pub IsUnread : JsonFault → Data → Type 0

@@ -2,8 +2,10 @@
 ghost use Rattle.std.specs.Prelude.{◌≡◌, [], IfOk, IfErr, OnOk};
 ghost use Rattle.std.specs.List.Sorted.{IsPermutation};
 ghost use Rattle.papaya_owned.specs.Given.Late.Faults.{IsRoom};
-ghost use Rattle.papaya_pairs.specs.Puts.{ClonesAreSame, IsCloneOf, PutsClones, put, put_all};
+ghost use Rattle.papaya_pairs.specs.Puts.{ClonesAreSame, IsCloneOf, put_all};
+ghost use Rattle.papaya_seq_map.specs.Stored.{HasPut, IsMadeOfClones};
 
+use crate::insertions::store;
 use crate::map::HashMap;
 use seize_words::Fault;
 use std::alloc::Global;
@@ -15,23 +17,21 @@ fn put_clone<K: Eq + Hash + Clone, V: Clone, S: BuildHasher>(
     key: &K,
     value: &V,
 ) -> Result<(), Fault>
-    ensures put { OnOk result ((x : K × V) × IsCloneOf K.is_clone V.is_clone (key.now, value.now) x × IsPermutation map.new.pairs (put K.eq map.old.pairs x)) }
+    ensures put { OnOk result ((x : K × V) × IsCloneOf K.is_clone V.is_clone (key.now, value.now) x × HasPut K.eq x map.old map.new) }
     ensures fault { IfErr result IsRoom }
     ensures hasher { map.new.hasher ≡ map.old.hasher }
 {
     let key = key.clone()?;
     let value = value.clone()?;
-    match map.insert(key, value) {
-        Ok(_) => Ok(()),
-        Err(refused) => Err(refused.fault),
-    }
+    store(map, key, value)?;
+    Ok(())
 }
 
 impl<K: Eq + Hash + Clone, V: Clone, S: BuildHasher + Clone> HashMap<K, V, S> {
     /// A map with a clone of each pair, of the hasher too, and with a memory of its own. The faults are `Fault::Capacity` and `Fault::Memory`;
     /// then there is no map. Where a key's clone equals another key, that counts once.
     pub fn clone(&self, alloc: Global) -> Result<Self, Fault>
-        ensures clones { IfOk result (λ map. PutsClones K.eq K.is_clone V.is_clone self.now.pairs map.pairs) }
+        ensures clones { IfOk result (λ map. IsMadeOfClones K.eq K.is_clone V.is_clone self.now.pairs map) }
         ensures same { ClonesAreSame K.is_clone → ClonesAreSame V.is_clone → IfOk result (λ map. IsPermutation map.pairs self.now.pairs) }
         ensures fault { IfErr result IsRoom }
         ensures hasher { IfOk result (λ map. S.is_clone self.now.hasher map.hasher) }
@@ -48,7 +48,7 @@ impl<K: Eq + Hash + Clone, V: Clone, S: BuildHasher + Clone> HashMap<K, V, S> {
 impl<K: Eq + Hash + Clone, V: Clone, S: BuildHasher + Default + Drop> HashMap<K, V, S> {
     /// A map with clones of these pairs, the last one of each key. The faults are `Fault::Capacity` and `Fault::Memory`; then there is no map.
     pub fn from_array(alloc: Global, items: &[(K, V)]) -> Result<Self, Fault>
-        ensures clones { IfOk result (λ map. PutsClones K.eq K.is_clone V.is_clone items.now map.pairs) }
+        ensures clones { IfOk result (λ map. IsMadeOfClones K.eq K.is_clone V.is_clone items.now map) }
         ensures same { ClonesAreSame K.is_clone → ClonesAreSame V.is_clone → IfOk result (λ map. IsPermutation map.pairs (put_all K.eq [] items.now)) }
         ensures fault { IfErr result IsRoom }
     {

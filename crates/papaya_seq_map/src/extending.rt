@@ -1,10 +1,8 @@
 //! What an iterator gives is put into a map for one owner.
-ghost use Rattle.std.specs.Prelude.{◌≡◌, List, [], IfOk, IfErr};
-ghost use Rattle.std.specs.Iterator.{Drains, IsFiniteIterable};
-ghost use Rattle.std.specs.List.Sorted.{IsPermutation};
-ghost use Rattle.papaya_resting.specs.Given.{Balanced};
+ghost use Rattle.std.specs.Prelude.{◌≡◌, IfOk, IfErr};
+ghost use Rattle.std.specs.Iterator.{IsFiniteIterable};
 ghost use Rattle.papaya_owned.specs.Given.Late.Faults.{IsRoom};
-ghost use Rattle.papaya_pairs.specs.Puts.{PutsItems, put_all};
+ghost use Rattle.papaya_seq_map.specs.Stored.{Collects, Extends};
 
 use crate::map::HashMap;
 use papaya_asks::Refused;
@@ -14,11 +12,11 @@ use std::hash::{BuildHasher, Hash};
 
 impl<K: Eq + Hash + Drop, V: Drop, S: BuildHasher> HashMap<K, V, S> {
     /// Stores what an iterator gives, one pair after another, each also in the place of another one of its key. Where a pair is refused, it is
-    /// handed back, those that came before stay, and no further one is asked for. The faults are `Fault::Capacity` and `Fault::Memory`.
+    /// handed back, those that came before stay, and no further one is asked for. `taken` and `met` show then what they show after the last one, or,
+    /// where one was refused, nothing. The faults are `Fault::Capacity` and `Fault::Memory`.
     pub fn extend<I: IntoIterator<Item = (K, V)>>(&mut self, items: I) -> Result<(), Refused<K, V>>
         requires { IsFiniteIterable I.into_iter_gives I.IntoIter.can_next I.IntoIter.remaining items }
-        ensures put { PutsItems K.eq I.into_iter_gives I.IntoIter.next_gives items self.old.pairs self.new.pairs result }
-        ensures balances { (stored : List (K × V)) × IsPermutation self.new.pairs (put_all K.eq self.old.pairs stored) × Balanced stored self.old.held self.new.held }
+        ensures put { Extends K.eq I.into_iter_gives I.IntoIter.next_gives items self.old self.new result }
         ensures fault { IfErr result (λ r. IsRoom r.fault) }
         ensures hasher { self.new.hasher ≡ self.old.hasher }
     {
@@ -39,7 +37,7 @@ impl<K: Eq + Hash + Drop, V: Drop, S: BuildHasher + Default + Drop> HashMap<K, V
         items: I,
     ) -> Result<Self, Fault>
         requires { IsFiniteIterable I.into_iter_gives I.IntoIter.can_next I.IntoIter.remaining items }
-        ensures collected { IfOk result (λ map. (it : I.IntoIter) × (given : List (K × V)) × I.into_iter_gives items it × Drains I.IntoIter.next_gives it given × IsPermutation map.pairs (put_all K.eq [] given)) }
+        ensures collected { IfOk result (λ map. Collects K.eq I.into_iter_gives I.IntoIter.next_gives items map) }
         ensures fault { IfErr result IsRoom }
     {
         let rest = items.into_iter();

@@ -1,10 +1,11 @@
 //! Insertions into a map for one owner. Each begins with a refresh.
-ghost use Rattle.std.specs.Prelude.{◌≡◌, [], ◌∷◌, ◌++◌, None, Some, is_some, IsTrue, IfOk, IfErr, OnOk, OnErr, MatchResult};
+ghost use Rattle.std.specs.Prelude.{◌≡◌, List, [], ◌∷◌, ◌++◌, None, Some, is_some, IsTrue, IfOk, IfErr, OnOk, OnErr, MatchResult};
 ghost use Rattle.std.specs.List.Sorted.{IsPermutation};
 ghost use Rattle.papaya_owned.specs.Given.Late.Faults.{IsRoom};
 ghost use Rattle.papaya_resting.specs.Given.{found_by, left_by};
 ghost use Rattle.papaya_resting.specs.Held.{if_stored, if_tried};
 ghost use Rattle.papaya_seq_map.specs.Maps.{Keeps, LastTook};
+ghost use Rattle.papaya_seq_map.specs.Stored.{HasPut};
 
 use crate::map::HashMap;
 use papaya_asks::Refused;
@@ -19,6 +20,7 @@ impl<K: Eq + Hash + Drop, V: Drop, S: BuildHasher> HashMap<K, V, S> {
         ensures stored { OnOk result (IsPermutation self.new.pairs (left_by (K.eq key) self.old.pairs ++ ((key, value) ∷ []))) }
         ensures refused { OnErr result (IsPermutation self.new.pairs self.old.pairs) }
         ensures last { MatchResult result (λ _. LastTook self.new (found_by (K.eq key) self.old.pairs) (Some (key, value))) (λ _. LastTook self.new None None) }
+        ensures in_any_order { (xs : List (K × V)) → IsPermutation self.old.pairs xs → OnOk result (self.new.taken ≡ found_by (K.eq key) xs) }
         ensures back { IfErr result (λ r. (r.key ≡ key) × (r.value ≡ value)) }
         ensures fault { IfErr result (λ r. IsRoom r.fault) }
         ensures hasher { self.new.hasher ≡ self.old.hasher }
@@ -55,5 +57,21 @@ impl<K: Eq + Hash + Drop, V: Drop, S: BuildHasher> HashMap<K, V, S> {
             key,
             value,
         )
+    }
+}
+
+/// Stores a pair that is not wanted back where it is refused.
+pub(crate) fn store<K: Eq + Hash + Drop, V: Drop, S: BuildHasher>(
+    map: &mut HashMap<K, V, S>,
+    key: K,
+    value: V,
+) -> Result<(), Fault>
+    ensures put { OnOk result (HasPut K.eq (key, value) map.old map.new) }
+    ensures fault { IfErr result IsRoom }
+    ensures hasher { map.new.hasher ≡ map.old.hasher }
+{
+    match map.insert(key, value) {
+        Ok(_) => Ok(()),
+        Err(refused) => Err(refused.fault),
     }
 }

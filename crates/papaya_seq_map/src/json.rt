@@ -1,13 +1,14 @@
 //! JSON of a map for one owner: it is written as the object of its pairs, and read of one.
-ghost use Rattle.std.specs.Prelude.{List, [], ◌∷◌, ◌++◌, ◌⊎◌, IfOk, IfErr, OnOk};
+ghost use Rattle.std.specs.Prelude.{◌⊎◌, IfOk, IfErr, OnOk};
 ghost use Rattle.std.specs.List.{All};
 ghost use Rattle.std.specs.List.Sorted.{IsPermutation};
 ghost use Rattle.serde_json.specs.Data.{object};
 ghost use Rattle.serde_json.specs.View.{view, members_view};
 ghost use Rattle.papaya_forms.specs.Objects.{IsObjectOf};
-ghost use Rattle.papaya_resting.specs.Given.{left_by};
-ghost use Rattle.papaya_seq_map.specs.Json.{FirstFault, IsNoPair, IsPairOf, IsRefusal, IsUnread};
+ghost use Rattle.papaya_seq_map.specs.Json.{FirstFault, IsNoPair, IsPairOf, IsRefusal, IsUnread, LastIsOf};
+ghost use Rattle.papaya_seq_map.specs.Stored.{HasPut};
 
+use crate::insertions::store;
 use crate::map::HashMap;
 use papaya_forms::{JsonFault, JsonForm, object_of};
 use serde_json::Value;
@@ -37,13 +38,13 @@ fn store_member<K: JsonForm + Hash + Drop, V: JsonForm + Drop, S: BuildHasher>(
     value: &Value,
 ) -> Result<(), JsonFault>
     ensures stored { OnOk result ((x : K × V) × IsPairOf K.JsonForm.in_range K.JsonForm.key_text V.JsonForm.in_range V.JsonForm.json_value name.now (view value.now) x
-        × IsPermutation map.new.pairs (left_by (K.eq x.0) map.old.pairs ++ (x ∷ []))) }
+        × HasPut K.eq x map.old map.new) }
     ensures fault { IfErr result (λ why. IsNoPair K.JsonForm.in_range K.JsonForm.key_text V.JsonForm.in_range V.JsonForm.json_value why name.now (view value.now) ⊎ IsRefusal why) }
 {
     let (key, value) = pair_of(alloc, name, value)?;
-    match map.insert(key, value) {
-        Ok(_) => Ok(()),
-        Err(refused) => Err(JsonFault::Refused(refused.fault)),
+    match store(map, key, value) {
+        Ok(()) => Ok(()),
+        Err(fault) => Err(JsonFault::Refused(fault)),
     }
 }
 
@@ -54,6 +55,8 @@ fn map_of<K: JsonForm + Hash + Drop, V: JsonForm + Drop, S: BuildHasher + Defaul
 ) -> Result<HashMap<K, V, S>, JsonFault>
     ensures pairs { IfOk result (λ map. IsObjectOf K.JsonForm.key_text V.JsonForm.json_value map.pairs (object (members_view members.now.entries))) }
     ensures in_range { IfOk result (λ map. All (λ x. K.JsonForm.in_range x.0 × V.JsonForm.in_range x.1) map.pairs) }
+    ensures held { IfOk result (λ map. IsPermutation map.held map.pairs) }
+    ensures last { IfOk result (λ map. LastIsOf K.JsonForm.in_range K.JsonForm.key_text V.JsonForm.in_range V.JsonForm.json_value (object (members_view members.now.entries)) map) }
     ensures fault { IfErr result (λ why. FirstFault K.JsonForm.in_range K.JsonForm.key_text V.JsonForm.in_range V.JsonForm.json_value why (members_view members.now.entries) ⊎ IsRefusal why) }
 {
     let mut map = match HashMap::new(alloc) {
@@ -82,10 +85,13 @@ impl<K: JsonForm + Hash + Drop, V: JsonForm + Drop, S: BuildHasher + Default + D
     S,
 > {
     /// The map that is written as this value. The members are read in the value's order, the name of each before its value, and the first fault
-    /// counts: `BadKey`, `BadElement`, or `Refused`, where memory or the length of a table was refused. What is no object is `NotAnObject`.
+    /// counts: `BadKey`, `BadElement`, or `Refused`, where memory or the length of a table was refused. What is no object is `NotAnObject`. `met` shows
+    /// the pair of the last member then.
     pub fn from_value(alloc: Global, value: &Value) -> Result<Self, JsonFault>
         ensures pairs { IfOk result (λ map. IsObjectOf K.JsonForm.key_text V.JsonForm.json_value map.pairs (view value.now)) }
         ensures in_range { IfOk result (λ map. All (λ x. K.JsonForm.in_range x.0 × V.JsonForm.in_range x.1) map.pairs) }
+        ensures held { IfOk result (λ map. IsPermutation map.held map.pairs) }
+        ensures last { IfOk result (λ map. LastIsOf K.JsonForm.in_range K.JsonForm.key_text V.JsonForm.in_range V.JsonForm.json_value (view value.now) map) }
         ensures fault { IfErr result (λ why. IsUnread K.JsonForm.in_range K.JsonForm.key_text V.JsonForm.in_range V.JsonForm.json_value why (view value.now)) }
     {
         match value.as_object() {

@@ -1,5 +1,5 @@
 //! An element is put into a set for one owner, or removed from it, or room is made for more.
-ghost use Rattle.std.specs.Prelude.{◌≡◌, [], None, Some, is_none, is_some, find, IfOk, IfErr, OnOk, OnErr, MatchResult};
+ghost use Rattle.std.specs.Prelude.{◌≡◌, List, [], None, Some, is_none, is_some, find, IfOk, IfErr, OnOk, OnErr, MatchResult};
 ghost use Rattle.std.specs.List.Sorted.{IsPermutation};
 ghost use Rattle.papaya_seq_map.specs.Given.{IsRoom, if_stored};
 ghost use Rattle.papaya_seq.specs.Sets.{KeepsIn, LastTookOut, left_in, put_in};
@@ -18,6 +18,7 @@ impl<K: Eq + Hash + Drop, S: BuildHasher> HashSet<K, S> {
         ensures stored { OnOk result (IsPermutation self.new.elements (put_in K.eq self.old.elements element)) }
         ensures refused { OnErr result (IsPermutation self.new.elements self.old.elements) }
         ensures last { MatchResult result (λ _. LastTookOut self.new (find (K.eq element) self.old.elements) (Some element)) (λ _. LastTookOut self.new None None) }
+        ensures in_any_order { (xs : List K) → IsPermutation self.old.elements xs → OnOk result (self.new.taken ≡ find (K.eq element) xs) }
         ensures back { IfErr result (λ r. r.key ≡ element) }
         ensures fault { IfErr result (λ r. IsRoom r.fault) }
         ensures hasher { self.new.hasher ≡ self.old.hasher }

@@ -2,7 +2,8 @@
 ghost use Rattle.std.specs.Prelude.{◌≡◌, [], IfOk, IfErr, OnOk};
 ghost use Rattle.std.specs.List.Sorted.{IsPermutation};
 ghost use Rattle.papaya_seq_map.specs.Given.{ClonesAreSame, IsRoom};
-ghost use Rattle.papaya_seq.specs.Sets.{PutsElementClones, put_in, put_all_in};
+ghost use Rattle.papaya_seq.specs.Sets.{put_all_in};
+ghost use Rattle.papaya_seq.specs.Stored.{HasPutIn, IsSetMadeOfClones};
 
 use super::HashSet;
 use seize_words::Fault;
@@ -14,7 +15,7 @@ fn put_clone<K: Eq + Hash + Clone, S: BuildHasher>(
     set: &mut HashSet<K, S>,
     element: &K,
 ) -> Result<(), Fault>
-    ensures put { OnOk result ((x : K) × K.is_clone element.now x × IsPermutation set.new.elements (put_in K.eq set.old.elements x)) }
+    ensures put { OnOk result ((x : K) × K.is_clone element.now x × HasPutIn K.eq x set.old set.new) }
     ensures fault { IfErr result IsRoom }
     ensures hasher { set.new.hasher ≡ set.old.hasher }
 {
@@ -29,7 +30,7 @@ impl<K: Eq + Hash + Clone, S: BuildHasher + Clone> HashSet<K, S> {
     /// A set with a clone of each element, of the hasher too, and with a memory of its own. The faults are `Fault::Capacity` and `Fault::Memory`;
     /// then there is no set. Where an element's clone equals another element, that counts once.
     pub fn clone(&self, alloc: Global) -> Result<Self, Fault>
-        ensures clones { IfOk result (λ set. PutsElementClones K.eq K.is_clone self.now.elements set.elements) }
+        ensures clones { IfOk result (λ set. IsSetMadeOfClones K.eq K.is_clone self.now.elements set) }
         ensures same { ClonesAreSame K.is_clone → IfOk result (λ set. IsPermutation set.elements self.now.elements) }
         ensures fault { IfErr result IsRoom }
         ensures hasher { IfOk result (λ set. S.is_clone self.now.hasher set.hasher) }
@@ -43,7 +44,7 @@ impl<K: Eq + Hash + Clone, S: BuildHasher + Default + Drop> HashSet<K, S> {
     /// A set with clones of these elements, the last of those that are equal. The faults are `Fault::Capacity` and `Fault::Memory`; then there is
     /// no set.
     pub fn from_array(alloc: Global, items: &[K]) -> Result<Self, Fault>
-        ensures clones { IfOk result (λ set. PutsElementClones K.eq K.is_clone items.now set.elements) }
+        ensures clones { IfOk result (λ set. IsSetMadeOfClones K.eq K.is_clone items.now set) }
         ensures same { ClonesAreSame K.is_clone → IfOk result (λ set. IsPermutation set.elements (put_all_in K.eq [] items.now)) }
         ensures fault { IfErr result IsRoom }
     {

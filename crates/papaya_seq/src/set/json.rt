@@ -1,8 +1,9 @@
 //! JSON of a set for one owner: it is written as the array of its elements, in the order of their texts, and read of one in whatever order.
-ghost use Rattle.std.specs.Prelude.{IfOk, IfErr};
+ghost use Rattle.std.specs.Prelude.{List, IfOk, IfErr};
 ghost use Rattle.std.specs.List.{All, IsDistinct};
 ghost use Rattle.serde_json.specs.View.{view};
-ghost use Rattle.papaya_forms.specs.Arrays.{HasElements, IsArrayOf, IsNotRead};
+ghost use Rattle.papaya_forms.specs.Arrays.{AreItemsOf, HasElements, IsArrayOf, IsNotRead};
+ghost use Rattle.papaya_seq.specs.Stored.{IsSetMadeOf};
 
 use super::HashSet;
 use papaya_forms::{Gathers, JsonFault, JsonForm, array_of, elements_of};
@@ -13,6 +14,8 @@ use std::hash::{BuildHasher, Hash};
 
 impl<K: Eq + Hash + Drop, S: BuildHasher + Default + Drop> Gathers<K> for HashSet<K, S> {
     ghost elements = { λ set. set.elements };
+
+    ghost made_of = { λ set given. IsSetMadeOf K.eq given set };
 
     fn none(alloc: Global) -> Result<Self, AllocError> {
         // A set with no element is refused for want of memory alone.
@@ -47,6 +50,7 @@ impl<K: JsonForm + Hash + Drop, S: BuildHasher + Default + Drop> HashSet<K, S> {
         ensures elements { IfOk result (λ set. HasElements K.JsonForm.json_value set.elements (view value.now)) }
         ensures in_range { IfOk result (λ set. All K.JsonForm.in_range set.elements) }
         ensures once { IfOk result (λ set. IsDistinct K.eq set.elements) }
+        ensures made { IfOk result (λ set. (given : List K) × AreItemsOf K.JsonForm.in_range K.JsonForm.json_value given (view value.now) × IsSetMadeOf K.eq given set) }
         ensures fault { IfErr result (λ why. IsNotRead K.JsonForm.in_range K.JsonForm.json_value why (view value.now)) }
     {
         elements_of::<K, HashSet<K, S>>(alloc, value)

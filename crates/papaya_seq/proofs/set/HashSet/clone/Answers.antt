@@ -3,15 +3,17 @@ use Rattle.std.specs.Prelude.{◌≡◌}
 use Rattle.std.specs.List.Sorted.{IsPermutation}
 use Rattle.std.specs.Map.{keys_of}
 use Rattle.std.proofs.Common.{subst}
-use Rattle.papaya_seq.specs.Sets.{PutsElementClones, Set}
-use Rattle.papaya_seq.proofs.Sets.{key_clones, keys_in_order}
+use Rattle.papaya_seq.specs.Sets.{Set, set_of}
+use Rattle.papaya_seq.specs.Stored.{IsSetMadeOfClones}
+use Rattle.papaya_seq.proofs.Sets.{keys_in_order}
+use Rattle.papaya_seq.proofs.Stored.{keys_of_clones}
 use Rattle.papaya_seq.proofs.set.HashSet.clone.Goals as goal
 
 pub returns-clause-clones : goal.returns-clause-clones
 returns-clause-clones g c =
-    let old = c.self.inside.map.pairs in let new = c.in_ok-map.map.pairs in
-    subst (λ (x : Set g.row.K.Denot g.row.S.Denot). PutsElementClones g.K.PartialEq.eq g.K.Clone.is_clone x.elements (keys_of new)) c.self.view_is
-    (key_clones g.K.PartialEq.eq g.K.Clone.is_clone (λ x y. y ≡ x) old new c.in_ok-map.ensures.clones)
+    let old = c.self.inside.map.pairs in let new = c.in_ok-map.map in
+    subst (λ (x : Set g.row.K.Denot g.row.S.Denot). IsSetMadeOfClones g.K.PartialEq.eq g.K.Clone.is_clone x.elements (set_of new)) c.self.view_is
+    (keys_of_clones g.K.PartialEq.eq g.K.Clone.is_clone (λ x y. y ≡ x) old new c.in_ok-map.ensures.clones)
 
 pub returns-clause-same : goal.returns-clause-same
 returns-clause-same g c = λ so.

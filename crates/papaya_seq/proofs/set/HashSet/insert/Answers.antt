@@ -5,7 +5,7 @@ use Rattle.std.specs.Map.{keys_of}
 use Rattle.std.proofs.Common.{◌∙◌, ap, sym, subst}
 use Rattle.papaya_seq_map.specs.Given.{if_stored, put}
 use Rattle.papaya_seq.specs.Sets.{KeepsIn, Set, put_in, set_of}
-use Rattle.papaya_seq.proofs.Sets.{key_found, keys_are_found, keys_held, keys_in_order, keys_put, new_so}
+use Rattle.papaya_seq.proofs.Sets.{key_found, key_found_in_order, keys_are_found, keys_held, keys_in_order, keys_put, new_so}
 use Rattle.papaya_seq.proofs.set.HashSet.insert.Goals.{in-Ok, in-Err}
 use Rattle.papaya_seq.proofs.set.HashSet.insert.Goals as goal
 
@@ -55,6 +55,17 @@ returns-clause-last g c =
       | in-Err w ↦
           subst (λ r. MatchResult r (λ _. (taken ≡ find test c.args.self.now.elements) × (met ≡ Some c.args.element)) (λ _. (taken ≡ None) × (met ≡ None))) (sym w.result-is)
           (ap key w.in-Err.ensures.last.0, ap key w.in-Err.ensures.last.1)
+    ]
+
+pub returns-clause-in_any_order : goal.returns-clause-in_any_order
+returns-clause-in_any_order g c = λ xs order.
+    let test = g.K.PartialEq.eq c.args.element in
+    let old = c.self.inside.map.pairs in
+    let taken = option_map (λ (x : g.row.K.Denot × Unit {0}). x.0) c.insert.new.self.taken in
+    let here = subst (λ (x : Set g.row.K.Denot g.row.S.Denot). IsPermutation x.elements xs) (sym c.self.view_is) order in
+    elim c.match-insert.branch [
+      | in-Ok w ↦ subst (λ r. OnOk r (taken ≡ find test xs)) (sym w.result-is) (key_found_in_order test old c.insert.new.self.taken w.in-Ok.ensures.in_any_order xs here)
+      | in-Err w ↦ subst (λ r. OnOk r (taken ≡ find test xs)) (sym w.result-is) tt
     ]
 
 pub returns-clause-keeps : goal.returns-clause-keeps

@@ -1,8 +1,7 @@
--- The iterator is the one that was made.
+-- By what is stored in a set with no element.
 use Rattle.std.proofs.Common.{sym, subst}
 use Rattle.std.specs.Iterator.{Drains, IsFinite}
-use Rattle.std.specs.List.Sorted.{IsPermutation}
-use Rattle.papaya_seq.specs.Sets.{put_all_in}
+use Rattle.papaya_seq.proofs.Stored.{made_by}
 use Rattle.papaya_seq.proofs.set.HashSet.try_collect.Goals as goal
 
 pub extend-requires : goal.extend-requires
@@ -11,10 +10,11 @@ extend-requires g c = λ it is.
 
 pub returns-in-Ok-clause-collected : goal.returns-in-Ok-clause-collected
 returns-in-Ok-clause-collected g c =
-    let p = c.in-Ok.ensures.put in (
-      c.into_iter-rest.result,
-      p.1,
-      c.into_iter-rest.ensures.into_iter_gives,
-      subst (λ s. Drains g.I.IntoIter.Iterator.next_gives s p.1) p.2 p.4,
-      subst (λ l. IsPermutation c.extend.new.self.elements (put_all_in g.K.PartialEq.eq l p.1)) c.in_ok-set.ensures.elements p.3,
-    )
+    let p = c.in-Ok.ensures.put in
+    let fresh = c.in_ok-set.ensures in record {
+      source = c.into_iter-rest.result;
+      begins = c.into_iter-rest.ensures.into_iter_gives;
+      given = p.given;
+      drains = subst (λ s. Drains g.I.IntoIter.Iterator.next_gives s p.given) p.gave.1 p.gave.2;
+      made = made_by g.K.PartialEq.eq c.in_ok-set.set c.extend.new.self p.given fresh.elements fresh.held fresh.last p.elements p.held p.last;
+    }

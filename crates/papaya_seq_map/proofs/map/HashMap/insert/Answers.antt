@@ -1,6 +1,6 @@
 -- By what the insertion comes to in the order in which its pairs were stored.
-use Rattle.papaya_seq_map.proofs.Kept.{either_rested, either_shown, holds_err, holds_ok}
-use Rattle.papaya_seq_map.proofs.Shows.{counts, seen_first, seen_held, seen_keeps, shows_done, shows_refused, told_same}
+use Rattle.papaya_seq_map.proofs.Kept.{either_rested, either_shown, holds_err, holds_ok, ok_taken}
+use Rattle.papaya_seq_map.proofs.Shows.{counts, seen_first, seen_found, seen_held, seen_keeps, shows_done, shows_refused, told_same}
 use Rattle.papaya_seq_map.proofs.map.HashMap.insert.Goals as goal
 use Rattle.papaya_pairs.proofs.Orders.{left_and}
 
@@ -39,6 +39,12 @@ returns-clause-last g c =
     let held = c.self.invariant in
     either_shown _ _ _ _ _ c.insert.result _ _ _ _ _ _ (c.insert.ensures.stored held.0 held.1) (c.insert.ensures.refused held.0 held.1) _
     (seen_first _ _ _ _ held.0 held.1 c.self.inside.resting.tables _ _ _ _ c.self.view_is (g.K.PartialEq.eq c.args.key) (g.met.K.Eq.laws.congr c.args.key))
+
+pub returns-clause-in_any_order : goal.returns-clause-in_any_order
+returns-clause-in_any_order g c = λ xs order.
+    let held = c.self.invariant in
+    ok_taken _ _ _ _ _ c.insert.result _ _ _ (c.insert.ensures.stored held.0 held.1) _
+    (seen_found _ _ _ _ held.0 held.1 c.self.inside.resting.tables _ _ _ _ c.self.view_is (g.K.PartialEq.eq c.args.key) (g.met.K.Eq.laws.congr c.args.key) xs order)
 
 pub returns-clause-keeps : goal.returns-clause-keeps
 returns-clause-keeps g c =
