@@ -1,4 +1,5 @@
 -- Lemmas on lists of pairs.
+pub mod Elements
 pub mod Equals
 pub mod Laws
 pub mod Orders

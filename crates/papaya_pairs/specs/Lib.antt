@@ -2,4 +2,5 @@ pub mod Orders
 pub mod Equals
 pub mod Puts
 pub mod Each
+pub mod Elements
 pub mod ReadBack

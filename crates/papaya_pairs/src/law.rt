@@ -1,8 +1,9 @@
-//! What is promised of pairs that are listed in another order, as those of a map are after a change, of a pair that is found, and of sets that are read.
+//! What is promised of the pairs of a map and the elements of a set: in another order, as after a change, of what is found then, and of what is read.
 ghost use Rattle.papaya_pairs.specs.Each.{FoundPasses};
+ghost use Rattle.papaya_pairs.specs.Elements.{ElementInAnyOrder, ElementsApartInAnyOrder, LeftElementsInAnyOrder, OtherElementsStay, PutElementIsFound};
 ghost use Rattle.papaya_pairs.specs.Equals.{AgreeAtEachKey, AgreeInAnyOrder};
 ghost use Rattle.papaya_pairs.specs.Puts.{LastIsFound};
-ghost use Rattle.papaya_pairs.specs.ReadBack.{OneArrayOneSet};
+ghost use Rattle.papaya_pairs.specs.ReadBack.{OneArrayOneSet, OneObjectOneMap};
 ghost use Rattle.papaya_pairs.specs.Orders.{FoundInAnyOrder, LeftInAnyOrder, ApartInAnyOrder, PutIsFound, OthersStay};
 
 /// Where no two keys are equal, the pair of a key is the same one in any order. So is what is left without it, but for the order, and no two
@@ -39,4 +40,24 @@ pub fn what_is_found_passes<K, V>()
 /// Sets that one array has are equal: what is read of the array that a set was written as equals that set.
 pub fn sets_are_read_back<K>()
     ensures { OneArrayOneSet K }
+{}
+
+/// Maps that one object has are equal: what is read of the object that a map was written as equals that map.
+pub fn maps_are_read_back<K, V>()
+    ensures { OneObjectOneMap K V }
+{}
+
+/// Where no two elements are equal, the same one of a class is found in any order. So is what is left without those that pass, but for the order, and
+/// no two are equal there.
+pub fn order_of_elements_makes_no_difference<K>()
+    ensures found { ElementInAnyOrder K }
+    ensures left { LeftElementsInAnyOrder K }
+    ensures apart { ElementsApartInAnyOrder K }
+{}
+
+/// An element that was put in the place of the one that equals it is found, and by other tests is found what was found before. Where one was removed,
+/// none is found that equals it, and by other tests what was found before.
+pub fn changes_of_elements_are_found<K>()
+    ensures put { PutElementIsFound K }
+    ensures others { OtherElementsStay K }
 {}

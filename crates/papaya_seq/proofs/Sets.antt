@@ -8,10 +8,10 @@ use Rattle.std.specs.Map.{keys_of}
 use Rattle.std.proofs.Common.{◌≡◌, Bool, true, false, cond, not, List, [], ◌∷◌, ◌++◌, find, filter, map, Option, Some, is_some, is_none, option_map, refl, ap, sym, subst, ◌∙◌}
 use Rattle.std.proofs.lemmas.List.{map-append}
 use Rattle.std.proofs.lemmas.List.Sorted.{IsPermutation-trans, IsPermutation-append_left, IsPermutation-map}
-use Rattle.papaya_seq_map.specs.Given.{AskedAlong, IsCloneOf, KeepsOf, PutsClones, found_by, left_by, put, put_all}
+use Rattle.papaya_seq_map.specs.Given.{AskedAlong, IsCloneOf, KeepsOf, PutsClones, found_by, left_by, put, put_all, with_no_values}
 use Rattle.papaya_seq_map.specs.Maps.{Keeps, Map}
-use Rattle.papaya_seq.specs.Sets.{KeepsElements, KeepsIn, PutsElementClones, left_in, put_in, put_all_in, set_of}
-use Rattle.papaya_seq_map.proofs.Given.{kept_in_any_order}
+use Rattle.papaya_seq.specs.Sets.{KeepsElements, KeepsIn, PutsElementClones, Set, left_in, put_in, put_all_in, set_of}
+use Rattle.papaya_seq_map.proofs.Given.{found_as, kept_in_any_order, no_values, there_as}
 
 -- what was not there is new
 pub new_so : {X : Type 0} (was : Bool) (o : Option X) → was ≡ is_some o → not was ≡ is_none o
@@ -95,6 +95,20 @@ module _ {K V : Type 0} where
       → PutsElementClones same key_clone (keys_of originals) (keys_of new)
   key_clones same key_clone value_clone originals new so =
       (keys_of so.0, keys_cloned key_clone value_clone originals so.0 so.1, subst (IsPermutation (keys_of new)) (keys_put_all same so.0 []) (keys_in_order new (put_all same [] so.0) so.2))
+
+-- A set is lent in another order: so its map is, which has no values, and what is found there are the same elements.
+module _ {K S : Type 0} (map : Map K (Unit {0}) S) (set : Set K S) (is : set_of map ≡ set) (ys : List K) (order : IsPermutation set.elements ys) where
+  map_in_order : IsPermutation map.pairs (with_no_values ys)
+  map_in_order =
+      subst (λ l. IsPermutation l (with_no_values ys)) (no_values map.pairs)
+      (IsPermutation-map (λ x. (x, tt {0})) (keys_of map.pairs) ys (subst (λ (s : Set K S). IsPermutation s.elements ys) (sym is) order))
+
+  module _ (test : K → Bool) where
+    pub there_in_order : (b : Bool) → ((xs : List (K × Unit {0})) → IsPermutation map.pairs xs → b ≡ is_some (found_by test xs)) → b ≡ is_some (find test ys)
+    there_in_order b so = so (with_no_values ys) map_in_order ∙ sym (there_as test ys)
+
+    pub found_in_order : (o : Option (K × Unit {0})) → ((xs : List (K × Unit {0})) → IsPermutation map.pairs xs → o ≡ found_by test xs) → option_map (λ x. x.0) o ≡ find test ys
+    found_in_order o so = ap (option_map (λ (x : K × Unit {0}). x.0)) (so (with_no_values ys) map_in_order) ∙ sym (found_as test ys)
 
 module _ {K : Type 0} (same : K → K → Bool) where
   put_in_last : (xs ys : List K) (y : K) → put_all_in same xs (ys ++ (y ∷ [])) ≡ put_in same (put_all_in same xs ys) y

@@ -1,6 +1,6 @@
 -- A set for one owner, as its callers see it, and elements that are put into it one after another.
 use denote.Ref.{Bor}
-use Rattle.std.specs.Prelude.{◌≡◌, Bool, List, [], ◌∷◌, ◌++◌, Option, Result, MatchResult, filter, map, not, option_map}
+use Rattle.std.specs.Prelude.{◌≡◌, Bool, List, [], ◌∷◌, ◌++◌, Option, Result, MatchResult, filter, map, option_map}
 use Rattle.std.specs.Fn.{Called, CalledAt, Mut}
 use Rattle.std.specs.Iterator.{Drains, Yields}
 use Rattle.std.specs.List.{AllZip, FoldsTo}
@@ -8,6 +8,7 @@ use Rattle.std.specs.List.Sorted.{IsPermutation}
 use Rattle.std.specs.Map.{keys_of}
 use Rattle.papaya_seq_map.specs.Given.{HoldsOn, RefusedKey}
 use Rattle.papaya_seq_map.specs.Maps.{Map}
+pub use Rattle.papaya_seq_map.specs.Given.{left_in}
 
 -- The value of a set: its elements, its hasher, and two elements that can be looked at until the next change. Which order the elements are in, a walk tells alone.
 pub record Set (K S : Type 0) : Type 0 where
@@ -32,10 +33,6 @@ LastTookOut set taken met = (set.taken ≡ taken) × (set.met ≡ met)
 -- the rest was given back. Nothing else is held but what was stored.
 abbrev pub KeepsIn : {K S : Type 0} → List K → Set K S → Set K S → Type 0
 KeepsIn stored before after = HoldsOn stored before.elements before.held after.held
-
--- all elements but those that pass
-abbrev pub left_in : {K : Type 0} → (K → Bool) → List K → List K
-left_in test xs = filter (λ x. not (test x)) xs
 
 module _ {K : Type 0} (same : K → K → Bool) where
   -- the elements, once this one was put in the place of the one that equals it

@@ -1,8 +1,9 @@
-//! A hash map and a hash set for one owner. The map stands in a crate of its own, and is given on.
+//! A hash map and a hash set for one owner. The map, texts as keys and JSON forms stand in crates of their own, and are given on.
 #![tactic(auto)]
 
 mod set;
 
+pub use papaya_forms::{JsonFault, JsonForm, Text, TextRef};
 pub use papaya_seq_map::{
     Change, Compute, Equivalent, Fault, HashMap, Keys, Operation, Pairs, Refused, RefusedKey,
     Values, law,

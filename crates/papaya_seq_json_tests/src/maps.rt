@@ -1,10 +1,11 @@
 //! Maps are written as JSON, and read of it.
+ghost use Rattle.std.specs.Prelude.{IfOk, IsTrue};
 
 use papaya_forms::{JsonFault, JsonForm, Text, TextRef};
 use papaya_seq::HashMap;
 use serde_json::Value;
 use std::alloc::Global;
-use std::hash::{BuildHasherDefault, DefaultHasher, Hash};
+use std::hash::{BuildHasher, BuildHasherDefault, DefaultHasher, Hash};
 use std::test::Fail;
 
 type Map<K, V> = HashMap<K, V, BuildHasherDefault<DefaultHasher>>;
@@ -59,11 +60,26 @@ const ROWS: [(Kind, &str, Result<&str, JsonFault>); 14] = [
     (Kind::Texts, "[]", Err(JsonFault::NotAnObject)),
 ];
 
-/// The text of what is written of a map.
-fn text_of<K: JsonForm + Hash, V: JsonForm>(
+/// Whether a map is read back of what it is written as. That it is follows from the clauses, for each type of keys and of values.
+fn comes_back<K: JsonForm + Hash + Drop, V: JsonForm + Drop, S: BuildHasher + Default + Drop>(
+    alloc: Global,
+    map: &HashMap<K, V, S>,
+) -> Result<bool, JsonFault>
+    ensures { IfOk result IsTrue }
+{
+    let written = map.to_value(alloc)?;
+    let read: HashMap<K, V, S> = HashMap::from_value(alloc, &written)?;
+    Ok(read == *map)
+}
+
+/// The text of what is written of a map, which is read back.
+fn text_of<K: JsonForm + Hash + Drop, V: JsonForm + Drop>(
     alloc: Global,
     map: &Map<K, V>,
 ) -> Result<String, JsonFault> {
+    if !comes_back(alloc, map)? {
+        return Err(JsonFault::BadElement);
+    }
     Ok(map.to_value(alloc)?.to_string(alloc)?)
 }
 

@@ -1,19 +1,18 @@
 -- Pairs that are read of the members of an object, one after another, and pairs that are written as one.
 use denote.Ref.{Bor}
-use Rattle.std.specs.Prelude.{IsTrue, ◌↔◌, ◌⊎◌, IfOk, if◌then◌else◌}
+use Rattle.std.specs.Prelude.{IsTrue, ◌↔◌, ◌⊎◌, if◌then◌else◌}
 use Rattle.std.specs.Cmp.Lexicographic.{slice_cmp}
 use Rattle.std.specs.Iterator.{Drains, YieldsFirstBy}
 use Rattle.std.specs.List.{All, AllByRecursion, IsDistinct}
 use Rattle.std.specs.List.Sorted.{IsPermutation, IsStrictlySortedBy}
 use Rattle.std.specs.Map.{keys_of}
-use Rattle.std.proofs.Common.{◌≡◌, ◌≢◌, ℕ, Bool, true, false, List, [], ◌∷◌, ◌++◌, map, Result, Ok, Err, inl, inr, String, Global, Less, string_bytes, string_cmp, nat_cmp, append-nil, append_assoc, refl, ap, sym, subst, ◌∙◌}
+use Rattle.std.proofs.Common.{◌≡◌, ◌≢◌, ℕ, Bool, true, false, List, [], ◌∷◌, ◌++◌, map, inl, inr, String, Global, Less, string_bytes, string_cmp, nat_cmp, append-nil, append_assoc, refl, ap, sym, subst, ◌∙◌}
 use Rattle.std.proofs.lemmas.Cmp.{nat_list_cmp_total, tied_itself}
 use Rattle.std.proofs.lemmas.List.Elements.{All-cons, All-nil, All-head, All-map, All-tail}
 use Rattle.std.proofs.lemmas.List.Sorted.{All-permutation, IsPermutation-refl, IsPermutation-sym, IsPermutation-trans}
 use Rattle.std.proofs.lemmas.Map.Keys.{IsDistinct-head, IsDistinct-tail}
 use Rattle.serde_json.specs.Data.{Data, object, no_members, put}
 use Rattle.serde_json.specs.View.{view, members_view}
-use Rattle.serde_json.specs.declared.value.Value.{Value}
 use Rattle.serde_json.proofs.Views.{Entry, put_last}
 use Rattle.papaya_forms.specs.Objects.{AreApart, IsObjectOf, members_with}
 use Rattle.papaya_forms.specs.declared.fault.JsonFault.{JsonFault}
@@ -183,17 +182,14 @@ module _ {K V : Type 0} (key_in : K → Type 0) (text : K → List ℕ) (value_i
 
     -- what is written of all that a walk shows
     module _ {S : Type 0} (rest : S → List (K × V)) (s : S) (ys : List (K × V)) (is : rest s ≡ ys) (apart : IsDistinct same (keys_of ys)) where
+      all_shown : (xs : List (Bor K × Bor V)) → Drains (YieldsFirstBy pair_shown rest) s xs → map pair_shown xs ≡ ys
+      all_shown xs shown = shown_to_end pair_shown rest s xs shown ∙ is
+
+      pub written_in_range : (xs : List (Bor K × Bor V)) → Drains (YieldsFirstBy pair_shown rest) s xs → All (λ x. InRange (pair_shown x)) xs → All InRange ys
+      written_in_range xs shown all = subst (All InRange) (all_shown xs shown) (All-map InRange pair_shown xs all)
+
       pub written_object : (xs : List (Bor K × Bor V)) → Drains (YieldsFirstBy pair_shown rest) s xs → All (λ x. InRange (pair_shown x)) xs → (d : Data)
           → d ≡ object (members_with text value no_members (map pair_shown xs)) → IsObjectOf text value ys d
       written_object xs shown all d written =
-          let are : map pair_shown xs ≡ ys = shown_to_end pair_shown rest s xs shown ∙ is in
-          let ranged : All InRange ys = subst (All InRange) are (All-map InRange pair_shown xs all) in
-          subst (IsObjectOf text value ys) (sym (written ∙ ap (λ l. object (members_with text value no_members l)) are))
-          (objects_have_their_pairs K V text value ys (distinct_apart ys ranged apart))
-
-      pub written_so : {E : Type 0} (r : Result Value E)
-          → IfOk r (λ written. (xs : List (Bor K × Bor V)) × Drains (YieldsFirstBy pair_shown rest) s xs × All (λ x. InRange (pair_shown x)) xs
-          × (view written ≡ object (members_with text value no_members (map pair_shown xs))))
-          → IfOk r (λ written. IsObjectOf text value ys (view written))
-      written_so (Ok w) (xs, shown, all, written) = written_object xs shown all (view w) written
-      written_so (Err e) none = tt
+          subst (IsObjectOf text value ys) (sym (written ∙ ap (λ l. object (members_with text value no_members l)) (all_shown xs shown)))
+          (objects_have_their_pairs K V text value ys (distinct_apart ys (written_in_range xs shown all) apart))

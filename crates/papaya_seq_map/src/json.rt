@@ -69,7 +69,8 @@ fn map_of<K: JsonForm + Hash + Drop, V: JsonForm + Drop, S: BuildHasher + Defaul
 impl<K: JsonForm + Hash, V: JsonForm, S: BuildHasher> HashMap<K, V, S> {
     /// The object that has the map's pairs for its members, each key's text for a name.
     pub fn to_value(&self, alloc: Global) -> Result<Value, AllocError>
-        ensures { IfOk result (λ written. IsObjectOf K.JsonForm.key_text V.JsonForm.json_value self.now.pairs (view written)) }
+        ensures object { IfOk result (λ written. IsObjectOf K.JsonForm.key_text V.JsonForm.json_value self.now.pairs (view written)) }
+        ensures in_range { IfOk result (λ _. All (λ x. K.JsonForm.in_range x.0 × V.JsonForm.in_range x.1) self.now.pairs) }
     {
         object_of(alloc, self.iter())
     }

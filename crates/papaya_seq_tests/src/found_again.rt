@@ -1,9 +1,9 @@
-//! What follows from the contract of a map for who uses one: what was stored is found again, whatever the map was before.
-ghost use Rattle.std.specs.Prelude.{◌≡◌, false, is_some, IfOk, Some};
+//! What follows from the contracts of a map and a set for who uses one: what was stored is found again, and what was removed is not.
+ghost use Rattle.std.specs.Prelude.{◌≡◌, false, is_some, IfOk, IsFalse, IsTrue, Some};
 ghost use Rattle.papaya_seq.specs.Pairs.{found_by};
 
 use papaya_runs::key_hash::KeyHash;
-use papaya_seq::{Fault, HashMap};
+use papaya_seq::{Fault, HashMap, HashSet};
 use std::alloc::Global;
 use std::hash::{BuildHasher, Hash};
 
@@ -54,4 +54,44 @@ fn twice(alloc: Global) -> Result<(Option<u64>, Option<u64>, bool), Fault> {
 #[test]
 fn what_was_stored_is_found_again(rt: HostRuntime) {
     assert!(rt; twice(rt.alloc()) == Ok((Some(70), Some(71), false)));
+}
+
+/// Puts an element in, and tells whether it is there.
+fn put_in<S: BuildHasher>(set: &mut HashSet<u64, S>, element: u64) -> Result<bool, Fault>
+    ensures { IfOk result IsTrue }
+{
+    match set.insert(element) {
+        Ok(_) => Ok(set.contains(&element)),
+        Err(refused) => Err(refused.fault),
+    }
+}
+
+/// Removes an element, and tells whether it is there.
+fn removed<K: Eq + Hash + Drop, S: BuildHasher>(
+    set: &mut HashSet<K, S>,
+    element: &K,
+) -> Result<bool, Fault>
+    ensures { IfOk result IsFalse }
+{
+    match set.remove(element) {
+        Ok(_) => Ok(set.contains(element)),
+        Err(fault) => Err(fault),
+    }
+}
+
+/// Whether an element is there once it was put in, and once it was removed.
+fn comes_and_goes<S: BuildHasher>(set: &mut HashSet<u64, S>) -> Result<(bool, bool), Fault> {
+    let comes = put_in(set, 7)?;
+    let stays = removed(set, &7)?;
+    Ok((comes, stays))
+}
+
+fn once(alloc: Global) -> Result<(bool, bool), Fault> {
+    let mut set = HashSet::with_hasher(alloc, KeyHash::Key)?;
+    comes_and_goes(&mut set)
+}
+
+#[test]
+fn an_element_is_there_until_it_is_removed(rt: HostRuntime) {
+    assert!(rt; once(rt.alloc()) == Ok((true, false)));
 }

@@ -30,14 +30,16 @@ impl<K: Eq + Hash, S: BuildHasher> HashSet<K, S> {
 
     /// Whether the element is in the set.
     pub fn contains<Q: Equivalent<K>>(&self, asked: &Q) -> bool
-        ensures { result ≡ is_some (find (Q.Equivalent.equivalent asked.now) self.now.elements) }
+        ensures there { result ≡ is_some (find (Q.Equivalent.equivalent asked.now) self.now.elements) }
+        ensures in_any_order { (xs : List K) → IsPermutation self.now.elements xs → result ≡ is_some (find (Q.Equivalent.equivalent asked.now) xs) }
     {
         self.map.contains_key(asked)
     }
 
     /// The stored element, if it is in the set.
     pub fn get<Q: Equivalent<K>>(&self, asked: &Q) -> Option<&K>
-        ensures { option_copied result ≡ find (Q.Equivalent.equivalent asked.now) self.now.elements }
+        ensures element { option_copied result ≡ find (Q.Equivalent.equivalent asked.now) self.now.elements }
+        ensures in_any_order { (xs : List K) → IsPermutation self.now.elements xs → option_copied result ≡ find (Q.Equivalent.equivalent asked.now) xs }
     {
         match self.map.get_key_value(asked) {
             Some((element, _)) => Some(element),

@@ -1,7 +1,7 @@
 -- By another key the same is found as before, in whatever order the pairs are then.
 use Rattle.std.specs.Prelude.{is_some}
 use Rattle.std.proofs.Common.{◌∙◌, ap, sym}
-use Rattle.papaya_pairs.proofs.Laws.{others_stay}
+use Rattle.papaya_seq.proofs.Given.{others_stay}
 use Rattle.papaya_seq_tests.proofs.found_again.beside.Goals as goal
 
 pub returns-in-Ok : goal.returns-in-Ok

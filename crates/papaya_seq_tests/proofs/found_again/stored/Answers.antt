@@ -2,7 +2,7 @@
 use Rattle.std.specs.Prelude.{option_map, nat_eq}
 use Rattle.std.specs.Cmp.{nat_eq_equiv}
 use Rattle.std.proofs.Common.{◌∙◌, ap}
-use Rattle.papaya_pairs.proofs.Laws.{put_is_found}
+use Rattle.papaya_seq.proofs.Given.{put_is_found}
 use Rattle.papaya_seq_tests.proofs.found_again.stored.Goals as goal
 
 pub returns-in-Ok : goal.returns-in-Ok
