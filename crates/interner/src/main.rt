@@ -5,8 +5,7 @@ ghost use Rattle.std.specs.Prelude.{◌≡◌, ℕ, Ok, OnErr, IfOk, None, Some}
 ghost use Rattle.std.specs.List.Sorted.{IsPermutation};
 ghost use Rattle.interner.specs.Numbers.{number_of, HasNext};
 
-use papaya_forms::{Text, TextRef};
-use papaya_seq::{Fault, HashMap};
+use papaya_seq::{Fault, HashMap, Text, TextRef};
 use serde_json::Value;
 use std::alloc::Global;
 use std::hash::{BuildHasherDefault, FoldHasher};

@@ -5,8 +5,7 @@ ghost use Rattle.std.specs.Prelude.{◌≡◌, ◌+◌, ℕ, List, IfOk, OnOk, O
 ghost use Rattle.std.specs.List.Sorted.{IsPermutation};
 ghost use Rattle.word_count.specs.Counts.{IsCounted, count_of};
 
-use papaya_forms::{Text, TextRef};
-use papaya_seq::{Fault, HashMap};
+use papaya_seq::{Fault, HashMap, Text, TextRef};
 use std::alloc::Global;
 use std::hash::{BuildHasherDefault, FoldHasher};
 use std::io;

@@ -4,7 +4,7 @@ use Rattle.std.specs.Option.{option_map, unwrap_or}
 use Rattle.std.specs.Str.{bytes_eq}
 use Rattle.std.proofs.Common.{◌≡◌, ◌∙◌, ◌+◌, ◌++◌, ◌∷◌, [], ℕ, List, ap}
 use Rattle.papaya_seq.specs.Pairs.{left_by}
-use Rattle.papaya_pairs.proofs.Laws.{put_is_found}
+use Rattle.papaya_seq.proofs.Given.{put_is_found}
 use Rattle.word_count.specs.Counts.{count_of}
 use Rattle.word_count.proofs.count.Goals as goal
 
