@@ -8,10 +8,10 @@ use Rattle.std.specs.Map.{keys_of}
 use Rattle.std.proofs.Common.{◌≡◌, Bool, true, false, cond, not, List, [], ◌∷◌, ◌++◌, find, filter, map, Option, Some, is_some, is_none, option_map, refl, ap, sym, subst, ◌∙◌}
 use Rattle.std.proofs.lemmas.List.{map-append}
 use Rattle.std.proofs.lemmas.List.Sorted.{IsPermutation-trans, IsPermutation-append_left, IsPermutation-map}
-use Rattle.papaya_seq_map.specs.Given.{AskedAlong, IsCloneOf, KeepsOf, PutsClones, found_by, left_by, put, put_all, with_no_values}
+use Rattle.papaya_seq_map.specs.Given.{AskedAlong, IsCloneOf, KeepsOf, found_by, left_by, put, put_all, with_no_values}
 use Rattle.papaya_seq_map.specs.Maps.{Keeps, Map}
-use Rattle.papaya_seq.specs.Sets.{KeepsElements, KeepsIn, PutsElementClones, Set, left_in, put_in, put_all_in, set_of, last_taken_in}
-use Rattle.papaya_seq_map.proofs.Given.{found_as, kept_in_any_order, no_values, there_as, lifts}
+use Rattle.papaya_seq.specs.Sets.{KeepsElements, KeepsIn, Set, last_taken_in, left_in, put_in, put_all_in, set_of}
+use Rattle.papaya_seq_map.proofs.Given.{found_as, kept_in_any_order, lifts, no_values, there_as}
 
 -- what was not there is new
 pub new_so : {X : Type 0} (was : Bool) (o : Option X) → was ≡ is_some o → not was ≡ is_none o
@@ -96,11 +96,6 @@ module _ {K V : Type 0} where
   keys_cloned key_clone value_clone [] (y ∷ ys) so = absurd so
   keys_cloned key_clone value_clone (x ∷ xs) [] so = absurd so
   keys_cloned key_clone value_clone (x ∷ xs) (y ∷ ys) so = (so.0.0, keys_cloned key_clone value_clone xs ys so.1)
-
-  pub key_clones : (same : K → K → Bool) (key_clone : K → K → Type 0) (value_clone : V → V → Type 0) (originals new : List (K × V)) → PutsClones same key_clone value_clone originals new
-      → PutsElementClones same key_clone (keys_of originals) (keys_of new)
-  key_clones same key_clone value_clone originals new so =
-      (keys_of so.0, keys_cloned key_clone value_clone originals so.0 so.1, subst (IsPermutation (keys_of new)) (keys_put_all same so.0 []) (keys_in_order new (put_all same [] so.0) so.2))
 
 -- A set is lent in another order: so its map is, which has no values, and what is found there are the same elements.
 module _ {K S : Type 0} (map : Map K (Unit {0}) S) (set : Set K S) (is : set_of map ≡ set) (ys : List K) (order : IsPermutation set.elements ys) where

@@ -1,6 +1,6 @@
 -- A set for one owner, as its callers see it, and its elements, once some were put into it.
 use denote.Ref.{Bor}
-use Rattle.std.specs.Prelude.{◌≡◌, Bool, List, [], ◌∷◌, ◌++◌, Option, Result, MatchResult, filter, map, option_map, find, not}
+use Rattle.std.specs.Prelude.{◌≡◌, Bool, List, [], ◌∷◌, ◌++◌, Option, filter, find, map, option_map}
 use Rattle.std.specs.Fn.{Called, CalledAt, Mut}
 use Rattle.std.specs.List.{FoldsTo}
 use Rattle.std.specs.List.Sorted.{IsPermutation}
