@@ -19,7 +19,7 @@ use Rattle.papaya_histories.specs.Given.Callers.Rows.{past_row, once_over}
 use Rattle.papaya_histories.specs.Given.Callers.Together.{CallOnKey, OnKey, Stands, in_slot}
 use Rattle.papaya_settles.specs.Hand.{things_at, NotesPair}
 use Rattle.papaya_settles.proofs.Fresh.{IsFreshAt}
-use Rattle.papaya_settles.proofs.HandAsked.{NoneOfCall}
+use Rattle.papaya_settles.proofs.Hand.Asked.{NoneOfCall}
 use Rattle.papaya_settles.proofs.Passed.{copier_none}
 
 -- the change takes no pair out

@@ -1,7 +1,7 @@
 -- Calls owe just what they have in hand.
-use Rattle.papaya_settles.proofs.HandAsked.{walks_have_nothing}
-use Rattle.papaya_settles.proofs.HandBetween.{owed_begins, calls_begin_owed, calls_take_owed, calls_come_to_owed}
-use Rattle.papaya_settles.proofs.HandCalls.{calls_keep_owed}
+use Rattle.papaya_settles.proofs.Hand.Asked.{walks_have_nothing}
+use Rattle.papaya_settles.proofs.Hand.Between.{owed_begins, calls_begin_owed, calls_take_owed, calls_come_to_owed}
+use Rattle.papaya_settles.proofs.Hand.Calls.{calls_keep_owed}
 use Rattle.papaya_settles.proofs.law.calls_owe_what_they_have.Goals as goal
 
 pub returns : goal.returns

@@ -1,7 +1,7 @@
 -- What is no call leaves what calls owe as it was.
-use Rattle.papaya_settles.proofs.HandBetween.{stays_owed, effects_leave_owed, walks_go_on_owed, walks_stop_owed}
-use Rattle.papaya_settles.proofs.HandEnds.{endings_leave_owed}
-use Rattle.papaya_settles.proofs.HandOthers.{rows_leave_owed, makings_leave_owed}
+use Rattle.papaya_settles.proofs.Hand.Between.{stays_owed, effects_leave_owed, walks_go_on_owed, walks_stop_owed}
+use Rattle.papaya_settles.proofs.Hand.Ends.{endings_leave_owed}
+use Rattle.papaya_settles.proofs.Hand.Others.{rows_leave_owed, makings_leave_owed}
 use Rattle.papaya_settles.proofs.law.others_leave_owed.Goals as goal
 
 pub returns : goal.returns

@@ -42,7 +42,7 @@ use Rattle.papaya_settles.specs.Hand.{tables_in_hand, in_hand_of_call, in_hand, 
 use Rattle.papaya_settles.specs.InHand.{TakesPair, pair_in_calling}
 use Rattle.papaya_settles.specs.Owed.{HandGoes}
 use Rattle.papaya_settles.proofs.CopierTables.{KnowsTables, fresh_knows, blocking_knows, late_knows}
-use Rattle.papaya_settles.proofs.HandCopies.{copying_goes, KeyThen, helped_then, copied_then}
+use Rattle.papaya_settles.proofs.Hand.Copies.{copying_goes, KeyThen, helped_then, copied_then}
 use Rattle.papaya_settles.proofs.Here.{each}
 use Rattle.papaya_settles.proofs.Leaving.{no_promotion}
 use Rattle.papaya_settles.proofs.Taken.{calls_take_in_hand}

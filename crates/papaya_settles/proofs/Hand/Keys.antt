@@ -61,7 +61,7 @@ use Rattle.papaya_settles.specs.Owed.{HandGoes}
 use Rattle.papaya_settles.specs.Owing.{hands_over, HandsOver, AllLeave, OwesGo, KeepsOwed, TakesOut, PutsOver, Passes, HandsFirst}
 use Rattle.papaya_settles.proofs.EndsOver.{IsOverAt, IsEnded, ended_step}
 use Rattle.papaya_settles.proofs.Fresh.{IsBefore, IsFreshAt, IsFresh}
-use Rattle.papaya_settles.proofs.HandAsked.{NoneOfCall}
+use Rattle.papaya_settles.proofs.Hand.Asked.{NoneOfCall}
 use Rattle.papaya_settles.proofs.Held.{always_turned, IsDone, dispose_done, calls_hold_theirs}
 use Rattle.papaya_settles.proofs.Leaving.{no_handing}
 use Rattle.papaya_settles.proofs.Keys.{Together2, change2, once, did, fresh, unchanged, steps}

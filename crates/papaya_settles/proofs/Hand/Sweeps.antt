@@ -61,9 +61,9 @@ use Rattle.papaya_settles.specs.Owed.{HandGoes}
 use Rattle.papaya_settles.specs.Owing.{AllLeave, OwesGo, KeepsOwed, TakesOut}
 use Rattle.papaya_settles.proofs.CopierTables.{KnowsTables, whole_knows, late_knows}
 use Rattle.papaya_settles.proofs.Gains.{AllApart, CountGoes, KeepsCount, AddsOne, GivesWay, TakesOne, CountsAll}
-use Rattle.papaya_settles.proofs.HandAsked.{NoneOfSweep, sweeps_apart, further_none}
-use Rattle.papaya_settles.proofs.HandCopies.{copying_goes, entering_none, sweep_then}
-use Rattle.papaya_settles.proofs.HandRooms.{begins_none}
+use Rattle.papaya_settles.proofs.Hand.Asked.{NoneOfSweep, sweeps_apart, further_none}
+use Rattle.papaya_settles.proofs.Hand.Copies.{copying_goes, entering_none, sweep_then}
+use Rattle.papaya_settles.proofs.Hand.Rooms.{begins_none}
 use Rattle.papaya_settles.proofs.Held.{always_turned, IsDone, dispose_done, sweeps_take_in_hand, sweeps_hold_theirs}
 use Rattle.papaya_settles.proofs.Here.{each}
 use Rattle.papaya_settles.proofs.Leaving.{shifts_take, no_promotion, leaves}

@@ -50,8 +50,8 @@ use Rattle.papaya_settles.specs.InHand.{TakesPair, pair_in_calling}
 use Rattle.papaya_settles.specs.Owed.{HandGoes}
 use Rattle.papaya_settles.specs.Owing.{OwesGo}
 use Rattle.papaya_settles.proofs.CopierTables.{KnowsTables}
-use Rattle.papaya_settles.proofs.HandAsked.{NoneOfSweep, either_sweep, ending_none, sweeps_apart}
-use Rattle.papaya_settles.proofs.HandCopiers.{GoesOrHas, CopierGoes, copier_goes}
+use Rattle.papaya_settles.proofs.Hand.Asked.{NoneOfSweep, either_sweep, ending_none, sweeps_apart}
+use Rattle.papaya_settles.proofs.Hand.Copiers.{GoesOrHas, CopierGoes, copier_goes}
 use Rattle.papaya_settles.proofs.Leaving.{has_gone, leaves}
 use Rattle.papaya_settles.proofs.Passed.{copier_none}
 

@@ -56,7 +56,7 @@ use Rattle.papaya_settles.specs.Due.{Due, ToPut, word_due, due_in_settle, due_in
 use Rattle.papaya_settles.specs.Hand.{things_at, tables_from, tables_in_hand, in_hand_of_call, in_hand_of_room, in_hand_of_sweep, IsPairRole, NotesPair, NotesDue, NotesTable, NotesTables, NotesOfCall, NotesOfRoom, NotesOfSweep}
 use Rattle.papaya_settles.specs.InHand.{pair_in_disposing}
 use Rattle.papaya_settles.proofs.DueRows.{GoesOn}
-use Rattle.papaya_settles.proofs.HandRows.{KeepsBehind, Behind}
+use Rattle.papaya_settles.proofs.Hand.Rows.{KeepsBehind, Behind}
 use Rattle.papaya_settles.proofs.Held.{always_turned}
 use Rattle.papaya_settles.proofs.Passed.{GoesBehind, retired_behind}
 

@@ -28,8 +28,8 @@ use Rattle.papaya_histories.specs.Given.Others.Walks.{given_up}
 use Rattle.papaya_settles.specs.Hand.{in_hand, NotesInHand, ShowsOwed}
 use Rattle.papaya_settles.specs.Owed.{OwedBegins, StaysOwed, EffectsLeaveOwed, CallsBeginOwed, CallsTakeOwed, CallsComeToOwed, WalksGoOnOwed, WalksStopOwed}
 use Rattle.papaya_settles.proofs.Gains.{none_changed}
-use Rattle.papaya_settles.proofs.HandAsked.{told_stays, asked_stays}
-use Rattle.papaya_settles.proofs.HandRoles.{hand_same, hand_noted}
+use Rattle.papaya_settles.proofs.Hand.Asked.{told_stays, asked_stays}
+use Rattle.papaya_settles.proofs.Hand.Roles.{hand_same, hand_noted}
 
 -- As a run begins there is no call.
 pub owed_begins : (K V : Type 0) → OwedBegins K V

@@ -37,10 +37,10 @@ use Rattle.papaya_histories.proofs.Given.Moments.Ends.{end_beside}
 use Rattle.papaya_histories.specs.Given.Others.Endings.{ending_after}
 use Rattle.papaya_settles.specs.Hand.{IsPairAt, IsTableAt, IsSameRole, SameInHand, ShowsOwed}
 use Rattle.papaya_settles.specs.OwedBeside.{EndingsLeaveOwed}
-use Rattle.papaya_settles.proofs.HandBetween.{effects_leave_owed}
-use Rattle.papaya_settles.proofs.HandLives.{IsTakenOut}
-use Rattle.papaya_settles.proofs.HandOthers.{IsThere, role_there, all_there, pair_of_map, table_of_map}
-use Rattle.papaya_settles.proofs.HandRoles.{hand_both}
+use Rattle.papaya_settles.proofs.Hand.Between.{effects_leave_owed}
+use Rattle.papaya_settles.proofs.Hand.Lives.{IsTakenOut}
+use Rattle.papaya_settles.proofs.Hand.Others.{IsThere, role_there, all_there, pair_of_map, table_of_map}
+use Rattle.papaya_settles.proofs.Hand.Roles.{hand_both}
 
 module _ {K V S : Type 0} (same : K → K → Bool) (hash : K → ℕ) (name : ℕ → List ℕ) (m : Moment K V) (known : Known) (s : Scene K V) (old new : Executor K V S) (at : IsAt same hash old s)
     (whole : ShowsWhole same name m known s) (shows : ShowsOwed name m known s) (i : ℕ) (f : Finishing K V) (here : s.enders i ≡ Some f) (end : EndMap) (said : Settled (Node K V))

@@ -49,10 +49,10 @@ use Rattle.papaya_histories.specs.Given.Others.Makings.{WasNew, making_after}
 use Rattle.papaya_histories.specs.Given.Others.Rows.{scene_then}
 use Rattle.papaya_settles.specs.Hand.{HoldsOfCall, HoldsOfRoom, HoldsInHand, IsPairRole, IsTableRole, IsPairAt, IsTableAt, NotesInHand, IsSameRole, SameInHand, ShowsOwed}
 use Rattle.papaya_settles.specs.OwedBeside.{RowsLeaveOwed, MakingsLeaveOwed}
-use Rattle.papaya_settles.proofs.HandBetween.{effects_leave_owed}
-use Rattle.papaya_settles.proofs.HandLives.{IsKeptYet, taken_is_out, value_kept, out_there}
-use Rattle.papaya_settles.proofs.HandRoles.{hand_both}
-use Rattle.papaya_settles.proofs.HandThere.{key_fresh, key_late, room_fresh, room_late, sweep_fresh, key_row, room_row, sweep_row}
+use Rattle.papaya_settles.proofs.Hand.Between.{effects_leave_owed}
+use Rattle.papaya_settles.proofs.Hand.Lives.{IsKeptYet, taken_is_out, value_kept, out_there}
+use Rattle.papaya_settles.proofs.Hand.Roles.{hand_both}
+use Rattle.papaya_settles.proofs.Hand.There.{key_fresh, key_late, room_fresh, room_late, sweep_fresh, key_row, room_row, sweep_row}
 
 pub pair_of_map : (r : Role) → IsPairRole r → IsOfMap r
 pair_of_map (role.Pair n) is = tt

@@ -23,11 +23,11 @@ use Rattle.papaya_histories.proofs.Given.Spots.Steps.{stayed_calm}
 use Rattle.papaya_settles.specs.Hand.{in_hand, NotesInHand}
 use Rattle.papaya_settles.specs.Owed.{HandGoes, CallsGoInHand}
 use Rattle.papaya_settles.specs.Owing.{KeepsOwed}
-use Rattle.papaya_settles.proofs.HandKeyCopies.{key_copies}
-use Rattle.papaya_settles.proofs.HandKeys.{keys_go_in_hand}
-use Rattle.papaya_settles.proofs.HandRooms.{room_goes_on}
-use Rattle.papaya_settles.proofs.HandSteps.{rows_hand_over}
-use Rattle.papaya_settles.proofs.HandSweeps.{sweep_goes_on}
+use Rattle.papaya_settles.proofs.Hand.KeyCopies.{key_copies}
+use Rattle.papaya_settles.proofs.Hand.Keys.{keys_go_in_hand}
+use Rattle.papaya_settles.proofs.Hand.Rooms.{room_goes_on}
+use Rattle.papaya_settles.proofs.Hand.Steps.{rows_hand_over}
+use Rattle.papaya_settles.proofs.Hand.Sweeps.{sweep_goes_on}
 use Rattle.papaya_settles.proofs.Takings.{all_calm}
 
 -- it copies, or it does not

@@ -38,9 +38,9 @@ use Rattle.papaya_settles.specs.Hand.{in_hand, NotesInHand}
 use Rattle.papaya_settles.specs.Owed.{RowsHandOver}
 use Rattle.papaya_settles.specs.Owing.{OwesGo}
 use Rattle.papaya_settles.proofs.DueCalls.{rows_tell_due}
-use Rattle.papaya_settles.proofs.HandBehind.{GoesDue, KeyKeeps, key_keeps, key_puts, RoomKeeps, room_keeps, room_puts, SweepKeeps, sweep_keeps, sweep_puts}
+use Rattle.papaya_settles.proofs.Hand.Behind.{GoesDue, KeyKeeps, key_keeps, key_puts, RoomKeeps, room_keeps, room_puts, SweepKeeps, sweep_keeps, sweep_puts}
 use Rattle.papaya_settles.proofs.Leaving.{has_gone}
-use Rattle.papaya_settles.proofs.HandRows.{KeepsBehind, PutsPair, row_goes}
+use Rattle.papaya_settles.proofs.Hand.Rows.{KeepsBehind, PutsPair, row_goes}
 
 -- a row has in hand what it had, or nothing any more
 goes_due : (caller map : ℕ) (known : Known) (effects : List Effect) (due due2 : Option Due) → RowTells caller map known effects due due2 → GoesDue due due2

@@ -56,7 +56,7 @@ use Rattle.papaya_settles.specs.InHand.{TakesPair}
 use Rattle.papaya_settles.specs.Owed.{HandGoes}
 use Rattle.papaya_settles.specs.Owing.{KeepsOwed}
 use Rattle.papaya_settles.proofs.CopierTables.{KnowsTables, whole_knows, late_knows}
-use Rattle.papaya_settles.proofs.HandCopies.{copying_goes, room_then}
+use Rattle.papaya_settles.proofs.Hand.Copies.{copying_goes, room_then}
 use Rattle.papaya_settles.proofs.Here.{each}
 use Rattle.papaya_settles.proofs.Leaving.{shifts_take, no_promotion, leaves}
 use Rattle.papaya_settles.proofs.Passed.{copier_none}

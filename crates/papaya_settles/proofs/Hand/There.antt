@@ -51,7 +51,7 @@ use Rattle.papaya_histories.specs.Given.Callers.Rows.{past_copying, row_of_dispo
 use Rattle.papaya_settles.specs.Due.{word_due, due_in_settle, due_in_defer}
 use Rattle.papaya_settles.specs.Hand.{HoldsAt, HoldsOf, HoldsTables, HoldsOfCall, HoldsOfRoom, HoldsOfSweep}
 use Rattle.papaya_settles.specs.InHand.{pair_in_disposing, pair_in_calling}
-use Rattle.papaya_settles.proofs.HandLives.{IsKeptYet, cut_kept, parting_kept, settle_kept, defer_kept}
+use Rattle.papaya_settles.proofs.Hand.Lives.{IsKeptYet, cut_kept, parting_kept, settle_kept, defer_kept}
 
 module _ {K V : Type 0} (size : ℕ) (w : World (Node K V)) (r : Reached deferred_word size w) (i : ℕ) (setting : Setting) (c : Chart K) (blocks : Blocks) where
   abbrev pub Kept : ℕ → Type 0

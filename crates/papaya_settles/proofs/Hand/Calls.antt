@@ -32,8 +32,8 @@ use Rattle.papaya_settles.specs.Owed.{HandGoes, CallsKeepOwed}
 use Rattle.papaya_settles.specs.Owing.{OwesGo, FindsOwed}
 use Rattle.papaya_settles.proofs.Calls.{goes_as_one}
 use Rattle.papaya_settles.proofs.Gains.{others_stay}
-use Rattle.papaya_settles.proofs.HandAll.{calls_go_in_hand}
-use Rattle.papaya_settles.proofs.HandRoles.{hand_same, hand_noted, hand_kept}
+use Rattle.papaya_settles.proofs.Hand.All.{calls_go_in_hand}
+use Rattle.papaya_settles.proofs.Hand.Roles.{hand_same, hand_noted, hand_kept}
 use Rattle.papaya_settles.proofs.Owing.{owes_follow}
 
 module _ {K V S : Type 0} (same : K → K → Bool) (hash : K → ℕ) (name : ℕ → List ℕ) (m : Moment K V) (known : Known) (s : Scene K V) (old new : Executor K V S) (at : IsAt same hash old s)
