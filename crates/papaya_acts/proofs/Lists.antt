@@ -1,14 +1,14 @@
 -- A course: where each act leads. Each next step may be taken, and is that of an act.
 use Rattle.std.specs.Prelude.{◌≡◌, ℕ, Bool, [], Option, Some, None}
 use Rattle.std.proofs.Common.{refl}
-use Rattle.papaya_finishes.specs.Given.Seize.World.{at_start}
+use Rattle.seize.specs.World.{at_start}
 use Rattle.seize_acts.proofs.Steps.{steps_so, row_so}
-use Rattle.papaya_finishes.specs.Given.Tables.Nodes.{deferred_word}
-use Rattle.papaya_finishes.specs.Given.Resize.NewMap.{new_map_plan}
-use Rattle.papaya_finishes.specs.Given.Raw.EndMap.{end_map_plan}
-use Rattle.papaya_finishes.specs.Given.Raw.Machine.{machine_plan}
-use Rattle.papaya_finishes.specs.Given.Points.Steps.{AreLawful}
-use Rattle.papaya_finishes.specs.Given.Callers.Together.{UnderWay}
+use Rattle.papaya_tables.specs.Nodes.{deferred_word}
+use Rattle.papaya_resize.specs.NewMap.{new_map_plan}
+use Rattle.papaya_raw.specs.EndMap.{end_map_plan}
+use Rattle.papaya_raw.specs.Machine.{machine_plan}
+use Rattle.papaya_points.specs.Steps.{AreLawful}
+use Rattle.papaya_callers.specs.Together.{UnderWay}
 use Rattle.papaya_finishes.specs.Machines.{machine_of}
 use Rattle.papaya_finishes.specs.Maps.{Standing}
 use Rattle.papaya_finishes.proofs.Among.Begins.{no_endings_begin}

@@ -3,7 +3,7 @@ use Rattle.std.specs.Prelude.{◌≡◌, ◌<◌, ◌≢◌, ℕ, Bool, false, L
 use Rattle.std.proofs.Common.{refl, sym, subst, ap}
 use Rattle.std.proofs.lemmas.Bool.{eq-eqb, ne_eqb}
 use Rattle.papaya_raw.specs.declared.machines.machine.Machine.{Machine}
-use Rattle.papaya_moments.specs.Given.Runs.Same.{is_same}
+use Rattle.papaya_runs.specs.Same.{is_same}
 use Rattle.papaya_schedules.specs.Beginning.{with_call}
 use Rattle.papaya_schedules.specs.Lists.{put}
 use Rattle.papaya_schedules.specs.Moment.{Moment, start}
@@ -13,7 +13,7 @@ use Rattle.papaya_executor.specs.IsAt.{Scene, IsAt, HasCall, at_first}
 use Rattle.papaya_executor.specs.Replying.{scene_with}
 use Rattle.papaya_executor.specs.declared.worker.TheConstants.{SLOTS}
 use Rattle.papaya_executor.proofs.Fresh.{caller_in, no_calls_yet, resting}
-use Rattle.papaya_moments.specs.Given.Follows.Calling.{NoneNamed}
+use Rattle.papaya_follows.specs.Calling.{NoneNamed}
 use Rattle.papaya_moments.specs.Whole.{ShowsWhole}
 use Rattle.papaya_moments.proofs.Calls.{whole_begins, calls_begin_whole}
 use Rattle.papaya_logged.specs.Calling.{CallBegins}

@@ -1,18 +1,18 @@
 -- Where a choice of a block number comes, the executor is there as before, and the moment shows it as before.
 use Rattle.std.specs.Prelude.{ℕ, Bool, List}
 use Rattle.std.proofs.Common.{◌≡◌, refl, ap}
-use Rattle.papaya_moments.specs.Given.SeizeWords.Mem.{Mem}
+use Rattle.seize_words.specs.Mem.{Mem}
 use Rattle.seize.specs.World.{World}
-use Rattle.papaya_moments.specs.Given.Tables.declared.node.Node.{Node}
+use Rattle.papaya_tables.specs.declared.node.Node.{Node}
 use Rattle.papaya_schedules.specs.Moment.{Moment}
 use Rattle.papaya_effects.specs.Known.{Known, known}
 use Rattle.papaya_effects.specs.declared.role.Role.{Role}
 use Rattle.papaya_effects.specs.declared.role.Role.TheVariants as role
 use Rattle.papaya_executor.specs.IsAt.{Scene, IsAt, slot_of}
-use Rattle.papaya_moments.proofs.Given.Finishes.Among.Choices.{choices_stand_among}
-use Rattle.papaya_moments.specs.Given.Follows.Blocks.{HasRole}
-use Rattle.papaya_moments.specs.Given.Hands.Rows.{HoldsOne}
-use Rattle.papaya_moments.proofs.Given.Hands.SettlingRows.{one_kept}
+use Rattle.papaya_finishes.proofs.Among.Choices.{choices_stand_among}
+use Rattle.papaya_follows.specs.Blocks.{HasRole}
+use Rattle.papaya_hands.specs.Rows.{HoldsOne}
+use Rattle.papaya_hands.proofs.SettlingRows.{one_kept}
 use Rattle.papaya_moments.specs.Whole.{ShowsWhole}
 use Rattle.papaya_logged.specs.Choosing.{ChoiceIsShown, logged_chosen, memory_chosen, scene_chosen}
 use Rattle.papaya_logged.specs.declared.logged.Logged.{Logged}

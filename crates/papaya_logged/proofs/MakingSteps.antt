@@ -4,7 +4,7 @@ use Rattle.std.proofs.Common.{ap, subst, sym, ◌∙◌}
 use Rattle.seize.specs.World.{with_at}
 use Rattle.seize.specs.declared.progress.Progress.{Progress}
 use Rattle.seize.specs.declared.progress.Progress.TheVariants as progress
-use Rattle.papaya_moments.specs.Given.Tables.declared.setting.Setting.{Setting}
+use Rattle.papaya_tables.specs.declared.setting.Setting.{Setting}
 use Rattle.papaya_schedules.specs.declared.effect.Effect.{Effect}
 use Rattle.papaya_schedules.specs.Effects.{with_effects}
 use Rattle.papaya_schedules.specs.Moment.{Moment}
@@ -13,13 +13,13 @@ use Rattle.papaya_effects.specs.Known.{Known, known}
 use Rattle.papaya_effects.specs.declared.notes.Notes.{Notes}
 use Rattle.papaya_effects.specs.declared.acting.Acting.TheVariants as acts
 use Rattle.papaya_effects.specs.declared.role.Role.TheVariants as role
-use Rattle.papaya_moments.specs.Given.Finishes.Makings.{Beginning}
+use Rattle.papaya_finishes.specs.Makings.{Beginning}
 use Rattle.papaya_executor.specs.IsAt.{Scene, IsAt}
 use Rattle.papaya_executor.specs.Making.{MakingLeads}
 use Rattle.papaya_executor.specs.MakingBegins.{MakingBegins, next_making}
 use Rattle.papaya_executor.specs.declared.executor.Executor.{Executor}
-use Rattle.papaya_moments.specs.Given.Others.Makings.{WasNew, making_after}
-use Rattle.papaya_moments.proofs.Given.Others.MakingGoes.{new_maps_stay}
+use Rattle.papaya_others.specs.Makings.{WasNew, making_after}
+use Rattle.papaya_others.proofs.MakingGoes.{new_maps_stay}
 use Rattle.papaya_moments.proofs.MakingSteps.{makings_keep_whole}
 use Rattle.papaya_moments.proofs.MapsCome.{makings_begin_whole, maps_come_whole}
 use Rattle.papaya_moments.proofs.Numbers.{maps_come_by_number}

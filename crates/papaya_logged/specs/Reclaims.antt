@@ -3,7 +3,7 @@ use Rattle.std.specs.Prelude.{◌≡◌, ℕ, Bool, List, ◌++◌, None}
 use Rattle.seize.specs.declared.rows.reclaim_all.ReclaimAll.{ReclaimAll}
 use Rattle.seize.specs.declared.rows.settle.Settled.{Settled}
 use Rattle.seize.specs.declared.rows.settle.Settled.TheVariants as settled
-use Rattle.papaya_moments.specs.Given.Tables.declared.node.Node.{Node}
+use Rattle.papaya_tables.specs.declared.node.Node.{Node}
 use Rattle.papaya_schedules.specs.declared.effect.Effect.{Effect}
 use Rattle.papaya_schedules.specs.Effects.{with_effects, AtEachEffect}
 use Rattle.papaya_schedules.specs.Moment.{Moment}
@@ -11,7 +11,7 @@ use Rattle.papaya_effects.specs.Known.{known}
 use Rattle.papaya_reclaims.specs.Reclaims.{AllIsReclaimed}
 use Rattle.papaya_executor.specs.IsAt.{Scene}
 use Rattle.papaya_reclaiming.specs.Reclaiming.{IsReclaiming, ReclaimingLeads}
-use Rattle.papaya_moments.specs.Given.Spots.OnSlots.{WaitUnreclaimed}
+use Rattle.papaya_spots.specs.OnSlots.{WaitUnreclaimed}
 use Rattle.papaya_moments.specs.OnSlots.{HadRetired}
 use Rattle.papaya_moments.specs.Whole.{ShowsWhole}
 use Rattle.papaya_logged.specs.Shown.{IsShown}

@@ -1,9 +1,9 @@
 -- What a call comes to by its steps, how far it is then, and what is promised of that.
 use Rattle.std.specs.Prelude.{◌≡◌, ◌≤◌, ◌⊎◌, ℕ, Bool, true, List, [], ◌∷◌, ◌++◌, position, slice_get, slice_set, sum_by, Option, Some, option_map, if◌then◌else◌}
 use Rattle.std.specs.List.{remove}
-use Rattle.papaya_histories.specs.Given.SeizeWords.declared.fault.Fault.{Fault}
-use Rattle.papaya_histories.specs.Given.SeizeWords.declared.fault.Fault.TheVariants.{Busy, Capacity, Memory, RemoveNothing}
-use Rattle.papaya_histories.specs.Given.Tables.declared.node.Node.{Node}
+use Rattle.seize_words.specs.declared.fault.Fault.{Fault}
+use Rattle.seize_words.specs.declared.fault.Fault.TheVariants.{Busy, Capacity, Memory, RemoveNothing}
+use Rattle.papaya_tables.specs.declared.node.Node.{Node}
 use Rattle.papaya_raw.specs.declared.machines.progress.Progress.{Progress}
 use Rattle.papaya_raw.specs.declared.machines.progress.Progress.TheVariants as progress
 use Rattle.papaya_schedules.specs.declared.call.Call.{Call}
@@ -23,11 +23,11 @@ use Rattle.papaya_schedules.specs.Moment.{UnderWay as CallThere, Moment}
 use Rattle.papaya_schedules.specs.Steps.{DoesFew, MakesSteps, stands_or, weight}
 use Rattle.papaya_schedules.specs.Terms.{Terms}
 use Rattle.papaya_schedules.specs.Views.{call_of}
-use Rattle.papaya_histories.specs.Given.Late.Faults.{IsRoom}
-use Rattle.papaya_histories.specs.Given.Effects.Known.{Known, known}
-use Rattle.papaya_histories.specs.Given.Executor.IsAt.{HasCall, IsAt, Scene}
-use Rattle.papaya_histories.specs.Given.Executor.Stepping.{has_ended}
-use Rattle.papaya_histories.specs.Given.Follows.Calling.{come_to}
+use Rattle.papaya_late.specs.Faults.{IsRoom}
+use Rattle.papaya_effects.specs.Known.{Known, known}
+use Rattle.papaya_executor.specs.IsAt.{HasCall, IsAt, Scene}
+use Rattle.papaya_executor.specs.Stepping.{has_ended}
+use Rattle.papaya_follows.specs.Calling.{come_to}
 use Rattle.papaya_logged.specs.Calling.{CallGoesOn}
 use Rattle.papaya_logged.specs.Shown.{IsShown}
 use Rattle.papaya_scheduler.specs.Played.{IsDue, Plays, StandsFor, entry_of}

@@ -1,6 +1,6 @@
 //! What is promised of each step of a call that answers that it waits.
 ghost use Rattle.std.specs.Prelude.{ℕ, Bool};
-ghost use Rattle.papaya_callers.specs.Given.Tables.declared.setting.Setting.{Setting};
+ghost use Rattle.papaya_tables.specs.declared.setting.Setting.{Setting};
 ghost use Rattle.papaya_waits.specs.Promises.{CallsWaitForACopying, RoomsWaitForACopying, SweepsWaitForACopying, LookupsNeverWait, CallRowsWaitForAHolder, RoomRowsWaitForAHolder, SweepRowsWaitForAHolder};
 
 /// Where calls of many callers stand together on one map, a call waits only for a copying. One on one key waits in incremental mode while the pair that
