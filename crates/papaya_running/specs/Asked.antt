@@ -1,0 +1,106 @@
+-- What is asked of an event, and what is promised of it then.
+use Rattle.std.specs.Prelude.{◌≡◌, ◌==◌, ℕ, Bool, true, false, List, None}
+use Rattle.papaya_points.specs.Steps.{AreLawful}
+use Rattle.papaya_schedules.specs.declared.event.Event.{Event}
+use Rattle.papaya_schedules.specs.declared.event.Event.TheVariants.{Collector, Hash, Choose, Register, Unregister, Enter, Own, Refresh, Flush, DropGuard, Forget, ReclaimAll, Close, MakeMap, EndMap, ShowShape, Begin, Step, Go, Replied, OneCall, Next, Stop}
+use Rattle.papaya_schedules.specs.After.{moment}
+use Rattle.papaya_schedules.specs.Beginning.{at_work}
+use Rattle.papaya_schedules.specs.Effects.{AtEachEffect}
+use Rattle.papaya_schedules.specs.Entry.{Entry, acted_on, acting, caller_of}
+use Rattle.papaya_schedules.specs.InTurn.{is_kept_out}
+use Rattle.papaya_schedules.specs.Moment.{Moment}
+use Rattle.papaya_schedules.specs.Steps.{DoesFew, MakesSteps, stands_or}
+use Rattle.papaya_schedules.specs.Terms.{Terms}
+use Rattle.papaya_moments.specs.Endings.{WaitsOn}
+use Rattle.papaya_rows.specs.Rows.{TakesRetired}
+use Rattle.papaya_scheduler.specs.Handing.{HeldIsTold}
+use Rattle.papaya_scheduler.specs.Mapping.{CountsMaps}
+use Rattle.papaya_scheduler.specs.Played.{Plays, StandsFor, entry_of}
+use Rattle.papaya_scheduler.specs.Reclaiming.{MayGiveAll}
+use Rattle.papaya_scheduler.specs.declared.played.Played.{Played}
+use Rattle.papaya_scheduler.specs.declared.scheduler.Scheduler.{Scheduler}
+use Rattle.papaya_stepping.specs.Stepping.{ComesInCase}
+
+module _ {K V : Type 0} where
+  -- A table that an event of a slot reclaims was retired, and what waits behind it is not reclaimed; nor is that what waits behind a table that ends with its map. A call that goes on
+  -- waits, or is refused for room, in its case.
+  abbrev pub FindsBy : Terms → List (Entry K V) → Entry K V → Event K V → Type 0
+  FindsBy terms log e (Register registration) = TakesRetired e.effects (moment log)
+  FindsBy terms log e (Unregister registration) = TakesRetired e.effects (moment log)
+  FindsBy terms log e (Enter guard registration) = TakesRetired e.effects (moment log)
+  FindsBy terms log e (Own guard) = TakesRetired e.effects (moment log)
+  FindsBy terms log e (Refresh guard) = TakesRetired e.effects (moment log)
+  FindsBy terms log e (Flush guard) = TakesRetired e.effects (moment log)
+  FindsBy terms log e (DropGuard guard) = TakesRetired e.effects (moment log)
+  FindsBy terms log e ReclaimAll = TakesRetired e.effects (moment log)
+  FindsBy terms log e Close = TakesRetired e.effects (moment log)
+  FindsBy terms log e (EndMap name) = AtEachEffect WaitsOn None (acted_on (EndMap name) (moment log)) e.effects (moment log)
+  FindsBy terms log e (Step caller refuse) = ComesInCase terms log e
+  FindsBy terms log e (Go caller refuse) = ComesInCase terms log e
+  FindsBy terms log e (OneCall guard name call) = ComesInCase terms log e
+  FindsBy terms log e _ = Unit {0}
+
+  -- so it is of the event of an entry
+  abbrev pub FindsRight : Terms → List (Entry K V) → Entry K V → Type 0
+  FindsRight terms log e = FindsBy terms log e e.event
+
+  -- an event of a call: it begins, goes on, is told something, or is given up
+  abbrev pub is_of_calls : Event K V → Bool
+  is_of_calls (Begin caller guard name call) = true
+  is_of_calls (Step caller refuse) = true
+  is_of_calls (Go caller refuse) = true
+  is_of_calls (Replied caller reply) = true
+  is_of_calls (OneCall guard name call) = true
+  is_of_calls (Next caller) = true
+  is_of_calls (Stop caller) = true
+  is_of_calls _ = false
+
+  -- one of maps, or of all at once
+  abbrev pub is_of_maps : Event K V → Bool
+  is_of_maps (MakeMap name mode capacity) = true
+  is_of_maps (EndMap name) = true
+  is_of_maps (ShowShape name) = true
+  is_of_maps ReclaimAll = true
+  is_of_maps Close = true
+  is_of_maps _ = false
+
+  -- one by which a call takes steps
+  abbrev pub takes_steps : Event K V → Bool
+  takes_steps (Step caller refuse) = true
+  takes_steps (Go caller refuse) = true
+  takes_steps (OneCall guard name call) = true
+  takes_steps (Next caller) = true
+  takes_steps _ = false
+
+module _ {K V S : Type 0} (same : K → K → Bool) (hash : K → ℕ) where
+  -- The scheduler stands for the moment, and what events ask of it is so: keys have lawful hashes; a batch that is held is told to be; numbers, roots and names of maps are those that the
+  -- moment says; and what ended maps left over is behind their roots.
+  pub record Holds (terms : Terms) (m : Moment K V) (p : Scheduler K V S) : Type 0 where
+    pub stands : StandsFor same hash terms m p
+    pub lawful : AreLawful same hash
+    pub held : HeldIsTold m p
+    pub counts : CountsMaps m p
+    pub gives : MayGiveAll p stands.scene
+
+  -- What is promised of an event: it comes to what is right, where it finds what it must; it makes as many steps as it may, and does not more.
+  pub record Happens (terms : Terms) (log : List (Entry K V)) (e : Entry K V) (p : Scheduler K V S) : Type 0 where
+    pub plays : FindsRight terms log e → Plays same hash terms log e p
+    pub makes : MakesSteps e.event (stands_or (acting (caller_of e.event) (at_work e (moment log)))) e.steps e.outcome
+    pub does : DoesFew (caller_of e.event) e.steps e.effects
+
+  -- an event may happen, kept out or not,
+  abbrev pub MayHappen : Scheduler K V S → Type 0
+  MayHappen p = (terms : Terms) × (log : List (Entry K V)) × Holds terms (moment log) p
+
+  -- and one that is in turn
+  abbrev pub MayHappenDue : Event K V → Scheduler K V S → Type 0
+  MayHappenDue event p = (terms : Terms) × (log : List (Entry K V)) × Holds terms (moment log) p × (is_kept_out terms event (moment log) ≡ false)
+
+  abbrev pub HappensAt : Bool → Event K V → Played V → (old new : Scheduler K V S) → Type 0
+  HappensAt is_first event played old new =
+      (terms : Terms) (log : List (Entry K V)) → is_first ≡ ((moment log).events == 0) → Holds terms (moment log) old → Happens terms log (entry_of event played) new
+
+  abbrev pub HappensDue : Bool → Event K V → Played V → (old new : Scheduler K V S) → Type 0
+  HappensDue is_first event played old new =
+      (terms : Terms) (log : List (Entry K V)) → is_first ≡ ((moment log).events == 0) → Holds terms (moment log) old → is_kept_out terms event (moment log) ≡ false
+      → Happens terms log (entry_of event played) new
