@@ -3,5 +3,6 @@ mod Happened
 mod Left
 mod Logs
 mod Numbers
+mod Taken
 mod Tallies
 mod Turns

@@ -25,6 +25,8 @@ use Rattle.papaya_scheduler.specs.declared.caller.Caller.{Caller}
 use Rattle.papaya_scheduler.specs.declared.scheduler.Scheduler.{Scheduler}
 use Rattle.papaya_scheduler.proofs.Maps.{number_is}
 use Rattle.papaya_running.specs.Acting.{acting_of, called_map, map_acted, or_else, singles_as, traced}
+use Rattle.papaya_running.specs.declared.acting.Traced.{Traced}
+use Rattle.papaya_running.specs.declared.acting.Traced.TheVariants.{Whole}
 
 module _ {K V : Type 0} where
   -- one entry more
@@ -191,3 +193,8 @@ module _ {K V S : Type 0} (same : K → K → Bool) (hash : K → ℕ) (terms : 
       by (Begin c g n call) o = refl
       by (Replied c reply) o = refl
       by (Stop c) o = refl
+
+-- an event that is out of turn is a single event itself
+pub by_turn : (place steps : ℕ) (t : Traced) (b : Bool) → singles_as place (if b then Whole else t) steps ≡ (if b then single.Whole place ∷ [] else singles_as place t steps)
+by_turn place steps t true = refl
+by_turn place steps t false = refl

@@ -231,3 +231,15 @@ module _ (map : Option ℕ) (old : Tally) (all : List Effect) where
       let s = so_far place deferred tables tells in
       subst (λ (so : (ℕ → Place) × List Deferral × List TableThere). Tells now so.0 so.1 so.2)
       (sym (at_drop_all (λ l. told_all map l (s.0, s.1, s.2)) all i past) ∙ s.4) s.3
+
+-- what is not changed yet is as it was
+pub unchanged_at : {X : Type 0} (f : X → X) (xs : List X) (i : ℕ) (d : X) → i < length xs → slice_index_or (map f (take i xs) ++ drop i xs) i d ≡ slice_index_or xs i d
+unchanged_at f [] i d inside = absurd (omega (arith, inside))
+unchanged_at f (x ∷ xs) zero d inside = refl
+unchanged_at f (x ∷ xs) (suc i) d inside = unchanged_at f xs i d (omega (arith, inside))
+
+pub changed_length : {X : Type 0} (f : X → X) (xs : List X) (i : ℕ) → length (map f (take i xs) ++ drop i xs) ≡ length xs
+changed_length f [] zero = refl
+changed_length f [] (suc i) = refl
+changed_length f (x ∷ xs) zero = refl
+changed_length f (x ∷ xs) (suc i) = ap suc (changed_length f xs i)

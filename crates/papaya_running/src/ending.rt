@@ -1,6 +1,7 @@
 //! What a run tells at its end: the pairs of maps that live, and those that are in the memory still.
-ghost use Rattle.std.specs.Prelude.{◌≡◌, ◌≤◌, ℕ, map, IfOk};
+ghost use Rattle.std.specs.Prelude.{◌≡◌, ◌≢◌, ◌≤◌, ℕ, map, Some, IfOk};
 ghost use Rattle.seize_words.specs.Mem.{value_at};
+ghost use Rattle.papaya_tables.specs.declared.node.Node.TheVariants as node;
 ghost use Rattle.papaya_effects.specs.Known.{known};
 ghost use Rattle.papaya_effects.specs.declared.role.Role.TheVariants.{Free};
 ghost use Rattle.papaya_running.specs.Ending.{HoldPairs, noted_below, shown_of, told_map};
@@ -33,6 +34,22 @@ pub fn living(
     Ok(living)
 }
 
+/// Takes the pair of this number out of its block.
+fn take_pair<K: Drop, V: Drop>(
+    memory: &mut Plain<Node<K, V>>,
+    block: u64,
+    number: u64,
+) -> Pair<K, V>
+    requires { (k : K) × (v : V) × (value_at memory.old block ≡ Some (node.Pair k v)) }
+    ensures pair { (k : K) (v : V) → value_at memory.old block ≡ Some (node.Pair k v) → result ≡ record { number = number; key = k; value = v } }
+    ensures others { (b : ℕ) → b ≢ block → value_at memory.new b ≡ value_at memory.old b }
+{
+    let Node::Pair(key, value) = memory.take(block) else {
+        unreachable!()
+    };
+    Pair { number, key, value }
+}
+
 /// The pairs that are in a memory still, of those that were stored, by its notes.
 pub fn pairs_left<K: Drop, V: Drop>(
     alloc: Global,
@@ -45,10 +62,8 @@ pub fn pairs_left<K: Drop, V: Drop>(
     let mut pairs = Vec::new(alloc);
     for block in 0..notes.blocks() {
         if let Role::Pair(number) = notes.role_of(block) {
-            let Node::Pair(key, value) = memory.take(block) else {
-                unreachable!()
-            };
-            pairs.push(Pair { number, key, value })?;
+            let pair = take_pair(&mut memory, block, number);
+            pairs.push(pair)?;
         }
     }
     Ok(pairs)

@@ -1,7 +1,6 @@
 -- An event of a call.
 use Rattle.std.proofs.Common.{refl}
 use Rattle.std.proofs.lemmas.Result.{IfOk-weaker}
-use Rattle.papaya_schedules.specs.declared.event.Event.TheVariants.{Begin, Step, Go, Replied, OneCall, Next, Stop}
 use Rattle.papaya_running.proofs.Forms.{some_call}
 use Rattle.papaya_running.proofs.Happened.{due_so, goes_if, may_play, next_if, still, still_if}
 use Rattle.papaya_running.proofs.happening.of_calls.Goals as goal
@@ -11,7 +10,7 @@ begin-requires g c = may_play g.K.PartialEq.eq (g.S.Hashes.hash c.args.scheduler
 
 pub returns-in-Begin-clause-happens : goal.returns-in-Begin-clause-happens
 returns-in-Begin-clause-happens g c =
-    still_if g.K.PartialEq.eq (g.S.Hashes.hash c.args.scheduler.now.logged.executor.hasher) c.args.event (Begin c.in-Begin.caller c.in-Begin.guard c.in-Begin.map c.in-Begin.call) c.in-Begin.is c.args.scheduler.now c.args.is_first c.begin.new.self refl c.begin.result
+    still_if g.K.PartialEq.eq (g.S.Hashes.hash c.args.scheduler.now.logged.executor.hasher) c.args.event _ c.in-Begin.is c.args.scheduler.now c.args.is_first c.begin.new.self refl c.begin.result
     c.begin.ensures.steps
     (IfOk-weaker c.begin.result _ _ (λ played plays. λ terms log first holds out finds. plays terms log (due_so g.K.PartialEq.eq (g.S.Hashes.hash c.args.scheduler.now.logged.executor.hasher) c.args.event _ c.in-Begin.is c.args.scheduler.now terms log holds out)) c.begin.ensures.plays)
 
@@ -20,7 +19,7 @@ step-requires g c = may_play g.K.PartialEq.eq (g.S.Hashes.hash c.args.scheduler.
 
 pub returns-in-Step-clause-happens : goal.returns-in-Step-clause-happens
 returns-in-Step-clause-happens g c =
-    goes_if g.K.PartialEq.eq (g.S.Hashes.hash c.args.scheduler.now.logged.executor.hasher) c.args.event (Step c.in-Step.caller c.in-Step.refuse) c.in-Step.is c.args.scheduler.now c.args.is_first c.step.new.scheduler (λ terms log played finds. finds) c.step.result
+    goes_if g.K.PartialEq.eq (g.S.Hashes.hash c.args.scheduler.now.logged.executor.hasher) c.args.event _ c.in-Step.is c.args.scheduler.now c.args.is_first c.step.new.scheduler (λ terms log played finds. finds) c.step.result
     c.step.ensures.plays
 
 pub go-requires : goal.go-requires
@@ -28,7 +27,7 @@ go-requires g c = may_play g.K.PartialEq.eq (g.S.Hashes.hash c.args.scheduler.no
 
 pub returns-in-Go-clause-happens : goal.returns-in-Go-clause-happens
 returns-in-Go-clause-happens g c =
-    goes_if g.K.PartialEq.eq (g.S.Hashes.hash c.args.scheduler.now.logged.executor.hasher) c.args.event (Go c.in-Go.caller c.in-Go.refuse) c.in-Go.is c.args.scheduler.now c.args.is_first c.go.new.scheduler (λ terms log played finds. finds) c.go.result
+    goes_if g.K.PartialEq.eq (g.S.Hashes.hash c.args.scheduler.now.logged.executor.hasher) c.args.event _ c.in-Go.is c.args.scheduler.now c.args.is_first c.go.new.scheduler (λ terms log played finds. finds) c.go.result
     c.go.ensures.plays
 
 pub one_call-requires : goal.one_call-requires
@@ -36,7 +35,7 @@ one_call-requires g c = may_play g.K.PartialEq.eq (g.S.Hashes.hash c.args.schedu
 
 pub returns-in-OneCall-clause-happens : goal.returns-in-OneCall-clause-happens
 returns-in-OneCall-clause-happens g c =
-    goes_if g.K.PartialEq.eq (g.S.Hashes.hash c.args.scheduler.now.logged.executor.hasher) c.args.event (OneCall c.in-OneCall.guard c.in-OneCall.map c.in-OneCall.call) c.in-OneCall.is c.args.scheduler.now c.args.is_first c.one_call.new.scheduler (λ terms log played finds. finds) c.one_call.result
+    goes_if g.K.PartialEq.eq (g.S.Hashes.hash c.args.scheduler.now.logged.executor.hasher) c.args.event _ c.in-OneCall.is c.args.scheduler.now c.args.is_first c.one_call.new.scheduler (λ terms log played finds. finds) c.one_call.result
     c.one_call.ensures.plays
 
 pub next-requires : goal.next-requires
@@ -52,7 +51,7 @@ replied-requires g c = (g.K.PartialEq.eq, g.S.Hashes.hash c.args.scheduler.now.l
 pub returns-in-Replied-clause-happens : goal.returns-in-Replied-clause-happens
 returns-in-Replied-clause-happens g c =
     let plays = c.replied.ensures.plays g.K.PartialEq.eq (g.S.Hashes.hash c.args.scheduler.now.logged.executor.hasher) in
-    still g.K.PartialEq.eq (g.S.Hashes.hash c.args.scheduler.now.logged.executor.hasher) c.args.event (Replied c.in-Replied.caller c.in-Replied.reply) c.in-Replied.is c.args.scheduler.now c.args.is_first c.replied.new.self refl c.replied.result c.replied.ensures.steps
+    still g.K.PartialEq.eq (g.S.Hashes.hash c.args.scheduler.now.logged.executor.hasher) c.args.event _ c.in-Replied.is c.args.scheduler.now c.args.is_first c.replied.new.self refl c.replied.result c.replied.ensures.steps
     (λ terms log first holds out finds. plays terms log (due_so g.K.PartialEq.eq (g.S.Hashes.hash c.args.scheduler.now.logged.executor.hasher) c.args.event _ c.in-Replied.is c.args.scheduler.now terms log holds out))
 
 pub stop-requires : goal.stop-requires
@@ -61,7 +60,7 @@ stop-requires g c = (g.K.PartialEq.eq, g.S.Hashes.hash c.args.scheduler.now.logg
 pub returns-in-Stop-clause-happens : goal.returns-in-Stop-clause-happens
 returns-in-Stop-clause-happens g c =
     let plays = c.stop.ensures.plays g.K.PartialEq.eq (g.S.Hashes.hash c.args.scheduler.now.logged.executor.hasher) in
-    still g.K.PartialEq.eq (g.S.Hashes.hash c.args.scheduler.now.logged.executor.hasher) c.args.event (Stop c.in-Stop.caller) c.in-Stop.is c.args.scheduler.now c.args.is_first c.stop.new.self refl c.stop.result c.stop.ensures.steps
+    still g.K.PartialEq.eq (g.S.Hashes.hash c.args.scheduler.now.logged.executor.hasher) c.args.event _ c.in-Stop.is c.args.scheduler.now c.args.is_first c.stop.new.self refl c.stop.result c.stop.ensures.steps
     (λ terms log first holds out finds. plays terms log (due_so g.K.PartialEq.eq (g.S.Hashes.hash c.args.scheduler.now.logged.executor.hasher) c.args.event _ c.in-Stop.is c.args.scheduler.now terms log holds out))
 
 pub unreachable-requires : goal.unreachable-requires

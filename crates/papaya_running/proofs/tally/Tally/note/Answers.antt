@@ -18,14 +18,14 @@ pub returns-in-Replaced : goal.returns-in-Replaced
 returns-in-Replaced c =
     ok_so c.put-in-Replaced.result _ _ c.put-in-Replaced.ensures.pairs
     (λ pairs. subst (λ x. TellsNext c.args.map x c.args.self.now c.put-in-Replaced.new.self) (sym c.in-Replaced.is)
-    (λ place deferred tables tells. put_tells c.args.self.now c.put-in-Replaced.new.self place deferred tables tells c.in-Replaced.field-0 Waits at.Out refl pairs
+    (λ place deferred tables tells. put_tells c.args.self.now c.put-in-Replaced.new.self place deferred tables tells c.in-Replaced.pair Waits at.Out refl pairs
     (ap (λ t. t.behind.items) c.put-in-Replaced.ensures.rest) (ap (λ t. t.tables.items) c.put-in-Replaced.ensures.rest)))
 
 pub returns-in-Removed : goal.returns-in-Removed
 returns-in-Removed c =
     ok_so c.put-in-Removed.result _ _ c.put-in-Removed.ensures.pairs
     (λ pairs. subst (λ x. TellsNext c.args.map x c.args.self.now c.put-in-Removed.new.self) (sym c.in-Removed.is)
-    (λ place deferred tables tells. put_tells c.args.self.now c.put-in-Removed.new.self place deferred tables tells c.in-Removed.field-0 Waits at.Out refl pairs
+    (λ place deferred tables tells. put_tells c.args.self.now c.put-in-Removed.new.self place deferred tables tells c.in-Removed.pair Waits at.Out refl pairs
     (ap (λ t. t.behind.items) c.put-in-Removed.ensures.rest) (ap (λ t. t.tables.items) c.put-in-Removed.ensures.rest)))
 
 pub returns-in-Deferred : goal.returns-in-Deferred
@@ -46,14 +46,14 @@ pub returns-in-Ended : goal.returns-in-Ended
 returns-in-Ended c =
     ok_so c.put-in-Ended.result _ _ c.put-in-Ended.ensures.pairs
     (λ pairs. subst (λ x. TellsNext c.args.map x c.args.self.now c.put-in-Ended.new.self) (sym c.in-Ended.is)
-    (λ place deferred tables tells. put_tells c.args.self.now c.put-in-Ended.new.self place deferred tables tells c.in-Ended.field-0 Back at.GivenBack refl pairs
+    (λ place deferred tables tells. put_tells c.args.self.now c.put-in-Ended.new.self place deferred tables tells c.in-Ended.pair Back at.GivenBack refl pairs
     (ap (λ t. t.behind.items) c.put-in-Ended.ensures.rest) (ap (λ t. t.tables.items) c.put-in-Ended.ensures.rest)))
 
 pub returns-in-Taken : goal.returns-in-Taken
 returns-in-Taken c =
     ok_all c.go.result _ _ _ _ c.go.ensures.pairs c.go.ensures.behind c.go.ensures.tables
     (λ pairs behind flags. subst (λ x. TellsNext c.args.map x c.args.self.now c.go.new.self) (sym c.in-Taken.is)
-    (λ place deferred tables tells. gone_tells c.args.self.now c.go.new.self place deferred tables tells c.in-Taken.field-0 at.Left refl at.IsTaken refl pairs behind flags))
+    (λ place deferred tables tells. gone_tells c.args.self.now c.go.new.self place deferred tables tells c.in-Taken.table at.Left refl at.IsTaken refl pairs behind flags))
 
 pub returns-in-Linked : goal.returns-in-Linked
 returns-in-Linked c =

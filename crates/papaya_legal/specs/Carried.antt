@@ -1,0 +1,49 @@
+-- What is so after each event of a run, of the moment and of the scene that it shows: by this each promise is had of the next event.
+use Rattle.std.specs.Prelude.{◌≡◌, ◌<◌, ◌^◌, ℕ, Bool, true, List, []}
+use Rattle.papaya_schedules.specs.After.{moment}
+use Rattle.papaya_schedules.specs.Entry.{Entry}
+use Rattle.papaya_schedules.specs.Moment.{Moment}
+use Rattle.papaya_schedules.specs.Terms.{Terms}
+use Rattle.papaya_effects.specs.Known.{Known, nothing_known}
+use Rattle.papaya_executor.specs.IsAt.{Scene, at_first}
+use Rattle.papaya_moments.specs.Numbers.{NumbersMaps, PairsAreBelow}
+use Rattle.papaya_moments.specs.Whole.{ShowsWhole}
+use Rattle.papaya_histories.specs.AsCalled.{ShowsAsCalled}
+use Rattle.papaya_histories.specs.Due.{ShowsDue}
+use Rattle.papaya_histories.specs.Questions.{ShowsQuestions}
+use Rattle.papaya_promises.specs.Reading.{ShowsReading}
+use Rattle.papaya_promises.specs.Sheltered.{SectionsHold}
+use Rattle.papaya_purposes.specs.Purposes.{ShowsPurposes}
+use Rattle.papaya_models.specs.Follows.{FollowsModel}
+use Rattle.papaya_shards.specs.ShardWords.{ShowsCounters}
+use Rattle.papaya_finds.specs.Little.{OverIsBack}
+use Rattle.papaya_finds.specs.Steps.{ShowsWork}
+use Rattle.papaya_finds.specs.Within.{AllIsInOrder, ReadyOweNone}
+use Rattle.papaya_kept.specs.Kept.{ShowsKept}
+
+-- What a moment shows beside who is there, wherever in an event it is, so far since the log: what every step keeps; what calls have made, have to count, and are; the shards of
+-- maps; what calls owe as answers, are called for, and are for.
+pub record ShowsCalls {K V : Type 0} (same : K → K → Bool) (name : ℕ → List ℕ) (log : List (Entry K V)) (m : Moment K V) (known : Known) (s : Scene K V) : Type 0 where
+  pub whole : ShowsWhole same name m known s
+  pub kept : ShowsKept name m known s
+  pub work : ShowsWork same name m known s
+  pub counters : ShowsCounters name m s
+  pub dues : ShowsDue same name log m known s
+  pub as_called : ShowsAsCalled same name m known s
+  pub questions : ShowsQuestions m
+  pub purposes : ShowsPurposes same name log m known s
+
+-- And once an event is over: no lookup has read more than the moment says; sections hold what they shelter; where calls came one after another so far, the waiting sets are those of the
+-- model; all waits in order; maps have numbers; and once the collector has ended all is back.
+pub record ShowsRun {K V : Type 0} (same : K → K → Bool) (name : ℕ → List ℕ) (terms : Terms) (log : List (Entry K V)) (known : Known) (s : Scene K V) : Type 0 where
+  pub calls : ShowsCalls same name log (moment log) known s
+  pub reading : ShowsReading name log (λ i. 0) (moment log) s
+  pub sections : SectionsHold (moment log) known s.world
+  pub follows : (moment log).is_alone ≡ true → FollowsModel terms.batch_size terms.roots log known s.world
+  pub order : AllIsInOrder (moment log) × ReadyOweNone (moment log)
+  pub numbers : NumbersMaps (moment log) × PairsAreBelow (moment log)
+  pub over : OverIsBack (moment log)
+
+-- The promise: so it is before all events.
+abbrev pub RunsBegin : Type 0 → Type 0 → Type 0
+RunsBegin K V = (same : K → K → Bool) (terms : Terms) (name : ℕ → List ℕ) → ShowsRun {K = K} {V = V} same name terms [] nothing_known (at_first terms.roots)
