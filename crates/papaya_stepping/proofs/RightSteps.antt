@@ -6,7 +6,7 @@ use Rattle.seize_words.specs.declared.fault.Fault.TheVariants.{Busy, Capacity, M
 use Rattle.papaya_runs.specs.Stopped.{most_steps}
 use Rattle.papaya_schedules.specs.declared.call.Call.{Call}
 use Rattle.papaya_schedules.specs.declared.call.Call.TheVariants.{On, Reserve, Clear, Retain, Len, Walk}
-use Rattle.papaya_schedules.specs.declared.event.Event.TheVariants.{Go, Step}
+use Rattle.papaya_schedules.specs.declared.event.Event.TheVariants.{Go, OneCall, Step}
 use Rattle.papaya_schedules.specs.declared.outcome.Outcome.{Outcome}
 use Rattle.papaya_schedules.specs.declared.outcome.Outcome.TheVariants.{Answered, Asks, Goes, Ready, Refused, Waits}
 use Rattle.papaya_schedules.specs.Coming.{MayCome, Progresses, is_compute}
@@ -63,6 +63,11 @@ module _ {K V : Type 0} where
     progresses Told is o may = may
     progresses (Asking question) is o may = absurd (cc is)
     progresses IsReady is o may = absurd (cc is)
+
+  pub makes_whole : (guard map : List ℕ) (call : Call K V) (stand : Stands) (steps : ℕ) (o : Outcome V) → TakesUpTo most_steps steps o → (o ≡ Refused Busy → ⊥) → MakesSteps (OneCall guard map call) stand steps o
+  makes_whole guard map call stand steps (Refused Busy) takes never = absurd (never refl)
+  makes_whole guard map call stand steps Goes takes never = (takes.0, takes.2 refl)
+  makes_whole guard map call stand steps o takes never = (takes.0, takes.1)
 
 -- how many steps: one,
 module _ (K V : Type 0) (own : List ℕ) (refuse : Bool) where

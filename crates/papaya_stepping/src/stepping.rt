@@ -14,6 +14,7 @@ use papaya_scheduler::caller::{Caller, Stands};
 use papaya_scheduler::played::Played;
 use papaya_scheduler::scheduler::Scheduler;
 use papaya_scheduler::telling::{answer_of, number_by};
+use papaya_schedules::call::Call;
 use papaya_schedules::effect::Effect;
 use papaya_schedules::outcome::Outcome;
 use std::alloc::AllocError;
@@ -44,7 +45,7 @@ fn refuse_after<K: Drop, V: Drop, S>(scheduler: &mut Scheduler<K, V, S>, refuse:
 }
 
 /// The call at this place has come to this. A walk that has shown a pair is ready.
-fn come_to<K: Drop, V: Drop, S>(
+pub(crate) fn come_to<K: Drop, V: Drop, S>(
     scheduler: &mut Scheduler<K, V, S>,
     place: usize,
     progress: Progress<Node<K, V>>,
@@ -183,5 +184,23 @@ pub fn go<K: Eq + Hash + Drop, V: Drop, S: Hashes<K>>(
     match scheduler.calls.place_of(caller) {
         Some(place) => take_steps(scheduler, place, MOST_STEPS, refuse),
         None => Ok(scheduler.busy()),
+    }
+}
+
+/// Begins a call of the caller without a name, and goes on with it.
+pub fn one_call<K: Eq + Hash + Drop, V: Drop, S: Hashes<K>>(
+    scheduler: &mut Scheduler<K, V, S>,
+    guard: Token,
+    map: &Token,
+    call: Call<K, V>,
+) -> Result<Played<V>, AllocError>
+    requires { MayPlay K.eq (S.hash scheduler.old.logged.executor.hasher) (event.OneCall guard map.now call) scheduler.old }
+    ensures plays { IfOk result (λ played. PlaysOnAt K.eq (S.hash scheduler.old.logged.executor.hasher) (event.OneCall guard map.now call) played scheduler.old scheduler.new) }
+{
+    let nameless = Token::copy_of(*scheduler.maps.allocator(), b"-")?;
+    if scheduler.begins(nameless, guard, map, call)? {
+        take_steps(scheduler, 0, MOST_STEPS, false)
+    } else {
+        Ok(scheduler.busy())
     }
 }
