@@ -1,5 +1,5 @@
 -- What a call comes to by its steps, how far it is then, and what is promised of that.
-use Rattle.std.specs.Prelude.{◌≡◌, ◌≤◌, ◌+◌, ◌⊎◌, ◌&&◌, ℕ, Bool, true, false, is_none, is_some, List, [], ◌∷◌, ◌++◌, position, slice_get, slice_set, sum_by, Option, Some, option_map, if◌then◌else◌}
+use Rattle.std.specs.Prelude.{◌≡◌, ◌≤◌, ◌+◌, ◌⊎◌, ◌&&◌, ℕ, zero, suc, Bool, true, false, is_none, is_some, List, [], ◌∷◌, ◌++◌, position, slice_get, slice_set, sum_by, Option, Some, option_map, if◌then◌else◌}
 use Rattle.std.specs.List.{remove}
 use Rattle.seize_words.specs.declared.fault.Fault.{Fault}
 use Rattle.seize_words.specs.declared.fault.Fault.TheVariants.{Busy, Capacity, Memory, RemoveNothing}
@@ -10,6 +10,7 @@ use Rattle.papaya_raw.specs.declared.machines.machine.Machine.{Machine}
 use Rattle.papaya_raw.specs.declared.machines.machine.Machine.TheVariants as kinds
 use Rattle.papaya_raw.specs.declared.machines.progress.Progress.{Progress}
 use Rattle.papaya_raw.specs.declared.machines.progress.Progress.TheVariants as progress
+use Rattle.papaya_runs.specs.Stopped.{most_steps}
 use Rattle.papaya_schedules.specs.declared.call.Call.{Call}
 use Rattle.papaya_schedules.specs.declared.call.Call.TheVariants.{On}
 use Rattle.papaya_schedules.specs.declared.call.OneKey.{OneKey}
@@ -35,7 +36,7 @@ use Rattle.papaya_executor.specs.Stepping.{has_ended}
 use Rattle.papaya_follows.specs.Calling.{come_to}
 use Rattle.papaya_logged.specs.Calling.{CallGoesOn}
 use Rattle.papaya_logged.specs.Shown.{IsShown}
-use Rattle.papaya_scheduler.specs.Played.{AsFar, IsDue, Plays, StandsAs, StandsFor, entry_of}
+use Rattle.papaya_scheduler.specs.Played.{AsFar, BeginsSo, IsDue, Plays, StandsAs, StandsFor, entry_of}
 use Rattle.papaya_scheduler.specs.Seen.{is_named}
 use Rattle.papaya_scheduler.specs.Telling.{answer_of, goes_on, number_by, value_of, kept}
 use Rattle.papaya_scheduler.specs.declared.caller.Caller.{Caller}
@@ -180,6 +181,17 @@ module _ {K V S : Type 0} (same : K → K → Bool) (hash : K → ℕ) where
     pub calls : new.calls.items.items ≡ callers_then (known new.logged.notes) place caller said old.calls.items.items
     pub rest : new ≡ record old { logged = new.logged; calls = new.calls }
 
+  -- So many steps were taken at this place, each of which let the call go on,
+  abbrev pub GoneFor : (place steps : ℕ) → (before after : List Effect) → (old new : Scheduler K V S) → Type 0
+  GoneFor place zero before after old new = (before ≡ after) × (old ≡ new)
+  GoneFor place (suc n) before after old new =
+      (mid : List Effect) × (p : Scheduler K V S) × (outcome : Outcome V) × GoneFor place n before mid old p × (goes_on outcome ≡ true) × IsStepped place outcome mid after p new
+
+  -- and then one that came to this.
+  abbrev pub GoneBy : (place steps : ℕ) → Outcome V → (before after : List Effect) → (old new : Scheduler K V S) → Type 0
+  GoneBy place steps outcome before after old new =
+      (n : ℕ) × (steps ≡ n + 1) × (mid : List Effect) × (p : Scheduler K V S) × GoneFor place n before mid old p × IsStepped place outcome mid after p new
+
   -- What a scheduler at whose place a call goes on is asked for its steps,
   abbrev pub MayGo : ℕ → Scheduler K V S → Type 0
   MayGo place p = (terms : Terms) × (m : Moment K V) × (own : List ℕ) × StandsFor same hash terms m p × GoesAt own place p
@@ -189,6 +201,7 @@ module _ {K V S : Type 0} (same : K → K → Bool) (hash : K → ℕ) where
   StepsCome place most steps outcome before after old new =
       TakesUpTo most steps outcome
       × ((terms : Terms) (m : Moment K V) (own : List ℕ) → StandsFor same hash terms m old → GoesAt own place old → ComesBy same hash terms own place m steps outcome before after new)
+      × GoneBy place steps outcome before after old new
 
   -- The machine of the call at this place takes a step, and no caller is told of it.
   pub record IsStepOf (place : ℕ) (said : Progress (Node K V)) (before after : List Effect) (old new : Scheduler K V S) : Type 0 where
@@ -223,6 +236,15 @@ module _ {K V S : Type 0} (same : K → K → Bool) (hash : K → ℕ) where
 
   abbrev pub TakenAs : (place most : ℕ) → Played V → (old new : Scheduler K V S) → Type 0
   TakenAs place most played old new = (d : Caller V) → slice_get old.calls.items.items place ≡ Some d → TakenBy place most d.stands played old new
+
+  -- The call of this name, if it is there, has taken steps so; and so has one without a name that has begun.
+  abbrev pub TookSteps : (most : ℕ) → List ℕ → Played V → (old new : Scheduler K V S) → Type 0
+  TookSteps most own played old new = (place : ℕ) → Some place ≡ position (is_named own) old.calls.items.items → TakenAs place most played old new
+
+  abbrev pub TookWhole : (guard name : List ℕ) → Call K V → Played V → (old new : Scheduler K V S) → Type 0
+  TookWhole guard name call played old new =
+      (terms : Terms) (m : Moment K V) → StandsFor same hash terms m old
+      → (begun : Bool) × (mid : Scheduler K V S) × BeginsSo same hash terms m nameless guard name call begun old mid × (begun ≡ true → TakenAs 0 most_steps played mid new)
 
   -- What is promised of an event by which a call goes on: it comes to what is right, where it does so in its case; it makes as many steps as it may, and does not more.
   pub record PlaysOn (terms : Terms) (log : List (Entry K V)) (e : Entry K V) (p : Scheduler K V S) : Type 0 where

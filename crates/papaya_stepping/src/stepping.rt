@@ -3,7 +3,8 @@ ghost use Rattle.std.specs.Prelude.{◌≡◌, ◌<◌, ◌≤◌, length, slice
 ghost use Rattle.papaya_schedules.specs.declared.event.Event.TheVariants as event;
 ghost use Rattle.papaya_effects.specs.Known.{known};
 ghost use Rattle.papaya_scheduler.specs.Played.{MayPlay};
-ghost use Rattle.papaya_stepping.specs.Stepping.{IsStepped, MayGo, MayStep, PlaysOnAt, StandsAt, StepsCome, TakenAs, callers_then, outcome_of};
+ghost use Rattle.papaya_runs.specs.Stopped.{most_steps};
+ghost use Rattle.papaya_stepping.specs.Stepping.{IsStepped, MayGo, MayStep, PlaysOnAt, StandsAt, StepsCome, TakenAs, TookSteps, TookWhole, callers_then, outcome_of};
 ghost use Rattle.papaya_scheduler.specs.Telling.{goes_on};
 ghost use Rattle.papaya_scheduler.specs.declared.caller.Caller.{Caller};
 
@@ -165,6 +166,7 @@ pub fn step<K: Eq + Hash + Drop, V: Drop, S: Hashes<K>>(
 ) -> Result<Played<V>, AllocError>
     requires { MayPlay K.eq (S.hash scheduler.old.logged.executor.hasher) (event.Step caller.now refuse) scheduler.old }
     ensures plays { IfOk result (λ played. PlaysOnAt K.eq (S.hash scheduler.old.logged.executor.hasher) (event.Step caller.now refuse) played scheduler.old scheduler.new) }
+    ensures took { IfOk result (λ played. TookSteps K.eq (S.hash scheduler.old.logged.executor.hasher) 1 caller.now played scheduler.old scheduler.new) }
 {
     match scheduler.calls.place_of(caller) {
         Some(place) => take_steps(scheduler, place, 1, refuse),
@@ -180,6 +182,7 @@ pub fn go<K: Eq + Hash + Drop, V: Drop, S: Hashes<K>>(
 ) -> Result<Played<V>, AllocError>
     requires { MayPlay K.eq (S.hash scheduler.old.logged.executor.hasher) (event.Go caller.now refuse) scheduler.old }
     ensures plays { IfOk result (λ played. PlaysOnAt K.eq (S.hash scheduler.old.logged.executor.hasher) (event.Go caller.now refuse) played scheduler.old scheduler.new) }
+    ensures took { IfOk result (λ played. TookSteps K.eq (S.hash scheduler.old.logged.executor.hasher) most_steps caller.now played scheduler.old scheduler.new) }
 {
     match scheduler.calls.place_of(caller) {
         Some(place) => take_steps(scheduler, place, MOST_STEPS, refuse),
@@ -196,6 +199,7 @@ pub fn one_call<K: Eq + Hash + Drop, V: Drop, S: Hashes<K>>(
 ) -> Result<Played<V>, AllocError>
     requires { MayPlay K.eq (S.hash scheduler.old.logged.executor.hasher) (event.OneCall guard map.now call) scheduler.old }
     ensures plays { IfOk result (λ played. PlaysOnAt K.eq (S.hash scheduler.old.logged.executor.hasher) (event.OneCall guard map.now call) played scheduler.old scheduler.new) }
+    ensures took { IfOk result (λ played. TookWhole K.eq (S.hash scheduler.old.logged.executor.hasher) guard map.now call played scheduler.old scheduler.new) }
 {
     let nameless = Token::copy_of(*scheduler.maps.allocator(), b"-")?;
     if scheduler.begins(nameless, guard, map, call)? {

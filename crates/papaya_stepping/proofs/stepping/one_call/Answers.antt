@@ -1,5 +1,5 @@
 -- A call without a name begins, and goes on, or does not begin.
-use Rattle.std.proofs.Common.{rules, ◌≡◌, Bool, refl, sym, subst, arith}
+use Rattle.std.proofs.Common.{rules, ◌≡◌, Bool, true, false, refl, sym, subst, arith}
 use Rattle.std.proofs.lemmas.Result.{IfOk-weaker}
 use Rattle.seize_words.specs.declared.fault.Fault.TheVariants.{Busy}
 use Rattle.papaya_runs.specs.Stopped.{most_steps}
@@ -28,6 +28,13 @@ returns-else-branch g c = record {
       subst (λ e. PlaysOn g.K.PartialEq.eq hash terms log e c.begins.new.self)
       (sym (entry_is (OneCall c.args.guard c.args.map.now c.args.call) c.busy.result (Refused Busy) 0 _ c.busy.ensures.outcome c.busy.ensures.steps c.busy.ensures.effects))
       (whole_busy g.K.PartialEq.eq hash terms log c.args.guard c.args.map.now c.args.call c.args.scheduler.now c.begins.new.self due so);
+  took = λ terms m stands.
+      let hash = g.S.Hashes.hash c.args.scheduler.now.logged.executor.hasher in
+      let named : c.in_ok-nameless.nameless ≡ nameless = search (rules, c.in_ok-nameless.ensures) in
+      let so = subst (λ (b : Bool). BeginsSo g.K.PartialEq.eq hash terms m nameless c.args.guard c.args.map.now c.args.call b c.args.scheduler.now c.begins.new.self) c.if-branch.false
+      (subst (λ own. BeginsSo g.K.PartialEq.eq hash terms m own c.args.guard c.args.map.now c.args.call c.in_ok-begins.field-0 c.args.scheduler.now c.begins.new.self) named
+      (c.in_ok-begins.ensures.begins terms m stands)) in
+      (false, c.begins.new.self, so, λ begun. absurd (cc begun));
 }
 
 pub take_steps-requires : goal.take_steps-requires
@@ -56,4 +63,14 @@ returns-then-branch g c =
           (c.in_ok-begins.ensures.begins terms (moment log) due.played)) in
           plays_begun g.K.PartialEq.eq hash terms log c.args.guard c.args.map.now c.args.call c.args.scheduler.now c.begins.new.self due begun played c.take_steps.new.scheduler
           (subst (λ h. TakenAs g.K.PartialEq.eq (g.S.Hashes.hash h) 0 most_steps played c.begins.new.self c.take_steps.new.scheduler) c.begins.ensures.hasher taken)) c.take_steps.ensures;
+      took = IfOk-weaker c.take_steps.result _ _ (λ played taken. λ terms m stands.
+          let begun = subst (λ (b : Bool). BeginsSo g.K.PartialEq.eq hash terms m nameless c.args.guard c.args.map.now c.args.call b c.args.scheduler.now c.begins.new.self) c.if-branch.true
+          (subst (λ own. BeginsSo g.K.PartialEq.eq hash terms m own c.args.guard c.args.map.now c.args.call c.in_ok-begins.field-0 c.args.scheduler.now c.begins.new.self) named
+          (c.in_ok-begins.ensures.begins terms m stands)) in
+          (
+            true,
+            c.begins.new.self,
+            begun,
+            λ so. subst (λ h. TakenAs g.K.PartialEq.eq (g.S.Hashes.hash h) 0 most_steps played c.begins.new.self c.take_steps.new.scheduler) c.begins.ensures.hasher taken,
+          )) c.take_steps.ensures;
     }
