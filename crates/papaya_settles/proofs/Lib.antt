@@ -49,6 +49,7 @@ pub mod HandKeyCopies
 pub mod HandRooms
 pub mod HandSweeps
 pub mod HandAll
+pub mod HandHeld
 pub mod WordOps
 pub mod Adds
 pub mod KeyAdds
