@@ -15,7 +15,8 @@ use Rattle.papaya_schedules.specs.Moment.{Moment}
 use Rattle.papaya_late.specs.ToldSweeps.{IsRowOfSweep}
 use Rattle.papaya_callers.specs.OverAll.{CallOverAll}
 use Rattle.papaya_callers.specs.Rooms.{CallForRoom}
-use Rattle.papaya_callers.specs.Together.{UnderWay, OnKey, ForRoom, Counting, OverAll, Given, IsBegun, Gets, Removes, Inserts, TriesToInsert, Computes, Updates, UpdatesOrInserts, TriesToInsertWith, RemovesIf}
+use Rattle.papaya_callers.specs.Pairs.{Given}
+use Rattle.papaya_callers.specs.Together.{UnderWay, OnKey, ForRoom, Counting, OverAll, IsBegun, Gets, Removes, Inserts, TriesToInsert, Computes, Updates, UpdatesOrInserts, TriesToInsertWith, RemovesIf}
 use Rattle.papaya_callers.proofs.Together.At.{at_same, at_other}
 use Rattle.papaya_effects.specs.Known.{Known}
 use Rattle.papaya_executor.specs.Beginning.{Begins}
