@@ -28,8 +28,8 @@ use Rattle.papaya_logged.proofs.Renamed.{renamed}
 named : (i : ℕ) (own : List ℕ) (name : ℕ → List ℕ) → put i own name i ≡ own
 named i own name = ap (λ (b : Bool). if b then own else name i) (eq-eqb i i refl)
 
-kept : (i j : ℕ) (own : List ℕ) (name : ℕ → List ℕ) → j ≢ i → put i own name j ≡ name j
-kept i j own name ne = ap (λ (b : Bool). if b then own else name j) (ne_eqb j i ne)
+same_name : (i j : ℕ) (own : List ℕ) (name : ℕ → List ℕ) → j ≢ i → put i own name j ≡ name j
+same_name i j own name ne = ap (λ (b : Bool). if b then own else name j) (ne_eqb j i ne)
 
 module _ {K V S : Type 0} (same : K → K → Bool) (hash : K → ℕ) where
   pub call_begins : (old new : Logged K V S) (slot map : ℕ) (machine : Machine K V K) (fits : slot < SLOTS)
@@ -41,7 +41,7 @@ module _ {K V S : Type 0} (same : K → K → Bool) (hash : K → ℕ) where
       let names = put i own name in
       let leads = begins s shown.is_at standing stands inside u is fresh in
       let agree : (j : ℕ) → HasCall s j → names j ≡ name j =
-      λ j has. kept i j own name (λ e. absurd (cc (has.2, subst (λ x. s.calls has.0 x ≡ None) (sym e) (no_calls_yet same hash old.executor s shown.is_at slot fits has.0)))) in
+      λ j has. same_name i j own name (λ e. absurd (cc (has.2, subst (λ x. s.calls has.0 x ≡ None) (sym e) (no_calls_yet same hash old.executor s shown.is_at slot fits has.0)))) in
       let before = renamed same name names m (known old.notes) s agree shown.shows in
       let none : NoneNamed names (names i) s = λ n j x here. subst (λ a. is_same a (names j) ≡ false) (sym (named i own name)) (subst (λ a. is_same own a ≡ false) (sym (agree j (n, x, here))) (apart n j x here)) in
       let after = with_call own guard call (Some map) m in

@@ -33,7 +33,7 @@ use Rattle.papaya_executor.specs.IsAt.{Scene, IsAt, slot_of}
 use Rattle.papaya_executor.specs.declared.executor.Executor.{Executor}
 use Rattle.papaya_follows.specs.Steps.{TakesNone}
 use Rattle.papaya_follows.proofs.Alike.{AllCalm, put_elsewhere}
-use Rattle.papaya_others.specs.Endings.{TellsNext, ending_after}
+use Rattle.papaya_others.specs.Endings.{TellsNext, ending_after, without_map}
 use Rattle.papaya_others.proofs.Ends.{tells_next}
 use Rattle.papaya_moments.specs.Endings.{IsOfIts}
 use Rattle.papaya_moments.proofs.Ends.{says, endings_begin_whole, endings_keep_whole}

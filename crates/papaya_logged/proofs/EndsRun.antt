@@ -33,7 +33,7 @@ use Rattle.papaya_executor.specs.declared.worker.Work.{Work}
 use Rattle.papaya_executor.specs.declared.worker.Work.TheVariants as work
 use Rattle.papaya_executor.proofs.Forgotten.{as_step}
 use Rattle.papaya_others.specs.Endings.{ending_after}
-use Rattle.papaya_moments.proofs.After.{effects_after, each_parts}
+use Rattle.papaya_moments.proofs.After.{effects_after}
 use Rattle.papaya_logged.specs.Ends.{is_done, ended_as, NotedStill, EndCame, EndSteps, EndIsAt, EndIsShown, EndRan}
 use Rattle.papaya_logged.specs.Shown.{IsShown}
 use Rattle.papaya_logged.specs.declared.logged.Logged.{Logged}
