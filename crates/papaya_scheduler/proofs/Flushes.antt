@@ -31,10 +31,10 @@ use Rattle.papaya_executor.specs.declared.row.SlotUse.TheVariants as used
 use Rattle.papaya_executor.specs.declared.worker.TheConstants.{SLOTS}
 use Rattle.papaya_logged.specs.Ended.{has_ended}
 use Rattle.papaya_logged.specs.declared.logged.Logged.{Logged}
-use Rattle.papaya_scheduler.specs.Handing.{HeldIsTold}
 use Rattle.papaya_scheduler.specs.Played.{IsDue, Plays, StandsFor}
 use Rattle.papaya_rows.specs.Rows.{RowRan, RowRanOn, used_as}
 use Rattle.papaya_scheduler.specs.declared.scheduler.Scheduler.{Scheduler}
+use Rattle.papaya_scheduler.proofs.HeldTold.{HeldIsTold}
 use Rattle.papaya_scheduler.proofs.Dropped.{fits, inside, lives_on}
 use Rattle.papaya_rows.proofs.Holders.{word_says, word_there}
 use Rattle.papaya_rows.proofs.NeverWaits.{done_alone, led_alone, over_alone}

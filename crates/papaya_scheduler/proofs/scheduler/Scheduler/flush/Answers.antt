@@ -2,8 +2,10 @@
 use Rattle.std.proofs.Common.{[], sym, ◌∙◌}
 use Rattle.seize_words.specs.declared.fault.Fault.TheVariants.{Busy}
 use Rattle.papaya_schedules.specs.declared.event.Event.TheVariants.{Flush}
+use Rattle.papaya_schedules.specs.After.{moment}
 use Rattle.papaya_schedules.specs.declared.outcome.Outcome.TheVariants.{Refused}
 use Rattle.papaya_scheduler.proofs.Flushes.{not_living, its_word, is_held_now, may_flush, its_fits, has_run}
+use Rattle.papaya_scheduler.proofs.HeldTold.{held_is_told}
 use Rattle.papaya_scheduler.proofs.Rights.{so_played}
 use Rattle.papaya_scheduler.proofs.scheduler.Scheduler.flush.Goals as goal
 
@@ -24,7 +26,8 @@ returns-then-is_held g c = record {
   plays = λ same hash terms log due.
       so_played same hash terms log c.args.self.now (Flush c.args.guard.now) c.busy-then-is_held.result (Refused Busy) 0 [] c.busy-then-is_held.ensures.outcome
       c.busy-then-is_held.ensures.steps c.busy-then-is_held.ensures.effects
-      (is_held_now same hash terms log c.args.self.now c.args.guard.now due c.in-Some.slot (sym c.slot_of_living.ensures ∙ c.in-Some.is) told c.is_held.result c.is_held.ensures c.if-is_held.true);
+      (is_held_now same hash terms log c.args.self.now c.args.guard.now due c.in-Some.slot (sym c.slot_of_living.ensures ∙ c.in-Some.is)
+      (held_is_told same hash terms (moment log) c.args.self.now due.played) c.is_held.result c.is_held.ensures c.if-is_held.true);
 }
 
 pub do_row-requires : goal.do_row-requires
