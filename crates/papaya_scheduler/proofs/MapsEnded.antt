@@ -12,7 +12,7 @@ use Rattle.papaya_schedules.specs.declared.effect.Effect.TheVariants.{Ended}
 use Rattle.papaya_schedules.specs.declared.event.Event.TheVariants.{EndMap}
 use Rattle.papaya_schedules.specs.declared.outcome.Outcome.TheVariants.{Done, Refused}
 use Rattle.papaya_schedules.specs.After.{is_alone_on, moment, remains_on}
-use Rattle.papaya_schedules.specs.Effects.{with_effect, with_effects, AtEachEffect}
+use Rattle.papaya_schedules.specs.Effects.{with_effect, with_effects}
 use Rattle.papaya_schedules.specs.Entry.{Entry, acted_on}
 use Rattle.papaya_schedules.specs.InTurn.{IsDone, is_called}
 use Rattle.papaya_schedules.specs.Moment.{MapThere, Remains, Moment}
