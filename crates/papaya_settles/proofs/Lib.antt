@@ -52,3 +52,4 @@ pub mod HandAll
 pub mod HandLives
 pub mod HandThere
 pub mod HandOthers
+pub mod HandHeld

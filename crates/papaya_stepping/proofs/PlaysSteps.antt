@@ -27,7 +27,7 @@ use Rattle.papaya_stepping.specs.Stepping.{ComesAs, ComesBy, IsInCase, PlaysOn, 
 use Rattle.papaya_scheduler.specs.declared.caller.Stands.TheVariants as far
 use Rattle.papaya_scheduler.specs.declared.scheduler.Scheduler.{Scheduler}
 use Rattle.papaya_stepping.proofs.AfterEffects.{closed_stays, mapped_stays}
-use Rattle.papaya_rows.proofs.Elsewhere.{elsewhere, shown_elsewhere}
+use Rattle.papaya_rows.proofs.Elsewhere.{elsewhere, shown_elsewhere, kept_elsewhere}
 use Rattle.papaya_scheduler.proofs.Here.{Here, here_at}
 use Rattle.papaya_stepping.proofs.RightSteps.{makes_many, makes_one, may_come, not_busy, progresses}
 use Rattle.papaya_scheduler.proofs.Rights.{entry, in_turn, plays}
@@ -42,6 +42,7 @@ stands_elsewhere same hash terms m p stands events is_mapped is_closed is_alone 
   shown = record {
     is_at = stands.shown.is_at;
     shows = shown_elsewhere m (known p.logged.notes) events is_mapped is_closed is_alone there slots sheltered remains same stands.name stands.scene stands.shown.shows;
+    kept = kept_elsewhere m (known p.logged.notes) events is_mapped is_closed is_alone there slots sheltered remains stands.name stands.scene stands.shown.kept;
   };
   given = stands.given;
   there = there_is ∙ stands.there;
