@@ -29,6 +29,7 @@ use Rattle.papaya_finishes.specs.Maps.{Standing, with_call as with_in}
 use Rattle.papaya_follows.specs.Calling.{told}
 use Rattle.papaya_others.specs.Walks.{given_up}
 use Rattle.papaya_owes.proofs.Short.Between.{calls_begin_short, calls_take_short, walks_go_on_short, walks_stop_short}
+use Rattle.papaya_owes.proofs.Grown.Between.{calls_begin_grown, machines_begin_grown, calls_take_grown, walks_go_on_grown, walks_stop_grown}
 use Rattle.papaya_owes.proofs.Tables.Between.{calls_begin_tables, calls_take_tables, walks_go_on_tables, walks_stop_tables}
 use Rattle.papaya_settles.specs.Owed.{HasNothing}
 use Rattle.papaya_settles.proofs.EntryScenes.{calls_go_on_entries}
@@ -122,6 +123,7 @@ module _ (K V S : Type 0) (same : K → K → Bool) (hash : K → ℕ) where
     entries = calls_go_on_entries K V s kept.entries map i (Some u) (inr rests);
     tables = calls_begin_tables K V S same hash name m known s old new at whole kept.tables map i u call guard none at2 shows2;
     short = calls_begin_short K V name m s kept.short map i u call guard none;
+    grown = calls_begin_grown K V name m s kept.grown map i u call guard none (machines_begin_grown K V same standing i u begins);
     owed = calls_begin_owed K V name m known s kept.owed map i u call guard none (nothing_at_first K V same standing i u begins);
     handing = calls_begin_handing K V name m s kept.handing map i u call guard none rests;
     waiting = others_leave_waiting K V m v known s.world kept.waiting refl refl;
@@ -136,6 +138,7 @@ module _ (K V S : Type 0) (same : K → K → Bool) (hash : K → ℕ) where
     entries = calls_go_on_entries K V s kept.entries map i (Some next) (inl (u, here));
     tables = calls_take_tables K V S same hash name m known s old new at whole kept.tables map i u here reply next next_is is_told at2 shows2;
     short = calls_take_short K V same name m known s whole kept.short map i u here reply next next_is is_told;
+    grown = calls_take_grown K V same name m known s whole kept.grown map i u here reply next next_is is_told;
     owed = calls_take_owed K V same name m known s whole kept.owed map i u here reply next next_is is_told;
     handing = calls_take_handing K V same name m s whole.all.shown.calls kept.handing map i u here next is_told;
     waiting = others_leave_waiting K V m v known s.world kept.waiting refl refl;
@@ -152,6 +155,7 @@ module _ (K V S : Type 0) (same : K → K → Bool) (hash : K → ℕ) where
         entries = calls_go_on_entries K V s kept.entries map i (Some next) (inl (u, here));
         tables = walks_go_on_tables K V S same hash name m known s old new whole kept.tables i leads map u here;
         short = walks_go_on_short K V S same hash name m s old new kept.short i leads map u here;
+        grown = walks_go_on_grown K V S same hash name m s old new kept.grown i leads map u here;
         owed = walks_go_on_owed K V S same hash name m known s old new kept.owed i leads map u here;
         handing = walks_go_on_handing K V S same hash name m s old new kept.handing i leads map u here;
         waiting = kept.waiting;
@@ -163,6 +167,7 @@ module _ (K V S : Type 0) (same : K → K → Bool) (hash : K → ℕ) where
     entries = calls_go_on_entries K V s kept.entries map i (unless_stopped stopped u) (inl (u, here));
     tables = walks_stop_tables K V S same hash name m known s old new whole kept.tables i stopped leads map u here none;
     short = walks_stop_short K V S same hash name m known s old new whole kept.short i stopped leads map u here none;
+    grown = walks_stop_grown K V S same hash name m known s old new whole kept.grown i stopped leads map u here none;
     owed = walks_stop_owed K V S same hash name m known s old new whole.all.shown kept.owed i stopped leads map u here none;
     handing = walks_stop_handing K V S same hash name m s old new whole.all.shown.calls kept.handing i stopped leads map u here none;
     waiting = others_leave_waiting K V m v known s.world kept.waiting (given_deferred (name i) m stopped) (given_place (name i) m stopped);

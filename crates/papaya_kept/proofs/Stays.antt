@@ -18,6 +18,7 @@ use Rattle.papaya_finishes.specs.Makings.{Beginning}
 use Rattle.papaya_follows.specs.Calling.{NoneNamed, come_to}
 use Rattle.papaya_moments.specs.Whole.{ShowsWhole}
 use Rattle.papaya_owes.proofs.Short.Between.{short_begins, stays_short, calls_come_to_short}
+use Rattle.papaya_owes.proofs.Grown.Between.{grown_begins, stays_grown, calls_come_to_grown}
 use Rattle.papaya_owes.proofs.Tables.Aside.{tables_begin, stays_tables, makings_begin_tables}
 use Rattle.papaya_owes.proofs.Tables.Between.{calls_come_to_tables}
 use Rattle.papaya_settles.specs.Entries.{IsSomebodys, IsBlank, RetiresOne, ShowsEntries}
@@ -38,6 +39,7 @@ begins_kept K V roots name = record {
   entries = entries_begin K V roots;
   tables = tables_begin K V roots name;
   short = short_begins K V roots name;
+  grown = grown_begins K V roots name;
   owed = owed_begins K V roots name;
   handing = handing_begins K V roots name;
   waiting = waiting_begins K V roots;
@@ -72,6 +74,7 @@ stays_kept K V name m v known s t kept listed tables deferred place world calls 
   entries = entries_stay s t kept.entries world calls;
   tables = stays_tables K V name m v known s t kept.tables listed calls makers;
   short = stays_short K V name m v s t kept.short listed calls;
+  grown = stays_grown K V name m v s t kept.grown listed calls;
   owed = stays_owed K V name m v known known s t kept.owed listed calls (same_in_hand name m known s kept.owed);
   handing = handing_stays name m v s t kept.handing listed world calls;
   waiting = subst (ShowsWaiting v known) (sym world) (others_leave_waiting K V m v known s.world kept.waiting deferred place);
@@ -83,6 +86,7 @@ renamed_kept K V name name2 m known s agree kept = record {
   entries = kept.entries;
   tables = record { tables = λ map i u is c c_is. kept.tables.tables map i u is c (named map i u is c c_is); whose = kept.tables.whose };
   short = λ map i u is c c_is. kept.short map i u is c (named map i u is c c_is);
+  grown = λ map i u is c c_is. kept.grown map i u is c (named map i u is c c_is);
   owed = record { owed = λ map i u is c c_is. kept.owed.owed map i u is c (named map i u is c c_is); noted = kept.owed.noted };
   handing = λ map i u is busy c c_is. kept.handing map i u is busy c (named map i u is c c_is);
   waiting = kept.waiting;
@@ -97,6 +101,7 @@ calls_come_to_kept K V same name m known s whole kept own outcome steps none = r
   entries = kept.entries;
   tables = calls_come_to_tables K V same name m known s whole kept.tables own outcome steps none;
   short = calls_come_to_short K V same name m known s whole kept.short own outcome steps none;
+  grown = calls_come_to_grown K V same name m known s whole kept.grown own outcome steps none;
   owed = calls_come_to_owed K V same name m known s whole kept.owed own outcome steps none;
   handing = calls_come_to_handing K V same name m s whole.all.shown.calls kept.handing own outcome steps none;
   waiting = others_leave_waiting K V m (come_to own outcome steps m) known s.world kept.waiting refl refl;
@@ -108,6 +113,7 @@ makings_begin_kept K V name m known s kept i b none = record {
   entries = entries_stay s t kept.entries refl refl;
   tables = makings_begin_tables K V name m known s kept.tables i b none;
   short = kept.short;
+  grown = kept.grown;
   owed = stays_owed K V name m m known known s t kept.owed refl refl (same_in_hand name m known s kept.owed);
   handing = kept.handing;
   waiting = kept.waiting;

@@ -35,6 +35,7 @@ use Rattle.papaya_follows.specs.Calling.{come_to}
 use Rattle.papaya_logged.specs.Calling.{CallGoesOn, WalkGoesOn, step_did}
 use Rattle.papaya_logged.specs.Shown.{IsShown}
 use Rattle.papaya_logged.specs.declared.logged.Logged.{Logged}
+use Rattle.papaya_kept.proofs.Stays.{calls_come_to_kept}
 use Rattle.papaya_moments.proofs.Calls.{calls_come_to_whole}
 use Rattle.papaya_scheduler.specs.Machines.{IsFor}
 use Rattle.papaya_scheduler.specs.Played.{AsFar, IsDue, StandsAs, StandsFor}
@@ -130,6 +131,8 @@ module _ {K V S : Type 0} (same : K → K → Bool) (hash : K → ℕ) (terms : 
               is_at = shown_so.is_at;
               shows = calls_come_to_whole K V same stands.name w2 (known new.notes) (then_at same hash terms own n w p stands place at_place (progress.Pair word) new before after leads_so) shown_so.shows own
                   (Shows (number_by by word)) counted (λ e. absurd (cc e)) (λ a j x is named_so. asks_nothing (known new.notes) x (Shows (number_by by word)) (λ q e. cc e));
+              kept = calls_come_to_kept K V same stands.name w2 (known new.notes) (then_at same hash terms own n w p stands place at_place (progress.Pair word) new before after leads_so) shown_so.shows shown_so.kept own
+                  (Shows (number_by by word)) counted (λ e. absurd (cc e));
             }
 
     -- it has shown all, and is under way no more
@@ -161,6 +164,9 @@ module _ {K V S : Type 0} (same : K → K → Bool) (hash : K → ℕ) (terms : 
                   answer counted
                   (λ e. none_named (WalksFar own n) AsFar own others same hash terms w p stands place its (progress.Done answers.Swept) new (leads_so its.way.0 its.way.1).0 over)
                   (λ a j x is named_so. asks_nothing (known new.notes) x answer (λ q e. cc e));
+              kept = calls_come_to_kept K V same stands.name w2 (known new.notes) (then_at same hash terms own n w p stands place at_place (progress.Done answers.Swept) new before after leads_so) shown_so.shows shown_so.kept own
+                  answer counted
+                  (λ e. none_named (WalksFar own n) AsFar own others same hash terms w p stands place its (progress.Done answers.Swept) new (leads_so its.way.0 its.way.1).0 over);
             }
 
     -- what it comes to

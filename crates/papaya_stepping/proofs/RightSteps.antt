@@ -45,17 +45,17 @@ module _ {K V : Type 0} where
   not_busy call o comes is = let it = (other_fault call Busy (subst (λ (x : Outcome V). ComesAs call x) is comes) (λ e. cc e) (λ e. cc e)).0 in cc it
 
   module _ (terms : Terms) (c : CallThere K V) (moments : List (Moment K V)) (now : Moment K V) where
-    pub may_come : (o : Outcome V) → ComesAs c.call o → IsInCase terms c moments now o → MayCome terms c moments now o
-    may_come Goes comes within = tt
-    may_come (Asks question) comes within = comes
-    may_come Waits comes within = within
-    may_come Ready comes within = comes
-    may_come (Answered a) comes within = comes
-    may_come (Refused Memory) comes within = within
-    may_come (Refused Capacity) comes within = within
-    may_come (Refused RemoveNothing) comes within = (other_fault c.call RemoveNothing comes (λ e. cc e) (λ e. cc e)).1
-    may_come (Refused fault) comes within = absurd (let it = (other_fault c.call fault comes (λ e. cc e) (λ e. cc e)).0 in cc it)
-    may_come _ comes within = absurd comes
+    pub may_come : (o : Outcome V) → ComesAs c.call o → (o ≡ Refused Memory → c.is_short ≡ true) → IsInCase terms c moments now o → MayCome terms c moments now o
+    may_come Goes comes short within = tt
+    may_come (Asks question) comes short within = comes
+    may_come Waits comes short within = within
+    may_come Ready comes short within = comes
+    may_come (Answered a) comes short within = comes
+    may_come (Refused Memory) comes short within = short refl
+    may_come (Refused Capacity) comes short within = within
+    may_come (Refused RemoveNothing) comes short within = (other_fault c.call RemoveNothing comes (λ e. cc e) (λ e. cc e)).1
+    may_come (Refused fault) comes short within = absurd (let it = (other_fault c.call fault comes (λ e. cc e) (λ e. cc e)).0 in cc it)
+    may_come _ comes short within = absurd comes
 
     -- so it progresses, as far as it was
     pub progresses : (stand : Stands) → far_of stand ≡ far.Goes → (o : Outcome V) → MayCome terms c moments now o → Progresses terms stand c moments now o

@@ -92,10 +92,9 @@ module _ {K V : Type 0} where
   ComesAs call (Refused fault) = IsRoom fault
   ComesAs call _ = ⊥
 
-  -- That says: a call waits only where it may, and is refused for memory only where it is short of a growth, and for the length of a table only where it finds none.
+  -- That says: a call waits only where it may, and is refused for the length of a table only where it finds none.
   abbrev pub IsInCase : Terms → CallThere K V → List (Moment K V) → Moment K V → Outcome V → Type 0
   IsInCase terms c moments now Waits = may_wait c now ≡ true
-  IsInCase terms c moments now (Refused Memory) = c.is_short ≡ true
   IsInCase terms c moments now (Refused Capacity) = FindsNoTable terms c (now ∷ moments)
   IsInCase terms c moments now _ = Unit {0}
 
@@ -138,6 +137,8 @@ module _ {K V S : Type 0} (same : K → K → Bool) (hash : K → ℕ) (terms : 
     pub follows : after ≡ before ++ did
     pub few : sum_by weight did ≤ steps
     pub comes : ComesAs call.call outcome
+    -- one that is refused for want of memory has asked for a growth, and nothing was made since
+    pub memory : outcome ≡ Refused Memory → (d : CallThere K V) → call_of own (with_effects (Some own) (Some call.map) did m) ≡ Some d → d.is_short ≡ true
     pub goes : goes_on outcome ≡ true → StandsFor same hash terms (with_effects (Some own) (Some call.map) did m) new × GoesAt own place new
     pub stands : (outcome ≡ Refused Busy → ⊥) → (counted : ℕ) → StandsFor same hash terms (come_to own outcome counted (with_effects (Some own) (Some call.map) did m)) new
 
