@@ -15,5 +15,6 @@ pub mod Waiting
 pub mod Ends
 pub mod Reclaimed
 pub mod RetiredCalls
+pub mod Puts
 pub mod CallRows
 pub mod RetiredEnds

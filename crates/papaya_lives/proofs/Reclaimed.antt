@@ -96,13 +96,13 @@ module _ {K V S : Type 0} (same : K → K → Bool) (hash : K → ℕ) (name : �
   came : CameAbout old.batch_size w
   came = at.together.makings.standing.came
 
-  there : Reached deferred_word old.batch_size w
+  pub there : Reached deferred_word old.batch_size w
   there = (let to = leads row here in reached K V S same hash s old new at i row here (to.0, said) to.1 to.4)
 
   tells : TellsRow told
   tells = (let to = leads row here in row_tells old.memory.memory new.memory.memory told (to.0, said) row to.1)
 
-  leaves : LeavesBy w.memory w2.memory told
+  pub leaves : LeavesBy w.memory w2.memory told
   leaves = (let to = leads row here in left K V S same hash s old new at i row here (to.0, said) to.1 to.4)
 
   its : Kept deferred_word old.batch_size w

@@ -108,7 +108,7 @@ module _ (K V S : Type 0) (same : K → K → Bool) (hash : K → ℕ) where
       IsOfNoRow same old.batch_size old.roots s.world s.maps s.calls s.makers s.enders map to.0 i new.memory.memory to.4.w2 to.4.maps2 to.4.next u to.1 told to.4.did
       → ShowsWaiting (with_effects (Some (name i)) (Some map) (effects_of (Call i map) known new.memory.changed) m) (known_after (Call i map) new.memory.changed known) to.4.w2)
 
-  -- And after a step of a row within a call, unless that puts a further pair behind a table.
+  -- And after a step of a row within a call: a pair that it puts behind a table waits there.
   abbrev pub CallRowsKeepWaiting : Type 0
   CallRowsKeepWaiting =
       (name : ℕ → List ℕ) (m : Moment K V) (known : Known) (s : Scene K V) (old new : Executor K V S) → IsAt same hash old s → ShowsWhole same name m known s
@@ -117,7 +117,7 @@ module _ (K V S : Type 0) (same : K → K → Bool) (hash : K → ℕ) where
       → (let to = leads map u here in
       let v = with_effects (Some (name i)) (Some map) (effects_of (Call i map) known new.memory.changed) m in
       (IsOfNoRow same old.batch_size old.roots s.world s.maps s.calls s.makers s.enders map to.0 i new.memory.memory to.4.w2 to.4.maps2 to.4.next u to.1 told to.4.did → ⊥)
-      → v.deferred ≡ m.deferred → ShowsWaiting v (known_after (Call i map) new.memory.changed known) to.4.w2)
+      → ShowsWaiting v (known_after (Call i map) new.memory.changed known) to.4.w2)
 
   -- And what waits behind a table is not reclaimed as that ends with its map.
   abbrev pub EndingsFindWaiting : Type 0

@@ -14,7 +14,7 @@ pub fn waiting_blocks_are_unretired<T>()
 
 /// Each pair that waits behind a table is told to be behind one, and its block waits behind the table's, or both are left over: so it is before all events,
 /// where the same pairs wait and none has moved, where the end of a map begins, where a row begins on a slot, and after each step of one; after each step of the
-/// making of a map, after one of a call that puts no further pair behind a table, and after whatever users do that moves no such pair. So what waits behind a
+/// making of a map, after each step of a call, and after whatever users do that moves no such pair. So what waits behind a
 /// table is not reclaimed as a row on a slot reclaims the table, or as the table ends with its map.
 pub fn pairs_wait_behind_tables<K, V, S>()
     ensures begins { WaitingBegins K V }

@@ -198,7 +198,7 @@ module _ {K V S : Type 0} (same : K → K → Bool) (hash : K → ℕ) where
     then_so to lists2 settled.Goes comes shows = record { under_way = comes; shows = shows }
     then_so to lists2 settled.Waits comes shows = record { under_way = comes; shows = shows }
     then_so to lists2 (settled.Gave value) comes shows = record { under_way = comes; shows = shows }
-    then_so to lists2 settled.Done comes shows = (comes.0, record { is_at = comes.1; shows = shows })
+    then_so to lists2 settled.Done comes shows = (comes.0, comes.1, shows)
 
     reclaiming_so : (told : Settled (Node K V))
         → ((s : Scene K V) (i : ℕ) (lists : ℕ → List ℕ) → IsReclaiming same hash old.executor s i lists before → ReclaimingLeads same hash s i lists old.executor stepped before after told)

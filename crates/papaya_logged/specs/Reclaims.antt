@@ -9,12 +9,11 @@ use Rattle.papaya_schedules.specs.Effects.{with_effects, AtEachEffect}
 use Rattle.papaya_schedules.specs.Moment.{Moment}
 use Rattle.papaya_effects.specs.Known.{known}
 use Rattle.papaya_reclaims.specs.Reclaims.{AllIsReclaimed}
-use Rattle.papaya_executor.specs.IsAt.{Scene}
+use Rattle.papaya_executor.specs.IsAt.{Scene, IsAt}
 use Rattle.papaya_reclaiming.specs.Reclaiming.{IsReclaiming, ReclaimingLeads}
 use Rattle.papaya_spots.specs.OnSlots.{WaitUnreclaimed}
 use Rattle.papaya_moments.specs.OnSlots.{HadRetired}
 use Rattle.papaya_moments.specs.Whole.{ShowsWhole}
-use Rattle.papaya_logged.specs.Shown.{IsShown}
 use Rattle.papaya_logged.specs.declared.logged.Logged.{Logged}
 
 module _ {K V S : Type 0} (same : K → K → Bool) (hash : K → ℕ) (name : ℕ → List ℕ) where
@@ -24,9 +23,9 @@ module _ {K V S : Type 0} (same : K → K → Bool) (hash : K → ℕ) (name : �
     pub shows : ShowsWhole same name m (known l.notes) s
 
   module _ (m : Moment K V) (s : Scene K V) (i : ℕ) (lists : ℕ → List ℕ) where
-    -- what is shown after a step: it goes on; or it is over, all is reclaimed, and the executor is there
+    -- what is shown after a step: it goes on; or it is over, all is reclaimed, the executor is there, and the moment shows that
     abbrev pub ReclaimingThen : Scene K V → (ℕ → List ℕ) → ReclaimAll → (old new : Logged K V S) → Settled (Node K V) → Type 0
-    ReclaimingThen s2 lists2 after old new settled.Done = AllIsReclaimed old.executor.roots s2.world s2.maps × IsShown same hash name m new s2
+    ReclaimingThen s2 lists2 after old new settled.Done = AllIsReclaimed old.executor.roots s2.world s2.maps × IsAt same hash new.executor s2 × ShowsWhole same name m (known new.notes) s2
     ReclaimingThen s2 lists2 after old new _ = ReclaimingIsShown m new s2 i lists2 after
 
 -- A step of it, which did this. If a table that it reclaims was retired, and what waits behind that is not reclaimed, the moment after it shows where it has led.

@@ -30,7 +30,7 @@ use Rattle.papaya_finishes.specs.Machines.{GoesOnAs}
 use Rattle.papaya_finishes.specs.Maps.{Standing}
 use Rattle.papaya_teller.specs.declared.changed.Changed.TheVariants.{Nothing}
 use Rattle.papaya_histories.proofs.Logs.{last_there}
-use Rattle.papaya_settles.specs.ShardWords.{ShowsShards}
+use Rattle.papaya_shards.specs.ShardWords.{ShowsShards}
 use Rattle.papaya_purposes.specs.Purposes.{HasAdded}
 use Rattle.papaya_purposes.specs.Shards.{NoneCounted}
 use Rattle.papaya_purposes.proofs.Sums.{After, counting_on}

@@ -1,7 +1,7 @@
 -- A call that adds shards up reads those that the moment says.
 use Rattle.std.specs.Prelude.{ℕ, Bool}
 use Rattle.std.proofs.Common.{ap, ◌∙◌}
-use Rattle.papaya_settles.proofs.ShardCalls.{rooms_count_nothing}
+use Rattle.papaya_shards.proofs.ShardCalls.{rooms_count_nothing}
 use Rattle.papaya_purposes.specs.Shards.{EventsBeginUncounted, StepsReadShards}
 
 pub events_begin_uncounted : (K V : Type 0) → EventsBeginUncounted K V

@@ -14,8 +14,8 @@ use Rattle.papaya_executor.specs.IsAt.{Scene, IsAt}
 use Rattle.papaya_executor.specs.Stepping.{StepLeads}
 use Rattle.papaya_executor.specs.declared.executor.Executor.{Executor}
 use Rattle.papaya_moments.specs.Whole.{ShowsWhole}
-use Rattle.papaya_settles.specs.ShardSteps.{AddsUp}
-use Rattle.papaya_settles.specs.ShardWords.{ShowsShards, ShowsCounters}
+use Rattle.papaya_shards.specs.ShardSteps.{AddsUp}
+use Rattle.papaya_shards.specs.ShardWords.{ShowsShards, ShowsCounters}
 
 module _ {K V : Type 0} where
   -- no shard of this map has changed since the last event of the log

@@ -20,6 +20,7 @@ pub mod Unregisters
 pub mod Dropped
 pub mod Refreshes
 pub mod Drops
+pub mod HeldTold
 pub mod Flushes
 pub mod Begun
 pub mod RepliedSo

@@ -46,6 +46,7 @@ impl<K: Eq + Hash + Drop, V: Drop, S: Hashes<K>> Scheduler<K, V, S> {
         requires { (terms : Terms) × (m : Moment K V) × StandsFor K.eq (S.hash self.old.logged.executor.hasher) terms m self.old }
         ensures begins { IfOk result (λ begun. (terms : Terms) (m : Moment K V) → StandsFor K.eq (S.hash self.old.logged.executor.hasher) terms m self.old
             → BeginsSo K.eq (S.hash self.old.logged.executor.hasher) terms m name guard map.now call begun self.old self.new) }
+        ensures hasher { self.new.logged.executor.hasher ≡ self.old.logged.executor.hasher }
     {
         if self.calls.place_of(&name).is_some() {
             return Ok(false);

@@ -34,7 +34,7 @@ use Rattle.papaya_settles.proofs.Takings.{steps_take_out}
 use Rattle.papaya_settles.proofs.Unpromoted.{NonePromotes, none_promotes, spared_tells}
 
 -- what hands something over does so
-hands_it : (f : Effect) (x : Thing) → HandsOver f x → hands_over f ≡ true
+pub hands_it : (f : Effect) (x : Thing) → HandsOver f x → hands_over f ≡ true
 hands_it (effect.Deferred n t) x hands = refl
 hands_it (effect.Retired y) x hands = refl
 hands_it _ x hands = absurd hands

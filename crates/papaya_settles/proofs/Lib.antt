@@ -49,13 +49,7 @@ pub mod HandKeyCopies
 pub mod HandRooms
 pub mod HandSweeps
 pub mod HandAll
-pub mod WordOps
-pub mod Adds
-pub mod KeyAdds
-pub mod RestAdds
-pub mod ShardKept
-pub mod ShardCalls
-pub mod ShardOthers
-pub mod ShardBetween
-pub mod ShardMakes
-pub mod ShardNumbers
+pub mod HandLives
+pub mod HandThere
+pub mod HandOthers
+pub mod HandHeld

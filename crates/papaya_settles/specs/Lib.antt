@@ -9,6 +9,4 @@ pub mod InHand
 pub mod Hand
 pub mod Owed
 pub mod Handing
-pub mod Adds
-pub mod ShardWords
-pub mod ShardSteps
+pub mod OwedBeside

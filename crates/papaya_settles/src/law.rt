@@ -6,8 +6,8 @@ ghost use Rattle.papaya_settles.specs.Entries.{EntriesBegin, CallsGoOnEntries, E
 ghost use Rattle.papaya_settles.specs.Handing.{CallsBeginHanding, CallsComeToHanding, CallsKeepHanding, CallsTakeHanding, HandingBegins, OthersLeaveHanding, WalksGoOnHanding, WalksStopHanding};
 ghost use Rattle.papaya_settles.specs.InHand.{CallsTakeInHand, CallsHoldTheirs, SweepsTakeInHand, SweepsHoldTheirs};
 ghost use Rattle.papaya_settles.specs.Owed.{OwedBegins, StaysOwed, EffectsLeaveOwed, CallsBeginOwed, CallsTakeOwed, CallsComeToOwed, WalksHaveNothing, RowsHandOver, CallsGoInHand, CallsKeepOwed, WalksGoOnOwed, WalksStopOwed};
+ghost use Rattle.papaya_settles.specs.OwedBeside.{RowsLeaveOwed, MakingsLeaveOwed};
 ghost use Rattle.papaya_settles.specs.Owing.{OwesFollow, HandingFollows, StepsTakeOut};
-ghost use Rattle.papaya_settles.specs.ShardSteps.{CountersBegin, CallsKeepCounters, CallsKeepNumbers, RoomsCountNothing, RowsBeginCounters, RowsKeepCounters, MakingsKeepCounters, EndingsKeepCounters, MakingsBeginCounters, EndingsBeginCounters, CallsBeginCounters, CallsTakeCounters, CallsComeToCounters, CountersStay, NumbersBegin, NumbersStay};
 ghost use Rattle.papaya_settles.specs.Shards.{CountsFindShards};
 ghost use Rattle.papaya_settles.specs.Keeping.{CountsBegin, CallsKeepCounts, CallsBeginCounts, CallsBeginUncounted, CallsTakeCounts, CallsComeToCounts};
 
@@ -94,11 +94,13 @@ pub fn calls_owe_what_they_have<K, V, S>()
     ensures ready { WalksHaveNothing K V }
 {}
 
-/// What is no call leaves that as it was, where the blocks that calls have in hand are what they were: the effects of a row on a slot, of the making of a map, and of the
-/// end of one; and so does a walk that goes on to its next pair, or is given up.
+/// What is no call leaves that as it was: each step of a row on a slot, and of the making of a map, which take nothing away that a call has in hand; the effects of the end
+/// of a map, where the blocks that calls have in hand are what they were; and a walk that goes on to its next pair, or is given up.
 pub fn others_leave_owed<K, V, S>()
     ensures stays { StaysOwed K V }
     ensures effects { EffectsLeaveOwed K V }
+    ensures rows { (same : K → K → Bool) (hash : K → ℕ) → RowsLeaveOwed K V S same hash }
+    ensures makings { (same : K → K → Bool) (hash : K → ℕ) → MakingsLeaveOwed K V S same hash }
     ensures goes_on { (same : K → K → Bool) (hash : K → ℕ) → WalksGoOnOwed K V S same hash }
     ensures stops { (same : K → K → Bool) (hash : K → ℕ) → WalksStopOwed K V S same hash }
 {}
@@ -115,29 +117,4 @@ pub fn rows_under_way_hand_over<K, V, S>()
     ensures begun { CallsBeginHanding K V }
     ensures told { CallsTakeHanding K V }
     ensures come_to { CallsComeToHanding K V }
-{}
-
-/// At each moment of a run that shows the executor, each shard of a map that stands has the word in the memory that the moment says; and a call that is about to count
-/// adds what the moment says that it has gained or lost: one pair more, or one less. So it is before all events; after each step of a call, whoever's, of which one that
-/// counts changes its shard alone, and one of a reservation or of a counting none; where a call begins, takes a reply and comes to an outcome; where a row begins on a
-/// slot, and after each step of it; where a map is made on which nothing was counted, whose shards are 0 then, and where one ends, from the first step to the last; and
-/// as long as calls, maps, makings, shards and the memory are as they were. Nothing was counted on a map whose number none has had yet, before all events, after each step
-/// of a call, and as long as shards are as they were.
-pub fn shards_follow<K, V, S>()
-    ensures begins { CountersBegin K V }
-    ensures calls { (same : K → K → Bool) (hash : K → ℕ) → CallsKeepCounters K V S same hash }
-    ensures nothing { (same : K → K → Bool) (hash : K → ℕ) → RoomsCountNothing K V S same hash }
-    ensures begun { CallsBeginCounters K V }
-    ensures told { CallsTakeCounters K V }
-    ensures come_to { CallsComeToCounters K V }
-    ensures rows_begin { (same : K → K → Bool) (hash : K → ℕ) → RowsBeginCounters K V S same hash }
-    ensures rows { (same : K → K → Bool) (hash : K → ℕ) → RowsKeepCounters K V S same hash }
-    ensures makings_begin { MakingsBeginCounters K V }
-    ensures makings { (same : K → K → Bool) (hash : K → ℕ) → MakingsKeepCounters K V S same hash }
-    ensures endings_begin { EndingsBeginCounters K V }
-    ensures endings { (same : K → K → Bool) (hash : K → ℕ) → EndingsKeepCounters K V S same hash }
-    ensures stays { CountersStay K V }
-    ensures numbers_begin { NumbersBegin K V S }
-    ensures numbers { (same : K → K → Bool) (hash : K → ℕ) → CallsKeepNumbers K V S same hash }
-    ensures numbers_stay { NumbersStay K V S }
 {}

@@ -3,9 +3,14 @@ mod Again
 mod AnySays
 mod ComesOn
 mod KeySays
+mod NextBegins
+mod NextEnds
+mod NextOn
+mod NextSays
 mod OneStep
 mod PlaysAgain
 mod PlaysSteps
+mod PlaysWhole
 mod RightSteps
 mod RoomSays
 mod StepSays

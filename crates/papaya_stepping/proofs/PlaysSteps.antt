@@ -1,7 +1,7 @@
 -- The events by which a call that is under way goes on: one step, or as many as it may take.
 use Rattle.std.specs.Prelude.{◌≡◌, ◌+◌, ◌≤◌, ◌&&◌, ℕ, Bool, true, List, [], is_some, position, sum_by, Option, Some, option_map}
 use Rattle.std.proofs.Common.{refl, sym, ap, subst, ◌∙◌}
-use Rattle.seize_words.specs.declared.fault.Fault.TheVariants.{Busy}
+use Rattle.seize_words.specs.declared.fault.Fault.TheVariants.{Busy, Memory}
 use Rattle.papaya_runs.specs.Present.{Present}
 use Rattle.papaya_runs.specs.Stopped.{most_steps}
 use Rattle.papaya_schedules.specs.declared.call.Call.{Call}
@@ -27,7 +27,7 @@ use Rattle.papaya_stepping.specs.Stepping.{ComesAs, ComesBy, IsInCase, PlaysOn, 
 use Rattle.papaya_scheduler.specs.declared.caller.Stands.TheVariants as far
 use Rattle.papaya_scheduler.specs.declared.scheduler.Scheduler.{Scheduler}
 use Rattle.papaya_stepping.proofs.AfterEffects.{closed_stays, mapped_stays}
-use Rattle.papaya_rows.proofs.Elsewhere.{elsewhere, shown_elsewhere}
+use Rattle.papaya_rows.proofs.Elsewhere.{elsewhere, shown_elsewhere, kept_elsewhere}
 use Rattle.papaya_scheduler.proofs.Here.{Here, here_at}
 use Rattle.papaya_stepping.proofs.RightSteps.{makes_many, makes_one, may_come, not_busy, progresses}
 use Rattle.papaya_scheduler.proofs.Rights.{entry, in_turn, plays}
@@ -42,6 +42,7 @@ stands_elsewhere same hash terms m p stands events is_mapped is_closed is_alone 
   shown = record {
     is_at = stands.shown.is_at;
     shows = shown_elsewhere m (known p.logged.notes) events is_mapped is_closed is_alone there slots sheltered remains same stands.name stands.scene stands.shown.shows;
+    kept = kept_elsewhere m (known p.logged.notes) events is_mapped is_closed is_alone there slots sheltered remains stands.name stands.scene stands.shown.kept;
   };
   given = stands.given;
   there = there_is ∙ stands.there;
@@ -90,6 +91,9 @@ module _ {K V S : Type 0} (same : K → K → Bool) (hash : K → ℕ) (terms : 
   d_comes : ComesAs d.call outcome
   d_comes = subst (λ (x : Call K V). ComesAs x outcome) (sym d_on.call) comes.comes
 
+  d_short : outcome ≡ Refused Memory → d.is_short ≡ true
+  d_short refused = comes.memory refused d (calls_after own c.map own comes.did m c comes.call_is).1
+
   pub never_busy : outcome ≡ Refused Busy → ⊥
   never_busy = not_busy d.call outcome d_comes
 
@@ -99,7 +103,7 @@ module _ {K V S : Type 0} (same : K → K → Bool) (hash : K → ℕ) (terms : 
 
     pub goes_right : ByCall (λ x. Progresses terms x.stands x (moments_from x.begun log) w outcome) (call_of own w)
     goes_right = subst (λ (o : Option (CallThere K V)). ByCall (λ x. Progresses terms x.stands x (moments_from x.begun log) w outcome) o) (sym d_is)
-        (progresses terms d (moments_from d.begun log) w d.stands (ap far_of d_on.stands ∙ call_goes) outcome (may_come terms d (moments_from d.begun log) w outcome d_comes case_of))
+        (progresses terms d (moments_from d.begun log) w d.stands (ap far_of d_on.stands ∙ call_goes) outcome (may_come terms d (moments_from d.begun log) w outcome d_comes d_short case_of))
 
     pub stands_then : (events : ℕ) (is_mapped is_closed is_alone : Bool) (slots : ℕ) (remains : List Remains) → is_mapped ≡ m.is_mapped → is_closed ≡ m.is_closed
         → StandsFor same hash terms (elsewhere events is_mapped is_closed is_alone w.there slots w.sheltered remains (come_to own outcome steps w)) new

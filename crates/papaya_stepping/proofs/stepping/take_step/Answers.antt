@@ -30,7 +30,7 @@ returns-clause-stepped g c =
           subst (λ l. CallGoesOn g.K.PartialEq.eq (g.S.Hashes.hash c.args.scheduler.now.logged.executor.hasher) name m s c.requires.0.number c.requires.0.map c.in_ok-progress.progress c.args.effects.now.items
           c.step.new.effects.items c.args.scheduler.now.logged l) (sym logged_is)
           (subst (λ x. CallGoesOn g.K.PartialEq.eq (g.S.Hashes.hash c.args.scheduler.now.logged.executor.hasher) name m s x.0 x.1 c.in_ok-progress.progress c.args.effects.now.items c.step.new.effects.items
-          c.args.scheduler.now.logged c.step.new.scheduler) read (c.in_ok-progress.ensures.leads name m s shown));
+          c.args.scheduler.now.logged c.step.new.self) read (c.in_ok-progress.ensures.leads name m s shown));
       outcome_is = subst (λ l. c.come_to.result ≡ outcome_of (known l.notes) c.requires.0.kind c.requires.0.value c.in_ok-progress.progress) (sym logged_is) (c.come_to.ensures.outcome c.requires.0 c.requires.1);
       calls = subst (λ l. c.come_to.new.scheduler.calls.items.items ≡ callers_then (known l.notes) c.args.place c.requires.0 c.in_ok-progress.progress c.args.scheduler.now.calls.items.items) (sym logged_is)
           (c.come_to.ensures.calls c.requires.0 c.requires.1);

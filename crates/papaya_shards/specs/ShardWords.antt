@@ -7,7 +7,7 @@ use Rattle.papaya_executor.specs.IsAt.{Scene}
 use Rattle.papaya_executor.specs.declared.executor.Executor.{Executor}
 use Rattle.papaya_finishes.specs.Makings.{Beginning, HasMade}
 use Rattle.papaya_finishes.specs.Maps.{Standing}
-use Rattle.papaya_settles.specs.Adds.{ShowsAdds}
+use Rattle.papaya_shards.specs.Adds.{ShowsAdds}
 
 module _ {K V : Type 0} where
   -- each shard of a map that stands says what the moment says

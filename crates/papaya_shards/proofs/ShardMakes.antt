@@ -42,15 +42,15 @@ use Rattle.papaya_follows.proofs.Operations.{LeavesBy, Operated, operated, opera
 use Rattle.papaya_follows.proofs.Steps.{one_of}
 use Rattle.papaya_moments.specs.Whole.{ShowsWhole}
 use Rattle.papaya_others.proofs.MakingPlans.{DoneBy, making_done, CounterFrom, counter_from}
-use Rattle.papaya_settles.specs.ShardSteps.{MakingsKeepCounters}
-use Rattle.papaya_settles.specs.ShardWords.{ShowsShards, IsUncounted, MakesUncounted, ShowsCounters}
+use Rattle.papaya_shards.specs.ShardSteps.{MakingsKeepCounters}
+use Rattle.papaya_shards.specs.ShardWords.{ShowsShards, IsUncounted, MakesUncounted, ShowsCounters}
 use Rattle.papaya_settles.proofs.Aimed.{new_aims}
 use Rattle.papaya_settles.proofs.Aims.{NewAims, PlanAims, aims_as, table_at, plan_aimed}
 use Rattle.papaya_settles.proofs.Gains.{none_changed}
 use Rattle.papaya_settles.proofs.Here.{IsNoCount}
-use Rattle.papaya_settles.proofs.ShardKept.{none_shards, word_kept, shard_there, made_there, shard_kept, shards_kept, made_kept, adds_kept}
+use Rattle.papaya_shards.proofs.ShardKept.{none_shards, word_kept, shard_there, made_there, shard_kept, shards_kept, made_kept, adds_kept}
 use Rattle.papaya_settles.proofs.Uncounted.{CountsNowhere}
-use Rattle.papaya_settles.proofs.WordOps.{word_lasts, none_there}
+use Rattle.papaya_shards.proofs.WordOps.{word_lasts, none_there}
 
 -- which words of blocks the step of a making may write
 module _ (P : ℕ → Type 0) where

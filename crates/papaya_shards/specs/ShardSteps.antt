@@ -40,9 +40,9 @@ use Rattle.papaya_moments.specs.Whole.{ShowsWhole}
 use Rattle.papaya_others.specs.Endings.{ending_after}
 use Rattle.papaya_others.specs.Makings.{making_after}
 use Rattle.papaya_others.specs.Rows.{scene_then}
-use Rattle.papaya_settles.specs.Adds.{adds_of}
+use Rattle.papaya_shards.specs.Adds.{adds_of}
 use Rattle.papaya_settles.specs.Counts.{is_to_count, ShowsCounts}
-use Rattle.papaya_settles.specs.ShardWords.{IsUncounted, NumbersUncounted, ShowsCounters}
+use Rattle.papaya_shards.specs.ShardWords.{IsUncounted, NumbersUncounted, ShowsCounters}
 
 -- The promises: so it is as a run begins,
 abbrev pub CountersBegin : Type 0 → Type 0 → Type 0

@@ -11,11 +11,11 @@ use Rattle.papaya_effects.specs.declared.acting.Acting.TheVariants as acts
 use Rattle.papaya_executor.specs.IsAt.{Scene, IsAt}
 use Rattle.papaya_executor.specs.declared.executor.Executor.{Executor}
 use Rattle.papaya_finishes.specs.Maps.{Standing}
-use Rattle.papaya_settles.specs.ShardSteps.{CallsKeepNumbers, NumbersBegin, NumbersStay}
-use Rattle.papaya_settles.specs.ShardWords.{NumbersUncounted}
-use Rattle.papaya_settles.proofs.KeyAdds.{key_adds}
-use Rattle.papaya_settles.proofs.RestAdds.{room_adds, sum_adds, sweep_adds}
-use Rattle.papaya_settles.proofs.ShardCalls.{others_then}
+use Rattle.papaya_shards.specs.ShardSteps.{CallsKeepNumbers, NumbersBegin, NumbersStay}
+use Rattle.papaya_shards.specs.ShardWords.{NumbersUncounted}
+use Rattle.papaya_shards.proofs.KeyAdds.{key_adds}
+use Rattle.papaya_shards.proofs.RestAdds.{room_adds, sum_adds, sweep_adds}
+use Rattle.papaya_shards.proofs.ShardCalls.{others_then}
 
 -- a map that stands has its number
 module _ {K V S : Type 0} (same : K → K → Bool) (hash : K → ℕ) (s : Scene K V) (e : Executor K V S) (at_e : IsAt same hash e s) (map : ℕ) (st : Standing K) (there : s.maps map ≡ Some st) where

@@ -28,9 +28,9 @@ use Rattle.papaya_finishes.specs.Sweeps.{SweepStepsAmong}
 use Rattle.papaya_follows.specs.Shows.{Shows}
 use Rattle.papaya_follows.proofs.Steps.{WentTo, went_to, DidSo}
 use Rattle.papaya_follows.proofs.Writes.{nothing_free}
-use Rattle.papaya_settles.specs.Adds.{adds_in_sweeping, adds_of}
+use Rattle.papaya_shards.specs.Adds.{adds_in_sweeping, adds_of}
 use Rattle.papaya_settles.specs.Counts.{counts_in_sweeping, shard_for}
-use Rattle.papaya_settles.proofs.Adds.{sweep_adds_counts, sweep_adds_at, sweep_adds_none, Brings, StepAdds, AddsNone, AddsIts}
+use Rattle.papaya_shards.proofs.Adds.{sweep_adds_counts, sweep_adds_at, sweep_adds_none, Brings, StepAdds, AddsNone, AddsIts}
 use Rattle.papaya_settles.proofs.Aimed.{IsElsewhere}
 use Rattle.papaya_settles.proofs.Gains.{CountGoes, KeepsCount, AddsOne, GivesWay, TakesOne, CountsAll}
 use Rattle.papaya_settles.proofs.Points.{IsNoTry}

@@ -23,12 +23,12 @@ use Rattle.papaya_finishes.specs.Maps.{Standing, IsSameMap}
 use Rattle.papaya_finishes.proofs.Beside.Makings.Lasts.{made_counter}
 use Rattle.papaya_follows.proofs.Operations.{Operated}
 use Rattle.papaya_follows.proofs.Steps.{one_of}
-use Rattle.papaya_settles.specs.Adds.{ShowsAdds}
-use Rattle.papaya_settles.specs.ShardWords.{ShowsShards, IsUncounted, MakesUncounted}
+use Rattle.papaya_shards.specs.Adds.{ShowsAdds}
+use Rattle.papaya_shards.specs.ShardWords.{ShowsShards, IsUncounted, MakesUncounted}
 use Rattle.papaya_settles.specs.Shards.{is_counting}
 use Rattle.papaya_settles.proofs.Gains.{NoneCounts}
 use Rattle.papaya_settles.proofs.Uncounted.{CountsNowhere}
-use Rattle.papaya_settles.proofs.WordOps.{word_lasts}
+use Rattle.papaya_shards.proofs.WordOps.{word_lasts}
 
 -- effects of which none counts leave shards, and so do those of no call
 module _ {K V : Type 0} where

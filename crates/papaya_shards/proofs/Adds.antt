@@ -20,7 +20,7 @@ use Rattle.papaya_teller.specs.declared.changed.Changed.TheVariants as changed
 use Rattle.papaya_effects.specs.Known.{Known}
 use Rattle.papaya_follows.proofs.Steps.{one_of}
 use Rattle.papaya_histories.proofs.Changes.{acted_on}
-use Rattle.papaya_settles.specs.Adds.{adds_in_calling, adds_in_sweeping, adds_of, Adds}
+use Rattle.papaya_shards.specs.Adds.{adds_in_calling, adds_in_sweeping, adds_of, Adds}
 use Rattle.papaya_settles.specs.Counts.{counts_in_calling, counts_in_sweeping, is_to_count}
 use Rattle.papaya_settles.proofs.Gains.{due_same}
 use Rattle.papaya_settles.proofs.Uncounted.{CountsNowhere}

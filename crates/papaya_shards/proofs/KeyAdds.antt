@@ -37,10 +37,10 @@ use Rattle.papaya_follows.specs.Shows.{Shows}
 use Rattle.papaya_follows.proofs.Steps.{WentTo, went_to, DidSo}
 use Rattle.papaya_hands.proofs.Done.{stepped, here}
 use Rattle.papaya_histories.proofs.Which.{DidOnce, DidNone, DidStore, DidReplace, DidRemove}
-use Rattle.papaya_settles.specs.Adds.{adds_in_calling, adds_of}
+use Rattle.papaya_shards.specs.Adds.{adds_in_calling, adds_of}
 use Rattle.papaya_settles.specs.Counts.{counts_in_calling, shard_for}
 use Rattle.papaya_settles.specs.InHand.{pair_in_calling}
-use Rattle.papaya_settles.proofs.Adds.{adds_counts, adds_at, adds_none, Brings, StepAdds, AddsNone, AddsIts}
+use Rattle.papaya_shards.proofs.Adds.{adds_counts, adds_at, adds_none, Brings, StepAdds, AddsNone, AddsIts}
 use Rattle.papaya_settles.proofs.Aimed.{CallsElsewhere}
 use Rattle.papaya_settles.proofs.Fresh.{IsBefore, IsFresh}
 use Rattle.papaya_settles.proofs.Gains.{CountGoes, KeepsCount, AddsOne, GivesWay, TakesOne, CountsAll}

@@ -36,11 +36,11 @@ use Rattle.papaya_follows.proofs.Calls.{IsOfSame, changed, found}
 use Rattle.papaya_follows.proofs.Steps.{one_of}
 use Rattle.papaya_hands.proofs.Asking.{which}
 use Rattle.papaya_hands.proofs.Calling.{caller_is}
-use Rattle.papaya_settles.specs.Adds.{adds_in_calling, adds_in_sweeping, adds_of, Adds, ShowsAdds}
+use Rattle.papaya_shards.specs.Adds.{adds_in_calling, adds_in_sweeping, adds_of, Adds, ShowsAdds}
 use Rattle.papaya_settles.specs.Counts.{counts_in_calling, counts_in_sweeping, is_to_count}
-use Rattle.papaya_settles.specs.ShardSteps.{CallsBeginCounters, CallsTakeCounters, CallsComeToCounters, CountersStay}
-use Rattle.papaya_settles.specs.ShardWords.{ShowsShards, MakesUncounted}
-use Rattle.papaya_settles.proofs.Adds.{machine_adds}
+use Rattle.papaya_shards.specs.ShardSteps.{CallsBeginCounters, CallsTakeCounters, CallsComeToCounters, CountersStay}
+use Rattle.papaya_shards.specs.ShardWords.{ShowsShards, MakesUncounted}
+use Rattle.papaya_shards.proofs.Adds.{machine_adds}
 use Rattle.papaya_settles.proofs.Between.{told_same}
 
 -- a machine that is about to add something takes no reply

@@ -36,12 +36,12 @@ use Rattle.papaya_others.specs.Endings.{ending_after}
 use Rattle.papaya_others.specs.Rows.{scene_then}
 use Rattle.papaya_others.proofs.RowPlans.{TellsRow, row_tells, row_operated}
 use Rattle.papaya_histories.proofs.Aside.Elsewhere.{ending_at}
-use Rattle.papaya_settles.specs.ShardSteps.{CountersBegin, RowsBeginCounters, RowsKeepCounters, EndingsKeepCounters, MakingsBeginCounters, EndingsBeginCounters}
-use Rattle.papaya_settles.specs.ShardWords.{ShowsShards, IsUncounted, MakesUncounted, ShowsCounters}
+use Rattle.papaya_shards.specs.ShardSteps.{CountersBegin, RowsBeginCounters, RowsKeepCounters, EndingsKeepCounters, MakingsBeginCounters, EndingsBeginCounters}
+use Rattle.papaya_shards.specs.ShardWords.{ShowsShards, IsUncounted, MakesUncounted, ShowsCounters}
 use Rattle.papaya_settles.proofs.Gains.{none_changed}
-use Rattle.papaya_settles.proofs.ShardKept.{none_shards, same_setting, word_kept, shards_kept, makes_kept, adds_kept}
+use Rattle.papaya_shards.proofs.ShardKept.{none_shards, same_setting, word_kept, shards_kept, makes_kept, adds_kept}
 use Rattle.papaya_settles.proofs.Uncounted.{CountsNowhere}
-use Rattle.papaya_settles.proofs.WordOps.{gone_there}
+use Rattle.papaya_shards.proofs.WordOps.{gone_there}
 
 pub counters_begin : (K V : Type 0) → CountersBegin K V
 counters_begin K V roots name = record {

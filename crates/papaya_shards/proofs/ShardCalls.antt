@@ -37,19 +37,19 @@ use Rattle.papaya_follows.proofs.Steps.{WentTo, went_to, made_so, one_of}
 use Rattle.papaya_hands.proofs.Asking.{which}
 use Rattle.papaya_hands.proofs.Calling.{caller_is}
 use Rattle.papaya_moments.specs.Whole.{ShowsWhole}
-use Rattle.papaya_settles.specs.Adds.{adds_of, Adds}
+use Rattle.papaya_shards.specs.Adds.{adds_of, Adds}
 use Rattle.papaya_settles.specs.Counts.{HasToCount, ShowsCounts, shard_for}
-use Rattle.papaya_settles.specs.ShardSteps.{AddsUp, CallsKeepCounters, RoomsCountNothing}
-use Rattle.papaya_settles.specs.ShardWords.{ShowsShards, MakesUncounted, ShowsCounters}
-use Rattle.papaya_settles.proofs.Adds.{machine_not_adds, StepAdds, AddsNone, AddsIts, word_added, then_adds}
+use Rattle.papaya_shards.specs.ShardSteps.{AddsUp, CallsKeepCounters, RoomsCountNothing}
+use Rattle.papaya_shards.specs.ShardWords.{ShowsShards, MakesUncounted, ShowsCounters}
+use Rattle.papaya_shards.proofs.Adds.{machine_not_adds, StepAdds, AddsNone, AddsIts, word_added, then_adds}
 use Rattle.papaya_settles.proofs.Calls.{goes_as_one, MayStore, replaces_none}
 use Rattle.papaya_settles.proofs.Gains.{others_stay}
-use Rattle.papaya_settles.proofs.KeyAdds.{key_adds}
+use Rattle.papaya_shards.proofs.KeyAdds.{key_adds}
 use Rattle.papaya_settles.proofs.Rest.{room_nowhere, sum_nowhere}
-use Rattle.papaya_settles.proofs.RestAdds.{room_adds, sum_adds, sweep_adds}
-use Rattle.papaya_settles.proofs.ShardKept.{uncounted_shards, same_setting, word_kept, shard_there, made_there, shards_kept, makes_kept}
+use Rattle.papaya_shards.proofs.RestAdds.{room_adds, sum_adds, sweep_adds}
+use Rattle.papaya_shards.proofs.ShardKept.{uncounted_shards, same_setting, word_kept, shard_there, made_there, shards_kept, makes_kept}
 use Rattle.papaya_settles.proofs.Uncounted.{CountsNowhere, none_counts}
-use Rattle.papaya_settles.proofs.WordOps.{word_lasts}
+use Rattle.papaya_shards.proofs.WordOps.{word_lasts}
 
 module _ {K V S : Type 0} (same : K → K → Bool) (hash : K → ℕ) (name : ℕ → List ℕ) (m : Moment K V) (known : Known) (s : Scene K V) (old new : Executor K V S) (at_old : IsAt same hash old s)
     (whole : ShowsWhole same name m known s) (counts : ShowsCounts name m s) (counters : ShowsCounters name m s) (map i : ℕ) (u : UnderWay K V K) (here : s.calls map i ≡ Some u)

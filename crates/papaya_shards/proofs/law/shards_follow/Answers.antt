@@ -1,10 +1,10 @@
 -- The words of maps' counts are those of the moment.
-use Rattle.papaya_settles.proofs.ShardBetween.{calls_begin_counters, calls_take_counters, calls_come_to_counters, counters_stay}
-use Rattle.papaya_settles.proofs.ShardCalls.{calls_keep_counters, rooms_count_nothing}
-use Rattle.papaya_settles.proofs.ShardMakes.{makings_keep_counters}
-use Rattle.papaya_settles.proofs.ShardNumbers.{calls_keep_numbers, numbers_begin, numbers_stay}
-use Rattle.papaya_settles.proofs.ShardOthers.{counters_begin, rows_begin_counters, rows_keep_counters, endings_keep_counters, makings_begin_counters, endings_begin_counters}
-use Rattle.papaya_settles.proofs.law.shards_follow.Goals as goal
+use Rattle.papaya_shards.proofs.ShardBetween.{calls_begin_counters, calls_take_counters, calls_come_to_counters, counters_stay}
+use Rattle.papaya_shards.proofs.ShardCalls.{calls_keep_counters, rooms_count_nothing}
+use Rattle.papaya_shards.proofs.ShardMakes.{makings_keep_counters}
+use Rattle.papaya_shards.proofs.ShardNumbers.{calls_keep_numbers, numbers_begin, numbers_stay}
+use Rattle.papaya_shards.proofs.ShardOthers.{counters_begin, rows_begin_counters, rows_keep_counters, endings_keep_counters, makings_begin_counters, endings_begin_counters}
+use Rattle.papaya_shards.proofs.law.shards_follow.Goals as goal
 
 pub returns : goal.returns
 returns c d = record {

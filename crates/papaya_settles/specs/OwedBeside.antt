@@ -1,0 +1,41 @@
+-- What is promised of what calls owe over steps that are of no call.
+use Rattle.std.specs.Prelude.{◌≡◌, ℕ, Bool, List, Option, Some, None}
+use Rattle.seize.specs.World.{Step}
+use Rattle.seize.specs.declared.progress.Progress.{Progress}
+use Rattle.papaya_tables.specs.declared.node.Node.{Node}
+use Rattle.papaya_tables.specs.declared.setting.Setting.{Setting}
+use Rattle.papaya_schedules.specs.Effects.{with_effects}
+use Rattle.papaya_schedules.specs.Moment.{Moment}
+use Rattle.papaya_effects.specs.Effects.{effects_of, known_after}
+use Rattle.papaya_effects.specs.Known.{Known}
+use Rattle.papaya_effects.specs.declared.acting.Acting.TheVariants.{Row, Making}
+use Rattle.papaya_executor.specs.IsAt.{Scene, IsAt, work_of}
+use Rattle.papaya_executor.specs.Making.{MakingLeads}
+use Rattle.papaya_executor.specs.OnSlots.{RowLeads}
+use Rattle.papaya_executor.specs.declared.executor.Executor.{Executor}
+use Rattle.papaya_executor.specs.declared.row.RowTold.{RowTold}
+use Rattle.papaya_executor.specs.declared.row.SlotRow.{SlotRow}
+use Rattle.papaya_executor.specs.declared.worker.Work.TheVariants.{OnSlot}
+use Rattle.papaya_finishes.specs.Makings.{Beginning}
+use Rattle.papaya_follows.specs.Shows.{Shows}
+use Rattle.papaya_moments.specs.Whole.{ShowsWhole}
+use Rattle.papaya_others.specs.Makings.{WasNew, making_after}
+use Rattle.papaya_others.specs.Rows.{scene_then}
+use Rattle.papaya_settles.specs.Hand.{ShowsOwed}
+
+-- The promise, of a step of a row on a slot: each call owes just what it has in hand.
+abbrev pub RowsLeaveOwed : (K V S : Type 0) (same : K → K → Bool) (hash : K → ℕ) → Type 0
+RowsLeaveOwed K V S same hash =
+    (name : ℕ → List ℕ) (m : Moment K V) (known : Known) (s : Scene K V) (old new : Executor K V S) → IsAt same hash old s → Shows same name m known s → ShowsOwed name m known s
+    → (i : ℕ) (told : RowTold (Node K V)) (leads : RowLeads same hash i told s old new) (row : SlotRow) (here : work_of old i ≡ Some (OnSlot row))
+    → (let effects = effects_of Row known new.memory.changed in
+    ShowsOwed name (with_effects None None effects m) (known_after Row new.memory.changed known) (scene_then same hash (Step i) s old new (leads row here).4))
+
+-- And of a step of the making of a map, on whichever map its effects are told, if on any.
+abbrev pub MakingsLeaveOwed : (K V S : Type 0) (same : K → K → Bool) (hash : K → ℕ) → Type 0
+MakingsLeaveOwed K V S same hash =
+    (name : ℕ → List ℕ) (m : Moment K V) (known : Known) (s : Scene K V) (old new : Executor K V S) → IsAt same hash old s → ShowsWhole same name m known s → ShowsOwed name m known s
+    → (i : ℕ) (told : Progress Setting) (leads : MakingLeads same hash i told s old new) (b : Beginning K) (here : s.makers i ≡ Some b) (of : Option ℕ) → WasNew b.map told m
+    → (let to = leads b here in
+    let effects = effects_of (Making b.map) known new.memory.changed in
+    ShowsOwed name (with_effects None of effects m) (known_after (Making b.map) new.memory.changed known) (making_after same hash s old new i b to.0 to.2.step.w2 told to.3))

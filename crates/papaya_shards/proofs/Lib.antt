@@ -1,0 +1,10 @@
+pub mod WordOps
+pub mod Adds
+pub mod KeyAdds
+pub mod RestAdds
+pub mod ShardKept
+pub mod ShardCalls
+pub mod ShardOthers
+pub mod ShardBetween
+pub mod ShardMakes
+pub mod ShardNumbers

@@ -1,0 +1,3 @@
+pub mod Adds
+pub mod ShardWords
+pub mod ShardSteps
