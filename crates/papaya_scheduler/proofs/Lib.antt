@@ -11,6 +11,7 @@ mod Mapped
 mod MapsEnded
 mod RootsUsed
 mod MapsMade
+mod AllGiven
 mod Called
 mod Begins
 mod ShapesHere

@@ -7,3 +7,4 @@ pub mod Handing
 pub mod Played
 pub mod KeptOut
 pub mod Mapping
+pub mod Reclaiming
