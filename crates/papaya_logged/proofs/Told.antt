@@ -43,16 +43,19 @@ module _ {K V S : Type 0} (same : K → K → Bool) (hash : K → ℕ) (old new 
 
   pub walk_goes_on : (ready : Bool) → ((s : Scene K V) → IsAt same hash old.executor s → AskLeads same hash i ready s old.executor new.executor)
       → (name : ℕ → List ℕ) (m : Moment K V) (s : Scene K V) → IsShown same hash name m old s → WalkGoesOn same hash name m s i ready old new
-  walk_goes_on ready leads name m s shown map u here = ((leads s shown.is_at map u here).2, λ is_ready.
-      let asked = subst (λ (q : Bool). AskLeads same hash i q s old.executor new.executor) is_ready (leads s shown.is_at) in
-      let to = asked map u here in (
-        to.0,
-        to.1,
-        record {
-          is_at = to.4;
-          shows = noted_so name m (scene_with map i to.0 s) (walks_go_on_whole K V S same hash name m (known old.notes) s old.executor new.executor shown.shows i asked map u here);
-        },
-      ))
+  walk_goes_on ready leads name m s shown map u here = (
+    (leads s shown.is_at map u here).2,
+    λ is_ready.
+        let asked = subst (λ (q : Bool). AskLeads same hash i q s old.executor new.executor) is_ready (leads s shown.is_at) in
+        let to = asked map u here in (
+          to.0,
+          to.1,
+          record {
+            is_at = to.4;
+            shows = noted_so name m (scene_with map i to.0 s) (walks_go_on_whole K V S same hash name m (known old.notes) s old.executor new.executor shown.shows i asked map u here);
+          },
+        ),
+  )
 
   pub walk_stops : (stopped : Bool) → ((s : Scene K V) → IsAt same hash old.executor s → StopLeads same hash i stopped s old.executor new.executor)
       → (name : ℕ → List ℕ) (m : Moment K V) (s : Scene K V) → IsShown same hash name m old s → WalkStops same hash name m s i stopped old new

@@ -1,5 +1,5 @@
 -- Lists: what is found, and what becomes of it, on two lists of which the same is seen.
-use Rattle.std.specs.Prelude.{◌≡◌, ◌≤◌, ◌+◌, ℕ, zero, suc, Bool, true, false, not, cond, ◌||◌, ◌&&◌, List, [], ◌∷◌, length, filter, find, map, is_some, Option, Some, None, option_map, slice_set, slice_get, slice_index_or, nat_lt, position, if◌then◌else◌}
+use Rattle.std.specs.Prelude.{◌≡◌, ◌≤◌, ◌<◌, ◌+◌, ℕ, zero, suc, Bool, true, false, not, cond, ◌||◌, ◌&&◌, List, [], ◌∷◌, ◌++◌, length, filter, find, map, take, drop, is_some, Option, Some, None, option_map, slice_set, slice_get, slice_index_or, nat_lt, position, if◌then◌else◌}
 use Rattle.std.specs.List.{AllByRecursion, list_any, list_all, position_or_len, remove, insert}
 use Rattle.std.proofs.lemmas.Bool.{lt-ltb}
 use Rattle.std.proofs.lemmas.List.Folds.{find_at}
@@ -364,3 +364,47 @@ found_once {X} p q (x ∷ xs) so few any y is = one (p x) (q x) refl so.0 few an
     one true false e h l any f ih = absurd (some_kept (λ z. z) (λ z. z) p xs (any_too p q xs so.1 any) (omega (arith, l)))
     one false true e h l any f ih = absurd (let k = h refl in cc k)
     one false false e h l any f ih = ih l any f
+
+-- of one that is written at a place: it is read there, and where it is seen as the one before it, so is the list, and tests find what they found
+module _ {X : Type 0} where
+  pub set_get : (xs : List X) (k : ℕ) (old new : X) → slice_get xs k ≡ Some old → slice_get (slice_set xs k new) k ≡ Some new
+  set_get [] k old new is = absurd (cc is)
+  set_get (x ∷ xs) zero old new is = refl
+  set_get (x ∷ xs) (suc k) old new is = set_get xs k old new is
+
+  pub set_seen : {Z : Type 0} (g : X → Z) (xs : List X) (k : ℕ) (old new : X) → slice_get xs k ≡ Some old → g new ≡ g old → map g (slice_set xs k new) ≡ map g xs
+  set_seen g [] k old new is same = refl
+  set_seen {Z} g (x ∷ xs) zero old new is same = let e : x ≡ old = cc is in ap (λ (z : Z). z ∷ map g xs) (same ∙ ap g (sym e))
+  set_seen {Z} g (x ∷ xs) (suc k) old new is same = ap (λ (l : List Z). g x ∷ l) (set_seen g xs k old new is same)
+
+  pub set_itself : (xs : List X) (k : ℕ) (x : X) → slice_get xs k ≡ Some x → slice_set xs k x ≡ xs
+  set_itself [] k x is = refl
+  set_itself (y ∷ xs) zero x is = let e : y ≡ x = cc is in ap (λ (z : X). z ∷ xs) (sym e)
+  set_itself (y ∷ xs) (suc k) x is = ap (λ (l : List X). y ∷ l) (set_itself xs k x is)
+
+  set_long : (xs : List X) (k : ℕ) (new : X) → length (slice_set xs k new) ≡ length xs
+  set_long [] k new = refl
+  set_long (x ∷ xs) zero new = refl
+  set_long (x ∷ xs) (suc k) new = ap suc (set_long xs k new)
+
+  set_first : (p : X → Bool) (xs : List X) (k : ℕ) (old new : X) → slice_get xs k ≡ Some old → p new ≡ p old → position_or_len p (slice_set xs k new) ≡ position_or_len p xs
+  set_first p [] k old new is same = refl
+  set_first p (x ∷ xs) zero old new is same = let e : x ≡ old = cc is in ap (λ (b : Bool). cond (not b) (1 + position_or_len p xs) 0) (same ∙ ap p (sym e))
+  set_first p (x ∷ xs) (suc k) old new is same = ap (λ (n : ℕ). cond (not (p x)) (1 + n) 0) (set_first p xs k old new is same)
+
+  pub set_position : (p : X → Bool) (xs : List X) (k : ℕ) (old new : X) → slice_get xs k ≡ Some old → p new ≡ p old → position p (slice_set xs k new) ≡ position p xs
+  set_position p xs k old new is same =
+      ap (λ (n : ℕ). cond (nat_lt n (length (slice_set xs k new))) (Some n) None) (set_first p xs k old new is same)
+      ∙ ap (λ (n : ℕ). cond (nat_lt (position_or_len p xs) n) (Some (position_or_len p xs)) None) (set_long xs k new)
+
+-- where one stands there is a place
+pub got_within : {X : Type 0} (xs : List X) (k : ℕ) (x : X) → slice_get xs k ≡ Some x → k < length xs
+got_within [] k x e = absurd (cc e)
+got_within (y ∷ xs) zero x e = omega arith
+got_within (y ∷ xs) (suc k) x e = let l = got_within xs k x e in omega (arith, l)
+
+-- the first one, where it passes, is found at once
+pub first_position : {X : Type 0} (p : X → Bool) (x : X) (xs : List X) → p x ≡ true → Some 0 ≡ position p (x ∷ xs)
+first_position p x xs is =
+    ap (λ (q : Bool). cond q (Some 0) None) (sym (lt-ltb 0 (length (x ∷ xs)) (omega arith)))
+    ∙ ap (λ (b : Bool). cond (nat_lt (cond (not b) (1 + position_or_len p xs) 0) (length (x ∷ xs))) (Some (cond (not b) (1 + position_or_len p xs) 0)) None) (sym is)

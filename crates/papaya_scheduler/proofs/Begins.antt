@@ -34,7 +34,7 @@ use Rattle.papaya_scheduler.specs.declared.caller.Caller.{Caller}
 use Rattle.papaya_scheduler.specs.declared.caller.Callers.{Callers}
 use Rattle.papaya_scheduler.specs.declared.caller.Stands.TheVariants as far
 use Rattle.papaya_scheduler.specs.declared.scheduler.Scheduler.{Scheduler}
-use Rattle.papaya_scheduler.proofs.Called.{begun_call, begins_so, is_as_far, is_begun_for, is_called, its_machine}
+use Rattle.papaya_scheduler.proofs.Called.{begins_for_room, begun_call, begins_so, is_as_far, is_begun_for, is_called, its_machine}
 use Rattle.papaya_rows.proofs.Facts.{no_ending_of, no_making_of, no_work_at, row_rests, slot_fits, used_still}
 use Rattle.papaya_rows.proofs.Lists.{all_but, all_so, as_some, found_alike, is_found, none_kept, one_of}
 use Rattle.papaya_scheduler.proofs.Maps.{setting_of_it, setting_some}
@@ -162,7 +162,7 @@ module _ {K V S : Type 0} (same : K → K → Bool) (hash : K → ℕ) (terms : 
           ap (λ (x : Seen). then_at.calls x.map caller.number) is ∙ ap (λ (j : ℕ). then_at.calls number j) numbered ∙ here_then,
           ap names numbered ∙ name_here ∙ sym (ap (λ (x : Seen). x.name) is),
           ap (λ (x : Seen). living_slot (guard_of x.guard p.there.guards)) is ∙ lives ∙ ap Some (sym at_slot ∙ ap slot_of (sym numbered)),
-          subst (λ (x : Seen). IsAsFarOf x) (sym is) (is_as_far same st i call),
+          (subst (λ (x : Seen). IsAsFarOf x) (sym is) (is_as_far same st i call), begins_for_room same st i call),
         )
           where
             IsAsFarOf : Seen → Type 0

@@ -1,6 +1,7 @@
 -- A call as it begins on a map: what is under way then, and that it is what was called.
-use Rattle.std.specs.Prelude.{◌≡◌, ◌^◌, ℕ, Bool, true, [], Some, None}
+use Rattle.std.specs.Prelude.{◌≡◌, ◌<◌, ◌^◌, ℕ, Bool, true, [], Some, None}
 use Rattle.std.proofs.Common.{refl, sym, arith}
+use Rattle.papaya_raw.specs.declared.machines.call.KeyCall.{KeyCall}
 use Rattle.papaya_reserves.specs.Reserve.{reserving}
 use Rattle.papaya_resize.specs.Sum.{summing}
 use Rattle.papaya_rule.specs.Maps.{IsClass}
@@ -20,7 +21,7 @@ use Rattle.papaya_executor.specs.IsAt.{slot_of}
 use Rattle.papaya_follows.specs.Calls.{IsCalled}
 use Rattle.papaya_hands.specs.Asked.{given_by}
 use Rattle.papaya_hands.specs.Calling.{IsBegunFor}
-use Rattle.papaya_scheduler.specs.Machines.{IsAsFar, machine_for, machine_on}
+use Rattle.papaya_scheduler.specs.Machines.{IsAsFar, RefusedForRoom, machine_for, machine_on}
 use Rattle.papaya_scheduler.specs.Seen.{kind_of}
 use Rattle.papaya_scheduler.specs.declared.caller.Stands.TheVariants as far
 
@@ -73,10 +74,19 @@ module _ {K V : Type 0} (same : K → K → Bool) (st : Standing K) (i : ℕ) wh
   pub is_as_far : (call : Call K V) → IsAsFar (kind_of call) far.Goes (machine_of (begun_call call))
   is_as_far (On one) = tt
   is_as_far (Reserve additional) = tt
-  is_as_far Clear = (refl, tt)
-  is_as_far Retain = (refl, tt)
+  is_as_far Clear = (refl, λ e. absurd (cc e))
+  is_as_far Retain = (refl, λ e. absurd (cc e))
   is_as_far Len = tt
-  is_as_far Walk = (refl, tt)
+  is_as_far Walk = (refl, λ e. tt)
+
+  -- it has no fault to tell
+  pub begins_for_room : (call : Call K V) → RefusedForRoom (machine_of (begun_call call))
+  begins_for_room (On one) = tt
+  begins_for_room (Reserve additional) = tt
+  begins_for_room Clear = tt
+  begins_for_room Retain = tt
+  begins_for_room Len = tt
+  begins_for_room Walk = tt
 
   module _ (are : AreLawful same st.hash) where
     key_begun : (one : OneKey K V) → IsBegun V same st.hash same st.setting slot_of i (same (key_of one)) (given_by one []) (machine_on (in_slot st.setting (slot_of i)) st.hash one)

@@ -2,18 +2,20 @@
 use Rattle.std.specs.Prelude.{◌≡◌, ℕ, Bool, true, List, find, position, slice_get, slice_index_or, is_some, Option, Some, None, option_map}
 use Rattle.std.specs.List.{list_any, position_or_len}
 use Rattle.std.proofs.Common.{refl, sym, ap, ◌∙◌}
+use Rattle.papaya_raw.specs.declared.machines.machine.Machine.{Machine}
 use Rattle.papaya_runs.specs.Same.{is_same}
 use Rattle.papaya_schedules.specs.Moment.{UnderWay as CallThere, Moment}
 use Rattle.papaya_schedules.specs.Terms.{Terms}
 use Rattle.papaya_schedules.specs.Views.{call_of}
 use Rattle.papaya_follows.proofs.Calling.{is_same_is}
-use Rattle.papaya_scheduler.specs.Played.{IsUnderWay, StandsFor}
+use Rattle.papaya_scheduler.specs.Played.{AsFar, IsUnderWayAs, StandsAs, StandsFor}
 use Rattle.papaya_scheduler.specs.Seen.{Seen, is_named, seen, seen_of}
 use Rattle.papaya_scheduler.specs.declared.caller.Caller.{Caller}
 use Rattle.papaya_scheduler.specs.declared.scheduler.Scheduler.{Scheduler}
 use Rattle.papaya_rows.proofs.Lists.{got, as_some, both_some, found_alike, found_has, found_passes, is_found, place_found, place_is, place_some}
 
-module _ {K V S : Type 0} (same : K → K → Bool) (hash : K → ℕ) (terms : Terms) (m : Moment K V) (p : Scheduler K V S) (stands : StandsFor same hash terms m p) (own : List ℕ) where
+module _ {K V S : Type 0} (Far : Caller V → Machine K V K → Type 0) (same : K → K → Bool) (hash : K → ℕ) (terms : Terms) (m : Moment K V) (p : Scheduler K V S)
+    (stands : StandsAs Far same hash terms m p) (own : List ℕ) where
   abbrev calls : List (Caller V)
   calls = p.calls.items.items
 
@@ -24,11 +26,11 @@ module _ {K V S : Type 0} (same : K → K → Bool) (hash : K → ℕ) (terms : 
   alike = found_alike seen seen_of m.calls calls stands.calls.listed (λ (z : Seen). is_same z.name own)
 
   -- it is found in the moment just where it has a place
-  pub there_is : (place : Option ℕ) → place ≡ place_there → is_some (call_of own m) ≡ is_some place
-  there_is place is = as_some seen seen_of (call_of own m) (find (is_named own) calls) alike ∙ is_found (is_named own) calls ∙ sym (place_some (is_named own) calls place is)
+  pub there_is_as : (place : Option ℕ) → place ≡ place_there → is_some (call_of own m) ≡ is_some place
+  there_is_as place is = as_some seen seen_of (call_of own m) (find (is_named own) calls) alike ∙ is_found (is_named own) calls ∙ sym (place_some (is_named own) calls place is)
 
   -- who stands at its place: it has that name, and the moment has its call
-  pub record Here (place : ℕ) : Type 0 where
+  pub record HereAs (place : ℕ) : Type 0 where
     pub caller : Caller V
     pub at : slice_get calls place ≡ Some caller
     pub first : place ≡ position_or_len (is_named own) calls
@@ -38,15 +40,15 @@ module _ {K V S : Type 0} (same : K → K → Bool) (hash : K → ℕ) (terms : 
     pub call : CallThere K V
     pub call_is : call_of own m ≡ Some call
     pub as_seen : seen call ≡ seen_of caller
-    pub way : IsUnderWay stands.name stands.scene p.there caller
+    pub way : IsUnderWayAs Far stands.name stands.scene p.there caller
 
-  pub here_at : (place : ℕ) → Some place ≡ place_there → Here place
-  here_at place is = by (find (is_named own) calls) refl
+  pub here_as_at : (place : ℕ) → Some place ≡ place_there → HereAs place
+  here_as_at place is = by (find (is_named own) calls) refl
     where
       any : list_any (is_named own) calls ≡ true
       any = sym (place_some (is_named own) calls (Some place) is)
 
-      by : (o : Option (Caller V)) → find (is_named own) calls ≡ o → Here place
+      by : (o : Option (Caller V)) → find (is_named own) calls ≡ o → HereAs place
       by None f = absurd (let a = is_found (is_named own) calls ∙ any in let b = ap is_some f in cc (a, b))
       by (Some d) f =
           let there = both_some seen seen_of (call_of own m) (find (is_named own) calls) alike d f in
@@ -60,9 +62,23 @@ module _ {K V S : Type 0} (same : K → K → Bool) (hash : K → ℕ) (terms : 
             call = there.0;
             call_is = there.1;
             as_seen = there.2;
-            way = found_has (IsUnderWay stands.name stands.scene p.there) (is_named own) calls d f stands.calls.each;
+            way = found_has (IsUnderWayAs Far stands.name stands.scene p.there) (is_named own) calls d f stands.calls.each;
           }
 
   -- who is read there
-  pub read_here : (place : ℕ) (here : Here place) (x : Caller V) → x ≡ slice_index_or calls place x → x ≡ here.caller
-  read_here place here x e = e ∙ got calls place here.caller x here.at
+  pub read_as : (place : ℕ) (here : HereAs place) (x : Caller V) → x ≡ slice_index_or calls place x → x ≡ here.caller
+  read_as place here x e = e ∙ got calls place here.caller x here.at
+
+-- where each machine is as far as its caller says
+module _ {K V S : Type 0} (same : K → K → Bool) (hash : K → ℕ) (terms : Terms) (m : Moment K V) (p : Scheduler K V S) (stands : StandsFor same hash terms m p) (own : List ℕ) where
+  abbrev pub Here : ℕ → Type 0
+  Here = HereAs AsFar same hash terms m p stands own
+
+  pub there_is : (place : Option ℕ) → place ≡ position (is_named own) p.calls.items.items → is_some (call_of own m) ≡ is_some place
+  there_is = there_is_as AsFar same hash terms m p stands own
+
+  abbrev pub here_at : (place : ℕ) → Some place ≡ position (is_named own) p.calls.items.items → Here place
+  here_at = here_as_at AsFar same hash terms m p stands own
+
+  pub read_here : (place : ℕ) (here : Here place) (x : Caller V) → x ≡ slice_index_or p.calls.items.items place x → x ≡ here.caller
+  read_here = read_as AsFar same hash terms m p stands own

@@ -1,36 +1,36 @@
-mod Rights
-mod Quiet
-mod Simple
-mod Chosen
-mod KeptOut
-mod Refused
-mod Seats
-mod Maps
-mod MapLists
-mod Mapped
-mod MapsEnded
-mod RootsUsed
-mod MapsMade
+pub mod Rights
+pub mod Quiet
+pub mod Simple
+pub mod Chosen
+pub mod KeptOut
+pub mod Refused
+pub mod Seats
+pub mod Maps
+pub mod Called
+pub mod Begins
+pub mod ShapesHere
+pub mod RanOn
+pub mod Enters
+pub mod Takes
+pub mod Here
+pub mod Replied
+pub mod Stopped
+pub mod First
+pub mod Unregisters
+pub mod Dropped
+pub mod Refreshes
+pub mod Drops
+pub mod Flushes
+pub mod Begun
+pub mod RepliedSo
+pub mod BegunSo
+pub mod Vacancies
+pub mod SlotTaken
+pub mod Registers
+pub mod Owns
+pub mod MapLists
+pub mod Mapped
+pub mod MapsEnded
+pub mod RootsUsed
+pub mod MapsMade
 mod AllGiven
-mod Called
-mod Begins
-mod ShapesHere
-mod RanOn
-mod Enters
-mod Takes
-mod Here
-mod Replied
-mod Stopped
-mod First
-mod Unregisters
-mod Dropped
-mod Refreshes
-mod Drops
-mod Flushes
-mod Begun
-mod RepliedSo
-mod BegunSo
-mod Vacancies
-mod SlotTaken
-mod Registers
-mod Owns

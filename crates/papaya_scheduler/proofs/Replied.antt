@@ -1,7 +1,7 @@
 -- A call that asks is told a reply.
-use Rattle.std.specs.Prelude.{◌≡◌, ◌≢◌, ◌⊎◌, ◌+◌, ◌≤◌, ◌==◌, ◌&&◌, ℕ, Bool, true, false, List, find, map, position, slice_get, slice_set, is_some, Option, Some, None, Result, Ok}
-use Rattle.std.specs.List.{AllByRecursion, list_any}
-use Rattle.std.proofs.Common.{refl, sym, ap, subst, ◌∙◌, inl, inr}
+use Rattle.std.specs.Prelude.{◌≡◌, ◌≢◌, ◌⊎◌, ◌+◌, ◌≤◌, ◌==◌, ◌&&◌, ℕ, Bool, true, false, not, List, ◌∷◌, length, filter, find, map, position, slice_get, slice_set, is_some, Option, Some, None, Result, Ok, Err, if◌then◌else◌}
+use Rattle.std.specs.List.{AllByRecursion, list_any, position_or_len}
+use Rattle.std.proofs.Common.{refl, sym, ap, subst, ◌∙◌, inl, inr, arith, eqb-true}
 use Rattle.std.proofs.lemmas.Bool.{cases_eq}
 use Rattle.seize_words.specs.declared.fault.Fault.TheVariants.{Busy}
 use Rattle.papaya_tables.specs.declared.node.Node.{Node}
@@ -23,6 +23,7 @@ use Rattle.papaya_raw.specs.declared.machines.asking.Reply.{Reply as MachineRepl
 use Rattle.papaya_raw.specs.declared.machines.call.Calling.{Calling}
 use Rattle.papaya_raw.specs.declared.machines.call.Calling.TheVariants as at
 use Rattle.papaya_raw.specs.declared.machines.machine.Machine.{Machine}
+use Rattle.papaya_runs.specs.Present.{guard_of, living_slot}
 use Rattle.papaya_runs.specs.Same.{is_same}
 use Rattle.papaya_schedules.specs.declared.call.Call.{Call}
 use Rattle.papaya_schedules.specs.declared.call.Call.TheVariants.{On, Reserve, Clear, Retain, Len, Walk}
@@ -40,10 +41,11 @@ use Rattle.papaya_schedules.specs.Moment.{Stands, Going, Asking as Asks, Told, I
 use Rattle.papaya_schedules.specs.Terms.{Terms}
 use Rattle.papaya_schedules.specs.Views.{call_of}
 use Rattle.papaya_callers.specs.Pairs.{Given, Begun, IsTold, KeepsGiven, IsOfKind, kind_of as kind_given}
+use Rattle.papaya_callers.specs.Rows.{once_over}
 use Rattle.papaya_callers.specs.Sights.{seen_by}
 use Rattle.papaya_callers.specs.Together.{CallOnKey, UnderWay, OnKey, ForRoom, Counting, OverAll, Together, Stands as TogetherStands}
 use Rattle.papaya_callers.proofs.Together.At.{at_other, at_same}
-use Rattle.papaya_executor.specs.IsAt.{Scene, HasCall, slot_of, work_of}
+use Rattle.papaya_executor.specs.IsAt.{Scene, IsAt, HasCall, slot_of, work_of}
 use Rattle.papaya_executor.specs.Replying.{ReplyLeads, scene_with}
 use Rattle.papaya_finishes.specs.Machines.{machine_of}
 use Rattle.papaya_finishes.specs.Maps.{Standing}
@@ -53,12 +55,14 @@ use Rattle.papaya_hands.specs.Asked.{IsAskedAs, as_told}
 use Rattle.papaya_effects.specs.Known.{known}
 use Rattle.papaya_executor.proofs.Changed.{standing_is}
 use Rattle.papaya_follows.proofs.Calling.{is_same_refl}
+use Rattle.papaya_late.specs.Faults.{RoomInSweeping}
+use Rattle.papaya_late.proofs.KindsKept.Laws.{told_sweeps_refuse_room}
 use Rattle.papaya_late.specs.Kinds.{FitsAsking, FitsAt}
 use Rattle.papaya_points.specs.Told.{IsRowOfCall}
 use Rattle.papaya_logged.specs.Calling.{CallTakes}
 use Rattle.papaya_logged.specs.Shown.{IsShown}
 use Rattle.papaya_logged.specs.declared.logged.Logged.{Logged}
-use Rattle.papaya_scheduler.specs.Machines.{IsAsFar, IsFor}
+use Rattle.papaya_scheduler.specs.Machines.{IsAsFar, IsFor, RefusedForRoom}
 use Rattle.papaya_scheduler.specs.Played.{CallsAre, IsDue, IsUnderWay, Plays, StandsFor}
 use Rattle.papaya_scheduler.specs.Seen.{Seen, asks, far_of, fits, is_named, kind_of, kind_on, seen, seen_of, takes}
 use Rattle.papaya_scheduler.specs.declared.caller.Caller.{Caller}
@@ -75,7 +79,7 @@ use Rattle.papaya_scheduler.proofs.Takes.{key_takes, sweep_takes}
 use Rattle.papaya_scheduler.proofs.Rights.{in_turn, out_of_turn, plays, quiet}
 
 -- What a call on a key was begun with, and told since, says of which kind it is.
-of_kind : {K V : Type 0} (hash : K → ℕ) (m : Mem (Node K V)) (c : Chart K) (blocks : Blocks) (keys : K → Bool) (pair : Given K V) (change : Change) (p : KeyCall K V K) (stands : Calling)
+pub of_kind : {K V : Type 0} (hash : K → ℕ) (m : Mem (Node K V)) (c : Chart K) (blocks : Blocks) (keys : K → Bool) (pair : Given K V) (change : Change) (p : KeyCall K V K) (stands : Calling)
     → KeepsGiven hash m c blocks keys pair change p stands → IsOfKind (kind_given pair) p stands
 of_kind hash m c blocks keys (Begun kind pair) change p stands kept = kept.2
 of_kind hash m c blocks keys (IsTold kind its asked) change p stands kept = kept.2
@@ -119,7 +123,7 @@ asks_what (far.Asks question) e = (question, refl)
 asks_what far.Goes e = absurd (cc e)
 asks_what far.Ready e = absurd (cc e)
 
-far_asks : (stands : Stands) (question : Option ℕ) → far_of stands ≡ far.Asks question → stands ≡ Asks question
+pub far_asks : (stands : Stands) (question : Option ℕ) → far_of stands ≡ far.Asks question → stands ≡ Asks question
 far_asks Going question e = absurd (cc e)
 far_asks (Asks q) question e = ap Asks (the q question e)
   where
@@ -143,11 +147,27 @@ module _ {V : Type 0} where
   told_purpose (sweeping.Asks word) c machine_reply.Abort = refl
   told_purpose _ c told = refl
 
+-- and it is refused for nothing else
+told_for_room : {K V : Type 0} (machine : Machine K V K) (told : MachineReply V) → RefusedForRoom machine → RefusedForRoom (machine_replied machine told).0
+told_for_room (kinds.Key call) told room = tt
+told_for_room (kinds.Reserve c) told room = room
+told_for_room (kinds.Count c) told room = tt
+told_for_room {K} {V} (kinds.Sweep c) told room = by c.stands told
+  where
+    by : (stage : Sweeping) (reply : MachineReply V) → RoomInSweeping (sweep_told stage c reply).0.stands
+    by (sweeping.Asks word) machine_reply.Yes = (told_sweeps_refuse_room c room).1 true
+    by (sweeping.Asks word) machine_reply.No = (told_sweeps_refuse_room c room).1 false
+    by (sweeping.Asks word) (machine_reply.Insert v) = room
+    by (sweeping.Asks word) machine_reply.Remove = room
+    by (sweeping.Asks word) machine_reply.Abort = room
+    by _ reply = room
+
 goes_far : {K V : Type 0} (kind : Kind) (question : Option ℕ) (machine : Machine K V K) (told : MachineReply V) → IsAsFar kind (far.Asks question) machine → IsAsFar kind far.Goes (machine_replied machine told).0
 goes_far kind question (kinds.Key call) told is = tt
 goes_far kind question (kinds.Reserve c) told is = tt
 goes_far kind question (kinds.Count c) told is = tt
-goes_far kind question (kinds.Sweep c) told is = (subst (IsFor kind) (sym (told_purpose c.stands c told)) is.0, tt)
+goes_far kind question (kinds.Sweep c) told is =
+    (subst (IsFor kind) (sym (told_purpose c.stands c told)) is.0, λ walks. absurd (let a = is.1.2 in let b = sym (told_purpose c.stands c told) ∙ walks in cc (a, b)))
 
 module _ {K V S : Type 0} (same : K → K → Bool) (hash : K → ℕ) (terms : Terms) (log : List (Entry K V)) (p : Scheduler K V S) (own : List ℕ) (reply : Reply V)
     (due : IsDue same hash terms log (Replied own reply) p) where
@@ -234,7 +254,7 @@ module _ {K V S : Type 0} (same : K → K → Bool) (hash : K → ℕ) (terms : 
       call_named = ap (λ (x : List ℕ). call_of x m) name_is ∙ here.call_is
 
       as_far : IsAsFar d.kind (far.Asks question) (machine_of u)
-      as_far = subst (λ (x : HowFar). IsAsFar d.kind x (machine_of u)) asks_it here.way.4
+      as_far = subst (λ (x : HowFar). IsAsFar d.kind x (machine_of u)) asks_it here.way.4.0
 
       abbrev st : (standing : Standing K) × (s.maps d.map ≡ Some standing)
       st = standing_is same hash p.logged.executor s stands.shown.is_at d.map i u under
@@ -334,7 +354,7 @@ module _ {K V S : Type 0} (same : K → K → Bool) (hash : K → ℕ) (terms : 
           calls2 = slice_set calls place resumed
 
           way_then : IsUnderWay stands.name then_at p.there resumed
-          way_then = (to.0, here_then, here.way.2, here.way.3, subst (IsAsFar d.kind far.Goes) (sym to.1) (goes_far d.kind question (machine_of u) (as_told reply) as_far))
+          way_then = (to.0, here_then, here.way.2, here.way.3, (subst (IsAsFar d.kind far.Goes) (sym to.1) (goes_far d.kind question (machine_of u) (as_told reply) as_far), subst RefusedForRoom (sym to.1) (told_for_room (machine_of u) (as_told reply) here.way.4.1)))
 
           -- others have other numbers
           still : (x : Caller V) → is_named own x ≡ false → IsUnderWay stands.name s p.there x → IsUnderWay stands.name then_at p.there x

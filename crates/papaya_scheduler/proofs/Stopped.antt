@@ -56,7 +56,7 @@ shows_seen (Asking question) = refl
 shows_seen Told = refl
 shows_seen IsReady = refl
 
-shows_is : (how : HowFar) → shows how ≡ true → how ≡ far.Ready
+pub shows_is : (how : HowFar) → shows how ≡ true → how ≡ far.Ready
 shows_is far.Ready e = refl
 shows_is far.Goes e = absurd (cc e)
 shows_is (far.Asks question) e = absurd (cc e)
@@ -155,7 +155,7 @@ module _ {K V S : Type 0} (same : K → K → Bool) (hash : K → ℕ) (terms : 
 
       module _ (stopped : Bool) (new : Logged K V S) (stops : WalkStops same hash stands.name m s i stopped p.logged new) where
         is_stopped : stopped ≡ true
-        is_stopped = (stops d.map u under).0 ∙ asked_ready d.kind (machine_of u) (subst (λ (x : HowFar). IsAsFar d.kind x (machine_of u)) far_is at_place.way.4)
+        is_stopped = (stops d.map u under).0 ∙ asked_ready d.kind (machine_of u) (subst (λ (x : HowFar). IsAsFar d.kind x (machine_of u)) far_is at_place.way.4.0)
 
         abbrev then_at : Scene K V
         then_at = record s { calls = with_call_of s.calls d.map i None }
@@ -256,14 +256,14 @@ module _ {K V S : Type 0} (same : K → K → Bool) (hash : K → ℕ) (terms : 
             together = stands.shown.is_at.together.makings.standing.each d.map st.0 st.1
 
             at_ready : o.sweep.stands ≡ sweeping.Ready
-            at_ready = (subst (λ (x : UnderWay K V K). IsAsFar d.kind far.Ready (machine_of x)) is (subst (λ (x : HowFar). IsAsFar d.kind x (machine_of u)) far_is at_place.way.4)).1
+            at_ready = (subst (λ (x : UnderWay K V K). IsAsFar d.kind far.Ready (machine_of x)) is (subst (λ (x : HowFar). IsAsFar d.kind x (machine_of u)) far_is at_place.way.4.0)).1
 
             of : TogetherStands V same st.0.hash same st.0.setting slot_of s.world st.0.chart (seen_by st.0.blocks (st.0.sights (slot_of i))) i (OverAll o) → s.world.row i ≡ Rests
             of (inl (rests, knows)) = rests
             of (inr (row, is_row, knows)) = absurd (subst IsRowOfSweep at_ready is_row)
-        row_of_it (OnKey x) is = absurd (subst (λ (y : UnderWay K V K). IsAsFar d.kind far.Ready (machine_of y)) is (subst (λ (y : HowFar). IsAsFar d.kind y (machine_of u)) far_is at_place.way.4))
-        row_of_it (ForRoom r) is = absurd (subst (λ (y : UnderWay K V K). IsAsFar d.kind far.Ready (machine_of y)) is (subst (λ (y : HowFar). IsAsFar d.kind y (machine_of u)) far_is at_place.way.4))
-        row_of_it (Counting sum) is = absurd (subst (λ (y : UnderWay K V K). IsAsFar d.kind far.Ready (machine_of y)) is (subst (λ (y : HowFar). IsAsFar d.kind y (machine_of u)) far_is at_place.way.4))
+        row_of_it (OnKey x) is = absurd (subst (λ (y : UnderWay K V K). IsAsFar d.kind far.Ready (machine_of y)) is (subst (λ (y : HowFar). IsAsFar d.kind y (machine_of u)) far_is at_place.way.4.0))
+        row_of_it (ForRoom r) is = absurd (subst (λ (y : UnderWay K V K). IsAsFar d.kind far.Ready (machine_of y)) is (subst (λ (y : HowFar). IsAsFar d.kind y (machine_of u)) far_is at_place.way.4.0))
+        row_of_it (Counting sum) is = absurd (subst (λ (y : UnderWay K V K). IsAsFar d.kind far.Ready (machine_of y)) is (subst (λ (y : HowFar). IsAsFar d.kind y (machine_of u)) far_is at_place.way.4.0))
 
         shown : IsShown same hash stands.name then_m new then_at
         shown =

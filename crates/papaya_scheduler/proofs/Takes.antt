@@ -1,8 +1,8 @@
 -- A call that asks takes each reply of its kind.
-use Rattle.std.specs.Prelude.{◌≡◌, ℕ, true, false, not, List, Option, Ok}
-use Rattle.std.proofs.Common.{refl, sym, subst}
+use Rattle.std.specs.Prelude.{◌≡◌, ℕ, Bool, true, false, not, List, Option, Some, None, Ok}
+use Rattle.std.proofs.Common.{refl, sym, ap, subst, ◌∙◌}
 use Rattle.papaya_raw.specs.CallAsks.{absent_told, present_told, told_at}
-use Rattle.papaya_raw.specs.Machine.{sweep_told}
+use Rattle.papaya_raw.specs.Machine.{machine_replied, sweep_told}
 use Rattle.papaya_raw.specs.declared.machines.answer.Missing.TheVariants as missing
 use Rattle.papaya_raw.specs.declared.machines.answer.There.TheVariants as there
 use Rattle.papaya_raw.specs.declared.machines.asking.Asking.{Asking}
@@ -10,6 +10,7 @@ use Rattle.papaya_raw.specs.declared.machines.asking.Asking.TheVariants as askin
 use Rattle.papaya_raw.specs.declared.machines.asking.Reply.TheVariants as reply
 use Rattle.papaya_raw.specs.declared.machines.asking.Takes.{Takes}
 use Rattle.papaya_raw.specs.declared.machines.asking.Takes.TheVariants as takes
+use Rattle.papaya_raw.specs.declared.machines.call.Calling.{Calling}
 use Rattle.papaya_raw.specs.declared.machines.call.Calling.TheVariants as at
 use Rattle.papaya_raw.specs.declared.machines.call.KeyCall.{KeyCall}
 use Rattle.papaya_sweeps.specs.declared.sweep.Sweep.{Sweep}

@@ -13,7 +13,9 @@ use Rattle.papaya_sweeps.specs.SweepPoints.{sweeping}
 use Rattle.papaya_sweeps.specs.declared.sweep.Purpose.{Purpose}
 use Rattle.papaya_sweeps.specs.declared.sweep.Purpose.TheVariants.{Walks, Clears, Retains}
 use Rattle.papaya_sweeps.specs.declared.sweep.Sweep.{Sweep}
+use Rattle.papaya_sweeps.specs.declared.sweep.Sweeping.{Sweeping}
 use Rattle.papaya_sweeps.specs.declared.sweep.Sweeping.TheVariants as at
+use Rattle.papaya_late.specs.Faults.{RoomInReserving, RoomInSweeping}
 use Rattle.papaya_schedules.specs.declared.call.Call.{Call}
 use Rattle.papaya_schedules.specs.declared.call.Call.TheVariants.{On, Reserve, Clear, Retain, Len, Walk}
 use Rattle.papaya_schedules.specs.declared.call.OneKey.{OneKey}
@@ -64,10 +66,17 @@ IsFor kind.Retains purpose = purpose ≡ Retains
 IsFor kind.Walks purpose = purpose ≡ Walks
 IsFor _ purpose = ⊥
 
--- where a sweep stands that asks, and one that shows pairs
+-- it goes over no table yet
+abbrev pub IsBefore : Sweeping → Type 0
+IsBefore at.Reads = Unit {0}
+IsBefore at.Follows = Unit {0}
+IsBefore (at.Copies copier) = Unit {0}
+IsBefore _ = ⊥
+
+-- where a sweep stands: a walk that goes on has come to no pair yet, a retaining asks, and one that shows pairs is ready
 abbrev pub SweepIsAt : HowFar → Sweep → Type 0
-SweepIsAt far.Goes sweep = Unit {0}
-SweepIsAt (far.Asks question) sweep = (word : ℕ) × (sweep.stands ≡ at.Asks word)
+SweepIsAt far.Goes sweep = sweep.purpose ≡ Walks → IsBefore sweep.stands
+SweepIsAt (far.Asks question) sweep = (word : ℕ) × (sweep.stands ≡ at.Asks word) × (sweep.purpose ≡ Retains)
 SweepIsAt far.Ready sweep = sweep.stands ≡ at.Ready
 
 -- A machine is that of its call, and as far. Of a call on one key that asks, the moment says where it stands; other calls neither ask nor show.
@@ -77,3 +86,9 @@ IsAsFar kind far.Ready machine = ⊥
 IsAsFar kind (far.Asks question) (kinds.Key call) = Unit {0}
 IsAsFar kind (far.Asks question) machine = ⊥
 IsAsFar kind far.Goes machine = Unit {0}
+
+-- what it comes to be refused for, where its call is on no key, is room
+abbrev pub RefusedForRoom : {K V : Type 0} → Machine K V K → Type 0
+RefusedForRoom (kinds.Reserve reserve) = RoomInReserving reserve.stands
+RefusedForRoom (kinds.Sweep sweep) = RoomInSweeping sweep.stands
+RefusedForRoom machine = Unit {0}

@@ -1,6 +1,7 @@
 -- That a scheduler has played a log, and what is promised of an event that happens then.
 use Rattle.std.specs.Prelude.{◌≡◌, ◌≤◌, ℕ, ◌==◌, Bool, true, false, ◌&&◌, List, ◌∷◌, length, filter, map, is_some, is_none, Some, None}
 use Rattle.std.specs.List.{AllByRecursion, list_any}
+use Rattle.papaya_raw.specs.declared.machines.machine.Machine.{Machine}
 use Rattle.papaya_runs.specs.Present.{Present, HaveNames, guard_of, living_slot}
 use Rattle.papaya_schedules.specs.declared.call.Call.{Call}
 use Rattle.papaya_schedules.specs.declared.event.Event.{Event}
@@ -18,7 +19,7 @@ use Rattle.papaya_finishes.specs.Machines.{machine_of}
 use Rattle.papaya_finishes.specs.Maps.{Standing}
 use Rattle.papaya_logged.specs.Shown.{IsShown}
 use Rattle.papaya_scheduler.specs.Handing.{HeldIsTold}
-use Rattle.papaya_scheduler.specs.Machines.{IsAsFar}
+use Rattle.papaya_scheduler.specs.Machines.{IsAsFar, RefusedForRoom}
 use Rattle.papaya_rows.specs.Rows.{TakesRetired, used_as}
 use Rattle.papaya_scheduler.specs.Seen.{is_named, named, named_of, seen, seen_of}
 use Rattle.papaya_scheduler.specs.declared.caller.Caller.{Caller}
@@ -41,19 +42,31 @@ terms_given given = record {
 abbrev pub entry_of : {K V : Type 0} → Event K V → Played V → Entry K V
 entry_of event played = record { event = event; outcome = played.outcome; steps = played.steps; effects = played.effects.items }
 
-module _ {K V : Type 0} (name : ℕ → List ℕ) (s : Scene K V) (there : Present) where
+-- a machine is as far as its caller says, and is refused for nothing else than what such a call may be
+abbrev pub AsFar : {K V : Type 0} → Caller V → Machine K V K → Type 0
+AsFar d machine = IsAsFar d.kind d.stands machine × RefusedForRoom machine
+
+-- where this is so of the machine of each caller
+module _ {K V : Type 0} (Far : Caller V → Machine K V K → Type 0) (name : ℕ → List ℕ) (s : Scene K V) (there : Present) where
   -- a caller has its call under way in the scene, by its name, in the slot of its guard, which lives, and is as far
-  abbrev pub IsUnderWay : Caller V → Type 0
-  IsUnderWay d =
+  abbrev pub IsUnderWayAs : Caller V → Type 0
+  IsUnderWayAs d =
       (u : UnderWay K V K) × (s.calls d.map d.number ≡ Some u) × (name d.number ≡ d.name) × (living_slot (guard_of d.guard there.guards) ≡ Some (slot_of d.number))
-      × IsAsFar d.kind d.stands (machine_of u)
+      × Far d (machine_of u)
 
   -- the callers are those of the moment, each once, and those of the scene
-  pub record CallsAre (m : Moment K V) (calls : List (Caller V)) : Type 0 where
+  pub record CallsAs (m : Moment K V) (calls : List (Caller V)) : Type 0 where
     pub listed : map seen m.calls ≡ map seen_of calls
     pub once : (own : List ℕ) → length (filter (is_named own) calls) ≤ 1
-    pub each : AllByRecursion IsUnderWay calls
+    pub each : AllByRecursion IsUnderWayAs calls
     pub only : (map i : ℕ) (u : UnderWay K V K) → s.calls map i ≡ Some u → list_any (λ d. (d.map == map) && (d.number == i)) calls ≡ true
+
+module _ {K V : Type 0} (name : ℕ → List ℕ) (s : Scene K V) (there : Present) where
+  abbrev pub IsUnderWay : Caller V → Type 0
+  IsUnderWay = IsUnderWayAs AsFar name s there
+
+  abbrev pub CallsAre : Moment K V → List (Caller V) → Type 0
+  CallsAre = CallsAs AsFar name s there
 
 -- the maps are those of the moment, and each stands in the scene
 pub record MapsAre {K V : Type 0} (s : Scene K V) (m : Moment K V) (maps : List NamedMap) : Type 0 where
@@ -62,7 +75,8 @@ pub record MapsAre {K V : Type 0} (s : Scene K V) (m : Moment K V) (maps : List 
 
 -- The scheduler stands as the moment says: its executor is shown, and who is there, calls and maps have the names of the moment; slots are used as guards and
 -- registrations say, and nothing is under way but these calls.
-pub record StandsFor {K V S : Type 0} (same : K → K → Bool) (hash : K → ℕ) (terms : Terms) (m : Moment K V) (p : Scheduler K V S) : Type 0 where
+pub record StandsAs {K V S : Type 0} (Far : Caller V → Machine K V K → Type 0) (same : K → K → Bool) (hash : K → ℕ) (terms : Terms) (m : Moment K V)
+    (p : Scheduler K V S) : Type 0 where
   pub name : ℕ → List ℕ
   pub scene : Scene K V
   pub shown : IsShown same hash name m p.logged scene
@@ -70,11 +84,14 @@ pub record StandsFor {K V S : Type 0} (same : K → K → Bool) (hash : K → �
   pub there : m.there ≡ p.there
   pub mapped : m.is_mapped ≡ p.is_mapped
   pub closed : m.is_closed ≡ p.is_closed
-  pub calls : CallsAre name scene p.there m p.calls.items.items
+  pub calls : CallsAs Far name scene p.there m p.calls.items.items
   pub maps : MapsAre scene m p.maps.items
   pub slots : (slot : ℕ) → use_at p.logged.executor slot ≡ used_as slot p.there
   pub rests : (i : ℕ) → ((map : ℕ) → scene.calls map i ≡ None) → work_of p.logged.executor i ≡ None
   pub names : HaveNames p.there
+
+abbrev pub StandsFor : {K V S : Type 0} → (K → K → Bool) → (K → ℕ) → Terms → Moment K V → Scheduler K V S → Type 0
+StandsFor same hash terms m p = StandsAs AsFar same hash terms m p
 
 module _ {K V S : Type 0} (same : K → K → Bool) (hash : K → ℕ) where
   abbrev pub IsPlayed : Terms → List (Entry K V) → Scheduler K V S → Type 0

@@ -30,6 +30,11 @@ abbrev pub value_of : {K V : Type 0} → Node K V → Option V
 value_of (node.Pair k v) = Some v
 value_of _ = None
 
+-- the value that a call keeps once its pair was not stored: one that tells it
+abbrev pub kept : {K V : Type 0} → Kind → Node K V → Option V → Option V
+kept kind.TriesToInsert unstored value = value_of unstored
+kept _ unstored value = value
+
 -- whether a call goes on by itself
 abbrev pub goes_on : {V : Type 0} → Outcome V → Bool
 goes_on outcome.Goes = true

@@ -3,8 +3,10 @@ ghost use Rattle.std.specs.Prelude.{◌≡◌, ◌<◌, ◌∷◌, [], length, p
 ghost use Rattle.std.specs.List.{list_any};
 ghost use Rattle.papaya_runs.specs.Same.{is_same};
 ghost use Rattle.papaya_scheduler.specs.Seen.{is_named, shows, takes};
+ghost use Rattle.papaya_scheduler.specs.Telling.{kept, value_of};
 
 use crate::kind::Kind;
+use papaya_raw::Node;
 use papaya_runs::token::Token;
 use papaya_schedules::call::Reply;
 use std::alloc::{AllocError, Global};
@@ -44,6 +46,26 @@ pub struct Caller<V> {
 pub struct Callers<V> {
     /// The callers.
     pub items: Vec<Caller<V>>,
+}
+
+/// The value of a pair.
+fn value_of<K: Drop, V: Drop>(node: Node<K, V>) -> Option<V>
+    ensures { result ≡ value_of node }
+{
+    match node {
+        Node::Pair(_, value) => Some(value),
+        Node::Table { .. } | Node::Shards => None,
+    }
+}
+
+/// What a call keeps once its pair was not stored: the value, if it tells that, and else what it kept.
+fn kept<K: Drop, V: Drop>(kind: Kind, unstored: Node<K, V>, value: Option<V>) -> Option<V>
+    ensures { result ≡ kept kind unstored value }
+{
+    match kind {
+        Kind::TriesToInsert => value_of(unstored),
+        _ => value,
+    }
 }
 
 impl<V> Caller<V> {
@@ -95,6 +117,44 @@ impl<V: Drop> Callers<V> {
         let caller = &mut self.items[place];
         caller.stands = Stands::Goes;
         caller.value = value;
+    }
+
+    /// The number of the caller at a place, and that of the map that its call is on.
+    pub fn way_of(&self, place: usize) -> (u64, u64)
+        requires { place < length self.now.items.items }
+        ensures { (caller : Caller V) → slice_get self.now.items.items place ≡ Some caller → result ≡ (caller.number, caller.map) }
+    {
+        let caller = &self.items[place];
+        (caller.number, caller.map)
+    }
+
+    /// How far the call at a place is.
+    pub fn far_of(&self, place: usize) -> Stands
+        requires { place < length self.now.items.items }
+        ensures { (caller : Caller V) → slice_get self.now.items.items place ≡ Some caller → result ≡ caller.stands }
+    {
+        self.items[place].stands
+    }
+
+    /// The call at a place is this far from now on.
+    pub fn stand(&mut self, place: usize, stands: Stands)
+        requires { place < length self.old.items.items }
+        ensures { (caller : Caller V) → slice_get self.old.items.items place ≡ Some caller
+            → self.new.items.items ≡ slice_set self.old.items.items place (record caller { stands = stands }) }
+    {
+        let caller = &mut self.items[place];
+        caller.stands = stands;
+    }
+
+    /// The call at a place goes on, and keeps the value that it has not stored, if it tells that.
+    pub fn keep<K: Drop>(&mut self, place: usize, unstored: Node<K, V>)
+        requires { place < length self.old.items.items }
+        ensures { (caller : Caller V) → slice_get self.old.items.items place ≡ Some caller
+            → self.new.items.items ≡ slice_set self.old.items.items place (record caller { stands = Stands.Goes; value = kept caller.kind unstored caller.value }) }
+    {
+        let caller = &mut self.items[place];
+        caller.stands = Stands::Goes;
+        caller.value = kept(caller.kind, unstored, caller.value.take());
     }
 
     /// A caller comes. On an error nobody did.

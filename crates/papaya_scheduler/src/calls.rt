@@ -36,7 +36,7 @@ fn told_by<V>(reply: Reply<V>) -> (Told<V>, Option<V>)
 
 impl<K: Eq + Hash + Drop, V: Drop, S: Hashes<K>> Scheduler<K, V, S> {
     /// Begins a call, by a name that no call under way has, under a guard that lives, on a map that is there. Else it answers no, and nothing has begun.
-    pub(crate) fn begins(
+    pub fn begins(
         &mut self,
         name: Token,
         guard: Token,
@@ -113,7 +113,7 @@ impl<K: Drop, V: Drop, S> Scheduler<K, V, S> {
     }
 
     /// The place of the caller of this name, if its call is a walk that shows pairs.
-    pub(crate) fn place_of_ready(&self, caller: &Token) -> Option<usize>
+    pub fn place_of_ready(&self, caller: &Token) -> Option<usize>
         ensures { result ≡ ready_place caller.now self.now.calls.items.items }
     {
         match self.calls.place_of(caller) {

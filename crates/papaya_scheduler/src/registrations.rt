@@ -17,7 +17,7 @@ use std::alloc::AllocError;
 
 impl<K: Drop, V: Drop, S> Scheduler<K, V, S> {
     /// Takes the least slot that is not in use, and enters it, too, if it is to. The fault is SlotsUsedUp, or Memory where there is none for the words of slots.
-    pub(crate) fn take_slot(
+    pub fn take_slot(
         &mut self,
         enters: bool,
         effects: &mut Vec<Effect>,

@@ -82,14 +82,14 @@ impl<K: Drop, V: Drop, S: Drop> Scheduler<K, V, S> {
 
 impl<K, V, S> Scheduler<K, V, S> {
     /// No effects yet.
-    pub(crate) fn no_effects(&self) -> Vec<Effect>
+    pub fn no_effects(&self) -> Vec<Effect>
         ensures { result.items ≡ [] }
     {
         Vec::new(*self.maps.allocator())
     }
 
     /// An event came to this, and did nothing.
-    pub(crate) fn quietly(&self, outcome: Outcome<V>) -> Played<V>
+    pub fn quietly(&self, outcome: Outcome<V>) -> Played<V>
         ensures outcome { result.outcome ≡ outcome }
         ensures steps { result.steps ≡ 0 }
         ensures effects { result.effects.items ≡ [] }
@@ -98,7 +98,7 @@ impl<K, V, S> Scheduler<K, V, S> {
     }
 
     /// An event was out of turn.
-    pub(crate) fn busy(&self) -> Played<V>
+    pub fn busy(&self) -> Played<V>
         ensures outcome { result.outcome ≡ Outcome.Refused Busy }
         ensures steps { result.steps ≡ 0 }
         ensures effects { result.effects.items ≡ [] }
@@ -107,7 +107,7 @@ impl<K, V, S> Scheduler<K, V, S> {
     }
 
     /// The number of the map of this name.
-    pub(crate) fn number_of(&self, map: &Token) -> Option<u64>
+    pub fn number_of(&self, map: &Token) -> Option<u64>
         ensures { result ≡ number_named map.now self.now.maps.items }
     {
         match self.maps.iter().find(|there| there.name.is(map)) {
@@ -119,7 +119,7 @@ impl<K, V, S> Scheduler<K, V, S> {
 
 impl<K: Drop, V: Drop, S> Scheduler<K, V, S> {
     /// The number of the map of this name, and with what its calls work.
-    pub(crate) fn setting_of(&self, map: &Token) -> Option<(u64, Setting)>
+    pub fn setting_of(&self, map: &Token) -> Option<(u64, Setting)>
         ensures { result ≡ setting_named map.now self.now.maps.items self.now.logged.executor.maps.items }
     {
         let number = self.number_of(map)?;
@@ -130,7 +130,7 @@ impl<K: Drop, V: Drop, S> Scheduler<K, V, S> {
     }
 
     /// The slot of the guard of this name, where it lives, and no call under way uses it.
-    pub(crate) fn slot_of_free(&self, guard: &Token) -> Option<u64>
+    pub fn slot_of_free(&self, guard: &Token) -> Option<u64>
         ensures { result ≡ free_slot guard.now self.now.there self.now.calls.items.items }
     {
         if self.calls.uses(guard) {
@@ -140,7 +140,7 @@ impl<K: Drop, V: Drop, S> Scheduler<K, V, S> {
     }
 
     /// Runs what a caller in this slot does with it, until it ends, or waits. What it does is added to the list, and what it reclaims is dropped.
-    pub(crate) fn run_row(
+    pub fn run_row(
         &mut self,
         slot: u64,
         called: SlotCall,
@@ -158,7 +158,7 @@ impl<K: Drop, V: Drop, S> Scheduler<K, V, S> {
     }
 
     /// So it does, where nobody asks what it told.
-    pub(crate) fn do_row(
+    pub fn do_row(
         &mut self,
         slot: u64,
         called: SlotCall,

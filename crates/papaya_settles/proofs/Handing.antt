@@ -13,7 +13,7 @@ use Rattle.papaya_schedules.specs.declared.effect.Thing.{Thing}
 use Rattle.papaya_schedules.specs.declared.outcome.Outcome.{Outcome}
 use Rattle.papaya_schedules.specs.declared.outcome.Outcome.TheVariants as outcome
 use Rattle.papaya_schedules.specs.After.{asks_on, comes_to, replied, without_call}
-use Rattle.papaya_schedules.specs.Beginning.{fresh_call, with_call}
+use Rattle.papaya_schedules.specs.Beginning.{fresh_call}
 use Rattle.papaya_schedules.specs.Effects.{call_by, due_for, out_by, with_effect, with_effects}
 use Rattle.papaya_schedules.specs.Entry.{ends_call}
 use Rattle.papaya_schedules.specs.InUse.{is_handing}
@@ -29,11 +29,9 @@ use Rattle.papaya_effects.specs.declared.acting.Acting.TheVariants as acts
 use Rattle.papaya_executor.specs.IsAt.{Scene, IsAt}
 use Rattle.papaya_executor.specs.Stepping.{StepLeads, scene_after}
 use Rattle.papaya_executor.specs.declared.executor.Executor.{Executor}
-use Rattle.papaya_finishes.specs.Maps.{with_call as with_in}
-use Rattle.papaya_follows.specs.Calling.{NoneNamed}
 use Rattle.papaya_follows.specs.Calls.{IsCalled, ShowsCalls}
 use Rattle.papaya_follows.specs.Shows.{Shows}
-use Rattle.papaya_follows.proofs.Calling.{is_same_refl, apart_back, found_kept, come, come_of_same, replied_same}
+use Rattle.papaya_follows.proofs.Calling.{apart_back, found_kept, come, come_of_same, replied_same}
 use Rattle.papaya_follows.proofs.Calls.{IsOfSame, changed, found}
 use Rattle.papaya_follows.proofs.Steps.{DidSo, WentTo, one_of, went_to}
 use Rattle.papaya_hands.proofs.Asking.{which}
@@ -48,19 +46,19 @@ use Rattle.papaya_settles.proofs.HandingRows.{IsInRow, is_in_row, row_hands}
 use Rattle.papaya_settles.proofs.Owing.{due_owes}
 
 -- A call that hands something over does so after whatever effects of it.
+abbrev hands : List Thing → Bool → Bool
+hands owes handed = not (is_empty owes) || handed
+
+grown : (owes more : List Thing) (handed : Bool) → hands owes handed ≡ true → hands (owes ++ more) handed ≡ true
+grown [] [] handed e = e
+grown [] (x ∷ more) handed e = refl
+grown (x ∷ owes) more handed e = refl
+
+or_true : (b : Bool) → (b || true) ≡ true
+or_true true = refl
+or_true false = refl
+
 module _ {K V : Type 0} where
-  abbrev hands : List Thing → Bool → Bool
-  hands owes handed = not (is_empty owes) || handed
-
-  grown : (owes more : List Thing) (handed : Bool) → hands owes handed ≡ true → hands (owes ++ more) handed ≡ true
-  grown [] [] handed e = e
-  grown [] (x ∷ more) handed e = refl
-  grown (x ∷ owes) more handed e = refl
-
-  or_true : (b : Bool) → (b || true) ≡ true
-  or_true true = refl
-  or_true false = refl
-
   -- with what a call on one key is to answer
   due_hands : (c d : CallThere K V) → d.owes ≡ c.owes → d.has_handed ≡ c.has_handed → is_handing d ≡ is_handing c
   due_hands c d owes handed = ap (λ (l : List Thing). hands l d.has_handed) owes ∙ ap (hands c.owes) handed
@@ -145,8 +143,8 @@ module _ {K V S : Type 0} (same : K → K → Bool) (hash : K → ℕ) (name : �
   rows_stay : to.4.w2.row i ≡ s.world.row i → (to.4.w2.row i ≡ Rests → ⊥) → is_handing its.0 ≡ true
   rows_stay row moves = told map i u here (λ rests. moves (row ∙ rests)) its.0 its.1
 
-  users_stay : {size : ℕ} (events : List (Event (Node K V))) (w2 : World (Node K V)) → AllUsers events → Runs deferred_word size events s.world w2 → to.4.w2 ≡ w2 → to.4.w2.row i ≡ s.world.row i
-  users_stay {size} events w2 users runs is =
+  users_stay : (size : ℕ) (events : List (Event (Node K V))) (w2 : World (Node K V)) → AllUsers events → Runs deferred_word size events s.world w2 → to.4.w2 ≡ w2 → to.4.w2.row i ≡ s.world.row i
+  users_stay size events w2 users runs is =
       ap (λ (w : World (Node K V)). w.row i) is ∙ ap (λ (f : ℕ → Row). f i) (events_rows size events s.world w2 users runs)
 
   own_hands : (to.4.w2.row i ≡ Rests → ⊥) → is_handing its.0 ≡ true
@@ -156,17 +154,17 @@ module _ {K V S : Type 0} (same : K → K → Bool) (hash : K → ℕ) (name : �
       in_row x is row = row_hands same hash name m known s old at map i u here owed told its.0 its.1 (subst IsInRow (sym is) row)
 
       by : (x : UnderWay K V K) → u ≡ x → (did : DidSo same hash name m known s old new at shown map i u here said leads x) → is_handing its.0 ≡ true
-      by (OnKey x) is (p2, end, machine_is, told_is, inl (step, moved)) = rows_stay (users_stay step.step.went.events step.step.went.w2 step.step.went.users step.step.went.runs moved.0) moves
+      by (OnKey x) is (p2, end, machine_is, told_is, inl (step, moved)) = rows_stay (users_stay _ step.step.went.events step.step.went.w2 step.step.went.users step.step.went.runs moved.0) moves
       by (OnKey x) is (p2, end, machine_is, told_is, inr (row, stayed)) = in_row (OnKey x) is row.is_row
-      by (ForRoom x) is (p2, end, machine_is, told_is, inl (step, moved)) = rows_stay (users_stay step.step.went.events step.step.went.w2 step.step.went.users step.step.went.runs moved.0) moves
+      by (ForRoom x) is (p2, end, machine_is, told_is, inl (step, moved)) = rows_stay (users_stay _ step.step.went.events step.step.went.w2 step.step.went.users step.step.went.runs moved.0) moves
       by (ForRoom x) is (p2, end, machine_is, told_is, inr (row, stayed)) = in_row (ForRoom x) is row.is_row
       by (Counting x) is (sum2, end, machine_is, told_is, memory, stayed) = rows_stay (ap (λ (w : World (Node K V)). w.row i) stayed.0) moves
-      by (OverAll x) is (p2, end, machine_is, told_is, inl (step, moved)) = rows_stay (users_stay step.step.went.events step.step.went.w2 step.step.went.users step.step.went.runs moved.0) moves
+      by (OverAll x) is (p2, end, machine_is, told_is, inl (step, moved)) = rows_stay (users_stay _ step.step.went.events step.step.went.w2 step.step.went.users step.step.went.runs moved.0) moves
       by (OverAll x) is (p2, end, machine_is, told_is, inr (row, stayed)) = in_row (OverAll x) is row.is_row
 
   own_then : (to.4.w2.row i ≡ Rests → ⊥) → (d : CallThere K V) → call_of (name i) v ≡ Some d → is_handing d ≡ true
   own_then moves d d_is =
-      let then = all_hand (name i) map effects m its.0 its.1 (own_hands moves) in ap (λ (x : CallThere K V). is_handing x) (one_of d then.0 (sym d_is ∙ then.1)) ∙ then.2
+      let after = all_hand (name i) map effects m its.0 its.1 (own_hands moves) in ap (λ (x : CallThere K V). is_handing x) (one_of d after.0 (sym d_is ∙ after.1)) ∙ after.2
 
   -- others do as they did
   other_then : (n j : ℕ) (x : UnderWay K V K) → (n ≡ map → j ≡ i → ⊥) → s.calls n j ≡ Some x → (to.4.w2.row j ≡ Rests → ⊥) → (d : CallThere K V) → call_of (name j) v ≡ Some d → is_handing d ≡ true
@@ -220,8 +218,8 @@ module _ {K V : Type 0} (same : K → K → Bool) (name : ℕ → List ℕ) (m v
       let is_its = caller_is (name j) m there.0 there.1 in
       let kept : not (is_same there.0.caller own) ≡ true = ap (λ (l : List ℕ). not (is_same l own)) is_its ∙ ap not (apart_back own (name j) apart) in
       let found_now =
-            ap (λ (l : List (CallThere K V)). find (λ y. is_same y.caller (name j)) l) calls_are
-            ∙ found_kept (λ c. is_same c.caller (name j)) (λ c. not (is_same c.caller own)) m.calls there.0 there.1 kept in
+      ap (λ (l : List (CallThere K V)). find (λ y. is_same y.caller (name j)) l) calls_are
+      ∙ found_kept (λ c. is_same c.caller (name j)) (λ c. not (is_same c.caller own)) m.calls there.0 there.1 kept in
       there.1 ∙ ap Some (one_of there.0 d (sym found_now ∙ d_is))
 
   -- or one of them is changed, and hands over as before
@@ -231,8 +229,8 @@ module _ {K V : Type 0} (same : K → K → Bool) (name : ℕ → List ℕ) (m v
   one_changed change is_of keeps own calls_are n j x is d d_is =
       let there = shown n j x is in
       let now = found change is_of own (name j) m.calls there.0 there.1 in
-      let then = ap (λ (l : List (CallThere K V)). find (λ y. is_same y.caller (name j)) l) (sym calls_are) ∙ d_is in
-      (there.0, there.1, ap (λ (y : CallThere K V). is_handing y) (one_of d (changed change is_of own there.0) (sym then ∙ now)) ∙ by there.0 (is_same there.0.caller own))
+      let found_then = ap (λ (l : List (CallThere K V)). find (λ y. is_same y.caller (name j)) l) (sym calls_are) ∙ d_is in
+      (there.0, there.1, ap (λ (y : CallThere K V). is_handing y) (one_of d (changed change is_of own there.0) (sym found_then ∙ now)) ∙ by there.0 (is_same there.0.caller own))
     where
       by : (c : CallThere K V) (q : Bool) → is_handing (if q then change c else c) ≡ is_handing c
       by c true = keeps c
@@ -285,7 +283,7 @@ pub calls_come_to_handing : (K V : Type 0) → CallsComeToHanding K V
 calls_come_to_handing K V same name m s shown told own o steps ended = by (ends_call o) refl
   where
     by : (q : Bool) → ends_call o ≡ q → HandsTold name (record m { calls = if q then without_call own m.calls else map (λ c. if is_same c.caller own then come o steps c else c) m.calls }) s
-    by true e n j x is moves d d_is = told n j x is moves d (fewer same name m _ s.calls shown own refl n j x is (ended e n j x is) d d_is)
+    by true e n j x is moves d d_is = told n j x is moves d (fewer same name m (record m { calls = without_call own m.calls }) s.calls shown own refl n j x is (ended e n j x is) d d_is)
     by false e n j x is moves d d_is =
-        let before = one_changed same name m _ s.calls shown (come o steps) (come_of_same o steps) (λ c. comes_hands o (record c { steps = c.steps + steps })) own refl n j x is d d_is in
+        let before = one_changed same name m (record m { calls = map (changed (come o steps) (come_of_same o steps) own) m.calls }) s.calls shown (come o steps) (come_of_same o steps) (λ c. comes_hands o (record c { steps = c.steps + steps })) own refl n j x is d d_is in
         before.2 ∙ told n j x is moves before.0 before.1

@@ -1,5 +1,5 @@
 -- A call that is within a row of the collector hands something over: one whose row is under way does, and one that is about to begin its row owes what that is to hand over.
-use Rattle.std.specs.Prelude.{◌≡◌, ◌*◌, ◌++◌, ◌||◌, ℕ, Bool, true, false, not, List, [], ◌∷◌, Option, Some, None, ◌⊎◌}
+use Rattle.std.specs.Prelude.{◌≡◌, ◌*◌, ◌++◌, ◌||◌, ℕ, Bool, true, false, not, List, [], ◌∷◌, Option, Some, None}
 use Rattle.std.proofs.Common.{refl, ap, sym, subst, ◌∙◌, inl, inr}
 use Rattle.seize.specs.World.{World, Row, Rests}
 use Rattle.seize.specs.declared.rows.defer.Defer.{Defer}
@@ -25,11 +25,11 @@ use Rattle.papaya_schedules.specs.Views.{call_of}
 use Rattle.papaya_points.specs.Told.{IsRowOf, IsRowOfCopier, IsRowOfCall}
 use Rattle.papaya_late.specs.ToldReserves.{IsRowOfReserve}
 use Rattle.papaya_late.specs.ToldSweeps.{IsRowOfSweep}
-use Rattle.papaya_callers.specs.OverAll.{CallOverAll, row_of_sweep}
-use Rattle.papaya_callers.specs.Rooms.{CallForRoom, row_of_room}
+use Rattle.papaya_callers.specs.OverAll.{row_of_sweep}
+use Rattle.papaya_callers.specs.Rooms.{row_of_room}
 use Rattle.papaya_callers.specs.Rows.{row_of_disposal, row_of_copier, row_of}
 use Rattle.papaya_callers.specs.Sights.{seen_by}
-use Rattle.papaya_callers.specs.Together.{Stands, UnderWay, CallOnKey, OnKey, ForRoom, Counting, OverAll, in_slot}
+use Rattle.papaya_callers.specs.Together.{Stands, UnderWay, OnKey, ForRoom, Counting, OverAll, in_slot}
 use Rattle.papaya_effects.specs.Known.{Known}
 use Rattle.papaya_effects.specs.declared.role.Role.{Role}
 use Rattle.papaya_effects.specs.declared.role.Role.TheVariants as role

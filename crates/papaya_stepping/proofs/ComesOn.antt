@@ -1,0 +1,67 @@
+-- Steps of a call, one after another: in their midst, and what the last one comes to.
+use Rattle.std.specs.Prelude.{◌≡◌, ◌+◌, ℕ, Bool, true, List, [], ◌++◌, Some}
+use Rattle.std.proofs.Common.{sym, ap, subst, ◌∙◌, arith}
+use Rattle.std.proofs.lemmas.List.{append_assoc}
+use Rattle.papaya_schedules.specs.declared.call.Call.{Call}
+use Rattle.papaya_schedules.specs.declared.effect.Effect.{Effect}
+use Rattle.papaya_schedules.specs.declared.outcome.Outcome.{Outcome}
+use Rattle.papaya_schedules.specs.Effects.{with_effects}
+use Rattle.papaya_schedules.specs.Moment.{UnderWay as CallThere, Moment}
+use Rattle.papaya_schedules.specs.Terms.{Terms}
+use Rattle.papaya_follows.specs.Calling.{come_to}
+use Rattle.papaya_hands.proofs.Replacing.{IsOn, calls_after}
+use Rattle.papaya_moments.proofs.After.{effects_after}
+use Rattle.papaya_promises.proofs.Weights.{parts_add_up}
+use Rattle.papaya_scheduler.specs.Played.{StandsFor}
+use Rattle.papaya_stepping.specs.Stepping.{ComesAs, ComesBy, GoesAt, IsMidst, IsStepped}
+use Rattle.papaya_scheduler.specs.Telling.{goes_on}
+use Rattle.papaya_scheduler.specs.declared.scheduler.Scheduler.{Scheduler}
+use Rattle.papaya_scheduler.proofs.Here.{here_at}
+use Rattle.papaya_stepping.proofs.OneStep.{step_comes}
+use Rattle.papaya_stepping.proofs.StepSays.{the}
+
+module _ {K V S : Type 0} (same : K → K → Bool) (hash : K → ℕ) (terms : Terms) (own : List ℕ) (place : ℕ) (m : Moment K V) where
+  -- before the first one
+  pub midst_first : (p : Scheduler K V S) (stands : StandsFor same hash terms m p) → GoesAt own place p → (list : List Effect) → list ≡ list ++ [] → IsMidst same hash terms own place m 0 list list p
+  midst_first p stands at list none =
+      let here = here_at same hash terms m p stands own place at.0 in
+      record { call = here.call; call_is = here.call_is; did = []; follows = none; few = omega arith; stands = stands; going = at }
+
+  module _ (steps : ℕ) (outcome : Outcome V) (before mid after : List Effect) (p new : Scheduler K V S) (midst : IsMidst same hash terms own place m steps before mid p)
+      (step : IsStepped same hash place outcome mid after p new) where
+    abbrev c : CallThere K V
+    c = midst.call
+
+    abbrev w : Moment K V
+    w = with_effects (Some own) (Some c.map) midst.did m
+
+    abbrev last : ComesBy same hash terms own place w 1 outcome mid after new
+    last = step_comes same hash terms w p new midst.stands own place midst.going outcome mid after step
+
+    -- the call is that of before
+    call_on : IsOn c last.call
+    call_on = subst (λ (d : CallThere K V). IsOn c d) (the (calls_after own c.map own midst.did m c midst.call_is).0 last.call (sym (calls_after own c.map own midst.did m c midst.call_is).1 ∙ last.call_is))
+        (calls_after own c.map own midst.did m c midst.call_is).2.0
+
+    -- and so is the moment after all effects
+    all_did : with_effects (Some own) (Some last.call.map) last.did w ≡ with_effects (Some own) (Some c.map) (midst.did ++ last.did) m
+    all_did = ap (λ (x : ℕ). with_effects (Some own) (Some x) last.did w) call_on.map ∙ sym (effects_after (Some own) (Some c.map) midst.did last.did m)
+
+    follows_all : after ≡ before ++ (midst.did ++ last.did)
+    follows_all = last.follows ∙ ap (λ (l : List Effect). l ++ last.did) midst.follows ∙ append_assoc before midst.did last.did
+
+    pub comes_next : ComesBy same hash terms own place m (steps + 1) outcome before after new
+    comes_next = record {
+      call = c;
+      call_is = midst.call_is;
+      did = midst.did ++ last.did;
+      follows = follows_all;
+      few = parts_add_up steps 1 midst.did last.did midst.few last.few;
+      comes = subst (λ (x : Call K V). ComesAs x outcome) call_on.call last.comes;
+      goes = λ on. (subst (λ (x : Moment K V). StandsFor same hash terms x new) all_did (last.goes on).0, (last.goes on).1);
+      stands = λ never counted. subst (λ (x : Moment K V). StandsFor same hash terms (come_to own outcome counted x) new) all_did (last.stands never counted);
+    }
+
+    pub midst_next : goes_on outcome ≡ true → IsMidst same hash terms own place m (steps + 1) before after new
+    midst_next on = let all = comes_next in
+        record { call = all.call; call_is = all.call_is; did = all.did; follows = all.follows; few = all.few; stands = (all.goes on).0; going = (all.goes on).1 }

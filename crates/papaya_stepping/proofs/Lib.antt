@@ -1,0 +1,16 @@
+mod AfterEffects
+mod Again
+mod AnySays
+mod ComesOn
+mod KeySays
+mod OneStep
+mod PlaysAgain
+mod PlaysSteps
+mod RightSteps
+mod RoomSays
+mod StepSays
+mod SteppedTo
+mod StepsOn
+mod SweepSays
+mod SweepSteps
+mod TakenBy

@@ -1,0 +1,94 @@
+-- For what a call on no key is refused: for room alone, at each of its steps.
+use Rattle.std.specs.Prelude.{ℕ, Bool}
+use Rattle.std.proofs.Common.{sym, subst}
+use Rattle.seize_words.specs.Mem.{Mem}
+use Rattle.seize_words.specs.Plan.{plan_as}
+use Rattle.seize.specs.declared.progress.Progress.{Progress as Counted}
+use Rattle.seize.specs.declared.progress.Progress.TheVariants as counts
+use Rattle.seize_rule.proofs.Rows.Leaving.{steps_back}
+use Rattle.papaya_tables.specs.declared.node.Node.{Node}
+use Rattle.papaya_resize.specs.Sum.{sum_plan}
+use Rattle.papaya_resize.specs.declared.outcome.Outcome.{Outcome}
+use Rattle.papaya_resize.specs.declared.outcome.Outcome.TheVariants as outcome
+use Rattle.papaya_resize.specs.declared.sum.Sum.{Sum}
+use Rattle.papaya_reserves.specs.Reserve.{reserve_plan}
+use Rattle.papaya_reserves.specs.declared.reserve.Reserve.{Reserve}
+use Rattle.papaya_sweeps.specs.Sweep.{sweep_plan}
+use Rattle.papaya_sweeps.specs.declared.sweep.Sweep.{Sweep}
+use Rattle.papaya_sweeps.specs.declared.sweep.Swept.{Swept}
+use Rattle.papaya_sweeps.specs.declared.sweep.Swept.TheVariants as ends
+use Rattle.papaya_raw.specs.Machine.{counted, reserved, swept}
+use Rattle.papaya_raw.specs.Progress.{of_outcome, of_swept}
+use Rattle.papaya_raw.specs.declared.machines.machine.Machine.{Machine}
+use Rattle.papaya_raw.specs.declared.machines.machine.Machine.TheVariants as kinds
+use Rattle.papaya_raw.specs.declared.machines.progress.Progress.{Progress}
+use Rattle.papaya_raw.specs.declared.machines.progress.Progress.TheVariants as progress
+use Rattle.papaya_late.specs.Faults.{IsRoom, RefusesRoom, RoomInReserving, RoomInSweeping, SweepRefusesRoom}
+use Rattle.papaya_late.proofs.KindsKept.Laws.{reserves_refuse_room, sweeps_refuse_room}
+use Rattle.papaya_late.proofs.KindsKept.Rooms.Making.{CountsOn, sum_counts}
+use Rattle.papaya_teller.specs.declared.changed.Changed.TheVariants.{Nothing}
+use Rattle.papaya_executor.specs.Stepping.{StepsFrom}
+use Rattle.papaya_executor.specs.declared.executor.Executor.{Executor}
+use Rattle.papaya_executor.proofs.Forgotten.{as_step}
+use Rattle.papaya_histories.proofs.Asking.{always_told, always_turned}
+use Rattle.papaya_scheduler.specs.Machines.{RefusedForRoom}
+
+module _ {K V : Type 0} where
+  -- what it says is no refusal, or one for room
+  abbrev pub SaysRoom : Progress (Node K V) → Type 0
+  SaysRoom (progress.Refused fault) = IsRoom fault
+  SaysRoom _ = Unit {0}
+
+  outcome_room : (end : Outcome (Node K V) Unit) → RefusesRoom end → SaysRoom (of_outcome end)
+  outcome_room outcome.Goes so = tt
+  outcome_room outcome.Waits so = tt
+  outcome_room (outcome.Gave value) so = tt
+  outcome_room (outcome.Done end) so = tt
+  outcome_room (outcome.Refused fault) so = so
+
+  swept_room : (end : Swept (Node K V)) → SweepRefusesRoom end → SaysRoom (of_swept end)
+  swept_room ends.Goes so = tt
+  swept_room ends.Waits so = tt
+  swept_room (ends.Gave value) so = tt
+  swept_room ends.Ready so = tt
+  swept_room (ends.Pair word) so = tt
+  swept_room (ends.Asks word) so = tt
+  swept_room ends.Done so = tt
+  swept_room (ends.Refused fault) so = so
+
+  abbrev RoomSo : Machine K V K × Progress (Node K V) → Type 0
+  RoomSo (machine, said) = RefusedForRoom machine × SaysRoom said
+
+  abbrev CountSo : Machine K V K × Progress (Node K V) → Type 0
+  CountSo (machine, said) = SaysRoom said
+
+module _ (K V : Type 0) where
+  counted_room : (end : Sum × Counted ℕ) → CountsOn end → CountSo (counted {K = K} {V = V} {Q = K} end)
+  counted_room (sum, counts.Goes) so = tt
+  counted_room (sum, counts.Waits) so = tt
+  counted_room (sum, counts.Done count) so = tt
+  counted_room (sum, counts.Refused fault) so = absurd so
+
+module _ {K V S : Type 0} (same : K → K → Bool) (hash : K → ℕ) (old new : Executor K V S) (machine : Machine K V K) (said : Progress (Node K V)) where
+  abbrev m : Mem (Node K V)
+  m = old.memory.memory
+
+  abbrev m2 : Mem (Node K V)
+  m2 = new.memory.memory
+
+  pub reserve_room : (r : Reserve) → RoomInReserving r.stands → StepsFrom same hash (kinds.Reserve r) old new machine said → RefusedForRoom machine × SaysRoom said
+  reserve_room r room steps =
+      let d = steps_back reserved m m2 (reserve_plan hash r) (machine, said) (as_step m Nothing (plan_as reserved (reserve_plan hash r)) m2 new.memory.changed (machine, said) steps) in
+      let so = reserves_refuse_room hash r room m m2 d.0 d.1 in
+      subst RoomSo (sym d.2) (so.0, outcome_room d.0.1 so.1)
+
+  pub sweep_room : (c : Sweep) → RoomInSweeping c.stands → StepsFrom same hash (kinds.Sweep c) old new machine said → RefusedForRoom machine × SaysRoom said
+  sweep_room c room steps =
+      let d = steps_back swept m m2 (sweep_plan hash c) (machine, said) (as_step m Nothing (plan_as swept (sweep_plan hash c)) m2 new.memory.changed (machine, said) steps) in
+      let so = sweeps_refuse_room hash c room m m2 d.0 d.1 in
+      subst RoomSo (sym d.2) (so.0, swept_room d.0.1 so.1)
+
+  pub sum_room : (sum : Sum) → StepsFrom same hash (kinds.Count sum) old new machine said → SaysRoom said
+  sum_room sum steps =
+      always_told CountSo m m2 Nothing new.memory.changed (plan_as counted (sum_plan sum)) (machine, said)
+      (always_turned CountsOn CountSo counted (counted_room K V) (sum_plan sum) (sum_counts (Node K V) sum)) steps

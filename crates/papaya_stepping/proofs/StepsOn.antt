@@ -1,0 +1,43 @@
+-- Many steps of a call: what the loop over them keeps, and what they come to.
+use Rattle.std.specs.Prelude.{◌≡◌, ◌<◌, ◌+◌, ℕ, Bool, true, false, List}
+use Rattle.std.proofs.Common.{refl, sym, subst, arith}
+use Rattle.papaya_schedules.specs.declared.effect.Effect.{Effect}
+use Rattle.papaya_schedules.specs.declared.outcome.Outcome.{Outcome}
+use Rattle.papaya_schedules.specs.Moment.{Moment}
+use Rattle.papaya_schedules.specs.Terms.{Terms}
+use Rattle.papaya_scheduler.specs.Played.{StandsFor}
+use Rattle.papaya_stepping.specs.Stepping.{ComesBy, GoesAt, IsMidst, IsStepped, MayStep, StepsCome}
+use Rattle.papaya_scheduler.specs.Telling.{goes_on}
+use Rattle.papaya_scheduler.specs.declared.scheduler.Scheduler.{Scheduler}
+use Rattle.papaya_stepping.proofs.ComesOn.{comes_next, midst_next}
+use Rattle.papaya_scheduler.proofs.Here.{here_at}
+
+module _ {K V S : Type 0} (same : K → K → Bool) (hash : K → ℕ) (place : ℕ) (first : Scheduler K V S) (before : List Effect) where
+  -- whatever moment it stood for, the call goes on after so many steps
+  abbrev pub Goes : ℕ → List Effect → Scheduler K V S → Type 0
+  Goes n mid p = (terms : Terms) (m : Moment K V) (own : List ℕ) → StandsFor same hash terms m first → GoesAt own place first → IsMidst same hash terms own place m n before mid p
+
+  -- so it may take a step
+  pub may_step : (terms : Terms) (m : Moment K V) (own : List ℕ) → StandsFor same hash terms m first → GoesAt own place first → (n : ℕ) (mid : List Effect) (p : Scheduler K V S) → Goes n mid p
+      → MayStep same hash place p
+  may_step terms m own stands at n mid p goes =
+      let midst = goes terms m own stands at in
+      let here = here_at same hash terms _ p midst.stands own place midst.going.0 in
+      (here.caller, here.at, midst.stands.scene, midst.stands.shown.is_at, (here.caller.map, here.way.0, here.way.1))
+
+  module _ (n : ℕ) (mid after : List Effect) (p new : Scheduler K V S) (outcome : Outcome V) (goes : Goes n mid p) (step : IsStepped same hash place outcome mid after p new) where
+    pub goes_further : goes_on outcome ≡ true → Goes (n + 1) after new
+    goes_further on terms m own stands at = midst_next same hash terms own place m n outcome before mid after p new (goes terms m own stands at) step on
+
+    comes : (steps : ℕ) → steps ≡ n + 1 → (terms : Terms) (m : Moment K V) (own : List ℕ) → StandsFor same hash terms m first → GoesAt own place first
+        → ComesBy same hash terms own place m steps outcome before after new
+    comes steps is terms m own stands at = subst (λ (k : ℕ). ComesBy same hash terms own place m k outcome before after new) (sym is)
+        (comes_next same hash terms own place m n outcome before mid after p new (goes terms m own stands at) step)
+
+    -- it stops before it has taken all
+    pub stops_at : (most steps : ℕ) → steps ≡ n + 1 → steps < most → goes_on outcome ≡ false → StepsCome same hash place most steps outcome before after first new
+    stops_at most steps is less off = ((omega (arith, is), omega (arith, less), λ on. absurd (cc (on, off))), comes steps is)
+
+    -- or takes all
+    pub takes_all : (most : ℕ) → most ≡ n + 1 → StepsCome same hash place most most outcome before after first new
+    takes_all most is = ((omega (arith, is), omega arith, λ on. refl), comes most is)

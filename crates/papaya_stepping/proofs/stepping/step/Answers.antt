@@ -1,0 +1,33 @@
+-- A caller's call goes on by one step.
+use Rattle.std.proofs.Common.{sym, subst, ◌∙◌, arith}
+use Rattle.std.proofs.lemmas.Result.{IfOk-weaker}
+use Rattle.seize_words.specs.declared.fault.Fault.TheVariants.{Busy}
+use Rattle.papaya_schedules.specs.After.{moment}
+use Rattle.papaya_schedules.specs.declared.event.Event.TheVariants.{Step}
+use Rattle.papaya_schedules.specs.declared.outcome.Outcome.TheVariants.{Refused}
+use Rattle.papaya_stepping.specs.Stepping.{PlaysOn}
+use Rattle.papaya_stepping.proofs.PlaysAgain.{step_busy}
+use Rattle.papaya_scheduler.proofs.Rights.{entry_is}
+use Rattle.papaya_stepping.proofs.TakenBy.{plays_taken}
+use Rattle.papaya_stepping.proofs.stepping.step.Goals as goal
+
+pub take_steps-requires : goal.take_steps-requires
+take_steps-requires g c =
+    let r = c.requires in
+    record { some = omega arith; stands = (r.0, moment r.1, c.args.caller.now, r.2.played, sym c.in-Some.is ∙ c.place_of.ensures) }
+
+pub returns-in-Some : goal.returns-in-Some
+returns-in-Some g c = record {
+  plays = IfOk-weaker c.take_steps.result _ _ (λ played taken. λ terms log due.
+      plays_taken g.K.PartialEq.eq (g.S.Hashes.hash c.args.scheduler.now.logged.executor.hasher) terms log c.args.caller.now c.args.refuse c.args.scheduler.now c.take_steps.new.scheduler c.in-Some.place
+      (sym c.in-Some.is ∙ c.place_of.ensures) played due taken) c.take_steps.ensures;
+}
+
+pub returns-in-None : goal.returns-in-None
+returns-in-None g c = record {
+  plays = λ terms log due.
+      let hash = g.S.Hashes.hash c.args.scheduler.now.logged.executor.hasher in
+      subst (λ e. PlaysOn g.K.PartialEq.eq hash terms log e c.args.scheduler.now)
+      (sym (entry_is (Step c.args.caller.now c.args.refuse) c.busy.result (Refused Busy) 0 _ c.busy.ensures.outcome c.busy.ensures.steps c.busy.ensures.effects))
+      (step_busy g.K.PartialEq.eq hash terms log c.args.caller.now c.args.refuse c.args.scheduler.now due (sym c.place_of.ensures ∙ c.in-None.is));
+}

@@ -1,0 +1,41 @@
+-- A call takes one step.
+use Rattle.std.proofs.Common.{◌≡◌, sym, ap, subst, ◌∙◌}
+use Rattle.papaya_effects.specs.Known.{known}
+use Rattle.papaya_executor.specs.IsAt.{HasCall}
+use Rattle.papaya_logged.specs.Calling.{CallGoesOn}
+use Rattle.papaya_rows.proofs.Lists.{got_within}
+use Rattle.papaya_stepping.specs.Stepping.{callers_then, outcome_of}
+use Rattle.papaya_stepping.proofs.stepping.take_step.Goals as goal
+
+pub way_of-number-requires : goal.way_of-number-requires
+way_of-number-requires g c = got_within c.args.scheduler.now.calls.items.items c.args.place c.requires.0 c.requires.1
+
+pub step-requires : goal.step-requires
+step-requires g c =
+    let read = c.way_of-number.ensures c.requires.0 c.requires.1 in
+    (c.requires.2, c.requires.3, subst (λ n. HasCall c.requires.2 n) (ap (λ x. x.0) (sym read)) c.requires.4)
+
+pub come_to-requires : goal.come_to-requires
+come_to-requires g c = got_within c.args.scheduler.now.calls.items.items c.args.place c.requires.0 c.requires.1
+
+pub returns-clause-stepped : goal.returns-clause-stepped
+returns-clause-stepped g c =
+    let read = c.way_of-number.ensures c.requires.0 c.requires.1 in
+    let logged_is = ap (λ x. x.logged) c.come_to.ensures.rest in
+    record {
+      caller = c.requires.0;
+      at = c.requires.1;
+      said = c.in_ok-progress.progress;
+      leads = λ name m s shown.
+          subst (λ l. CallGoesOn g.K.PartialEq.eq (g.S.Hashes.hash c.args.scheduler.now.logged.executor.hasher) name m s c.requires.0.number c.requires.0.map c.in_ok-progress.progress c.args.effects.now.items
+          c.step.new.effects.items c.args.scheduler.now.logged l) (sym logged_is)
+          (subst (λ x. CallGoesOn g.K.PartialEq.eq (g.S.Hashes.hash c.args.scheduler.now.logged.executor.hasher) name m s x.0 x.1 c.in_ok-progress.progress c.args.effects.now.items c.step.new.effects.items
+          c.args.scheduler.now.logged c.step.new.self) read (c.in_ok-progress.ensures.leads name m s shown));
+      outcome_is = subst (λ l. c.come_to.result ≡ outcome_of (known l.notes) c.requires.0.kind c.requires.0.value c.in_ok-progress.progress) (sym logged_is) (c.come_to.ensures.outcome c.requires.0 c.requires.1);
+      calls = subst (λ l. c.come_to.new.scheduler.calls.items.items ≡ callers_then (known l.notes) c.args.place c.requires.0 c.in_ok-progress.progress c.args.scheduler.now.calls.items.items) (sym logged_is)
+          (c.come_to.ensures.calls c.requires.0 c.requires.1);
+      rest = subst (λ l. c.come_to.new.scheduler ≡ record c.args.scheduler.now { logged = l; calls = c.come_to.new.scheduler.calls }) (sym logged_is) c.come_to.ensures.rest;
+    }
+
+pub returns-clause-hasher : goal.returns-clause-hasher
+returns-clause-hasher g c = ap (λ x. x.logged.executor.hasher) c.come_to.ensures.rest ∙ c.step.ensures.hasher

@@ -1,0 +1,180 @@
+-- What a call comes to by its steps, how far it is then, and what is promised of that.
+use Rattle.std.specs.Prelude.{◌≡◌, ◌≤◌, ◌⊎◌, ℕ, Bool, true, List, [], ◌∷◌, ◌++◌, position, slice_get, slice_set, sum_by, Option, Some, option_map, if◌then◌else◌}
+use Rattle.std.specs.List.{remove}
+use Rattle.seize_words.specs.declared.fault.Fault.{Fault}
+use Rattle.seize_words.specs.declared.fault.Fault.TheVariants.{Busy, Capacity, Memory, RemoveNothing}
+use Rattle.papaya_tables.specs.declared.node.Node.{Node}
+use Rattle.papaya_raw.specs.declared.machines.progress.Progress.{Progress}
+use Rattle.papaya_raw.specs.declared.machines.progress.Progress.TheVariants as progress
+use Rattle.papaya_schedules.specs.declared.call.Call.{Call}
+use Rattle.papaya_schedules.specs.declared.call.Call.TheVariants.{On}
+use Rattle.papaya_schedules.specs.declared.call.OneKey.{OneKey}
+use Rattle.papaya_schedules.specs.declared.effect.Effect.{Effect}
+use Rattle.papaya_schedules.specs.declared.event.Event.{Event}
+use Rattle.papaya_schedules.specs.declared.outcome.Outcome.{Outcome}
+use Rattle.papaya_schedules.specs.declared.outcome.Outcome.TheVariants.{Goes, Asks, Waits, Ready, Shows, Answered, Refused}
+use Rattle.papaya_schedules.specs.After.{moment, moments_from}
+use Rattle.papaya_schedules.specs.Beginning.{at_work}
+use Rattle.papaya_schedules.specs.Coming.{FindsNoTable, is_answer, is_compute, is_walk, may_ask}
+use Rattle.papaya_schedules.specs.Effects.{with_effects, worked}
+use Rattle.papaya_schedules.specs.Entry.{Entry, IfCall, acting, caller_of}
+use Rattle.papaya_schedules.specs.InUse.{may_wait}
+use Rattle.papaya_schedules.specs.Moment.{UnderWay as CallThere, Moment}
+use Rattle.papaya_schedules.specs.Steps.{DoesFew, MakesSteps, stands_or, weight}
+use Rattle.papaya_schedules.specs.Terms.{Terms}
+use Rattle.papaya_schedules.specs.Views.{call_of}
+use Rattle.papaya_late.specs.Faults.{IsRoom}
+use Rattle.papaya_effects.specs.Known.{Known, known}
+use Rattle.papaya_executor.specs.IsAt.{HasCall, IsAt, Scene}
+use Rattle.papaya_executor.specs.Stepping.{has_ended}
+use Rattle.papaya_follows.specs.Calling.{come_to}
+use Rattle.papaya_logged.specs.Calling.{CallGoesOn}
+use Rattle.papaya_logged.specs.Shown.{IsShown}
+use Rattle.papaya_scheduler.specs.Played.{IsDue, Plays, StandsFor, entry_of}
+use Rattle.papaya_scheduler.specs.Seen.{is_named}
+use Rattle.papaya_scheduler.specs.Telling.{answer_of, goes_on, number_by, kept}
+use Rattle.papaya_scheduler.specs.declared.caller.Caller.{Caller}
+use Rattle.papaya_scheduler.specs.declared.caller.Stands.{Stands as HowFar}
+use Rattle.papaya_scheduler.specs.declared.caller.Stands.TheVariants as far
+use Rattle.papaya_scheduler.specs.declared.kind.Kind.{Kind}
+use Rattle.papaya_scheduler.specs.declared.played.Played.{Played}
+use Rattle.papaya_scheduler.specs.declared.scheduler.Scheduler.{Scheduler}
+
+module _ {K V : Type 0} (by : Known) where
+  -- what a step says, in the words of an outcome, of a call of this kind that keeps this value
+  abbrev pub outcome_of : Kind → Option V → Progress (Node K V) → Outcome V
+  outcome_of its value progress.Goes = Goes
+  outcome_of its value (progress.Gave node) = Goes
+  outcome_of its value (progress.Unstored node) = Goes
+  outcome_of its value progress.Waits = Waits
+  outcome_of its value (progress.Asks word) = Asks (option_map (number_by by) word)
+  outcome_of its value progress.Ready = Ready
+  outcome_of its value (progress.Pair word) = Shows (number_by by word)
+  outcome_of its value (progress.Done said) = Answered (answer_of by its value said)
+  outcome_of its value (progress.Refused fault) = Refused fault
+
+  -- how far the call is then,
+  abbrev pub far_then : Progress (Node K V) → HowFar
+  far_then (progress.Asks word) = far.Asks (option_map (number_by by) word)
+  far_then progress.Ready = far.Ready
+  far_then (progress.Pair word) = far.Ready
+  far_then _ = far.Goes
+
+  -- its caller, if it has not ended,
+  abbrev pub caller_then : Caller V → Progress (Node K V) → Caller V
+  caller_then d (progress.Unstored node) = record d { stands = far.Goes; value = kept d.kind node d.value }
+  caller_then d said = record d { stands = far_then said }
+
+  -- and all callers
+  abbrev pub callers_then : ℕ → Caller V → Progress (Node K V) → List (Caller V) → List (Caller V)
+  callers_then place d said calls = if has_ended said then remove calls place else slice_set calls place (caller_then d said)
+
+-- for what a call on one key is refused: for room, or, of `compute`, for removing what is not there
+abbrev pub IsFaultOn : {K V : Type 0} → OneKey K V → Fault → Type 0
+IsFaultOn {K} {V} one fault = (fault ≡ Memory) ⊎ (fault ≡ Capacity) ⊎ ((fault ≡ RemoveNothing) × (is_compute {K = K} {V = V} (On one) ≡ true))
+
+module _ {K V : Type 0} where
+  -- What a call that goes on comes to, by its kind. In which case it waits, or is refused for room, this does not say.
+  abbrev pub ComesAs : Call K V → Outcome V → Type 0
+  ComesAs call Goes = Unit {0}
+  ComesAs call Waits = Unit {0}
+  ComesAs call (Asks question) = may_ask call ≡ true
+  ComesAs call Ready = is_walk call ≡ true
+  ComesAs call (Answered a) = is_answer call a ≡ true
+  ComesAs (On one) (Refused fault) = IsFaultOn one fault
+  ComesAs call (Refused fault) = IsRoom fault
+  ComesAs call _ = ⊥
+
+  -- That says: a call waits only where it may, and is refused for memory only where it is short of a growth, and for the length of a table only where it finds none.
+  abbrev pub IsInCase : Terms → CallThere K V → List (Moment K V) → Moment K V → Outcome V → Type 0
+  IsInCase terms c moments now Waits = may_wait c now ≡ true
+  IsInCase terms c moments now (Refused Memory) = c.is_short ≡ true
+  IsInCase terms c moments now (Refused Capacity) = FindsNoTable terms c (now ∷ moments)
+  IsInCase terms c moments now _ = Unit {0}
+
+  -- so it is of the call of an event
+  abbrev pub ComesInCase : Terms → List (Entry K V) → Entry K V → Type 0
+  ComesInCase terms log e =
+      let w = worked e (moment log) in IfCall (λ c. IsInCase terms c (moments_from c.begun log) w e.outcome) (acting (caller_of e.event) w)
+
+-- the call of this name is that of the caller at this place, and goes on
+abbrev pub GoesAt : {K V S : Type 0} → List ℕ → ℕ → Scheduler K V S → Type 0
+GoesAt {K} {V} own place p =
+    (Some place ≡ position (is_named own) p.calls.items.items) × (d : Caller V) × (slice_get p.calls.items.items place ≡ Some d) × (d.stands ≡ far.Goes)
+
+module _ {K V S : Type 0} (same : K → K → Bool) (hash : K → ℕ) (terms : Terms) (own : List ℕ) (place : ℕ) (m : Moment K V) where
+  -- So many steps of a call, of which each was taken while it went on: what they did follows in the list; and the scheduler stands for the moment at which the call has
+  -- come to this, however many steps are counted, if that is no refusal as out of turn, which would end no call.
+  pub record ComesBy (steps : ℕ) (outcome : Outcome V) (before after : List Effect) (new : Scheduler K V S) : Type 0 where
+    pub call : CallThere K V
+    pub call_is : call_of own m ≡ Some call
+    pub did : List Effect
+    pub follows : after ≡ before ++ did
+    pub few : sum_by weight did ≤ steps
+    pub comes : ComesAs call.call outcome
+    pub goes : goes_on outcome ≡ true → StandsFor same hash terms (with_effects (Some own) (Some call.map) did m) new × GoesAt own place new
+    pub stands : (outcome ≡ Refused Busy → ⊥) → (counted : ℕ) → StandsFor same hash terms (come_to own outcome counted (with_effects (Some own) (Some call.map) did m)) new
+
+  -- In the midst of these the call goes on, after what they did.
+  pub record IsMidst (steps : ℕ) (before after : List Effect) (p : Scheduler K V S) : Type 0 where
+    pub call : CallThere K V
+    pub call_is : call_of own m ≡ Some call
+    pub did : List Effect
+    pub follows : after ≡ before ++ did
+    pub few : sum_by weight did ≤ steps
+    pub stands : StandsFor same hash terms (with_effects (Some own) (Some call.map) did m) p
+    pub going : GoesAt own place p
+
+-- at least one, and at most so many; a call that goes on has taken all of them
+abbrev pub TakesUpTo : {V : Type 0} → ℕ → ℕ → Outcome V → Type 0
+TakesUpTo most steps outcome = (1 ≤ steps) × (steps ≤ most) × (goes_on outcome ≡ true → steps ≡ most)
+
+module _ {K V S : Type 0} (same : K → K → Bool) (hash : K → ℕ) where
+  -- A call is under way at this place.
+  abbrev pub MayStep : ℕ → Scheduler K V S → Type 0
+  MayStep place p = (d : Caller V) × (slice_get p.calls.items.items place ≡ Some d) × (s : Scene K V) × IsAt same hash p.logged.executor s × HasCall s d.number
+
+  -- It has taken a step: what that said, and did, where it has led, and how far the call is then.
+  pub record IsStepped (place : ℕ) (outcome : Outcome V) (before after : List Effect) (old new : Scheduler K V S) : Type 0 where
+    pub caller : Caller V
+    pub at : slice_get old.calls.items.items place ≡ Some caller
+    pub said : Progress (Node K V)
+    pub leads : (name : ℕ → List ℕ) (m : Moment K V) (s : Scene K V) → IsShown same hash name m old.logged s
+        → CallGoesOn same hash name m s caller.number caller.map said before after old.logged new.logged
+    pub outcome_is : outcome ≡ outcome_of (known new.logged.notes) caller.kind caller.value said
+    pub calls : new.calls.items.items ≡ callers_then (known new.logged.notes) place caller said old.calls.items.items
+    pub rest : new ≡ record old { logged = new.logged; calls = new.calls }
+
+  -- What a scheduler at whose place a call goes on is asked for its steps,
+  abbrev pub MayGo : ℕ → Scheduler K V S → Type 0
+  MayGo place p = (terms : Terms) × (m : Moment K V) × (own : List ℕ) × StandsFor same hash terms m p × GoesAt own place p
+
+  -- and what so many of them come to.
+  abbrev pub StepsCome : (place most steps : ℕ) → Outcome V → (before after : List Effect) → (old new : Scheduler K V S) → Type 0
+  StepsCome place most steps outcome before after old new =
+      TakesUpTo most steps outcome
+      × ((terms : Terms) (m : Moment K V) (own : List ℕ) → StandsFor same hash terms m old → GoesAt own place old → ComesBy same hash terms own place m steps outcome before after new)
+
+  -- A call stands at this place, however far it is: one that asks, or is ready, says so again, and one that goes on takes steps.
+  abbrev pub StandsAt : ℕ → Scheduler K V S → Type 0
+  StandsAt place p = (terms : Terms) × (m : Moment K V) × (own : List ℕ) × StandsFor same hash terms m p × (Some place ≡ position (is_named own) p.calls.items.items)
+
+  abbrev pub SaysAgain : Outcome V → Played V → (old new : Scheduler K V S) → Type 0
+  SaysAgain outcome played old new = (played.outcome ≡ outcome) × (played.steps ≡ 0) × (played.effects.items ≡ []) × (new ≡ old)
+
+  abbrev pub TakenBy : (place most : ℕ) → HowFar → Played V → (old new : Scheduler K V S) → Type 0
+  TakenBy place most (far.Asks question) played old new = SaysAgain (Asks question) played old new
+  TakenBy place most far.Ready played old new = SaysAgain Ready played old new
+  TakenBy place most far.Goes played old new = StepsCome place most played.steps played.outcome [] played.effects.items old new
+
+  abbrev pub TakenAs : (place most : ℕ) → Played V → (old new : Scheduler K V S) → Type 0
+  TakenAs place most played old new = (d : Caller V) → slice_get old.calls.items.items place ≡ Some d → TakenBy place most d.stands played old new
+
+  -- What is promised of an event by which a call goes on: it comes to what is right, where it does so in its case; it makes as many steps as it may, and does not more.
+  pub record PlaysOn (terms : Terms) (log : List (Entry K V)) (e : Entry K V) (p : Scheduler K V S) : Type 0 where
+    pub plays : ComesInCase terms log e → Plays same hash terms log e p
+    pub makes : MakesSteps e.event (stands_or (acting (caller_of e.event) (at_work e (moment log)))) e.steps e.outcome
+    pub does : DoesFew (caller_of e.event) e.steps e.effects
+
+  abbrev pub PlaysOnAt : Event K V → Played V → (old new : Scheduler K V S) → Type 0
+  PlaysOnAt event played old new = (terms : Terms) (log : List (Entry K V)) → IsDue same hash terms log event old → PlaysOn terms log (entry_of event played) new

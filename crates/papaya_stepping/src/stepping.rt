@@ -1,0 +1,187 @@
+//! Calls take steps, one or many.
+ghost use Rattle.std.specs.Prelude.{◌≡◌, ◌<◌, ◌≤◌, length, slice_get, Some, IfOk};
+ghost use Rattle.papaya_schedules.specs.declared.event.Event.TheVariants as event;
+ghost use Rattle.papaya_effects.specs.Known.{known};
+ghost use Rattle.papaya_scheduler.specs.Played.{MayPlay};
+ghost use Rattle.papaya_stepping.specs.Stepping.{IsStepped, MayGo, MayStep, PlaysOnAt, StandsAt, StepsCome, TakenAs, callers_then, outcome_of};
+ghost use Rattle.papaya_scheduler.specs.Telling.{goes_on};
+ghost use Rattle.papaya_scheduler.specs.declared.caller.Caller.{Caller};
+
+use papaya_raw::machines::Progress;
+use papaya_raw::{Hashes, Node};
+use papaya_runs::token::Token;
+use papaya_scheduler::caller::{Caller, Stands};
+use papaya_scheduler::played::Played;
+use papaya_scheduler::scheduler::Scheduler;
+use papaya_scheduler::telling::{answer_of, number_by};
+use papaya_schedules::effect::Effect;
+use papaya_schedules::outcome::Outcome;
+use std::alloc::AllocError;
+use std::hash::Hash;
+
+/// A call may take so many steps at once.
+const MOST_STEPS: u64 = 1_000_000;
+
+/// Whether a call goes on by itself.
+fn goes_on<V>(outcome: &Outcome<V>) -> bool
+    ensures { result ≡ goes_on outcome.now }
+{
+    matches!(outcome, Outcome::Goes)
+}
+
+/// If growths are to be refused, those are that come after so many more.
+fn refuse_after<K: Drop, V: Drop, S>(scheduler: &mut Scheduler<K, V, S>, refuse: bool, growths: u64)
+    ensures { scheduler.new ≡ scheduler.old }
+{
+    if refuse {
+        scheduler
+            .logged
+            .executor
+            .memory
+            .memory
+            .refuse_after(growths);
+    }
+}
+
+/// The call at this place has come to this. A walk that has shown a pair is ready.
+fn come_to<K: Drop, V: Drop, S>(
+    scheduler: &mut Scheduler<K, V, S>,
+    place: usize,
+    progress: Progress<Node<K, V>>,
+) -> Outcome<V>
+    requires { place < length scheduler.old.calls.items.items }
+    ensures outcome { (caller : Caller V) → slice_get scheduler.old.calls.items.items place ≡ Some caller
+        → result ≡ outcome_of (known scheduler.old.logged.notes) caller.kind caller.value progress }
+    ensures calls { (caller : Caller V) → slice_get scheduler.old.calls.items.items place ≡ Some caller
+        → scheduler.new.calls.items.items ≡ callers_then (known scheduler.old.logged.notes) place caller progress scheduler.old.calls.items.items }
+    ensures rest { scheduler.new ≡ record scheduler.old { calls = scheduler.new.calls } }
+{
+    match progress {
+        Progress::Goes | Progress::Gave(_) => {
+            scheduler.calls.stand(place, Stands::Goes);
+            Outcome::Goes
+        }
+        Progress::Unstored(node) => {
+            scheduler.calls.keep(place, node);
+            Outcome::Goes
+        }
+        Progress::Waits => {
+            scheduler.calls.stand(place, Stands::Goes);
+            Outcome::Waits
+        }
+        Progress::Asks(word) => {
+            let question = word.map(|word| number_by(&scheduler.logged.notes, word));
+            scheduler.calls.stand(place, Stands::Asks(question));
+            Outcome::Asks(question)
+        }
+        Progress::Ready => {
+            scheduler.calls.stand(place, Stands::Ready);
+            Outcome::Ready
+        }
+        Progress::Pair(word) => {
+            scheduler.calls.stand(place, Stands::Ready);
+            Outcome::Shows(number_by(&scheduler.logged.notes, word))
+        }
+        Progress::Done(said) => {
+            let Caller { kind, value, .. } = scheduler.calls.items.remove(place);
+            Outcome::Answered(answer_of(&scheduler.logged.notes, kind, value, said))
+        }
+        Progress::Refused(fault) => {
+            scheduler.calls.items.remove(place);
+            Outcome::Refused(fault)
+        }
+    }
+}
+
+/// The call at this place takes one step. What it does is added to the list.
+fn take_step<K: Eq + Hash + Drop, V: Drop, S: Hashes<K>>(
+    scheduler: &mut Scheduler<K, V, S>,
+    place: usize,
+    effects: &mut Vec<Effect>,
+) -> Result<Outcome<V>, AllocError>
+    requires { MayStep K.eq (S.hash scheduler.old.logged.executor.hasher) place scheduler.old }
+    ensures stepped { IfOk result (λ outcome. IsStepped K.eq (S.hash scheduler.old.logged.executor.hasher) place outcome effects.old.items effects.new.items scheduler.old scheduler.new) }
+    ensures hasher { scheduler.new.logged.executor.hasher ≡ scheduler.old.logged.executor.hasher }
+{
+    let (number, map) = scheduler.calls.way_of(place);
+    let progress = scheduler.logged.step(number, map, effects)?;
+    Ok(come_to(scheduler, place, progress))
+}
+
+/// The call at this place, which goes on, takes at most so many steps, while it does. What they do is added to the list.
+fn go_on<K: Eq + Hash + Drop, V: Drop, S: Hashes<K>>(
+    scheduler: &mut Scheduler<K, V, S>,
+    place: usize,
+    most: u64,
+    effects: &mut Vec<Effect>,
+) -> Result<(Outcome<V>, u64), AllocError>
+    requires some { 1 ≤ most }
+    requires goes { MayGo K.eq (S.hash scheduler.old.logged.executor.hasher) place scheduler.old }
+    ensures { IfOk result (λ come. StepsCome K.eq (S.hash scheduler.old.logged.executor.hasher) place most come.1 come.0 effects.old.items effects.new.items scheduler.old scheduler.new) }
+{
+    for steps in 1..most {
+        let outcome = take_step(scheduler, place, effects)?;
+        if !goes_on(&outcome) {
+            return Ok((outcome, steps));
+        }
+    }
+    let outcome = take_step(scheduler, place, effects)?;
+    Ok((outcome, most))
+}
+
+/// The call at this place takes at most so many steps, while it goes on. The first growth that it asks for may be refused.
+fn take_steps<K: Eq + Hash + Drop, V: Drop, S: Hashes<K>>(
+    scheduler: &mut Scheduler<K, V, S>,
+    place: usize,
+    most: u64,
+    refuse: bool,
+) -> Result<Played<V>, AllocError>
+    requires some { 1 ≤ most }
+    requires stands { StandsAt K.eq (S.hash scheduler.old.logged.executor.hasher) place scheduler.old }
+    ensures { IfOk result (λ played. TakenAs K.eq (S.hash scheduler.old.logged.executor.hasher) place most played scheduler.old scheduler.new) }
+{
+    match scheduler.calls.far_of(place) {
+        Stands::Asks(question) => return Ok(scheduler.quietly(Outcome::Asks(question))),
+        Stands::Ready => return Ok(scheduler.quietly(Outcome::Ready)),
+        Stands::Goes => {}
+    }
+    let mut effects = scheduler.no_effects();
+    refuse_after(scheduler, refuse, 0);
+    let come = go_on(scheduler, place, most, &mut effects)?;
+    refuse_after(scheduler, refuse, u64::MAX);
+    Ok(Played {
+        outcome: come.0,
+        steps: come.1,
+        effects,
+    })
+}
+
+/// One step of the caller's call. Its growth may be refused.
+pub fn step<K: Eq + Hash + Drop, V: Drop, S: Hashes<K>>(
+    scheduler: &mut Scheduler<K, V, S>,
+    caller: &Token,
+    refuse: bool,
+) -> Result<Played<V>, AllocError>
+    requires { MayPlay K.eq (S.hash scheduler.old.logged.executor.hasher) (event.Step caller.now refuse) scheduler.old }
+    ensures plays { IfOk result (λ played. PlaysOnAt K.eq (S.hash scheduler.old.logged.executor.hasher) (event.Step caller.now refuse) played scheduler.old scheduler.new) }
+{
+    match scheduler.calls.place_of(caller) {
+        Some(place) => take_steps(scheduler, place, 1, refuse),
+        None => Ok(scheduler.busy()),
+    }
+}
+
+/// Steps of the caller's call while it goes on. The first growth that it asks for may be refused.
+pub fn go<K: Eq + Hash + Drop, V: Drop, S: Hashes<K>>(
+    scheduler: &mut Scheduler<K, V, S>,
+    caller: &Token,
+    refuse: bool,
+) -> Result<Played<V>, AllocError>
+    requires { MayPlay K.eq (S.hash scheduler.old.logged.executor.hasher) (event.Go caller.now refuse) scheduler.old }
+    ensures plays { IfOk result (λ played. PlaysOnAt K.eq (S.hash scheduler.old.logged.executor.hasher) (event.Go caller.now refuse) played scheduler.old scheduler.new) }
+{
+    match scheduler.calls.place_of(caller) {
+        Some(place) => take_steps(scheduler, place, MOST_STEPS, refuse),
+        None => Ok(scheduler.busy()),
+    }
+}
