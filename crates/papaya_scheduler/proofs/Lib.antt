@@ -34,3 +34,4 @@ pub mod Mapped
 pub mod MapsEnded
 pub mod RootsUsed
 pub mod MapsMade
+mod AllGiven

@@ -55,7 +55,7 @@ module _ {K V : Type 0} where
   there_stays caller acted [] m = refl
   there_stays caller acted (f ∷ effects) m = there_stays caller acted effects (with_effect caller acted f m)
 
-some_setting : {K : Type 0} (o : Option (Standing K)) (x : Setting) → option_map (λ st. st.setting) o ≡ Some x → (standing : Standing K) × (o ≡ Some standing)
+pub some_setting : {K : Type 0} (o : Option (Standing K)) (x : Setting) → option_map (λ st. st.setting) o ≡ Some x → (standing : Standing K) × (o ≡ Some standing)
 some_setting None x e = absurd (cc e)
 some_setting (Some st) x e = (st, refl)
 

@@ -6,3 +6,4 @@ pub mod Turns
 pub mod Played
 pub mod KeptOut
 pub mod Mapping
+pub mod Reclaiming

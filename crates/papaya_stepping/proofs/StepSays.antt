@@ -62,7 +62,6 @@ use Rattle.papaya_scheduler.specs.Machines.{IsAsFar, RefusedForRoom}
 use Rattle.papaya_scheduler.specs.Seen.{kind_of}
 use Rattle.papaya_stepping.specs.Stepping.{ComesAs, IsFaultOn, far_then, outcome_of}
 use Rattle.papaya_scheduler.specs.Telling.{number_by, number_in}
-use Rattle.papaya_scheduler.specs.declared.caller.Stands.TheVariants as far
 use Rattle.papaya_scheduler.specs.declared.kind.Kind.{Kind}
 use Rattle.papaya_scheduler.specs.declared.kind.Kind.TheVariants as kind
 use Rattle.papaya_stepping.proofs.RoomSays.{NeverRefused, SaysRoom, reserve_room, sum_room}

@@ -40,12 +40,11 @@ use Rattle.papaya_logged.specs.Calling.{CallGoesOn}
 use Rattle.papaya_logged.specs.Shown.{IsShown}
 use Rattle.papaya_scheduler.specs.Played.{AsFar, BeginsSo, IsDue, Plays, StandsAs, StandsFor, entry_of}
 use Rattle.papaya_scheduler.specs.Seen.{is_named}
-use Rattle.papaya_scheduler.specs.Telling.{answer_of, goes_on, number_by, value_of, kept}
+use Rattle.papaya_scheduler.specs.Telling.{answer_of, goes_on, number_by, kept}
 use Rattle.papaya_scheduler.specs.declared.caller.Caller.{Caller}
 use Rattle.papaya_scheduler.specs.declared.caller.Stands.{Stands as HowFar}
 use Rattle.papaya_scheduler.specs.declared.caller.Stands.TheVariants as far
 use Rattle.papaya_scheduler.specs.declared.kind.Kind.{Kind}
-use Rattle.papaya_scheduler.specs.declared.kind.Kind.TheVariants as kind
 use Rattle.papaya_scheduler.specs.declared.played.Played.{Played}
 use Rattle.papaya_scheduler.specs.declared.scheduler.Scheduler.{Scheduler}
 

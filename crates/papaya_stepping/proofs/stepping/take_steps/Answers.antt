@@ -1,5 +1,5 @@
 -- A call takes steps, or says again that it asks, or is ready.
-use Rattle.std.proofs.Common.{[], refl, sym, ap, subst, ◌∙◌}
+use Rattle.std.proofs.Common.{[], refl, sym, subst, ◌∙◌}
 use Rattle.papaya_stepping.specs.Stepping.{MayGo, StepsCome, TakenBy}
 use Rattle.papaya_scheduler.proofs.Here.{here_at}
 use Rattle.papaya_rows.proofs.Lists.{got_within}
