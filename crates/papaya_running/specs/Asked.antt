@@ -1,40 +1,27 @@
 -- What is asked of an event, and what is promised of it then.
-use Rattle.std.specs.Prelude.{◌≡◌, ◌==◌, ℕ, Bool, true, false, List, None}
+use Rattle.std.specs.Prelude.{◌≡◌, ◌==◌, ℕ, Bool, true, false, List}
 use Rattle.papaya_points.specs.Steps.{AreLawful}
 use Rattle.papaya_schedules.specs.declared.event.Event.{Event}
-use Rattle.papaya_schedules.specs.declared.event.Event.TheVariants.{Collector, Hash, Choose, Register, Unregister, Enter, Own, Refresh, Flush, DropGuard, Forget, ReclaimAll, Close, MakeMap, EndMap, ShowShape, Begin, Step, Go, Replied, OneCall, Next, Stop}
+use Rattle.papaya_schedules.specs.declared.event.Event.TheVariants.{ReclaimAll, Close, MakeMap, EndMap, ShowShape, Begin, Step, Go, Replied, OneCall, Next, Stop}
+use Rattle.papaya_schedules.specs.declared.effect.Effect.{Effect}
 use Rattle.papaya_schedules.specs.After.{moment}
 use Rattle.papaya_schedules.specs.Beginning.{at_work}
-use Rattle.papaya_schedules.specs.Effects.{AtEachEffect}
-use Rattle.papaya_schedules.specs.Entry.{Entry, acted_on, acting, caller_of}
+use Rattle.papaya_schedules.specs.Entry.{Entry, acting, caller_of}
 use Rattle.papaya_schedules.specs.InTurn.{is_kept_out}
 use Rattle.papaya_schedules.specs.Moment.{Moment}
 use Rattle.papaya_schedules.specs.Steps.{DoesFew, MakesSteps, stands_or}
 use Rattle.papaya_schedules.specs.Terms.{Terms}
-use Rattle.papaya_moments.specs.Endings.{WaitsOn}
-use Rattle.papaya_rows.specs.Rows.{TakesRetired}
-use Rattle.papaya_scheduler.specs.Handing.{HeldIsTold}
+use Rattle.papaya_kept.specs.Steps.{EndsKeepWaiting}
 use Rattle.papaya_scheduler.specs.Mapping.{CountsMaps}
 use Rattle.papaya_scheduler.specs.Played.{Plays, StandsFor, entry_of}
-use Rattle.papaya_scheduler.specs.Reclaiming.{MayGiveAll}
+use Rattle.papaya_scheduler.specs.Reclaiming.{MayComeBack, MayGiveAll}
 use Rattle.papaya_scheduler.specs.declared.played.Played.{Played}
 use Rattle.papaya_scheduler.specs.declared.scheduler.Scheduler.{Scheduler}
 use Rattle.papaya_stepping.specs.Stepping.{ComesInCase}
 
 module _ {K V : Type 0} where
-  -- A table that an event of a slot reclaims was retired, and what waits behind it is not reclaimed; nor is that what waits behind a table that ends with its map. A call that goes on
-  -- waits, or is refused for room, in its case.
+  -- A call that goes on waits, or is refused for the length of a table, in its case.
   abbrev pub FindsBy : Terms → List (Entry K V) → Entry K V → Event K V → Type 0
-  FindsBy terms log e (Register registration) = TakesRetired e.effects (moment log)
-  FindsBy terms log e (Unregister registration) = TakesRetired e.effects (moment log)
-  FindsBy terms log e (Enter guard registration) = TakesRetired e.effects (moment log)
-  FindsBy terms log e (Own guard) = TakesRetired e.effects (moment log)
-  FindsBy terms log e (Refresh guard) = TakesRetired e.effects (moment log)
-  FindsBy terms log e (Flush guard) = TakesRetired e.effects (moment log)
-  FindsBy terms log e (DropGuard guard) = TakesRetired e.effects (moment log)
-  FindsBy terms log e ReclaimAll = TakesRetired e.effects (moment log)
-  FindsBy terms log e Close = TakesRetired e.effects (moment log)
-  FindsBy terms log e (EndMap name) = AtEachEffect WaitsOn None (acted_on (EndMap name) (moment log)) e.effects (moment log)
   FindsBy terms log e (Step caller refuse) = ComesInCase terms log e
   FindsBy terms log e (Go caller refuse) = ComesInCase terms log e
   FindsBy terms log e (OneCall guard name call) = ComesInCase terms log e
@@ -73,18 +60,24 @@ module _ {K V : Type 0} where
   takes_steps _ = false
 
 module _ {K V S : Type 0} (same : K → K → Bool) (hash : K → ℕ) where
-  -- The scheduler stands for the moment, and what events ask of it is so: keys have lawful hashes; a batch that is held is told to be; numbers, roots and names of maps are those that the
-  -- moment says; and what ended maps left over is behind their roots.
+  -- The scheduler stands for the moment, and what events ask of it is so: keys have lawful hashes; numbers, roots and names of maps are those that the moment says; and what ended maps
+  -- left over is behind their roots.
   pub record Holds (terms : Terms) (m : Moment K V) (p : Scheduler K V S) : Type 0 where
     pub stands : StandsFor same hash terms m p
     pub lawful : AreLawful same hash
-    pub held : HeldIsTold m p
     pub counts : CountsMaps m p
     pub gives : MayGiveAll p stands.scene
 
+  -- What is asked of single steps that is not promised of them yet: the end of a map leaves what waits behind tables there, and what every step keeps is so once all is reclaimed.
+  abbrev pub AsksOfSteps : List (Entry K V) → (ℕ → List ℕ) → Event K V → List Effect → Scheduler K V S → Type 0
+  AsksOfSteps log name (EndMap map) did new = EndsKeepWaiting K V S same hash
+  AsksOfSteps log name ReclaimAll did new = MayComeBack same hash (moment log) name did new.logged
+  AsksOfSteps log name Close did new = MayComeBack same hash (moment log) name did new.logged
+  AsksOfSteps log name _ did new = Unit {0}
+
   -- What is promised of an event: it comes to what is right, where it finds what it must; it makes as many steps as it may, and does not more.
-  pub record Happens (terms : Terms) (log : List (Entry K V)) (e : Entry K V) (p : Scheduler K V S) : Type 0 where
-    pub plays : FindsRight terms log e → Plays same hash terms log e p
+  pub record Happens (name : ℕ → List ℕ) (terms : Terms) (log : List (Entry K V)) (e : Entry K V) (p : Scheduler K V S) : Type 0 where
+    pub plays : AsksOfSteps log name e.event e.effects p → FindsRight terms log e → Plays same hash terms log e p
     pub makes : MakesSteps e.event (stands_or (acting (caller_of e.event) (at_work e (moment log)))) e.steps e.outcome
     pub does : DoesFew (caller_of e.event) e.steps e.effects
 
@@ -98,9 +91,9 @@ module _ {K V S : Type 0} (same : K → K → Bool) (hash : K → ℕ) where
 
   abbrev pub HappensAt : Bool → Event K V → Played V → (old new : Scheduler K V S) → Type 0
   HappensAt is_first event played old new =
-      (terms : Terms) (log : List (Entry K V)) → is_first ≡ ((moment log).events == 0) → Holds terms (moment log) old → Happens terms log (entry_of event played) new
+      (terms : Terms) (log : List (Entry K V)) → is_first ≡ ((moment log).events == 0) → (holds : Holds terms (moment log) old) → Happens holds.stands.name terms log (entry_of event played) new
 
   abbrev pub HappensDue : Bool → Event K V → Played V → (old new : Scheduler K V S) → Type 0
   HappensDue is_first event played old new =
-      (terms : Terms) (log : List (Entry K V)) → is_first ≡ ((moment log).events == 0) → Holds terms (moment log) old → is_kept_out terms event (moment log) ≡ false
-      → Happens terms log (entry_of event played) new
+      (terms : Terms) (log : List (Entry K V)) → is_first ≡ ((moment log).events == 0) → (holds : Holds terms (moment log) old) → is_kept_out terms event (moment log) ≡ false
+      → Happens holds.stands.name terms log (entry_of event played) new

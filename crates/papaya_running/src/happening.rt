@@ -6,7 +6,8 @@ use papaya_raw::Hashes;
 use papaya_scheduler::played::Played;
 use papaya_scheduler::scheduler::Scheduler;
 use papaya_schedules::event::Event;
-use papaya_stepping::stepping::{go, next, one_call, step};
+use papaya_stepping::stepping::{go, one_call, step};
+use papaya_stepping::walking::next;
 use std::alloc::AllocError;
 use std::hash::Hash;
 
