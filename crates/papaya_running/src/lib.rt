@@ -5,5 +5,4 @@ pub mod acting;
 pub mod ending;
 pub mod happening;
 pub mod record;
-pub mod running;
 pub mod tally;
