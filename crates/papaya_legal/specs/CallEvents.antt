@@ -1,12 +1,11 @@
 -- Events in which a call takes steps: in the midst of one, and at its end.
-use Rattle.std.specs.Prelude.{◌≡◌, ℕ, ◌+◌, ◌==◌, Bool, true, false, List, [], ◌∷◌, ◌++◌, Option, Some, None, if◌then◌else◌}
+use Rattle.std.specs.Prelude.{◌≡◌, ℕ, ◌+◌, ◌==◌, Bool, true, false, List, [], ◌∷◌, ◌++◌, Some, if◌then◌else◌}
 use Rattle.std.specs.List.{list_all}
-use Rattle.seize.specs.World.{Rests}
 use Rattle.papaya_tables.specs.declared.node.Node.{Node}
 use Rattle.papaya_raw.specs.declared.machines.progress.Progress.{Progress}
 use Rattle.papaya_schedules.specs.declared.effect.Effect.{Effect}
 use Rattle.papaya_schedules.specs.declared.event.Event.{Event}
-use Rattle.papaya_schedules.specs.After.{after, is_alone_on, moment, moments_from}
+use Rattle.papaya_schedules.specs.After.{after, moment, moments_from}
 use Rattle.papaya_schedules.specs.Beginning.{at_work}
 use Rattle.papaya_schedules.specs.Effects.{with_effects, AtEachEffect}
 use Rattle.papaya_schedules.specs.Entry.{Entry, acted_on, caller_of, ends_call}

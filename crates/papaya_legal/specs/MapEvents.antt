@@ -1,5 +1,5 @@
 -- Events that make a map, or end one, and those that do nothing: in the midst of one, and at its end.
-use Rattle.std.specs.Prelude.{◌≡◌, ℕ, Bool, true, false, List, [], ◌∷◌, ◌++◌, Option, Some, None}
+use Rattle.std.specs.Prelude.{◌≡◌, ℕ, Bool, true, false, List, [], ◌++◌, Some, None}
 use Rattle.std.specs.List.{list_all}
 use Rattle.seize.specs.declared.progress.Progress.{Progress as Making}
 use Rattle.seize.specs.declared.rows.settle.Settled.{Settled}
@@ -9,7 +9,7 @@ use Rattle.papaya_schedules.specs.declared.effect.Effect.{Effect}
 use Rattle.papaya_schedules.specs.declared.event.Event.{Event}
 use Rattle.papaya_schedules.specs.After.{moment}
 use Rattle.papaya_schedules.specs.Effects.{with_effects, AtEachEffect}
-use Rattle.papaya_schedules.specs.Entry.{Entry, caller_of}
+use Rattle.papaya_schedules.specs.Entry.{Entry}
 use Rattle.papaya_schedules.specs.Handing.{is_granted, may_do}
 use Rattle.papaya_schedules.specs.InTurn.{ComesRight}
 use Rattle.papaya_schedules.specs.Lives.{Finds}
@@ -24,10 +24,12 @@ use Rattle.papaya_executor.specs.IsAt.{Scene, IsAt}
 use Rattle.papaya_executor.specs.Making.{MakingLeads}
 use Rattle.papaya_executor.specs.declared.executor.Executor.{Executor}
 use Rattle.papaya_finishes.specs.Endings.{Finishing}
+use Rattle.papaya_kept.specs.Steps.{EndsKeepWaiting}
+use Rattle.papaya_moments.specs.Endings.{IsOfIts}
 use Rattle.papaya_finishes.specs.Makings.{Beginning}
 use Rattle.papaya_others.specs.Endings.{ending_after}
 use Rattle.papaya_others.specs.Makings.{WasNew, making_after}
-use Rattle.papaya_promises.specs.Protected.{InMidst}
+use Rattle.papaya_promises.specs.Protected.{InMidst, is_of_slots}
 use Rattle.papaya_promises.specs.Reading.{ShowsReading}
 use Rattle.papaya_models.specs.Ends.{FollowsInEnd}
 use Rattle.papaya_models.specs.MapEvents.{FollowsInMaking}
@@ -37,6 +39,7 @@ use Rattle.papaya_legal.specs.Carried.{ShowsCalls, ShowsRun}
 module _ {K V : Type 0} (same : K → K → Bool) (name : ℕ → List ℕ) (terms : Terms) (log : List (Entry K V)) (event : Event K V) (map : ℕ) (beginning : Moment K V) where
   -- In the midst of an event whose work is that of a map which is made, or ends: what it has done finds what it must.
   pub record InMapEvent (done : List Effect) (m : Moment K V) (known : Known) (s : Scene K V) : Type 0 where
+    pub of_maps : is_of_slots event ≡ false
     pub calls : ShowsCalls same name log m known s
     pub reading : ShowsReading name log (λ j. 0) m s
     pub worked : m ≡ with_effects None (Some map) done beginning
@@ -56,26 +59,29 @@ module _ {K V : Type 0} (same : K → K → Bool) (name : ℕ → List ℕ) (ter
       InMapEvent done m known s × ((moment log).is_alone ≡ true → FollowsInEnd terms.batch_size terms.roots (things_in log) (sets_in terms.batch_size log) first i done known s.world)
 
 module _ (K V S : Type 0) (same : K → K → Bool) (hash : K → ℕ) where
-  -- The promises: a making goes on so,
+  -- The promises: a making goes on so, if what it does it may do, and finds what it must,
   abbrev pub MakingEventsGoOn : Type 0
   MakingEventsGoOn =
       (name : ℕ → List ℕ) (terms : Terms) (log : List (Entry K V)) (event : Event K V) (beginning : Moment K V) (done : List Effect) (m : Moment K V) (known : Known) (s : Scene K V) (i : ℕ) (b : Beginning K)
       (here : s.makers i ≡ Some b) → InMakingEvent same name terms log event b.map beginning done m known s → (old new : Executor K V S) → IsAt same hash old s
-      → (said : Making Setting) (leads : MakingLeads same hash i said s old new) → WasNew b.map said m
+      → old.batch_size ≡ terms.batch_size → (said : Making Setting) (leads : MakingLeads same hash i said s old new) → WasNew b.map said m
       → (let to = leads b here in
       let effects = effects_of (acts.Making b.map) known new.memory.changed in
-      InMakingEvent same name terms log event b.map beginning (done ++ effects) (with_effects None (Some b.map) effects m) (known_after (acts.Making b.map) new.memory.changed known)
+      list_all (may_do event (moment log)) effects ≡ true → AtEachEffect (Finds terms None (Some b.map) false []) None (Some b.map) effects m
+      → InMakingEvent same name terms log event b.map beginning (done ++ effects) (with_effects None (Some b.map) effects m) (known_after (acts.Making b.map) new.memory.changed known)
       (making_after same hash s old new i b to.0 to.2.step.w2 said to.3))
 
-  -- and so does an end;
+  -- and so does an end, which takes tables of its map alone, if what waits behind tables waits there after its steps;
   abbrev pub EndEventsGoOn : Type 0
   EndEventsGoOn =
       (name : ℕ → List ℕ) (terms : Terms) (log : List (Entry K V)) (event : Event K V) (map : ℕ) (beginning : Moment K V) (first : Known) (done : List Effect) (m : Moment K V) (known : Known) (s : Scene K V) (i : ℕ)
       (f : Finishing K V) (here : s.enders i ≡ Some f) → s.maps map ≡ None → InEndEvent same name terms log event map beginning first i done m known s → (old new : Executor K V S) → IsAt same hash old s
-      → (said : Settled (Node K V)) (leads : EndingLeads same hash i said s old new)
+      → old.batch_size ≡ terms.batch_size → EndsKeepWaiting K V S same hash → (said : Settled (Node K V)) (leads : EndingLeads same hash i said s old new)
       → (let to = leads f here in
       let effects = effects_of (acts.Ending map) known new.memory.changed in
-      InEndEvent same name terms log event map beginning first i (done ++ effects) (with_effects None (Some map) effects m) (known_after (acts.Ending map) new.memory.changed known)
+      AtEachEffect (IsOfIts map) None (Some map) effects m → list_all (may_do event (moment log)) effects ≡ true
+      → AtEachEffect (Finds terms None (Some map) false []) None (Some map) effects m
+      → InEndEvent same name terms log event map beginning first i (done ++ effects) (with_effects None (Some map) effects m) (known_after (acts.Ending map) new.memory.changed known)
       (ending_after same hash s new i f to.0 to.2.w2 to.2.deed said to.3))
 
   -- and an event that does nothing at all keeps its promises, where it comes to what is right.

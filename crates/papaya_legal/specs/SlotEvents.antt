@@ -1,5 +1,5 @@
 -- Events of registrations and guards, and those that reclaim everything: in the midst of one, and at its end.
-use Rattle.std.specs.Prelude.{◌≡◌, ℕ, Bool, true, false, List, [], ◌∷◌, ◌++◌, Option, Some, None}
+use Rattle.std.specs.Prelude.{◌≡◌, ℕ, Bool, true, false, List, [], ◌∷◌, ◌++◌, Some, None}
 use Rattle.std.specs.List.{list_all}
 use Rattle.seize.specs.World.{Rests, Begin, Step}
 use Rattle.papaya_tables.specs.declared.node.Node.{Node}
@@ -37,6 +37,7 @@ use Rattle.papaya_legal.specs.Carried.{ShowsCalls, ShowsRun}
 module _ {K V : Type 0} (same : K → K → Bool) (name : ℕ → List ℕ) (terms : Terms) (log : List (Entry K V)) (event : Event K V) (i : ℕ) (called : SlotCall) (first : Known) where
   -- In the midst of an event whose work is a row of caller i on its slot, which has done this.
   pub record InSlotEvent (done : List Effect) (m : Moment K V) (known : Known) (s : Scene K V) : Type 0 where
+    pub of_slots : is_of_slots event ≡ true
     pub calls : ShowsCalls same name log m known s
     pub reading : ShowsReading name log (λ j. 0) m s
     pub worked : m ≡ with_effects None None done (moment log)
@@ -50,19 +51,21 @@ module _ (K V S : Type 0) (same : K → K → Bool) (hash : K → ℕ) where
   -- The promises: so it is where its row begins, on a slot that has none of the guards whose sections the event does not end;
   abbrev pub SlotEventsBegin : Type 0
   SlotEventsBegin =
-      (name : ℕ → List ℕ) (terms : Terms) (log : List (Entry K V)) (known : Known) (s : Scene K V) (old new : Executor K V S) → IsAt same hash old s → ShowsRun same name terms log known s
-      → (event : Event K V) → is_of_slots event ≡ true → (i : ℕ) (called : SlotCall) (may : MayBegin old (slot_of i) called) (leads : RowBegins same hash called i s old new) → work_of old i ≡ None
+      (name : ℕ → List ℕ) (terms : Terms) (log : List (Entry K V)) (known : Known) (s : Scene K V) (old new : Executor K V S) → IsAt same hash old s → old.batch_size ≡ terms.batch_size
+      → ShowsRun same name terms log known s
+      → (event : Event K V) → is_of_slots event ≡ true → (i : ℕ) (called : SlotCall) (may : MayBegin old (slot_of i) called) (leads : RowBegins same hash called i s old new)
       → SparesGuards called (slot_of i) (there_in event (moment log).there)
       → InSlotEvent same name terms log event i called known [] (moment log) known (scene_then same hash (Begin i (request_of (slot_of i) called)) s old new (leads may).3)
 
-  -- after each step of the row,
+  -- after each step of the row, if what that does it may do, and finds what it must,
   abbrev pub SlotEventsGoOn : Type 0
   SlotEventsGoOn =
       (name : ℕ → List ℕ) (terms : Terms) (log : List (Entry K V)) (event : Event K V) (i : ℕ) (called : SlotCall) (first : Known) (done : List Effect) (m : Moment K V) (known : Known) (s : Scene K V)
-      → InSlotEvent same name terms log event i called first done m known s → (old new : Executor K V S) → IsAt same hash old s
+      → InSlotEvent same name terms log event i called first done m known s → (old new : Executor K V S) → IsAt same hash old s → old.batch_size ≡ terms.batch_size
       → (said : RowTold (Node K V)) (leads : RowLeads same hash i said s old new) (row : SlotRow) (here : work_of old i ≡ Some (OnSlot row))
       → (let effects = effects_of acts.Row known new.memory.changed in
-      InSlotEvent same name terms log event i called first (done ++ effects) (with_effects None None effects m) (known_after acts.Row new.memory.changed known)
+      list_all (may_do event (moment log)) effects ≡ true → AtEachEffect (Finds terms None None (gives_all event) []) None None effects m
+      → InSlotEvent same name terms log event i called first (done ++ effects) (with_effects None None effects m) (known_after acts.Row new.memory.changed known)
       (scene_then same hash (Step i) s old new (leads row here).4))
 
   -- and the event keeps its promises once the row has ended, where it comes to what is right.

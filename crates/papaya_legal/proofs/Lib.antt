@@ -1,0 +1,6 @@
+-- Lemmas on the events of a run, and on what is carried from each to the next.
+pub mod Begin
+pub mod Calls
+pub mod Slots
+pub mod Maps
+pub mod Legal

@@ -1,0 +1,6 @@
+-- Rows on slots go on so.
+use Rattle.papaya_legal.proofs.Slots.{slot_events_begin_so, slot_events_go_on_so}
+use Rattle.papaya_legal.proofs.law.slot_events.Goals as goal
+
+pub returns : goal.returns
+returns c d = record { begins = slot_events_begin_so _ _ _; goes_on = slot_events_go_on_so _ _ _ }
