@@ -1,23 +1,50 @@
 -- An event of a call, from its beginning on.
-use Rattle.std.specs.Prelude.{◌≡◌, ℕ, ◌+◌, ◌≤◌, ◌==◌, Bool, true, false, List, [], Some, if◌then◌else◌}
-use Rattle.std.proofs.Common.{refl, subst, arith}
+use Rattle.std.specs.Prelude.{◌≡◌, ℕ, ◌+◌, ◌≤◌, ◌==◌, Bool, true, false, List, [], ◌++◌, Some, if◌then◌else◌}
+use Rattle.std.proofs.Common.{refl, ap, sym, subst, ◌∙◌, arith}
 use Rattle.seize.specs.World.{World}
 use Rattle.papaya_tables.specs.declared.node.Node.{Node}
 use Rattle.papaya_tables.specs.Chunks.{is_incremental}
+use Rattle.papaya_schedules.specs.declared.effect.Effect.{Effect}
 use Rattle.papaya_schedules.specs.declared.event.Event.{Event}
 use Rattle.papaya_schedules.specs.declared.event.Event.TheVariants.{OneCall, Step, Go, Next}
 use Rattle.papaya_schedules.specs.After.{moment, moments_from}
+use Rattle.papaya_schedules.specs.Effects.{with_effects, AtEachEffect}
 use Rattle.papaya_schedules.specs.Entry.{caller_of}
 use Rattle.papaya_schedules.specs.Model.{sets_in, things_in}
 use Rattle.papaya_schedules.specs.Moment.{Moment}
-use Rattle.papaya_executor.specs.IsAt.{slot_of}
+use Rattle.papaya_executor.specs.IsAt.{Scene, slot_of}
+use Rattle.papaya_executor.specs.Stepping.{scene_after}
+use Rattle.papaya_effects.specs.Effects.{effects_of, known_after}
 use Rattle.papaya_effects.specs.Known.{Known}
-use Rattle.papaya_histories.proofs.AnyCall.InEvent.{events_begin}
-use Rattle.papaya_models.proofs.CallEvents.{call_events_begin}
-use Rattle.papaya_promises.specs.Protected.{InMidst}
+use Rattle.papaya_effects.specs.declared.acting.Acting.TheVariants as acts
+use Rattle.papaya_moments.specs.Whole.{ShowsWhole}
+use Rattle.papaya_moments.proofs.After.{effects_after}
+use Rattle.papaya_kept.proofs.Calls.{calls_keep_kept}
+use Rattle.papaya_owes.proofs.Calls.{calls_keep_made}
+use Rattle.papaya_owes.proofs.Looking.Calls.{calls_keep_looking}
+use Rattle.papaya_settles.proofs.Calls.{calls_keep_counts}
+use Rattle.papaya_shards.proofs.ShardCalls.{calls_keep_counters}
+use Rattle.papaya_histories.specs.AsCalled.{ShowsAsCalled}
+use Rattle.papaya_histories.specs.Due.{ShowsDue}
+use Rattle.papaya_histories.specs.InEvent.{here_of}
+use Rattle.papaya_histories.proofs.Questions.{effects_keep_questions}
+use Rattle.papaya_purposes.proofs.Kept.{calls_keep_purposes}
+use Rattle.papaya_histories.proofs.AnyCall.InEvent.{events_begin, events_go_on, events_keep_all}
+use Rattle.papaya_models.specs.CallEvents.{FollowsInEvent}
+use Rattle.papaya_models.proofs.CallEvents.{call_events_begin, call_events_go_on}
+use Rattle.papaya_models.proofs.MapEvents.{moments_note_once}
+use Rattle.papaya_finds.specs.Life.{StoresOne}
+use Rattle.papaya_finds.specs.Parts.{FindAll}
+use Rattle.papaya_finds.proofs.Doing.{several_do_theirs}
+use Rattle.papaya_finds.proofs.Joined.{several_find_all}
+use Rattle.papaya_finds.proofs.Quiet.{several_store_one}
+use Rattle.papaya_finds.proofs.Steps.{steps_do_theirs, steps_store_one}
+use Rattle.papaya_promises.specs.Protected.{InMidst, is_of_slots}
 use Rattle.papaya_promises.specs.Reading.{HasLooked}
 use Rattle.papaya_promises.specs.Sheltered.{SectionsHold}
-use Rattle.papaya_legal.specs.CallEvents.{CallEventsBegin}
+use Rattle.papaya_promises.proofs.Protected.{calls_protect}
+use Rattle.papaya_promises.proofs.Weights.{grants_add_up, operations_are_single, parts_add_up}
+use Rattle.papaya_legal.specs.CallEvents.{CallEventsBegin, CallEventsGoOn}
 
 -- no steps, whoever's
 none_made : (q : Bool) → 0 ≡ (if q then 0 else 0)
@@ -35,6 +62,7 @@ module _ {K V : Type 0} (own : List ℕ) (m : Moment K V) (known : Known) (w : W
 
 pub call_events_begin_so : (K V S : Type 0) (same : K → K → Bool) (hash : K → ℕ) → CallEventsBegin K V S same hash
 call_events_begin_so K V S same hash name terms log known s x at run event map i caller_is u here c c_is = record {
+  of_call = caller_is;
   event_so = events_begin K V S same hash name log (moment log) (refl, refl) known s x at run.calls.whole run.calls.dues run.calls.as_called map i u here c c_is;
   calls = run.calls;
   worked = refl;
@@ -52,3 +80,66 @@ call_events_begin_so K V S same hash name terms log known s x at run event map i
   protects = begins_protected (name i) (moment log) known s.world run.sections event caller_is;
   follows = λ alone. call_events_begin K V terms.batch_size terms.roots (things_in log) (sets_in terms.batch_size log) known s.world (run.follows alone) (slot_of i) i;
 }
+
+-- an event of a call is none of a slot
+out_of_slots : {K V : Type 0} (own : List ℕ) (event : Event K V) → caller_of event ≡ Some own → is_of_slots event ≡ false
+out_of_slots own (OneCall guard map call) is = refl
+out_of_slots own (Step caller refuse) is = refl
+out_of_slots own (Go caller refuse) is = refl
+out_of_slots own (Next caller) is = refl
+out_of_slots own _ is = absurd (cc is)
+
+pub call_events_go_on_so : (K V S : Type 0) (same : K → K → Bool) (hash : K → ℕ) → CallEventsGoOn K V S same hash
+call_events_go_on_so K V S same hash name terms log event beginning map i c steps done m known s u midst old new at size said leads pairs changes shards none finds noted reading next next_is = record {
+  of_call = midst.of_call;
+  event_so = events_go_on K V S same hash name log beginning map i c done m known s u midst.event_so old new at said leads next next_is;
+  calls = record {
+    whole = all.0;
+    kept = calls_keep_kept K V S same hash name m known s old new at whole midst.calls.kept map i u here said leads;
+    made = (calls_keep_made K V S same hash name m known s old new at whole midst.calls.made map i u here said leads).1;
+    counts = (calls_keep_counts K V S same hash name m known s old new at whole midst.calls.counts map i u here said leads).1;
+    looking = (calls_keep_looking K V S same hash name m known s old new at whole midst.calls.looking map i u here said leads).1;
+    counters = calls_keep_counters K V S same hash name m known s old new at whole midst.calls.counts midst.calls.counters map i u here said leads;
+    dues = all.1;
+    as_called = all.2;
+    questions = effects_keep_questions K V (Some (name i)) (Some map) effects m midst.calls.questions;
+    purposes = calls_keep_purposes K V S same hash name log m known s old new at whole midst.calls.purposes map i u here said leads pairs changes shards none;
+  };
+  worked = ap (λ (x : Moment K V). with_effects (Some (name i)) (Some map) effects x) midst.worked ∙ sym (effects_after (Some (name i)) (Some map) done effects beginning);
+  few = parts_add_up steps 1 done effects midst.few (operations_are_single (acts.Call i map) known new.memory.changed).0;
+  granted = grants_add_up done effects midst.granted (operations_are_single (acts.Call i map) known new.memory.changed).1;
+  reading = reading;
+  kinds = several_do_theirs done effects midst.kinds (steps_do_theirs K V S same hash name m known s old new at whole map i u here said leads);
+  finds = several_find_all K V terms (moments_from c.begun log) (name i) map done effects beginning midst.finds
+      (subst (λ (x : Moment K V). FindAll terms (moments_from c.begun log) (name i) map effects x) midst.worked finds);
+  stores = several_store_one K V (name i) map done effects beginning midst.stores
+      (subst (λ (x : Moment K V). AtEachEffect (StoresOne (Some (name i))) (Some (name i)) (Some map) effects x) midst.worked
+          (steps_store_one K V S same hash name m known s old new at whole map i u here said leads));
+  protects = calls_protect K V S same hash name m known s old new at whole map i u here said leads event (out_of_slots (name i) event midst.of_call) done midst.protects;
+  follows = λ alone.
+      subst (λ (n : ℕ). FollowsInEvent n terms.roots (things_in log) (sets_in terms.batch_size log) (slot_of i) i (done ++ effects) then_known (leads map u here).4.w2) size
+          (call_events_go_on K V S same hash name m known s old new at whole map i u here said leads (moments_note_once K V same name v then_known s2 all.0) terms.roots (things_in log)
+          (sets_in terms.batch_size log) (slot_of i) done
+          (subst (λ (n : ℕ). FollowsInEvent n terms.roots (things_in log) (sets_in terms.batch_size log) (slot_of i) i done known s.world) (sym size) (midst.follows alone)) noted);
+}
+  where
+    abbrev whole : ShowsWhole same name m known s
+    whole = midst.calls.whole
+
+    abbrev here : s.calls map i ≡ Some u
+    here = here_of same name log beginning map i c done m known s u midst.event_so
+
+    abbrev effects : List Effect
+    effects = effects_of (acts.Call i map) known new.memory.changed
+
+    abbrev v : Moment K V
+    v = with_effects (Some (name i)) (Some map) effects m
+
+    abbrev then_known : Known
+    then_known = known_after (acts.Call i map) new.memory.changed known
+
+    abbrev s2 : Scene K V
+    s2 = scene_after same hash s old new map i (leads map u here).0 u (leads map u here).1 said (leads map u here).4
+
+    all : ShowsWhole same name v then_known s2 × ShowsDue same name log v then_known s2 × ShowsAsCalled same name v then_known s2
+    all = events_keep_all K V S same hash name log beginning map i c done m known s u midst.event_so old new at said leads

@@ -32,6 +32,11 @@ use Rattle.papaya_finishes.specs.Makings.{Beginning}
 use Rattle.papaya_finishes.specs.Maps.{Standing}
 use Rattle.papaya_others.specs.Endings.{ending_after}
 use Rattle.papaya_others.specs.Makings.{making_after}
+use Rattle.papaya_others.proofs.Quiet.{calls_none}
+use Rattle.papaya_owes.proofs.EndsOfMaps.{endings_keep_made}
+use Rattle.papaya_owes.proofs.Looking.Between.{stays_looking}
+use Rattle.papaya_owes.proofs.MakingsOfMaps.{makings_keep_made}
+use Rattle.papaya_settles.proofs.Between.{stays_counts}
 use Rattle.papaya_moments.specs.Whole.{ShowsWhole}
 use Rattle.papaya_moments.proofs.After.{effects_after}
 use Rattle.papaya_moments.proofs.Ends.{endings_keep_whole}
@@ -77,11 +82,14 @@ module _ {K V S : Type 0} (same : K → K → Bool) (hash : K → ℕ) (s : Scen
   made_world (progress.Done setting) leads = refl
   made_world (progress.Refused fault) leads = refl
 
+  made_same : (said : Making Setting) (leads : MakingLeads same hash i said s old new) → (led said leads).calls ≡ s.calls
+  made_same progress.Goes leads = refl
+  made_same progress.Waits leads = refl
+  made_same (progress.Done setting) leads = refl
+  made_same (progress.Refused fault) leads = refl
+
   made_calls : (said : Making Setting) (leads : MakingLeads same hash i said s old new) (n j : ℕ) (x : UnderWay K V K) → (led said leads).calls n j ≡ Some x → s.calls n j ≡ Some x
-  made_calls progress.Goes leads n j x is = is
-  made_calls progress.Waits leads n j x is = is
-  made_calls (progress.Done setting) leads n j x is = is
-  made_calls (progress.Refused fault) leads n j x is = is
+  made_calls said leads n j x is = subst (λ (calls : ℕ → ℕ → Option (UnderWay K V K)). calls n j ≡ Some x) (made_same said leads) is
 
   -- each map that has calls stood: the new one has none
   made_stood : (said : Making Setting) (leads : MakingLeads same hash i said s old new) (n j : ℕ) (x : UnderWay K V K) → (led said leads).calls n j ≡ Some x
@@ -102,6 +110,9 @@ making_events_go_on_so K V S same hash name terms log event beginning done m kno
       whole = then_whole;
       kept = makings_keep_kept K V S same hash name m known s old new at whole midst.0.calls.kept i said leads b here (Some b.map) was_new
           (made_at same hash s old new at i b here said leads) then_whole.all.shown;
+      made = (makings_keep_made K V S same hash name m known s old new at whole.all.shown midst.0.calls.made i said leads b here (Some b.map)).1;
+      counts = stays_counts K V name m v s (led same hash s old new at i b here said leads) midst.0.calls.counts (calls_none (Some b.map) effects m) (made_same same hash s old new at i b here said leads);
+      looking = stays_looking K V name m v s (led same hash s old new at i b here said leads) midst.0.calls.looking (calls_none (Some b.map) effects m) (made_same same hash s old new at i b here said leads);
       counters = makings_keep_counters K V S same hash name m known s old new at whole midst.0.calls.counters i said leads b here (Some b.map);
       dues = (dues_stay K V S same hash name log).makings m known s old new at whole midst.0.calls.dues i said leads b here (Some b.map) was_new;
       as_called = (as_called_stays K V S same hash name).makings m known s old new at whole midst.0.calls.as_called i said leads b here (Some b.map) was_new;
@@ -158,11 +169,14 @@ module _ {K V S : Type 0} (same : K → K → Bool) (hash : K → ℕ) (s : Scen
   ended_world (settled.Gave value) leads = refl
   ended_world settled.Done leads = refl
 
+  ended_same : (said : Settled (Node K V)) (leads : EndingLeads same hash i said s old new) → (ended said leads).calls ≡ s.calls
+  ended_same settled.Goes leads = refl
+  ended_same settled.Waits leads = refl
+  ended_same (settled.Gave value) leads = refl
+  ended_same settled.Done leads = refl
+
   ended_calls : (said : Settled (Node K V)) (leads : EndingLeads same hash i said s old new) (n j : ℕ) (x : UnderWay K V K) → (ended said leads).calls n j ≡ Some x → s.calls n j ≡ Some x
-  ended_calls settled.Goes leads n j x is = is
-  ended_calls settled.Waits leads n j x is = is
-  ended_calls (settled.Gave value) leads n j x is = is
-  ended_calls settled.Done leads n j x is = is
+  ended_calls said leads n j x is = subst (λ (calls : ℕ → ℕ → Option (UnderWay K V K)). calls n j ≡ Some x) (ended_same said leads) is
 
   ended_stood : (said : Settled (Node K V)) (leads : EndingLeads same hash i said s old new) (n j : ℕ) (x : UnderWay K V K) → (ended said leads).calls n j ≡ Some x
       → (st : Standing K) → (ended said leads).maps n ≡ Some st → HasStood s.maps n st
@@ -179,6 +193,9 @@ end_events_go_on_so K V S same hash name terms log event map beginning first don
       whole = endings_keep_whole K V S same hash name m known s old new at whole i said leads f here map not_there its
           (endings_find_kept K V S same hash name m known s old new at whole midst.0.calls.kept i said leads f here map not_there);
       kept = endings_keep_kept K V S same hash waiting name m known s old new at whole midst.0.calls.kept i said leads f here map not_there (ended_at same hash s old new i f here said leads);
+      made = (endings_keep_made K V S same hash name m known s old new at whole.all.shown midst.0.calls.made i said leads f here map not_there).1;
+      counts = stays_counts K V name m v s (ended same hash s old new i f here said leads) midst.0.calls.counts (calls_none (Some map) effects m) (ended_same same hash s old new i f here said leads);
+      looking = stays_looking K V name m v s (ended same hash s old new i f here said leads) midst.0.calls.looking (calls_none (Some map) effects m) (ended_same same hash s old new i f here said leads);
       counters = endings_keep_counters K V S same hash name m known s old new at midst.0.calls.counters i said leads f here map;
       dues = (dues_stay K V S same hash name log).endings m known s old new at whole midst.0.calls.dues i said leads f here map not_there its;
       as_called = (as_called_stays K V S same hash name).endings m known s old new at whole midst.0.calls.as_called i said leads f here map not_there its;

@@ -19,10 +19,16 @@ use Rattle.papaya_callers.specs.Together.{IsOfSlots}
 use Rattle.papaya_effects.specs.Effects.{effects_of, known_after}
 use Rattle.papaya_effects.specs.Known.{Known}
 use Rattle.papaya_effects.specs.declared.acting.Acting.TheVariants as acts
-use Rattle.papaya_executor.specs.IsAt.{slot_of}
+use Rattle.papaya_executor.specs.IsAt.{Scene, slot_of}
 use Rattle.papaya_executor.specs.Rows.{request_of}
 use Rattle.papaya_executor.specs.declared.row.SlotCall.{SlotCall}
 use Rattle.papaya_executor.specs.declared.row.SlotCall.TheVariants as call
+use Rattle.papaya_others.specs.Rows.{scene_then}
+use Rattle.papaya_others.proofs.Quiet.{calls_none}
+use Rattle.papaya_owes.proofs.Aside.{stays_made}
+use Rattle.papaya_owes.proofs.Looking.Between.{stays_looking}
+use Rattle.papaya_owes.proofs.RowsOnSlots.{rows_keep_made}
+use Rattle.papaya_settles.proofs.Between.{stays_counts}
 use Rattle.papaya_moments.specs.OnSlots.{HadRetired}
 use Rattle.papaya_moments.specs.Whole.{ShowsWhole}
 use Rattle.papaya_moments.proofs.After.{effects_after}
@@ -78,11 +84,15 @@ slot_events_begin_so K V S same hash name terms log known s old new at size run 
     let m = moment log in
     let request = request_of (slot_of i) called in
     let to = (leads may).3 in
+    let led = scene_then same hash (Begin i request) s old new to in
     record {
       of_slots = on;
       calls = record {
         whole = rows_begin_whole K V S same hash name m known s old new at run.calls.whole called i may leads;
         kept = rows_begin_kept K V S same hash name m known s old new at run.calls.kept called i may leads;
+        made = stays_made K V name m m known s led run.calls.made refl refl;
+        counts = stays_counts K V name m m s led run.calls.counts refl refl;
+        looking = stays_looking K V name m m s led run.calls.looking refl refl;
         counters = rows_begin_counters K V S same hash name m s old new at run.calls.counters called i may leads;
         dues = (dues_stay K V S same hash name log).rows_begin m known s old new at run.calls.whole run.calls.dues called i may leads;
         as_called = (as_called_stays K V S same hash name).rows_begin m known s old new at run.calls.whole run.calls.as_called called i may leads;
@@ -107,6 +117,9 @@ slot_events_go_on_so K V S same hash name terms log event i called first done m 
   calls = record {
     whole = rows_keep_whole K V S same hash name m known s old new at whole i said leads row here found.0 found.1;
     kept = rows_keep_kept K V S same hash name m known s old new at whole midst.calls.kept i said leads row here;
+    made = (rows_keep_made K V S same hash name m known s old new at whole.all.shown midst.calls.made i said leads row here).1;
+    counts = stays_counts K V name m v s led midst.calls.counts (calls_none None effects m) refl;
+    looking = stays_looking K V name m v s led midst.calls.looking (calls_none None effects m) refl;
     counters = rows_keep_counters K V S same hash name m known s old new at whole midst.calls.counters i said leads row here;
     dues = (dues_stay K V S same hash name log).rows m known s old new at whole midst.calls.dues i said leads row here found.0;
     as_called = (as_called_stays K V S same hash name).rows m known s old new at whole midst.calls.as_called i said leads row here found.0;
@@ -135,6 +148,12 @@ slot_events_go_on_so K V S same hash name terms log event i called first done m 
 
     abbrev effects : List Effect
     effects = effects_of acts.Row known new.memory.changed
+
+    abbrev v : Moment K V
+    v = with_effects None None effects m
+
+    abbrev led : Scene K V
+    led = scene_then same hash (Step i) s old new (leads row here).4
 
     found : AtEachEffect HadRetired None None effects m × AtEachEffect WaitUnreclaimed None None effects m
     found = rows_find_kept K V S same hash name m known s old new at whole midst.calls.kept i said leads row here

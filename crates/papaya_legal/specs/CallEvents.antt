@@ -1,11 +1,13 @@
 -- Events in which a call takes steps: in the midst of one, and at its end.
 use Rattle.std.specs.Prelude.{◌≡◌, ℕ, ◌+◌, ◌==◌, Bool, true, false, List, [], ◌∷◌, ◌++◌, Some, if◌then◌else◌}
 use Rattle.std.specs.List.{list_all}
+use Rattle.seize.specs.World.{World, Request, Begin, Step, Happens}
+use Rattle.papaya_tables.specs.Nodes.{deferred_word}
 use Rattle.papaya_tables.specs.declared.node.Node.{Node}
 use Rattle.papaya_raw.specs.declared.machines.progress.Progress.{Progress}
 use Rattle.papaya_schedules.specs.declared.effect.Effect.{Effect}
 use Rattle.papaya_schedules.specs.declared.event.Event.{Event}
-use Rattle.papaya_schedules.specs.After.{after, moment, moments_from}
+use Rattle.papaya_schedules.specs.After.{moment, moments_from}
 use Rattle.papaya_schedules.specs.Beginning.{at_work}
 use Rattle.papaya_schedules.specs.Effects.{with_effects, AtEachEffect}
 use Rattle.papaya_schedules.specs.Entry.{Entry, acted_on, caller_of, ends_call}
@@ -20,7 +22,7 @@ use Rattle.papaya_schedules.specs.Effects.{worked}
 use Rattle.papaya_schedules.specs.Sweeps.{IsSwept}
 use Rattle.papaya_schedules.specs.Terms.{Terms}
 use Rattle.papaya_schedules.specs.Views.{call_of}
-use Rattle.papaya_callers.specs.Together.{UnderWay}
+use Rattle.papaya_callers.specs.Together.{UnderWay, HandsOver}
 use Rattle.papaya_effects.specs.Effects.{effects_of, known_after}
 use Rattle.papaya_effects.specs.Known.{Known}
 use Rattle.papaya_effects.specs.declared.acting.Acting.TheVariants as acts
@@ -31,7 +33,10 @@ use Rattle.papaya_histories.specs.InEvent.{ComesSo, InEvent, here_of}
 use Rattle.papaya_promises.specs.Protected.{InMidst}
 use Rattle.papaya_promises.specs.Reading.{ShowsReading}
 use Rattle.papaya_promises.specs.Weights.{AreDoneBy}
-use Rattle.papaya_models.specs.CallEvents.{FollowsInEvent}
+use Rattle.papaya_histories.specs.Kept.{ChangesFirst}
+use Rattle.papaya_purposes.specs.Kept.{PairsChangeFirst, ShowsNone}
+use Rattle.papaya_purposes.specs.Shards.{ReadsShards}
+use Rattle.papaya_models.specs.CallEvents.{FollowsInEvent, IsNoted, things_then}
 use Rattle.papaya_finds.specs.Life.{StoresOne}
 use Rattle.papaya_finds.specs.Parts.{FindAll}
 use Rattle.papaya_legal.specs.Carried.{ShowsCalls, ShowsRun}
@@ -39,6 +44,7 @@ use Rattle.papaya_legal.specs.Carried.{ShowsCalls, ShowsRun}
 module _ {K V : Type 0} (same : K → K → Bool) (name : ℕ → List ℕ) (terms : Terms) (log : List (Entry K V)) (event : Event K V) (beginning : Moment K V) (map i : ℕ) (c : CallThere K V) where
   -- In the midst of an event of the call of caller i, which has made so many steps, and done this, since the moment at which it has begun what it begins.
   pub record InCallEvent (steps : ℕ) (done : List Effect) (m : Moment K V) (known : Known) (s : Scene K V) (u : UnderWay K V K) : Type 0 where
+    pub of_call : caller_of event ≡ Some (name i)
     pub event_so : InEvent same name log beginning map i c done m known s u
     pub calls : ShowsCalls same name log m known s
     pub worked : m ≡ with_effects (Some (name i)) (Some map) done beginning
@@ -72,17 +78,22 @@ module _ (K V S : Type 0) (same : K → K → Bool) (hash : K → ℕ) where
       → (event : Event K V) (map i : ℕ) → caller_of event ≡ Some (name i) → (u : UnderWay K V K) → s.calls map i ≡ Some u → (c : CallThere K V) → call_of (name i) (moment log) ≡ Some c
       → InCallEvent same name terms log event (moment log) map i c 0 [] (moment log) known s u
 
-  -- after each step of it, where it goes on,
+  -- after each step of it, where it goes on: no pair comes or goes twice, what a call reads of shards it may read, no pair of a walk is shown, the effects find what they must, what a row hands
+  -- over that begins with the step is noted, and lookups have read as much as they may by one step more;
   abbrev pub CallEventsGoOn : Type 0
   CallEventsGoOn =
       (name : ℕ → List ℕ) (terms : Terms) (log : List (Entry K V)) (event : Event K V) (beginning : Moment K V) (map i : ℕ) (c : CallThere K V) (steps : ℕ) (done : List Effect) (m : Moment K V) (known : Known)
       (s : Scene K V) (u : UnderWay K V K) (midst : InCallEvent same name terms log event beginning map i c steps done m known s u)
-      → (old new : Executor K V S) → IsAt same hash old s → (said : Progress (Node K V)) (leads : StepLeads same hash i said s old new)
+      → (old new : Executor K V S) → IsAt same hash old s → old.batch_size ≡ terms.batch_size → (said : Progress (Node K V)) (leads : StepLeads same hash i said s old new)
       → (let effects = effects_of (acts.Call i map) known new.memory.changed in
+      let v = with_effects (Some (name i)) (Some map) effects m in
       let to = leads map u (here_of same name log beginning map i c done m known s u midst.event_so) in
-      (next : UnderWay K V K) → to.4.next ≡ Some next
-      → InCallEvent same name terms log event beginning map i c (steps + 1) (done ++ effects) (with_effects (Some (name i)) (Some map) effects m) (known_after (acts.Call i map) new.memory.changed known)
-      (scene_after same hash s old new map i to.0 u to.1 said to.4) next)
+      let s2 = scene_after same hash s old new map i to.0 u to.1 said to.4 in
+      PairsChangeFirst log m map v → ChangesFirst log m same map v → ReadsShards log m s map u → ShowsNone said → FindAll terms (moments_from c.begun log) (name i) map effects m
+      → ((request : Request) (begun : World (Node K V)) → HandsOver to.0.setting i s.world request → Happens deferred_word old.batch_size (Begin i request) s.world begun
+      → Happens deferred_word old.batch_size (Step i) begun to.4.w2 → IsNoted (things_then (things_in log) done) known (slot_of i) request)
+      → ShowsReading name log (λ j. if j == i then steps + 1 else 0) v s2 → (next : UnderWay K V K) → to.4.next ≡ Some next
+      → InCallEvent same name terms log event beginning map i c (steps + 1) (done ++ effects) v (known_after (acts.Call i map) new.memory.changed known) s2 next)
 
   -- and the event that comes to what its last step says keeps its promises, and leaves a moment of which all this is so, where it comes to what is right.
   abbrev pub CallEventsEnd : Type 0
