@@ -1,12 +1,11 @@
 -- Between the steps of calls: where one begins, takes a reply, or is a walk that goes on or is given up, all that is kept is so then.
-use Rattle.std.specs.Prelude.{◌≡◌, ◌≢◌, ◌⊎◌, ℕ, Bool, true, false, List, [], Option, Some, None}
+use Rattle.std.specs.Prelude.{◌≡◌, ◌⊎◌, ℕ, Bool, true, false, List, [], Option, Some, None}
 use Rattle.std.proofs.Common.{refl, ap, sym, subst, ◌∙◌, inl, inr}
 use Rattle.std.proofs.lemmas.Bool.{cases_eq}
 use Rattle.seize.specs.World.{Rests, with_at}
 use Rattle.papaya_tables.specs.declared.setting.Setting.{Setting}
 use Rattle.papaya_raw.specs.Machine.{is_ready, machine_asked}
 use Rattle.papaya_raw.specs.declared.machines.call.KeyCall.{KeyCall}
-use Rattle.papaya_raw.specs.declared.machines.machine.Machine.{Machine}
 use Rattle.papaya_raw.specs.declared.machines.machine.Machine.TheVariants as kinds
 use Rattle.papaya_sweeps.specs.declared.sweep.Sweeping.{Sweeping}
 use Rattle.papaya_sweeps.specs.declared.sweep.Sweeping.TheVariants as sweeping
@@ -22,7 +21,6 @@ use Rattle.papaya_callers.specs.Rooms.{CallForRoom}
 use Rattle.papaya_callers.specs.Pairs.{Given}
 use Rattle.papaya_callers.specs.Together.{UnderWay, OnKey, ForRoom, Counting, OverAll, IsBegun, Gets, Removes, Inserts, TriesToInsert, Computes, Updates, UpdatesOrInserts, TriesToInsertWith, RemovesIf}
 use Rattle.papaya_callers.proofs.Together.At.{at_same, at_other}
-use Rattle.papaya_effects.specs.Known.{Known}
 use Rattle.papaya_executor.specs.Beginning.{Begins}
 use Rattle.papaya_executor.specs.IsAt.{Scene, HasCall, IsAt, slot_of}
 use Rattle.papaya_executor.specs.Replying.{scene_with, unless_stopped}
@@ -49,7 +47,6 @@ use Rattle.papaya_settles.proofs.Handing.{calls_begin_handing, calls_take_handin
 use Rattle.papaya_lives.specs.Retired.{CallsStay}
 use Rattle.papaya_lives.proofs.Reclaimed.{others_leave_retired}
 use Rattle.papaya_lives.proofs.Waiting.{others_leave_waiting}
-use Rattle.papaya_kept.specs.Kept.{ShowsKept}
 use Rattle.papaya_kept.specs.Steps.{CallsBeginKept, CallsTakeKept, WalksGoOnKept, WalksStopKept}
 
 -- a call that begins has nothing in hand

@@ -1,22 +1,16 @@
 -- All that is kept is so as long as nothing of it has changed: the same world, the same calls, what the moment says of calls, tables and pairs.
-use Rattle.std.specs.Prelude.{◌≡◌, ℕ, Bool, true, List, Option, Some, find}
+use Rattle.std.specs.Prelude.{◌≡◌, ℕ, List, Option, Some, find}
 use Rattle.std.proofs.Common.{refl, ap, sym, subst, ◌∙◌, inl}
-use Rattle.seize_words.specs.declared.at.At.TheVariants.{Entry}
-use Rattle.seize.specs.World.{World, Rests, with_at}
+use Rattle.seize.specs.World.{World, with_at}
 use Rattle.papaya_tables.specs.declared.node.Node.{Node}
 use Rattle.papaya_runs.specs.Same.{is_same}
-use Rattle.papaya_schedules.specs.Entry.{ends_call}
-use Rattle.papaya_schedules.specs.declared.effect.Table.{Table}
-use Rattle.papaya_schedules.specs.declared.outcome.Outcome.{Outcome}
-use Rattle.papaya_schedules.specs.Moment.{UnderWay as CallThere, Moment, start}
+use Rattle.papaya_schedules.specs.Moment.{UnderWay as CallThere, Moment}
 use Rattle.papaya_schedules.specs.Views.{call_of}
 use Rattle.papaya_callers.specs.Together.{UnderWay}
 use Rattle.papaya_effects.specs.Known.{Known}
 use Rattle.papaya_executor.specs.IsAt.{Scene, HasCall}
 use Rattle.papaya_finishes.specs.Machines.{machine_of}
-use Rattle.papaya_finishes.specs.Makings.{Beginning}
-use Rattle.papaya_follows.specs.Calling.{NoneNamed, come_to}
-use Rattle.papaya_moments.specs.Whole.{ShowsWhole}
+use Rattle.papaya_follows.specs.Calling.{come_to}
 use Rattle.papaya_owes.proofs.Aside.{stays_made}
 use Rattle.papaya_owes.proofs.Between.{made_begins, calls_come_to_made}
 use Rattle.papaya_owes.proofs.Looking.Between.{looking_begins, stays_looking, calls_come_to_looking}
@@ -24,7 +18,7 @@ use Rattle.papaya_owes.proofs.Short.Between.{short_begins, stays_short, calls_co
 use Rattle.papaya_owes.proofs.Tables.Aside.{tables_begin, stays_tables, makings_begin_tables}
 use Rattle.papaya_owes.proofs.Tables.Between.{calls_come_to_tables}
 use Rattle.papaya_settles.specs.Entries.{IsSomebodys, IsBlank, RetiresOne, ShowsEntries}
-use Rattle.papaya_settles.specs.Hand.{NotesInHand, SameInHand, ShowsOwed}
+use Rattle.papaya_settles.specs.Hand.{SameInHand, ShowsOwed}
 use Rattle.papaya_settles.specs.Handing.{HandsTold}
 use Rattle.papaya_settles.proofs.Between.{counts_begin, stays_counts, calls_come_to_counts}
 use Rattle.papaya_settles.proofs.EntryScenes.{entries_begin}
@@ -34,7 +28,6 @@ use Rattle.papaya_settles.proofs.Handing.{handing_begins, calls_come_to_handing}
 use Rattle.papaya_lives.specs.Behind.{ShowsWaiting}
 use Rattle.papaya_lives.proofs.Reclaimed.{retired_begins, others_leave_retired}
 use Rattle.papaya_lives.proofs.Waiting.{waiting_begins, others_leave_waiting}
-use Rattle.papaya_kept.specs.Kept.{ShowsKept}
 use Rattle.papaya_kept.specs.Steps.{BeginsKept, StaysKept, RenamedKept, CallsComeToKept, MakingsBeginKept}
 
 pub begins_kept : (K V : Type 0) → BeginsKept K V
