@@ -1,14 +1,13 @@
 -- What waits behind a block that is left over is left over with it; and what waits behind another one does so still, whatever is done as a map ends.
-use Rattle.std.specs.Prelude.{◌≡◌, ◌⊎◌, ◌<◌, ◌+◌, ℕ, Bool, true, false, cond, List, [], ◌∷◌, Option, Some, if◌then◌else◌}
+use Rattle.std.specs.Prelude.{◌≡◌, ◌⊎◌, ◌<◌, ◌+◌, ℕ, Bool, cond, List, [], ◌∷◌, Option, Some, if◌then◌else◌}
 use Rattle.std.proofs.Common.{refl, ap, sym, subst, ◌∙◌, inl, inr, arith}
 use Rattle.std.proofs.lemmas.Bool.{cases_eq, eq-eqb}
 use Rattle.seize.specs.World.{World, Hand, NoBlock, Making, InUse, Parting, Cutting, Handed, LeftTo, MayCut, Drops, Unlinks, Operates, LeavesOver, Relinks, Clears, Happens, Runs, times}
 use Rattle.seize.specs.declared.states.TheConstants.{LAST_SLOT}
 use Rattle.seize_moves.proofs.Moves.Takes.{first_doomed}
 use Rattle.seize_moves.proofs.Sets.Unmoved.{is_in_wait}
-use Rattle.seize_moves.proofs.State.Ghost.{Life, IsOwned, IsUnlinked, IsDeferring, IsDeferred, IsLeft as IsLeftOver, State, can_carry, lies_with}
+use Rattle.seize_moves.proofs.State.Ghost.{Life, IsUnlinked, IsDeferring, IsDeferred, IsLeft as IsLeftOver, State, can_carry, lies_with}
 use Rattle.seize_moves.proofs.State.Moves.{left_over, left_with}
-use Rattle.seize_moves.proofs.State.Rule.{Inv}
 use Rattle.seize_rule.proofs.Points.Aside.{HandFits, is_handed}
 use Rattle.seize_rule.proofs.World.Events.{leaves_over_good}
 use Rattle.seize_rule.proofs.World.Good.{Good}
@@ -20,8 +19,7 @@ use Rattle.papaya_lives.proofs.Lives.{WaitsIn, OnWay, OnList, TakenOver, elsewhe
 use Rattle.papaya_lives.proofs.Logs.{unless_other}
 use Rattle.papaya_lives.proofs.Worlds.{Kept, happens_kept, log_back}
 
--- by lives: what is left over is in nobody's list, and carries nothing
-
+-- what is left over by its life is so in the world
 left_hand : (i : ℕ) (h : Hand) (l : Life) → l ≡ IsLeftOver i → HandFits h l → IsLeft h
 left_hand i NoBlock l is fits = absurd (cc (is, fits))
 left_hand i (Making j) l is fits = absurd (cc (is, fits))
@@ -31,35 +29,7 @@ left_hand i (Cutting j) l is fits = absurd (cc (is, fits))
 left_hand i Handed l is fits = absurd (let none = ap is_handed is in cc (none, fits))
 left_hand i (LeftTo j) l is fits = tt
 
-left_carries_none : (h : Hand) (l : Life) → IsLeft h → HandFits h l → can_carry l ≡ false
-left_carries_none NoBlock l left fits = absurd left
-left_carries_none (Making j) l left fits = absurd left
-left_carries_none (InUse o) l left fits = absurd left
-left_carries_none (Parting j) l left fits = absurd left
-left_carries_none (Cutting j) l left fits = absurd left
-left_carries_none Handed l left fits = absurd left
-left_carries_none (LeftTo j) l left fits = ap can_carry fits
-
--- a block behind which another one waits may carry that
-waited_carries : (n : ℕ) (m : State) → Inv n m → (b t : ℕ) → WaitsIn m b t → can_carry (m.life t) ≡ true
-waited_carries n m inv b t (OnWay j s is) = (inv.places.carries b t (ap (lies_with t) is ∙ eq-eqb t t refl)).2
-waited_carries n m inv b t (OnList is) = (inv.places.carries b t (ap (lies_with t) is ∙ eq-eqb t t refl)).2
-waited_carries n m inv b t (TakenOver j bs is first) = ap can_carry (first_doomed n j m t bs inv first)
-
 module _ {T : Type 0} (defers : T → Option ℕ) (size : ℕ) (w : World T) (k : Kept defers size w) where
-  carries : (b t : ℕ) → waits_behind b w.log ≡ Some t → can_carry (k.good.state.life t) ≡ true
-  carries b t waits = waited_carries (LAST_SLOT + 1) k.good.state k.good.inv b t (k.waits b t waits)
-
-  -- it is not left over, and nobody is making it
-  pub not_left : (b t : ℕ) → waits_behind b w.log ≡ Some t → IsLeft (w.hand t) → ⊥
-  not_left b t waits left = (let yes = carries b t waits in let no = left_carries_none (w.hand t) (k.good.state.life t) left (k.good.hands t) in cc (yes, no))
-
-  pub not_made : (b t i : ℕ) → waits_behind b w.log ≡ Some t → w.hand t ≡ Making i → ⊥
-  not_made b t i waits is =
-      (let yes = carries b t waits in
-      let owned : k.good.state.life t ≡ IsOwned i = subst (λ (h : Hand). HandFits h (k.good.state.life t)) is (k.good.hands t) in
-      let no = ap can_carry owned in cc (yes, no))
-
   -- where a block is left over, so is what waits behind it
   module _ (w2 : World T) (i c : ℕ) (further : List ℕ) (h : Happens defers size (LeavesOver i c further) w w2) where
     cut : k.good.state.life c ≡ IsUnlinked h.0.0
