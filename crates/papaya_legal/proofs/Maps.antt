@@ -186,13 +186,13 @@ module _ {K V S : Type 0} (same : K → K → Bool) (hash : K → ℕ) (s : Scen
   ended_stood settled.Done leads n j x is st there = stands_so s.maps n st there
 
 pub end_events_go_on_so : (K V S : Type 0) (same : K → K → Bool) (hash : K → ℕ) → EndEventsGoOn K V S same hash
-end_events_go_on_so K V S same hash name terms log event map beginning first done m known s i f here not_there midst old new at size waiting said leads its may finds = (
+end_events_go_on_so K V S same hash name terms log event map beginning first done m known s i f here not_there midst old new at size said leads its may finds = (
   record {
     of_maps = midst.0.of_maps;
     calls = record {
       whole = endings_keep_whole K V S same hash name m known s old new at whole i said leads f here map not_there its
           (endings_find_kept K V S same hash name m known s old new at whole midst.0.calls.kept i said leads f here map not_there);
-      kept = endings_keep_kept K V S same hash waiting name m known s old new at whole midst.0.calls.kept i said leads f here map not_there (ended_at same hash s old new i f here said leads);
+      kept = endings_keep_kept K V S same hash name m known s old new at whole midst.0.calls.kept i said leads f here map not_there (ended_at same hash s old new i f here said leads);
       made = (endings_keep_made K V S same hash name m known s old new at whole.all.shown midst.0.calls.made i said leads f here map not_there).1;
       counts = stays_counts K V name m v s (ended same hash s old new i f here said leads) midst.0.calls.counts (calls_none (Some map) effects m) (ended_same same hash s old new i f here said leads);
       looking = stays_looking K V name m v s (ended same hash s old new i f here said leads) midst.0.calls.looking (calls_none (Some map) effects m) (ended_same same hash s old new i f here said leads);

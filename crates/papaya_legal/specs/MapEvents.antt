@@ -24,7 +24,6 @@ use Rattle.papaya_executor.specs.IsAt.{Scene, IsAt}
 use Rattle.papaya_executor.specs.Making.{MakingLeads}
 use Rattle.papaya_executor.specs.declared.executor.Executor.{Executor}
 use Rattle.papaya_finishes.specs.Endings.{Finishing}
-use Rattle.papaya_kept.specs.Steps.{EndsKeepWaiting}
 use Rattle.papaya_moments.specs.Endings.{IsOfIts}
 use Rattle.papaya_finishes.specs.Makings.{Beginning}
 use Rattle.papaya_others.specs.Endings.{ending_after}
@@ -71,12 +70,12 @@ module _ (K V S : Type 0) (same : K → K → Bool) (hash : K → ℕ) where
       → InMakingEvent same name terms log event b.map beginning (done ++ effects) (with_effects None (Some b.map) effects m) (known_after (acts.Making b.map) new.memory.changed known)
       (making_after same hash s old new i b to.0 to.2.step.w2 said to.3))
 
-  -- and so does an end, which takes tables of its map alone, if what waits behind tables waits there after its steps;
+  -- and so does an end, which takes tables of its map alone;
   abbrev pub EndEventsGoOn : Type 0
   EndEventsGoOn =
       (name : ℕ → List ℕ) (terms : Terms) (log : List (Entry K V)) (event : Event K V) (map : ℕ) (beginning : Moment K V) (first : Known) (done : List Effect) (m : Moment K V) (known : Known) (s : Scene K V) (i : ℕ)
       (f : Finishing K V) (here : s.enders i ≡ Some f) → s.maps map ≡ None → InEndEvent same name terms log event map beginning first i done m known s → (old new : Executor K V S) → IsAt same hash old s
-      → old.batch_size ≡ terms.batch_size → EndsKeepWaiting K V S same hash → (said : Settled (Node K V)) (leads : EndingLeads same hash i said s old new)
+      → old.batch_size ≡ terms.batch_size → (said : Settled (Node K V)) (leads : EndingLeads same hash i said s old new)
       → (let to = leads f here in
       let effects = effects_of (acts.Ending map) known new.memory.changed in
       AtEachEffect (IsOfIts map) None (Some map) effects m → list_all (may_do event (moment log)) effects ≡ true

@@ -5,6 +5,7 @@ use Rattle.papaya_tables.specs.declared.node.Node.{Node}
 use Rattle.papaya_schedules.specs.declared.effect.Table.{Table}
 use Rattle.papaya_schedules.specs.Lists.{is_among}
 use Rattle.papaya_schedules.specs.Moment.{Behind, Deferral, Moment}
+use Rattle.papaya_schedules.specs.Things.{same_table}
 use Rattle.papaya_schedules.specs.Views.{behind}
 use Rattle.papaya_effects.specs.Known.{Known}
 use Rattle.papaya_effects.specs.declared.role.Role.TheVariants as role
@@ -39,3 +40,7 @@ module _ {K V : Type 0} where
 abbrev pub WaitingIsThere : Type 0 → Type 0 → Type 0
 WaitingIsThere K V =
     (m : Moment K V) (known : Known) (w : World (Node K V)) → ShowsWaiting m known w → (t : Table) (n : ℕ) → is_among n (behind t m.deferred) ≡ true → is_unreclaimed (m.place n) ≡ true
+
+-- each pair that waits is told to be behind one table
+abbrev pub WaitsOnce : List Deferral → Type 0
+WaitsOnce deferred = EachWaits (λ n t. (u : Table) → is_among n (behind u deferred) ≡ true → same_table t u ≡ true) deferred

@@ -11,7 +11,6 @@ use Rattle.papaya_schedules.specs.InTurn.{is_kept_out}
 use Rattle.papaya_schedules.specs.Moment.{Moment}
 use Rattle.papaya_schedules.specs.Steps.{DoesFew, MakesSteps, stands_or}
 use Rattle.papaya_schedules.specs.Terms.{Terms}
-use Rattle.papaya_kept.specs.Steps.{EndsKeepWaiting}
 use Rattle.papaya_scheduler.specs.Mapping.{CountsMaps}
 use Rattle.papaya_scheduler.specs.Played.{Plays, StandsFor, entry_of}
 use Rattle.papaya_scheduler.specs.Reclaiming.{MayComeBack, MayGiveAll}
@@ -68,9 +67,8 @@ module _ {K V S : Type 0} (same : K → K → Bool) (hash : K → ℕ) where
     pub counts : CountsMaps m p
     pub gives : MayGiveAll p stands.scene
 
-  -- What is asked of single steps that is not promised of them yet: the end of a map leaves what waits behind tables there, and what every step keeps is so once all is reclaimed.
+  -- What is asked of single steps that is not promised of them yet: what every step keeps is so once all is reclaimed.
   abbrev pub AsksOfSteps : List (Entry K V) → (ℕ → List ℕ) → Event K V → List Effect → Scheduler K V S → Type 0
-  AsksOfSteps log name (EndMap map) did new = EndsKeepWaiting K V S same hash
   AsksOfSteps log name ReclaimAll did new = MayComeBack same hash (moment log) name did new.logged
   AsksOfSteps log name Close did new = MayComeBack same hash (moment log) name did new.logged
   AsksOfSteps log name _ did new = Unit {0}
