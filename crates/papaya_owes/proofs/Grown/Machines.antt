@@ -4,7 +4,7 @@ use Rattle.std.proofs.Common.{sym, ap, subst}
 use Rattle.seize_words.specs.Mem.{Mem}
 use Rattle.seize_words.specs.declared.fault.Fault.{Fault}
 use Rattle.seize_words.specs.declared.fault.Fault.TheVariants.{Capacity, RemoveNothing}
-use Rattle.seize.specs.declared.progress.Progress.{Progress as Counting}
+use Rattle.seize.specs.declared.progress.Progress.{Progress as CountTold}
 use Rattle.seize.specs.declared.progress.Progress.TheVariants as counting
 use Rattle.papaya_tables.specs.declared.node.Node.{Node}
 use Rattle.papaya_tables.specs.declared.setting.Setting.{Setting}
@@ -38,7 +38,7 @@ use Rattle.papaya_late.proofs.KindsKept.Rooms.Sweeping.{SweepsFor, told_so_on}
 use Rattle.papaya_callers.specs.Pairs.{Given}
 use Rattle.papaya_callers.specs.OverAll.{CallOverAll}
 use Rattle.papaya_callers.specs.Rooms.{CallForRoom}
-use Rattle.papaya_callers.specs.Together.{UnderWay, OnKey, ForRoom, Counting as CountingOf, OverAll, IsBegun, Gets, Removes, Inserts, TriesToInsert, Computes, Updates, UpdatesOrInserts, TriesToInsertWith, RemovesIf}
+use Rattle.papaya_callers.specs.Together.{UnderWay, OnKey, ForRoom, Counting, OverAll, IsBegun, Gets, Removes, Inserts, TriesToInsert, Computes, Updates, UpdatesOrInserts, TriesToInsertWith, RemovesIf}
 use Rattle.papaya_teller.specs.declared.changed.Changed.{Changed}
 use Rattle.papaya_teller.specs.declared.changed.Changed.TheVariants as changed
 use Rattle.papaya_teller.specs.declared.changed.Kind.{Kind}
@@ -86,7 +86,7 @@ module _ (Is : Fault → Type 0) {K V : Type 0} where
   sweep_says (c, swept.Done) so = (so.0, tt)
   sweep_says (c, swept.Refused fault) so = so
 
-  sum_says : (end : Sum × Counting ℕ) → CountsOn end → MachineFor (of_sum end)
+  sum_says : (end : Sum × CountTold ℕ) → CountsOn end → MachineFor (of_sum end)
   sum_says (sum, counting.Goes) on = (tt, tt)
   sum_says (sum, counting.Waits) on = (tt, tt)
   sum_says (sum, counting.Done count) on = (tt, tt)
@@ -127,7 +127,7 @@ module _ (Is : Fault → Type 0) {K V : Type 0} where
   pub begins_so : (same : K → K → Bool) (standing : Standing K) (i : ℕ) (u : UnderWay K V K) → Begins same standing i u → SoInMachine Is (machine_of u)
   begins_so same standing i (OnKey u) begins = key_begins same standing.hash standing.setting _ i u.keys u.pair u.call begins.0
   begins_so same standing i (ForRoom r) begins = subst (λ (x : CallForRoom). SoInReserving Is x.reserve.stands) (sym begins.1) tt
-  begins_so same standing i (CountingOf sum) begins = tt
+  begins_so same standing i (Counting sum) begins = tt
   begins_so same standing i (OverAll o) begins = subst (λ (x : CallOverAll). SoInSweeping Is x.sweep.stands) (sym begins.1) tt
 
   -- a step by which no block is refused
