@@ -1,5 +1,5 @@
 -- An event of steps of a call comes to what is right, where it does so in its case, and makes as many steps as it may.
-use Rattle.std.specs.Prelude.{◌≡◌, ◌⊎◌, ℕ, Bool, true, List}
+use Rattle.std.specs.Prelude.{◌≡◌, ◌⊎◌, ℕ, Bool, true, false, List}
 use Rattle.std.proofs.Common.{refl, sym, ap, subst, ◌∙◌, arith, inl, inr}
 use Rattle.seize_words.specs.declared.fault.Fault.{Fault}
 use Rattle.seize_words.specs.declared.fault.Fault.TheVariants.{Busy, Capacity, Memory, RemoveNothing}
@@ -10,6 +10,7 @@ use Rattle.papaya_schedules.specs.declared.event.Event.TheVariants.{Go, OneCall,
 use Rattle.papaya_schedules.specs.declared.outcome.Outcome.{Outcome}
 use Rattle.papaya_schedules.specs.declared.outcome.Outcome.TheVariants.{Answered, Asks, Goes, Ready, Refused, Waits}
 use Rattle.papaya_schedules.specs.Coming.{MayCome, Progresses, is_compute}
+use Rattle.papaya_schedules.specs.Growing.{only_looks}
 use Rattle.papaya_schedules.specs.Moment.{Stands, Going, Asking, Told, IsReady, UnderWay as CallThere, Moment}
 use Rattle.papaya_schedules.specs.Steps.{MakesSteps}
 use Rattle.papaya_schedules.specs.Terms.{Terms}
@@ -20,15 +21,14 @@ use Rattle.papaya_scheduler.specs.declared.caller.Stands.TheVariants as far
 module _ {K V : Type 0} where
   -- a call on one key is refused as out of turn never, and for removing nothing only where it computes
   faults_of : (call : Call K V) (fault : Fault) → ComesAs {K = K} {V = V} call (Refused fault) → (fault ≡ Memory) ⊎ (fault ≡ Capacity) ⊎ ((fault ≡ RemoveNothing) × (is_compute call ≡ true))
-  faults_of (On one) fault comes = comes
+  faults_of (On one) fault comes = comes.1
   faults_of (Reserve more) fault (inl memory) = inl memory
   faults_of (Reserve more) fault (inr capacity) = inr (inl capacity)
   faults_of Clear fault (inl memory) = inl memory
   faults_of Clear fault (inr capacity) = inr (inl capacity)
   faults_of Retain fault (inl memory) = inl memory
   faults_of Retain fault (inr capacity) = inr (inl capacity)
-  faults_of Len fault (inl memory) = inl memory
-  faults_of Len fault (inr capacity) = inr (inl capacity)
+  faults_of Len fault comes = absurd comes
   faults_of Walk fault (inl memory) = inl memory
   faults_of Walk fault (inr capacity) = inr (inl capacity)
 
@@ -39,6 +39,15 @@ module _ {K V : Type 0} where
       by (inl memory) = absurd (no_memory memory)
       by (inr (inl capacity)) = absurd (no_capacity capacity)
       by (inr (inr it)) = it
+
+  -- one that is refused does more than look
+  works_so : (call : Call K V) (fault : Fault) → ComesAs {K = K} {V = V} call (Refused fault) → only_looks call ≡ false
+  works_so (On one) fault comes = comes.0
+  works_so (Reserve more) fault comes = refl
+  works_so Clear fault comes = refl
+  works_so Retain fault comes = refl
+  works_so Len fault comes = absurd comes
+  works_so Walk fault comes = refl
 
   -- none is refused as out of turn
   pub not_busy : (call : Call K V) (o : Outcome V) → ComesAs call o → o ≡ Refused Busy → ⊥
@@ -52,7 +61,7 @@ module _ {K V : Type 0} where
     may_come Ready comes short within = comes
     may_come (Answered a) comes short within = comes
     may_come (Refused Memory) comes short within = short refl
-    may_come (Refused Capacity) comes short within = within
+    may_come (Refused Capacity) comes short within = (works_so c.call Capacity comes, within)
     may_come (Refused RemoveNothing) comes short within = (other_fault c.call RemoveNothing comes (λ e. cc e) (λ e. cc e)).1
     may_come (Refused fault) comes short within = absurd (let it = (other_fault c.call fault comes (λ e. cc e) (λ e. cc e)).0 in cc it)
     may_come _ comes short within = absurd comes

@@ -12,7 +12,7 @@ use Rattle.papaya_raw.specs.declared.machines.progress.Progress.{Progress}
 use Rattle.papaya_raw.specs.declared.machines.progress.Progress.TheVariants as progress
 use Rattle.papaya_runs.specs.Stopped.{most_steps}
 use Rattle.papaya_schedules.specs.declared.call.Call.{Call}
-use Rattle.papaya_schedules.specs.declared.call.Call.TheVariants.{On}
+use Rattle.papaya_schedules.specs.declared.call.Call.TheVariants.{Len, On}
 use Rattle.papaya_schedules.specs.declared.call.OneKey.{OneKey}
 use Rattle.papaya_schedules.specs.declared.effect.Effect.{Effect}
 use Rattle.papaya_schedules.specs.declared.event.Event.{Event}
@@ -21,11 +21,13 @@ use Rattle.papaya_schedules.specs.declared.outcome.Outcome.{Outcome}
 use Rattle.papaya_schedules.specs.declared.outcome.Outcome.TheVariants.{Goes, Asks, Waits, Ready, Shows, Answered, Refused}
 use Rattle.papaya_schedules.specs.After.{moment, moments_from}
 use Rattle.papaya_schedules.specs.Beginning.{at_work}
-use Rattle.papaya_schedules.specs.Coming.{FindsNoTable, is_answer, is_compute, is_walk, may_ask}
+use Rattle.papaya_schedules.specs.Coming.{CountsTooMany, is_answer, is_at_limit, is_compute, is_walk, may_ask}
 use Rattle.papaya_schedules.specs.Effects.{with_effects, worked}
 use Rattle.papaya_schedules.specs.Entry.{Entry, IfCall, acting, caller_of, nameless}
 use Rattle.papaya_schedules.specs.InUse.{is_living, may_wait}
+use Rattle.papaya_schedules.specs.Lists.{OneOf}
 use Rattle.papaya_schedules.specs.Moment.{UnderWay as CallThere, Moment}
+use Rattle.papaya_schedules.specs.Sequential.{is_lookup}
 use Rattle.papaya_schedules.specs.Steps.{DoesFew, MakesSteps, stands_or, weight}
 use Rattle.papaya_schedules.specs.Terms.{Terms}
 use Rattle.papaya_schedules.specs.Views.{call_of, map_of}
@@ -76,9 +78,10 @@ module _ {K V : Type 0} (by : Known) where
   abbrev pub callers_then : ℕ → Caller V → Progress (Node K V) → List (Caller V) → List (Caller V)
   callers_then place d said calls = if has_ended said then remove calls place else slice_set calls place (caller_then d said)
 
--- for what a call on one key is refused: for room, or, of `compute`, for removing what is not there
+-- for what a call on one key is refused, which is no lookup: for room, or, of `compute`, for removing what is not there
 abbrev pub IsFaultOn : {K V : Type 0} → OneKey K V → Fault → Type 0
-IsFaultOn {K} {V} one fault = (fault ≡ Memory) ⊎ (fault ≡ Capacity) ⊎ ((fault ≡ RemoveNothing) × (is_compute {K = K} {V = V} (On one) ≡ true))
+IsFaultOn {K} {V} one fault =
+    (is_lookup one ≡ false) × ((fault ≡ Memory) ⊎ (fault ≡ Capacity) ⊎ ((fault ≡ RemoveNothing) × (is_compute {K = K} {V = V} (On one) ≡ true)))
 
 module _ {K V : Type 0} where
   -- What a call that goes on comes to, by its kind. In which case it waits, or is refused for room, this does not say.
@@ -89,13 +92,15 @@ module _ {K V : Type 0} where
   ComesAs call Ready = is_walk call ≡ true
   ComesAs call (Answered a) = is_answer call a ≡ true
   ComesAs (On one) (Refused fault) = IsFaultOn one fault
+  ComesAs Len (Refused fault) = ⊥
   ComesAs call (Refused fault) = IsRoom fault
   ComesAs call _ = ⊥
 
-  -- That says: a call waits only where it may, and is refused for the length of a table only where it finds none.
+  -- That says: a call waits only where it may, and is refused for the length of a table only where it finds none: it needs more places than a table can have, or a table
+  -- after the longest or the last one.
   abbrev pub IsInCase : Terms → CallThere K V → List (Moment K V) → Moment K V → Outcome V → Type 0
   IsInCase terms c moments now Waits = may_wait c now ≡ true
-  IsInCase terms c moments now (Refused Capacity) = FindsNoTable terms c (now ∷ moments)
+  IsInCase terms c moments now (Refused Capacity) = CountsTooMany terms c.call c (now ∷ moments) ⊎ OneOf (λ m. is_at_limit c.map m ≡ true) (now ∷ moments)
   IsInCase terms c moments now _ = Unit {0}
 
   -- so it is of the call of an event
