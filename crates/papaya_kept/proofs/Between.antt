@@ -10,7 +10,10 @@ use Rattle.papaya_raw.specs.declared.machines.machine.Machine.{Machine}
 use Rattle.papaya_raw.specs.declared.machines.machine.Machine.TheVariants as kinds
 use Rattle.papaya_sweeps.specs.declared.sweep.Sweeping.{Sweeping}
 use Rattle.papaya_sweeps.specs.declared.sweep.Sweeping.TheVariants as sweeping
+use Rattle.papaya_schedules.specs.declared.call.Call.{Call}
+use Rattle.papaya_schedules.specs.declared.call.Call.TheVariants.{On, Reserve, Clear, Retain, Len, Walk}
 use Rattle.papaya_schedules.specs.Beginning.{with_call}
+use Rattle.papaya_schedules.specs.Growing.{only_looks}
 use Rattle.papaya_schedules.specs.Moment.{Moment}
 use Rattle.papaya_late.specs.ToldSweeps.{IsRowOfSweep}
 use Rattle.papaya_callers.specs.OverAll.{CallOverAll}
@@ -27,8 +30,13 @@ use Rattle.papaya_executor.proofs.Changed.{standing_is}
 use Rattle.papaya_finishes.specs.Machines.{machine_of}
 use Rattle.papaya_finishes.specs.Maps.{Standing, with_call as with_in}
 use Rattle.papaya_follows.specs.Calling.{told}
+use Rattle.papaya_follows.specs.Calls.{IsCalled}
+use Rattle.papaya_hands.specs.Asked.{given_by}
+use Rattle.papaya_hands.specs.Calling.{IsBegunFor}
 use Rattle.papaya_others.specs.Walks.{given_up}
+use Rattle.papaya_owes.specs.Looking.{IsLooking}
 use Rattle.papaya_owes.proofs.Short.Between.{calls_begin_short, calls_take_short, walks_go_on_short, walks_stop_short}
+use Rattle.papaya_owes.proofs.Looking.Between.{calls_begin_looking, lookups_begin, calls_take_looking, walks_go_on_looking, walks_stop_looking}
 use Rattle.papaya_owes.proofs.Grown.Between.{calls_begin_grown, machines_begin_grown, calls_take_grown, walks_go_on_grown, walks_stop_grown}
 use Rattle.papaya_owes.proofs.Tables.Between.{calls_begin_tables, calls_take_tables, walks_go_on_tables, walks_stop_tables}
 use Rattle.papaya_settles.specs.Owed.{HasNothing}
@@ -60,6 +68,18 @@ module _ (K V : Type 0) (same : K → K → Bool) where
   nothing_at_first standing i (ForRoom r) begins = subst (λ (x : CallForRoom). HasNothing K V (kinds.Reserve x.reserve)) (sym begins.1) (λ known. (refl, tt))
   nothing_at_first standing i (Counting sum) begins = λ known. (refl, tt)
   nothing_at_first standing i (OverAll o) begins = subst (λ (x : CallOverAll). HasNothing K V (kinds.Sweep x.sweep)) (sym begins.1) (λ known. (refl, tt))
+
+  -- and one that only looks has a machine that does
+  looks_at_first : (standing : Standing K) (i : ℕ) (u : UnderWay K V K) → Begins same standing i u → (call : Call K V) → IsCalled same u call → IsBegunFor u call → only_looks call ≡ true → IsLooking (machine_of u)
+  looks_at_first standing i (OnKey u) begins (On one) called begun looks =
+      lookups_begin K V same standing.hash standing.setting slot_of i u.keys one [] u.call
+      (subst (λ (g : Given K V). IsBegun V same standing.hash same standing.setting slot_of i u.keys g u.call) begun begins.0) looks
+  looks_at_first standing i (Counting sum) begins Len called begun looks = tt
+  looks_at_first standing i (ForRoom r) begins (Reserve more) called begun looks = absurd (cc looks)
+  looks_at_first standing i (OverAll o) begins Clear called begun looks = absurd (cc looks)
+  looks_at_first standing i (OverAll o) begins Retain called begun looks = absurd (cc looks)
+  looks_at_first standing i (OverAll o) begins Walk called begun looks = absurd (cc looks)
+  looks_at_first standing i _ begins _ called begun looks = absurd called
 
 -- of calls, this one alone goes on otherwise, or is under way no more
 module _ {K V : Type 0} (s : Scene K V) (map i : ℕ) (next : Option (UnderWay K V K)) where
@@ -119,11 +139,12 @@ module _ {K V : Type 0} (own : List ℕ) (m : Moment K V) where
 
 module _ (K V S : Type 0) (same : K → K → Bool) (hash : K → ℕ) where
   pub calls_begin_kept : CallsBeginKept K V S same hash
-  calls_begin_kept name m known s old new at whole kept map i standing u call guard begins none rests at2 shows2 = record {
+  calls_begin_kept name m known s old new at whole kept map i standing u call guard begins called begun none rests at2 shows2 = record {
     entries = calls_go_on_entries K V s kept.entries map i (Some u) (inr rests);
     tables = calls_begin_tables K V S same hash name m known s old new at whole kept.tables map i u call guard none at2 shows2;
     short = calls_begin_short K V name m s kept.short map i u call guard none;
     grown = calls_begin_grown K V name m s kept.grown map i u call guard none (machines_begin_grown K V same standing i u begins);
+    looking = calls_begin_looking K V name m s kept.looking map i u call guard none (looks_at_first K V same standing i u begins call called begun);
     owed = calls_begin_owed K V name m known s kept.owed map i u call guard none (nothing_at_first K V same standing i u begins);
     handing = calls_begin_handing K V name m s kept.handing map i u call guard none rests;
     waiting = others_leave_waiting K V m v known s.world kept.waiting refl refl;
@@ -139,6 +160,7 @@ module _ (K V S : Type 0) (same : K → K → Bool) (hash : K → ℕ) where
     tables = calls_take_tables K V S same hash name m known s old new at whole kept.tables map i u here reply next next_is is_told at2 shows2;
     short = calls_take_short K V same name m known s whole kept.short map i u here reply next next_is is_told;
     grown = calls_take_grown K V same name m known s whole kept.grown map i u here reply next next_is is_told;
+    looking = calls_take_looking K V same name m known s whole kept.looking map i u here reply next next_is is_told;
     owed = calls_take_owed K V same name m known s whole kept.owed map i u here reply next next_is is_told;
     handing = calls_take_handing K V same name m s whole.all.shown.calls kept.handing map i u here next is_told;
     waiting = others_leave_waiting K V m v known s.world kept.waiting refl refl;
@@ -156,6 +178,7 @@ module _ (K V S : Type 0) (same : K → K → Bool) (hash : K → ℕ) where
         tables = walks_go_on_tables K V S same hash name m known s old new whole kept.tables i leads map u here;
         short = walks_go_on_short K V S same hash name m s old new kept.short i leads map u here;
         grown = walks_go_on_grown K V S same hash name m s old new kept.grown i leads map u here;
+        looking = walks_go_on_looking K V S same hash name m s old new kept.looking i leads map u here;
         owed = walks_go_on_owed K V S same hash name m known s old new kept.owed i leads map u here;
         handing = walks_go_on_handing K V S same hash name m s old new kept.handing i leads map u here;
         waiting = kept.waiting;
@@ -168,6 +191,7 @@ module _ (K V S : Type 0) (same : K → K → Bool) (hash : K → ℕ) where
     tables = walks_stop_tables K V S same hash name m known s old new whole kept.tables i stopped leads map u here none;
     short = walks_stop_short K V S same hash name m known s old new whole kept.short i stopped leads map u here none;
     grown = walks_stop_grown K V S same hash name m known s old new whole kept.grown i stopped leads map u here none;
+    looking = walks_stop_looking K V S same hash name m known s old new whole kept.looking i stopped leads map u here none;
     owed = walks_stop_owed K V S same hash name m known s old new whole.all.shown kept.owed i stopped leads map u here none;
     handing = walks_stop_handing K V S same hash name m s old new whole.all.shown.calls kept.handing i stopped leads map u here none;
     waiting = others_leave_waiting K V m v known s.world kept.waiting (given_deferred (name i) m stopped) (given_place (name i) m stopped);

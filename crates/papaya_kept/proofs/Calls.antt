@@ -15,6 +15,7 @@ use Rattle.papaya_executor.specs.declared.executor.Executor.{Executor}
 use Rattle.papaya_follows.proofs.Steps.{went_to}
 use Rattle.papaya_moments.specs.Whole.{ShowsWhole}
 use Rattle.papaya_owes.proofs.Short.Calls.{calls_keep_short}
+use Rattle.papaya_owes.proofs.Looking.Calls.{calls_keep_looking}
 use Rattle.papaya_owes.proofs.Grown.Calls.{calls_keep_grown}
 use Rattle.papaya_owes.proofs.Tables.Calls.{calls_keep_tables}
 use Rattle.papaya_owes.proofs.Tables.Held.{tables_are_made}
@@ -43,6 +44,7 @@ module _ (K V S : Type 0) (same : K → K → Bool) (hash : K → ℕ) where
         tables = (calls_keep_tables K V S same hash name m known s old new at whole kept.tables map i u here said leads).1;
         short = (calls_keep_short K V S same hash name m known s old new at whole kept.short map i u here said leads).1;
         grown = (calls_keep_grown K V S same hash name m known s old new at whole kept.short kept.grown map i u here said leads).0;
+        looking = (calls_keep_looking K V S same hash name m known s old new at whole kept.looking map i u here said leads).1;
         owed = (calls_keep_owed K V S same hash name m known s old new at whole kept.entries made kept.owed map i u here said leads).1;
         handing = calls_keep_handing K V S same hash name m known s old new at whole kept.owed kept.handing map i u here said leads;
         waiting = waits made;

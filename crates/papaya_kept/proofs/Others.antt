@@ -29,6 +29,7 @@ use Rattle.papaya_others.specs.Makings.{making_after}
 use Rattle.papaya_others.specs.Rows.{scene_then}
 use Rattle.papaya_others.proofs.Quiet.{calls_none}
 use Rattle.papaya_owes.proofs.Short.Between.{stays_short}
+use Rattle.papaya_owes.proofs.Looking.Between.{stays_looking}
 use Rattle.papaya_owes.proofs.Grown.Between.{stays_grown}
 use Rattle.papaya_owes.proofs.Tables.Aside.{stays_tables}
 use Rattle.papaya_owes.proofs.Tables.EndsOfMaps.{endings_keep_tables}
@@ -79,6 +80,7 @@ module _ (K V S : Type 0) (same : K → K → Bool) (hash : K → ℕ) where
     tables = stays_tables K V name m m known s t kept.tables refl refl refl;
     short = stays_short K V name m m s t kept.short refl refl;
     grown = stays_grown K V name m m s t kept.grown refl refl;
+    looking = stays_looking K V name m m s t kept.looking refl refl;
     owed = stays_owed K V name m m known known s t kept.owed refl refl (same_in_hand name m known s kept.owed);
     handing = others_leave_handing K V S same hash name m m known s t old new at (leads may).3.4 kept.owed kept.handing refl refl;
     waiting = rows_begin_waiting K V S same hash m known s old new kept.waiting called i may leads;
@@ -94,6 +96,7 @@ module _ (K V S : Type 0) (same : K → K → Bool) (hash : K → ℕ) where
     tables = rows_keep_tables K V S same hash name m known s old new at whole.all.shown kept.tables i said leads row here;
     short = stays_short K V name m v s t kept.short (calls_none None effects m) refl;
     grown = stays_grown K V name m v s t kept.grown (calls_none None effects m) refl;
+    looking = stays_looking K V name m v s t kept.looking (calls_none None effects m) refl;
     owed = effects_leave_owed K V name m known (known_after acts.Row new.memory.changed known) s t kept.owed refl
         (λ map j u is. rows_leave_in_hand same hash name m known s old new at whole kept.retired i said leads row here map j u is (kept.owed.noted map j u is)) None effects;
     handing = others_leave_handing K V S same hash name m v known s t old new at (leads row here).4.4 kept.owed kept.handing (calls_none None effects m) refl;
@@ -122,6 +125,7 @@ module _ (K V S : Type 0) (same : K → K → Bool) (hash : K → ℕ) where
     tables = (makings_keep_tables K V S same hash name m known s old new at whole.all.shown kept.tables i said leads b here of shows2).1;
     short = stays_short K V name m v s led kept.short (calls_none of effects m) calls;
     grown = stays_grown K V name m v s led kept.grown (calls_none of effects m) calls;
+    looking = stays_looking K V name m v s led kept.looking (calls_none of effects m) calls;
     owed = effects_leave_owed K V name m known known2 s led kept.owed calls
         (λ map j u is. makings_leave_in_hand same hash name m known s old new at whole kept.retired i said leads b here of was_new map j u is (kept.owed.noted map j u is)) of effects;
     handing = others_leave_handing K V S same hash name m v known s led old new at at2 kept.owed kept.handing (calls_none of effects m) calls;
@@ -158,6 +162,7 @@ module _ (K V S : Type 0) (same : K → K → Bool) (hash : K → ℕ) where
     tables = stays_tables K V name m m known s t kept.tables refl refl refl;
     short = stays_short K V name m m s t kept.short refl refl;
     grown = stays_grown K V name m m s t kept.grown refl refl;
+    looking = stays_looking K V name m m s t kept.looking refl refl;
     owed = stays_owed K V name m m known known s t kept.owed refl refl (same_in_hand name m known s kept.owed);
     handing = others_leave_handing K V S same hash name m m known s t old new at at2 kept.owed kept.handing refl refl;
     waiting = endings_begin_waiting K V m known s kept.waiting map i standing;
@@ -173,6 +178,7 @@ module _ (K V S : Type 0) (same : K → K → Bool) (hash : K → ℕ) where
     tables = endings_keep_tables K V S same hash name m known s old new at whole.all.shown kept.tables i said leads f here map not_there;
     short = stays_short K V name m v s led kept.short (calls_none (Some map) effects m) calls;
     grown = stays_grown K V name m v s led kept.grown (calls_none (Some map) effects m) calls;
+    looking = stays_looking K V name m v s led kept.looking (calls_none (Some map) effects m) calls;
     owed = effects_leave_owed K V name m known known2 s led kept.owed calls
         (λ n j u is. endings_leave_in_hand same hash name m known s old new at whole kept.retired i said leads f here map not_there n j u is (kept.owed.noted n j u is)) (Some map) effects;
     handing = others_leave_handing K V S same hash name m v known s led old new at at2 kept.owed kept.handing (calls_none (Some map) effects m) calls;

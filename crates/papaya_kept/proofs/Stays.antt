@@ -18,6 +18,7 @@ use Rattle.papaya_finishes.specs.Makings.{Beginning}
 use Rattle.papaya_follows.specs.Calling.{NoneNamed, come_to}
 use Rattle.papaya_moments.specs.Whole.{ShowsWhole}
 use Rattle.papaya_owes.proofs.Short.Between.{short_begins, stays_short, calls_come_to_short}
+use Rattle.papaya_owes.proofs.Looking.Between.{looking_begins, stays_looking, calls_come_to_looking}
 use Rattle.papaya_owes.proofs.Grown.Between.{grown_begins, stays_grown, calls_come_to_grown}
 use Rattle.papaya_owes.proofs.Tables.Aside.{tables_begin, stays_tables, makings_begin_tables}
 use Rattle.papaya_owes.proofs.Tables.Between.{calls_come_to_tables}
@@ -40,6 +41,7 @@ begins_kept K V roots name = record {
   tables = tables_begin K V roots name;
   short = short_begins K V roots name;
   grown = grown_begins K V roots name;
+  looking = looking_begins K V roots name;
   owed = owed_begins K V roots name;
   handing = handing_begins K V roots name;
   waiting = waiting_begins K V roots;
@@ -75,6 +77,7 @@ stays_kept K V name m v known s t kept listed tables deferred place world calls 
   tables = stays_tables K V name m v known s t kept.tables listed calls makers;
   short = stays_short K V name m v s t kept.short listed calls;
   grown = stays_grown K V name m v s t kept.grown listed calls;
+  looking = stays_looking K V name m v s t kept.looking listed calls;
   owed = stays_owed K V name m v known known s t kept.owed listed calls (same_in_hand name m known s kept.owed);
   handing = handing_stays name m v s t kept.handing listed world calls;
   waiting = subst (ShowsWaiting v known) (sym world) (others_leave_waiting K V m v known s.world kept.waiting deferred place);
@@ -87,6 +90,7 @@ renamed_kept K V name name2 m known s agree kept = record {
   tables = record { tables = λ map i u is c c_is. kept.tables.tables map i u is c (named map i u is c c_is); whose = kept.tables.whose };
   short = λ map i u is c c_is. kept.short map i u is c (named map i u is c c_is);
   grown = λ map i u is c c_is. kept.grown map i u is c (named map i u is c c_is);
+  looking = λ map i u is c c_is. kept.looking map i u is c (named map i u is c c_is);
   owed = record { owed = λ map i u is c c_is. kept.owed.owed map i u is c (named map i u is c c_is); noted = kept.owed.noted };
   handing = λ map i u is busy c c_is. kept.handing map i u is busy c (named map i u is c c_is);
   waiting = kept.waiting;
@@ -102,6 +106,7 @@ calls_come_to_kept K V same name m known s whole kept own outcome steps none = r
   tables = calls_come_to_tables K V same name m known s whole kept.tables own outcome steps none;
   short = calls_come_to_short K V same name m known s whole kept.short own outcome steps none;
   grown = calls_come_to_grown K V same name m known s whole kept.grown own outcome steps none;
+  looking = calls_come_to_looking K V same name m known s whole kept.looking own outcome steps none;
   owed = calls_come_to_owed K V same name m known s whole kept.owed own outcome steps none;
   handing = calls_come_to_handing K V same name m s whole.all.shown.calls kept.handing own outcome steps none;
   waiting = others_leave_waiting K V m (come_to own outcome steps m) known s.world kept.waiting refl refl;
@@ -114,6 +119,7 @@ makings_begin_kept K V name m known s kept i b none = record {
   tables = makings_begin_tables K V name m known s kept.tables i b none;
   short = kept.short;
   grown = kept.grown;
+  looking = kept.looking;
   owed = stays_owed K V name m m known known s t kept.owed refl refl (same_in_hand name m known s kept.owed);
   handing = kept.handing;
   waiting = kept.waiting;

@@ -37,7 +37,9 @@ use Rattle.papaya_finishes.specs.Machines.{machine_of}
 use Rattle.papaya_finishes.specs.Makings.{Beginning}
 use Rattle.papaya_finishes.specs.Maps.{Standing, with_call as with_in}
 use Rattle.papaya_follows.specs.Calling.{NoneNamed, told, come_to}
+use Rattle.papaya_follows.specs.Calls.{IsCalled}
 use Rattle.papaya_follows.specs.Shows.{Shows}
+use Rattle.papaya_hands.specs.Calling.{IsBegunFor}
 use Rattle.papaya_others.specs.Endings.{ending_after}
 use Rattle.papaya_others.specs.Makings.{WasNew, making_after}
 use Rattle.papaya_others.specs.Rows.{scene_then}
@@ -77,12 +79,13 @@ module _ (K V : Type 0) where
       → (i : ℕ) (b : Beginning K) → s.makers i ≡ None → ShowsKept name m known (record s { makers = with_at s.makers i (Some b) })
 
 module _ (K V S : Type 0) (same : K → K → Bool) (hash : K → ℕ) where
-  -- So it is where a call begins, by a name that no call under way has, and where its caller has no row under way: the executor is there before it and after it, and the
+  -- So it is where a call begins with what was called, by a name that no call under way has, and where its caller has no row under way: the executor is there before it and after it, and the
   -- moment shows both,
   abbrev pub CallsBeginKept : Type 0
   CallsBeginKept =
       (name : ℕ → List ℕ) (m : Moment K V) (known : Known) (s : Scene K V) (old new : Executor K V S) → IsAt same hash old s → ShowsWhole same name m known s → ShowsKept name m known s
-      → (map i : ℕ) (standing : Standing K) (u : UnderWay K V K) (call : Call K V) (guard : List ℕ) → Begins same standing i u → NoneNamed name (name i) s → s.world.row i ≡ Rests
+      → (map i : ℕ) (standing : Standing K) (u : UnderWay K V K) (call : Call K V) (guard : List ℕ) → Begins same standing i u → IsCalled same u call → IsBegunFor u call
+      → NoneNamed name (name i) s → s.world.row i ≡ Rests
       → IsAt same hash new (scene_with map i u s) → Shows same name (with_call (name i) guard call (Some map) m) known (scene_with map i u s)
       → ShowsKept name (with_call (name i) guard call (Some map) m) known (scene_with map i u s)
 

@@ -3,6 +3,7 @@ mod Again
 mod AnySays
 mod ComesOn
 mod KeySays
+mod LookSays
 mod NextBegins
 mod NextEnds
 mod NextOn
