@@ -20,3 +20,4 @@ mod StepsOn
 mod SweepSays
 mod SweepSteps
 mod TakenBy
+mod Waiting
