@@ -14,12 +14,14 @@ use Rattle.papaya_executor.specs.Stepping.{StepLeads}
 use Rattle.papaya_executor.specs.declared.executor.Executor.{Executor}
 use Rattle.papaya_follows.proofs.Steps.{went_to}
 use Rattle.papaya_moments.specs.Whole.{ShowsWhole}
-use Rattle.papaya_owes.proofs.Short.Calls.{calls_keep_short}
+use Rattle.papaya_owes.proofs.Calls.{calls_keep_made}
 use Rattle.papaya_owes.proofs.Looking.Calls.{calls_keep_looking}
+use Rattle.papaya_owes.proofs.Short.Calls.{calls_keep_short}
 use Rattle.papaya_owes.proofs.Grown.Calls.{calls_keep_grown}
 use Rattle.papaya_owes.proofs.Tables.Calls.{calls_keep_tables}
 use Rattle.papaya_owes.proofs.Tables.Held.{tables_are_made}
 use Rattle.papaya_settles.specs.Due.{OwnAreMade}
+use Rattle.papaya_settles.proofs.Calls.{calls_keep_counts}
 use Rattle.papaya_settles.proofs.EntryScenes.{calls_keep_entries}
 use Rattle.papaya_settles.proofs.HandAll.{own_or_row}
 use Rattle.papaya_settles.proofs.HandCalls.{calls_keep_owed}
@@ -41,10 +43,12 @@ module _ (K V S : Type 0) (same : K → K → Bool) (hash : K → ℕ) where
       let made = own_made name m known s old at whole kept in
       record {
         entries = calls_keep_entries K V S same hash name m known s old new at whole.all.shown whole.all.rows kept.entries map i u here said leads;
+        made = (calls_keep_made K V S same hash name m known s old new at whole kept.made map i u here said leads).1;
         tables = (calls_keep_tables K V S same hash name m known s old new at whole kept.tables map i u here said leads).1;
+        looking = (calls_keep_looking K V S same hash name m known s old new at whole kept.looking map i u here said leads).1;
         short = (calls_keep_short K V S same hash name m known s old new at whole kept.short map i u here said leads).1;
         grown = (calls_keep_grown K V S same hash name m known s old new at whole kept.short kept.grown map i u here said leads).0;
-        looking = (calls_keep_looking K V S same hash name m known s old new at whole kept.looking map i u here said leads).1;
+        counts = (calls_keep_counts K V S same hash name m known s old new at whole kept.counts map i u here said leads).1;
         owed = (calls_keep_owed K V S same hash name m known s old new at whole kept.entries made kept.owed map i u here said leads).1;
         handing = calls_keep_handing K V S same hash name m known s old new at whole kept.owed kept.handing map i u here said leads;
         waiting = waits made;

@@ -193,9 +193,9 @@ module _ {K V S : Type 0} (same : K → K → Bool) (hash : K → ℕ) (name : �
 
   -- a block of a pair, or of a table, is there, and no counter
   record IsThere (b : ℕ) : Type 0 where
-    value : Node K V
-    is : value_at w.memory b ≡ Some value
-    other : value ≡ node.Shards → ⊥
+    pub value : Node K V
+    pub is : value_at w.memory b ≡ Some value
+    pub other : value ≡ node.Shards → ⊥
 
   of_map_there : (b : ℕ) → IsOfMap (known.roles b) → IsThere b
   of_map_there b its_map = by (known.roles b) its_map (whole.all.shown.blocks.roles b)

@@ -28,13 +28,18 @@ use Rattle.papaya_others.specs.Endings.{ending_after}
 use Rattle.papaya_others.specs.Makings.{making_after}
 use Rattle.papaya_others.specs.Rows.{scene_then}
 use Rattle.papaya_others.proofs.Quiet.{calls_none}
-use Rattle.papaya_owes.proofs.Short.Between.{stays_short}
+use Rattle.papaya_owes.proofs.Aside.{stays_made}
+use Rattle.papaya_owes.proofs.EndsOfMaps.{endings_keep_made}
 use Rattle.papaya_owes.proofs.Looking.Between.{stays_looking}
+use Rattle.papaya_owes.proofs.MakingsOfMaps.{makings_keep_made}
+use Rattle.papaya_owes.proofs.RowsOnSlots.{rows_keep_made}
+use Rattle.papaya_owes.proofs.Short.Between.{stays_short}
 use Rattle.papaya_owes.proofs.Grown.Between.{stays_grown}
 use Rattle.papaya_owes.proofs.Tables.Aside.{stays_tables}
 use Rattle.papaya_owes.proofs.Tables.EndsOfMaps.{endings_keep_tables}
 use Rattle.papaya_owes.proofs.Tables.MakingsOfMaps.{makings_keep_tables}
 use Rattle.papaya_owes.proofs.Tables.RowsOnSlots.{rows_keep_tables}
+use Rattle.papaya_settles.proofs.Between.{stays_counts, effects_leave_counts}
 use Rattle.papaya_settles.proofs.EntryScenes.{rows_begin_entries, rows_keep_entries, makings_keep_entries, endings_begin_entries, endings_keep_entries}
 use Rattle.papaya_settles.proofs.HandBetween.{stays_owed, effects_leave_owed}
 use Rattle.papaya_settles.proofs.Handing.{others_leave_handing}
@@ -77,10 +82,12 @@ module _ (K V S : Type 0) (same : K → K → Bool) (hash : K → ℕ) where
   pub rows_begin_kept : RowsBeginKept K V S same hash
   rows_begin_kept name m known s old new at kept called i may leads = record {
     entries = rows_begin_entries K V S same hash s old new at kept.entries called i may leads;
+    made = stays_made K V name m m known s t kept.made refl refl;
     tables = stays_tables K V name m m known s t kept.tables refl refl refl;
+    looking = stays_looking K V name m m s t kept.looking refl refl;
     short = stays_short K V name m m s t kept.short refl refl;
     grown = stays_grown K V name m m s t kept.grown refl refl;
-    looking = stays_looking K V name m m s t kept.looking refl refl;
+    counts = stays_counts K V name m m s t kept.counts refl refl;
     owed = stays_owed K V name m m known known s t kept.owed refl refl (same_in_hand name m known s kept.owed);
     handing = others_leave_handing K V S same hash name m m known s t old new at (leads may).3.4 kept.owed kept.handing refl refl;
     waiting = rows_begin_waiting K V S same hash m known s old new kept.waiting called i may leads;
@@ -93,10 +100,12 @@ module _ (K V S : Type 0) (same : K → K → Bool) (hash : K → ℕ) where
   pub rows_keep_kept : RowsKeepKept K V S same hash
   rows_keep_kept name m known s old new at whole kept i said leads row here = record {
     entries = rows_keep_entries K V S same hash s old new at kept.entries i said leads row here;
+    made = (rows_keep_made K V S same hash name m known s old new at whole.all.shown kept.made i said leads row here).1;
     tables = rows_keep_tables K V S same hash name m known s old new at whole.all.shown kept.tables i said leads row here;
+    looking = stays_looking K V name m v s t kept.looking (calls_none None effects m) refl;
     short = stays_short K V name m v s t kept.short (calls_none None effects m) refl;
     grown = stays_grown K V name m v s t kept.grown (calls_none None effects m) refl;
-    looking = stays_looking K V name m v s t kept.looking (calls_none None effects m) refl;
+    counts = effects_leave_counts K V name m s t kept.counts refl None effects;
     owed = effects_leave_owed K V name m known (known_after acts.Row new.memory.changed known) s t kept.owed refl
         (λ map j u is. rows_leave_in_hand same hash name m known s old new at whole kept.retired i said leads row here map j u is (kept.owed.noted map j u is)) None effects;
     handing = others_leave_handing K V S same hash name m v known s t old new at (leads row here).4.4 kept.owed kept.handing (calls_none None effects m) refl;
@@ -122,10 +131,12 @@ module _ (K V S : Type 0) (same : K → K → Bool) (hash : K → ℕ) where
   pub makings_keep_kept : MakingsKeepKept K V S same hash
   makings_keep_kept name m known s old new at whole kept i said leads b here of was_new at2 shows2 = record {
     entries = entries_stay stepped led (makings_keep_entries K V S same hash s old new at kept.entries i said leads b here) world calls;
+    made = (makings_keep_made K V S same hash name m known s old new at whole.all.shown kept.made i said leads b here of).1;
     tables = (makings_keep_tables K V S same hash name m known s old new at whole.all.shown kept.tables i said leads b here of shows2).1;
+    looking = stays_looking K V name m v s led kept.looking (calls_none of effects m) calls;
     short = stays_short K V name m v s led kept.short (calls_none of effects m) calls;
     grown = stays_grown K V name m v s led kept.grown (calls_none of effects m) calls;
-    looking = stays_looking K V name m v s led kept.looking (calls_none of effects m) calls;
+    counts = effects_leave_counts K V name m s led kept.counts calls of effects;
     owed = effects_leave_owed K V name m known known2 s led kept.owed calls
         (λ map j u is. makings_leave_in_hand same hash name m known s old new at whole kept.retired i said leads b here of was_new map j u is (kept.owed.noted map j u is)) of effects;
     handing = others_leave_handing K V S same hash name m v known s led old new at at2 kept.owed kept.handing (calls_none of effects m) calls;
@@ -159,10 +170,12 @@ module _ (K V S : Type 0) (same : K → K → Bool) (hash : K → ℕ) where
   pub endings_begin_kept : EndingsBeginKept K V S same hash
   endings_begin_kept name m known s old new at kept map i standing at2 = record {
     entries = endings_begin_entries K V s kept.entries map i standing;
+    made = stays_made K V name m m known s t kept.made refl refl;
     tables = stays_tables K V name m m known s t kept.tables refl refl refl;
+    looking = stays_looking K V name m m s t kept.looking refl refl;
     short = stays_short K V name m m s t kept.short refl refl;
     grown = stays_grown K V name m m s t kept.grown refl refl;
-    looking = stays_looking K V name m m s t kept.looking refl refl;
+    counts = stays_counts K V name m m s t kept.counts refl refl;
     owed = stays_owed K V name m m known known s t kept.owed refl refl (same_in_hand name m known s kept.owed);
     handing = others_leave_handing K V S same hash name m m known s t old new at at2 kept.owed kept.handing refl refl;
     waiting = endings_begin_waiting K V m known s kept.waiting map i standing;
@@ -175,10 +188,12 @@ module _ (K V S : Type 0) (same : K → K → Bool) (hash : K → ℕ) where
   pub endings_keep_kept : EndingsKeepKept K V S same hash
   endings_keep_kept waits name m known s old new at whole kept i said leads f here map not_there at2 = record {
     entries = entries_stay stepped led (endings_keep_entries K V S same hash s old new at kept.entries i said leads f here) world calls;
+    made = (endings_keep_made K V S same hash name m known s old new at whole.all.shown kept.made i said leads f here map not_there).1;
     tables = endings_keep_tables K V S same hash name m known s old new at whole.all.shown kept.tables i said leads f here map not_there;
+    looking = stays_looking K V name m v s led kept.looking (calls_none (Some map) effects m) calls;
     short = stays_short K V name m v s led kept.short (calls_none (Some map) effects m) calls;
     grown = stays_grown K V name m v s led kept.grown (calls_none (Some map) effects m) calls;
-    looking = stays_looking K V name m v s led kept.looking (calls_none (Some map) effects m) calls;
+    counts = effects_leave_counts K V name m s led kept.counts calls (Some map) effects;
     owed = effects_leave_owed K V name m known known2 s led kept.owed calls
         (λ n j u is. endings_leave_in_hand same hash name m known s old new at whole kept.retired i said leads f here map not_there n j u is (kept.owed.noted n j u is)) (Some map) effects;
     handing = others_leave_handing K V S same hash name m v known s led old new at at2 kept.owed kept.handing (calls_none (Some map) effects m) calls;

@@ -79,12 +79,12 @@ module _ (K V : Type 0) where
       → (i : ℕ) (b : Beginning K) → s.makers i ≡ None → ShowsKept name m known (record s { makers = with_at s.makers i (Some b) })
 
 module _ (K V S : Type 0) (same : K → K → Bool) (hash : K → ℕ) where
-  -- So it is where a call begins with what was called, by a name that no call under way has, and where its caller has no row under way: the executor is there before it and after it, and the
+  -- So it is where a call begins, by a name that no call under way has, and where its caller has no row under way: the executor is there before it and after it, and the
   -- moment shows both,
   abbrev pub CallsBeginKept : Type 0
   CallsBeginKept =
       (name : ℕ → List ℕ) (m : Moment K V) (known : Known) (s : Scene K V) (old new : Executor K V S) → IsAt same hash old s → ShowsWhole same name m known s → ShowsKept name m known s
-      → (map i : ℕ) (standing : Standing K) (u : UnderWay K V K) (call : Call K V) (guard : List ℕ) → Begins same standing i u → IsCalled same u call → IsBegunFor u call
+      → (map i : ℕ) (standing : Standing K) → s.maps map ≡ Some standing → (u : UnderWay K V K) (call : Call K V) (guard : List ℕ) → Begins same standing i u → IsCalled same u call → IsBegunFor u call
       → NoneNamed name (name i) s → s.world.row i ≡ Rests
       → IsAt same hash new (scene_with map i u s) → Shows same name (with_call (name i) guard call (Some map) m) known (scene_with map i u s)
       → ShowsKept name (with_call (name i) guard call (Some map) m) known (scene_with map i u s)

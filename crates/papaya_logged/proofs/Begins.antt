@@ -55,7 +55,7 @@ module _ {K V S : Type 0} (same : K → K → Bool) (hash : K → ℕ) where
             (subst (λ (a : List ℕ). ShowsWhole {K = K} {V = V} same names (with_call a guard call (Some map) m) (known old.notes) then_at) (named i own name) whole);
         kept = subst (λ (k : Known). ShowsKept {K = K} {V = V} names after k then_at) (ap known (sym noted))
             (subst (λ (a : List ℕ). ShowsKept {K = K} {V = V} names (with_call a guard call (Some map) m) (known old.notes) then_at) (named i own name)
-            (calls_begin_kept K V S same hash names m (known old.notes) s old.executor new.executor shown.is_at before kept_before map i standing u call guard fresh called begun none rests leads.1 whole.all.shown));
+            (calls_begin_kept K V S same hash names m (known old.notes) s old.executor new.executor shown.is_at before kept_before map i standing stands u call guard fresh called begun none rests leads.1 whole.all.shown));
       }
 
 -- so it is before all events, with nothing noted

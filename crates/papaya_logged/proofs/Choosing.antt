@@ -82,8 +82,11 @@ module _ {K V : Type 0} (choice : ℕ) (name : ℕ → List ℕ) (m : Moment K V
       blank = λ b its. blank_then b (kept.entries.blank b its);
       one = λ map i u is. one_as (IsBlank s.world.memory) (IsBlank (then_in choice s.world).memory) blank_then (s.world.row i) (kept.entries.one map i u is);
     };
+    made = record { has = kept.made.has; named = kept.made.named; whose = kept.made.whose };
     tables = record { tables = kept.tables.tables; whose = kept.tables.whose };
+    looking = kept.looking;
     short = kept.short;
+    counts = record { counts = kept.counts.counts };
     owed = record { owed = kept.owed.owed; noted = kept.owed.noted };
     handing = kept.handing;
     waiting =

@@ -1,9 +1,8 @@
 -- A batch that is held is in the hands of a call, which hands something over: so the moment says that it is held.
 use Rattle.std.specs.Prelude.{◌==◌, ◌&&◌, ◌||◌, cond, Option, Some, None, find, option_map, if◌then◌else◌}
 use Rattle.std.specs.List.{AllByRecursion, list_any}
-use Rattle.std.proofs.Common.{◌≡◌, ℕ, Bool, true, false, List, refl, sym, ap, subst, ◌∙◌, inl, inr, eqb-true}
+use Rattle.std.proofs.Common.{◌≡◌, ℕ, Bool, true, false, List, refl, sym, ap, ◌∙◌, eqb-true}
 use Rattle.std.proofs.lemmas.Bool.{eq-eqb}
-use Rattle.seize.specs.World.{World, Row, Rests}
 use Rattle.seize.specs.declared.states.TheConstants.{BATCH, HELD}
 use Rattle.seize_words.specs.Mem.{Mem, word_at}
 use Rattle.seize_words.specs.declared.at.At.TheVariants.{Slot}
@@ -11,16 +10,14 @@ use Rattle.seize_rule.proofs.Words.Named.{word_found, words_of}
 use Rattle.seize_ends.specs.Holders.{has_batch}
 use Rattle.papaya_tables.specs.declared.node.Node.{Node}
 use Rattle.papaya_raw.specs.declared.machines.machine.Machine.{Machine}
-use Rattle.papaya_runs.specs.Present.{guard_of, guards_slot_or, living_slot, slot_of_guard}
+use Rattle.papaya_runs.specs.Present.{guard_of, guards_slot_or, slot_of_guard}
 use Rattle.papaya_runs.specs.Same.{is_same}
 use Rattle.papaya_runs.proofs.Laws.{same_tells}
 use Rattle.papaya_schedules.specs.InUse.{is_handing, is_held}
 use Rattle.papaya_schedules.specs.Moment.{UnderWay as CallThere, Moment}
 use Rattle.papaya_schedules.specs.Terms.{Terms}
 use Rattle.papaya_schedules.specs.Views.{call_of}
-use Rattle.papaya_callers.specs.Sights.{seen_by}
-use Rattle.papaya_callers.specs.Together.{Stands, UnderWay, OnKey, ForRoom, Counting, OverAll}
-use Rattle.papaya_finishes.specs.Maps.{Standing}
+use Rattle.papaya_callers.specs.Together.{UnderWay}
 use Rattle.papaya_finishes.specs.Machines.{machine_of}
 use Rattle.papaya_follows.specs.Calls.{IsCalled}
 use Rattle.papaya_executor.specs.IsAt.{call_in, slot_of, work_of}

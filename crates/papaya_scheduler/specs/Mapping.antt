@@ -1,5 +1,5 @@
 -- What is asked of a moment before a map is made or ends, and what is promised then.
-use Rattle.std.specs.Prelude.{◌≡◌, ◌<◌, ◌≤◌, ◌+◌, ◌^◌, ℕ, Bool, true, List, length, filter, is_none, max, not, ◌&&◌, nat_lt, None}
+use Rattle.std.specs.Prelude.{◌≡◌, ◌<◌, ◌≤◌, ◌+◌, ◌^◌, ℕ, Bool, true, List, length, filter, is_none, max, not, ◌&&◌, nat_lt}
 use Rattle.std.specs.Int.{IsNextPowerOfTwo}
 use Rattle.papaya_tables.specs.declared.resize_mode.ResizeMode.{ResizeMode}
 use Rattle.papaya_tables.specs.declared.setting.Setting.{Setting}
