@@ -18,7 +18,7 @@ use Rattle.papaya_waits.specs.Others.{PairsAreCopiedByCalls}
 use Rattle.papaya_waits.specs.Waits.{IsBeingCopied}
 
 -- one of two, where the choice is made
-chosen : {X Y : Type 0} (b : Bool) → b ≡ true → cond b X Y → X
+pub chosen : {X Y : Type 0} (b : Bool) → b ≡ true → cond b X Y → X
 chosen true e x = x
 chosen false e y = absurd (cc e)
 
