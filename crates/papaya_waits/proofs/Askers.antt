@@ -8,6 +8,7 @@ use Rattle.papaya_tables.specs.declared.node.Node.{Node}
 use Rattle.papaya_tables.specs.declared.setting.Setting.{Setting}
 use Rattle.papaya_tables.specs.declared.table.Table.{Table}
 use Rattle.papaya_resize.specs.declared.copier.Copier.{Copier}
+use Rattle.papaya_resize.specs.declared.copier.Copying.{Copying as Point}
 use Rattle.papaya_resize.specs.declared.copier.Copying.TheVariants as copies
 use Rattle.papaya_rule.specs.Chart.{Still, Copying, Copied, Place, Empty, Tombstone, Holds, Share, Free, Claimed, Done, Counted, Lost, Chart, is_marked, is_settled}
 use Rattle.papaya_rule.specs.Maps.{spot_of}
@@ -19,7 +20,7 @@ use Rattle.papaya_points.specs.FactsCopies.{CopyingFacts, ClaimsNone, HasDone}
 use Rattle.papaya_points.specs.FactsCopiesBlocking.{HasNoShares}
 use Rattle.papaya_callers.specs.Sights.{Sight}
 use Rattle.papaya_callers.specs.Together.{UnderWay, Together, in_slot}
-use Rattle.papaya_waits.specs.Others.{IsToCount, IsOpen, Ends, HaveEnds, AskersHaveOthers}
+use Rattle.papaya_waits.specs.Others.{IsToCount, IsOpen, EndsAt, HaveEnds, AskersHaveOthers, copier_of}
 use Rattle.papaya_waits.specs.Waits.{IsUnfinished}
 use Rattle.papaya_waits.proofs.Claimed.{chosen}
 
@@ -63,45 +64,56 @@ module _ {K Q : Type 0} (V : Type 0) (same : K → K → Bool) (hash : K → ℕ
             let one = done_one k k (c.share (suc c.first) j) done refl in
             absurd (omega (arith, none, one))
 
-    module _ (i : ℕ) (seen : Blocks) (p : Copier) (f : CopyingFacts same hash w i (in_slot setting (slot i)) c seen p copies.Asks)
-        (own : (x : UnderWay K V Q) → calls i ≡ Some x → Ends c x p.target.turn → ⊥) where
+    module _ (i : ℕ) (x : UnderWay K V Q) (call : calls i ≡ Some x) (p : Copier) (within : copier_of x ≡ Some p) (stands : p.stands ≡ copies.Asks)
+        (seen : Blocks) (f : CopyingFacts same hash w i (in_slot setting (slot i)) c seen p copies.Asks) where
       abbrev Another : Type 0
       Another =
           (k : ℕ) × (u : UnderWay K V Q) × (calls k ≡ Some u) × (k ≢ i)
-          × (((suc c.first < c.past) × (j : ℕ) × (j < c.len c.first) × (c.share (suc c.first) j ≡ Done k)) ⊎ Ends c u p.target.turn)
+          × (((suc c.first < c.past) × (j : ℕ) × (j < c.len c.first) × (c.share (suc c.first) j ≡ Done k))
+          ⊎ ((q : Copier) × (copier_of u ≡ Some q) × EndsAt c q q.stands p.target.turn))
 
       target : p.target.turn ≡ suc f.0
       target = ap (λ (x : Table). x.turn) f.1.1.is
 
       -- one that is to end it stands elsewhere than this one
-      by_end : (k : ℕ) (u : UnderWay K V Q) → calls k ≡ Some u → Ends c u (suc f.0) → Another
-      by_end k u is ends =
-          let here : Ends c u p.target.turn = subst (λ (x : ℕ). Ends c u x) (sym target) ends in
-          (k, u, is, (λ e. own u (subst (λ (x : ℕ). calls x ≡ Some u) e is) here), inr here)
+      elsewhere : (k : ℕ) (u : UnderWay K V Q) (q : Copier) → calls k ≡ Some u → copier_of u ≡ Some q → EndsAt c q q.stands (suc f.0) → k ≢ i
+      elsewhere k u q is of ends e = subst (λ (stage : Point). EndsAt c q stage (suc f.0)) same_point ends
+        where
+          same_call : u ≡ x
+          same_call = let there : calls i ≡ Some u = subst (λ (n : ℕ). calls n ≡ Some u) e is in cc (there, call)
+
+          same_copier : q ≡ p
+          same_copier = let there : copier_of x ≡ Some q = subst (λ (y : UnderWay K V Q). copier_of y ≡ Some q) same_call of in cc (there, within)
+
+          same_point : q.stands ≡ copies.Asks
+          same_point = ap (λ (y : Copier). y.stands) same_copier ∙ stands
+
+      by_end : (k : ℕ) (u : UnderWay K V Q) (q : Copier) → calls k ≡ Some u → copier_of u ≡ Some q → EndsAt c q q.stands (suc f.0) → Another
+      by_end k u q is of ends = (k, u, is, elsewhere k u q is of ends, inr (q, of, subst (λ (t : ℕ). EndsAt c q q.stands t) (sym target) ends))
 
       -- one that has done a place that is not counted is another, as this one has none
       by_place : f.0 ≡ c.first → (j : ℕ) → j < c.len c.first → IsToCount (c.share (suc f.0) j) → Another
       by_place root j l open =
-          let inside : j < c.len f.0 = subst (λ (x : ℕ). j < c.len x) (sym root) l in
-          let settled : is_settled (c.place c.first j) ≡ true = subst (λ (x : ℕ). is_settled (c.place x j) ≡ true) root (f.7 f.6 j inside) in
+          let inside : j < c.len f.0 = subst (λ (t : ℕ). j < c.len t) (sym root) l in
+          let settled : is_settled (c.place c.first j) ≡ true = subst (λ (t : ℕ). is_settled (c.place t j) ≡ true) root (f.7 f.6 j inside) in
           let rule : Rule same (spot_of hash) true c = subst (λ (b : Bool). Rule same (spot_of hash) b c) mode s.ground.map.map.rule in
-          let done = is_done same hash c rule j l settled (subst (λ (x : ℕ). IsToCount (c.share (suc x) j)) root open) in
-          let call = has_call done.0 j l done.1 in
+          let done = is_done same hash c rule j l settled (subst (λ (t : ℕ). IsToCount (c.share (suc t) j)) root open) in
+          let other = has_call done.0 j l done.1 in
           let none = total_zero (is_done_by i) (c.share (suc c.first)) (c.len c.first) (sym f.3) j l in
           (
             done.0,
-            call.0,
-            call.1,
+            other.0,
+            other.1,
             (λ e. (let one = done_one done.0 i (c.share (suc c.first) j) done.1 e in omega (arith, none, one))),
-            inl (subst (λ (x : ℕ). suc x < c.past) root f.1.1.made, j, l, done.1),
+            inl (subst (λ (t : ℕ). suc t < c.past) root f.1.1.made, j, l, done.1),
           )
 
       another : HaveEnds c calls → IsUnfinished c p.target.turn → Another
-      another ends unfinished = by (ends (suc f.0) (omega (arith)) f.1.1.made (subst (λ (x : ℕ). IsUnfinished c x) target unfinished))
+      another ends unfinished = by (ends (suc f.0) (omega arith) f.1.1.made (subst (λ (t : ℕ). IsUnfinished c t) target unfinished))
         where
-          by : IsOpen c (suc f.0) ⊎ ((k : ℕ) × (u : UnderWay K V Q) × (calls k ≡ Some u) × Ends c u (suc f.0)) → Another
+          by : IsOpen c (suc f.0) ⊎ ((k : ℕ) × (u : UnderWay K V Q) × (q : Copier) × (calls k ≡ Some u) × (copier_of u ≡ Some q) × EndsAt c q q.stands (suc f.0)) → Another
           by (inl (behind, j, l, open)) = by_place (let upto = f.1.2 in omega (arith, behind, upto)) j l open
-          by (inr (k, u, is, ends)) = by_end k u is ends
+          by (inr (k, u, q, is, of, ends)) = by_end k u q is of ends
 
   pub askers_have_others : AskersHaveOthers V same hash asks setting slot
-  askers_have_others w c blocks sights calls s mode ends i seen p f unfinished own = another w c blocks sights calls s mode i seen p f own ends unfinished
+  askers_have_others w c blocks sights calls s mode ends i x call p within stands seen f unfinished = another w c blocks sights calls s mode i x call p within stands seen f ends unfinished
