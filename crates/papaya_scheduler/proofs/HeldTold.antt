@@ -39,7 +39,7 @@ abbrev pub HeldIsTold : {K V S : Type 0} → Moment K V → Scheduler K V S → 
 HeldIsTold m p = (slot : ℕ) → word_at p.logged.executor.memory.memory (Slot slot BATCH) ≡ Some HELD → is_held slot m ≡ true
 
 -- one that is found passes a test where some passes it
-one_passes : {X : Type 0} (p q : X → Bool) (xs : List X) (x : X) → find p xs ≡ Some x → q x ≡ true → list_any q xs ≡ true
+pub one_passes : {X : Type 0} (p q : X → Bool) (xs : List X) (x : X) → find p xs ≡ Some x → q x ≡ true → list_any q xs ≡ true
 one_passes p q [] x is yes = absurd (cc is)
 one_passes {X} p q (y ∷ xs) x is yes = one (p y) is (λ f. one_passes p q xs x f yes)
   where
@@ -63,7 +63,7 @@ module _ {K V S : Type 0} (same : K → K → Bool) (hash : K → ℕ) (terms : 
   calls = p.calls.items.items
 
   -- who has the batch has a call under way,
-  has_call : (j slot : ℕ) → has_batch slot (stands.scene.world.row j) ≡ true → (map : ℕ) × (u : UnderWay K V K) × (stands.scene.calls map j ≡ Some u)
+  pub has_call : (j slot : ℕ) → has_batch slot (stands.scene.world.row j) ≡ true → (map : ℕ) × (u : UnderWay K V K) × (stands.scene.calls map j ≡ Some u)
   has_call j slot has = by (work_of p.logged.executor j) refl
     where
       idle : work_of p.logged.executor j ≡ None → ⊥
@@ -109,7 +109,7 @@ module _ {K V S : Type 0} (same : K → K → Bool) (hash : K → ℕ) (terms : 
     its_own : its found.0 ≡ true
     its_own = found_once (is_named own) its calls named (stands.calls.once own) (stands.calls.only map j u is) found.0 found.1
 
-    its_guard : slot_of_guard there.0.guard m.there ≡ slot_of j
+    pub its_guard : slot_of_guard there.0.guard m.there ≡ slot_of j
     its_guard =
         let way = found_has (IsUnderWay stands.name stands.scene p.there) (is_named own) calls found.0 found.1 stands.calls.each in
         let number = eqb-true found.0.number j (both_true (found.0.map == map) (found.0.number == j) its_own).1 in

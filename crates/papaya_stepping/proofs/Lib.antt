@@ -3,6 +3,7 @@ mod Again
 mod AnySays
 mod ComesOn
 mod KeySays
+mod LookSays
 mod NextBegins
 mod NextEnds
 mod NextOn
@@ -19,3 +20,4 @@ mod StepsOn
 mod SweepSays
 mod SweepSteps
 mod TakenBy
+mod Waiting

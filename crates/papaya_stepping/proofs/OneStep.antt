@@ -13,10 +13,11 @@ use Rattle.papaya_schedules.specs.declared.call.Call.{Call}
 use Rattle.papaya_schedules.specs.declared.call.Call.TheVariants.{On}
 use Rattle.papaya_schedules.specs.declared.effect.Effect.{Effect}
 use Rattle.papaya_schedules.specs.declared.outcome.Outcome.{Outcome}
-use Rattle.papaya_schedules.specs.declared.outcome.Outcome.TheVariants.{Refused}
+use Rattle.papaya_schedules.specs.declared.outcome.Outcome.TheVariants.{Refused, Waits}
 use Rattle.papaya_schedules.specs.After.{asks_on, comes_to}
 use Rattle.papaya_schedules.specs.Effects.{with_effects}
 use Rattle.papaya_schedules.specs.Entry.{ends_call}
+use Rattle.papaya_schedules.specs.Growing.{only_looks}
 use Rattle.papaya_schedules.specs.Moment.{Stands, Going, Asking, Told, IsReady, UnderWay as CallThere, Moment}
 use Rattle.papaya_schedules.specs.Terms.{Terms}
 use Rattle.papaya_schedules.specs.Views.{call_of}
@@ -50,6 +51,7 @@ use Rattle.papaya_scheduler.specs.declared.kind.Kind.{Kind}
 use Rattle.papaya_scheduler.specs.declared.scheduler.Scheduler.{Scheduler}
 use Rattle.papaya_stepping.proofs.AfterEffects.{calls_seen, closed_stays, mapped_stays}
 use Rattle.papaya_stepping.proofs.AnySays.{any_says}
+use Rattle.papaya_stepping.proofs.LookSays.{never_waits}
 use Rattle.papaya_scheduler.proofs.Here.{Here, here_at}
 use Rattle.papaya_rows.proofs.Lists.{changed_at, removed_at, set_get, set_position, set_seen}
 use Rattle.papaya_scheduler.proofs.RanOn.{maps_named, there_stays}
@@ -109,6 +111,18 @@ module _ {K V : Type 0} (by : Known) (its : Kind) (value : Option V) where
   said_short progress.Ready e = absurd (cc e)
   said_short (progress.Pair word) e = absurd (cc e)
   said_short (progress.Done said) e = absurd (cc e)
+
+  -- and what waits, so
+  said_waits : (said : Progress (Node K V)) → outcome_of by its value said ≡ Waits → said ≡ progress.Waits
+  said_waits progress.Waits e = refl
+  said_waits progress.Goes e = absurd (cc e)
+  said_waits (progress.Gave node) e = absurd (cc e)
+  said_waits (progress.Unstored node) e = absurd (cc e)
+  said_waits (progress.Asks word) e = absurd (cc e)
+  said_waits progress.Ready e = absurd (cc e)
+  said_waits (progress.Pair word) e = absurd (cc e)
+  said_waits (progress.Done said) e = absurd (cc e)
+  said_waits (progress.Refused fault) e = absurd (cc e)
 
   -- what is seen of it then
   asks_seen : (question : Option ℕ) (c : CallThere K V) (stand : Stands) → far_of stand ≡ far.Goes → seen (asks_on question c stand) ≡ record (seen c) { far = far.Asks question }
@@ -331,6 +345,7 @@ module _ {K V S : Type 0} (same : K → K → Bool) (hash : K → ℕ) (terms : 
         follows = (leads_so here.way.0 here.way.1).1;
         few = (operations_are_single (acts.Call d.number d.map) (known p.logged.notes) new.executor.memory.changed).0;
         comes = says.comes;
+        works = λ waits. by_looking (only_looks c.call) refl waits;
         memory = λ refused x x_is.
             (step_keeps_grown same hash stands.name m (known p.logged.notes) stands.scene p.logged.executor new.executor stands.shown.is_at stands.shown.shows stands.shown.kept.short stands.shown.kept.grown
             d.map d.number here.way.0 here.way.1 said leads).1 (said_short by d.kind d.value said refused) x
@@ -339,6 +354,12 @@ module _ {K V S : Type 0} (same : K → K → Bool) (hash : K → ℕ) (terms : 
         goes = λ on. (subst (λ (x : ℕ). StandsFor same hash terms (with_effects (Some own) (Some x) did m) p2) (sym map_is) (midst on), going on);
         stands = λ never counted. subst (λ (x : ℕ). StandsFor same hash terms (come_to own outcome counted (with_effects (Some own) (Some x) did m)) p2) (sym map_is) (stands_told never counted);
       }
+        where
+          -- one that only looks never waits
+          by_looking : (looks : Bool) → only_looks c.call ≡ looks → outcome ≡ Waits → only_looks c.call ≡ false
+          by_looking false e waits = e
+          by_looking true e waits = absurd (never_waits same hash p.logged.executor new.executor (leads d.map here.way.0 here.way.1).1 said (machine_of here.way.0)
+              (stands.shown.kept.looking d.map d.number here.way.0 here.way.1 c its_call e) (leads d.map here.way.0 here.way.1).3 (said_waits by d.kind d.value said waits))
 
 module _ {K V S : Type 0} (same : K → K → Bool) (hash : K → ℕ) (terms : Terms) (m : Moment K V) (p new : Scheduler K V S) (stands : StandsFor same hash terms m p) (own : List ℕ) (place : ℕ)
     (at : GoesAt own place p) (outcome : Outcome V) (before after : List Effect) (step : IsStepped same hash place outcome before after p new) where

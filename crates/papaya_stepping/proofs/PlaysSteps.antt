@@ -1,5 +1,5 @@
 -- The events by which a call that is under way goes on: one step, or as many as it may take.
-use Rattle.std.specs.Prelude.{◌≡◌, ◌+◌, ◌≤◌, ◌&&◌, ℕ, Bool, true, List, [], is_some, position, sum_by, Option, Some, option_map}
+use Rattle.std.specs.Prelude.{◌≡◌, ◌+◌, ◌≤◌, ◌&&◌, ℕ, Bool, true, false, List, [], is_some, position, sum_by, Option, Some, option_map}
 use Rattle.std.proofs.Common.{refl, sym, ap, subst, ◌∙◌}
 use Rattle.seize_words.specs.declared.fault.Fault.TheVariants.{Busy, Memory}
 use Rattle.papaya_runs.specs.Present.{Present}
@@ -8,11 +8,12 @@ use Rattle.papaya_schedules.specs.declared.call.Call.{Call}
 use Rattle.papaya_schedules.specs.declared.effect.Effect.{Effect}
 use Rattle.papaya_schedules.specs.declared.event.Event.TheVariants.{Go, Step}
 use Rattle.papaya_schedules.specs.declared.outcome.Outcome.{Outcome}
-use Rattle.papaya_schedules.specs.declared.outcome.Outcome.TheVariants.{Refused}
+use Rattle.papaya_schedules.specs.declared.outcome.Outcome.TheVariants.{Refused, Waits}
 use Rattle.papaya_schedules.specs.After.{is_alone_on, moment, moments_from, slots_on}
 use Rattle.papaya_schedules.specs.Coming.{Progresses}
 use Rattle.papaya_schedules.specs.Effects.{with_effects}
 use Rattle.papaya_schedules.specs.Entry.{ByCall, Entry, IfCall}
+use Rattle.papaya_schedules.specs.Growing.{only_looks}
 use Rattle.papaya_schedules.specs.InTurn.{GoesOn}
 use Rattle.papaya_schedules.specs.Moment.{Remains, Sheltered, UnderWay as CallThere, Moment}
 use Rattle.papaya_schedules.specs.Steps.{stands_or, weight}
@@ -91,6 +92,9 @@ module _ {K V S : Type 0} (same : K → K → Bool) (hash : K → ℕ) (terms : 
   d_comes : ComesAs d.call outcome
   d_comes = subst (λ (x : Call K V). ComesAs x outcome) (sym d_on.call) comes.comes
 
+  d_works : outcome ≡ Waits → only_looks d.call ≡ false
+  d_works waits = subst (λ (x : Call K V). only_looks x ≡ false) (sym d_on.call) (comes.works waits)
+
   d_short : outcome ≡ Refused Memory → d.is_short ≡ true
   d_short refused = comes.memory refused d (calls_after own c.map own comes.did m c comes.call_is).1
 
@@ -103,7 +107,7 @@ module _ {K V S : Type 0} (same : K → K → Bool) (hash : K → ℕ) (terms : 
 
     pub goes_right : ByCall (λ x. Progresses terms x.stands x (moments_from x.begun log) w outcome) (call_of own w)
     goes_right = subst (λ (o : Option (CallThere K V)). ByCall (λ x. Progresses terms x.stands x (moments_from x.begun log) w outcome) o) (sym d_is)
-        (progresses terms d (moments_from d.begun log) w d.stands (ap far_of d_on.stands ∙ call_goes) outcome (may_come terms d (moments_from d.begun log) w outcome d_comes d_short case_of))
+        (progresses terms d (moments_from d.begun log) w d.stands (ap far_of d_on.stands ∙ call_goes) outcome (may_come terms d (moments_from d.begun log) w outcome d_comes d_works d_short case_of))
 
     pub stands_then : (events : ℕ) (is_mapped is_closed is_alone : Bool) (slots : ℕ) (remains : List Remains) → is_mapped ≡ m.is_mapped → is_closed ≡ m.is_closed
         → StandsFor same hash terms (elsewhere events is_mapped is_closed is_alone w.there slots w.sheltered remains (come_to own outcome steps w)) new

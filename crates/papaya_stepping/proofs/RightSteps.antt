@@ -1,5 +1,6 @@
 -- An event of steps of a call comes to what is right, where it does so in its case, and makes as many steps as it may.
-use Rattle.std.specs.Prelude.{◌≡◌, ◌⊎◌, ℕ, Bool, true, false, List}
+use Rattle.std.specs.Prelude.{◌≡◌, ◌⊎◌, ◌&&◌, ℕ, Bool, true, false, not, List}
+use Rattle.std.specs.List.{list_any}
 use Rattle.std.proofs.Common.{refl, sym, ap, subst, ◌∙◌, arith, inl, inr}
 use Rattle.seize_words.specs.declared.fault.Fault.{Fault}
 use Rattle.seize_words.specs.declared.fault.Fault.TheVariants.{Busy, Capacity, Memory, RemoveNothing}
@@ -11,6 +12,7 @@ use Rattle.papaya_schedules.specs.declared.outcome.Outcome.{Outcome}
 use Rattle.papaya_schedules.specs.declared.outcome.Outcome.TheVariants.{Answered, Asks, Goes, Ready, Refused, Waits}
 use Rattle.papaya_schedules.specs.Coming.{MayCome, Progresses, is_compute}
 use Rattle.papaya_schedules.specs.Growing.{only_looks}
+use Rattle.papaya_schedules.specs.InUse.{may_wait_for}
 use Rattle.papaya_schedules.specs.Moment.{Stands, Going, Asking, Told, IsReady, UnderWay as CallThere, Moment}
 use Rattle.papaya_schedules.specs.Steps.{MakesSteps}
 use Rattle.papaya_schedules.specs.Terms.{Terms}
@@ -54,17 +56,17 @@ module _ {K V : Type 0} where
   not_busy call o comes is = let it = (other_fault call Busy (subst (λ (x : Outcome V). ComesAs call x) is comes) (λ e. cc e) (λ e. cc e)).0 in cc it
 
   module _ (terms : Terms) (c : CallThere K V) (moments : List (Moment K V)) (now : Moment K V) where
-    pub may_come : (o : Outcome V) → ComesAs c.call o → (o ≡ Refused Memory → c.is_short ≡ true) → IsInCase terms c moments now o → MayCome terms c moments now o
-    may_come Goes comes short within = tt
-    may_come (Asks question) comes short within = comes
-    may_come Waits comes short within = within
-    may_come Ready comes short within = comes
-    may_come (Answered a) comes short within = comes
-    may_come (Refused Memory) comes short within = short refl
-    may_come (Refused Capacity) comes short within = (works_so c.call Capacity comes, within)
-    may_come (Refused RemoveNothing) comes short within = (other_fault c.call RemoveNothing comes (λ e. cc e) (λ e. cc e)).1
-    may_come (Refused fault) comes short within = absurd (let it = (other_fault c.call fault comes (λ e. cc e) (λ e. cc e)).0 in cc it)
-    may_come _ comes short within = absurd comes
+    pub may_come : (o : Outcome V) → ComesAs c.call o → (o ≡ Waits → only_looks c.call ≡ false) → (o ≡ Refused Memory → c.is_short ≡ true) → IsInCase terms c moments now o → MayCome terms c moments now o
+    may_come Goes comes works short within = tt
+    may_come (Asks question) comes works short within = comes
+    may_come Waits comes works short within = ap (λ (b : Bool). not b && list_any (may_wait_for c now) now.calls) (works refl) ∙ within
+    may_come Ready comes works short within = comes
+    may_come (Answered a) comes works short within = comes
+    may_come (Refused Memory) comes works short within = short refl
+    may_come (Refused Capacity) comes works short within = (works_so c.call Capacity comes, within)
+    may_come (Refused RemoveNothing) comes works short within = (other_fault c.call RemoveNothing comes (λ e. cc e) (λ e. cc e)).1
+    may_come (Refused fault) comes works short within = absurd (let it = (other_fault c.call fault comes (λ e. cc e) (λ e. cc e)).0 in cc it)
+    may_come _ comes works short within = absurd comes
 
     -- so it progresses, as far as it was
     pub progresses : (stand : Stands) → far_of stand ≡ far.Goes → (o : Outcome V) → MayCome terms c moments now o → Progresses terms stand c moments now o

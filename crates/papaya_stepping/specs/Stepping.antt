@@ -1,6 +1,6 @@
 -- What a call comes to by its steps, how far it is then, and what is promised of that.
 use Rattle.std.specs.Prelude.{◌≡◌, ◌≤◌, ◌+◌, ◌⊎◌, ◌&&◌, ℕ, zero, suc, Bool, true, false, is_none, is_some, List, [], ◌∷◌, ◌++◌, position, slice_get, slice_set, sum_by, Option, Some, option_map, if◌then◌else◌}
-use Rattle.std.specs.List.{remove}
+use Rattle.std.specs.List.{list_any, remove}
 use Rattle.seize_words.specs.declared.fault.Fault.{Fault}
 use Rattle.seize_words.specs.declared.fault.Fault.TheVariants.{Busy, Capacity, Memory, RemoveNothing}
 use Rattle.papaya_tables.specs.declared.node.Node.{Node}
@@ -24,7 +24,8 @@ use Rattle.papaya_schedules.specs.Beginning.{at_work}
 use Rattle.papaya_schedules.specs.Coming.{CountsTooMany, is_answer, is_at_limit, is_compute, is_walk, may_ask}
 use Rattle.papaya_schedules.specs.Effects.{with_effects, worked}
 use Rattle.papaya_schedules.specs.Entry.{Entry, IfCall, acting, caller_of, nameless}
-use Rattle.papaya_schedules.specs.InUse.{is_living, may_wait}
+use Rattle.papaya_schedules.specs.InUse.{is_living, may_wait_for}
+use Rattle.papaya_schedules.specs.Growing.{only_looks}
 use Rattle.papaya_schedules.specs.Lists.{OneOf}
 use Rattle.papaya_schedules.specs.Moment.{UnderWay as CallThere, Moment}
 use Rattle.papaya_schedules.specs.Sequential.{is_lookup}
@@ -95,10 +96,10 @@ module _ {K V : Type 0} where
   ComesAs call (Refused fault) = IsRoom fault
   ComesAs call _ = ⊥
 
-  -- That says: a call waits only where it may, and is refused for the length of a table only where it finds none: it needs more places than a table can have, or a table
+  -- That says: a call waits only for one that it may wait for, and is refused for the length of a table only where it finds none: it needs more places than a table can have, or a table
   -- after the longest or the last one.
   abbrev pub IsInCase : Terms → CallThere K V → List (Moment K V) → Moment K V → Outcome V → Type 0
-  IsInCase terms c moments now Waits = may_wait c now ≡ true
+  IsInCase terms c moments now Waits = list_any (may_wait_for c now) now.calls ≡ true
   IsInCase terms c moments now (Refused Capacity) = CountsTooMany terms c.call c (now ∷ moments) ⊎ OneOf (λ m. is_at_limit c.map m ≡ true) (now ∷ moments)
   IsInCase terms c moments now _ = Unit {0}
 
@@ -141,7 +142,8 @@ module _ {K V S : Type 0} (same : K → K → Bool) (hash : K → ℕ) (terms : 
     pub follows : after ≡ before ++ did
     pub few : sum_by weight did ≤ steps
     pub comes : ComesAs call.call outcome
-    -- one that is refused for want of memory has asked for a growth, and nothing was made since
+    -- one that waits does more than look; one that is refused for want of memory has asked for a growth, and nothing was made since
+    pub works : outcome ≡ Waits → only_looks call.call ≡ false
     pub memory : outcome ≡ Refused Memory → (d : CallThere K V) → call_of own (with_effects (Some own) (Some call.map) did m) ≡ Some d → d.is_short ≡ true
     pub goes : goes_on outcome ≡ true → StandsFor same hash terms (with_effects (Some own) (Some call.map) did m) new × GoesAt own place new
     pub stands : (outcome ≡ Refused Busy → ⊥) → (counted : ℕ) → StandsFor same hash terms (come_to own outcome counted (with_effects (Some own) (Some call.map) did m)) new
