@@ -2,5 +2,6 @@
 pub mod Begin
 pub mod Calls
 pub mod Slots
+pub mod SlotsEnd
 pub mod Maps
 pub mod Legal

@@ -46,6 +46,7 @@ use Rattle.papaya_promises.proofs.Protected.{events_begin_protected, rows_begin_
 use Rattle.papaya_promises.proofs.Weights.{grants_add_up, operations_are_single}
 use Rattle.papaya_models.specs.Follows.{FollowsSets}
 use Rattle.papaya_models.specs.OnSlots.{FollowsInRow}
+use Rattle.papaya_models.proofs.MapEvents.{moments_note_once}
 use Rattle.papaya_models.proofs.OnSlots.{slot_events_begin, slot_events_go_on}
 use Rattle.papaya_legal.specs.SlotEvents.{SlotEventsBegin, SlotEventsGoOn}
 
@@ -87,6 +88,7 @@ slot_events_begin_so K V S same hash name terms log known s old new at size run 
     let led = scene_then same hash (Begin i request) s old new to in
     record {
       of_slots = on;
+      once = moments_note_once K V same name m known s run.calls.whole;
       calls = record {
         whole = rows_begin_whole K V S same hash name m known s old new at run.calls.whole called i may leads;
         kept = rows_begin_kept K V S same hash name m known s old new at run.calls.kept called i may leads;
@@ -114,6 +116,7 @@ slot_events_begin_so K V S same hash name terms log known s old new at size run 
 pub slot_events_go_on_so : (K V S : Type 0) (same : K → K → Bool) (hash : K → ℕ) → SlotEventsGoOn K V S same hash
 slot_events_go_on_so K V S same hash name terms log event i called first done m known s midst old new at size said leads row here may finds = record {
   of_slots = midst.of_slots;
+  once = midst.once;
   calls = record {
     whole = rows_keep_whole K V S same hash name m known s old new at whole i said leads row here found.0 found.1;
     kept = rows_keep_kept K V S same hash name m known s old new at whole midst.calls.kept i said leads row here;

@@ -1,11 +1,14 @@
 -- Events of registrations and guards, and those that reclaim everything: in the midst of one, and at its end.
-use Rattle.std.specs.Prelude.{◌≡◌, ℕ, Bool, true, false, List, [], ◌∷◌, ◌++◌, Some, None}
+use Rattle.std.specs.Prelude.{◌≡◌, ◌<◌, ◌^◌, ℕ, Bool, true, false, List, [], ◌∷◌, ◌++◌, Some, None}
 use Rattle.std.specs.List.{list_all}
 use Rattle.seize.specs.World.{Rests, Begin, Step}
+use Rattle.seize_words.specs.declared.fault.Fault.TheVariants.{Busy}
 use Rattle.papaya_tables.specs.declared.node.Node.{Node}
 use Rattle.papaya_schedules.specs.declared.effect.Effect.{Effect}
 use Rattle.papaya_schedules.specs.declared.event.Event.{Event}
-use Rattle.papaya_schedules.specs.After.{moment}
+use Rattle.papaya_schedules.specs.declared.outcome.Outcome.TheVariants.{Refused}
+use Rattle.papaya_schedules.specs.After.{after, moment}
+use Rattle.papaya_schedules.specs.Beginning.{at_work}
 use Rattle.papaya_schedules.specs.Effects.{with_effects, AtEachEffect}
 use Rattle.papaya_schedules.specs.Entry.{Entry}
 use Rattle.papaya_schedules.specs.Handing.{gives_all, is_granted, may_do}
@@ -30,7 +33,10 @@ use Rattle.papaya_promises.specs.Protected.{EndsInside, InMidst, is_of_slots}
 use Rattle.papaya_promises.specs.Others.{SparesGuards}
 use Rattle.papaya_promises.specs.Protected.{there_in}
 use Rattle.papaya_promises.specs.Reading.{ShowsReading}
-use Rattle.papaya_models.specs.OnSlots.{FollowsInRow}
+use Rattle.papaya_promises.specs.Sheltered.{SectionsHold}
+use Rattle.papaya_models.specs.Follows.{FollowsModel}
+use Rattle.papaya_models.specs.Numbers.{EachIsOnce}
+use Rattle.papaya_models.specs.OnSlots.{FollowsInRow, IsRowFor}
 use Rattle.papaya_legal.specs.CallEvents.{IsLegalBut}
 use Rattle.papaya_legal.specs.Carried.{ShowsCalls, ShowsRun}
 
@@ -38,6 +44,7 @@ module _ {K V : Type 0} (same : K → K → Bool) (name : ℕ → List ℕ) (ter
   -- In the midst of an event whose work is a row of caller i on its slot, which has done this.
   pub record InSlotEvent (done : List Effect) (m : Moment K V) (known : Known) (s : Scene K V) : Type 0 where
     pub of_slots : is_of_slots event ≡ true
+    pub once : EachIsOnce first
     pub calls : ShowsCalls same name log m known s
     pub reading : ShowsReading name log (λ j. 0) m s
     pub worked : m ≡ with_effects None None done (moment log)
@@ -68,9 +75,21 @@ module _ (K V S : Type 0) (same : K → K → Bool) (hash : K → ℕ) where
       → InSlotEvent same name terms log event i called first (done ++ effects) (with_effects None None effects m) (known_after acts.Row new.memory.changed known)
       (scene_then same hash (Step i) s old new (leads row here).4))
 
-  -- and the event keeps its promises once the row has ended, where it comes to what is right.
+  -- and once the row has ended the event keeps its promises, if it is that row to the waiting sets, and has done nothing where it is kept out; the sections of guards hold what they shelter,
+  -- and the sets are those of the model.
+  abbrev pub SlotEventsAreLegal : Type 0
+  SlotEventsAreLegal =
+      (name : ℕ → List ℕ) (terms : Terms) (log : List (Entry K V)) (i : ℕ) (called : SlotCall) (first : Known) (m : Moment K V) (known : Known) (s : Scene K V) (e : Entry K V)
+      → (midst : InSlotEvent same name terms log e.event i called first e.effects m known s) → terms.batch_size < 2 ^ 64 → s.world.row i ≡ Rests
+      → EndsInside s.world e.event e.outcome (moment log).there → (e.outcome ≡ Refused Busy → e.effects ≡ [])
+      → ((alone : (moment log).is_alone ≡ true) → IsRowFor (request_of (slot_of i) called) (midst.follows alone).began.uses s.world.uses e.event e.outcome (at_work e (moment log)))
+      → IsLegalBut same terms log e × SectionsHold (after e (moment log)) known s.world
+      × ((moment (e ∷ log)).is_alone ≡ true → FollowsModel terms.batch_size terms.roots (e ∷ log) known s.world)
+
+  -- The moment after it shows all by which the next event keeps its promises.
   abbrev pub SlotEventsEnd : Type 0
   SlotEventsEnd =
       (name : ℕ → List ℕ) (terms : Terms) (log : List (Entry K V)) (i : ℕ) (called : SlotCall) (first : Known) (m : Moment K V) (known : Known) (s : Scene K V) (e : Entry K V)
-      → InSlotEvent same name terms log e.event i called first e.effects m known s → (x : Executor K V S) → IsAt same hash x s → s.world.row i ≡ Rests
-      → EndsInside s.world e.event e.outcome (moment log).there → ComesRight terms log e → IsLegalBut same terms log e × ShowsRun same name terms (e ∷ log) known s
+      → InSlotEvent same name terms log e.event i called first e.effects m known s → (x : Executor K V S) → IsAt same hash x s → ShowsRun same name terms log first s → ComesRight terms log e
+      → IsLegalBut same terms log e → SectionsHold (after e (moment log)) known s.world → ((moment (e ∷ log)).is_alone ≡ true → FollowsModel terms.batch_size terms.roots (e ∷ log) known s.world)
+      → ShowsRun same name terms (e ∷ log) known s
