@@ -36,7 +36,7 @@ module _ (K V S : Type 0) (same : K → K → Bool) (hash : K → ℕ) where
 
   pub calls_keep_kept : CallsKeepKept K V S same hash
   calls_keep_kept name m known s old new at whole kept map i u here said leads =
-      let made = own_made name m known s old at whole kept in
+      let owned = own_made name m known s old at whole kept in
       record {
         entries = calls_keep_entries K V S same hash name m known s old new at whole.all.shown whole.all.rows kept.entries map i u here said leads;
         made = (calls_keep_made K V S same hash name m known s old new at whole kept.made map i u here said leads).1;
@@ -45,11 +45,11 @@ module _ (K V S : Type 0) (same : K → K → Bool) (hash : K → ℕ) where
         short = (calls_keep_short K V S same hash name m known s old new at whole kept.short map i u here said leads).1;
         grown = (calls_keep_grown K V S same hash name m known s old new at whole kept.short kept.grown map i u here said leads).0;
         counts = (calls_keep_counts K V S same hash name m known s old new at whole kept.counts map i u here said leads).1;
-        owed = (calls_keep_owed K V S same hash name m known s old new at whole kept.entries made kept.owed map i u here said leads).1;
+        owed = (calls_keep_owed K V S same hash name m known s old new at whole kept.entries owned kept.owed map i u here said leads).1;
         handing = calls_keep_handing K V S same hash name m known s old new at whole kept.owed kept.handing map i u here said leads;
-        waiting = (waits made).0;
-        once = (waits made).1;
-        retired = calls_keep_retired K V S same hash name m known s old new at whole kept.entries made kept.retired map i u here said leads;
+        waiting = (waits owned).0;
+        once = (waits owned).1;
+        retired = calls_keep_retired K V S same hash name m known s old new at whole kept.entries owned kept.retired map i u here said leads;
       }
     where
       v : Moment K V
@@ -59,7 +59,7 @@ module _ (K V S : Type 0) (same : K → K → Bool) (hash : K → ℕ) where
       Waits = ShowsWaiting v (known_after (Call i map) new.memory.changed known) (leads map u here).4.w2 × WaitsOnce v.deferred
 
       waits : OwnAreMade known s.world → Waits
-      waits made =
+      waits owned =
           elim (own_or_row same hash name m known s old new at whole.all.shown map i u here said leads u (went_to same hash name m known s old new at whole.all.shown map i u here said leads).4.did)
           as (λ _. Waits) [
             | inl own ↦ (
@@ -67,6 +67,6 @@ module _ (K V S : Type 0) (same : K → K → Bool) (hash : K → ℕ) where
               subst WaitsOnce (sym (calls_keep_list same hash name m known s old new at whole map i u here said leads own)) kept.once,
             )
             | inr other ↦
-                let on = row_waits_on same hash name m known s old new at whole kept.entries made kept.waiting map i u here said leads other in
+                let on = row_waits_on same hash name m known s old new at whole kept.entries owned kept.waiting map i u here said leads other in
                 (on.0, on.1 kept.once)
           ]
