@@ -21,6 +21,7 @@ pub runs_begin : (K V : Type 0) → RunsBegin K V
 runs_begin K V same terms name = record {
   calls = record {
     whole = whole_begins K V same terms.roots name;
+    numbers = (numbers_begin K V, pairs_begin K V);
     kept = begins_kept K V terms.roots name;
     made = made_begins K V terms.roots name;
     counts = counts_begin K V terms.roots name;
@@ -35,6 +36,5 @@ runs_begin K V same terms name = record {
   sections = (λ own g is. no_guard g is, tt);
   follows = λ alone. follows_at_first K V terms.batch_size terms.roots;
   order = (all_in_order_at_first K V, tt);
-  numbers = (numbers_begin K V, pairs_begin K V);
   over = λ closed. absurd (cc closed);
 }

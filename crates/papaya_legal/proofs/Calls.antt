@@ -1,5 +1,5 @@
 -- An event of a call, from its beginning on.
-use Rattle.std.specs.Prelude.{◌≡◌, ℕ, ◌+◌, ◌≤◌, ◌==◌, Bool, true, false, List, [], ◌++◌, Some, if◌then◌else◌}
+use Rattle.std.specs.Prelude.{◌≡◌, ◌<◌, ℕ, ◌+◌, ◌≤◌, ◌==◌, Bool, true, false, List, [], ◌++◌, Some, if◌then◌else◌}
 use Rattle.std.proofs.Common.{refl, ap, sym, subst, ◌∙◌, arith}
 use Rattle.seize.specs.World.{World}
 use Rattle.papaya_tables.specs.declared.node.Node.{Node}
@@ -19,6 +19,8 @@ use Rattle.papaya_effects.specs.Known.{Known}
 use Rattle.papaya_effects.specs.declared.acting.Acting.TheVariants as acts
 use Rattle.papaya_moments.specs.Whole.{ShowsWhole}
 use Rattle.papaya_moments.proofs.After.{effects_after}
+use Rattle.papaya_moments.proofs.NewMaps.{effects_keep_pairs}
+use Rattle.papaya_moments.proofs.Numbers.{numbers_are_below, steps_keep_numbers}
 use Rattle.papaya_kept.proofs.Calls.{calls_keep_kept}
 use Rattle.papaya_owes.proofs.Calls.{calls_keep_made}
 use Rattle.papaya_owes.proofs.Looking.Calls.{calls_keep_looking}
@@ -95,6 +97,10 @@ call_events_go_on_so K V S same hash name terms log event beginning map i c step
   event_so = events_go_on K V S same hash name log beginning map i c done m known s u midst.event_so old new at said leads next next_is;
   calls = record {
     whole = all.0;
+    numbers = (
+      steps_keep_numbers K V m midst.calls.numbers.0 (Some (name i)) (Some map) (acts.Call i map) known new.memory.changed below,
+      effects_keep_pairs K V m midst.calls.numbers.1 (Some (name i)) (Some map) effects (λ n is. let one : map ≡ n = cc is in subst (λ (k : ℕ). k < m.made) one below),
+    );
     kept = calls_keep_kept K V S same hash name m known s old new at whole midst.calls.kept map i u here said leads;
     made = (calls_keep_made K V S same hash name m known s old new at whole midst.calls.made map i u here said leads).1;
     counts = (calls_keep_counts K V S same hash name m known s old new at whole midst.calls.counts map i u here said leads).1;
@@ -140,6 +146,11 @@ call_events_go_on_so K V S same hash name terms log event beginning map i c step
 
     abbrev s2 : Scene K V
     s2 = scene_after same hash s old new map i (leads map u here).0 u (leads map u here).1 said (leads map u here).4
+
+    -- the map of the call was made
+    below : map < m.made
+    below =
+        let there = (whole.all.shown.maps map (leads map u here).0 (leads map u here).2).there in numbers_are_below K V m midst.calls.numbers.0 map there.there there.is
 
     all : ShowsWhole same name v then_known s2 × ShowsDue same name log v then_known s2 × ShowsAsCalled same name v then_known s2
     all = events_keep_all K V S same hash name log beginning map i c done m known s u midst.event_so old new at said leads

@@ -4,4 +4,5 @@ pub mod Calls
 pub mod Slots
 pub mod SlotsEnd
 pub mod Maps
+pub mod SlotsAfter
 pub mod Legal

@@ -1,5 +1,5 @@
 -- Events that make a map, or end one, from step to step.
-use Rattle.std.specs.Prelude.{◌≡◌, ℕ, Bool, ◌&&◌, List, ◌++◌, Option, Some, None}
+use Rattle.std.specs.Prelude.{◌≡◌, ◌<◌, ℕ, Bool, ◌&&◌, List, ◌++◌, Option, Some, None}
 use Rattle.std.specs.List.{list_all}
 use Rattle.std.proofs.Common.{refl, ap, sym, subst, ◌∙◌, inl, inr}
 use Rattle.std.proofs.lemmas.Bool.{cases_eq}
@@ -18,10 +18,12 @@ use Rattle.papaya_schedules.specs.Handing.{may_do}
 use Rattle.papaya_schedules.specs.Lives.{Finds}
 use Rattle.papaya_schedules.specs.Model.{sets_in, things_in}
 use Rattle.papaya_schedules.specs.Moment.{Moment}
+use Rattle.papaya_teller.specs.declared.changed.Changed.{Changed}
 use Rattle.papaya_callers.specs.Together.{UnderWay}
 use Rattle.papaya_callers.proofs.Together.At.{at_other}
-use Rattle.papaya_effects.specs.Effects.{effects_of, known_after}
+use Rattle.papaya_effects.specs.Effects.{effects_of, known_after, map_of}
 use Rattle.papaya_effects.specs.Known.{Known}
+use Rattle.papaya_effects.specs.declared.acting.Acting.{Acting}
 use Rattle.papaya_effects.specs.declared.acting.Acting.TheVariants as acts
 use Rattle.papaya_executor.specs.Ending.{EndingLeads}
 use Rattle.papaya_executor.specs.IsAt.{Scene, IsAt}
@@ -38,7 +40,10 @@ use Rattle.papaya_owes.proofs.Looking.Between.{stays_looking}
 use Rattle.papaya_owes.proofs.MakingsOfMaps.{makings_keep_made}
 use Rattle.papaya_settles.proofs.Between.{stays_counts}
 use Rattle.papaya_moments.specs.Whole.{ShowsWhole}
+use Rattle.papaya_moments.specs.Numbers.{NumbersMaps, PairsAreBelow}
 use Rattle.papaya_moments.proofs.After.{effects_after}
+use Rattle.papaya_moments.proofs.NewMaps.{effects_keep_pairs}
+use Rattle.papaya_moments.proofs.Numbers.{steps_keep_numbers}
 use Rattle.papaya_moments.proofs.Ends.{endings_keep_whole}
 use Rattle.papaya_moments.proofs.MakingSteps.{makings_keep_whole}
 use Rattle.papaya_kept.proofs.Others.{endings_find_kept, endings_keep_kept, makings_keep_kept}
@@ -61,8 +66,16 @@ use Rattle.papaya_legal.specs.MapEvents.{EndEventsGoOn, MakingEventsGoOn}
 use Rattle.papaya_legal.proofs.Slots.{each_join}
 
 -- a map that stands as it does
-stands_so : {K : Type 0} (maps : ℕ → Option (Standing K)) (n : ℕ) (st : Standing K) → maps n ≡ Some st → HasStood maps n st
+pub stands_so : {K : Type 0} (maps : ℕ → Option (Standing K)) (n : ℕ) (st : Standing K) → maps n ≡ Some st → HasStood maps n st
 stands_so maps n st is = (st, is, refl, same_tables st.chart)
+
+-- numbers of maps by what works on one that was made
+module _ {K V : Type 0} (m : Moment K V) (numbers : NumbersMaps m × PairsAreBelow m) (map : ℕ) (below : map < m.made) (acting : Acting) (on_map : map_of acting ≡ map) (known : Known) (told : Changed) where
+  pub numbers_then : (let v = with_effects None (Some map) (effects_of acting known told) m in NumbersMaps v × PairsAreBelow v)
+  numbers_then = (
+    steps_keep_numbers K V m numbers.0 None (Some map) acting known told (subst (λ (k : ℕ). k < m.made) (sym on_map) below),
+    effects_keep_pairs K V m numbers.1 None (Some map) (effects_of acting known told) (λ n is. let one : map ≡ n = cc is in subst (λ (k : ℕ). k < m.made) one below),
+  )
 
 -- A step of a making.
 
@@ -103,11 +116,12 @@ module _ {K V S : Type 0} (same : K → K → Bool) (hash : K → ℕ) (s : Scen
   made_stood (progress.Refused fault) leads n j x is st there = stands_so s.maps n st there
 
 pub making_events_go_on_so : (K V S : Type 0) (same : K → K → Bool) (hash : K → ℕ) → MakingEventsGoOn K V S same hash
-making_events_go_on_so K V S same hash name terms log event beginning done m known s i b here midst old new at size said leads was_new may finds = (
+making_events_go_on_so K V S same hash name terms log event beginning done m known s i b here midst old new at size below said leads was_new may finds = (
   record {
     of_maps = midst.0.of_maps;
     calls = record {
       whole = then_whole;
+      numbers = numbers_then m midst.0.calls.numbers b.map below (acts.Making b.map) refl known new.memory.changed;
       kept = makings_keep_kept K V S same hash name m known s old new at whole midst.0.calls.kept i said leads b here (Some b.map) was_new
           (made_at same hash s old new at i b here said leads) then_whole.all.shown;
       made = (makings_keep_made K V S same hash name m known s old new at whole.all.shown midst.0.calls.made i said leads b here (Some b.map)).1;
@@ -186,12 +200,13 @@ module _ {K V S : Type 0} (same : K → K → Bool) (hash : K → ℕ) (s : Scen
   ended_stood settled.Done leads n j x is st there = stands_so s.maps n st there
 
 pub end_events_go_on_so : (K V S : Type 0) (same : K → K → Bool) (hash : K → ℕ) → EndEventsGoOn K V S same hash
-end_events_go_on_so K V S same hash name terms log event map beginning first done m known s i f here not_there midst old new at size said leads its may finds = (
+end_events_go_on_so K V S same hash name terms log event map beginning first done m known s i f here not_there midst old new at size below said leads its may finds = (
   record {
     of_maps = midst.0.of_maps;
     calls = record {
       whole = endings_keep_whole K V S same hash name m known s old new at whole i said leads f here map not_there its
           (endings_find_kept K V S same hash name m known s old new at whole midst.0.calls.kept i said leads f here map not_there);
+      numbers = numbers_then m midst.0.calls.numbers map below (acts.Ending map) refl known new.memory.changed;
       kept = endings_keep_kept K V S same hash name m known s old new at whole midst.0.calls.kept i said leads f here map not_there (ended_at same hash s old new i f here said leads);
       made = (endings_keep_made K V S same hash name m known s old new at whole.all.shown midst.0.calls.made i said leads f here map not_there).1;
       counts = stays_counts K V name m v s (ended same hash s old new i f here said leads) midst.0.calls.counts (calls_none (Some map) effects m) (ended_same same hash s old new i f here said leads);

@@ -32,6 +32,8 @@ use Rattle.papaya_settles.proofs.Between.{stays_counts}
 use Rattle.papaya_moments.specs.OnSlots.{HadRetired}
 use Rattle.papaya_moments.specs.Whole.{ShowsWhole}
 use Rattle.papaya_moments.proofs.After.{effects_after}
+use Rattle.papaya_moments.proofs.NewMaps.{effects_keep_pairs}
+use Rattle.papaya_moments.proofs.Numbers.{rows_keep_numbers}
 use Rattle.papaya_moments.proofs.OnSlots.{rows_begin_whole, rows_keep_whole}
 use Rattle.papaya_spots.specs.OnSlots.{WaitUnreclaimed}
 use Rattle.papaya_kept.proofs.Others.{rows_begin_kept, rows_find_kept, rows_keep_kept}
@@ -91,6 +93,7 @@ slot_events_begin_so K V S same hash name terms log known s old new at size run 
       once = moments_note_once K V same name m known s run.calls.whole;
       calls = record {
         whole = rows_begin_whole K V S same hash name m known s old new at run.calls.whole called i may leads;
+        numbers = run.calls.numbers;
         kept = rows_begin_kept K V S same hash name m known s old new at run.calls.kept called i may leads;
         made = stays_made K V name m m known s led run.calls.made refl refl;
         counts = stays_counts K V name m m s led run.calls.counts refl refl;
@@ -119,6 +122,7 @@ slot_events_go_on_so K V S same hash name terms log event i called first done m 
   once = midst.once;
   calls = record {
     whole = rows_keep_whole K V S same hash name m known s old new at whole i said leads row here found.0 found.1;
+    numbers = (rows_keep_numbers K V S same hash m midst.calls.numbers.0 known s old new i said leads row here, effects_keep_pairs K V m midst.calls.numbers.1 None None effects (λ n is. absurd (cc is)));
     kept = rows_keep_kept K V S same hash name m known s old new at whole midst.calls.kept i said leads row here;
     made = (rows_keep_made K V S same hash name m known s old new at whole.all.shown midst.calls.made i said leads row here).1;
     counts = stays_counts K V name m v s led midst.calls.counts (calls_none None effects m) refl;

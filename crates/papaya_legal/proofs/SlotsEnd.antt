@@ -1,5 +1,5 @@
 -- An event of a slot keeps its promises once its row has ended.
-use Rattle.std.specs.Prelude.{◌≡◌, ℕ, ◌+◌, Bool, true, false, MatchBool, ◌&&◌, ◌||◌, not, List, [], ◌∷◌, ◌++◌, map, flat_map, Option, None}
+use Rattle.std.specs.Prelude.{◌≡◌, ℕ, ◌+◌, Bool, true, false, MatchBool, ◌||◌, not, List, [], ◌∷◌, ◌++◌, map, flat_map, Option, None}
 use Rattle.std.specs.List.{list_all, list_any}
 use Rattle.std.proofs.Common.{refl, ap, sym, subst, ◌∙◌}
 use Rattle.seize_words.specs.declared.fault.Fault.TheVariants.{Busy}
@@ -37,7 +37,7 @@ use Rattle.papaya_legal.specs.SlotEvents.{SlotEventsAreLegal}
 
 -- An event on slots acts for no call, and its effects bring no pair and take none out.
 
-no_caller : {K V : Type 0} (event : Event K V) → is_of_slots event ≡ true → caller_of event ≡ None
+pub no_caller : {K V : Type 0} (event : Event K V) → is_of_slots event ≡ true → caller_of event ≡ None
 no_caller (Register registration) on = refl
 no_caller (Unregister registration) on = refl
 no_caller (Enter guard registration) on = refl

@@ -23,10 +23,11 @@ use Rattle.papaya_owes.specs.Looking.{ShowsLooking}
 use Rattle.papaya_owes.specs.Made.{ShowsMade}
 use Rattle.papaya_settles.specs.Counts.{ShowsCounts}
 
--- What a moment shows beside who is there, wherever in an event it is, so far since the log: what every step keeps; which blocks calls have made for pairs, which have pairs to count,
+-- What a moment shows beside who is there, wherever in an event it is, so far since the log: numbers of maps; what every step keeps; which blocks calls have made for pairs, which have pairs to count,
 -- and which only look; the shards of maps; what calls owe as answers, are called for, and are for.
 pub record ShowsCalls {K V : Type 0} (same : K → K → Bool) (name : ℕ → List ℕ) (log : List (Entry K V)) (m : Moment K V) (known : Known) (s : Scene K V) : Type 0 where
   pub whole : ShowsWhole same name m known s
+  pub numbers : NumbersMaps m × PairsAreBelow m
   pub kept : ShowsKept name m known s
   pub made : ShowsMade name m known s
   pub counts : ShowsCounts name m s
@@ -38,14 +39,13 @@ pub record ShowsCalls {K V : Type 0} (same : K → K → Bool) (name : ℕ → L
   pub purposes : ShowsPurposes same name log m known s
 
 -- And once an event is over: no lookup has read more than the moment says; sections hold what they shelter; where calls came one after another so far, the waiting sets are those of the
--- model; all waits in order; maps have numbers; and once the collector has ended all is back.
+-- model; all waits in order; and once the collector has ended all is back.
 pub record ShowsRun {K V : Type 0} (same : K → K → Bool) (name : ℕ → List ℕ) (terms : Terms) (log : List (Entry K V)) (known : Known) (s : Scene K V) : Type 0 where
   pub calls : ShowsCalls same name log (moment log) known s
   pub reading : ShowsReading name log (λ i. 0) (moment log) s
   pub sections : SectionsHold (moment log) known s.world
   pub follows : (moment log).is_alone ≡ true → FollowsModel terms.batch_size terms.roots log known s.world
   pub order : AllIsInOrder (moment log) × ReadyOweNone (moment log)
-  pub numbers : NumbersMaps (moment log) × PairsAreBelow (moment log)
   pub over : OverIsBack (moment log)
 
 -- The promise: so it is before all events.

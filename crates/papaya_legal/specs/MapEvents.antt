@@ -1,5 +1,5 @@
 -- Events that make a map, or end one, and those that do nothing: in the midst of one, and at its end.
-use Rattle.std.specs.Prelude.{◌≡◌, ℕ, Bool, true, false, List, [], ◌++◌, Some, None}
+use Rattle.std.specs.Prelude.{◌≡◌, ◌<◌, ℕ, Bool, true, false, List, [], ◌++◌, Some, None}
 use Rattle.std.specs.List.{list_all}
 use Rattle.seize.specs.declared.progress.Progress.{Progress as Making}
 use Rattle.seize.specs.declared.rows.settle.Settled.{Settled}
@@ -63,7 +63,7 @@ module _ (K V S : Type 0) (same : K → K → Bool) (hash : K → ℕ) where
   MakingEventsGoOn =
       (name : ℕ → List ℕ) (terms : Terms) (log : List (Entry K V)) (event : Event K V) (beginning : Moment K V) (done : List Effect) (m : Moment K V) (known : Known) (s : Scene K V) (i : ℕ) (b : Beginning K)
       (here : s.makers i ≡ Some b) → InMakingEvent same name terms log event b.map beginning done m known s → (old new : Executor K V S) → IsAt same hash old s
-      → old.batch_size ≡ terms.batch_size → (said : Making Setting) (leads : MakingLeads same hash i said s old new) → WasNew b.map said m
+      → old.batch_size ≡ terms.batch_size → b.map < m.made → (said : Making Setting) (leads : MakingLeads same hash i said s old new) → WasNew b.map said m
       → (let to = leads b here in
       let effects = effects_of (acts.Making b.map) known new.memory.changed in
       list_all (may_do event (moment log)) effects ≡ true → AtEachEffect (Finds terms None (Some b.map) false []) None (Some b.map) effects m
@@ -75,7 +75,7 @@ module _ (K V S : Type 0) (same : K → K → Bool) (hash : K → ℕ) where
   EndEventsGoOn =
       (name : ℕ → List ℕ) (terms : Terms) (log : List (Entry K V)) (event : Event K V) (map : ℕ) (beginning : Moment K V) (first : Known) (done : List Effect) (m : Moment K V) (known : Known) (s : Scene K V) (i : ℕ)
       (f : Finishing K V) (here : s.enders i ≡ Some f) → s.maps map ≡ None → InEndEvent same name terms log event map beginning first i done m known s → (old new : Executor K V S) → IsAt same hash old s
-      → old.batch_size ≡ terms.batch_size → (said : Settled (Node K V)) (leads : EndingLeads same hash i said s old new)
+      → old.batch_size ≡ terms.batch_size → map < m.made → (said : Settled (Node K V)) (leads : EndingLeads same hash i said s old new)
       → (let to = leads f here in
       let effects = effects_of (acts.Ending map) known new.memory.changed in
       AtEachEffect (IsOfIts map) None (Some map) effects m → list_all (may_do event (moment log)) effects ≡ true

@@ -37,6 +37,7 @@ use Rattle.papaya_promises.specs.Sheltered.{SectionsHold}
 use Rattle.papaya_models.specs.Follows.{FollowsModel}
 use Rattle.papaya_models.specs.Numbers.{EachIsOnce}
 use Rattle.papaya_models.specs.OnSlots.{FollowsInRow, IsRowFor}
+use Rattle.papaya_finds.specs.Little.{ReclaimsAll}
 use Rattle.papaya_legal.specs.CallEvents.{IsLegalBut}
 use Rattle.papaya_legal.specs.Carried.{ShowsCalls, ShowsRun}
 
@@ -86,10 +87,10 @@ module _ (K V S : Type 0) (same : K → K → Bool) (hash : K → ℕ) where
       → IsLegalBut same terms log e × SectionsHold (after e (moment log)) known s.world
       × ((moment (e ∷ log)).is_alone ≡ true → FollowsModel terms.batch_size terms.roots (e ∷ log) known s.world)
 
-  -- The moment after it shows all by which the next event keeps its promises.
+  -- The moment after it shows all by which the next event keeps its promises, where all is back if it reclaims all.
   abbrev pub SlotEventsEnd : Type 0
   SlotEventsEnd =
-      (name : ℕ → List ℕ) (terms : Terms) (log : List (Entry K V)) (i : ℕ) (called : SlotCall) (first : Known) (m : Moment K V) (known : Known) (s : Scene K V) (e : Entry K V)
-      → InSlotEvent same name terms log e.event i called first e.effects m known s → (x : Executor K V S) → IsAt same hash x s → ShowsRun same name terms log first s → ComesRight terms log e
-      → IsLegalBut same terms log e → SectionsHold (after e (moment log)) known s.world → ((moment (e ∷ log)).is_alone ≡ true → FollowsModel terms.batch_size terms.roots (e ∷ log) known s.world)
-      → ShowsRun same name terms (e ∷ log) known s
+      (name : ℕ → List ℕ) (terms : Terms) (log : List (Entry K V)) (i : ℕ) (called : SlotCall) (first : Known) (m : Moment K V) (known : Known) (before s : Scene K V) (e : Entry K V)
+      → InSlotEvent same name terms log e.event i called first e.effects m known s → ShowsRun same name terms log first before → ComesRight terms log e → IsLegalBut same terms log e
+      → SectionsHold (after e (moment log)) known s.world → ((moment (e ∷ log)).is_alone ≡ true → FollowsModel terms.batch_size terms.roots (e ∷ log) known s.world)
+      → ReclaimsAll log e → ShowsRun same name terms (e ∷ log) known s

@@ -2,7 +2,7 @@
 ghost use Rattle.std.specs.Prelude.{ℕ, Bool};
 ghost use Rattle.papaya_legal.specs.Carried.{RunsBegin};
 ghost use Rattle.papaya_legal.specs.CallEvents.{CallEventsBegin, CallEventsGoOn};
-ghost use Rattle.papaya_legal.specs.SlotEvents.{SlotEventsBegin, SlotEventsGoOn, SlotEventsAreLegal};
+ghost use Rattle.papaya_legal.specs.SlotEvents.{SlotEventsBegin, SlotEventsGoOn, SlotEventsAreLegal, SlotEventsEnd};
 ghost use Rattle.papaya_legal.specs.MapEvents.{MakingEventsGoOn, EndEventsGoOn};
 ghost use Rattle.papaya_legal.specs.Promises.{EventsAreLegal};
 
@@ -20,11 +20,12 @@ pub fn call_events<K, V, S>()
 
 /// An event whose work is a row on a slot is in its midst where the row begins, and after each step of it, by which the moment shows all that it has shown; if the slot has none
 /// of the guards whose sections the row does not end, and if what the row does it may do, and finds what it must. Once the row has ended, and is to the waiting sets what the event is,
-/// the event keeps all these promises, and sections and sets are as they must be.
+/// the event keeps all these promises, sections and sets are as they must be, and the moment after it shows all that the next event needs.
 pub fn slot_events<K, V, S>()
     ensures begins { (same : K → K → Bool) (hash : K → ℕ) → SlotEventsBegin K V S same hash }
     ensures goes_on { (same : K → K → Bool) (hash : K → ℕ) → SlotEventsGoOn K V S same hash }
     ensures legal { (same : K → K → Bool) (hash : K → ℕ) → SlotEventsAreLegal K V S same hash }
+    ensures ends { (same : K → K → Bool) (hash : K → ℕ) → SlotEventsEnd K V S same hash }
 {}
 
 /// An event that makes a map, or ends one, is in its midst still after each step, if what that does it may do, and finds what it must.
