@@ -68,7 +68,7 @@ module _ {K V S : Type 0} (same : K → K → Bool) (hash : K → ℕ) (name : �
   abbrev s2 : Scene K V
   s2 = record s { world = leads.1.w2; maps = leads.1.maps2 }
 
-  reached : Reached deferred_word old.batch_size w
+  pub reached : Reached deferred_word old.batch_size w
   reached = came_reached old.batch_size w at.under_way.stand.together.makings.standing.came
 
   abbrev RunsBy : List (Event (Node K V)) → Type 0
@@ -85,7 +85,7 @@ module _ {K V S : Type 0} (same : K → K → Bool) (hash : K → ℕ) (name : �
       by (inr (inr (root, inl is))) = root_kept old.batch_size i (Root root) 0 w w2 (subst RunsBy is leads.1.runs)
       by (inr (inr (root, inr is))) = root_kept old.batch_size i (Used root) 0 w w2 (subst RunsBy is leads.1.runs)
 
-  left : LeavesBy w.memory w2.memory new.memory.changed
+  pub left : LeavesBy w.memory w2.memory new.memory.changed
   left =
       subst (λ (n : Mem (Node K V)). LeavesBy w.memory n new.memory.changed) (sym leads.1.memory)
       (subst (λ (n : Mem (Node K V)). LeavesBy n new.memory.memory new.memory.changed) (sym at.memory)
