@@ -103,7 +103,7 @@ module _ {K V S : Type 0} (same : K → K → Bool) (hash : K → ℕ) (name : �
   abbrev RunsBy : List (Event (Node K V)) → Type 0
   RunsBy events = Runs deferred_word old.batch_size events w w2
 
-  kept_then : Kept deferred_word old.batch_size w2
+  pub kept_then : Kept deferred_word old.batch_size w2
   kept_then =
       (let came : CameAbout old.batch_size w = at.under_way.stand.together.makings.standing.came in
       runs_kept deferred_word old.batch_size leads.1.events w w2
