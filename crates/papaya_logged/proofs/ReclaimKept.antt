@@ -1,21 +1,20 @@
 -- After a step by which all is reclaimed what waits behind tables waits there, behind one table alone, and the tables that the collector has are retired, where no table is
 -- left over; and none is left over then.
-use Rattle.std.specs.Prelude.{◌≡◌, ◌⊎◌, ℕ, Bool, true, List, [], Option, None, IsSome, if◌then◌else◌}
-use Rattle.std.proofs.Common.{ap, sym, subst, ◌∙◌, inl, inr}
+use Rattle.std.specs.Prelude.{◌≡◌, ◌⊎◌, ℕ, ◌+◌, Bool, true, List, [], None, if◌then◌else◌}
+use Rattle.std.proofs.Common.{sym, subst, ◌∙◌, inl, inr}
 use Rattle.seize_words.specs.declared.at.At.TheVariants.{Root, Used}
 use Rattle.seize_words.specs.Mem.{value_at}
 use Rattle.seize_words.specs.Word.{block_in}
 use Rattle.seize.specs.declared.rows.reclaim_all.ReclaimAll.{ReclaimAll}
 use Rattle.seize.specs.declared.rows.settle.Settled.{Settled}
 use Rattle.seize.specs.declared.states.TheConstants.{LAST_SLOT}
-use Rattle.seize.specs.World.{World, Hand, Handed}
+use Rattle.seize.specs.World.{World, Hand}
 use Rattle.seize_rule.proofs.Points.Aside.{HandFits}
 use Rattle.seize_rule.proofs.Words.Shows.{lives}
 use Rattle.seize_rule.proofs.Words.There.{value_there}
 use Rattle.papaya_tables.specs.Nodes.{deferred_word}
 use Rattle.papaya_tables.specs.declared.node.Node.{Node}
 use Rattle.papaya_schedules.specs.declared.effect.Effect.{Effect}
-use Rattle.papaya_schedules.specs.declared.effect.Table.{Table}
 use Rattle.papaya_schedules.specs.Effects.{with_effects}
 use Rattle.papaya_schedules.specs.Moment.{Moment}
 use Rattle.papaya_schedules.specs.Views.{is_stage, is_retired}
@@ -68,28 +67,28 @@ module _ {K V S : Type 0} (same : K → K → Bool) (hash : K → ℕ) (name : �
 
   -- what is so then
   pub record ComesSo (fs : List Effect) (noted : Known) : Type 0 where
-    pub waiting : ShowsWaiting (with_effects None None fs m) noted w2
-    pub once : WaitsOnce (with_effects None None fs m).deferred
-    pub retired : ShowsRetired (with_effects None None fs m) noted s2
-    pub no_table : NoTableLeft noted w2
+    pub waits : ShowsWaiting (with_effects None None fs m) noted w2
+    pub alone : WaitsOnce (with_effects None None fs m).deferred
+    pub had : ShowsRetired (with_effects None None fs m) noted s2
+    pub none_left : NoTableLeft noted w2
 
   rows_come : (x : Changed) → TellsRow x → LeavesBy w.memory w2.memory x → ComesSo (effects_of Row known x) (known_after Row x known)
   rows_come x tells l = record {
-    waiting = rows_leave_waiting same hash name m known s whole waiting once no_table old new i lists before after told at leads x tells l;
-    once = once_fewer m.deferred (with_effects None None (effects_of Row known x) m).deferred (row_fewer known m x tells) once;
-    retired = record {
+    waits = rows_leave_waiting same hash name m known s whole waiting once no_table old new i lists before after told at leads x tells l;
+    alone = once_fewer m.deferred (with_effects None None (effects_of Row known x) m).deferred (row_fewer known m x tells) once;
+    had = record {
       tables = λ b len t e handed.
           let was = stays_so m known whole.blocks x tells b len t e in
           let fits = subst (λ (h : Hand). HandFits h (its.good.state.life b)) handed (its.good.hands b) in
-          let had = sym (same_hand b (handed_lives (its.good.state.life b) fits)) ∙ handed in
-          elim (retired.tables b len t was.0 had)
+          let before_it = sym (same_hand b (handed_lives (its.good.state.life b) fits)) ∙ handed in
+          elim (retired.tables b len t was.0 before_it)
           as (λ _. (is_stage is_retired t (with_effects None None (effects_of Row known x) m) ≡ true) ⊎ ((j : ℕ) × HasCall s2 j × IsToRetire b (s2.world.row j))) [
             | inl so ↦ inl (still_retired t None None (effects_of Row known x) m was.1 so)
             | inr due ↦ absurd (no_call same hash name m known s whole old new i lists before after told at leads due.1.0 due.0 due.1.1 due.1.2)
           ];
       lengths = λ b len t e. retired.lengths b len t (stays_so m known whole.blocks x tells b len t e).0;
     };
-    no_table = λ b len t e over.
+    none_left = λ b len t e over.
         let was = (stays_so m known whole.blocks x tells b len t e).0 in
         let hand = same_hand b (left_lives (w2.hand b) (its.good.state.life b) over (its.good.hands b)) in
         no_table b len t was (subst IsLeft hand over);
