@@ -17,6 +17,10 @@ abbrev pub IsLeft : Hand → Type 0
 IsLeft (LeftTo i) = Unit {0}
 IsLeft _ = ⊥
 
+-- no block that is noted as a table is left over
+abbrev pub NoTableLeft : {K V : Type 0} → Known → World (Node K V) → Type 0
+NoTableLeft known w = (b len : ℕ) (t : Table) → known.roles b ≡ role.Table t len → IsLeft (w.hand b) → ⊥
+
 -- The pair has a block, and so has the table. That one waits behind this one; or both are left over, since their map ends.
 pub record LiesBehind {K V : Type 0} (known : Known) (w : World (Node K V)) (n : ℕ) (t : Table) : Type 0 where
   pub pair : ℕ
