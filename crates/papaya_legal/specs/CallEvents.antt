@@ -1,7 +1,7 @@
 -- Events in which a call takes steps: in the midst of one, and at its end.
-use Rattle.std.specs.Prelude.{◌≡◌, ℕ, ◌+◌, ◌==◌, Bool, true, false, List, [], ◌∷◌, ◌++◌, Some, if◌then◌else◌}
+use Rattle.std.specs.Prelude.{◌≡◌, ◌≢◌, ℕ, ◌+◌, ◌==◌, Bool, true, false, List, [], ◌∷◌, ◌++◌, Some, if◌then◌else◌}
 use Rattle.std.specs.List.{list_all}
-use Rattle.seize.specs.World.{World, Request, Begin, Step, Happens}
+use Rattle.seize.specs.World.{World, Rests, Request, Begin, Step, Happens}
 use Rattle.papaya_tables.specs.Nodes.{deferred_word}
 use Rattle.papaya_tables.specs.declared.node.Node.{Node}
 use Rattle.papaya_raw.specs.declared.machines.progress.Progress.{Progress}
@@ -39,7 +39,7 @@ use Rattle.papaya_purposes.specs.Shards.{ReadsShards}
 use Rattle.papaya_models.specs.CallEvents.{FollowsInEvent, IsNoted, things_then}
 use Rattle.papaya_finds.specs.Life.{StoresOne}
 use Rattle.papaya_finds.specs.Parts.{FindAll}
-use Rattle.papaya_legal.specs.Carried.{ShowsCalls, ShowsRun}
+use Rattle.papaya_legal.specs.Carried.{ComesAlone, ShowsCalls, ShowsRun}
 
 module _ {K V : Type 0} (same : K → K → Bool) (name : ℕ → List ℕ) (terms : Terms) (log : List (Entry K V)) (event : Event K V) (beginning : Moment K V) (map i : ℕ) (c : CallThere K V) where
   -- In the midst of an event of the call of caller i, which has made so many steps, and done this, since the moment at which it has begun what it begins.
@@ -59,7 +59,7 @@ module _ {K V : Type 0} (same : K → K → Bool) (name : ℕ → List ℕ) (ter
     -- protected
     pub protects : InMidst event done m known s.world
     -- by_model: where calls came one after another so far
-    pub follows : (moment log).is_alone ≡ true → FollowsInEvent terms.batch_size terms.roots (things_in log) (sets_in terms.batch_size log) (slot_of i) i done known s.world
+    pub follows : ComesAlone event log → FollowsInEvent terms.batch_size terms.roots (things_in log) (sets_in terms.batch_size log) (slot_of i) i done known s.world
 
 -- Of an event that has come to this: each promise but that it comes to what is right, and that little waits, which follow once its life and the moment after it are known.
 pub record IsLegalBut {K V : Type 0} (same : K → K → Bool) (terms : Terms) (log : List (Entry K V)) (e : Entry K V) : Type 0 where
@@ -71,11 +71,12 @@ pub record IsLegalBut {K V : Type 0} (same : K → K → Bool) (terms : Terms) (
   pub by_model : IsByModel terms log e
 
 module _ (K V S : Type 0) (same : K → K → Bool) (hash : K → ℕ) where
-  -- The promises: so it is where an event of a call that is under way begins,
+  -- The promises: so it is where an event of a call that is under way begins, in whose midst alone a row may be if the event comes alone;
   abbrev pub CallEventsBegin : Type 0
   CallEventsBegin =
       (name : ℕ → List ℕ) (terms : Terms) (log : List (Entry K V)) (known : Known) (s : Scene K V) (x : Executor K V S) → IsAt same hash x s → ShowsRun same name terms log known s
       → (event : Event K V) (map i : ℕ) → caller_of event ≡ Some (name i) → (u : UnderWay K V K) → s.calls map i ≡ Some u → (c : CallThere K V) → call_of (name i) (moment log) ≡ Some c
+      → (ComesAlone event log → (j : ℕ) → s.world.row j ≢ Rests → j ≡ i)
       → InCallEvent same name terms log event (moment log) map i c 0 [] (moment log) known s u
 
   -- after each step of it, where it goes on: no pair comes or goes twice, what a call reads of shards it may read, no pair of a walk is shown, the effects find what they must, what a row hands

@@ -34,7 +34,7 @@ use Rattle.papaya_promises.specs.Reading.{ShowsReading}
 use Rattle.papaya_models.specs.Ends.{FollowsInEnd}
 use Rattle.papaya_models.specs.MapEvents.{FollowsInMaking}
 use Rattle.papaya_legal.specs.CallEvents.{IsLegalBut}
-use Rattle.papaya_legal.specs.Carried.{ShowsCalls, ShowsRun}
+use Rattle.papaya_legal.specs.Carried.{ComesAlone, ShowsCalls, ShowsRun}
 
 module _ {K V : Type 0} (same : K → K → Bool) (name : ℕ → List ℕ) (terms : Terms) (log : List (Entry K V)) (event : Event K V) (map : ℕ) (beginning : Moment K V) where
   -- In the midst of an event whose work is that of a map which is made, or ends: what it has done finds what it must.
@@ -51,12 +51,12 @@ module _ {K V : Type 0} (same : K → K → Bool) (name : ℕ → List ℕ) (ter
   -- where calls came one after another, the sets are those of the model as it began, in the midst of a making,
   abbrev pub InMakingEvent : List Effect → Moment K V → Known → Scene K V → Type 0
   InMakingEvent done m known s =
-      InMapEvent done m known s × ((moment log).is_alone ≡ true → FollowsInMaking terms.batch_size terms.roots (things_in log) (sets_in terms.batch_size log) done known s.world)
+      InMapEvent done m known s × (ComesAlone event log → FollowsInMaking terms.batch_size terms.roots (things_in log) (sets_in terms.batch_size log) done known s.world)
 
   -- and in that of an end
   abbrev pub InEndEvent : Known → ℕ → List Effect → Moment K V → Known → Scene K V → Type 0
   InEndEvent first i done m known s =
-      InMapEvent done m known s × ((moment log).is_alone ≡ true → FollowsInEnd terms.batch_size terms.roots (things_in log) (sets_in terms.batch_size log) first i done known s.world)
+      InMapEvent done m known s × (ComesAlone event log → FollowsInEnd terms.batch_size terms.roots (things_in log) (sets_in terms.batch_size log) first i done known s.world)
 
 module _ (K V S : Type 0) (same : K → K → Bool) (hash : K → ℕ) where
   -- The promises: a making goes on so, if what it does it may do, and finds what it must,
