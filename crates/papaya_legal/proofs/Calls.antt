@@ -107,7 +107,7 @@ call_events_begin_so K V S same hash name terms log known s x at run event map i
     ]
 
 -- an event of a call is none of a slot
-out_of_slots : {K V : Type 0} (own : List ℕ) (event : Event K V) → caller_of event ≡ Some own → is_of_slots event ≡ false
+pub out_of_slots : {K V : Type 0} (own : List ℕ) (event : Event K V) → caller_of event ≡ Some own → is_of_slots event ≡ false
 out_of_slots own (OneCall guard map call) is = refl
 out_of_slots own (Step caller refuse) is = refl
 out_of_slots own (Go caller refuse) is = refl

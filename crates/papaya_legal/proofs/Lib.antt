@@ -1,6 +1,7 @@
 -- Lemmas on the events of a run, and on what is carried from each to the next.
 pub mod Begin
 pub mod Calls
+pub mod CallsEnd
 pub mod Slots
 pub mod SlotsEnd
 pub mod Maps
