@@ -50,8 +50,7 @@ module _ {K V : Type 0} (own : List ℕ) (effects : List Effect) (m w : Moment K
   whole_so _ outcome is busy = absurd (cc is)
 
 pub call_events_are_legal : (K V S : Type 0) (same : K → K → Bool) (hash : K → ℕ) → CallEventsAreLegal K V S same hash
-call_events_are_legal K V S same hash name terms log beginning map i c c_is steps done m known s u e midst questions old new at said leads begins acted effects_are comes steps_taken busy finds brief swept
-    refuses leaves by_model = (
+call_events_are_legal K V S same hash name terms log beginning map i c c_is steps done m known s u e midst questions old new at said leads begins acted effects_are comes steps_taken busy finds brief swept refuses leaves by_model = (
   record {
     brief = brief;
     linearizable = asked.0;

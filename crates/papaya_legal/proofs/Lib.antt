@@ -6,4 +6,5 @@ pub mod Slots
 pub mod SlotsEnd
 pub mod Maps
 pub mod SlotsAfter
+pub mod Idle
 pub mod Legal

@@ -3,7 +3,7 @@ ghost use Rattle.std.specs.Prelude.{ℕ, Bool};
 ghost use Rattle.papaya_legal.specs.Carried.{RunsBegin};
 ghost use Rattle.papaya_legal.specs.CallEvents.{CallEventsBegin, CallEventsGoOn, CallEventsAreLegal};
 ghost use Rattle.papaya_legal.specs.SlotEvents.{SlotEventsBegin, SlotEventsGoOn, SlotEventsAreLegal, SlotEventsEnd};
-ghost use Rattle.papaya_legal.specs.MapEvents.{MakingEventsGoOn, EndEventsGoOn};
+ghost use Rattle.papaya_legal.specs.MapEvents.{MakingEventsGoOn, EndEventsGoOn, IdleEventsAreLegal};
 ghost use Rattle.papaya_legal.specs.Promises.{EventsAreLegal};
 
 /// Before all events a moment shows all by which the first event keeps its promises.
@@ -34,6 +34,11 @@ pub fn slot_events<K, V, S>()
 pub fn map_events<K, V, S>()
     ensures makings { (same : K → K → Bool) (hash : K → ℕ) → MakingEventsGoOn K V S same hash }
     ensures ends { (same : K → K → Bool) (hash : K → ℕ) → EndEventsGoOn K V S same hash }
+{}
+
+/// An event that does nothing keeps its promises, as one that is kept out does, and one that begins a call, or tells it a reply.
+pub fn idle_events<K, V>()
+    ensures legal { (same : K → K → Bool) → IdleEventsAreLegal K V same }
 {}
 
 /// An event that comes to what is right, makes the steps that it may, and keeps the promises that need what is under way, is legal: little waits after it.
