@@ -10,7 +10,7 @@ use Rattle.papaya_schedules.specs.Entry.{acted_on, acting, caller_of}
 use Rattle.papaya_schedules.specs.Handing.{gives_all, is_granted, is_made, may_do, moments_of, refuses as refuses_growth}
 use Rattle.papaya_schedules.specs.Lives.{Finds}
 use Rattle.papaya_schedules.specs.Reclaims.{IsProtected}
-use Rattle.papaya_histories.proofs.OtherCalls.{idle_are_linearizable}
+use Rattle.papaya_histories.proofs.NoKey.Idle.{idle_are_linearizable}
 use Rattle.papaya_models.proofs.Follows.{idle_events_follow}
 use Rattle.papaya_promises.specs.Sheltered.{SectionsHold}
 use Rattle.papaya_promises.proofs.Protected.{idle_events_are_protected}
