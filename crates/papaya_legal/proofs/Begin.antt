@@ -1,4 +1,5 @@
 -- Before all events all is carried that events need.
+use Rattle.std.proofs.Common.{inl}
 use Rattle.papaya_moments.proofs.Calls.{whole_begins}
 use Rattle.papaya_moments.proofs.NewMaps.{pairs_begin}
 use Rattle.papaya_moments.proofs.Numbers.{numbers_begin}
@@ -34,7 +35,7 @@ runs_begin K V same terms name = record {
   };
   reading = readings_begin K V terms.roots name;
   sections = (λ own g is. no_guard g is, tt);
-  follows = λ alone. follows_at_first K V terms.batch_size terms.roots;
+  follows = λ alone. inl (follows_at_first K V terms.batch_size terms.roots);
   order = (all_in_order_at_first K V, tt);
   over = λ closed. absurd (cc closed);
 }

@@ -1,15 +1,19 @@
 -- An event of a call, from its beginning on.
-use Rattle.std.specs.Prelude.{◌≡◌, ◌<◌, ℕ, ◌+◌, ◌≤◌, ◌==◌, Bool, true, false, List, [], ◌++◌, Some, if◌then◌else◌}
-use Rattle.std.proofs.Common.{refl, ap, sym, subst, ◌∙◌, arith}
-use Rattle.seize.specs.World.{World}
+use Rattle.std.specs.Prelude.{◌≡◌, ◌≢◌, ◌<◌, ℕ, ◌+◌, ◌≤◌, ◌==◌, Bool, true, false, List, [], ◌++◌, Some, if◌then◌else◌}
+use Rattle.std.specs.List.{list_all}
+use Rattle.std.proofs.Common.{refl, ap, sym, subst, ◌∙◌, inl, inr, arith}
+use Rattle.std.proofs.lemmas.List.{append-nil}
+use Rattle.seize.specs.WaitingSets.{Sets}
+use Rattle.seize.specs.World.{World, Rests}
 use Rattle.papaya_tables.specs.declared.node.Node.{Node}
 use Rattle.papaya_tables.specs.Chunks.{is_incremental}
 use Rattle.papaya_schedules.specs.declared.effect.Effect.{Effect}
 use Rattle.papaya_schedules.specs.declared.event.Event.{Event}
 use Rattle.papaya_schedules.specs.declared.event.Event.TheVariants.{OneCall, Step, Go, Next}
-use Rattle.papaya_schedules.specs.After.{moment, moments_from}
+use Rattle.papaya_schedules.specs.declared.effect.Thing.{Thing}
+use Rattle.papaya_schedules.specs.After.{is_by, moment, moments_from}
 use Rattle.papaya_schedules.specs.Effects.{with_effects, AtEachEffect}
-use Rattle.papaya_schedules.specs.Entry.{caller_of}
+use Rattle.papaya_schedules.specs.Entry.{caller_of, speaker}
 use Rattle.papaya_schedules.specs.Model.{sets_in, things_in}
 use Rattle.papaya_schedules.specs.Moment.{Moment}
 use Rattle.papaya_executor.specs.IsAt.{Scene, slot_of}
@@ -32,9 +36,10 @@ use Rattle.papaya_histories.specs.InEvent.{here_of}
 use Rattle.papaya_histories.proofs.Questions.{effects_keep_questions}
 use Rattle.papaya_purposes.proofs.Kept.{calls_keep_purposes}
 use Rattle.papaya_histories.proofs.AnyCall.InEvent.{events_begin, events_go_on, events_keep_all}
-use Rattle.papaya_models.specs.CallEvents.{FollowsInEvent}
+use Rattle.papaya_models.specs.CallEvents.{FollowsInEvent, IsInItsRow}
 use Rattle.papaya_models.proofs.CallEvents.{call_events_begin, call_events_go_on}
 use Rattle.papaya_models.proofs.MapEvents.{moments_note_once}
+use Rattle.papaya_spots.proofs.Unreclaimed.{and_both}
 use Rattle.papaya_finds.specs.Life.{StoresOne}
 use Rattle.papaya_finds.specs.Parts.{FindAll}
 use Rattle.papaya_finds.proofs.Doing.{several_do_theirs}
@@ -63,7 +68,7 @@ module _ {K V : Type 0} (own : List ℕ) (m : Moment K V) (known : Known) (w : W
   begins_protected _ is = absurd (cc is)
 
 pub call_events_begin_so : (K V S : Type 0) (same : K → K → Bool) (hash : K → ℕ) → CallEventsBegin K V S same hash
-call_events_begin_so K V S same hash name terms log known s x at run event map i caller_is u here c c_is = record {
+call_events_begin_so K V S same hash name terms log known s x at run event map i caller_is u here c c_is only = record {
   of_call = caller_is;
   event_so = events_begin K V S same hash name log (moment log) (refl, refl) known s x at run.calls.whole run.calls.dues run.calls.as_called map i u here c c_is;
   calls = run.calls;
@@ -80,11 +85,29 @@ call_events_begin_so K V S same hash name terms log known s x at run event map i
   finds = tt;
   stores = tt;
   protects = begins_protected (name i) (moment log) known s.world run.sections event caller_is;
-  follows = λ alone. call_events_begin K V terms.batch_size terms.roots (things_in log) (sets_in terms.batch_size log) known s.world (run.follows alone) (slot_of i) i;
+  follows = λ alone. begun_so (and_both (moment log).is_alone (list_all (is_by (speaker event)) (moment log).calls) alone).0 (only alone);
 }
+  where
+    abbrev things : List Thing
+    things = things_in log
+
+    abbrev sets : Sets
+    sets = sets_in terms.batch_size log
+
+    -- no row is under way, or that of the call is
+    begun_so : (moment log).is_alone ≡ true → ((j : ℕ) → s.world.row j ≢ Rests → j ≡ i) → FollowsInEvent terms.batch_size terms.roots things sets (slot_of i) i [] known s.world
+    begun_so alone its = elim (run.follows alone) as (λ _. FollowsInEvent terms.batch_size terms.roots things sets (slot_of i) i [] known s.world) [
+      | inl follows ↦ call_events_begin K V terms.batch_size terms.roots things sets known s.world follows (slot_of i) i
+      | inr row ↦ record {
+        come = tt;
+        back = tt;
+        so = inr (subst (λ (xs : List Thing). IsInItsRow terms.batch_size terms.roots xs sets (slot_of i) i known s.world) (sym (append-nil things))
+            (subst (λ (j : ℕ). IsInItsRow terms.batch_size terms.roots things sets (slot_of j) j known s.world) (its row.0 row.1.goes) row.1));
+      }
+    ]
 
 -- an event of a call is none of a slot
-out_of_slots : {K V : Type 0} (own : List ℕ) (event : Event K V) → caller_of event ≡ Some own → is_of_slots event ≡ false
+pub out_of_slots : {K V : Type 0} (own : List ℕ) (event : Event K V) → caller_of event ≡ Some own → is_of_slots event ≡ false
 out_of_slots own (OneCall guard map call) is = refl
 out_of_slots own (Step caller refuse) is = refl
 out_of_slots own (Go caller refuse) is = refl

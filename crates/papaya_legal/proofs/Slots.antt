@@ -83,7 +83,7 @@ module _ {K V : Type 0} (m : Moment K V) (known : Known) (w : World (Node K V)) 
   slots_protected _ is = absurd (cc is)
 
 pub slot_events_begin_so : (K V S : Type 0) (same : K → K → Bool) (hash : K → ℕ) → SlotEventsBegin K V S same hash
-slot_events_begin_so K V S same hash name terms log known s old new at size run event on i called may leads spares =
+slot_events_begin_so K V S same hash name terms log known s old new at size run event on i called may leads spares before =
     let m = moment log in
     let request = request_of (slot_of i) called in
     let to = (leads may).3 in
@@ -113,7 +113,7 @@ slot_events_begin_so K V S same hash name terms log known s old new at size run 
       follows = λ alone.
           subst (λ (n : ℕ). FollowsInRow n terms.roots (things_in log) (sets_in terms.batch_size log) known i request [] known to.0) size
               (slot_events_begin K V old.batch_size terms.roots (things_in log) (sets_in terms.batch_size log) known s.world to.0
-              (subst (λ (n : ℕ). FollowsSets n terms.roots (things_in log) (sets_in terms.batch_size log) known s.world) (sym size) (run.follows alone)) i request (of_slots (slot_of i) called) to.1.0 to.1.1);
+              (subst (λ (n : ℕ). FollowsSets n terms.roots (things_in log) (sets_in terms.batch_size log) known s.world) (sym size) (before alone)) i request (of_slots (slot_of i) called) to.1.0 to.1.1);
     }
 
 pub slot_events_go_on_so : (K V S : Type 0) (same : K → K → Bool) (hash : K → ℕ) → SlotEventsGoOn K V S same hash

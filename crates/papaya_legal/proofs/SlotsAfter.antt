@@ -1,7 +1,7 @@
 -- The moment after an event of a slot shows what the next event needs.
 use Rattle.std.specs.Prelude.{◌≡◌, ℕ, Bool, true, List, [], ◌∷◌, find, Option, None}
 use Rattle.std.specs.List.{list_all}
-use Rattle.std.proofs.Common.{refl, ap, sym, subst, ◌∙◌}
+use Rattle.std.proofs.Common.{refl, ap, sym, subst, ◌∙◌, inl}
 use Rattle.papaya_runs.specs.Same.{is_same}
 use Rattle.papaya_schedules.specs.declared.effect.Effect.{Effect}
 use Rattle.papaya_schedules.specs.declared.effect.Effect.TheVariants.{Asked, Reclaimed}
@@ -142,7 +142,7 @@ slot_events_end_so K V S same hash name terms log i called first m known before 
   };
   reading = events_keep_readings K V name log e (λ j. 0) v s (readings_stay K V name log (λ j. 0) (λ j. 0) w v s s stay reading);
   sections = sections;
-  follows = follows;
+  follows = λ alone. inl (follows alone);
   order = events_keep_order K V terms log e goes run.order;
   over = over_stays_back K V terms log e goes reclaims run.over;
 }

@@ -1,5 +1,5 @@
 -- An event of a slot keeps its promises once its row has ended.
-use Rattle.std.specs.Prelude.{◌≡◌, ℕ, ◌+◌, Bool, true, false, MatchBool, ◌||◌, not, List, [], ◌∷◌, ◌++◌, map, flat_map, Option, None}
+use Rattle.std.specs.Prelude.{◌≡◌, ℕ, ◌+◌, Bool, true, false, MatchBool, ◌&&◌, ◌||◌, not, List, [], ◌∷◌, ◌++◌, map, flat_map, Option, None}
 use Rattle.std.specs.List.{list_all, list_any}
 use Rattle.std.proofs.Common.{refl, ap, sym, subst, ◌∙◌}
 use Rattle.seize_words.specs.declared.fault.Fault.TheVariants.{Busy}
@@ -10,10 +10,10 @@ use Rattle.papaya_schedules.specs.declared.event.Event.{Event}
 use Rattle.papaya_schedules.specs.declared.event.Event.TheVariants.{Register, Unregister, Enter, Own, Refresh, Flush, DropGuard, ReclaimAll, Close}
 use Rattle.papaya_schedules.specs.declared.outcome.Outcome.{Outcome}
 use Rattle.papaya_schedules.specs.declared.outcome.Outcome.TheVariants.{Refused}
-use Rattle.papaya_schedules.specs.After.{after, is_alone_on, moment, moments_from}
+use Rattle.papaya_schedules.specs.After.{after, is_by, moment, moments_from}
 use Rattle.papaya_schedules.specs.Beginning.{begun}
 use Rattle.papaya_schedules.specs.Effects.{AtEachEffect, worked}
-use Rattle.papaya_schedules.specs.Entry.{Entry, IfCall, acting, caller_of}
+use Rattle.papaya_schedules.specs.Entry.{Entry, IfCall, acting, caller_of, is_busy, speaker}
 use Rattle.papaya_schedules.specs.Handing.{AllFind, IsWhole, LeavesOf, asks_for_bucket, comes_clear, gives_all, is_made, is_only, is_reclaiming, may_do, refuses}
 use Rattle.papaya_schedules.specs.Linearizable.{shift_of}
 use Rattle.papaya_schedules.specs.Lives.{Finds}
@@ -33,6 +33,7 @@ use Rattle.papaya_promises.specs.Sheltered.{SectionsHold}
 use Rattle.papaya_promises.proofs.Protected.{slot_events_end_protected}
 use Rattle.papaya_purposes.proofs.Nothing.{no_calls_are_swept}
 use Rattle.papaya_spots.proofs.Unreclaimed.{and_both}
+use Rattle.papaya_legal.specs.Carried.{ComesAlone}
 use Rattle.papaya_legal.specs.SlotEvents.{SlotEventsAreLegal}
 
 -- An event on slots acts for no call, and its effects bring no pair and take none out.
@@ -104,24 +105,24 @@ module _ {K V : Type 0} (terms : Terms) (log : List (Entry K V)) (effects : List
 
 -- and one that is kept out did nothing
 module _ {K V : Type 0} (effects : List Effect) (m w : Moment K V) where
-  whole_so : (event : Event K V) (outcome : Outcome V) → is_of_slots event ≡ true → (outcome ≡ Refused Busy → effects ≡ []) → IsWhole event outcome effects m w
-  whole_so (Register registration) (Refused Busy) on busy = busy refl
+  whole_so : (event : Event K V) (outcome : Outcome V) → is_of_slots event ≡ true → is_busy outcome ≡ false → IsWhole event outcome effects m w
+  whole_so (Register registration) (Refused Busy) on busy = absurd (cc busy)
   whole_so (Register registration) _ on busy = tt
-  whole_so (Unregister registration) (Refused Busy) on busy = busy refl
+  whole_so (Unregister registration) (Refused Busy) on busy = absurd (cc busy)
   whole_so (Unregister registration) _ on busy = tt
-  whole_so (Enter guard registration) (Refused Busy) on busy = busy refl
+  whole_so (Enter guard registration) (Refused Busy) on busy = absurd (cc busy)
   whole_so (Enter guard registration) _ on busy = tt
-  whole_so (Own guard) (Refused Busy) on busy = busy refl
+  whole_so (Own guard) (Refused Busy) on busy = absurd (cc busy)
   whole_so (Own guard) _ on busy = tt
-  whole_so (Refresh guard) (Refused Busy) on busy = busy refl
+  whole_so (Refresh guard) (Refused Busy) on busy = absurd (cc busy)
   whole_so (Refresh guard) _ on busy = tt
-  whole_so (Flush guard) (Refused Busy) on busy = busy refl
+  whole_so (Flush guard) (Refused Busy) on busy = absurd (cc busy)
   whole_so (Flush guard) _ on busy = tt
-  whole_so (DropGuard guard) (Refused Busy) on busy = busy refl
+  whole_so (DropGuard guard) (Refused Busy) on busy = absurd (cc busy)
   whole_so (DropGuard guard) _ on busy = tt
-  whole_so ReclaimAll (Refused Busy) on busy = busy refl
+  whole_so ReclaimAll (Refused Busy) on busy = absurd (cc busy)
   whole_so ReclaimAll _ on busy = tt
-  whole_so Close (Refused Busy) on busy = busy refl
+  whole_so Close (Refused Busy) on busy = absurd (cc busy)
   whole_so Close _ on busy = tt
   whole_so _ outcome on busy = absurd (cc on)
 
@@ -152,12 +153,12 @@ slot_events_are_legal K V S same hash name terms log i called first m known s e 
     safe : IsProtected log e × SectionsHold (after e (moment log)) known s.world
     safe = slot_events_end_protected K V log e m known s.world midst.of_slots midst.worked midst.protects ends
 
-    followed : (moment log).is_alone ≡ true → IsFollowed terms log e known s.world
+    followed : ComesAlone e.event log → IsFollowed terms log e known s.world
     followed alone =
         slot_events_end K V terms log e first i (request_of (slot_of i) called) known s.world small midst.once (midst.follows alone) rests m midst.calls.whole.all.shown.blocks (is_row alone)
 
-    before : (after e (moment log)).is_alone ≡ true → (moment log).is_alone ≡ true
-    before alone = (and_both (moment log).is_alone (is_alone_on e (moment log)) alone).0
+    before : (after e (moment log)).is_alone ≡ true → ComesAlone e.event log
+    before alone = subst (λ (q : Bool). ((moment log).is_alone && (q || list_all (is_by (speaker e.event)) (moment log).calls)) ≡ true) busy alone
 
     by : (q : Bool) → (after e (moment log)).is_alone ≡ q → IsByModel terms log e
     by true is = (followed (before is)).0

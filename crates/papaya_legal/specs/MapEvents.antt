@@ -7,13 +7,12 @@ use Rattle.papaya_tables.specs.declared.node.Node.{Node}
 use Rattle.papaya_tables.specs.declared.setting.Setting.{Setting}
 use Rattle.papaya_schedules.specs.declared.effect.Effect.{Effect}
 use Rattle.papaya_schedules.specs.declared.event.Event.{Event}
-use Rattle.papaya_schedules.specs.After.{moment}
-use Rattle.papaya_schedules.specs.Effects.{with_effects, AtEachEffect}
-use Rattle.papaya_schedules.specs.Entry.{Entry}
-use Rattle.papaya_schedules.specs.Handing.{is_granted, may_do}
-use Rattle.papaya_schedules.specs.InTurn.{ComesRight}
+use Rattle.papaya_schedules.specs.After.{moment, after}
+use Rattle.papaya_schedules.specs.Effects.{with_effects, AtEachEffect, worked}
+use Rattle.papaya_schedules.specs.Entry.{Entry, IfCall, acting, caller_of}
+use Rattle.papaya_schedules.specs.Handing.{is_granted, may_do, IsWhole, LeavesOf, comes_clear}
 use Rattle.papaya_schedules.specs.Lives.{Finds}
-use Rattle.papaya_schedules.specs.Model.{sets_in, things_in}
+use Rattle.papaya_schedules.specs.Model.{sets_in, things_in, changes_of, left_last}
 use Rattle.papaya_schedules.specs.Moment.{Moment}
 use Rattle.papaya_schedules.specs.Terms.{Terms}
 use Rattle.papaya_effects.specs.Effects.{effects_of, known_after}
@@ -33,7 +32,13 @@ use Rattle.papaya_promises.specs.Reading.{ShowsReading}
 use Rattle.papaya_models.specs.Ends.{FollowsInEnd}
 use Rattle.papaya_models.specs.MapEvents.{FollowsInMaking}
 use Rattle.papaya_legal.specs.CallEvents.{IsLegalBut}
-use Rattle.papaya_legal.specs.Carried.{ShowsCalls, ShowsRun}
+use Rattle.seize.specs.World.{World}
+use Rattle.papaya_schedules.specs.Steps.{ReadsBriefly}
+use Rattle.papaya_schedules.specs.Sweeps.{IsSwept}
+use Rattle.papaya_histories.specs.OtherCalls.{IsIdle}
+use Rattle.papaya_promises.specs.Guards.{EntersInside}
+use Rattle.papaya_promises.specs.Sheltered.{SectionsHold}
+use Rattle.papaya_legal.specs.Carried.{ComesAlone, ShowsCalls}
 
 module _ {K V : Type 0} (same : K → K → Bool) (name : ℕ → List ℕ) (terms : Terms) (log : List (Entry K V)) (event : Event K V) (map : ℕ) (beginning : Moment K V) where
   -- In the midst of an event whose work is that of a map which is made, or ends: what it has done finds what it must.
@@ -50,12 +55,12 @@ module _ {K V : Type 0} (same : K → K → Bool) (name : ℕ → List ℕ) (ter
   -- where calls came one after another, the sets are those of the model as it began, in the midst of a making,
   abbrev pub InMakingEvent : List Effect → Moment K V → Known → Scene K V → Type 0
   InMakingEvent done m known s =
-      InMapEvent done m known s × ((moment log).is_alone ≡ true → FollowsInMaking terms.batch_size terms.roots (things_in log) (sets_in terms.batch_size log) done known s.world)
+      InMapEvent done m known s × (ComesAlone event log → FollowsInMaking terms.batch_size terms.roots (things_in log) (sets_in terms.batch_size log) done known s.world)
 
   -- and in that of an end
   abbrev pub InEndEvent : Known → ℕ → List Effect → Moment K V → Known → Scene K V → Type 0
   InEndEvent first i done m known s =
-      InMapEvent done m known s × ((moment log).is_alone ≡ true → FollowsInEnd terms.batch_size terms.roots (things_in log) (sets_in terms.batch_size log) first i done known s.world)
+      InMapEvent done m known s × (ComesAlone event log → FollowsInEnd terms.batch_size terms.roots (things_in log) (sets_in terms.batch_size log) first i done known s.world)
 
 module _ (K V S : Type 0) (same : K → K → Bool) (hash : K → ℕ) where
   -- The promises: a making goes on so, if what it does it may do, and finds what it must,
@@ -83,8 +88,11 @@ module _ (K V S : Type 0) (same : K → K → Bool) (hash : K → ℕ) where
       → InEndEvent same name terms log event map beginning first i (done ++ effects) (with_effects None (Some map) effects m) (known_after (acts.Ending map) new.memory.changed known)
       (ending_after same hash s new i f to.0 to.2.w2 to.2.deed said to.3))
 
-  -- and an event that does nothing at all keeps its promises, where it comes to what is right.
-  abbrev pub IdleEventsAreLegal : Type 0
-  IdleEventsAreLegal =
-      (name : ℕ → List ℕ) (terms : Terms) (log : List (Entry K V)) (known : Known) (s : Scene K V) (x : Executor K V S) → IsAt same hash x s → ShowsRun same name terms log known s
-      → (e : Entry K V) → e.effects ≡ [] → e.steps ≡ 0 → ComesRight terms log e → IsLegalBut same terms log e
+-- And an event that does nothing to pairs, tables and blocks, and by which no call has come to an end or asks, keeps its promises, if it changes no waiting sets, reads briefly, does what it is for,
+-- needs no effects, and leaves nothing behind; the sections of guards hold what they shelter.
+abbrev pub IdleEventsAreLegal : (K V : Type 0) → (K → K → Bool) → Type 0
+IdleEventsAreLegal K V same =
+    (terms : Terms) (log : List (Entry K V)) (known : Known) (w : World (Node K V)) (e : Entry K V) → e.effects ≡ [] → IsIdle e.outcome → SectionsHold (moment log) known w
+    → EntersInside w e.event e.outcome (moment log).there → changes_of log e ≡ [] → left_last e.event e.outcome (moment log) ≡ [] → ReadsBriefly log e (worked e (moment log))
+    → IsSwept same terms log e → IsWhole e.event e.outcome e.effects (moment log) (worked e (moment log))
+    → IfCall (LeavesOf (comes_clear e.outcome) e.outcome) (acting (caller_of e.event) (worked e (moment log))) → IsLegalBut same terms log e × SectionsHold (after e (moment log)) known w

@@ -2,15 +2,13 @@
 use Rattle.std.specs.Prelude.{◌≡◌, ◌<◌, ◌^◌, ℕ, Bool, true, false, List, [], ◌∷◌, ◌++◌, Some, None}
 use Rattle.std.specs.List.{list_all}
 use Rattle.seize.specs.World.{Rests, Begin, Step}
-use Rattle.seize_words.specs.declared.fault.Fault.TheVariants.{Busy}
 use Rattle.papaya_tables.specs.declared.node.Node.{Node}
 use Rattle.papaya_schedules.specs.declared.effect.Effect.{Effect}
 use Rattle.papaya_schedules.specs.declared.event.Event.{Event}
-use Rattle.papaya_schedules.specs.declared.outcome.Outcome.TheVariants.{Refused}
 use Rattle.papaya_schedules.specs.After.{after, moment}
 use Rattle.papaya_schedules.specs.Beginning.{at_work}
 use Rattle.papaya_schedules.specs.Effects.{with_effects, AtEachEffect}
-use Rattle.papaya_schedules.specs.Entry.{Entry}
+use Rattle.papaya_schedules.specs.Entry.{Entry, is_busy}
 use Rattle.papaya_schedules.specs.Handing.{gives_all, is_granted, may_do}
 use Rattle.papaya_schedules.specs.InTurn.{ComesRight}
 use Rattle.papaya_schedules.specs.Lives.{Finds}
@@ -39,7 +37,7 @@ use Rattle.papaya_models.specs.Numbers.{EachIsOnce}
 use Rattle.papaya_models.specs.OnSlots.{FollowsInRow, IsRowFor}
 use Rattle.papaya_finds.specs.Little.{ReclaimsAll}
 use Rattle.papaya_legal.specs.CallEvents.{IsLegalBut}
-use Rattle.papaya_legal.specs.Carried.{ShowsCalls, ShowsRun}
+use Rattle.papaya_legal.specs.Carried.{ComesAlone, ShowsCalls, ShowsRun}
 
 module _ {K V : Type 0} (same : K → K → Bool) (name : ℕ → List ℕ) (terms : Terms) (log : List (Entry K V)) (event : Event K V) (i : ℕ) (called : SlotCall) (first : Known) where
   -- In the midst of an event whose work is a row of caller i on its slot, which has done this.
@@ -53,16 +51,16 @@ module _ {K V : Type 0} (same : K → K → Bool) (name : ℕ → List ℕ) (ter
     pub finds : AtEachEffect (Finds terms None None (gives_all event) []) None None done (moment log)
     pub granted : is_granted false done ≡ true
     pub protects : InMidst event done m known s.world
-    pub follows : (moment log).is_alone ≡ true → FollowsInRow terms.batch_size terms.roots (things_in log) (sets_in terms.batch_size log) first i (request_of (slot_of i) called) done known s.world
+    pub follows : ComesAlone event log → FollowsInRow terms.batch_size terms.roots (things_in log) (sets_in terms.batch_size log) first i (request_of (slot_of i) called) done known s.world
 
 module _ (K V S : Type 0) (same : K → K → Bool) (hash : K → ℕ) where
-  -- The promises: so it is where its row begins, on a slot that has none of the guards whose sections the event does not end;
+  -- The promises: so it is where its row begins, on a slot that has none of the guards whose sections the event does not end, and where no call is in the midst of a row if the event comes alone;
   abbrev pub SlotEventsBegin : Type 0
   SlotEventsBegin =
       (name : ℕ → List ℕ) (terms : Terms) (log : List (Entry K V)) (known : Known) (s : Scene K V) (old new : Executor K V S) → IsAt same hash old s → old.batch_size ≡ terms.batch_size
       → ShowsRun same name terms log known s
       → (event : Event K V) → is_of_slots event ≡ true → (i : ℕ) (called : SlotCall) (may : MayBegin old (slot_of i) called) (leads : RowBegins same hash called i s old new)
-      → SparesGuards called (slot_of i) (there_in event (moment log).there)
+      → SparesGuards called (slot_of i) (there_in event (moment log).there) → (ComesAlone event log → FollowsModel terms.batch_size terms.roots log known s.world)
       → InSlotEvent same name terms log event i called known [] (moment log) known (scene_then same hash (Begin i (request_of (slot_of i) called)) s old new (leads may).3)
 
   -- after each step of the row, if what that does it may do, and finds what it must,
@@ -76,14 +74,14 @@ module _ (K V S : Type 0) (same : K → K → Bool) (hash : K → ℕ) where
       → InSlotEvent same name terms log event i called first (done ++ effects) (with_effects None None effects m) (known_after acts.Row new.memory.changed known)
       (scene_then same hash (Step i) s old new (leads row here).4))
 
-  -- and once the row has ended the event keeps its promises, if it is that row to the waiting sets, and has done nothing where it is kept out; the sections of guards hold what they shelter,
+  -- and once the row has ended the event keeps its promises, if it is that row to the waiting sets, and was not kept out; the sections of guards hold what they shelter,
   -- and the sets are those of the model.
   abbrev pub SlotEventsAreLegal : Type 0
   SlotEventsAreLegal =
       (name : ℕ → List ℕ) (terms : Terms) (log : List (Entry K V)) (i : ℕ) (called : SlotCall) (first : Known) (m : Moment K V) (known : Known) (s : Scene K V) (e : Entry K V)
       → (midst : InSlotEvent same name terms log e.event i called first e.effects m known s) → terms.batch_size < 2 ^ 64 → s.world.row i ≡ Rests
-      → EndsInside s.world e.event e.outcome (moment log).there → (e.outcome ≡ Refused Busy → e.effects ≡ [])
-      → ((alone : (moment log).is_alone ≡ true) → IsRowFor (request_of (slot_of i) called) (midst.follows alone).began.uses s.world.uses e.event e.outcome (at_work e (moment log)))
+      → EndsInside s.world e.event e.outcome (moment log).there → is_busy e.outcome ≡ false
+      → ((alone : ComesAlone e.event log) → IsRowFor (request_of (slot_of i) called) (midst.follows alone).began.uses s.world.uses e.event e.outcome (at_work e (moment log)))
       → IsLegalBut same terms log e × SectionsHold (after e (moment log)) known s.world
       × ((moment (e ∷ log)).is_alone ≡ true → FollowsModel terms.batch_size terms.roots (e ∷ log) known s.world)
 

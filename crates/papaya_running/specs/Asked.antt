@@ -1,5 +1,5 @@
 -- What is asked of an event, and what is promised of it then.
-use Rattle.std.specs.Prelude.{◌≡◌, ◌==◌, ℕ, Bool, true, false, List}
+use Rattle.std.specs.Prelude.{◌≡◌, ◌==◌, ℕ, Bool, true, false, List, ◌∷◌}
 use Rattle.papaya_points.specs.Steps.{AreLawful}
 use Rattle.papaya_schedules.specs.declared.event.Event.{Event}
 use Rattle.papaya_schedules.specs.declared.event.Event.TheVariants.{ReclaimAll, Close, MakeMap, EndMap, ShowShape, Begin, Step, Go, Replied, OneCall, Next, Stop}
@@ -12,7 +12,7 @@ use Rattle.papaya_schedules.specs.Moment.{Moment}
 use Rattle.papaya_schedules.specs.Steps.{DoesFew, MakesSteps, stands_or}
 use Rattle.papaya_schedules.specs.Terms.{Terms}
 use Rattle.papaya_scheduler.specs.Mapping.{CountsMaps}
-use Rattle.papaya_scheduler.specs.Played.{Plays, StandsFor, entry_of}
+use Rattle.papaya_scheduler.specs.Played.{Plays, StandsFor, entry_of, IsPlayed}
 use Rattle.papaya_scheduler.specs.Reclaiming.{MayComeBack, MayGiveAll}
 use Rattle.papaya_scheduler.specs.declared.played.Played.{Played}
 use Rattle.papaya_scheduler.specs.declared.scheduler.Scheduler.{Scheduler}
@@ -73,8 +73,9 @@ module _ {K V S : Type 0} (same : K → K → Bool) (hash : K → ℕ) where
   AsksOfSteps log name Close did new = MayComeBack same hash (moment log) name did new.logged
   AsksOfSteps log name _ did new = Unit {0}
 
-  -- What is promised of an event: it comes to what is right, where it finds what it must; it makes as many steps as it may, and does not more.
+  -- What is promised of an event: the scheduler has played the log with it; it comes to what is right, where it finds what it must; it makes as many steps as it may, and does not more.
   pub record Happens (name : ℕ → List ℕ) (terms : Terms) (log : List (Entry K V)) (e : Entry K V) (p : Scheduler K V S) : Type 0 where
+    pub played : AsksOfSteps log name e.event e.effects p → IsPlayed same hash terms (e ∷ log) p
     pub plays : AsksOfSteps log name e.event e.effects p → FindsRight terms log e → Plays same hash terms log e p
     pub makes : MakesSteps e.event (stands_or (acting (caller_of e.event) (at_work e (moment log)))) e.steps e.outcome
     pub does : DoesFew (caller_of e.event) e.steps e.effects

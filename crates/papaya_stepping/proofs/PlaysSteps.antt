@@ -101,6 +101,14 @@ module _ {K V S : Type 0} (same : K → K → Bool) (hash : K → ℕ) (terms : 
   pub never_busy : outcome ≡ Refused Busy → ⊥
   never_busy = not_busy d.call outcome d_comes
 
+  -- where it stands then
+  pub stands_then : (events : ℕ) (is_mapped is_closed is_alone : Bool) (slots : ℕ) (remains : List Remains) → is_mapped ≡ m.is_mapped → is_closed ≡ m.is_closed
+      → StandsFor same hash terms (elsewhere events is_mapped is_closed is_alone w.there slots w.sheltered remains (come_to own outcome steps w)) new
+  stands_then events is_mapped is_closed is_alone slots remains mapped closed =
+      stands_elsewhere same hash terms (come_to own outcome steps w) new (subst (λ (x : Moment K V). StandsFor same hash terms (come_to own outcome steps x) new) worked_is (comes.stands never_busy steps))
+      events is_mapped is_closed is_alone w.there slots w.sheltered remains (mapped ∙ sym (mapped_stays (Some own) (option_map (λ x. x.map) (call_of own m)) effects m))
+      (closed ∙ sym (closed_stays (Some own) (option_map (λ x. x.map) (call_of own m)) effects m)) refl
+
   module _ (within : IfCall (λ x. IsInCase terms x (moments_from x.begun log) w outcome) (call_of own w)) where
     case_of : IsInCase terms d (moments_from d.begun log) w outcome
     case_of = subst (λ (o : Option (CallThere K V)). IfCall (λ x. IsInCase terms x (moments_from x.begun log) w outcome) o) d_is within
@@ -108,13 +116,6 @@ module _ {K V S : Type 0} (same : K → K → Bool) (hash : K → ℕ) (terms : 
     pub goes_right : ByCall (λ x. Progresses terms x.stands x (moments_from x.begun log) w outcome) (call_of own w)
     goes_right = subst (λ (o : Option (CallThere K V)). ByCall (λ x. Progresses terms x.stands x (moments_from x.begun log) w outcome) o) (sym d_is)
         (progresses terms d (moments_from d.begun log) w d.stands (ap far_of d_on.stands ∙ call_goes) outcome (may_come terms d (moments_from d.begun log) w outcome d_comes d_works d_short case_of))
-
-    pub stands_then : (events : ℕ) (is_mapped is_closed is_alone : Bool) (slots : ℕ) (remains : List Remains) → is_mapped ≡ m.is_mapped → is_closed ≡ m.is_closed
-        → StandsFor same hash terms (elsewhere events is_mapped is_closed is_alone w.there slots w.sheltered remains (come_to own outcome steps w)) new
-    stands_then events is_mapped is_closed is_alone slots remains mapped closed =
-        stands_elsewhere same hash terms (come_to own outcome steps w) new (subst (λ (x : Moment K V). StandsFor same hash terms (come_to own outcome steps x) new) worked_is (comes.stands never_busy steps))
-        events is_mapped is_closed is_alone w.there slots w.sheltered remains (mapped ∙ sym (mapped_stays (Some own) (option_map (λ x. x.map) (call_of own m)) effects m))
-        (closed ∙ sym (closed_stays (Some own) (option_map (λ x. x.map) (call_of own m)) effects m)) refl
 
   pub few_steps : sum_by weight effects ≤ steps
   few_steps = subst (λ (l : List Effect). sum_by weight l ≤ steps) (sym comes.follows) comes.few
@@ -136,8 +137,9 @@ module _ {K V S : Type 0} (same : K → K → Bool) (hash : K → ℕ) (terms : 
   pub plays_step : (refuse : Bool) → IsDue same hash terms log (Step own refuse) old → steps ≡ 1 → PlaysOn same hash terms log (entry (Step own refuse) outcome steps effects) new
   plays_step refuse due one =
       let e = entry (Step own refuse) outcome steps effects in record {
+        played = stands_then same hash terms log m own old stands place placed goes steps outcome effects new comes (m.events + 1) m.is_mapped m.is_closed (m.is_alone && is_alone_on e m) (slots_on outcome m.slots) m.remains refl refl;
         plays = λ within. plays same hash terms log (Step own refuse) new due e refl (in_turn (λ o. GoesOn terms log e) (is_some (call_of own m)) outcome (in_place same hash terms log m own old stands place placed goes steps outcome effects new comes) (goes_right same hash terms log m own old stands place placed goes steps outcome effects new comes within))
-            (stands_then same hash terms log m own old stands place placed goes steps outcome effects new comes within (m.events + 1) m.is_mapped m.is_closed (m.is_alone && is_alone_on e m) (slots_on outcome m.slots) m.remains refl refl);
+            (stands_then same hash terms log m own old stands place placed goes steps outcome effects new comes (m.events + 1) m.is_mapped m.is_closed (m.is_alone && is_alone_on e m) (slots_on outcome m.slots) m.remains refl refl);
         makes = makes_one K V own refuse (stands_or (call_of own m)) (stand_is same hash terms log m own old stands place placed goes steps outcome effects new comes) steps one outcome (never_busy same hash terms log m own old stands place placed goes steps outcome effects new comes);
         does = few_steps same hash terms log m own old stands place placed goes steps outcome effects new comes;
       }
@@ -146,8 +148,9 @@ module _ {K V S : Type 0} (same : K → K → Bool) (hash : K → ℕ) (terms : 
   pub plays_go : (refuse : Bool) → IsDue same hash terms log (Go own refuse) old → TakesUpTo most_steps steps outcome → PlaysOn same hash terms log (entry (Go own refuse) outcome steps effects) new
   plays_go refuse due takes =
       let e = entry (Go own refuse) outcome steps effects in record {
+        played = stands_then same hash terms log m own old stands place placed goes steps outcome effects new comes (m.events + 1) m.is_mapped m.is_closed (m.is_alone && is_alone_on e m) (slots_on outcome m.slots) m.remains refl refl;
         plays = λ within. plays same hash terms log (Go own refuse) new due e refl (in_turn (λ o. GoesOn terms log e) (is_some (call_of own m)) outcome (in_place same hash terms log m own old stands place placed goes steps outcome effects new comes) (goes_right same hash terms log m own old stands place placed goes steps outcome effects new comes within))
-            (stands_then same hash terms log m own old stands place placed goes steps outcome effects new comes within (m.events + 1) m.is_mapped m.is_closed (m.is_alone && is_alone_on e m) (slots_on outcome m.slots) m.remains refl refl);
+            (stands_then same hash terms log m own old stands place placed goes steps outcome effects new comes (m.events + 1) m.is_mapped m.is_closed (m.is_alone && is_alone_on e m) (slots_on outcome m.slots) m.remains refl refl);
         makes = makes_many K V own refuse (stands_or (call_of own m)) (stand_is same hash terms log m own old stands place placed goes steps outcome effects new comes) steps outcome takes (never_busy same hash terms log m own old stands place placed goes steps outcome effects new comes);
         does = few_steps same hash terms log m own old stands place placed goes steps outcome effects new comes;
       }

@@ -56,6 +56,8 @@ module _ {K V S : Type 0} (same : K → K → Bool) (hash : K → ℕ) (terms : 
   whole_busy begins =
       let e = quiet (OneCall guard name call) (Refused Busy) in
       subst (λ (x : Scheduler K V S). PlaysOn same hash terms log e x) (sym (begins.none refl)) (record {
+        played = stands_elsewhere same hash terms (come_to nameless (Refused Busy) 0 m) old (busy_stands same hash terms log nameless false old due.played) (m.events + 1) m.is_mapped m.is_closed
+            (m.is_alone && is_alone_on e m) m.there m.slots m.sheltered m.remains refl refl refl;
         plays = λ within. plays same hash terms log (OneCall guard name call) old due e refl (out_of_turn (λ o. GoesOn terms log e) (may_begin guard name m) (Refused Busy) (sym begins.so) refl)
             (stands_elsewhere same hash terms (come_to nameless (Refused Busy) 0 m) old (busy_stands same hash terms log nameless false old due.played) (m.events + 1) m.is_mapped m.is_closed
             (m.is_alone && is_alone_on e m) m.there m.slots m.sheltered m.remains refl refl refl);
@@ -101,13 +103,16 @@ module _ {K V S : Type 0} (same : K → K → Bool) (hash : K → ℕ) (terms : 
 
     pub plays_whole : PlaysOn same hash terms log e new
     plays_whole = record {
+      played = subst (λ (x : Moment K V). StandsFor same hash terms (After x) new) b_is
+          (stands_then same hash terms log m1 nameless mid (begins.stands refl) 0 placed goes steps outcome effects new comes (m.events + 1) m.is_mapped m.is_closed (m.is_alone && is_alone_on e m)
+          (slots_on outcome m.slots) m.remains (mapped_with (number_of name m)) (closed_with (number_of name m)));
       plays = λ within.
           let at_m1 = subst InCase (sym b_is) within in
           plays same hash terms log (OneCall guard name call) new due e refl
           (in_turn (λ o. GoesOn terms log e) (may_begin guard name m) outcome (sym begins.so)
           (subst Right b_is (goes_right same hash terms log m1 nameless mid (begins.stands refl) 0 placed goes steps outcome effects new comes at_m1)))
           (subst (λ (x : Moment K V). StandsFor same hash terms (After x) new) b_is
-          (stands_then same hash terms log m1 nameless mid (begins.stands refl) 0 placed goes steps outcome effects new comes at_m1 (m.events + 1) m.is_mapped m.is_closed (m.is_alone && is_alone_on e m)
+          (stands_then same hash terms log m1 nameless mid (begins.stands refl) 0 placed goes steps outcome effects new comes (m.events + 1) m.is_mapped m.is_closed (m.is_alone && is_alone_on e m)
           (slots_on outcome m.slots) m.remains (mapped_with (number_of name m)) (closed_with (number_of name m))));
       makes = makes_whole guard name call (stands_or (call_of nameless b)) steps outcome takes never;
       does = few_steps same hash terms log m1 nameless mid (begins.stands refl) 0 placed goes steps outcome effects new comes;

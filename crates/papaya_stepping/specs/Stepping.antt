@@ -39,7 +39,7 @@ use Rattle.papaya_executor.specs.Stepping.{has_ended}
 use Rattle.papaya_follows.specs.Calling.{come_to}
 use Rattle.papaya_logged.specs.Calling.{CallGoesOn}
 use Rattle.papaya_logged.specs.Shown.{IsShown}
-use Rattle.papaya_scheduler.specs.Played.{AsFar, BeginsSo, IsDue, Plays, StandsAs, StandsFor, entry_of}
+use Rattle.papaya_scheduler.specs.Played.{AsFar, BeginsSo, IsDue, IsPlayed, Plays, StandsAs, StandsFor, entry_of}
 use Rattle.papaya_scheduler.specs.Seen.{is_named}
 use Rattle.papaya_scheduler.specs.Telling.{answer_of, goes_on, number_by, kept}
 use Rattle.papaya_scheduler.specs.declared.caller.Caller.{Caller}
@@ -253,8 +253,10 @@ module _ {K V S : Type 0} (same : K → K → Bool) (hash : K → ℕ) where
       (terms : Terms) (m : Moment K V) → StandsFor same hash terms m old
       → (begun : Bool) × (mid : Scheduler K V S) × BeginsSo same hash terms m nameless guard name call begun old mid × (begun ≡ true → TakenAs 0 most_steps played mid new)
 
-  -- What is promised of an event by which a call goes on: it comes to what is right, where it does so in its case; it makes as many steps as it may, and does not more.
+  -- What is promised of an event by which a call goes on: the scheduler has played the log with it; it comes to what is right, where it does so in its case; it makes as many steps as it may, and
+  -- does not more.
   pub record PlaysOn (terms : Terms) (log : List (Entry K V)) (e : Entry K V) (p : Scheduler K V S) : Type 0 where
+    pub played : IsPlayed same hash terms (e ∷ log) p
     pub plays : ComesInCase terms log e → Plays same hash terms log e p
     pub makes : MakesSteps e.event (stands_or (acting (caller_of e.event) (at_work e (moment log)))) e.steps e.outcome
     pub does : DoesFew (caller_of e.event) e.steps e.effects
