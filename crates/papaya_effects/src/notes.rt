@@ -1,5 +1,5 @@
 //! What is noted of the memory of a run: what each block is, how many pairs were stored, and how many buckets of slots there are.
-ghost use Rattle.std.specs.Prelude.{◌≡◌, ◌<◌, ◌+◌, ◌^◌, ℕ, length, slice_index_or, OnOk, OnErr};
+ghost use Rattle.std.specs.Prelude.{◌≡◌, ◌<◌, ◌≤◌, ◌+◌, ◌^◌, ℕ, length, slice_index_or, OnOk, OnErr};
 ghost use Rattle.papaya_effects.specs.Known.{known, nothing_known, with_role, with_pair, with_bucket};
 ghost use Rattle.papaya_effects.specs.declared.role.Role.TheVariants.{Free};
 
@@ -45,6 +45,13 @@ impl Notes {
             .get(block as usize)
             .copied()
             .unwrap_or(Role::Free)
+    }
+
+    /// From this number on there is no block.
+    pub fn blocks(&self) -> u64
+        ensures { (b : ℕ) → result ≤ b → (known self.now).roles b ≡ Free }
+    {
+        self.roles.len() as u64
     }
 
     /// How many pairs were stored.

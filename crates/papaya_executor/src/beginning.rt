@@ -21,6 +21,7 @@ impl<K: Drop, V: Drop, S> Executor<K, V, S> {
         requires { slot < SLOTS }
         ensures number { IfOk result (λ caller. caller ≡ length self.old.workers.items * SLOTS + slot) }
         ensures leads { IfOk result (λ caller. (same : K → K → Bool) (hash : K → ℕ) (s : Scene K V) → IsAt same hash self.old s → BeginLeads same hash map machine caller s self.old self.new) }
+        ensures hasher { self.new.hasher ≡ self.old.hasher }
         ensures refused { IfErr result (λ error. IsRefused self.old self.new) }
         ensures only { OnErr result (HasNoPlace self.old) }
     {

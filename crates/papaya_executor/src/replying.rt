@@ -37,7 +37,8 @@ impl<K: Drop, V: Drop, S> Executor<K, V, S> {
     /// Asks the walk of a caller for its next pair, and answers whether it was ready. Any other call goes on as it was.
     pub fn next(&mut self, caller: u64) -> bool
         requires { (same : K → K → Bool) × (hash : K → ℕ) × (s : Scene K V) × IsAt same hash self.old s × HasCall s caller }
-        ensures { (same : K → K → Bool) (hash : K → ℕ) (s : Scene K V) → IsAt same hash self.old s → AskLeads same hash caller result s self.old self.new }
+        ensures leads { (same : K → K → Bool) (hash : K → ℕ) (s : Scene K V) → IsAt same hash self.old s → AskLeads same hash caller result s self.old self.new }
+        ensures hasher { self.new.hasher ≡ self.old.hasher }
     {
         let place = (caller / SLOTS) as usize;
         let TakenCall {

@@ -15,6 +15,11 @@ use Rattle.papaya_resize.specs.declared.new_table.Making.{Making}
 use Rattle.papaya_resize.specs.declared.new_table.Making.TheVariants as makes
 use Rattle.papaya_reserves.specs.declared.reserve.Reserving.{Reserving}
 use Rattle.papaya_reserves.specs.declared.reserve.Reserving.TheVariants as reserves
+use Rattle.papaya_raw.specs.declared.machines.answer.Called.{Called}
+use Rattle.papaya_raw.specs.declared.machines.answer.Called.TheVariants as called
+use Rattle.papaya_raw.specs.declared.machines.answer.End.TheVariants as ends
+use Rattle.papaya_raw.specs.declared.machines.call.Calling.{Calling}
+use Rattle.papaya_raw.specs.declared.machines.call.Calling.TheVariants as calls
 use Rattle.papaya_sweeps.specs.Sweep.{sweep_plan}
 use Rattle.papaya_sweeps.specs.SweepPoints.{after_next, after_reply}
 use Rattle.papaya_sweeps.specs.declared.sweep.Sweep.{Sweep}
@@ -26,39 +31,73 @@ use Rattle.papaya_sweeps.specs.declared.sweep.Swept.TheVariants as swept
 abbrev pub IsRoom : Fault → Type 0
 IsRoom fault = (fault ≡ Memory) ⊎ (fault ≡ Capacity)
 
+-- Each fault that a machine has to tell, at whichever of its points, is such a one;
+module _ (Is : Fault → Type 0) where
+  abbrev pub SoInMaking : Making → Type 0
+  SoInMaking (makes.Refused fault) = Is fault
+  SoInMaking _ = Unit {0}
+
+  abbrev pub SoInCopying : Copying → Type 0
+  SoInCopying (copies.Grows word code making) = SoInMaking making.stands
+  SoInCopying (copies.Remakes making) = SoInMaking making.stands
+  SoInCopying (copies.Tallies word fault) = Is fault
+  SoInCopying (copies.Unmarks word fault) = Is fault
+  SoInCopying (copies.Unclaims fault) = Is fault
+  SoInCopying (copies.Refused fault) = Is fault
+  SoInCopying _ = Unit {0}
+
+  abbrev pub SoInReserving : Reserving → Type 0
+  SoInReserving (reserves.Makes making) = SoInMaking making.stands
+  SoInReserving (reserves.Grows table making) = SoInMaking making.stands
+  SoInReserving (reserves.Copies copier) = SoInCopying copier.stands
+  SoInReserving (reserves.Refused fault) = Is fault
+  SoInReserving _ = Unit {0}
+
+  abbrev pub SoInSweeping : Sweeping → Type 0
+  SoInSweeping (sweeps.Copies copier) = SoInCopying copier.stands
+  SoInSweeping (sweeps.Refused fault) = Is fault
+  SoInSweeping _ = Unit {0}
+
+  abbrev pub SoInCalling : Calling → Type 0
+  SoInCalling (calls.Firsts making) = SoInMaking making.stands
+  SoInCalling (calls.Allocs making) = SoInMaking making.stands
+  SoInCalling (calls.Helps copier goal) = SoInCopying copier.stands
+  SoInCalling (calls.Copies copier) = SoInCopying copier.stands
+  SoInCalling (calls.Drops (ends.Refused fault)) = Is fault
+  SoInCalling (calls.Over (ends.Refused fault)) = Is fault
+  SoInCalling _ = Unit {0}
+
+  -- and an outcome that is a refusal is one for this
+  abbrev pub RefusesSo : {T R : Type 0} → Outcome T R → Type 0
+  RefusesSo (outcome.Refused fault) = Is fault
+  RefusesSo _ = Unit {0}
+
+  abbrev pub SweepRefusesSo : {T : Type 0} → Swept T → Type 0
+  SweepRefusesSo (swept.Refused fault) = Is fault
+  SweepRefusesSo _ = Unit {0}
+
+  abbrev pub CallRefusesSo : {T : Type 0} → Called T → Type 0
+  CallRefusesSo (called.Refused fault) = Is fault
+  CallRefusesSo _ = Unit {0}
+
+-- so for room
 abbrev pub RoomInMaking : Making → Type 0
-RoomInMaking (makes.Refused fault) = IsRoom fault
-RoomInMaking _ = Unit {0}
+RoomInMaking p = SoInMaking IsRoom p
 
 abbrev pub RoomInCopying : Copying → Type 0
-RoomInCopying (copies.Grows word code making) = RoomInMaking making.stands
-RoomInCopying (copies.Remakes making) = RoomInMaking making.stands
-RoomInCopying (copies.Tallies word fault) = IsRoom fault
-RoomInCopying (copies.Unmarks word fault) = IsRoom fault
-RoomInCopying (copies.Unclaims fault) = IsRoom fault
-RoomInCopying (copies.Refused fault) = IsRoom fault
-RoomInCopying _ = Unit {0}
+RoomInCopying p = SoInCopying IsRoom p
 
 abbrev pub RoomInReserving : Reserving → Type 0
-RoomInReserving (reserves.Makes making) = RoomInMaking making.stands
-RoomInReserving (reserves.Grows table making) = RoomInMaking making.stands
-RoomInReserving (reserves.Copies copier) = RoomInCopying copier.stands
-RoomInReserving (reserves.Refused fault) = IsRoom fault
-RoomInReserving _ = Unit {0}
+RoomInReserving p = SoInReserving IsRoom p
 
 abbrev pub RoomInSweeping : Sweeping → Type 0
-RoomInSweeping (sweeps.Copies copier) = RoomInCopying copier.stands
-RoomInSweeping (sweeps.Refused fault) = IsRoom fault
-RoomInSweeping _ = Unit {0}
+RoomInSweeping p = SoInSweeping IsRoom p
 
--- an outcome that is a refusal is one for this
 abbrev pub RefusesRoom : {T R : Type 0} → Outcome T R → Type 0
-RefusesRoom (outcome.Refused fault) = IsRoom fault
-RefusesRoom _ = Unit {0}
+RefusesRoom end = RefusesSo IsRoom end
 
 abbrev pub SweepRefusesRoom : {T : Type 0} → Swept T → Type 0
-SweepRefusesRoom (swept.Refused fault) = IsRoom fault
-SweepRefusesRoom _ = Unit {0}
+SweepRefusesRoom end = SweepRefusesSo IsRoom end
 
 module _ (K V : Type 0) where
   -- at each of its steps a reservation is refused for this alone

@@ -111,7 +111,7 @@ module _ {K V : Type 0} (map : ℕ) (of : Option ℕ) (m : Moment K V) (known : 
 
 -- the world that a step of a making leads to
 module _ {K V S : Type 0} (same : K → K → Bool) (hash : K → ℕ) (s : Scene K V) (old new : Executor K V S) (i : ℕ) (b : Beginning K) (opening : NewMap) (w2 : World (Node K V)) where
-  world_then : (told : Progress Setting) (comes : MakingComesTo same hash s old new i b opening w2 told) → (making_after same hash s old new i b opening w2 told comes).world ≡ w2
+  pub world_then : (told : Progress Setting) (comes : MakingComesTo same hash s old new i b opening w2 told) → (making_after same hash s old new i b opening w2 told comes).world ≡ w2
   world_then progress.Goes comes = refl
   world_then progress.Waits comes = absurd comes
   world_then (progress.Done setting) comes = refl
@@ -145,7 +145,7 @@ module _ {K V S : Type 0} (same : K → K → Bool) (hash : K → ℕ) (name : �
           let to = leads b here in
           some_of (value_at w2.memory x) _ ((linked_stays same hash name m known s old new at whole.all.shown i b here to.0 told to.1 to.2 of x _ has.1 has.2).0 ∙ has.1)
 
-  role_kept : (x : ℕ) (r : Role) → known.roles x ≡ r → IsOfMap r → known2.roles x ≡ r
+  pub role_kept : (x : ℕ) (r : Role) → known.roles x ≡ r → IsOfMap r → known2.roles x ≡ r
   role_kept x r e its =
       let to = leads b here in
       let there = subst (λ (z : World (Node K V)). IsSome (value_at z.memory x)) (sym (world_then same hash s old new i b to.0 to.2.step.w2 told to.3)) (of_map_there x r e its) in

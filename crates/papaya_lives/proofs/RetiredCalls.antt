@@ -124,7 +124,7 @@ module _ (t : Table) where
   row_ends : (caller map : ℕ) (known : Known) (effects : List Effect) (before after : Option Due) → RowTells caller map known effects before after → NoneEnds t effects
   row_ends caller map known effects before after (TellsNone none same) = subst (NoneEnds t) (sym none) tt
   row_ends caller map known effects before after (TellsRetired word was gone are) = subst (NoneEnds t) (sym are) (retired_ends (known.roles (block_in word)))
-  row_ends caller map known effects before after (TellsDeferred word block u len was gone table are) = subst (NoneEnds t) (sym are) (carried_ends u (named known word))
+  row_ends caller map known effects before after (TellsDeferred word block place u len was its gone table are) = subst (NoneEnds t) (sym are) (carried_ends u (named known word))
 
 -- what a call's machine has to retire is what its row has
 module _ (b slot : ℕ) where
@@ -357,7 +357,7 @@ module _ {K V S : Type 0} (same : K → K → Bool) (hash : K → ℕ) (name : �
             let names : block_in word ≡ b = subst (IsDue b) was due in
             let alone = are ∙ ap (λ (k : ℕ). told_retired (known.roles k)) names ∙ ap told_retired table in
             inl (subst (λ (fs : List Effect). is_stage is_retired x (with_effects (Some (name i)) (Some map) fs m) ≡ true) (sym alone) (now_retired x m.tables (whole.blocks.tables b len x table)))
-        by (TellsDeferred word block y n was gone noted are) = absurd (subst (IsDue b) was due)
+        by (TellsDeferred word block place y n was its gone noted are) = absurd (subst (IsDue b) was due)
 
     module _ (w3 : World (Node K V)) (is : to.4.w2 ≡ w3) where
       goes_in : (b : ℕ) → IsToRetire b (w3.row i) → to.4.w2.row i ≡ Rests → ⊥

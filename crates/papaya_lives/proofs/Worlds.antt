@@ -45,7 +45,7 @@ cut_waits : (h : Hand) (i : ℕ) (l : Life) → h ≡ Cutting i → HandFits h l
 cut_waits h i l is fits = ap is_in_wait (subst (λ (k : Hand). HandFits k l) is fits)
 
 -- what waits the collector has
-waiting_hand : (h : Hand) (l : Life) → is_in_wait l ≡ true → HandFits h l → h ≡ Handed
+pub waiting_hand : (h : Hand) (l : Life) → is_in_wait l ≡ true → HandFits h l → h ≡ Handed
 waiting_hand NoBlock l some fits = absurd (let none = ap is_in_wait fits in cc (some, none))
 waiting_hand (Making i) l some fits = absurd (let none = ap is_in_wait fits in cc (some, none))
 waiting_hand (InUse o) l some fits = absurd (let none = ap is_in_wait fits in cc (some, none))

@@ -15,6 +15,9 @@ use Rattle.papaya_executor.specs.declared.worker.TheConstants.{SLOTS}
 use Rattle.papaya_executor.proofs.Fresh.{caller_in, no_calls_yet, resting}
 use Rattle.papaya_follows.specs.Calling.{NoneNamed}
 use Rattle.papaya_moments.specs.Whole.{ShowsWhole}
+use Rattle.papaya_kept.specs.Kept.{ShowsKept}
+use Rattle.papaya_kept.proofs.Between.{calls_begin_kept}
+use Rattle.papaya_kept.proofs.Stays.{begins_kept, renamed_kept}
 use Rattle.papaya_moments.proofs.Calls.{whole_begins, calls_begin_whole}
 use Rattle.papaya_logged.specs.Calling.{CallBegins}
 use Rattle.papaya_logged.specs.Shown.{IsShown}
@@ -25,8 +28,8 @@ use Rattle.papaya_logged.proofs.Renamed.{renamed}
 named : (i : ℕ) (own : List ℕ) (name : ℕ → List ℕ) → put i own name i ≡ own
 named i own name = ap (λ (b : Bool). if b then own else name i) (eq-eqb i i refl)
 
-kept : (i j : ℕ) (own : List ℕ) (name : ℕ → List ℕ) → j ≢ i → put i own name j ≡ name j
-kept i j own name ne = ap (λ (b : Bool). if b then own else name j) (ne_eqb j i ne)
+same_name : (i j : ℕ) (own : List ℕ) (name : ℕ → List ℕ) → j ≢ i → put i own name j ≡ name j
+same_name i j own name ne = ap (λ (b : Bool). if b then own else name j) (ne_eqb j i ne)
 
 module _ {K V S : Type 0} (same : K → K → Bool) (hash : K → ℕ) where
   pub call_begins : (old new : Logged K V S) (slot map : ℕ) (machine : Machine K V K) (fits : slot < SLOTS)
@@ -38,16 +41,21 @@ module _ {K V S : Type 0} (same : K → K → Bool) (hash : K → ℕ) where
       let names = put i own name in
       let leads = begins s shown.is_at standing stands inside u is fresh in
       let agree : (j : ℕ) → HasCall s j → names j ≡ name j =
-      λ j has. kept i j own name (λ e. absurd (cc (has.2, subst (λ x. s.calls has.0 x ≡ None) (sym e) (no_calls_yet same hash old.executor s shown.is_at slot fits has.0)))) in
+      λ j has. same_name i j own name (λ e. absurd (cc (has.2, subst (λ x. s.calls has.0 x ≡ None) (sym e) (no_calls_yet same hash old.executor s shown.is_at slot fits has.0)))) in
       let before = renamed same name names m (known old.notes) s agree shown.shows in
       let none : NoneNamed names (names i) s = λ n j x here. subst (λ a. is_same a (names j) ≡ false) (sym (named i own name)) (subst (λ a. is_same own a ≡ false) (sym (agree j (n, x, here))) (apart n j x here)) in
       let after = with_call own guard call (Some map) m in
       let then_at = scene_with map i u s in
+      let rests = resting same hash old.executor s shown.is_at slot fits in
+      let whole = calls_begin_whole K V same names m (known old.notes) s before map i u call guard none called begun rests in
+      let kept_before = renamed_kept K V name names m (known old.notes) s agree shown.kept in
       record {
         is_at = leads.1;
         shows = subst (λ (k : Known). ShowsWhole {K = K} {V = V} same names after k then_at) (ap known (sym noted))
-            (subst (λ (a : List ℕ). ShowsWhole {K = K} {V = V} same names (with_call a guard call (Some map) m) (known old.notes) then_at) (named i own name)
-            (calls_begin_whole K V same names m (known old.notes) s before map i u call guard none called begun (resting same hash old.executor s shown.is_at slot fits)));
+            (subst (λ (a : List ℕ). ShowsWhole {K = K} {V = V} same names (with_call a guard call (Some map) m) (known old.notes) then_at) (named i own name) whole);
+        kept = subst (λ (k : Known). ShowsKept {K = K} {V = V} names after k then_at) (ap known (sym noted))
+            (subst (λ (a : List ℕ). ShowsKept {K = K} {V = V} names (with_call a guard call (Some map) m) (known old.notes) then_at) (named i own name)
+            (calls_begin_kept K V S same hash names m (known old.notes) s old.executor new.executor shown.is_at before kept_before map i standing stands u call guard fresh called begun none rests leads.1 whole.all.shown));
       }
 
 -- so it is before all events, with nothing noted
@@ -56,4 +64,5 @@ pub first_shown : {K V S : Type 0} (same : K → K → Bool) (hash : K → ℕ) 
 first_shown {K} {V} same hash name l roots at noted = record {
   is_at = at;
   shows = subst (λ (k : Known). ShowsWhole {K = K} {V = V} same name start k (at_first roots)) (sym noted) (whole_begins K V same roots name);
+  kept = subst (λ (k : Known). ShowsKept {K = K} {V = V} name start k (at_first roots)) (sym noted) (begins_kept K V roots name);
 }

@@ -4,7 +4,8 @@ use Rattle.std.proofs.Common.{◌≡◌, refl, ap}
 use Rattle.seize_words.specs.Mem.{Mem}
 use Rattle.seize.specs.World.{World}
 use Rattle.papaya_tables.specs.declared.node.Node.{Node}
-use Rattle.papaya_schedules.specs.Moment.{Moment}
+use Rattle.papaya_schedules.specs.declared.effect.Table.{Table}
+use Rattle.papaya_schedules.specs.Moment.{Behind, Moment}
 use Rattle.papaya_effects.specs.Known.{Known, known}
 use Rattle.papaya_effects.specs.declared.role.Role.{Role}
 use Rattle.papaya_effects.specs.declared.role.Role.TheVariants as role
@@ -14,6 +15,11 @@ use Rattle.papaya_follows.specs.Blocks.{HasRole}
 use Rattle.papaya_hands.specs.Rows.{HoldsOne}
 use Rattle.papaya_hands.proofs.SettlingRows.{one_kept}
 use Rattle.papaya_moments.specs.Whole.{ShowsWhole}
+use Rattle.papaya_settles.specs.Entries.{IsBlank}
+use Rattle.papaya_settles.proofs.EntryScenes.{one_as}
+use Rattle.papaya_lives.specs.Behind.{LiesBehind}
+use Rattle.papaya_lives.proofs.Each.{each_on}
+use Rattle.papaya_kept.specs.Kept.{ShowsKept}
 use Rattle.papaya_logged.specs.Choosing.{ChoiceIsShown, logged_chosen, memory_chosen, scene_chosen}
 use Rattle.papaya_logged.specs.declared.logged.Logged.{Logged}
 
@@ -62,6 +68,35 @@ module _ {K V : Type 0} (choice : ℕ) (same : K → K → Bool) (name : ℕ →
         counters = whole.counters;
       }
 
+module _ {K V : Type 0} (choice : ℕ) (name : ℕ → List ℕ) (m : Moment K V) (noted : Known) (s : Scene K V) where
+  -- entries are blank still
+  blank_then : (b : ℕ) → IsBlank s.world.memory b → IsBlank (then_in choice s.world).memory b
+  blank_then b blank = record { next = blank.next; first = blank.first }
+
+  lies_then : (n : ℕ) (t : Table) → LiesBehind noted s.world n t → LiesBehind noted (then_in choice s.world) n t
+  lies_then n t l = record { pair = l.pair; is_pair = l.is_pair; table = l.table; len = l.len; is_table = l.is_table; waits = l.waits }
+
+  kept_then : ShowsKept name m noted s → ShowsKept name m noted (scene_chosen choice s)
+  kept_then kept = record {
+    entries = record {
+      blank = λ b its. blank_then b (kept.entries.blank b its);
+      one = λ map i u is. one_as (IsBlank s.world.memory) (IsBlank (then_in choice s.world).memory) blank_then (s.world.row i) (kept.entries.one map i u is);
+    };
+    made = record { has = kept.made.has; named = kept.made.named; whose = kept.made.whose };
+    tables = record { tables = kept.tables.tables; whose = kept.tables.whose };
+    looking = kept.looking;
+    short = kept.short;
+    grown = kept.grown;
+    counts = record { counts = kept.counts.counts };
+    owed = record { owed = kept.owed.owed; noted = kept.owed.noted };
+    handing = kept.handing;
+    waiting =
+        each_on (λ n t. (m.place n ≡ Behind) × LiesBehind noted s.world n t) (λ n t. (m.place n ≡ Behind) × LiesBehind noted (then_in choice s.world) n t) (λ n t p. (p.0, lies_then n t p.1)) m.deferred
+        kept.waiting;
+    once = kept.once;
+    retired = record { tables = kept.retired.tables; lengths = kept.retired.lengths };
+  }
+
 module _ {K V S : Type 0} (choice : ℕ) (old : Logged K V S) where
   at_then : (same : K → K → Bool) (hash : K → ℕ) (s : Scene K V) → IsAt same hash old.executor s → IsAt same hash (logged_chosen choice old).executor (scene_chosen choice s)
   at_then same hash s at = record {
@@ -82,7 +117,7 @@ module _ {K V S : Type 0} (choice : ℕ) (old : Logged K V S) where
   }
 
   pub choice_shown : ChoiceIsShown choice old (logged_chosen choice old)
-  choice_shown same hash name m s shown = record { is_at = at_then same hash s shown.is_at; shows = whole_then choice same name m (known old.notes) s shown.shows }
+  choice_shown same hash name m s shown = record { is_at = at_then same hash s shown.is_at; shows = whole_then choice same name m (known old.notes) s shown.shows; kept = kept_then choice name m (known old.notes) s shown.kept }
 
   -- so it is by what the memory is then
   abbrev pub with_memory : Mem (Node K V) → Logged K V S

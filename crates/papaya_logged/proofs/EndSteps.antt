@@ -33,7 +33,7 @@ use Rattle.papaya_executor.specs.IsAt.{Scene, IsAt, slot_of}
 use Rattle.papaya_executor.specs.declared.executor.Executor.{Executor}
 use Rattle.papaya_follows.specs.Steps.{TakesNone}
 use Rattle.papaya_follows.proofs.Alike.{AllCalm, put_elsewhere}
-use Rattle.papaya_others.specs.Endings.{TellsNext, ending_after}
+use Rattle.papaya_others.specs.Endings.{TellsNext, ending_after, without_map}
 use Rattle.papaya_others.proofs.Ends.{tells_next}
 use Rattle.papaya_moments.specs.Endings.{IsOfIts}
 use Rattle.papaya_moments.proofs.Ends.{says, endings_begin_whole, endings_keep_whole}
@@ -42,6 +42,9 @@ use Rattle.papaya_moments.proofs.WholeEnds.{whole_ends_take_all}
 use Rattle.papaya_moments.specs.WholeEnds.{all_ended}
 use Rattle.papaya_moments.specs.Whole.{ShowsWhole}
 use Rattle.papaya_logged.specs.Ends.{ended_as, AllEnds, NotesMap, NotedStill, EndIsBegun, EndGoesOn, EndSteps, EndIsOver}
+use Rattle.papaya_kept.specs.Kept.{ShowsKept}
+use Rattle.papaya_kept.proofs.Others.{endings_begin_kept, endings_keep_kept, endings_find_kept}
+use Rattle.papaya_kept.proofs.Stays.{stays_kept}
 use Rattle.papaya_logged.specs.Shown.{IsShown}
 use Rattle.papaya_logged.specs.declared.logged.Logged.{Logged}
 use Rattle.papaya_logged.proofs.EndOrder.{all_told, pairs_ordered}
@@ -115,6 +118,8 @@ module _ {K V S : Type 0} (same : K → K → Bool) (hash : K → ℕ) where
           is_at = to.4;
           shows = subst (λ (n : Notes). ShowsWhole {K = K} {V = V} same name m (known n) (ending_begun map i to.0 s)) (sym noted)
               (endings_begin_whole K V S same hash name m (known old.notes) s new.executor shown.shows map i to.0 to.1 to.4);
+          kept = subst (λ (n : Notes). ShowsKept {K = K} {V = V} name m (known n) (ending_begun map i to.0 s)) (sym noted)
+              (endings_begin_kept K V S same hash name m (known old.notes) s old.executor new.executor shown.is_at shown.kept map i to.0 to.4);
         },
       )
 
@@ -240,11 +245,15 @@ module _ {K V S : Type 0} (same : K → K → Bool) (hash : K → ℕ) where
         did_end name m (known old.notes) s old.executor stepped shown.is_at shown.shows i f here to.0 said to.1 to.2 map not_there to.3 number first its still,
         subst (λ (k : Known). NotedStill first k (f.back ++ taken_of to.2.deed)) (sym noted)
             (noted_on name m (known old.notes) s old.executor stepped shown.is_at shown.shows i f here to.0 said to.1 to.2 map not_there to.3 number first its still),
-        λ waits. record {
+        record {
           is_at = end_there old.executor stepped s i said leads f here;
           shows = subst (λ (k : Known). ShowsWhole {K = K} {V = V} same name (with_effects None (Some map) effects m) k (ending_after same hash s stepped i f to.0 to.2.w2 to.2.deed said to.3)) (sym noted)
               (endings_keep_whole K V S same hash name m (known old.notes) s old.executor stepped shown.is_at shown.shows i said leads f here map not_there
-              (ends_alone name m (known old.notes) s old.executor stepped shown.is_at shown.shows i f here to.0 said to.1 to.2 map not_there to.3 number first its still) waits);
+              (ends_alone name m (known old.notes) s old.executor stepped shown.is_at shown.shows i f here to.0 said to.1 to.2 map not_there to.3 number first its still)
+              (endings_find_kept K V S same hash name m (known old.notes) s old.executor stepped shown.is_at shown.shows shown.kept i said leads f here map not_there));
+          kept = subst (λ (k : Known). ShowsKept {K = K} {V = V} name (with_effects None (Some map) effects m) k (ending_after same hash s stepped i f to.0 to.2.w2 to.2.deed said to.3)) (sym noted)
+              (endings_keep_kept K V S same hash name m (known old.notes) s old.executor stepped shown.is_at shown.shows shown.kept i said leads f here map not_there
+              (end_there old.executor stepped s i said leads f here));
         },
       )
 
@@ -265,4 +274,8 @@ end_steps {K} {V} {S} old new stepped i map said before after stepping did noted
 -- Without the map it is shown, too.
 pub end_is_over : {K V S : Type 0} (l : Logged K V S) → EndIsOver l
 end_is_over {K} {V} l same hash name m s shown own remains found others =
-    record { is_at = shown.is_at; shows = endings_are_over_whole K V same name m (known l.notes) s shown.shows own remains found others }
+    record {
+      is_at = shown.is_at;
+      shows = endings_are_over_whole K V same name m (known l.notes) s shown.shows own remains found others;
+      kept = stays_kept K V name m (without_map own remains m) (known l.notes) s s shown.kept refl refl refl refl refl refl refl;
+    }

@@ -15,6 +15,7 @@ use Rattle.papaya_finishes.specs.Maps.{Standing}
 use Rattle.papaya_executor.specs.IsAt.{Scene, IsAt}
 use Rattle.papaya_executor.specs.declared.executor.Executor.{Executor}
 use Rattle.papaya_moments.specs.Whole.{ShowsWhole}
+use Rattle.papaya_kept.specs.Kept.{ShowsKept}
 use Rattle.papaya_logged.specs.Makings.{given_back, numbers_then, MakingCame, MakingRan}
 use Rattle.papaya_logged.specs.declared.logged.Logged.{Logged}
 
@@ -111,6 +112,7 @@ ran_given {K} {V} {S} i map told xs ys old mid new ran notes is items = (
               record {
                 is_at = at_given same hash map i s u.0 old.executor shown.is_at b here of_map mid.executor new.executor is u.2.is_at told u.1 items;
                 shows = subst (λ (n : Notes). ShowsWhole {K = K} {V = V} same name (with_effects None of ran.0 m) (known n) u.0) (sym notes) u.2.shows;
+                kept = subst (λ (n : Notes). ShowsKept {K = K} {V = V} name (with_effects None of ran.0 m) (known n) u.0) (sym notes) u.2.kept;
               },
               u.3,
               u.4,

@@ -1,11 +1,12 @@
 -- The beginning of the making of a map is written down, and a step of it.
 use Rattle.std.specs.Prelude.{◌≡◌, ℕ, Bool, List, ◌++◌, Option, Some, None}
-use Rattle.std.proofs.Common.{ap, subst, sym, ◌∙◌}
+use Rattle.std.proofs.Common.{refl, ap, subst, sym, ◌∙◌}
 use Rattle.seize.specs.World.{with_at}
 use Rattle.seize.specs.declared.progress.Progress.{Progress}
 use Rattle.seize.specs.declared.progress.Progress.TheVariants as progress
 use Rattle.papaya_tables.specs.declared.setting.Setting.{Setting}
 use Rattle.papaya_schedules.specs.declared.effect.Effect.{Effect}
+use Rattle.papaya_schedules.specs.Beginning.{with_map}
 use Rattle.papaya_schedules.specs.Effects.{with_effects}
 use Rattle.papaya_schedules.specs.Moment.{Moment}
 use Rattle.papaya_effects.specs.Effects.{effects_of, known_after}
@@ -24,6 +25,9 @@ use Rattle.papaya_moments.proofs.MakingSteps.{makings_keep_whole}
 use Rattle.papaya_moments.proofs.MapsCome.{makings_begin_whole, maps_come_whole}
 use Rattle.papaya_moments.proofs.Numbers.{maps_come_by_number}
 use Rattle.papaya_moments.specs.Whole.{ShowsWhole}
+use Rattle.papaya_kept.specs.Kept.{ShowsKept}
+use Rattle.papaya_kept.proofs.Others.{makings_keep_kept}
+use Rattle.papaya_kept.proofs.Stays.{makings_begin_kept, stays_kept}
 use Rattle.papaya_logged.specs.Makings.{MakingIsBegun, MakingGoesOn, MakingSteps, MapIsThere, StaysNew}
 use Rattle.papaya_logged.specs.Shown.{IsShown}
 use Rattle.papaya_logged.specs.declared.logged.Logged.{Logged}
@@ -32,14 +36,17 @@ use Rattle.papaya_logged.proofs.MakingAsks.{making_asks}
 module _ {K V S : Type 0} (same : K → K → Bool) (hash : K → ℕ) where
   pub making_is_begun : (old new : Logged K V S) (given : Setting) (places i : ℕ)
       → ((s : Scene K V) → IsAt same hash old.executor s → MakingBegins same hash given places i s old.executor new.executor)
+      → ((s : Scene K V) → IsAt same hash old.executor s → s.makers i ≡ None)
       → new.notes ≡ old.notes
       → (name : ℕ → List ℕ) (m : Moment K V) (s : Scene K V) → IsShown same hash name m old s → MakingIsBegun same hash name m s given places i old new
-  making_is_begun old new given places i begins noted name m s shown lawful initial batches mask some sized =
+  making_is_begun old new given places i begins fresh noted name m s shown lawful initial batches mask some sized =
       let b = next_making hash given places old.executor in
       record {
         is_at = (begins s shown.is_at lawful initial batches mask some sized).1;
         shows = subst (λ (n : Notes). ShowsWhole {K = K} {V = V} same name m (known n) (record s { makers = with_at s.makers i (Some b) })) (sym noted)
             (makings_begin_whole K V same name m (known old.notes) s shown.shows i b (λ none. none));
+        kept = subst (λ (n : Notes). ShowsKept {K = K} {V = V} name m (known n) (record s { makers = with_at s.makers i (Some b) })) (sym noted)
+            (makings_begin_kept K V name m (known old.notes) s shown.kept i b (fresh s shown.is_at));
       }
 
   -- the executor is there after each step
@@ -81,6 +88,12 @@ module _ {K V S : Type 0} (same : K → K → Bool) (hash : K → ℕ) where
                   (subst (λ (n : ℕ). WasNew n told m → ShowsWhole {K = K} {V = V} same name (with_effects None of (effects_of (acts.Making n) (known old.notes) stepped.memory.changed) m)
                   (known_after (acts.Making n) stepped.memory.changed (known old.notes)) (Then told leads b here)) of_map
                   (λ new. makings_keep_whole K V S same hash name m (known old.notes) s old.executor stepped shown.is_at shown.shows i told leads b here of new) was_new);
+              kept = subst (λ (k : Known). ShowsKept {K = K} {V = V} name (with_effects None of (effects_of (acts.Making map) (known old.notes) stepped.memory.changed) m) k (Then told leads b here)) (sym noted)
+                  (subst (λ (n : ℕ). WasNew n told m → ShowsKept {K = K} {V = V} name (with_effects None of (effects_of (acts.Making n) (known old.notes) stepped.memory.changed) m)
+                  (known_after (acts.Making n) stepped.memory.changed (known old.notes)) (Then told leads b here)) of_map
+                  (λ new. makings_keep_kept K V S same hash name m (known old.notes) s old.executor stepped shown.is_at shown.shows shown.kept i told leads b here of new
+                  (is_there old.executor stepped s i told leads b here)
+                  (makings_keep_whole K V S same hash name m (known old.notes) s old.executor stepped shown.is_at shown.shows i told leads b here of new).all.shown) was_new);
             },
           ),
         )
@@ -102,4 +115,8 @@ making_steps {K} {V} {S} old new stepped i map told before after stepping did no
 -- Where its map comes by the next number, all is shown as before.
 pub map_is_there : {K V S : Type 0} (l : Logged K V S) → MapIsThere l
 map_is_there {K} {V} l same hash name m s shown numbers there next =
-    record { is_at = shown.is_at; shows = maps_come_whole K V same name m (known l.notes) s shown.shows there (maps_come_by_number K V m numbers there next).1 }
+    record {
+      is_at = shown.is_at;
+      shows = maps_come_whole K V same name m (known l.notes) s shown.shows there (maps_come_by_number K V m numbers there next).1;
+      kept = stays_kept K V name m (with_map there m) (known l.notes) s s shown.kept refl refl refl refl refl refl refl;
+    }

@@ -19,6 +19,8 @@ use Rattle.papaya_executor.specs.declared.row.SlotCall.{SlotCall}
 use Rattle.papaya_others.specs.Rows.{scene_then}
 use Rattle.papaya_moments.proofs.OnSlots.{rows_begin_whole, rows_keep_whole}
 use Rattle.papaya_moments.specs.Whole.{ShowsWhole}
+use Rattle.papaya_kept.specs.Kept.{ShowsKept}
+use Rattle.papaya_kept.proofs.Others.{rows_begin_kept, rows_keep_kept, rows_find_kept}
 use Rattle.papaya_logged.specs.OnSlots.{OnSlotBegins, OnSlotGoesOn, OnSlotSteps}
 use Rattle.papaya_logged.specs.Shown.{IsShown}
 use Rattle.papaya_logged.specs.declared.logged.Logged.{Logged}
@@ -36,6 +38,8 @@ module _ {K V S : Type 0} (same : K → K → Bool) (hash : K → ℕ) where
           is_at = (leads may).3.4;
           shows = subst (λ (n : Notes). ShowsWhole {K = K} {V = V} same name m (known n) (scene_then same hash event s old.executor new.executor (leads may).3)) (sym noted)
               (rows_begin_whole K V S same hash name m (known old.notes) s old.executor new.executor shown.is_at shown.shows called i may leads);
+          kept = subst (λ (n : Notes). ShowsKept {K = K} {V = V} name m (known n) (scene_then same hash event s old.executor new.executor (leads may).3)) (sym noted)
+              (rows_begin_kept K V S same hash name m (known old.notes) s old.executor new.executor shown.is_at shown.kept called i may leads);
         },
       )
 
@@ -46,12 +50,15 @@ module _ {K V S : Type 0} (same : K → K → Bool) (hash : K → ℕ) where
       → OnSlotGoesOn same hash name m s i told (effects_of acts.Row (known old.notes) stepped.memory.changed) old (record { executor = stepped; notes = notes })
   on_slot_so old stepped notes i told stepping noted name m s shown row here =
       let leads = stepping s shown.is_at in
-      let effects = effects_of acts.Row (known old.notes) stepped.memory.changed in (
+      let effects = effects_of acts.Row (known old.notes) stepped.memory.changed in
+      let finds = rows_find_kept K V S same hash name m (known old.notes) s old.executor stepped shown.is_at shown.shows shown.kept i told leads row here in (
         leads,
-        λ retired unreclaimed. record {
+        record {
           is_at = (leads row here).4.4;
           shows = subst (λ (k : Known). ShowsWhole {K = K} {V = V} same name (with_effects None None effects m) k (scene_then same hash (Step i) s old.executor stepped (leads row here).4)) (sym noted)
-              (rows_keep_whole K V S same hash name m (known old.notes) s old.executor stepped shown.is_at shown.shows i told leads row here retired unreclaimed);
+              (rows_keep_whole K V S same hash name m (known old.notes) s old.executor stepped shown.is_at shown.shows i told leads row here finds.0 finds.1);
+          kept = subst (λ (k : Known). ShowsKept {K = K} {V = V} name (with_effects None None effects m) k (scene_then same hash (Step i) s old.executor stepped (leads row here).4)) (sym noted)
+              (rows_keep_kept K V S same hash name m (known old.notes) s old.executor stepped shown.is_at shown.shows shown.kept i told leads row here);
         },
       )
 

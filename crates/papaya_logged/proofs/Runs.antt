@@ -14,9 +14,7 @@ use Rattle.papaya_executor.specs.declared.executor.Executor.{Executor}
 use Rattle.papaya_executor.specs.declared.row.SlotUse.{SlotUse}
 use Rattle.papaya_executor.specs.declared.worker.Work.{Work}
 use Rattle.papaya_executor.specs.declared.worker.Work.TheVariants.{OnSlot}
-use Rattle.papaya_spots.specs.OnSlots.{WaitUnreclaimed}
-use Rattle.papaya_moments.specs.OnSlots.{HadRetired}
-use Rattle.papaya_moments.proofs.After.{effects_after, each_parts}
+use Rattle.papaya_moments.proofs.After.{effects_after}
 use Rattle.papaya_logged.specs.OnSlots.{OnSlotSteps, OnSlotRan, has_come}
 use Rattle.papaya_logged.specs.Shown.{IsShown}
 use Rattle.papaya_logged.specs.declared.logged.Logged.{Logged}
@@ -30,7 +28,7 @@ module _ {K V S : Type 0} where
     [],
     sym (append-nil xs),
     λ same hash s at. (s.world, s.maps, at),
-    λ same hash name m s shown retired unreclaimed. (s.world, s.maps, shown),
+    λ same hash name m s shown. (s.world, s.maps, shown),
   )
 
   -- and one step more
@@ -45,16 +43,14 @@ module _ {K V S : Type 0} where
         (let u = ran.2 same hash s at in
         let to = (stepping same hash (record s { world = u.0; maps = u.1 }) u.2 row here).4 in
         (to.0, to.2, to.4)),
-    λ same hash name m s shown retired unreclaimed.
-        (let r = each_parts None None HadRetired ran.0 step.0 m retired in
-        let q = each_parts None None WaitUnreclaimed ran.0 step.0 m unreclaimed in
-        let u = ran.3 same hash name m s shown r.0 q.0 in
+    λ same hash name m s shown.
+        (let u = ran.3 same hash name m s shown in
         let then_at = record s { world = u.0; maps = u.1 } in
         let to = step.2 same hash name (with_effects None None ran.0 m) then_at u.2 row here in
         let at = (to.0 row here).4 in (
           at.0,
           at.2,
-          subst (λ (n : Moment K V). IsShown same hash name n new (record s { world = at.0; maps = at.2 })) (sym (effects_after None None ran.0 step.0 m)) (to.1 r.1 q.1),
+          subst (λ (n : Moment K V). IsShown same hash name n new (record s { world = at.0; maps = at.2 })) (sym (effects_after None None ran.0 step.0 m)) to.1,
         )),
   )
 

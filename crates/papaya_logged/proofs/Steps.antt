@@ -15,6 +15,8 @@ use Rattle.papaya_executor.specs.Stepping.{StepLeads, scene_after}
 use Rattle.papaya_executor.specs.declared.executor.Executor.{Executor}
 use Rattle.papaya_moments.proofs.Calls.{calls_keep_whole}
 use Rattle.papaya_moments.specs.Whole.{ShowsWhole}
+use Rattle.papaya_kept.specs.Kept.{ShowsKept}
+use Rattle.papaya_kept.proofs.Calls.{calls_keep_kept}
 use Rattle.papaya_logged.specs.Calling.{CallGoesOn}
 use Rattle.papaya_logged.specs.Shown.{IsShown}
 use Rattle.papaya_logged.specs.declared.logged.Logged.{Logged}
@@ -37,6 +39,8 @@ module _ {K V S : Type 0} (same : K → K → Bool) (hash : K → ℕ) where
           is_at = to.5;
           shows = subst (λ (k : Known). ShowsWhole {K = K} {V = V} same name (with_effects (Some (name i)) (Some map) effects m) k (scene_after same hash s old.executor stepped map i to.0 u to.1 told to.4)) (sym noted)
               (calls_keep_whole K V S same hash name m (known old.notes) s old.executor stepped shown.is_at shown.shows map i u here told leads);
+          kept = subst (λ (k : Known). ShowsKept {K = K} {V = V} name (with_effects (Some (name i)) (Some map) effects m) k (scene_after same hash s old.executor stepped map i to.0 u to.1 told to.4)) (sym noted)
+              (calls_keep_kept K V S same hash name m (known old.notes) s old.executor stepped shown.is_at shown.shows shown.kept map i u here told leads);
         },
       )
 

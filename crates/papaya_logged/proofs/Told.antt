@@ -15,6 +15,8 @@ use Rattle.papaya_hands.specs.Asked.{as_told}
 use Rattle.papaya_moments.proofs.Calls.{calls_take_whole}
 use Rattle.papaya_moments.proofs.Walks.{walks_go_on_whole, walks_stop_whole}
 use Rattle.papaya_moments.specs.Whole.{ShowsWhole}
+use Rattle.papaya_kept.specs.Kept.{ShowsKept}
+use Rattle.papaya_kept.proofs.Between.{calls_take_kept, walks_go_on_kept, walks_stop_kept}
 use Rattle.papaya_others.specs.Walks.{given_up}
 use Rattle.papaya_logged.specs.Calling.{CallTakes, WalkGoesOn, WalkStops}
 use Rattle.papaya_logged.specs.Shown.{IsShown}
@@ -25,19 +27,24 @@ module _ {K V S : Type 0} (same : K → K → Bool) (hash : K → ℕ) (old new 
   noted_so : (name : ℕ → List ℕ) (m : Moment K V) (s : Scene K V) → ShowsWhole same name m (known old.notes) s → ShowsWhole same name m (known new.notes) s
   noted_so name m s shows = subst (λ (n : Notes). ShowsWhole {K = K} {V = V} same name m (known n) s) (sym noted) shows
 
+  kept_so : (name : ℕ → List ℕ) (m : Moment K V) (s : Scene K V) → ShowsKept name m (known old.notes) s → ShowsKept name m (known new.notes) s
+  kept_so name m s kept = subst (λ (n : Notes). ShowsKept {K = K} {V = V} name m (known n) s) (sym noted) kept
+
   pub call_takes : (reply : MachineReply V) (result : Result Unit (MachineReply V)) → ((s : Scene K V) → IsAt same hash old.executor s → ReplyLeads same hash i reply result s old.executor new.executor)
       → (name : ℕ → List ℕ) (m : Moment K V) (s : Scene K V) → IsShown same hash name m old s → CallTakes same hash name m s i reply result old new
   call_takes reply result leads name m s shown map u here c there question asks is_told told_as ok =
       let to = leads s shown.is_at map u here in
       let taken : (machine_replied (machine_of u) (as_told is_told)).1 ≡ Ok tt = subst (λ (r : MachineReply V). (machine_replied (machine_of u) r).1 ≡ Ok tt) told_as (subst (λ (r : Result Unit (MachineReply V)). r ≡ Ok tt) to.4 ok) in
-      let next_is : machine_of to.1 ≡ (machine_replied (machine_of u) (as_told is_told)).0 = subst (λ (r : MachineReply V). machine_of to.1 ≡ (machine_replied (machine_of u) r).0) told_as to.3 in (
+      let next_is : machine_of to.1 ≡ (machine_replied (machine_of u) (as_told is_told)).0 = subst (λ (r : MachineReply V). machine_of to.1 ≡ (machine_replied (machine_of u) r).0) told_as to.3 in
+      let whole = calls_take_whole K V S same hash name m (known old.notes) s old.executor shown.is_at shown.shows map i u here c there question asks to.0 to.2 is_told to.1 next_is taken
+            (subst (λ (r : MachineReply V). ToldOfKind V same same old.executor.batch_size old.executor.roots slot_of to.0 i u r to.1) told_as to.5) in (
         to.1,
         to.3,
         record {
           is_at = to.7;
-          shows = noted_so name (told_so (name i) is_told m) (scene_with map i to.1 s)
-              (calls_take_whole K V S same hash name m (known old.notes) s old.executor shown.is_at shown.shows map i u here c there question asks to.0 to.2 is_told to.1 next_is taken
-              (subst (λ (r : MachineReply V). ToldOfKind V same same old.executor.batch_size old.executor.roots slot_of to.0 i u r to.1) told_as to.5));
+          shows = noted_so name (told_so (name i) is_told m) (scene_with map i to.1 s) whole;
+          kept = kept_so name (told_so (name i) is_told m) (scene_with map i to.1 s)
+              (calls_take_kept K V S same hash name m (known old.notes) s old.executor new.executor shown.is_at shown.shows shown.kept map i u here (as_told is_told) to.1 next_is is_told to.7 whole.all.shown);
         },
       )
 
@@ -53,6 +60,7 @@ module _ {K V S : Type 0} (same : K → K → Bool) (hash : K → ℕ) (old new 
           record {
             is_at = to.4;
             shows = noted_so name m (scene_with map i to.0 s) (walks_go_on_whole K V S same hash name m (known old.notes) s old.executor new.executor shown.shows i asked map u here);
+            kept = kept_so name m (scene_with map i to.0 s) (walks_go_on_kept K V S same hash name m (known old.notes) s old.executor new.executor shown.shows shown.kept i asked map u here);
           },
         ),
   )
@@ -67,5 +75,7 @@ module _ {K V S : Type 0} (same : K → K → Bool) (hash : K → ℕ) (old new 
         λ none. record {
           is_at = to.2;
           shows = noted_so name (given_up (name i) stopped m) after (walks_stop_whole K V S same hash name m (known old.notes) s old.executor new.executor shown.shows i stopped asked map u here none);
+          kept = kept_so name (given_up (name i) stopped m) after
+              (walks_stop_kept K V S same hash name m (known old.notes) s old.executor new.executor shown.is_at shown.shows shown.kept i stopped asked map u here none);
         },
       )

@@ -3,7 +3,7 @@ use Rattle.std.specs.Prelude.{◌≡◌, ℕ, zero, suc, Bool, true, false, List
 use Rattle.seize.specs.World.{World, Begin, Step}
 use Rattle.papaya_tables.specs.declared.node.Node.{Node}
 use Rattle.papaya_schedules.specs.declared.effect.Effect.{Effect}
-use Rattle.papaya_schedules.specs.Effects.{with_effects, AtEachEffect}
+use Rattle.papaya_schedules.specs.Effects.{with_effects}
 use Rattle.papaya_schedules.specs.Moment.{Moment}
 use Rattle.papaya_effects.specs.Effects.{effects_of}
 use Rattle.papaya_effects.specs.Known.{Known}
@@ -19,8 +19,6 @@ use Rattle.papaya_executor.specs.declared.row.SlotRow.{SlotRow}
 use Rattle.papaya_executor.specs.declared.worker.Work.TheVariants.{OnSlot}
 use Rattle.papaya_finishes.specs.Maps.{Standing}
 use Rattle.papaya_others.specs.Rows.{scene_then}
-use Rattle.papaya_spots.specs.OnSlots.{WaitUnreclaimed}
-use Rattle.papaya_moments.specs.OnSlots.{HadRetired}
 use Rattle.papaya_logged.specs.Shown.{IsShown}
 use Rattle.papaya_logged.specs.declared.logged.Logged.{Logged}
 
@@ -32,20 +30,17 @@ module _ {K V S : Type 0} (same : K → K → Bool) (hash : K → ℕ) (name : �
       → (leads : RowBegins same hash called i s old.executor new.executor)
       × IsShown same hash name m new (scene_then same hash (Begin i (request_of (slot_of i) called)) s old.executor new.executor (leads may).3)
 
-  -- A step of a caller's row, which did this. If a table that it reclaims was retired, and what waits behind that is not reclaimed, the moment after it shows where the
-  -- step has led.
+  -- A step of a caller's row, which did this: the moment after it shows where the step has led.
   abbrev pub OnSlotGoesOn : ℕ → RowTold (Node K V) → List Effect → (old new : Logged K V S) → Type 0
   OnSlotGoesOn i said did old new =
       (row : SlotRow) (here : work_of old.executor i ≡ Some (OnSlot row))
       → (leads : RowLeads same hash i said s old.executor new.executor)
-      × (AtEachEffect HadRetired None None did m → AtEachEffect WaitUnreclaimed None None did m
-      → IsShown same hash name (with_effects None None did m) new (scene_then same hash (Step i) s old.executor new.executor (leads row here).4))
+      × IsShown same hash name (with_effects None None did m) new (scene_then same hash (Step i) s old.executor new.executor (leads row here).4)
 
   -- Steps of a row, which did this: the same of all of it. Others have under way what they had.
   abbrev pub OnSlotRuns : List Effect → Logged K V S → Type 0
   OnSlotRuns did new =
-      AtEachEffect HadRetired None None did m → AtEachEffect WaitUnreclaimed None None did m
-      → (w : World (Node K V)) × (maps : ℕ → Option (Standing K)) × IsShown same hash name (with_effects None None did m) new (record s { world = w; maps = maps })
+      (w : World (Node K V)) × (maps : ℕ → Option (Standing K)) × IsShown same hash name (with_effects None None did m) new (record s { world = w; maps = maps })
 
 -- a row has ended, or waits
 abbrev pub has_come : {T : Type 0} → RowTold T → Bool

@@ -1,16 +1,19 @@
 -- Where it leads that all is reclaimed while nobody has anything under way: its beginning, and each step of it, and what that does.
-use Rattle.std.specs.Prelude.{◌≡◌, ℕ, Bool, List, ◌++◌, None}
+use Rattle.std.specs.Prelude.{◌≡◌, ℕ, Bool, List, ◌++◌, None, option_map}
 use Rattle.seize.specs.declared.rows.reclaim_all.ReclaimAll.{ReclaimAll}
 use Rattle.seize.specs.declared.rows.settle.Settled.{Settled}
 use Rattle.seize.specs.declared.rows.settle.Settled.TheVariants as settled
+use Rattle.seize_acts.specs.Reclaimed.{HasNothingLeft}
+use Rattle.papaya_tables.specs.Nodes.{deferred_word}
 use Rattle.papaya_tables.specs.declared.node.Node.{Node}
 use Rattle.papaya_schedules.specs.declared.effect.Effect.{Effect}
 use Rattle.papaya_schedules.specs.Effects.{with_effects, AtEachEffect}
 use Rattle.papaya_schedules.specs.Moment.{Moment}
 use Rattle.papaya_effects.specs.Known.{known}
+use Rattle.papaya_reclaims.specs.Deferred.{TablesCarryPairs}
 use Rattle.papaya_reclaims.specs.Reclaims.{AllIsReclaimed}
-use Rattle.papaya_executor.specs.IsAt.{Scene}
-use Rattle.papaya_reclaiming.specs.Reclaiming.{IsReclaiming, ReclaimingLeads}
+use Rattle.papaya_executor.specs.IsAt.{Scene, IsAt}
+use Rattle.papaya_reclaiming.specs.Reclaiming.{IsReclaiming, MayReclaim, NobodyHas, ReclaimingLeads}
 use Rattle.papaya_spots.specs.OnSlots.{WaitUnreclaimed}
 use Rattle.papaya_moments.specs.OnSlots.{HadRetired}
 use Rattle.papaya_moments.specs.Whole.{ShowsWhole}
@@ -24,9 +27,9 @@ module _ {K V S : Type 0} (same : K → K → Bool) (hash : K → ℕ) (name : �
     pub shows : ShowsWhole same name m (known l.notes) s
 
   module _ (m : Moment K V) (s : Scene K V) (i : ℕ) (lists : ℕ → List ℕ) where
-    -- what is shown after a step: it goes on; or it is over, all is reclaimed, and the executor is there
+    -- what is shown after a step: it goes on; or it is over, all is reclaimed, the executor is there, and the moment shows that
     abbrev pub ReclaimingThen : Scene K V → (ℕ → List ℕ) → ReclaimAll → (old new : Logged K V S) → Settled (Node K V) → Type 0
-    ReclaimingThen s2 lists2 after old new settled.Done = AllIsReclaimed old.executor.roots s2.world s2.maps × IsShown same hash name m new s2
+    ReclaimingThen s2 lists2 after old new settled.Done = AllIsReclaimed old.executor.roots s2.world s2.maps × IsAt same hash new.executor s2 × ShowsWhole same name m (known new.notes) s2
     ReclaimingThen s2 lists2 after old new _ = ReclaimingIsShown m new s2 i lists2 after
 
 -- A step of it, which did this. If a table that it reclaims was retired, and what waits behind that is not reclaimed, the moment after it shows where it has led.
@@ -44,3 +47,31 @@ module _ {K V S : Type 0} where
       (did : List Effect) × (has ≡ had ++ did)
       × ((same : K → K → Bool) (hash : K → ℕ) (name : ℕ → List ℕ) (m : Moment K V) (s : Scene K V) (i : ℕ) (lists : ℕ → List ℕ) → ReclaimingIsShown same hash name m old s i lists before
       → ReclaimingGoesOn same hash name m s i lists before after told did old new)
+
+-- Where reclaiming has come to: each map stands as it stood, and nothing else is under way than before.
+pub record ReclaimingCame {K V : Type 0} (s s2 : Scene K V) : Type 0 where
+  pub maps : (n : ℕ) → option_map (λ standing. standing.setting) (s2.maps n) ≡ option_map (λ standing. standing.setting) (s.maps n)
+  pub calls : s2.calls ≡ s.calls
+  pub makers : s2.makers ≡ s.makers
+  pub enders : s2.enders ≡ s.enders
+
+module _ {K V S : Type 0} where
+  -- It has run so far, and what it did follows in the list: where it has come it goes on, and a moment shows that, if each table that was reclaimed was retired, and what waited behind that was not reclaimed.
+  abbrev pub ReclaimingSoFar : (first now : ReclaimAll) → (before after : List Effect) → (old mid : Logged K V S) → Type 0
+  ReclaimingSoFar first now before after old mid =
+      (did : List Effect) × (after ≡ before ++ did)
+      × ((same : K → K → Bool) (hash : K → ℕ) (s : Scene K V) (i : ℕ) (lists : ℕ → List ℕ) → IsReclaiming same hash old.executor s i lists first
+      → (s2 : Scene K V) × (lists2 : ℕ → List ℕ) × IsReclaiming same hash mid.executor s2 i lists2 now)
+      × ((same : K → K → Bool) (hash : K → ℕ) (name : ℕ → List ℕ) (m : Moment K V) (s : Scene K V) (i : ℕ) (lists : ℕ → List ℕ) → ReclaimingIsShown same hash name m old s i lists first
+      → AtEachEffect HadRetired None None did m → AtEachEffect WaitUnreclaimed None None did m
+      → (s2 : Scene K V) × (lists2 : ℕ → List ℕ) × ReclaimingCame s s2 × ReclaimingIsShown same hash name (with_effects None None did m) mid s2 i lists2 now)
+
+  -- It has run to its end: nothing is left of what was retired, no slot is in use, the executor is there, and a moment shows it.
+  abbrev pub ReclaimingRan : Bool → (before after : List Effect) → (old new : Logged K V S) → Type 0
+  ReclaimingRan taken before after old new =
+      (did : List Effect) × (after ≡ before ++ did)
+      × ((same : K → K → Bool) (hash : K → ℕ) (name : ℕ → List ℕ) (m : Moment K V) (s : Scene K V) (lists : ℕ → List ℕ) → IsShown same hash name m old s
+      → NobodyHas old.executor → MayReclaim old.executor s lists taken
+      → AtEachEffect HadRetired None None did m → AtEachEffect WaitUnreclaimed None None did m
+      → (s2 : Scene K V) × ReclaimingCame s s2 × HasNothingLeft deferred_word s2.world × TablesCarryPairs s2.world s2.maps × IsAt same hash new.executor s2
+      × ShowsWhole same name (with_effects None None did m) (known new.notes) s2)

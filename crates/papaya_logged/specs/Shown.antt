@@ -1,12 +1,14 @@
--- That a moment of a run shows an executor, with what is noted of its memory.
+-- That a moment of a run shows an executor, with what is noted of its memory, and with all that every step keeps.
 use Rattle.std.specs.Prelude.{ℕ, Bool, List}
 use Rattle.papaya_schedules.specs.Moment.{Moment}
 use Rattle.papaya_effects.specs.Known.{known}
 use Rattle.papaya_executor.specs.IsAt.{Scene, IsAt}
 use Rattle.papaya_moments.specs.Whole.{ShowsWhole}
+use Rattle.papaya_kept.specs.Kept.{ShowsKept}
 use Rattle.papaya_logged.specs.declared.logged.Logged.{Logged}
 
--- The executor is there, in this scene, which the moment shows with the notes. Callers have these names.
+-- The executor is there, in this scene, which the moment shows with the notes, and of which all is so that every step keeps. Callers have these names.
 pub record IsShown {K V S : Type 0} (same : K → K → Bool) (hash : K → ℕ) (name : ℕ → List ℕ) (m : Moment K V) (l : Logged K V S) (s : Scene K V) : Type 0 where
   pub is_at : IsAt same hash l.executor s
   pub shows : ShowsWhole same name m (known l.notes) s
+  pub kept : ShowsKept name m (known l.notes) s

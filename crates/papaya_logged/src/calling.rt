@@ -25,6 +25,7 @@ impl<K: Drop, V: Drop, S> Logged<K, V, S> {
         ensures number { IfOk result (λ caller. caller ≡ length self.old.executor.workers.items * SLOTS + slot) }
         ensures leads { IfOk result (λ caller. (same : K → K → Bool) (hash : K → ℕ) (name : ℕ → List ℕ) (m : Moment K V) (s : Scene K V) → IsShown same hash name m self.old s
             → CallBegins same hash name m s caller map machine self.old self.new) }
+        ensures hasher { self.new.executor.hasher ≡ self.old.executor.hasher }
         ensures refused { IfErr result (λ error. IsRefused self.old.executor self.new.executor × (self.new.notes ≡ self.old.notes)) }
     {
         let caller = self.executor.begin(slot, map, machine)?;
@@ -47,6 +48,7 @@ impl<K: Drop, V: Drop, S> Logged<K, V, S> {
         requires { (same : K → K → Bool) × (hash : K → ℕ) × (s : Scene K V) × IsAt same hash self.old.executor s × HasCall s caller }
         ensures leads { (same : K → K → Bool) (hash : K → ℕ) (name : ℕ → List ℕ) (m : Moment K V) (s : Scene K V) → IsShown same hash name m self.old s
             → WalkGoesOn same hash name m s caller result self.old self.new }
+        ensures hasher { self.new.executor.hasher ≡ self.old.executor.hasher }
     {
         self.executor.next(caller)
     }

@@ -18,7 +18,7 @@ use seize::rows::Settled;
 use std::alloc::AllocError;
 
 /// Whether an end is over.
-fn is_done<T>(told: &Settled<T>) -> bool
+pub(crate) fn is_done<T>(told: &Settled<T>) -> bool
     ensures { result ≡ is_done told.now }
 {
     match told {

@@ -1,11 +1,12 @@
 //! All is reclaimed, step by step, while nobody has anything under way.
-ghost use Rattle.std.specs.Prelude.{◌≡◌, ℕ, Bool, List, IfOk};
+ghost use Rattle.std.specs.Prelude.{◌≡◌, ℕ, Bool, List, IfOk, OnOk};
 ghost use Rattle.papaya_schedules.specs.Moment.{Moment};
 ghost use Rattle.papaya_executor.specs.IsAt.{Scene};
-ghost use Rattle.papaya_reclaiming.specs.Reclaiming.{NobodyHas, MayReclaim, IsReclaiming};
-ghost use Rattle.papaya_logged.specs.Reclaims.{ReclaimingIsShown, ReclaimingSteps};
+ghost use Rattle.papaya_reclaiming.specs.Reclaiming.{NobodyHas, MayReclaim, IsReclaiming, ReclaimingLeads};
+ghost use Rattle.papaya_logged.specs.Reclaims.{ReclaimingIsShown, ReclaimingRan, ReclaimingSteps};
 ghost use Rattle.papaya_logged.specs.Shown.{IsShown};
 
+use crate::ends::is_done;
 use crate::logged::Logged;
 use papaya_effects::acting::Acting;
 use papaya_raw::Node;
@@ -31,10 +32,35 @@ impl<K: Drop, V: Drop, S> Logged<K, V, S> {
         effects: &mut Vec<Effect>,
     ) -> Result<Settled<Node<K, V>>, AllocError>
         requires { (same : K → K → Bool) × (hash : K → ℕ) × (s : Scene K V) × (i : ℕ) × (lists : ℕ → List ℕ) × IsReclaiming same hash self.old.executor s i lists reclaiming.old.all }
-        ensures { IfOk result (λ told. ReclaimingSteps reclaiming.old.all reclaiming.new.all told effects.old.items effects.new.items self.old self.new) }
+        ensures leads { IfOk result (λ told. ReclaimingSteps reclaiming.old.all reclaiming.new.all told effects.old.items effects.new.items self.old self.new) }
+        ensures steps { IfOk result (λ told. (same : K → K → Bool) (hash : K → ℕ) (s : Scene K V) (i : ℕ) (lists : ℕ → List ℕ) → IsReclaiming same hash self.old.executor s i lists reclaiming.old.all
+            → ReclaimingLeads same hash s i lists self.old.executor self.new.executor reclaiming.old.all reclaiming.new.all told) }
     {
         let told = reclaiming.step(&mut self.executor);
         self.note(Acting::Row, effects)?;
         Ok(told)
+    }
+
+    /// Takes steps until all is reclaimed, with the slots first, if one was ever taken, else with the roots alone. What the steps do is added to the list, in their order, and what
+    /// they reclaim is dropped. It is refused as a step is, and if so many steps are not enough as a number can tell.
+    pub fn run_reclaiming(
+        &mut self,
+        taken: bool,
+        effects: &mut Vec<Effect>,
+    ) -> Result<(), AllocError>
+        requires { (same : K → K → Bool) × (hash : K → ℕ) × (name : ℕ → List ℕ) × (m : Moment K V) × (s : Scene K V) × (lists : ℕ → List ℕ) × IsShown same hash name m self.old s
+            × NobodyHas self.old.executor × MayReclaim self.old.executor s lists taken }
+        ensures { OnOk result (ReclaimingRan taken effects.old.items effects.new.items self.old self.new) }
+    {
+        let mut reclaiming = self.begin_reclaiming(taken);
+        let mut left = u64::MAX;
+        while left > 0 {
+            let told = self.step_reclaiming(&mut reclaiming, effects)?;
+            if is_done(&told) {
+                return Ok(());
+            }
+            left -= 1;
+        }
+        Err(AllocError)
     }
 }

@@ -1,6 +1,6 @@
 -- What is in somebody's hands is there still after a step of a row on a slot, and after one of the end of a map.
 use Rattle.std.proofs.Common.{ap, arith, refl, subst, sym, ◌∙◌}
-use Rattle.std.specs.Prelude.{◌≡◌, ◌<◌, ℕ, zero, suc, Bool, false, List, Some, None, ◌⊎◌}
+use Rattle.std.specs.Prelude.{◌≡◌, ◌≢◌, ◌<◌, ℕ, zero, suc, Bool, false, List, Some, None, ◌⊎◌}
 use Rattle.seize_words.specs.Mem.{Mem, Took, value_at}
 use Rattle.seize_words.specs.Plan.{Steps}
 use Rattle.seize.specs.World.{InUse, LeftTo, Step, World, times}
@@ -58,6 +58,14 @@ module _ {K V S : Type 0} (same : K → K → Bool) (hash : K → ℕ) (s : Scen
       let kept = kept_value deferred_word old.batch_size s.world (came_reached old.batch_size s.world at.together.makings.standing.came) i happened.0 happened.1 b (IsHad had) in
       let there = held.is in cc (gone, kept, there))
 
+-- a block that is there is neither in use nor left over, and no counter
+pub record IsAside {K V : Type 0} (w : World (Node K V)) (b : ℕ) : Type 0 where
+  pub used : (o : ℕ) → w.hand b ≡ InUse o → ⊥
+  pub over : (j : ℕ) → w.hand b ≡ LeftTo j → ⊥
+  pub value : Node K V
+  pub there : value_at w.memory b ≡ Some value
+  pub other : value ≢ node.Shards
+
 module _ {K V S : Type 0} (same : K → K → Bool) (hash : K → ℕ) (name : ℕ → List ℕ) (m : Moment K V) (known : Known) (s : Scene K V) (old new : Executor K V S) (at : IsAt same hash old s)
     (shown : Shows same name m known s) (i : ℕ) (f : Finishing K V) (here : s.enders i ≡ Some f) (end : EndMap) (said : Settled (Node K V))
     (steps : EndingStepsFrom f.machine old new end said)
@@ -94,32 +102,40 @@ module _ {K V S : Type 0} (same : K → K → Bool) (hash : K → ℕ) (name : �
   nothing : 0 < 0 → ⊥
   nothing l = omega (arith, l)
 
-  -- it takes none that is in somebody's hands, but the counter
-  not_held : (b j : ℕ) → IsInHand w j b → (deed : Deed) → IsItsDeed f.setting f.chart f.blocks facts.lists false i w facts.past went.past2 deed
+  -- it takes none of these
+  not_aside : (b : ℕ) → IsAside w b → (deed : Deed) → IsItsDeed f.setting f.chart f.blocks facts.lists false i w facts.past went.past2 deed
       → IsFresh f.setting f.chart f.blocks facts.lists false f.back deed → 0 < times b (taken_by deed) → ⊥
-  not_held b j held Looks is fresh some = nothing some
-  not_held b j held (TakesPair x) is fresh some =
-      let used : w.hand b ≡ InUse f.setting.counter = ap w.hand (that_one b x some) ∙ is.1 in
-      let own = held.hand in cc (used, own)
-  not_held b j held (LeavesTable x further) is fresh some = nothing some
-  not_held b j held (JoinsPair x word) is fresh some = nothing some
-  not_held b j held (TakesLeft x) is fresh some =
-      let over : w.hand b ≡ LeftTo i = ap w.hand (that_one b x some) ∙ is.1 in
-      let own = held.hand in cc (over, own)
-  not_held b j held (TakesCounter x) is fresh some =
+  not_aside b aside Looks is fresh some = nothing some
+  not_aside b aside (TakesPair x) is fresh some = aside.used f.setting.counter (ap w.hand (that_one b x some) ∙ is.1)
+  not_aside b aside (LeavesTable x further) is fresh some = nothing some
+  not_aside b aside (JoinsPair x word) is fresh some = nothing some
+  not_aside b aside (TakesLeft x) is fresh some = aside.over i (ap w.hand (that_one b x some) ∙ is.1)
+  not_aside b aside (TakesCounter x) is fresh some =
       let counter = facts.facts.since.counter (subst (λ (y : ℕ). times y f.back ≡ 0) is.1 fresh) in
       let shards : value_at w.memory b ≡ Some node.Shards = ap (value_at w.memory) (that_one b x some ∙ is.1) ∙ counter.0 in
-      let value = held.is in
-      held.other (let same_value : held.value ≡ node.Shards = cc (shards, value) in same_value)
-  not_held b j held (WritesRoot place word) is fresh some = nothing some
+      let value = aside.there in
+      aside.other (let same_value : aside.value ≡ node.Shards = cc (shards, value) in same_value)
+  not_aside b aside (WritesRoot place word) is fresh some = nothing some
 
-  -- what is in hand is not gone
-  pub ending_keeps_held : (b j : ℕ) → IsInHand w j b → told ≡ changed.Took b → ⊥
-  ending_keeps_held b j held is = by (times b (taken_by went.deed)) refl
+  pub ending_spares : (b : ℕ) → IsAside w b → told ≡ changed.Took b → ⊥
+  ending_spares b aside is = by (times b (taken_by went.deed)) refl
     where
       gone : value_at went.w2.memory b ≡ None
       gone = ap (λ (n : Mem (Node K V)). value_at n b) (went.memory ∙ sym did.memory) ∙ (subst (LeavesBy w.memory w2.memory) is ending_leaves).1
 
       by : (n : ℕ) → times b (taken_by went.deed) ≡ n → ⊥
-      by zero e = (let kept = went.spares.values b e in let there = held.is in cc (gone, kept, there))
-      by (suc n) e = not_held b j held went.deed went.its went.fresh (omega (arith, e))
+      by zero e = (let kept = went.spares.values b e in let there = aside.there in cc (gone, kept, there))
+      by (suc n) e = not_aside b aside went.deed went.its went.fresh (omega (arith, e))
+
+  -- what is in hand is not gone
+  pub ending_keeps_held : (b j : ℕ) → IsInHand w j b → told ≡ changed.Took b → ⊥
+  ending_keeps_held b j held is =
+      ending_spares b
+      (record {
+        used = λ o use. (let own = held.hand in cc (use, own));
+        over = λ k left_over. (let own = held.hand in cc (left_over, own));
+        value = held.value;
+        there = held.is;
+        other = held.other;
+      })
+      is

@@ -24,6 +24,7 @@ pub mod MakingsOfMaps
 pub mod EndsOfMaps
 pub mod Tables
 pub mod Short
+pub mod Grown
 pub mod Looking
 pub mod Clear
 pub mod Ready

@@ -5,6 +5,7 @@ pub mod Beside
 pub mod Tables
 pub mod TablesBeside
 pub mod Short
+pub mod Grown
 pub mod Looking
 pub mod Clear
 pub mod Events

@@ -3,6 +3,7 @@ ghost use Rattle.std.specs.Prelude.{ℕ, Bool};
 ghost use Rattle.papaya_owes.specs.Beside.{StaysMade, WalksGoOnMade, WalksStopMade, RowsKeepMade, MakingsKeepMade, EndingsKeepMade};
 ghost use Rattle.papaya_owes.specs.Tables.{CallsKeepTables, CallsBeginTables, CallsTakeTables, CallsComeToTables, TablesAreMade};
 ghost use Rattle.papaya_owes.specs.Short.{ShortBegins, StaysShort, CallsKeepShort, CallsBeginShort, CallsTakeShort, CallsComeToShort, WalksGoOnShort, WalksStopShort};
+ghost use Rattle.papaya_owes.specs.Grown.{GrownBegins, StaysGrown, CallsKeepGrown, EventsRefuseTheShort, CallsBeginGrown, MachinesBeginGrown, CallsTakeGrown, CallsComeToGrown, WalksGoOnGrown, WalksStopGrown};
 ghost use Rattle.papaya_owes.specs.TablesBeside.{TablesBegin, StaysTables, WalksGoOnTables, WalksStopTables, RowsKeepTables, MakingsBeginTables, MakingsKeepTables, EndingsKeepTables};
 ghost use Rattle.papaya_owes.specs.Looking.{CallsKeepLooking, SeveralFindAtWork, LookingBegins, StaysLooking, CallsBeginLooking, LookupsBegin, CallsTakeLooking, CallsComeToLooking, WalksGoOnLooking, WalksStopLooking};
 ghost use Rattle.papaya_owes.specs.Clear.{WalksAreClear};
@@ -71,6 +72,23 @@ pub fn calls_are_short_until_refused<K, V, S>()
     ensures stays { StaysShort K V }
     ensures goes_on { (same : K → K → Bool) (hash : K → ℕ) → WalksGoOnShort K V S same hash }
     ensures stops { (same : K → K → Bool) (hash : K → ℕ) → WalksStopShort K V S same hash }
+{}
+
+/// A call under way that is short of no growth, by the moment, has nothing to tell of memory: where its machine is to be refused, it is for something else. So it is before
+/// all events, and after each step of a call, whoever's; and a step, or an event, by which a call is refused for want of memory leaves that call short of a growth: it
+/// has asked for one, and nothing was made since. So it is where a call begins, takes a reply and comes to an outcome, where a walk goes on, or is given up, and as long as
+/// calls are as they were.
+pub fn calls_that_have_grown_are_not_refused<K, V, S>()
+    ensures begins { GrownBegins K V }
+    ensures calls { (same : K → K → Bool) (hash : K → ℕ) → CallsKeepGrown K V S same hash }
+    ensures events { (same : K → K → Bool) (hash : K → ℕ) → EventsRefuseTheShort K V S same hash }
+    ensures begun { CallsBeginGrown K V }
+    ensures machines { MachinesBeginGrown K V }
+    ensures told { CallsTakeGrown K V }
+    ensures come_to { CallsComeToGrown K V }
+    ensures stays { StaysGrown K V }
+    ensures goes_on { (same : K → K → Bool) (hash : K → ℕ) → WalksGoOnGrown K V S same hash }
+    ensures stops { (same : K → K → Bool) (hash : K → ℕ) → WalksStopGrown K V S same hash }
 {}
 
 /// A call that only looks, which is a lookup of a key, or asks for the length, has a machine that looks until it is over, and no step of it has an effect: each effect of a

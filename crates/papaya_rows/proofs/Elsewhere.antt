@@ -1,5 +1,6 @@
 -- What is nothing to what is shown: of a moment all but its pairs, maps, tables and calls.
 use Rattle.std.specs.Prelude.{ℕ, Bool, List}
+use Rattle.std.proofs.Common.{refl}
 use Rattle.papaya_runs.specs.Present.{Present}
 use Rattle.papaya_schedules.specs.Moment.{Remains, Sheltered, Moment}
 use Rattle.papaya_finishes.specs.Maps.{Standing}
@@ -7,6 +8,8 @@ use Rattle.papaya_effects.specs.Known.{Known}
 use Rattle.papaya_executor.specs.IsAt.{Scene}
 use Rattle.papaya_follows.specs.Maps.{ShowsMap}
 use Rattle.papaya_moments.specs.Whole.{ShowsWhole}
+use Rattle.papaya_kept.specs.Kept.{ShowsKept}
+use Rattle.papaya_kept.proofs.Stays.{stays_kept}
 
 -- the moment with other events so far, guards and sections, and with other remains of maps
 abbrev pub elsewhere : {K V : Type 0} → ℕ → Bool → Bool → Bool → Present → ℕ → List Sheltered → List Remains → Moment K V → Moment K V
@@ -50,3 +53,7 @@ module _ {K V : Type 0} (m : Moment K V) (known : Known) (events : ℕ) (is_mapp
         outside = whole.outside;
         counters = whole.counters;
       }
+
+  -- and what every step keeps is so then
+  pub kept_elsewhere : (name : ℕ → List ℕ) (s : Scene K V) → ShowsKept name m known s → ShowsKept name v known s
+  kept_elsewhere name s kept = stays_kept K V name m v known s s kept refl refl refl refl refl refl refl

@@ -4,7 +4,7 @@ use Rattle.seize.specs.World.{World}
 use Rattle.papaya_tables.specs.declared.node.Node.{Node}
 use Rattle.papaya_runs.specs.Present.{Present, guards_on, has_registration}
 use Rattle.papaya_schedules.specs.declared.effect.Effect.{Effect}
-use Rattle.papaya_schedules.specs.Effects.{with_effects, AtEachEffect}
+use Rattle.papaya_schedules.specs.Effects.{with_effects}
 use Rattle.papaya_schedules.specs.Moment.{Moment}
 use Rattle.papaya_executor.specs.IsAt.{Scene, slot_of}
 use Rattle.papaya_executor.specs.OnSlots.{MayBegin}
@@ -15,16 +15,10 @@ use Rattle.papaya_executor.specs.declared.row.SlotCall.TheVariants as call
 use Rattle.papaya_executor.specs.declared.row.SlotUse.{SlotUse}
 use Rattle.papaya_executor.specs.declared.row.SlotUse.TheVariants as used
 use Rattle.papaya_finishes.specs.Maps.{Standing}
-use Rattle.papaya_spots.specs.OnSlots.{WaitUnreclaimed}
-use Rattle.papaya_moments.specs.OnSlots.{HadRetired}
 use Rattle.papaya_logged.specs.Ended.{has_ended, uses_ended}
 use Rattle.papaya_logged.specs.OnSlots.{EndsTelling, OnSlotBegins, OnSlotLast, has_come}
 use Rattle.papaya_logged.specs.Shown.{IsShown}
 use Rattle.papaya_logged.specs.declared.logged.Logged.{Logged}
-
--- What is asked of an event's effects: a table that is reclaimed was retired, and what waits behind it is not reclaimed.
-abbrev pub TakesRetired : {K V : Type 0} → List Effect → Moment K V → Type 0
-TakesRetired did m = AtEachEffect HadRetired None None did m × AtEachEffect WaitUnreclaimed None None did m
 
 -- A row has begun in this slot, and has run until it ended, or waits: which steps it took, what they did, the last one's at the end, and how slots are used then. The moment after all that
 -- shows the executor.
@@ -39,7 +33,7 @@ pub record RowRan {K V S : Type 0} (slot : ℕ) (called : SlotCall) (said : RowT
   pub tells : EndsTelling after new.executor
   pub did : List Effect
   pub follows : after ≡ before ++ did
-  pub shown : (same : K → K → Bool) (hash : K → ℕ) (name : ℕ → List ℕ) (m : Moment K V) (s : Scene K V) → IsShown same hash name m old s → MayBegin old.executor slot called → TakesRetired did m
+  pub shown : (same : K → K → Bool) (hash : K → ℕ) (name : ℕ → List ℕ) (m : Moment K V) (s : Scene K V) → IsShown same hash name m old s → MayBegin old.executor slot called
       → (w : World (Node K V)) × (maps : ℕ → Option (Standing K)) × IsShown same hash name (with_effects None None did m) new (record s { world = w; maps = maps })
 
 -- it has run, whatever it told

@@ -2,7 +2,7 @@ mod Effects
 mod Events
 pub mod Laws
 mod PairLists
-mod Pairs
+pub mod Pairs
 mod Runs
 pub mod Sames
 mod Samples

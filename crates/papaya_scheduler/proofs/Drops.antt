@@ -31,7 +31,7 @@ use Rattle.papaya_executor.specs.declared.worker.TheConstants.{SLOTS}
 use Rattle.papaya_logged.specs.Ended.{has_ended, uses_ended}
 use Rattle.papaya_logged.specs.declared.logged.Logged.{Logged}
 use Rattle.papaya_scheduler.specs.Played.{IsDue, IsUnderWay, Plays, StandsFor}
-use Rattle.papaya_rows.specs.Rows.{RowRan, RowRanOn, TakesRetired, left_as, used_as}
+use Rattle.papaya_rows.specs.Rows.{RowRan, RowRanOn, left_as, used_as}
 use Rattle.papaya_scheduler.specs.Seen.{free_slot}
 use Rattle.papaya_scheduler.specs.declared.scheduler.Scheduler.{Scheduler}
 use Rattle.papaya_scheduler.proofs.Dropped.{each_left, fits, free_lives, inside, nobody_else, none_left, others_used, used_still}
@@ -126,7 +126,7 @@ module _ {K V S : Type 0} (same : K → K → Bool) (hash : K → ℕ) (terms : 
           ap (λ (n : ℕ). if n == 0 then (if has_registration slot p.there.registrations then used.Outside else used.Vacant) else used.Inside)
           (none_left guard slot p.there stands.names its_lives one)
 
-      module _ (said : RowTold (Node K V)) (before after : List Effect) (logged : Logged K V S) (ran : RowRan slot how said before after p.logged logged) (takes : TakesRetired ran.did m) where
+      module _ (said : RowTold (Node K V)) (before after : List Effect) (logged : Logged K V S) (ran : RowRan slot how said before after p.logged logged) where
         is_done : said ≡ told.Done
         is_done = done_alone same hash stands.name m stands.scene p.logged logged stands.shown slot how said before after ran may_leave settles alone
 
@@ -161,7 +161,7 @@ module _ {K V S : Type 0} (same : K → K → Bool) (hash : K → ℕ) (terms : 
             (plays same hash terms log (DropGuard guard) (record p { logged = logged; there = less }) due e refl (in_turn IsDone (is_free_guard guard m) Done is_turn refl)
             (stands_ran same hash terms m p stands slot how said before after logged ran may_leave
             (led_alone same hash stands.name m stands.scene p.logged logged stands.shown slot how said before after ran may_leave settles alone)
-            (over_alone same hash stands.name m stands.scene p.logged logged stands.shown slot how said before after ran may_leave settles alone) takes less each_now use_now
+            (over_alone same hash stands.name m stands.scene p.logged logged stands.shown slot how said before after ran may_leave settles alone) less each_now use_now
             (drops_named guard p.there stands.names) (drops guard w.there) (ap (drops guard) (there_stays None None ran.did m ∙ stands.there))
             (m.events + 1) (m.is_alone && is_alone_on e m) m.slots (unsheltered guard w.sheltered) m.remains))
 
@@ -179,8 +179,8 @@ module _ {K V S : Type 0} (same : K → K → Bool) (hash : K → ℕ) (terms : 
       (beside same hash terms log p guard due slot free many there (is ∙ ap (λ (q : Scheduler K V S). drops guard q.there) same_p)))
 
   pub joined_alone : guards_on slot p.there.guards ≡ 1 → (before after : List Effect) → before ≡ [] → effects ≡ after → (q : Scheduler K V S) → p2 ≡ q → q ≡ record p { logged = q.logged }
-      → (called : SlotCall) → called ≡ left_as slot p.there → RowRanOn slot called before after p.logged q.logged → TakesRetired effects (moment log) → Comes p2 effects
-  joined_alone one before after no_effects same_effects q same_q same_p called is_called ran_on takes =
+      → (called : SlotCall) → called ≡ left_as slot p.there → RowRanOn slot called before after p.logged q.logged → Comes p2 effects
+  joined_alone one before after no_effects same_effects q same_q same_p called is_called ran_on =
       by (subst (λ (x : SlotCall). RowRanOn slot x before after p.logged q.logged) is_called ran_on)
     where
       by : RowRanOn slot (left_as slot p.there) before after p.logged q.logged → Comes p2 effects
@@ -188,5 +188,5 @@ module _ {K V S : Type 0} (same : K → K → Bool) (hash : K → ℕ) (terms : 
           let did : effects ≡ ran.did = same_effects ∙ ran.follows ∙ ap (λ (xs : List Effect). xs ++ ran.did) no_effects in
           subst (λ (x : Scheduler K V S). Comes x effects) (sym (same_q ∙ same_p))
           (subst (λ (xs : List Effect). Comes (record p { logged = q.logged }) xs) (sym did)
-          (left same hash terms log p guard due slot free one said before after q.logged ran (subst (λ (xs : List Effect). TakesRetired xs (moment log)) did takes)
+          (left same hash terms log p guard due slot free one said before after q.logged ran
           there (is ∙ ap (λ (x : Scheduler K V S). drops guard x.there) (same_q ∙ same_p))))

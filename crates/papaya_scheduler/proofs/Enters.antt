@@ -33,7 +33,7 @@ use Rattle.papaya_executor.specs.declared.worker.TheConstants.{SLOTS}
 use Rattle.papaya_logged.specs.Ended.{has_ended}
 use Rattle.papaya_logged.specs.declared.logged.Logged.{Logged}
 use Rattle.papaya_scheduler.specs.Played.{IsDue, IsUnderWay, Plays, StandsFor}
-use Rattle.papaya_rows.specs.Rows.{RowRan, RowRanOn, TakesRetired, used_as}
+use Rattle.papaya_rows.specs.Rows.{RowRan, RowRanOn, used_as}
 use Rattle.papaya_scheduler.specs.declared.scheduler.Scheduler.{Scheduler}
 use Rattle.papaya_rows.proofs.Facts.{slot_fits}
 use Rattle.papaya_rows.proofs.Lists.{all_so}
@@ -183,7 +183,7 @@ module _ {K V S : Type 0} (same : K → K → Bool) (hash : K → ℕ) (terms : 
       pub fits : slot < SLOTS
       fits = slot_fits same hash p.logged.executor stands.scene stands.shown.is_at slot (λ e. let h = sym outside ∙ e in cc h)
 
-      module _ (said : RowTold (Node K V)) (before after : List Effect) (logged : Logged K V S) (ran : RowRan slot call.Enter said before after p.logged logged) (takes : TakesRetired ran.did m) where
+      module _ (said : RowTold (Node K V)) (before after : List Effect) (logged : Logged K V S) (ran : RowRan slot call.Enter said before after p.logged logged) where
         is_done : said ≡ told.Done
         is_done = done_once same hash stands.name m stands.scene p.logged logged stands.shown slot call.Enter said before after ran may_enter tt
 
@@ -213,7 +213,7 @@ module _ {K V S : Type 0} (same : K → K → Bool) (hash : K → ℕ) (terms : 
             (plays same hash terms log (Enter guard registration) (record p { logged = logged; there = there2 }) due e refl (in_turn wanted turn Done is_turn (wanted_by true few))
             (stands_ran same hash terms m p stands slot call.Enter said before after logged ran may_enter
             (led_once same hash stands.name m stands.scene p.logged logged stands.shown slot call.Enter said before after ran may_enter tt)
-            (over_once same hash stands.name m stands.scene p.logged logged stands.shown slot call.Enter said before after ran may_enter tt) takes there2 each_now use_now
+            (over_once same hash stands.name m stands.scene p.logged logged stands.shown slot call.Enter said before after ran may_enter tt) there2 each_now use_now
             (enters_named guard slot p.there (none_is (guard_of guard p.there.guards) none) stands.names) (there_on {K = K} {V = V} (Enter guard registration) Done w.there)
             (there_now w.there (there_stays None None ran.did m ∙ stands.there)) (m.events + 1) (m.is_alone && is_alone_on e m) m.slots w.sheltered m.remains))
 
@@ -232,10 +232,10 @@ module _ {K V S : Type 0} (same : K → K → Bool) (hash : K → ℕ) (terms : 
       (entered same hash terms log p guard registration due none slot found few some there (is ∙ ap (λ (q : Scheduler K V S). enters_slot guard slot q.there) same_p)))
 
   pub joined_first : guards_on slot p.there.guards ≡ 0 → (before after : List Effect) → before ≡ [] → effects ≡ after → (q : Scheduler K V S) → p2 ≡ q → q ≡ record p { logged = q.logged }
-      → RowRanOn slot call.Enter before after p.logged q.logged → TakesRetired effects (moment log) → Comes p2 effects
-  joined_first first before after no_effects same_effects q same_q same_p (said, ran) takes =
+      → RowRanOn slot call.Enter before after p.logged q.logged → Comes p2 effects
+  joined_first first before after no_effects same_effects q same_q same_p (said, ran) =
       let did : effects ≡ ran.did = same_effects ∙ ran.follows ∙ ap (λ (xs : List Effect). xs ++ ran.did) no_effects in
       subst (λ (x : Scheduler K V S). Comes x effects) (sym (same_q ∙ same_p))
       (subst (λ (xs : List Effect). Comes (record p { logged = q.logged }) xs) (sym did)
-      (entered_first same hash terms log p guard registration due none slot found first said before after q.logged ran (subst (λ (xs : List Effect). TakesRetired xs (moment log)) did takes) few
+      (entered_first same hash terms log p guard registration due none slot found first said before after q.logged ran few
       there (is ∙ ap (λ (x : Scheduler K V S). enters_slot guard slot x.there) (same_q ∙ same_p))))

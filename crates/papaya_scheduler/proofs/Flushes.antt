@@ -31,10 +31,10 @@ use Rattle.papaya_executor.specs.declared.row.SlotUse.TheVariants as used
 use Rattle.papaya_executor.specs.declared.worker.TheConstants.{SLOTS}
 use Rattle.papaya_logged.specs.Ended.{has_ended}
 use Rattle.papaya_logged.specs.declared.logged.Logged.{Logged}
-use Rattle.papaya_scheduler.specs.Handing.{HeldIsTold}
 use Rattle.papaya_scheduler.specs.Played.{IsDue, Plays, StandsFor}
-use Rattle.papaya_rows.specs.Rows.{RowRan, RowRanOn, TakesRetired, used_as}
+use Rattle.papaya_rows.specs.Rows.{RowRan, RowRanOn, used_as}
 use Rattle.papaya_scheduler.specs.declared.scheduler.Scheduler.{Scheduler}
+use Rattle.papaya_scheduler.proofs.HeldTold.{HeldIsTold}
 use Rattle.papaya_scheduler.proofs.Dropped.{fits, inside, lives_on}
 use Rattle.papaya_rows.proofs.Holders.{word_says, word_there}
 use Rattle.papaya_rows.proofs.NeverWaits.{done_alone, led_alone, over_alone}
@@ -117,7 +117,7 @@ module _ {K V S : Type 0} (same : K → K → Bool) (hash : K → ℕ) (terms : 
           let yes = reads read.0 read.1 ∙ eq-eqb read.0 HELD same_word in
           cc (yes, no)
 
-      module _ (said : RowTold (Node K V)) (before after : List Effect) (logged : Logged K V S) (ran : RowRan slot call.Flush said before after p.logged logged) (takes : TakesRetired ran.did m) where
+      module _ (said : RowTold (Node K V)) (before after : List Effect) (logged : Logged K V S) (ran : RowRan slot call.Flush said before after p.logged logged) where
         is_done : said ≡ told.Done
         is_done = done_alone same hash stands.name m stands.scene p.logged logged stands.shown slot call.Flush said before after ran may_flush tt alone
 
@@ -134,14 +134,14 @@ module _ {K V S : Type 0} (same : K → K → Bool) (hash : K → ℕ) (terms : 
             plays same hash terms log (Flush guard) (record p { logged = logged }) due e refl (in_turn wanted (is_living guard m.there) Done is_turn (inl refl))
             (stands_ran same hash terms m p stands slot call.Flush said before after logged ran may_flush
             (led_alone same hash stands.name m stands.scene p.logged logged stands.shown slot call.Flush said before after ran may_flush tt alone)
-            (over_alone same hash stands.name m stands.scene p.logged logged stands.shown slot call.Flush said before after ran may_flush tt alone) takes p.there stands.calls.each use_now
+            (over_alone same hash stands.name m stands.scene p.logged logged stands.shown slot call.Flush said before after ran may_flush tt alone) p.there stands.calls.each use_now
             stands.names w.there (there_stays None None ran.did m ∙ stands.there) (m.events + 1) (m.is_alone && is_alone_on e m) m.slots w.sheltered m.remains)
 
       -- so it is, by what the code does
       pub has_run : (before after : List Effect) → before ≡ [] → (q : Scheduler K V S) → q ≡ record p { logged = q.logged } → RowRanOn slot call.Flush before after p.logged q.logged
-          → TakesRetired after m → Plays same hash terms log (entry (Flush guard) Done 0 after) q
-      has_run before after no_effects q same_p (said, ran) takes =
+          → Plays same hash terms log (entry (Flush guard) Done 0 after) q
+      has_run before after no_effects q same_p (said, ran) =
           let did : after ≡ ran.did = ran.follows ∙ ap (λ (xs : List Effect). xs ++ ran.did) no_effects in
           subst (λ (x : Scheduler K V S). Plays same hash terms log (entry (Flush guard) Done 0 after) x) (sym same_p)
           (subst (λ (xs : List Effect). Plays same hash terms log (entry (Flush guard) Done 0 xs) (record p { logged = q.logged })) (sym did)
-          (flushed said before after q.logged ran (subst (λ (xs : List Effect). TakesRetired xs m) did takes)))
+          (flushed said before after q.logged ran))

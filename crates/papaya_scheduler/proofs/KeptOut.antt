@@ -21,11 +21,12 @@ use Rattle.papaya_effects.specs.Known.{Known, known}
 use Rattle.papaya_follows.specs.Calling.{come_to}
 use Rattle.papaya_hands.specs.Calling.{AsksJust}
 use Rattle.papaya_moments.proofs.Calls.{calls_come_to_whole}
+use Rattle.papaya_kept.proofs.Stays.{calls_come_to_kept}
 use Rattle.papaya_scheduler.specs.Played.{IsPlayed, Plays, StandsFor}
 use Rattle.papaya_scheduler.specs.Seen.{Seen, seen, seen_of}
 use Rattle.papaya_scheduler.specs.Turns.{is_that, keeps_out}
 use Rattle.papaya_scheduler.specs.declared.scheduler.Scheduler.{Scheduler}
-use Rattle.papaya_rows.proofs.Elsewhere.{elsewhere, shown_elsewhere}
+use Rattle.papaya_rows.proofs.Elsewhere.{elsewhere, shown_elsewhere, kept_elsewhere}
 use Rattle.papaya_rows.proofs.Lists.{all_alike, all_same, unseen}
 use Rattle.papaya_scheduler.proofs.Quiet.{stands_on}
 use Rattle.papaya_scheduler.proofs.Rights.{quiet}
@@ -65,6 +66,7 @@ module _ {K V S : Type 0} (same : K → K → Bool) (hash : K → ℕ) (terms : 
     shown = record {
       is_at = stands.shown.is_at;
       shows = calls_come_to_whole K V same stands.name m (known p.logged.notes) stands.scene stands.shown.shows own (Refused Busy) 0 (λ e. absurd (cc e)) (λ n i u here named. asks_nothing (known p.logged.notes) u);
+      kept = calls_come_to_kept K V same stands.name m (known p.logged.notes) stands.scene stands.shown.shows stands.shown.kept own (Refused Busy) 0 (λ e. absurd (cc e));
     };
     given = stands.given;
     there = stands.there;
@@ -88,6 +90,7 @@ module _ {K V S : Type 0} (same : K → K → Bool) (hash : K → ℕ) (terms : 
     shown = record {
       is_at = stands.shown.is_at;
       shows = shown_elsewhere m (known p.logged.notes) m.events is_mapped m.is_closed m.is_alone m.there m.slots m.sheltered m.remains same stands.name stands.scene stands.shown.shows;
+      kept = kept_elsewhere m (known p.logged.notes) m.events is_mapped m.is_closed m.is_alone m.there m.slots m.sheltered m.remains stands.name stands.scene stands.shown.kept;
     };
     given = stands.given;
     there = stands.there;

@@ -20,6 +20,7 @@ pub mod Unregisters
 pub mod Dropped
 pub mod Refreshes
 pub mod Drops
+pub mod HeldTold
 pub mod Flushes
 pub mod Begun
 pub mod RepliedSo
@@ -33,3 +34,4 @@ pub mod Mapped
 pub mod MapsEnded
 pub mod RootsUsed
 pub mod MapsMade
+mod AllGiven

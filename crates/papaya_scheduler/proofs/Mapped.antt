@@ -12,7 +12,7 @@ use Rattle.papaya_executor.specs.IsAt.{Scene}
 use Rattle.papaya_finishes.specs.Maps.{Standing}
 use Rattle.papaya_logged.specs.Shown.{IsShown}
 use Rattle.papaya_logged.specs.declared.logged.Logged.{Logged}
-use Rattle.papaya_rows.proofs.Elsewhere.{elsewhere, shown_elsewhere}
+use Rattle.papaya_rows.proofs.Elsewhere.{elsewhere, shown_elsewhere, kept_elsewhere}
 use Rattle.papaya_rows.proofs.Facts.{no_ending_of, no_making_of, no_work_at, row_rests, used_still}
 use Rattle.papaya_rows.proofs.Lists.{all_so}
 use Rattle.papaya_scheduler.specs.Played.{IsUnderWay, StandsFor}
@@ -41,6 +41,7 @@ module _ {K V S : Type 0} (same : K → K → Bool) (hash : K → ℕ) (terms : 
           shown = record {
             is_at = shown.is_at;
             shows = shown_elsewhere w (known new.notes) events is_mapped m.is_closed is_alone there slots sheltered remains same stands.name s2 shown.shows;
+            kept = kept_elsewhere w (known new.notes) events is_mapped m.is_closed is_alone there slots sheltered remains stands.name s2 shown.kept;
           };
           given = stands.given;
           there = same_there;

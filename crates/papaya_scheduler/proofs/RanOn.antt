@@ -24,11 +24,11 @@ use Rattle.papaya_logged.specs.declared.logged.Logged.{Logged}
 use Rattle.papaya_others.proofs.Quiet.{calls_none}
 use Rattle.papaya_tables.specs.declared.node.Node.{Node}
 use Rattle.papaya_scheduler.specs.Played.{IsUnderWay, StandsFor}
-use Rattle.papaya_rows.specs.Rows.{RowRan, TakesRetired, used_as}
+use Rattle.papaya_rows.specs.Rows.{RowRan, used_as}
 use Rattle.papaya_scheduler.specs.Seen.{named, seen}
 use Rattle.papaya_scheduler.specs.declared.scheduler.NamedMap.{NamedMap}
 use Rattle.papaya_scheduler.specs.declared.scheduler.Scheduler.{Scheduler}
-use Rattle.papaya_rows.proofs.Elsewhere.{elsewhere, shown_elsewhere}
+use Rattle.papaya_rows.proofs.Elsewhere.{elsewhere, shown_elsewhere, kept_elsewhere}
 use Rattle.papaya_rows.proofs.Facts.{no_ending_of, no_making_of, no_work_at, row_rests}
 use Rattle.papaya_rows.proofs.Lists.{all_so, one_of, unseen}
 use Rattle.papaya_rows.proofs.Ran.{Led}
@@ -55,7 +55,7 @@ module _ {K V : Type 0} where
   there_stays caller acted [] m = refl
   there_stays caller acted (f ∷ effects) m = there_stays caller acted effects (with_effect caller acted f m)
 
-some_setting : {K : Type 0} (o : Option (Standing K)) (x : Setting) → option_map (λ st. st.setting) o ≡ Some x → (standing : Standing K) × (o ≡ Some standing)
+pub some_setting : {K : Type 0} (o : Option (Standing K)) (x : Setting) → option_map (λ st. st.setting) o ≡ Some x → (standing : Standing K) × (o ≡ Some standing)
 some_setting None x e = absurd (cc e)
 some_setting (Some st) x e = (st, refl)
 
@@ -83,12 +83,12 @@ module _ {K V S : Type 0} (same : K → K → Bool) (hash : K → ℕ) (terms : 
   nobody_in slot none = nobody_by p.there stands.calls.each slot none
 
   module _ (slot : ℕ) (called : SlotCall) (said : RowTold (Node K V)) (before after : List Effect) (new : Logged K V S) (ran : RowRan slot called said before after p.logged new) (may : MayBegin p.logged.executor slot called)
-      (led : Led same hash ran.caller stands.scene new.executor) (over : work_of new.executor ran.caller ≡ None) (takes : TakesRetired ran.did m) where
+      (led : Led same hash ran.caller stands.scene new.executor) (over : work_of new.executor ran.caller ≡ None) where
     abbrev w : Moment K V
     w = with_effects None None ran.did m
 
     abbrev to : (world : World (Node K V)) × (maps : ℕ → Option (Standing K)) × IsShown same hash stands.name w new (record stands.scene { world = world; maps = maps })
-    to = ran.shown same hash stands.name m stands.scene stands.shown may takes
+    to = ran.shown same hash stands.name m stands.scene stands.shown may
 
     abbrev then_at : Scene K V
     then_at = record stands.scene { world = to.0; maps = to.1 }
@@ -118,6 +118,7 @@ module _ {K V S : Type 0} (same : K → K → Bool) (hash : K → ℕ) (terms : 
       shown = record {
         is_at = to.2.is_at;
         shows = shown_elsewhere w (known new.notes) events m.is_mapped m.is_closed is_alone there slots sheltered remains same stands.name then_at to.2.shows;
+        kept = kept_elsewhere w (known new.notes) events m.is_mapped m.is_closed is_alone there slots sheltered remains stands.name then_at to.2.kept;
       };
       given = stands.given;
       there = is;

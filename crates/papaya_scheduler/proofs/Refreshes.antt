@@ -28,7 +28,7 @@ use Rattle.papaya_executor.specs.declared.worker.TheConstants.{SLOTS}
 use Rattle.papaya_logged.specs.Ended.{has_ended}
 use Rattle.papaya_logged.specs.declared.logged.Logged.{Logged}
 use Rattle.papaya_scheduler.specs.Played.{IsDue, Plays, StandsFor}
-use Rattle.papaya_rows.specs.Rows.{RowRan, RowRanOn, TakesRetired, used_as}
+use Rattle.papaya_rows.specs.Rows.{RowRan, RowRanOn, used_as}
 use Rattle.papaya_scheduler.specs.Seen.{free_slot}
 use Rattle.papaya_scheduler.specs.declared.scheduler.Scheduler.{Scheduler}
 use Rattle.papaya_scheduler.proofs.Dropped.{fits, free_lives, inside, nobody_else}
@@ -75,7 +75,7 @@ module _ {K V S : Type 0} (same : K → K → Bool) (hash : K → ℕ) (terms : 
       alone : (j : ℕ) → has_batch slot (stands.scene.world.row j) ≡ true → ⊥
       alone = none_has same hash p.logged.executor stands.scene stands.shown.is_at slot may_refresh.1
 
-      module _ (said : RowTold (Node K V)) (before after : List Effect) (logged : Logged K V S) (ran : RowRan slot call.Refresh said before after p.logged logged) (takes : TakesRetired ran.did m) where
+      module _ (said : RowTold (Node K V)) (before after : List Effect) (logged : Logged K V S) (ran : RowRan slot call.Refresh said before after p.logged logged) where
         is_done : said ≡ told.Done
         is_done = done_alone same hash stands.name m stands.scene p.logged logged stands.shown slot call.Refresh said before after ran may_refresh tt alone
 
@@ -106,7 +106,7 @@ module _ {K V S : Type 0} (same : K → K → Bool) (hash : K → ℕ) (terms : 
             plays same hash terms log (Refresh guard) (record p { logged = logged }) due e refl (in_turn IsDone (is_free_guard guard m) Done (free_is same hash terms m p stands guard ∙ ap is_some free) refl)
             (stands_ran same hash terms m p stands slot call.Refresh said before after logged ran may_refresh
             (led_alone same hash stands.name m stands.scene p.logged logged stands.shown slot call.Refresh said before after ran may_refresh tt alone)
-            (over_alone same hash stands.name m stands.scene p.logged logged stands.shown slot call.Refresh said before after ran may_refresh tt alone) takes p.there stands.calls.each use_now
+            (over_alone same hash stands.name m stands.scene p.logged logged stands.shown slot call.Refresh said before after ran may_refresh tt alone) p.there stands.calls.each use_now
             stands.names w.there (there_stays None None ran.did m ∙ stands.there) (m.events + 1) (m.is_alone && is_alone_on e m) m.slots (unsheltered guard w.sheltered) m.remains)
 
 -- so it is, by what the code does
@@ -121,9 +121,9 @@ module _ {K V S : Type 0} (same : K → K → Bool) (hash : K → ℕ) (terms : 
       (subst (λ (did : List Effect). Comes p did) (sym no_effects) (beside same hash terms log p guard due slot free))
 
   pub joined_alone : guards_on slot p.there.guards ≡ 1 → (before after : List Effect) → before ≡ [] → effects ≡ after → (q : Scheduler K V S) → p2 ≡ q → q ≡ record p { logged = q.logged }
-      → RowRanOn slot call.Refresh before after p.logged q.logged → TakesRetired effects (moment log) → Comes p2 effects
-  joined_alone one before after no_effects same_effects q same_q same_p (said, ran) takes =
+      → RowRanOn slot call.Refresh before after p.logged q.logged → Comes p2 effects
+  joined_alone one before after no_effects same_effects q same_q same_p (said, ran) =
       let did : effects ≡ ran.did = same_effects ∙ ran.follows ∙ ap (λ (xs : List Effect). xs ++ ran.did) no_effects in
       subst (λ (x : Scheduler K V S). Comes x effects) (sym (same_q ∙ same_p))
       (subst (λ (xs : List Effect). Comes (record p { logged = q.logged }) xs) (sym did)
-      (refreshed same hash terms log p guard due slot free one said before after q.logged ran (subst (λ (xs : List Effect). TakesRetired xs (moment log)) did takes)))
+      (refreshed same hash terms log p guard due slot free one said before after q.logged ran))

@@ -22,7 +22,7 @@ use Rattle.papaya_executor.specs.declared.row.RowTold.TheVariants as told
 use Rattle.papaya_executor.specs.declared.row.SlotCall.TheVariants as call
 use Rattle.papaya_logged.specs.declared.logged.Logged.{Logged}
 use Rattle.papaya_scheduler.specs.Played.{IsDue, Plays, StandsFor}
-use Rattle.papaya_rows.specs.Rows.{RowRan, TakesRetired}
+use Rattle.papaya_rows.specs.Rows.{RowRan}
 use Rattle.papaya_rows.specs.Taking.{SlotTaken, told_as}
 use Rattle.papaya_scheduler.specs.declared.scheduler.Scheduler.{Scheduler}
 use Rattle.papaya_scheduler.proofs.Enters.{none_is}
@@ -62,8 +62,7 @@ module _ {K V S : Type 0} (same : K → K → Bool) (hash : K → ℕ) (terms : 
       plays same hash terms log (Register registration) p due e refl (out_of_turn (wanted []) turn (Refused Busy) (turn_is true found) refl)
       (stands_on same hash terms m p stands (m.events + 1) (m.is_alone && is_alone_on e m) m.slots m.sheltered)
 
-  module _ (found : Found false) (said : RowTold (Node K V)) (before after : List Effect) (logged : Logged K V S) (ran : RowRan 0 (call.Register false) said before after p.logged logged)
-      (takes : TakesRetired ran.did m) where
+  module _ (found : Found false) (said : RowTold (Node K V)) (before after : List Effect) (logged : Logged K V S) (ran : RowRan 0 (call.Register false) said before after p.logged logged) where
     abbrev w : Moment K V
     w = with_effects None None ran.did m
 
@@ -74,7 +73,7 @@ module _ {K V S : Type 0} (same : K → K → Bool) (hash : K → ℕ) (terms : 
         plays same hash terms log (Register registration) (record p { logged = logged }) due e refl
         (in_turn (wanted ran.did) turn (Refused fault) (turn_is false found) (gets_none same hash terms m p stands false said before after logged ran fault is nothing))
         (stands_ran same hash terms m p stands 0 (call.Register false) said before after logged ran tt (led_taking same hash terms m p stands false said before after logged ran)
-        (over_taking same hash terms m p stands false said before after logged ran) takes p.there stands.calls.each (use_still same hash terms m p stands false said before after logged ran fault is) stands.names
+        (over_taking same hash terms m p stands false said before after logged ran) p.there stands.calls.each (use_still same hash terms m p stands false said before after logged ran fault is) stands.names
         (there_on {K = K} {V = V} (Register registration) (Refused fault) w.there) (there_stays None None ran.did m ∙ stands.there) (m.events + 1) (m.is_alone && is_alone_on e m) m.slots w.sheltered m.remains)
 
     -- or has a slot
@@ -96,7 +95,7 @@ module _ {K V S : Type 0} (same : K → K → Bool) (hash : K → ℕ) (terms : 
           (plays same hash terms log (Register registration) (record p { logged = logged; there = there2 }) due e refl
           (in_turn (wanted ran.did) turn (Slot slot) (turn_is false found) (gets_slot same hash terms m p stands false said before after logged ran slot is ran.did))
           (stands_ran same hash terms m p stands 0 (call.Register false) said before after logged ran tt (led_taking same hash terms m p stands false said before after logged ran)
-          (over_taking same hash terms m p stands false said before after logged ran) takes there2 stands.calls.each
+          (over_taking same hash terms m p stands false said before after logged ran) there2 stands.calls.each
           (use_then same hash terms m p stands false said before after logged ran slot is there2
           (is_outside slot there2 vacant.0 (has_more registration slot p.there slot ∙ ap (λ (b : Bool). if b then true else has_registration slot p.there.registrations) (eq-eqb slot slot refl)))
           (λ t ne. used_alike t p.there there2 refl
@@ -108,23 +107,20 @@ module _ {K V S : Type 0} (same : K → K → Bool) (hash : K → ℕ) (terms : 
 module _ {K V S : Type 0} (same : K → K → Bool) (hash : K → ℕ) (terms : Terms) (log : List (Entry K V)) (p : Scheduler K V S) (registration : List ℕ)
     (due : IsDue same hash terms log (Register registration) p) (found : is_some (option_map (λ r. r.slot) (registration_of registration p.there.registrations)) ≡ false)
     (q : Scheduler K V S) (same_p : q ≡ record p { logged = q.logged }) (before after : List Effect) (nothing : before ≡ []) (slot : Result ℕ Fault)
-    (ran : SlotTaken false slot before after p.logged q.logged) (takes : TakesRetired after (moment log)) where
+    (ran : SlotTaken false slot before after p.logged q.logged) where
   did : after ≡ ran.did
   did = ran.follows ∙ ap (λ (xs : List Effect). xs ++ ran.did) nothing
-
-  takes_did : TakesRetired ran.did (moment log)
-  takes_did = subst (λ (xs : List Effect). TakesRetired xs (moment log)) did takes
 
   pub joined_refused : (fault : Fault) → slot ≡ Err fault → Plays same hash terms log (entry (Register registration) (Refused fault) 0 after) q
   joined_refused fault is =
       subst (λ (x : Scheduler K V S). Plays same hash terms log (entry (Register registration) (Refused fault) 0 after) x) (sym same_p)
       (subst (λ (xs : List Effect). Plays same hash terms log (entry (Register registration) (Refused fault) 0 xs) (record p { logged = q.logged })) (sym did)
-      (refused same hash terms log p registration due found (told_as slot) before after q.logged ran takes_did fault (ap (λ (x : Result ℕ Fault). told_as {T = Node K V} x) is) nothing))
+      (refused same hash terms log p registration due found (told_as slot) before after q.logged ran fault (ap (λ (x : Result ℕ Fault). told_as {T = Node K V} x) is) nothing))
 
   pub joined_slot : (n : ℕ) → slot ≡ Ok n → (there : Present) → there ≡ registers registration n q.there
       → Plays same hash terms log (entry (Register registration) (Slot n) 0 after) (record q { there = there })
   joined_slot n is there there_is =
       subst (λ (x : Scheduler K V S). Plays same hash terms log (entry (Register registration) (Slot n) 0 after) (record x { there = there })) (sym same_p)
       (subst (λ (xs : List Effect). Plays same hash terms log (entry (Register registration) (Slot n) 0 xs) (record p { logged = q.logged; there = there })) (sym did)
-      (registered same hash terms log p registration due found (told_as slot) before after q.logged ran takes_did n (ap (λ (x : Result ℕ Fault). told_as {T = Node K V} x) is) there
+      (registered same hash terms log p registration due found (told_as slot) before after q.logged ran n (ap (λ (x : Result ℕ Fault). told_as {T = Node K V} x) is) there
       (there_is ∙ ap (λ (x : Scheduler K V S). registers registration n x.there) same_p)))

@@ -28,7 +28,7 @@ use Rattle.papaya_executor.specs.declared.worker.TheConstants.{SLOTS}
 use Rattle.papaya_logged.specs.Ended.{has_ended}
 use Rattle.papaya_logged.specs.declared.logged.Logged.{Logged}
 use Rattle.papaya_scheduler.specs.Played.{IsDue, Plays, StandsFor}
-use Rattle.papaya_rows.specs.Rows.{RowRan, RowRanOn, TakesRetired, used_as}
+use Rattle.papaya_rows.specs.Rows.{RowRan, RowRanOn, used_as}
 use Rattle.papaya_scheduler.specs.declared.scheduler.Scheduler.{Scheduler}
 use Rattle.papaya_rows.proofs.Facts.{slot_fits}
 use Rattle.papaya_scheduler.proofs.Quiet.{stands_on}
@@ -116,7 +116,7 @@ module _ {K V S : Type 0} (same : K → K → Bool) (hash : K → ℕ) (terms : 
         pub fits : slot < SLOTS
         fits = slot_fits same hash p.logged.executor stands.scene stands.shown.is_at slot (λ e. let h = sym outside ∙ e in cc h)
 
-        module _ (said : RowTold (Node K V)) (before after : List Effect) (logged : Logged K V S) (ran : RowRan slot call.Unregister said before after p.logged logged) (takes : TakesRetired ran.did m) where
+        module _ (said : RowTold (Node K V)) (before after : List Effect) (logged : Logged K V S) (ran : RowRan slot call.Unregister said before after p.logged logged) where
           is_done : said ≡ told.Done
           is_done = done_once same hash stands.name m stands.scene p.logged logged stands.shown slot call.Unregister said before after ran may_free tt
 
@@ -145,7 +145,7 @@ module _ {K V S : Type 0} (same : K → K → Bool) (hash : K → ℕ) (terms : 
               (plays same hash terms log (Unregister registration) (record p { logged = logged; there = there2 }) due e refl (in_turn IsDone turn Done (is_turn true none_live) refl)
               (stands_ran same hash terms m p stands slot call.Unregister said before after logged ran may_free
               (led_once same hash stands.name m stands.scene p.logged logged stands.shown slot call.Unregister said before after ran may_free tt)
-              (over_once same hash stands.name m stands.scene p.logged logged stands.shown slot call.Unregister said before after ran may_free tt) takes there2 stands.calls.each use_now
+              (over_once same hash stands.name m stands.scene p.logged logged stands.shown slot call.Unregister said before after ran may_free tt) there2 stands.calls.each use_now
               (unregisters_named registration p.there stands.names) (unregisters registration w.there) (ap (unregisters registration) (there_stays None None ran.did m ∙ stands.there))
               (m.events + 1) (m.is_alone && is_alone_on e m) m.slots w.sheltered m.remains))
 
@@ -163,10 +163,10 @@ module _ {K V S : Type 0} (same : K → K → Bool) (hash : K → ℕ) (terms : 
       (left same hash terms log p registration due slot found none_live some there (is ∙ ap (λ (q : Scheduler K V S). unregisters registration q.there) same_p)))
 
   pub joined_last : guards_on slot p.there.guards ≡ 0 → (before after : List Effect) → before ≡ [] → effects ≡ after → (q : Scheduler K V S) → p2 ≡ q → q ≡ record p { logged = q.logged }
-      → RowRanOn slot call.Unregister before after p.logged q.logged → TakesRetired effects (moment log) → Comes p2 effects
-  joined_last last before after no_effects same_effects q same_q same_p (said, ran) takes =
+      → RowRanOn slot call.Unregister before after p.logged q.logged → Comes p2 effects
+  joined_last last before after no_effects same_effects q same_q same_p (said, ran) =
       let did : effects ≡ ran.did = same_effects ∙ ran.follows ∙ ap (λ (xs : List Effect). xs ++ ran.did) no_effects in
       subst (λ (x : Scheduler K V S). Comes x effects) (sym (same_q ∙ same_p))
       (subst (λ (xs : List Effect). Comes (record p { logged = q.logged }) xs) (sym did)
-      (freed same hash terms log p registration due slot found none_live last said before after q.logged ran (subst (λ (xs : List Effect). TakesRetired xs (moment log)) did takes)
+      (freed same hash terms log p registration due slot found none_live last said before after q.logged ran
       there (is ∙ ap (λ (x : Scheduler K V S). unregisters registration x.there) (same_q ∙ same_p))))

@@ -3,7 +3,7 @@ pub mod Machines
 pub mod Telling
 pub mod Shapes
 pub mod Turns
-pub mod Handing
 pub mod Played
 pub mod KeptOut
 pub mod Mapping
+pub mod Reclaiming

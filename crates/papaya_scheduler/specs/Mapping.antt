@@ -1,5 +1,5 @@
 -- What is asked of a moment before a map is made or ends, and what is promised then.
-use Rattle.std.specs.Prelude.{◌≡◌, ◌<◌, ◌≤◌, ◌+◌, ◌^◌, ℕ, Bool, true, List, length, filter, is_none, max, not, ◌&&◌, nat_lt, None}
+use Rattle.std.specs.Prelude.{◌≡◌, ◌<◌, ◌≤◌, ◌+◌, ◌^◌, ℕ, Bool, true, List, length, filter, is_none, max, not, ◌&&◌, nat_lt}
 use Rattle.std.specs.Int.{IsNextPowerOfTwo}
 use Rattle.papaya_tables.specs.declared.resize_mode.ResizeMode.{ResizeMode}
 use Rattle.papaya_tables.specs.declared.setting.Setting.{Setting}
@@ -9,12 +9,10 @@ use Rattle.papaya_runs.specs.Same.{is_same}
 use Rattle.papaya_schedules.specs.declared.event.Event.{Event}
 use Rattle.papaya_schedules.specs.After.{moment}
 use Rattle.papaya_schedules.specs.Beginning.{used_roots}
-use Rattle.papaya_schedules.specs.Effects.{AtEachEffect}
-use Rattle.papaya_schedules.specs.Entry.{Entry, acted_on}
+use Rattle.papaya_schedules.specs.Entry.{Entry}
 use Rattle.papaya_schedules.specs.Lists.{is_among}
 use Rattle.papaya_schedules.specs.Moment.{Moment}
 use Rattle.papaya_schedules.specs.Terms.{Terms}
-use Rattle.papaya_moments.specs.Endings.{WaitsOn}
 use Rattle.papaya_moments.specs.Numbers.{NumbersMaps, PairsAreBelow}
 use Rattle.papaya_logged.specs.Roots.{AreTaken}
 use Rattle.papaya_scheduler.specs.Played.{IsDue, Plays, entry_of}
@@ -60,8 +58,6 @@ module _ {K V S : Type 0} (same : K → K → Bool) (hash : K → ℕ) where
   abbrev pub PlaysMaking : Event K V → Played V → (old new : Scheduler K V S) → Type 0
   PlaysMaking event played old new = (terms : Terms) (log : List (Entry K V)) → MayMap terms log event old → Plays same hash terms log (entry_of event played) new
 
-  -- where what waits behind a table that ends with its map is not reclaimed
   abbrev pub PlaysEnding : Event K V → Played V → (old new : Scheduler K V S) → Type 0
   PlaysEnding event played old new =
-      (terms : Terms) (log : List (Entry K V)) → IsDue same hash terms log event old → AreApart (moment log)
-      → AtEachEffect WaitsOn None (acted_on event (moment log)) played.effects.items (moment log) → Plays same hash terms log (entry_of event played) new
+      (terms : Terms) (log : List (Entry K V)) → IsDue same hash terms log event old → AreApart (moment log) → Plays same hash terms log (entry_of event played) new

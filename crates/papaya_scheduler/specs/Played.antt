@@ -18,9 +18,8 @@ use Rattle.papaya_executor.specs.IsAt.{Scene, slot_of, use_at, work_of}
 use Rattle.papaya_finishes.specs.Machines.{machine_of}
 use Rattle.papaya_finishes.specs.Maps.{Standing}
 use Rattle.papaya_logged.specs.Shown.{IsShown}
-use Rattle.papaya_scheduler.specs.Handing.{HeldIsTold}
 use Rattle.papaya_scheduler.specs.Machines.{IsAsFar, RefusedForRoom}
-use Rattle.papaya_rows.specs.Rows.{TakesRetired, used_as}
+use Rattle.papaya_rows.specs.Rows.{used_as}
 use Rattle.papaya_scheduler.specs.Seen.{is_named, named, named_of, seen, seen_of}
 use Rattle.papaya_scheduler.specs.declared.caller.Caller.{Caller}
 use Rattle.papaya_scheduler.specs.declared.played.Played.{Played}
@@ -113,17 +112,6 @@ module _ {K V S : Type 0} (same : K → K → Bool) (hash : K → ℕ) where
 
   abbrev pub PlaysAt : Event K V → Played V → (old new : Scheduler K V S) → Type 0
   PlaysAt event played old new = (terms : Terms) (log : List (Entry K V)) → IsDue terms log event old → Plays terms log (entry_of event played) new
-
-  -- where a table that is reclaimed was retired
-  abbrev pub PlaysTaking : Event K V → Played V → (old new : Scheduler K V S) → Type 0
-  PlaysTaking event played old new =
-      (terms : Terms) (log : List (Entry K V)) → IsDue terms log event old → TakesRetired played.effects.items (moment log) → Plays terms log (entry_of event played) new
-
-  -- and what is held is told
-  abbrev pub PlaysFlushing : Event K V → Played V → (old new : Scheduler K V S) → Type 0
-  PlaysFlushing event played old new =
-      (terms : Terms) (log : List (Entry K V)) → IsDue terms log event old → HeldIsTold (moment log) old → TakesRetired played.effects.items (moment log)
-      → Plays terms log (entry_of event played) new
 
   -- where it is known whether the event is the first one
   abbrev pub PlaysFirst : Bool → Event K V → Played V → (old new : Scheduler K V S) → Type 0

@@ -46,6 +46,7 @@ impl<K: Eq + Hash + Drop, V: Drop, S: Hashes<K>> Scheduler<K, V, S> {
         requires { (terms : Terms) × (m : Moment K V) × StandsFor K.eq (S.hash self.old.logged.executor.hasher) terms m self.old }
         ensures begins { IfOk result (λ begun. (terms : Terms) (m : Moment K V) → StandsFor K.eq (S.hash self.old.logged.executor.hasher) terms m self.old
             → BeginsSo K.eq (S.hash self.old.logged.executor.hasher) terms m name guard map.now call begun self.old self.new) }
+        ensures hasher { self.new.logged.executor.hasher ≡ self.old.logged.executor.hasher }
     {
         if self.calls.place_of(&name).is_some() {
             return Ok(false);
@@ -81,6 +82,7 @@ impl<K: Eq + Hash + Drop, V: Drop, S: Hashes<K>> Scheduler<K, V, S> {
         call: Call<K, V>,
     ) -> Result<Played<V>, AllocError>
         requires { MayPlay K.eq (S.hash self.old.logged.executor.hasher) (event.Begin caller guard map.now call) self.old }
+        ensures steps { IfOk result (λ played. played.steps ≡ 0) }
         ensures plays { IfOk result (λ played. PlaysAt K.eq (S.hash self.old.logged.executor.hasher) (event.Begin caller guard map.now call) played self.old self.new) }
     {
         if self.begins(caller, guard, map, call)? {
@@ -95,6 +97,7 @@ impl<K: Drop, V: Drop, S> Scheduler<K, V, S> {
     /// Tells a call that asks the reply.
     pub fn replied(&mut self, caller: &Token, reply: Reply<V>) -> Played<V>
         requires { (same : K → K → Bool) × (hash : K → ℕ) × MayPlay same hash (event.Replied caller.now reply) self.old }
+        ensures steps { result.steps ≡ 0 }
         ensures plays { (same : K → K → Bool) (hash : K → ℕ) → PlaysAt same hash (event.Replied caller.now reply) result self.old self.new }
     {
         let Some(place) = self.calls.place_of(caller) else {
@@ -125,6 +128,7 @@ impl<K: Drop, V: Drop, S> Scheduler<K, V, S> {
     /// A walk that shows pairs is given up.
     pub fn stop(&mut self, caller: &Token) -> Played<V>
         requires { (same : K → K → Bool) × (hash : K → ℕ) × MayPlay same hash (event.Stop caller.now) self.old }
+        ensures steps { result.steps ≡ 0 }
         ensures plays { (same : K → K → Bool) (hash : K → ℕ) → PlaysAt same hash (event.Stop caller.now) result self.old self.new }
     {
         let Some(place) = self.place_of_ready(caller) else {

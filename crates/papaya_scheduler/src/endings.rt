@@ -34,6 +34,7 @@ impl<K: Drop, V: Drop, S> Scheduler<K, V, S> {
     /// On an error nothing is said of the state after it: lists or notes of the run found no memory.
     pub fn end_map(&mut self, map: &Token) -> Result<Played<V>, AllocError>
         requires { (same : K → K → Bool) × (hash : K → ℕ) × MayPlay same hash (event.EndMap map.now) self.old }
+        ensures steps { IfOk result (λ played. played.steps ≡ 0) }
         ensures plays { IfOk result (λ played. (same : K → K → Bool) (hash : K → ℕ) → PlaysEnding same hash (event.EndMap map.now) played self.old self.new) }
     {
         let Some(number) = self.number_of(map) else {

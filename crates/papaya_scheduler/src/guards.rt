@@ -4,7 +4,7 @@ ghost use Rattle.seize.specs.declared.states.TheConstants.{BATCH, HELD};
 ghost use Rattle.seize_words.specs.Mem.{word_at};
 ghost use Rattle.seize_words.specs.declared.at.At.TheVariants.{Slot};
 ghost use Rattle.papaya_schedules.specs.declared.event.Event.TheVariants as event;
-ghost use Rattle.papaya_scheduler.specs.Played.{MayPlay, PlaysAt, PlaysFlushing, PlaysTaking};
+ghost use Rattle.papaya_scheduler.specs.Played.{MayPlay, PlaysAt};
 ghost use Rattle.papaya_rows.specs.Rows.{left_as};
 
 use crate::played::Played;
@@ -23,7 +23,8 @@ impl<K: Drop, V: Drop, S> Scheduler<K, V, S> {
     /// A new guard of a registration. The first one on its slot enters the slot.
     pub fn enter(&mut self, guard: Token, registration: &Token) -> Result<Played<V>, AllocError>
         requires { (same : K → K → Bool) × (hash : K → ℕ) × MayPlay same hash (event.Enter guard registration.now) self.old }
-        ensures plays { IfOk result (λ played. (same : K → K → Bool) (hash : K → ℕ) → PlaysTaking same hash (event.Enter guard registration.now) played self.old self.new) }
+        ensures steps { IfOk result (λ played. played.steps ≡ 0) }
+        ensures plays { IfOk result (λ played. (same : K → K → Bool) (hash : K → ℕ) → PlaysAt same hash (event.Enter guard registration.now) played self.old self.new) }
     {
         if self.there.has_guard(&guard) {
             return Ok(self.busy());
@@ -50,7 +51,8 @@ impl<K: Drop, V: Drop, S> Scheduler<K, V, S> {
     /// The guard's section begins anew, where the guard is the only one on its slot.
     pub fn refresh(&mut self, guard: &Token) -> Result<Played<V>, AllocError>
         requires { (same : K → K → Bool) × (hash : K → ℕ) × MayPlay same hash (event.Refresh guard.now) self.old }
-        ensures plays { IfOk result (λ played. (same : K → K → Bool) (hash : K → ℕ) → PlaysTaking same hash (event.Refresh guard.now) played self.old self.new) }
+        ensures steps { IfOk result (λ played. played.steps ≡ 0) }
+        ensures plays { IfOk result (λ played. (same : K → K → Bool) (hash : K → ℕ) → PlaysAt same hash (event.Refresh guard.now) played self.old self.new) }
     {
         let Some(slot) = self.slot_of_free(guard) else {
             return Ok(self.busy());
@@ -69,7 +71,8 @@ impl<K: Drop, V: Drop, S> Scheduler<K, V, S> {
     /// The open batch of the guard's slot is tried, unless a call holds it.
     pub fn flush(&mut self, guard: &Token) -> Result<Played<V>, AllocError>
         requires { (same : K → K → Bool) × (hash : K → ℕ) × MayPlay same hash (event.Flush guard.now) self.old }
-        ensures plays { IfOk result (λ played. (same : K → K → Bool) (hash : K → ℕ) → PlaysFlushing same hash (event.Flush guard.now) played self.old self.new) }
+        ensures steps { IfOk result (λ played. played.steps ≡ 0) }
+        ensures plays { IfOk result (λ played. (same : K → K → Bool) (hash : K → ℕ) → PlaysAt same hash (event.Flush guard.now) played self.old self.new) }
     {
         let Some(slot) = self.there.slot_of_living(guard) else {
             return Ok(self.busy());
@@ -109,7 +112,8 @@ impl<K: Drop, V: Drop, S> Scheduler<K, V, S> {
     /// The guard ends. The only one on its slot leaves the slot, and gives it up where that is its own.
     pub fn drop_guard(&mut self, guard: &Token) -> Result<Played<V>, AllocError>
         requires { (same : K → K → Bool) × (hash : K → ℕ) × MayPlay same hash (event.DropGuard guard.now) self.old }
-        ensures plays { IfOk result (λ played. (same : K → K → Bool) (hash : K → ℕ) → PlaysTaking same hash (event.DropGuard guard.now) played self.old self.new) }
+        ensures steps { IfOk result (λ played. played.steps ≡ 0) }
+        ensures plays { IfOk result (λ played. (same : K → K → Bool) (hash : K → ℕ) → PlaysAt same hash (event.DropGuard guard.now) played self.old self.new) }
     {
         let Some(slot) = self.slot_of_free(guard) else {
             return Ok(self.busy());
@@ -130,6 +134,7 @@ impl<K: Drop, V: Drop, S> Scheduler<K, V, S> {
     /// The guard is forgotten.
     pub fn forget(&mut self, guard: &Token) -> Played<V>
         requires { (same : K → K → Bool) × (hash : K → ℕ) × MayPlay same hash (event.Forget guard.now) self.old }
+        ensures steps { result.steps ≡ 0 }
         ensures plays { (same : K → K → Bool) (hash : K → ℕ) → PlaysAt same hash (event.Forget guard.now) result self.old self.new }
     {
         if self.slot_of_free(guard).is_none() {

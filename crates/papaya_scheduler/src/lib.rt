@@ -9,6 +9,7 @@ pub mod kind;
 pub mod machines;
 pub mod makings;
 pub mod played;
+pub mod reclaims;
 pub mod registrations;
 pub mod scheduler;
 pub mod setups;

@@ -51,6 +51,7 @@ impl<K: Drop, V: Drop, S> Scheduler<K, V, S> {
         capacity: u64,
     ) -> Result<Played<V>, AllocError>
         requires { (same : K → K → Bool) × (hash : K → ℕ) × (terms : Terms) × (log : List (Entry K V)) × MayMap same hash terms log (event.MakeMap map mode capacity) self.old }
+        ensures steps { IfOk result (λ played. played.steps ≡ 0) }
         ensures plays { IfOk result (λ played. (same : K → K → Bool) (hash : K → ℕ) → PlaysMaking same hash (event.MakeMap map mode capacity) played self.old self.new) }
     {
         self.is_mapped = true;

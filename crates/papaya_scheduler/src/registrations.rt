@@ -3,7 +3,7 @@ ghost use Rattle.std.specs.Prelude.{◌≡◌, ℕ, Bool, List, IfOk};
 ghost use Rattle.papaya_schedules.specs.Moment.{Moment};
 ghost use Rattle.papaya_schedules.specs.Terms.{Terms};
 ghost use Rattle.papaya_schedules.specs.declared.event.Event.TheVariants as event;
-ghost use Rattle.papaya_scheduler.specs.Played.{MayPlay, PlaysTaking, StandsFor};
+ghost use Rattle.papaya_scheduler.specs.Played.{MayPlay, PlaysAt, StandsFor};
 ghost use Rattle.papaya_rows.specs.Taking.{SlotTaken};
 
 use crate::played::Played;
@@ -37,7 +37,8 @@ impl<K: Drop, V: Drop, S> Scheduler<K, V, S> {
     /// A new registration, on the least slot that is not in use.
     pub fn register(&mut self, registration: Token) -> Result<Played<V>, AllocError>
         requires { (same : K → K → Bool) × (hash : K → ℕ) × MayPlay same hash (event.Register registration) self.old }
-        ensures plays { IfOk result (λ played. (same : K → K → Bool) (hash : K → ℕ) → PlaysTaking same hash (event.Register registration) played self.old self.new) }
+        ensures steps { IfOk result (λ played. played.steps ≡ 0) }
+        ensures plays { IfOk result (λ played. (same : K → K → Bool) (hash : K → ℕ) → PlaysAt same hash (event.Register registration) played self.old self.new) }
     {
         if self.there.slot_of_registration(&registration).is_some() {
             return Ok(self.busy());
@@ -64,7 +65,8 @@ impl<K: Drop, V: Drop, S> Scheduler<K, V, S> {
     /// A new guard with a slot of its own: the least one that is not in use.
     pub fn own(&mut self, guard: Token) -> Result<Played<V>, AllocError>
         requires { (same : K → K → Bool) × (hash : K → ℕ) × MayPlay same hash (event.Own guard) self.old }
-        ensures plays { IfOk result (λ played. (same : K → K → Bool) (hash : K → ℕ) → PlaysTaking same hash (event.Own guard) played self.old self.new) }
+        ensures steps { IfOk result (λ played. played.steps ≡ 0) }
+        ensures plays { IfOk result (λ played. (same : K → K → Bool) (hash : K → ℕ) → PlaysAt same hash (event.Own guard) played self.old self.new) }
     {
         if self.there.has_guard(&guard) {
             return Ok(self.busy());
@@ -91,7 +93,8 @@ impl<K: Drop, V: Drop, S> Scheduler<K, V, S> {
     /// The registration ends, where each guard of it was forgotten. A slot on which guards are left is not given up.
     pub fn unregister(&mut self, registration: &Token) -> Result<Played<V>, AllocError>
         requires { (same : K → K → Bool) × (hash : K → ℕ) × MayPlay same hash (event.Unregister registration.now) self.old }
-        ensures plays { IfOk result (λ played. (same : K → K → Bool) (hash : K → ℕ) → PlaysTaking same hash (event.Unregister registration.now) played self.old self.new) }
+        ensures steps { IfOk result (λ played. played.steps ≡ 0) }
+        ensures plays { IfOk result (λ played. (same : K → K → Bool) (hash : K → ℕ) → PlaysAt same hash (event.Unregister registration.now) played self.old self.new) }
     {
         let slot = match self.there.slot_of_registration(registration) {
             Some(slot) if self.there.living_on(slot) == 0 => slot,

@@ -28,6 +28,7 @@ impl<K: Drop, V: Drop, S> Scheduler<K, V, S> {
     /// The collector's setup: in turn as the first event alone.
     pub fn collector(&self, setup: Setup, is_first: bool) -> Played<V>
         requires { (same : K → K → Bool) × (hash : K → ℕ) × MayPlay same hash (event.Collector setup) self.now }
+        ensures steps { result.steps ≡ 0 }
         ensures plays { (same : K → K → Bool) (hash : K → ℕ) → PlaysFirst same hash is_first (event.Collector setup) result self.now self.now }
     {
         self.if_so(is_first)
@@ -36,6 +37,7 @@ impl<K: Drop, V: Drop, S> Scheduler<K, V, S> {
     /// How keys get their hashes: in turn while no event was to make a map. It changes nothing in a run, which takes its hasher from its caller.
     pub fn hash(&self, by: KeyHash) -> Played<V>
         requires { (same : K → K → Bool) × (hash : K → ℕ) × MayPlay same hash (event.Hash by) self.now }
+        ensures steps { result.steps ≡ 0 }
         ensures plays { (same : K → K → Bool) (hash : K → ℕ) → PlaysAt same hash (event.Hash by) result self.now self.now }
     {
         self.if_so(!self.is_mapped)
@@ -44,6 +46,7 @@ impl<K: Drop, V: Drop, S> Scheduler<K, V, S> {
     /// Adds a choice of a free block number. On an error nothing is said: the list of choices found no memory.
     pub fn choose(&mut self, choice: u64) -> Result<Played<V>, AllocError>
         requires { (same : K → K → Bool) × (hash : K → ℕ) × MayPlay same hash (event.Choose choice) self.old }
+        ensures steps { IfOk result (λ played. played.steps ≡ 0) }
         ensures plays { IfOk result (λ played. (same : K → K → Bool) (hash : K → ℕ) → PlaysAt same hash (event.Choose choice) played self.old self.new) }
     {
         self.logged.choose(choice)?;

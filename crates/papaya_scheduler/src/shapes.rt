@@ -49,6 +49,7 @@ impl<K: Drop, V: Drop, S> Scheduler<K, V, S> {
     /// Shows the tables of a map.
     pub fn show_shape(&self, map: &Token) -> Result<Played<V>, AllocError>
         requires { (same : K → K → Bool) × (hash : K → ℕ) × MayPlay same hash (event.ShowShape map.now) self.now }
+        ensures steps { IfOk result (λ played. played.steps ≡ 0) }
         ensures plays { IfOk result (λ played. (same : K → K → Bool) (hash : K → ℕ) → PlaysAt same hash (event.ShowShape map.now) played self.now self.now) }
     {
         match self.setting_of(map) {

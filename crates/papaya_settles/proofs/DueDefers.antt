@@ -7,6 +7,7 @@ use Rattle.seize_words.specs.declared.at.At.TheVariants as name
 use Rattle.seize_words.specs.Op.{Found, Stored, Exchanged, Made, Taken, Roomed}
 use Rattle.seize_words.specs.Mem.{Mem, value_at, word_at}
 use Rattle.seize_words.specs.Word.{block_in}
+use Rattle.seize.specs.Further.{IsWordOf}
 use Rattle.seize.specs.declared.progress.Progress.{Progress}
 use Rattle.seize.specs.declared.states.TheConstants.{LAST_SLOT}
 use Rattle.seize.specs.declared.rows.defer.Defer.{Defer}
@@ -123,13 +124,13 @@ module _ {K V : Type 0} {size : ℕ} (w : World (Node K V)) (r : Reached deferre
   put_told : (x : Role) (t : Table) (len : ℕ) → x ≡ role.Table t len → (was is : Role) → in_block (acts.Call caller map) x DEFERRED known.stored false was is ≡ carried t is
   put_told x t len e was is = ap (λ (y : Role). in_block (acts.Call caller map) y DEFERRED known.stored false was is) e
 
-  still : (p : Deferring) (word : ℕ) → due_in_defer c p ≡ Some (ToPut word) → due_in_defer end.0 end.0.stands ≡ Some (ToPut word) → effects_by caller map known told ≡ [] → Goes p
-  still p word due after none = TellsNone none (after ∙ sym due)
+  still : (p : Deferring) (word : ℕ) (place : At) → due_in_defer c p ≡ Some (ToPut word place) → due_in_defer end.0 end.0.stands ≡ Some (ToPut word place) → effects_by caller map known told ≡ [] → Goes p
+  still p word place due after none = TellsNone none (after ∙ sym due)
 
   pub defer_tells : Goes c.stands
   defer_tells = by c.stands refl fits steps
     where
-      reads : c.stands ≡ at.Reads → SteppedAt at.Reads → due_in_defer end.0 end.0.stands ≡ Some (ToPut c.block)
+      reads : c.stands ≡ at.Reads → SteppedAt at.Reads → due_in_defer end.0 end.0.stands ≡ Some (ToPut c.block c.table_word)
       reads is (Found head, (took, told_so), ends) = ap (λ (q : Defer × Progress Unit). due_in_defer q.0 q.0.stands) ends
       reads is (Stored, (took, told_so), ends) = absurd took.0
       reads is (Exchanged x, (took, told_so), ends) = absurd took.0
@@ -142,7 +143,7 @@ module _ {K V : Type 0} {size : ℕ} (w : World (Node K V)) (r : Reached deferre
           let told_at : told ≡ changed.Wrote (name.Word f.on.t f.on.d) found c.block = told_so ∙ ap (λ (a : At). changed.Wrote a found c.block) f.on.at_is in
           let there : word_at w.memory (name.Word f.on.t f.on.d) ≡ Some found = subst (λ (a : At). word_at w.memory a ≡ Some found) f.on.at_is took.0.0 in
           let table = tables f.on.t f.on.d f.on.list (carries f.on) in
-          TellsDeferred c.block f.on.t table.0 table.1 refl (ap (λ (q : Defer × Progress Unit). due_in_defer q.0 q.0.stands) ends) table.2
+          TellsDeferred c.block f.on.t c.table_word table.0 table.1 refl (subst (IsWordOf f.on.t) (sym f.on.at_is) refl) (ap (λ (q : Defer × Progress Unit). due_in_defer q.0 q.0.stands) ends) table.2
           (ap (effects_by caller map known) told_at
           ∙ ap (λ (q : Bool). in_block (acts.Call caller map) (known.roles f.on.t) f.on.d known.stored q (named known found) (named known c.block)) (apart f.on found there)
           ∙ ap (λ (d : ℕ). in_block (acts.Call caller map) (known.roles f.on.t) d known.stored false (named known found) (named known c.block)) (word_of_list (value_at w.memory f.on.t) f.on.d f.on.list)
@@ -156,9 +157,9 @@ module _ {K V : Type 0} {size : ℕ} (w : World (Node K V)) (r : Reached deferre
       pushes head f (Roomed x, (took, told_so), ends) = absurd took.0
 
       by : (p : Deferring) → c.stands ≡ p → FitsHere p → SteppedAt p → Goes p
-      by at.Reads is f st = still at.Reads c.block refl (reads is st) (plan_none caller map known w.memory m2 told (plans.plan_at {T = Node K V} c at.Reads) end st tt)
+      by at.Reads is f st = still at.Reads c.block c.table_word refl (reads is st) (plan_none caller map known w.memory m2 told (plans.plan_at {T = Node K V} c at.Reads) end st tt)
       by (at.Links head) is f st =
-          still (at.Links head) c.block refl (ap (λ (q : Defer × Progress Unit). due_in_defer q.0 q.0.stands) st.2)
+          still (at.Links head) c.block c.table_word refl (ap (λ (q : Defer × Progress Unit). due_in_defer q.0 q.0.stands) st.2)
           (plan_none caller map known w.memory m2 told (plans.plan_at {T = Node K V} c (at.Links head)) end st (λ e. absurd (omega (arith, e))))
       by (at.Pushes head) is f st = pushes head f st
       by at.Over is f st =

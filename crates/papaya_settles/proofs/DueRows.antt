@@ -205,7 +205,7 @@ module _ {K V : Type 0} {size : ℕ} (w : World (Node K V)) (r : Reached deferre
     begun_on : c.stands ≡ deferring.Reads → DeferGoes
     begun_on stands = by (subst DeferAt stands steps)
       where
-        after : (x : Defer × Progress Unit) → end ≡ x → due_in_defer x.0 x.0.stands ≡ Some (ToPut c.block) → due_in_defer end.0 end.0.stands ≡ due_in_defer c c.stands
+        after : (x : Defer × Progress Unit) → end ≡ x → due_in_defer x.0 x.0.stands ≡ Some (ToPut c.block c.table_word) → due_in_defer end.0 end.0.stands ≡ due_in_defer c c.stands
         after x is due = ap (λ (q : Defer × Progress Unit). due_in_defer q.0 q.0.stands) is ∙ due ∙ sym (ap (due_in_defer c) stands)
 
         by : DeferAt deferring.Reads → DeferGoes

@@ -56,7 +56,7 @@ module _ {T : Type 0} (m : Mem T) where
   as_blank b zero = record { next = λ word is. sym (ap or_zero is) ∙ zero.0; first = λ word is. sym (ap or_zero is) ∙ zero.1 }
 
 -- where blocks of which one is so are so as another says
-one_as : (A B : ℕ → Type 0) → ((b : ℕ) → A b → B b) → (row : Row) → RetiresOne A row → RetiresOne B row
+pub one_as : (A B : ℕ → Type 0) → ((b : ℕ) → A b → B b) → (row : Row) → RetiresOne A row → RetiresOne B row
 one_as A B turn (Settles c) one = by c.stands one
   where
     by : (p : Settling) → OneAt A c p → OneAt B c p

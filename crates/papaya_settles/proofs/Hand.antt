@@ -17,3 +17,4 @@ pub mod Lives
 pub mod There
 pub mod Others
 pub mod Ends
+pub mod Held

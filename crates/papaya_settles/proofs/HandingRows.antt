@@ -1,6 +1,7 @@
 -- A call that is within a row of the collector hands something over: one whose row is under way does, and one that is about to begin its row owes what that is to hand over.
 use Rattle.std.specs.Prelude.{◌≡◌, ◌*◌, ◌++◌, ◌||◌, ℕ, Bool, true, false, not, List, [], ◌∷◌, Option, Some, None}
 use Rattle.std.proofs.Common.{refl, ap, sym, subst, ◌∙◌, inl, inr}
+use Rattle.seize_words.specs.declared.at.At.{At}
 use Rattle.seize.specs.World.{World, Row, Rests}
 use Rattle.seize.specs.declared.rows.defer.Defer.{Defer}
 use Rattle.seize.specs.declared.rows.settle.Settle.{Settle}
@@ -109,9 +110,9 @@ module _ {T : Type 0} (w : World T) (i : ℕ) (rests : w.row i ≡ Rests) (known
   settle_due settle (IsSettling is) = absurd (let no = sym rests ∙ is in cc no)
   settle_due settle (IsToSettle slot batch block is cut) = (block * 2048, ap (λ (x : Settle). due_in_settle x x.stands) is)
 
-  defer_due : (defer : Defer) → DeferIs w i defer → (word : ℕ) × (due_in_defer defer defer.stands ≡ Some (ToPut word))
+  defer_due : (defer : Defer) → DeferIs w i defer → (word : ℕ) × (place : At) × (due_in_defer defer defer.stands ≡ Some (ToPut word place))
   defer_due defer (IsPutting slot is) = absurd (let no = sym rests ∙ is in cc no)
-  defer_due defer (IsToPut block at is) = (block, ap (λ (x : Defer). due_in_defer x x.stands) is)
+  defer_due defer (IsToPut block at is) = (block, at, ap (λ (x : Defer). due_in_defer x x.stands) is)
 
   its_pair : (o : Option ℕ) (word : ℕ) → o ≡ Some word → NotesPair known o → is_empty (things_at known o) ≡ false
   its_pair o word is notes = ap (λ (x : Option ℕ). is_empty (things_at known x)) is ∙ pair_some known word (subst (NotesPair known) is notes)
@@ -121,7 +122,7 @@ module _ {T : Type 0} (w : World T) (i : ℕ) (rests : w.row i ≡ Rests) (known
 
   disposal_some : (d : Dispose) (p : Disposing) → DisposingIs w i p → NotesPair known (pair_in_disposing d p) → is_empty (things_at known (pair_in_disposing d p)) ≡ false
   disposal_some d (disposing.Settles settle) is notes = let due = settle_due settle is in its_pair (word_due (due_in_settle settle settle.stands)) due.0 (ap word_due due.1) notes
-  disposal_some d (disposing.Defers defer) is notes = let due = defer_due defer is in its_pair (word_due (due_in_defer defer defer.stands)) due.0 (ap word_due due.1) notes
+  disposal_some d (disposing.Defers defer) is notes = let due = defer_due defer is in its_pair (word_due (due_in_defer defer defer.stands)) due.0 (ap word_due due.2) notes
   disposal_some d disposing.Reads is notes = absurd is
   disposal_some d (disposing.Walks table) is notes = absurd is
   disposal_some d disposing.Over is notes = absurd is

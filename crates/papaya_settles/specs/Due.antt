@@ -1,6 +1,8 @@
 -- What the row within a call has in hand, and has neither retired nor put behind a table: by where its machine stands.
 use Rattle.std.specs.Prelude.{◌≡◌, ℕ, Bool, List, [], ◌∷◌, Option, Some, None}
 use Rattle.seize_words.specs.Word.{block_in}
+use Rattle.seize_words.specs.declared.at.At.{At}
+use Rattle.seize.specs.Further.{IsWordOf}
 use Rattle.seize.specs.World.{World, Making}
 use Rattle.seize.specs.declared.rows.defer.Defer.{Defer}
 use Rattle.seize.specs.declared.rows.defer.Deferring.{Deferring}
@@ -43,15 +45,15 @@ use Rattle.papaya_follows.specs.Steps.{IsOfNoRow}
 use Rattle.papaya_hands.specs.Rows.{ShowsRows}
 use Rattle.papaya_settles.specs.Entries.{ShowsEntries}
 
--- the word of a block that a row is to retire, or to put behind another one
+-- the word of a block that a row is to retire, or to put behind another one, which has this word
 pub data Due : Type 0 where
   ToRetire : ℕ → Due
-  ToPut : ℕ → Due
+  ToPut : ℕ → At → Due
 
 abbrev pub word_due : Option Due → Option ℕ
 word_due None = None
 word_due (Some (ToRetire word)) = Some word
-word_due (Some (ToPut word)) = Some word
+word_due (Some (ToPut word place)) = Some word
 
 -- the one that it is to retire, until its batch is told of
 abbrev pub due_in_settle : Settle → Settling → Option Due
@@ -65,7 +67,7 @@ due_in_settle c _ = None
 -- and the one that it is to put behind another, until it is there
 abbrev pub due_in_defer : Defer → Deferring → Option Due
 due_in_defer c deferring.Over = None
-due_in_defer c _ = Some (ToPut c.block)
+due_in_defer c _ = Some (ToPut c.block c.table_word)
 
 abbrev pub due_in_disposing : Disposing → Option Due
 due_in_disposing (disposing.Settles settle) = due_in_settle settle settle.stands
@@ -108,7 +110,8 @@ told_retired _ = []
 pub data RowTells (caller map : ℕ) (known : Known) (effects : List Effect) (before after : Option Due) : Type 0 where
   TellsNone : effects ≡ [] → after ≡ before → RowTells caller map known effects before after
   TellsRetired : (word : ℕ) → before ≡ Some (ToRetire word) → after ≡ None → effects ≡ told_retired (known.roles (block_in word)) → RowTells caller map known effects before after
-  TellsDeferred : (word block : ℕ) (t : Table) (len : ℕ) → before ≡ Some (ToPut word) → after ≡ None → known.roles block ≡ role.Table t len → effects ≡ carried t (named known word)
+  TellsDeferred : (word block : ℕ) (place : At) (t : Table) (len : ℕ) → before ≡ Some (ToPut word place) → IsWordOf block place → after ≡ None → known.roles block ≡ role.Table t len
+      → effects ≡ carried t (named known word)
       → RowTells caller map known effects before after
 
 -- each block that is noted as a table of somebody's own is one that somebody makes

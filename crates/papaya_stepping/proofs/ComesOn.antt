@@ -1,13 +1,15 @@
 -- Steps of a call, one after another: in their midst, and what the last one comes to.
-use Rattle.std.specs.Prelude.{◌≡◌, ◌+◌, ℕ, Bool, true, List, [], ◌++◌, Some}
+use Rattle.std.specs.Prelude.{◌≡◌, ◌+◌, ℕ, Bool, true, false, List, [], ◌++◌, Some}
 use Rattle.std.proofs.Common.{sym, ap, subst, ◌∙◌, arith}
 use Rattle.std.proofs.lemmas.List.{append_assoc}
 use Rattle.papaya_schedules.specs.declared.call.Call.{Call}
 use Rattle.papaya_schedules.specs.declared.effect.Effect.{Effect}
 use Rattle.papaya_schedules.specs.declared.outcome.Outcome.{Outcome}
 use Rattle.papaya_schedules.specs.Effects.{with_effects}
+use Rattle.papaya_schedules.specs.Growing.{only_looks}
 use Rattle.papaya_schedules.specs.Moment.{UnderWay as CallThere, Moment}
 use Rattle.papaya_schedules.specs.Terms.{Terms}
+use Rattle.papaya_schedules.specs.Views.{call_of}
 use Rattle.papaya_follows.specs.Calling.{come_to}
 use Rattle.papaya_hands.proofs.Replacing.{IsOn, calls_after}
 use Rattle.papaya_moments.proofs.After.{effects_after}
@@ -58,6 +60,8 @@ module _ {K V S : Type 0} (same : K → K → Bool) (hash : K → ℕ) (terms : 
       follows = follows_all;
       few = parts_add_up steps 1 midst.did last.did midst.few last.few;
       comes = subst (λ (x : Call K V). ComesAs x outcome) call_on.call last.comes;
+      works = λ waits. subst (λ (x : Call K V). only_looks x ≡ false) call_on.call (last.works waits);
+      memory = λ refused d d_is. last.memory refused d (ap (λ (x : Moment K V). call_of own x) all_did ∙ d_is);
       goes = λ on. (subst (λ (x : Moment K V). StandsFor same hash terms x new) all_did (last.goes on).0, (last.goes on).1);
       stands = λ never counted. subst (λ (x : Moment K V). StandsFor same hash terms (come_to own outcome counted x) new) all_did (last.stands never counted);
     }

@@ -3,9 +3,15 @@ mod Again
 mod AnySays
 mod ComesOn
 mod KeySays
+mod LookSays
+mod NextBegins
+mod NextEnds
+mod NextOn
+mod NextSays
 mod OneStep
 mod PlaysAgain
 mod PlaysSteps
+mod PlaysWhole
 mod RightSteps
 mod RoomSays
 mod StepSays
@@ -14,3 +20,4 @@ mod StepsOn
 mod SweepSays
 mod SweepSteps
 mod TakenBy
+mod Waiting

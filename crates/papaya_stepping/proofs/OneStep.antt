@@ -2,7 +2,8 @@
 use Rattle.std.specs.Prelude.{◌≡◌, ◌⊎◌, ◌+◌, ℕ, Bool, true, false, List, filter, find, map, not, position, slice_get, slice_set, Option, Some, None, if◌then◌else◌}
 use Rattle.std.specs.List.{remove}
 use Rattle.std.proofs.Common.{refl, sym, ap, subst, ◌∙◌, inl, inr}
-use Rattle.seize_words.specs.declared.fault.Fault.TheVariants.{Busy}
+use Rattle.seize_words.specs.declared.fault.Fault.{Fault}
+use Rattle.seize_words.specs.declared.fault.Fault.TheVariants.{Busy, Memory}
 use Rattle.papaya_tables.specs.declared.node.Node.{Node}
 use Rattle.papaya_raw.specs.declared.machines.machine.Machine.{Machine}
 use Rattle.papaya_raw.specs.declared.machines.progress.Progress.{Progress}
@@ -12,10 +13,11 @@ use Rattle.papaya_schedules.specs.declared.call.Call.{Call}
 use Rattle.papaya_schedules.specs.declared.call.Call.TheVariants.{On}
 use Rattle.papaya_schedules.specs.declared.effect.Effect.{Effect}
 use Rattle.papaya_schedules.specs.declared.outcome.Outcome.{Outcome}
-use Rattle.papaya_schedules.specs.declared.outcome.Outcome.TheVariants.{Refused}
+use Rattle.papaya_schedules.specs.declared.outcome.Outcome.TheVariants.{Refused, Waits}
 use Rattle.papaya_schedules.specs.After.{asks_on, comes_to}
 use Rattle.papaya_schedules.specs.Effects.{with_effects}
 use Rattle.papaya_schedules.specs.Entry.{ends_call}
+use Rattle.papaya_schedules.specs.Growing.{only_looks}
 use Rattle.papaya_schedules.specs.Moment.{Stands, Going, Asking, Told, IsReady, UnderWay as CallThere, Moment}
 use Rattle.papaya_schedules.specs.Terms.{Terms}
 use Rattle.papaya_schedules.specs.Views.{call_of}
@@ -33,6 +35,8 @@ use Rattle.papaya_logged.specs.Calling.{CallGoesOn, step_did}
 use Rattle.papaya_logged.specs.Shown.{IsShown}
 use Rattle.papaya_logged.specs.declared.logged.Logged.{Logged}
 use Rattle.papaya_moments.proofs.Calls.{calls_come_to_whole}
+use Rattle.papaya_kept.proofs.Stays.{calls_come_to_kept}
+use Rattle.papaya_owes.proofs.Grown.Calls.{step_keeps_grown}
 use Rattle.papaya_promises.proofs.Weights.{operations_are_single}
 use Rattle.papaya_scheduler.specs.Machines.{IsAsFar}
 use Rattle.papaya_scheduler.specs.Played.{AsFar, StandsFor}
@@ -47,6 +51,7 @@ use Rattle.papaya_scheduler.specs.declared.kind.Kind.{Kind}
 use Rattle.papaya_scheduler.specs.declared.scheduler.Scheduler.{Scheduler}
 use Rattle.papaya_stepping.proofs.AfterEffects.{calls_seen, closed_stays, mapped_stays}
 use Rattle.papaya_stepping.proofs.AnySays.{any_says}
+use Rattle.papaya_stepping.proofs.LookSays.{never_waits}
 use Rattle.papaya_scheduler.proofs.Here.{Here, here_at}
 use Rattle.papaya_rows.proofs.Lists.{changed_at, removed_at, set_get, set_position, set_seen}
 use Rattle.papaya_scheduler.proofs.RanOn.{maps_named, there_stays}
@@ -94,6 +99,30 @@ module _ {K V : Type 0} (by : Known) (its : Kind) (value : Option V) where
   ends_as (progress.Done said) never = refl
   ends_as (progress.Refused Busy) never = absurd (never refl)
   ends_as (progress.Refused fault) never = refl
+
+  -- what is refused for want of memory has said so
+  said_short : (said : Progress (Node K V)) → outcome_of by its value said ≡ Refused Memory → said ≡ progress.Refused Memory
+  said_short (progress.Refused fault) e = let for_memory : fault ≡ Memory = cc e in ap (λ (x : Fault). progress.Refused x) for_memory
+  said_short progress.Goes e = absurd (cc e)
+  said_short (progress.Gave node) e = absurd (cc e)
+  said_short (progress.Unstored node) e = absurd (cc e)
+  said_short progress.Waits e = absurd (cc e)
+  said_short (progress.Asks word) e = absurd (cc e)
+  said_short progress.Ready e = absurd (cc e)
+  said_short (progress.Pair word) e = absurd (cc e)
+  said_short (progress.Done said) e = absurd (cc e)
+
+  -- and what waits, so
+  said_waits : (said : Progress (Node K V)) → outcome_of by its value said ≡ Waits → said ≡ progress.Waits
+  said_waits progress.Waits e = refl
+  said_waits progress.Goes e = absurd (cc e)
+  said_waits (progress.Gave node) e = absurd (cc e)
+  said_waits (progress.Unstored node) e = absurd (cc e)
+  said_waits (progress.Asks word) e = absurd (cc e)
+  said_waits progress.Ready e = absurd (cc e)
+  said_waits (progress.Pair word) e = absurd (cc e)
+  said_waits (progress.Done said) e = absurd (cc e)
+  said_waits (progress.Refused fault) e = absurd (cc e)
 
   -- what is seen of it then
   asks_seen : (question : Option ℕ) (c : CallThere K V) (stand : Stands) → far_of stand ≡ far.Goes → seen (asks_on question c stand) ≡ record (seen c) { far = far.Asks question }
@@ -241,6 +270,8 @@ module _ {K V S : Type 0} (same : K → K → Bool) (hash : K → ℕ) (terms : 
           is_at = shown.is_at;
           shows = calls_come_to_whole K V same stands.name w (known new.notes) then_at shown.shows own outcome counted
               (λ e. none_named AsFar AsFar own (λ x apart machine is. is) same hash terms m p stands place here said new leads (over_next (leads d.map here.way.0 here.way.1).1 said then_next (leads d.map here.way.0 here.way.1).4.goes_on (ended e))) just;
+          kept = calls_come_to_kept K V same stands.name w (known new.notes) then_at shown.shows shown.kept own outcome counted
+              (λ e. none_named AsFar AsFar own (λ x apart machine is. is) same hash terms m p stands place here said new leads (over_next (leads d.map here.way.0 here.way.1).1 said then_next (leads d.map here.way.0 here.way.1).4.goes_on (ended e)));
         }
           where
             -- no other call has its name
@@ -314,9 +345,21 @@ module _ {K V S : Type 0} (same : K → K → Bool) (hash : K → ℕ) (terms : 
         follows = (leads_so here.way.0 here.way.1).1;
         few = (operations_are_single (acts.Call d.number d.map) (known p.logged.notes) new.executor.memory.changed).0;
         comes = says.comes;
+        works = λ waits. by_looking (only_looks c.call) refl waits;
+        memory = λ refused x x_is.
+            (step_keeps_grown same hash stands.name m (known p.logged.notes) stands.scene p.logged.executor new.executor stands.shown.is_at stands.shown.shows stands.shown.kept.short stands.shown.kept.grown
+            d.map d.number here.way.0 here.way.1 said leads).1 (said_short by d.kind d.value said refused) x
+            (subst (λ (l : List ℕ). call_of l (with_effects (Some l) (Some d.map) did m) ≡ Some x) (sym its_name)
+            (subst (λ (k : ℕ). call_of own (with_effects (Some own) (Some k) did m) ≡ Some x) map_is x_is));
         goes = λ on. (subst (λ (x : ℕ). StandsFor same hash terms (with_effects (Some own) (Some x) did m) p2) (sym map_is) (midst on), going on);
         stands = λ never counted. subst (λ (x : ℕ). StandsFor same hash terms (come_to own outcome counted (with_effects (Some own) (Some x) did m)) p2) (sym map_is) (stands_told never counted);
       }
+        where
+          -- one that only looks never waits
+          by_looking : (looks : Bool) → only_looks c.call ≡ looks → outcome ≡ Waits → only_looks c.call ≡ false
+          by_looking false e waits = e
+          by_looking true e waits = absurd (never_waits same hash p.logged.executor new.executor (leads d.map here.way.0 here.way.1).1 said (machine_of here.way.0)
+              (stands.shown.kept.looking d.map d.number here.way.0 here.way.1 c its_call e) (leads d.map here.way.0 here.way.1).3 (said_waits by d.kind d.value said waits))
 
 module _ {K V S : Type 0} (same : K → K → Bool) (hash : K → ℕ) (terms : Terms) (m : Moment K V) (p new : Scheduler K V S) (stands : StandsFor same hash terms m p) (own : List ℕ) (place : ℕ)
     (at : GoesAt own place p) (outcome : Outcome V) (before after : List Effect) (step : IsStepped same hash place outcome before after p new) where

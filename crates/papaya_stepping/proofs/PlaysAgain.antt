@@ -53,6 +53,7 @@ module _ {K V S : Type 0} (same : K → K → Bool) (hash : K → ℕ) (terms : 
   pub step_busy : (due : IsDue same hash terms log (Step own refuse) p) → position (is_named own) p.calls.items.items ≡ None → PlaysOn same hash terms log (quiet (Step own refuse) (Refused Busy)) p
   step_busy due none =
       let e = quiet (Step own refuse) (Refused Busy) in record {
+        played = stands_elsewhere same hash terms (come_to own (Refused Busy) 0 m) p (busy_stands due.played) (m.events + 1) m.is_mapped m.is_closed (m.is_alone && is_alone_on e m) m.there m.slots m.sheltered m.remains refl refl refl;
         plays = λ within. plays same hash terms log (Step own refuse) p due e refl (out_of_turn (λ o. GoesOn terms log e) (is_some (call_of own m)) (Refused Busy) (no_call due.played none) refl)
             (stands_elsewhere same hash terms (come_to own (Refused Busy) 0 m) p (busy_stands due.played) (m.events + 1) m.is_mapped m.is_closed (m.is_alone && is_alone_on e m) m.there m.slots m.sheltered m.remains refl refl refl);
         makes = refl;
@@ -62,6 +63,7 @@ module _ {K V S : Type 0} (same : K → K → Bool) (hash : K → ℕ) (terms : 
   pub go_busy : (due : IsDue same hash terms log (Go own refuse) p) → position (is_named own) p.calls.items.items ≡ None → PlaysOn same hash terms log (quiet (Go own refuse) (Refused Busy)) p
   go_busy due none =
       let e = quiet (Go own refuse) (Refused Busy) in record {
+        played = stands_elsewhere same hash terms (come_to own (Refused Busy) 0 m) p (busy_stands due.played) (m.events + 1) m.is_mapped m.is_closed (m.is_alone && is_alone_on e m) m.there m.slots m.sheltered m.remains refl refl refl;
         plays = λ within. plays same hash terms log (Go own refuse) p due e refl (out_of_turn (λ o. GoesOn terms log e) (is_some (call_of own m)) (Refused Busy) (no_call due.played none) refl)
             (stands_elsewhere same hash terms (come_to own (Refused Busy) 0 m) p (busy_stands due.played) (m.events + 1) m.is_mapped m.is_closed (m.is_alone && is_alone_on e m) m.there m.slots m.sheltered m.remains refl refl refl);
         makes = refl;
@@ -91,6 +93,7 @@ module _ {K V S : Type 0} (same : K → K → Bool) (hash : K → ℕ) (terms : 
       pub step_asks : (due : IsDue same hash terms log (Step own refuse) p) → PlaysOn same hash terms log (quiet (Step own refuse) (Asks question)) p
       step_asks due =
           let e = quiet (Step own refuse) (Asks question) in record {
+            played = stands_on same hash terms (come_to own (Asks question) 0 m) p (asks_again same hash terms m p stands own place here 0 question is) (m.events + 1) (m.is_alone && is_alone_on e m) m.slots m.sheltered;
             plays = λ within. plays same hash terms log (Step own refuse) p due e refl (in_turn (λ o. GoesOn terms log e) (is_some (call_of own m)) (Asks question) in_place asks_right)
                 (stands_on same hash terms (come_to own (Asks question) 0 m) p (asks_again same hash terms m p stands own place here 0 question is) (m.events + 1) (m.is_alone && is_alone_on e m) m.slots m.sheltered);
             makes = subst (λ (x : Stands). MakesSteps {K = K} {V = V} (Step own refuse) x 0 (Asks question)) (sym stands_or_is) refl;
@@ -100,6 +103,7 @@ module _ {K V S : Type 0} (same : K → K → Bool) (hash : K → ℕ) (terms : 
       pub go_asks : (due : IsDue same hash terms log (Go own refuse) p) → PlaysOn same hash terms log (quiet (Go own refuse) (Asks question)) p
       go_asks due =
           let e = quiet (Go own refuse) (Asks question) in record {
+            played = stands_on same hash terms (come_to own (Asks question) 0 m) p (asks_again same hash terms m p stands own place here 0 question is) (m.events + 1) (m.is_alone && is_alone_on e m) m.slots m.sheltered;
             plays = λ within. plays same hash terms log (Go own refuse) p due e refl (in_turn (λ o. GoesOn terms log e) (is_some (call_of own m)) (Asks question) in_place asks_right)
                 (stands_on same hash terms (come_to own (Asks question) 0 m) p (asks_again same hash terms m p stands own place here 0 question is) (m.events + 1) (m.is_alone && is_alone_on e m) m.slots m.sheltered);
             makes = subst (λ (x : Stands). MakesSteps {K = K} {V = V} (Go own refuse) x 0 (Asks question)) (sym stands_or_is) refl;
@@ -121,6 +125,7 @@ module _ {K V S : Type 0} (same : K → K → Bool) (hash : K → ℕ) (terms : 
       pub step_ready : (due : IsDue same hash terms log (Step own refuse) p) → PlaysOn same hash terms log (quiet (Step own refuse) Ready) p
       step_ready due =
           let e = quiet (Step own refuse) Ready in record {
+            played = stands_on same hash terms (come_to own Ready 0 m) p (ready_again same hash terms m p stands own place here 0 is) (m.events + 1) (m.is_alone && is_alone_on e m) m.slots m.sheltered;
             plays = λ within. plays same hash terms log (Step own refuse) p due e refl (in_turn (λ o. GoesOn terms log e) (is_some (call_of own m)) Ready in_place ready_right)
                 (stands_on same hash terms (come_to own Ready 0 m) p (ready_again same hash terms m p stands own place here 0 is) (m.events + 1) (m.is_alone && is_alone_on e m) m.slots m.sheltered);
             makes = subst (λ (x : Stands). MakesSteps {K = K} {V = V} (Step own refuse) x 0 Ready) (sym stands_or_ready) refl;
@@ -130,6 +135,7 @@ module _ {K V S : Type 0} (same : K → K → Bool) (hash : K → ℕ) (terms : 
       pub go_ready : (due : IsDue same hash terms log (Go own refuse) p) → PlaysOn same hash terms log (quiet (Go own refuse) Ready) p
       go_ready due =
           let e = quiet (Go own refuse) Ready in record {
+            played = stands_on same hash terms (come_to own Ready 0 m) p (ready_again same hash terms m p stands own place here 0 is) (m.events + 1) (m.is_alone && is_alone_on e m) m.slots m.sheltered;
             plays = λ within. plays same hash terms log (Go own refuse) p due e refl (in_turn (λ o. GoesOn terms log e) (is_some (call_of own m)) Ready in_place ready_right)
                 (stands_on same hash terms (come_to own Ready 0 m) p (ready_again same hash terms m p stands own place here 0 is) (m.events + 1) (m.is_alone && is_alone_on e m) m.slots m.sheltered);
             makes = subst (λ (x : Stands). MakesSteps {K = K} {V = V} (Go own refuse) x 0 Ready) (sym stands_or_ready) refl;

@@ -1,18 +1,19 @@
 -- The events by which a call that is under way goes on: one step, or as many as it may take.
-use Rattle.std.specs.Prelude.{◌≡◌, ◌+◌, ◌≤◌, ◌&&◌, ℕ, Bool, true, List, [], is_some, position, sum_by, Option, Some, option_map}
+use Rattle.std.specs.Prelude.{◌≡◌, ◌+◌, ◌≤◌, ◌&&◌, ℕ, Bool, true, false, List, [], is_some, position, sum_by, Option, Some, option_map}
 use Rattle.std.proofs.Common.{refl, sym, ap, subst, ◌∙◌}
-use Rattle.seize_words.specs.declared.fault.Fault.TheVariants.{Busy}
+use Rattle.seize_words.specs.declared.fault.Fault.TheVariants.{Busy, Memory}
 use Rattle.papaya_runs.specs.Present.{Present}
 use Rattle.papaya_runs.specs.Stopped.{most_steps}
 use Rattle.papaya_schedules.specs.declared.call.Call.{Call}
 use Rattle.papaya_schedules.specs.declared.effect.Effect.{Effect}
 use Rattle.papaya_schedules.specs.declared.event.Event.TheVariants.{Go, Step}
 use Rattle.papaya_schedules.specs.declared.outcome.Outcome.{Outcome}
-use Rattle.papaya_schedules.specs.declared.outcome.Outcome.TheVariants.{Refused}
+use Rattle.papaya_schedules.specs.declared.outcome.Outcome.TheVariants.{Refused, Waits}
 use Rattle.papaya_schedules.specs.After.{is_alone_on, moment, moments_from, slots_on}
 use Rattle.papaya_schedules.specs.Coming.{Progresses}
 use Rattle.papaya_schedules.specs.Effects.{with_effects}
 use Rattle.papaya_schedules.specs.Entry.{ByCall, Entry, IfCall}
+use Rattle.papaya_schedules.specs.Growing.{only_looks}
 use Rattle.papaya_schedules.specs.InTurn.{GoesOn}
 use Rattle.papaya_schedules.specs.Moment.{Remains, Sheltered, UnderWay as CallThere, Moment}
 use Rattle.papaya_schedules.specs.Steps.{stands_or, weight}
@@ -27,7 +28,7 @@ use Rattle.papaya_stepping.specs.Stepping.{ComesAs, ComesBy, IsInCase, PlaysOn, 
 use Rattle.papaya_scheduler.specs.declared.caller.Stands.TheVariants as far
 use Rattle.papaya_scheduler.specs.declared.scheduler.Scheduler.{Scheduler}
 use Rattle.papaya_stepping.proofs.AfterEffects.{closed_stays, mapped_stays}
-use Rattle.papaya_rows.proofs.Elsewhere.{elsewhere, shown_elsewhere}
+use Rattle.papaya_rows.proofs.Elsewhere.{elsewhere, shown_elsewhere, kept_elsewhere}
 use Rattle.papaya_scheduler.proofs.Here.{Here, here_at}
 use Rattle.papaya_stepping.proofs.RightSteps.{makes_many, makes_one, may_come, not_busy, progresses}
 use Rattle.papaya_scheduler.proofs.Rights.{entry, in_turn, plays}
@@ -42,6 +43,7 @@ stands_elsewhere same hash terms m p stands events is_mapped is_closed is_alone 
   shown = record {
     is_at = stands.shown.is_at;
     shows = shown_elsewhere m (known p.logged.notes) events is_mapped is_closed is_alone there slots sheltered remains same stands.name stands.scene stands.shown.shows;
+    kept = kept_elsewhere m (known p.logged.notes) events is_mapped is_closed is_alone there slots sheltered remains stands.name stands.scene stands.shown.kept;
   };
   given = stands.given;
   there = there_is ∙ stands.there;
@@ -90,8 +92,22 @@ module _ {K V S : Type 0} (same : K → K → Bool) (hash : K → ℕ) (terms : 
   d_comes : ComesAs d.call outcome
   d_comes = subst (λ (x : Call K V). ComesAs x outcome) (sym d_on.call) comes.comes
 
+  d_works : outcome ≡ Waits → only_looks d.call ≡ false
+  d_works waits = subst (λ (x : Call K V). only_looks x ≡ false) (sym d_on.call) (comes.works waits)
+
+  d_short : outcome ≡ Refused Memory → d.is_short ≡ true
+  d_short refused = comes.memory refused d (calls_after own c.map own comes.did m c comes.call_is).1
+
   pub never_busy : outcome ≡ Refused Busy → ⊥
   never_busy = not_busy d.call outcome d_comes
+
+  -- where it stands then
+  pub stands_then : (events : ℕ) (is_mapped is_closed is_alone : Bool) (slots : ℕ) (remains : List Remains) → is_mapped ≡ m.is_mapped → is_closed ≡ m.is_closed
+      → StandsFor same hash terms (elsewhere events is_mapped is_closed is_alone w.there slots w.sheltered remains (come_to own outcome steps w)) new
+  stands_then events is_mapped is_closed is_alone slots remains mapped closed =
+      stands_elsewhere same hash terms (come_to own outcome steps w) new (subst (λ (x : Moment K V). StandsFor same hash terms (come_to own outcome steps x) new) worked_is (comes.stands never_busy steps))
+      events is_mapped is_closed is_alone w.there slots w.sheltered remains (mapped ∙ sym (mapped_stays (Some own) (option_map (λ x. x.map) (call_of own m)) effects m))
+      (closed ∙ sym (closed_stays (Some own) (option_map (λ x. x.map) (call_of own m)) effects m)) refl
 
   module _ (within : IfCall (λ x. IsInCase terms x (moments_from x.begun log) w outcome) (call_of own w)) where
     case_of : IsInCase terms d (moments_from d.begun log) w outcome
@@ -99,14 +115,7 @@ module _ {K V S : Type 0} (same : K → K → Bool) (hash : K → ℕ) (terms : 
 
     pub goes_right : ByCall (λ x. Progresses terms x.stands x (moments_from x.begun log) w outcome) (call_of own w)
     goes_right = subst (λ (o : Option (CallThere K V)). ByCall (λ x. Progresses terms x.stands x (moments_from x.begun log) w outcome) o) (sym d_is)
-        (progresses terms d (moments_from d.begun log) w d.stands (ap far_of d_on.stands ∙ call_goes) outcome (may_come terms d (moments_from d.begun log) w outcome d_comes case_of))
-
-    pub stands_then : (events : ℕ) (is_mapped is_closed is_alone : Bool) (slots : ℕ) (remains : List Remains) → is_mapped ≡ m.is_mapped → is_closed ≡ m.is_closed
-        → StandsFor same hash terms (elsewhere events is_mapped is_closed is_alone w.there slots w.sheltered remains (come_to own outcome steps w)) new
-    stands_then events is_mapped is_closed is_alone slots remains mapped closed =
-        stands_elsewhere same hash terms (come_to own outcome steps w) new (subst (λ (x : Moment K V). StandsFor same hash terms (come_to own outcome steps x) new) worked_is (comes.stands never_busy steps))
-        events is_mapped is_closed is_alone w.there slots w.sheltered remains (mapped ∙ sym (mapped_stays (Some own) (option_map (λ x. x.map) (call_of own m)) effects m))
-        (closed ∙ sym (closed_stays (Some own) (option_map (λ x. x.map) (call_of own m)) effects m)) refl
+        (progresses terms d (moments_from d.begun log) w d.stands (ap far_of d_on.stands ∙ call_goes) outcome (may_come terms d (moments_from d.begun log) w outcome d_comes d_works d_short case_of))
 
   pub few_steps : sum_by weight effects ≤ steps
   few_steps = subst (λ (l : List Effect). sum_by weight l ≤ steps) (sym comes.follows) comes.few
@@ -128,8 +137,9 @@ module _ {K V S : Type 0} (same : K → K → Bool) (hash : K → ℕ) (terms : 
   pub plays_step : (refuse : Bool) → IsDue same hash terms log (Step own refuse) old → steps ≡ 1 → PlaysOn same hash terms log (entry (Step own refuse) outcome steps effects) new
   plays_step refuse due one =
       let e = entry (Step own refuse) outcome steps effects in record {
+        played = stands_then same hash terms log m own old stands place placed goes steps outcome effects new comes (m.events + 1) m.is_mapped m.is_closed (m.is_alone && is_alone_on e m) (slots_on outcome m.slots) m.remains refl refl;
         plays = λ within. plays same hash terms log (Step own refuse) new due e refl (in_turn (λ o. GoesOn terms log e) (is_some (call_of own m)) outcome (in_place same hash terms log m own old stands place placed goes steps outcome effects new comes) (goes_right same hash terms log m own old stands place placed goes steps outcome effects new comes within))
-            (stands_then same hash terms log m own old stands place placed goes steps outcome effects new comes within (m.events + 1) m.is_mapped m.is_closed (m.is_alone && is_alone_on e m) (slots_on outcome m.slots) m.remains refl refl);
+            (stands_then same hash terms log m own old stands place placed goes steps outcome effects new comes (m.events + 1) m.is_mapped m.is_closed (m.is_alone && is_alone_on e m) (slots_on outcome m.slots) m.remains refl refl);
         makes = makes_one K V own refuse (stands_or (call_of own m)) (stand_is same hash terms log m own old stands place placed goes steps outcome effects new comes) steps one outcome (never_busy same hash terms log m own old stands place placed goes steps outcome effects new comes);
         does = few_steps same hash terms log m own old stands place placed goes steps outcome effects new comes;
       }
@@ -138,8 +148,9 @@ module _ {K V S : Type 0} (same : K → K → Bool) (hash : K → ℕ) (terms : 
   pub plays_go : (refuse : Bool) → IsDue same hash terms log (Go own refuse) old → TakesUpTo most_steps steps outcome → PlaysOn same hash terms log (entry (Go own refuse) outcome steps effects) new
   plays_go refuse due takes =
       let e = entry (Go own refuse) outcome steps effects in record {
+        played = stands_then same hash terms log m own old stands place placed goes steps outcome effects new comes (m.events + 1) m.is_mapped m.is_closed (m.is_alone && is_alone_on e m) (slots_on outcome m.slots) m.remains refl refl;
         plays = λ within. plays same hash terms log (Go own refuse) new due e refl (in_turn (λ o. GoesOn terms log e) (is_some (call_of own m)) outcome (in_place same hash terms log m own old stands place placed goes steps outcome effects new comes) (goes_right same hash terms log m own old stands place placed goes steps outcome effects new comes within))
-            (stands_then same hash terms log m own old stands place placed goes steps outcome effects new comes within (m.events + 1) m.is_mapped m.is_closed (m.is_alone && is_alone_on e m) (slots_on outcome m.slots) m.remains refl refl);
+            (stands_then same hash terms log m own old stands place placed goes steps outcome effects new comes (m.events + 1) m.is_mapped m.is_closed (m.is_alone && is_alone_on e m) (slots_on outcome m.slots) m.remains refl refl);
         makes = makes_many K V own refuse (stands_or (call_of own m)) (stand_is same hash terms log m own old stands place placed goes steps outcome effects new comes) steps outcome takes (never_busy same hash terms log m own old stands place placed goes steps outcome effects new comes);
         does = few_steps same hash terms log m own old stands place placed goes steps outcome effects new comes;
       }

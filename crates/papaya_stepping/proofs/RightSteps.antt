@@ -1,15 +1,18 @@
 -- An event of steps of a call comes to what is right, where it does so in its case, and makes as many steps as it may.
-use Rattle.std.specs.Prelude.{◌≡◌, ◌⊎◌, ℕ, Bool, true, List}
-use Rattle.std.proofs.Common.{refl, sym, subst, arith, inl, inr}
+use Rattle.std.specs.Prelude.{◌≡◌, ◌⊎◌, ◌&&◌, ℕ, Bool, true, false, not, List}
+use Rattle.std.specs.List.{list_any}
+use Rattle.std.proofs.Common.{refl, sym, ap, subst, ◌∙◌, arith, inl, inr}
 use Rattle.seize_words.specs.declared.fault.Fault.{Fault}
 use Rattle.seize_words.specs.declared.fault.Fault.TheVariants.{Busy, Capacity, Memory, RemoveNothing}
 use Rattle.papaya_runs.specs.Stopped.{most_steps}
 use Rattle.papaya_schedules.specs.declared.call.Call.{Call}
 use Rattle.papaya_schedules.specs.declared.call.Call.TheVariants.{On, Reserve, Clear, Retain, Len, Walk}
-use Rattle.papaya_schedules.specs.declared.event.Event.TheVariants.{Go, Step}
+use Rattle.papaya_schedules.specs.declared.event.Event.TheVariants.{Go, OneCall, Step}
 use Rattle.papaya_schedules.specs.declared.outcome.Outcome.{Outcome}
 use Rattle.papaya_schedules.specs.declared.outcome.Outcome.TheVariants.{Answered, Asks, Goes, Ready, Refused, Waits}
 use Rattle.papaya_schedules.specs.Coming.{MayCome, Progresses, is_compute}
+use Rattle.papaya_schedules.specs.Growing.{only_looks}
+use Rattle.papaya_schedules.specs.InUse.{may_wait_for}
 use Rattle.papaya_schedules.specs.Moment.{Stands, Going, Asking, Told, IsReady, UnderWay as CallThere, Moment}
 use Rattle.papaya_schedules.specs.Steps.{MakesSteps}
 use Rattle.papaya_schedules.specs.Terms.{Terms}
@@ -20,15 +23,14 @@ use Rattle.papaya_scheduler.specs.declared.caller.Stands.TheVariants as far
 module _ {K V : Type 0} where
   -- a call on one key is refused as out of turn never, and for removing nothing only where it computes
   faults_of : (call : Call K V) (fault : Fault) → ComesAs {K = K} {V = V} call (Refused fault) → (fault ≡ Memory) ⊎ (fault ≡ Capacity) ⊎ ((fault ≡ RemoveNothing) × (is_compute call ≡ true))
-  faults_of (On one) fault comes = comes
+  faults_of (On one) fault comes = comes.1
   faults_of (Reserve more) fault (inl memory) = inl memory
   faults_of (Reserve more) fault (inr capacity) = inr (inl capacity)
   faults_of Clear fault (inl memory) = inl memory
   faults_of Clear fault (inr capacity) = inr (inl capacity)
   faults_of Retain fault (inl memory) = inl memory
   faults_of Retain fault (inr capacity) = inr (inl capacity)
-  faults_of Len fault (inl memory) = inl memory
-  faults_of Len fault (inr capacity) = inr (inl capacity)
+  faults_of Len fault comes = absurd comes
   faults_of Walk fault (inl memory) = inl memory
   faults_of Walk fault (inr capacity) = inr (inl capacity)
 
@@ -40,22 +42,31 @@ module _ {K V : Type 0} where
       by (inr (inl capacity)) = absurd (no_capacity capacity)
       by (inr (inr it)) = it
 
+  -- one that is refused does more than look
+  works_so : (call : Call K V) (fault : Fault) → ComesAs {K = K} {V = V} call (Refused fault) → only_looks call ≡ false
+  works_so (On one) fault comes = comes.0
+  works_so (Reserve more) fault comes = refl
+  works_so Clear fault comes = refl
+  works_so Retain fault comes = refl
+  works_so Len fault comes = absurd comes
+  works_so Walk fault comes = refl
+
   -- none is refused as out of turn
   pub not_busy : (call : Call K V) (o : Outcome V) → ComesAs call o → o ≡ Refused Busy → ⊥
   not_busy call o comes is = let it = (other_fault call Busy (subst (λ (x : Outcome V). ComesAs call x) is comes) (λ e. cc e) (λ e. cc e)).0 in cc it
 
   module _ (terms : Terms) (c : CallThere K V) (moments : List (Moment K V)) (now : Moment K V) where
-    pub may_come : (o : Outcome V) → ComesAs c.call o → IsInCase terms c moments now o → MayCome terms c moments now o
-    may_come Goes comes within = tt
-    may_come (Asks question) comes within = comes
-    may_come Waits comes within = within
-    may_come Ready comes within = comes
-    may_come (Answered a) comes within = comes
-    may_come (Refused Memory) comes within = within
-    may_come (Refused Capacity) comes within = within
-    may_come (Refused RemoveNothing) comes within = (other_fault c.call RemoveNothing comes (λ e. cc e) (λ e. cc e)).1
-    may_come (Refused fault) comes within = absurd (let it = (other_fault c.call fault comes (λ e. cc e) (λ e. cc e)).0 in cc it)
-    may_come _ comes within = absurd comes
+    pub may_come : (o : Outcome V) → ComesAs c.call o → (o ≡ Waits → only_looks c.call ≡ false) → (o ≡ Refused Memory → c.is_short ≡ true) → IsInCase terms c moments now o → MayCome terms c moments now o
+    may_come Goes comes works short within = tt
+    may_come (Asks question) comes works short within = comes
+    may_come Waits comes works short within = ap (λ (b : Bool). not b && list_any (may_wait_for c now) now.calls) (works refl) ∙ within
+    may_come Ready comes works short within = comes
+    may_come (Answered a) comes works short within = comes
+    may_come (Refused Memory) comes works short within = short refl
+    may_come (Refused Capacity) comes works short within = (works_so c.call Capacity comes, within)
+    may_come (Refused RemoveNothing) comes works short within = (other_fault c.call RemoveNothing comes (λ e. cc e) (λ e. cc e)).1
+    may_come (Refused fault) comes works short within = absurd (let it = (other_fault c.call fault comes (λ e. cc e) (λ e. cc e)).0 in cc it)
+    may_come _ comes works short within = absurd comes
 
     -- so it progresses, as far as it was
     pub progresses : (stand : Stands) → far_of stand ≡ far.Goes → (o : Outcome V) → MayCome terms c moments now o → Progresses terms stand c moments now o
@@ -63,6 +74,11 @@ module _ {K V : Type 0} where
     progresses Told is o may = may
     progresses (Asking question) is o may = absurd (cc is)
     progresses IsReady is o may = absurd (cc is)
+
+  pub makes_whole : (guard map : List ℕ) (call : Call K V) (stand : Stands) (steps : ℕ) (o : Outcome V) → TakesUpTo most_steps steps o → (o ≡ Refused Busy → ⊥) → MakesSteps (OneCall guard map call) stand steps o
+  makes_whole guard map call stand steps (Refused Busy) takes never = absurd (never refl)
+  makes_whole guard map call stand steps Goes takes never = (takes.0, takes.2 refl)
+  makes_whole guard map call stand steps o takes never = (takes.0, takes.1)
 
 -- how many steps: one,
 module _ (K V : Type 0) (own : List ℕ) (refuse : Bool) where

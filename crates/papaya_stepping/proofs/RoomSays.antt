@@ -1,6 +1,6 @@
--- For what a call on no key is refused: for room alone, at each of its steps.
-use Rattle.std.specs.Prelude.{ℕ, Bool}
-use Rattle.std.proofs.Common.{sym, subst}
+-- For what a call on no key is refused: for room alone, at each of its steps, and one that counts never.
+use Rattle.std.specs.Prelude.{◌≡◌, ℕ, Bool}
+use Rattle.std.proofs.Common.{refl, sym, ap, subst}
 use Rattle.seize_words.specs.Mem.{Mem}
 use Rattle.seize_words.specs.Plan.{plan_as}
 use Rattle.seize.specs.declared.progress.Progress.{Progress as Counted}
@@ -18,7 +18,7 @@ use Rattle.papaya_sweeps.specs.declared.sweep.Sweep.{Sweep}
 use Rattle.papaya_sweeps.specs.declared.sweep.Swept.{Swept}
 use Rattle.papaya_sweeps.specs.declared.sweep.Swept.TheVariants as ends
 use Rattle.papaya_raw.specs.Machine.{counted, reserved, swept}
-use Rattle.papaya_raw.specs.Progress.{of_outcome, of_swept}
+use Rattle.papaya_raw.specs.Progress.{of_counting, of_outcome, of_swept}
 use Rattle.papaya_raw.specs.declared.machines.machine.Machine.{Machine}
 use Rattle.papaya_raw.specs.declared.machines.machine.Machine.TheVariants as kinds
 use Rattle.papaya_raw.specs.declared.machines.progress.Progress.{Progress}
@@ -59,8 +59,13 @@ module _ {K V : Type 0} where
   abbrev RoomSo : Machine K V K × Progress (Node K V) → Type 0
   RoomSo (machine, said) = RefusedForRoom machine × SaysRoom said
 
+  -- what it says is no refusal
+  abbrev pub NeverRefused : Progress (Node K V) → Type 0
+  NeverRefused (progress.Refused fault) = ⊥
+  NeverRefused _ = Unit {0}
+
   abbrev CountSo : Machine K V K × Progress (Node K V) → Type 0
-  CountSo (machine, said) = SaysRoom said
+  CountSo (machine, said) = NeverRefused said
 
 module _ (K V : Type 0) where
   counted_room : (end : Sum × Counted ℕ) → CountsOn end → CountSo (counted {K = K} {V = V} {Q = K} end)
@@ -88,7 +93,7 @@ module _ {K V S : Type 0} (same : K → K → Bool) (hash : K → ℕ) (old new 
       let so = sweeps_refuse_room hash c room m m2 d.0 d.1 in
       subst RoomSo (sym d.2) (so.0, swept_room d.0.1 so.1)
 
-  pub sum_room : (sum : Sum) → StepsFrom same hash (kinds.Count sum) old new machine said → SaysRoom said
+  pub sum_room : (sum : Sum) → StepsFrom same hash (kinds.Count sum) old new machine said → NeverRefused said
   sum_room sum steps =
       always_told CountSo m m2 Nothing new.memory.changed (plan_as counted (sum_plan sum)) (machine, said)
       (always_turned CountsOn CountSo counted (counted_room K V) (sum_plan sum) (sum_counts (Node K V) sum)) steps

@@ -64,7 +64,7 @@ use Rattle.papaya_stepping.specs.Stepping.{ComesAs, IsFaultOn, far_then, outcome
 use Rattle.papaya_scheduler.specs.Telling.{number_by, number_in}
 use Rattle.papaya_scheduler.specs.declared.kind.Kind.{Kind}
 use Rattle.papaya_scheduler.specs.declared.kind.Kind.TheVariants as kind
-use Rattle.papaya_stepping.proofs.RoomSays.{SaysRoom, reserve_room, sum_room}
+use Rattle.papaya_stepping.proofs.RoomSays.{NeverRefused, SaysRoom, reserve_room, sum_room}
 use Rattle.papaya_stepping.proofs.KeySays.{key_asks, key_refused}
 use Rattle.papaya_scheduler.proofs.Replied.{of_kind}
 use Rattle.papaya_stepping.proofs.SweepSays.{WalkSays}
@@ -145,7 +145,7 @@ module _ (K V : Type 0) where
   sum_far its by p (counted.Done count) = tt
   sum_far its by p (counted.Refused fault) = tt
 
-  sum_comes : (its : Kind) (by : Known) (value : Option V) (end : Counted ℕ) → SaysRoom {K = K} {V = V} (of_counting end) → ComesAs {K = K} Len (outcome_of {K = K} by its value (of_counting end))
+  sum_comes : (its : Kind) (by : Known) (value : Option V) (end : Counted ℕ) → NeverRefused {K = K} {V = V} (of_counting end) → ComesAs {K = K} Len (outcome_of {K = K} by its value (of_counting end))
   sum_comes its by value counted.Goes for = tt
   sum_comes its by value counted.Waits for = tt
   sum_comes its by value (counted.Done count) for = refl
@@ -329,7 +329,7 @@ module _ {K V S : Type 0} (same : K → K → Bool) (hash : K → ℕ) (name : �
       let to = leads map (Counting sum) under in
       let did = to.4.did in record {
         comes = subst (λ (z : Call K V). ComesAs z (outcome_of known2 its value said)) (sym call_is)
-            (subst (λ (z : Progress (Node K V)). ComesAs {K = K} Len (outcome_of known2 its value z)) (sym did.3) (sum_comes K V its known2 value did.1 (subst SaysRoom did.3 (sum_room same hash old new to.1 said sum to.3))));
+            (subst (λ (z : Progress (Node K V)). ComesAs {K = K} Len (outcome_of known2 its value z)) (sym did.3) (sum_comes K V its known2 value did.1 (subst NeverRefused did.3 (sum_room same hash old new to.1 said sum to.3))));
         far = λ y goes. subst (λ (z : Machine K V K). IsAsFar its (far_then known2 said) z) (sym (goes_as to.1 said to.4.next to.4.goes_on y goes ∙ did.2))
             (subst (λ (z : Progress (Node K V)). IsAsFar {K = K} {V = V} its (far_then known2 z) (kinds.Count did.0)) (sym did.3) (sum_far K V its known2 did.0 did.1));
         asks = λ y goes. no_key (Counting sum) under said leads (λ p e. let a = did.2 in cc (a, e)) y goes;

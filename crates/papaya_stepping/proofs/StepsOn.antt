@@ -6,7 +6,7 @@ use Rattle.papaya_schedules.specs.declared.outcome.Outcome.{Outcome}
 use Rattle.papaya_schedules.specs.Moment.{Moment}
 use Rattle.papaya_schedules.specs.Terms.{Terms}
 use Rattle.papaya_scheduler.specs.Played.{StandsFor}
-use Rattle.papaya_stepping.specs.Stepping.{ComesBy, GoesAt, IsMidst, IsStepped, MayStep, StepsCome}
+use Rattle.papaya_stepping.specs.Stepping.{ComesBy, GoesAt, GoneFor, IsMidst, IsStepped, MayStep, StepsCome}
 use Rattle.papaya_scheduler.specs.Telling.{goes_on}
 use Rattle.papaya_scheduler.specs.declared.scheduler.Scheduler.{Scheduler}
 use Rattle.papaya_stepping.proofs.ComesOn.{comes_next, midst_next}
@@ -35,9 +35,10 @@ module _ {K V S : Type 0} (same : K → K → Bool) (hash : K → ℕ) (place : 
         (comes_next same hash terms own place m n outcome before mid after p new (goes terms m own stands at) step)
 
     -- it stops before it has taken all
-    pub stops_at : (most steps : ℕ) → steps ≡ n + 1 → steps < most → goes_on outcome ≡ false → StepsCome same hash place most steps outcome before after first new
-    stops_at most steps is less off = ((omega (arith, is), omega (arith, less), λ on. absurd (cc (on, off))), comes steps is)
+    pub stops_at : (most steps : ℕ) → steps ≡ n + 1 → steps < most → goes_on outcome ≡ false → (k : ℕ) → steps ≡ k + 1 → GoneFor same hash place k before mid first p
+        → StepsCome same hash place most steps outcome before after first new
+    stops_at most steps is less off k k_is gone = ((omega (arith, is), omega (arith, less), λ on. absurd (cc (on, off))), comes steps is, (k, k_is, mid, p, gone, step))
 
     -- or takes all
-    pub takes_all : (most : ℕ) → most ≡ n + 1 → StepsCome same hash place most most outcome before after first new
-    takes_all most is = ((omega (arith, is), omega arith, λ on. refl), comes most is)
+    pub takes_all : (most : ℕ) → most ≡ n + 1 → (k : ℕ) → most ≡ k + 1 → GoneFor same hash place k before mid first p → StepsCome same hash place most most outcome before after first new
+    takes_all most is k k_is gone = ((omega (arith, is), omega arith, λ on. refl), comes most is, (k, k_is, mid, p, gone, step))

@@ -1,28 +1,37 @@
 -- What a call comes to by its steps, how far it is then, and what is promised of that.
-use Rattle.std.specs.Prelude.{◌≡◌, ◌≤◌, ◌⊎◌, ℕ, Bool, true, List, [], ◌∷◌, ◌++◌, position, slice_get, slice_set, sum_by, Option, Some, option_map, if◌then◌else◌}
-use Rattle.std.specs.List.{remove}
+use Rattle.std.specs.Prelude.{◌≡◌, ◌≤◌, ◌+◌, ◌⊎◌, ◌&&◌, ℕ, zero, suc, Bool, true, false, is_none, is_some, List, [], ◌∷◌, ◌++◌, position, slice_get, slice_set, sum_by, Option, Some, option_map, if◌then◌else◌}
+use Rattle.std.specs.List.{list_any, remove}
 use Rattle.seize_words.specs.declared.fault.Fault.{Fault}
 use Rattle.seize_words.specs.declared.fault.Fault.TheVariants.{Busy, Capacity, Memory, RemoveNothing}
 use Rattle.papaya_tables.specs.declared.node.Node.{Node}
+use Rattle.papaya_sweeps.specs.declared.sweep.Purpose.TheVariants.{Walks}
+use Rattle.papaya_sweeps.specs.declared.sweep.Sweeping.TheVariants as at
+use Rattle.papaya_raw.specs.declared.machines.machine.Machine.{Machine}
+use Rattle.papaya_raw.specs.declared.machines.machine.Machine.TheVariants as kinds
 use Rattle.papaya_raw.specs.declared.machines.progress.Progress.{Progress}
 use Rattle.papaya_raw.specs.declared.machines.progress.Progress.TheVariants as progress
+use Rattle.papaya_runs.specs.Stopped.{most_steps}
 use Rattle.papaya_schedules.specs.declared.call.Call.{Call}
-use Rattle.papaya_schedules.specs.declared.call.Call.TheVariants.{On}
+use Rattle.papaya_schedules.specs.declared.call.Call.TheVariants.{Len, On}
 use Rattle.papaya_schedules.specs.declared.call.OneKey.{OneKey}
 use Rattle.papaya_schedules.specs.declared.effect.Effect.{Effect}
 use Rattle.papaya_schedules.specs.declared.event.Event.{Event}
+use Rattle.papaya_schedules.specs.declared.event.Event.TheVariants.{Next}
 use Rattle.papaya_schedules.specs.declared.outcome.Outcome.{Outcome}
 use Rattle.papaya_schedules.specs.declared.outcome.Outcome.TheVariants.{Goes, Asks, Waits, Ready, Shows, Answered, Refused}
 use Rattle.papaya_schedules.specs.After.{moment, moments_from}
 use Rattle.papaya_schedules.specs.Beginning.{at_work}
-use Rattle.papaya_schedules.specs.Coming.{FindsNoTable, is_answer, is_compute, is_walk, may_ask}
+use Rattle.papaya_schedules.specs.Coming.{CountsTooMany, is_answer, is_at_limit, is_compute, is_walk, may_ask}
 use Rattle.papaya_schedules.specs.Effects.{with_effects, worked}
-use Rattle.papaya_schedules.specs.Entry.{Entry, IfCall, acting, caller_of}
-use Rattle.papaya_schedules.specs.InUse.{may_wait}
+use Rattle.papaya_schedules.specs.Entry.{Entry, IfCall, acting, caller_of, nameless}
+use Rattle.papaya_schedules.specs.InUse.{is_living, may_wait_for}
+use Rattle.papaya_schedules.specs.Growing.{only_looks}
+use Rattle.papaya_schedules.specs.Lists.{OneOf}
 use Rattle.papaya_schedules.specs.Moment.{UnderWay as CallThere, Moment}
+use Rattle.papaya_schedules.specs.Sequential.{is_lookup}
 use Rattle.papaya_schedules.specs.Steps.{DoesFew, MakesSteps, stands_or, weight}
 use Rattle.papaya_schedules.specs.Terms.{Terms}
-use Rattle.papaya_schedules.specs.Views.{call_of}
+use Rattle.papaya_schedules.specs.Views.{call_of, map_of}
 use Rattle.papaya_late.specs.Faults.{IsRoom}
 use Rattle.papaya_effects.specs.Known.{Known, known}
 use Rattle.papaya_executor.specs.IsAt.{HasCall, IsAt, Scene}
@@ -30,7 +39,7 @@ use Rattle.papaya_executor.specs.Stepping.{has_ended}
 use Rattle.papaya_follows.specs.Calling.{come_to}
 use Rattle.papaya_logged.specs.Calling.{CallGoesOn}
 use Rattle.papaya_logged.specs.Shown.{IsShown}
-use Rattle.papaya_scheduler.specs.Played.{IsDue, Plays, StandsFor, entry_of}
+use Rattle.papaya_scheduler.specs.Played.{AsFar, BeginsSo, IsDue, IsPlayed, Plays, StandsAs, StandsFor, entry_of}
 use Rattle.papaya_scheduler.specs.Seen.{is_named}
 use Rattle.papaya_scheduler.specs.Telling.{answer_of, goes_on, number_by, kept}
 use Rattle.papaya_scheduler.specs.declared.caller.Caller.{Caller}
@@ -69,9 +78,10 @@ module _ {K V : Type 0} (by : Known) where
   abbrev pub callers_then : ℕ → Caller V → Progress (Node K V) → List (Caller V) → List (Caller V)
   callers_then place d said calls = if has_ended said then remove calls place else slice_set calls place (caller_then d said)
 
--- for what a call on one key is refused: for room, or, of `compute`, for removing what is not there
+-- for what a call on one key is refused, which is no lookup: for room, or, of `compute`, for removing what is not there
 abbrev pub IsFaultOn : {K V : Type 0} → OneKey K V → Fault → Type 0
-IsFaultOn {K} {V} one fault = (fault ≡ Memory) ⊎ (fault ≡ Capacity) ⊎ ((fault ≡ RemoveNothing) × (is_compute {K = K} {V = V} (On one) ≡ true))
+IsFaultOn {K} {V} one fault =
+    (is_lookup one ≡ false) × ((fault ≡ Memory) ⊎ (fault ≡ Capacity) ⊎ ((fault ≡ RemoveNothing) × (is_compute {K = K} {V = V} (On one) ≡ true)))
 
 module _ {K V : Type 0} where
   -- What a call that goes on comes to, by its kind. In which case it waits, or is refused for room, this does not say.
@@ -82,14 +92,15 @@ module _ {K V : Type 0} where
   ComesAs call Ready = is_walk call ≡ true
   ComesAs call (Answered a) = is_answer call a ≡ true
   ComesAs (On one) (Refused fault) = IsFaultOn one fault
+  ComesAs Len (Refused fault) = ⊥
   ComesAs call (Refused fault) = IsRoom fault
   ComesAs call _ = ⊥
 
-  -- That says: a call waits only where it may, and is refused for memory only where it is short of a growth, and for the length of a table only where it finds none.
+  -- That says: a call waits only for one that it may wait for, and is refused for the length of a table only where it finds none: it needs more places than a table can have, or a table
+  -- after the longest or the last one.
   abbrev pub IsInCase : Terms → CallThere K V → List (Moment K V) → Moment K V → Outcome V → Type 0
-  IsInCase terms c moments now Waits = may_wait c now ≡ true
-  IsInCase terms c moments now (Refused Memory) = c.is_short ≡ true
-  IsInCase terms c moments now (Refused Capacity) = FindsNoTable terms c (now ∷ moments)
+  IsInCase terms c moments now Waits = list_any (may_wait_for c now) now.calls ≡ true
+  IsInCase terms c moments now (Refused Capacity) = CountsTooMany terms c.call c (now ∷ moments) ⊎ OneOf (λ m. is_at_limit c.map m ≡ true) (now ∷ moments)
   IsInCase terms c moments now _ = Unit {0}
 
   -- so it is of the call of an event
@@ -97,10 +108,29 @@ module _ {K V : Type 0} where
   ComesInCase terms log e =
       let w = worked e (moment log) in IfCall (λ c. IsInCase terms c (moments_from c.begun log) w e.outcome) (acting (caller_of e.event) w)
 
+-- a call without a name may begin
+abbrev pub may_begin : {K V : Type 0} → (guard map : List ℕ) → Moment K V → Bool
+may_begin guard map m = is_none (call_of nameless m) && is_living guard m.there && is_some (map_of map m)
+
 -- the call of this name is that of the caller at this place, and goes on
 abbrev pub GoesAt : {K V S : Type 0} → List ℕ → ℕ → Scheduler K V S → Type 0
 GoesAt {K} {V} own place p =
     (Some place ≡ position (is_named own) p.calls.items.items) × (d : Caller V) × (slice_get p.calls.items.items place ≡ Some d) × (d.stands ≡ far.Goes)
+
+-- the call of this name is the walk at this place, and is ready to show pairs
+abbrev pub ReadyAt : {K V S : Type 0} → List ℕ → ℕ → Scheduler K V S → Type 0
+ReadyAt {K} {V} own place p =
+    (Some place ≡ position (is_named own) p.calls.items.items) × (d : Caller V) × (slice_get p.calls.items.items place ≡ Some d) × (d.stands ≡ far.Ready)
+
+module _ {K V : Type 0} where
+  -- A walk that was asked for its next pair goes over the places of its table, so many of which at least are behind it; or there are none.
+  abbrev pub IsWalking : ℕ → Machine K V K → Type 0
+  IsWalking n (kinds.Sweep sweep) = (sweep.purpose ≡ Walks) × (((sweep.stands ≡ at.Words) × (n ≤ sweep.place)) ⊎ ((sweep.stands ≡ at.Over) × (n ≡ 0)))
+  IsWalking n _ = ⊥
+
+  -- so it is of the caller of this name, and each other one's machine is as far as it says
+  abbrev pub WalksFar : List ℕ → ℕ → Caller V → Machine K V K → Type 0
+  WalksFar own n d machine = (is_named own d ≡ true → (d.kind ≡ kind.Walks) × IsWalking n machine) × (is_named own d ≡ false → AsFar d machine)
 
 module _ {K V S : Type 0} (same : K → K → Bool) (hash : K → ℕ) (terms : Terms) (own : List ℕ) (place : ℕ) (m : Moment K V) where
   -- So many steps of a call, of which each was taken while it went on: what they did follows in the list; and the scheduler stands for the moment at which the call has
@@ -112,6 +142,9 @@ module _ {K V S : Type 0} (same : K → K → Bool) (hash : K → ℕ) (terms : 
     pub follows : after ≡ before ++ did
     pub few : sum_by weight did ≤ steps
     pub comes : ComesAs call.call outcome
+    -- one that waits does more than look; one that is refused for want of memory has asked for a growth, and nothing was made since
+    pub works : outcome ≡ Waits → only_looks call.call ≡ false
+    pub memory : outcome ≡ Refused Memory → (d : CallThere K V) → call_of own (with_effects (Some own) (Some call.map) did m) ≡ Some d → d.is_short ≡ true
     pub goes : goes_on outcome ≡ true → StandsFor same hash terms (with_effects (Some own) (Some call.map) did m) new × GoesAt own place new
     pub stands : (outcome ≡ Refused Busy → ⊥) → (counted : ℕ) → StandsFor same hash terms (come_to own outcome counted (with_effects (Some own) (Some call.map) did m)) new
 
@@ -124,6 +157,16 @@ module _ {K V S : Type 0} (same : K → K → Bool) (hash : K → ℕ) (terms : 
     pub few : sum_by weight did ≤ steps
     pub stands : StandsFor same hash terms (with_effects (Some own) (Some call.map) did m) p
     pub going : GoesAt own place p
+
+  -- In the midst of the steps to its next pair a walk goes over places, as many at least as it has taken steps.
+  pub record IsMidWalk (steps : ℕ) (before after : List Effect) (p : Scheduler K V S) : Type 0 where
+    pub call : CallThere K V
+    pub call_is : call_of own m ≡ Some call
+    pub did : List Effect
+    pub follows : after ≡ before ++ did
+    pub few : sum_by weight did ≤ steps
+    pub stands : StandsAs (WalksFar own steps) same hash terms (with_effects (Some own) (Some call.map) did m) p
+    pub ready : ReadyAt own place p
 
 -- at least one, and at most so many; a call that goes on has taken all of them
 abbrev pub TakesUpTo : {V : Type 0} → ℕ → ℕ → Outcome V → Type 0
@@ -145,6 +188,17 @@ module _ {K V S : Type 0} (same : K → K → Bool) (hash : K → ℕ) where
     pub calls : new.calls.items.items ≡ callers_then (known new.logged.notes) place caller said old.calls.items.items
     pub rest : new ≡ record old { logged = new.logged; calls = new.calls }
 
+  -- So many steps were taken at this place, each of which let the call go on,
+  abbrev pub GoneFor : (place steps : ℕ) → (before after : List Effect) → (old new : Scheduler K V S) → Type 0
+  GoneFor place zero before after old new = (before ≡ after) × (old ≡ new)
+  GoneFor place (suc n) before after old new =
+      (mid : List Effect) × (p : Scheduler K V S) × (outcome : Outcome V) × GoneFor place n before mid old p × (goes_on outcome ≡ true) × IsStepped place outcome mid after p new
+
+  -- and then one that came to this.
+  abbrev pub GoneBy : (place steps : ℕ) → Outcome V → (before after : List Effect) → (old new : Scheduler K V S) → Type 0
+  GoneBy place steps outcome before after old new =
+      (n : ℕ) × (steps ≡ n + 1) × (mid : List Effect) × (p : Scheduler K V S) × GoneFor place n before mid old p × IsStepped place outcome mid after p new
+
   -- What a scheduler at whose place a call goes on is asked for its steps,
   abbrev pub MayGo : ℕ → Scheduler K V S → Type 0
   MayGo place p = (terms : Terms) × (m : Moment K V) × (own : List ℕ) × StandsFor same hash terms m p × GoesAt own place p
@@ -154,6 +208,26 @@ module _ {K V S : Type 0} (same : K → K → Bool) (hash : K → ℕ) where
   StepsCome place most steps outcome before after old new =
       TakesUpTo most steps outcome
       × ((terms : Terms) (m : Moment K V) (own : List ℕ) → StandsFor same hash terms m old → GoesAt own place old → ComesBy same hash terms own place m steps outcome before after new)
+      × GoneBy place steps outcome before after old new
+
+  -- The machine of the call at this place takes a step, and no caller is told of it.
+  pub record IsStepOf (place : ℕ) (said : Progress (Node K V)) (before after : List Effect) (old new : Scheduler K V S) : Type 0 where
+    pub caller : Caller V
+    pub at : slice_get old.calls.items.items place ≡ Some caller
+    pub leads : (name : ℕ → List ℕ) (m : Moment K V) (s : Scene K V) → IsShown same hash name m old.logged s
+        → CallGoesOn same hash name m s caller.number caller.map said before after old.logged new.logged
+    pub rest : new ≡ record old { logged = new.logged }
+
+  -- What a scheduler is asked at whose place a walk was asked for its next pair,
+  abbrev pub MayWalk : ℕ → Scheduler K V S → Type 0
+  MayWalk place p = (terms : Terms) × (m : Moment K V) × (own : List ℕ) × StandsAs (WalksFar own 0) same hash terms m p × ReadyAt own place p
+
+  -- and where so many steps have led, of which the last one alone did not just go on.
+  abbrev pub WalkComes : (place steps : ℕ) → Progress (Node K V) → (before after : List Effect) → (old new : Scheduler K V S) → Type 0
+  WalkComes place steps said before after old new =
+      (said ≡ progress.Goes → ⊥)
+      × (n : ℕ) × (steps ≡ n + 1) × (mid : List Effect) × (p : Scheduler K V S) × IsStepOf place said mid after p new
+      × ((terms : Terms) (m : Moment K V) (own : List ℕ) → StandsAs (WalksFar own 0) same hash terms m old → ReadyAt own place old → IsMidWalk same hash terms own place m n before mid p)
 
   -- A call stands at this place, however far it is: one that asks, or is ready, says so again, and one that goes on takes steps.
   abbrev pub StandsAt : ℕ → Scheduler K V S → Type 0
@@ -170,11 +244,32 @@ module _ {K V S : Type 0} (same : K → K → Bool) (hash : K → ℕ) where
   abbrev pub TakenAs : (place most : ℕ) → Played V → (old new : Scheduler K V S) → Type 0
   TakenAs place most played old new = (d : Caller V) → slice_get old.calls.items.items place ≡ Some d → TakenBy place most d.stands played old new
 
-  -- What is promised of an event by which a call goes on: it comes to what is right, where it does so in its case; it makes as many steps as it may, and does not more.
+  -- The call of this name, if it is there, has taken steps so; and so has one without a name that has begun.
+  abbrev pub TookSteps : (most : ℕ) → List ℕ → Played V → (old new : Scheduler K V S) → Type 0
+  TookSteps most own played old new = (place : ℕ) → Some place ≡ position (is_named own) old.calls.items.items → TakenAs place most played old new
+
+  abbrev pub TookWhole : (guard name : List ℕ) → Call K V → Played V → (old new : Scheduler K V S) → Type 0
+  TookWhole guard name call played old new =
+      (terms : Terms) (m : Moment K V) → StandsFor same hash terms m old
+      → (begun : Bool) × (mid : Scheduler K V S) × BeginsSo same hash terms m nameless guard name call begun old mid × (begun ≡ true → TakenAs 0 most_steps played mid new)
+
+  -- What is promised of an event by which a call goes on: the scheduler has played the log with it; it comes to what is right, where it does so in its case; it makes as many steps as it may, and
+  -- does not more.
   pub record PlaysOn (terms : Terms) (log : List (Entry K V)) (e : Entry K V) (p : Scheduler K V S) : Type 0 where
+    pub played : IsPlayed same hash terms (e ∷ log) p
     pub plays : ComesInCase terms log e → Plays same hash terms log e p
     pub makes : MakesSteps e.event (stands_or (acting (caller_of e.event) (at_work e (moment log)))) e.steps e.outcome
     pub does : DoesFew (caller_of e.event) e.steps e.effects
 
   abbrev pub PlaysOnAt : Event K V → Played V → (old new : Scheduler K V S) → Type 0
   PlaysOnAt event played old new = (terms : Terms) (log : List (Entry K V)) → IsDue same hash terms log event old → PlaysOn terms log (entry_of event played) new
+
+  -- What is promised of the event by which a walk shows its next pair.
+  pub record PlaysNext (terms : Terms) (log : List (Entry K V)) (e : Entry K V) (p : Scheduler K V S) : Type 0 where
+    pub plays : Plays same hash terms log e p
+    pub makes : MakesSteps e.event (stands_or (acting (caller_of e.event) (at_work e (moment log)))) e.steps e.outcome
+    pub does : DoesFew (caller_of e.event) e.steps e.effects
+
+  abbrev pub PlaysNextAt : List ℕ → Played V → (old new : Scheduler K V S) → Type 0
+  PlaysNextAt own played old new =
+      (terms : Terms) (log : List (Entry K V)) → IsDue same hash terms log (Next own) old → PlaysNext terms log (entry_of (Next own) played) new

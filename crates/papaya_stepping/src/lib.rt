@@ -1,4 +1,5 @@
-//! Calls of a scheduler take steps: by one event, one or many.
+//! Calls of a scheduler take steps: by one event, one or many; and walks show their pairs.
 #![tactic(auto)]
 
 pub mod stepping;
+pub mod walking;

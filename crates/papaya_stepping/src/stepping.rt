@@ -3,7 +3,8 @@ ghost use Rattle.std.specs.Prelude.{◌≡◌, ◌<◌, ◌≤◌, length, slice
 ghost use Rattle.papaya_schedules.specs.declared.event.Event.TheVariants as event;
 ghost use Rattle.papaya_effects.specs.Known.{known};
 ghost use Rattle.papaya_scheduler.specs.Played.{MayPlay};
-ghost use Rattle.papaya_stepping.specs.Stepping.{IsStepped, MayGo, MayStep, PlaysOnAt, StandsAt, StepsCome, TakenAs, callers_then, outcome_of};
+ghost use Rattle.papaya_runs.specs.Stopped.{most_steps};
+ghost use Rattle.papaya_stepping.specs.Stepping.{IsStepped, MayGo, MayStep, PlaysOnAt, StandsAt, StepsCome, TakenAs, TookSteps, TookWhole, callers_then, outcome_of};
 ghost use Rattle.papaya_scheduler.specs.Telling.{goes_on};
 ghost use Rattle.papaya_scheduler.specs.declared.caller.Caller.{Caller};
 
@@ -14,6 +15,7 @@ use papaya_scheduler::caller::{Caller, Stands};
 use papaya_scheduler::played::Played;
 use papaya_scheduler::scheduler::Scheduler;
 use papaya_scheduler::telling::{answer_of, number_by};
+use papaya_schedules::call::Call;
 use papaya_schedules::effect::Effect;
 use papaya_schedules::outcome::Outcome;
 use std::alloc::AllocError;
@@ -44,7 +46,7 @@ fn refuse_after<K: Drop, V: Drop, S>(scheduler: &mut Scheduler<K, V, S>, refuse:
 }
 
 /// The call at this place has come to this. A walk that has shown a pair is ready.
-fn come_to<K: Drop, V: Drop, S>(
+pub(crate) fn come_to<K: Drop, V: Drop, S>(
     scheduler: &mut Scheduler<K, V, S>,
     place: usize,
     progress: Progress<Node<K, V>>,
@@ -164,6 +166,7 @@ pub fn step<K: Eq + Hash + Drop, V: Drop, S: Hashes<K>>(
 ) -> Result<Played<V>, AllocError>
     requires { MayPlay K.eq (S.hash scheduler.old.logged.executor.hasher) (event.Step caller.now refuse) scheduler.old }
     ensures plays { IfOk result (λ played. PlaysOnAt K.eq (S.hash scheduler.old.logged.executor.hasher) (event.Step caller.now refuse) played scheduler.old scheduler.new) }
+    ensures took { IfOk result (λ played. TookSteps K.eq (S.hash scheduler.old.logged.executor.hasher) 1 caller.now played scheduler.old scheduler.new) }
 {
     match scheduler.calls.place_of(caller) {
         Some(place) => take_steps(scheduler, place, 1, refuse),
@@ -179,9 +182,29 @@ pub fn go<K: Eq + Hash + Drop, V: Drop, S: Hashes<K>>(
 ) -> Result<Played<V>, AllocError>
     requires { MayPlay K.eq (S.hash scheduler.old.logged.executor.hasher) (event.Go caller.now refuse) scheduler.old }
     ensures plays { IfOk result (λ played. PlaysOnAt K.eq (S.hash scheduler.old.logged.executor.hasher) (event.Go caller.now refuse) played scheduler.old scheduler.new) }
+    ensures took { IfOk result (λ played. TookSteps K.eq (S.hash scheduler.old.logged.executor.hasher) most_steps caller.now played scheduler.old scheduler.new) }
 {
     match scheduler.calls.place_of(caller) {
         Some(place) => take_steps(scheduler, place, MOST_STEPS, refuse),
         None => Ok(scheduler.busy()),
+    }
+}
+
+/// Begins a call of the caller without a name, and goes on with it.
+pub fn one_call<K: Eq + Hash + Drop, V: Drop, S: Hashes<K>>(
+    scheduler: &mut Scheduler<K, V, S>,
+    guard: Token,
+    map: &Token,
+    call: Call<K, V>,
+) -> Result<Played<V>, AllocError>
+    requires { MayPlay K.eq (S.hash scheduler.old.logged.executor.hasher) (event.OneCall guard map.now call) scheduler.old }
+    ensures plays { IfOk result (λ played. PlaysOnAt K.eq (S.hash scheduler.old.logged.executor.hasher) (event.OneCall guard map.now call) played scheduler.old scheduler.new) }
+    ensures took { IfOk result (λ played. TookWhole K.eq (S.hash scheduler.old.logged.executor.hasher) guard map.now call played scheduler.old scheduler.new) }
+{
+    let nameless = Token::copy_of(*scheduler.maps.allocator(), b"-")?;
+    if scheduler.begins(nameless, guard, map, call)? {
+        take_steps(scheduler, 0, MOST_STEPS, false)
+    } else {
+        Ok(scheduler.busy())
     }
 }

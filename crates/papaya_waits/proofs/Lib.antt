@@ -5,6 +5,7 @@ pub mod CallPlans
 pub mod Calls
 pub mod Copyings
 pub mod Rows
+pub mod Claimed
 pub mod Promised
 pub mod RowsPromised
 mod Samples

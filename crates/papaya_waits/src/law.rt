@@ -1,6 +1,7 @@
 //! What is promised of each step of a call that answers that it waits.
 ghost use Rattle.std.specs.Prelude.{ℕ, Bool};
 ghost use Rattle.papaya_tables.specs.declared.setting.Setting.{Setting};
+ghost use Rattle.papaya_waits.specs.Others.{PairsAreCopiedByCalls, AskersHaveOthers};
 ghost use Rattle.papaya_waits.specs.Promises.{CallsWaitForACopying, RoomsWaitForACopying, SweepsWaitForACopying, LookupsNeverWait, CallRowsWaitForAHolder, RoomRowsWaitForAHolder, SweepRowsWaitForAHolder};
 
 /// Where calls of many callers stand together on one map, a call waits only for a copying. One on one key waits in incremental mode while the pair that
@@ -19,4 +20,17 @@ pub fn rows_within_calls_wait_only_for_a_holder<K, V, Q>()
     ensures calls { (same : K → K → Bool) (hash : K → ℕ) (asks : Q → K → Bool) (setting : Setting) (slot : ℕ → ℕ) → CallRowsWaitForAHolder V same hash asks setting slot }
     ensures rooms { (same : K → K → Bool) (hash : K → ℕ) (asks : Q → K → Bool) (setting : Setting) (slot : ℕ → ℕ) → RoomRowsWaitForAHolder V same hash asks setting slot }
     ensures sweeps { (hash : K → ℕ) (slot : ℕ → ℕ) → SweepRowsWaitForAHolder V hash slot }
+{}
+
+/// In incremental mode a pair that is being copied, for which calls wait, stands in the root, behind which another table is linked; and a caller that has a call on the map has
+/// claimed its place.
+pub fn pairs_are_copied_by_calls<K, V, Q>()
+    ensures copied { (same : K → K → Bool) (hash : K → ℕ) (asks : Q → K → Bool) (setting : Setting) (slot : ℕ → ℕ) → PairsAreCopiedByCalls V same hash asks setting slot }
+{}
+
+/// In incremental mode, let each copying that is not over have a place that is not counted, or a call that is to end it. If a caller's copier has found each
+/// place claimed, and asks how the copying stands, which is not over, then another caller has a call that has copied a place and has not counted it, or is
+/// to end the copying.
+pub fn who_asks_how_a_copying_stands_has_others<K, V, Q>()
+    ensures asked { (same : K → K → Bool) (hash : K → ℕ) (asks : Q → K → Bool) (setting : Setting) (slot : ℕ → ℕ) → AskersHaveOthers V same hash asks setting slot }
 {}

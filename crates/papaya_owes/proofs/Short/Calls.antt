@@ -66,13 +66,13 @@ module _ {K V S : Type 0} (same : K → K → Bool) (hash : K → ℕ) (name : �
   led = scene_after same hash s old new map i to.0 u to.1 said to.4
 
   -- its machine is to be refused for want of memory
-  abbrev WasDenied : Bool → Type 0
+  abbrev pub WasDenied : Bool → Type 0
   WasDenied h = h ≡ true → fault_of (machine_of u) ≡ Some Memory
 
   abbrev IsDenied : Type 0
   IsDenied = (fault_of to.1 ≡ Some Memory) × EndsSo Memory said
 
-  stays : fault_of (machine_of u) ≡ Some Memory → MachineStays old.memory.memory new.memory.memory told same same hash to.1 said Memory
+  pub stays : fault_of (machine_of u) ≡ Some Memory → MachineStays old.memory.memory new.memory.memory told same same hash to.1 said Memory
   stays fault = machine_stays old.memory.memory new.memory.memory told same same hash to.1 said (machine_of u) Memory fault to.3
 
   -- it makes no counter, and asks for no bucket
@@ -85,7 +85,7 @@ module _ {K V S : Type 0} (same : K → K → Bool) (hash : K → ℕ) (name : �
       by (inl pair) = cc pair
       by (inr (value, (n, table, making_is, stands, value_is), kind_is)) = not_shards table.len table.limit table.turn (table.len == 0) (ap kind_of (sym value_is) ∙ kind_is)
 
-  no_bucket : (bucket : ℕ) (had : Bool) → told ≡ changed.Roomed bucket had → ⊥
+  pub no_bucket : (bucket : ℕ) (had : Bool) → told ≡ changed.Roomed bucket had → ⊥
   no_bucket bucket had is =
       no_room same same hash old.memory.memory new.memory.memory told to.1 said (machine_of u) (call_unmade same hash name m known s old at whole.all.shown map i u here) to.3 bucket had is
 
@@ -110,7 +110,7 @@ module _ {K V S : Type 0} (same : K → K → Bool) (hash : K → ℕ) (name : �
 
   -- and who asks for a growth is not
 
-  grown : (h : Bool) → WasDenied h → (NoneAsked told → ⊥) → h ≡ false
+  pub grown : (h : Bool) → WasDenied h → (NoneAsked told → ⊥) → h ≡ false
   grown true was asked = absurd (asked (stays (was refl)).0)
   grown false was asked = refl
 
@@ -138,7 +138,7 @@ module _ {K V S : Type 0} (same : K → K → Bool) (hash : K → ℕ) (name : �
 
   -- each call after it
 
-  its_there : (c : CallThere K V) × (call_of (name i) m ≡ Some c)
+  pub its_there : (c : CallThere K V) × (call_of (name i) m ≡ Some c)
   its_there = let c = whole.all.shown.calls map i u here in (c.0, c.1)
 
   its_denied : (d : CallThere K V) → call_of (name i) v ≡ Some d → d.is_short ≡ true → IsDenied

@@ -2,6 +2,7 @@
 use Rattle.std.specs.Prelude.{◌≡◌, ℕ, Bool, true, false, [], ◌++◌, Option, Some, None, ◌⊎◌, if◌then◌else◌}
 use Rattle.std.proofs.Common.{refl, ap, sym, subst, ◌∙◌, inl, inr}
 use Rattle.std.proofs.lemmas.List.{append-nil}
+use Rattle.seize_words.specs.declared.at.At.{At}
 use Rattle.seize.specs.Defer.{defer_plan}
 use Rattle.seize.specs.Settle.{settle_plan}
 use Rattle.seize.specs.declared.progress.Progress.{Progress}
@@ -65,17 +66,17 @@ abbrev pub GoesDue : Option Due → Option Due → Type 0
 GoesDue before after = (after ≡ before) ⊎ (after ≡ None)
 
 -- a row that retires a block puts none behind another
-settle_puts : (c : Settle) (p : Settling) (word : ℕ) → due_in_settle c p ≡ Some (ToPut word) → ⊥
-settle_puts c settling.Sees word e = absurd (cc e)
-settle_puts c settling.Holds word e = absurd (cc e)
-settle_puts c settling.Pops word e = absurd (cc e)
-settle_puts c (settling.Firsts block) word e = absurd (cc e)
-settle_puts c (settling.Batches block) word e = absurd (cc e)
-settle_puts c _ word e = absurd (cc e)
+pub settle_puts : (c : Settle) (p : Settling) (word : ℕ) (place : At) → due_in_settle c p ≡ Some (ToPut word place) → ⊥
+settle_puts c settling.Sees word place e = absurd (cc e)
+settle_puts c settling.Holds word place e = absurd (cc e)
+settle_puts c settling.Pops word place e = absurd (cc e)
+settle_puts c (settling.Firsts block) word place e = absurd (cc e)
+settle_puts c (settling.Batches block) word place e = absurd (cc e)
+settle_puts c _ word place e = absurd (cc e)
 
-copying_puts : (p : Copying) (word : ℕ) → due_in_copying p ≡ Some (ToPut word) → ⊥
-copying_puts (copying.Retires settle rest) word e = settle_puts settle settle.stands word e
-copying_puts _ word e = absurd (cc e)
+pub copying_puts : (p : Copying) (word : ℕ) (place : At) → due_in_copying p ≡ Some (ToPut word place) → ⊥
+copying_puts (copying.Retires settle rest) word place e = settle_puts settle settle.stands word place e
+copying_puts _ word place e = absurd (cc e)
 
 -- once its row is under way, the pair of a disposal is what the row is to hand over
 abbrev pub IsDueAlone : Dispose → Disposing → Type 0
@@ -125,12 +126,12 @@ module _ (known : Known) where
   due_noted due due2 noted (inr none) = subst (λ (d : Option Due). NotesDue known (word_due d)) (sym none) tt
 
   -- what is put behind another block is a pair
-  disposal_puts : (d : Dispose) (p : Disposing) → NotesPair known (pair_in_disposing d p) → (word : ℕ) → due_in_disposing p ≡ Some (ToPut word) → IsPairRole (named known word)
-  disposal_puts d (disposing.Settles settle) notes word e = absurd (settle_puts settle settle.stands word e)
-  disposal_puts d (disposing.Defers defer) notes word e = subst (λ (due : Option Due). NotesPair known (word_due due)) e notes
-  disposal_puts d disposing.Reads notes word e = absurd (cc e)
-  disposal_puts d (disposing.Walks table) notes word e = absurd (cc e)
-  disposal_puts d disposing.Over notes word e = absurd (cc e)
+  disposal_puts : (d : Dispose) (p : Disposing) → NotesPair known (pair_in_disposing d p) → (word : ℕ) (place : At) → due_in_disposing p ≡ Some (ToPut word place) → IsPairRole (named known word)
+  disposal_puts d (disposing.Settles settle) notes word place e = absurd (settle_puts settle settle.stands word place e)
+  disposal_puts d (disposing.Defers defer) notes word place e = subst (λ (due : Option Due). NotesPair known (word_due due)) e notes
+  disposal_puts d disposing.Reads notes word place e = absurd (cc e)
+  disposal_puts d (disposing.Walks table) notes word place e = absurd (cc e)
+  disposal_puts d disposing.Over notes word place e = absurd (cc e)
 
   -- a disposal whose row is under way, or is to begin
   module _ (d : Dispose) (row : IsRowOf d.stands) (noted : NotesPair known (pair_in_disposing d d.stands)) where
@@ -237,11 +238,11 @@ module _ {K V : Type 0} (known : Known) (asks eq : K → K → Bool) (hash : K �
       always_turned (CopiesOn known K V hash c it.0) (KeyKeeps (calling.Copies c)) (copied x) (key_copied c row notes) (copier_plan hash c) it.1
   key_keeps _ row notes = absurd row
 
-pub key_puts : (known : Known) (p : Calling) → NotesOfCall known p → (word : ℕ) → due_in_calling p ≡ Some (ToPut word) → IsPairRole (named known word)
-key_puts known (calling.Disposes d answer) notes word e = disposal_puts known d d.stands notes word e
-key_puts known (calling.Helps c goal) notes word e = absurd (copying_puts c.stands word e)
-key_puts known (calling.Copies c) notes word e = absurd (copying_puts c.stands word e)
-key_puts known _ notes word e = absurd (cc e)
+pub key_puts : (known : Known) (p : Calling) → NotesOfCall known p → (word : ℕ) (place : At) → due_in_calling p ≡ Some (ToPut word place) → IsPairRole (named known word)
+key_puts known (calling.Disposes d answer) notes word place e = disposal_puts known d d.stands notes word place e
+key_puts known (calling.Helps c goal) notes word place e = absurd (copying_puts c.stands word place e)
+key_puts known (calling.Copies c) notes word place e = absurd (copying_puts c.stands word place e)
+key_puts known _ notes word place e = absurd (cc e)
 
 -- a reservation
 module _ {K : Type 0} (V : Type 0) (known : Known) (hash : K → ℕ) (x : Reserve) where
@@ -265,9 +266,9 @@ module _ {K : Type 0} (V : Type 0) (known : Known) (hash : K → ℕ) (x : Reser
       always_turned (CopiesOn known K V hash c it.0) (RoomKeeps (reserving.Copies c)) (reserves.copied x) (room_copied c row notes) (copier_plan hash c) it.1
   room_keeps _ row notes = absurd row
 
-pub room_puts : (p : Reserving) (word : ℕ) → due_in_reserving p ≡ Some (ToPut word) → ⊥
-room_puts (reserving.Copies c) word e = copying_puts c.stands word e
-room_puts _ word e = absurd (cc e)
+pub room_puts : (p : Reserving) (word : ℕ) (place : At) → due_in_reserving p ≡ Some (ToPut word place) → ⊥
+room_puts (reserving.Copies c) word place e = copying_puts c.stands word place e
+room_puts _ word place e = absurd (cc e)
 
 -- a sweep
 module _ (known : Known) where
@@ -316,7 +317,7 @@ module _ {K : Type 0} (V : Type 0) (known : Known) (hash : K → ℕ) (x : Sweep
       always_turned (AloneThen K V) (SweepKeeps (sweeping.Disposes d)) (sweeps.disposed x) (sweep_disposed d row notes) (dispose_plan d) (stays_alone K V d d.stands row)
   sweep_keeps _ row notes = absurd row
 
-pub sweep_puts : (known : Known) (p : Sweeping) → NotesOfSweep known p → (word : ℕ) → due_in_sweeping p ≡ Some (ToPut word) → IsPairRole (named known word)
-sweep_puts known (sweeping.Disposes d) notes word e = disposal_puts known d d.stands notes word e
-sweep_puts known (sweeping.Copies c) notes word e = absurd (copying_puts c.stands word e)
-sweep_puts known _ notes word e = absurd (cc e)
+pub sweep_puts : (known : Known) (p : Sweeping) → NotesOfSweep known p → (word : ℕ) (place : At) → due_in_sweeping p ≡ Some (ToPut word place) → IsPairRole (named known word)
+sweep_puts known (sweeping.Disposes d) notes word place e = disposal_puts known d d.stands notes word place e
+sweep_puts known (sweeping.Copies c) notes word place e = absurd (copying_puts c.stands word place e)
+sweep_puts known _ notes word place e = absurd (cc e)

@@ -1,6 +1,7 @@
 -- What a row within a call hands over is the first of what the call owes: where the call has the same behind it, what it owes goes with the effects of the row's step.
 use Rattle.std.specs.Prelude.{◌≡◌, ℕ, List, [], ◌++◌, Option, Some}
 use Rattle.std.proofs.Common.{refl, ap, sym, subst, ◌∙◌}
+use Rattle.seize_words.specs.declared.at.At.{At}
 use Rattle.seize_words.specs.Word.{block_in}
 use Rattle.papaya_schedules.specs.declared.effect.Effect.{Effect}
 use Rattle.papaya_schedules.specs.declared.effect.Effect.TheVariants as effect
@@ -45,7 +46,7 @@ module _ {K V : Type 0} (m : Moment K V) (known : Known) (effects : List Effect)
 
   -- what is to be put is a pair
   abbrev pub PutsPair : Option Due → Type 0
-  PutsPair due = (word : ℕ) → due ≡ Some (ToPut word) → IsPairRole (named known word)
+  PutsPair due = (word : ℕ) (place : At) → due ≡ Some (ToPut word place) → IsPairRole (named known word)
 
   pub row_goes : (caller map : ℕ) (before after : List Thing) (due due2 : Option Due) → PutsPair due → KeepsBehind known before after due due2 → RowTells caller map known effects due due2
       → OwesGo m effects before after
@@ -55,7 +56,7 @@ module _ {K V : Type 0} (m : Moment K V) (known : Known) (effects : List Effect)
       let left : after ≡ rest = then ∙ ap (λ (d : Option Due). things_at known (word_due d) ++ rest) gone in
       retired_goes before after (known.roles (block_in word)) are
       (is ∙ ap (λ (d : Option Due). things_at known (word_due d) ++ rest) was ∙ ap (λ (l : List Thing). thing_as (known.roles (block_in word)) ++ l) (sym left))
-  row_goes caller map before after due due2 pair (Behind rest is then) (TellsDeferred word block t len was gone table are) =
+  row_goes caller map before after due due2 pair (Behind rest is then) (TellsDeferred word block place t len was its gone table are) =
       let left : after ≡ rest = then ∙ ap (λ (d : Option Due). things_at known (word_due d) ++ rest) gone in
-      put_goes before after t (named known word) (pair word was) are
+      put_goes before after t (named known word) (pair word place was) are
       (is ∙ ap (λ (d : Option Due). things_at known (word_due d) ++ rest) was ∙ ap (λ (l : List Thing). thing_as (named known word) ++ l) (sym left))

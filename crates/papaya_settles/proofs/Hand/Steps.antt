@@ -46,7 +46,7 @@ use Rattle.papaya_settles.proofs.Hand.Rows.{KeepsBehind, PutsPair, row_goes}
 goes_due : (caller map : ℕ) (known : Known) (effects : List Effect) (due due2 : Option Due) → RowTells caller map known effects due due2 → GoesDue due due2
 goes_due caller map known effects due due2 (TellsNone none same) = inl same
 goes_due caller map known effects due due2 (TellsRetired word was gone are) = inr gone
-goes_due caller map known effects due due2 (TellsDeferred word block t len was gone table are) = inr gone
+goes_due caller map known effects due due2 (TellsDeferred word block place t len was its gone table are) = inr gone
 
 module _ {K V S : Type 0} (same : K → K → Bool) (hash : K → ℕ) (name : ℕ → List ℕ) (m : Moment K V) (known : Known) (s : Scene K V) (old new : Executor K V S) (at_old : IsAt same hash old s)
     (shown : Shows same name m known s) (rows : ShowsRows s) (entries : ShowsEntries s) (owning : OwnAreMade known s.world) (map i : ℕ) (u : UnderWay K V K) (under_way : s.calls map i ≡ Some u)
@@ -100,7 +100,7 @@ module _ {K V S : Type 0} (same : K → K → Bool) (hash : K → ℕ) (name : �
       let keeps = always_steps (KeyKeeps known same same hash x.call x.call.stands) old.memory.memory new.memory.memory (call_plan same same hash x.call) inner.0
       (key_keeps known same same hash x.call x.call.stands row notes)
       (as_step old.memory.memory changed.Nothing (call_plan same same hash x.call) new.memory.memory told inner.0 inner.2) in
-      of_kind (OnKey x) is (kinds.Key inner.0.0) (ap (λ (z : Machine K V K × Progress (Node K V)). z.0) inner.1) (keeps.0, keeps.1) (λ word e. key_puts known x.call.stands notes word e) (λ e. keeps.2 (sym (ap (λ (z : Machine K V K × Progress (Node K V)). has_ended z.1) inner.1) ∙ e))
+      of_kind (OnKey x) is (kinds.Key inner.0.0) (ap (λ (z : Machine K V K × Progress (Node K V)). z.0) inner.1) (keeps.0, keeps.1) (λ word place e. key_puts known x.call.stands notes word place e) (λ e. keeps.2 (sym (ap (λ (z : Machine K V K × Progress (Node K V)). has_ended z.1) inner.1) ∙ e))
 
   room_goes : (x : CallForRoom) → u ≡ ForRoom x → IsRowOfReserve x.reserve.stands → NotesInHand known (machine_of u) → Goal to.1
   room_goes x is row noted =
@@ -108,7 +108,7 @@ module _ {K V S : Type 0} (same : K → K → Bool) (hash : K → ℕ) (name : �
       let inner = told_in old.memory.memory new.memory.memory told of_room (reserve_plan hash x.reserve) (to.1, said) (stepped (ForRoom x) is) in
       let keeps = always_steps (RoomKeeps V known hash x.reserve x.reserve.stands) old.memory.memory new.memory.memory (reserve_plan hash x.reserve) inner.0
       (room_keeps V known hash x.reserve x.reserve.stands row notes) (as_step old.memory.memory changed.Nothing (reserve_plan hash x.reserve) new.memory.memory told inner.0 inner.2) in
-      of_kind (ForRoom x) is (kinds.Reserve inner.0.0) (ap (λ (z : Machine K V K × Progress (Node K V)). z.0) inner.1) (keeps.0, keeps.1) (λ word e. absurd (room_puts x.reserve.stands word e)) (λ e. keeps.2 (sym (ap (λ (z : Machine K V K × Progress (Node K V)). has_ended z.1) inner.1) ∙ e))
+      of_kind (ForRoom x) is (kinds.Reserve inner.0.0) (ap (λ (z : Machine K V K × Progress (Node K V)). z.0) inner.1) (keeps.0, keeps.1) (λ word place e. absurd (room_puts x.reserve.stands word place e)) (λ e. keeps.2 (sym (ap (λ (z : Machine K V K × Progress (Node K V)). has_ended z.1) inner.1) ∙ e))
 
   sweep_goes : (x : CallOverAll) → u ≡ OverAll x → IsRowOfSweep x.sweep.stands → NotesInHand known (machine_of u) → Goal to.1
   sweep_goes x is row noted =
@@ -116,7 +116,7 @@ module _ {K V S : Type 0} (same : K → K → Bool) (hash : K → ℕ) (name : �
       let inner = told_in old.memory.memory new.memory.memory told of_sweep (sweep_plan hash x.sweep) (to.1, said) (stepped (OverAll x) is) in
       let keeps = always_steps (SweepKeeps V known hash x.sweep x.sweep.stands) old.memory.memory new.memory.memory (sweep_plan hash x.sweep) inner.0
       (sweep_keeps V known hash x.sweep x.sweep.stands row notes) (as_step old.memory.memory changed.Nothing (sweep_plan hash x.sweep) new.memory.memory told inner.0 inner.2) in
-      of_kind (OverAll x) is (kinds.Sweep inner.0.0) (ap (λ (z : Machine K V K × Progress (Node K V)). z.0) inner.1) (keeps.0, keeps.1) (λ word e. sweep_puts known x.sweep.stands notes word e) (λ e. keeps.2 (sym (ap (λ (z : Machine K V K × Progress (Node K V)). has_ended z.1) inner.1) ∙ e))
+      of_kind (OverAll x) is (kinds.Sweep inner.0.0) (ap (λ (z : Machine K V K × Progress (Node K V)). z.0) inner.1) (keeps.0, keeps.1) (λ word place e. sweep_puts known x.sweep.stands notes word place e) (λ e. keeps.2 (sym (ap (λ (z : Machine K V K × Progress (Node K V)). has_ended z.1) inner.1) ∙ e))
 
   pub row_hands : NotesInHand known (machine_of u) → Goal to.1
   row_hands notes = by u refl to.4.did other

@@ -69,7 +69,7 @@ use Rattle.papaya_late.proofs.KindsKept.Rooms.Copying.{CopiesRoom, copier_rooms}
 use Rattle.papaya_late.proofs.KindsKept.Rooms.Making.{MakesRoom, new_table_rooms, first_table_room}
 
 -- a lookup is never refused
-abbrev LooksOn : Lookup × Progress (Option ℕ) → Type 0
+abbrev pub LooksOn : Lookup × Progress (Option ℕ) → Type 0
 LooksOn (l, progress.Refused fault) = ⊥
 LooksOn (l, _) = Unit {0}
 
@@ -106,7 +106,7 @@ module _ (l : Lookup) where
     on_read keys trial (Taken value) = tt
     on_read keys trial (Roomed r) = tt
 
-    looks_on : (keys : K → Bool) (m m2 : Mem (Node K V)) (end : Lookup × Progress (Option ℕ)) → Steps Took value_at m (lookup_plan keys l) m2 end → LooksOn end
+    pub looks_on : (keys : K → Bool) (m m2 : Mem (Node K V)) (end : Lookup × Progress (Option ℕ)) → Steps Took value_at m (lookup_plan keys l) m2 end → LooksOn end
     looks_on keys m m2 end s = by l.stands s
       where
         by : (stands : Looking) → Steps Took value_at m (lookups.plan_at keys l stands) m2 end → LooksOn end

@@ -1,10 +1,10 @@
--- The making of a table is refused for memory, or for the length of the table.
+-- The making of a table is refused for the length of the table, or for memory, where its block is refused.
 use Rattle.std.specs.Prelude.{◌≡◌, ℕ, ◌+◌, ◌^◌, max, nat_lt, nat_le, if◌then◌else◌, Bool, true, false, Result, Ok, Err}
 use Rattle.std.proofs.Common.{inl, inr, refl, sym, subst}
 use Rattle.seize_words.specs.declared.at.At.{At}
 use Rattle.seize_words.specs.declared.at.At.TheVariants as name
 use Rattle.seize_words.specs.declared.fault.Fault.{Fault}
-use Rattle.seize_words.specs.declared.fault.Fault.TheVariants.{Capacity}
+use Rattle.seize_words.specs.declared.fault.Fault.TheVariants.{Capacity, Memory}
 use Rattle.seize_words.specs.Mem.{Mem, value_at, Took}
 use Rattle.seize_words.specs.Op.{Out, Found, Stored, Exchanged, Made, Taken, Roomed}
 use Rattle.seize_words.specs.Plan.{Steps}
@@ -28,7 +28,7 @@ use Rattle.papaya_tables.specs.declared.setting.Setting.{Setting}
 use Rattle.papaya_tables.specs.declared.table.Table.{Table}
 use Rattle.seize_rule.proofs.Rows.Leaving.{steps_back}
 use Rattle.papaya_rule.proofs.Keys.Always.{Always, AlwaysOf, always_if, always_steps}
-use Rattle.papaya_late.specs.Faults.{IsRoom, RoomInMaking}
+use Rattle.papaya_late.specs.Faults.{IsRoom, RoomInMaking, SoInMaking}
 
 -- a length that can't be had is too long
 abbrev IsLong : {T : Type 0} → Result T Fault → Type 0
@@ -55,38 +55,48 @@ turn_long turn = by (nat_lt turn (2 ^ 63))
     by false = refl
 
 -- what is begun
-first_room : (len : ℕ) → RoomInMaking (making_first len)
-first_room len = by (nat_le len (2 ^ 48))
-  where
-    by : (b : Bool) → RoomInMaking (if b then makes.Makes (planned len (limit_of len) 0) else makes.Refused Capacity)
-    by true = tt
-    by false = inr refl
+module _ (Is : Fault → Type 0) (long : Is Capacity) where
+  first_so : (len : ℕ) → SoInMaking Is (making_first len)
+  first_so len = by (nat_le len (2 ^ 48))
+    where
+      by : (b : Bool) → SoInMaking Is (if b then makes.Makes (planned len (limit_of len) 0) else makes.Refused Capacity)
+      by true = tt
+      by false = long
 
-following_room : (r : Reason) (before : Table) (len : ℕ) (turn : Result ℕ Fault) → IsLong turn → RoomInMaking (following r before len turn)
-following_room r before len (Ok turn) long = by (nat_le len (2 ^ 48))
-  where
-    by : (b : Bool) → RoomInMaking (if b then makes.Makes (planned len (next_limit r before.len len) turn) else makes.Refused Capacity)
-    by true = tt
-    by false = inr refl
-following_room r before len (Err fault) long = inr long
+  following_so : (r : Reason) (before : Table) (len : ℕ) (turn : Result ℕ Fault) → IsLong turn → SoInMaking Is (following r before len turn)
+  following_so r before len (Ok turn) fails = by (nat_le len (2 ^ 48))
+    where
+      by : (b : Bool) → SoInMaking Is (if b then makes.Makes (planned len (next_limit r before.len len) turn) else makes.Refused Capacity)
+      by true = tt
+      by false = long
+  following_so r before len (Err fault) fails = subst Is (sym fails) long
 
-making_room : (r : Reason) (before : Table) (len : Result ℕ Fault) → IsLong len → RoomInMaking (making_of r before len)
-making_room r before (Ok len) long = following_room r before (max len 8) (next_turn before.turn) (turn_long before.turn)
-making_room r before (Err fault) long = inr long
+  making_so : (r : Reason) (before : Table) (len : Result ℕ Fault) → IsLong len → SoInMaking Is (making_of r before len)
+  making_so r before (Ok len) fails = following_so r before (max len 8) (next_turn before.turn) (turn_long before.turn)
+  making_so r before (Err fault) fails = subst Is (sym fails) long
 
-begun_room : (setting : Setting) (before : Table) (r : Reason) → RoomInMaking (begun_for setting before r)
-begun_room setting before reason.Full = tt
-begun_room setting before (reason.Reserved additional) = tt
-begun_room setting before reason.NoPlace = making_room reason.NoPlace before (next_len reason.NoPlace before.len 0 setting.initial) (len_long reason.NoPlace before.len 0 setting.initial)
+  begun_so : (setting : Setting) (before : Table) (r : Reason) → SoInMaking Is (begun_for setting before r)
+  begun_so setting before reason.Full = tt
+  begun_so setting before (reason.Reserved additional) = tt
+  begun_so setting before reason.NoPlace = making_so reason.NoPlace before (next_len reason.NoPlace before.len 0 setting.initial) (len_long reason.NoPlace before.len 0 setting.initial)
+
+  pub first_table_so : (setting : Setting) (len : ℕ) → SoInMaking Is (first_table setting len).stands
+  first_table_so setting len = first_so (max len 8)
+
+  pub table_after_so : (setting : Setting) (before : Table) (r : Reason) → SoInMaking Is (table_after setting before r).stands
+  table_after_so setting before r = begun_so setting before r
+
+  pub table_reserved_so : (setting : Setting) (before : Table) (len : ℕ) → SoInMaking Is (table_reserved setting before len).stands
+  table_reserved_so setting before len = making_so (reason.Reserved 0) before (Ok len) tt
 
 pub first_table_room : (setting : Setting) (len : ℕ) → RoomInMaking (first_table setting len).stands
-first_table_room setting len = first_room (max len 8)
+first_table_room setting len = first_table_so IsRoom (inr refl) setting len
 
 pub table_after_room : (setting : Setting) (before : Table) (r : Reason) → RoomInMaking (table_after setting before r).stands
-table_after_room setting before r = begun_room setting before r
+table_after_room setting before r = table_after_so IsRoom (inr refl) setting before r
 
 pub table_reserved_room : (setting : Setting) (before : Table) (len : ℕ) → RoomInMaking (table_reserved setting before len).stands
-table_reserved_room setting before len = making_room (reason.Reserved 0) before (Ok len) tt
+table_reserved_room setting before len = table_reserved_so IsRoom (inr refl) setting before len
 
 -- a counting is never refused
 abbrev pub CountsOn : Sum × Progress ℕ → Type 0
@@ -109,54 +119,75 @@ module _ (T : Type 0) where
       by (sums.Adds shard total) = word_read shard total
       by (sums.Over count) = tt
 
--- each step leads to a point that is so, and a refusal is one for room
+module _ (Is : Fault → Type 0) where
+  -- each step leads to a point that is so, and a refusal is so
+  abbrev pub MakesFor : NewTable × Progress Table → Type 0
+  MakesFor (n, progress.Refused fault) = SoInMaking Is n.stands × Is fault
+  MakesFor (n, _) = SoInMaking Is n.stands
+
+  module _ (long : Is Capacity) (n : NewTable) where
+    pub counted_so : (before : Table) (r : Reason) (end : Sum × Progress ℕ) → CountsOn end → MakesFor (counted n before r end)
+    counted_so before r (sum, progress.Goes) on = tt
+    counted_so before r (sum, progress.Waits) on = tt
+    counted_so before r (sum, progress.Done count) on = making_so Is long r before (next_len r before.len count n.setting.initial) (len_long r before.len count n.setting.initial)
+    counted_so before r (sum, progress.Refused fault) on = absurd on
+
+    module _ {K V : Type 0} (here : SoInMaking Is n.stands) where
+      -- it is refused for memory where its block is
+      pub made_so : (table : Table) (out : Out (Node K V)) → ((value : Node K V) → out ≡ Made (Err value) → Is Memory) → Always MakesFor (made n table out)
+      made_so table (Made (Ok block)) short = by n.link
+        where
+          by : (link : At) → SoInMaking Is (after_making link (with_block table block))
+          by (name.Root r) = tt
+          by (name.Used r) = tt
+          by (name.Slot s i) = tt
+          by (name.Entry b i) = tt
+          by (name.Word b i) = tt
+      made_so table (Made (Err value)) short = (short value refl, short value refl)
+      made_so table (Found word) short = here
+      made_so table Stored short = here
+      made_so table (Exchanged r) short = here
+      made_so table (Taken value) short = here
+      made_so table (Roomed r) short = here
+
+      linked_so : (table : Table) (out : Out (Node K V)) → Always MakesFor (linked n table out)
+      linked_so table (Exchanged (Ok empty)) = tt
+      linked_so table (Exchanged (Err found)) = tt
+      linked_so table (Found word) = here
+      linked_so table Stored = here
+      linked_so table (Made r) = here
+      linked_so table (Taken value) = here
+      linked_so table (Roomed r) = here
+
+      -- it neither counts nor makes its block
+      abbrev pub IsPlain : Making → Type 0
+      IsPlain (makes.Sums before r sum) = ⊥
+      IsPlain (makes.Makes table) = ⊥
+      IsPlain _ = Unit {0}
+
+      pub plain_so : (stage : Making) → IsPlain stage → SoInMaking Is stage → AlwaysOf MakesFor (plan_at {K = K} {V = V} n stage)
+      plain_so (makes.Sums before r sum) plain so = absurd plain
+      plain_so (makes.Makes table) plain so = absurd plain
+      plain_so (makes.Promotes table) plain so = λ out. tt
+      plain_so (makes.Links table) plain so = linked_so table
+      plain_so (makes.Drops table found) plain so = λ out value. tt
+      plain_so (makes.Over table) plain so = here
+      plain_so (makes.Refused fault) plain so = (here, so)
+
 abbrev pub MakesRoom : NewTable × Progress Table → Type 0
-MakesRoom (n, progress.Refused fault) = RoomInMaking n.stands × IsRoom fault
-MakesRoom (n, _) = RoomInMaking n.stands
+MakesRoom end = MakesFor IsRoom end
 
-module _ (n : NewTable) where
-  counted_room : (before : Table) (r : Reason) (end : Sum × Progress ℕ) → CountsOn end → MakesRoom (counted n before r end)
-  counted_room before r (sum, progress.Goes) on = tt
-  counted_room before r (sum, progress.Waits) on = tt
-  counted_room before r (sum, progress.Done count) on = making_room r before (next_len r before.len count n.setting.initial) (len_long r before.len count n.setting.initial)
-  counted_room before r (sum, progress.Refused fault) on = absurd on
-
-  module _ {K V : Type 0} (here : RoomInMaking n.stands) where
-    made_room : (table : Table) (out : Out (Node K V)) → Always MakesRoom (made n table out)
-    made_room table (Made (Ok block)) = by n.link
-      where
-        by : (link : At) → RoomInMaking (after_making link (with_block table block))
-        by (name.Root r) = tt
-        by (name.Used r) = tt
-        by (name.Slot s i) = tt
-        by (name.Entry b i) = tt
-        by (name.Word b i) = tt
-    made_room table (Made (Err value)) = (inl refl, inl refl)
-    made_room table (Found word) = here
-    made_room table Stored = here
-    made_room table (Exchanged r) = here
-    made_room table (Taken value) = here
-    made_room table (Roomed r) = here
-
-    linked_room : (table : Table) (out : Out (Node K V)) → Always MakesRoom (linked n table out)
-    linked_room table (Exchanged (Ok empty)) = tt
-    linked_room table (Exchanged (Err found)) = tt
-    linked_room table (Found word) = here
-    linked_room table Stored = here
-    linked_room table (Made r) = here
-    linked_room table (Taken value) = here
-    linked_room table (Roomed r) = here
-
-    pub new_table_rooms : (m m2 : Mem (Node K V)) (end : NewTable × Progress Table) → Steps Took value_at m (new_table_plan n) m2 end → MakesRoom end
-    new_table_rooms m m2 end s = by n.stands here s
-      where
-        by : (stage : Making) → RoomInMaking stage → Steps Took value_at m (plan_at n stage) m2 end → MakesRoom end
-        by (makes.Sums before r sum) room s =
-            let d = steps_back (counted n before r) m m2 (sum_plan sum) end s in
-            subst MakesRoom (sym d.2) (counted_room before r d.0 (always_steps CountsOn m m2 (sum_plan sum) d.0 (sum_counts (Node K V) sum) d.1))
-        by (makes.Makes table) room s = always_steps MakesRoom m m2 (plan_at n (makes.Makes table)) end (made_room table) s
-        by (makes.Promotes table) room s = always_steps MakesRoom m m2 (plan_at n (makes.Promotes table)) end (λ out. tt) s
-        by (makes.Links table) room s = always_steps MakesRoom m m2 (plan_at n (makes.Links table)) end (linked_room table) s
-        by (makes.Drops table found) room s = always_steps MakesRoom m m2 (plan_at n (makes.Drops table found)) end (λ out value. tt) s
-        by (makes.Over table) room s = always_steps MakesRoom m m2 (plan_at n (makes.Over table)) end here s
-        by (makes.Refused fault) room s = always_steps MakesRoom m m2 (plan_at n (makes.Refused fault)) end (here, room) s
+module _ {K V : Type 0} (n : NewTable) (here : RoomInMaking n.stands) where
+  pub new_table_rooms : (m m2 : Mem (Node K V)) (end : NewTable × Progress Table) → Steps Took value_at m (new_table_plan n) m2 end → MakesRoom end
+  new_table_rooms m m2 end s = by n.stands here s
+    where
+      by : (stage : Making) → RoomInMaking stage → Steps Took value_at m (plan_at n stage) m2 end → MakesRoom end
+      by (makes.Sums before r sum) room s =
+          let d = steps_back (counted n before r) m m2 (sum_plan sum) end s in
+          subst MakesRoom (sym d.2) (counted_so IsRoom (inr refl) n before r d.0 (always_steps CountsOn m m2 (sum_plan sum) d.0 (sum_counts (Node K V) sum) d.1))
+      by (makes.Makes table) room s = always_steps MakesRoom m m2 (plan_at n (makes.Makes table)) end (λ out. made_so IsRoom (inr refl) n here table out (λ value is. inl refl)) s
+      by (makes.Promotes table) room s = always_steps MakesRoom m m2 (plan_at n (makes.Promotes table)) end (plain_so IsRoom (inr refl) n here (makes.Promotes table) tt room) s
+      by (makes.Links table) room s = always_steps MakesRoom m m2 (plan_at n (makes.Links table)) end (plain_so IsRoom (inr refl) n here (makes.Links table) tt room) s
+      by (makes.Drops table found) room s = always_steps MakesRoom m m2 (plan_at n (makes.Drops table found)) end (plain_so IsRoom (inr refl) n here (makes.Drops table found) tt room) s
+      by (makes.Over table) room s = always_steps MakesRoom m m2 (plan_at n (makes.Over table)) end (plain_so IsRoom (inr refl) n here (makes.Over table) tt room) s
+      by (makes.Refused fault) room s = always_steps MakesRoom m m2 (plan_at n (makes.Refused fault)) end (plain_so IsRoom (inr refl) n here (makes.Refused fault) tt room) s

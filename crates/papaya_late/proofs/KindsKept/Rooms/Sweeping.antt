@@ -1,6 +1,7 @@
 -- A sweep is refused for memory, or for the length of a table.
 use Rattle.std.specs.Prelude.{ℕ, ◌==◌, ◌&&◌, nat_lt, if◌then◌else◌, Bool, true, false, Ok, Err}
 use Rattle.std.proofs.Common.{sym, subst}
+use Rattle.seize_words.specs.declared.fault.Fault.{Fault}
 use Rattle.seize_words.specs.Mem.{Mem, value_at, Took}
 use Rattle.seize_words.specs.Op.{Out, Found, Stored, Exchanged, Made, Taken, Roomed}
 use Rattle.seize_words.specs.Plan.{Steps}
@@ -29,135 +30,157 @@ use Rattle.papaya_sweeps.specs.declared.sweep.Sweeping.TheVariants as at
 use Rattle.papaya_sweeps.specs.declared.sweep.Swept.{Swept}
 use Rattle.papaya_sweeps.specs.declared.sweep.Swept.TheVariants.{Goes}
 use Rattle.papaya_rule.proofs.Keys.Always.{Always, AlwaysOf, always_if, always_steps}
-use Rattle.papaya_late.specs.Faults.{RoomInSweeping, SweepRefusesRoom}
-use Rattle.papaya_late.proofs.KindsKept.Rooms.Copying.{CopiesRoom, copier_rooms}
-use Rattle.papaya_late.proofs.KindsKept.Rooms.Reserving.{copying_room}
+use Rattle.papaya_late.specs.Faults.{IsRoom, RoomInSweeping, SoInSweeping, SweepRefusesSo}
+use Rattle.papaya_late.proofs.KindsKept.Rooms.Copying.{CopiesFor, copier_rooms}
+use Rattle.papaya_late.proofs.KindsKept.Rooms.Reserving.{copying_so}
+
+-- a fault that it has to tell is such a one, and a refusal is one for it
+module _ (Is : Fault → Type 0) where
+  abbrev pub SweepsFor : {T : Type 0} → Sweep × Swept T → Type 0
+  SweepsFor (c, told) = SoInSweeping Is c.stands × SweepRefusesSo Is told
+
+  -- one of two points
+  if_so : (b : Bool) (x y : Sweeping) → SoInSweeping Is x → SoInSweeping Is y → SoInSweeping Is (if b then x else y)
+  if_so true x y p q = p
+  if_so false x y p q = q
+
+  further_so : (c : Sweep) → SoInSweeping Is (further c).stands
+  further_so c = if_so (nat_lt (past c).place c.table.len) at.Words (at_end c) tt (if_so (removes c.purpose && c.met) at.Follows at.Over tt tt)
+
+  next_so : (c : Sweep) → SoInSweeping Is c.stands → (stands : Sweeping) → SoInSweeping Is (next_at stands c).stands
+  next_so c room at.Ready = if_so (nat_lt c.place c.table.len) at.Words at.Over tt tt
+  next_so c room _ = room
+
+  reply_so : (c : Sweep) → SoInSweeping Is c.stands → (keeps : Bool) (stands : Sweeping) → SoInSweeping Is (reply_at stands c keeps).stands
+  reply_so c room true (at.Asks word) = further_so c
+  reply_so c room false (at.Asks word) = tt
+  reply_so c room keeps _ = room
+
+  -- Asked for the next pair, or told whether to keep one, it goes on so.
+  pub told_so_on : (c : Sweep) → SoInSweeping Is c.stands → SoInSweeping Is (after_next c).stands × ((keeps : Bool) → SoInSweeping Is (after_reply c keeps).stands)
+  told_so_on c room = (next_so c room c.stands, λ keeps. reply_so c room keeps c.stands)
+
+  module _ (K V : Type 0) (hash : K → ℕ) (c : Sweep) where
+    abbrev Rooms : Sweep × Swept (Node K V) → Type 0
+    Rooms end = SweepsFor Is end
+
+    told_so : (stands : Sweeping) → SoInSweeping Is stands → SweepRefusesSo Is (told {T = Node K V} stands)
+    told_so (at.Refused fault) room = room
+    told_so _ room = tt
+
+    telling_so : (p : Sweep) → SoInSweeping Is p.stands → Rooms (telling p)
+    telling_so p room = (room, told_so p.stands room)
+
+    entering_so : (table : Table) → SoInSweeping Is (entering c table).stands
+    entering_so table = by (is_incremental c.setting.mode) (removes c.purpose)
+      where
+        by : (b r : Bool) → SoInSweeping Is (if b then record c { table = table; stands = at.Follows } else record c { table = table; place = 0; met = false; stands = if r then at.Words else at.Ready }).stands
+        by true r = tt
+        by false true = tt
+        by false false = tt
+
+    pair_so : (purpose : Purpose) (word : ℕ) → Rooms (at_pair purpose c word)
+    pair_so Walks word = (tt, tt)
+    pair_so Clears word = (tt, tt)
+    pair_so Retains word = (tt, tt)
+
+    seen_so : (word : ℕ) → Rooms (seen c word)
+    seen_so word = by (removes c.purpose && has_mark word COPYING) (block_in word == 0)
+      where
+        by : (a b : Bool) → Rooms (if a then telling (further (record c { met = true })) else (if b then telling (further c) else at_pair c.purpose c word))
+        by true b = telling_so (further (record c { met = true })) (further_so (record c { met = true }))
+        by false true = telling_so (further c) (further_so c)
+        by false false = pair_so c.purpose word
+
+    pub copied_so : (end : Copier × Outcome (Node K V) Table) → CopiesFor Is end → Rooms (copied c end)
+    copied_so (copier, outcome.Goes) room = (room.0, tt)
+    copied_so (copier, outcome.Waits) room = (room.0, tt)
+    copied_so (copier, outcome.Gave value) room = (room.0, tt)
+    copied_so (copier, outcome.Done table) room = telling_so (entering c table) (entering_so table)
+    copied_so (copier, outcome.Refused fault) room = (room.1, room.1)
+
+    pub disposed_so : (end : Dispose × Settled (Node K V)) → Rooms (disposed c end)
+    disposed_so (dispose, settled.Goes) = (tt, tt)
+    disposed_so (dispose, settled.Waits) = (tt, tt)
+    disposed_so (dispose, settled.Gave value) = (tt, tt)
+    disposed_so (dispose, settled.Done) = telling_so (further c) (further_so c)
+
+    module _ (here : SoInSweeping Is c.stands) where
+      stays : Rooms (c, Goes)
+      stays = (here, tt)
+
+      root_so : (out : Out (Node K V)) → Always Rooms (root_read c out)
+      root_so (Found root) =
+          always_if Rooms (root == 0) _ _ (telling_so (tableless c) (if_so (removes c.purpose) at.Over at.Ready tt tt)) (λ value. telling_so (entering c _) (entering_so _))
+      root_so Stored = stays
+      root_so (Exchanged r) = stays
+      root_so (Made r) = stays
+      root_so (Taken value) = stays
+      root_so (Roomed r) = stays
+
+      follows_so : (out : Out (Node K V)) → Always Rooms (next_read c out)
+      follows_so (Found link) =
+          always_if Rooms (link == 0) _ _ (telling_so (beginning c) (if_so (removes c.purpose) at.Words at.Ready tt tt)) (λ value. (copying_so Is c.setting c.table _, tt))
+      follows_so Stored = stays
+      follows_so (Exchanged r) = stays
+      follows_so (Made r) = stays
+      follows_so (Taken value) = stays
+      follows_so (Roomed r) = stays
+
+      word_so : (out : Out (Node K V)) → Always Rooms (word_found c out)
+      word_so (Found word) = seen_so word
+      word_so Stored = stays
+      word_so (Exchanged r) = stays
+      word_so (Made r) = stays
+      word_so (Taken value) = stays
+      word_so (Roomed r) = stays
+
+      tried_so : (word : ℕ) (out : Out (Node K V)) → Always Rooms (tried c word out)
+      tried_so word (Exchanged (Ok found)) = (tt, tt)
+      tried_so word (Exchanged (Err found)) = seen_so found
+      tried_so word (Found found) = stays
+      tried_so word Stored = stays
+      tried_so word (Made r) = stays
+      tried_so word (Taken value) = stays
+      tried_so word (Roomed r) = stays
+
+      -- it goes on with no machine within it
+      abbrev pub IsOwn : Sweeping → Type 0
+      IsOwn (at.Copies copier) = ⊥
+      IsOwn (at.Disposes dispose) = ⊥
+      IsOwn _ = Unit {0}
+
+      -- each step leads to a point that is so, and a refusal is so
+      pub own_so : (stage : Sweeping) → IsOwn stage → SoInSweeping Is stage → AlwaysOf Rooms (plan_at hash c stage)
+      own_so at.Reads own room = root_so
+      own_so at.Follows own room = follows_so
+      own_so (at.Copies copier) own room = absurd own
+      own_so at.Words own room = word_so
+      own_so (at.Tries word) own room = tried_so word
+      own_so (at.Counts removed) own room = λ out. (tt, tt)
+      own_so (at.Disposes dispose) own room = absurd own
+      own_so at.Ready own room = (here, tt)
+      own_so (at.Asks word) own room = (here, tt)
+      own_so at.Over own room = (here, tt)
+      own_so (at.Refused fault) own room = (here, room)
+
+-- so for room
+pub told_rooms : (c : Sweep) → RoomInSweeping c.stands → RoomInSweeping (after_next c).stands × ((keeps : Bool) → RoomInSweeping (after_reply c keeps).stands)
+told_rooms c room = told_so_on IsRoom c room
 
 abbrev pub SweepsRoom : {T : Type 0} → Sweep × Swept T → Type 0
-SweepsRoom (c, told) = RoomInSweeping c.stands × SweepRefusesRoom told
+SweepsRoom end = SweepsFor IsRoom end
 
--- one of two points
-if_room : (b : Bool) (x y : Sweeping) → RoomInSweeping x → RoomInSweeping y → RoomInSweeping (if b then x else y)
-if_room true x y p q = p
-if_room false x y p q = q
+module _ (K V : Type 0) (hash : K → ℕ) (c : Sweep) (here : RoomInSweeping c.stands) where
+  abbrev RoomsHere : Sweep × Swept (Node K V) → Type 0
+  RoomsHere end = SweepsFor IsRoom end
 
-further_room : (c : Sweep) → RoomInSweeping (further c).stands
-further_room c = if_room (nat_lt (past c).place c.table.len) at.Words (at_end c) tt (if_room (removes c.purpose && c.met) at.Follows at.Over tt tt)
-
-next_room : (c : Sweep) → RoomInSweeping c.stands → (stands : Sweeping) → RoomInSweeping (next_at stands c).stands
-next_room c room at.Ready = if_room (nat_lt c.place c.table.len) at.Words at.Over tt tt
-next_room c room _ = room
-
-reply_room : (c : Sweep) → RoomInSweeping c.stands → (keeps : Bool) (stands : Sweeping) → RoomInSweeping (reply_at stands c keeps).stands
-reply_room c room true (at.Asks word) = further_room c
-reply_room c room false (at.Asks word) = tt
-reply_room c room keeps _ = room
-
--- Asked for the next pair, or told whether to keep one, it goes on so.
-pub told_rooms : (c : Sweep) → RoomInSweeping c.stands → RoomInSweeping (after_next c).stands × ((keeps : Bool) → RoomInSweeping (after_reply c keeps).stands)
-told_rooms c room = (next_room c room c.stands, λ keeps. reply_room c room keeps c.stands)
-
-module _ (K V : Type 0) (hash : K → ℕ) (c : Sweep) where
-  abbrev Rooms : Sweep × Swept (Node K V) → Type 0
-  Rooms end = SweepsRoom end
-
-  told_so : (stands : Sweeping) → RoomInSweeping stands → SweepRefusesRoom (told {T = Node K V} stands)
-  told_so (at.Refused fault) room = room
-  told_so _ room = tt
-
-  telling_room : (p : Sweep) → RoomInSweeping p.stands → Rooms (telling p)
-  telling_room p room = (room, told_so p.stands room)
-
-  entering_room : (table : Table) → RoomInSweeping (entering c table).stands
-  entering_room table = by (is_incremental c.setting.mode) (removes c.purpose)
+  -- The promise: each step leads to a point that is so, and a refusal is one for room.
+  pub sweep_rooms : (m m2 : Mem (Node K V)) (end : Sweep × Swept (Node K V)) → Steps Took value_at m (sweep_plan hash c) m2 end → SweepsRoom end
+  sweep_rooms m m2 end s = by c.stands here s
     where
-      by : (b r : Bool) → RoomInSweeping (if b then record c { table = table; stands = at.Follows } else record c { table = table; place = 0; met = false; stands = if r then at.Words else at.Ready }).stands
-      by true r = tt
-      by false true = tt
-      by false false = tt
-
-  pair_room : (purpose : Purpose) (word : ℕ) → Rooms (at_pair purpose c word)
-  pair_room Walks word = (tt, tt)
-  pair_room Clears word = (tt, tt)
-  pair_room Retains word = (tt, tt)
-
-  seen_room : (word : ℕ) → Rooms (seen c word)
-  seen_room word = by (removes c.purpose && has_mark word COPYING) (block_in word == 0)
-    where
-      by : (a b : Bool) → Rooms (if a then telling (further (record c { met = true })) else (if b then telling (further c) else at_pair c.purpose c word))
-      by true b = telling_room (further (record c { met = true })) (further_room (record c { met = true }))
-      by false true = telling_room (further c) (further_room c)
-      by false false = pair_room c.purpose word
-
-  copied_room : (end : Copier × Outcome (Node K V) Table) → CopiesRoom end → Rooms (copied c end)
-  copied_room (copier, outcome.Goes) room = (room.0, tt)
-  copied_room (copier, outcome.Waits) room = (room.0, tt)
-  copied_room (copier, outcome.Gave value) room = (room.0, tt)
-  copied_room (copier, outcome.Done table) room = telling_room (entering c table) (entering_room table)
-  copied_room (copier, outcome.Refused fault) room = (room.1, room.1)
-
-  disposed_room : (end : Dispose × Settled (Node K V)) → Rooms (disposed c end)
-  disposed_room (dispose, settled.Goes) = (tt, tt)
-  disposed_room (dispose, settled.Waits) = (tt, tt)
-  disposed_room (dispose, settled.Gave value) = (tt, tt)
-  disposed_room (dispose, settled.Done) = telling_room (further c) (further_room c)
-
-  module _ (here : RoomInSweeping c.stands) where
-    stays : Rooms (c, Goes)
-    stays = (here, tt)
-
-    root_room : (out : Out (Node K V)) → Always Rooms (root_read c out)
-    root_room (Found root) =
-        always_if Rooms (root == 0) _ _ (telling_room (tableless c) (if_room (removes c.purpose) at.Over at.Ready tt tt)) (λ value. telling_room (entering c _) (entering_room _))
-    root_room Stored = stays
-    root_room (Exchanged r) = stays
-    root_room (Made r) = stays
-    root_room (Taken value) = stays
-    root_room (Roomed r) = stays
-
-    follows_room : (out : Out (Node K V)) → Always Rooms (next_read c out)
-    follows_room (Found link) =
-        always_if Rooms (link == 0) _ _ (telling_room (beginning c) (if_room (removes c.purpose) at.Words at.Ready tt tt)) (λ value. (copying_room c.setting c.table _, tt))
-    follows_room Stored = stays
-    follows_room (Exchanged r) = stays
-    follows_room (Made r) = stays
-    follows_room (Taken value) = stays
-    follows_room (Roomed r) = stays
-
-    word_room : (out : Out (Node K V)) → Always Rooms (word_found c out)
-    word_room (Found word) = seen_room word
-    word_room Stored = stays
-    word_room (Exchanged r) = stays
-    word_room (Made r) = stays
-    word_room (Taken value) = stays
-    word_room (Roomed r) = stays
-
-    tried_room : (word : ℕ) (out : Out (Node K V)) → Always Rooms (tried c word out)
-    tried_room word (Exchanged (Ok found)) = (tt, tt)
-    tried_room word (Exchanged (Err found)) = seen_room found
-    tried_room word (Found found) = stays
-    tried_room word Stored = stays
-    tried_room word (Made r) = stays
-    tried_room word (Taken value) = stays
-    tried_room word (Roomed r) = stays
-
-    -- The promise: each step leads to a point that is so, and a refusal is one for room.
-    pub sweep_rooms : (m m2 : Mem (Node K V)) (end : Sweep × Swept (Node K V)) → Steps Took value_at m (sweep_plan hash c) m2 end → SweepsRoom end
-    sweep_rooms m m2 end s = by c.stands here s
-      where
-        told_at : (stage : Sweeping) → AlwaysOf Rooms (plan_at hash c stage) → Steps Took value_at m (plan_at hash c stage) m2 end → Rooms end
-        told_at stage always s = always_steps Rooms m m2 (plan_at hash c stage) end always s
-
-        by : (stage : Sweeping) → RoomInSweeping stage → Steps Took value_at m (plan_at hash c stage) m2 end → Rooms end
-        by at.Reads room s = told_at at.Reads root_room s
-        by at.Follows room s = told_at at.Follows follows_room s
-        by (at.Copies copier) room s =
-            let d = steps_back (copied c) m m2 (copier_plan hash copier) end s in subst Rooms (sym d.2) (copied_room d.0 (copier_rooms K V hash copier room m m2 d.0 d.1))
-        by at.Words room s = told_at at.Words word_room s
-        by (at.Tries word) room s = told_at (at.Tries word) (tried_room word) s
-        by (at.Counts removed) room s = told_at (at.Counts removed) (λ out. (tt, tt)) s
-        by (at.Disposes dispose) room s = let d = steps_back (disposed c) m m2 (dispose_plan dispose) end s in subst Rooms (sym d.2) (disposed_room d.0)
-        by at.Ready room s = told_at at.Ready (here, tt) s
-        by (at.Asks word) room s = told_at (at.Asks word) (here, tt) s
-        by at.Over room s = told_at at.Over (here, tt) s
-        by (at.Refused fault) room s = told_at (at.Refused fault) (here, room) s
+      by : (stage : Sweeping) → RoomInSweeping stage → Steps Took value_at m (plan_at hash c stage) m2 end → RoomsHere end
+      by (at.Copies copier) room s =
+          let d = steps_back (copied c) m m2 (copier_plan hash copier) end s in subst RoomsHere (sym d.2) (copied_so IsRoom K V hash c d.0 (copier_rooms K V hash copier room m m2 d.0 d.1))
+      by (at.Disposes dispose) room s = let d = steps_back (disposed c) m m2 (dispose_plan dispose) end s in subst RoomsHere (sym d.2) (disposed_so IsRoom K V hash c d.0)
+      by stage room s = always_steps RoomsHere m m2 (plan_at hash c stage) end (own_so IsRoom K V hash c here stage tt room) s

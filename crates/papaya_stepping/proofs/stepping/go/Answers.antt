@@ -2,12 +2,14 @@
 use Rattle.std.proofs.Common.{sym, subst, ◌∙◌, arith}
 use Rattle.std.proofs.lemmas.Result.{IfOk-weaker}
 use Rattle.seize_words.specs.declared.fault.Fault.TheVariants.{Busy}
+use Rattle.papaya_runs.specs.Stopped.{most_steps}
 use Rattle.papaya_schedules.specs.After.{moment}
 use Rattle.papaya_schedules.specs.declared.event.Event.TheVariants.{Go}
 use Rattle.papaya_schedules.specs.declared.outcome.Outcome.TheVariants.{Refused}
-use Rattle.papaya_stepping.specs.Stepping.{PlaysOn}
+use Rattle.papaya_stepping.specs.Stepping.{PlaysOn, TakenAs}
 use Rattle.papaya_stepping.proofs.PlaysAgain.{go_busy}
 use Rattle.papaya_scheduler.proofs.Rights.{entry_is}
+use Rattle.papaya_stepping.proofs.StepSays.{the}
 use Rattle.papaya_stepping.proofs.TakenBy.{plays_gone}
 use Rattle.papaya_stepping.proofs.stepping.go.Goals as goal
 
@@ -21,6 +23,9 @@ returns-in-Some g c = record {
   plays = IfOk-weaker c.take_steps.result _ _ (λ played taken. λ terms log due.
       plays_gone g.K.PartialEq.eq (g.S.Hashes.hash c.args.scheduler.now.logged.executor.hasher) terms log c.args.caller.now c.args.refuse c.args.scheduler.now c.take_steps.new.scheduler c.in-Some.place
       (sym c.in-Some.is ∙ c.place_of.ensures) played due taken) c.take_steps.ensures;
+  took = IfOk-weaker c.take_steps.result _ _ (λ played taken. λ place is.
+      subst (λ k. TakenAs g.K.PartialEq.eq (g.S.Hashes.hash c.args.scheduler.now.logged.executor.hasher) k most_steps played c.args.scheduler.now c.take_steps.new.scheduler)
+      (the c.in-Some.place place (sym c.in-Some.is ∙ c.place_of.ensures ∙ sym is)) taken) c.take_steps.ensures;
 }
 
 pub returns-in-None : goal.returns-in-None
@@ -30,4 +35,5 @@ returns-in-None g c = record {
       subst (λ e. PlaysOn g.K.PartialEq.eq hash terms log e c.args.scheduler.now)
       (sym (entry_is (Go c.args.caller.now c.args.refuse) c.busy.result (Refused Busy) 0 _ c.busy.ensures.outcome c.busy.ensures.steps c.busy.ensures.effects))
       (go_busy g.K.PartialEq.eq hash terms log c.args.caller.now c.args.refuse c.args.scheduler.now due (sym c.place_of.ensures ∙ c.in-None.is));
+  took = λ place is. absurd (let some = is ∙ sym c.place_of.ensures ∙ c.in-None.is in cc some);
 }

@@ -1,5 +1,5 @@
 -- A call takes steps while it goes on.
-use Rattle.std.proofs.Common.{◌+◌, refl, sym, ap, subst, ◌∙◌, arith}
+use Rattle.std.proofs.Common.{◌+◌, suc, refl, sym, ap, subst, ◌∙◌, arith}
 use Rattle.std.proofs.lemmas.List.{append-nil}
 use Rattle.papaya_stepping.specs.Stepping.{IsStepped, MayStep}
 use Rattle.papaya_stepping.proofs.ComesOn.{midst_first}
@@ -13,6 +13,9 @@ loop-steps-init g c = (
   refl,
   λ terms m own stands at. midst_first g.K.PartialEq.eq (g.S.Hashes.hash c.args.scheduler.now.logged.executor.hasher) terms own c.args.place m c.args.scheduler.now stands at c.args.effects.now.items
       (sym (append-nil c.args.effects.now.items)),
+  0,
+  refl,
+  (refl, refl),
 )
 
 pub take_step-requires : goal.take_step-requires
@@ -29,7 +32,7 @@ returns-then-not-goes_on g c =
     c.loop-steps.scheduler c.take_step.new.scheduler c.in_ok-outcome.outcome i.3
     (subst (λ h. IsStepped g.K.PartialEq.eq (g.S.Hashes.hash h) c.args.place c.in_ok-outcome.outcome c.loop-steps.effects.items c.take_step.new.effects.items c.loop-steps.scheduler c.take_step.new.scheduler) i.2
     c.in_ok-outcome.ensures.stepped)
-    c.args.most c.loop-steps.steps i.1 c.loop-steps-test.true (sym c.goes_on.ensures ∙ c.if-not-goes_on.true)
+    c.args.most c.loop-steps.steps i.1 c.loop-steps-test.true (sym c.goes_on.ensures ∙ c.if-not-goes_on.true) i.4 i.5 i.6
 
 pub loop-steps-preserved : goal.loop-steps-preserved
 loop-steps-preserved g c =
@@ -42,6 +45,17 @@ loop-steps-preserved g c =
           (subst (λ h. IsStepped g.K.PartialEq.eq (g.S.Hashes.hash h) c.args.place c.in_ok-outcome.outcome c.loop-steps.effects.items c.take_step.new.effects.items c.loop-steps.scheduler c.take_step.new.scheduler) i.2
           c.in_ok-outcome.ensures.stepped)
           (sym c.goes_on.ensures ∙ c.if-not-goes_on.false)),
+      suc i.4,
+      (let is = i.5 in omega (arith, is)),
+      (
+        c.loop-steps.effects.items,
+        c.loop-steps.scheduler,
+        c.in_ok-outcome.outcome,
+        i.6,
+        sym c.goes_on.ensures ∙ c.if-not-goes_on.false,
+        subst (λ h. IsStepped g.K.PartialEq.eq (g.S.Hashes.hash h) c.args.place c.in_ok-outcome.outcome c.loop-steps.effects.items c.take_step.new.effects.items c.loop-steps.scheduler c.take_step.new.scheduler) i.2
+            c.in_ok-outcome.ensures.stepped,
+      ),
     )
 
 pub take_step-requires-2 : goal.take_step-requires-2
@@ -61,4 +75,4 @@ returns g c =
     c.loop-steps.scheduler c.take_step-2.new.scheduler c.in_ok-outcome-2.outcome i.3
     (subst (λ h. IsStepped g.K.PartialEq.eq (g.S.Hashes.hash h) c.args.place c.in_ok-outcome-2.outcome c.loop-steps.effects.items c.take_step-2.new.effects.items c.loop-steps.scheduler c.take_step-2.new.scheduler) i.2
     c.in_ok-outcome-2.ensures.stepped)
-    c.args.most (omega (arith, ended, few, is))
+    c.args.most (omega (arith, ended, few, is)) i.4 (let kept = i.5 in omega (arith, ended, few, kept)) i.6

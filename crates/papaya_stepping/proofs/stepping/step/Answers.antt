@@ -5,9 +5,10 @@ use Rattle.seize_words.specs.declared.fault.Fault.TheVariants.{Busy}
 use Rattle.papaya_schedules.specs.After.{moment}
 use Rattle.papaya_schedules.specs.declared.event.Event.TheVariants.{Step}
 use Rattle.papaya_schedules.specs.declared.outcome.Outcome.TheVariants.{Refused}
-use Rattle.papaya_stepping.specs.Stepping.{PlaysOn}
+use Rattle.papaya_stepping.specs.Stepping.{PlaysOn, TakenAs}
 use Rattle.papaya_stepping.proofs.PlaysAgain.{step_busy}
 use Rattle.papaya_scheduler.proofs.Rights.{entry_is}
+use Rattle.papaya_stepping.proofs.StepSays.{the}
 use Rattle.papaya_stepping.proofs.TakenBy.{plays_taken}
 use Rattle.papaya_stepping.proofs.stepping.step.Goals as goal
 
@@ -21,6 +22,9 @@ returns-in-Some g c = record {
   plays = IfOk-weaker c.take_steps.result _ _ (λ played taken. λ terms log due.
       plays_taken g.K.PartialEq.eq (g.S.Hashes.hash c.args.scheduler.now.logged.executor.hasher) terms log c.args.caller.now c.args.refuse c.args.scheduler.now c.take_steps.new.scheduler c.in-Some.place
       (sym c.in-Some.is ∙ c.place_of.ensures) played due taken) c.take_steps.ensures;
+  took = IfOk-weaker c.take_steps.result _ _ (λ played taken. λ place is.
+      subst (λ k. TakenAs g.K.PartialEq.eq (g.S.Hashes.hash c.args.scheduler.now.logged.executor.hasher) k 1 played c.args.scheduler.now c.take_steps.new.scheduler)
+      (the c.in-Some.place place (sym c.in-Some.is ∙ c.place_of.ensures ∙ sym is)) taken) c.take_steps.ensures;
 }
 
 pub returns-in-None : goal.returns-in-None
@@ -30,4 +34,5 @@ returns-in-None g c = record {
       subst (λ e. PlaysOn g.K.PartialEq.eq hash terms log e c.args.scheduler.now)
       (sym (entry_is (Step c.args.caller.now c.args.refuse) c.busy.result (Refused Busy) 0 _ c.busy.ensures.outcome c.busy.ensures.steps c.busy.ensures.effects))
       (step_busy g.K.PartialEq.eq hash terms log c.args.caller.now c.args.refuse c.args.scheduler.now due (sym c.place_of.ensures ∙ c.in-None.is));
+  took = λ place is. absurd (let some = is ∙ sym c.place_of.ensures ∙ c.in-None.is in cc some);
 }

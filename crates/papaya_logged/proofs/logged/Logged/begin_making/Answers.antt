@@ -1,12 +1,15 @@
 -- The beginning of the making of a map.
-use Rattle.std.proofs.Common.{refl}
+use Rattle.std.specs.Prelude.{◌≡◌, ℕ, None}
+use Rattle.std.proofs.Common.{refl, sym, subst}
+use Rattle.papaya_executor.proofs.Fresh.{no_making_yet}
 use Rattle.papaya_logged.proofs.MakingSteps.{making_is_begun, map_is_there}
 use Rattle.papaya_logged.proofs.logged.Logged.begin_making.Goals as goal
 
 pub returns-clause-leads : goal.returns-clause-leads
 returns-clause-leads g c = λ same hash name m s shown.
     making_is_begun same hash c.args.self.now (record { executor = c.begin_making.new.self; notes = c.args.self.now.notes }) c.args.given c.args.places _
-    (λ v at. c.in_ok-caller.ensures.leads same hash v at) refl name m s shown
+    (λ v at. c.in_ok-caller.ensures.leads same hash v at)
+    (λ v at. subst (λ (i : ℕ). v.makers i ≡ None) (sym c.in_ok-caller.ensures.number) (no_making_yet same hash c.args.self.now.executor v at c.args.slot c.requires)) refl name m s shown
 
 pub returns-clause-there : goal.returns-clause-there
 returns-clause-there g c = map_is_there _

@@ -10,12 +10,11 @@ use Rattle.papaya_scheduler.proofs.Rights.{so_played}
 use Rattle.papaya_scheduler.proofs.scheduler.Scheduler.drop_guard.Goals as goal
 use Rattle.papaya_scheduler.proofs.scheduler.Scheduler.drop_guard.Goals.{then-guards_on-eq1+in_ok-do_row, else-guards_on-eq1}
 
-pub returns-in_default : goal.returns-in_default
-returns-in_default g c = record {
-  plays = λ same hash terms log due takes.
+pub returns-in_default-clause-plays : goal.returns-in_default-clause-plays
+returns-in_default-clause-plays g c =
+    λ same hash terms log due.
       so_played same hash terms log c.args.self.now (DropGuard c.args.guard.now) c.busy.result (Refused Busy) 0 [] c.busy.ensures.outcome c.busy.ensures.steps c.busy.ensures.effects
-      (not_free same hash terms log c.args.self.now c.args.guard.now due (sym c.slot_of_free.ensures ∙ c.in_default.is));
-}
+      (not_free same hash terms log c.args.self.now c.args.guard.now due (sym c.slot_of_free.ensures ∙ c.in_default.is))
 
 pub do_row-requires : goal.do_row-requires
 do_row-requires g c =
@@ -29,17 +28,16 @@ do_row-requires g c =
           (may_leave r.0 r.1 r.2.0 r.2.1 c.args.self.now c.args.guard.now r.2.2 c.in-Some.slot free one);
     }
 
-pub returns : goal.returns
-returns g c = record {
-  plays = λ same hash terms log due takes.
+pub returns-clause-plays : goal.returns-clause-plays
+returns-clause-plays g c =
+    λ same hash terms log due.
       let free = sym c.slot_of_free.ensures ∙ c.in-Some.is in
       elim c.if-guards_on-eq1.branch [
         | then-guards_on-eq1+in_ok-do_row w ↦
             joined_alone same hash terms log c.args.self.now c.args.guard.now due c.in-Some.slot free c.if-guards_on-eq1.self c.if-guards_on-eq1.effects.items c.leave.new.self c.leave.ensures
             (sym c.guards_on.ensures ∙ w.if-guards_on-eq1.true) c.no_effects-effects.result.items w.do_row.new.effects.items c.no_effects-effects.ensures
-            (ap (λ v. v.items) w.effects-is) w.do_row.new.self w.self-is w.do_row.ensures.rest w.leaves_as-called.result w.leaves_as-called.ensures w.in_ok-do_row.ensures.ran takes
+            (ap (λ v. v.items) w.effects-is) w.do_row.new.self w.self-is w.do_row.ensures.rest w.leaves_as-called.result w.leaves_as-called.ensures w.in_ok-do_row.ensures.ran
         | else-guards_on-eq1 w ↦
             joined same hash terms log c.args.self.now c.args.guard.now due c.in-Some.slot free c.if-guards_on-eq1.self c.if-guards_on-eq1.effects.items c.leave.new.self c.leave.ensures
             (λ z. w.if-guards_on-eq1.false (c.guards_on.ensures ∙ z)) w.self-is (ap (λ v. v.items) w.effects-is ∙ c.no_effects-effects.ensures)
-      ];
-}
+      ]

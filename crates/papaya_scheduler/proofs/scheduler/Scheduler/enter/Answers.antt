@@ -9,29 +9,26 @@ use Rattle.papaya_scheduler.proofs.Rights.{so_played}
 use Rattle.papaya_scheduler.proofs.scheduler.Scheduler.enter.Goals.{then-guards-eq0+in_ok-do_row, else-guards-eq0}
 use Rattle.papaya_scheduler.proofs.scheduler.Scheduler.enter.Goals as goal
 
-pub returns-then-has_guard : goal.returns-then-has_guard
-returns-then-has_guard g c = record {
-  plays = λ same hash terms log due takes.
+pub returns-then-has_guard-clause-plays : goal.returns-then-has_guard-clause-plays
+returns-then-has_guard-clause-plays g c =
+    λ same hash terms log due.
       so_played same hash terms log c.args.self.now (Enter c.args.guard c.args.registration.now) c.busy.result (Refused Busy) 0 [] c.busy.ensures.outcome c.busy.ensures.steps c.busy.ensures.effects
-      (guard_there same hash terms log c.args.self.now c.args.guard c.args.registration.now due (sym c.has_guard.ensures ∙ c.if-has_guard.true));
-}
+      (guard_there same hash terms log c.args.self.now c.args.guard c.args.registration.now due (sym c.has_guard.ensures ∙ c.if-has_guard.true))
 
-pub returns-in_default : goal.returns-in_default
-returns-in_default g c = record {
-  plays = λ same hash terms log due takes.
+pub returns-in_default-clause-plays : goal.returns-in_default-clause-plays
+returns-in_default-clause-plays g c =
+    λ same hash terms log due.
       so_played same hash terms log c.args.self.now (Enter c.args.guard c.args.registration.now) c.busy-in_default.result (Refused Busy) 0 [] c.busy-in_default.ensures.outcome
       c.busy-in_default.ensures.steps c.busy-in_default.ensures.effects
-      (no_registration same hash terms log c.args.self.now c.args.guard c.args.registration.now due (sym c.slot_of_registration.ensures ∙ c.in_default.is));
-}
+      (no_registration same hash terms log c.args.self.now c.args.guard c.args.registration.now due (sym c.slot_of_registration.ensures ∙ c.in_default.is))
 
-pub returns-then-guards-ge-MOST_GUARDS : goal.returns-then-guards-ge-MOST_GUARDS
-returns-then-guards-ge-MOST_GUARDS g c = record {
-  plays = λ same hash terms log due takes.
+pub returns-then-guards-ge-MOST_GUARDS-clause-plays : goal.returns-then-guards-ge-MOST_GUARDS-clause-plays
+returns-then-guards-ge-MOST_GUARDS-clause-plays g c =
+    λ same hash terms log due.
       so_played same hash terms log c.args.self.now (Enter c.args.guard c.args.registration.now) c.quietly.result (Refused GuardsFull) 0 [] c.quietly.ensures.outcome c.quietly.ensures.steps
       c.quietly.ensures.effects
       (full same hash terms log c.args.self.now c.args.guard c.args.registration.now due (sym c.has_guard.ensures ∙ c.if-has_guard.false) c.in-Some.slot
-      (sym c.slot_of_registration.ensures ∙ c.in-Some.is) (let l = c.if-guards-ge-MOST_GUARDS.true in let e = c.guards_on-guards.ensures in grind (arith, l, e)));
-}
+      (sym c.slot_of_registration.ensures ∙ c.in-Some.is) (let l = c.if-guards-ge-MOST_GUARDS.true in let e = c.guards_on-guards.ensures in grind (arith, l, e)))
 
 pub do_row-requires : goal.do_row-requires
 do_row-requires g c =
@@ -45,9 +42,9 @@ do_row-requires g c =
       begins = may_enter r.0 r.1 r.2.0 r.2.1 c.args.self.now c.args.guard c.args.registration.now r.2.2 none c.in-Some.slot found first;
     }
 
-pub returns : goal.returns
-returns g c = record {
-  plays = λ same hash terms log due takes.
+pub returns-clause-plays : goal.returns-clause-plays
+returns-clause-plays g c =
+    λ same hash terms log due.
       let none = sym c.has_guard.ensures ∙ c.if-has_guard.false in
       let found = sym c.slot_of_registration.ensures ∙ c.in-Some.is in
       let few = lt-ltb _ _ (let l = c.if-guards-ge-MOST_GUARDS.false in let e = c.guards_on-guards.ensures in omega (arith, l, e)) in
@@ -55,9 +52,8 @@ returns g c = record {
         | then-guards-eq0+in_ok-do_row w ↦
             joined_first same hash terms log c.args.self.now c.args.guard c.args.registration.now due none c.in-Some.slot found few c.if-guards-eq0.self c.if-guards-eq0.effects.items c.enter.new.self
             c.in_ok-enter.ensures (sym c.guards_on-guards.ensures ∙ w.if-guards-eq0.true) c.no_effects-effects.result.items w.do_row.new.effects.items c.no_effects-effects.ensures
-            (ap (λ v. v.items) w.effects-is) w.do_row.new.self w.self-is w.do_row.ensures.rest w.in_ok-do_row.ensures.ran takes
+            (ap (λ v. v.items) w.effects-is) w.do_row.new.self w.self-is w.do_row.ensures.rest w.in_ok-do_row.ensures.ran
         | else-guards-eq0 w ↦
             joined same hash terms log c.args.self.now c.args.guard c.args.registration.now due none c.in-Some.slot found few c.if-guards-eq0.self c.if-guards-eq0.effects.items c.enter.new.self
             c.in_ok-enter.ensures (λ z. w.if-guards-eq0.false (c.guards_on-guards.ensures ∙ z)) w.self-is (ap (λ v. v.items) w.effects-is ∙ c.no_effects-effects.ensures)
-      ];
-}
+      ]

@@ -2,30 +2,31 @@
 use Rattle.std.proofs.Common.{[], sym, ◌∙◌}
 use Rattle.seize_words.specs.declared.fault.Fault.TheVariants.{Busy}
 use Rattle.papaya_schedules.specs.declared.event.Event.TheVariants.{Flush}
+use Rattle.papaya_schedules.specs.After.{moment}
 use Rattle.papaya_schedules.specs.declared.outcome.Outcome.TheVariants.{Refused}
 use Rattle.papaya_scheduler.proofs.Flushes.{not_living, its_word, is_held_now, may_flush, its_fits, has_run}
+use Rattle.papaya_scheduler.proofs.HeldTold.{held_is_told}
 use Rattle.papaya_scheduler.proofs.Rights.{so_played}
 use Rattle.papaya_scheduler.proofs.scheduler.Scheduler.flush.Goals as goal
 
-pub returns-in_default : goal.returns-in_default
-returns-in_default g c = record {
-  plays = λ same hash terms log due told takes.
+pub returns-in_default-clause-plays : goal.returns-in_default-clause-plays
+returns-in_default-clause-plays g c =
+    λ same hash terms log due.
       so_played same hash terms log c.args.self.now (Flush c.args.guard.now) c.busy.result (Refused Busy) 0 [] c.busy.ensures.outcome c.busy.ensures.steps c.busy.ensures.effects
-      (not_living same hash terms log c.args.self.now c.args.guard.now due (sym c.slot_of_living.ensures ∙ c.in_default.is));
-}
+      (not_living same hash terms log c.args.self.now c.args.guard.now due (sym c.slot_of_living.ensures ∙ c.in_default.is))
 
 pub is_held-requires : goal.is_held-requires
 is_held-requires g c =
     let r = c.requires in
     its_word r.0 r.1 r.2.0 r.2.1 c.args.self.now c.args.guard.now r.2.2 c.in-Some.slot (sym c.slot_of_living.ensures ∙ c.in-Some.is)
 
-pub returns-then-is_held : goal.returns-then-is_held
-returns-then-is_held g c = record {
-  plays = λ same hash terms log due told takes.
+pub returns-then-is_held-clause-plays : goal.returns-then-is_held-clause-plays
+returns-then-is_held-clause-plays g c =
+    λ same hash terms log due.
       so_played same hash terms log c.args.self.now (Flush c.args.guard.now) c.busy-then-is_held.result (Refused Busy) 0 [] c.busy-then-is_held.ensures.outcome
       c.busy-then-is_held.ensures.steps c.busy-then-is_held.ensures.effects
-      (is_held_now same hash terms log c.args.self.now c.args.guard.now due c.in-Some.slot (sym c.slot_of_living.ensures ∙ c.in-Some.is) told c.is_held.result c.is_held.ensures c.if-is_held.true);
-}
+      (is_held_now same hash terms log c.args.self.now c.args.guard.now due c.in-Some.slot (sym c.slot_of_living.ensures ∙ c.in-Some.is)
+      (held_is_told same hash terms (moment log) c.args.self.now due.played) c.is_held.result c.is_held.ensures c.if-is_held.true)
 
 pub do_row-requires : goal.do_row-requires
 do_row-requires g c =
@@ -37,9 +38,8 @@ do_row-requires g c =
       begins = may_flush r.0 r.1 r.2.0 r.2.1 c.args.self.now c.args.guard.now r.2.2 c.in-Some.slot lives;
     }
 
-pub returns : goal.returns
-returns g c = record {
-  plays = λ same hash terms log due told takes.
+pub returns-clause-plays : goal.returns-clause-plays
+returns-clause-plays g c =
+    λ same hash terms log due.
       has_run same hash terms log c.args.self.now c.args.guard.now due c.in-Some.slot (sym c.slot_of_living.ensures ∙ c.in-Some.is) c.is_held.result c.is_held.ensures c.if-is_held.false
-      c.no_effects-effects.result.items c.do_row.new.effects.items c.no_effects-effects.ensures c.do_row.new.self c.do_row.ensures.rest c.in_ok-do_row.ensures.ran takes;
-}
+      c.no_effects-effects.result.items c.do_row.new.effects.items c.no_effects-effects.ensures c.do_row.new.self c.do_row.ensures.rest c.in_ok-do_row.ensures.ran

@@ -5,9 +5,8 @@ use Rattle.papaya_scheduler.proofs.Rights.{so_played}
 use Rattle.papaya_scheduler.proofs.Simple.{hash_plays}
 use Rattle.papaya_scheduler.proofs.scheduler.Scheduler.hash.Goals as goal
 
-pub returns : goal.returns
-returns g c = record {
-  plays = λ same hash terms log due.
+pub returns-clause-plays : goal.returns-clause-plays
+returns-clause-plays g c =
+    λ same hash terms log due.
       so_played same hash terms log c.args.self.now (Hash c.args.by) c.if_so.result _ 0 [] c.if_so.ensures.outcome c.if_so.ensures.steps c.if_so.ensures.effects
-      (hash_plays same hash terms log c.args.self.now c.args.by due _ refl);
-}
+      (hash_plays same hash terms log c.args.self.now c.args.by due _ refl)

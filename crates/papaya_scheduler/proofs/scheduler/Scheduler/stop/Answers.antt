@@ -11,12 +11,11 @@ use Rattle.papaya_scheduler.proofs.Stopped.{not_ready, ready_parts, has_call, do
 use Rattle.papaya_scheduler.proofs.Rights.{so_played}
 use Rattle.papaya_scheduler.proofs.scheduler.Scheduler.stop.Goals as goal
 
-pub returns-in_default : goal.returns-in_default
-returns-in_default g c = record {
-  plays = λ same hash terms log due.
+pub returns-in_default-clause-plays : goal.returns-in_default-clause-plays
+returns-in_default-clause-plays g c =
+    λ same hash terms log due.
       so_played same hash terms log c.args.self.now (Stop c.args.caller.now) c.busy.result (Refused Busy) 0 [] c.busy.ensures.outcome c.busy.ensures.steps c.busy.ensures.effects
-      (not_ready same hash terms log c.args.self.now c.args.caller.now due (sym c.in_default.is ∙ c.place_of_ready.ensures));
-}
+      (not_ready same hash terms log c.args.self.now c.args.caller.now due (sym c.in_default.is ∙ c.place_of_ready.ensures))
 
 pub stop-requires : goal.stop-requires
 stop-requires g c =
@@ -28,9 +27,9 @@ stop-requires g c =
     c.index.result.now c.index.ensures) in
     (r.0, r.1, r.2.2.played.scene, r.2.2.played.shown.is_at, subst (λ (n : ℕ). HasCall r.2.2.played.scene n) (sym numbered) (has_call r.0 r.1 r.2.0 r.2.1 c.args.self.now own r.2.2 c.in-Some.place ready))
 
-pub returns : goal.returns
-returns g c = record {
-  plays = λ same hash terms log due.
+pub returns-clause-plays : goal.returns-clause-plays
+returns-clause-plays g c =
+    λ same hash terms log due.
       let ready = sym c.in-Some.is ∙ c.place_of_ready.ensures in
       let own = c.args.caller.now in
       let numbered = ap (λ x. x.number) (read_here same hash terms (moment log) c.args.self.now due.played own c.in-Some.place
@@ -40,5 +39,4 @@ returns g c = record {
       (done same hash terms log c.args.self.now own due c.in-Some.place ready c.stop.result c.stop.new.self
       (subst (λ (n : ℕ). WalkStops same hash due.played.name (moment log) due.played.scene n c.stop.result c.args.self.now.logged c.stop.new.self) numbered
       (c.stop.ensures.leads same hash due.played.name (moment log) due.played.scene due.played.shown))
-      (record { items = c.remove.new.self }) c.remove.ensures.items);
-}
+      (record { items = c.remove.new.self }) c.remove.ensures.items)

@@ -9,9 +9,9 @@ use Rattle.papaya_scheduler.proofs.scheduler.Scheduler.unregister.Goals as goal
 use Rattle.papaya_scheduler.proofs.scheduler.Scheduler.unregister.Goals.{in_default-via-in-Some+else-living_on-eq0, in_default-via-in_default, then-guards_on-eq0+in_ok-do_row, else-guards_on-eq0}
 use Rattle.std.proofs.lemmas.Bool.{eq-eqb, ne_eqb}
 
-pub returns-in_default : goal.returns-in_default
-returns-in_default g c = record {
-  plays = λ same hash terms log due takes.
+pub returns-in_default-clause-plays : goal.returns-in_default-clause-plays
+returns-in_default-clause-plays g c =
+    λ same hash terms log due.
       so_played same hash terms log c.args.self.now (Unregister c.args.registration.now) c.busy.result (Refused Busy) 0 [] c.busy.ensures.outcome c.busy.ensures.steps c.busy.ensures.effects
       (elim c.in_default.branch [
         | in_default-via-in-Some+else-living_on-eq0 w ↦
@@ -19,8 +19,7 @@ returns-in_default g c = record {
             (ne_eqb _ _ (λ e. w.if-living_on-eq0.false (w.living_on.ensures ∙ e)))
         | in_default-via-in_default w ↦
             not_registered same hash terms log c.args.self.now c.args.registration.now due (sym c.slot_of_registration.ensures ∙ w.in_default.is)
-      ]);
-}
+      ])
 
 pub do_row-requires-clause-fits : goal.do_row-requires-clause-fits
 do_row-requires-clause-fits g c =
@@ -34,18 +33,17 @@ do_row-requires-clause-begins g c =
     may_free r.0 r.1 r.2.0 r.2.1 c.args.self.now c.args.registration.now r.2.2 c.in-Some.slot (sym c.slot_of_registration.ensures ∙ c.in-Some.is)
     (eq-eqb _ _ (sym c.living_on.ensures ∙ c.if-living_on-eq0.true)) (sym c.guards_on.ensures ∙ c.if-guards_on-eq0.true)
 
-pub returns : goal.returns
-returns g c = record {
-  plays = λ same hash terms log due takes.
+pub returns-clause-plays : goal.returns-clause-plays
+returns-clause-plays g c =
+    λ same hash terms log due.
       let found = sym c.slot_of_registration.ensures ∙ c.in-Some.is in
       let none_live = eq-eqb _ _ (sym c.living_on.ensures ∙ c.if-living_on-eq0.true) in
       elim c.if-guards_on-eq0.branch [
         | then-guards_on-eq0+in_ok-do_row w ↦
             joined_last same hash terms log c.args.self.now c.args.registration.now due c.in-Some.slot found none_live c.if-guards_on-eq0.self c.if-guards_on-eq0.effects.items c.unregister.new.self
             c.unregister.ensures (sym c.guards_on.ensures ∙ w.if-guards_on-eq0.true) c.no_effects-effects.result.items w.do_row.new.effects.items c.no_effects-effects.ensures
-            (ap (λ v. v.items) w.effects-is) w.do_row.new.self w.self-is w.do_row.ensures.rest w.in_ok-do_row.ensures.ran takes
+            (ap (λ v. v.items) w.effects-is) w.do_row.new.self w.self-is w.do_row.ensures.rest w.in_ok-do_row.ensures.ran
         | else-guards_on-eq0 w ↦
             joined same hash terms log c.args.self.now c.args.registration.now due c.in-Some.slot found none_live c.if-guards_on-eq0.self c.if-guards_on-eq0.effects.items c.unregister.new.self
             c.unregister.ensures (λ z. w.if-guards_on-eq0.false (c.guards_on.ensures ∙ z)) w.self-is (ap (λ v. v.items) w.effects-is ∙ c.no_effects-effects.ensures)
-      ];
-}
+      ]

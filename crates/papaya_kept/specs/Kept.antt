@@ -1,0 +1,33 @@
+-- What every step keeps, of whatever kind, beside what a moment of a run shows in one piece.
+use Rattle.std.specs.Prelude.{ℕ, List}
+use Rattle.papaya_schedules.specs.Moment.{Moment}
+use Rattle.papaya_effects.specs.Known.{Known}
+use Rattle.papaya_executor.specs.IsAt.{Scene}
+use Rattle.papaya_owes.specs.Grown.{ShowsGrown}
+use Rattle.papaya_owes.specs.Looking.{ShowsLooking}
+use Rattle.papaya_owes.specs.Made.{ShowsMade}
+use Rattle.papaya_owes.specs.Short.{ShowsShort}
+use Rattle.papaya_owes.specs.Tables.{ShowsTables}
+use Rattle.papaya_settles.specs.Counts.{ShowsCounts}
+use Rattle.papaya_settles.specs.Entries.{ShowsEntries}
+use Rattle.papaya_settles.specs.Hand.{ShowsOwed}
+use Rattle.papaya_settles.specs.Handing.{HandsTold}
+use Rattle.papaya_lives.specs.Behind.{ShowsWaiting, WaitsOnce}
+use Rattle.papaya_lives.specs.Retired.{ShowsRetired}
+
+-- What somebody has is blank, and a row within a call retires one block. Each call has made just that block for a pair, and that table, which the moment says, and is short
+-- of a growth just where it is to be refused for want of memory; one that only looks has a machine that looks. It has to count what the moment says, it owes what it has in hand, and one whose
+-- row is under way hands something over. What waits behind a table does so in the memory, and behind no other table; and each table that the collector has is retired, or about to be.
+pub record ShowsKept {K V : Type 0} (name : ℕ → List ℕ) (m : Moment K V) (known : Known) (s : Scene K V) : Type 0 where
+  pub entries : ShowsEntries s
+  pub made : ShowsMade name m known s
+  pub tables : ShowsTables name m known s
+  pub looking : ShowsLooking name m s
+  pub short : ShowsShort name m s
+  pub grown : ShowsGrown name m s
+  pub counts : ShowsCounts name m s
+  pub owed : ShowsOwed name m known s
+  pub handing : HandsTold name m s
+  pub waiting : ShowsWaiting m known s.world
+  pub once : WaitsOnce m.deferred
+  pub retired : ShowsRetired m known s

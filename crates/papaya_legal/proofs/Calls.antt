@@ -1,0 +1,179 @@
+-- An event of a call, from its beginning on.
+use Rattle.std.specs.Prelude.{◌≡◌, ◌≢◌, ◌<◌, ℕ, ◌+◌, ◌≤◌, ◌==◌, Bool, true, false, List, [], ◌++◌, Some, if◌then◌else◌}
+use Rattle.std.specs.List.{list_all}
+use Rattle.std.proofs.Common.{refl, ap, sym, subst, ◌∙◌, inl, inr, arith}
+use Rattle.std.proofs.lemmas.List.{append-nil}
+use Rattle.seize.specs.WaitingSets.{Sets}
+use Rattle.seize.specs.World.{World, Rests}
+use Rattle.papaya_tables.specs.declared.node.Node.{Node}
+use Rattle.papaya_tables.specs.Chunks.{is_incremental}
+use Rattle.papaya_schedules.specs.declared.effect.Effect.{Effect}
+use Rattle.papaya_schedules.specs.declared.event.Event.{Event}
+use Rattle.papaya_schedules.specs.declared.event.Event.TheVariants.{OneCall, Step, Go, Next}
+use Rattle.papaya_schedules.specs.declared.effect.Thing.{Thing}
+use Rattle.papaya_schedules.specs.After.{is_by, moment, moments_from}
+use Rattle.papaya_schedules.specs.Effects.{with_effects, AtEachEffect}
+use Rattle.papaya_schedules.specs.Entry.{caller_of, speaker}
+use Rattle.papaya_schedules.specs.Model.{sets_in, things_in}
+use Rattle.papaya_schedules.specs.Moment.{Moment}
+use Rattle.papaya_executor.specs.IsAt.{Scene, slot_of}
+use Rattle.papaya_executor.specs.Stepping.{scene_after}
+use Rattle.papaya_effects.specs.Effects.{effects_of, known_after}
+use Rattle.papaya_effects.specs.Known.{Known}
+use Rattle.papaya_effects.specs.declared.acting.Acting.TheVariants as acts
+use Rattle.papaya_moments.specs.Whole.{ShowsWhole}
+use Rattle.papaya_moments.proofs.After.{effects_after}
+use Rattle.papaya_moments.proofs.NewMaps.{effects_keep_pairs}
+use Rattle.papaya_moments.proofs.Numbers.{numbers_are_below, steps_keep_numbers}
+use Rattle.papaya_kept.proofs.Calls.{calls_keep_kept}
+use Rattle.papaya_owes.proofs.Calls.{calls_keep_made}
+use Rattle.papaya_owes.proofs.Looking.Calls.{calls_keep_looking}
+use Rattle.papaya_settles.proofs.Calls.{calls_keep_counts}
+use Rattle.papaya_shards.proofs.ShardCalls.{calls_keep_counters}
+use Rattle.papaya_histories.specs.AsCalled.{ShowsAsCalled}
+use Rattle.papaya_histories.specs.Due.{ShowsDue}
+use Rattle.papaya_histories.specs.InEvent.{here_of}
+use Rattle.papaya_histories.proofs.Questions.{effects_keep_questions}
+use Rattle.papaya_purposes.proofs.Kept.{calls_keep_purposes}
+use Rattle.papaya_histories.proofs.AnyCall.InEvent.{events_begin, events_go_on, events_keep_all}
+use Rattle.papaya_models.specs.CallEvents.{FollowsInEvent, IsInItsRow}
+use Rattle.papaya_models.proofs.CallEvents.{call_events_begin, call_events_go_on}
+use Rattle.papaya_models.proofs.MapEvents.{moments_note_once}
+use Rattle.papaya_spots.proofs.Unreclaimed.{and_both}
+use Rattle.papaya_finds.specs.Life.{StoresOne}
+use Rattle.papaya_finds.specs.Parts.{FindAll}
+use Rattle.papaya_finds.proofs.Doing.{several_do_theirs}
+use Rattle.papaya_finds.proofs.Joined.{several_find_all}
+use Rattle.papaya_finds.proofs.Quiet.{several_store_one}
+use Rattle.papaya_finds.proofs.Steps.{steps_do_theirs, steps_store_one}
+use Rattle.papaya_promises.specs.Protected.{InMidst, is_of_slots}
+use Rattle.papaya_promises.specs.Reading.{HasLooked}
+use Rattle.papaya_promises.specs.Sheltered.{SectionsHold}
+use Rattle.papaya_promises.proofs.Protected.{calls_protect}
+use Rattle.papaya_promises.proofs.Weights.{grants_add_up, operations_are_single, parts_add_up}
+use Rattle.papaya_legal.specs.CallEvents.{CallEventsBegin, CallEventsGoOn}
+
+-- no steps, whoever's
+none_made : (q : Bool) → 0 ≡ (if q then 0 else 0)
+none_made true = refl
+none_made false = refl
+
+-- the sections of guards hold what they shelter where a call's event begins
+module _ {K V : Type 0} (own : List ℕ) (m : Moment K V) (known : Known) (w : World (Node K V)) (hold : SectionsHold m known w) where
+  begins_protected : (event : Event K V) → caller_of event ≡ Some own → InMidst event [] m known w
+  begins_protected (OneCall guard map call) is = record { inside = hold.0; sheltered = hold.1; spared = refl }
+  begins_protected (Step caller refuse) is = record { inside = hold.0; sheltered = hold.1; spared = refl }
+  begins_protected (Go caller refuse) is = record { inside = hold.0; sheltered = hold.1; spared = refl }
+  begins_protected (Next caller) is = record { inside = hold.0; sheltered = hold.1; spared = refl }
+  begins_protected _ is = absurd (cc is)
+
+pub call_events_begin_so : (K V S : Type 0) (same : K → K → Bool) (hash : K → ℕ) → CallEventsBegin K V S same hash
+call_events_begin_so K V S same hash name terms log known s x at run event map i caller_is u here c c_is only = record {
+  of_call = caller_is;
+  event_so = events_begin K V S same hash name log (moment log) (refl, refl) known s x at run.calls.whole run.calls.dues run.calls.as_called map i u here c c_is;
+  calls = run.calls;
+  worked = refl;
+  few = let none : 0 ≤ 0 = omega arith in none;
+  granted = refl;
+  reading = record {
+    begun = run.reading.begun;
+    reads = λ n j v is d found looks_for standing there.
+        subst (λ (steps : ℕ). HasLooked (is_incremental standing.setting.mode) n standing.chart (moments_from d.begun log) (d.steps + steps) v) (none_made (j == i))
+            (run.reading.reads n j v is d found looks_for standing there);
+  };
+  kinds = refl;
+  finds = tt;
+  stores = tt;
+  protects = begins_protected (name i) (moment log) known s.world run.sections event caller_is;
+  follows = λ alone. begun_so (and_both (moment log).is_alone (list_all (is_by (speaker event)) (moment log).calls) alone).0 (only alone);
+}
+  where
+    abbrev things : List Thing
+    things = things_in log
+
+    abbrev sets : Sets
+    sets = sets_in terms.batch_size log
+
+    -- no row is under way, or that of the call is
+    begun_so : (moment log).is_alone ≡ true → ((j : ℕ) → s.world.row j ≢ Rests → j ≡ i) → FollowsInEvent terms.batch_size terms.roots things sets (slot_of i) i [] known s.world
+    begun_so alone its = elim (run.follows alone) as (λ _. FollowsInEvent terms.batch_size terms.roots things sets (slot_of i) i [] known s.world) [
+      | inl follows ↦ call_events_begin K V terms.batch_size terms.roots things sets known s.world follows (slot_of i) i
+      | inr row ↦ record {
+        come = tt;
+        back = tt;
+        so = inr (subst (λ (xs : List Thing). IsInItsRow terms.batch_size terms.roots xs sets (slot_of i) i known s.world) (sym (append-nil things))
+            (subst (λ (j : ℕ). IsInItsRow terms.batch_size terms.roots things sets (slot_of j) j known s.world) (its row.0 row.1.goes) row.1));
+      }
+    ]
+
+-- an event of a call is none of a slot
+pub out_of_slots : {K V : Type 0} (own : List ℕ) (event : Event K V) → caller_of event ≡ Some own → is_of_slots event ≡ false
+out_of_slots own (OneCall guard map call) is = refl
+out_of_slots own (Step caller refuse) is = refl
+out_of_slots own (Go caller refuse) is = refl
+out_of_slots own (Next caller) is = refl
+out_of_slots own _ is = absurd (cc is)
+
+pub call_events_go_on_so : (K V S : Type 0) (same : K → K → Bool) (hash : K → ℕ) → CallEventsGoOn K V S same hash
+call_events_go_on_so K V S same hash name terms log event beginning map i c steps done m known s u midst old new at size said leads pairs changes shards none finds noted reading next next_is = record {
+  of_call = midst.of_call;
+  event_so = events_go_on K V S same hash name log beginning map i c done m known s u midst.event_so old new at said leads next next_is;
+  calls = record {
+    whole = all.0;
+    numbers = (
+      steps_keep_numbers K V m midst.calls.numbers.0 (Some (name i)) (Some map) (acts.Call i map) known new.memory.changed below,
+      effects_keep_pairs K V m midst.calls.numbers.1 (Some (name i)) (Some map) effects (λ n is. let one : map ≡ n = cc is in subst (λ (k : ℕ). k < m.made) one below),
+    );
+    kept = calls_keep_kept K V S same hash name m known s old new at whole midst.calls.kept map i u here said leads;
+    made = (calls_keep_made K V S same hash name m known s old new at whole midst.calls.made map i u here said leads).1;
+    counts = (calls_keep_counts K V S same hash name m known s old new at whole midst.calls.counts map i u here said leads).1;
+    looking = (calls_keep_looking K V S same hash name m known s old new at whole midst.calls.looking map i u here said leads).1;
+    counters = calls_keep_counters K V S same hash name m known s old new at whole midst.calls.counts midst.calls.counters map i u here said leads;
+    dues = all.1;
+    as_called = all.2;
+    questions = effects_keep_questions K V (Some (name i)) (Some map) effects m midst.calls.questions;
+    purposes = calls_keep_purposes K V S same hash name log m known s old new at whole midst.calls.purposes map i u here said leads pairs changes shards none;
+  };
+  worked = ap (λ (x : Moment K V). with_effects (Some (name i)) (Some map) effects x) midst.worked ∙ sym (effects_after (Some (name i)) (Some map) done effects beginning);
+  few = parts_add_up steps 1 done effects midst.few (operations_are_single (acts.Call i map) known new.memory.changed).0;
+  granted = grants_add_up done effects midst.granted (operations_are_single (acts.Call i map) known new.memory.changed).1;
+  reading = reading;
+  kinds = several_do_theirs done effects midst.kinds (steps_do_theirs K V S same hash name m known s old new at whole map i u here said leads);
+  finds = several_find_all K V terms (moments_from c.begun log) (name i) map done effects beginning midst.finds
+      (subst (λ (x : Moment K V). FindAll terms (moments_from c.begun log) (name i) map effects x) midst.worked finds);
+  stores = several_store_one K V (name i) map done effects beginning midst.stores
+      (subst (λ (x : Moment K V). AtEachEffect (StoresOne (Some (name i))) (Some (name i)) (Some map) effects x) midst.worked
+          (steps_store_one K V S same hash name m known s old new at whole map i u here said leads));
+  protects = calls_protect K V S same hash name m known s old new at whole map i u here said leads event (out_of_slots (name i) event midst.of_call) done midst.protects;
+  follows = λ alone.
+      subst (λ (n : ℕ). FollowsInEvent n terms.roots (things_in log) (sets_in terms.batch_size log) (slot_of i) i (done ++ effects) then_known (leads map u here).4.w2) size
+          (call_events_go_on K V S same hash name m known s old new at whole map i u here said leads (moments_note_once K V same name v then_known s2 all.0) terms.roots (things_in log)
+          (sets_in terms.batch_size log) (slot_of i) done
+          (subst (λ (n : ℕ). FollowsInEvent n terms.roots (things_in log) (sets_in terms.batch_size log) (slot_of i) i done known s.world) (sym size) (midst.follows alone)) noted);
+}
+  where
+    abbrev whole : ShowsWhole same name m known s
+    whole = midst.calls.whole
+
+    abbrev here : s.calls map i ≡ Some u
+    here = here_of same name log beginning map i c done m known s u midst.event_so
+
+    abbrev effects : List Effect
+    effects = effects_of (acts.Call i map) known new.memory.changed
+
+    abbrev v : Moment K V
+    v = with_effects (Some (name i)) (Some map) effects m
+
+    abbrev then_known : Known
+    then_known = known_after (acts.Call i map) new.memory.changed known
+
+    abbrev s2 : Scene K V
+    s2 = scene_after same hash s old new map i (leads map u here).0 u (leads map u here).1 said (leads map u here).4
+
+    -- the map of the call was made
+    below : map < m.made
+    below =
+        let there = (whole.all.shown.maps map (leads map u here).0 (leads map u here).2).there in numbers_are_below K V m midst.calls.numbers.0 map there.there there.is
+
+    all : ShowsWhole same name v then_known s2 × ShowsDue same name log v then_known s2 × ShowsAsCalled same name v then_known s2
+    all = events_keep_all K V S same hash name log beginning map i c done m known s u midst.event_so old new at said leads

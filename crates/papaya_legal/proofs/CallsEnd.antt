@@ -1,0 +1,113 @@
+-- An event of a call keeps its promises once its last step is made.
+use Rattle.std.specs.Prelude.{◌≡◌, ℕ, Bool, true, false, List, Some}
+use Rattle.std.specs.List.{list_all}
+use Rattle.std.proofs.Common.{ap, sym, subst, ◌∙◌}
+use Rattle.seize_words.specs.declared.fault.Fault.TheVariants.{Busy}
+use Rattle.papaya_schedules.specs.declared.effect.Effect.{Effect}
+use Rattle.papaya_schedules.specs.declared.event.Event.{Event}
+use Rattle.papaya_schedules.specs.declared.event.Event.TheVariants.{OneCall, Step, Go, Next}
+use Rattle.papaya_schedules.specs.declared.outcome.Outcome.{Outcome}
+use Rattle.papaya_schedules.specs.declared.outcome.Outcome.TheVariants.{Refused}
+use Rattle.papaya_schedules.specs.After.{after, moment, moments_from}
+use Rattle.papaya_schedules.specs.Beginning.{at_work}
+use Rattle.papaya_schedules.specs.Effects.{with_effects, worked}
+use Rattle.papaya_schedules.specs.Entry.{caller_of, is_busy}
+use Rattle.papaya_schedules.specs.Handing.{AllFind, IsWhole, is_call_effect, is_granted}
+use Rattle.papaya_schedules.specs.Linearizable.{IsLinearizable}
+use Rattle.papaya_schedules.specs.Moment.{Moment}
+use Rattle.papaya_schedules.specs.Reclaims.{IsProtected}
+use Rattle.papaya_effects.specs.Effects.{effects_of, known_after}
+use Rattle.papaya_effects.specs.Known.{Known}
+use Rattle.papaya_effects.specs.declared.acting.Acting.TheVariants as acts
+use Rattle.papaya_moments.specs.Whole.{ShowsWhole}
+use Rattle.papaya_moments.proofs.After.{effects_after}
+use Rattle.papaya_histories.specs.InEvent.{here_of}
+use Rattle.papaya_histories.specs.Questions.{EventAsksStill}
+use Rattle.papaya_histories.proofs.AnyCall.InEvent.{events_end}
+use Rattle.papaya_promises.specs.Protected.{InMidst}
+use Rattle.papaya_promises.specs.Sheltered.{SectionsHold}
+use Rattle.papaya_promises.proofs.Protected.{calls_protect, other_events_end_protected}
+use Rattle.papaya_promises.proofs.Weights.{grants_add_up, operations_are_single}
+use Rattle.papaya_finds.specs.Parts.{FindAll}
+use Rattle.papaya_finds.proofs.Doing.{events_may_do, several_do_theirs}
+use Rattle.papaya_finds.proofs.Joined.{events_find_all, several_find_all}
+use Rattle.papaya_finds.proofs.Over.{acts as acts_on_its}
+use Rattle.papaya_finds.proofs.Steps.{steps_do_theirs}
+use Rattle.papaya_legal.specs.CallEvents.{CallEventsAreLegal}
+use Rattle.papaya_legal.proofs.Calls.{out_of_slots}
+
+-- an event of a call that was not kept out need do nothing whole
+module _ {K V : Type 0} (own : List ℕ) (effects : List Effect) (m w : Moment K V) where
+  whole_so : (event : Event K V) (outcome : Outcome V) → caller_of event ≡ Some own → is_busy outcome ≡ false → IsWhole event outcome effects m w
+  whole_so (OneCall guard map call) (Refused Busy) is busy = absurd (cc busy)
+  whole_so (OneCall guard map call) _ is busy = tt
+  whole_so (Step caller refuse) (Refused Busy) is busy = absurd (cc busy)
+  whole_so (Step caller refuse) _ is busy = tt
+  whole_so (Go caller refuse) (Refused Busy) is busy = absurd (cc busy)
+  whole_so (Go caller refuse) _ is busy = tt
+  whole_so (Next caller) (Refused Busy) is busy = absurd (cc busy)
+  whole_so (Next caller) _ is busy = tt
+  whole_so _ outcome is busy = absurd (cc is)
+
+pub call_events_are_legal : (K V S : Type 0) (same : K → K → Bool) (hash : K → ℕ) → CallEventsAreLegal K V S same hash
+call_events_are_legal K V S same hash name terms log beginning map i c c_is steps done m known s u e midst questions old new at said leads begins acted effects_are comes steps_taken busy finds brief swept refuses leaves by_model = (
+  record {
+    brief = brief;
+    linearizable = asked.0;
+    swept = swept;
+    life = record {
+      finds = all_find;
+      may = events_may_do K V e.event (moment log) e.effects steps_taken
+          (subst (λ (fs : List Effect). list_all is_call_effect fs ≡ true) (sym effects_are)
+          (several_do_theirs done effects midst.kinds (steps_do_theirs K V S same hash name m known s old new at whole map i u here said leads)));
+      granted = subst (λ (fs : List Effect). is_granted false fs ≡ true) (sym effects_are)
+          (grants_add_up done effects midst.granted (operations_are_single (acts.Call i map) known new.memory.changed).1);
+      refuses = refuses;
+      whole = whole_so (name i) e.effects (moment log) (worked e (moment log)) e.event e.outcome midst.of_call busy;
+      leaves = leaves;
+    };
+    protected = safe.0;
+    by_model = by_model;
+  },
+  safe.1,
+)
+  where
+    abbrev whole : ShowsWhole same name m known s
+    whole = midst.calls.whole
+
+    abbrev here : s.calls map i ≡ Some u
+    here = here_of same name log beginning map i c done m known s u midst.event_so
+
+    abbrev effects : List Effect
+    effects = effects_of (acts.Call i map) known new.memory.changed
+
+    abbrev v : Moment K V
+    v = with_effects (Some (name i)) (Some map) effects m
+
+    abbrev then_known : Known
+    then_known = known_after (acts.Call i map) new.memory.changed known
+
+    asked : IsLinearizable same log e × EventAsksStill log e
+    asked = events_end K V S same hash name log beginning map i c c_is questions done m known s u midst.event_so old new at said leads e midst.of_call begins acted effects_are comes
+
+    -- the map of the call is that on which the event acts
+    its_map : map ≡ c.map
+    its_map = let both : Some map ≡ Some c.map = sym acted ∙ acts_on_its e.event beginning (name i) c midst.of_call c_is in cc both
+
+    found : FindAll terms (moments_from c.begun log) (name i) map e.effects beginning
+    found = subst (λ (fs : List Effect). FindAll terms (moments_from c.begun log) (name i) map fs beginning) (sym effects_are)
+        (several_find_all K V terms (moments_from c.begun log) (name i) map done effects beginning midst.finds
+        (subst (λ (x : Moment K V). FindAll terms (moments_from c.begun log) (name i) map effects x) midst.worked finds))
+
+    all_find : AllFind terms log e (at_work e (moment log))
+    all_find = subst (λ (b : Moment K V). AllFind terms log e b) (sym begins)
+        (events_find_all K V terms log e beginning (name i) c midst.of_call c_is (subst (λ (n : ℕ). FindAll terms (moments_from c.begun log) (name i) n e.effects beginning) its_map found))
+
+    worked_so : v ≡ with_effects (Some (name i)) (Some map) e.effects beginning
+    worked_so = ap (λ (x : Moment K V). with_effects (Some (name i)) (Some map) effects x) midst.worked ∙ sym (effects_after (Some (name i)) (Some map) done effects beginning)
+        ∙ ap (λ (fs : List Effect). with_effects (Some (name i)) (Some map) fs beginning) (sym effects_are)
+
+    safe : IsProtected log e × SectionsHold (after e (moment log)) then_known (leads map u here).4.w2
+    safe = other_events_end_protected K V log e beginning v (Some (name i)) (Some map) then_known (leads map u here).4.w2 (out_of_slots (name i) e.event midst.of_call) begins midst.of_call acted worked_so
+        (subst (λ (fs : List Effect). InMidst e.event fs v then_known (leads map u here).4.w2) (sym effects_are)
+        (calls_protect K V S same hash name m known s old new at whole map i u here said leads e.event (out_of_slots (name i) e.event midst.of_call) done midst.protects))

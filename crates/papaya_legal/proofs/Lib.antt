@@ -1,0 +1,10 @@
+-- Lemmas on the events of a run, and on what is carried from each to the next.
+pub mod Begin
+pub mod Calls
+pub mod CallsEnd
+pub mod Slots
+pub mod SlotsEnd
+pub mod Maps
+pub mod SlotsAfter
+pub mod Idle
+pub mod Legal

@@ -1,0 +1,247 @@
+-- Events that make a map, or end one, from step to step.
+use Rattle.std.specs.Prelude.{◌≡◌, ◌<◌, ℕ, Bool, ◌&&◌, List, ◌++◌, Option, Some, None}
+use Rattle.std.specs.List.{list_all}
+use Rattle.std.proofs.Common.{refl, ap, sym, subst, ◌∙◌, inl, inr}
+use Rattle.std.proofs.lemmas.Bool.{cases_eq}
+use Rattle.std.proofs.lemmas.List.Folds.{list_all-append}
+use Rattle.seize.specs.World.{World}
+use Rattle.seize.specs.declared.progress.Progress.{Progress as Making}
+use Rattle.seize.specs.declared.progress.Progress.TheVariants as progress
+use Rattle.seize.specs.declared.rows.settle.Settled.{Settled}
+use Rattle.seize.specs.declared.rows.settle.Settled.TheVariants as settled
+use Rattle.papaya_tables.specs.declared.node.Node.{Node}
+use Rattle.papaya_tables.specs.declared.setting.Setting.{Setting}
+use Rattle.papaya_schedules.specs.declared.effect.Effect.{Effect}
+use Rattle.papaya_schedules.specs.After.{moment}
+use Rattle.papaya_schedules.specs.Effects.{with_effects, AtEachEffect}
+use Rattle.papaya_schedules.specs.Handing.{may_do}
+use Rattle.papaya_schedules.specs.Lives.{Finds}
+use Rattle.papaya_schedules.specs.Model.{sets_in, things_in}
+use Rattle.papaya_schedules.specs.Moment.{Moment}
+use Rattle.papaya_teller.specs.declared.changed.Changed.{Changed}
+use Rattle.papaya_callers.specs.Together.{UnderWay}
+use Rattle.papaya_callers.proofs.Together.At.{at_other}
+use Rattle.papaya_effects.specs.Effects.{effects_of, known_after, map_of}
+use Rattle.papaya_effects.specs.Known.{Known}
+use Rattle.papaya_effects.specs.declared.acting.Acting.{Acting}
+use Rattle.papaya_effects.specs.declared.acting.Acting.TheVariants as acts
+use Rattle.papaya_executor.specs.Ending.{EndingLeads}
+use Rattle.papaya_executor.specs.IsAt.{Scene, IsAt}
+use Rattle.papaya_executor.specs.Making.{MakingLeads}
+use Rattle.papaya_executor.specs.declared.executor.Executor.{Executor}
+use Rattle.papaya_finishes.specs.Endings.{Finishing}
+use Rattle.papaya_finishes.specs.Makings.{Beginning}
+use Rattle.papaya_finishes.specs.Maps.{Standing}
+use Rattle.papaya_others.specs.Endings.{ending_after}
+use Rattle.papaya_others.specs.Makings.{making_after}
+use Rattle.papaya_others.proofs.Quiet.{calls_none}
+use Rattle.papaya_owes.proofs.EndsOfMaps.{endings_keep_made}
+use Rattle.papaya_owes.proofs.Looking.Between.{stays_looking}
+use Rattle.papaya_owes.proofs.MakingsOfMaps.{makings_keep_made}
+use Rattle.papaya_settles.proofs.Between.{stays_counts}
+use Rattle.papaya_moments.specs.Whole.{ShowsWhole}
+use Rattle.papaya_moments.specs.Numbers.{NumbersMaps, PairsAreBelow}
+use Rattle.papaya_moments.proofs.After.{effects_after}
+use Rattle.papaya_moments.proofs.NewMaps.{effects_keep_pairs}
+use Rattle.papaya_moments.proofs.Numbers.{steps_keep_numbers}
+use Rattle.papaya_moments.proofs.Ends.{endings_keep_whole}
+use Rattle.papaya_moments.proofs.MakingSteps.{makings_keep_whole}
+use Rattle.papaya_kept.proofs.Others.{endings_find_kept, endings_keep_kept, makings_keep_kept}
+use Rattle.papaya_shards.proofs.ShardMakes.{makings_keep_counters}
+use Rattle.papaya_shards.proofs.ShardOthers.{endings_keep_counters}
+use Rattle.papaya_histories.proofs.Aside.Stays.{as_called_stays, dues_stay}
+use Rattle.papaya_histories.proofs.Questions.{effects_keep_questions}
+use Rattle.papaya_purposes.proofs.Elsewhere.{purposes_stay}
+use Rattle.papaya_promises.specs.Protected.{InMidst}
+use Rattle.papaya_promises.specs.Reading.{HasStood}
+use Rattle.papaya_promises.proofs.Brief.Meanwhile.{other_work_keeps_readings}
+use Rattle.papaya_promises.proofs.Brief.Stays.{same_tables}
+use Rattle.papaya_promises.proofs.Protected.{endings_protect, makings_protect}
+use Rattle.papaya_promises.proofs.Weights.{grants_add_up, operations_are_single}
+use Rattle.papaya_models.specs.Ends.{FollowsInEnd}
+use Rattle.papaya_models.specs.MapEvents.{FollowsInMaking}
+use Rattle.papaya_models.proofs.Ends.{ends_go_on}
+use Rattle.papaya_models.proofs.MapEvents.{making_events_go_on}
+use Rattle.papaya_legal.specs.MapEvents.{EndEventsGoOn, MakingEventsGoOn}
+use Rattle.papaya_legal.proofs.Slots.{each_join}
+
+-- a map that stands as it does
+pub stands_so : {K : Type 0} (maps : ℕ → Option (Standing K)) (n : ℕ) (st : Standing K) → maps n ≡ Some st → HasStood maps n st
+stands_so maps n st is = (st, is, refl, same_tables st.chart)
+
+-- numbers of maps by what works on one that was made
+module _ {K V : Type 0} (m : Moment K V) (numbers : NumbersMaps m × PairsAreBelow m) (map : ℕ) (below : map < m.made) (acting : Acting) (on_map : map_of acting ≡ map) (known : Known) (told : Changed) where
+  pub numbers_then : (let v = with_effects None (Some map) (effects_of acting known told) m in NumbersMaps v × PairsAreBelow v)
+  numbers_then = (
+    steps_keep_numbers K V m numbers.0 None (Some map) acting known told (subst (λ (k : ℕ). k < m.made) (sym on_map) below),
+    effects_keep_pairs K V m numbers.1 None (Some map) (effects_of acting known told) (λ n is. let one : map ≡ n = cc is in subst (λ (k : ℕ). k < m.made) one below),
+  )
+
+-- A step of a making.
+
+module _ {K V S : Type 0} (same : K → K → Bool) (hash : K → ℕ) (s : Scene K V) (old new : Executor K V S) (at : IsAt same hash old s) (i : ℕ) (b : Beginning K) (here : s.makers i ≡ Some b) where
+  abbrev led : (said : Making Setting) → MakingLeads same hash i said s old new → Scene K V
+  led said leads = making_after same hash s old new i b (leads b here).0 (leads b here).2.step.w2 said (leads b here).3
+
+  made_at : (said : Making Setting) (leads : MakingLeads same hash i said s old new) → IsAt same hash new (led said leads)
+  made_at progress.Goes leads = (leads b here).3
+  made_at progress.Waits leads = absurd (leads b here).3
+  made_at (progress.Done setting) leads = (leads b here).3.2
+  made_at (progress.Refused fault) leads = (leads b here).3
+
+  made_world : (said : Making Setting) (leads : MakingLeads same hash i said s old new) → (led said leads).world ≡ (leads b here).2.step.w2
+  made_world progress.Goes leads = refl
+  made_world progress.Waits leads = absurd (leads b here).3
+  made_world (progress.Done setting) leads = refl
+  made_world (progress.Refused fault) leads = refl
+
+  made_same : (said : Making Setting) (leads : MakingLeads same hash i said s old new) → (led said leads).calls ≡ s.calls
+  made_same progress.Goes leads = refl
+  made_same progress.Waits leads = refl
+  made_same (progress.Done setting) leads = refl
+  made_same (progress.Refused fault) leads = refl
+
+  made_calls : (said : Making Setting) (leads : MakingLeads same hash i said s old new) (n j : ℕ) (x : UnderWay K V K) → (led said leads).calls n j ≡ Some x → s.calls n j ≡ Some x
+  made_calls said leads n j x is = subst (λ (calls : ℕ → ℕ → Option (UnderWay K V K)). calls n j ≡ Some x) (made_same said leads) is
+
+  -- each map that has calls stood: the new one has none
+  made_stood : (said : Making Setting) (leads : MakingLeads same hash i said s old new) (n j : ℕ) (x : UnderWay K V K) → (led said leads).calls n j ≡ Some x
+      → (st : Standing K) → (led said leads).maps n ≡ Some st → HasStood s.maps n st
+  made_stood progress.Goes leads n j x is st there = stands_so s.maps n st there
+  made_stood progress.Waits leads n j x is st there = stands_so s.maps n st there
+  made_stood (progress.Done setting) leads n j x is st there = elim (cases_eq n b.map) as (λ _. HasStood s.maps n st) [
+    | inl e ↦ absurd (let none : s.calls n j ≡ None = at.together.makings.standing.only n j (ap s.maps e ∙ at.together.makings.coming i b here) in cc (none, is))
+    | inr ne ↦ stands_so s.maps n st (sym (at_other s.maps b.map (Some (leads b here).3.0) n ne) ∙ there)
+  ]
+  made_stood (progress.Refused fault) leads n j x is st there = stands_so s.maps n st there
+
+pub making_events_go_on_so : (K V S : Type 0) (same : K → K → Bool) (hash : K → ℕ) → MakingEventsGoOn K V S same hash
+making_events_go_on_so K V S same hash name terms log event beginning done m known s i b here midst old new at size below said leads was_new may finds = (
+  record {
+    of_maps = midst.0.of_maps;
+    calls = record {
+      whole = then_whole;
+      numbers = numbers_then m midst.0.calls.numbers b.map below (acts.Making b.map) refl known new.memory.changed;
+      kept = makings_keep_kept K V S same hash name m known s old new at whole midst.0.calls.kept i said leads b here (Some b.map) was_new
+          (made_at same hash s old new at i b here said leads) then_whole.all.shown;
+      made = (makings_keep_made K V S same hash name m known s old new at whole.all.shown midst.0.calls.made i said leads b here (Some b.map)).1;
+      counts = stays_counts K V name m v s (led same hash s old new at i b here said leads) midst.0.calls.counts (calls_none (Some b.map) effects m) (made_same same hash s old new at i b here said leads);
+      looking = stays_looking K V name m v s (led same hash s old new at i b here said leads) midst.0.calls.looking (calls_none (Some b.map) effects m) (made_same same hash s old new at i b here said leads);
+      counters = makings_keep_counters K V S same hash name m known s old new at whole midst.0.calls.counters i said leads b here (Some b.map);
+      dues = (dues_stay K V S same hash name log).makings m known s old new at whole midst.0.calls.dues i said leads b here (Some b.map) was_new;
+      as_called = (as_called_stays K V S same hash name).makings m known s old new at whole midst.0.calls.as_called i said leads b here (Some b.map) was_new;
+      questions = effects_keep_questions K V None (Some b.map) effects m midst.0.calls.questions;
+      purposes = (purposes_stay K V S same hash name log).makings m known s old new at whole midst.0.calls.purposes i said leads b here (Some b.map) was_new;
+    };
+    reading = other_work_keeps_readings K V name log (λ j. 0) m s (led same hash s old new at i b here said leads) (Some b.map) effects (made_calls same hash s old new at i b here said leads)
+        (made_stood same hash s old new at i b here said leads) midst.0.reading;
+    worked = ap (λ (x : Moment K V). with_effects None (Some b.map) effects x) midst.0.worked ∙ sym (effects_after None (Some b.map) done effects beginning);
+    may = list_all-append (may_do event (moment log)) done effects ∙ ap (λ (q : Bool). q && list_all (may_do event (moment log)) effects) midst.0.may ∙ may;
+    finds = each_join (Finds terms None (Some b.map) false []) None (Some b.map) done effects beginning midst.0.finds
+        (subst (λ (x : Moment K V). AtEachEffect (Finds terms None (Some b.map) false []) None (Some b.map) effects x) midst.0.worked finds);
+    granted = grants_add_up done effects midst.0.granted (operations_are_single (acts.Making b.map) known new.memory.changed).1;
+    protects = subst (λ (w : World (Node K V)). InMidst event (done ++ effects) v then_known w) (sym (made_world same hash s old new at i b here said leads))
+        (makings_protect K V S same hash name m known s old new at whole i said leads b here (Some b.map) was_new event midst.0.of_maps done midst.0.protects);
+  },
+  λ alone. subst (λ (w : World (Node K V)). FollowsInMaking terms.batch_size terms.roots (things_in log) (sets_in terms.batch_size log) (done ++ effects) then_known w)
+      (sym (made_world same hash s old new at i b here said leads))
+      (subst (λ (n : ℕ). FollowsInMaking n terms.roots (things_in log) (sets_in terms.batch_size log) (done ++ effects) then_known (leads b here).2.step.w2) size
+          (making_events_go_on K V S same hash name m known s old new at whole i said leads b here (Some b.map) was_new terms.roots (things_in log) (sets_in terms.batch_size log) done
+          (subst (λ (n : ℕ). FollowsInMaking n terms.roots (things_in log) (sets_in terms.batch_size log) done known s.world) (sym size) (midst.1 alone)))),
+)
+  where
+    abbrev whole : ShowsWhole same name m known s
+    whole = midst.0.calls.whole
+
+    abbrev effects : List Effect
+    effects = effects_of (acts.Making b.map) known new.memory.changed
+
+    abbrev v : Moment K V
+    v = with_effects None (Some b.map) effects m
+
+    abbrev then_known : Known
+    then_known = known_after (acts.Making b.map) new.memory.changed known
+
+    abbrev then_whole : ShowsWhole same name v then_known (led same hash s old new at i b here said leads)
+    then_whole = makings_keep_whole K V S same hash name m known s old new at whole i said leads b here (Some b.map) was_new
+
+-- A step of an end.
+
+module _ {K V S : Type 0} (same : K → K → Bool) (hash : K → ℕ) (s : Scene K V) (old new : Executor K V S) (i : ℕ) (f : Finishing K V) (here : s.enders i ≡ Some f) where
+  abbrev ended : (said : Settled (Node K V)) → EndingLeads same hash i said s old new → Scene K V
+  ended said leads = ending_after same hash s new i f (leads f here).0 (leads f here).2.w2 (leads f here).2.deed said (leads f here).3
+
+  ended_at : (said : Settled (Node K V)) (leads : EndingLeads same hash i said s old new) → IsAt same hash new (ended said leads)
+  ended_at settled.Goes leads = (leads f here).3.1
+  ended_at settled.Waits leads = absurd (leads f here).3
+  ended_at (settled.Gave value) leads = (leads f here).3.3
+  ended_at settled.Done leads = (leads f here).3.2
+
+  ended_world : (said : Settled (Node K V)) (leads : EndingLeads same hash i said s old new) → (ended said leads).world ≡ (leads f here).2.w2
+  ended_world settled.Goes leads = refl
+  ended_world settled.Waits leads = absurd (leads f here).3
+  ended_world (settled.Gave value) leads = refl
+  ended_world settled.Done leads = refl
+
+  ended_same : (said : Settled (Node K V)) (leads : EndingLeads same hash i said s old new) → (ended said leads).calls ≡ s.calls
+  ended_same settled.Goes leads = refl
+  ended_same settled.Waits leads = refl
+  ended_same (settled.Gave value) leads = refl
+  ended_same settled.Done leads = refl
+
+  ended_calls : (said : Settled (Node K V)) (leads : EndingLeads same hash i said s old new) (n j : ℕ) (x : UnderWay K V K) → (ended said leads).calls n j ≡ Some x → s.calls n j ≡ Some x
+  ended_calls said leads n j x is = subst (λ (calls : ℕ → ℕ → Option (UnderWay K V K)). calls n j ≡ Some x) (ended_same said leads) is
+
+  ended_stood : (said : Settled (Node K V)) (leads : EndingLeads same hash i said s old new) (n j : ℕ) (x : UnderWay K V K) → (ended said leads).calls n j ≡ Some x
+      → (st : Standing K) → (ended said leads).maps n ≡ Some st → HasStood s.maps n st
+  ended_stood settled.Goes leads n j x is st there = stands_so s.maps n st there
+  ended_stood settled.Waits leads n j x is st there = stands_so s.maps n st there
+  ended_stood (settled.Gave value) leads n j x is st there = stands_so s.maps n st there
+  ended_stood settled.Done leads n j x is st there = stands_so s.maps n st there
+
+pub end_events_go_on_so : (K V S : Type 0) (same : K → K → Bool) (hash : K → ℕ) → EndEventsGoOn K V S same hash
+end_events_go_on_so K V S same hash name terms log event map beginning first done m known s i f here not_there midst old new at size below said leads its may finds = (
+  record {
+    of_maps = midst.0.of_maps;
+    calls = record {
+      whole = endings_keep_whole K V S same hash name m known s old new at whole i said leads f here map not_there its
+          (endings_find_kept K V S same hash name m known s old new at whole midst.0.calls.kept i said leads f here map not_there);
+      numbers = numbers_then m midst.0.calls.numbers map below (acts.Ending map) refl known new.memory.changed;
+      kept = endings_keep_kept K V S same hash name m known s old new at whole midst.0.calls.kept i said leads f here map not_there (ended_at same hash s old new i f here said leads);
+      made = (endings_keep_made K V S same hash name m known s old new at whole.all.shown midst.0.calls.made i said leads f here map not_there).1;
+      counts = stays_counts K V name m v s (ended same hash s old new i f here said leads) midst.0.calls.counts (calls_none (Some map) effects m) (ended_same same hash s old new i f here said leads);
+      looking = stays_looking K V name m v s (ended same hash s old new i f here said leads) midst.0.calls.looking (calls_none (Some map) effects m) (ended_same same hash s old new i f here said leads);
+      counters = endings_keep_counters K V S same hash name m known s old new at midst.0.calls.counters i said leads f here map;
+      dues = (dues_stay K V S same hash name log).endings m known s old new at whole midst.0.calls.dues i said leads f here map not_there its;
+      as_called = (as_called_stays K V S same hash name).endings m known s old new at whole midst.0.calls.as_called i said leads f here map not_there its;
+      questions = effects_keep_questions K V None (Some map) effects m midst.0.calls.questions;
+      purposes = (purposes_stay K V S same hash name log).endings m known s old new at whole midst.0.calls.purposes i said leads f here map not_there its;
+    };
+    reading = other_work_keeps_readings K V name log (λ j. 0) m s (ended same hash s old new i f here said leads) (Some map) effects (ended_calls same hash s old new i f here said leads)
+        (ended_stood same hash s old new i f here said leads) midst.0.reading;
+    worked = ap (λ (x : Moment K V). with_effects None (Some map) effects x) midst.0.worked ∙ sym (effects_after None (Some map) done effects beginning);
+    may = list_all-append (may_do event (moment log)) done effects ∙ ap (λ (q : Bool). q && list_all (may_do event (moment log)) effects) midst.0.may ∙ may;
+    finds = each_join (Finds terms None (Some map) false []) None (Some map) done effects beginning midst.0.finds
+        (subst (λ (x : Moment K V). AtEachEffect (Finds terms None (Some map) false []) None (Some map) effects x) midst.0.worked finds);
+    granted = grants_add_up done effects midst.0.granted (operations_are_single (acts.Ending map) known new.memory.changed).1;
+    protects = subst (λ (w : World (Node K V)). InMidst event (done ++ effects) v then_known w) (sym (ended_world same hash s old new i f here said leads))
+        (endings_protect K V S same hash name m known s old new at whole i said leads f here map not_there event midst.0.of_maps done midst.0.protects);
+  },
+  λ alone. subst (λ (w : World (Node K V)). FollowsInEnd terms.batch_size terms.roots (things_in log) (sets_in terms.batch_size log) first i (done ++ effects) then_known w)
+      (sym (ended_world same hash s old new i f here said leads))
+      (subst (λ (n : ℕ). FollowsInEnd n terms.roots (things_in log) (sets_in terms.batch_size log) first i (done ++ effects) then_known (leads f here).2.w2) size
+          (ends_go_on K V S same hash name m known s old new at whole i said leads f here map not_there terms.roots (things_in log) (sets_in terms.batch_size log) first done
+          (subst (λ (n : ℕ). FollowsInEnd n terms.roots (things_in log) (sets_in terms.batch_size log) first i done known s.world) (sym size) (midst.1 alone)))),
+)
+  where
+    abbrev whole : ShowsWhole same name m known s
+    whole = midst.0.calls.whole
+
+    abbrev effects : List Effect
+    effects = effects_of (acts.Ending map) known new.memory.changed
+
+    abbrev v : Moment K V
+    v = with_effects None (Some map) effects m
+
+    abbrev then_known : Known
+    then_known = known_after (acts.Ending map) new.memory.changed known

@@ -1,0 +1,166 @@
+-- An event whose work is a row on a slot, from its beginning on.
+use Rattle.std.specs.Prelude.{◌≡◌, ℕ, Bool, true, ◌&&◌, List, [], ◌∷◌, ◌++◌, Option, None}
+use Rattle.std.specs.List.{list_all}
+use Rattle.std.proofs.Common.{refl, ap, sym, subst, ◌∙◌}
+use Rattle.std.proofs.lemmas.List.Folds.{list_all-append}
+use Rattle.seize.specs.World.{World, Request, Begin, Step}
+use Rattle.papaya_tables.specs.declared.node.Node.{Node}
+use Rattle.papaya_schedules.specs.declared.effect.Effect.{Effect}
+use Rattle.papaya_schedules.specs.declared.event.Event.{Event}
+use Rattle.papaya_schedules.specs.declared.event.Event.TheVariants.{Register, Unregister, Enter, Own, Refresh, Flush, DropGuard, ReclaimAll, Close}
+use Rattle.papaya_schedules.specs.declared.outcome.Outcome.TheVariants.{Done}
+use Rattle.papaya_schedules.specs.After.{moment}
+use Rattle.papaya_schedules.specs.Effects.{with_effect, with_effects, AtEachEffect}
+use Rattle.papaya_schedules.specs.Handing.{gives_all, may_do}
+use Rattle.papaya_schedules.specs.Lives.{Finds}
+use Rattle.papaya_schedules.specs.Model.{sets_in, things_in}
+use Rattle.papaya_schedules.specs.Moment.{Moment}
+use Rattle.papaya_callers.specs.Together.{IsOfSlots}
+use Rattle.papaya_effects.specs.Effects.{effects_of, known_after}
+use Rattle.papaya_effects.specs.Known.{Known}
+use Rattle.papaya_effects.specs.declared.acting.Acting.TheVariants as acts
+use Rattle.papaya_executor.specs.IsAt.{Scene, slot_of}
+use Rattle.papaya_executor.specs.Rows.{request_of}
+use Rattle.papaya_executor.specs.declared.row.SlotCall.{SlotCall}
+use Rattle.papaya_executor.specs.declared.row.SlotCall.TheVariants as call
+use Rattle.papaya_others.specs.Rows.{scene_then}
+use Rattle.papaya_others.proofs.Quiet.{calls_none}
+use Rattle.papaya_owes.proofs.Aside.{stays_made}
+use Rattle.papaya_owes.proofs.Looking.Between.{stays_looking}
+use Rattle.papaya_owes.proofs.RowsOnSlots.{rows_keep_made}
+use Rattle.papaya_settles.proofs.Between.{stays_counts}
+use Rattle.papaya_moments.specs.OnSlots.{HadRetired}
+use Rattle.papaya_moments.specs.Whole.{ShowsWhole}
+use Rattle.papaya_moments.proofs.After.{effects_after}
+use Rattle.papaya_moments.proofs.NewMaps.{effects_keep_pairs}
+use Rattle.papaya_moments.proofs.Numbers.{rows_keep_numbers}
+use Rattle.papaya_moments.proofs.OnSlots.{rows_begin_whole, rows_keep_whole}
+use Rattle.papaya_spots.specs.OnSlots.{WaitUnreclaimed}
+use Rattle.papaya_kept.proofs.Others.{rows_begin_kept, rows_find_kept, rows_keep_kept}
+use Rattle.papaya_shards.proofs.ShardOthers.{rows_begin_counters, rows_keep_counters}
+use Rattle.papaya_histories.proofs.Aside.Stays.{as_called_stays, dues_stay}
+use Rattle.papaya_histories.proofs.Questions.{effects_keep_questions}
+use Rattle.papaya_purposes.proofs.Elsewhere.{purposes_stay}
+use Rattle.papaya_promises.specs.Protected.{InMidst, is_of_slots}
+use Rattle.papaya_promises.specs.Sheltered.{SectionsHold}
+use Rattle.papaya_promises.proofs.Brief.Meanwhile.{rows_keep_readings}
+use Rattle.papaya_promises.proofs.Protected.{events_begin_protected, rows_begin_protect, rows_protect}
+use Rattle.papaya_promises.proofs.Weights.{grants_add_up, operations_are_single}
+use Rattle.papaya_models.specs.Follows.{FollowsSets}
+use Rattle.papaya_models.specs.OnSlots.{FollowsInRow}
+use Rattle.papaya_models.proofs.MapEvents.{moments_note_once}
+use Rattle.papaya_models.proofs.OnSlots.{slot_events_begin, slot_events_go_on}
+use Rattle.papaya_legal.specs.SlotEvents.{SlotEventsBegin, SlotEventsGoOn}
+
+-- each row on a slot is one
+of_slots : (slot : ℕ) (called : SlotCall) → IsOfSlots (request_of slot called)
+of_slots slot (call.Register enters) = tt
+of_slots slot call.Enter = tt
+of_slots slot call.Leave = tt
+of_slots slot call.LeaveOwned = tt
+of_slots slot call.Refresh = tt
+of_slots slot call.Flush = tt
+of_slots slot call.Unregister = tt
+
+-- what is so at each of the first effects, and at each of those behind them, is so at each
+module _ {K V : Type 0} (P : Moment K V → Effect → Type 0) (caller : Option (List ℕ)) (acted : Option ℕ) where
+  pub each_join : (xs ys : List Effect) (m : Moment K V) → AtEachEffect P caller acted xs m → AtEachEffect P caller acted ys (with_effects caller acted xs m) → AtEachEffect P caller acted (xs ++ ys) m
+  each_join [] ys m first later = later
+  each_join (f ∷ xs) ys m first later = (first.0, each_join xs ys (with_effect caller acted f m) first.1 later)
+
+-- such an event begins nothing before its work
+module _ {K V : Type 0} (m : Moment K V) (known : Known) (w : World (Node K V)) (hold : SectionsHold m known w) where
+  slots_protected : (e : Event K V) → is_of_slots e ≡ true → InMidst e [] m known w
+  slots_protected (Register registration) is = events_begin_protected K V m known w hold (record { event = Register registration; outcome = Done; steps = 0; effects = [] })
+  slots_protected (Unregister registration) is = events_begin_protected K V m known w hold (record { event = Unregister registration; outcome = Done; steps = 0; effects = [] })
+  slots_protected (Enter guard registration) is = events_begin_protected K V m known w hold (record { event = Enter guard registration; outcome = Done; steps = 0; effects = [] })
+  slots_protected (Own guard) is = events_begin_protected K V m known w hold (record { event = Own guard; outcome = Done; steps = 0; effects = [] })
+  slots_protected (Refresh guard) is = events_begin_protected K V m known w hold (record { event = Refresh guard; outcome = Done; steps = 0; effects = [] })
+  slots_protected (Flush guard) is = events_begin_protected K V m known w hold (record { event = Flush guard; outcome = Done; steps = 0; effects = [] })
+  slots_protected (DropGuard guard) is = events_begin_protected K V m known w hold (record { event = DropGuard guard; outcome = Done; steps = 0; effects = [] })
+  slots_protected ReclaimAll is = events_begin_protected K V m known w hold (record { event = ReclaimAll; outcome = Done; steps = 0; effects = [] })
+  slots_protected Close is = events_begin_protected K V m known w hold (record { event = Close; outcome = Done; steps = 0; effects = [] })
+  slots_protected _ is = absurd (cc is)
+
+pub slot_events_begin_so : (K V S : Type 0) (same : K → K → Bool) (hash : K → ℕ) → SlotEventsBegin K V S same hash
+slot_events_begin_so K V S same hash name terms log known s old new at size run event on i called may leads spares before =
+    let m = moment log in
+    let request = request_of (slot_of i) called in
+    let to = (leads may).3 in
+    let led = scene_then same hash (Begin i request) s old new to in
+    record {
+      of_slots = on;
+      once = moments_note_once K V same name m known s run.calls.whole;
+      calls = record {
+        whole = rows_begin_whole K V S same hash name m known s old new at run.calls.whole called i may leads;
+        numbers = run.calls.numbers;
+        kept = rows_begin_kept K V S same hash name m known s old new at run.calls.kept called i may leads;
+        made = stays_made K V name m m known s led run.calls.made refl refl;
+        counts = stays_counts K V name m m s led run.calls.counts refl refl;
+        looking = stays_looking K V name m m s led run.calls.looking refl refl;
+        counters = rows_begin_counters K V S same hash name m s old new at run.calls.counters called i may leads;
+        dues = (dues_stay K V S same hash name log).rows_begin m known s old new at run.calls.whole run.calls.dues called i may leads;
+        as_called = (as_called_stays K V S same hash name).rows_begin m known s old new at run.calls.whole run.calls.as_called called i may leads;
+        questions = run.calls.questions;
+        purposes = (purposes_stay K V S same hash name log).rows_begin m known s old new at run.calls.whole run.calls.purposes called i may leads;
+      };
+      reading = rows_keep_readings K V S same hash name log (λ j. 0) m s old new (Begin i request) to [] run.reading;
+      worked = refl;
+      may = refl;
+      finds = tt;
+      granted = refl;
+      protects = rows_begin_protect K V S same hash m known s old new called i may leads event spares [] (slots_protected m known s.world run.sections event on);
+      follows = λ alone.
+          subst (λ (n : ℕ). FollowsInRow n terms.roots (things_in log) (sets_in terms.batch_size log) known i request [] known to.0) size
+              (slot_events_begin K V old.batch_size terms.roots (things_in log) (sets_in terms.batch_size log) known s.world to.0
+              (subst (λ (n : ℕ). FollowsSets n terms.roots (things_in log) (sets_in terms.batch_size log) known s.world) (sym size) (before alone)) i request (of_slots (slot_of i) called) to.1.0 to.1.1);
+    }
+
+pub slot_events_go_on_so : (K V S : Type 0) (same : K → K → Bool) (hash : K → ℕ) → SlotEventsGoOn K V S same hash
+slot_events_go_on_so K V S same hash name terms log event i called first done m known s midst old new at size said leads row here may finds = record {
+  of_slots = midst.of_slots;
+  once = midst.once;
+  calls = record {
+    whole = rows_keep_whole K V S same hash name m known s old new at whole i said leads row here found.0 found.1;
+    numbers = (rows_keep_numbers K V S same hash m midst.calls.numbers.0 known s old new i said leads row here, effects_keep_pairs K V m midst.calls.numbers.1 None None effects (λ n is. absurd (cc is)));
+    kept = rows_keep_kept K V S same hash name m known s old new at whole midst.calls.kept i said leads row here;
+    made = (rows_keep_made K V S same hash name m known s old new at whole.all.shown midst.calls.made i said leads row here).1;
+    counts = stays_counts K V name m v s led midst.calls.counts (calls_none None effects m) refl;
+    looking = stays_looking K V name m v s led midst.calls.looking (calls_none None effects m) refl;
+    counters = rows_keep_counters K V S same hash name m known s old new at whole midst.calls.counters i said leads row here;
+    dues = (dues_stay K V S same hash name log).rows m known s old new at whole midst.calls.dues i said leads row here found.0;
+    as_called = (as_called_stays K V S same hash name).rows m known s old new at whole midst.calls.as_called i said leads row here found.0;
+    questions = effects_keep_questions K V None None effects m midst.calls.questions;
+    purposes = (purposes_stay K V S same hash name log).rows m known s old new at whole midst.calls.purposes i said leads row here found.0;
+  };
+  reading = rows_keep_readings K V S same hash name log (λ j. 0) m s old new (Step i) (leads row here).4 effects midst.reading;
+  worked = ap (λ (x : Moment K V). with_effects None None effects x) midst.worked ∙ sym (effects_after None None done effects (moment log));
+  may =
+      list_all-append (may_do event (moment log)) done effects ∙ ap (λ (q : Bool). q && list_all (may_do event (moment log)) effects) midst.may ∙ may;
+  finds = each_join (Finds terms None None (gives_all event) []) None None done effects (moment log) midst.finds
+      (subst (λ (x : Moment K V). AtEachEffect (Finds terms None None (gives_all event) []) None None effects x) midst.worked finds);
+  granted = grants_add_up done effects midst.granted (operations_are_single acts.Row known new.memory.changed).1;
+  protects = rows_protect K V S same hash name m known s old new at whole i said leads row here event midst.of_slots done midst.protects;
+  follows = λ alone.
+      subst (λ (n : ℕ). FollowsInRow n terms.roots (things_in log) (sets_in terms.batch_size log) first i request (done ++ effects) (known_after acts.Row new.memory.changed known) (leads row here).4.0) size
+          (slot_events_go_on K V S same hash m known s old new at whole.all.shown.blocks i said leads row here terms.roots (things_in log) (sets_in terms.batch_size log) first request done
+          (subst (λ (n : ℕ). FollowsInRow n terms.roots (things_in log) (sets_in terms.batch_size log) first i request done known s.world) (sym size) (midst.follows alone)));
+}
+  where
+    abbrev whole : ShowsWhole same name m known s
+    whole = midst.calls.whole
+
+    abbrev request : Request
+    request = request_of (slot_of i) called
+
+    abbrev effects : List Effect
+    effects = effects_of acts.Row known new.memory.changed
+
+    abbrev v : Moment K V
+    v = with_effects None None effects m
+
+    abbrev led : Scene K V
+    led = scene_then same hash (Step i) s old new (leads row here).4
+
+    found : AtEachEffect HadRetired None None effects m × AtEachEffect WaitUnreclaimed None None effects m
+    found = rows_find_kept K V S same hash name m known s old new at whole midst.calls.kept i said leads row here

@@ -1,0 +1,6 @@
+-- Makings and ends go on so.
+use Rattle.papaya_legal.proofs.Maps.{making_events_go_on_so, end_events_go_on_so}
+use Rattle.papaya_legal.proofs.law.map_events.Goals as goal
+
+pub returns : goal.returns
+returns c d = record { makings = making_events_go_on_so _ _ _; ends = end_events_go_on_so _ _ _ }

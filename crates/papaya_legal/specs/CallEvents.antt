@@ -1,0 +1,128 @@
+-- Events in which a call takes steps: in the midst of one, and at its end.
+use Rattle.std.specs.Prelude.{◌≡◌, ◌≢◌, ℕ, ◌+◌, ◌==◌, Bool, true, false, List, [], ◌∷◌, ◌++◌, Some, if◌then◌else◌, not, ◌||◌}
+use Rattle.std.specs.List.{list_all, list_any}
+use Rattle.seize.specs.World.{World, Rests, Request, Begin, Step, Happens}
+use Rattle.papaya_tables.specs.Nodes.{deferred_word}
+use Rattle.papaya_tables.specs.declared.node.Node.{Node}
+use Rattle.papaya_raw.specs.declared.machines.progress.Progress.{Progress}
+use Rattle.papaya_schedules.specs.declared.effect.Effect.{Effect}
+use Rattle.papaya_schedules.specs.declared.event.Event.{Event}
+use Rattle.papaya_schedules.specs.After.{moment, moments_from, after}
+use Rattle.papaya_schedules.specs.Beginning.{at_work}
+use Rattle.papaya_schedules.specs.Effects.{with_effects, AtEachEffect}
+use Rattle.papaya_schedules.specs.Entry.{Entry, acted_on, caller_of, ends_call, IfCall, acting, is_busy}
+use Rattle.papaya_schedules.specs.Handing.{MovesOn, is_call_effect, is_granted, LeavesOf, comes_clear, is_made, refuses}
+use Rattle.papaya_schedules.specs.InTurn.{ComesRight}
+use Rattle.papaya_schedules.specs.Linearizable.{IsLinearizable}
+use Rattle.papaya_schedules.specs.Model.{IsByModel, sets_in, things_in}
+use Rattle.papaya_schedules.specs.Moment.{UnderWay as CallThere, Moment}
+use Rattle.papaya_schedules.specs.Reclaims.{IsProtected}
+use Rattle.papaya_schedules.specs.Steps.{ReadsBriefly}
+use Rattle.papaya_schedules.specs.Effects.{worked}
+use Rattle.papaya_schedules.specs.Sweeps.{IsSwept}
+use Rattle.papaya_schedules.specs.Terms.{Terms}
+use Rattle.papaya_schedules.specs.Views.{call_of}
+use Rattle.papaya_callers.specs.Together.{UnderWay, HandsOver}
+use Rattle.papaya_effects.specs.Effects.{effects_of, known_after}
+use Rattle.papaya_effects.specs.Known.{Known}
+use Rattle.papaya_effects.specs.declared.acting.Acting.TheVariants as acts
+use Rattle.papaya_executor.specs.IsAt.{Scene, IsAt, slot_of}
+use Rattle.papaya_executor.specs.Stepping.{StepLeads, has_ended, scene_after}
+use Rattle.papaya_executor.specs.declared.executor.Executor.{Executor}
+use Rattle.papaya_histories.specs.InEvent.{ComesSo, InEvent, here_of}
+use Rattle.papaya_promises.specs.Protected.{InMidst}
+use Rattle.papaya_promises.specs.Reading.{ShowsReading}
+use Rattle.papaya_promises.specs.Weights.{AreDoneBy}
+use Rattle.papaya_histories.specs.Kept.{ChangesFirst}
+use Rattle.papaya_purposes.specs.Kept.{PairsChangeFirst, ShowsNone}
+use Rattle.papaya_purposes.specs.Shards.{ReadsShards}
+use Rattle.papaya_models.specs.CallEvents.{FollowsInEvent, IsNoted, things_then}
+use Rattle.papaya_finds.specs.Doing.{takes_steps}
+use Rattle.papaya_finds.specs.Life.{StoresOne}
+use Rattle.papaya_finds.specs.Parts.{FindAll}
+use Rattle.papaya_histories.specs.Questions.{ShowsQuestions}
+use Rattle.papaya_promises.specs.Sheltered.{SectionsHold}
+use Rattle.papaya_legal.specs.Carried.{ComesAlone, ShowsCalls, ShowsRun}
+
+module _ {K V : Type 0} (same : K → K → Bool) (name : ℕ → List ℕ) (terms : Terms) (log : List (Entry K V)) (event : Event K V) (beginning : Moment K V) (map i : ℕ) (c : CallThere K V) where
+  -- In the midst of an event of the call of caller i, which has made so many steps, and done this, since the moment at which it has begun what it begins.
+  pub record InCallEvent (steps : ℕ) (done : List Effect) (m : Moment K V) (known : Known) (s : Scene K V) (u : UnderWay K V K) : Type 0 where
+    pub of_call : caller_of event ≡ Some (name i)
+    pub event_so : InEvent same name log beginning map i c done m known s u
+    pub calls : ShowsCalls same name log m known s
+    pub worked : m ≡ with_effects (Some (name i)) (Some map) done beginning
+    -- steps: each did one thing at most, and had what it made granted; a lookup has read so many words
+    pub few : AreDoneBy steps done
+    pub granted : is_granted false done ≡ true
+    pub reading : ShowsReading name log (λ j. if j == i then steps else 0) m s
+    -- life: what each effect finds, of which kind it is, and that a pair is stored by who has one
+    pub kinds : list_all is_call_effect done ≡ true
+    pub finds : FindAll terms (moments_from c.begun log) (name i) map done beginning
+    pub stores : AtEachEffect (StoresOne (Some (name i))) (Some (name i)) (Some map) done beginning
+    -- protected
+    pub protects : InMidst event done m known s.world
+    -- by_model: where calls came one after another so far
+    pub follows : ComesAlone event log → FollowsInEvent terms.batch_size terms.roots (things_in log) (sets_in terms.batch_size log) (slot_of i) i done known s.world
+
+-- Of an event that has come to this: each promise but that it comes to what is right, and that little waits, which follow once its life and the moment after it are known.
+pub record IsLegalBut {K V : Type 0} (same : K → K → Bool) (terms : Terms) (log : List (Entry K V)) (e : Entry K V) : Type 0 where
+  pub brief : ReadsBriefly log e (worked e (moment log))
+  pub linearizable : IsLinearizable same log e
+  pub swept : IsSwept same terms log e
+  pub life : MovesOn terms log e
+  pub protected : IsProtected log e
+  pub by_model : IsByModel terms log e
+
+module _ (K V S : Type 0) (same : K → K → Bool) (hash : K → ℕ) where
+  -- The promises: so it is where an event of a call that is under way begins, in whose midst alone a row may be if the event comes alone;
+  abbrev pub CallEventsBegin : Type 0
+  CallEventsBegin =
+      (name : ℕ → List ℕ) (terms : Terms) (log : List (Entry K V)) (known : Known) (s : Scene K V) (x : Executor K V S) → IsAt same hash x s → ShowsRun same name terms log known s
+      → (event : Event K V) (map i : ℕ) → caller_of event ≡ Some (name i) → (u : UnderWay K V K) → s.calls map i ≡ Some u → (c : CallThere K V) → call_of (name i) (moment log) ≡ Some c
+      → (ComesAlone event log → (j : ℕ) → s.world.row j ≢ Rests → j ≡ i)
+      → InCallEvent same name terms log event (moment log) map i c 0 [] (moment log) known s u
+
+  -- after each step of it, where it goes on: no pair comes or goes twice, what a call reads of shards it may read, no pair of a walk is shown, the effects find what they must, what a row hands
+  -- over that begins with the step is noted, and lookups have read as much as they may by one step more;
+  abbrev pub CallEventsGoOn : Type 0
+  CallEventsGoOn =
+      (name : ℕ → List ℕ) (terms : Terms) (log : List (Entry K V)) (event : Event K V) (beginning : Moment K V) (map i : ℕ) (c : CallThere K V) (steps : ℕ) (done : List Effect) (m : Moment K V) (known : Known)
+      (s : Scene K V) (u : UnderWay K V K) (midst : InCallEvent same name terms log event beginning map i c steps done m known s u)
+      → (old new : Executor K V S) → IsAt same hash old s → old.batch_size ≡ terms.batch_size → (said : Progress (Node K V)) (leads : StepLeads same hash i said s old new)
+      → (let effects = effects_of (acts.Call i map) known new.memory.changed in
+      let v = with_effects (Some (name i)) (Some map) effects m in
+      let to = leads map u (here_of same name log beginning map i c done m known s u midst.event_so) in
+      let s2 = scene_after same hash s old new map i to.0 u to.1 said to.4 in
+      PairsChangeFirst log m map v → ChangesFirst log m same map v → ReadsShards log m s map u → ShowsNone said → FindAll terms (moments_from c.begun log) (name i) map effects m
+      → ((request : Request) (begun : World (Node K V)) → HandsOver to.0.setting i s.world request → Happens deferred_word old.batch_size (Begin i request) s.world begun
+      → Happens deferred_word old.batch_size (Step i) begun to.4.w2 → IsNoted (things_then (things_in log) done) known (slot_of i) request)
+      → ShowsReading name log (λ j. if j == i then steps + 1 else 0) v s2 → (next : UnderWay K V K) → to.4.next ≡ Some next
+      → InCallEvent same name terms log event beginning map i c (steps + 1) (done ++ effects) v (known_after (acts.Call i map) new.memory.changed known) s2 next)
+
+  -- and the event that comes to what its last step says keeps its promises, if it reads briefly, does what it is for, is refused no growth that it made, leaves nothing behind, and is by the
+  -- model; the sections of guards hold what they shelter.
+  abbrev pub CallEventsAreLegal : Type 0
+  CallEventsAreLegal =
+      (name : ℕ → List ℕ) (terms : Terms) (log : List (Entry K V)) (beginning : Moment K V) (map i : ℕ) (c : CallThere K V) → call_of (name i) beginning ≡ Some c
+      → (steps : ℕ) (done : List Effect) (m : Moment K V) (known : Known) (s : Scene K V) (u : UnderWay K V K) (e : Entry K V) (midst : InCallEvent same name terms log e.event beginning map i c steps done m known s u)
+      → ShowsQuestions beginning → (old new : Executor K V S) → IsAt same hash old s → (said : Progress (Node K V)) (leads : StepLeads same hash i said s old new)
+      → at_work e (moment log) ≡ beginning → acted_on e.event beginning ≡ Some map → e.effects ≡ done ++ effects_of (acts.Call i map) known new.memory.changed
+      → ComesSo (known_after (acts.Call i map) new.memory.changed known) c.call c.replies said e.outcome → takes_steps e.event ≡ true → is_busy e.outcome ≡ false
+      → FindAll terms (moments_from c.begun log) (name i) map (effects_of (acts.Call i map) known new.memory.changed) m
+      → ReadsBriefly log e (worked e (moment log)) → IsSwept same terms log e → (not (refuses e.event) || not (list_any is_made e.effects)) ≡ true
+      → IfCall (LeavesOf (comes_clear e.outcome) e.outcome) (acting (caller_of e.event) (worked e (moment log))) → IsByModel terms log e
+      → IsLegalBut same terms log e
+      × SectionsHold (after e (moment log)) (known_after (acts.Call i map) new.memory.changed known) (leads map u (here_of same name log beginning map i c done m known s u midst.event_so)).4.w2
+
+  -- The moment after it shows all by which the next event keeps its promises (not proved yet).
+  abbrev pub CallEventsEnd : Type 0
+  CallEventsEnd =
+      (name : ℕ → List ℕ) (terms : Terms) (log : List (Entry K V)) (beginning : Moment K V) (map i : ℕ) (c : CallThere K V) → call_of (name i) beginning ≡ Some c
+      → (steps : ℕ) (done : List Effect) (m : Moment K V) (known : Known) (s : Scene K V) (u : UnderWay K V K) (e : Entry K V) (midst : InCallEvent same name terms log e.event beginning map i c steps done m known s u)
+      → (old new : Executor K V S) → IsAt same hash old s → (said : Progress (Node K V)) (leads : StepLeads same hash i said s old new)
+      → at_work e (moment log) ≡ beginning → acted_on e.event beginning ≡ Some map → e.steps ≡ steps + 1
+      → e.effects ≡ done ++ effects_of (acts.Call i map) known new.memory.changed
+      → ComesSo (known_after (acts.Call i map) new.memory.changed known) c.call c.replies said e.outcome → ends_call e.outcome ≡ has_ended said → ComesRight terms log e
+      → IsLegalBut same terms log e
+      → (let to = leads map u (here_of same name log beginning map i c done m known s u midst.event_so) in
+      ShowsRun same name terms (e ∷ log) (known_after (acts.Call i map) new.memory.changed known) (scene_after same hash s old new map i to.0 u to.1 said to.4))

@@ -1,0 +1,5 @@
+pub mod Carried
+pub mod CallEvents
+pub mod SlotEvents
+pub mod MapEvents
+pub mod Promises

@@ -1,0 +1,98 @@
+-- Events that make a map, or end one, and those that do nothing: in the midst of one, and at its end.
+use Rattle.std.specs.Prelude.{◌≡◌, ◌<◌, ℕ, Bool, true, false, List, [], ◌++◌, Some, None}
+use Rattle.std.specs.List.{list_all}
+use Rattle.seize.specs.declared.progress.Progress.{Progress as Making}
+use Rattle.seize.specs.declared.rows.settle.Settled.{Settled}
+use Rattle.papaya_tables.specs.declared.node.Node.{Node}
+use Rattle.papaya_tables.specs.declared.setting.Setting.{Setting}
+use Rattle.papaya_schedules.specs.declared.effect.Effect.{Effect}
+use Rattle.papaya_schedules.specs.declared.event.Event.{Event}
+use Rattle.papaya_schedules.specs.After.{moment, after}
+use Rattle.papaya_schedules.specs.Effects.{with_effects, AtEachEffect, worked}
+use Rattle.papaya_schedules.specs.Entry.{Entry, IfCall, acting, caller_of}
+use Rattle.papaya_schedules.specs.Handing.{is_granted, may_do, IsWhole, LeavesOf, comes_clear}
+use Rattle.papaya_schedules.specs.Lives.{Finds}
+use Rattle.papaya_schedules.specs.Model.{sets_in, things_in, changes_of, left_last}
+use Rattle.papaya_schedules.specs.Moment.{Moment}
+use Rattle.papaya_schedules.specs.Terms.{Terms}
+use Rattle.papaya_effects.specs.Effects.{effects_of, known_after}
+use Rattle.papaya_effects.specs.Known.{Known}
+use Rattle.papaya_effects.specs.declared.acting.Acting.TheVariants as acts
+use Rattle.papaya_executor.specs.Ending.{EndingLeads}
+use Rattle.papaya_executor.specs.IsAt.{Scene, IsAt}
+use Rattle.papaya_executor.specs.Making.{MakingLeads}
+use Rattle.papaya_executor.specs.declared.executor.Executor.{Executor}
+use Rattle.papaya_finishes.specs.Endings.{Finishing}
+use Rattle.papaya_moments.specs.Endings.{IsOfIts}
+use Rattle.papaya_finishes.specs.Makings.{Beginning}
+use Rattle.papaya_others.specs.Endings.{ending_after}
+use Rattle.papaya_others.specs.Makings.{WasNew, making_after}
+use Rattle.papaya_promises.specs.Protected.{InMidst, is_of_slots}
+use Rattle.papaya_promises.specs.Reading.{ShowsReading}
+use Rattle.papaya_models.specs.Ends.{FollowsInEnd}
+use Rattle.papaya_models.specs.MapEvents.{FollowsInMaking}
+use Rattle.papaya_legal.specs.CallEvents.{IsLegalBut}
+use Rattle.seize.specs.World.{World}
+use Rattle.papaya_schedules.specs.Steps.{ReadsBriefly}
+use Rattle.papaya_schedules.specs.Sweeps.{IsSwept}
+use Rattle.papaya_histories.specs.OtherCalls.{IsIdle}
+use Rattle.papaya_promises.specs.Guards.{EntersInside}
+use Rattle.papaya_promises.specs.Sheltered.{SectionsHold}
+use Rattle.papaya_legal.specs.Carried.{ComesAlone, ShowsCalls}
+
+module _ {K V : Type 0} (same : K → K → Bool) (name : ℕ → List ℕ) (terms : Terms) (log : List (Entry K V)) (event : Event K V) (map : ℕ) (beginning : Moment K V) where
+  -- In the midst of an event whose work is that of a map which is made, or ends: what it has done finds what it must.
+  pub record InMapEvent (done : List Effect) (m : Moment K V) (known : Known) (s : Scene K V) : Type 0 where
+    pub of_maps : is_of_slots event ≡ false
+    pub calls : ShowsCalls same name log m known s
+    pub reading : ShowsReading name log (λ j. 0) m s
+    pub worked : m ≡ with_effects None (Some map) done beginning
+    pub may : list_all (may_do event (moment log)) done ≡ true
+    pub finds : AtEachEffect (Finds terms None (Some map) false []) None (Some map) done beginning
+    pub granted : is_granted false done ≡ true
+    pub protects : InMidst event done m known s.world
+
+  -- where calls came one after another, the sets are those of the model as it began, in the midst of a making,
+  abbrev pub InMakingEvent : List Effect → Moment K V → Known → Scene K V → Type 0
+  InMakingEvent done m known s =
+      InMapEvent done m known s × (ComesAlone event log → FollowsInMaking terms.batch_size terms.roots (things_in log) (sets_in terms.batch_size log) done known s.world)
+
+  -- and in that of an end
+  abbrev pub InEndEvent : Known → ℕ → List Effect → Moment K V → Known → Scene K V → Type 0
+  InEndEvent first i done m known s =
+      InMapEvent done m known s × (ComesAlone event log → FollowsInEnd terms.batch_size terms.roots (things_in log) (sets_in terms.batch_size log) first i done known s.world)
+
+module _ (K V S : Type 0) (same : K → K → Bool) (hash : K → ℕ) where
+  -- The promises: a making goes on so, if what it does it may do, and finds what it must,
+  abbrev pub MakingEventsGoOn : Type 0
+  MakingEventsGoOn =
+      (name : ℕ → List ℕ) (terms : Terms) (log : List (Entry K V)) (event : Event K V) (beginning : Moment K V) (done : List Effect) (m : Moment K V) (known : Known) (s : Scene K V) (i : ℕ) (b : Beginning K)
+      (here : s.makers i ≡ Some b) → InMakingEvent same name terms log event b.map beginning done m known s → (old new : Executor K V S) → IsAt same hash old s
+      → old.batch_size ≡ terms.batch_size → b.map < m.made → (said : Making Setting) (leads : MakingLeads same hash i said s old new) → WasNew b.map said m
+      → (let to = leads b here in
+      let effects = effects_of (acts.Making b.map) known new.memory.changed in
+      list_all (may_do event (moment log)) effects ≡ true → AtEachEffect (Finds terms None (Some b.map) false []) None (Some b.map) effects m
+      → InMakingEvent same name terms log event b.map beginning (done ++ effects) (with_effects None (Some b.map) effects m) (known_after (acts.Making b.map) new.memory.changed known)
+      (making_after same hash s old new i b to.0 to.2.step.w2 said to.3))
+
+  -- and so does an end, which takes tables of its map alone;
+  abbrev pub EndEventsGoOn : Type 0
+  EndEventsGoOn =
+      (name : ℕ → List ℕ) (terms : Terms) (log : List (Entry K V)) (event : Event K V) (map : ℕ) (beginning : Moment K V) (first : Known) (done : List Effect) (m : Moment K V) (known : Known) (s : Scene K V) (i : ℕ)
+      (f : Finishing K V) (here : s.enders i ≡ Some f) → s.maps map ≡ None → InEndEvent same name terms log event map beginning first i done m known s → (old new : Executor K V S) → IsAt same hash old s
+      → old.batch_size ≡ terms.batch_size → map < m.made → (said : Settled (Node K V)) (leads : EndingLeads same hash i said s old new)
+      → (let to = leads f here in
+      let effects = effects_of (acts.Ending map) known new.memory.changed in
+      AtEachEffect (IsOfIts map) None (Some map) effects m → list_all (may_do event (moment log)) effects ≡ true
+      → AtEachEffect (Finds terms None (Some map) false []) None (Some map) effects m
+      → InEndEvent same name terms log event map beginning first i (done ++ effects) (with_effects None (Some map) effects m) (known_after (acts.Ending map) new.memory.changed known)
+      (ending_after same hash s new i f to.0 to.2.w2 to.2.deed said to.3))
+
+-- And an event that does nothing to pairs, tables and blocks, and by which no call has come to an end or asks, keeps its promises, if it changes no waiting sets, reads briefly, does what it is for,
+-- needs no effects, and leaves nothing behind; the sections of guards hold what they shelter.
+abbrev pub IdleEventsAreLegal : (K V : Type 0) → (K → K → Bool) → Type 0
+IdleEventsAreLegal K V same =
+    (terms : Terms) (log : List (Entry K V)) (known : Known) (w : World (Node K V)) (e : Entry K V) → e.effects ≡ [] → IsIdle e.outcome → SectionsHold (moment log) known w
+    → EntersInside w e.event e.outcome (moment log).there → changes_of log e ≡ [] → left_last e.event e.outcome (moment log) ≡ [] → ReadsBriefly log e (worked e (moment log))
+    → IsSwept same terms log e → IsWhole e.event e.outcome e.effects (moment log) (worked e (moment log))
+    → IfCall (LeavesOf (comes_clear e.outcome) e.outcome) (acting (caller_of e.event) (worked e (moment log))) → IsLegalBut same terms log e × SectionsHold (after e (moment log)) known w

@@ -1,0 +1,22 @@
+-- A run whose events come to what is right, and keep these promises, is legal.
+use Rattle.std.specs.Prelude.{◌<◌, ◌^◌, ℕ, Bool, List, ◌∷◌}
+use Rattle.papaya_schedules.specs.After.{after, moment}
+use Rattle.papaya_schedules.specs.Beginning.{at_work}
+use Rattle.papaya_schedules.specs.Entry.{Entry, acting, caller_of}
+use Rattle.papaya_schedules.specs.InTurn.{ComesRight}
+use Rattle.papaya_schedules.specs.Runs.{IsLegal}
+use Rattle.papaya_schedules.specs.Steps.{DoesFew, MakesSteps, stands_or}
+use Rattle.papaya_schedules.specs.Terms.{Terms}
+use Rattle.papaya_effects.specs.Known.{Known}
+use Rattle.papaya_executor.specs.IsAt.{Scene}
+use Rattle.papaya_finds.specs.Little.{ReclaimsAll, ShowsNobody}
+use Rattle.papaya_legal.specs.CallEvents.{IsLegalBut}
+use Rattle.papaya_legal.specs.Carried.{ShowsRun}
+
+-- The promise: an event that comes to what is right, makes its steps, and keeps these promises, is legal, where the moment after it shows the scene, all of which is back if it reclaims all, and in
+-- which nobody is under way where nobody is there.
+abbrev pub EventsAreLegal : Type 0 → Type 0 → Type 0
+EventsAreLegal K V =
+    (same : K → K → Bool) (name : ℕ → List ℕ) (terms : Terms) (log : List (Entry K V)) (e : Entry K V) (known : Known) (s : Scene K V) → terms.batch_size < 2 ^ 64
+    → ComesRight terms log e → MakesSteps e.event (stands_or (acting (caller_of e.event) (at_work e (moment log)))) e.steps e.outcome → DoesFew (caller_of e.event) e.steps e.effects
+    → IsLegalBut same terms log e → ShowsRun same name terms (e ∷ log) known s → ReclaimsAll log e → ShowsNobody terms (after e (moment log)) known s.world → IsLegal same terms log e

@@ -1,0 +1,138 @@
+-- All is reclaimed by steps: what they do follows one upon another, until nothing is left.
+use Rattle.std.specs.Prelude.{◌≡◌, ℕ, Bool, true, false, List, [], ◌++◌, Option, Some, None, option_map}
+use Rattle.std.proofs.Common.{refl, ap, subst, sym, ◌∙◌}
+use Rattle.std.proofs.lemmas.List.{append-nil, append_assoc}
+use Rattle.seize.specs.declared.rows.reclaim_all.ReclaimAll.{ReclaimAll}
+use Rattle.seize.specs.declared.rows.settle.Settled.{Settled}
+use Rattle.seize.specs.declared.rows.settle.Settled.TheVariants as settled
+use Rattle.papaya_tables.specs.declared.node.Node.{Node}
+use Rattle.papaya_schedules.specs.declared.effect.Effect.{Effect}
+use Rattle.papaya_schedules.specs.Effects.{with_effects, AtEachEffect}
+use Rattle.papaya_schedules.specs.Moment.{Moment}
+use Rattle.papaya_executor.specs.IsAt.{Scene}
+use Rattle.papaya_finishes.specs.Maps.{IsSameMap, Standing}
+use Rattle.papaya_reclaiming.specs.Reclaiming.{IsReclaiming, MayReclaim, NobodyHas, ReclaimingComesTo, ReclaimingLeads}
+use Rattle.papaya_spots.specs.OnSlots.{WaitUnreclaimed}
+use Rattle.papaya_moments.proofs.After.{effects_after, each_parts}
+use Rattle.papaya_moments.specs.OnSlots.{HadRetired}
+use Rattle.papaya_logged.specs.Ends.{is_done}
+use Rattle.papaya_logged.specs.Reclaims.{ReclaimingCame, ReclaimingIsShown, ReclaimingRan, ReclaimingSoFar, ReclaimingSteps, ReclaimingThen}
+use Rattle.papaya_logged.specs.Shown.{IsShown}
+use Rattle.papaya_logged.specs.declared.logged.Logged.{Logged}
+
+-- a map that is the same has its setting
+same_setting : {K : Type 0} (o o2 : Option (Standing K)) → IsSameMap o o2 → option_map (λ standing. standing.setting) o2 ≡ option_map (λ standing. standing.setting) o
+same_setting None o2 is = ap (option_map (λ standing. standing.setting)) is
+same_setting (Some s) o2 is = ap (option_map (λ standing. standing.setting)) is.2
+
+module _ {K V : Type 0} where
+  came_first : (s : Scene K V) → ReclaimingCame s s
+  came_first s = record { maps = λ n. refl; calls = refl; makers = refl; enders = refl }
+
+module _ {K V S : Type 0} where
+  pub reclaims_none : (l : Logged K V S) (xs : List Effect) (first : ReclaimAll) → ReclaimingSoFar first first xs xs l l
+  reclaims_none l xs first = (
+    [],
+    sym (append-nil xs),
+    λ same hash s i lists is. (s, lists, is),
+    λ same hash name m s i lists shown retired unreclaimed. (s, lists, came_first s, shown),
+  )
+
+  module _ (first now next : ReclaimAll) (old mid new : Logged K V S) (xs ys zs : List Effect) (so : ReclaimingSoFar first now xs ys old mid) (told : Settled (Node K V))
+      (step : ReclaimingSteps now next told ys zs mid new)
+      (stepping : (same : K → K → Bool) (hash : K → ℕ) (s : Scene K V) (i : ℕ) (lists : ℕ → List ℕ) → IsReclaiming same hash mid.executor s i lists now
+      → ReclaimingLeads same hash s i lists mid.executor new.executor now next told) where
+    did_so : zs ≡ xs ++ (so.0 ++ step.0)
+    did_so = step.1 ∙ ap (λ (l : List Effect). l ++ step.0) so.1 ∙ append_assoc xs so.0 step.0
+
+    goes_to : (same : K → K → Bool) (hash : K → ℕ) (s : Scene K V) (i : ℕ) (lists : ℕ → List ℕ) (said : Settled (Node K V)) → is_done said ≡ false → (s2 : Scene K V) (lists2 : ℕ → List ℕ)
+        → ReclaimingComesTo same hash s i lists mid.executor new.executor s2 lists2 next said → IsReclaiming same hash new.executor s2 i lists2 next
+    goes_to same hash s i lists settled.Goes more s2 lists2 comes = comes
+    goes_to same hash s i lists settled.Waits more s2 lists2 comes = comes
+    goes_to same hash s i lists (settled.Gave value) more s2 lists2 comes = comes
+    goes_to same hash s i lists settled.Done more s2 lists2 comes = absurd (cc more)
+
+    shown_to : (same : K → K → Bool) (hash : K → ℕ) (name : ℕ → List ℕ) (m : Moment K V) (s : Scene K V) (i : ℕ) (lists : ℕ → List ℕ) (said : Settled (Node K V)) → is_done said ≡ false → (s2 : Scene K V)
+        (lists2 : ℕ → List ℕ) → ReclaimingThen same hash name m s i lists s2 lists2 next mid new said → ReclaimingIsShown same hash name m new s2 i lists2 next
+    shown_to same hash name m s i lists settled.Goes more s2 lists2 comes = comes
+    shown_to same hash name m s i lists settled.Waits more s2 lists2 comes = comes
+    shown_to same hash name m s i lists (settled.Gave value) more s2 lists2 comes = comes
+    shown_to same hash name m s i lists settled.Done more s2 lists2 comes = absurd (cc more)
+
+    module _ (same : K → K → Bool) (hash : K → ℕ) (name : ℕ → List ℕ) (m : Moment K V) (s : Scene K V) (i : ℕ) (lists : ℕ → List ℕ) (shown : ReclaimingIsShown same hash name m old s i lists first)
+        (retired : AtEachEffect HadRetired None None (so.0 ++ step.0) m) (unreclaimed : AtEachEffect WaitUnreclaimed None None (so.0 ++ step.0) m) where
+      abbrev parts : AtEachEffect HadRetired None None so.0 m × AtEachEffect HadRetired None None step.0 (with_effects None None so.0 m)
+      parts = each_parts None None HadRetired so.0 step.0 m retired
+
+      abbrev waits : AtEachEffect WaitUnreclaimed None None so.0 m × AtEachEffect WaitUnreclaimed None None step.0 (with_effects None None so.0 m)
+      waits = each_parts None None WaitUnreclaimed so.0 step.0 m unreclaimed
+
+      abbrev u : (s1 : Scene K V) × (lists1 : ℕ → List ℕ) × ReclaimingCame s s1 × ReclaimingIsShown same hash name (with_effects None None so.0 m) mid s1 i lists1 now
+      u = so.3 same hash name m s i lists shown parts.0 waits.0
+
+      abbrev leads : ReclaimingLeads same hash u.0 i u.1 mid.executor new.executor now next told
+      leads = (step.2 same hash name (with_effects None None so.0 m) u.0 i u.1 u.3).0
+
+      abbrev s2 : Scene K V
+      s2 = record u.0 { world = leads.1.w2; maps = leads.1.maps2 }
+
+      after_it : with_effects None None step.0 (with_effects None None so.0 m) ≡ with_effects None None (so.0 ++ step.0) m
+      after_it = sym (effects_after None None so.0 step.0 m)
+
+      pub came_then : ReclaimingCame s s2
+      came_then = record {
+        maps = λ n. same_setting (u.0.maps n) (leads.1.maps2 n) (leads.1.as_they_were n) ∙ u.2.maps n;
+        calls = u.2.calls;
+        makers = u.2.makers;
+        enders = u.2.enders;
+      }
+
+      pub shown_then : ReclaimingThen same hash name (with_effects None None (so.0 ++ step.0) m) u.0 i u.1 s2 leads.1.lists2 next mid new told
+      shown_then =
+          subst (λ (x : Moment K V). ReclaimingThen same hash name x u.0 i u.1 s2 leads.1.lists2 next mid new told) after_it
+          ((step.2 same hash name (with_effects None None so.0 m) u.0 i u.1 u.3).1 parts.1 waits.1)
+
+    pub reclaims_on : is_done told ≡ false → ReclaimingSoFar first next xs zs old new
+    reclaims_on more = (
+      so.0 ++ step.0,
+      did_so,
+      λ same hash s i lists is.
+          (let v = so.2 same hash s i lists is in
+          let to = stepping same hash v.0 i v.1 v.2 in
+          let s3 : Scene K V = record v.0 { world = to.1.w2; maps = to.1.maps2 } in
+          (s3, to.1.lists2, goes_to same hash v.0 i v.1 told more s3 to.1.lists2 to.2)),
+      λ same hash name m s i lists shown retired unreclaimed. (
+        s2 same hash name m s i lists shown retired unreclaimed,
+        (leads same hash name m s i lists shown retired unreclaimed).1.lists2,
+        came_then same hash name m s i lists shown retired unreclaimed,
+        shown_to same hash name (with_effects None None (so.0 ++ step.0) m) (u same hash name m s i lists shown retired unreclaimed).0 i (u same hash name m s i lists shown retired unreclaimed).1 told more
+            (s2 same hash name m s i lists shown retired unreclaimed) (leads same hash name m s i lists shown retired unreclaimed).1.lists2
+            (shown_then same hash name m s i lists shown retired unreclaimed),
+      ),
+    )
+
+  -- by the last step nothing is left
+  pub reclaims_last : (taken : Bool) (first now next : ReclaimAll) (old mid new : Logged K V S) (xs ys zs : List Effect)
+      → ((same : K → K → Bool) (hash : K → ℕ) (name : ℕ → List ℕ) (m : Moment K V) (s : Scene K V) (i : ℕ) (lists : ℕ → List ℕ) → IsShown same hash name m old s
+      → NobodyHas old.executor → MayReclaim old.executor s lists taken → ReclaimingIsShown same hash name m old s i lists first)
+      → ReclaimingSoFar first now xs ys old mid → (told : Settled (Node K V)) → is_done told ≡ true → ReclaimingSteps now next told ys zs mid new
+      → ((same : K → K → Bool) (hash : K → ℕ) (s : Scene K V) (i : ℕ) (lists : ℕ → List ℕ) → IsReclaiming same hash mid.executor s i lists now
+      → ReclaimingLeads same hash s i lists mid.executor new.executor now next told)
+      → ReclaimingRan taken xs zs old new
+  reclaims_last taken first now next old mid new xs ys zs begins so settled.Done over step stepping = (
+    so.0 ++ step.0,
+    did_so first now next old mid new xs ys zs so settled.Done step stepping,
+    λ same hash name m s lists shown nobody may retired unreclaimed.
+        (let there = begins same hash name m s 0 lists shown nobody may in
+        let to = shown_then first now next old mid new xs ys zs so settled.Done step stepping same hash name m s 0 lists there retired unreclaimed in (
+          s2 first now next old mid new xs ys zs so settled.Done step stepping same hash name m s 0 lists there retired unreclaimed,
+          came_then first now next old mid new xs ys zs so settled.Done step stepping same hash name m s 0 lists there retired unreclaimed,
+          to.0.nothing,
+          to.0.carry,
+          to.1,
+          to.2,
+        )),
+  )
+  reclaims_last taken first now next old mid new xs ys zs begins so settled.Goes over step stepping = absurd (cc over)
+  reclaims_last taken first now next old mid new xs ys zs begins so settled.Waits over step stepping = absurd (cc over)
+  reclaims_last taken first now next old mid new xs ys zs begins so (settled.Gave value) over step stepping = absurd (cc over)

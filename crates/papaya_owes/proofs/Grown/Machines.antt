@@ -1,0 +1,148 @@
+-- What a machine is to be refused for, whichever it is: as it begins, by what it is told, and by a step by which no block is refused.
+use Rattle.std.specs.Prelude.{◌≡◌, ℕ, Bool, true, false}
+use Rattle.std.proofs.Common.{sym, ap, subst}
+use Rattle.seize_words.specs.Mem.{Mem}
+use Rattle.seize_words.specs.declared.fault.Fault.{Fault}
+use Rattle.seize_words.specs.declared.fault.Fault.TheVariants.{Capacity, RemoveNothing}
+use Rattle.seize.specs.declared.progress.Progress.{Progress as CountTold}
+use Rattle.seize.specs.declared.progress.Progress.TheVariants as counting
+use Rattle.papaya_tables.specs.declared.node.Node.{Node}
+use Rattle.papaya_tables.specs.declared.setting.Setting.{Setting}
+use Rattle.papaya_resize.specs.Sum.{sum_plan}
+use Rattle.papaya_resize.specs.declared.outcome.Outcome.{Outcome}
+use Rattle.papaya_resize.specs.declared.outcome.Outcome.TheVariants as outcome
+use Rattle.papaya_resize.specs.declared.sum.Sum.{Sum}
+use Rattle.papaya_reserves.specs.Reserve.{reserve_plan}
+use Rattle.papaya_reserves.specs.declared.reserve.Reserve.{Reserve}
+use Rattle.papaya_sweeps.specs.Sweep.{sweep_plan}
+use Rattle.papaya_sweeps.specs.declared.sweep.Sweep.{Sweep}
+use Rattle.papaya_sweeps.specs.declared.sweep.Sweeping.{Sweeping}
+use Rattle.papaya_sweeps.specs.declared.sweep.Sweeping.TheVariants as sweeping
+use Rattle.papaya_sweeps.specs.declared.sweep.Swept.{Swept}
+use Rattle.papaya_sweeps.specs.declared.sweep.Swept.TheVariants as swept
+use Rattle.papaya_raw.specs.Call.{call_plan}
+use Rattle.papaya_raw.specs.Machine.{machine_asked, machine_plan, machine_replied, sweep_told, called as of_key, reserved as of_room, swept as of_sweep, counted as of_sum}
+use Rattle.papaya_raw.specs.declared.machines.answer.Called.{Called}
+use Rattle.papaya_raw.specs.declared.machines.answer.Called.TheVariants as called
+use Rattle.papaya_raw.specs.declared.machines.asking.Reply.{Reply as MachineReply}
+use Rattle.papaya_raw.specs.declared.machines.asking.Reply.TheVariants as reply
+use Rattle.papaya_raw.specs.declared.machines.call.KeyCall.{KeyCall}
+use Rattle.papaya_raw.specs.declared.machines.machine.Machine.{Machine}
+use Rattle.papaya_raw.specs.declared.machines.machine.Machine.TheVariants as kinds
+use Rattle.papaya_raw.specs.declared.machines.progress.Progress.{Progress}
+use Rattle.papaya_raw.specs.declared.machines.progress.Progress.TheVariants as progress
+use Rattle.papaya_late.specs.Faults.{SoInCalling, SoInReserving, SoInSweeping}
+use Rattle.papaya_late.proofs.KindsKept.Rooms.Making.{CountsOn, sum_counts}
+use Rattle.papaya_late.proofs.KindsKept.Rooms.Reserving.{ReservesFor}
+use Rattle.papaya_late.proofs.KindsKept.Rooms.Sweeping.{SweepsFor, told_so_on}
+use Rattle.papaya_callers.specs.Pairs.{Given}
+use Rattle.papaya_callers.specs.OverAll.{CallOverAll}
+use Rattle.papaya_callers.specs.Rooms.{CallForRoom}
+use Rattle.papaya_callers.specs.Together.{UnderWay, OnKey, ForRoom, Counting, OverAll, IsBegun, Gets, Removes, Inserts, TriesToInsert, Computes, Updates, UpdatesOrInserts, TriesToInsertWith, RemovesIf}
+use Rattle.papaya_teller.specs.declared.changed.Changed.{Changed}
+use Rattle.papaya_teller.specs.declared.changed.Changed.TheVariants as changed
+use Rattle.papaya_teller.specs.declared.changed.Kind.{Kind}
+use Rattle.papaya_executor.specs.Beginning.{Begins}
+use Rattle.papaya_finishes.specs.Machines.{machine_of}
+use Rattle.papaya_finishes.specs.Maps.{Standing}
+use Rattle.papaya_others.proofs.Outcomes.{told_in}
+use Rattle.papaya_owes.specs.Grown.{SoInMachine}
+use Rattle.papaya_owes.proofs.Grown.OnKeys.{CallsFor, key_so, key_told_so}
+use Rattle.papaya_owes.proofs.Grown.Within.{reserve_so, so_always, sweep_so}
+use Rattle.papaya_owes.proofs.Tables.Hosts.{Step}
+
+module _ (Is : Fault → Type 0) {K V : Type 0} where
+  -- what it says that is refused is so
+  abbrev pub SaysSo : Progress (Node K V) → Type 0
+  SaysSo (progress.Refused fault) = Is fault
+  SaysSo _ = Unit {0}
+
+  abbrev MachineFor : Machine K V K × Progress (Node K V) → Type 0
+  MachineFor (machine, said) = SoInMachine Is machine × SaysSo said
+
+  key_says : (end : KeyCall K V K × Called (Node K V)) → CallsFor Is end → MachineFor (of_key end)
+  key_says (p, called.Goes) so = (so.0, tt)
+  key_says (p, called.Waits) so = (so.0, tt)
+  key_says (p, called.Gave value) so = (so.0, tt)
+  key_says (p, called.Unstored value) so = (so.0, tt)
+  key_says (p, called.Asks about) so = (so.0, tt)
+  key_says (p, called.Done answer) so = (so.0, tt)
+  key_says (p, called.Refused fault) so = so
+
+  room_says : (end : Reserve × Outcome (Node K V) Unit) → ReservesFor Is end → MachineFor (of_room end)
+  room_says (r, outcome.Goes) so = (so.0, tt)
+  room_says (r, outcome.Waits) so = (so.0, tt)
+  room_says (r, outcome.Gave value) so = (so.0, tt)
+  room_says (r, outcome.Done end) so = (so.0, tt)
+  room_says (r, outcome.Refused fault) so = so
+
+  sweep_says : (end : Sweep × Swept (Node K V)) → SweepsFor Is end → MachineFor (of_sweep end)
+  sweep_says (c, swept.Goes) so = (so.0, tt)
+  sweep_says (c, swept.Waits) so = (so.0, tt)
+  sweep_says (c, swept.Gave value) so = (so.0, tt)
+  sweep_says (c, swept.Ready) so = (so.0, tt)
+  sweep_says (c, swept.Pair word) so = (so.0, tt)
+  sweep_says (c, swept.Asks word) so = (so.0, tt)
+  sweep_says (c, swept.Done) so = (so.0, tt)
+  sweep_says (c, swept.Refused fault) so = so
+
+  sum_says : (end : Sum × CountTold ℕ) → CountsOn end → MachineFor (of_sum end)
+  sum_says (sum, counting.Goes) on = (tt, tt)
+  sum_says (sum, counting.Waits) on = (tt, tt)
+  sum_says (sum, counting.Done count) on = (tt, tt)
+  sum_says (sum, counting.Refused fault) on = absurd on
+
+  -- a walk that is asked for its next pair
+  pub asked_so : (y : Machine K V K) → SoInMachine Is y → SoInMachine Is (machine_asked y).0
+  asked_so (kinds.Sweep c) so = (told_so_on Is c so).0
+  asked_so (kinds.Key p) so = so
+  asked_so (kinds.Reserve r) so = so
+  asked_so (kinds.Count sum) so = so
+
+  sweep_told_so : (q : Sweeping) (c : Sweep) (told : MachineReply V) → SoInSweeping Is c.stands → SoInSweeping Is (sweep_told q c told).0.stands
+  sweep_told_so (sweeping.Asks word) c reply.Yes so = (told_so_on Is c so).1 true
+  sweep_told_so (sweeping.Asks word) c reply.No so = (told_so_on Is c so).1 false
+  sweep_told_so _ c told so = so
+
+  -- and one that is told what it asks
+  pub replied_so : Is Capacity → Is RemoveNothing → (y : Machine K V K) (told : MachineReply V) → SoInMachine Is y → SoInMachine Is (machine_replied y told).0
+  replied_so long nothing (kinds.Key p) told so = key_told_so Is long nothing p so told
+  replied_so long nothing (kinds.Sweep c) told so = sweep_told_so c.stands c told so
+  replied_so long nothing (kinds.Reserve r) told so = so
+  replied_so long nothing (kinds.Count sum) told so = so
+
+  -- one that begins has nothing to tell
+  key_begins : (same : K → K → Bool) (hash : K → ℕ) (setting : Setting) (slot : ℕ → ℕ) (i : ℕ) (keys : K → Bool) (given : Given K V) (call : KeyCall K V K)
+      → IsBegun V same hash same setting slot i keys given call → SoInCalling Is call.stands
+  key_begins same hash setting slot i keys given call (Gets q code few class) = tt
+  key_begins same hash setting slot i keys given call (Removes q code few class) = tt
+  key_begins same hash setting slot i keys given call (Inserts key value) = tt
+  key_begins same hash setting slot i keys given call (TriesToInsert key value) = tt
+  key_begins same hash setting slot i keys given call (Computes key) = tt
+  key_begins same hash setting slot i keys given call (Updates key) = tt
+  key_begins same hash setting slot i keys given call (UpdatesOrInserts key absent) = tt
+  key_begins same hash setting slot i keys given call (TriesToInsertWith key) = tt
+  key_begins same hash setting slot i keys given call (RemovesIf q code few class) = tt
+
+  pub begins_so : (same : K → K → Bool) (standing : Standing K) (i : ℕ) (u : UnderWay K V K) → Begins same standing i u → SoInMachine Is (machine_of u)
+  begins_so same standing i (OnKey u) begins = key_begins same standing.hash standing.setting _ i u.keys u.pair u.call begins.0
+  begins_so same standing i (ForRoom r) begins = subst (λ (x : CallForRoom). SoInReserving Is x.reserve.stands) (sym begins.1) tt
+  begins_so same standing i (Counting sum) begins = tt
+  begins_so same standing i (OverAll o) begins = subst (λ (x : CallOverAll). SoInSweeping Is x.sweep.stands) (sym begins.1) tt
+
+  -- a step by which no block is refused
+  module _ (long : Is Capacity) (m m2 : Mem (Node K V)) (told : Changed) (unrefused : (k : Kind) → told ≡ changed.Unmade k → ⊥) (asks : K → K → Bool) (same : K → K → Bool) (hash : K → ℕ)
+      (machine : Machine K V K) (said : Progress (Node K V)) where
+    pub machine_so : (before : Machine K V K) → SoInMachine Is before → Step m m2 told (machine_plan asks same hash before) (machine, said) → SoInMachine Is machine × SaysSo said
+    machine_so (kinds.Key p) so s =
+        let it = told_in m m2 told of_key (call_plan asks same hash p) (machine, said) s in
+        subst MachineFor (sym it.1) (key_says it.0 (key_so Is long m m2 told unrefused asks same hash p so it.0 it.2))
+    machine_so (kinds.Reserve r) so s =
+        let it = told_in m m2 told of_room (reserve_plan hash r) (machine, said) s in
+        subst MachineFor (sym it.1) (room_says it.0 (reserve_so Is long m m2 told unrefused hash r so it.0 it.2))
+    machine_so (kinds.Sweep c) so s =
+        let it = told_in m m2 told of_sweep (sweep_plan hash c) (machine, said) s in
+        subst MachineFor (sym it.1) (sweep_says it.0 (sweep_so Is long m m2 told unrefused hash c so it.0 it.2))
+    machine_so (kinds.Count sum) so s =
+        let it = told_in m m2 told of_sum (sum_plan sum) (machine, said) s in
+        subst MachineFor (sym it.1) (sum_says it.0 (so_always Is long m m2 told unrefused CountsOn (sum_plan sum) it.0 (sum_counts (Node K V) sum) it.2))

@@ -1,0 +1,66 @@
+-- What a run tells at its end is what its events say.
+use Rattle.std.specs.Prelude.{◌≡◌, ◌≤◌, ◌||◌, ℕ, Bool, List, length, filter, map, IsSorted, Option, None, Some}
+use Rattle.std.specs.List.{AllByRecursion}
+use Rattle.std.specs.Ordering.{nat_cmp}
+use Rattle.std.proofs.Common.{refl, sym, ap, subst, ◌∙◌}
+use Rattle.seize_words.specs.Mem.{Mem, value_at}
+use Rattle.papaya_tables.specs.declared.node.Node.{Node}
+use Rattle.papaya_runs.specs.declared.record.Living.{Living}
+use Rattle.papaya_runs.specs.declared.record.Pair.{Pair}
+use Rattle.papaya_runs.specs.Pairs.{numbers}
+use Rattle.papaya_runs.specs.Runs.{IsStored}
+use Rattle.papaya_schedules.specs.declared.event.Event.{Event}
+use Rattle.papaya_schedules.specs.declared.record.Run.{Run}
+use Rattle.papaya_schedules.specs.After.{moment}
+use Rattle.papaya_schedules.specs.Entry.{Entry}
+use Rattle.papaya_schedules.specs.Moment.{Moment}
+use Rattle.papaya_schedules.specs.Runs.{Lists}
+use Rattle.papaya_schedules.specs.Terms.{Terms}
+use Rattle.papaya_schedules.specs.Views.{is_in_a_map, is_waiting}
+use Rattle.papaya_effects.specs.Known.{Known, known}
+use Rattle.papaya_effects.specs.declared.role.Role.TheVariants.{Free}
+use Rattle.papaya_scheduler.specs.declared.scheduler.Scheduler.{Scheduler}
+use Rattle.papaya_running.specs.Ending.{HoldPairs, noted_below, shown_of, told_map}
+use Rattle.papaya_running.specs.Run.{SoFar, TellsMost, log_so}
+use Rattle.papaya_running.specs.Tally.{counted, numbers_at, passes}
+use Rattle.papaya_running.specs.declared.record.Record.{Record}
+use Rattle.papaya_running.specs.declared.tally.Tally.{Tally}
+use Rattle.papaya_running.proofs.Left.{hold_pairs, lists_left, stored_left}
+use Rattle.papaya_running.proofs.Numbers.{ascending, lists_waiting}
+use Rattle.papaya_running.proofs.Turns.{maps_shown, tables_told}
+
+module _ {K V S : Type 0} (same : K → K → Bool) (hash : K → ℕ) (terms : Terms) (events : List (Event K V)) (rec : Record V) (tally : Tally) (p : Scheduler K V S)
+    (so : SoFar same hash terms events rec tally p) where
+  abbrev m : Moment K V
+  m = moment (log_so events rec)
+
+  abbrev noted : Known
+  noted = known p.logged.notes
+
+  abbrev memory : Mem (Node K V)
+  memory = p.logged.executor.memory.memory
+
+  -- each block that is noted as a pair holds one
+  pub kept_so : HoldPairs noted.roles (value_at memory)
+  kept_so =
+      let st = so.holds.stands in
+      subst (λ (x : Mem (Node K V)). HoldPairs noted.roles (value_at x)) st.shown.is_at.memory (hold_pairs m noted st.scene.world st.shown.shows.all.shown.blocks)
+
+  module _ (run : Run K V) (living : map shown_of run.maps.items ≡ map (told_map tally) p.maps.items) (waits : run.waiting.items ≡ numbers_at (passes None) 0 tally.pairs.items)
+      (tables : run.tables ≡ counted tally.tables.items) (stored : run.stored ≡ noted.stored)
+      (left : (blocks : ℕ) × ((b : ℕ) → blocks ≤ b → noted.roles b ≡ Free) × (run.kept ≡ noted_below noted.roles (value_at memory) blocks)) where
+    pub tells_most : TellsMost m run
+    tells_most =
+        let st = so.holds.stands in
+        let shows = st.shown.shows in
+        let kept_is = left.2 ∙ ap (λ (x : Mem (Node K V)). noted_below noted.roles (value_at x) left.0) (sym st.shown.is_at.memory) in
+        record {
+          stored = stored ∙ shows.all.shown.blocks.stored;
+          maps = maps_shown m tally so.told run.maps.items p.maps.items m.maps living st.maps.listed;
+          waiting = subst (λ (l : List ℕ). Lists l is_waiting m) (sym waits) (lists_waiting tally m so.told);
+          ascending = subst (IsSorted nat_cmp) (sym waits) (ascending (passes None) refl tally.pairs.items);
+          tables = tables ∙ tables_told m tally so.told;
+          kept = subst (λ (l : List (Pair K V)). Lists (numbers l) (λ place. is_in_a_map place || is_waiting place) m) (sym kept_is)
+              (lists_left m noted st.scene.world shows.all.shown.blocks shows.blocks left.0 left.1);
+          contents = subst (AllByRecursion (IsStored m.stored)) (sym kept_is) (stored_left m noted st.scene.world shows.all.shown.blocks shows.blocks left.0 left.1);
+        }

@@ -1,0 +1,199 @@
+-- Which events make no steps, and which forms an event may have.
+use Rattle.std.specs.Prelude.{◌≡◌, ◌≤◌, ℕ, Bool, true, false, List, [], MatchOption, Option, Some, None}
+use Rattle.std.proofs.Common.{refl, sym, subst, arith}
+use Rattle.seize_words.specs.declared.fault.Fault.{Fault}
+use Rattle.seize_words.specs.declared.fault.Fault.TheVariants.{Busy}
+use Rattle.papaya_tables.specs.declared.resize_mode.ResizeMode.{ResizeMode}
+use Rattle.papaya_runs.specs.declared.event.Setup.{Setup}
+use Rattle.papaya_runs.specs.declared.key_hash.KeyHash.{KeyHash}
+use Rattle.papaya_schedules.specs.declared.call.Call.{Call}
+use Rattle.papaya_schedules.specs.declared.call.Reply.{Reply}
+use Rattle.papaya_schedules.specs.declared.effect.Effect.{Effect}
+use Rattle.papaya_schedules.specs.declared.event.Event.{Event}
+use Rattle.papaya_schedules.specs.declared.event.Event.TheVariants.{Collector, Hash, Choose, Register, Unregister, Enter, Own, Refresh, Flush, DropGuard, Forget, ReclaimAll, Close, MakeMap, EndMap, ShowShape, Begin, Step, Go, Replied, OneCall, Next, Stop}
+use Rattle.papaya_schedules.specs.declared.outcome.Outcome.{Outcome}
+use Rattle.papaya_schedules.specs.declared.outcome.Outcome.TheVariants.{Refused}
+use Rattle.papaya_schedules.specs.Entry.{caller_of}
+use Rattle.papaya_schedules.specs.InTurn.{IsKeptOut}
+use Rattle.papaya_schedules.specs.Moment.{Stands}
+use Rattle.papaya_schedules.specs.Steps.{DoesFew, MakesSteps}
+use Rattle.papaya_running.specs.Asked.{is_of_calls, is_of_maps, takes_steps}
+
+module _ {K V : Type 0} where
+  none_made : (form : Event K V) → takes_steps form ≡ false → (stand : Stands) (o : Outcome V) → MakesSteps form stand 0 o
+  none_made form so stand (Refused Busy) = refl
+  none_made (Collector setup) so stand o = refl
+  none_made (Hash by) so stand o = refl
+  none_made (Choose choice) so stand o = refl
+  none_made (Register r) so stand o = refl
+  none_made (Unregister r) so stand o = refl
+  none_made (Enter g r) so stand o = refl
+  none_made (Own g) so stand o = refl
+  none_made (Refresh g) so stand o = refl
+  none_made (Flush g) so stand o = refl
+  none_made (DropGuard g) so stand o = refl
+  none_made (Forget g) so stand o = refl
+  none_made ReclaimAll so stand o = refl
+  none_made Close so stand o = refl
+  none_made (MakeMap n mode c) so stand o = refl
+  none_made (EndMap n) so stand o = refl
+  none_made (ShowShape n) so stand o = refl
+  none_made (Begin c g n call) so stand o = refl
+  none_made (Replied c reply) so stand o = refl
+  none_made (Stop c) so stand o = refl
+  none_made (Step c refuse) so stand o = absurd (cc so)
+  none_made (Go c refuse) so stand o = absurd (cc so)
+  none_made (OneCall g n call) so stand o = absurd (cc so)
+  none_made (Next c) so stand o = absurd (cc so)
+
+  -- an event by which no call takes steps makes none,
+  pub makes_none : (form : Event K V) → takes_steps form ≡ false → (stand : Stands) (steps : ℕ) → steps ≡ 0 → (o : Outcome V) → MakesSteps form stand steps o
+  makes_none form so stand steps none o = subst (λ (n : ℕ). MakesSteps form stand n o) (sym none) (none_made form so stand o)
+
+  -- and its effects are of no call
+  pub does_none : (form : Event K V) → takes_steps form ≡ false → (steps : ℕ) (effects : List Effect) → DoesFew (caller_of form) steps effects
+  does_none (Collector setup) so steps effects = tt
+  does_none (Hash by) so steps effects = tt
+  does_none (Choose choice) so steps effects = tt
+  does_none (Register r) so steps effects = tt
+  does_none (Unregister r) so steps effects = tt
+  does_none (Enter g r) so steps effects = tt
+  does_none (Own g) so steps effects = tt
+  does_none (Refresh g) so steps effects = tt
+  does_none (Flush g) so steps effects = tt
+  does_none (DropGuard g) so steps effects = tt
+  does_none (Forget g) so steps effects = tt
+  does_none ReclaimAll so steps effects = tt
+  does_none Close so steps effects = tt
+  does_none (MakeMap n mode c) so steps effects = tt
+  does_none (EndMap n) so steps effects = tt
+  does_none (ShowShape n) so steps effects = tt
+  does_none (Begin c g n call) so steps effects = tt
+  does_none (Replied c reply) so steps effects = tt
+  does_none (Stop c) so steps effects = tt
+  does_none (Step c refuse) so steps effects = absurd (cc so)
+  does_none (Go c refuse) so steps effects = absurd (cc so)
+  does_none (OneCall g n call) so steps effects = absurd (cc so)
+  does_none (Next c) so steps effects = absurd (cc so)
+
+  busy_makes : (form : Event K V) (stand : Stands) (o : Outcome V) → o ≡ Refused Busy → MakesSteps form stand 0 o
+  busy_makes form stand o is = subst (λ (x : Outcome V). MakesSteps form stand 0 x) (sym is) refl
+
+  -- nor does one that is kept out
+  out_makes : (form : Event K V) (stand : Stands) (o : Outcome V) → IsKeptOut form o → MakesSteps form stand 0 o
+  out_makes (MakeMap n mode c) stand o out = none_made (MakeMap n mode c) refl stand o
+  out_makes form stand (Refused Busy) out = refl
+  out_makes (Collector setup) stand o out = none_made (Collector setup) refl stand o
+  out_makes (Hash by) stand o out = none_made (Hash by) refl stand o
+  out_makes (Choose choice) stand o out = none_made (Choose choice) refl stand o
+  out_makes (Register r) stand o out = none_made (Register r) refl stand o
+  out_makes (Unregister r) stand o out = none_made (Unregister r) refl stand o
+  out_makes (Enter g r) stand o out = none_made (Enter g r) refl stand o
+  out_makes (Own g) stand o out = none_made (Own g) refl stand o
+  out_makes (Refresh g) stand o out = none_made (Refresh g) refl stand o
+  out_makes (Flush g) stand o out = none_made (Flush g) refl stand o
+  out_makes (DropGuard g) stand o out = none_made (DropGuard g) refl stand o
+  out_makes (Forget g) stand o out = none_made (Forget g) refl stand o
+  out_makes ReclaimAll stand o out = none_made ReclaimAll refl stand o
+  out_makes Close stand o out = none_made Close refl stand o
+  out_makes (EndMap n) stand o out = none_made (EndMap n) refl stand o
+  out_makes (ShowShape n) stand o out = none_made (ShowShape n) refl stand o
+  out_makes (Begin c g n call) stand o out = none_made (Begin c g n call) refl stand o
+  out_makes (Replied c reply) stand o out = none_made (Replied c reply) refl stand o
+  out_makes (Stop c) stand o out = none_made (Stop c) refl stand o
+  out_makes (Step c refuse) stand o out = busy_makes (Step c refuse) stand o out
+  out_makes (Go c refuse) stand o out = busy_makes (Go c refuse) stand o out
+  out_makes (OneCall g n call) stand o out = busy_makes (OneCall g n call) stand o out
+  out_makes (Next c) stand o out = busy_makes (Next c) stand o out
+
+  pub makes_out : (form : Event K V) (stand : Stands) (steps : ℕ) → steps ≡ 0 → (o : Outcome V) → IsKeptOut form o → MakesSteps form stand steps o
+  makes_out form stand steps none o out = subst (λ (n : ℕ). MakesSteps form stand n o) (sym none) (out_makes form stand o out)
+
+  -- what does nothing does few
+  pub does_nothing : (own : Option (List ℕ)) (steps : ℕ) (effects : List Effect) → effects ≡ [] → DoesFew own steps effects
+  does_nothing None steps effects none = tt
+  does_nothing (Some caller) steps effects none = subst (λ (l : List Effect). DoesFew (Some caller) steps l) (sym none) (omega arith)
+
+  -- An event of calls has one of these forms,
+  pub some_call : (e : Event K V) → is_of_calls e ≡ true
+      → ((c g n : List ℕ) (call : Call K V) → e ≡ Begin c g n call → ⊥) → ((c : List ℕ) (refuse : Bool) → e ≡ Step c refuse → ⊥) → ((c : List ℕ) (refuse : Bool) → e ≡ Go c refuse → ⊥)
+      → ((c : List ℕ) (reply : Reply V) → e ≡ Replied c reply → ⊥) → ((g n : List ℕ) (call : Call K V) → e ≡ OneCall g n call → ⊥) → ((c : List ℕ) → e ≡ Next c → ⊥) → ((c : List ℕ) → e ≡ Stop c → ⊥) → ⊥
+  some_call (Begin c g n call) is a b d h i j k = a c g n call refl
+  some_call (Step c refuse) is a b d h i j k = b c refuse refl
+  some_call (Go c refuse) is a b d h i j k = d c refuse refl
+  some_call (Replied c reply) is a b d h i j k = h c reply refl
+  some_call (OneCall g n call) is a b d h i j k = i g n call refl
+  some_call (Next c) is a b d h i j k = j c refl
+  some_call (Stop c) is a b d h i j k = k c refl
+  some_call (Collector setup) is a b d h i j k = cc is
+  some_call (Hash by) is a b d h i j k = cc is
+  some_call (Choose choice) is a b d h i j k = cc is
+  some_call (Register r) is a b d h i j k = cc is
+  some_call (Unregister r) is a b d h i j k = cc is
+  some_call (Enter g r) is a b d h i j k = cc is
+  some_call (Own g) is a b d h i j k = cc is
+  some_call (Refresh g) is a b d h i j k = cc is
+  some_call (Flush g) is a b d h i j k = cc is
+  some_call (DropGuard g) is a b d h i j k = cc is
+  some_call (Forget g) is a b d h i j k = cc is
+  some_call ReclaimAll is a b d h i j k = cc is
+  some_call Close is a b d h i j k = cc is
+  some_call (MakeMap n mode c) is a b d h i j k = cc is
+  some_call (EndMap n) is a b d h i j k = cc is
+  some_call (ShowShape n) is a b d h i j k = cc is
+
+  -- one of maps one of these,
+  pub some_map : (e : Event K V) → is_of_maps e ≡ true
+      → ((n : List ℕ) (mode : ResizeMode) (c : ℕ) → e ≡ MakeMap n mode c → ⊥) → ((n : List ℕ) → e ≡ EndMap n → ⊥) → ((n : List ℕ) → e ≡ ShowShape n → ⊥) → (e ≡ ReclaimAll → ⊥) → (e ≡ Close → ⊥) → ⊥
+  some_map (MakeMap n mode c) is a b d h i = a n mode c refl
+  some_map (EndMap n) is a b d h i = b n refl
+  some_map (ShowShape n) is a b d h i = d n refl
+  some_map ReclaimAll is a b d h i = h refl
+  some_map Close is a b d h i = i refl
+  some_map (Collector setup) is a b d h i = cc is
+  some_map (Hash by) is a b d h i = cc is
+  some_map (Choose choice) is a b d h i = cc is
+  some_map (Register r) is a b d h i = cc is
+  some_map (Unregister r) is a b d h i = cc is
+  some_map (Enter g r) is a b d h i = cc is
+  some_map (Own g) is a b d h i = cc is
+  some_map (Refresh g) is a b d h i = cc is
+  some_map (Flush g) is a b d h i = cc is
+  some_map (DropGuard g) is a b d h i = cc is
+  some_map (Forget g) is a b d h i = cc is
+  some_map (Begin c g n call) is a b d h i = cc is
+  some_map (Step c refuse) is a b d h i = cc is
+  some_map (Go c refuse) is a b d h i = cc is
+  some_map (Replied c reply) is a b d h i = cc is
+  some_map (OneCall g n call) is a b d h i = cc is
+  some_map (Next c) is a b d h i = cc is
+  some_map (Stop c) is a b d h i = cc is
+
+  -- and any other one of these.
+  pub some_slot : (e : Event K V) → is_of_maps e ≡ false → is_of_calls e ≡ false
+      → ((setup : Setup) → e ≡ Collector setup → ⊥) → ((by : KeyHash) → e ≡ Hash by → ⊥) → ((choice : ℕ) → e ≡ Choose choice → ⊥) → ((r : List ℕ) → e ≡ Register r → ⊥) → ((r : List ℕ) → e ≡ Unregister r → ⊥)
+      → ((g r : List ℕ) → e ≡ Enter g r → ⊥) → ((g : List ℕ) → e ≡ Own g → ⊥) → ((g : List ℕ) → e ≡ Refresh g → ⊥) → ((g : List ℕ) → e ≡ Flush g → ⊥) → ((g : List ℕ) → e ≡ DropGuard g → ⊥)
+      → ((g : List ℕ) → e ≡ Forget g → ⊥) → ⊥
+  some_slot (Collector setup) no_map no_call a b d f h i j k l m n = a setup refl
+  some_slot (Hash by) no_map no_call a b d f h i j k l m n = b by refl
+  some_slot (Choose choice) no_map no_call a b d f h i j k l m n = d choice refl
+  some_slot (Register r) no_map no_call a b d f h i j k l m n = f r refl
+  some_slot (Unregister r) no_map no_call a b d f h i j k l m n = h r refl
+  some_slot (Enter g r) no_map no_call a b d f h i j k l m n = i g r refl
+  some_slot (Own g) no_map no_call a b d f h i j k l m n = j g refl
+  some_slot (Refresh g) no_map no_call a b d f h i j k l m n = k g refl
+  some_slot (Flush g) no_map no_call a b d f h i j k l m n = l g refl
+  some_slot (DropGuard g) no_map no_call a b d f h i j k l m n = m g refl
+  some_slot (Forget g) no_map no_call a b d f h i j k l m n = n g refl
+  some_slot ReclaimAll no_map no_call a b d f h i j k l m n = cc no_map
+  some_slot Close no_map no_call a b d f h i j k l m n = cc no_map
+  some_slot (MakeMap name mode c) no_map no_call a b d f h i j k l m n = cc no_map
+  some_slot (EndMap name) no_map no_call a b d f h i j k l m n = cc no_map
+  some_slot (ShowShape name) no_map no_call a b d f h i j k l m n = cc no_map
+  some_slot (Begin c g name call) no_map no_call a b d f h i j k l m n = cc no_call
+  some_slot (Step c refuse) no_map no_call a b d f h i j k l m n = cc no_call
+  some_slot (Go c refuse) no_map no_call a b d f h i j k l m n = cc no_call
+  some_slot (Replied c reply) no_map no_call a b d f h i j k l m n = cc no_call
+  some_slot (OneCall g name call) no_map no_call a b d f h i j k l m n = cc no_call
+  some_slot (Next c) no_map no_call a b d f h i j k l m n = cc no_call
+  some_slot (Stop c) no_map no_call a b d f h i j k l m n = cc no_call

@@ -1,0 +1,101 @@
+-- What an event of a form comes to is what is promised of any.
+use Rattle.std.specs.Prelude.{◌≡◌, ◌==◌, ℕ, Bool, true, false, List, [], Result, Ok, Err, IfOk}
+use Rattle.std.proofs.Common.{refl, sym, subst, ◌∙◌}
+use Rattle.papaya_schedules.specs.declared.event.Event.{Event}
+use Rattle.papaya_schedules.specs.declared.event.Event.TheVariants.{Next}
+use Rattle.papaya_schedules.specs.After.{moment}
+use Rattle.papaya_schedules.specs.Beginning.{at_work}
+use Rattle.papaya_schedules.specs.Entry.{Entry, acting, caller_of}
+use Rattle.papaya_schedules.specs.InTurn.{IsKeptOut, is_kept_out}
+use Rattle.papaya_schedules.specs.Steps.{stands_or}
+use Rattle.papaya_schedules.specs.Terms.{Terms}
+use Rattle.papaya_scheduler.specs.KeptOut.{PlaysKeptOut}
+use Rattle.papaya_scheduler.specs.Mapping.{MayMap}
+use Rattle.papaya_scheduler.specs.Played.{IsDue, MayPlay, Plays, entry_of}
+use Rattle.papaya_scheduler.specs.Reclaiming.{MayReclaimAll}
+use Rattle.papaya_scheduler.specs.Turns.{keeps_out}
+use Rattle.papaya_scheduler.specs.declared.played.Played.{Played}
+use Rattle.papaya_scheduler.specs.declared.scheduler.Scheduler.{Scheduler}
+use Rattle.papaya_stepping.specs.Stepping.{ComesInCase, PlaysNextAt, PlaysOnAt}
+use Rattle.papaya_scheduler.proofs.KeptOut.{kept_out_is}
+use Rattle.papaya_running.specs.Asked.{AsksOfSteps, FindsRight, Happens, HappensAt, HappensDue, Holds, MayHappenDue, takes_steps}
+use Rattle.papaya_running.proofs.Forms.{does_none, does_nothing, makes_none, makes_out}
+
+module _ {K V S : Type 0} (same : K → K → Bool) (hash : K → ℕ) (event form : Event K V) (is : event ≡ form) (old : Scheduler K V S) where
+  -- it may happen in this form, too
+  pub due_so : (terms : Terms) (log : List (Entry K V)) → Holds same hash terms (moment log) old → is_kept_out terms event (moment log) ≡ false → IsDue same hash terms log form old
+  due_so terms log holds out = record { played = holds.stands; in_turn = subst (λ (x : Event K V). is_kept_out terms x (moment log) ≡ false) is out }
+
+  pub may_play : MayHappenDue same hash event old → MayPlay same hash form old
+  may_play may = (may.0, may.1, due_so may.0 may.1 may.2 may.3)
+
+  pub may_map : (terms : Terms) (log : List (Entry K V)) → Holds same hash terms (moment log) old → is_kept_out terms event (moment log) ≡ false → MayMap same hash terms log form old
+  may_map terms log holds out = record { due = due_so terms log holds out; lawful = holds.lawful; counts = holds.counts }
+
+  pub may_give : MayHappenDue same hash event old → MayReclaimAll same hash form old
+  may_give may = (may.0, may.1, due_so may.0 may.1 may.2 may.3, may.2.gives)
+
+  module _ (is_first : Bool) (new : Scheduler K V S) where
+    -- what is promised of an event of this form, but for its steps
+    abbrev pub PlaysForm : Played V → Type 0
+    PlaysForm played =
+        (terms : Terms) (log : List (Entry K V)) → is_first ≡ ((moment log).events == 0) → (holds : Holds same hash terms (moment log) old) → is_kept_out terms event (moment log) ≡ false
+        → AsksOfSteps same hash log holds.stands.name form played.effects.items new → Plays same hash terms log (entry_of form played) new
+
+    abbrev Due : Played V → Type 0
+    Due played = HappensDue same hash is_first event played old new
+
+    -- one by which no call takes steps
+    pub still : takes_steps form ≡ false → (played : Played V) → played.steps ≡ 0 → PlaysForm played → Due played
+    still so played none plays = λ terms log first holds out.
+        subst (λ (x : Event K V). Happens same hash holds.stands.name terms log (entry_of x played) new) (sym is) (record {
+          played = λ asks. (plays terms log first holds out asks).played;
+          plays = λ asks finds. plays terms log first holds out asks;
+          makes = makes_none form so (stands_or (acting (caller_of form) (at_work (entry_of form played) (moment log)))) played.steps none played.outcome;
+          does = does_none form so played.steps played.effects.items;
+        })
+
+    pub still_if : {X : Type 0} → takes_steps form ≡ false → (result : Result (Played V) X) → IfOk result (λ played. played.steps ≡ 0) → IfOk result PlaysForm → IfOk result Due
+    still_if so (Ok played) none plays = still so played none plays
+    still_if so (Err x) none plays = tt
+
+    -- one by which a call goes on
+    pub goes_if : {X : Type 0} → ((terms : Terms) (log : List (Entry K V)) (played : Played V) → FindsRight terms log (entry_of form played) → ComesInCase terms log (entry_of form played))
+        → (result : Result (Played V) X) → IfOk result (λ played. PlaysOnAt same hash form played old new) → IfOk result Due
+    goes_if case_of (Ok played) plays = λ terms log first holds out.
+        let on = plays terms log (due_so terms log holds out) in
+        subst (λ (x : Event K V). Happens same hash holds.stands.name terms log (entry_of x played) new) (sym is) (record {
+          played = λ asks. on.played;
+          plays = λ asks finds. on.plays (case_of terms log played finds);
+          makes = on.makes;
+          does = on.does;
+        })
+    goes_if case_of (Err x) plays = tt
+
+-- the next pair of a walk
+module _ {K V S : Type 0} (same : K → K → Bool) (hash : K → ℕ) (event : Event K V) (own : List ℕ) (is : event ≡ Next own) (old : Scheduler K V S) (is_first : Bool) (new : Scheduler K V S) where
+  pub next_if : {X : Type 0} (result : Result (Played V) X) → IfOk result (λ played. PlaysNextAt same hash own played old new) → IfOk result (λ played. HappensDue same hash is_first event played old new)
+  next_if (Ok played) plays = λ terms log first holds out.
+      let on = plays terms log (due_so same hash event (Next own) is old terms log holds out) in
+      subst (λ (x : Event K V). Happens same hash holds.stands.name terms log (entry_of x played) new) (sym is) (record { played = λ asks. on.plays.played; plays = λ asks finds. on.plays; makes = on.makes; does = on.does })
+  next_if (Err x) plays = tt
+
+-- An event is kept out, or in turn.
+module _ {K V S : Type 0} (same : K → K → Bool) (hash : K → ℕ) (event : Event K V) (old : Scheduler K V S) where
+  pub out_so : (terms : Terms) (log : List (Entry K V)) → Holds same hash terms (moment log) old → (told out : Bool) → told ≡ keeps_out event old → told ≡ out → is_kept_out terms event (moment log) ≡ out
+  out_so terms log holds told out by is = kept_out_is same hash terms (moment log) old holds.stands event ∙ sym by ∙ is
+
+  module _ (is_first : Bool) (new : Scheduler K V S) where
+    pub stays_out : (played : Played V) → IsKeptOut event played.outcome → played.steps ≡ 0 → played.effects.items ≡ [] → PlaysKeptOut same hash event played old new → keeps_out event old ≡ true
+        → HappensAt same hash is_first event played old new
+    stays_out played kept none nothing plays out = λ terms log first holds. record {
+      played = λ asks. (plays terms log holds.stands out).played;
+      plays = λ asks finds. plays terms log holds.stands out;
+      makes = makes_out event (stands_or (acting (caller_of event) (at_work (entry_of event played) (moment log)))) played.steps none played.outcome kept;
+      does = does_nothing (caller_of event) played.steps played.effects.items nothing;
+    }
+
+    pub in_turn_if : {X : Type 0} (result : Result (Played V) X) → IfOk result (λ played. HappensDue same hash is_first event played old new) → keeps_out event old ≡ false
+        → IfOk result (λ played. HappensAt same hash is_first event played old new)
+    in_turn_if (Ok played) due out = λ terms log first holds. due terms log first holds (kept_out_is same hash terms (moment log) old holds.stands event ∙ out)
+    in_turn_if (Err x) due out = tt

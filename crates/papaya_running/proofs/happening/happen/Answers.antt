@@ -1,0 +1,59 @@
+-- An event is kept out, or happens by its kind.
+use Rattle.std.proofs.Common.{refl, sym, ap, ◌∙◌}
+use Rattle.papaya_running.proofs.Happened.{in_turn_if, out_so, stays_out}
+use Rattle.papaya_running.proofs.happening.happen.Goals as goal
+
+pub returns-then-keeps_out : goal.returns-then-keeps_out
+returns-then-keeps_out g c = record {
+  happens =
+      stays_out g.K.PartialEq.eq (g.S.Hashes.hash c.args.scheduler.now.logged.executor.hasher) c.args.event c.args.scheduler.now c.args.is_first c.refuse.new.self c.refuse.result
+      c.refuse.ensures.outcome c.refuse.ensures.steps c.refuse.ensures.effects
+      (c.refuse.ensures.plays g.K.PartialEq.eq (g.S.Hashes.hash c.args.scheduler.now.logged.executor.hasher)) (sym c.keeps_out.ensures ∙ c.if-keeps_out.true);
+  hasher = ap (λ p. p.logged.executor.hasher) c.refuse.ensures.mapped;
+}
+
+pub of_calls-requires : goal.of_calls-requires
+of_calls-requires g c =
+    let r = c.requires in record {
+      due = (r.0, r.1, r.2, out_so g.K.PartialEq.eq (g.S.Hashes.hash c.args.scheduler.now.logged.executor.hasher) c.args.event c.args.scheduler.now r.0 r.1 r.2 _ _ c.keeps_out.ensures c.if-keeps_out.false);
+      calls = sym c.is_of_calls.ensures ∙ c.if-is_of_calls.true;
+    }
+
+pub returns-then-is_of_calls : goal.returns-then-is_of_calls
+returns-then-is_of_calls g c = record {
+  happens =
+      in_turn_if g.K.PartialEq.eq (g.S.Hashes.hash c.args.scheduler.now.logged.executor.hasher) c.args.event c.args.scheduler.now c.args.is_first c.of_calls.new.scheduler c.of_calls.result
+      c.of_calls.ensures.happens (sym c.keeps_out.ensures ∙ c.if-keeps_out.false);
+  hasher = c.of_calls.ensures.hasher;
+}
+
+pub of_maps-requires : goal.of_maps-requires
+of_maps-requires g c =
+    let r = c.requires in record {
+      due = (r.0, r.1, r.2, out_so g.K.PartialEq.eq (g.S.Hashes.hash c.args.scheduler.now.logged.executor.hasher) c.args.event c.args.scheduler.now r.0 r.1 r.2 _ _ c.keeps_out.ensures c.if-keeps_out.false);
+      maps = sym c.is_of_maps.ensures ∙ c.if-is_of_maps.true;
+    }
+
+pub returns-then-is_of_maps : goal.returns-then-is_of_maps
+returns-then-is_of_maps g c = record {
+  happens =
+      in_turn_if g.K.PartialEq.eq (g.S.Hashes.hash c.args.scheduler.now.logged.executor.hasher) c.args.event c.args.scheduler.now c.args.is_first c.of_maps.new.scheduler c.of_maps.result
+      c.of_maps.ensures.happens (sym c.keeps_out.ensures ∙ c.if-keeps_out.false);
+  hasher = c.of_maps.ensures.hasher;
+}
+
+pub of_slots-requires : goal.of_slots-requires
+of_slots-requires g c =
+    let r = c.requires in record {
+      due = (r.0, r.1, r.2, out_so g.K.PartialEq.eq (g.S.Hashes.hash c.args.scheduler.now.logged.executor.hasher) c.args.event c.args.scheduler.now r.0 r.1 r.2 _ _ c.keeps_out.ensures c.if-keeps_out.false);
+      no_maps = sym c.is_of_maps.ensures ∙ c.if-is_of_maps.false;
+      no_calls = sym c.is_of_calls.ensures ∙ c.if-is_of_calls.false;
+    }
+
+pub returns : goal.returns
+returns g c = record {
+  happens =
+      in_turn_if g.K.PartialEq.eq (g.S.Hashes.hash c.args.scheduler.now.logged.executor.hasher) c.args.event c.args.scheduler.now c.args.is_first c.of_slots.new.scheduler c.of_slots.result
+      c.of_slots.ensures.happens (sym c.keeps_out.ensures ∙ c.if-keeps_out.false);
+  hasher = c.of_slots.ensures.hasher;
+}

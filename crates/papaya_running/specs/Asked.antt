@@ -1,0 +1,98 @@
+-- What is asked of an event, and what is promised of it then.
+use Rattle.std.specs.Prelude.{◌≡◌, ◌==◌, ℕ, Bool, true, false, List, ◌∷◌}
+use Rattle.papaya_points.specs.Steps.{AreLawful}
+use Rattle.papaya_schedules.specs.declared.event.Event.{Event}
+use Rattle.papaya_schedules.specs.declared.event.Event.TheVariants.{ReclaimAll, Close, MakeMap, EndMap, ShowShape, Begin, Step, Go, Replied, OneCall, Next, Stop}
+use Rattle.papaya_schedules.specs.declared.effect.Effect.{Effect}
+use Rattle.papaya_schedules.specs.After.{moment}
+use Rattle.papaya_schedules.specs.Beginning.{at_work}
+use Rattle.papaya_schedules.specs.Entry.{Entry, acting, caller_of}
+use Rattle.papaya_schedules.specs.InTurn.{is_kept_out}
+use Rattle.papaya_schedules.specs.Moment.{Moment}
+use Rattle.papaya_schedules.specs.Steps.{DoesFew, MakesSteps, stands_or}
+use Rattle.papaya_schedules.specs.Terms.{Terms}
+use Rattle.papaya_scheduler.specs.Mapping.{CountsMaps}
+use Rattle.papaya_scheduler.specs.Played.{Plays, StandsFor, entry_of, IsPlayed}
+use Rattle.papaya_scheduler.specs.Reclaiming.{MayComeBack, MayGiveAll}
+use Rattle.papaya_scheduler.specs.declared.played.Played.{Played}
+use Rattle.papaya_scheduler.specs.declared.scheduler.Scheduler.{Scheduler}
+use Rattle.papaya_stepping.specs.Stepping.{ComesInCase}
+
+module _ {K V : Type 0} where
+  -- A call that goes on waits, or is refused for the length of a table, in its case.
+  abbrev pub FindsBy : Terms → List (Entry K V) → Entry K V → Event K V → Type 0
+  FindsBy terms log e (Step caller refuse) = ComesInCase terms log e
+  FindsBy terms log e (Go caller refuse) = ComesInCase terms log e
+  FindsBy terms log e (OneCall guard name call) = ComesInCase terms log e
+  FindsBy terms log e _ = Unit {0}
+
+  -- so it is of the event of an entry
+  abbrev pub FindsRight : Terms → List (Entry K V) → Entry K V → Type 0
+  FindsRight terms log e = FindsBy terms log e e.event
+
+  -- an event of a call: it begins, goes on, is told something, or is given up
+  abbrev pub is_of_calls : Event K V → Bool
+  is_of_calls (Begin caller guard name call) = true
+  is_of_calls (Step caller refuse) = true
+  is_of_calls (Go caller refuse) = true
+  is_of_calls (Replied caller reply) = true
+  is_of_calls (OneCall guard name call) = true
+  is_of_calls (Next caller) = true
+  is_of_calls (Stop caller) = true
+  is_of_calls _ = false
+
+  -- one of maps, or of all at once
+  abbrev pub is_of_maps : Event K V → Bool
+  is_of_maps (MakeMap name mode capacity) = true
+  is_of_maps (EndMap name) = true
+  is_of_maps (ShowShape name) = true
+  is_of_maps ReclaimAll = true
+  is_of_maps Close = true
+  is_of_maps _ = false
+
+  -- one by which a call takes steps
+  abbrev pub takes_steps : Event K V → Bool
+  takes_steps (Step caller refuse) = true
+  takes_steps (Go caller refuse) = true
+  takes_steps (OneCall guard name call) = true
+  takes_steps (Next caller) = true
+  takes_steps _ = false
+
+module _ {K V S : Type 0} (same : K → K → Bool) (hash : K → ℕ) where
+  -- The scheduler stands for the moment, and what events ask of it is so: keys have lawful hashes; numbers, roots and names of maps are those that the moment says; and what ended maps
+  -- left over is behind their roots.
+  pub record Holds (terms : Terms) (m : Moment K V) (p : Scheduler K V S) : Type 0 where
+    pub stands : StandsFor same hash terms m p
+    pub lawful : AreLawful same hash
+    pub counts : CountsMaps m p
+    pub gives : MayGiveAll p stands.scene
+
+  -- What is asked of single steps that is not promised of them yet: what every step keeps is so once all is reclaimed.
+  abbrev pub AsksOfSteps : List (Entry K V) → (ℕ → List ℕ) → Event K V → List Effect → Scheduler K V S → Type 0
+  AsksOfSteps log name ReclaimAll did new = MayComeBack same hash (moment log) name did new.logged
+  AsksOfSteps log name Close did new = MayComeBack same hash (moment log) name did new.logged
+  AsksOfSteps log name _ did new = Unit {0}
+
+  -- What is promised of an event: the scheduler has played the log with it; it comes to what is right, where it finds what it must; it makes as many steps as it may, and does not more.
+  pub record Happens (name : ℕ → List ℕ) (terms : Terms) (log : List (Entry K V)) (e : Entry K V) (p : Scheduler K V S) : Type 0 where
+    pub played : AsksOfSteps log name e.event e.effects p → IsPlayed same hash terms (e ∷ log) p
+    pub plays : AsksOfSteps log name e.event e.effects p → FindsRight terms log e → Plays same hash terms log e p
+    pub makes : MakesSteps e.event (stands_or (acting (caller_of e.event) (at_work e (moment log)))) e.steps e.outcome
+    pub does : DoesFew (caller_of e.event) e.steps e.effects
+
+  -- an event may happen, kept out or not,
+  abbrev pub MayHappen : Scheduler K V S → Type 0
+  MayHappen p = (terms : Terms) × (log : List (Entry K V)) × Holds terms (moment log) p
+
+  -- and one that is in turn
+  abbrev pub MayHappenDue : Event K V → Scheduler K V S → Type 0
+  MayHappenDue event p = (terms : Terms) × (log : List (Entry K V)) × Holds terms (moment log) p × (is_kept_out terms event (moment log) ≡ false)
+
+  abbrev pub HappensAt : Bool → Event K V → Played V → (old new : Scheduler K V S) → Type 0
+  HappensAt is_first event played old new =
+      (terms : Terms) (log : List (Entry K V)) → is_first ≡ ((moment log).events == 0) → (holds : Holds terms (moment log) old) → Happens holds.stands.name terms log (entry_of event played) new
+
+  abbrev pub HappensDue : Bool → Event K V → Played V → (old new : Scheduler K V S) → Type 0
+  HappensDue is_first event played old new =
+      (terms : Terms) (log : List (Entry K V)) → is_first ≡ ((moment log).events == 0) → (holds : Holds terms (moment log) old) → is_kept_out terms event (moment log) ≡ false
+      → Happens holds.stands.name terms log (entry_of event played) new

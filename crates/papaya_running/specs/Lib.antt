@@ -1,0 +1,5 @@
+pub mod Asked
+pub mod Tally
+pub mod Ending
+pub mod Acting
+pub mod Run

@@ -1,0 +1,68 @@
+-- What so many events of a schedule have come to, and what is promised of the run of a schedule.
+use Rattle.std.specs.Prelude.{◌≡◌, ◌^◌, ◌||◌, ℕ, min, Bool, List, [], length, filter, map, IsSorted}
+use Rattle.std.specs.List.{AllByRecursion}
+use Rattle.std.specs.Ordering.{nat_cmp}
+use Rattle.papaya_runs.specs.Pairs.{numbers}
+use Rattle.papaya_runs.specs.Runs.{IsStored}
+use Rattle.papaya_schedules.specs.declared.event.Event.{Event}
+use Rattle.papaya_schedules.specs.declared.record.Run.{Run}
+use Rattle.papaya_schedules.specs.After.{AtEachEvent, moment}
+use Rattle.papaya_schedules.specs.Beginning.{at_work}
+use Rattle.papaya_schedules.specs.Entry.{Entry, acting, caller_of}
+use Rattle.papaya_schedules.specs.InTurn.{ComesRight}
+use Rattle.papaya_schedules.specs.Moment.{Moment}
+use Rattle.papaya_schedules.specs.Runs.{Lists, ShowsMaps, log_of, log_on, trace_of}
+use Rattle.papaya_schedules.specs.Steps.{DoesFew, MakesSteps, stands_or}
+use Rattle.papaya_schedules.specs.Terms.{Terms}
+use Rattle.papaya_schedules.specs.Views.{is_in_a_map, is_retired, is_waiting}
+use Rattle.papaya_scheduler.specs.declared.scheduler.Given.{Given}
+use Rattle.papaya_scheduler.specs.declared.scheduler.Scheduler.{Scheduler}
+use Rattle.papaya_running.specs.Asked.{FindsRight, Holds}
+use Rattle.papaya_running.specs.Tally.{TellsMoment}
+use Rattle.papaya_running.specs.declared.record.Record.{Record}
+use Rattle.papaya_running.specs.declared.tally.Tally.{Tally}
+
+-- more processors than these count as so many
+abbrev pub bounded : Given → Given
+bounded given = record given { setup = record given.setup { processors = min given.setup.processors (2 ^ 63) } }
+
+module _ {K V : Type 0} where
+  -- the log of these events, by what they came to
+  abbrev pub log_so : List (Event K V) → Record V → List (Entry K V)
+  log_so events rec = log_on [] events rec.outcomes.items rec.steps.items (map (λ v. v.items) rec.effects.items)
+
+  -- An event comes to what is right, where it finds what it must; it makes as many steps as it may, and does not more.
+  pub record GoesRight (terms : Terms) (log : List (Entry K V)) (e : Entry K V) : Type 0 where
+    pub right : FindsRight terms log e → ComesRight terms log e
+    pub makes : MakesSteps e.event (stands_or (acting (caller_of e.event) (at_work e (moment log)))) e.steps e.outcome
+    pub does : DoesFew (caller_of e.event) e.steps e.effects
+
+  -- What a run tells at its end of maps, and of what is not reclaimed, is what its events say, also while calls are under way.
+  pub record TellsMost (m : Moment K V) (run : Run K V) : Type 0 where
+    pub stored : run.stored ≡ length m.stored
+    pub maps : ShowsMaps run.maps.items m.maps m
+    pub waiting : Lists run.waiting.items is_waiting m
+    pub ascending : IsSorted nat_cmp run.waiting.items
+    pub tables : run.tables ≡ length (filter (λ u. is_retired u.stage) m.tables)
+    pub kept : Lists (numbers run.kept) (λ place. is_in_a_map place || is_waiting place) m
+    pub contents : AllByRecursion (IsStored m.stored) run.kept
+
+  -- The run is one of this schedule, as far as that.
+  pub record IsRightRun (terms : Terms) (schedule : List (Event K V)) (run : Run K V) : Type 0 where
+    pub outcomes : length run.outcomes.items ≡ length schedule
+    pub steps : length run.steps.items ≡ length schedule
+    pub effects : length run.effects.items ≡ length schedule
+    pub trace : run.trace.items ≡ trace_of (log_of schedule run)
+    pub goes : AtEachEvent (GoesRight terms) (log_of schedule run)
+    pub tells : TellsMost (moment (log_of schedule run)) run
+
+module _ {K V S : Type 0} (same : K → K → Bool) (hash : K → ℕ) where
+  -- These events have happened so far: the scheduler stands for the moment after them, and what events ask of it is so; and the tally tells where pairs and tables are then.
+  pub record SoFar (terms : Terms) (events : List (Event K V)) (rec : Record V) (tally : Tally) (p : Scheduler K V S) : Type 0 where
+    pub outcomes : length rec.outcomes.items ≡ length events
+    pub steps : length rec.steps.items ≡ length events
+    pub effects : length rec.effects.items ≡ length events
+    pub trace : rec.trace.items ≡ trace_of (log_so events rec)
+    pub goes : AtEachEvent (GoesRight terms) (log_so events rec)
+    pub holds : Holds same hash terms (moment (log_so events rec)) p
+    pub told : TellsMoment tally (moment (log_so events rec))

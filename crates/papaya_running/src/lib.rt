@@ -1,0 +1,8 @@
+//! Schedules whose calls stay under way: any event happens, and a whole schedule runs.
+#![tactic(auto)]
+
+pub mod acting;
+pub mod ending;
+pub mod happening;
+pub mod record;
+pub mod tally;

@@ -1,0 +1,36 @@
+-- Everything is reclaimed.
+use Rattle.std.proofs.Common.{[], sym, refl, ◌∙◌}
+use Rattle.seize_words.specs.declared.fault.Fault.TheVariants.{Busy}
+use Rattle.papaya_schedules.specs.After.{moment}
+use Rattle.papaya_schedules.specs.declared.event.Event.TheVariants.{ReclaimAll}
+use Rattle.papaya_schedules.specs.declared.outcome.Outcome.TheVariants.{Refused}
+use Rattle.papaya_scheduler.proofs.AllGiven.{all_reclaimed, may_reclaim, nobody_has, not_left}
+use Rattle.papaya_scheduler.proofs.Rights.{so_played}
+use Rattle.papaya_scheduler.proofs.scheduler.Scheduler.reclaim_all.Goals as goal
+
+pub returns-then-not-are_gone-clause-plays : goal.returns-then-not-are_gone-clause-plays
+returns-then-not-are_gone-clause-plays g c =
+    λ same hash terms log due may takes.
+      so_played same hash terms log c.args.self.now ReclaimAll c.busy.result (Refused Busy) 0 [] c.busy.ensures.outcome c.busy.ensures.steps c.busy.ensures.effects
+      (not_left same hash terms log c.args.self.now due (sym c.are_gone.ensures ∙ c.if-not-are_gone.true))
+
+pub give_all_back-requires : goal.give_all_back-requires
+give_all_back-requires g c =
+    let r = c.requires in
+    let gone = sym c.are_gone.ensures ∙ c.if-not-are_gone.false in (
+      r.0,
+      r.1,
+      r.2.2.played.name,
+      moment r.2.1,
+      r.2.2.played.scene,
+      r.2.3.lists,
+      r.2.2.played.shown,
+      nobody_has r.0 r.1 r.2.0 (moment r.2.1) c.args.self.now r.2.2.played gone,
+      may_reclaim r.0 r.1 r.2.0 (moment r.2.1) c.args.self.now r.2.2.played gone r.2.3,
+    )
+
+pub returns-clause-plays : goal.returns-clause-plays
+returns-clause-plays g c =
+    λ same hash terms log due may takes.
+      all_reclaimed same hash terms log c.args.self.now due (sym c.are_gone.ensures ∙ c.if-not-are_gone.false) may c.give_all_back.new.self.logged c.no_effects-effects.result.items c.give_all_back.new.effects.items
+      c.no_effects-effects.ensures c.in_ok-give_all_back.ensures.ran takes _ c.in_ok-give_all_back.ensures.rest

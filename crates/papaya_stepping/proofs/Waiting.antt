@@ -1,0 +1,156 @@
+-- Which call another one may wait for, by the moment that shows them: one that copies on its map, or that has the batch of its slot in hand.
+use Rattle.std.specs.Prelude.{◌-◌, ◌==◌, ◌&&◌, ◌||◌, nat_le, nat_lt, not, length, filter, map, Option, Some}
+use Rattle.std.specs.List.{list_any}
+use Rattle.std.proofs.Common.{◌≡◌, ℕ, zero, suc, ◌≤◌, ◌<◌, Bool, true, false, List, refl, sym, ap, ◌∙◌, inl, inr, ◌⊎◌, arith}
+use Rattle.std.proofs.lemmas.Bool.{eq-eqb}
+use Rattle.std.proofs.lemmas.List.{length-map}
+use Rattle.seize.specs.World.{Rests}
+use Rattle.seize_ends.specs.Holders.{has_batch}
+use Rattle.papaya_raw.specs.declared.machines.call.Calling.{Calling}
+use Rattle.papaya_raw.specs.declared.machines.call.Calling.TheVariants as at
+use Rattle.papaya_rule.specs.Chart.{Chart}
+use Rattle.papaya_rule.specs.Words.{Blocks}
+use Rattle.papaya_shown.specs.Shown.{tables_on}
+use Rattle.papaya_runs.specs.Present.{slot_of_guard}
+use Rattle.papaya_runs.specs.Same.{is_same}
+use Rattle.papaya_schedules.specs.Growing.{only_looks}
+use Rattle.papaya_schedules.specs.InUse.{is_handing, may_wait_for}
+use Rattle.papaya_schedules.specs.Moment.{TableThere, UnderWay as CallThere, Moment}
+use Rattle.papaya_schedules.specs.Terms.{Terms}
+use Rattle.papaya_schedules.specs.Views.{call_of, chain_of, first_of, first_or, tables_of}
+use Rattle.papaya_late.specs.Kinds.{LooksAt}
+use Rattle.papaya_points.specs.Told.{IsRowOfCall}
+use Rattle.papaya_callers.specs.Together.{UnderWay, OnKey, ForRoom, Counting, OverAll}
+use Rattle.papaya_finishes.specs.Machines.{machine_of}
+use Rattle.papaya_finishes.specs.Maps.{Standing}
+use Rattle.papaya_executor.specs.IsAt.{slot_of}
+use Rattle.papaya_executor.proofs.Changed.{standing_is}
+use Rattle.papaya_follows.specs.Calls.{IsCalled}
+use Rattle.papaya_hands.proofs.Calling.{caller_is}
+use Rattle.papaya_owes.specs.Looking.{IsLooking}
+use Rattle.papaya_rows.proofs.Holders.{works_there}
+use Rattle.papaya_scheduler.specs.Played.{StandsFor}
+use Rattle.papaya_scheduler.specs.Shapes.{shape_of}
+use Rattle.papaya_scheduler.specs.declared.scheduler.Scheduler.{Scheduler}
+use Rattle.papaya_scheduler.proofs.HeldTold.{has_call, its_guard, one_passes}
+use Rattle.papaya_scheduler.proofs.ShapesHere.{shapes_from}
+
+-- as many tables as are counted
+tables_count : {K : Type 0} (c : Chart K) (blocks : Blocks) (t k : ℕ) → length (tables_on c blocks t k) ≡ k
+tables_count c blocks t zero = refl
+tables_count c blocks t (suc k) = ap (λ (n : ℕ). suc n) (tables_count c blocks (suc t) k)
+
+all_true : (a b c : Bool) → a ≡ true → b ≡ true → c ≡ true → (a && b && c) ≡ true
+all_true true true true x y z = refl
+all_true false b c x y z = absurd (cc x)
+all_true true false c x y z = absurd (cc y)
+all_true true true false x y z = absurd (cc z)
+
+both_true : (a b : Bool) → a ≡ true → b ≡ true → (a && b) ≡ true
+both_true true true x y = refl
+both_true false b x y = absurd (cc x)
+both_true true false x y = absurd (cc y)
+
+or_left : (a b : Bool) → a ≡ true → (a || b) ≡ true
+or_left true b e = refl
+or_left false b e = absurd (cc e)
+
+or_right : (a b : Bool) → b ≡ true → (a || b) ≡ true
+or_right true b e = refl
+or_right false true e = refl
+or_right false false e = absurd (cc e)
+
+-- a lookup stands at no row
+no_row : (q : Calling) → LooksAt q → IsRowOfCall q → ⊥
+no_row (at.Looks lookup) looks row = row
+no_row (at.Over end) looks row = row
+no_row _ looks row = absurd looks
+
+module _ {K V S : Type 0} (same : K → K → Bool) (hash : K → ℕ) (terms : Terms) (m : Moment K V) (p : Scheduler K V S) (stands : StandsFor same hash terms m p) where
+  -- the tables of a map from its root on are counted by its chart
+  module _ (number : ℕ) (st : Standing K) (is : stands.scene.maps number ≡ Some st) where
+    chain_length : st.chart.first ≤ st.chart.past → length (chain_of number m) ≡ st.chart.past - st.chart.first
+    chain_length upto =
+        let shows = stands.shown.shows.all.shown.maps number st is in
+        let first : first_of number m ≡ st.chart.first = ap first_or shows.there.is ∙ shows.there.first in
+        sym (length-map (chain_of number m) (λ t. t.shape))
+        ∙ ap length (ap (λ (f : ℕ). map (λ t. t.shape) (filter (λ t. nat_le f t.table.turn) (tables_of number m))) first
+        ∙ ap (λ (xs : List TableThere). map (λ t. t.shape) (filter (λ t. nat_le st.chart.first t.table.turn) xs)) shows.tables.listed
+        ∙ shapes_from st.chart st.blocks number shows.tables.stage st.chart.first st.chart.past upto)
+        ∙ length-map (tables_on st.chart st.blocks st.chart.first (st.chart.past - st.chart.first)) shape_of
+        ∙ tables_count st.chart st.blocks st.chart.first (st.chart.past - st.chart.first)
+
+    pub chain_longer : suc st.chart.first < st.chart.past → nat_lt 1 (length (chain_of number m)) ≡ true
+    chain_longer more =
+        ap (λ (n : ℕ). nat_lt 1 n) (chain_length (omega (arith, more))) ∙ less (st.chart.past - st.chart.first) (omega (arith, more))
+      where
+        less : (n : ℕ) → 1 < n → nat_lt 1 n ≡ true
+        less n l = grind (arith, l)
+
+  -- of two callers' calls, this one and another
+  module _ (of n i j : ℕ) (u x : UnderWay K V K) (under : stands.scene.calls of i ≡ Some u) (there : stands.scene.calls n j ≡ Some x) (other : j ≡ i → ⊥) where
+    abbrev its : (c : CallThere K V) × (call_of (stands.name i) m ≡ Some c) × (c.map ≡ of) × IsCalled same u c.call
+    its = stands.shown.shows.all.shown.calls of i u under
+
+    abbrev one : (d : CallThere K V) × (call_of (stands.name j) m ≡ Some d) × (d.map ≡ n) × IsCalled same x d.call
+    one = stands.shown.shows.all.shown.calls n j x there
+
+    apart : is_same one.0.caller its.0.caller ≡ false
+    apart =
+        ap (λ (l : List ℕ). is_same l its.0.caller) (caller_is (stands.name j) m one.0 one.1) ∙ ap (λ (l : List ℕ). is_same (stands.name j) l) (caller_is (stands.name i) m its.0 its.1)
+        ∙ by (is_same (stands.name j) (stands.name i)) refl
+      where
+        by : (b : Bool) → is_same (stands.name j) (stands.name i) ≡ b → is_same (stands.name j) (stands.name i) ≡ false
+        by false e = e
+        by true e = absurd (other (stands.shown.shows.all.asked.apart n j of i x u there under e).1)
+
+    works : (IsLooking (machine_of x) → ⊥) → only_looks one.0.call ≡ false
+    works never = by (only_looks one.0.call) refl
+      where
+        by : (b : Bool) → only_looks one.0.call ≡ b → only_looks one.0.call ≡ false
+        by false e = e
+        by true e = absurd (never (stands.shown.kept.looking n j x there one.0 one.1 e))
+
+    -- it passes as one to wait for
+    passes : only_looks one.0.call ≡ false
+        → ((((one.0.map == its.0.map) && nat_lt 1 (length (chain_of its.0.map m)))
+        || (is_handing one.0 && ((one.0.map == its.0.map) || (slot_of_guard one.0.guard m.there == slot_of_guard its.0.guard m.there)))) ≡ true)
+        → list_any (may_wait_for its.0 m) m.calls ≡ true
+    passes looks so =
+        one_passes (λ c. is_same c.caller (stands.name j)) (may_wait_for its.0 m) m.calls one.0 one.1
+        (all_true (not (is_same one.0.caller its.0.caller)) (not (only_looks one.0.call)) _ (ap not apart) (ap not looks) so)
+
+    -- one that copies on its map, which has a second table
+    pub waits_for_copier : n ≡ of → (IsLooking (machine_of x) → ⊥) → (st : Standing K) → stands.scene.maps of ≡ Some st → suc st.chart.first < st.chart.past → list_any (may_wait_for its.0 m) m.calls ≡ true
+    waits_for_copier on never st is more =
+        passes (works never)
+        (or_left _ _
+        (ap (λ (b : Bool). b && nat_lt 1 (length (chain_of its.0.map m))) (eq-eqb one.0.map its.0.map (one.2 ∙ on ∙ sym its.2))
+        ∙ ap (λ (k : ℕ). nat_lt 1 (length (chain_of k m))) its.2 ∙ chain_longer of st is more))
+
+  -- one that only looks has no row under way
+  looks_rest : (n j : ℕ) (x : UnderWay K V K) → stands.scene.calls n j ≡ Some x → IsLooking (machine_of x) → stands.scene.world.row j ≡ Rests
+  looks_rest n j (OnKey u) there looks =
+      let its_map = standing_is same hash p.logged.executor stands.scene stands.shown.is_at n j (OnKey u) there in
+      elim ((stands.shown.is_at.together.makings.standing.each n its_map.0 its_map.1).stand j (OnKey u) there) as (λ _. stands.scene.world.row j ≡ Rests) [
+        | inl rests ↦ rests.0
+        | inr row ↦ absurd (no_row u.call.stands looks.1 row.1)
+      ]
+  looks_rest n j (Counting sum) there looks =
+      let its_map = standing_is same hash p.logged.executor stands.scene stands.shown.is_at n j (Counting sum) there in
+      ((stands.shown.is_at.together.makings.standing.each n its_map.0 its_map.1).stand j (Counting sum) there).0
+  looks_rest n j (ForRoom r) there looks = absurd looks
+  looks_rest n j (OverAll o) there looks = absurd looks
+
+  -- one that has the batch of its slot in hand
+  pub waits_for_holder : (of i j : ℕ) (u : UnderWay K V K) (under : stands.scene.calls of i ≡ Some u) → has_batch (slot_of i) (stands.scene.world.row j) ≡ true → (j ≡ i → ⊥)
+      → list_any (may_wait_for (stands.shown.shows.all.shown.calls of i u under).0 m) m.calls ≡ true
+  waits_for_holder of i j u under has other =
+      let call = has_call same hash terms m p stands j (slot_of i) has in
+      let busy : stands.scene.world.row j ≡ Rests → ⊥ = λ rests. (let none = ap (has_batch (slot_of i)) rests in cc (none, has)) in
+      let mine = its_guard same hash terms m p stands of i u under in
+      let theirs = its_guard same hash terms m p stands call.0 j call.1 call.2 ∙ works_there same hash p.logged.executor stands.scene stands.shown.is_at j (slot_of i) has in
+      let handing = stands.shown.kept.handing call.0 j call.1 call.2 busy (stands.shown.shows.all.shown.calls call.0 j call.1 call.2).0 (stands.shown.shows.all.shown.calls call.0 j call.1 call.2).1 in
+      passes of call.0 i j u call.1 under call.2 other (works of call.0 i j u call.1 under call.2 other (λ looks. busy (looks_rest call.0 j call.1 call.2 looks)))
+      (or_right _ _
+      (both_true _ _ handing (or_right _ _ (eq-eqb _ _ (theirs ∙ sym mine)))))

@@ -1,0 +1,99 @@
+-- The next pair of a walk is shown, or that there is none.
+use Rattle.std.proofs.Common.{[], refl, sym, ap, subst, ◌∙◌}
+use Rattle.seize_words.specs.declared.fault.Fault.TheVariants.{Busy}
+use Rattle.papaya_schedules.specs.After.{moment}
+use Rattle.papaya_schedules.specs.declared.event.Event.TheVariants.{Next}
+use Rattle.papaya_schedules.specs.declared.outcome.Outcome.TheVariants.{Refused}
+use Rattle.papaya_executor.specs.IsAt.{HasCall}
+use Rattle.papaya_logged.specs.Calling.{WalkGoesOn}
+use Rattle.papaya_rows.proofs.Lists.{got_within}
+use Rattle.papaya_stepping.specs.Stepping.{MayWalk, PlaysNext, WalkComes}
+use Rattle.papaya_stepping.proofs.NextEnds.{asked_here, next_asked, next_busy, next_may, next_ready, plays_next, there}
+use Rattle.papaya_scheduler.proofs.Rights.{entry, entry_is}
+use Rattle.papaya_stepping.proofs.walking.next.Goals as goal
+
+pub returns-in_default : goal.returns-in_default
+returns-in_default g c = record {
+  plays = λ terms log due.
+      let hash = g.S.Hashes.hash c.args.scheduler.now.logged.executor.hasher in
+      subst (λ e. PlaysNext g.K.PartialEq.eq hash terms log e c.args.scheduler.now)
+      (sym (entry_is (Next c.args.caller.now) c.busy.result (Refused Busy) 0 [] c.busy.ensures.outcome c.busy.ensures.steps c.busy.ensures.effects))
+      (next_busy g.K.PartialEq.eq hash terms log c.args.caller.now c.args.scheduler.now due (sym c.in_default.is ∙ c.place_of_ready.ensures));
+}
+
+pub way_of-number-requires : goal.way_of-number-requires
+way_of-number-requires g c =
+    let r = c.requires in
+    let here = asked_here g.K.PartialEq.eq (g.S.Hashes.hash c.args.scheduler.now.logged.executor.hasher) r.0 r.1 c.args.caller.now c.args.scheduler.now r.2 c.in-Some.place (sym c.in-Some.is ∙ c.place_of_ready.ensures) in
+    got_within c.args.scheduler.now.calls.items.items c.in-Some.place here.caller here.at
+
+pub next-requires : goal.next-requires
+next-requires g c =
+    let r = c.requires in
+    let hash = g.S.Hashes.hash c.args.scheduler.now.logged.executor.hasher in
+    let ready = sym c.in-Some.is ∙ c.place_of_ready.ensures in
+    let here = asked_here g.K.PartialEq.eq hash r.0 r.1 c.args.caller.now c.args.scheduler.now r.2 c.in-Some.place ready in
+    let read = c.way_of-number.ensures here.caller here.at in (
+      g.K.PartialEq.eq,
+      hash,
+      r.2.played.scene,
+      r.2.played.shown.is_at,
+      subst (λ x. HasCall r.2.played.scene x.0) (sym read) (next_may g.K.PartialEq.eq hash r.0 r.1 c.args.caller.now c.args.scheduler.now r.2 c.in-Some.place ready),
+    )
+
+pub walk_on-requires : goal.walk_on-requires
+walk_on-requires g c =
+    let r = c.requires in
+    let hash = g.S.Hashes.hash c.args.scheduler.now.logged.executor.hasher in
+    let ready = sym c.in-Some.is ∙ c.place_of_ready.ensures in
+    let here = asked_here g.K.PartialEq.eq hash r.0 r.1 c.args.caller.now c.args.scheduler.now r.2 c.in-Some.place ready in
+    let read = c.way_of-number.ensures here.caller here.at in
+    subst (λ h. MayWalk g.K.PartialEq.eq (g.S.Hashes.hash h) c.in-Some.place (record c.args.scheduler.now { logged = c.next.new.self })) (sym c.next.ensures.hasher) (
+      r.0,
+      moment r.1,
+      c.args.caller.now,
+      next_asked g.K.PartialEq.eq hash r.0 r.1 c.args.caller.now c.args.scheduler.now r.2 c.in-Some.place ready c.next.result c.next.new.self
+          (subst (λ x. WalkGoesOn g.K.PartialEq.eq hash r.2.played.name (moment r.1) r.2.played.scene x.0 c.next.result c.args.scheduler.now.logged c.next.new.self) read
+          (c.next.ensures.leads g.K.PartialEq.eq hash r.2.played.name (moment r.1) r.2.played.scene r.2.played.shown)),
+      next_ready g.K.PartialEq.eq hash r.0 r.1 c.args.caller.now c.args.scheduler.now r.2 c.in-Some.place ready c.next.new.self,
+    )
+
+pub come_to-outcome-requires : goal.come_to-outcome-requires
+come_to-outcome-requires g c =
+    let r = c.requires in
+    let hash = g.S.Hashes.hash c.args.scheduler.now.logged.executor.hasher in
+    let ready = sym c.in-Some.is ∙ c.place_of_ready.ensures in
+    let here = asked_here g.K.PartialEq.eq hash r.0 r.1 c.args.caller.now c.args.scheduler.now r.2 c.in-Some.place ready in
+    let read = c.way_of-number.ensures here.caller here.at in
+    let asked = record c.args.scheduler.now { logged = c.next.new.self } in
+    let stands = next_asked g.K.PartialEq.eq hash r.0 r.1 c.args.caller.now c.args.scheduler.now r.2 c.in-Some.place ready c.next.result c.next.new.self
+    (subst (λ x. WalkGoesOn g.K.PartialEq.eq hash r.2.played.name (moment r.1) r.2.played.scene x.0 c.next.result c.args.scheduler.now.logged c.next.new.self) read
+    (c.next.ensures.leads g.K.PartialEq.eq hash r.2.played.name (moment r.1) r.2.played.scene r.2.played.shown)) in
+    let at_place = next_ready g.K.PartialEq.eq hash r.0 r.1 c.args.caller.now c.args.scheduler.now r.2 c.in-Some.place ready c.next.new.self in
+    let comes = subst (λ h. WalkComes g.K.PartialEq.eq (g.S.Hashes.hash h) c.in-Some.place c.in_ok-come.come.1 c.in_ok-come.come.0 [] c.walk_on.new.effects.items asked c.walk_on.new.scheduler) c.next.ensures.hasher
+    (subst (λ l. WalkComes g.K.PartialEq.eq (g.S.Hashes.hash c.next.new.self.executor.hasher) c.in-Some.place c.in_ok-come.come.1 c.in_ok-come.come.0 l c.walk_on.new.effects.items asked c.walk_on.new.scheduler)
+    c.no_effects-effects.ensures c.in_ok-come.ensures) in
+    got_within c.walk_on.new.scheduler.calls.items.items c.in-Some.place _
+    (there g.K.PartialEq.eq hash r.0 r.1 c.args.caller.now c.args.scheduler.now r.2 c.in-Some.place asked stands at_place c.in_ok-come.come.1 c.in_ok-come.come.0 c.walk_on.new.effects.items
+    c.walk_on.new.scheduler comes)
+
+pub returns : goal.returns
+returns g c = record {
+  plays = λ terms log due.
+      let hash = g.S.Hashes.hash c.args.scheduler.now.logged.executor.hasher in
+      let own = c.args.caller.now in
+      let ready = sym c.in-Some.is ∙ c.place_of_ready.ensures in
+      let here = asked_here g.K.PartialEq.eq hash terms log own c.args.scheduler.now due c.in-Some.place ready in
+      let read = c.way_of-number.ensures here.caller here.at in
+      let asked = record c.args.scheduler.now { logged = c.next.new.self } in
+      let stands = next_asked g.K.PartialEq.eq hash terms log own c.args.scheduler.now due c.in-Some.place ready c.next.result c.next.new.self
+      (subst (λ x. WalkGoesOn g.K.PartialEq.eq hash due.played.name (moment log) due.played.scene x.0 c.next.result c.args.scheduler.now.logged c.next.new.self) read
+      (c.next.ensures.leads g.K.PartialEq.eq hash due.played.name (moment log) due.played.scene due.played.shown)) in
+      let at_place = next_ready g.K.PartialEq.eq hash terms log own c.args.scheduler.now due c.in-Some.place ready c.next.new.self in
+      let comes = subst (λ h. WalkComes g.K.PartialEq.eq (g.S.Hashes.hash h) c.in-Some.place c.in_ok-come.come.1 c.in_ok-come.come.0 [] c.walk_on.new.effects.items asked c.walk_on.new.scheduler) c.next.ensures.hasher
+      (subst (λ l. WalkComes g.K.PartialEq.eq (g.S.Hashes.hash c.next.new.self.executor.hasher) c.in-Some.place c.in_ok-come.come.1 c.in_ok-come.come.0 l c.walk_on.new.effects.items asked c.walk_on.new.scheduler)
+      c.no_effects-effects.ensures c.in_ok-come.ensures) in
+      subst (λ p. PlaysNext g.K.PartialEq.eq hash terms log (entry (Next own) c.come_to-outcome.result c.in_ok-come.come.1 c.walk_on.new.effects.items) p) (sym c.come_to-outcome.ensures.rest)
+      (plays_next g.K.PartialEq.eq hash terms log own c.args.scheduler.now due c.in-Some.place asked stands at_place c.in_ok-come.come.1 c.in_ok-come.come.0 c.walk_on.new.effects.items
+      c.walk_on.new.scheduler comes ready c.come_to-outcome.new.scheduler.calls c.come_to-outcome.ensures.calls c.come_to-outcome.result c.come_to-outcome.ensures.outcome);
+}

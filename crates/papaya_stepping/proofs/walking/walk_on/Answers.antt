@@ -1,0 +1,92 @@
+-- A walk takes steps to its next pair.
+use Rattle.std.specs.Prelude.{slice_get, Some}
+use Rattle.std.proofs.Common.{◌+◌, refl, sym, ap, subst, ◌∙◌, arith}
+use Rattle.std.proofs.lemmas.List.{append-nil}
+use Rattle.papaya_executor.specs.IsAt.{HasCall, IsAt, Scene}
+use Rattle.papaya_logged.specs.Calling.{CallGoesOn}
+use Rattle.papaya_logged.specs.Shown.{IsShown}
+use Rattle.papaya_rows.proofs.Lists.{got_within}
+use Rattle.papaya_stepping.specs.Stepping.{IsStepOf}
+use Rattle.papaya_stepping.proofs.NextOn.{logged_on, may_walk, mid_few, mid_first, mid_next}
+use Rattle.papaya_stepping.proofs.walking.walk_on.Goals as goal
+
+pub way_of-number-requires : goal.way_of-number-requires
+way_of-number-requires g c = let r = c.requires in got_within c.args.scheduler.now.calls.items.items c.args.place r.4.1 r.4.2
+
+pub loop-steps-init : goal.loop-steps-init
+loop-steps-init g c = (
+  0,
+  refl,
+  refl,
+  refl,
+  λ terms m own stands at. mid_first g.K.PartialEq.eq (g.S.Hashes.hash c.args.scheduler.now.logged.executor.hasher) terms own c.args.place m c.args.scheduler.now stands at c.args.effects.now.items
+      (sym (append-nil c.args.effects.now.items)),
+)
+
+pub step-requires : goal.step-requires
+step-requires g c =
+    let r = c.requires in
+    let i = c.loop-steps.invariant in
+    let there = ap (λ p. slice_get p.calls.items.items c.args.place) i.2 ∙ r.4.2 in
+    let read = c.way_of-number.ensures r.4.1 r.4.2 in
+    let may = may_walk g.K.PartialEq.eq (g.S.Hashes.hash c.args.scheduler.now.logged.executor.hasher) r.0 r.2 c.args.place r.1 i.0 c.args.effects.now.items c.loop-steps.effects.items c.loop-steps.scheduler (i.4 r.0 r.1 r.2 r.3 r.4) r.4.1 there in
+    (may.0, subst (λ h. IsAt g.K.PartialEq.eq (g.S.Hashes.hash h) c.loop-steps.scheduler.logged.executor may.0) (sym i.3) may.1, subst (λ x. HasCall may.0 x.0) (sym read) may.2)
+
+pub returns-then-not-just_goes : goal.returns-then-not-just_goes
+returns-then-not-just_goes g c =
+    let r = c.requires in
+    let i = c.loop-steps.invariant in
+    let there = ap (λ p. slice_get p.calls.items.items c.args.place) i.2 ∙ r.4.2 in
+    let read = c.way_of-number.ensures r.4.1 r.4.2 in (
+      λ goes. (let holds = c.just_goes.ensures.0 goes in let fails = c.if-not-just_goes.true in cc (holds, fails)),
+      i.0,
+      i.1,
+      c.loop-steps.effects.items,
+      c.loop-steps.scheduler,
+      record {
+        caller = r.4.1;
+        at = there;
+        leads = λ name m s shown.
+            subst (λ x. CallGoesOn g.K.PartialEq.eq (g.S.Hashes.hash c.args.scheduler.now.logged.executor.hasher) name m s x.0 x.1 c.in_ok-progress.progress c.loop-steps.effects.items c.step.new.effects.items
+            c.loop-steps.scheduler.logged c.step.new.self) read
+            (subst (λ h. CallGoesOn g.K.PartialEq.eq (g.S.Hashes.hash h) name m s c.way_of-number.result.0 c.way_of-number.result.1 c.in_ok-progress.progress c.loop-steps.effects.items c.step.new.effects.items
+            c.loop-steps.scheduler.logged c.step.new.self) i.3 (c.in_ok-progress.ensures.leads name m s (subst (λ h. IsShown g.K.PartialEq.eq (g.S.Hashes.hash h) name m c.loop-steps.scheduler.logged s) (sym i.3) shown)));
+        rest = refl;
+      },
+      i.4,
+    )
+
+pub loop-steps-preserved : goal.loop-steps-preserved
+loop-steps-preserved g c =
+    let r = c.requires in
+    let i = c.loop-steps.invariant in
+    let there = ap (λ p. slice_get p.calls.items.items c.args.place) i.2 ∙ r.4.2 in
+    let read = c.way_of-number.ensures r.4.1 r.4.2 in
+    let goes = c.just_goes.ensures.1 c.if-not-just_goes.false in (
+      i.0 + 1,
+      ap (λ k. k + 1) i.1,
+      logged_on c.loop-steps.scheduler c.args.scheduler.now c.step.new.self i.2,
+      c.step.ensures.hasher ∙ i.3,
+      λ terms m own stands at. mid_next g.K.PartialEq.eq (g.S.Hashes.hash c.args.scheduler.now.logged.executor.hasher) terms own c.args.place m i.0 c.args.effects.now.items c.loop-steps.effects.items
+          c.step.new.effects.items c.loop-steps.scheduler (record c.loop-steps.scheduler { logged = c.step.new.self }) (i.4 terms m own stands at) (record {
+            caller = r.4.1;
+            at = there;
+            leads = λ name m2 s shown.
+                subst (λ said. CallGoesOn g.K.PartialEq.eq (g.S.Hashes.hash c.args.scheduler.now.logged.executor.hasher) name m2 s r.4.1.number r.4.1.map said c.loop-steps.effects.items c.step.new.effects.items
+                c.loop-steps.scheduler.logged c.step.new.self) goes
+                (subst (λ x. CallGoesOn g.K.PartialEq.eq (g.S.Hashes.hash c.args.scheduler.now.logged.executor.hasher) name m2 s x.0 x.1 c.in_ok-progress.progress c.loop-steps.effects.items c.step.new.effects.items
+                c.loop-steps.scheduler.logged c.step.new.self) read
+                (subst (λ h. CallGoesOn g.K.PartialEq.eq (g.S.Hashes.hash h) name m2 s c.way_of-number.result.0 c.way_of-number.result.1 c.in_ok-progress.progress c.loop-steps.effects.items c.step.new.effects.items
+                c.loop-steps.scheduler.logged c.step.new.self) i.3 (c.in_ok-progress.ensures.leads name m2 s (subst (λ h. IsShown g.K.PartialEq.eq (g.S.Hashes.hash h) name m2 c.loop-steps.scheduler.logged s) (sym i.3) shown))));
+            rest = refl;
+          }),
+    )
+
+pub unreachable-requires : goal.unreachable-requires
+unreachable-requires g c =
+    let r = c.requires in
+    let i = c.loop-steps.invariant in
+    let few = mid_few g.K.PartialEq.eq (g.S.Hashes.hash c.args.scheduler.now.logged.executor.hasher) r.0 r.2 c.args.place r.1 i.0 c.args.effects.now.items c.loop-steps.effects.items c.loop-steps.scheduler (i.4 r.0 r.1 r.2 r.3 r.4) in
+    let ended = c.loop-steps-test.false in
+    let is = i.1 in
+    omega (arith, ended, is, few)

@@ -1,0 +1,64 @@
+//! Walks show their pairs, one by one.
+ghost use Rattle.std.specs.Prelude.{◌≡◌, ◌↔◌, true, IfOk};
+ghost use Rattle.papaya_schedules.specs.declared.event.Event.TheVariants as event;
+ghost use Rattle.papaya_scheduler.specs.Played.{MayPlay};
+ghost use Rattle.papaya_stepping.specs.Stepping.{MayWalk, PlaysNextAt, WalkComes};
+
+use crate::stepping::come_to;
+use papaya_raw::machines::Progress;
+use papaya_raw::{Hashes, Node};
+use papaya_runs::token::Token;
+use papaya_scheduler::played::Played;
+use papaya_scheduler::scheduler::Scheduler;
+use papaya_schedules::effect::Effect;
+use std::alloc::AllocError;
+use std::hash::Hash;
+
+/// Whether a step says no more than that its call goes on.
+fn just_goes<K, V>(progress: &Progress<Node<K, V>>) -> bool
+    ensures { progress.now ≡ Progress.Goes ↔ result ≡ true }
+{
+    matches!(progress, Progress::Goes)
+}
+
+/// The walk at this place, which was asked for its next pair, takes steps until one tells more than that it goes on. What they do is added to the list.
+fn walk_on<K: Eq + Hash + Drop, V: Drop, S: Hashes<K>>(
+    scheduler: &mut Scheduler<K, V, S>,
+    place: usize,
+    effects: &mut Vec<Effect>,
+) -> Result<(Progress<Node<K, V>>, u64), AllocError>
+    requires { MayWalk K.eq (S.hash scheduler.old.logged.executor.hasher) place scheduler.old }
+    ensures { IfOk result (λ come. WalkComes K.eq (S.hash scheduler.old.logged.executor.hasher) place come.1 come.0 effects.old.items effects.new.items scheduler.old scheduler.new) }
+{
+    let (number, map) = scheduler.calls.way_of(place);
+    for steps in 1..u64::MAX {
+        let progress = scheduler.logged.step(number, map, effects)?;
+        if !just_goes(&progress) {
+            return Ok((progress, steps));
+        }
+    }
+    unreachable!()
+}
+
+/// The next pair of the caller's walk, or that there is none.
+pub fn next<K: Eq + Hash + Drop, V: Drop, S: Hashes<K>>(
+    scheduler: &mut Scheduler<K, V, S>,
+    caller: &Token,
+) -> Result<Played<V>, AllocError>
+    requires { MayPlay K.eq (S.hash scheduler.old.logged.executor.hasher) (event.Next caller.now) scheduler.old }
+    ensures plays { IfOk result (λ played. PlaysNextAt K.eq (S.hash scheduler.old.logged.executor.hasher) caller.now played scheduler.old scheduler.new) }
+{
+    let Some(place) = scheduler.place_of_ready(caller) else {
+        return Ok(scheduler.busy());
+    };
+    let (number, _) = scheduler.calls.way_of(place);
+    scheduler.logged.next(number);
+    let mut effects = scheduler.no_effects();
+    let come = walk_on(scheduler, place, &mut effects)?;
+    let outcome = come_to(scheduler, place, come.0);
+    Ok(Played {
+        outcome,
+        steps: come.1,
+        effects,
+    })
+}

@@ -1,0 +1,6 @@
+-- Who else is by a copying that a caller asks about.
+use Rattle.papaya_waits.proofs.Askers as askers
+use Rattle.papaya_waits.proofs.law.who_asks_how_a_copying_stands_has_others.Goals as goal
+
+pub returns : goal.returns
+returns c d = record { asked = askers.askers_have_others _ }

@@ -1,0 +1,85 @@
+-- Which call another one waits for, in incremental mode: who copies a pair that is being copied, and who goes on with a copying that is not over.
+use Rattle.std.specs.Prelude.{◌≡◌, ◌≢◌, ℕ, suc, ◌<◌, ◌≤◌, ◌⊎◌, Bool, true, Option, Some, None}
+use Rattle.seize.specs.World.{World}
+use Rattle.papaya_tables.specs.Chunks.{is_incremental}
+use Rattle.papaya_tables.specs.declared.node.Node.{Node}
+use Rattle.papaya_tables.specs.declared.setting.Setting.{Setting}
+use Rattle.papaya_resize.specs.declared.copier.Copier.{Copier}
+use Rattle.papaya_resize.specs.declared.copier.Copying.{Copying as Point}
+use Rattle.papaya_resize.specs.declared.copier.Copying.TheVariants as copies
+use Rattle.papaya_raw.specs.declared.machines.call.Calling.{Calling}
+use Rattle.papaya_raw.specs.declared.machines.call.Calling.TheVariants as at
+use Rattle.papaya_reserves.specs.declared.reserve.Reserving.{Reserving}
+use Rattle.papaya_reserves.specs.declared.reserve.Reserving.TheVariants as reserves
+use Rattle.papaya_sweeps.specs.declared.sweep.Sweeping.{Sweeping}
+use Rattle.papaya_sweeps.specs.declared.sweep.Sweeping.TheVariants as sweeps
+use Rattle.papaya_rule.specs.Chart.{Chart, Share, Claimed, Done, Counted, Lost}
+use Rattle.papaya_rule.specs.Words.{Blocks}
+use Rattle.papaya_points.specs.FactsCopies.{CopyingFacts}
+use Rattle.papaya_callers.specs.Sights.{Sight}
+use Rattle.papaya_callers.specs.Together.{UnderWay, OnKey, ForRoom, Counting, OverAll, Together, in_slot}
+use Rattle.papaya_waits.specs.Waits.{IsUnfinished, IsBeingCopied}
+
+-- it is not yet counted
+abbrev pub IsToCount : Share → Type 0
+IsToCount Counted = ⊥
+IsToCount Lost = ⊥
+IsToCount _ = Unit {0}
+
+-- the copier within which a call on one key stands, if it does
+abbrev pub copier_in : Calling → Option Copier
+copier_in (at.Helps copier goal) = Some copier
+copier_in (at.Copies copier) = Some copier
+copier_in _ = None
+
+abbrev pub copier_in_room : Reserving → Option Copier
+copier_in_room (reserves.Copies copier) = Some copier
+copier_in_room _ = None
+
+abbrev pub copier_in_sweep : Sweeping → Option Copier
+copier_in_sweep (sweeps.Copies copier) = Some copier
+copier_in_sweep _ = None
+
+abbrev pub copier_of : {K V Q : Type 0} → UnderWay K V Q → Option Copier
+copier_of (OnKey u) = copier_in u.call.stands
+copier_of (ForRoom r) = copier_in_room r.reserve.stands
+copier_of (Counting sum) = None
+copier_of (OverAll o) = copier_in_sweep o.sweep.stands
+
+module _ {K : Type 0} (c : Chart K) where
+  -- the copier is to end the copying into the table with this turn: it is to make that the root, or has done so and is to say it in the status
+  abbrev pub EndsAt : Copier → Point → ℕ → Type 0
+  EndsAt p copies.Promotes t = (p.target.turn ≡ t) × (c.first < t)
+  EndsAt p copies.Announces t = (p.target.turn ≡ t) × (t ≤ c.first)
+  EndsAt p _ t = ⊥
+
+  -- a place of the root is not yet counted for this table behind
+  abbrev pub IsOpen : ℕ → Type 0
+  IsOpen t = (c.first < t) × (j : ℕ) × (j < c.len c.first) × IsToCount (c.share t j)
+
+  -- each copying that is not over has a place that is not counted, or a call that is to end it
+  abbrev pub HaveEnds : {V Q : Type 0} → (ℕ → Option (UnderWay K V Q)) → Type 0
+  HaveEnds {V} {Q} calls =
+      (t : ℕ) → 0 < t → t < c.past → IsUnfinished c t
+      → IsOpen t ⊎ ((k : ℕ) × (u : UnderWay K V Q) × (p : Copier) × (calls k ≡ Some u) × (copier_of u ≡ Some p) × EndsAt p p.stands t)
+
+module _ {K Q : Type 0} (V : Type 0) (same : K → K → Bool) (hash : K → ℕ) (asks : Q → K → Bool) (setting : Setting) (slot : ℕ → ℕ) where
+  -- A pair that is being copied stands in the root, behind which another table is linked, and a caller that has a call on the map has claimed its place.
+  abbrev pub PairsAreCopiedByCalls : Type 0
+  PairsAreCopiedByCalls =
+      (w : World (Node K V)) (c : Chart K) (blocks : Blocks) (sights : ℕ → Sight) (calls : ℕ → Option (UnderWay K V Q))
+      → Together V same hash asks setting slot w c blocks sights calls → is_incremental setting.mode ≡ true → (t place : ℕ) → IsBeingCopied c t place
+      → (t ≡ c.first) × (suc c.first < c.past) × (k : ℕ) × (u : UnderWay K V Q) × (calls k ≡ Some u) × (c.share (suc c.first) place ≡ Claimed k)
+
+  -- Where each copying that is not over has a place that is not counted, or a call that is to end it: if the copier within which a call stands has found each
+  -- place claimed, and asks how the copying stands, which is not over, then another caller has a call. Either the table is linked behind the root, and the
+  -- other has copied a place into it that it has not counted; or the other is to end the copying.
+  abbrev pub AskersHaveOthers : Type 0
+  AskersHaveOthers =
+      (w : World (Node K V)) (c : Chart K) (blocks : Blocks) (sights : ℕ → Sight) (calls : ℕ → Option (UnderWay K V Q))
+      → Together V same hash asks setting slot w c blocks sights calls → is_incremental setting.mode ≡ true → HaveEnds c calls
+      → (i : ℕ) (x : UnderWay K V Q) → calls i ≡ Some x → (p : Copier) → copier_of x ≡ Some p → p.stands ≡ copies.Asks
+      → (seen : Blocks) → CopyingFacts same hash w i (in_slot setting (slot i)) c seen p copies.Asks → IsUnfinished c p.target.turn
+      → (k : ℕ) × (u : UnderWay K V Q) × (calls k ≡ Some u) × (k ≢ i)
+      × (((suc c.first < c.past) × (j : ℕ) × (j < c.len c.first) × (c.share (suc c.first) j ≡ Done k))
+      ⊎ ((q : Copier) × (copier_of u ≡ Some q) × EndsAt c q q.stands p.target.turn))
