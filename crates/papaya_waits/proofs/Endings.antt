@@ -31,7 +31,7 @@ share_open i (Tombstone mark) = tt
 share_open i (Holds n phase borrowed) = tt
 
 -- where not all shares are counted, and none is lost, one is to be counted
-some_left : (d : ℕ → Share) (n : ℕ) → ((j : ℕ) → j < n → d j ≢ Lost) → total is_counted d n ≢ n → (j : ℕ) × (j < n) × IsToCount (d j)
+pub some_left : (d : ℕ → Share) (n : ℕ) → ((j : ℕ) → j < n → d j ≢ Lost) → total is_counted d n ≢ n → (j : ℕ) × (j < n) × IsToCount (d j)
 some_left d zero lost few = absurd (few refl)
 some_left d (suc n) lost few = by (d n) refl
   where
