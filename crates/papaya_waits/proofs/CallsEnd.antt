@@ -14,36 +14,27 @@ use Rattle.papaya_resize.specs.Copier.{copier_plan}
 use Rattle.papaya_resize.specs.declared.outcome.Outcome.{Outcome}
 use Rattle.papaya_resize.specs.declared.outcome.Outcome.TheVariants as outcome
 use Rattle.papaya_resize.specs.declared.copier.Copier.{Copier}
-use Rattle.papaya_resize.specs.declared.copier.Copying.TheVariants as copies
-use Rattle.papaya_raw.specs.Call.{plan_at, call_plan, helped, helps}
+use Rattle.papaya_raw.specs.Call.{plan_at, call_plan, helped}
 use Rattle.papaya_raw.specs.declared.machines.answer.Called.{Called}
 use Rattle.papaya_raw.specs.declared.machines.call.KeyCall.{KeyCall}
 use Rattle.papaya_raw.specs.declared.machines.call.Calling.{Calling}
 use Rattle.papaya_raw.specs.declared.machines.call.Calling.TheVariants as at
 use Rattle.papaya_rule.specs.Chart.{Chart}
 use Rattle.papaya_rule.specs.InWorld.{IsMapIn}
-use Rattle.papaya_rule.specs.Maps.{spot_of}
-use Rattle.papaya_rule.specs.Moves.{Move, after}
-use Rattle.papaya_rule.specs.Rule.{Rule}
 use Rattle.papaya_rule.specs.Words.{Blocks}
-use Rattle.papaya_rule.proofs.World.WentIncremental.{rule_incremental}
 use Rattle.papaya_points.specs.FactsCalls.{CallFacts, CallingFacts, IsCopying, Unchanged}
 use Rattle.papaya_points.specs.FactsCopies.{CopierFacts}
 use Rattle.papaya_points.specs.Steps.{AreLawful}
-use Rattle.papaya_points.specs.Told.{IsBeside, IsRowOfCall, IsRowOfCopier, MovedBeside}
-use Rattle.papaya_points.specs.ToldMoves.{MovedAt}
-use Rattle.papaya_points.proofs.Copiers.CopiersWrote.{CopierMoved}
-use Rattle.papaya_points.proofs.Copiers.Points.{went_copier_moved}
+use Rattle.papaya_points.specs.Told.{IsRowOfCall, MovedBeside}
 use Rattle.papaya_late.specs.LateCalls.{LateCallFacts}
 use Rattle.papaya_callers.specs.Rows.{row_of, once_over}
 use Rattle.papaya_callers.specs.Sights.{Sight, seen_by}
 use Rattle.papaya_callers.specs.Together.{CallOnKey, UnderWay, OnKey, Knows, Together, StepsTogether, StepTold, Fresh, Late, change_told, next_of, in_slot}
 use Rattle.papaya_waits.specs.Others.{HaveEnds, copier_in, CallsKeepEnds}
-use Rattle.papaya_waits.proofs.CopiersEnd.{copier_ends}
-use Rattle.papaya_waits.proofs.EndingCalls.{AnotherAt, copier_then, keeps_beside, keeps_copying}
-use Rattle.papaya_waits.proofs.Endings.{beside}
+use Rattle.papaya_waits.proofs.CopiersKeep.{beside_keeps, copier_keeps}
+use Rattle.papaya_waits.proofs.EndingCalls.{copier_then}
 use Rattle.papaya_waits.proofs.Promised.{map_of}
-use Rattle.papaya_waits.proofs.SameEnds.{ends_same}
+use Rattle.papaya_waits.proofs.SameEnds.{Reached}
 
 -- a call goes on within its copier where that goes on
 helps_on : {K V Q : Type 0} (p : KeyCall K V Q) (goal : Table) (like : KeyCall K V Q → CallOnKey K V Q) → ((q : KeyCall K V Q) → (like q).call ≡ q)
@@ -73,9 +64,6 @@ module _ {K Q : Type 0} (V : Type 0) (same : K → K → Bool) (hash : K → ℕ
     map : IsMapIn same hash its_setting w c seen
     map = map_of V same hash asks setting slot w c blocks sights calls s i (OnKey u) has
 
-    rule : Rule same (spot_of hash) true c
-    rule = rule_incremental same hash its_setting w c seen map mode
-
     abbrev like : KeyCall K V Q → CallOnKey K V Q
     like p = record { keys = u.keys; pair = u.pair; began = u.began; change = change_told V same hash asks setting slot leads.went.told; call = p }
 
@@ -85,12 +73,13 @@ module _ {K Q : Type 0} (V : Type 0) (same : K → K → Bool) (hash : K → ℕ
     abbrev After : Type 0
     After = HaveEnds leads.went.c2 (with_at calls i next)
 
+    reached : Reached same hash its_setting are.lawful mode w i c seen map m2 leads.went.c2 leads.went.blocks2
+    reached = (leads.went.w2, leads.went.memory, leads.went.map, leads.went.blocks_same, leads.went.tables, leads.went.moved)
+
     -- beside a copying
     by_beside : copier_in u.call.stands ≡ None → (IsCopying u.call.stands → ⊥) → After
     by_beside within apart =
-        keeps_beside calls i c leads.went.c2 next ends (ap copier_then has ∙ within)
-        (beside (AnotherAt calls i copies.Promotes) (AnotherAt calls i copies.Announces) same hash c rule leads.went.c2
-        (subst (λ (b : Bool). (leads.went.c2 ≡ c) ⊎ ((move : Move K) × IsBeside move × (leads.went.c2 ≡ after (spot_of hash) b move c))) mode (told leads.went.told)))
+        beside_keeps same hash are its_setting power mode w i c seen map calls ends m2 leads.went.c2 leads.went.blocks2 reached next (ap copier_then has ∙ within) (told leads.went.told)
       where
         told : StepTold V same hash asks setting slot c i u p2 progress leads.went.w2 leads.went.c2 leads.went.blocks2 → MovedBeside hash its_setting.mode c leads.went.c2
         told (Fresh fresh) = fresh.beside apart
@@ -101,21 +90,9 @@ module _ {K Q : Type 0} (V : Type 0) (same : K → K → Bool) (hash : K → ℕ
     by_copier copier goal here facts =
         let d = steps_back (helped u.call goal) w.memory m2 (copier_plan hash copier) (p2, progress)
             (subst (λ (stands : Calling). Steps Took value_at w.memory (plan_at asks same hash u.call stands) m2 (p2, progress)) here steps) in
-        by d.0 d.1 d.2
-        (went_copier_moved same hash its_setting mode power are.lawful are.fits w i c seen map copier facts
-        (λ row. none (subst (λ (stands : Calling). IsRowOfCall stands) (sym here) row)) m2 d.0 d.1)
-      where
-        by : (b : Copier × Outcome (Node K V) Table) → Steps Took value_at w.memory (copier_plan hash copier) m2 b → (p2, progress) ≡ helped u.call goal b
-            → CopierMoved same hash i its_setting w c seen (MovedAt hash i c copier copier.stands b) m2 b → After
-        by b inner said went =
-            ends_same same hash its_setting are.lawful mode w i c seen map m2 leads.went.c2 went.c2 leads.went.blocks2 went.blocks2
-            (leads.went.w2, leads.went.memory, leads.went.map, leads.went.blocks_same, leads.went.tables, leads.went.moved)
-            (went.w2, went.memory, went.map, went.blocks_same, went.tables, went.moved)
-            (with_at calls i next)
-            (keeps_copying calls i c went.c2 next ends copier b.0 (ap copier_then has ∙ ap copier_in here) (b.1 ≡ outcome.Goes)
-            (helps_on u.call goal like (λ q. refl) b p2 progress said)
-            (copier_ends same hash i its_setting w c seen map mode copier facts.setting_is (AnotherAt calls i copies.Promotes) (AnotherAt calls i copies.Announces) m2 b went.c2
-            facts inner went.told.3))
+        copier_keeps same hash are its_setting power mode w i c seen map calls ends m2 leads.went.c2 leads.went.blocks2 reached next copier (ap copier_then has ∙ ap copier_in here) facts
+        (λ row. none (subst (λ (stands : Calling). IsRowOfCall stands) (sym here) row)) d.0 d.1
+        (helps_on u.call goal like (λ q. refl) d.0 p2 progress d.2)
 
     by_fresh : (stands : Calling) → u.call.stands ≡ stands → CallingFacts same hash asks w i its_setting c seen u.keys u.change u.call stands → After
     by_fresh (at.Helps copier goal) here f = by_copier copier goal here f.6

@@ -11,8 +11,10 @@ pub mod Endings
 pub mod CopiersEnd
 pub mod EndingCalls
 pub mod SameEnds
+pub mod CopiersKeep
 pub mod Promised
 pub mod CallsEnd
+pub mod RoomsEnd
 pub mod RowsPromised
 mod Samples
 pub mod Laws
