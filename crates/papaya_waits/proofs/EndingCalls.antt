@@ -100,6 +100,17 @@ module _ {K V Q : Type 0} (calls : ℕ → Option (UnderWay K V Q)) (i : ℕ) wh
         by (inr (inr own)) = inr (by_own t own)
 
   module _ (c d : Chart K) (next : Option (UnderWay K V Q)) (ends : HaveEnds c calls) where
+    -- the tables stay as they are, and the caller's call was not to end a copying: it begins, asks or is told, takes a step of a row, or has ended
+    pub keeps_still : ((t : ℕ) → OwnEnds c (copier_then (calls i)) t → ⊥) → HaveEnds c (with_at calls i next)
+    keeps_still none =
+        with_own c next (weaker (AnotherAt at.Promotes) (AnotherAt at.Announces) c (OwnEnds c (copier_then next)) (λ t some made unfinished. by t (as_own c ends t some made unfinished)))
+      where
+        by : (t : ℕ) → IsOpen c t ⊎ (OthersEnd (AnotherAt at.Promotes) (AnotherAt at.Announces) c t ⊎ OwnEnds c (copier_then (calls i)) t)
+            → IsOpen c t ⊎ (OthersEnd (AnotherAt at.Promotes) (AnotherAt at.Announces) c t ⊎ ⊥)
+        by t (inl open) = inl open
+        by t (inr (inl others)) = inr (inl others)
+        by t (inr (inr own)) = absurd (none t own)
+
     -- a step of a call that stands within no copier, or of none: after it none is to end a copying that was not
     pub keeps_beside : copier_then (calls i) ≡ None
         → (AllOr (AnotherAt at.Promotes) (AnotherAt at.Announces) c (λ t. ⊥) → AllOr (AnotherAt at.Promotes) (AnotherAt at.Announces) d (λ t. ⊥))

@@ -7,6 +7,7 @@ pub mod Copyings
 pub mod Rows
 pub mod Claimed
 pub mod Askers
+pub mod Works
 pub mod Endings
 pub mod CopiersEnd
 pub mod EndingCalls

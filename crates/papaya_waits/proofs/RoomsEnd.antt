@@ -15,11 +15,11 @@ use Rattle.papaya_resize.specs.Copier.{copier_plan}
 use Rattle.papaya_resize.specs.declared.outcome.Outcome.{Outcome}
 use Rattle.papaya_resize.specs.declared.outcome.Outcome.TheVariants as outcome
 use Rattle.papaya_resize.specs.declared.copier.Copier.{Copier}
-use Rattle.papaya_reserves.specs.Reserve as reserve
+use Rattle.papaya_reserves.specs.Reserve as room_plans
 use Rattle.papaya_reserves.specs.declared.reserve.Reserve.{Reserve}
 use Rattle.papaya_reserves.specs.declared.reserve.Reserving.{Reserving}
 use Rattle.papaya_reserves.specs.declared.reserve.Reserving.TheVariants as reserves
-use Rattle.papaya_sweeps.specs.Sweep as sweep
+use Rattle.papaya_sweeps.specs.Sweep as sweep_plans
 use Rattle.papaya_sweeps.specs.declared.sweep.Sweep.{Sweep}
 use Rattle.papaya_sweeps.specs.declared.sweep.Sweeping.{Sweeping}
 use Rattle.papaya_sweeps.specs.declared.sweep.Sweeping.TheVariants as sweeps
@@ -52,7 +52,7 @@ use Rattle.papaya_waits.proofs.SameEnds.{Reached}
 
 -- it goes on within its copier where that goes on
 room_on : {K V Q : Type 0} (p : Reserve) (began : ℕ) (b : Copier × Outcome (Node K V) Table) (p2 : Reserve) (end : Outcome (Node K V) Unit)
-    → (p2, end) ≡ reserve.copied p b → b.1 ≡ outcome.Goes → copier_then (next_for_room {K = K} {V = V} {Q = Q} (record { began = began; reserve = p2 }) end) ≡ Some b.0
+    → (p2, end) ≡ room_plans.copied p b → b.1 ≡ outcome.Goes → copier_then (next_for_room {K = K} {V = V} {Q = Q} (record { began = began; reserve = p2 }) end) ≡ Some b.0
 room_on {K} {V} {Q} p began (q, outcome.Goes) p2 end e goes =
     ap (λ (x : Reserve × Outcome (Node K V) Unit). copier_then (next_for_room {K = K} {V = V} {Q = Q} (record { began = began; reserve = x.0 }) x.1)) e
 room_on p began (q, outcome.Waits) p2 end e goes = absurd (cc goes)
@@ -61,7 +61,7 @@ room_on p began (q, outcome.Done table) p2 end e goes = absurd (cc goes)
 room_on p began (q, outcome.Refused fault) p2 end e goes = absurd (cc goes)
 
 sweep_on : {K V Q : Type 0} (p : Sweep) (o : CallOverAll) (entered : ℕ) (done : List ℕ) (b : Copier × Outcome (Node K V) Table) (p2 : Sweep) (end : Swept (Node K V))
-    → (p2, end) ≡ sweep.copied p b → b.1 ≡ outcome.Goes → copier_then (next_over_all {K = K} {V = V} {Q = Q} (come_to o entered done p2) end) ≡ Some b.0
+    → (p2, end) ≡ sweep_plans.copied p b → b.1 ≡ outcome.Goes → copier_then (next_over_all {K = K} {V = V} {Q = Q} (come_to o entered done p2) end) ≡ Some b.0
 sweep_on {K} {V} {Q} p o entered done (q, outcome.Goes) p2 end e goes =
     ap (λ (x : Sweep × Swept (Node K V)). copier_then (next_over_all {K = K} {V = V} {Q = Q} (come_to o entered done x.0) x.1)) e
 sweep_on p o entered done (q, outcome.Waits) p2 end e goes = absurd (cc goes)
@@ -98,7 +98,7 @@ module _ {K Q : Type 0} (V : Type 0) (same : K → K → Bool) (hash : K → ℕ
         {Y = CopierFactsBlocking same hash w i its_setting c seen copier} (is_incremental its_setting.mode) mode whole).1
 
     module _ (r : CallForRoom) (has : calls i ≡ Some (ForRoom r)) (none : IsRowOfReserve r.reserve.stands → ⊥) (p2 : Reserve) (end : Outcome (Node K V) Unit)
-        (steps : Steps Took value_at w.memory (reserve.reserve_plan hash r.reserve) m2 (p2, end))
+        (steps : Steps Took value_at w.memory (room_plans.reserve_plan hash r.reserve) m2 (p2, end))
         (leads : RoomStepsTogether V same hash asks setting slot w c blocks sights calls i r m2 p2 end) where
       map : IsMapIn same hash its_setting w c seen
       map = map_of V same hash asks setting slot w c blocks sights calls s i (ForRoom r) has
@@ -123,8 +123,8 @@ module _ {K Q : Type 0} (V : Type 0) (same : K → K → Bool) (hash : K → ℕ
 
       by_fresh : (stands : Reserving) → r.reserve.stands ≡ stands → ReservingFacts same hash w i its_setting c seen stands → After
       by_fresh (reserves.Copies copier) here whole =
-          let d = steps_back (reserve.copied r.reserve) w.memory m2 (copier_plan hash copier) (p2, end)
-              (subst (λ (stands : Reserving). Steps Took value_at w.memory (reserve.plan_at hash r.reserve stands) m2 (p2, end)) here steps) in
+          let d = steps_back (room_plans.copied r.reserve) w.memory m2 (copier_plan hash copier) (p2, end)
+              (subst (λ (stands : Reserving). Steps Took value_at w.memory (room_plans.plan_at hash r.reserve stands) m2 (p2, end)) here steps) in
           copier_keeps same hash are its_setting power mode w i c seen map calls ends m2 leads.went.c2 leads.went.blocks2 reached next copier
           (ap copier_then has ∙ ap copier_in_room here) (whole_knows copier whole)
           (λ row. none (subst (λ (stands : Reserving). IsRowOfReserve stands) (sym here) row)) d.0 d.1 (room_on r.reserve r.began d.0 p2 end d.2)
@@ -141,7 +141,7 @@ module _ {K Q : Type 0} (V : Type 0) (same : K → K → Bool) (hash : K → ℕ
       ]
 
     module _ (o : CallOverAll) (has : calls i ≡ Some (OverAll o)) (none : IsRowOfSweep o.sweep.stands → ⊥) (p2 : Sweep) (end : Swept (Node K V))
-        (steps : Steps Took value_at w.memory (sweep.sweep_plan hash o.sweep) m2 (p2, end))
+        (steps : Steps Took value_at w.memory (sweep_plans.sweep_plan hash o.sweep) m2 (p2, end))
         (leads : SweepStepsTogether V same hash asks setting slot w c blocks sights calls i o m2 p2 end) where
       sweeps_map : IsMapIn same hash its_setting w c seen
       sweeps_map = map_of V same hash asks setting slot w c blocks sights calls s i (OverAll o) has
@@ -157,8 +157,8 @@ module _ {K Q : Type 0} (V : Type 0) (same : K → K → Bool) (hash : K → ℕ
 
       sweep_at : (stands : Sweeping) → o.sweep.stands ≡ stands → SweepingFacts same hash w i its_setting c seen o.began o.sweep stands → SweepsAfter
       sweep_at (sweeps.Copies copier) here (inl whole) =
-          let d = steps_back (sweep.copied o.sweep) w.memory m2 (copier_plan hash copier) (p2, end)
-              (subst (λ (stands : Sweeping). Steps Took value_at w.memory (sweep.plan_at hash o.sweep stands) m2 (p2, end)) here steps) in
+          let d = steps_back (sweep_plans.copied o.sweep) w.memory m2 (copier_plan hash copier) (p2, end)
+              (subst (λ (stands : Sweeping). Steps Took value_at w.memory (sweep_plans.plan_at hash o.sweep stands) m2 (p2, end)) here steps) in
           copier_keeps same hash are its_setting power mode w i c seen sweeps_map calls ends m2 leads.went.c2 leads.went.blocks2 sweeps_reached sweeps_next copier
           (ap copier_then has ∙ ap copier_in_sweep here) (whole_knows copier whole)
           (λ row. none (subst (λ (stands : Sweeping). IsRowOfSweep stands) (sym here) row)) d.0 d.1 (sweep_on o.sweep o leads.entered2 leads.done2 d.0 p2 end d.2)
