@@ -15,6 +15,7 @@ pub mod SameEnds
 pub mod CopiersKeep
 pub mod Promised
 pub mod CallsEnd
+pub mod Awaited
 pub mod RoomsEnd
 pub mod RowsPromised
 mod Samples
