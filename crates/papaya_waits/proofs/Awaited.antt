@@ -45,27 +45,17 @@ module _ {K Q : Type 0} (V : Type 0) (same : K → K → Bool) (hash : K → ℕ
       → (seen : Blocks) → CopierFacts same hash w i (in_slot setting (slot i)) c seen p → CopierAwaits c true p p.stands → HasOther c calls i
   by_copier ends i x call p within seen f awaits = by p.stands refl f.point awaits
     where
+      asked : (t : ℕ) → t < c.past
+          → (k : ℕ) × (u : UnderWay K V Q) × (calls k ≡ Some u) × (k ≢ i)
+          × (((suc c.first < c.past) × (j : ℕ) × (j < c.len c.first) × (c.share (suc c.first) j ≡ Done k)) ⊎ ((q : Copier) × (copier_of u ≡ Some q) × EndsAt c q q.stands t))
+          → HasOther c calls i
+      asked t made (k, u, has, ne, inl (linked, j, l, done)) =
+          (k, u, has, ne, inl (linked, works same hash asks setting slot w c blocks sights calls s mode k j u has (inr (l, done))))
+      asked t made (k, u, has, ne, inr (q, of, at_end)) = (k, u, has, ne, inr (t, made, q, of, at_end))
+
       by : (stands : Point) → p.stands ≡ stands → CopyingFacts same hash w i (in_slot setting (slot i)) c seen p stands → CopierAwaits c true p stands → HasOther c calls i
       by copies.Marks here facts (incremental, being, unfinished) = by_pair i p.source.turn p.place being facts.3
-      by copies.Asks here facts (spent, unfinished) = elim other.4 as (λ _. HasOther c calls i) [
-        | inl part ↦ (
-            other.0,
-            other.1,
-            other.2,
-            other.3,
-            inl (part.0, works same hash asks setting slot w c blocks sights calls s mode other.0 part.1 other.1 other.2 (inr (part.2, part.3))),
-          )
-        | inr last ↦ (
-            other.0,
-            other.1,
-            other.2,
-            other.3,
-            inr (p.target.turn, subst (λ (t : ℕ). t < c.past) (sym (ap (λ (y : Table). y.turn) facts.1.1.is)) facts.1.1.made, last.0, last.1, last.2),
-          )
-      ]
-        where
-          abbrev other : (k : ℕ) × (u : UnderWay K V Q) × (calls k ≡ Some u) × (k ≢ i)
-              × (((suc c.first < c.past) × (j : ℕ) × (j < c.len c.first) × (c.share (suc c.first) j ≡ Done k))
-              ⊎ ((q : Copier) × (copier_of u ≡ Some q) × EndsAt c q q.stands p.target.turn))
-          other = askers_have_others V same hash asks setting slot w c blocks sights calls s mode ends i x call p within here seen facts unfinished
+      by copies.Asks here facts (spent, unfinished) =
+          asked p.target.turn (subst (λ (t : ℕ). t < c.past) (sym (ap (λ (y : Table). y.turn) facts.1.1.is)) facts.1.1.made)
+          (askers_have_others V same hash asks setting slot w c blocks sights calls s mode ends i x call p within here seen facts unfinished)
       by _ here facts none = absurd none
