@@ -45,6 +45,7 @@ use Rattle.papaya_settles.proofs.Between.{calls_begin_counts, calls_begin_uncoun
 use Rattle.papaya_settles.proofs.EntryScenes.{calls_go_on_entries}
 use Rattle.papaya_settles.proofs.HandBetween.{calls_begin_owed, calls_take_owed, walks_go_on_owed, walks_stop_owed}
 use Rattle.papaya_settles.proofs.Handing.{calls_begin_handing, calls_take_handing, walks_go_on_handing, walks_stop_handing}
+use Rattle.papaya_lives.specs.Behind.{WaitsOnce}
 use Rattle.papaya_lives.specs.Retired.{CallsStay}
 use Rattle.papaya_lives.proofs.Reclaimed.{others_leave_retired}
 use Rattle.papaya_lives.proofs.Waiting.{others_leave_waiting}
@@ -177,6 +178,7 @@ module _ (K V S : Type 0) (same : K → K → Bool) (hash : K → ℕ) where
     owed = calls_begin_owed K V name m known s kept.owed map i u call guard none (nothing_at_first K V same standing i u begins);
     handing = calls_begin_handing K V name m s kept.handing map i u call guard none rests;
     waiting = others_leave_waiting K V m v known s.world kept.waiting refl refl;
+    once = kept.once;
     retired = others_leave_retired K V m v known s (scene_with map i u s) kept.retired refl refl (calls_stay s map i (Some u) (λ is. absurd (cc is)));
   }
     where
@@ -195,6 +197,7 @@ module _ (K V S : Type 0) (same : K → K → Bool) (hash : K → ℕ) where
     owed = calls_take_owed K V same name m known s whole kept.owed map i u here reply next next_is is_told;
     handing = calls_take_handing K V same name m s whole.all.shown.calls kept.handing map i u here next is_told;
     waiting = others_leave_waiting K V m v known s.world kept.waiting refl refl;
+    once = kept.once;
     retired = others_leave_retired K V m v known s (scene_with map i next s) kept.retired refl refl (calls_stay s map i (Some next) (λ is. absurd (cc is)));
   }
     where
@@ -215,6 +218,7 @@ module _ (K V S : Type 0) (same : K → K → Bool) (hash : K → ℕ) where
         owed = walks_go_on_owed K V S same hash name m known s old new kept.owed i leads map u here;
         handing = walks_go_on_handing K V S same hash name m s old new kept.handing i leads map u here;
         waiting = kept.waiting;
+        once = kept.once;
         retired = others_leave_retired K V m m known s (scene_with map i next s) kept.retired refl refl (calls_stay s map i (Some next) (λ is. absurd (cc is)));
       }
 
@@ -230,6 +234,7 @@ module _ (K V S : Type 0) (same : K → K → Bool) (hash : K → ℕ) where
     owed = walks_stop_owed K V S same hash name m known s old new whole.all.shown kept.owed i stopped leads map u here none;
     handing = walks_stop_handing K V S same hash name m s old new whole.all.shown.calls kept.handing i stopped leads map u here none;
     waiting = others_leave_waiting K V m v known s.world kept.waiting (given_deferred (name i) m stopped) (given_place (name i) m stopped);
+    once = subst WaitsOnce (sym (given_deferred (name i) m stopped)) kept.once;
     retired = others_leave_retired K V m v known s (record s { calls = with_in s.calls map i (unless_stopped stopped u) }) kept.retired (given_tables (name i) m stopped) refl
         (calls_stay s map i (unless_stopped stopped u) (rests stopped refl));
   }

@@ -1,16 +1,12 @@
 -- Each step of a call keeps all that is kept, whoever takes it, and whether it is one of a row or not.
-use Rattle.std.specs.Prelude.{◌≡◌, ℕ, Bool, List, Some}
-use Rattle.std.proofs.Common.{inl, inr}
-use Rattle.papaya_tables.specs.declared.node.Node.{Node}
-use Rattle.papaya_raw.specs.declared.machines.progress.Progress.{Progress}
+use Rattle.std.specs.Prelude.{ℕ, Bool, List, Some}
+use Rattle.std.proofs.Common.{sym, subst, inl, inr}
 use Rattle.papaya_schedules.specs.Effects.{with_effects}
 use Rattle.papaya_schedules.specs.Moment.{Moment}
-use Rattle.papaya_callers.specs.Together.{UnderWay}
 use Rattle.papaya_effects.specs.Effects.{effects_of, known_after}
 use Rattle.papaya_effects.specs.Known.{Known}
 use Rattle.papaya_effects.specs.declared.acting.Acting.TheVariants.{Call}
 use Rattle.papaya_executor.specs.IsAt.{Scene, IsAt}
-use Rattle.papaya_executor.specs.Stepping.{StepLeads}
 use Rattle.papaya_executor.specs.declared.executor.Executor.{Executor}
 use Rattle.papaya_follows.proofs.Steps.{went_to}
 use Rattle.papaya_moments.specs.Whole.{ShowsWhole}
@@ -26,9 +22,9 @@ use Rattle.papaya_settles.proofs.EntryScenes.{calls_keep_entries}
 use Rattle.papaya_settles.proofs.HandAll.{own_or_row}
 use Rattle.papaya_settles.proofs.HandCalls.{calls_keep_owed}
 use Rattle.papaya_settles.proofs.Handing.{calls_keep_handing}
-use Rattle.papaya_lives.specs.Behind.{ShowsWaiting}
-use Rattle.papaya_lives.proofs.CallRows.{call_rows_keep_waiting}
-use Rattle.papaya_lives.proofs.Calls.{calls_keep_waiting}
+use Rattle.papaya_lives.specs.Behind.{ShowsWaiting, WaitsOnce}
+use Rattle.papaya_lives.proofs.CallRows.{row_waits_on}
+use Rattle.papaya_lives.proofs.Calls.{calls_keep_waiting, calls_keep_list}
 use Rattle.papaya_lives.proofs.RetiredCalls.{calls_keep_retired}
 use Rattle.papaya_kept.specs.Kept.{ShowsKept}
 use Rattle.papaya_kept.specs.Steps.{CallsKeepKept}
@@ -40,7 +36,7 @@ module _ (K V S : Type 0) (same : K → K → Bool) (hash : K → ℕ) where
 
   pub calls_keep_kept : CallsKeepKept K V S same hash
   calls_keep_kept name m known s old new at whole kept map i u here said leads =
-      let made = own_made name m known s old at whole kept in
+      let owned = own_made name m known s old at whole kept in
       record {
         entries = calls_keep_entries K V S same hash name m known s old new at whole.all.shown whole.all.rows kept.entries map i u here said leads;
         made = (calls_keep_made K V S same hash name m known s old new at whole kept.made map i u here said leads).1;
@@ -49,17 +45,28 @@ module _ (K V S : Type 0) (same : K → K → Bool) (hash : K → ℕ) where
         short = (calls_keep_short K V S same hash name m known s old new at whole kept.short map i u here said leads).1;
         grown = (calls_keep_grown K V S same hash name m known s old new at whole kept.short kept.grown map i u here said leads).0;
         counts = (calls_keep_counts K V S same hash name m known s old new at whole kept.counts map i u here said leads).1;
-        owed = (calls_keep_owed K V S same hash name m known s old new at whole kept.entries made kept.owed map i u here said leads).1;
+        owed = (calls_keep_owed K V S same hash name m known s old new at whole kept.entries owned kept.owed map i u here said leads).1;
         handing = calls_keep_handing K V S same hash name m known s old new at whole kept.owed kept.handing map i u here said leads;
-        waiting = waits made;
-        retired = calls_keep_retired K V S same hash name m known s old new at whole kept.entries made kept.retired map i u here said leads;
+        waiting = (waits owned).0;
+        once = (waits owned).1;
+        retired = calls_keep_retired K V S same hash name m known s old new at whole kept.entries owned kept.retired map i u here said leads;
       }
     where
-      waits : OwnAreMade known s.world
-          → ShowsWaiting (with_effects (Some (name i)) (Some map) (effects_of (Call i map) known new.memory.changed) m) (known_after (Call i map) new.memory.changed known) (leads map u here).4.w2
-      waits made =
+      v : Moment K V
+      v = with_effects (Some (name i)) (Some map) (effects_of (Call i map) known new.memory.changed) m
+
+      Waits : Type 0
+      Waits = ShowsWaiting v (known_after (Call i map) new.memory.changed known) (leads map u here).4.w2 × WaitsOnce v.deferred
+
+      waits : OwnAreMade known s.world → Waits
+      waits owned =
           elim (own_or_row same hash name m known s old new at whole.all.shown map i u here said leads u (went_to same hash name m known s old new at whole.all.shown map i u here said leads).4.did)
-          as (λ _. ShowsWaiting (with_effects (Some (name i)) (Some map) (effects_of (Call i map) known new.memory.changed) m) (known_after (Call i map) new.memory.changed known) (leads map u here).4.w2) [
-            | inl own ↦ calls_keep_waiting K V S same hash name m known s old new at whole kept.waiting map i u here said leads own
-            | inr other ↦ call_rows_keep_waiting K V S same hash name m known s old new at whole kept.entries made kept.waiting map i u here said leads other
+          as (λ _. Waits) [
+            | inl own ↦ (
+              calls_keep_waiting K V S same hash name m known s old new at whole kept.waiting map i u here said leads own,
+              subst WaitsOnce (sym (calls_keep_list same hash name m known s old new at whole map i u here said leads own)) kept.once,
+            )
+            | inr other ↦
+                let on = row_waits_on same hash name m known s old new at whole kept.entries owned kept.waiting map i u here said leads other in
+                (on.0, on.1 kept.once)
           ]

@@ -28,6 +28,7 @@ use Rattle.papaya_others.specs.Endings.{ending_after}
 use Rattle.papaya_others.specs.Makings.{making_after}
 use Rattle.papaya_others.specs.Rows.{scene_then}
 use Rattle.papaya_others.proofs.Quiet.{calls_none}
+use Rattle.papaya_others.proofs.RowPlans.{row_tells}
 use Rattle.papaya_owes.proofs.Aside.{stays_made}
 use Rattle.papaya_owes.proofs.EndsOfMaps.{endings_keep_made}
 use Rattle.papaya_owes.proofs.Looking.Between.{stays_looking}
@@ -43,13 +44,15 @@ use Rattle.papaya_settles.proofs.Between.{stays_counts, effects_leave_counts}
 use Rattle.papaya_settles.proofs.EntryScenes.{rows_begin_entries, rows_keep_entries, makings_keep_entries, endings_begin_entries, endings_keep_entries}
 use Rattle.papaya_settles.proofs.HandBetween.{stays_owed, effects_leave_owed}
 use Rattle.papaya_settles.proofs.Handing.{others_leave_handing}
-use Rattle.papaya_lives.specs.Behind.{ShowsWaiting}
+use Rattle.papaya_lives.specs.Behind.{ShowsWaiting, WaitsOnce}
 use Rattle.papaya_lives.proofs.Ends.{endings_find_waiting}
-use Rattle.papaya_lives.proofs.Makings.{makings_keep_waiting, world_then}
+use Rattle.papaya_lives.proofs.Makings.{makings_keep_waiting, world_then, apart}
+use Rattle.papaya_lives.proofs.Once.{once_fewer, row_fewer}
 use Rattle.papaya_lives.proofs.Reclaimed.{others_leave_retired, endings_begin_retired, rows_begin_retired, rows_keep_retired, rows_find_retired}
 use Rattle.papaya_lives.proofs.RetiredCalls.{makings_keep_retired}
 use Rattle.papaya_lives.proofs.RetiredEnds.{endings_keep_retired}
 use Rattle.papaya_lives.proofs.Waiting.{endings_begin_waiting, rows_begin_waiting, rows_keep_waiting, rows_find_waiting}
+use Rattle.papaya_lives.proofs.WaitingEnds.{endings_keep_waiting, once_then}
 use Rattle.papaya_kept.specs.Steps.{RowsBeginKept, RowsKeepKept, RowsFindKept, MakingsKeepKept, EndingsBeginKept, EndingsKeepKept, EndingsFindKept}
 use Rattle.papaya_kept.proofs.Calls.{own_made}
 use Rattle.papaya_kept.proofs.InHand.{rows_leave_in_hand, makings_leave_in_hand, endings_leave_in_hand}
@@ -91,6 +94,7 @@ module _ (K V S : Type 0) (same : K → K → Bool) (hash : K → ℕ) where
     owed = stays_owed K V name m m known known s t kept.owed refl refl (same_in_hand name m known s kept.owed);
     handing = others_leave_handing K V S same hash name m m known s t old new at (leads may).3.4 kept.owed kept.handing refl refl;
     waiting = rows_begin_waiting K V S same hash m known s old new kept.waiting called i may leads;
+    once = kept.once;
     retired = rows_begin_retired K V S same hash m known s old new at kept.retired called i may leads;
   }
     where
@@ -110,6 +114,8 @@ module _ (K V S : Type 0) (same : K → K → Bool) (hash : K → ℕ) where
         (λ map j u is. rows_leave_in_hand same hash name m known s old new at whole kept.retired i said leads row here map j u is (kept.owed.noted map j u is)) None effects;
     handing = others_leave_handing K V S same hash name m v known s t old new at (leads row here).4.4 kept.owed kept.handing (calls_none None effects m) refl;
     waiting = rows_keep_waiting K V S same hash name m known s old new at whole kept.waiting i said leads row here;
+    once = once_fewer m.deferred v.deferred
+        (row_fewer known m new.memory.changed (row_tells old.memory.memory new.memory.memory new.memory.changed ((leads row here).0, said) row (leads row here).1)) kept.once;
     retired = rows_keep_retired K V S same hash name m known s old new at whole kept.retired i said leads row here;
   }
     where
@@ -141,6 +147,7 @@ module _ (K V S : Type 0) (same : K → K → Bool) (hash : K → ℕ) where
         (λ map j u is. makings_leave_in_hand same hash name m known s old new at whole kept.retired i said leads b here of was_new map j u is (kept.owed.noted map j u is)) of effects;
     handing = others_leave_handing K V S same hash name m v known s led old new at at2 kept.owed kept.handing (calls_none of effects m) calls;
     waiting = subst (ShowsWaiting v known2) (sym world) (makings_keep_waiting K V S same hash name m known s old new at whole kept.waiting i said leads b here of was_new);
+    once = subst WaitsOnce (sym (apart same hash name m known s old new at whole i said leads b here of was_new).0) kept.once;
     retired = others_leave_retired K V v v known2 stepped led
         (makings_keep_retired K V S same hash name m known s old new at whole (own_made K V S same hash name m known s old at whole kept) kept.retired i said leads b here of was_new) refl world
         (λ j has. inl (calls_same stepped led calls j has));
@@ -179,6 +186,7 @@ module _ (K V S : Type 0) (same : K → K → Bool) (hash : K → ℕ) where
     owed = stays_owed K V name m m known known s t kept.owed refl refl (same_in_hand name m known s kept.owed);
     handing = others_leave_handing K V S same hash name m m known s t old new at at2 kept.owed kept.handing refl refl;
     waiting = endings_begin_waiting K V m known s kept.waiting map i standing;
+    once = kept.once;
     retired = endings_begin_retired K V m known s kept.retired map i standing;
   }
     where
@@ -186,7 +194,7 @@ module _ (K V S : Type 0) (same : K → K → Bool) (hash : K → ℕ) where
       t = ending_begun map i standing s
 
   pub endings_keep_kept : EndingsKeepKept K V S same hash
-  endings_keep_kept waits name m known s old new at whole kept i said leads f here map not_there at2 = record {
+  endings_keep_kept name m known s old new at whole kept i said leads f here map not_there at2 = record {
     entries = entries_stay stepped led (endings_keep_entries K V S same hash s old new at kept.entries i said leads f here) world calls;
     made = (endings_keep_made K V S same hash name m known s old new at whole.all.shown kept.made i said leads f here map not_there).1;
     tables = endings_keep_tables K V S same hash name m known s old new at whole.all.shown kept.tables i said leads f here map not_there;
@@ -197,7 +205,8 @@ module _ (K V S : Type 0) (same : K → K → Bool) (hash : K → ℕ) where
     owed = effects_leave_owed K V name m known known2 s led kept.owed calls
         (λ n j u is. endings_leave_in_hand same hash name m known s old new at whole kept.retired i said leads f here map not_there n j u is (kept.owed.noted n j u is)) (Some map) effects;
     handing = others_leave_handing K V S same hash name m v known s led old new at at2 kept.owed kept.handing (calls_none (Some map) effects m) calls;
-    waiting = waits name m known s old new at whole kept.waiting i said leads f here map not_there;
+    waiting = endings_keep_waiting K V S same hash name m known s old new at whole kept.once kept.waiting i said leads f here map not_there;
+    once = once_then same hash name m known s old new at whole kept.once kept.waiting i f here (leads f here).0 said (leads f here).1 (leads f here).2 map not_there (leads f here).3;
     retired = endings_keep_retired K V S same hash name m known s old new at whole kept.retired i said leads f here map not_there;
   }
     where

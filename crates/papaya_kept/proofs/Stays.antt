@@ -26,7 +26,7 @@ use Rattle.papaya_settles.proofs.EntryScenes.{entries_begin}
 use Rattle.papaya_settles.proofs.HandBetween.{owed_begins, stays_owed, calls_come_to_owed}
 use Rattle.papaya_settles.proofs.HandRoles.{hand_kept}
 use Rattle.papaya_settles.proofs.Handing.{handing_begins, calls_come_to_handing}
-use Rattle.papaya_lives.specs.Behind.{ShowsWaiting}
+use Rattle.papaya_lives.specs.Behind.{ShowsWaiting, WaitsOnce}
 use Rattle.papaya_lives.proofs.Reclaimed.{retired_begins, others_leave_retired}
 use Rattle.papaya_lives.proofs.Waiting.{waiting_begins, others_leave_waiting}
 use Rattle.papaya_kept.specs.Steps.{BeginsKept, StaysKept, RenamedKept, CallsComeToKept, MakingsBeginKept}
@@ -43,6 +43,7 @@ begins_kept K V roots name = record {
   owed = owed_begins K V roots name;
   handing = handing_begins K V roots name;
   waiting = waiting_begins K V roots;
+  once = tt;
   retired = retired_begins K V roots;
 }
 
@@ -81,6 +82,7 @@ stays_kept K V name m v known s t kept listed tables deferred place world calls 
   owed = stays_owed K V name m v known known s t kept.owed listed calls (same_in_hand name m known s kept.owed);
   handing = handing_stays name m v s t kept.handing listed world calls;
   waiting = subst (ShowsWaiting v known) (sym world) (others_leave_waiting K V m v known s.world kept.waiting deferred place);
+  once = subst WaitsOnce (sym deferred) kept.once;
   retired = others_leave_retired K V m v known s t kept.retired tables world (λ j has. inl (calls_same s t calls j has));
 }
 
@@ -96,6 +98,7 @@ renamed_kept K V name name2 m known s agree kept = record {
   owed = record { owed = λ map i u is c c_is. kept.owed.owed map i u is c (as_named map i u is c c_is); noted = kept.owed.noted };
   handing = λ map i u is busy c c_is. kept.handing map i u is busy c (as_named map i u is c c_is);
   waiting = kept.waiting;
+  once = kept.once;
   retired = kept.retired;
 }
   where
@@ -114,6 +117,7 @@ calls_come_to_kept K V same name m known s whole kept own outcome steps none = r
   owed = calls_come_to_owed K V same name m known s whole kept.owed own outcome steps none;
   handing = calls_come_to_handing K V same name m s whole.all.shown.calls kept.handing own outcome steps none;
   waiting = others_leave_waiting K V m (come_to own outcome steps m) known s.world kept.waiting refl refl;
+  once = kept.once;
   retired = others_leave_retired K V m (come_to own outcome steps m) known s s kept.retired refl refl (λ j has. inl has);
 }
 
@@ -129,6 +133,7 @@ makings_begin_kept K V name m known s kept i b none = record {
   owed = stays_owed K V name m m known known s t kept.owed refl refl (same_in_hand name m known s kept.owed);
   handing = kept.handing;
   waiting = kept.waiting;
+  once = kept.once;
   retired = others_leave_retired K V m m known s t kept.retired refl refl (λ j has. inl has);
 }
   where

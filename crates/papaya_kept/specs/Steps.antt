@@ -48,7 +48,6 @@ use Rattle.papaya_spots.specs.OnSlots.{WaitUnreclaimed}
 use Rattle.papaya_moments.specs.Endings.{WaitsOn}
 use Rattle.papaya_moments.specs.OnSlots.{HadRetired}
 use Rattle.papaya_moments.specs.Whole.{ShowsWhole}
-use Rattle.papaya_lives.specs.Behind.{ShowsWaiting}
 use Rattle.papaya_kept.specs.Kept.{ShowsKept}
 
 module _ (K V : Type 0) where
@@ -151,15 +150,6 @@ module _ (K V S : Type 0) (same : K → K → Bool) (hash : K → ℕ) where
       let led = making_after same hash s old new i b to.0 to.2.step.w2 said to.3 in
       IsAt same hash new led → Shows same name v after led → ShowsKept name v after led)
 
-  -- The end of a map leaves what waits behind tables there, after each step of it.
-  abbrev pub EndsKeepWaiting : Type 0
-  EndsKeepWaiting =
-      (name : ℕ → List ℕ) (m : Moment K V) (known : Known) (s : Scene K V) (old new : Executor K V S) → IsAt same hash old s → ShowsWhole same name m known s → ShowsWaiting m known s.world
-      → (i : ℕ) (said : Settled (Node K V)) (leads : EndingLeads same hash i said s old new) (f : Finishing K V) (here : s.enders i ≡ Some f) (map : ℕ) → s.maps map ≡ None
-      → (let to = leads f here in
-      ShowsWaiting (with_effects None (Some map) (effects_of (acts.Ending map) known new.memory.changed) m) (known_after (acts.Ending map) new.memory.changed known)
-      (ending_after same hash s new i f to.0 to.2.w2 to.2.deed said to.3).world)
-
   -- So it is where one begins, and then after each step of it;
   abbrev pub EndingsBeginKept : Type 0
   EndingsBeginKept =
@@ -168,8 +158,7 @@ module _ (K V S : Type 0) (same : K → K → Bool) (hash : K → ℕ) where
 
   abbrev pub EndingsKeepKept : Type 0
   EndingsKeepKept =
-      EndsKeepWaiting
-      → (name : ℕ → List ℕ) (m : Moment K V) (known : Known) (s : Scene K V) (old new : Executor K V S) → IsAt same hash old s → ShowsWhole same name m known s → ShowsKept name m known s
+      (name : ℕ → List ℕ) (m : Moment K V) (known : Known) (s : Scene K V) (old new : Executor K V S) → IsAt same hash old s → ShowsWhole same name m known s → ShowsKept name m known s
       → (i : ℕ) (said : Settled (Node K V)) (leads : EndingLeads same hash i said s old new) (f : Finishing K V) (here : s.enders i ≡ Some f) (map : ℕ) → s.maps map ≡ None
       → (let to = leads f here in
       let led = ending_after same hash s new i f to.0 to.2.w2 to.2.deed said to.3 in

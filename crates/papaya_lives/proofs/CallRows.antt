@@ -40,8 +40,10 @@ use Rattle.papaya_schedules.specs.declared.effect.Effect.TheVariants.{Retired, D
 use Rattle.papaya_schedules.specs.declared.effect.Table.{Table}
 use Rattle.papaya_schedules.specs.declared.effect.Thing.TheVariants.{APair}
 use Rattle.papaya_schedules.specs.Effects.{with_effects}
-use Rattle.papaya_schedules.specs.Lists.{put}
+use Rattle.papaya_schedules.specs.Lists.{is_among, put}
 use Rattle.papaya_schedules.specs.Moment.{Place, Behind, Deferral, Handed as IsHanded, Moment}
+use Rattle.papaya_schedules.specs.Things.{same_table}
+use Rattle.papaya_schedules.specs.Views.{behind}
 use Rattle.papaya_rule.proofs.World.Hands.{at_cases}
 use Rattle.papaya_callers.specs.Sights.{seen_by}
 use Rattle.papaya_callers.specs.Together.{UnderWay, OnKey, ForRoom, Counting, OverAll, Together, CameAbout, HandsOver, IsOneStep}
@@ -63,17 +65,19 @@ use Rattle.papaya_follows.proofs.Steps.{WentTo, went_to, made_so, is_inside, Did
 use Rattle.papaya_hands.specs.Rows.{ReclaimsNone}
 use Rattle.papaya_hands.proofs.RowSteps.{rows_hand_theirs}
 use Rattle.papaya_spots.proofs.Steps.{stayed_calm}
+use Rattle.papaya_spots.proofs.Unreclaimed.{table_is, same_itself}
 use Rattle.papaya_moments.specs.Whole.{ShowsWhole}
 use Rattle.papaya_settles.specs.Due.{ToRetire, ToPut, due_in_settle, due_in_row, told_retired, RowTells, TellsNone, TellsRetired, TellsDeferred, OwnAreMade}
 use Rattle.papaya_settles.specs.Entries.{ShowsEntries}
 use Rattle.papaya_settles.proofs.DueCalls.{rows_tell_due}
-use Rattle.papaya_lives.specs.Behind.{IsLeft, LiesBehind, EachWaits, ShowsWaiting}
+use Rattle.papaya_lives.specs.Behind.{IsLeft, LiesBehind, EachWaits, ShowsWaiting, WaitsOnce}
 use Rattle.papaya_lives.specs.Retired.{IsDue, IsToRetire}
 use Rattle.papaya_lives.specs.Steps.{CallRowsKeepWaiting}
 use Rattle.papaya_lives.specs.Waiting.{waits_behind}
-use Rattle.papaya_lives.proofs.Each.{each_on}
+use Rattle.papaya_lives.proofs.Each.{WaitsAt, each_on, found}
 use Rattle.papaya_lives.proofs.Lives.{WaitsIn, OnWay, OnList, TakenOver, in_wait}
 use Rattle.papaya_lives.proofs.Logs.{waits_on}
+use Rattle.papaya_lives.proofs.Once.{once_more}
 use Rattle.papaya_lives.proofs.Puts.{to_put, is_putting}
 use Rattle.papaya_lives.proofs.RetiredCalls.{to_retire}
 use Rattle.papaya_lives.proofs.Retires.{row_life}
@@ -350,12 +354,15 @@ module _ {K V S : Type 0} (same : K → K → Bool) (hash : K → ℕ) (name : �
         by (TellsRetired word due gone are) = ap then_at are ∙ retired word (known.roles (block_in word)) refl due are
         by (TellsDeferred word block place x len due its gone noted are) = ap then_at are ∙ put_behind x (named known word)
 
+    abbrev Waited : ℕ → Table → Type 0
+    Waited n t = (m.place n ≡ Behind) × LiesBehind known w n t
+
     -- what waited does so still
     abbrev WaitsThen : ℕ → Table → Type 0
     WaitsThen n t = (v.place n ≡ Behind) × LiesBehind known2 to.4.w2 n t
 
     on_still : w3.memory ≡ new.memory.memory → IsOneStep to.0.setting i w w3 → EachWaits WaitsThen m.deferred
-    on_still memory step = each_on (λ n t. (m.place n ≡ Behind) × LiesBehind known w n t) WaitsThen (λ n t p. (place_on memory step n t p.1 p.0, lies_on step n t p.1)) m.deferred waiting
+    on_still memory step = each_on Waited WaitsThen (λ n t p. (place_on memory step n t p.1 p.0, lies_on step n t p.1)) m.deferred waiting
 
     -- the row is under way if it puts a pair behind a table
     under_way : w3.memory ≡ new.memory.memory → IsOneStep to.0.setting i w w3 → (k : ℕ) (t : Table) → effects ≡ Deferred k t ∷ [] → w.row i ≡ Rests → ⊥
@@ -365,37 +372,68 @@ module _ {K V S : Type 0} (same : K → K → Bool) (hash : K → ℕ) (name : �
         let one = (subst AllCalm alone calm).0 in cc one)
     under_way memory (inl step) k t alone rests = subst (λ (r : Row). Steps' deferred_word i r w w3) rests step
 
-    -- the pair that it puts there
-    lies_new : w3.memory ≡ new.memory.memory → IsOneStep to.0.setting i w w3 → (word block : ℕ) (place : At) (k len : ℕ) (t : Table) → due_in_row (machine_of u) ≡ Some (ToPut word place) → IsWordOf block place
-        → known.roles block ≡ role.Table t len → named known word ≡ role.Pair k → effects ≡ Deferred k t ∷ [] → LiesBehind known2 to.4.w2 k t
-    lies_new memory step word block place k len t due its is_table is_pair alone =
+    -- the pair that it puts there waits there by the log,
+    waits_put : w3.memory ≡ new.memory.memory → IsOneStep to.0.setting i w w3 → (word block : ℕ) (place : At) (k : ℕ) (t : Table) → due_in_row (machine_of u) ≡ Some (ToPut word place) → IsWordOf block place
+        → effects ≡ Deferred k t ∷ [] → waits_behind (block_in word) w.log ≡ Some block
+    waits_put memory step word block place k t due its alone =
         let row = to_put same to.0.hash to.0.setting w to.0.chart (seen_by to.0.blocks (to.0.sights (slot_of i))) i word place u (each.stand i u here_is) (under_way memory step k t alone) due in
         let puts = is_putting (LAST_SLOT + 1) i (view deferred_word w.memory) kept.good.state kept.good.extra word block place its (length w.memory.slots) (w.row i) (kept.good.rows i) row in
-        lies_on step k t (record {
-          pair = block_in word;
-          is_pair = is_pair;
-          table = block;
-          len = len;
-          is_table = is_table;
-          waits = inl (kept.putting i (block_in word) block puts);
-        })
+        kept.putting i (block_in word) block puts
+
+    -- behind no other one
+    put_once : w3.memory ≡ new.memory.memory → IsOneStep to.0.setting i w w3 → (word block : ℕ) (place : At) (k len : ℕ) (t : Table) → due_in_row (machine_of u) ≡ Some (ToPut word place) → IsWordOf block place
+        → known.roles block ≡ role.Table t len → named known word ≡ role.Pair k → effects ≡ Deferred k t ∷ [] → (x : Table) → is_among k (behind x m.deferred) ≡ true → same_table t x ≡ true
+    put_once memory step word block place k len t due its is_table is_pair alone x among = by b.waits
+      where
+        a : WaitsAt Waited k x
+        a = found Waited k x m.deferred waiting among
+
+        b : LiesBehind known w k x
+        b = subst (LiesBehind known w k) (table_is a.one.behind x a.its) (subst (λ (n : ℕ). LiesBehind known w n a.one.behind) a.number a.so.1)
+
+        puts : waits_behind (block_in word) w.log ≡ Some block
+        puts = waits_put memory step word block place k t due its alone
+
+        same_pair : b.pair ≡ block_in word
+        same_pair = whole.all.shown.blocks.once b.pair (block_in word) k b.is_pair is_pair
+
+        by : (waits_behind b.pair w.log ≡ Some b.table) ⊎ (IsLeft (w.hand b.pair) × IsLeft (w.hand b.table)) → same_table t x ≡ true
+        by (inl waits) =
+            let one : ◌≡◌ {A = Option ℕ} (Some b.table) (Some block) = sym waits ∙ ap (λ (n : ℕ). waits_behind n w.log) same_pair ∙ puts in
+            let alike : b.table ≡ block = cc one in
+            let both : role.Table x b.len ≡ role.Table t len = sym b.is_table ∙ ap known.roles alike ∙ is_table in
+            let tables : x ≡ t = cc both in
+            ap (same_table t) tables ∙ same_itself t
+        by (inr both) = absurd (subst IsLeft (ap w.hand same_pair ∙ has_it deferred_word size w kept (block_in word) block puts) both.0)
+
+    -- and lies behind it
+    lies_new : w3.memory ≡ new.memory.memory → IsOneStep to.0.setting i w w3 → (word block : ℕ) (place : At) (k len : ℕ) (t : Table) → due_in_row (machine_of u) ≡ Some (ToPut word place) → IsWordOf block place
+        → known.roles block ≡ role.Table t len → named known word ≡ role.Pair k → effects ≡ Deferred k t ∷ [] → LiesBehind known2 to.4.w2 k t
+    lies_new memory step word block place k len t due its is_table is_pair alone = lies_on step k t (record {
+      pair = block_in word;
+      is_pair = is_pair;
+      table = block;
+      len = len;
+      is_table = is_table;
+      waits = inl (waits_put memory step word block place k t due its alone);
+    })
+
+    abbrev deferred_then : List Effect → List Deferral
+    deferred_then fs = (with_effects (Some (name i)) (Some map) fs m).deferred
+
+    retired_list : (r : Role) → deferred_then (told_retired r) ≡ m.deferred
+    retired_list (role.Pair k) = refl
+    retired_list (role.Table t len) = refl
+    retired_list role.Free = refl
+    retired_list (role.OwnPair k) = refl
+    retired_list (role.OwnTable turn shape) = refl
+    retired_list (role.Counter of) = refl
 
     waiting_on : w3.memory ≡ new.memory.memory → IsOneStep to.0.setting i w w3 → ShowsWaiting v known2 to.4.w2
     waiting_on memory step = by tells
       where
-        deferred_then : List Effect → List Deferral
-        deferred_then fs = (with_effects (Some (name i)) (Some map) fs m).deferred
-
         still : v.deferred ≡ m.deferred → ShowsWaiting v known2 to.4.w2
         still same_list = subst (EachWaits WaitsThen) (sym same_list) (on_still memory step)
-
-        retired_list : (r : Role) → deferred_then (told_retired r) ≡ m.deferred
-        retired_list (role.Pair k) = refl
-        retired_list (role.Table t len) = refl
-        retired_list role.Free = refl
-        retired_list (role.OwnPair k) = refl
-        retired_list (role.OwnTable turn shape) = refl
-        retired_list (role.Counter of) = refl
 
         put_on : (word block : ℕ) (place : At) (t : Table) (len : ℕ) (r : Role) → named known word ≡ r → due_in_row (machine_of u) ≡ Some (ToPut word place) → IsWordOf block place
             → known.roles block ≡ role.Table t len → effects ≡ carried t r → ShowsWaiting v known2 to.4.w2
@@ -415,19 +453,41 @@ module _ {K V S : Type 0} (same : K → K → Bool) (hash : K → ℕ) (name : �
         by (TellsRetired word due gone are) = still (ap deferred_then are ∙ retired_list (known.roles (block_in word)))
         by (TellsDeferred word block place t len due its gone noted are) = put_on word block place t len (named known word) refl due its noted are
 
-  pub row_waits_on : ShowsWaiting v known2 to.4.w2
+    -- each pair waits behind one table still
+    once_on : w3.memory ≡ new.memory.memory → IsOneStep to.0.setting i w w3 → WaitsOnce m.deferred → WaitsOnce v.deferred
+    once_on memory step once = by tells
+      where
+        still : v.deferred ≡ m.deferred → WaitsOnce v.deferred
+        still same_list = subst WaitsOnce (sym same_list) once
+
+        put_on : (word block : ℕ) (place : At) (t : Table) (len : ℕ) (r : Role) → named known word ≡ r → due_in_row (machine_of u) ≡ Some (ToPut word place) → IsWordOf block place
+            → known.roles block ≡ role.Table t len → effects ≡ carried t r → WaitsOnce v.deferred
+        put_on word block place t len (role.Pair k) is due its table are =
+            subst WaitsOnce (sym (ap deferred_then are)) (once_more m.deferred once k t (put_once memory step word block place k len t due its table is are))
+        put_on word block place t len role.Free is due its table are = still (ap deferred_then are)
+        put_on word block place t len (role.OwnPair k) is due its table are = still (ap deferred_then are)
+        put_on word block place t len (role.OwnTable turn shape) is due its table are = still (ap deferred_then are)
+        put_on word block place t len (role.Table y many) is due its table are = still (ap deferred_then are)
+        put_on word block place t len (role.Counter of) is due its table are = still (ap deferred_then are)
+
+        by : RowTells i map known effects (due_in_row (machine_of u)) (due_in_row to.1) → WaitsOnce v.deferred
+        by (TellsNone none alike) = still (ap deferred_then none)
+        by (TellsRetired word due gone are) = still (ap deferred_then are ∙ retired_list (known.roles (block_in word)))
+        by (TellsDeferred word block place t len due its gone noted are) = put_on word block place t len (named known word) refl due its noted are
+
+  pub row_waits_on : ShowsWaiting v known2 to.4.w2 × (WaitsOnce m.deferred → WaitsOnce v.deferred)
   row_waits_on = by u to.4.did other
     where
       by : (x : UnderWay K V K) (step : DidSo same hash name m known s old new at whole.all.shown map i u here_is said leads x)
-          → (OfNoRow same hash name m known s old new at whole.all.shown map i u here_is said leads x step → ⊥) → ShowsWaiting v known2 to.4.w2
+          → (OfNoRow same hash name m known s old new at whole.all.shown map i u here_is said leads x step → ⊥) → ShowsWaiting v known2 to.4.w2 × (WaitsOnce m.deferred → WaitsOnce v.deferred)
       by (OnKey x) (p2, end, machine_is, told_is, inl step) none = absurd (none tt)
-      by (OnKey x) (p2, end, machine_is, told_is, inr (row, stayed)) none = waiting_on row.step.w2 stayed.0 row.step.memory row.step.happened
+      by (OnKey x) (p2, end, machine_is, told_is, inr (row, stayed)) none = (waiting_on row.step.w2 stayed.0 row.step.memory row.step.happened, once_on row.step.w2 stayed.0 row.step.memory row.step.happened)
       by (ForRoom x) (p2, end, machine_is, told_is, inl step) none = absurd (none tt)
-      by (ForRoom x) (p2, end, machine_is, told_is, inr (row, stayed)) none = waiting_on row.step.w2 stayed.0 row.step.memory row.step.happened
+      by (ForRoom x) (p2, end, machine_is, told_is, inr (row, stayed)) none = (waiting_on row.step.w2 stayed.0 row.step.memory row.step.happened, once_on row.step.w2 stayed.0 row.step.memory row.step.happened)
       by (Counting x) step none = absurd (none tt)
       by (OverAll x) (p2, end, machine_is, told_is, inl step) none = absurd (none tt)
-      by (OverAll x) (p2, end, machine_is, told_is, inr (row, stayed)) none = waiting_on row.step.w2 stayed.0 row.step.memory row.step.happened
+      by (OverAll x) (p2, end, machine_is, told_is, inr (row, stayed)) none = (waiting_on row.step.w2 stayed.0 row.step.memory row.step.happened, once_on row.step.w2 stayed.0 row.step.memory row.step.happened)
 
 pub call_rows_keep_waiting : (K V S : Type 0) (same : K → K → Bool) (hash : K → ℕ) → CallRowsKeepWaiting K V S same hash
 call_rows_keep_waiting K V S same hash name m known s old new at whole entries owning waiting map i u here told leads other =
-    row_waits_on same hash name m known s old new at whole entries owning waiting map i u here told leads other
+    (row_waits_on same hash name m known s old new at whole entries owning waiting map i u here told leads other).0

@@ -127,6 +127,16 @@ module _ {K V S : Type 0} (same : K → K → Bool) (hash : K → ℕ) (name : �
     by_did (OverAll x) (p2, end, machine_is, told_is, inl (step, moved)) own = by_events step.step.went.w2 moved.0 step.step.went.events step.step.went.users step.step.went.runs
     by_did (OverAll x) (p2, end, machine_is, told_is, inr (row, stayed)) own = absurd own
 
+-- the same pairs wait after it
+pub calls_keep_list : {K V S : Type 0} (same : K → K → Bool) (hash : K → ℕ) (name : ℕ → List ℕ) (m : Moment K V) (known : Known) (s : Scene K V) (old new : Executor K V S)
+    (at : IsAt same hash old s) (whole : ShowsWhole same name m known s) (map i : ℕ) (u : UnderWay K V K) (here : s.calls map i ≡ Some u) (told : Progress (Node K V))
+    (leads : StepLeads same hash i told s old new)
+    → OfNoRow same hash name m known s old new at whole.all.shown map i u here told leads u (leads map u here).4.did
+    → (with_effects (Some (name i)) (Some map) (effects_of (Call i map) known new.memory.changed) m).deferred ≡ m.deferred
+calls_keep_list same hash name m known s old new at whole map i u here told leads own =
+    let hands = hands_nothing same hash name m known s old new at whole.all.shown map i u here told leads own in
+    same_deferred map (Some (name i)) (Some map) (effects_of (Call i map) known new.memory.changed) m hands
+
 pub calls_keep_waiting : (K V S : Type 0) (same : K → K → Bool) (hash : K → ℕ) → CallsKeepWaiting K V S same hash
 calls_keep_waiting K V S same hash name m known s old new at whole waiting map i u here told leads own =
     let hands = hands_nothing same hash name m known s old new at whole.all.shown map i u here told leads own in

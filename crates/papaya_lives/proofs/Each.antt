@@ -13,6 +13,11 @@ module _ (P : ℕ → Table → Type 0) where
   each_on Q turn [] each = tt
   each_on Q turn (d ∷ ds) each = (turn d.pair d.behind each.0, each_on Q turn ds each.1)
 
+  -- and something else is so of each
+  pub each_both : (Q : ℕ → Table → Type 0) (ds : List Deferral) → EachWaits P ds → EachWaits Q ds → EachWaits (λ n t. P n t × Q n t) ds
+  each_both Q [] each other = tt
+  each_both Q (d ∷ ds) each other = ((each.0, other.0), each_both Q ds each.1 other.1)
+
   -- of those that pass a test
   pub each_kept : (Q : ℕ → Table → Type 0) (f : Deferral → Bool) → ((d : Deferral) → f d ≡ true → P d.pair d.behind → Q d.pair d.behind) → (ds : List Deferral) → EachWaits P ds → EachWaits Q (filter f ds)
   each_kept Q f turn [] each = tt

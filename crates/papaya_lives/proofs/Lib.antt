@@ -15,6 +15,9 @@ pub mod Waiting
 pub mod Ends
 pub mod Reclaimed
 pub mod RetiredCalls
+pub mod Once
 pub mod Puts
 pub mod CallRows
+pub mod LeftOver
+pub mod WaitingEnds
 pub mod RetiredEnds

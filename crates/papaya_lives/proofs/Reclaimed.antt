@@ -45,6 +45,7 @@ use Rattle.papaya_follows.proofs.Onward.{IsOfMap}
 use Rattle.papaya_follows.proofs.Operations.{LeavesBy}
 use Rattle.papaya_follows.proofs.Told.{roomed_as_many}
 use Rattle.papaya_others.proofs.RowPlans.{TellsRow, row_tells}
+use Rattle.papaya_spots.specs.Unreclaimed.{ShowsUnreclaimed}
 use Rattle.papaya_spots.proofs.Calm.{put_back}
 use Rattle.papaya_moments.specs.OnSlots.{HadRetired}
 use Rattle.papaya_moments.specs.Whole.{ShowsWhole}
@@ -74,6 +75,45 @@ none_to_retire defers size w k j b retired due =
 pub no_call : {K V S : Type 0} (same : K → K → Bool) (hash : K → ℕ) (s : Scene K V) (old : Executor K V S) → IsAt same hash old s → (i : ℕ) (row : SlotRow) → work_of old i ≡ Some (work.OnSlot row) → HasCall s i → ⊥
 no_call {K} {V} same hash s old at i row here (map, u, is) =
     (let none : ◌≡◌ {A = Option (Machine K V K)} (Some (machine_of u)) None = ap (option_map machine_of) (sym is) ∙ at.calls map i ∙ ap (λ (x : Option (Work K V)). call_in x map) here in cc none)
+
+-- what a row tells leaves tables
+module _ {K V : Type 0} (m : Moment K V) (known : Known) (blocks : ShowsUnreclaimed m known) where
+  -- A table was one before, and none that is reclaimed.
+  abbrev pub StaysSo : Changed → Type 0
+  StaysSo x =
+      (b len : ℕ) (t : Table) → (known_after Row x known).roles b ≡ role.Table t len → (known.roles b ≡ role.Table t len) × NoneEnds t (effects_of Row known x)
+
+  same_roles : (known3 : Known) (effects : List Effect) → known3.roles ≡ known.roles → ((t : Table) → NoneEnds t effects)
+      → (b len : ℕ) (t : Table) → known3.roles b ≡ role.Table t len → (known.roles b ≡ role.Table t len) × NoneEnds t effects
+  same_roles known3 effects roles none b len t is = (sym (ap (λ (f : ℕ → Role). f b) roles) ∙ is, none t)
+
+  nothing_ends : (q : Bool) (t : Table) → NoneEnds t (if q then [] else [])
+  nothing_ends true t = tt
+  nothing_ends false t = tt
+
+  roomed_ends : (q : Bool) (t : Table) → NoneEnds t (if q then [] else Asked ABucket ∷ [])
+  roomed_ends true t = tt
+  roomed_ends false t = (λ z. z, tt)
+
+  pub stays_so : (x : Changed) → TellsRow x → StaysSo x
+  stays_so changed.Nothing is = same_roles known [] refl (λ t. tt)
+  stays_so (changed.Wrote (Slot t field) before after) is = same_roles known [] refl (λ t. tt)
+  stays_so (changed.Wrote (Entry b field) before after) is = same_roles known (if names_same before after then [] else []) refl (nothing_ends (names_same before after))
+  stays_so (changed.Wrote (Root r) before after) is = absurd is
+  stays_so (changed.Wrote (Used r) before after) is = absurd is
+  stays_so (changed.Wrote (Word b field) before after) is = absurd is
+  stays_so (changed.Made kind b) is = absurd is
+  stays_so (changed.Unmade kind) is = absurd is
+  stays_so (changed.Took x) is = λ b len t e.
+      let of_map : IsOfMap ((with_role x role.Free known).roles b) = subst IsOfMap (sym e) tt in
+      let was = sym (put_back known.roles x role.Free (λ of. of) b of_map) ∙ e in (
+        was,
+        taken_ends t Row (known.roles x) (λ u n its_table one.
+            subst IsOfMap (put_here x role.Free known.roles b (blocks.tables_once b x len n t was (its_table ∙ ap (λ (y : Table). role.Table y n) one))) of_map),
+      )
+  stays_so (changed.Roomed bucket had) is =
+      same_roles (known_after Row (changed.Roomed bucket had) known) (if had && nat_lt bucket known.buckets then [] else Asked ABucket ∷ []) (roomed_as_many Row known bucket had).0
+      (roomed_ends (had && nat_lt bucket known.buckets))
 
 module _ {K V S : Type 0} (same : K → K → Bool) (hash : K → ℕ) (name : ℕ → List ℕ) (m : Moment K V) (known : Known) (s : Scene K V) (old new : Executor K V S) (at : IsAt same hash old s)
     (whole : ShowsWhole same name m known s) (shows : ShowsRetired m known s) (i : ℕ) (said : RowTold (Node K V)) (leads : RowLeads same hash i said s old new) (row : SlotRow)
@@ -147,54 +187,17 @@ module _ {K V S : Type 0} (same : K → K → Bool) (hash : K → ℕ) (name : �
   finds (changed.Took x) e is = taken_finds x (known.roles x) e refl
   finds (changed.Roomed bucket had) e is = roomed_finds (had && nat_lt bucket known.buckets)
 
-  -- A table was one before, and none that is reclaimed.
-  abbrev StaysSo : Changed → Type 0
-  StaysSo x =
-      (b len : ℕ) (t : Table) → (known_after Row x known).roles b ≡ role.Table t len → (known.roles b ≡ role.Table t len) × NoneEnds t (effects_of Row known x)
-
-  same_roles : (known3 : Known) (effects : List Effect) → known3.roles ≡ known.roles → ((t : Table) → NoneEnds t effects)
-      → (b len : ℕ) (t : Table) → known3.roles b ≡ role.Table t len → (known.roles b ≡ role.Table t len) × NoneEnds t effects
-  same_roles known3 effects roles none b len t is = (sym (ap (λ (f : ℕ → Role). f b) roles) ∙ is, none t)
-
-  nothing_ends : (q : Bool) (t : Table) → NoneEnds t (if q then [] else [])
-  nothing_ends true t = tt
-  nothing_ends false t = tt
-
-  roomed_ends : (q : Bool) (t : Table) → NoneEnds t (if q then [] else Asked ABucket ∷ [])
-  roomed_ends true t = tt
-  roomed_ends false t = (λ z. z, tt)
-
-  stays_so : (x : Changed) → TellsRow x → StaysSo x
-  stays_so changed.Nothing is = same_roles known [] refl (λ t. tt)
-  stays_so (changed.Wrote (Slot t field) before after) is = same_roles known [] refl (λ t. tt)
-  stays_so (changed.Wrote (Entry b field) before after) is = same_roles known (if names_same before after then [] else []) refl (nothing_ends (names_same before after))
-  stays_so (changed.Wrote (Root r) before after) is = absurd is
-  stays_so (changed.Wrote (Used r) before after) is = absurd is
-  stays_so (changed.Wrote (Word b field) before after) is = absurd is
-  stays_so (changed.Made kind b) is = absurd is
-  stays_so (changed.Unmade kind) is = absurd is
-  stays_so (changed.Took x) is = λ b len t e.
-      let of_map : IsOfMap ((with_role x role.Free known).roles b) = subst IsOfMap (sym e) tt in
-      let was = sym (put_back known.roles x role.Free (λ of. of) b of_map) ∙ e in (
-        was,
-        taken_ends t Row (known.roles x) (λ u n its_table one.
-            subst IsOfMap (put_here x role.Free known.roles b (whole.blocks.tables_once b x len n t was (its_table ∙ ap (λ (y : Table). role.Table y n) one))) of_map),
-      )
-  stays_so (changed.Roomed bucket had) is =
-      same_roles (known_after Row (changed.Roomed bucket had) known) (if had && nat_lt bucket known.buckets then [] else Asked ABucket ∷ []) (roomed_as_many Row known bucket had).0
-      (roomed_ends (had && nat_lt bucket known.buckets))
-
   pub keeps : ShowsRetired v known2 (record s { world = w2; maps = (leads row here).4.2 })
   keeps = record {
     tables = λ b len t e handed.
-        let was = stays_so told tells b len t e in
+        let was = stays_so m known whole.blocks told tells b len t e in
         let stepped = it old.batch_size w came there i w2 (leads row here).4.1 in
         let before = handed_before stepped.effects w.hand b (sym (ap (λ (h : ℕ → Hand). h b) stepped.hands) ∙ handed) in
         elim (shows.tables b len t was.0 before) as (λ _. (is_stage is_retired t v ≡ true) ⊎ ((j : ℕ) × HasCall s j × IsToRetire b (w2.row j))) [
           | inl so ↦ inl (still_retired t None None (effects_of Row known told) m was.1 so)
           | inr due ↦ inr (due.0, due.1, subst (IsToRetire b) (sym (stepped.rows due.0 (λ same_one. no_call same hash s old at i row here (subst (HasCall s) same_one due.1)))) due.2)
         ];
-    lengths = λ b len t e. shows.lengths b len t (stays_so told tells b len t e).0;
+    lengths = λ b len t e. shows.lengths b len t (stays_so m known whole.blocks told tells b len t e).0;
   }
 
 -- a row that begins leaves the rows of others as they are

@@ -46,7 +46,7 @@ use Rattle.papaya_lives.specs.Retired.{IsToRetire, ShowsRetired, EndingsKeepReti
 use Rattle.papaya_lives.proofs.Stages.{EndsIt, NoneEnds, still_retired, taken_ends}
 
 -- what the collector has is there
-handed_lives : (l : Life) → is_handed l ≡ true → lives l ≡ true
+pub handed_lives : (l : Life) → is_handed l ≡ true → lives l ≡ true
 handed_lives (IsDeferring i s t) handed = refl
 handed_lives (IsDeferred t) handed = refl
 handed_lives (IsPending i) handed = refl

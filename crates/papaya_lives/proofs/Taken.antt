@@ -34,7 +34,7 @@ left_not_given Handed l left fits = absurd left
 left_not_given (LeftTo i) l left fits = ap is_given fits
 
 -- what one step of a row takes was retired
-taken_retired : (x : ℕ) (effects log : List LogEffect) → IsOneStep effects → IsSound (effects ++ log) → (times x (taken_in effects) ≡ 0 → ⊥) → is_retired x log ≡ true
+pub taken_retired : (x : ℕ) (effects log : List LogEffect) → IsOneStep effects → IsSound (effects ++ log) → (times x (taken_in effects) ≡ 0 → ⊥) → is_retired x log ≡ true
 taken_retired x [] log one sound some = absurd (some refl)
 taken_retired x (Entered s ∷ []) log one sound some = absurd (some refl)
 taken_retired x (LeftSlot s ∷ []) log one sound some = absurd (some refl)

@@ -102,7 +102,7 @@ module _ {K V : Type 0} (m : Moment K V) (known : Known) (w : World (Node K V)) 
   roomed_finds true = tt
   roomed_finds false = (tt, tt)
 
-  row_finds : (told : Changed) → TellsRow told → AtEachEffect WaitUnreclaimed None None (effects_of Row known told) m
+  pub row_finds : (told : Changed) → TellsRow told → AtEachEffect WaitUnreclaimed None None (effects_of Row known told) m
   row_finds changed.Nothing is = tt
   row_finds (changed.Wrote (Slot t field) old new) is = tt
   row_finds (changed.Wrote (Entry b field) old new) is = nothing_finds (names_same old new)

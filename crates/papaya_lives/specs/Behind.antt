@@ -5,6 +5,7 @@ use Rattle.papaya_tables.specs.declared.node.Node.{Node}
 use Rattle.papaya_schedules.specs.declared.effect.Table.{Table}
 use Rattle.papaya_schedules.specs.Lists.{is_among}
 use Rattle.papaya_schedules.specs.Moment.{Behind, Deferral, Moment}
+use Rattle.papaya_schedules.specs.Things.{same_table}
 use Rattle.papaya_schedules.specs.Views.{behind}
 use Rattle.papaya_effects.specs.Known.{Known}
 use Rattle.papaya_effects.specs.declared.role.Role.TheVariants as role
@@ -15,6 +16,10 @@ use Rattle.papaya_lives.specs.Waiting.{waits_behind}
 abbrev pub IsLeft : Hand → Type 0
 IsLeft (LeftTo i) = Unit {0}
 IsLeft _ = ⊥
+
+-- no block that is noted as a table is left over
+abbrev pub NoTableLeft : {K V : Type 0} → Known → World (Node K V) → Type 0
+NoTableLeft known w = (b len : ℕ) (t : Table) → known.roles b ≡ role.Table t len → IsLeft (w.hand b) → ⊥
 
 -- The pair has a block, and so has the table. That one waits behind this one; or both are left over, since their map ends.
 pub record LiesBehind {K V : Type 0} (known : Known) (w : World (Node K V)) (n : ℕ) (t : Table) : Type 0 where
@@ -39,3 +44,7 @@ module _ {K V : Type 0} where
 abbrev pub WaitingIsThere : Type 0 → Type 0 → Type 0
 WaitingIsThere K V =
     (m : Moment K V) (known : Known) (w : World (Node K V)) → ShowsWaiting m known w → (t : Table) (n : ℕ) → is_among n (behind t m.deferred) ≡ true → is_unreclaimed (m.place n) ≡ true
+
+-- each pair that waits is told to be behind one table
+abbrev pub WaitsOnce : List Deferral → Type 0
+WaitsOnce deferred = EachWaits (λ n t. (u : Table) → is_among n (behind u deferred) ≡ true → same_table t u ≡ true) deferred

@@ -32,6 +32,7 @@ use Rattle.papaya_finishes.specs.Endings.{Finishing}
 use Rattle.papaya_finishes.specs.Makings.{Beginning}
 use Rattle.papaya_finishes.specs.Maps.{Standing}
 use Rattle.papaya_follows.specs.Steps.{IsOfNoRow}
+use Rattle.papaya_others.specs.Endings.{ending_after}
 use Rattle.papaya_others.specs.Makings.{WasNew}
 use Rattle.papaya_others.specs.Rows.{scene_then}
 use Rattle.papaya_spots.specs.OnSlots.{WaitUnreclaimed}
@@ -39,7 +40,7 @@ use Rattle.papaya_moments.specs.Endings.{WaitsOn}
 use Rattle.papaya_moments.specs.Whole.{ShowsWhole}
 use Rattle.papaya_settles.specs.Due.{OwnAreMade}
 use Rattle.papaya_settles.specs.Entries.{ShowsEntries}
-use Rattle.papaya_lives.specs.Behind.{LiesBehind, ShowsWaiting}
+use Rattle.papaya_lives.specs.Behind.{LiesBehind, ShowsWaiting, WaitsOnce}
 
 -- The promises: nothing waits before all events,
 abbrev pub WaitingBegins : Type 0 → Type 0 → Type 0
@@ -125,3 +126,12 @@ module _ (K V S : Type 0) (same : K → K → Bool) (hash : K → ℕ) where
       (name : ℕ → List ℕ) (m : Moment K V) (known : Known) (s : Scene K V) (old new : Executor K V S) → IsAt same hash old s → ShowsWhole same name m known s → ShowsWaiting m known s.world
       → (i : ℕ) (told : Settled (Node K V)) → EndingLeads same hash i told s old new → (f : Finishing K V) → s.enders i ≡ Some f → (map : ℕ) → s.maps map ≡ None
       → AtEachEffect WaitsOn None (Some map) (effects_of (Ending map) known new.memory.changed) m
+
+  -- And it is so after that, if each pair that waits does so behind one table alone.
+  abbrev pub EndingsKeepWaiting : Type 0
+  EndingsKeepWaiting =
+      (name : ℕ → List ℕ) (m : Moment K V) (known : Known) (s : Scene K V) (old new : Executor K V S) → IsAt same hash old s → ShowsWhole same name m known s → WaitsOnce m.deferred → ShowsWaiting m known s.world
+      → (i : ℕ) (told : Settled (Node K V)) (leads : EndingLeads same hash i told s old new) (f : Finishing K V) (here : s.enders i ≡ Some f) (map : ℕ) → s.maps map ≡ None
+      → (let to = leads f here in
+      ShowsWaiting (with_effects None (Some map) (effects_of (Ending map) known new.memory.changed) m) (known_after (Ending map) new.memory.changed known)
+      (ending_after same hash s new i f to.0 to.2.w2 to.2.deed told to.3).world)

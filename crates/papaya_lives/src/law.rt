@@ -2,7 +2,7 @@
 ghost use Rattle.std.specs.Prelude.{Option, ℕ, Bool};
 ghost use Rattle.papaya_lives.specs.Behind.{WaitingIsThere};
 ghost use Rattle.papaya_lives.specs.Retired.{RetiredBegins, OthersLeaveRetired, EndingsBeginRetired, RowsBeginRetired, RowsKeepRetired, RowsFindRetired, MakingsKeepRetired, CallsKeepRetired, EndingsKeepRetired};
-ghost use Rattle.papaya_lives.specs.Steps.{WaitingBegins, OthersLeaveWaiting, EndingsBeginWaiting, EffectsFindWaiting, UsersKeepWaiting, RowsBeginWaiting, RowsKeepWaiting, RowsFindWaiting, MakingsKeepWaiting, CallsKeepWaiting, CallRowsKeepWaiting, EndingsFindWaiting};
+ghost use Rattle.papaya_lives.specs.Steps.{WaitingBegins, OthersLeaveWaiting, EndingsBeginWaiting, EffectsFindWaiting, UsersKeepWaiting, RowsBeginWaiting, RowsKeepWaiting, RowsFindWaiting, MakingsKeepWaiting, CallsKeepWaiting, CallRowsKeepWaiting, EndingsFindWaiting, EndingsKeepWaiting};
 ghost use Rattle.papaya_lives.specs.Waiting.{WaitUnretired, PutsWait};
 
 /// A block that was put behind another one is not retired before that is reclaimed or left over, and the collector has it meanwhile, whatever callers do, in
@@ -14,7 +14,8 @@ pub fn waiting_blocks_are_unretired<T>()
 
 /// Each pair that waits behind a table is told to be behind one, and its block waits behind the table's, or both are left over: so it is before all events,
 /// where the same pairs wait and none has moved, where the end of a map begins, where a row begins on a slot, and after each step of one; after each step of the
-/// making of a map, after each step of a call, and after whatever users do that moves no such pair. So what waits behind a
+/// making of a map, after each step of a call, after each step of the end of a map where each pair waits behind one table alone, and after whatever users do that
+/// moves no such pair. So what waits behind a
 /// table is not reclaimed as a row on a slot reclaims the table, or as the table ends with its map.
 pub fn pairs_wait_behind_tables<K, V, S>()
     ensures begins { WaitingBegins K V }
@@ -30,6 +31,7 @@ pub fn pairs_wait_behind_tables<K, V, S>()
     ensures steps { (same : K → K → Bool) (hash : K → ℕ) → CallsKeepWaiting K V S same hash }
     ensures call_rows { (same : K → K → Bool) (hash : K → ℕ) → CallRowsKeepWaiting K V S same hash }
     ensures endings_find { (same : K → K → Bool) (hash : K → ℕ) → EndingsFindWaiting K V S same hash }
+    ensures endings { (same : K → K → Bool) (hash : K → ℕ) → EndingsKeepWaiting K V S same hash }
 {}
 
 /// Each table whose block the collector has is told to be retired, or the row within a call is to retire it: so it is before all events, where calls begin, are told

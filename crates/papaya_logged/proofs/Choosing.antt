@@ -86,12 +86,14 @@ module _ {K V : Type 0} (choice : ℕ) (name : ℕ → List ℕ) (m : Moment K V
     tables = record { tables = kept.tables.tables; whose = kept.tables.whose };
     looking = kept.looking;
     short = kept.short;
+    grown = kept.grown;
     counts = record { counts = kept.counts.counts };
     owed = record { owed = kept.owed.owed; noted = kept.owed.noted };
     handing = kept.handing;
     waiting =
         each_on (λ n t. (m.place n ≡ Behind) × LiesBehind noted s.world n t) (λ n t. (m.place n ≡ Behind) × LiesBehind noted (then_in choice s.world) n t) (λ n t p. (p.0, lies_then n t p.1)) m.deferred
         kept.waiting;
+    once = kept.once;
     retired = record { tables = kept.retired.tables; lengths = kept.retired.lengths };
   }
 

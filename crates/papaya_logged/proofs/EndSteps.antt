@@ -245,14 +245,14 @@ module _ {K V S : Type 0} (same : K → K → Bool) (hash : K → ℕ) where
         did_end name m (known old.notes) s old.executor stepped shown.is_at shown.shows i f here to.0 said to.1 to.2 map not_there to.3 number first its still,
         subst (λ (k : Known). NotedStill first k (f.back ++ taken_of to.2.deed)) (sym noted)
             (noted_on name m (known old.notes) s old.executor stepped shown.is_at shown.shows i f here to.0 said to.1 to.2 map not_there to.3 number first its still),
-        λ waits. record {
+        record {
           is_at = end_there old.executor stepped s i said leads f here;
           shows = subst (λ (k : Known). ShowsWhole {K = K} {V = V} same name (with_effects None (Some map) effects m) k (ending_after same hash s stepped i f to.0 to.2.w2 to.2.deed said to.3)) (sym noted)
               (endings_keep_whole K V S same hash name m (known old.notes) s old.executor stepped shown.is_at shown.shows i said leads f here map not_there
               (ends_alone name m (known old.notes) s old.executor stepped shown.is_at shown.shows i f here to.0 said to.1 to.2 map not_there to.3 number first its still)
               (endings_find_kept K V S same hash name m (known old.notes) s old.executor stepped shown.is_at shown.shows shown.kept i said leads f here map not_there));
           kept = subst (λ (k : Known). ShowsKept {K = K} {V = V} name (with_effects None (Some map) effects m) k (ending_after same hash s stepped i f to.0 to.2.w2 to.2.deed said to.3)) (sym noted)
-              (endings_keep_kept K V S same hash waits name m (known old.notes) s old.executor stepped shown.is_at shown.shows shown.kept i said leads f here map not_there
+              (endings_keep_kept K V S same hash name m (known old.notes) s old.executor stepped shown.is_at shown.shows shown.kept i said leads f here map not_there
               (end_there old.executor stepped s i said leads f here));
         },
       )

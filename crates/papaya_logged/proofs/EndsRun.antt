@@ -191,7 +191,7 @@ module _ {K V S : Type 0} (i map : ℕ) where
     [],
     sym (append-nil xs),
     λ same hash s at f here. (s, [], came_first s i f here, at),
-    λ same hash name m s shown f here not_there number first notes still waits. (s, [], came_first s i f here, refl, subst (NotedStill first (known l.notes)) (sym (append-nil f.back)) still, shown, λ over none. absurd (cc over)),
+    λ same hash name m s shown f here not_there number first notes still. (s, [], came_first s i f here, refl, subst (NotedStill first (known l.notes)) (sym (append-nil f.back)) still, shown, λ over none. absurd (cc over)),
   )
 
   -- and one step more
@@ -211,8 +211,8 @@ module _ {K V S : Type 0} (i map : ℕ) where
 
     module _ (same : K → K → Bool) (hash : K → ℕ) (name : ℕ → List ℕ) (m : Moment K V) (s : Scene K V) (shown : IsShown same hash name m old s) where
       shown_on : EndIsShown same hash s i (is_done said) new name map old (ran.0 ++ step.0) m
-      shown_on f here not_there number first notes still waits =
-          let u = ran.3 same hash name m s shown f here not_there number first notes still waits in
+      shown_on f here not_there number first notes still =
+          let u = ran.3 same hash name m s shown f here not_there number first notes still in
           let g : Finishing K V = record f { machine = u.2.ender.0; back = f.back ++ u.1; waits = u.2.ender.1 } in
           let to = step.2 same hash name (with_effects None (Some map) ran.0 m) u.0 u.5 g u.2.ender.2 (ap (λ (h : ℕ → Option (Standing K)). h map) u.2.maps ∙ not_there) number first notes u.4 in
           let leads = to.0 in
@@ -227,7 +227,7 @@ module _ {K V S : Type 0} (i map : ℕ) where
             came,
             did_so,
             subst (NotedStill first (known new.notes)) (append_assoc f.back u.1 taken) to.2,
-            subst (λ (x : Moment K V). IsShown same hash name x new s2) (sym (effects_after None (Some map) ran.0 step.0 m)) (to.3 waits),
+            subst (λ (x : Moment K V). IsShown same hash name x new s2) (sym (effects_after None (Some map) ran.0 step.0 m)) to.3,
             λ over none.
                 (let ender = (subst (λ (q : Bool). EndCame s s2 i f (u.1 ++ taken) q) over came).ender in
                 let all = ap (λ (l : List ℕ). l ++ (u.1 ++ taken)) (sym none) ∙ ender.1 in

@@ -43,7 +43,7 @@ KeptThere w w2 = (b : ℕ) → IsSome (value_at w2.memory b) → (value_at w2.me
 
 module _ {K V : Type 0} (size : ℕ) where
   -- so it is where such a row begins,
-  begun_kept : (i : ℕ) (request : Request) (w v : World (Node K V)) → IsForSlots request → Begins deferred_word size i request w v → (v.memory ≡ w.memory) × (v.hand ≡ w.hand)
+  pub begun_kept : (i : ℕ) (request : Request) (w v : World (Node K V)) → IsForSlots request → Begins deferred_word size i request w v → (v.memory ≡ w.memory) × (v.hand ≡ w.hand)
   begun_kept i (Register' enters) w v its is = (ap (λ (x : World (Node K V)). x.memory) is, ap (λ (x : World (Node K V)). x.hand) is)
   begun_kept i (Leave' s) w v its is = (ap (λ (x : World (Node K V)). x.memory) is.1, ap (λ (x : World (Node K V)). x.hand) is.1)
   begun_kept i (Flush s) w v its is = (ap (λ (x : World (Node K V)). x.memory) is.1, ap (λ (x : World (Node K V)). x.hand) is.1)
@@ -55,7 +55,7 @@ module _ {K V : Type 0} (size : ℕ) where
     abbrev it : RowStepped deferred_word i w v
     it = did deferred_word size w r i v step
 
-    step_kept : KeptThere w v
+    pub step_kept : KeptThere w v
     step_kept b some = by (times b (taken_in it.effects)) refl
       where
         by : (n : ℕ) → times b (taken_in it.effects) ≡ n → (value_at v.memory b ≡ value_at w.memory b) × (v.hand b ≡ w.hand b)

@@ -68,14 +68,14 @@ module _ {K V S : Type 0} (same : K → K → Bool) (hash : K → ℕ) (name : �
   abbrev s2 : Scene K V
   s2 = record s { world = leads.1.w2; maps = leads.1.maps2 }
 
-  reached : Reached deferred_word old.batch_size w
+  pub reached : Reached deferred_word old.batch_size w
   reached = came_reached old.batch_size w at.under_way.stand.together.makings.standing.came
 
   abbrev RunsBy : List (Event (Node K V)) → Type 0
   RunsBy events = Runs deferred_word old.batch_size events w w2
 
   -- what is there is as it was, in the same hands
-  kept : KeptThere w w2
+  pub kept : KeptThere w w2
   kept = by leads.1.its
     where
       by : AreItsRows i leads.1.events ⊎ (((b : ℕ) × (leads.1.events ≡ events_of i (TakesLeft b)))
@@ -85,7 +85,7 @@ module _ {K V S : Type 0} (same : K → K → Bool) (hash : K → ℕ) (name : �
       by (inr (inr (root, inl is))) = root_kept old.batch_size i (Root root) 0 w w2 (subst RunsBy is leads.1.runs)
       by (inr (inr (root, inr is))) = root_kept old.batch_size i (Used root) 0 w w2 (subst RunsBy is leads.1.runs)
 
-  left : LeavesBy w.memory w2.memory new.memory.changed
+  pub left : LeavesBy w.memory w2.memory new.memory.changed
   left =
       subst (λ (n : Mem (Node K V)). LeavesBy w.memory n new.memory.changed) (sym leads.1.memory)
       (subst (λ (n : Mem (Node K V)). LeavesBy n new.memory.memory new.memory.changed) (sym at.memory)
@@ -102,7 +102,7 @@ module _ {K V S : Type 0} (same : K → K → Bool) (hash : K → ℕ) (name : �
           record { value = k.0; linked = λ x is linked. subst (λ (h : Hand). WasLinked h) (sym k.1) linked }
 
   -- nobody has a call
-  no_call : (map j : ℕ) (u : UnderWay K V K) → s.calls map j ≡ Some u → ⊥
+  pub no_call : (map j : ℕ) (u : UnderWay K V K) → s.calls map j ≡ Some u → ⊥
   no_call map j u here = (let none = at.under_way.stand.no_calls map j in cc (none, here))
 
   -- where it tells what a step of a row does
@@ -150,11 +150,11 @@ module _ {K V S : Type 0} (same : K → K → Bool) (hash : K → ℕ) (name : �
         }
 
   -- A root that is emptied is nothing to pairs and tables.
-  root_none : (q : Bool) (was is : Role) (b : ℕ) → is ≡ role.Free → ((if q then [] else led_to Row was is) ≡ []) × ((if q then known else linked_on Row b is known) ≡ known)
+  pub root_none : (q : Bool) (was is : Role) (b : ℕ) → is ≡ role.Free → ((if q then [] else led_to Row was is) ≡ []) × ((if q then known else linked_on Row b is known) ≡ known)
   root_none true was is b free = (refl, refl)
   root_none false was is b free = (ap (led_to Row was) free, ap (λ (r : Role). linked_on Row b r known) free)
 
-  nothing_there : (word : ℕ) → word ≡ 0 → named known word ≡ role.Free
+  pub nothing_there : (word : ℕ) → word ≡ 0 → named known word ≡ role.Free
   nothing_there word is = ap (λ (x : ℕ). known.roles (block_in x)) is ∙ nothing_free w m.stored known whole.all.shown.blocks.roles
 
   idle_whole : ((b : ℕ) → value_at w2.memory b ≡ value_at w.memory b) → ShowsWhole same name m known s2

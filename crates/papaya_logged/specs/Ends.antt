@@ -28,7 +28,6 @@ use Rattle.papaya_follows.specs.Maps.{table_of}
 use Rattle.papaya_others.specs.Endings.{ending_after, without_map}
 use Rattle.papaya_moments.specs.Numbers.{AreFound}
 use Rattle.papaya_moments.specs.WholeEnds.{all_ended}
-use Rattle.papaya_kept.specs.Steps.{EndsKeepWaiting}
 use Rattle.papaya_logged.specs.Shown.{IsShown}
 use Rattle.papaya_logged.specs.declared.logged.Logged.{Logged}
 
@@ -66,7 +65,7 @@ module _ {K V S : Type 0} (same : K → K → Bool) (hash : K → ℕ) (name : �
       × IsShown same hash name m new (ending_begun map i standing s)
 
   -- A step of a caller's end of the map of this number, of which this was noted as it began. The pair, or the table, that it reclaims ends with the map, and it does
-  -- nothing else. Where each step of an end leaves what waits behind tables there, the moment after it shows where the step has led.
+  -- nothing else. The moment after it shows where the step has led.
   abbrev pub EndGoesOn : (i map : ℕ) → Settled (Node K V) → List Effect → (old new : Logged K V S) → Type 0
   EndGoesOn i map said did old new =
       (f : Finishing K V) (here : s.enders i ≡ Some f) → s.maps map ≡ None
@@ -74,8 +73,7 @@ module _ {K V S : Type 0} (same : K → K → Bool) (hash : K → ℕ) (name : �
       → (leads : EndingLeads same hash i said s old.executor new.executor)
       × (did ≡ ended_as map first (taken_of (leads f here).2.deed))
       × NotedStill first (known new.notes) (f.back ++ taken_of (leads f here).2.deed)
-      × (EndsKeepWaiting K V S same hash
-      → IsShown same hash name (with_effects None (Some map) did m) new (ending_after same hash s new.executor i f (leads f here).0 (leads f here).2.w2 (leads f here).2.deed said (leads f here).3))
+      × IsShown same hash name (with_effects None (Some map) did m) new (ending_after same hash s new.executor i f (leads f here).0 (leads f here).2.w2 (leads f here).2.deed said (leads f here).3)
 
 -- Where an end has come that was there so, and has reclaimed these further blocks: it goes on, as another machine; or it is over, has reclaimed all that it was to, and what
 -- it left over waits behind its root, which is free without that. All else that is under way is so as before, and so are the maps that stand, and the uses of slots.
@@ -106,13 +104,12 @@ module _ {K V S : Type 0} where
     abbrev pub EndIsAt : Type 0
     EndIsAt = (f : Finishing K V) → s.enders i ≡ Some f → (s2 : Scene K V) × (gone : List ℕ) × EndCame s s2 i f gone over × IsAt same hash new.executor s2
 
-    -- and so it is shown, where each step of an end leaves what waits behind tables there. What it did is that these blocks end with the map; the whole end of a map is that all of
+    -- and so it is shown. What it did is that these blocks end with the map; the whole end of a map is that all of
     -- it ends.
     abbrev pub EndIsShown : (ℕ → List ℕ) → (map : ℕ) → (old : Logged K V S) → List Effect → Moment K V → Type 0
     EndIsShown name map old did m =
         (f : Finishing K V) → s.enders i ≡ Some f → s.maps map ≡ None
         → (number : ℕ → ℕ) (first : Known) → NotesMap map number first f.setting f.chart f.blocks → NotedStill first (known old.notes) f.back
-        → EndsKeepWaiting K V S same hash
         → (s2 : Scene K V) × (gone : List ℕ) × EndCame s s2 i f gone over × (did ≡ ended_as map first gone) × NotedStill first (known new.notes) (f.back ++ gone)
         × IsShown same hash name (with_effects None (Some map) did m) new s2
         × (over ≡ true → f.back ≡ [] → did ≡ all_ended (is_incremental f.setting.mode) map number f.chart)

@@ -31,7 +31,6 @@ use Rattle.papaya_others.proofs.Quiet.{calls_none}
 use Rattle.papaya_others.specs.Endings.{without_map}
 use Rattle.papaya_moments.proofs.After.{effects_after}
 use Rattle.papaya_moments.proofs.Numbers.{found_of}
-use Rattle.papaya_kept.specs.Steps.{EndsKeepWaiting}
 use Rattle.papaya_moments.specs.Numbers.{AreFound}
 use Rattle.papaya_moments.specs.WholeEnds.{all_ended, tables_ended}
 use Rattle.papaya_finishes.specs.Orders.{pairs_of}
@@ -141,8 +140,7 @@ module _ {K V S : Type 0} (same : K → K → Bool) (hash : K → ℕ) (terms : 
         pub may_run : (t : Scene K V) × IsAt same hash mid.executor t × IsEnding t i
         may_run = (s1, shown_mid.is_at, (f, here))
 
-        module _ (new : Logged K V S) (before after : List Effect) (empty : before ≡ []) (ran : EndRan i number true before after mid new) (over : EndIsOver new) (are : AreApart m)
-            (waits : EndsKeepWaiting K V S same hash) where
+        module _ (new : Logged K V S) (before after : List Effect) (empty : before ≡ []) (ran : EndRan i number true before after mid new) (over : EndIsOver new) (are : AreApart m) where
           did_is : after ≡ ran.0
           did_is = ran.1 ∙ ap (λ (xs : List Effect). xs ++ ran.0) empty
 
@@ -157,7 +155,7 @@ module _ {K V S : Type 0} (same : K → K → Bool) (hash : K → ℕ) (terms : 
 
           abbrev u : (t : Scene K V) × (gone : List ℕ) × EndCame s1 t i f gone true × (ran.0 ≡ ended_as number (known mid.notes) gone) × NotedStill (known mid.notes) (known new.notes) (f.back ++ gone)
               × IsShown same hash stands.name v new t × (true ≡ true → f.back ≡ [] → ran.0 ≡ all_ended (is_incremental f.setting.mode) number number_by f.chart)
-          u = ran.3 same hash stands.name m s1 shown_mid f here (at_same s.maps number None number refl) number_by (known mid.notes) (begun no_call).3.1 (λ b t. refl) waits
+          u = ran.3 same hash stands.name m s1 shown_mid f here (at_same s.maps number None number refl) number_by (known mid.notes) (begun no_call).3.1 (λ b t. refl)
 
           abbrev s2 : Scene K V
           s2 = u.0

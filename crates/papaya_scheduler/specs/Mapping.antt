@@ -14,7 +14,6 @@ use Rattle.papaya_schedules.specs.Lists.{is_among}
 use Rattle.papaya_schedules.specs.Moment.{Moment}
 use Rattle.papaya_schedules.specs.Terms.{Terms}
 use Rattle.papaya_moments.specs.Numbers.{NumbersMaps, PairsAreBelow}
-use Rattle.papaya_kept.specs.Steps.{EndsKeepWaiting}
 use Rattle.papaya_logged.specs.Roots.{AreTaken}
 use Rattle.papaya_scheduler.specs.Played.{IsDue, Plays, entry_of}
 use Rattle.papaya_scheduler.specs.Seen.{number_named}
@@ -59,7 +58,6 @@ module _ {K V S : Type 0} (same : K → K → Bool) (hash : K → ℕ) where
   abbrev pub PlaysMaking : Event K V → Played V → (old new : Scheduler K V S) → Type 0
   PlaysMaking event played old new = (terms : Terms) (log : List (Entry K V)) → MayMap terms log event old → Plays same hash terms log (entry_of event played) new
 
-  -- where each step of the end of a map leaves what waits behind tables there
   abbrev pub PlaysEnding : Event K V → Played V → (old new : Scheduler K V S) → Type 0
   PlaysEnding event played old new =
-      (terms : Terms) (log : List (Entry K V)) → IsDue same hash terms log event old → AreApart (moment log) → EndsKeepWaiting K V S same hash → Plays same hash terms log (entry_of event played) new
+      (terms : Terms) (log : List (Entry K V)) → IsDue same hash terms log event old → AreApart (moment log) → Plays same hash terms log (entry_of event played) new

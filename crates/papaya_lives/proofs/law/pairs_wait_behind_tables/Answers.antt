@@ -5,6 +5,7 @@ use Rattle.papaya_lives.proofs.Ends.{endings_find_waiting}
 use Rattle.papaya_lives.proofs.Makings.{makings_keep_waiting}
 use Rattle.papaya_lives.proofs.Users.{users_keep_waiting}
 use Rattle.papaya_lives.proofs.Waiting.{waiting_begins, waiting_is_there, others_leave_waiting, endings_begin_waiting, effects_find_waiting, rows_begin_waiting, rows_keep_waiting, rows_find_waiting}
+use Rattle.papaya_lives.proofs.WaitingEnds.{endings_keep_waiting}
 use Rattle.papaya_lives.proofs.law.pairs_wait_behind_tables.Goals as goal
 
 pub returns : goal.returns
@@ -22,4 +23,5 @@ returns c d = record {
   steps = calls_keep_waiting _ _ _;
   call_rows = call_rows_keep_waiting _ _ _;
   endings_find = endings_find_waiting _ _ _;
+  endings = endings_keep_waiting _ _ _;
 }

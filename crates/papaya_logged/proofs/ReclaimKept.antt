@@ -1,0 +1,116 @@
+-- After a step by which all is reclaimed what waits behind tables waits there, behind one table alone, and the tables that the collector has are retired, where no table is
+-- left over; and none is left over then.
+use Rattle.std.specs.Prelude.{◌≡◌, ◌⊎◌, ℕ, ◌+◌, Bool, true, List, [], None, if◌then◌else◌}
+use Rattle.std.proofs.Common.{sym, subst, ◌∙◌, inl, inr}
+use Rattle.seize_words.specs.declared.at.At.TheVariants.{Root, Used}
+use Rattle.seize_words.specs.Mem.{value_at}
+use Rattle.seize_words.specs.Word.{block_in}
+use Rattle.seize.specs.declared.rows.reclaim_all.ReclaimAll.{ReclaimAll}
+use Rattle.seize.specs.declared.rows.settle.Settled.{Settled}
+use Rattle.seize.specs.declared.states.TheConstants.{LAST_SLOT}
+use Rattle.seize.specs.World.{World, Hand}
+use Rattle.seize_rule.proofs.Points.Aside.{HandFits}
+use Rattle.seize_rule.proofs.Words.Shows.{lives}
+use Rattle.seize_rule.proofs.Words.There.{value_there}
+use Rattle.papaya_tables.specs.Nodes.{deferred_word}
+use Rattle.papaya_tables.specs.declared.node.Node.{Node}
+use Rattle.papaya_schedules.specs.declared.effect.Effect.{Effect}
+use Rattle.papaya_schedules.specs.Effects.{with_effects}
+use Rattle.papaya_schedules.specs.Moment.{Moment}
+use Rattle.papaya_schedules.specs.Views.{is_stage, is_retired}
+use Rattle.papaya_teller.specs.declared.changed.Changed.{Changed}
+use Rattle.papaya_teller.specs.declared.changed.Changed.TheVariants as changed
+use Rattle.papaya_effects.specs.Effects.{linked_on, named, names_same, effects_of, known_after}
+use Rattle.papaya_effects.specs.Known.{Known}
+use Rattle.papaya_effects.specs.declared.acting.Acting.TheVariants.{Row}
+use Rattle.papaya_effects.specs.declared.role.Role.TheVariants as role
+use Rattle.papaya_executor.specs.IsAt.{Scene, HasCall}
+use Rattle.papaya_executor.specs.declared.executor.Executor.{Executor}
+use Rattle.papaya_reclaiming.specs.Reclaiming.{IsReclaiming, ReclaimingLeads}
+use Rattle.papaya_follows.proofs.Operations.{LeavesBy}
+use Rattle.papaya_others.proofs.RowPlans.{TellsRow}
+use Rattle.papaya_others.proofs.Stays.{same_there}
+use Rattle.papaya_moments.specs.Whole.{ShowsWhole}
+use Rattle.papaya_lives.specs.Behind.{IsLeft, NoTableLeft, ShowsWaiting, WaitsOnce}
+use Rattle.papaya_lives.specs.Retired.{IsToRetire, ShowsRetired}
+use Rattle.papaya_lives.proofs.Once.{once_fewer, row_fewer}
+use Rattle.papaya_lives.proofs.Reclaimed.{stays_so}
+use Rattle.papaya_lives.proofs.RetiredEnds.{handed_lives}
+use Rattle.papaya_lives.proofs.Stages.{still_retired}
+use Rattle.papaya_lives.proofs.Users.{left_lives}
+use Rattle.papaya_lives.proofs.Worlds.{Kept}
+use Rattle.papaya_logged.proofs.ReclaimRows.{EmptiesRoot, reclaiming_tells}
+use Rattle.papaya_logged.proofs.ReclaimSteps.{kept as kept_there, left, no_call, root_none, nothing_there}
+use Rattle.papaya_logged.proofs.ReclaimWaits.{kept_then, rows_leave_waiting}
+
+module _ {K V S : Type 0} (same : K → K → Bool) (hash : K → ℕ) (name : ℕ → List ℕ) (m : Moment K V) (known : Known) (s : Scene K V) (whole : ShowsWhole same name m known s)
+    (waiting : ShowsWaiting m known s.world) (once : WaitsOnce m.deferred) (retired : ShowsRetired m known s) (no_table : NoTableLeft known s.world)
+    (old new : Executor K V S) (i : ℕ) (lists : ℕ → List ℕ) (before after : ReclaimAll) (told : Settled (Node K V)) (at : IsReclaiming same hash old s i lists before)
+    (leads : ReclaimingLeads same hash s i lists old new before after told) where
+  abbrev w : World (Node K V)
+  w = s.world
+
+  abbrev w2 : World (Node K V)
+  w2 = leads.1.w2
+
+  abbrev s2 : Scene K V
+  s2 = record s { world = leads.1.w2; maps = leads.1.maps2 }
+
+  its : Kept deferred_word old.batch_size w2
+  its = kept_then same hash name m known s whole waiting once no_table old new i lists before after told at leads
+
+  -- a block that lives is there, in the hands in which it was
+  same_hand : (b : ℕ) → lives (its.good.state.life b) ≡ true → w2.hand b ≡ w.hand b
+  same_hand b alive =
+      let there = value_there deferred_word (LAST_SLOT + 1) w2.memory its.good.state its.good.extra b its.good.shows alive in
+      (kept_there same hash name m known s whole old new i lists before after told at leads b there).1
+
+  -- what is so then
+  pub record ComesSo (fs : List Effect) (noted : Known) : Type 0 where
+    pub waits : ShowsWaiting (with_effects None None fs m) noted w2
+    pub alone : WaitsOnce (with_effects None None fs m).deferred
+    pub had : ShowsRetired (with_effects None None fs m) noted s2
+    pub none_left : NoTableLeft noted w2
+
+  rows_come : (x : Changed) → TellsRow x → LeavesBy w.memory w2.memory x → ComesSo (effects_of Row known x) (known_after Row x known)
+  rows_come x tells l = record {
+    waits = rows_leave_waiting same hash name m known s whole waiting once no_table old new i lists before after told at leads x tells l;
+    alone = once_fewer m.deferred (with_effects None None (effects_of Row known x) m).deferred (row_fewer known m x tells) once;
+    had = record {
+      tables = λ b len t e handed.
+          let was = stays_so m known whole.blocks x tells b len t e in
+          let fits = subst (λ (h : Hand). HandFits h (its.good.state.life b)) handed (its.good.hands b) in
+          let before_it = sym (same_hand b (handed_lives (its.good.state.life b) fits)) ∙ handed in
+          elim (retired.tables b len t was.0 before_it)
+          as (λ _. (is_stage is_retired t (with_effects None None (effects_of Row known x) m) ≡ true) ⊎ ((j : ℕ) × HasCall s2 j × IsToRetire b (s2.world.row j))) [
+            | inl so ↦ inl (still_retired t None None (effects_of Row known x) m was.1 so)
+            | inr due ↦ absurd (no_call same hash name m known s whole old new i lists before after told at leads due.1.0 due.0 due.1.1 due.1.2)
+          ];
+      lengths = λ b len t e. retired.lengths b len t (stays_so m known whole.blocks x tells b len t e).0;
+    };
+    none_left = λ b len t e over.
+        let was = (stays_so m known whole.blocks x tells b len t e).0 in
+        let hand = same_hand b (left_lives (w2.hand b) (its.good.state.life b) over (its.good.hands b)) in
+        no_table b len t was (subst IsLeft hand over);
+  }
+
+  idle_comes : ((b : ℕ) → value_at w2.memory b ≡ value_at w.memory b) → ComesSo [] known
+  idle_comes values = rows_come changed.Nothing tt (same_there w.memory w2.memory values)
+
+  root_comes : (x : Changed) → EmptiesRoot x → LeavesBy w.memory w2.memory x → ComesSo (effects_of Row known x) (known_after Row x known)
+  root_comes (changed.Wrote (Root r) was now) empty l =
+      let none = root_none same hash name m known s whole old new i lists before after told at leads (names_same was now) (named known was) (named known now) (block_in now)
+          (nothing_there same hash name m known s whole old new i lists before after told at leads now empty) in
+      subst (λ (fs : List Effect). ComesSo fs (if names_same was now then known else linked_on Row (block_in now) (named known now) known)) (sym none.0)
+      (subst (ComesSo []) (sym none.1) (idle_comes l.2))
+  root_comes (changed.Wrote (Used r) was now) empty l = idle_comes l.2
+  root_comes _ empty l = absurd empty
+
+  pub reclaiming_comes : ComesSo (effects_of Row known new.memory.changed) (known_after Row new.memory.changed known)
+  reclaiming_comes =
+      let leaves = left same hash name m known s whole old new i lists before after told at leads in
+      elim (reclaiming_tells old.memory.memory new.memory.memory new.memory.changed before before.stands (after, told) leads.0)
+      as (λ _. ComesSo (effects_of Row known new.memory.changed) (known_after Row new.memory.changed known)) [
+        | inl tells ↦ rows_come new.memory.changed tells leaves
+        | inr empties ↦ root_comes new.memory.changed empties leaves
+      ]
