@@ -1,6 +1,6 @@
 -- In incremental mode, a caller whose copier asks how a copying stands that is not over has another caller by it, where each such copying has who ends it.
 use Rattle.std.specs.Prelude.{◌≢◌, cond, Option, Some, None}
-use Rattle.std.proofs.Common.{◌≡◌, ℕ, zero, suc, ◌<◌, ◌≤◌, ◌⊎◌, inl, inr, Bool, true, false, refl, ap, sym, subst, ◌∙◌, arith}
+use Rattle.std.proofs.Common.{◌≡◌, ℕ, suc, ◌<◌, ◌⊎◌, inl, inr, Bool, true, false, refl, ap, sym, subst, ◌∙◌, arith}
 use Rattle.std.proofs.lemmas.Bool.{eq-eqb}
 use Rattle.seize.specs.World.{World}
 use Rattle.papaya_tables.specs.Chunks.{is_incremental}
@@ -33,7 +33,7 @@ settled_marked (Holds n Copying borrowed) e = absurd (cc e)
 settled_marked (Holds n Copied borrowed) e = refl
 
 -- what this caller has done counts for it
-done_one : (k i : ℕ) (share : Share) → share ≡ Done k → k ≡ i → is_done_by i share ≡ 1
+pub done_one : (k i : ℕ) (share : Share) → share ≡ Done k → k ≡ i → is_done_by i share ≡ 1
 done_one k i share is e = ap (is_done_by i) is ∙ ap {B = ℕ} (λ (q : Bool). cond q 1 0) (eq-eqb k i e)
 
 -- by the rule of the map, a place of the root that is settled, and not counted, was done by a caller

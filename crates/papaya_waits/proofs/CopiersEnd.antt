@@ -1,4 +1,5 @@
--- In incremental mode, after each step of a copier each copying that is not over has a place that is not counted, or a copier that is to end it, if so before.
+-- In incremental mode, after each step of a copier each copying that is not over has a place that is not counted, or others that end it; or this copier
+-- goes on, and is to end it; if so before.
 use Rattle.std.specs.Prelude.{if◌then◌else◌, ◌==◌, ◌*◌, cond, Some}
 use Rattle.std.proofs.Common.{◌≡◌, ◌≢◌, ℕ, suc, ◌+◌, ◌%◌, ◌^◌, ◌<◌, ◌≤◌, ◌⊎◌, inl, inr, Bool, true, false, refl, ap, sym, subst, ◌∙◌, arith, eq-or-lt_of_le}
 use Rattle.std.proofs.lemmas.Bool.{eq-eqb, ne_eqb}
@@ -25,7 +26,7 @@ use Rattle.papaya_resize.specs.declared.copier.Copying.TheVariants as at
 use Rattle.papaya_rule.specs.Chart.{Share, Chart, is_counted}
 use Rattle.papaya_rule.specs.InWorld.{IsMapIn}
 use Rattle.papaya_rule.specs.Maps.{spot_of}
-use Rattle.papaya_rule.specs.Moves.{with_counted}
+use Rattle.papaya_rule.specs.Moves.{Counts, after, with_counted}
 use Rattle.papaya_rule.specs.Rule.{Rule, total}
 use Rattle.papaya_rule.specs.Words.{Blocks}
 use Rattle.papaya_rule.proofs.Moves.Totals.{total_with_counted}
@@ -46,9 +47,13 @@ module _ {K V : Type 0} (same : K → K → Bool) (hash : K → ℕ) (caller : �
   abbrev IsLeft : Type 0
   IsLeft = (j : ℕ) × (j < c.len c.first) × IsToCount (with_counted caller (c.share (suc c.first) j))
 
+  -- it goes on, to make the table the root
+  abbrev IsToPromote : Copier × Outcome (Node K V) Table → Type 0
+  IsToPromote end = (end.1 ≡ Goes) × (end.0.stands ≡ at.Promotes) × (end.0.target.turn ≡ suc c.first)
+
   -- who counts is to make the table the root, or a place is left
   counts_say : CopyingFacts same hash w caller setting c blocks p at.Counts → (m2 : Mem (Node K V)) (end : Copier × Outcome (Node K V) Table) → Steps Took value_at w.memory (counts p) m2 end
-      → ((end.0.stands ≡ at.Promotes) × (end.0.target.turn ≡ suc c.first)) ⊎ IsLeft
+      → IsToPromote end ⊎ IsLeft
   counts_say f m2 end steps =
       let s = added w.memory (counted p) (at_word p.target COPIED) p.done m2 end steps in
       pick (with_word w.memory (at_word p.target COPIED) ((s.0 + p.done) % 2 ^ 64)) s.0
@@ -64,13 +69,14 @@ module _ {K V : Type 0} (same : K → K → Bool) (hash : K → ℕ) (caller : �
           let whole : c.copied (suc c.first) + p.done ≡ c.len c.first = omega (arith, tally, sum, all, done) in
           let equal : (found + p.done) % 2 ^ 64 ≡ p.source.len = ap (λ n. (n + p.done) % 2 ^ 64) e ∙ no_wrap same hash caller setting w c blocks map p f.0 f.2 ∙ whole
               ∙ sym (len_is hash w.memory c blocks setting.root map.map.shows p.source c.first f.0.0) in
-          let yes = eq-eqb ((found + p.done) % 2 ^ 64) p.source.len equal in
+          let yes : ((found + p.done) % 2 ^ 64 == p.source.len) ≡ true = eq-eqb ((found + p.done) % 2 ^ 64) p.source.len equal in
           cc (yes, other)
 
       pick : (m : Mem (Node K V)) (found : ℕ) → found ≡ c.copied (suc c.first) → (b : Bool) → ((found + p.done) % 2 ^ 64 == p.source.len) ≡ b
           → Ends (value_at m) (if b then to (record p { place = 0; end = 0; done = 0; stands = at.Promotes }) else to (behind (record p { done = 0 }))) end
-          → ((end.0.stands ≡ at.Promotes) × (end.0.target.turn ≡ suc c.first)) ⊎ IsLeft
+          → IsToPromote end ⊎ IsLeft
       pick m found e true full ends = inl (
+        ap (λ (x : Copier × Outcome (Node K V) Table). x.1) ends,
         ap (λ (x : Copier × Outcome (Node K V) Table). x.0.stands) ends,
         ap (λ (x : Copier × Outcome (Node K V) Table). x.0.target.turn) ends ∙ ap (λ (x : Table). x.turn) f.0.1.is,
       )
@@ -110,8 +116,8 @@ module _ {K V : Type 0} (same : K → K → Bool) (hash : K → ℕ) (caller : �
           × (end ≡ (standing p at.Announces, Goes)))
           ⊎ ((found : ℕ) × ((word_at w.memory (Root p.setting.root) ≡ Some found) × (found ≢ p.source.link)) × (m2 ≡ w.memory) × (end ≡ (behind p, Goes)))
           → ((end ≡ (standing p at.Announces, Goes)) × (f.0 ≡ c.first)) ⊎ ((end ≡ (behind p, Goes)) × (f.0 < c.first))
-      either (inl (found, gives, after, ends)) = inl (ends, is_root found gives.0 gives.1)
-      either (inr (found, gives, after, ends)) = inr (ends, before found gives.0 gives.1 (eq-or-lt_of_le f.1.2))
+      either (inl (found, gives, left, ends)) = inl (ends, is_root found gives.0 gives.1)
+      either (inr (found, gives, left, ends)) = inr (ends, before found gives.0 gives.1 (eq-or-lt_of_le f.1.2))
 
   -- who fails to is not about to say that it has
   not_announcing : (b : Bool)
@@ -121,10 +127,20 @@ module _ {K V : Type 0} (same : K → K → Bool) (hash : K → ℕ) (caller : �
 
   module _ (P A : ℕ → Type 0) (m2 : Mem (Node K V)) (end : Copier × Outcome (Node K V) Table) (c2 : Chart K) where
     abbrev After : Type 0
-    After = AllEnd P A c2 end.0 end.0.stands
+    After = AllOr P A c2 (λ t. ⊥) ⊎ ((end.1 ≡ Goes) × AllEnd P A c2 end.0 end.0.stands)
 
-    back : (d : Chart K) → c2 ≡ d → AllEnd P A d end.0 end.0.stands → After
-    back d e all = subst (λ (x : Chart K). AllEnd P A x end.0 end.0.stands) (sym e) all
+    -- who counts
+    by_counts : c2 ≡ after (spot_of hash) true (Counts caller (suc c.first) p.done) c → AllOr P A c (λ t. ⊥) → IsToPromote end ⊎ IsLeft → After
+    by_counts moved all (inl (goes, stands, turn)) = inr (
+      goes,
+      subst (λ (x : Chart K). AllEnd P A x end.0 end.0.stands) (sym moved)
+      (endings.counted P A same hash c rule caller p.done
+      (λ t. EndsAt (after (spot_of hash) true (Counts caller (suc c.first) p.done) c) end.0 end.0.stands t)
+      (inl (subst (λ (stage : Point). EndsAt (after (spot_of hash) true (Counts caller (suc c.first) p.done) c) end.0 stage (suc c.first)) (sym stands) (turn, omega arith)))
+      all),
+    )
+    by_counts moved all (inr left) =
+        inl (subst (λ (x : Chart K). AllOr P A x (λ t. ⊥)) (sym moved) (endings.counted P A same hash c rule caller p.done (λ t. ⊥) (inr left) all))
 
     module _ (f : CopyingFacts same hash w caller setting c blocks p at.Promotes) (all : AllEnd P A c p at.Promotes) where
       target : p.target.turn ≡ suc f.0
@@ -143,26 +159,28 @@ module _ {K V : Type 0} (same : K → K → Bool) (hash : K → ℕ) (caller : �
           by (inr (inr (turn, ahead))) = absurd (omega (arith, turn, ahead, target, l))
 
       by_promotes : ((end ≡ (standing p at.Announces, Goes)) × (f.0 ≡ c.first)) ⊎ ((end ≡ (behind p, Goes)) × (f.0 < c.first)) → MovedPromotes hash caller c p end c2 → After
-      by_promotes (inl (ends, root)) (inl (same_end, moved)) =
-          subst (λ (x : Copier × Outcome (Node K V) Table). AllEnd P A c2 x.0 x.0.stands) (sym ends)
-          (subst (λ (x : Chart K). AllEnd P A x (standing p at.Announces) at.Announces) (sym moved)
-          (endings.promoted P A same hash c rule p (target ∙ ap (λ (n : ℕ). suc n) root) all))
+      by_promotes (inl (ends, root)) (inl (same_end, moved)) = inr (
+        ap (λ (x : Copier × Outcome (Node K V) Table). x.1) ends,
+        subst (λ (x : Copier × Outcome (Node K V) Table). AllEnd P A c2 x.0 x.0.stands) (sym ends)
+        (subst (λ (x : Chart K). AllEnd P A x (standing p at.Announces) at.Announces) (sym moved)
+        (endings.promoted P A same hash c rule p (target ∙ ap (λ (n : ℕ). suc n) root) all)),
+      )
       by_promotes (inl (ends, root)) (inr (same_chart, other)) = absurd (other (source ∙ root))
       by_promotes (inr (ends, l)) (inl (same_end, moved)) =
           absurd (not_announcing p.whole (ap (λ (x : Copier × Outcome (Node K V) Table). x.0.stands) (sym ends ∙ same_end)))
-      by_promotes (inr (ends, l)) (inr (same_chart, other)) = endings.plain P A same hash c rule caller c2 (inl same_chart) (without l) end.0
+      by_promotes (inr (ends, l)) (inr (same_chart, other)) = inl (endings.plain P A same hash c rule caller c2 (inl same_chart) (without l))
 
     kept_at : (stands : Point) → CopyingFacts same hash w caller setting c blocks p stands → Steps Took value_at w.memory (plan_at hash p stands) m2 end
         → MovedAt hash caller c p stands end c2 → AllEnd P A c p stands → After
-    kept_at at.Counts f s moved all = back _ moved (endings.counted P A same hash c rule caller p.done end.0 (counts_say f m2 end s) all)
-    kept_at (at.Tallies word fault) f s moved all = back _ moved
-        (endings.counted P A same hash c rule caller p.done end.0
-        (inr (p.place, f.2.in_range.0, subst (λ (x : Share). IsToCount (with_counted caller x)) (sym f.2.claims.0) tt)) all)
+    kept_at at.Counts f s moved all = by_counts moved all (counts_say f m2 end s)
+    kept_at (at.Tallies word fault) f s moved all =
+        by_counts moved all (inr (p.place, f.2.in_range.0, subst (λ (x : Share). IsToCount (with_counted caller x)) (sym f.2.claims.0) tt))
     kept_at at.Promotes f s moved all = by_promotes f all (promotes_say f m2 end s) moved
-    kept_at at.Announces f s moved all = back _ moved (endings.announced P A same hash c rule p all end.0)
-    kept_at at.Over f s moved all = endings.plain P A same hash c rule caller c2 (inl moved) all end.0
-    kept_at (at.Refused fault) f s moved all = endings.plain P A same hash c rule caller c2 (inl moved) all end.0
-    kept_at _ f s moved all = endings.plain P A same hash c rule caller c2 moved all end.0
+    kept_at at.Announces f s moved all =
+        inl (subst (λ (x : Chart K). AllOr P A x (λ t. ⊥)) (sym moved) (endings.announced P A same hash c rule p all))
+    kept_at at.Over f s moved all = inl (endings.plain P A same hash c rule caller c2 (inl moved) all)
+    kept_at (at.Refused fault) f s moved all = inl (endings.plain P A same hash c rule caller c2 (inl moved) all)
+    kept_at _ f s moved all = inl (endings.plain P A same hash c rule caller c2 moved all)
 
     pub copier_ends : CopierFacts same hash w caller setting c blocks p → Steps Took value_at w.memory (copier_plan hash p) m2 end
         → MovedAt hash caller c p p.stands end c2 → AllEnd P A c p p.stands → After

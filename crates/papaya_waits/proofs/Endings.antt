@@ -1,16 +1,17 @@
 -- In incremental mode: that each copying that is not over has a place that is not counted, or a copier that is to end it, whatever change of the tables a copier makes.
 use Rattle.std.specs.Prelude.{cond, eqb}
-use Rattle.std.proofs.Common.{◌≡◌, ◌≢◌, ℕ, zero, suc, ◌+◌, ◌<◌, ◌≤◌, ◌⊎◌, inl, inr, Bool, true, false, refl, ap, sym, subst, ◌∙◌, arith, eqb-true}
+use Rattle.std.proofs.Common.{◌≡◌, ◌≢◌, ℕ, zero, suc, ◌<◌, ◌≤◌, ◌⊎◌, inl, inr, Bool, true, false, refl, ap, sym, subst, ◌∙◌, arith, eqb-true}
 use Rattle.std.proofs.lemmas.Bool.{cases_lt, eq-eqb, ne_eqb}
 use Rattle.papaya_tables.specs.declared.status.TheConstants.Status.{PENDING, ABORTED, PROMOTED}
 use Rattle.papaya_resize.specs.CopierStates.{standing}
 use Rattle.papaya_resize.specs.declared.copier.Copier.{Copier}
 use Rattle.papaya_resize.specs.declared.copier.Copying.{Copying as Point}
 use Rattle.papaya_resize.specs.declared.copier.Copying.TheVariants as at
-use Rattle.papaya_rule.specs.Chart.{Place, Empty, Tombstone, Holds, Share, Free, Claimed, Done, Counted, Lost, Chart, put, put_in, is_counted}
+use Rattle.papaya_rule.specs.Chart.{Place, Empty, Tombstone, Holds, Share, Free, Claimed, Done, Counted, Lost, Chart, put_in, is_counted}
 use Rattle.papaya_rule.specs.Maps.{spot_of}
 use Rattle.papaya_rule.specs.Moves.{Move, Links, Stores, Replaces, Removes, Marks, Unmarks, Puts, Covers, Reclaims, Counts, Promotes, Announces, after, share_of, with_counted}
 use Rattle.papaya_rule.specs.Rule.{Agrees, Rule, total}
+use Rattle.papaya_points.specs.Told.{IsBeside}
 use Rattle.papaya_points.specs.ToldMoves.{IsPlain, MovedPlain}
 use Rattle.papaya_waits.specs.Others.{IsToCount, IsOpen, EndsAt}
 use Rattle.papaya_waits.specs.Waits.{IsUnfinished}
@@ -30,7 +31,7 @@ share_open i (Tombstone mark) = tt
 share_open i (Holds n phase borrowed) = tt
 
 -- where not all shares are counted, and none is lost, one is to be counted
-some_left : (d : ℕ → Share) (n : ℕ) → ((j : ℕ) → j < n → d j ≢ Lost) → total is_counted d n ≢ n → (j : ℕ) × (j < n) × IsToCount (d j)
+pub some_left : (d : ℕ → Share) (n : ℕ) → ((j : ℕ) → j < n → d j ≢ Lost) → total is_counted d n ≢ n → (j : ℕ) × (j < n) × IsToCount (d j)
 some_left d zero lost few = absurd (few refl)
 some_left d (suc n) lost few = by (d n) refl
   where
@@ -76,6 +77,14 @@ module _ {K : Type 0} (P A : ℕ → Type 0) where
   abbrev pub AllOr : Chart K → (ℕ → Type 0) → Type 0
   AllOr c Own = (t : ℕ) → 0 < t → t < c.past → IsUnfinished c t → IsOpen c t ⊎ (OthersEnd c t ⊎ Own t)
 
+  pub weaker : (c : Chart K) (Own : ℕ → Type 0) → AllOr c (λ t. ⊥) → AllOr c Own
+  weaker c Own all t some made unfinished = by (all t some made unfinished)
+    where
+      by : IsOpen c t ⊎ (OthersEnd c t ⊎ ⊥) → IsOpen c t ⊎ (OthersEnd c t ⊎ Own t)
+      by (inl open) = inl open
+      by (inr (inl others)) = inr (inl others)
+      by (inr (inr none)) = absurd none
+
   -- or this copier
   abbrev pub AllEnd : Chart K → Copier → Point → Type 0
   AllEnd c p stands = AllOr c (λ t. EndsAt c p stands t)
@@ -83,11 +92,11 @@ module _ {K : Type 0} (P A : ℕ → Type 0) where
   module _ (same : K → K → Bool) (hash : K → ℕ) (c : Chart K) (rule : Rule same (spot_of hash) true c) where
     -- where shares that are to be counted are so on, and all else is as it was
     still : (d : Chart K) → d.first ≡ c.first → d.past ≡ c.past → d.status ≡ c.status → d.len ≡ c.len → ((t j : ℕ) → IsToCount (c.share t j) → IsToCount (d.share t j))
-        → AllOr c (λ t. ⊥) → (q : Copier) → AllEnd d q q.stands
-    still d first past status len open all q t some made unfinished =
+        → AllOr c (λ t. ⊥) → AllOr d (λ t. ⊥)
+    still d first past status len open all t some made unfinished =
         on (all t some (subst (λ (n : ℕ). t < n) past made) (subst (λ (s : ℕ → ℕ). (s t ≢ PROMOTED) × (s t ≢ ABORTED)) status unfinished))
       where
-        on : IsOpen c t ⊎ (OthersEnd c t ⊎ ⊥) → IsOpen d t ⊎ (OthersEnd d t ⊎ EndsAt d q q.stands t)
+        on : IsOpen c t ⊎ (OthersEnd c t ⊎ ⊥) → IsOpen d t ⊎ (OthersEnd d t ⊎ ⊥)
         on (inl (behind, j, l, is)) = inl (
           subst (λ (n : ℕ). n < t) (sym first) behind,
           j,
@@ -99,8 +108,8 @@ module _ {K : Type 0} (P A : ℕ → Type 0) where
         on (inr (inr none)) = absurd none
 
     -- a table that is linked has no place counted
-    linked : (len limit : ℕ) → AllOr c (λ t. ⊥) → (q : Copier) → AllEnd (after (spot_of hash) true (Links len limit) c) q q.stands
-    linked len limit all q t some made unfinished = by (cases_lt t c.past)
+    linked : (len limit : ℕ) → AllOr c (λ t. ⊥) → AllOr (after (spot_of hash) true (Links len limit) c) (λ t. ⊥)
+    linked len limit all t some made unfinished = by (cases_lt t c.past)
       where
         abbrev linked_chart : Chart K
         linked_chart = after (spot_of hash) true (Links len limit) c
@@ -114,12 +123,12 @@ module _ {K : Type 0} (P A : ℕ → Type 0) where
         status_on : t < c.past → linked_chart.status t ≡ c.status t
         status_on l = ap (λ (b : Bool). cond b (cond (eqb c.past 0) PROMOTED PENDING) (c.status t)) (ne_eqb t c.past (λ e. omega (arith, e, l)))
 
-        on : 0 < c.past → IsOpen c t ⊎ (OthersEnd c t ⊎ ⊥) → IsOpen linked_chart t ⊎ (OthersEnd linked_chart t ⊎ EndsAt linked_chart q q.stands t)
+        on : 0 < c.past → IsOpen c t ⊎ (OthersEnd c t ⊎ ⊥) → IsOpen linked_chart t ⊎ (OthersEnd linked_chart t ⊎ ⊥)
         on there (inl (behind, j, l, is)) = inl (behind, j, subst (λ (n : ℕ). j < n) (sym (len_on there)) l, is)
         on there (inr (inl others)) = inr (inl others)
         on there (inr (inr none)) = absurd none
 
-        by : (t < c.past) ⊎ (c.past ≤ t) → IsOpen linked_chart t ⊎ (OthersEnd linked_chart t ⊎ EndsAt linked_chart q q.stands t)
+        by : (t < c.past) ⊎ (c.past ≤ t) → IsOpen linked_chart t ⊎ (OthersEnd linked_chart t ⊎ ⊥)
         by (inl l) = on (omega (arith, l)) (all t some l ((λ e. unfinished.0 (status_on l ∙ e)), (λ e. unfinished.1 (status_on l ∙ e))))
         by (inr ge) =
             let there : 0 < c.past = omega (arith, some, made, ge) in
@@ -132,37 +141,47 @@ module _ {K : Type 0} (P A : ℕ → Type 0) where
             )
 
     -- no change, or one that counts nothing
-    pub plain : (i : ℕ) (d : Chart K) → MovedPlain hash i c d → AllOr c (λ t. ⊥) → (q : Copier) → AllEnd d q q.stands
-    plain i d (inl is) all q =
+    pub plain : (i : ℕ) (d : Chart K) → MovedPlain hash i c d → AllOr c (λ t. ⊥) → AllOr d (λ t. ⊥)
+    plain i d (inl is) all =
         still d (ap (λ (x : Chart K). x.first) is) (ap (λ (x : Chart K). x.past) is) (ap (λ (x : Chart K). x.status) is) (ap (λ (x : Chart K). x.len) is)
-        (λ t j. subst (λ (x : Chart K). IsToCount (c.share t j) → IsToCount (x.share t j)) (sym is) (λ open. open)) all q
-    plain i d (inr (move, fits, is)) all q = subst (λ (x : Chart K). AllEnd x q q.stands) (sym is) (by move fits)
+        (λ t j. subst (λ (x : Chart K). IsToCount (c.share t j) → IsToCount (x.share t j)) (sym is) (λ open. open)) all
+    plain i d (inr (move, fits, is)) all = subst (λ (x : Chart K). AllOr x (λ t. ⊥)) (sym is) (by move fits)
       where
-        by : (move : Move K) → IsPlain hash i c move → AllEnd (after (spot_of hash) true move c) q q.stands
-        by (Links len limit) fits = linked len limit all q
+        by : (move : Move K) → IsPlain hash i c move → AllOr (after (spot_of hash) true move c) (λ t. ⊥)
+        by (Links len limit) fits = linked len limit all
         by (Marks k j) fits = still (after (spot_of hash) true (Marks k j) c) refl refl refl refl
-            (put_open c.share (suc c.first) j (share_of k (c.place c.first j)) (share_open k (c.place c.first j))) all q
-        by (Unmarks k j) fits = still (after (spot_of hash) true (Unmarks k j) c) refl refl refl refl (put_open c.share (suc c.first) j Free tt) all q
-        by (Puts k j t key try) fits = still (after (spot_of hash) true (Puts k j t key try) c) refl refl refl refl (λ u n open. open) all q
-        by (Covers k j) fits = still (after (spot_of hash) true (Covers k j) c) refl refl refl refl (put_open c.share (suc c.first) j (Done k) tt) all q
-        by (Reclaims t claim) fits = still (after (spot_of hash) true (Reclaims t claim) c) refl refl refl refl (λ u n open. open) all q
+            (put_open c.share (suc c.first) j (share_of k (c.place c.first j)) (share_open k (c.place c.first j))) all
+        by (Unmarks k j) fits = still (after (spot_of hash) true (Unmarks k j) c) refl refl refl refl (put_open c.share (suc c.first) j Free tt) all
+        by (Puts k j t key try) fits = still (after (spot_of hash) true (Puts k j t key try) c) refl refl refl refl (λ u n open. open) all
+        by (Covers k j) fits = still (after (spot_of hash) true (Covers k j) c) refl refl refl refl (put_open c.share (suc c.first) j (Done k) tt) all
+        by (Reclaims t claim) fits = still (after (spot_of hash) true (Reclaims t claim) c) refl refl refl refl (λ u n open. open) all
         by _ fits = absurd fits
 
-    -- what a caller has done is counted: a place is left, or it is to make the table the root
-    pub counted : (i done : ℕ) (q : Copier)
-        → ((q.stands ≡ at.Promotes) × (q.target.turn ≡ suc c.first)) ⊎ ((j : ℕ) × (j < c.len c.first) × IsToCount (with_counted i (c.share (suc c.first) j)))
-        → AllOr c (λ t. ⊥) → AllEnd (after (spot_of hash) true (Counts i (suc c.first) done) c) q q.stands
-    counted i done q how all t some made unfinished = by (eqb t (suc c.first)) refl
+    -- what a call does beside its copying
+    pub beside : (d : Chart K) → (d ≡ c) ⊎ ((move : Move K) × IsBeside move × (d ≡ after (spot_of hash) true move c)) → AllOr c (λ t. ⊥) → AllOr d (λ t. ⊥)
+    beside d (inl is) all = plain 0 d (inl is) all
+    beside d (inr (move, fits, is)) all = subst (λ (x : Chart K). AllOr x (λ t. ⊥)) (sym is) (by move fits)
+      where
+        by : (move : Move K) → IsBeside move → AllOr (after (spot_of hash) true move c) (λ t. ⊥)
+        by (Links len limit) fits = linked len limit all
+        by (Stores t key try) fits = still (after (spot_of hash) true (Stores t key try) c) refl refl refl refl (λ u n open. open) all
+        by (Replaces t place key) fits = still (after (spot_of hash) true (Replaces t place key) c) refl refl refl refl (λ u n open. open) all
+        by (Removes t place) fits = still (after (spot_of hash) true (Removes t place) c) refl refl refl refl (λ u n open. open) all
+        by _ fits = absurd fits
+
+    -- what a caller has done is counted: a place is left, or this ends the copying
+    pub counted : (i done : ℕ) (Own : ℕ → Type 0) → Own (suc c.first) ⊎ ((j : ℕ) × (j < c.len c.first) × IsToCount (with_counted i (c.share (suc c.first) j)))
+        → AllOr c (λ t. ⊥) → AllOr (after (spot_of hash) true (Counts i (suc c.first) done) c) Own
+    counted i done Own how all t some made unfinished = by (eqb t (suc c.first)) refl
       where
         abbrev counted_chart : Chart K
         counted_chart = after (spot_of hash) true (Counts i (suc c.first) done) c
 
         abbrev EndsIn : ℕ → Type 0
-        EndsIn t = IsOpen counted_chart t ⊎ (OthersEnd counted_chart t ⊎ EndsAt counted_chart q q.stands t)
+        EndsIn t = IsOpen counted_chart t ⊎ (OthersEnd counted_chart t ⊎ Own t)
 
-        next : ((q.stands ≡ at.Promotes) × (q.target.turn ≡ suc c.first)) ⊎ ((j : ℕ) × (j < c.len c.first) × IsToCount (with_counted i (c.share (suc c.first) j)))
-            → EndsIn (suc c.first)
-        next (inl (stands, turn)) = inr (inr (subst (λ (x : Point). EndsAt counted_chart q x (suc c.first)) (sym stands) (turn, omega arith)))
+        next : Own (suc c.first) ⊎ ((j : ℕ) × (j < c.len c.first) × IsToCount (with_counted i (c.share (suc c.first) j))) → EndsIn (suc c.first)
+        next (inl own) = inr (inr own)
         next (inr (j, l, open)) = inl (
           omega arith,
           j,
@@ -209,19 +228,19 @@ module _ {K : Type 0} (P A : ℕ → Type 0) where
         by (inr ge) (inr le) = inr (inr (omega (arith, target, ge, le), le))
 
     -- its status says so
-    pub announced : (p : Copier) → AllEnd c p at.Announces → (q : Copier) → AllEnd (after (spot_of hash) true (Announces p.target.turn) c) q q.stands
-    announced p all q t some made unfinished = by (eqb t p.target.turn) refl
+    pub announced : (p : Copier) → AllEnd c p at.Announces → AllOr (after (spot_of hash) true (Announces p.target.turn) c) (λ t. ⊥)
+    announced p all t some made unfinished = by (eqb t p.target.turn) refl
       where
         abbrev announced_chart : Chart K
         announced_chart = after (spot_of hash) true (Announces p.target.turn) c
 
         on : eqb t p.target.turn ≡ false → IsOpen c t ⊎ (OthersEnd c t ⊎ EndsAt c p at.Announces t)
-            → IsOpen announced_chart t ⊎ (OthersEnd announced_chart t ⊎ EndsAt announced_chart q q.stands t)
+            → IsOpen announced_chart t ⊎ (OthersEnd announced_chart t ⊎ ⊥)
         on other (inl open) = inl open
         on other (inr (inl others)) = inr (inl others)
         on other (inr (inr own)) = absurd (let it = eq-eqb t p.target.turn (sym own.0) in cc (it, other))
 
-        by : (b : Bool) → eqb t p.target.turn ≡ b → IsOpen announced_chart t ⊎ (OthersEnd announced_chart t ⊎ EndsAt announced_chart q q.stands t)
+        by : (b : Bool) → eqb t p.target.turn ≡ b → IsOpen announced_chart t ⊎ (OthersEnd announced_chart t ⊎ ⊥)
         by true is = absurd (unfinished.0 (ap (λ (b : Bool). cond b PROMOTED (c.status t)) is))
         by false other =
             let status : announced_chart.status t ≡ c.status t = ap (λ (b : Bool). cond b PROMOTED (c.status t)) other in

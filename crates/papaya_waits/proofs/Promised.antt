@@ -156,7 +156,7 @@ module _ {K Q : Type 0} (V : Type 0) (same : K → K → Bool) (hash : K → ℕ
           (in_slot setting (slot i)) c seen map asks u.keys u.call late.setting_is u.began late.blocking u.call.stands late.point sees
 
   -- what a caller sees of the map
-  map_of : (w : World (Node K V)) (c : Chart K) (blocks : Blocks) (sights : ℕ → Sight) (calls : ℕ → Option (UnderWay K V Q))
+  pub map_of : (w : World (Node K V)) (c : Chart K) (blocks : Blocks) (sights : ℕ → Sight) (calls : ℕ → Option (UnderWay K V Q))
       → Together V same hash asks setting slot w c blocks sights calls
       → (i : ℕ) (u : UnderWay K V Q) → calls i ≡ Some u → IsMapIn same hash (in_slot setting (slot i)) w c (seen_by blocks (sights (slot i)))
   map_of w c blocks sights calls s i u has =

@@ -1,23 +1,42 @@
 -- Which call another one waits for, in incremental mode: who copies a pair that is being copied, and who goes on with a copying that is not over.
 use Rattle.std.specs.Prelude.{◌≡◌, ◌≢◌, ℕ, suc, ◌<◌, ◌≤◌, ◌⊎◌, Bool, true, Option, Some, None}
-use Rattle.seize.specs.World.{World}
+use Rattle.std.specs.Int.{IsPowerOfTwo}
+use Rattle.seize_words.specs.Mem.{Mem, Took, value_at}
+use Rattle.seize_words.specs.Plan.{Steps}
+use Rattle.seize.specs.World.{World, with_at}
 use Rattle.papaya_tables.specs.Chunks.{is_incremental}
 use Rattle.papaya_tables.specs.declared.node.Node.{Node}
 use Rattle.papaya_tables.specs.declared.setting.Setting.{Setting}
+use Rattle.papaya_resize.specs.declared.outcome.Outcome.{Outcome}
 use Rattle.papaya_resize.specs.declared.copier.Copier.{Copier}
 use Rattle.papaya_resize.specs.declared.copier.Copying.{Copying as Point}
 use Rattle.papaya_resize.specs.declared.copier.Copying.TheVariants as copies
+use Rattle.papaya_raw.specs.Call.{call_plan}
+use Rattle.papaya_raw.specs.declared.machines.answer.Called.{Called}
+use Rattle.papaya_raw.specs.declared.machines.call.KeyCall.{KeyCall}
 use Rattle.papaya_raw.specs.declared.machines.call.Calling.{Calling}
 use Rattle.papaya_raw.specs.declared.machines.call.Calling.TheVariants as at
+use Rattle.papaya_reserves.specs.Reserve.{reserve_plan}
+use Rattle.papaya_reserves.specs.declared.reserve.Reserve.{Reserve}
 use Rattle.papaya_reserves.specs.declared.reserve.Reserving.{Reserving}
 use Rattle.papaya_reserves.specs.declared.reserve.Reserving.TheVariants as reserves
+use Rattle.papaya_sweeps.specs.Sweep.{sweep_plan}
+use Rattle.papaya_sweeps.specs.declared.sweep.Sweep.{Sweep}
+use Rattle.papaya_sweeps.specs.declared.sweep.Swept.{Swept}
 use Rattle.papaya_sweeps.specs.declared.sweep.Sweeping.{Sweeping}
 use Rattle.papaya_sweeps.specs.declared.sweep.Sweeping.TheVariants as sweeps
 use Rattle.papaya_rule.specs.Chart.{Chart, Share, Claimed, Done, Counted, Lost}
 use Rattle.papaya_rule.specs.Words.{Blocks}
 use Rattle.papaya_points.specs.FactsCopies.{CopyingFacts}
+use Rattle.papaya_points.specs.Steps.{AreLawful}
+use Rattle.papaya_points.specs.Told.{IsRowOfCall}
+use Rattle.papaya_late.specs.ToldReserves.{IsRowOfReserve}
+use Rattle.papaya_late.specs.ToldSweeps.{IsRowOfSweep}
+use Rattle.papaya_callers.specs.OverAll.{CallOverAll, come_to}
+use Rattle.papaya_callers.specs.Rooms.{CallForRoom}
 use Rattle.papaya_callers.specs.Sights.{Sight}
-use Rattle.papaya_callers.specs.Together.{UnderWay, OnKey, ForRoom, Counting, OverAll, Together, in_slot}
+use Rattle.papaya_callers.specs.Sweeps.{SweepStepsTogether}
+use Rattle.papaya_callers.specs.Together.{CallOnKey, UnderWay, OnKey, ForRoom, Counting, OverAll, Together, StepsTogether, RoomStepsTogether, change_told, next_of, next_for_room, next_over_all, in_slot}
 use Rattle.papaya_waits.specs.Waits.{IsUnfinished, IsBeingCopied}
 
 -- it is not yet counted
@@ -83,3 +102,38 @@ module _ {K Q : Type 0} (V : Type 0) (same : K → K → Bool) (hash : K → ℕ
       → (k : ℕ) × (u : UnderWay K V Q) × (calls k ≡ Some u) × (k ≢ i)
       × (((suc c.first < c.past) × (j : ℕ) × (j < c.len c.first) × (c.share (suc c.first) j ≡ Done k))
       ⊎ ((q : Copier) × (copier_of u ≡ Some q) × EndsAt c q q.stands p.target.turn))
+
+  -- In incremental mode: where each copying that is not over has a place that is not counted, or a call that is to end it, it has after each step of a call on
+  -- one key that is none of a row.
+  abbrev pub CallsKeepEnds : Type 0
+  CallsKeepEnds =
+      AreLawful same hash → IsPowerOfTwo setting.initial → is_incremental setting.mode ≡ true
+      → (w : World (Node K V)) (c : Chart K) (blocks : Blocks) (sights : ℕ → Sight) (calls : ℕ → Option (UnderWay K V Q))
+      → Together V same hash asks setting slot w c blocks sights calls → HaveEnds c calls
+      → (i : ℕ) (u : CallOnKey K V Q) → calls i ≡ Some (OnKey u) → (IsRowOfCall u.call.stands → ⊥)
+      → (m2 : Mem (Node K V)) (p2 : KeyCall K V Q) (progress : Called (Node K V)) → Steps Took value_at w.memory (call_plan asks same hash u.call) m2 (p2, progress)
+      → (leads : StepsTogether V same hash asks setting slot w c blocks sights calls i u m2 p2 progress)
+      → HaveEnds leads.went.c2
+      (with_at calls i (next_of (record { keys = u.keys; pair = u.pair; began = u.began; change = change_told V same hash asks setting slot leads.went.told; call = p2 }) progress))
+
+  -- so it has after one of a reservation
+  abbrev pub RoomsKeepEnds : Type 0
+  RoomsKeepEnds =
+      AreLawful same hash → IsPowerOfTwo setting.initial → is_incremental setting.mode ≡ true
+      → (w : World (Node K V)) (c : Chart K) (blocks : Blocks) (sights : ℕ → Sight) (calls : ℕ → Option (UnderWay K V Q))
+      → Together V same hash asks setting slot w c blocks sights calls → HaveEnds c calls
+      → (i : ℕ) (r : CallForRoom) → calls i ≡ Some (ForRoom r) → (IsRowOfReserve r.reserve.stands → ⊥)
+      → (m2 : Mem (Node K V)) (p2 : Reserve) (end : Outcome (Node K V) Unit) → Steps Took value_at w.memory (reserve_plan hash r.reserve) m2 (p2, end)
+      → (leads : RoomStepsTogether V same hash asks setting slot w c blocks sights calls i r m2 p2 end)
+      → HaveEnds leads.went.c2 (with_at calls i (next_for_room (record { began = r.began; reserve = p2 }) end))
+
+  -- and after one of a sweep
+  abbrev pub SweepsKeepEnds : Type 0
+  SweepsKeepEnds =
+      AreLawful same hash → IsPowerOfTwo setting.initial → is_incremental setting.mode ≡ true
+      → (w : World (Node K V)) (c : Chart K) (blocks : Blocks) (sights : ℕ → Sight) (calls : ℕ → Option (UnderWay K V Q))
+      → Together V same hash asks setting slot w c blocks sights calls → HaveEnds c calls
+      → (i : ℕ) (o : CallOverAll) → calls i ≡ Some (OverAll o) → (IsRowOfSweep o.sweep.stands → ⊥)
+      → (m2 : Mem (Node K V)) (p2 : Sweep) (end : Swept (Node K V)) → Steps Took value_at w.memory (sweep_plan hash o.sweep) m2 (p2, end)
+      → (leads : SweepStepsTogether V same hash asks setting slot w c blocks sights calls i o m2 p2 end)
+      → HaveEnds leads.went.c2 (with_at calls i (next_over_all (come_to o leads.entered2 leads.done2 p2) end))

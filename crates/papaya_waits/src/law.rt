@@ -1,7 +1,7 @@
 //! What is promised of each step of a call that answers that it waits.
 ghost use Rattle.std.specs.Prelude.{ℕ, Bool};
 ghost use Rattle.papaya_tables.specs.declared.setting.Setting.{Setting};
-ghost use Rattle.papaya_waits.specs.Others.{PairsAreCopiedByCalls, AskersHaveOthers};
+ghost use Rattle.papaya_waits.specs.Others.{PairsAreCopiedByCalls, AskersHaveOthers, CallsKeepEnds, RoomsKeepEnds, SweepsKeepEnds};
 ghost use Rattle.papaya_waits.specs.Promises.{CallsWaitForACopying, RoomsWaitForACopying, SweepsWaitForACopying, LookupsNeverWait, CallRowsWaitForAHolder, RoomRowsWaitForAHolder, SweepRowsWaitForAHolder};
 
 /// Where calls of many callers stand together on one map, a call waits only for a copying. One on one key waits in incremental mode while the pair that
@@ -28,9 +28,13 @@ pub fn pairs_are_copied_by_calls<K, V, Q>()
     ensures copied { (same : K → K → Bool) (hash : K → ℕ) (asks : Q → K → Bool) (setting : Setting) (slot : ℕ → ℕ) → PairsAreCopiedByCalls V same hash asks setting slot }
 {}
 
-/// In incremental mode, let each copying that is not over have a place that is not counted, or a call that is to end it. If a caller's copier has found each
-/// place claimed, and asks how the copying stands, which is not over, then another caller has a call that has copied a place and has not counted it, or is
-/// to end the copying.
+/// In incremental mode, let each copying that is not over have a place that is not counted, or a call that is to end it. If the copier within which a call
+/// stands has found each place claimed, and asks how the copying stands, which is not over, then another caller has a call that has copied a place and has
+/// not counted it, or is to end the copying. After each step of a call on one key, of a reservation or of a sweep, none of a row, each copying that is not
+/// over has such a place or call again.
 pub fn who_asks_how_a_copying_stands_has_others<K, V, Q>()
     ensures asked { (same : K → K → Bool) (hash : K → ℕ) (asks : Q → K → Bool) (setting : Setting) (slot : ℕ → ℕ) → AskersHaveOthers V same hash asks setting slot }
+    ensures calls { (same : K → K → Bool) (hash : K → ℕ) (asks : Q → K → Bool) (setting : Setting) (slot : ℕ → ℕ) → CallsKeepEnds V same hash asks setting slot }
+    ensures rooms { (same : K → K → Bool) (hash : K → ℕ) (asks : Q → K → Bool) (setting : Setting) (slot : ℕ → ℕ) → RoomsKeepEnds V same hash asks setting slot }
+    ensures sweeps { (same : K → K → Bool) (hash : K → ℕ) (asks : Q → K → Bool) (setting : Setting) (slot : ℕ → ℕ) → SweepsKeepEnds V same hash asks setting slot }
 {}
