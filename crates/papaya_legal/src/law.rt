@@ -3,7 +3,7 @@ ghost use Rattle.std.specs.Prelude.{ℕ, Bool};
 ghost use Rattle.papaya_legal.specs.Carried.{RunsBegin};
 ghost use Rattle.papaya_legal.specs.CallEvents.{CallEventsBegin, CallEventsGoOn, CallEventsAreLegal, CallEventsEnd};
 ghost use Rattle.papaya_legal.specs.SlotEvents.{SlotEventsBegin, SlotEventsGoOn, SlotEventsAreLegal, SlotEventsEnd};
-ghost use Rattle.papaya_legal.specs.MapEvents.{MakingEventsGoOn, EndEventsGoOn, IdleEventsAreLegal};
+ghost use Rattle.papaya_legal.specs.MapEvents.{MakingEventsGoOn, EndEventsGoOn, MapEventsAreLegal, IdleEventsAreLegal};
 ghost use Rattle.papaya_legal.specs.Promises.{EventsAreLegal};
 
 /// Before all events a moment shows all by which the first event keeps its promises.
@@ -33,9 +33,11 @@ pub fn slot_events<K, V, S>()
 {}
 
 /// An event that makes a map, or ends one, is in its midst still after each step, if what that does it may do, and finds what it must.
+/// Once its work is done it keeps its promises, if it is whole, and by the model.
 pub fn map_events<K, V, S>()
     ensures makings { (same : K → K → Bool) (hash : K → ℕ) → MakingEventsGoOn K V S same hash }
     ensures ends { (same : K → K → Bool) (hash : K → ℕ) → EndEventsGoOn K V S same hash }
+    ensures legal { (same : K → K → Bool) → MapEventsAreLegal K V same }
 {}
 
 /// An event that does nothing keeps its promises, as one that is kept out does, and one that begins a call, or tells it a reply.
