@@ -5,6 +5,8 @@ pub mod CallsEnd
 pub mod Slots
 pub mod SlotsEnd
 pub mod Maps
+pub mod MapsEnd
+pub mod CallsAfter
 pub mod SlotsAfter
 pub mod Idle
 pub mod Legal

@@ -1,5 +1,5 @@
 -- Events in which a call takes steps: in the midst of one, and at its end.
-use Rattle.std.specs.Prelude.{◌≡◌, ◌≢◌, ℕ, ◌+◌, ◌==◌, Bool, true, false, List, [], ◌∷◌, ◌++◌, Some, if◌then◌else◌, not, ◌||◌}
+use Rattle.std.specs.Prelude.{◌≡◌, ◌≢◌, ℕ, ◌+◌, ◌==◌, Bool, true, false, List, [], ◌∷◌, ◌++◌, Some, if◌then◌else◌, not, ◌||◌, ◌⊎◌}
 use Rattle.std.specs.List.{list_all, list_any}
 use Rattle.seize.specs.World.{World, Rests, Request, Begin, Step, Happens}
 use Rattle.papaya_tables.specs.Nodes.{deferred_word}
@@ -36,12 +36,16 @@ use Rattle.papaya_promises.specs.Weights.{AreDoneBy}
 use Rattle.papaya_histories.specs.Kept.{ChangesFirst}
 use Rattle.papaya_purposes.specs.Kept.{PairsChangeFirst, ShowsNone}
 use Rattle.papaya_purposes.specs.Shards.{ReadsShards}
-use Rattle.papaya_models.specs.CallEvents.{FollowsInEvent, IsNoted, things_then}
+use Rattle.papaya_models.specs.CallEvents.{FollowsInEvent, IsNoted, things_then, IsInItsRow}
 use Rattle.papaya_finds.specs.Doing.{takes_steps}
 use Rattle.papaya_finds.specs.Life.{StoresOne}
 use Rattle.papaya_finds.specs.Parts.{FindAll}
-use Rattle.papaya_histories.specs.Questions.{ShowsQuestions}
+use Rattle.papaya_histories.specs.Questions.{ShowsQuestions, EventAsksStill}
 use Rattle.papaya_promises.specs.Sheltered.{SectionsHold}
+use Rattle.papaya_finds.specs.Little.{ReclaimsAll}
+use Rattle.papaya_follows.specs.Calling.{come_to}
+use Rattle.papaya_purposes.specs.Purposes.{ShowsPurposes}
+use Rattle.papaya_models.specs.Follows.{FollowsModel}
 use Rattle.papaya_legal.specs.Carried.{ComesAlone, ShowsCalls, ShowsRun}
 
 module _ {K V : Type 0} (same : K → K → Bool) (name : ℕ → List ℕ) (terms : Terms) (log : List (Entry K V)) (event : Event K V) (beginning : Moment K V) (map i : ℕ) (c : CallThere K V) where
@@ -114,15 +118,20 @@ module _ (K V S : Type 0) (same : K → K → Bool) (hash : K → ℕ) where
       → IsLegalBut same terms log e
       × SectionsHold (after e (moment log)) (known_after (acts.Call i map) new.memory.changed known) (leads map u (here_of same name log beginning map i c done m known s u midst.event_so)).4.w2
 
-  -- The moment after it shows all by which the next event keeps its promises (not proved yet).
+  -- The moment after it shows all by which the next event keeps its promises, if it shows what calls are for and have read once the call has come to its outcome, and the sets are as they must be.
   abbrev pub CallEventsEnd : Type 0
   CallEventsEnd =
-      (name : ℕ → List ℕ) (terms : Terms) (log : List (Entry K V)) (beginning : Moment K V) (map i : ℕ) (c : CallThere K V) → call_of (name i) beginning ≡ Some c
+      (name : ℕ → List ℕ) (terms : Terms) (log : List (Entry K V)) (beginning : Moment K V) (map i : ℕ) (c : CallThere K V) (first : Known) (before : Scene K V) → ShowsRun same name terms log first before
       → (steps : ℕ) (done : List Effect) (m : Moment K V) (known : Known) (s : Scene K V) (u : UnderWay K V K) (e : Entry K V) (midst : InCallEvent same name terms log e.event beginning map i c steps done m known s u)
       → (old new : Executor K V S) → IsAt same hash old s → (said : Progress (Node K V)) (leads : StepLeads same hash i said s old new)
-      → at_work e (moment log) ≡ beginning → acted_on e.event beginning ≡ Some map → e.steps ≡ steps + 1
-      → e.effects ≡ done ++ effects_of (acts.Call i map) known new.memory.changed
+      → at_work e (moment log) ≡ beginning → acted_on e.event beginning ≡ Some map → e.effects ≡ done ++ effects_of (acts.Call i map) known new.memory.changed
       → ComesSo (known_after (acts.Call i map) new.memory.changed known) c.call c.replies said e.outcome → ends_call e.outcome ≡ has_ended said → ComesRight terms log e
-      → IsLegalBut same terms log e
-      → (let to = leads map u (here_of same name log beginning map i c done m known s u midst.event_so) in
-      ShowsRun same name terms (e ∷ log) (known_after (acts.Call i map) new.memory.changed known) (scene_after same hash s old new map i to.0 u to.1 said to.4))
+      → IsLegalBut same terms log e → EventAsksStill log e → ReclaimsAll log e
+      → (let known2 = known_after (acts.Call i map) new.memory.changed known in
+      let to = leads map u (here_of same name log beginning map i c done m known s u midst.event_so) in
+      let s2 = scene_after same hash s old new map i to.0 u to.1 said to.4 in
+      let come = come_to (name i) e.outcome e.steps (with_effects (Some (name i)) (Some map) (effects_of (acts.Call i map) known new.memory.changed) m) in
+      ShowsPurposes same name log come known2 s2 → ShowsReading name log (λ j. 0) come s2 → SectionsHold (after e (moment log)) known2 s2.world
+      → ((moment (e ∷ log)).is_alone ≡ true → FollowsModel terms.batch_size terms.roots (e ∷ log) known2 s2.world
+      ⊎ ((j : ℕ) × IsInItsRow terms.batch_size terms.roots (things_in (e ∷ log)) (sets_in terms.batch_size (e ∷ log)) (slot_of j) j known2 s2.world))
+      → ShowsRun same name terms (e ∷ log) known2 s2)

@@ -9,10 +9,10 @@ use Rattle.papaya_schedules.specs.declared.effect.Effect.{Effect}
 use Rattle.papaya_schedules.specs.declared.event.Event.{Event}
 use Rattle.papaya_schedules.specs.After.{moment, after}
 use Rattle.papaya_schedules.specs.Effects.{with_effects, AtEachEffect, worked}
-use Rattle.papaya_schedules.specs.Entry.{Entry, IfCall, acting, caller_of}
+use Rattle.papaya_schedules.specs.Entry.{Entry, IfCall, acting, caller_of, acted_on}
 use Rattle.papaya_schedules.specs.Handing.{is_granted, may_do, IsWhole, LeavesOf, comes_clear}
 use Rattle.papaya_schedules.specs.Lives.{Finds}
-use Rattle.papaya_schedules.specs.Model.{sets_in, things_in, changes_of, left_last}
+use Rattle.papaya_schedules.specs.Model.{sets_in, things_in, changes_of, left_last, IsByModel}
 use Rattle.papaya_schedules.specs.Moment.{Moment}
 use Rattle.papaya_schedules.specs.Terms.{Terms}
 use Rattle.papaya_effects.specs.Effects.{effects_of, known_after}
@@ -38,6 +38,7 @@ use Rattle.papaya_schedules.specs.Sweeps.{IsSwept}
 use Rattle.papaya_histories.specs.OtherCalls.{IsIdle}
 use Rattle.papaya_promises.specs.Guards.{EntersInside}
 use Rattle.papaya_promises.specs.Sheltered.{SectionsHold}
+use Rattle.papaya_schedules.specs.Beginning.{at_work}
 use Rattle.papaya_legal.specs.Carried.{ComesAlone, ShowsCalls}
 
 module _ {K V : Type 0} (same : K → K → Bool) (name : ℕ → List ℕ) (terms : Terms) (log : List (Entry K V)) (event : Event K V) (map : ℕ) (beginning : Moment K V) where
@@ -87,6 +88,13 @@ module _ (K V S : Type 0) (same : K → K → Bool) (hash : K → ℕ) where
       → AtEachEffect (Finds terms None (Some map) false []) None (Some map) effects m
       → InEndEvent same name terms log event map beginning first i (done ++ effects) (with_effects None (Some map) effects m) (known_after (acts.Ending map) new.memory.changed known)
       (ending_after same hash s new i f to.0 to.2.w2 to.2.deed said to.3))
+
+-- Once its work is done such an event keeps its promises, if it is whole, and by the model; the sections of guards hold what they shelter.
+abbrev pub MapEventsAreLegal : (K V : Type 0) → (K → K → Bool) → Type 0
+MapEventsAreLegal K V same =
+    (name : ℕ → List ℕ) (terms : Terms) (log : List (Entry K V)) (map : ℕ) (beginning m : Moment K V) (known : Known) (s : Scene K V) (e : Entry K V)
+    → InMapEvent same name terms log e.event map beginning e.effects m known s → caller_of e.event ≡ None → at_work e (moment log) ≡ beginning → acted_on e.event beginning ≡ Some map
+    → IsWhole e.event e.outcome e.effects (moment log) (worked e (moment log)) → IsByModel terms log e → IsLegalBut same terms log e × SectionsHold (after e (moment log)) known s.world
 
 -- And an event that does nothing to pairs, tables and blocks, and by which no call has come to an end or asks, keeps its promises, if it changes no waiting sets, reads briefly, does what it is for,
 -- needs no effects, and leaves nothing behind; the sections of guards hold what they shelter.

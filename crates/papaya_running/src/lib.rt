@@ -5,4 +5,5 @@ pub mod acting;
 pub mod ending;
 pub mod happening;
 pub mod record;
+pub mod running;
 pub mod tally;

@@ -39,7 +39,7 @@ use Rattle.papaya_histories.proofs.AnyCall.Whole.{whole_over}
 use Rattle.papaya_histories.proofs.Aside.Stays.{dues_stay, as_called_stays}
 
 module _ {K V : Type 0} where
-  like_over : (log : List (Entry K V)) (e : Entry K V) (own : List ℕ) (m2 : Moment K V) → caller_of e.event ≡ Some own → worked e (moment log) ≡ m2 → HasSame (come_to own e.outcome e.steps m2) (moment (e ∷ log))
+  pub like_over : (log : List (Entry K V)) (e : Entry K V) (own : List ℕ) (m2 : Moment K V) → caller_of e.event ≡ Some own → worked e (moment log) ≡ m2 → HasSame (come_to own e.outcome e.steps m2) (moment (e ∷ log))
   like_over log e own m2 caller is = record {
     place = ap (λ (y : Moment K V). y.place) is;
     born = ap (λ (y : Moment K V). y.born) is;
@@ -78,7 +78,7 @@ module _ {K V S : Type 0} (same : K → K → Bool) (hash : K → ℕ) (name : �
       by false named = named
       by true named = absurd (let both = dues.history.asked.apart map i n j u x here is named in ne (sym both.0) (sym both.1))
 
-  none_named : ends_call e.outcome ≡ true → NoneNamed name (name i) s2
+  pub none_named : ends_call e.outcome ≡ true → NoneNamed name (name i) s2
   none_named ended n j x is = elim (which s.calls map i next n j x is) as (λ _. is_same (name i) (name j) ≡ false) [
     | inl its ↦ absurd (let goes = its.2 in let none = gone (leads map u here).1 said next (sym ends ∙ ended) (leads map u here).4.goes_on in cc (goes, none))
     | inr was ↦ other_name n j x was.0 was.1

@@ -1,0 +1,179 @@
+-- The moment after an event of a call shows what the next event needs.
+use Rattle.std.specs.Prelude.{◌≡◌, ◌<◌, ℕ, Bool, true, List, ◌∷◌, Option, Some, find}
+use Rattle.std.proofs.Common.{refl, ap, sym, subst, ◌∙◌}
+use Rattle.papaya_schedules.specs.declared.effect.Effect.{Effect}
+use Rattle.papaya_schedules.specs.declared.event.Event.{Event}
+use Rattle.papaya_schedules.specs.declared.event.Event.TheVariants.{OneCall, Step, Go, Next}
+use Rattle.papaya_schedules.specs.After.{moment, after}
+use Rattle.papaya_schedules.specs.Effects.{with_effects, AtEachEffect, worked}
+use Rattle.papaya_schedules.specs.Entry.{caller_of, Entry, acted_on, ends_call}
+use Rattle.papaya_schedules.specs.Moment.{Moment, UnderWay as CallThere}
+use Rattle.papaya_executor.specs.IsAt.{Scene}
+use Rattle.papaya_executor.specs.Stepping.{scene_after}
+use Rattle.papaya_effects.specs.Effects.{effects_of, known_after}
+use Rattle.papaya_effects.specs.Known.{Known}
+use Rattle.papaya_moments.specs.Whole.{ShowsWhole}
+use Rattle.papaya_moments.proofs.After.{effects_after}
+use Rattle.papaya_moments.proofs.NewMaps.{effects_keep_pairs}
+use Rattle.papaya_moments.proofs.Numbers.{numbers_are_below, steps_keep_numbers}
+use Rattle.papaya_kept.proofs.Calls.{calls_keep_kept}
+use Rattle.papaya_owes.proofs.Calls.{calls_keep_made}
+use Rattle.papaya_owes.proofs.Looking.Calls.{calls_keep_looking}
+use Rattle.papaya_settles.proofs.Calls.{calls_keep_counts}
+use Rattle.papaya_shards.proofs.ShardCalls.{calls_keep_counters}
+use Rattle.papaya_histories.specs.AsCalled.{ShowsAsCalled}
+use Rattle.papaya_histories.specs.Due.{ShowsDue}
+use Rattle.papaya_histories.specs.InEvent.{here_of}
+use Rattle.papaya_histories.proofs.Questions.{events_keep_questions}
+use Rattle.papaya_histories.proofs.AnyCall.InEvent.{events_keep_all}
+use Rattle.papaya_finds.specs.Life.{StoresOne}
+use Rattle.papaya_finds.proofs.Quiet.{several_store_one}
+use Rattle.papaya_finds.proofs.Steps.{steps_store_one}
+use Rattle.papaya_promises.specs.Reading.{LookupsStay}
+use Rattle.papaya_legal.specs.CallEvents.{CallEventsEnd}
+use Rattle.papaya_schedules.specs.declared.outcome.Outcome.{Outcome}
+use Rattle.papaya_moments.specs.Numbers.{NumbersMaps, PairsAreBelow}
+use Rattle.papaya_follows.specs.Calling.{come_to, NoneNamed}
+use Rattle.papaya_others.specs.Elsewhere.{HasSame}
+use Rattle.papaya_histories.proofs.AnyCall.Over.{events_are_over, like_over, none_named}
+use Rattle.papaya_purposes.proofs.Between.{events_keep_purposes}
+use Rattle.papaya_purposes.proofs.Elsewhere.{purposes_stay}
+use Rattle.papaya_kept.proofs.Stays.{stays_kept, calls_come_to_kept}
+use Rattle.papaya_owes.proofs.Aside.{stays_made}
+use Rattle.papaya_owes.proofs.Between.{calls_come_to_made}
+use Rattle.papaya_owes.proofs.Looking.Between.{stays_looking, calls_come_to_looking}
+use Rattle.papaya_settles.proofs.Between.{stays_counts, calls_come_to_counts}
+use Rattle.papaya_shards.proofs.ShardBetween.{counters_stay, calls_come_to_counters}
+use Rattle.papaya_promises.proofs.Brief.Stays.{events_keep_readings, readings_stay}
+use Rattle.papaya_finds.specs.Within.{GoesInOrder}
+use Rattle.papaya_finds.proofs.Runs.{events_keep_order}
+use Rattle.papaya_finds.proofs.Closed.{over_stays_back}
+use Rattle.papaya_runs.specs.Same.{is_same}
+use Rattle.papaya_legal.proofs.Maps.{stands_so}
+use Rattle.papaya_effects.specs.declared.acting.Acting.TheVariants as acts
+
+-- numbers of maps are those after its effects
+module _ {K V : Type 0} (log : List (Entry K V)) (own : List ℕ) (outcome : Outcome V) (steps : ℕ) (effects : List Effect) where
+  abbrev entry_as : Event K V → Entry K V
+  entry_as event = record { event = event; outcome = outcome; steps = steps; effects = effects }
+
+  abbrev Numbered : Moment K V → Type 0
+  Numbered x = NumbersMaps x × PairsAreBelow x
+
+  numbers_over : (event : Event K V) → caller_of event ≡ Some own → Numbered (worked (entry_as event) (moment log)) → Numbered (after (entry_as event) (moment log))
+  numbers_over (OneCall guard map call) is numbers = (record { found = numbers.0.found; below = numbers.0.below; tables = numbers.0.tables }, numbers.1)
+  numbers_over (Step caller refuse) is numbers = (record { found = numbers.0.found; below = numbers.0.below; tables = numbers.0.tables }, numbers.1)
+  numbers_over (Go caller refuse) is numbers = (record { found = numbers.0.found; below = numbers.0.below; tables = numbers.0.tables }, numbers.1)
+  numbers_over (Next caller) is numbers = (record { found = numbers.0.found; below = numbers.0.below; tables = numbers.0.tables }, numbers.1)
+  numbers_over _ is numbers = absurd (cc is)
+
+pub call_events_end_so : (K V S : Type 0) (same : K → K → Bool) (hash : K → ℕ) → CallEventsEnd K V S same hash
+call_events_end_so K V S same hash name terms log beginning map i c first before run steps done m known s u e midst old new at said leads begins acted effects_are comes ends right but still reclaims purposes reading sections follows = record {
+  calls = record {
+    whole = over.0;
+    numbers = numbers_over log (name i) e.outcome e.steps e.effects e.event midst.of_call (subst (λ (x : Moment K V). NumbersMaps x × PairsAreBelow x) (sym worked_is) numbers);
+    kept = stays_kept K V name come last then_known s2 s2
+        (calls_come_to_kept K V same name v then_known s2 all.0 (calls_keep_kept K V S same hash name m known s old new at whole midst.calls.kept map i u here said leads) (name i) e.outcome e.steps none)
+        alike.calls alike.tables (ap (λ (x : Moment K V). x.deferred) worked_is) alike.place refl refl refl;
+    made = stays_made K V name come last then_known s2 s2
+        (calls_come_to_made K V same name v then_known s2 all.0 (calls_keep_made K V S same hash name m known s old new at whole midst.calls.made map i u here said leads).1 (name i) e.outcome e.steps none)
+        alike.calls refl;
+    counts = stays_counts K V name come last s2 s2
+        (calls_come_to_counts K V same name v then_known s2 all.0 (calls_keep_counts K V S same hash name m known s old new at whole midst.calls.counts map i u here said leads).1 (name i) e.outcome e.steps none)
+        alike.calls refl;
+    looking = stays_looking K V name come last s2 s2
+        (calls_come_to_looking K V same name v then_known s2 all.0 (calls_keep_looking K V S same hash name m known s old new at whole midst.calls.looking map i u here said leads).1 (name i) e.outcome e.steps none)
+        alike.calls refl;
+    counters = counters_stay K V name come last s2 s2
+        (calls_come_to_counters K V same name v then_known s2 all.0 (calls_keep_counters K V S same hash name m known s old new at whole midst.calls.counts midst.calls.counters map i u here said leads) (name i) e.outcome
+        e.steps none)
+        alike.calls (ap (λ (x : Moment K V). x.shards) worked_is) refl refl refl (λ of j x is removed adds. (x, is, adds));
+    dues = over.1;
+    as_called = over.2;
+    questions = events_keep_questions K V log e run.calls.questions still;
+    purposes = events_keep_purposes K V same name log e then_known s2 ((purposes_stay K V S same hash name log).alike come last then_known s2 purposes alike);
+  };
+  reading = events_keep_readings K V name log e (λ j. 0) last s2 (readings_stay K V name log (λ j. 0) (λ j. 0) come last s2 s2 stay reading);
+  sections = sections;
+  follows = follows;
+  order = events_keep_order K V terms log e goes run.order;
+  over = over_stays_back K V terms log e goes reclaims run.over;
+}
+  where
+    abbrev whole : ShowsWhole same name m known s
+    whole = midst.calls.whole
+
+    abbrev here : s.calls map i ≡ Some u
+    here = here_of same name log beginning map i c done m known s u midst.event_so
+
+    abbrev effects : List Effect
+    effects = effects_of (acts.Call i map) known new.memory.changed
+
+    abbrev v : Moment K V
+    v = with_effects (Some (name i)) (Some map) effects m
+
+    abbrev then_known : Known
+    then_known = known_after (acts.Call i map) new.memory.changed known
+
+    abbrev s2 : Scene K V
+    s2 = scene_after same hash s old new map i (leads map u here).0 u (leads map u here).1 said (leads map u here).4
+
+    abbrev come : Moment K V
+    come = come_to (name i) e.outcome e.steps v
+
+    abbrev last : Moment K V
+    last = after e (moment log)
+
+    all : ShowsWhole same name v then_known s2 × ShowsDue same name log v then_known s2 × ShowsAsCalled same name v then_known s2
+    all = events_keep_all K V S same hash name log beginning map i c done m known s u midst.event_so old new at said leads
+
+    over : ShowsWhole same name last then_known s2 × ShowsDue same name (e ∷ log) last then_known s2 × ShowsAsCalled same name last then_known s2
+    over = events_are_over K V S same hash name log beginning map i c done m known s u midst.event_so old new at said leads e midst.of_call begins acted effects_are comes ends
+
+    none : ends_call e.outcome ≡ true → NoneNamed name (name i) s2
+    none = none_named same hash name log m known s midst.calls.dues map i u here old new said leads e ends
+
+    worked_so : v ≡ with_effects (Some (name i)) (Some map) e.effects beginning
+    worked_so = ap (λ (x : Moment K V). with_effects (Some (name i)) (Some map) effects x) midst.worked ∙ sym (effects_after (Some (name i)) (Some map) done effects beginning)
+        ∙ ap (λ (fs : List Effect). with_effects (Some (name i)) (Some map) fs beginning) (sym effects_are)
+
+    worked_is : worked e (moment log) ≡ v
+    worked_is = ap (λ (b : Moment K V). with_effects (caller_of e.event) (acted_on e.event b) e.effects b) begins
+        ∙ ap (λ (o : Option ℕ). with_effects (caller_of e.event) o e.effects beginning) acted
+        ∙ ap (λ (who : Option (List ℕ)). with_effects who (Some map) e.effects beginning) midst.of_call ∙ sym worked_so
+
+    alike : HasSame come last
+    alike = like_over log e (name i) v midst.of_call worked_is
+
+    -- the map of the call was made
+    below : map < m.made
+    below =
+        let there = (whole.all.shown.maps map (leads map u here).0 (leads map u here).2).there in numbers_are_below K V m midst.calls.numbers.0 map there.there there.is
+
+    numbers : NumbersMaps v × PairsAreBelow v
+    numbers = (
+      steps_keep_numbers K V m midst.calls.numbers.0 (Some (name i)) (Some map) (acts.Call i map) known new.memory.changed below,
+      effects_keep_pairs K V m midst.calls.numbers.1 (Some (name i)) (Some map) effects (λ n is. let one : map ≡ n = cc is in subst (λ (k : ℕ). k < m.made) one below),
+    )
+
+    stay : LookupsStay name (λ j. 0) come s2 (λ j. 0) last s2
+    stay = record {
+      calls = λ n j x is d d_is d_looks.
+          (is, d, ap (λ (calls : List (CallThere K V)). find (λ (y : CallThere K V). is_same y.caller (name j)) calls) (sym alike.calls) ∙ d_is, d_looks, refl, refl);
+      maps = λ n j x is st there. stands_so s2.maps n st there;
+    }
+
+    stored : AtEachEffect (StoresOne (Some (name i))) (Some (name i)) (Some map) e.effects beginning
+    stored = subst (λ (fs : List Effect). AtEachEffect (StoresOne (Some (name i))) (Some (name i)) (Some map) fs beginning) (sym effects_are)
+        (several_store_one K V (name i) map done effects beginning midst.stores
+        (subst (λ (x : Moment K V). AtEachEffect (StoresOne (Some (name i))) (Some (name i)) (Some map) effects x) midst.worked
+            (steps_store_one K V S same hash name m known s old new at whole map i u here said leads)))
+
+    goes : GoesInOrder terms log e
+    goes = record {
+      right = right;
+      life = but.life;
+      stores = subst (λ (b : Moment K V). AtEachEffect (StoresOne (caller_of e.event)) (caller_of e.event) (acted_on e.event b) e.effects b) (sym begins)
+          (subst (λ (o : Option ℕ). AtEachEffect (StoresOne (caller_of e.event)) (caller_of e.event) o e.effects beginning) (sym acted)
+          (subst (λ (who : Option (List ℕ)). AtEachEffect (StoresOne who) who (Some map) e.effects beginning) (sym midst.of_call) stored));
+    }
