@@ -127,6 +127,10 @@ module _ {K V S : Type 0} where
     pub maps : new.maps.items ≡ old.maps.items
     pub slots : new.slots.items ≡ old.slots.items
 
+  -- what an executor was given stays: the hasher, the size of batches, the number of roots
+  abbrev pub KeepsGiven : Executor K V S → Executor K V S → Type 0
+  KeepsGiven old new = (new.hasher ≡ old.hasher) × (new.batch_size ≡ old.batch_size) × (new.roots ≡ old.roots)
+
 module _ {K V S : Type 0} (same : K → K → Bool) (hash : K → ℕ) where
   -- The executor is there: it has the memory, the settings of the maps that stand, of each caller what it has under way, and of each slot how it is used;
   -- all keys have one hash. A row is under way where a caller has one, and works on its slot.

@@ -1,6 +1,6 @@
 //! A step of the making of a map.
 ghost use Rattle.std.specs.Prelude.{◌≡◌, ◌<◌, ℕ, Bool, length};
-ghost use Rattle.papaya_executor.specs.IsAt.{Scene, IsAt, IsMaking, worker_of};
+ghost use Rattle.papaya_executor.specs.IsAt.{Scene, IsAt, IsMaking, KeepsGiven, worker_of};
 ghost use Rattle.papaya_executor.specs.Making.{making_on, maps_on, MakingLeads};
 
 use crate::executor::Executor;
@@ -46,6 +46,7 @@ impl<K: Drop, V: Drop, S> Executor<K, V, S> {
         requires { (same : K → K → Bool) × (hash : K → ℕ) × (s : Scene K V) × IsAt same hash self.old s × IsMaking s caller }
         ensures leads { (same : K → K → Bool) (hash : K → ℕ) (s : Scene K V) → IsAt same hash self.old s → MakingLeads same hash caller result s self.old self.new }
         ensures numbers { length self.new.maps.items ≡ length self.old.maps.items }
+        ensures given { KeepsGiven self.old self.new }
     {
         let place = (caller / SLOTS) as usize;
         let TakenMaking {

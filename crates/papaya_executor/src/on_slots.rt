@@ -3,7 +3,7 @@ ghost use Rattle.std.specs.Prelude.{◌≡◌, ◌<◌, ◌+◌, ◌*◌, ℕ, B
 ghost use Rattle.seize.specs.World.{MayStep, Registers, Enters, Settles, Leaves, Frees};
 ghost use Rattle.papaya_tables.specs.Nodes.{deferred_word};
 ghost use Rattle.papaya_executor.specs.Beginning.{IsRefused, HasNoPlace};
-ghost use Rattle.papaya_executor.specs.IsAt.{Scene, IsAt, row_of, work_of, worker_of};
+ghost use Rattle.papaya_executor.specs.IsAt.{Scene, IsAt, KeepsGiven, row_of, work_of, worker_of};
 ghost use Rattle.papaya_executor.specs.OnSlots.{row_on, RowSteps, RowBegins, RowLeads};
 ghost use Rattle.papaya_executor.specs.Rows.{uses_begun, uses_after};
 ghost use Rattle.papaya_executor.specs.declared.row.SlotRow.{SlotRow};
@@ -159,6 +159,7 @@ impl<K: Drop, V: Drop, S> Executor<K, V, S> {
         requires { slot < SLOTS }
         ensures number { IfOk result (λ caller. caller ≡ length self.old.workers.items * SLOTS + slot) }
         ensures leads { IfOk result (λ caller. (same : K → K → Bool) (hash : K → ℕ) (s : Scene K V) → IsAt same hash self.old s → RowBegins same hash called caller s self.old self.new) }
+        ensures given { KeepsGiven self.old self.new }
         ensures refused { IfErr result (λ error. IsRefused self.old self.new) }
         ensures only { OnErr result (HasNoPlace self.old) }
     {
@@ -176,7 +177,8 @@ impl<K: Drop, V: Drop, S> Executor<K, V, S> {
     /// Takes the next step of the row that a caller has under way on its slot: at most one operation. One that has ended is under way no more.
     pub fn step_on_slot(&mut self, caller: u64) -> RowTold<Node<K, V>>
         requires { (same : K → K → Bool) × (hash : K → ℕ) × (s : Scene K V) × IsAt same hash self.old s × (row : SlotRow) × (work_of self.old caller ≡ Some (OnSlot row)) }
-        ensures { (same : K → K → Bool) (hash : K → ℕ) (s : Scene K V) → IsAt same hash self.old s → RowLeads same hash caller result s self.old self.new }
+        ensures leads { (same : K → K → Bool) (hash : K → ℕ) (s : Scene K V) → IsAt same hash self.old s → RowLeads same hash caller result s self.old self.new }
+        ensures given { KeepsGiven self.old self.new }
     {
         let place = (caller / SLOTS) as usize;
         let TakenRow { slot, row } = take_row(&mut self.workers, place);

@@ -1,6 +1,6 @@
 //! What a call is told, and what it is asked for.
-ghost use Rattle.std.specs.Prelude.{◌≡◌, ◌<◌, ℕ, Bool, length, Some};
-ghost use Rattle.papaya_executor.specs.IsAt.{Scene, IsAt, HasCall, worker_with};
+ghost use Rattle.std.specs.Prelude.{◌<◌, ℕ, Bool, length, Some};
+ghost use Rattle.papaya_executor.specs.IsAt.{Scene, IsAt, HasCall, KeepsGiven, worker_with};
 ghost use Rattle.papaya_executor.specs.Replying.{PutBack, ReplyLeads, AskLeads};
 
 use crate::executor::Executor;
@@ -21,7 +21,8 @@ impl<K: Drop, V: Drop, S> Executor<K, V, S> {
     /// Tells the call of a caller what it asks for. It hands back a reply that the call does not take, which goes on as it was.
     pub fn reply(&mut self, caller: u64, reply: Reply<V>) -> Result<(), Reply<V>>
         requires { (same : K → K → Bool) × (hash : K → ℕ) × (s : Scene K V) × IsAt same hash self.old s × HasCall s caller }
-        ensures { (same : K → K → Bool) (hash : K → ℕ) (s : Scene K V) → IsAt same hash self.old s → ReplyLeads same hash caller reply result s self.old self.new }
+        ensures leads { (same : K → K → Bool) (hash : K → ℕ) (s : Scene K V) → IsAt same hash self.old s → ReplyLeads same hash caller reply result s self.old self.new }
+        ensures given { KeepsGiven self.old self.new }
     {
         let place = (caller / SLOTS) as usize;
         let TakenCall {
@@ -38,7 +39,7 @@ impl<K: Drop, V: Drop, S> Executor<K, V, S> {
     pub fn next(&mut self, caller: u64) -> bool
         requires { (same : K → K → Bool) × (hash : K → ℕ) × (s : Scene K V) × IsAt same hash self.old s × HasCall s caller }
         ensures leads { (same : K → K → Bool) (hash : K → ℕ) (s : Scene K V) → IsAt same hash self.old s → AskLeads same hash caller result s self.old self.new }
-        ensures hasher { self.new.hasher ≡ self.old.hasher }
+        ensures given { KeepsGiven self.old self.new }
     {
         let place = (caller / SLOTS) as usize;
         let TakenCall {

@@ -5,7 +5,7 @@ ghost use Rattle.seize_words.specs.Plan.{May};
 ghost use Rattle.papaya_raw.specs.Machine.{machine_plan};
 ghost use Rattle.papaya_teller.specs.Tells.{StepsTold};
 ghost use Rattle.papaya_teller.specs.declared.changed.Changed.TheVariants.{Nothing};
-ghost use Rattle.papaya_executor.specs.IsAt.{Scene, IsAt, HasCall, worker_with};
+ghost use Rattle.papaya_executor.specs.IsAt.{Scene, IsAt, HasCall, KeepsGiven, worker_with};
 ghost use Rattle.papaya_executor.specs.Stepping.{going_on, SteppedAs, StepLeads};
 
 use crate::executor::Executor;
@@ -70,7 +70,7 @@ impl<K: Eq + Hash + Drop, V: Drop, S: Hashes<K>> Executor<K, V, S> {
     pub fn step(&mut self, caller: u64) -> Progress<Node<K, V>>
         requires { (s : Scene K V) × IsAt K.eq (S.hash self.old.hasher) self.old s × HasCall s caller }
         ensures leads { (s : Scene K V) → IsAt K.eq (S.hash self.old.hasher) self.old s → StepLeads K.eq (S.hash self.old.hasher) caller result s self.old self.new }
-        ensures hasher { self.new.hasher ≡ self.old.hasher }
+        ensures given { KeepsGiven self.old self.new }
     {
         let place = (caller / SLOTS) as usize;
         let TakenCall { slot, map, machine } = take_call(&mut self.workers, place);

@@ -1,7 +1,7 @@
 //! A walk is given up.
 ghost use Rattle.std.specs.Prelude.{◌≡◌, ℕ, Bool};
 ghost use Rattle.papaya_raw.specs.Machine.{machine_asked};
-ghost use Rattle.papaya_executor.specs.IsAt.{Scene, IsAt, HasCall, worker_with};
+ghost use Rattle.papaya_executor.specs.IsAt.{Scene, IsAt, HasCall, KeepsGiven, worker_with};
 ghost use Rattle.papaya_executor.specs.Replying.{StopLeads, unless_stopped};
 
 use crate::executor::Executor;
@@ -39,7 +39,8 @@ impl<K: Drop, V: Drop, S> Executor<K, V, S> {
     /// Gives the walk of a caller up, and answers whether it was ready. Any other call goes on as it was.
     pub fn stop(&mut self, caller: u64) -> bool
         requires { (same : K → K → Bool) × (hash : K → ℕ) × (s : Scene K V) × IsAt same hash self.old s × HasCall s caller }
-        ensures { (same : K → K → Bool) (hash : K → ℕ) (s : Scene K V) → IsAt same hash self.old s → StopLeads same hash caller result s self.old self.new }
+        ensures leads { (same : K → K → Bool) (hash : K → ℕ) (s : Scene K V) → IsAt same hash self.old s → StopLeads same hash caller result s self.old self.new }
+        ensures given { KeepsGiven self.old self.new }
     {
         let place = (caller / SLOTS) as usize;
         let TakenCall { slot, map, machine } = take_call(&mut self.workers, place);

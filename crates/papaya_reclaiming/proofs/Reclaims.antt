@@ -22,7 +22,7 @@ use Rattle.papaya_reclaims.proofs.Promised.{reclaiming_begins, reclaiming_stands
 use Rattle.papaya_executor.specs.declared.executor.Executor.{Executor}
 use Rattle.papaya_executor.specs.declared.row.SlotUse.{SlotUse}
 use Rattle.papaya_executor.specs.declared.worker.Work.{Work}
-use Rattle.papaya_executor.specs.IsAt.{Scene, IsAt, HasRow, IsUsedAs, slot_of, call_in, making_in, ending_in}
+use Rattle.papaya_executor.specs.IsAt.{Scene, IsAt, KeepsGiven, HasRow, IsUsedAs, slot_of, call_in, making_in, ending_in}
 use Rattle.papaya_executor.proofs.Forgotten.{as_step}
 use Rattle.papaya_executor.proofs.Places.{none_of}
 use Rattle.papaya_executor.proofs.Steps.{same_map_keeps}
@@ -140,3 +140,18 @@ module _ {K V S : Type 0} (same : K → K → Bool) (hash : K → ℕ) (e : Exec
 
     pub leads : ReclaimingLeads same hash s i lists e e2 all after told
     leads = subst LeadsIn (sym (same_memory told leaves)) (steps, did, by_told told refl leaves)
+
+-- a step in the memory alone, and what it leaves then, keep what the executor was given
+module _ {K V S : Type 0} (e mid e2 : Executor K V S) where
+  given_by : e2 ≡ record mid { slots = e2.slots } → mid ≡ record e { memory = mid.memory } → KeepsGiven e e2
+  given_by left rest =
+      (ap (λ x. x.hasher) left ∙ ap (λ x. x.hasher) rest, ap (λ x. x.batch_size) left ∙ ap (λ x. x.batch_size) rest, ap (λ x. x.roots) left ∙ ap (λ x. x.roots) rest)
+
+  given_by_none : e2 ≡ mid → mid ≡ record e { memory = mid.memory } → KeepsGiven e e2
+  given_by_none left rest = given_by (left ∙ sym (ap (λ x. record mid { slots = x.slots }) left)) rest
+
+  pub given_then : (told : Settled (Node K V)) → mid ≡ record e { memory = mid.memory } → Leaves mid e2 told → KeepsGiven e e2
+  given_then settled.Done rest left = given_by left.2 rest
+  given_then settled.Goes rest left = given_by_none left rest
+  given_then settled.Waits rest left = given_by_none left rest
+  given_then (settled.Gave value) rest left = given_by_none left rest

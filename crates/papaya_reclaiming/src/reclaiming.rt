@@ -1,6 +1,6 @@
 //! All that waits is reclaimed, one step at a time.
 ghost use Rattle.std.specs.Prelude.{◌≡◌, ℕ, Bool, List};
-ghost use Rattle.papaya_executor.specs.IsAt.{Scene, IsAt};
+ghost use Rattle.papaya_executor.specs.IsAt.{Scene, IsAt, KeepsGiven};
 ghost use Rattle.papaya_reclaiming.specs.Reclaiming.{NobodyHas, MayReclaim, IsReclaiming, Leaves, ReclaimingLeads};
 
 use papaya_executor::executor::Executor;
@@ -40,8 +40,9 @@ impl Reclaiming {
     /// Takes the next step: at most one operation. Once it is over no slot is in use.
     pub fn step<K, V, S>(&mut self, executor: &mut Executor<K, V, S>) -> Settled<Node<K, V>>
         requires { (same : K → K → Bool) × (hash : K → ℕ) × (s : Scene K V) × (i : ℕ) × (lists : ℕ → List ℕ) × IsReclaiming same hash executor.old s i lists self.old.all }
-        ensures { (same : K → K → Bool) (hash : K → ℕ) (s : Scene K V) (i : ℕ) (lists : ℕ → List ℕ) → IsReclaiming same hash executor.old s i lists self.old.all
+        ensures leads { (same : K → K → Bool) (hash : K → ℕ) (s : Scene K V) (i : ℕ) (lists : ℕ → List ℕ) → IsReclaiming same hash executor.old s i lists self.old.all
             → ReclaimingLeads same hash s i lists executor.old executor.new self.old.all self.new.all result }
+        ensures given { KeepsGiven executor.old executor.new }
     {
         let told = executor.step_nobodys(&mut self.all);
         leave(executor, &told);

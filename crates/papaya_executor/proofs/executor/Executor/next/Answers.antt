@@ -12,5 +12,5 @@ returns-clause-leads g c = λ same hash s at.
     ask_leads same hash _ s at c.args.caller _ _ refl c.take_call-slot.ensures.after refl refl refl refl refl _ _ _ c.take_call-slot.ensures.before _ c.put_back.ensures
     c.next-ready.result c.next-ready.ensures
 
-pub returns-clause-hasher : goal.returns-clause-hasher
-returns-clause-hasher g c = c.put_back.ensures.1.hasher
+pub returns-clause-given : goal.returns-clause-given
+returns-clause-given g c = (c.put_back.ensures.1.hasher, c.put_back.ensures.1.batch_size, c.put_back.ensures.1.roots)

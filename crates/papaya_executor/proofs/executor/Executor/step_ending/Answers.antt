@@ -12,8 +12,8 @@ pub step_telling-told-requires : goal.step_telling-told-requires
 step_telling-told-requires g c =
     may_taken c.requires.0 c.requires.1 _ _ c.requires.3 c.args.caller c.requires.4 _ c.take_ending-slot.result.ending c.take_ending-slot.ensures.before
 
-pub returns : goal.returns
-returns g c = λ same hash s at f here.
+pub returns-clause-leads : goal.returns-clause-leads
+returns-clause-leads g c = λ same hash s at f here.
     ending_leads same hash _ s at c.args.caller f here _ _ c.step_telling-told.result _ c.take_ending-slot.result.ending
     (taken_ending same hash _ s at c.args.caller f here _ c.take_ending-slot.result.ending c.take_ending-slot.ensures.before)
     c.take_ending-slot.ensures.there c.step_telling-told.ensures

@@ -14,8 +14,8 @@ pub step_row-row-requires : goal.step_row-row-requires
 step_row-row-requires g c =
     may_taken c.requires.0 c.requires.1 _ _ c.requires.3 c.args.caller c.requires.4 c.requires.5 _ c.take_row-slot.result.row c.take_row-slot.ensures.before
 
-pub returns : goal.returns
-returns g c = λ same hash s at row here.
+pub returns-clause-leads : goal.returns-clause-leads
+returns-clause-leads g c = λ same hash s at row here.
     row_leads same hash _ s at c.args.caller row here _ _ _ _ c.take_row-slot.result.row
     (taken_row same hash _ s at c.args.caller row here _ c.take_row-slot.result.row c.take_row-slot.ensures.before)
     c.take_row-slot.ensures.there c.step_row-row.ensures

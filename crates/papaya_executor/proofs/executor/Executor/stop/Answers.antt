@@ -10,8 +10,8 @@ use Rattle.papaya_executor.proofs.executor.Executor.stop.Goals as goal
 pub take_call-slot-requires : goal.take_call-slot-requires
 take_call-slot-requires g c = has_place _ _ _ _ c.requires.3 c.args.caller c.requires.4
 
-pub returns : goal.returns
-returns g c = λ same hash s at m u here.
+pub returns-clause-leads : goal.returns-clause-leads
+returns-clause-leads g c = λ same hash s at m u here.
     stop_leads same hash c.args.self.now s at m c.args.caller u here _ refl _ _ c.take_call-slot.result.machine
     (taken_call same hash _ s at c.args.caller m u here _ _ c.take_call-slot.result.machine c.take_call-slot.ensures.before) c.is_ready-ready.result c.is_ready-ready.ensures
     (set_there c.args.self.now _ (place_of c.args.caller) _ c.take_call-slot.ensures.there

@@ -1,10 +1,13 @@
 -- A step of it.
-use Rattle.papaya_reclaiming.proofs.Reclaims.{may_step, leads}
+use Rattle.papaya_reclaiming.proofs.Reclaims.{may_step, leads, given_then}
 use Rattle.papaya_reclaiming.proofs.reclaiming.Reclaiming.step.Goals as goal
 
 pub step_nobodys-told-requires : goal.step_nobodys-told-requires
 step_nobodys-told-requires g c = may_step c.requires.0 c.requires.1 _ _ c.requires.3 c.requires.4 _ c.requires.5
 
-pub returns : goal.returns
-returns g c = λ same hash s i lists at.
+pub returns-clause-leads : goal.returns-clause-leads
+returns-clause-leads g c = λ same hash s i lists at.
     leads same hash _ s i lists _ at _ _ c.step_nobodys-told.result c.step_nobodys-told.ensures.told c.step_nobodys-told.ensures.rest _ c.leave.ensures
+
+pub returns-clause-given : goal.returns-clause-given
+returns-clause-given g c = given_then _ _ _ c.step_nobodys-told.result c.step_nobodys-told.ensures.rest c.leave.ensures
