@@ -2,24 +2,24 @@
 use Rattle.std.specs.Prelude.{◌≡◌, ℕ, Bool, true, List, [], ◌∷◌, find, Option, None}
 use Rattle.std.specs.List.{list_all}
 use Rattle.std.proofs.Common.{refl, ap, sym, subst, ◌∙◌, inl}
-use Rattle.papaya_runs.specs.Same.{is_same}
-use Rattle.papaya_schedules.specs.declared.effect.Effect.{Effect}
-use Rattle.papaya_schedules.specs.declared.effect.Effect.TheVariants.{Asked, Reclaimed}
-use Rattle.papaya_schedules.specs.declared.effect.Growth.TheVariants.{ABucket}
-use Rattle.papaya_schedules.specs.declared.event.Event.{Event}
-use Rattle.papaya_schedules.specs.declared.event.Event.TheVariants.{Register, Unregister, Enter, Own, Refresh, Flush, DropGuard, ReclaimAll, Close}
-use Rattle.papaya_schedules.specs.declared.outcome.Outcome.{Outcome}
-use Rattle.papaya_schedules.specs.After.{after, moment}
-use Rattle.papaya_schedules.specs.Beginning.{at_work}
-use Rattle.papaya_schedules.specs.Effects.{with_effect, with_effects, AtEachEffect, worked}
-use Rattle.papaya_schedules.specs.Entry.{Entry, IfCall, acted_on, acting, caller_of}
-use Rattle.papaya_schedules.specs.Handing.{asks_for_bucket, is_only, is_reclaiming, may_do}
-use Rattle.papaya_schedules.specs.Moment.{UnderWay as CallThere, Moment}
-use Rattle.papaya_effects.specs.Known.{Known}
-use Rattle.papaya_executor.specs.IsAt.{Scene}
-use Rattle.papaya_others.specs.Elsewhere.{HasSame}
-use Rattle.papaya_moments.specs.Numbers.{NumbersMaps, PairsAreBelow}
-use Rattle.papaya_moments.specs.Whole.{ShowsWhole}
+use Rattle.papaya_histories.specs.Given.Runs.Same.{is_same}
+use Rattle.papaya_histories.specs.Given.Schedules.declared.effect.Effect.{Effect}
+use Rattle.papaya_histories.specs.Given.Schedules.declared.effect.Effect.TheVariants.{Asked, Reclaimed}
+use Rattle.papaya_histories.specs.Given.Schedules.declared.effect.Growth.TheVariants.{ABucket}
+use Rattle.papaya_histories.specs.Given.Schedules.declared.event.Event.{Event}
+use Rattle.papaya_histories.specs.Given.Schedules.declared.event.Event.TheVariants.{Register, Unregister, Enter, Own, Refresh, Flush, DropGuard, ReclaimAll, Close}
+use Rattle.papaya_histories.specs.Given.Schedules.declared.outcome.Outcome.{Outcome}
+use Rattle.papaya_histories.specs.Given.Schedules.After.{after, moment}
+use Rattle.papaya_histories.specs.Given.Schedules.Beginning.{at_work}
+use Rattle.papaya_histories.specs.Given.Schedules.Effects.{with_effect, with_effects, AtEachEffect, worked}
+use Rattle.papaya_histories.specs.Given.Schedules.Entry.{Entry, IfCall, acted_on, acting, caller_of}
+use Rattle.papaya_histories.specs.Given.Schedules.Handing.{asks_for_bucket, is_only, is_reclaiming, may_do}
+use Rattle.papaya_histories.specs.Given.Schedules.Moment.{UnderWay as CallThere, Moment}
+use Rattle.papaya_histories.specs.Given.Effects.Known.{Known}
+use Rattle.papaya_histories.specs.Given.Executor.IsAt.{Scene}
+use Rattle.papaya_histories.specs.Given.Others.Elsewhere.{HasSame}
+use Rattle.papaya_histories.specs.Given.Moments.Numbers.{NumbersMaps, PairsAreBelow}
+use Rattle.papaya_histories.specs.Given.Moments.Whole.{ShowsWhole}
 use Rattle.papaya_kept.proofs.Stays.{stays_kept}
 use Rattle.papaya_owes.proofs.Aside.{stays_made}
 use Rattle.papaya_owes.proofs.Looking.Between.{stays_looking}
@@ -35,7 +35,7 @@ use Rattle.papaya_purposes.proofs.Elsewhere.{purposes_stay}
 use Rattle.papaya_promises.specs.Protected.{is_of_slots}
 use Rattle.papaya_promises.specs.Reading.{LookupsStay, ShowsReading}
 use Rattle.papaya_promises.proofs.Brief.Stays.{events_keep_readings, readings_stay}
-use Rattle.papaya_spots.proofs.Unreclaimed.{and_both}
+use Rattle.papaya_histories.proofs.Given.Spots.Unreclaimed.{and_both}
 use Rattle.papaya_finds.specs.Life.{StoresOne}
 use Rattle.papaya_finds.specs.Within.{GoesInOrder}
 use Rattle.papaya_finds.proofs.Closed.{over_stays_back}

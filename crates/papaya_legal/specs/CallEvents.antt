@@ -1,34 +1,34 @@
 -- Events in which a call takes steps: in the midst of one, and at its end.
 use Rattle.std.specs.Prelude.{◌≡◌, ◌≢◌, ℕ, ◌+◌, ◌==◌, Bool, true, false, List, [], ◌∷◌, ◌++◌, Some, if◌then◌else◌, not, ◌||◌, ◌⊎◌}
 use Rattle.std.specs.List.{list_all, list_any}
-use Rattle.seize.specs.World.{World, Rests, Request, Begin, Step, Happens}
-use Rattle.papaya_tables.specs.Nodes.{deferred_word}
-use Rattle.papaya_tables.specs.declared.node.Node.{Node}
-use Rattle.papaya_raw.specs.declared.machines.progress.Progress.{Progress}
-use Rattle.papaya_schedules.specs.declared.effect.Effect.{Effect}
-use Rattle.papaya_schedules.specs.declared.event.Event.{Event}
-use Rattle.papaya_schedules.specs.After.{moment, moments_from, after}
-use Rattle.papaya_schedules.specs.Beginning.{at_work}
-use Rattle.papaya_schedules.specs.Effects.{with_effects, AtEachEffect}
-use Rattle.papaya_schedules.specs.Entry.{Entry, acted_on, caller_of, ends_call, IfCall, acting, is_busy}
-use Rattle.papaya_schedules.specs.Handing.{MovesOn, is_call_effect, is_granted, LeavesOf, comes_clear, is_made, refuses}
-use Rattle.papaya_schedules.specs.InTurn.{ComesRight}
-use Rattle.papaya_schedules.specs.Linearizable.{IsLinearizable}
-use Rattle.papaya_schedules.specs.Model.{IsByModel, sets_in, things_in}
-use Rattle.papaya_schedules.specs.Moment.{UnderWay as CallThere, Moment}
-use Rattle.papaya_schedules.specs.Reclaims.{IsProtected}
-use Rattle.papaya_schedules.specs.Steps.{ReadsBriefly}
-use Rattle.papaya_schedules.specs.Effects.{worked}
-use Rattle.papaya_schedules.specs.Sweeps.{IsSwept}
-use Rattle.papaya_schedules.specs.Terms.{Terms}
-use Rattle.papaya_schedules.specs.Views.{call_of}
-use Rattle.papaya_callers.specs.Together.{UnderWay, HandsOver}
-use Rattle.papaya_effects.specs.Effects.{effects_of, known_after}
-use Rattle.papaya_effects.specs.Known.{Known}
-use Rattle.papaya_effects.specs.declared.acting.Acting.TheVariants as acts
-use Rattle.papaya_executor.specs.IsAt.{Scene, IsAt, slot_of}
-use Rattle.papaya_executor.specs.Stepping.{StepLeads, has_ended, scene_after}
-use Rattle.papaya_executor.specs.declared.executor.Executor.{Executor}
+use Rattle.papaya_histories.specs.Given.Seize.World.{World, Rests, Request, Begin, Step, Happens}
+use Rattle.papaya_histories.specs.Given.Tables.Nodes.{deferred_word}
+use Rattle.papaya_histories.specs.Given.Tables.declared.node.Node.{Node}
+use Rattle.papaya_histories.specs.Given.Raw.declared.machines.progress.Progress.{Progress}
+use Rattle.papaya_histories.specs.Given.Schedules.declared.effect.Effect.{Effect}
+use Rattle.papaya_histories.specs.Given.Schedules.declared.event.Event.{Event}
+use Rattle.papaya_histories.specs.Given.Schedules.After.{moment, moments_from, after}
+use Rattle.papaya_histories.specs.Given.Schedules.Beginning.{at_work}
+use Rattle.papaya_histories.specs.Given.Schedules.Effects.{with_effects, AtEachEffect}
+use Rattle.papaya_histories.specs.Given.Schedules.Entry.{Entry, acted_on, caller_of, ends_call, IfCall, acting, is_busy}
+use Rattle.papaya_histories.specs.Given.Schedules.Handing.{MovesOn, is_call_effect, is_granted, LeavesOf, comes_clear, is_made, refuses}
+use Rattle.papaya_histories.specs.Given.Schedules.InTurn.{ComesRight}
+use Rattle.papaya_histories.specs.Given.Schedules.Linearizable.{IsLinearizable}
+use Rattle.papaya_histories.specs.Given.Schedules.Model.{IsByModel, sets_in, things_in}
+use Rattle.papaya_histories.specs.Given.Schedules.Moment.{UnderWay as CallThere, Moment}
+use Rattle.papaya_histories.specs.Given.Schedules.Reclaims.{IsProtected}
+use Rattle.papaya_histories.specs.Given.Schedules.Steps.{ReadsBriefly}
+use Rattle.papaya_histories.specs.Given.Schedules.Effects.{worked}
+use Rattle.papaya_histories.specs.Given.Schedules.Sweeps.{IsSwept}
+use Rattle.papaya_histories.specs.Given.Schedules.Terms.{Terms}
+use Rattle.papaya_histories.specs.Given.Schedules.Views.{call_of}
+use Rattle.papaya_histories.specs.Given.Callers.Together.{UnderWay, HandsOver}
+use Rattle.papaya_histories.specs.Given.Effects.Effects.{effects_of, known_after}
+use Rattle.papaya_histories.specs.Given.Effects.Known.{Known}
+use Rattle.papaya_histories.specs.Given.Effects.declared.acting.Acting.TheVariants as acts
+use Rattle.papaya_histories.specs.Given.Executor.IsAt.{Scene, IsAt, slot_of}
+use Rattle.papaya_histories.specs.Given.Executor.Stepping.{StepLeads, has_ended, scene_after}
+use Rattle.papaya_histories.specs.Given.Executor.declared.executor.Executor.{Executor}
 use Rattle.papaya_histories.specs.InEvent.{ComesSo, InEvent, here_of}
 use Rattle.papaya_promises.specs.Protected.{InMidst}
 use Rattle.papaya_promises.specs.Reading.{ShowsReading}
@@ -43,7 +43,7 @@ use Rattle.papaya_finds.specs.Parts.{FindAll}
 use Rattle.papaya_histories.specs.Questions.{ShowsQuestions, EventAsksStill}
 use Rattle.papaya_promises.specs.Sheltered.{SectionsHold}
 use Rattle.papaya_finds.specs.Little.{ReclaimsAll}
-use Rattle.papaya_follows.specs.Calling.{come_to}
+use Rattle.papaya_histories.specs.Given.Follows.Calling.{come_to}
 use Rattle.papaya_purposes.specs.Purposes.{ShowsPurposes}
 use Rattle.papaya_models.specs.Follows.{FollowsModel}
 use Rattle.papaya_legal.specs.Carried.{ComesAlone, ShowsCalls, ShowsRun}

@@ -1,7 +1,7 @@
 //! Ends of maps begin, take steps, and run to their ends.
 ghost use Rattle.std.specs.Prelude.{◌≡◌, ◌<◌, ◌+◌, ◌*◌, ℕ, Bool, true, List, length, slice_index_or, Some, None, IfOk, IfErr};
 ghost use Rattle.papaya_schedules.specs.Moment.{Moment};
-ghost use Rattle.papaya_tables.specs.declared.setting.Setting.{Setting};
+ghost use Rattle.papaya_histories.specs.Given.Tables.declared.setting.Setting.{Setting};
 ghost use Rattle.papaya_executor.specs.Beginning.{IsRefused};
 ghost use Rattle.papaya_executor.specs.Ending.{EndingLeads};
 ghost use Rattle.papaya_executor.specs.IsAt.{Scene, IsAt, IsEnding};

@@ -5,3 +5,4 @@ pub mod Ends
 mod OtherMaps
 mod Samples
 pub mod Laws
+pub mod Given

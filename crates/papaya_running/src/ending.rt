@@ -1,7 +1,7 @@
 //! What a run tells at its end: the pairs of maps that live, and those that are in the memory still.
 ghost use Rattle.std.specs.Prelude.{◌≡◌, ◌≢◌, ◌≤◌, ℕ, map, Some, IfOk};
 ghost use Rattle.seize_words.specs.Mem.{value_at};
-ghost use Rattle.papaya_tables.specs.declared.node.Node.TheVariants as node;
+ghost use Rattle.papaya_histories.specs.Given.Tables.declared.node.Node.TheVariants as node;
 ghost use Rattle.papaya_effects.specs.Known.{known};
 ghost use Rattle.papaya_effects.specs.declared.role.Role.TheVariants.{Free};
 ghost use Rattle.papaya_running.specs.Ending.{HoldPairs, noted_below, shown_of, told_map};

@@ -11,9 +11,9 @@ use Rattle.papaya_schedules.specs.Effects.{AtEachEffect, with_effects}
 use Rattle.papaya_schedules.specs.Entry.{Entry}
 use Rattle.papaya_schedules.specs.Moment.{Moment}
 use Rattle.papaya_schedules.specs.Terms.{Terms}
-use Rattle.papaya_spots.specs.OnSlots.{WaitUnreclaimed}
-use Rattle.papaya_moments.specs.OnSlots.{HadRetired}
-use Rattle.papaya_moments.specs.Whole.{ShowsWhole}
+use Rattle.papaya_histories.specs.Given.Spots.OnSlots.{WaitUnreclaimed}
+use Rattle.papaya_histories.specs.Given.Moments.OnSlots.{HadRetired}
+use Rattle.papaya_histories.specs.Given.Moments.Whole.{ShowsWhole}
 use Rattle.papaya_kept.specs.Kept.{ShowsKept}
 use Rattle.papaya_logged.specs.declared.logged.Logged.{Logged}
 use Rattle.papaya_effects.specs.Known.{Known, known}

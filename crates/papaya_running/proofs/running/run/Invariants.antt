@@ -1,6 +1,6 @@
 -- Nothing has happened yet; and then the events so far have.
 use Rattle.std.specs.Prelude.{◌≡◌, ◌++◌, ◌%◌, ◌^◌, ℕ, Bool, List, [], fold}
-use Rattle.papaya_points.specs.Steps.{AreLawful}
+use Rattle.papaya_histories.specs.Given.Points.Steps.{AreLawful}
 use Rattle.papaya_schedules.specs.declared.event.Event.{Event}
 use Rattle.papaya_schedules.specs.Moment.{start}
 use Rattle.papaya_scheduler.specs.Played.{terms_given}
