@@ -165,8 +165,8 @@ module _ {K Q : Type 0} (V : Type 0) (same : K → K → Bool) (asks : Q → K �
       | inr there ↦ subst IsNotLeft (sym (its.2.theirs x there).0) tt
     ]);
     joins = λ x on. none x on;
-    over = λ x on. (elim (some_of_first x b further on) as (λ _. (0 < times x further) ⊎ ((t : ℕ) × (f.chart.first ≤ t) × (t < f.chart.past) × (x ≡ f.blocks.table t))) [
-      | inl e ↦ inr (facts.past, its.3, its.4, e ∙ its.5)
+    over = λ x on. (elim (some_of_first x b further on) as (λ _. (0 < times x further) ⊎ ((times x f.back ≡ 0) × ((t : ℕ) × (f.chart.first ≤ t) × (t < f.chart.past) × (x ≡ f.blocks.table t)))) [
+      | inl e ↦ inr (subst (λ (y : ℕ). times y f.back ≡ 0) (sym e) fresh.0, (facts.past, its.3, its.4, e ∙ its.5))
       | inr there ↦ inl there
     ]);
   }
