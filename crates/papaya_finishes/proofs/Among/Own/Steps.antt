@@ -4,6 +4,7 @@ use Rattle.std.proofs.Common.{◌≡◌, ℕ, ◌<◌, ◌≤◌, ◌⊎◌, Boo
 use Rattle.std.proofs.lemmas.List.{append-nil}
 use Rattle.papaya_callers.specs.Given.SeizeWords.declared.at.At.TheVariants.{Used}
 use Rattle.papaya_callers.specs.Given.SeizeWords.Mem.{Mem, word_at}
+use Rattle.papaya_callers.specs.Given.Seize.Law.{With}
 use Rattle.papaya_callers.specs.Given.Seize.World.{World, Runs, Hand, InUse, IsNotLeft, times, with_at}
 use Rattle.papaya_callers.specs.Given.Seize.declared.rows.settle.Settled.{Settled}
 use Rattle.papaya_callers.specs.Given.Seize.declared.rows.settle.Settled.TheVariants as settled
@@ -13,6 +14,7 @@ use Rattle.papaya_callers.specs.Given.Tables.declared.node.Node.{Node}
 use Rattle.papaya_callers.specs.Given.Raw.declared.machines.end_map.EndMap.{EndMap}
 use Rattle.papaya_callers.specs.Given.Raw.declared.machines.end_map.Ending.{Ending}
 use Rattle.papaya_callers.specs.Given.Raw.declared.machines.end_map.Ending.TheVariants as at
+use Rattle.papaya_callers.specs.Kept.{IsPair}
 use Rattle.papaya_finishes.specs.Makings.{Beginning}
 use Rattle.papaya_finishes.specs.Maps.{Standing}
 use Rattle.papaya_callers.specs.Together.{UnderWay}
@@ -165,9 +167,9 @@ module _ {K Q : Type 0} (V : Type 0) (same : K → K → Bool) (asks : Q → K �
       | inr there ↦ subst IsNotLeft (sym (its.2.theirs x there).0) tt
     ]);
     joins = λ x on. none x on;
-    over = λ x on. (elim (some_of_first x b further on) as (λ _. (0 < times x further) ⊎ ((times x f.back ≡ 0) × ((t : ℕ) × (f.chart.first ≤ t) × (t < f.chart.past) × (x ≡ f.blocks.table t)))) [
+    over = λ x on. (elim (some_of_first x b further on) as (λ _. IsPair w x ⊎ ((times x f.back ≡ 0) × ((t : ℕ) × (f.chart.first ≤ t) × (t < f.chart.past) × (x ≡ f.blocks.table t)))) [
       | inl e ↦ inr (subst (λ (y : ℕ). times y f.back ≡ 0) (sym e) fresh.0, (facts.past, its.3, its.4, e ∙ its.5))
-      | inr there ↦ inl there
+      | inr there ↦ inl (facts.theirs facts.past x its.3 (omega arith) its.4 ((its.2.theirs x there).1 ∙ ap With its.5)).pair
     ]);
   }
   done_to past2 (JoinsPair b word) its fresh = record {
