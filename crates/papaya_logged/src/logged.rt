@@ -3,7 +3,7 @@ ghost use Rattle.std.specs.Prelude.{◌≡◌, ◌++◌, ℕ, Bool, true, List, 
 ghost use Rattle.papaya_schedules.specs.Moment.{start};
 ghost use Rattle.papaya_effects.specs.Effects.{effects_of, known_after, HasNumber};
 ghost use Rattle.papaya_effects.specs.Known.{known};
-ghost use Rattle.papaya_executor.specs.IsAt.{at_first};
+ghost use Rattle.papaya_executor.specs.IsAt.{KeepsGiven, at_first};
 ghost use Rattle.papaya_logged.specs.Choosing.{ChoiceIsShown, logged_chosen};
 ghost use Rattle.papaya_logged.specs.Shown.{IsShown};
 
@@ -54,6 +54,7 @@ impl<K, V, S> Logged<K, V, S> {
     pub fn choose(&mut self, choice: u64) -> Result<(), AllocError>
         ensures chosen { OnOk result (self.new ≡ logged_chosen choice self.old) }
         ensures shown { OnOk result (ChoiceIsShown choice self.old self.new) }
+        ensures given { KeepsGiven self.old.executor self.new.executor }
     {
         self.executor.memory.memory.choose(choice)?;
         Ok(())
