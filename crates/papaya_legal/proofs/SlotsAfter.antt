@@ -129,7 +129,7 @@ slot_events_end_so K V S same hash name terms log i called first m known before 
   calls = record {
     whole = whole_after log e.outcome e.steps e.effects same name known s c.whole e.event midst.of_slots;
     numbers = numbers_after log e.outcome e.steps e.effects e.event midst.of_slots c.numbers;
-    kept = stays_kept K V name w v known s s c.kept alike.0.calls alike.0.tables alike.1 alike.0.place refl refl refl;
+    kept = stays_kept K V name w v known s s c.kept alike.0.calls alike.0.tables alike.1 alike.0.place refl refl refl refl;
     made = stays_made K V name w v known s s c.made alike.0.calls refl;
     counts = stays_counts K V name w v s s c.counts alike.0.calls refl;
     looking = stays_looking K V name w v s s c.looking alike.0.calls refl;

@@ -117,7 +117,7 @@ module _ {K V : Type 0} (known known2 : Known) (s t : Scene K V) (enders : t.end
   taken_as i b k = record { f = k.f; ends = ap (λ (g : ℕ → Option (Finishing K V)). g i) enders ∙ k.ends; fresh = k.fresh; turn = k.turn; from = k.from; made = k.made; is = k.is }
 
   -- by the same notes
-  left_as : ((b len : ℕ) (x : Table) → known2.roles b ≡ role.Table x len → known.roles b ≡ role.Table x len) → ((b j : ℕ) → t.world.hand b ≡ LeftTo j → s.world.hand b ≡ LeftTo j) → ShowsLeft known2 t
+  pub left_as : ((b len : ℕ) (x : Table) → known2.roles b ≡ role.Table x len → known.roles b ≡ role.Table x len) → ((b j : ℕ) → t.world.hand b ≡ LeftTo j → s.world.hand b ≡ LeftTo j) → ShowsLeft known2 t
   left_as was back b len x j is left = taken_as j b (shows b len x j (was b len x is) (back b j left))
 
   -- and where somebody's own table may have been linked
