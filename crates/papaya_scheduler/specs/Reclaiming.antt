@@ -43,14 +43,6 @@ module _ {K V S : Type 0} (same : K → K → Bool) (hash : K → ℕ) where
   abbrev pub MayReclaimAll : Event K V → Scheduler K V S → Type 0
   MayReclaimAll event p = (terms : Terms) × (log : List (Entry K V)) × (due : IsDue same hash terms log event p) × MayGiveAll p due.played.scene
 
-  -- Where a table that is reclaimed was retired, and what waits behind it is not reclaimed; and what every step keeps is so once all is.
-  pub record MayComeBack (m : Moment K V) (name : ℕ → List ℕ) (did : List Effect) (new : Logged K V S) : Type 0 where
-    pub retired : AtEachEffect HadRetired None None did m
-    pub unreclaimed : AtEachEffect WaitUnreclaimed None None did m
-    pub kept : (s2 : Scene K V) → IsAt same hash new.executor s2 → ShowsWhole same name (with_effects None None did m) (known new.notes) s2
-        → ShowsKept name (with_effects None None did m) (known new.notes) s2
-
   abbrev pub PlaysGiving : Event K V → Played V → (old new : Scheduler K V S) → Type 0
   PlaysGiving event played old new =
-      (terms : Terms) (log : List (Entry K V)) (due : IsDue same hash terms log event old) → MayGiveAll old due.played.scene
-      → MayComeBack (moment log) due.played.name played.effects.items new.logged → Plays same hash terms log (entry_of event played) new
+      (terms : Terms) (log : List (Entry K V)) (due : IsDue same hash terms log event old) → MayGiveAll old due.played.scene → Plays same hash terms log (entry_of event played) new
