@@ -28,7 +28,6 @@ use Rattle.papaya_histories.specs.Given.Executor.IsAt.{Scene, IsAt, slot_of}
 use Rattle.papaya_histories.specs.Given.Executor.Stepping.{StepLeads, scene_after}
 use Rattle.papaya_histories.specs.Given.Executor.declared.executor.Executor.{Executor}
 use Rattle.papaya_histories.specs.Given.Finishes.Endings.{Finishing, finishing_of}
-use Rattle.papaya_histories.specs.Given.Finishes.Maps.{Standing}
 use Rattle.papaya_histories.proofs.Given.Follows.Steps.{WentTo, went_to, DidSo}
 use Rattle.papaya_histories.proofs.Given.Others.RowPlans.{row_tells}
 use Rattle.papaya_histories.specs.Given.Moments.Whole.{ShowsWhole}
