@@ -27,7 +27,7 @@ use Rattle.papaya_scheduler.specs.declared.played.Played.{Played}
 use Rattle.papaya_scheduler.specs.declared.scheduler.NamedMap.{NamedMap}
 use Rattle.papaya_scheduler.specs.declared.scheduler.Scheduler.{Scheduler}
 use Rattle.papaya_running.specs.Acting.{acting_of, map_acted, singles_as, traced}
-use Rattle.papaya_running.specs.Asked.{FindsRight, Happens, Holds}
+use Rattle.papaya_running.specs.Asked.{Happens, Holds}
 use Rattle.papaya_running.specs.Ending.{shown_of, told_map}
 use Rattle.papaya_running.specs.Run.{GoesRight, IsRightRun, SoFar, TellsMost, log_so}
 use Rattle.papaya_running.specs.Tally.{Tells, TellsAll, TellsMoment, counted, deferral, flag_of}

@@ -5,19 +5,10 @@ use Rattle.seize_words.specs.Mem.{Mem, word_at}
 use Rattle.seize_words.specs.declared.at.At.TheVariants.{Slot}
 use Rattle.papaya_runs.specs.Present.{Present, all_forgotten}
 use Rattle.papaya_schedules.specs.declared.event.Event.{Event}
-use Rattle.papaya_schedules.specs.declared.effect.Effect.{Effect}
-use Rattle.papaya_schedules.specs.After.{moment}
-use Rattle.papaya_schedules.specs.Effects.{AtEachEffect, with_effects}
 use Rattle.papaya_schedules.specs.Entry.{Entry}
-use Rattle.papaya_schedules.specs.Moment.{Moment}
 use Rattle.papaya_schedules.specs.Terms.{Terms}
-use Rattle.papaya_histories.specs.Given.Spots.OnSlots.{WaitUnreclaimed}
-use Rattle.papaya_histories.specs.Given.Moments.OnSlots.{HadRetired}
-use Rattle.papaya_histories.specs.Given.Moments.Whole.{ShowsWhole}
-use Rattle.papaya_kept.specs.Kept.{ShowsKept}
-use Rattle.papaya_logged.specs.declared.logged.Logged.{Logged}
 use Rattle.papaya_effects.specs.Known.{Known, known}
-use Rattle.papaya_executor.specs.IsAt.{Scene, IsAt}
+use Rattle.papaya_executor.specs.IsAt.{Scene}
 use Rattle.papaya_reclaims.specs.Reclaims.{LeftBehind}
 use Rattle.papaya_scheduler.specs.Played.{IsDue, Plays, entry_of}
 use Rattle.papaya_scheduler.specs.declared.caller.Caller.{Caller}
