@@ -1,6 +1,6 @@
 //! An event of a schedule happens.
 ghost use Rattle.std.specs.Prelude.{◌≡◌, true, false, IfOk};
-ghost use Rattle.papaya_histories.specs.Given.Executor.IsAt.{KeepsGiven};
+ghost use Rattle.papaya_histories.specs.Given.Executor.IsAt.{StaysGiven, KeepsGiven};
 ghost use Rattle.papaya_running.specs.Asked.{HappensAt, HappensDue, MayHappen, MayHappenDue, is_of_calls, is_of_maps};
 
 use papaya_raw::Hashes;
@@ -21,7 +21,7 @@ fn of_maps<K: Eq + Hash + Drop, V: Drop, S: Hashes<K>>(
     requires due { MayHappenDue K.eq (S.hash scheduler.old.logged.executor.hasher) event scheduler.old }
     requires maps { is_of_maps event ≡ true }
     ensures happens { IfOk result (λ played. HappensDue K.eq (S.hash scheduler.old.logged.executor.hasher) is_first event played scheduler.old scheduler.new) }
-    ensures given { KeepsGiven scheduler.old.logged.executor scheduler.new.logged.executor }
+    ensures given { StaysGiven scheduler.old.logged.executor scheduler.new.logged.executor }
 {
     match event {
         Event::MakeMap {
@@ -135,7 +135,7 @@ pub fn happen<K: Eq + Hash + Drop, V: Drop, S: Hashes<K>>(
 ) -> Result<Played<V>, AllocError>
     requires { MayHappen K.eq (S.hash scheduler.old.logged.executor.hasher) scheduler.old }
     ensures happens { IfOk result (λ played. HappensAt K.eq (S.hash scheduler.old.logged.executor.hasher) is_first event played scheduler.old scheduler.new) }
-    ensures given { KeepsGiven scheduler.old.logged.executor scheduler.new.logged.executor }
+    ensures given { StaysGiven scheduler.old.logged.executor scheduler.new.logged.executor }
 {
     if scheduler.keeps_out(&event) {
         return Ok(scheduler.refuse(event));

@@ -8,4 +8,4 @@ module _ {K V S : Type 0} where
   given_as p q r stays is = subst (λ (x : Scheduler K V S). KeepsGiven p.logged.executor x.logged.executor) (sym is) stays
 
   pub given_still : (p r : Scheduler K V S) → r ≡ p → KeepsGiven p.logged.executor r.logged.executor
-  given_still p r is = given_as p p r (refl, refl, refl) is
+  given_still p r is = given_as p p r (refl, refl, refl, refl) is

@@ -24,7 +24,7 @@ returns-then-is_of_calls g c = record {
   happens =
       in_turn_if g.K.PartialEq.eq (g.S.Hashes.hash c.args.scheduler.now.logged.executor.hasher) c.args.event c.args.scheduler.now c.args.is_first c.of_calls.new.scheduler c.of_calls.result
       c.of_calls.ensures.happens (sym c.keeps_out.ensures ∙ c.if-keeps_out.false);
-  given = c.of_calls.ensures.given;
+  given = (c.of_calls.ensures.given.0, c.of_calls.ensures.given.1, c.of_calls.ensures.given.2);
 }
 
 pub of_maps-requires : goal.of_maps-requires
@@ -55,5 +55,5 @@ returns g c = record {
   happens =
       in_turn_if g.K.PartialEq.eq (g.S.Hashes.hash c.args.scheduler.now.logged.executor.hasher) c.args.event c.args.scheduler.now c.args.is_first c.of_slots.new.scheduler c.of_slots.result
       c.of_slots.ensures.happens (sym c.keeps_out.ensures ∙ c.if-keeps_out.false);
-  given = c.of_slots.ensures.given;
+  given = (c.of_slots.ensures.given.0, c.of_slots.ensures.given.1, c.of_slots.ensures.given.2);
 }

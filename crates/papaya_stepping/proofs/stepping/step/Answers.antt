@@ -36,5 +36,5 @@ returns-in-None g c = record {
       (sym (entry_is (Step c.args.caller.now c.args.refuse) c.busy.result (Refused Busy) 0 _ c.busy.ensures.outcome c.busy.ensures.steps c.busy.ensures.effects))
       (step_busy g.K.PartialEq.eq hash terms log c.args.caller.now c.args.refuse c.args.scheduler.now due (sym c.place_of.ensures ∙ c.in-None.is));
   took = λ place is. absurd (let some = is ∙ sym c.place_of.ensures ∙ c.in-None.is in cc some);
-  given = (refl, refl, refl);
+  given = (refl, refl, refl, refl);
 }

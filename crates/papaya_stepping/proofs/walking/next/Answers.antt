@@ -21,7 +21,7 @@ returns-in_default g c = record {
       subst (λ e. PlaysNext g.K.PartialEq.eq hash terms log e c.args.scheduler.now)
       (sym (entry_is (Next c.args.caller.now) c.busy.result (Refused Busy) 0 [] c.busy.ensures.outcome c.busy.ensures.steps c.busy.ensures.effects))
       (next_busy g.K.PartialEq.eq hash terms log c.args.caller.now c.args.scheduler.now due (sym c.in_default.is ∙ c.place_of_ready.ensures));
-  given = (refl, refl, refl);
+  given = (refl, refl, refl, refl);
 }
 
 pub way_of-number-requires : goal.way_of-number-requires
