@@ -66,7 +66,7 @@ module _ (K V : Type 0) (same : K → K → Bool) where
   key_begins hash setting slot i keys given call (RemovesIf q code few class) known = (refl, tt)
 
   -- nor to count
-  uncounted_at_first : (standing : Standing K) (i : ℕ) (u : UnderWay K V K) → Begins same standing i u → is_to_count (machine_of u) ≡ false
+  pub uncounted_at_first : (standing : Standing K) (i : ℕ) (u : UnderWay K V K) → Begins same standing i u → is_to_count (machine_of u) ≡ false
   uncounted_at_first standing i (OnKey u) begins = calls_begin_uncounted K V same standing.hash standing.setting slot_of i u.keys u.pair u.call begins.0
   uncounted_at_first standing i (ForRoom r) begins = refl
   uncounted_at_first standing i (Counting sum) begins = refl

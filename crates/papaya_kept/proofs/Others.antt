@@ -1,6 +1,6 @@
 -- What is no call keeps all that is kept: a row on a slot, the making of a map, and the end of one.
 use Rattle.std.specs.Prelude.{◌≡◌, ℕ, Bool, List, Some, None}
-use Rattle.std.proofs.Common.{refl, ap, sym, subst, inl}
+use Rattle.std.proofs.Common.{refl, sym, subst, inl}
 use Rattle.papaya_histories.specs.Given.Seize.declared.progress.Progress.{Progress}
 use Rattle.papaya_histories.specs.Given.Seize.declared.progress.Progress.TheVariants as progress
 use Rattle.papaya_histories.specs.Given.Seize.declared.rows.settle.Settled.{Settled}

@@ -26,9 +26,6 @@ use Rattle.papaya_histories.proofs.Given.Moments.After.{effects_after}
 use Rattle.papaya_histories.proofs.Given.Moments.NewMaps.{effects_keep_pairs}
 use Rattle.papaya_histories.proofs.Given.Moments.Numbers.{numbers_are_below, steps_keep_numbers}
 use Rattle.papaya_kept.proofs.Calls.{calls_keep_kept}
-use Rattle.papaya_owes.proofs.Calls.{calls_keep_made}
-use Rattle.papaya_owes.proofs.Looking.Calls.{calls_keep_looking}
-use Rattle.papaya_settles.proofs.Calls.{calls_keep_counts}
 use Rattle.papaya_shards.proofs.ShardCalls.{calls_keep_counters}
 use Rattle.papaya_histories.specs.AsCalled.{ShowsAsCalled}
 use Rattle.papaya_histories.specs.Due.{ShowsDue}
@@ -125,10 +122,7 @@ call_events_go_on_so K V S same hash name terms log event beginning map i c step
       effects_keep_pairs K V m midst.calls.numbers.1 (Some (name i)) (Some map) effects (λ n is. let one : map ≡ n = cc is in subst (λ (k : ℕ). k < m.made) one below),
     );
     kept = calls_keep_kept K V S same hash name m known s old new at whole midst.calls.kept map i u here said leads;
-    made = (calls_keep_made K V S same hash name m known s old new at whole midst.calls.made map i u here said leads).1;
-    counts = (calls_keep_counts K V S same hash name m known s old new at whole midst.calls.counts map i u here said leads).1;
-    looking = (calls_keep_looking K V S same hash name m known s old new at whole midst.calls.looking map i u here said leads).1;
-    counters = calls_keep_counters K V S same hash name m known s old new at whole midst.calls.counts midst.calls.counters map i u here said leads;
+    counters = calls_keep_counters K V S same hash name m known s old new at whole midst.calls.kept.counts midst.calls.counters map i u here said leads;
     dues = all.1;
     as_called = all.2;
     questions = effects_keep_questions K V (Some (name i)) (Some map) effects m midst.calls.questions;

@@ -17,9 +17,6 @@ use Rattle.papaya_histories.proofs.Given.Moments.After.{effects_after}
 use Rattle.papaya_histories.proofs.Given.Moments.NewMaps.{effects_keep_pairs}
 use Rattle.papaya_histories.proofs.Given.Moments.Numbers.{numbers_are_below, steps_keep_numbers}
 use Rattle.papaya_kept.proofs.Calls.{calls_keep_kept}
-use Rattle.papaya_owes.proofs.Calls.{calls_keep_made}
-use Rattle.papaya_owes.proofs.Looking.Calls.{calls_keep_looking}
-use Rattle.papaya_settles.proofs.Calls.{calls_keep_counts}
 use Rattle.papaya_shards.proofs.ShardCalls.{calls_keep_counters}
 use Rattle.papaya_histories.specs.AsCalled.{ShowsAsCalled}
 use Rattle.papaya_histories.specs.Due.{ShowsDue}
@@ -39,10 +36,6 @@ use Rattle.papaya_histories.proofs.AnyCall.Over.{events_are_over, like_over, non
 use Rattle.papaya_purposes.proofs.Between.{events_keep_purposes}
 use Rattle.papaya_purposes.proofs.Elsewhere.{purposes_stay}
 use Rattle.papaya_kept.proofs.Stays.{stays_kept, calls_come_to_kept}
-use Rattle.papaya_owes.proofs.Aside.{stays_made}
-use Rattle.papaya_owes.proofs.Between.{calls_come_to_made}
-use Rattle.papaya_owes.proofs.Looking.Between.{stays_looking, calls_come_to_looking}
-use Rattle.papaya_settles.proofs.Between.{stays_counts, calls_come_to_counts}
 use Rattle.papaya_shards.proofs.ShardBetween.{counters_stay, calls_come_to_counters}
 use Rattle.papaya_promises.proofs.Brief.Stays.{events_keep_readings, readings_stay}
 use Rattle.papaya_finds.specs.Within.{GoesInOrder}
@@ -75,17 +68,8 @@ call_events_end_so K V S same hash name terms log beginning map i c first before
     kept = stays_kept K V name come last then_known s2 s2
         (calls_come_to_kept K V same name v then_known s2 all.0 (calls_keep_kept K V S same hash name m known s old new at whole midst.calls.kept map i u here said leads) (name i) e.outcome e.steps none)
         alike.calls alike.tables (ap (λ (x : Moment K V). x.deferred) worked_is) alike.place refl refl refl;
-    made = stays_made K V name come last then_known s2 s2
-        (calls_come_to_made K V same name v then_known s2 all.0 (calls_keep_made K V S same hash name m known s old new at whole midst.calls.made map i u here said leads).1 (name i) e.outcome e.steps none)
-        alike.calls refl;
-    counts = stays_counts K V name come last s2 s2
-        (calls_come_to_counts K V same name v then_known s2 all.0 (calls_keep_counts K V S same hash name m known s old new at whole midst.calls.counts map i u here said leads).1 (name i) e.outcome e.steps none)
-        alike.calls refl;
-    looking = stays_looking K V name come last s2 s2
-        (calls_come_to_looking K V same name v then_known s2 all.0 (calls_keep_looking K V S same hash name m known s old new at whole midst.calls.looking map i u here said leads).1 (name i) e.outcome e.steps none)
-        alike.calls refl;
     counters = counters_stay K V name come last s2 s2
-        (calls_come_to_counters K V same name v then_known s2 all.0 (calls_keep_counters K V S same hash name m known s old new at whole midst.calls.counts midst.calls.counters map i u here said leads) (name i) e.outcome
+        (calls_come_to_counters K V same name v then_known s2 all.0 (calls_keep_counters K V S same hash name m known s old new at whole midst.calls.kept.counts midst.calls.counters map i u here said leads) (name i) e.outcome
         e.steps none)
         alike.calls (ap (λ (x : Moment K V). x.shards) worked_is) refl refl refl (λ of j x is removed adds. (x, is, adds));
     dues = over.1;

@@ -34,11 +34,6 @@ use Rattle.papaya_histories.specs.Given.Finishes.Makings.{Beginning}
 use Rattle.papaya_histories.specs.Given.Finishes.Maps.{Standing}
 use Rattle.papaya_histories.specs.Given.Others.Endings.{ending_after}
 use Rattle.papaya_histories.specs.Given.Others.Makings.{making_after}
-use Rattle.papaya_histories.proofs.Given.Others.Quiet.{calls_none}
-use Rattle.papaya_owes.proofs.EndsOfMaps.{endings_keep_made}
-use Rattle.papaya_owes.proofs.Looking.Between.{stays_looking}
-use Rattle.papaya_owes.proofs.MakingsOfMaps.{makings_keep_made}
-use Rattle.papaya_settles.proofs.Between.{stays_counts}
 use Rattle.papaya_histories.specs.Given.Moments.Whole.{ShowsWhole}
 use Rattle.papaya_histories.specs.Given.Moments.Numbers.{NumbersMaps, PairsAreBelow}
 use Rattle.papaya_histories.proofs.Given.Moments.After.{effects_after}
@@ -124,9 +119,6 @@ making_events_go_on_so K V S same hash name terms log event beginning done m kno
       numbers = numbers_then m midst.0.calls.numbers b.map below (acts.Making b.map) refl known new.memory.changed;
       kept = makings_keep_kept K V S same hash name m known s old new at whole midst.0.calls.kept i said leads b here (Some b.map) was_new
           (made_at same hash s old new at i b here said leads) then_whole.all.shown;
-      made = (makings_keep_made K V S same hash name m known s old new at whole.all.shown midst.0.calls.made i said leads b here (Some b.map)).1;
-      counts = stays_counts K V name m v s (led same hash s old new at i b here said leads) midst.0.calls.counts (calls_none (Some b.map) effects m) (made_same same hash s old new at i b here said leads);
-      looking = stays_looking K V name m v s (led same hash s old new at i b here said leads) midst.0.calls.looking (calls_none (Some b.map) effects m) (made_same same hash s old new at i b here said leads);
       counters = makings_keep_counters K V S same hash name m known s old new at whole midst.0.calls.counters i said leads b here (Some b.map);
       dues = (dues_stay K V S same hash name log).makings m known s old new at whole midst.0.calls.dues i said leads b here (Some b.map) was_new;
       as_called = (as_called_stays K V S same hash name).makings m known s old new at whole midst.0.calls.as_called i said leads b here (Some b.map) was_new;
@@ -208,9 +200,6 @@ end_events_go_on_so K V S same hash name terms log event map beginning first don
           (endings_find_kept K V S same hash name m known s old new at whole midst.0.calls.kept i said leads f here map not_there);
       numbers = numbers_then m midst.0.calls.numbers map below (acts.Ending map) refl known new.memory.changed;
       kept = endings_keep_kept K V S same hash name m known s old new at whole midst.0.calls.kept i said leads f here map not_there (ended_at same hash s old new i f here said leads);
-      made = (endings_keep_made K V S same hash name m known s old new at whole.all.shown midst.0.calls.made i said leads f here map not_there).1;
-      counts = stays_counts K V name m v s (ended same hash s old new i f here said leads) midst.0.calls.counts (calls_none (Some map) effects m) (ended_same same hash s old new i f here said leads);
-      looking = stays_looking K V name m v s (ended same hash s old new i f here said leads) midst.0.calls.looking (calls_none (Some map) effects m) (ended_same same hash s old new i f here said leads);
       counters = endings_keep_counters K V S same hash name m known s old new at midst.0.calls.counters i said leads f here map;
       dues = (dues_stay K V S same hash name log).endings m known s old new at whole midst.0.calls.dues i said leads f here map not_there its;
       as_called = (as_called_stays K V S same hash name).endings m known s old new at whole midst.0.calls.as_called i said leads f here map not_there its;

@@ -24,11 +24,6 @@ use Rattle.papaya_histories.specs.Given.Executor.Rows.{request_of}
 use Rattle.papaya_histories.specs.Given.Executor.declared.row.SlotCall.{SlotCall}
 use Rattle.papaya_histories.specs.Given.Executor.declared.row.SlotCall.TheVariants as call
 use Rattle.papaya_histories.specs.Given.Others.Rows.{scene_then}
-use Rattle.papaya_histories.proofs.Given.Others.Quiet.{calls_none}
-use Rattle.papaya_owes.proofs.Aside.{stays_made}
-use Rattle.papaya_owes.proofs.Looking.Between.{stays_looking}
-use Rattle.papaya_owes.proofs.RowsOnSlots.{rows_keep_made}
-use Rattle.papaya_settles.proofs.Between.{stays_counts}
 use Rattle.papaya_histories.specs.Given.Moments.OnSlots.{HadRetired}
 use Rattle.papaya_histories.specs.Given.Moments.Whole.{ShowsWhole}
 use Rattle.papaya_histories.proofs.Given.Moments.After.{effects_after}
@@ -87,7 +82,6 @@ slot_events_begin_so K V S same hash name terms log known s old new at size run 
     let m = moment log in
     let request = request_of (slot_of i) called in
     let to = (leads may).3 in
-    let led = scene_then same hash (Begin i request) s old new to in
     record {
       of_slots = on;
       once = moments_note_once K V same name m known s run.calls.whole;
@@ -95,9 +89,6 @@ slot_events_begin_so K V S same hash name terms log known s old new at size run 
         whole = rows_begin_whole K V S same hash name m known s old new at run.calls.whole called i may leads;
         numbers = run.calls.numbers;
         kept = rows_begin_kept K V S same hash name m known s old new at run.calls.kept called i may leads;
-        made = stays_made K V name m m known s led run.calls.made refl refl;
-        counts = stays_counts K V name m m s led run.calls.counts refl refl;
-        looking = stays_looking K V name m m s led run.calls.looking refl refl;
         counters = rows_begin_counters K V S same hash name m s old new at run.calls.counters called i may leads;
         dues = (dues_stay K V S same hash name log).rows_begin m known s old new at run.calls.whole run.calls.dues called i may leads;
         as_called = (as_called_stays K V S same hash name).rows_begin m known s old new at run.calls.whole run.calls.as_called called i may leads;
@@ -124,9 +115,6 @@ slot_events_go_on_so K V S same hash name terms log event i called first done m 
     whole = rows_keep_whole K V S same hash name m known s old new at whole i said leads row here found.0 found.1;
     numbers = (rows_keep_numbers K V S same hash m midst.calls.numbers.0 known s old new i said leads row here, effects_keep_pairs K V m midst.calls.numbers.1 None None effects (λ n is. absurd (cc is)));
     kept = rows_keep_kept K V S same hash name m known s old new at whole midst.calls.kept i said leads row here;
-    made = (rows_keep_made K V S same hash name m known s old new at whole.all.shown midst.calls.made i said leads row here).1;
-    counts = stays_counts K V name m v s led midst.calls.counts (calls_none None effects m) refl;
-    looking = stays_looking K V name m v s led midst.calls.looking (calls_none None effects m) refl;
     counters = rows_keep_counters K V S same hash name m known s old new at whole midst.calls.counters i said leads row here;
     dues = (dues_stay K V S same hash name log).rows m known s old new at whole midst.calls.dues i said leads row here found.0;
     as_called = (as_called_stays K V S same hash name).rows m known s old new at whole midst.calls.as_called i said leads row here found.0;

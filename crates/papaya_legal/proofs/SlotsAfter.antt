@@ -21,9 +21,6 @@ use Rattle.papaya_histories.specs.Given.Others.Elsewhere.{HasSame}
 use Rattle.papaya_histories.specs.Given.Moments.Numbers.{NumbersMaps, PairsAreBelow}
 use Rattle.papaya_histories.specs.Given.Moments.Whole.{ShowsWhole}
 use Rattle.papaya_kept.proofs.Stays.{stays_kept}
-use Rattle.papaya_owes.proofs.Aside.{stays_made}
-use Rattle.papaya_owes.proofs.Looking.Between.{stays_looking}
-use Rattle.papaya_settles.proofs.Between.{stays_counts}
 use Rattle.papaya_shards.proofs.ShardBetween.{counters_stay}
 use Rattle.papaya_histories.specs.Questions.{AsksStill}
 use Rattle.papaya_histories.proofs.Aside.Stays.{as_called_stays, dues_stay}
@@ -130,9 +127,6 @@ slot_events_end_so K V S same hash name terms log i called first m known before 
     whole = whole_after log e.outcome e.steps e.effects same name known s c.whole e.event midst.of_slots;
     numbers = numbers_after log e.outcome e.steps e.effects e.event midst.of_slots c.numbers;
     kept = stays_kept K V name w v known s s c.kept alike.0.calls alike.0.tables alike.1 alike.0.place refl refl refl;
-    made = stays_made K V name w v known s s c.made alike.0.calls refl;
-    counts = stays_counts K V name w v s s c.counts alike.0.calls refl;
-    looking = stays_looking K V name w v s s c.looking alike.0.calls refl;
     counters = counters_stay K V name w v s s c.counters alike.0.calls alike.2 refl refl refl (λ of j u is removed adds. (u, is, adds));
     dues = events_keep_due K V same name log e known s ((dues_stay K V S same hash name log).alike w v known s c.dues alike.0);
     as_called = (as_called_stays K V S same hash name).alike w v known s c.as_called alike.0;

@@ -23,23 +23,17 @@ use Rattle.papaya_shards.specs.ShardWords.{ShowsCounters}
 use Rattle.papaya_finds.specs.Little.{OverIsBack}
 use Rattle.papaya_finds.specs.Within.{AllIsInOrder, ReadyOweNone}
 use Rattle.papaya_kept.specs.Kept.{ShowsKept}
-use Rattle.papaya_owes.specs.Looking.{ShowsLooking}
-use Rattle.papaya_owes.specs.Made.{ShowsMade}
-use Rattle.papaya_settles.specs.Counts.{ShowsCounts}
 
 -- calls came one after another so far, and the event is one of those that do
 abbrev pub ComesAlone : {K V : Type 0} → Event K V → List (Entry K V) → Type 0
 ComesAlone event log = ((moment log).is_alone && list_all (is_by (speaker event)) (moment log).calls) ≡ true
 
--- What a moment shows beside who is there, wherever in an event it is, so far since the log: numbers of maps; what every step keeps; which blocks calls have made for pairs, which have pairs to count,
--- and which only look; the shards of maps; what calls owe as answers, are called for, and are for.
+-- What a moment shows beside who is there, wherever in an event it is, so far since the log: numbers of maps; what every step keeps; the shards of maps; what calls owe as answers, are called for,
+-- have asked, and are for.
 pub record ShowsCalls {K V : Type 0} (same : K → K → Bool) (name : ℕ → List ℕ) (log : List (Entry K V)) (m : Moment K V) (known : Known) (s : Scene K V) : Type 0 where
   pub whole : ShowsWhole same name m known s
   pub numbers : NumbersMaps m × PairsAreBelow m
   pub kept : ShowsKept name m known s
-  pub made : ShowsMade name m known s
-  pub counts : ShowsCounts name m s
-  pub looking : ShowsLooking name m s
   pub counters : ShowsCounters name m s
   pub dues : ShowsDue same name log m known s
   pub as_called : ShowsAsCalled same name m known s

@@ -4,7 +4,7 @@ ghost use Rattle.papaya_schedules.specs.Moment.{Moment};
 ghost use Rattle.papaya_histories.specs.Given.Tables.declared.setting.Setting.{Setting};
 ghost use Rattle.papaya_executor.specs.Beginning.{IsRefused};
 ghost use Rattle.papaya_executor.specs.Ending.{EndingLeads};
-ghost use Rattle.papaya_executor.specs.IsAt.{Scene, IsAt, IsEnding};
+ghost use Rattle.papaya_executor.specs.IsAt.{Scene, IsAt, IsEnding, KeepsGiven};
 ghost use Rattle.papaya_executor.specs.declared.worker.TheConstants.{SLOTS};
 ghost use Rattle.papaya_logged.specs.Ends.{EndIsBegun, EndSteps, EndRan, EndIsOver, is_done};
 ghost use Rattle.papaya_logged.specs.Shown.{IsShown};
@@ -36,6 +36,7 @@ impl<K: Drop, V: Drop, S> Logged<K, V, S> {
         ensures number { IfOk result (λ caller. caller ≡ length self.old.executor.workers.items * SLOTS + slot) }
         ensures leads { IfOk result (λ caller. (same : K → K → Bool) (hash : K → ℕ) (name : ℕ → List ℕ) (m : Moment K V) (s : Scene K V) → IsShown same hash name m self.old s
             → EndIsBegun same hash name m s map caller self.old self.new) }
+        ensures given { KeepsGiven self.old.executor self.new.executor }
         ensures refused { IfErr result (λ error. IsRefused self.old.executor self.new.executor × (self.new.notes ≡ self.old.notes)) }
     {
         let caller = self.executor.begin_ending(slot, map)?;
@@ -54,6 +55,7 @@ impl<K: Drop, V: Drop, S> Logged<K, V, S> {
         ensures leads { IfOk result (λ told. EndSteps caller map told effects.old.items effects.new.items self.old self.new) }
         ensures steps { IfOk result (λ told. (same : K → K → Bool) (hash : K → ℕ) (s : Scene K V) → IsAt same hash self.old.executor s
             → EndingLeads same hash caller told s self.old.executor self.new.executor) }
+        ensures given { KeepsGiven self.old.executor self.new.executor }
     {
         let told = self.executor.step_ending(caller);
         self.note(Acting::Ending { map }, effects)?;
@@ -71,6 +73,7 @@ impl<K: Drop, V: Drop, S> Logged<K, V, S> {
         requires { (same : K → K → Bool) × (hash : K → ℕ) × (s : Scene K V) × IsAt same hash self.old.executor s × IsEnding s caller }
         ensures ran { IfOk result (λ done. EndRan caller map true effects.old.items effects.new.items self.old self.new) }
         ensures over { IfOk result (λ done. EndIsOver self.new) }
+        ensures given { KeepsGiven self.old.executor self.new.executor }
     {
         loop {
             let told = self.step_end(caller, map, effects)?;

@@ -5,7 +5,7 @@ ghost use Rattle.papaya_effects.specs.Effects.{effects_of};
 ghost use Rattle.papaya_effects.specs.Known.{known};
 ghost use Rattle.papaya_effects.specs.declared.acting.Acting.TheVariants.{Row};
 ghost use Rattle.papaya_executor.specs.Beginning.{IsRefused};
-ghost use Rattle.papaya_executor.specs.IsAt.{Scene, IsAt, work_of};
+ghost use Rattle.papaya_executor.specs.IsAt.{Scene, IsAt, KeepsGiven, work_of};
 ghost use Rattle.papaya_executor.specs.OnSlots.{RowLeads};
 ghost use Rattle.papaya_executor.specs.declared.row.SlotRow.{SlotRow};
 ghost use Rattle.papaya_executor.specs.declared.worker.TheConstants.{SLOTS};
@@ -40,6 +40,7 @@ impl<K: Drop, V: Drop, S> Logged<K, V, S> {
         ensures number { IfOk result (λ caller. caller ≡ length self.old.executor.workers.items * SLOTS + slot) }
         ensures leads { IfOk result (λ caller. (same : K → K → Bool) (hash : K → ℕ) (name : ℕ → List ℕ) (m : Moment K V) (s : Scene K V) → IsShown same hash name m self.old s
             → OnSlotBegins same hash name m s called caller self.old self.new) }
+        ensures given { KeepsGiven self.old.executor self.new.executor }
         ensures refused { IfErr result (λ error. IsRefused self.old.executor self.new.executor × (self.new.notes ≡ self.old.notes)) }
     {
         let caller = self.executor.begin_on_slot(slot, called)?;
@@ -58,6 +59,7 @@ impl<K: Drop, V: Drop, S> Logged<K, V, S> {
         ensures steps { IfOk result (λ told. (same : K → K → Bool) (hash : K → ℕ) (s : Scene K V) → IsAt same hash self.old.executor s
             → RowLeads same hash caller told s self.old.executor self.new.executor) }
         ensures did { IfOk result (λ told. effects.new.items ≡ effects.old.items ++ effects_of Row (known self.old.notes) self.new.executor.memory.changed) }
+        ensures given { KeepsGiven self.old.executor self.new.executor }
     {
         let told = self.executor.step_on_slot(caller);
         self.note(Acting::Row, effects)?;
@@ -78,6 +80,7 @@ impl<K: Drop, V: Drop, S> Logged<K, V, S> {
             → self.new.executor.slots.items ≡ uses_ended row told self.old.executor.slots.items) }
         ensures ran { IfOk result (λ told. OnSlotRan effects.old.items effects.new.items self.old self.new) }
         ensures tells { IfOk result (λ told. EndsTelling effects.new.items self.new.executor) }
+        ensures given { KeepsGiven self.old.executor self.new.executor }
     {
         loop {
             let told = self.step_on_slot(caller, effects)?;

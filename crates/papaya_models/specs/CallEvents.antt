@@ -19,7 +19,7 @@ use Rattle.papaya_histories.specs.Given.Schedules.After.{moment}
 use Rattle.papaya_histories.specs.Given.Runs.Present.{slot_of_guard}
 use Rattle.papaya_histories.specs.Given.Schedules.Beginning.{at_work}
 use Rattle.papaya_histories.specs.Given.Schedules.Entry.{Entry, acting, caller_of}
-use Rattle.papaya_histories.specs.Given.Schedules.Model.{came, handing, guard_or, things_in, sets_in, changes_of, left_last}
+use Rattle.papaya_histories.specs.Given.Schedules.Model.{IsByModel, came, handing, guard_or, things_in, sets_in, changes_of, left_last}
 use Rattle.papaya_histories.specs.Given.Schedules.Moment.{Moment}
 use Rattle.papaya_histories.specs.Given.Schedules.Terms.{Terms}
 use Rattle.papaya_histories.specs.Given.Schedules.declared.effect.Effect.{Effect}
@@ -28,7 +28,7 @@ use Rattle.papaya_histories.specs.Given.Schedules.declared.event.Event.{Event}
 use Rattle.papaya_histories.specs.Given.Schedules.declared.event.Event.TheVariants as event
 use Rattle.papaya_models.specs.Calls.{sets_on, FollowsInCall}
 use Rattle.papaya_models.specs.Defers.{AreNoted, HasToldIt}
-use Rattle.papaya_models.specs.Follows.{FollowsSets, IsFollowed}
+use Rattle.papaya_models.specs.Follows.{FollowsSets, FollowsModel, IsFollowed}
 use Rattle.papaya_models.specs.Numbers.{HasNumber, EachIsOnce, AreOfThings, NoneBack}
 use Rattle.papaya_models.specs.Retires.{HasToldSo}
 
@@ -72,7 +72,17 @@ module _ (K V : Type 0) where
       (batch_size roots : ℕ) (things : List Thing) (sets : Sets) (known : Known) (w : World (Node K V)) → FollowsSets batch_size roots things sets known w
       → (slot i : ℕ) → FollowsInEvent batch_size roots things sets slot i [] known w
 
-  -- and once it is over, and no row is under way, it is by the model, if its slot was active as it began.
+  -- and once it is over it is by the model, if its slot was active as it began, and the sets are those of the model after it, or the call is in the midst of a row still,
+  abbrev pub CallEventsPause : Type 0
+  CallEventsPause =
+      (terms : Terms) (log : List (Entry K V)) (e : Entry K V) (slot i : ℕ) (known : Known) (w : World (Node K V))
+      → FollowsInEvent terms.batch_size terms.roots (things_in log) (sets_in terms.batch_size log) slot i e.effects known w
+      → changes_of log e ≡ flat_map (handing (things_in (e ∷ log)) slot) e.effects → left_last e.event e.outcome (moment log) ≡ []
+      → 1 ≤ count slot (sets_in terms.batch_size log).active
+      → IsByModel terms log e
+      × (FollowsModel terms.batch_size terms.roots (e ∷ log) known w ⊎ IsInItsRow terms.batch_size terms.roots (things_in (e ∷ log)) (sets_in terms.batch_size (e ∷ log)) slot i known w)
+
+  -- which it is not where no row is under way.
   abbrev pub CallEventsEnd : Type 0
   CallEventsEnd =
       (terms : Terms) (log : List (Entry K V)) (e : Entry K V) (slot i : ℕ) (known : Known) (w : World (Node K V))

@@ -1,6 +1,6 @@
 //! What is promised of the waiting sets, where calls come one after another.
 ghost use Rattle.std.specs.Prelude.{Option, ℕ, Bool};
-ghost use Rattle.papaya_models.specs.CallEvents.{CallEventsBegin, CallEventsEnd, CallEventsGoOn, OthersHandOver};
+ghost use Rattle.papaya_models.specs.CallEvents.{CallEventsBegin, CallEventsEnd, CallEventsGoOn, CallEventsPause, OthersHandOver};
 ghost use Rattle.papaya_models.specs.Calls.{CallsFollow, HandingIsByModel, InsidesFollow, MoreThingsFollow, RowsWithinBegin, RowsWithinEnd, RowsWithinGoOn};
 ghost use Rattle.papaya_models.specs.Defers.{DefersAreTold, DeferringBegins, DeferringGoesOn};
 ghost use Rattle.papaya_models.specs.Ends.{EndsBegin, EndsEnd, EndsGoOn};
@@ -48,11 +48,13 @@ pub fn calls_follow_the_model<K, V, S>()
 {}
 
 /// An event of a call, whole: after each of its steps the waiting sets of blocks are those of the model, by what the event has told so far, or the call is in the midst
-/// of a row that has told its part, if what a row is to hand over is noted, as it begins, as things that came into maps. Once the event is over, and no row is under way, it is by the model, if its slot was active as it began, and the sets are those
-/// of the model after it. An event that is no row on a slot changes the sets by what it hands over, under the slot of its call's guard.
+/// of a row that has told its part, if what a row is to hand over is noted, as it begins, as things that came into maps. Once the event is over it is by the model, if its
+/// slot was active as it began; the sets are those of the model after it, or the call is in the midst of a row still, which it is not where no row is under way.
+/// An event that is no row on a slot changes the sets by what it hands over, under the slot of its call's guard.
 pub fn call_events_follow_the_model<K, V, S>()
     ensures begins { CallEventsBegin K V }
     ensures goes_on { (same : K → K → Bool) (hash : K → ℕ) → CallEventsGoOn K V S same hash }
+    ensures pauses { CallEventsPause K V }
     ensures ends { CallEventsEnd K V }
     ensures others { OthersHandOver K V }
 {}

@@ -20,19 +20,19 @@ mod RoomFacts
 mod RoomSteps
 mod For
 mod Counts
-mod Steps
+pub mod Steps
 mod Named
-mod Kept
-mod Walks
-mod Between
-mod Stops
-mod Told
-mod Rows
-mod Swept
-mod Shows
-mod Stored
-mod ShowsAll
-mod FindsRoom
-mod Nothing
-mod Elsewhere
-mod ShardsRead
+pub mod Kept
+pub mod Walks
+pub mod Between
+pub mod Stops
+pub mod Told
+pub mod Rows
+pub mod Swept
+pub mod Shows
+pub mod Stored
+pub mod ShowsAll
+pub mod FindsRoom
+pub mod Nothing
+pub mod Elsewhere
+pub mod ShardsRead

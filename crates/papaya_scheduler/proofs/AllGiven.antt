@@ -26,7 +26,7 @@ use Rattle.papaya_schedules.specs.Moment.{UnderWay as CallThere, Moment}
 use Rattle.papaya_schedules.specs.Terms.{Terms}
 use Rattle.papaya_histories.specs.Given.Callers.Together.{UnderWay}
 use Rattle.papaya_effects.specs.Known.{known}
-use Rattle.papaya_executor.specs.IsAt.{Scene, IsAt, use_at, work_of}
+use Rattle.papaya_executor.specs.IsAt.{Scene, IsAt, use_at}
 use Rattle.papaya_histories.specs.Given.Moments.Whole.{ShowsWhole}
 use Rattle.papaya_executor.specs.declared.row.SlotUse.TheVariants as used
 use Rattle.papaya_histories.specs.Given.Finishes.Endings.{Finishing}
@@ -41,7 +41,7 @@ use Rattle.papaya_rows.proofs.Elsewhere.{elsewhere, kept_elsewhere, shown_elsewh
 use Rattle.papaya_rows.proofs.Facts.{no_ending_of, no_making_of, no_work_at, row_rests, used_once}
 use Rattle.papaya_rows.proofs.Lists.{all_so}
 use Rattle.papaya_rows.proofs.Names.{nobody_named}
-use Rattle.papaya_scheduler.specs.Played.{CallsAre, IsDue, IsUnderWay, Plays, StandsFor}
+use Rattle.papaya_scheduler.specs.Played.{IsDue, IsUnderWay, Plays, StandsFor}
 use Rattle.papaya_scheduler.specs.Reclaiming.{MayComeBack, MayGiveAll, are_gone}
 use Rattle.papaya_scheduler.specs.Seen.{named, named_of, seen, seen_of}
 use Rattle.papaya_scheduler.specs.declared.caller.Caller.{Caller}

@@ -1,7 +1,7 @@
 //! The state of a run whose calls stay under way: the executor, and who is there by name.
 ghost use Rattle.std.specs.Prelude.{◌≡◌, ◌<◌, ℕ, Bool, List, [], IfOk, OnOk};
 ghost use Rattle.papaya_schedules.specs.Moment.{Moment};
-ghost use Rattle.papaya_executor.specs.IsAt.{Scene};
+ghost use Rattle.papaya_executor.specs.IsAt.{Scene, KeepsGiven};
 ghost use Rattle.papaya_logged.specs.Shown.{IsShown};
 ghost use Rattle.papaya_executor.specs.OnSlots.{MayBegin};
 ghost use Rattle.papaya_executor.specs.declared.worker.TheConstants.{SLOTS};
@@ -151,6 +151,7 @@ impl<K: Drop, V: Drop, S> Scheduler<K, V, S> {
         requires begins { MayBegin self.old.logged.executor slot called }
         ensures ran { IfOk result (λ told. RowRan slot called told effects.old.items effects.new.items self.old.logged self.new.logged) }
         ensures rest { self.new ≡ record self.old { logged = self.new.logged } }
+        ensures given { KeepsGiven self.old.logged.executor self.new.logged.executor }
     {
         let caller = self.logged.begin_on_slot(slot, called)?;
         let told = self.logged.run_on_slot(caller, effects)?;
@@ -169,6 +170,7 @@ impl<K: Drop, V: Drop, S> Scheduler<K, V, S> {
         requires begins { MayBegin self.old.logged.executor slot called }
         ensures ran { OnOk result (RowRanOn slot called effects.old.items effects.new.items self.old.logged self.new.logged) }
         ensures rest { self.new ≡ record self.old { logged = self.new.logged } }
+        ensures given { KeepsGiven self.old.logged.executor self.new.logged.executor }
     {
         self.run_row(slot, called, effects)?;
         Ok(())
