@@ -6,3 +6,4 @@ pub mod Makings
 pub mod Endings
 pub mod Maps
 pub mod Rests
+pub mod Numbered

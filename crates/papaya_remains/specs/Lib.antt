@@ -1,2 +1,3 @@
 pub mod Remains
 pub mod Steps
+pub mod Numbered
