@@ -143,12 +143,15 @@ module _ {K Q : Type 0} (V : Type 0) (same : K → K → Bool) (asks : Q → K �
         × EndingsTogether w2 maps calls makers (with_at enders i (Some (record f { machine = e; back = f.back ++ b ∷ []; waits = f.waits ++ waiting_by deed })))
     FinishingTold w2 deed (e, settled.Done) = (taken_by deed ≡ []) × HasFinished w2.memory f × EndingsTogether w2 maps calls makers (with_at enders i None)
 
-    -- What a deed is done to: what it reclaims or leaves over was not left over before, but for a table of the map, and what it links to another block waits.
+    -- What a deed is done to: what it reclaims or leaves over was not left over before, but for a table of the map, and what it links to another block waits;
+    -- and it leaves over pairs, or a table of the map that is not reclaimed.
     pub record IsDoneTo (deed : Deed) : Type 0 where
       pub takes : (x : ℕ) → 0 < times x (taken_by deed)
           → IsNotLeft (w.hand x) ⊎ ((w.hand x ≡ LeftTo i) × (times x f.back ≡ 0) × ((t : ℕ) × (f.chart.first ≤ t) × (t < f.chart.past) × (x ≡ f.blocks.table t)))
       pub leaves : (x : ℕ) → 0 < times x (left_by deed) → IsNotLeft (w.hand x)
       pub joins : (x : ℕ) → 0 < times x (joined_by deed) → 0 < times x f.waits
+      pub over : (x : ℕ) → 0 < times x (left_by deed)
+          → IsPair w x ⊎ ((times x f.back ≡ 0) × ((t : ℕ) × (f.chart.first ≤ t) × (t < f.chart.past) × (x ≡ f.blocks.table t)))
 
     -- Where a step of the end of a map leads, by what it did: the maps that stand are as they were, and so is all else but what it was done to.
     pub record StepsOfEnding (m2 : Mem (Node K V)) (end : EndMap × Settled (Node K V)) : Type 0 where

@@ -23,7 +23,6 @@ use Rattle.papaya_teller.specs.declared.changed.Changed.TheVariants as changed
 use Rattle.papaya_effects.specs.Effects.{linked_on, named, names_same, effects_of, known_after}
 use Rattle.papaya_effects.specs.Known.{Known}
 use Rattle.papaya_effects.specs.declared.acting.Acting.TheVariants.{Row}
-use Rattle.papaya_effects.specs.declared.role.Role.TheVariants as role
 use Rattle.papaya_executor.specs.IsAt.{Scene, HasCall}
 use Rattle.papaya_executor.specs.declared.executor.Executor.{Executor}
 use Rattle.papaya_reclaiming.specs.Reclaiming.{IsReclaiming, ReclaimingLeads}

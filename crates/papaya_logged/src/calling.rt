@@ -2,7 +2,7 @@
 ghost use Rattle.std.specs.Prelude.{◌≡◌, ◌<◌, ◌+◌, ◌*◌, ℕ, Bool, List, length, IfOk, IfErr};
 ghost use Rattle.papaya_schedules.specs.Moment.{Moment};
 ghost use Rattle.papaya_executor.specs.Beginning.{IsRefused};
-ghost use Rattle.papaya_executor.specs.IsAt.{Scene, IsAt, HasCall};
+ghost use Rattle.papaya_executor.specs.IsAt.{Scene, IsAt, HasCall, KeepsGiven};
 ghost use Rattle.papaya_executor.specs.Replying.{ReplyLeads};
 ghost use Rattle.papaya_executor.specs.declared.worker.TheConstants.{SLOTS};
 ghost use Rattle.papaya_logged.specs.Calling.{CallBegins, CallGoesOn, CallTakes, WalkGoesOn, WalkStops};
@@ -25,7 +25,7 @@ impl<K: Drop, V: Drop, S> Logged<K, V, S> {
         ensures number { IfOk result (λ caller. caller ≡ length self.old.executor.workers.items * SLOTS + slot) }
         ensures leads { IfOk result (λ caller. (same : K → K → Bool) (hash : K → ℕ) (name : ℕ → List ℕ) (m : Moment K V) (s : Scene K V) → IsShown same hash name m self.old s
             → CallBegins same hash name m s caller map machine self.old self.new) }
-        ensures hasher { self.new.executor.hasher ≡ self.old.executor.hasher }
+        ensures given { KeepsGiven self.old.executor self.new.executor }
         ensures refused { IfErr result (λ error. IsRefused self.old.executor self.new.executor × (self.new.notes ≡ self.old.notes)) }
     {
         let caller = self.executor.begin(slot, map, machine)?;
@@ -39,6 +39,7 @@ impl<K: Drop, V: Drop, S> Logged<K, V, S> {
             → CallTakes same hash name m s caller reply result self.old self.new }
         ensures taken { (same : K → K → Bool) (hash : K → ℕ) (s : Scene K V) → IsAt same hash self.old.executor s
             → ReplyLeads same hash caller reply result s self.old.executor self.new.executor }
+        ensures given { KeepsGiven self.old.executor self.new.executor }
     {
         self.executor.reply(caller, reply)
     }
@@ -48,7 +49,7 @@ impl<K: Drop, V: Drop, S> Logged<K, V, S> {
         requires { (same : K → K → Bool) × (hash : K → ℕ) × (s : Scene K V) × IsAt same hash self.old.executor s × HasCall s caller }
         ensures leads { (same : K → K → Bool) (hash : K → ℕ) (name : ℕ → List ℕ) (m : Moment K V) (s : Scene K V) → IsShown same hash name m self.old s
             → WalkGoesOn same hash name m s caller result self.old self.new }
-        ensures hasher { self.new.executor.hasher ≡ self.old.executor.hasher }
+        ensures given { KeepsGiven self.old.executor self.new.executor }
     {
         self.executor.next(caller)
     }
@@ -58,6 +59,7 @@ impl<K: Drop, V: Drop, S> Logged<K, V, S> {
         requires { (same : K → K → Bool) × (hash : K → ℕ) × (s : Scene K V) × IsAt same hash self.old.executor s × HasCall s caller }
         ensures leads { (same : K → K → Bool) (hash : K → ℕ) (name : ℕ → List ℕ) (m : Moment K V) (s : Scene K V) → IsShown same hash name m self.old s
             → WalkStops same hash name m s caller result self.old self.new }
+        ensures given { KeepsGiven self.old.executor self.new.executor }
     {
         self.executor.stop(caller)
     }
@@ -75,7 +77,7 @@ impl<K: Eq + Hash + Drop, V: Drop, S: Hashes<K>> Logged<K, V, S> {
         requires { (s : Scene K V) × IsAt K.eq (S.hash self.old.executor.hasher) self.old.executor s × HasCall s caller }
         ensures leads { IfOk result (λ progress. (name : ℕ → List ℕ) (m : Moment K V) (s : Scene K V) → IsShown K.eq (S.hash self.old.executor.hasher) name m self.old s
             → CallGoesOn K.eq (S.hash self.old.executor.hasher) name m s caller map progress effects.old.items effects.new.items self.old self.new) }
-        ensures hasher { self.new.executor.hasher ≡ self.old.executor.hasher }
+        ensures given { KeepsGiven self.old.executor self.new.executor }
     {
         let progress = self.executor.step(caller);
         self.note(Acting::Call { caller, map }, effects)?;

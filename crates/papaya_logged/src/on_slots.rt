@@ -5,20 +5,23 @@ ghost use Rattle.papaya_effects.specs.Effects.{effects_of};
 ghost use Rattle.papaya_effects.specs.Known.{known};
 ghost use Rattle.papaya_effects.specs.declared.acting.Acting.TheVariants.{Row};
 ghost use Rattle.papaya_executor.specs.Beginning.{IsRefused};
-ghost use Rattle.papaya_executor.specs.IsAt.{Scene, IsAt, work_of};
+ghost use Rattle.papaya_executor.specs.IsAt.{Scene, IsAt, KeepsGiven, work_of};
 ghost use Rattle.papaya_executor.specs.OnSlots.{RowLeads};
 ghost use Rattle.papaya_executor.specs.declared.row.SlotRow.{SlotRow};
 ghost use Rattle.papaya_executor.specs.declared.worker.TheConstants.{SLOTS};
 ghost use Rattle.papaya_executor.specs.declared.worker.Work.TheVariants.{OnSlot};
+ghost use Rattle.papaya_logged.specs.Back.{BringsBack};
 ghost use Rattle.papaya_logged.specs.Ended.{has_ended, uses_ended};
 ghost use Rattle.papaya_logged.specs.OnSlots.{EndsTelling, OnSlotBegins, OnSlotSteps, OnSlotRan, OnSlotComes, OnSlotLast, has_come};
 ghost use Rattle.papaya_logged.specs.Shown.{IsShown};
 
+use crate::back::keep_row;
 use crate::logged::Logged;
 use papaya_effects::acting::Acting;
 use papaya_executor::row::{RowTold, SlotCall};
 use papaya_executor::worker::SLOTS;
 use papaya_raw::Node;
+use papaya_runs::record::Pair;
 use papaya_schedules::effect::Effect;
 use std::alloc::AllocError;
 
@@ -40,6 +43,7 @@ impl<K: Drop, V: Drop, S> Logged<K, V, S> {
         ensures number { IfOk result (λ caller. caller ≡ length self.old.executor.workers.items * SLOTS + slot) }
         ensures leads { IfOk result (λ caller. (same : K → K → Bool) (hash : K → ℕ) (name : ℕ → List ℕ) (m : Moment K V) (s : Scene K V) → IsShown same hash name m self.old s
             → OnSlotBegins same hash name m s called caller self.old self.new) }
+        ensures given { KeepsGiven self.old.executor self.new.executor }
         ensures refused { IfErr result (λ error. IsRefused self.old.executor self.new.executor × (self.new.notes ≡ self.old.notes)) }
     {
         let caller = self.executor.begin_on_slot(slot, called)?;
@@ -58,6 +62,7 @@ impl<K: Drop, V: Drop, S> Logged<K, V, S> {
         ensures steps { IfOk result (λ told. (same : K → K → Bool) (hash : K → ℕ) (s : Scene K V) → IsAt same hash self.old.executor s
             → RowLeads same hash caller told s self.old.executor self.new.executor) }
         ensures did { IfOk result (λ told. effects.new.items ≡ effects.old.items ++ effects_of Row (known self.old.notes) self.new.executor.memory.changed) }
+        ensures given { KeepsGiven self.old.executor self.new.executor }
     {
         let told = self.executor.step_on_slot(caller);
         self.note(Acting::Row, effects)?;
@@ -65,11 +70,13 @@ impl<K: Drop, V: Drop, S> Logged<K, V, S> {
     }
 
     /// Takes steps of the row that a caller has under way on its slot, until it ends, or waits for a batch that another row has in hand, and answers what the last step
-    /// told. What the steps do is added to the list, in their order, and what they reclaim is dropped. It is refused as a step is.
+    /// told. What the steps do is added to the list, in their order, and the pairs that they reclaim come back, behind those before. It is refused as a step is; or where there is
+    /// no room for a pair that comes back, before the step that might reclaim one is taken.
     pub fn run_on_slot(
         &mut self,
         caller: u64,
         effects: &mut Vec<Effect>,
+        back: &mut Vec<Pair<K, V>>,
     ) -> Result<RowTold<Node<K, V>>, AllocError>
         requires { (same : K → K → Bool) × (hash : K → ℕ) × (s : Scene K V) × IsAt same hash self.old.executor s × (row : SlotRow) × (work_of self.old.executor caller ≡ Some (OnSlot row)) }
         ensures comes { IfOk result (λ told. OnSlotComes caller told self.new) }
@@ -78,12 +85,16 @@ impl<K: Drop, V: Drop, S> Logged<K, V, S> {
             → self.new.executor.slots.items ≡ uses_ended row told self.old.executor.slots.items) }
         ensures ran { IfOk result (λ told. OnSlotRan effects.old.items effects.new.items self.old self.new) }
         ensures tells { IfOk result (λ told. EndsTelling effects.new.items self.new.executor) }
+        ensures back { IfOk result (λ told. BringsBack effects.old.items effects.new.items self.old back.old.items back.new.items) }
+        ensures given { KeepsGiven self.old.executor self.new.executor }
     {
         loop {
+            back.reserve(1)?;
             let told = self.step_on_slot(caller, effects)?;
             if has_come(&told) {
                 return Ok(told);
             }
+            keep_row(told, effects.as_slice(), back);
         }
     }
 }

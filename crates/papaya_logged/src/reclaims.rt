@@ -1,7 +1,7 @@
 //! All is reclaimed, step by step, while nobody has anything under way.
 ghost use Rattle.std.specs.Prelude.{◌≡◌, ℕ, Bool, List, IfOk, OnOk};
 ghost use Rattle.papaya_schedules.specs.Moment.{Moment};
-ghost use Rattle.papaya_executor.specs.IsAt.{Scene};
+ghost use Rattle.papaya_executor.specs.IsAt.{Scene, KeepsGiven};
 ghost use Rattle.papaya_reclaiming.specs.Reclaiming.{NobodyHas, MayReclaim, IsReclaiming, ReclaimingLeads};
 ghost use Rattle.papaya_logged.specs.Reclaims.{ReclaimingIsShown, ReclaimingRan, ReclaimingSteps};
 ghost use Rattle.papaya_logged.specs.Shown.{IsShown};
@@ -35,6 +35,7 @@ impl<K: Drop, V: Drop, S> Logged<K, V, S> {
         ensures leads { IfOk result (λ told. ReclaimingSteps reclaiming.old.all reclaiming.new.all told effects.old.items effects.new.items self.old self.new) }
         ensures steps { IfOk result (λ told. (same : K → K → Bool) (hash : K → ℕ) (s : Scene K V) (i : ℕ) (lists : ℕ → List ℕ) → IsReclaiming same hash self.old.executor s i lists reclaiming.old.all
             → ReclaimingLeads same hash s i lists self.old.executor self.new.executor reclaiming.old.all reclaiming.new.all told) }
+        ensures given { KeepsGiven self.old.executor self.new.executor }
     {
         let told = reclaiming.step(&mut self.executor);
         self.note(Acting::Row, effects)?;
@@ -50,7 +51,8 @@ impl<K: Drop, V: Drop, S> Logged<K, V, S> {
     ) -> Result<(), AllocError>
         requires { (same : K → K → Bool) × (hash : K → ℕ) × (name : ℕ → List ℕ) × (m : Moment K V) × (s : Scene K V) × (lists : ℕ → List ℕ) × IsShown same hash name m self.old s
             × NobodyHas self.old.executor × MayReclaim self.old.executor s lists taken }
-        ensures { OnOk result (ReclaimingRan taken effects.old.items effects.new.items self.old self.new) }
+        ensures ran { OnOk result (ReclaimingRan taken effects.old.items effects.new.items self.old self.new) }
+        ensures given { KeepsGiven self.old.executor self.new.executor }
     {
         let mut reclaiming = self.begin_reclaiming(taken);
         let mut left = u64::MAX;

@@ -1,5 +1,8 @@
+mod Beginning
+mod Ended
 mod Forms
 mod Happened
+mod LawfulKeys
 mod Left
 mod Logs
 mod Numbers

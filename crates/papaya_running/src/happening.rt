@@ -1,5 +1,6 @@
 //! An event of a schedule happens.
 ghost use Rattle.std.specs.Prelude.{◌≡◌, true, false, IfOk};
+ghost use Rattle.papaya_histories.specs.Given.Executor.IsAt.{StaysGiven, KeepsGiven};
 ghost use Rattle.papaya_running.specs.Asked.{HappensAt, HappensDue, MayHappen, MayHappenDue, is_of_calls, is_of_maps};
 
 use papaya_raw::Hashes;
@@ -20,7 +21,7 @@ fn of_maps<K: Eq + Hash + Drop, V: Drop, S: Hashes<K>>(
     requires due { MayHappenDue K.eq (S.hash scheduler.old.logged.executor.hasher) event scheduler.old }
     requires maps { is_of_maps event ≡ true }
     ensures happens { IfOk result (λ played. HappensDue K.eq (S.hash scheduler.old.logged.executor.hasher) is_first event played scheduler.old scheduler.new) }
-    ensures hasher { scheduler.new.logged.executor.hasher ≡ scheduler.old.logged.executor.hasher }
+    ensures given { StaysGiven scheduler.old.logged.executor scheduler.new.logged.executor }
 {
     match event {
         Event::MakeMap {
@@ -46,7 +47,7 @@ fn of_slots<K: Eq + Hash + Drop, V: Drop, S: Hashes<K>>(
     requires no_maps { is_of_maps event ≡ false }
     requires no_calls { is_of_calls event ≡ false }
     ensures happens { IfOk result (λ played. HappensDue K.eq (S.hash scheduler.old.logged.executor.hasher) is_first event played scheduler.old scheduler.new) }
-    ensures hasher { scheduler.new.logged.executor.hasher ≡ scheduler.old.logged.executor.hasher }
+    ensures given { KeepsGiven scheduler.old.logged.executor scheduler.new.logged.executor }
 {
     match event {
         Event::Collector(setup) => Ok(scheduler.collector(setup, is_first)),
@@ -76,7 +77,7 @@ fn of_calls<K: Eq + Hash + Drop, V: Drop, S: Hashes<K>>(
     requires due { MayHappenDue K.eq (S.hash scheduler.old.logged.executor.hasher) event scheduler.old }
     requires calls { is_of_calls event ≡ true }
     ensures happens { IfOk result (λ played. HappensDue K.eq (S.hash scheduler.old.logged.executor.hasher) is_first event played scheduler.old scheduler.new) }
-    ensures hasher { scheduler.new.logged.executor.hasher ≡ scheduler.old.logged.executor.hasher }
+    ensures given { KeepsGiven scheduler.old.logged.executor scheduler.new.logged.executor }
 {
     match event {
         Event::Begin {
@@ -134,7 +135,7 @@ pub fn happen<K: Eq + Hash + Drop, V: Drop, S: Hashes<K>>(
 ) -> Result<Played<V>, AllocError>
     requires { MayHappen K.eq (S.hash scheduler.old.logged.executor.hasher) scheduler.old }
     ensures happens { IfOk result (λ played. HappensAt K.eq (S.hash scheduler.old.logged.executor.hasher) is_first event played scheduler.old scheduler.new) }
-    ensures hasher { scheduler.new.logged.executor.hasher ≡ scheduler.old.logged.executor.hasher }
+    ensures given { StaysGiven scheduler.old.logged.executor scheduler.new.logged.executor }
 {
     if scheduler.keeps_out(&event) {
         return Ok(scheduler.refuse(event));

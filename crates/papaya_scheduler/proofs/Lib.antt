@@ -1,3 +1,4 @@
+pub mod KeptGiven
 pub mod Rights
 pub mod Quiet
 pub mod Simple

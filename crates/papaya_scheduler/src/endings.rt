@@ -3,6 +3,7 @@ ghost use Rattle.std.specs.Prelude.{◌≡◌, ◌==◌, ℕ, Bool, not, filter,
 ghost use Rattle.std.specs.List.{list_any};
 ghost use Rattle.papaya_runs.specs.Same.{is_same};
 ghost use Rattle.papaya_schedules.specs.declared.event.Event.TheVariants as event;
+ghost use Rattle.papaya_executor.specs.IsAt.{KeepsGiven};
 ghost use Rattle.papaya_scheduler.specs.Mapping.{PlaysEnding};
 ghost use Rattle.papaya_scheduler.specs.Played.{MayPlay};
 
@@ -36,6 +37,7 @@ impl<K: Drop, V: Drop, S> Scheduler<K, V, S> {
         requires { (same : K → K → Bool) × (hash : K → ℕ) × MayPlay same hash (event.EndMap map.now) self.old }
         ensures steps { IfOk result (λ played. played.steps ≡ 0) }
         ensures plays { IfOk result (λ played. (same : K → K → Bool) (hash : K → ℕ) → PlaysEnding same hash (event.EndMap map.now) played self.old self.new) }
+        ensures given { KeepsGiven self.old.logged.executor self.new.logged.executor }
     {
         let Some(number) = self.number_of(map) else {
             return Ok(self.busy());

@@ -3,7 +3,7 @@ ghost use Rattle.std.specs.Prelude.{◌≡◌, ◌<◌, ℕ, nat_lt, Bool, List,
 ghost use Rattle.papaya_runs.specs.Present.{nobody};
 ghost use Rattle.papaya_schedules.specs.Moment.{Moment};
 ghost use Rattle.papaya_schedules.specs.declared.event.Event.TheVariants as event;
-ghost use Rattle.papaya_executor.specs.IsAt.{Scene};
+ghost use Rattle.papaya_executor.specs.IsAt.{Scene, KeepsGiven};
 ghost use Rattle.papaya_logged.specs.Reclaims.{ReclaimingRan};
 ghost use Rattle.papaya_logged.specs.Shown.{IsShown};
 ghost use Rattle.papaya_reclaiming.specs.Reclaiming.{MayReclaim, NobodyHas};
@@ -30,6 +30,7 @@ impl<K: Drop, V: Drop, S> Scheduler<K, V, S> {
             × NobodyHas self.old.logged.executor × MayReclaim self.old.logged.executor s lists (nat_lt 0 (known self.old.logged.notes).buckets) }
         ensures ran { OnOk result (ReclaimingRan (nat_lt 0 (known self.old.logged.notes).buckets) effects.old.items effects.new.items self.old.logged self.new.logged) }
         ensures rest { OnOk result (self.new ≡ record self.old { logged = self.new.logged; there = nobody }) }
+        ensures given { KeepsGiven self.old.logged.executor self.new.logged.executor }
     {
         let taken = self.logged.notes.buckets() > 0;
         self.logged.run_reclaiming(taken, effects)?;
@@ -43,6 +44,7 @@ impl<K: Drop, V: Drop, S> Scheduler<K, V, S> {
         requires { (same : K → K → Bool) × (hash : K → ℕ) × MayReclaimAll same hash event.ReclaimAll self.old }
         ensures steps { IfOk result (λ played. played.steps ≡ 0) }
         ensures plays { IfOk result (λ played. (same : K → K → Bool) (hash : K → ℕ) → PlaysGiving same hash event.ReclaimAll played self.old self.new) }
+        ensures given { KeepsGiven self.old.logged.executor self.new.logged.executor }
     {
         if !self.are_gone() {
             return Ok(self.busy());
@@ -61,6 +63,7 @@ impl<K: Drop, V: Drop, S> Scheduler<K, V, S> {
         requires { (same : K → K → Bool) × (hash : K → ℕ) × MayReclaimAll same hash event.Close self.old }
         ensures steps { IfOk result (λ played. played.steps ≡ 0) }
         ensures plays { IfOk result (λ played. (same : K → K → Bool) (hash : K → ℕ) → PlaysGiving same hash event.Close played self.old self.new) }
+        ensures given { KeepsGiven self.old.logged.executor self.new.logged.executor }
     {
         if !self.are_gone() {
             return Ok(self.busy());

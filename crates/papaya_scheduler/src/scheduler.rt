@@ -1,11 +1,12 @@
 //! The state of a run whose calls stay under way: the executor, and who is there by name.
 ghost use Rattle.std.specs.Prelude.{◌≡◌, ◌<◌, ℕ, Bool, List, [], IfOk, OnOk};
 ghost use Rattle.papaya_schedules.specs.Moment.{Moment};
-ghost use Rattle.papaya_executor.specs.IsAt.{Scene};
+ghost use Rattle.papaya_executor.specs.IsAt.{Scene, KeepsGiven};
 ghost use Rattle.papaya_logged.specs.Shown.{IsShown};
 ghost use Rattle.papaya_executor.specs.OnSlots.{MayBegin};
 ghost use Rattle.papaya_executor.specs.declared.worker.TheConstants.{SLOTS};
 ghost use Rattle.papaya_scheduler.specs.Seen.{free_slot, number_named, setting_named};
+ghost use Rattle.papaya_scheduler.specs.First.{HasJustBegun};
 ghost use Rattle.papaya_scheduler.specs.Played.{IsPlayed, terms_given};
 ghost use Rattle.papaya_rows.specs.Rows.{RowRan, RowRanOn};
 ghost use Rattle.seize_words.specs.declared.fault.Fault.TheVariants.{Busy};
@@ -65,6 +66,7 @@ impl<K: Drop, V: Drop, S: Drop> Scheduler<K, V, S> {
     /// Nobody is there, and there is no map.
     pub fn new(alloc: Global, given: Given, hasher: S) -> Result<Self, AllocError>
         ensures played { IfOk result (λ scheduler. (same : K → K → Bool) (hash : K → ℕ) → IsPlayed same hash (terms_given given) [] scheduler) }
+        ensures begun { IfOk result (HasJustBegun given) }
         ensures hasher { IfOk result (λ scheduler. scheduler.logged.executor.hasher ≡ hasher) }
     {
         let setup = given.setup;
@@ -151,6 +153,7 @@ impl<K: Drop, V: Drop, S> Scheduler<K, V, S> {
         requires begins { MayBegin self.old.logged.executor slot called }
         ensures ran { IfOk result (λ told. RowRan slot called told effects.old.items effects.new.items self.old.logged self.new.logged) }
         ensures rest { self.new ≡ record self.old { logged = self.new.logged } }
+        ensures given { KeepsGiven self.old.logged.executor self.new.logged.executor }
     {
         let caller = self.logged.begin_on_slot(slot, called)?;
         let told = self.logged.run_on_slot(caller, effects)?;
@@ -169,6 +172,7 @@ impl<K: Drop, V: Drop, S> Scheduler<K, V, S> {
         requires begins { MayBegin self.old.logged.executor slot called }
         ensures ran { OnOk result (RowRanOn slot called effects.old.items effects.new.items self.old.logged self.new.logged) }
         ensures rest { self.new ≡ record self.old { logged = self.new.logged } }
+        ensures given { KeepsGiven self.old.logged.executor self.new.logged.executor }
     {
         self.run_row(slot, called, effects)?;
         Ok(())

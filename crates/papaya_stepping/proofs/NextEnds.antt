@@ -20,7 +20,7 @@ use Rattle.papaya_schedules.specs.declared.outcome.Outcome.TheVariants.{Answered
 use Rattle.papaya_schedules.specs.After.{comes_to, is_alone_on, moment, slots_on}
 use Rattle.papaya_schedules.specs.Coming.{shows_now}
 use Rattle.papaya_schedules.specs.Effects.{with_effects}
-use Rattle.papaya_schedules.specs.Entry.{Entry, ends_call}
+use Rattle.papaya_schedules.specs.Entry.{Entry}
 use Rattle.papaya_schedules.specs.InTurn.{IsNext}
 use Rattle.papaya_schedules.specs.Moment.{Stands, UnderWay as CallThere, Moment}
 use Rattle.papaya_schedules.specs.Steps.{MakesSteps, stands_or, weight}
@@ -30,7 +30,6 @@ use Rattle.papaya_histories.specs.Given.Callers.Together.{UnderWay}
 use Rattle.papaya_histories.specs.Given.Effects.Known.{Known, known}
 use Rattle.papaya_histories.specs.Given.Finishes.Machines.{machine_of}
 use Rattle.papaya_histories.specs.Given.Executor.IsAt.{HasCall}
-use Rattle.papaya_histories.specs.Given.Executor.Stepping.{has_ended}
 use Rattle.papaya_histories.specs.Given.Follows.Calling.{come_to}
 use Rattle.papaya_logged.specs.Calling.{CallGoesOn, WalkGoesOn, step_did}
 use Rattle.papaya_logged.specs.Shown.{IsShown}

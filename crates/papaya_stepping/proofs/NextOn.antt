@@ -17,7 +17,6 @@ use Rattle.papaya_schedules.specs.Effects.{with_effects}
 use Rattle.papaya_schedules.specs.Steps.{weight}
 use Rattle.papaya_schedules.specs.Moment.{UnderWay as CallThere, Moment}
 use Rattle.papaya_schedules.specs.Terms.{Terms}
-use Rattle.papaya_schedules.specs.Views.{call_of}
 use Rattle.papaya_histories.specs.Given.Callers.Together.{UnderWay, OnKey, ForRoom, Counting, OverAll, Together}
 use Rattle.papaya_histories.specs.Given.Effects.Known.{known}
 use Rattle.papaya_histories.specs.Given.Effects.declared.acting.Acting.TheVariants as acts
@@ -28,14 +27,14 @@ use Rattle.papaya_histories.specs.Given.Executor.Stepping.{StepLeads, StepsFrom,
 use Rattle.papaya_histories.specs.Given.Executor.declared.executor.Executor.{Executor}
 use Rattle.papaya_histories.proofs.Given.Executor.Changed.{standing_is}
 use Rattle.papaya_histories.proofs.Given.Follows.Calling.{is_same_refl}
-use Rattle.papaya_histories.proofs.Given.Hands.Replacing.{IsOn, calls_after}
+use Rattle.papaya_histories.proofs.Given.Hands.Replacing.{calls_after}
 use Rattle.papaya_logged.specs.Calling.{CallGoesOn, step_did}
 use Rattle.papaya_logged.specs.Shown.{IsShown}
 use Rattle.papaya_logged.specs.declared.logged.Logged.{Logged}
 use Rattle.papaya_histories.proofs.Given.Moments.After.{effects_after}
 use Rattle.papaya_promises.proofs.Weights.{operations_are_single, parts_add_up}
 use Rattle.papaya_scheduler.specs.Played.{StandsAs}
-use Rattle.papaya_scheduler.specs.Seen.{Seen, is_named, seen, seen_of}
+use Rattle.papaya_scheduler.specs.Seen.{Seen, seen, seen_of}
 use Rattle.papaya_stepping.specs.Stepping.{IsMidWalk, IsStepOf, IsWalking, ReadyAt, WalksFar}
 use Rattle.papaya_scheduler.specs.declared.caller.Caller.{Caller}
 use Rattle.papaya_scheduler.specs.declared.caller.Stands.TheVariants as far

@@ -76,7 +76,7 @@ module _ (Is : Fault → Type 0) (long : Is Capacity) {K V : Type 0} (m m2 : Mem
       by (making.Makes table) so s =
           always_ends (MakesFor Is) (value_at m2) (tables.made n table s.0) end
           (made_so Is long n here table s.0 (λ value refused. absurd (was_made (node.Table table.len table.limit table.turn) _ s.0 s.1.1 value refused))) s.2
-      by stage so s = so_always (MakesFor Is) (tables.plan_at n stage) end (plain_so Is long n here stage tt so) s
+      by stage so s = so_always (MakesFor Is) (tables.plan_at n stage) end (plain_so Is long n K V here stage tt so) s
 
   -- of its copying
   module _ (hash : K → ℕ) (p : Copier) (here : SoInCopying Is p.stands) where

@@ -129,7 +129,7 @@ module _ {K V : Type 0} (w : World (Node K V)) (i : ℕ) where
     fresh_held : (p : Copier) (stands : Copying) → CopyingFacts same hash w i setting c blocks p stands → HoldsTables Held p stands
     fresh_held p copying.Announces ((s, before, source, target, cut), done, none) = λ some. held_cut (blocks.table s) p.source.link cut (ap (λ (x : Table). x.link) source.is)
     fresh_held p (copying.Succeeds table) ((s, before, source, target, cut), done, none, is) = λ some. held_cut (blocks.table s) table cut (is ∙ ap (λ (x : Table). x.link) source.is)
-    fresh_held p (copying.Retires settle rest) (s, before, (is, cut), none, further) =
+    fresh_held p (copying.Retires settle rest) (s, before, (is, cut), none, has_done, claims, there) =
         (settle_held settle setting.slot setting.batch_size (blocks.table s) is cut, λ some. absurd (some none))
     fresh_held p _ facts = tt
 
@@ -219,7 +219,7 @@ module _ {K V : Type 0} (w : World (Node K V)) (i : ℕ) where
         by false = held
 
     key_held : (keys : K → Bool) (change : Change) (x : KeyCall K V K) (p : Calling) → CallingFacts same hash same w i setting c blocks keys change x p → HoldsOfCall Held Held p
-    key_held keys change x (calling.Counts removed) (inl (none, more)) = subst (λ (n : ℕ). HoldsAt Held (pair_in_calling (calling.Counts n))) (sym none) tt
+    key_held keys change x (calling.Counts removed) (inl facts) = subst (λ (n : ℕ). HoldsAt Held (pair_in_calling (calling.Counts n))) (sym facts.0) tt
     key_held keys change x (calling.Counts removed) (inr (n, t, borrowed, changed, left, is, table, hand)) =
         counted removed (held_pair n removed (out_of (cond (is_incremental setting.mode) borrowed false) n _ _ hand) (ap block_in is ∙ few n Still borrowed))
     key_held keys change x (calling.Disposes dispose answer) facts = disposed_held dispose facts.0

@@ -1,9 +1,10 @@
 -- Whichever caller takes a step of its end of a map, it may take it, and all stand together again; once it is over, the map has ended.
 use Rattle.std.specs.Prelude.{Option, Some, None, map}
-use Rattle.std.proofs.Common.{◌≡◌, ℕ, ◌<◌, ◌≤◌, Bool, false, List, [], ◌∷◌, ◌++◌, refl, arith, ap, sym, subst, ◌∙◌, inl, inr}
+use Rattle.std.proofs.Common.{◌≡◌, ℕ, ◌<◌, ◌≤◌, ◌⊎◌, Bool, false, List, [], ◌∷◌, ◌++◌, refl, arith, ap, sym, subst, ◌∙◌, inl, inr}
 use Rattle.std.proofs.lemmas.List.{append-nil}
 use Rattle.papaya_callers.specs.Given.SeizeWords.declared.at.At.TheVariants.{Used}
 use Rattle.papaya_callers.specs.Given.SeizeWords.Mem.{Mem, word_at}
+use Rattle.papaya_callers.specs.Given.Seize.Law.{With}
 use Rattle.papaya_callers.specs.Given.Seize.World.{World, Runs, Hand, InUse, IsNotLeft, times, with_at}
 use Rattle.papaya_callers.specs.Given.Seize.declared.rows.settle.Settled.{Settled}
 use Rattle.papaya_callers.specs.Given.Seize.declared.rows.settle.Settled.TheVariants as settled
@@ -13,6 +14,7 @@ use Rattle.papaya_callers.specs.Given.Tables.declared.node.Node.{Node}
 use Rattle.papaya_callers.specs.Given.Raw.declared.machines.end_map.EndMap.{EndMap}
 use Rattle.papaya_callers.specs.Given.Raw.declared.machines.end_map.Ending.{Ending}
 use Rattle.papaya_callers.specs.Given.Raw.declared.machines.end_map.Ending.TheVariants as at
+use Rattle.papaya_callers.specs.Kept.{IsPair}
 use Rattle.papaya_finishes.specs.Makings.{Beginning}
 use Rattle.papaya_finishes.specs.Maps.{Standing}
 use Rattle.papaya_callers.specs.Together.{UnderWay}
@@ -156,8 +158,8 @@ module _ {K Q : Type 0} (V : Type 0) (same : K → K → Bool) (asks : Q → K �
   takes past2 deed its fresh = takes_so same batch_size w i f facts past2 deed its fresh
 
   done_to : (past2 : ℕ) (deed : Deed) → DoesIts same batch_size w i f facts past2 deed → DoesNew same batch_size w i f facts deed → To deed
-  done_to past2 Looks its fresh = record { takes = takes past2 Looks its fresh; leaves = λ x on. none x on; joins = λ x on. none x on }
-  done_to past2 (TakesPair b) its fresh = record { takes = takes past2 (TakesPair b) its fresh; leaves = λ x on. none x on; joins = λ x on. none x on }
+  done_to past2 Looks its fresh = record { takes = takes past2 Looks its fresh; leaves = λ x on. none x on; joins = λ x on. none x on; over = λ x on. none x on }
+  done_to past2 (TakesPair b) its fresh = record { takes = takes past2 (TakesPair b) its fresh; leaves = λ x on. none x on; joins = λ x on. none x on; over = λ x on. none x on }
   done_to past2 (LeavesTable b further) its fresh = record {
     takes = takes past2 (LeavesTable b further) its fresh;
     leaves = λ x on. (elim (some_of_first x b further on) as (λ _. IsNotLeft (w.hand x)) [
@@ -165,16 +167,21 @@ module _ {K Q : Type 0} (V : Type 0) (same : K → K → Bool) (asks : Q → K �
       | inr there ↦ subst IsNotLeft (sym (its.2.theirs x there).0) tt
     ]);
     joins = λ x on. none x on;
+    over = λ x on. (elim (some_of_first x b further on) as (λ _. IsPair w x ⊎ ((times x f.back ≡ 0) × ((t : ℕ) × (f.chart.first ≤ t) × (t < f.chart.past) × (x ≡ f.blocks.table t)))) [
+      | inl e ↦ inr (subst (λ (y : ℕ). times y f.back ≡ 0) (sym e) fresh.0, (facts.past, its.3, its.4, e ∙ its.5))
+      | inr there ↦ inl (facts.theirs facts.past x its.3 (omega arith) its.4 ((its.2.theirs x there).1 ∙ ap With its.5)).pair
+    ]);
   }
   done_to past2 (JoinsPair b word) its fresh = record {
     takes = takes past2 (JoinsPair b word) its fresh;
     leaves = λ x on. none x on;
     joins = λ x on. subst (λ (l : List ℕ). 0 < times x l) (sym facts.waits_are)
         (subst (λ (y : ℕ). 0 < times y (wait_before f.setting f.chart f.blocks facts.lists false facts.past)) (sym (that_one x b on)) its.2);
+    over = λ x on. none x on;
   }
-  done_to past2 (TakesLeft b) its fresh = record { takes = takes past2 (TakesLeft b) its fresh; leaves = λ x on. none x on; joins = λ x on. none x on }
-  done_to past2 (TakesCounter b) its fresh = record { takes = takes past2 (TakesCounter b) its fresh; leaves = λ x on. none x on; joins = λ x on. none x on }
-  done_to past2 (WritesRoot place word) its fresh = record { takes = takes past2 (WritesRoot place word) its fresh; leaves = λ x on. none x on; joins = λ x on. none x on }
+  done_to past2 (TakesLeft b) its fresh = record { takes = takes past2 (TakesLeft b) its fresh; leaves = λ x on. none x on; joins = λ x on. none x on; over = λ x on. none x on }
+  done_to past2 (TakesCounter b) its fresh = record { takes = takes past2 (TakesCounter b) its fresh; leaves = λ x on. none x on; joins = λ x on. none x on; over = λ x on. none x on }
+  done_to past2 (WritesRoot place word) its fresh = record { takes = takes past2 (WritesRoot place word) its fresh; leaves = λ x on. none x on; joins = λ x on. none x on; over = λ x on. none x on }
 
 module _ {K Q : Type 0} (V : Type 0) (same : K → K → Bool) (asks : Q → K → Bool) (batch_size roots : ℕ) (slot : ℕ → ℕ) where
   module _ (w : World (Node K V)) (maps : ℕ → Option (Standing K)) (calls : ℕ → ℕ → Option (UnderWay K V Q)) (makers : ℕ → Option (Beginning K)) (enders : ℕ → Option (Finishing K V))

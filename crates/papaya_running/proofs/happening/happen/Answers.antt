@@ -9,7 +9,7 @@ returns-then-keeps_out g c = record {
       stays_out g.K.PartialEq.eq (g.S.Hashes.hash c.args.scheduler.now.logged.executor.hasher) c.args.event c.args.scheduler.now c.args.is_first c.refuse.new.self c.refuse.result
       c.refuse.ensures.outcome c.refuse.ensures.steps c.refuse.ensures.effects
       (c.refuse.ensures.plays g.K.PartialEq.eq (g.S.Hashes.hash c.args.scheduler.now.logged.executor.hasher)) (sym c.keeps_out.ensures ∙ c.if-keeps_out.true);
-  hasher = ap (λ p. p.logged.executor.hasher) c.refuse.ensures.mapped;
+  given = (ap (λ p. p.logged.executor.hasher) c.refuse.ensures.mapped, ap (λ p. p.logged.executor.batch_size) c.refuse.ensures.mapped, ap (λ p. p.logged.executor.roots) c.refuse.ensures.mapped);
 }
 
 pub of_calls-requires : goal.of_calls-requires
@@ -24,7 +24,7 @@ returns-then-is_of_calls g c = record {
   happens =
       in_turn_if g.K.PartialEq.eq (g.S.Hashes.hash c.args.scheduler.now.logged.executor.hasher) c.args.event c.args.scheduler.now c.args.is_first c.of_calls.new.scheduler c.of_calls.result
       c.of_calls.ensures.happens (sym c.keeps_out.ensures ∙ c.if-keeps_out.false);
-  hasher = c.of_calls.ensures.hasher;
+  given = (c.of_calls.ensures.given.0, c.of_calls.ensures.given.1, c.of_calls.ensures.given.2);
 }
 
 pub of_maps-requires : goal.of_maps-requires
@@ -39,7 +39,7 @@ returns-then-is_of_maps g c = record {
   happens =
       in_turn_if g.K.PartialEq.eq (g.S.Hashes.hash c.args.scheduler.now.logged.executor.hasher) c.args.event c.args.scheduler.now c.args.is_first c.of_maps.new.scheduler c.of_maps.result
       c.of_maps.ensures.happens (sym c.keeps_out.ensures ∙ c.if-keeps_out.false);
-  hasher = c.of_maps.ensures.hasher;
+  given = c.of_maps.ensures.given;
 }
 
 pub of_slots-requires : goal.of_slots-requires
@@ -55,5 +55,5 @@ returns g c = record {
   happens =
       in_turn_if g.K.PartialEq.eq (g.S.Hashes.hash c.args.scheduler.now.logged.executor.hasher) c.args.event c.args.scheduler.now c.args.is_first c.of_slots.new.scheduler c.of_slots.result
       c.of_slots.ensures.happens (sym c.keeps_out.ensures ∙ c.if-keeps_out.false);
-  hasher = c.of_slots.ensures.hasher;
+  given = (c.of_slots.ensures.given.0, c.of_slots.ensures.given.1, c.of_slots.ensures.given.2);
 }

@@ -34,10 +34,10 @@ returns g c =
           let log = log_so events rec in
           let first : c.is_empty.result ≡ ((moment log).events == 0) =
           c.is_empty.ensures ∙ ap (λ (n : ℕ). n == 0) (so.outcomes ∙ sym (long eq hash terms events rec tally c.args.scheduler.now so) ∙ sym (events_are log)) in
-          subst (λ h. SoFar eq (g.S.Hashes.hash h) terms _ c.add.new.self tally2 c.happen.new.scheduler) (sym c.happen.ensures.hasher)
+          subst (λ h. SoFar eq (g.S.Hashes.hash h) terms _ c.add.new.self tally2 c.happen.new.scheduler) (sym c.happen.ensures.given.0)
           (next_so eq hash terms events rec tally c.args.scheduler.now so c.args.event played tally2 told c.add.new.self outcomes steps effects
           (subst (λ t. c.add.new.self.trace.items ≡ rec.trace.items ++ (if is_busy played.outcome then single.Whole (length rec.outcomes.items) ∷ [] else singles_as (length rec.outcomes.items) t played.steps))
           c.traced.ensures trace)
-          (goes_so eq hash so.holds.stands.name terms log _ c.happen.new.scheduler (c.in_ok-played.ensures.asked terms log so.holds) (c.in_ok-played.ensures.happens terms log first so.holds))
+          (goes_so eq hash terms log _ c.happen.new.scheduler (c.in_ok-played.ensures.happens terms log first so.holds))
           (c.in_ok-played.ensures.holds terms log so.holds)));
     }

@@ -2,10 +2,11 @@
 use Rattle.std.proofs.Common.{sym, ◌∙◌}
 use Rattle.papaya_logged.proofs.EndSteps.{end_is_over}
 use Rattle.papaya_logged.proofs.EndsRun.{ends_none, ends_last, still_ending, ran_goes, ending_less}
+use Rattle.papaya_logged.proofs.KeptGiven.{given_none, given_on}
 use Rattle.papaya_logged.proofs.logged.Logged.run_end.Goals as goal
 
 pub loop-told-init : goal.loop-told-init
-loop-told-init g c = record { ran = ends_none c.args.caller c.args.map c.args.self.now c.args.effects.now.items }
+loop-told-init g c = record { ran = ends_none c.args.caller c.args.map c.args.self.now c.args.effects.now.items; given = given_none c.args.self.now.executor }
 
 pub step_end-requires : goal.step_end-requires
 step_end-requires g c =
@@ -21,6 +22,12 @@ returns-then-is_done-clause-ran g c =
 pub returns-then-is_done-clause-over : goal.returns-then-is_done-clause-over
 returns-then-is_done-clause-over g c = end_is_over _
 
+pub returns-then-is_done-clause-given : goal.returns-then-is_done-clause-given
+returns-then-is_done-clause-given g c = given_on c.args.self.now.executor c.loop-told.self.executor c.step_end.new.self.executor c.loop-told.invariant.given c.step_end.ensures.given
+
+pub returns-in_err-told-clause-given : goal.returns-in_err-told-clause-given
+returns-in_err-told-clause-given g c = given_on c.args.self.now.executor c.loop-told.self.executor c.step_end.new.self.executor c.loop-told.invariant.given c.step_end.ensures.given
+
 pub loop-told-smaller-else-is_done : goal.loop-told-smaller-else-is_done
 loop-told-smaller-else-is_done g c =
     let r = c.requires in
@@ -31,7 +38,10 @@ pub loop-told-preserved-else-is_done : goal.loop-told-preserved-else-is_done
 loop-told-preserved-else-is_done g c =
     let r = c.requires in
     let e = c.in_ok-told.ensures in
-    record { ran = ran_goes c.args.caller c.args.map r.0 r.1 r.2 _ _ _ _ _ _ c.in_ok-told.told r.3 r.4 c.loop-told.invariant.ran e.leads e.steps (sym c.is_done.ensures ∙ c.if-is_done.false) }
+    record {
+      ran = ran_goes c.args.caller c.args.map r.0 r.1 r.2 _ _ _ _ _ _ c.in_ok-told.told r.3 r.4 c.loop-told.invariant.ran e.leads e.steps (sym c.is_done.ensures ∙ c.if-is_done.false);
+      given = given_on c.args.self.now.executor c.loop-told.self.executor c.step_end.new.self.executor c.loop-told.invariant.given c.step_end.ensures.given;
+    }
 
 pub loop-told-smaller-else-is_done-2 : goal.loop-told-smaller-else-is_done-2
 loop-told-smaller-else-is_done-2 g c =
@@ -43,7 +53,10 @@ pub loop-told-preserved-else-is_done-2 : goal.loop-told-preserved-else-is_done-2
 loop-told-preserved-else-is_done-2 g c =
     let r = c.requires in
     let e = c.in_ok-told.ensures in
-    record { ran = ran_goes c.args.caller c.args.map r.0 r.1 r.2 _ _ _ _ _ _ c.in_ok-told.told r.3 r.4 c.loop-told.invariant.ran e.leads e.steps (sym c.is_done.ensures ∙ c.if-is_done.false) }
+    record {
+      ran = ran_goes c.args.caller c.args.map r.0 r.1 r.2 _ _ _ _ _ _ c.in_ok-told.told r.3 r.4 c.loop-told.invariant.ran e.leads e.steps (sym c.is_done.ensures ∙ c.if-is_done.false);
+      given = given_on c.args.self.now.executor c.loop-told.self.executor c.step_end.new.self.executor c.loop-told.invariant.given c.step_end.ensures.given;
+    }
 
 pub loop-told-smaller : goal.loop-told-smaller
 loop-told-smaller g c =
@@ -55,4 +68,7 @@ pub loop-told-preserved : goal.loop-told-preserved
 loop-told-preserved g c =
     let r = c.requires in
     let e = c.in_ok-told.ensures in
-    record { ran = ran_goes c.args.caller c.args.map r.0 r.1 r.2 _ _ _ _ _ _ c.in_ok-told.told r.3 r.4 c.loop-told.invariant.ran e.leads e.steps (sym c.is_done.ensures ∙ c.if-is_done.false) }
+    record {
+      ran = ran_goes c.args.caller c.args.map r.0 r.1 r.2 _ _ _ _ _ _ c.in_ok-told.told r.3 r.4 c.loop-told.invariant.ran e.leads e.steps (sym c.is_done.ensures ∙ c.if-is_done.false);
+      given = given_on c.args.self.now.executor c.loop-told.self.executor c.step_end.new.self.executor c.loop-told.invariant.given c.step_end.ensures.given;
+    }

@@ -1,11 +1,18 @@
 -- Each step may be taken, leads on, and leaves less to go, until the row has come so far.
 use Rattle.std.proofs.Common.{refl, suc, sym, ◌∙◌}
 use Rattle.papaya_effects.specs.Known.{known}
+use Rattle.papaya_logged.proofs.KeptGiven.{given_none, given_on}
 use Rattle.papaya_logged.proofs.Runs.{ends_at_first, ends_now, ran_none, ran_on, run_goes, still_there}
 use Rattle.papaya_logged.proofs.logged.Logged.run_on_slot.Goals as goal
 
 pub loop-told-init : goal.loop-told-init
-loop-told-init g c = record { ran = ran_none c.args.self.now c.args.effects.now.items; goes = (0, refl); used = ends_at_first c.args.caller c.args.self.now; under = (c.requires.4, c.requires.5) }
+loop-told-init g c = record {
+  ran = ran_none c.args.self.now c.args.effects.now.items;
+  goes = (0, refl);
+  used = ends_at_first c.args.caller c.args.self.now;
+  under = (c.requires.4, c.requires.5);
+  given = given_none c.args.self.now.executor;
+}
 
 pub step_on_slot-requires : goal.step_on_slot-requires
 step_on_slot-requires g c =
@@ -41,6 +48,12 @@ returns-then-has_come-clause-ran g c =
 pub returns-then-has_come-clause-tells : goal.returns-then-has_come-clause-tells
 returns-then-has_come-clause-tells g c = (known c.loop-told.self.notes, c.loop-told.effects.items, c.in_ok-told.ensures.did)
 
+pub returns-then-has_come-clause-given : goal.returns-then-has_come-clause-given
+returns-then-has_come-clause-given g c = given_on c.args.self.now.executor c.loop-told.self.executor c.step_on_slot.new.self.executor c.loop-told.invariant.given c.step_on_slot.ensures.given
+
+pub returns-in_err-told-clause-given : goal.returns-in_err-told-clause-given
+returns-in_err-told-clause-given g c = given_on c.args.self.now.executor c.loop-told.self.executor c.step_on_slot.new.self.executor c.loop-told.invariant.given c.step_on_slot.ensures.given
+
 pub loop-told-smaller-else-has_come : goal.loop-told-smaller-else-has_come
 loop-told-smaller-else-has_come g c =
     let r = c.requires in
@@ -60,6 +73,7 @@ loop-told-preserved-else-has_come g c =
       goes = (suc i.goes.0, (c.loop-told.self.executor, c.in_ok-told.told, i.goes.1, sym c.has_come.ensures ∙ c.if-has_come.false, e.steps));
       used = on.used;
       under = on.under;
+      given = given_on c.args.self.now.executor c.loop-told.self.executor c.step_on_slot.new.self.executor c.loop-told.invariant.given c.step_on_slot.ensures.given;
     }
 
 pub loop-told-smaller-else-has_come-2 : goal.loop-told-smaller-else-has_come-2
@@ -81,6 +95,7 @@ loop-told-preserved-else-has_come-2 g c =
       goes = (suc i.goes.0, (c.loop-told.self.executor, c.in_ok-told.told, i.goes.1, sym c.has_come.ensures ∙ c.if-has_come.false, e.steps));
       used = on.used;
       under = on.under;
+      given = given_on c.args.self.now.executor c.loop-told.self.executor c.step_on_slot.new.self.executor c.loop-told.invariant.given c.step_on_slot.ensures.given;
     }
 
 pub loop-told-smaller : goal.loop-told-smaller
@@ -102,4 +117,5 @@ loop-told-preserved g c =
       goes = (suc i.goes.0, (c.loop-told.self.executor, c.in_ok-told.told, i.goes.1, sym c.has_come.ensures ∙ c.if-has_come.false, e.steps));
       used = on.used;
       under = on.under;
+      given = given_on c.args.self.now.executor c.loop-told.self.executor c.step_on_slot.new.self.executor c.loop-told.invariant.given c.step_on_slot.ensures.given;
     }

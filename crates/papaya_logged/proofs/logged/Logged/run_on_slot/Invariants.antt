@@ -1,6 +1,6 @@
 -- What a run keeps from step to step, and what each step lowers.
 use Rattle.std.specs.Prelude.{◌≡◌, ℕ, Some}
-use Rattle.papaya_executor.specs.IsAt.{work_of}
+use Rattle.papaya_executor.specs.IsAt.{KeepsGiven, work_of}
 use Rattle.papaya_executor.specs.declared.row.SlotRow.{SlotRow}
 use Rattle.papaya_executor.specs.declared.worker.Work.TheVariants.{OnSlot}
 use Rattle.papaya_logged.specs.OnSlots.{GoesOnFor, OnSlotRan}
@@ -8,13 +8,14 @@ use Rattle.papaya_logged.proofs.RowsFall.{steps_left_of}
 use Rattle.papaya_logged.proofs.Runs.{EndsAs}
 use Rattle.papaya_logged.proofs.logged.Logged.run_on_slot.Given as goal
 
--- the row is under way, and what it did stands in the list
+-- the row is under way, what it did stands in the list, and what the executor was given stays
 abbrev pub invariant-loop-told : goal.invariant-loop-told
 invariant-loop-told g l = record {
   ran : OnSlotRan l.fn.effects.items l.effects.items l.fn.self l.self;
   goes : (n : ℕ) × GoesOnFor l.fn.caller n l.fn.self.executor l.self.executor;
   used : EndsAs l.fn.self l.self l.fn.caller;
   under : (row : SlotRow) × (work_of l.self.executor l.fn.caller ≡ Some (OnSlot row));
+  given : KeepsGiven l.fn.self.executor l.self.executor;
 }
 
 abbrev pub decreases-loop-told : goal.decreases-loop-told

@@ -1,32 +1,51 @@
 -- Each step may be taken, and leads on, until nothing is left.
 use Rattle.std.proofs.Common.{sym, ◌∙◌}
+use Rattle.papaya_logged.proofs.KeptGiven.{given_none, given_on}
 use Rattle.papaya_logged.proofs.ReclaimsRun.{reclaims_none, reclaims_on, reclaims_last}
 use Rattle.papaya_logged.proofs.logged.Logged.run_reclaiming.Goals as goal
 
 pub loop-left-init : goal.loop-left-init
-loop-left-init g c = reclaims_none c.args.self.now c.args.effects.now.items c.begin_reclaiming-reclaiming.result.all
+loop-left-init g c = record { so_far = reclaims_none c.args.self.now c.args.effects.now.items c.begin_reclaiming-reclaiming.result.all; given = given_none c.args.self.now.executor }
 
 pub step_reclaiming-requires : goal.step_reclaiming-requires
 step_reclaiming-requires g c =
     let r = c.requires in
     let first = c.begin_reclaiming-reclaiming.ensures r.0 r.1 r.2 r.3 r.4 0 r.5 r.6 r.7 r.8 in
-    let u = c.loop-left.invariant.2 r.0 r.1 r.4 0 r.5 first.under_way in
+    let u = c.loop-left.invariant.so_far.2 r.0 r.1 r.4 0 r.5 first.under_way in
     (r.0, r.1, u.0, 0, u.1, u.2)
 
 pub loop-left-preserved-else-is_done : goal.loop-left-preserved-else-is_done
 loop-left-preserved-else-is_done g c =
-    reclaims_on _ _ _ c.args.self.now c.loop-left.self c.step_reclaiming.new.self _ _ _ c.loop-left.invariant c.in_ok-told.told c.in_ok-told.ensures.leads c.in_ok-told.ensures.steps (sym c.is_done.ensures ∙ c.if-is_done.false)
+    record {
+      so_far = reclaims_on _ _ _ c.args.self.now c.loop-left.self c.step_reclaiming.new.self _ _ _ c.loop-left.invariant.so_far c.in_ok-told.told c.in_ok-told.ensures.leads c.in_ok-told.ensures.steps (sym c.is_done.ensures ∙ c.if-is_done.false);
+      given = given_on c.args.self.now.executor c.loop-left.self.executor c.step_reclaiming.new.self.executor c.loop-left.invariant.given c.step_reclaiming.ensures.given;
+    }
 
 pub loop-left-preserved-else-is_done-2 : goal.loop-left-preserved-else-is_done-2
 loop-left-preserved-else-is_done-2 g c =
-    reclaims_on _ _ _ c.args.self.now c.loop-left.self c.step_reclaiming.new.self _ _ _ c.loop-left.invariant c.in_ok-told.told c.in_ok-told.ensures.leads c.in_ok-told.ensures.steps (sym c.is_done.ensures ∙ c.if-is_done.false)
+    record {
+      so_far = reclaims_on _ _ _ c.args.self.now c.loop-left.self c.step_reclaiming.new.self _ _ _ c.loop-left.invariant.so_far c.in_ok-told.told c.in_ok-told.ensures.leads c.in_ok-told.ensures.steps (sym c.is_done.ensures ∙ c.if-is_done.false);
+      given = given_on c.args.self.now.executor c.loop-left.self.executor c.step_reclaiming.new.self.executor c.loop-left.invariant.given c.step_reclaiming.ensures.given;
+    }
 
 pub loop-left-preserved : goal.loop-left-preserved
 loop-left-preserved g c =
-    reclaims_on _ _ _ c.args.self.now c.loop-left.self c.step_reclaiming.new.self _ _ _ c.loop-left.invariant c.in_ok-told.told c.in_ok-told.ensures.leads c.in_ok-told.ensures.steps (sym c.is_done.ensures ∙ c.if-is_done.false)
+    record {
+      so_far = reclaims_on _ _ _ c.args.self.now c.loop-left.self c.step_reclaiming.new.self _ _ _ c.loop-left.invariant.so_far c.in_ok-told.told c.in_ok-told.ensures.leads c.in_ok-told.ensures.steps (sym c.is_done.ensures ∙ c.if-is_done.false);
+      given = given_on c.args.self.now.executor c.loop-left.self.executor c.step_reclaiming.new.self.executor c.loop-left.invariant.given c.step_reclaiming.ensures.given;
+    }
 
-pub returns-then-is_done : goal.returns-then-is_done
-returns-then-is_done g c =
+pub returns-then-is_done-clause-ran : goal.returns-then-is_done-clause-ran
+returns-then-is_done-clause-ran g c =
     reclaims_last c.args.taken _ _ _ c.args.self.now c.loop-left.self c.step_reclaiming.new.self _ _ _
-    (λ same hash name m s i lists shown nobody may. c.begin_reclaiming-reclaiming.ensures same hash name m s i lists shown nobody may) c.loop-left.invariant c.in_ok-told.told (sym c.is_done.ensures ∙ c.if-is_done.true)
+    (λ same hash name m s i lists shown nobody may. c.begin_reclaiming-reclaiming.ensures same hash name m s i lists shown nobody may) c.loop-left.invariant.so_far c.in_ok-told.told (sym c.is_done.ensures ∙ c.if-is_done.true)
     c.in_ok-told.ensures.leads c.in_ok-told.ensures.steps
+
+pub returns-then-is_done-clause-given : goal.returns-then-is_done-clause-given
+returns-then-is_done-clause-given g c = given_on c.args.self.now.executor c.loop-left.self.executor c.step_reclaiming.new.self.executor c.loop-left.invariant.given c.step_reclaiming.ensures.given
+
+pub returns-in_err-told-clause-given : goal.returns-in_err-told-clause-given
+returns-in_err-told-clause-given g c = given_on c.args.self.now.executor c.loop-left.self.executor c.step_reclaiming.new.self.executor c.loop-left.invariant.given c.step_reclaiming.ensures.given
+
+pub returns-clause-given : goal.returns-clause-given
+returns-clause-given g c = c.loop-left.invariant.given

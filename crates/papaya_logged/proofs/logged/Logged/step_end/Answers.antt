@@ -3,14 +3,21 @@ use Rattle.std.proofs.Common.{sym, subst}
 use Rattle.papaya_executor.specs.Ending.{EndingLeads}
 use Rattle.papaya_executor.specs.declared.executor.Executor.{Executor}
 use Rattle.papaya_logged.proofs.EndSteps.{end_steps}
+use Rattle.papaya_logged.proofs.KeptGiven.{given_noted}
 use Rattle.papaya_logged.proofs.logged.Logged.step_end.Goals as goal
 
 pub returns-clause-leads : goal.returns-clause-leads
 returns-clause-leads g c =
     end_steps c.args.self.now c.note.new.self c.step_ending-told.new.self c.args.caller c.args.map c.step_ending-told.result c.args.effects.now.items c.note.new.effects.items
-    (λ same hash v at. c.step_ending-told.ensures same hash v at) c.in_ok-note.ensures.did c.in_ok-note.ensures.known c.note.ensures.executor
+    (λ same hash v at. c.step_ending-told.ensures.leads same hash v at) c.in_ok-note.ensures.did c.in_ok-note.ensures.known c.note.ensures.executor
 
 pub returns-clause-steps : goal.returns-clause-steps
 returns-clause-steps g c = λ same hash s at.
     subst (λ (e : Executor _ _ _). EndingLeads same hash c.args.caller c.step_ending-told.result s c.args.self.now.executor e) (sym c.note.ensures.executor)
-    (c.step_ending-told.ensures same hash s at)
+    (c.step_ending-told.ensures.leads same hash s at)
+
+pub returns-in_err-note-clause-given : goal.returns-in_err-note-clause-given
+returns-in_err-note-clause-given g c = given_noted c.args.self.now.executor c.step_ending-told.new.self c.note.new.self.executor c.step_ending-told.ensures.given c.note.ensures.executor
+
+pub returns-clause-given : goal.returns-clause-given
+returns-clause-given g c = given_noted c.args.self.now.executor c.step_ending-told.new.self c.note.new.self.executor c.step_ending-told.ensures.given c.note.ensures.executor

@@ -5,6 +5,7 @@ use Rattle.papaya_effects.specs.Known.{known}
 use Rattle.papaya_effects.specs.declared.acting.Acting.TheVariants.{Making}
 use Rattle.papaya_executor.specs.Making.{MakingLeads}
 use Rattle.papaya_executor.specs.declared.executor.Executor.{Executor}
+use Rattle.papaya_logged.proofs.KeptGiven.{given_noted}
 use Rattle.papaya_logged.proofs.MakingSteps.{making_steps}
 use Rattle.papaya_logged.proofs.logged.Logged.step_making.Goals as goal
 
@@ -25,3 +26,9 @@ pub returns-clause-did : goal.returns-clause-did
 returns-clause-did g c =
     c.in_ok-note.ensures.did
     ∙ ap (λ (e : Executor _ _ _). c.args.effects.now.items ++ effects_of (Making c.args.map) (known c.args.self.now.notes) e.memory.changed) (sym c.note.ensures.executor)
+
+pub returns-in_err-note-clause-given : goal.returns-in_err-note-clause-given
+returns-in_err-note-clause-given g c = given_noted c.args.self.now.executor c.step_making-told.new.self c.note.new.self.executor c.step_making-told.ensures.given c.note.ensures.executor
+
+pub returns-clause-given : goal.returns-clause-given
+returns-clause-given g c = given_noted c.args.self.now.executor c.step_making-told.new.self c.note.new.self.executor c.step_making-told.ensures.given c.note.ensures.executor

@@ -5,20 +5,27 @@ use Rattle.papaya_effects.specs.Known.{known}
 use Rattle.papaya_effects.specs.declared.acting.Acting.TheVariants.{Row}
 use Rattle.papaya_executor.specs.OnSlots.{RowLeads}
 use Rattle.papaya_executor.specs.declared.executor.Executor.{Executor}
+use Rattle.papaya_logged.proofs.KeptGiven.{given_noted}
 use Rattle.papaya_logged.proofs.OnSlots.{on_slot_steps}
 use Rattle.papaya_logged.proofs.logged.Logged.step_on_slot.Goals as goal
 
 pub returns-clause-leads : goal.returns-clause-leads
 returns-clause-leads g c =
     on_slot_steps c.args.self.now c.note.new.self c.step_on_slot-told.new.self c.args.caller c.step_on_slot-told.result c.args.effects.now.items c.note.new.effects.items
-    (λ same hash v at. c.step_on_slot-told.ensures same hash v at) c.in_ok-note.ensures.did c.in_ok-note.ensures.known c.note.ensures.executor
+    (λ same hash v at. c.step_on_slot-told.ensures.leads same hash v at) c.in_ok-note.ensures.did c.in_ok-note.ensures.known c.note.ensures.executor
 
 pub returns-clause-steps : goal.returns-clause-steps
 returns-clause-steps g c = λ same hash s at.
     subst (λ (e : Executor _ _ _). RowLeads same hash c.args.caller c.step_on_slot-told.result s c.args.self.now.executor e) (sym c.note.ensures.executor)
-    (c.step_on_slot-told.ensures same hash s at)
+    (c.step_on_slot-told.ensures.leads same hash s at)
 
 pub returns-clause-did : goal.returns-clause-did
 returns-clause-did g c =
     c.in_ok-note.ensures.did
     ∙ ap (λ (e : Executor _ _ _). c.args.effects.now.items ++ effects_of Row (known c.args.self.now.notes) e.memory.changed) (sym c.note.ensures.executor)
+
+pub returns-in_err-note-clause-given : goal.returns-in_err-note-clause-given
+returns-in_err-note-clause-given g c = given_noted c.args.self.now.executor c.step_on_slot-told.new.self c.note.new.self.executor c.step_on_slot-told.ensures.given c.note.ensures.executor
+
+pub returns-clause-given : goal.returns-clause-given
+returns-clause-given g c = given_noted c.args.self.now.executor c.step_on_slot-told.new.self c.note.new.self.executor c.step_on_slot-told.ensures.given c.note.ensures.executor

@@ -2,15 +2,22 @@
 use Rattle.std.proofs.Common.{subst, sym}
 use Rattle.papaya_executor.specs.declared.executor.Executor.{Executor}
 use Rattle.papaya_reclaiming.specs.Reclaiming.{ReclaimingLeads}
-use Rattle.papaya_logged.proofs.ReclaimSteps.{reclaiming_steps}
+use Rattle.papaya_logged.proofs.KeptGiven.{given_noted}
+use Rattle.papaya_logged.proofs.ReclaimsOn.{reclaiming_steps}
 use Rattle.papaya_logged.proofs.logged.Logged.step_reclaiming.Goals as goal
 
 pub returns-clause-leads : goal.returns-clause-leads
 returns-clause-leads g c =
     reclaiming_steps c.args.self.now c.note.new.self c.step-told.new.executor c.args.reclaiming.now.all c.step-told.new.self.all c.step-told.result c.args.effects.now.items c.note.new.effects.items
-    (λ same hash s i lists at. c.step-told.ensures same hash s i lists at) c.in_ok-note.ensures.did c.in_ok-note.ensures.known c.note.ensures.executor
+    (λ same hash s i lists at. c.step-told.ensures.leads same hash s i lists at) c.in_ok-note.ensures.did c.in_ok-note.ensures.known c.note.ensures.executor
 
 pub returns-clause-steps : goal.returns-clause-steps
 returns-clause-steps g c = λ same hash s i lists at.
     subst (λ (e : Executor _ _ _). ReclaimingLeads same hash s i lists c.args.self.now.executor e c.args.reclaiming.now.all c.step-told.new.self.all c.step-told.result) (sym c.note.ensures.executor)
-    (c.step-told.ensures same hash s i lists at)
+    (c.step-told.ensures.leads same hash s i lists at)
+
+pub returns-in_err-note-clause-given : goal.returns-in_err-note-clause-given
+returns-in_err-note-clause-given g c = given_noted c.args.self.now.executor c.step-told.new.executor c.note.new.self.executor c.step-told.ensures.given c.note.ensures.executor
+
+pub returns-clause-given : goal.returns-clause-given
+returns-clause-given g c = given_noted c.args.self.now.executor c.step-told.new.executor c.note.new.self.executor c.step-told.ensures.given c.note.ensures.executor

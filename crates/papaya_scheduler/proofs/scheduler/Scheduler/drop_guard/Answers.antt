@@ -6,6 +6,7 @@ use Rattle.papaya_schedules.specs.declared.outcome.Outcome.TheVariants.{Refused}
 use Rattle.papaya_executor.specs.OnSlots.{MayBegin}
 use Rattle.papaya_executor.specs.declared.row.SlotCall.{SlotCall}
 use Rattle.papaya_scheduler.proofs.Drops.{not_free, may_leave, its_fits, joined, joined_alone}
+use Rattle.papaya_scheduler.proofs.KeptGiven.{given_as, given_still}
 use Rattle.papaya_scheduler.proofs.Rights.{so_played}
 use Rattle.papaya_scheduler.proofs.scheduler.Scheduler.drop_guard.Goals as goal
 use Rattle.papaya_scheduler.proofs.scheduler.Scheduler.drop_guard.Goals.{then-guards_on-eq1+in_ok-do_row, else-guards_on-eq1}
@@ -41,3 +42,10 @@ returns-clause-plays g c =
             joined same hash terms log c.args.self.now c.args.guard.now due c.in-Some.slot free c.if-guards_on-eq1.self c.if-guards_on-eq1.effects.items c.leave.new.self c.leave.ensures
             (λ z. w.if-guards_on-eq1.false (c.guards_on.ensures ∙ z)) w.self-is (ap (λ v. v.items) w.effects-is ∙ c.no_effects-effects.ensures)
       ]
+
+pub returns-clause-given : goal.returns-clause-given
+returns-clause-given g c =
+    elim c.if-guards_on-eq1.branch [
+      | then-guards_on-eq1+in_ok-do_row w ↦ given_as c.args.self.now w.do_row.new.self c.if-guards_on-eq1.self w.do_row.ensures.given w.self-is
+      | else-guards_on-eq1 w ↦ given_still c.args.self.now c.if-guards_on-eq1.self w.self-is
+    ]

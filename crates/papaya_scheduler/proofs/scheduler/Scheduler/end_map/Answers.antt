@@ -4,6 +4,7 @@ use Rattle.seize_words.specs.declared.fault.Fault.TheVariants.{Busy}
 use Rattle.papaya_schedules.specs.After.{moment}
 use Rattle.papaya_schedules.specs.declared.event.Event.TheVariants.{EndMap}
 use Rattle.papaya_schedules.specs.declared.outcome.Outcome.TheVariants.{Refused}
+use Rattle.papaya_logged.proofs.KeptGiven.{given_on}
 use Rattle.papaya_scheduler.proofs.Maps.{stands_by}
 use Rattle.papaya_scheduler.proofs.MapsEnded.{not_there, has_calls, may_run, ended}
 use Rattle.papaya_scheduler.proofs.Rights.{so_played}
@@ -40,3 +41,9 @@ returns-clause-plays g c =
       ended same hash terms log c.args.self.now c.args.map.now due c.in-Some.number (sym c.number_of.ensures ∙ c.in-Some.is) (sym c.are_on.ensures ∙ c.if-are_on.false) c.begin_end.new.self c.in_ok-caller.caller
       (c.in_ok-caller.ensures.leads same hash due.played.name (moment log) due.played.scene due.played.shown) c.run_end.new.self c.no_effects-effects.result.items c.run_end.new.effects.items
       c.no_effects-effects.ensures c.in_ok-run_end.ensures.ran c.in_ok-run_end.ensures.over apart _ refl refl c.without.ensures
+
+pub returns-in_err-run_end-clause-given : goal.returns-in_err-run_end-clause-given
+returns-in_err-run_end-clause-given g c = given_on c.args.self.now.logged.executor c.begin_end.new.self.executor c.run_end.new.self.executor c.begin_end.ensures.given c.run_end.ensures.given
+
+pub returns-clause-given : goal.returns-clause-given
+returns-clause-given g c = given_on c.args.self.now.logged.executor c.begin_end.new.self.executor c.run_end.new.self.executor c.begin_end.ensures.given c.run_end.ensures.given

@@ -5,6 +5,7 @@ use Rattle.seize_words.specs.declared.fault.Fault.TheVariants.{Busy, GuardsFull}
 use Rattle.papaya_schedules.specs.declared.event.Event.TheVariants.{Enter}
 use Rattle.papaya_schedules.specs.declared.outcome.Outcome.TheVariants.{Refused}
 use Rattle.papaya_scheduler.proofs.Enters.{guard_there, no_registration, full, may_enter, fits, joined, joined_first}
+use Rattle.papaya_scheduler.proofs.KeptGiven.{given_as, given_still}
 use Rattle.papaya_scheduler.proofs.Rights.{so_played}
 use Rattle.papaya_scheduler.proofs.scheduler.Scheduler.enter.Goals.{then-guards-eq0+in_ok-do_row, else-guards-eq0}
 use Rattle.papaya_scheduler.proofs.scheduler.Scheduler.enter.Goals as goal
@@ -57,3 +58,17 @@ returns-clause-plays g c =
             joined same hash terms log c.args.self.now c.args.guard c.args.registration.now due none c.in-Some.slot found few c.if-guards-eq0.self c.if-guards-eq0.effects.items c.enter.new.self
             c.in_ok-enter.ensures (λ z. w.if-guards-eq0.false (c.guards_on-guards.ensures ∙ z)) w.self-is (ap (λ v. v.items) w.effects-is ∙ c.no_effects-effects.ensures)
       ]
+
+pub returns-in_err-enter-clause-given : goal.returns-in_err-enter-clause-given
+returns-in_err-enter-clause-given g c =
+    elim c.if-guards-eq0.branch [
+      | then-guards-eq0+in_ok-do_row w ↦ given_as c.args.self.now w.do_row.new.self c.if-guards-eq0.self w.do_row.ensures.given w.self-is
+      | else-guards-eq0 w ↦ given_still c.args.self.now c.if-guards-eq0.self w.self-is
+    ]
+
+pub returns-clause-given : goal.returns-clause-given
+returns-clause-given g c =
+    elim c.if-guards-eq0.branch [
+      | then-guards-eq0+in_ok-do_row w ↦ given_as c.args.self.now w.do_row.new.self c.if-guards-eq0.self w.do_row.ensures.given w.self-is
+      | else-guards-eq0 w ↦ given_still c.args.self.now c.if-guards-eq0.self w.self-is
+    ]

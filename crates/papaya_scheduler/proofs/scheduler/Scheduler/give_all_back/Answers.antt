@@ -5,4 +5,4 @@ use Rattle.papaya_scheduler.proofs.scheduler.Scheduler.give_all_back.Goals as go
 
 pub returns-clause-ran : goal.returns-clause-ran
 returns-clause-ran g c =
-    subst (λ (n : ℕ). ReclaimingRan (nat_lt 0 n) c.args.effects.now.items c.run_reclaiming.new.effects.items c.args.self.now.logged c.run_reclaiming.new.self) c.buckets-taken.ensures c.in_ok-run_reclaiming.ensures
+    subst (λ (n : ℕ). ReclaimingRan (nat_lt 0 n) c.args.effects.now.items c.run_reclaiming.new.effects.items c.args.self.now.logged c.run_reclaiming.new.self) c.buckets-taken.ensures c.in_ok-run_reclaiming.ensures.ran

@@ -4,6 +4,7 @@ use Rattle.seize.specs.declared.progress.Progress.{Progress}
 use Rattle.papaya_histories.specs.Given.Tables.declared.setting.Setting.{Setting}
 use Rattle.papaya_logged.specs.Makings.{MakingRan}
 use Rattle.papaya_logged.specs.Roots.{MakingFinds}
+use Rattle.papaya_logged.proofs.KeptGiven.{stays_on}
 use Rattle.seize_words.specs.declared.fault.Fault.TheVariants.{Busy, RootsUsedUp}
 use Rattle.papaya_schedules.specs.After.{moment}
 use Rattle.papaya_schedules.specs.declared.event.Event.TheVariants.{MakeMap}
@@ -65,3 +66,15 @@ returns-in_ok-push-in-Done-clause-plays g c =
       (c.in_ok-caller.ensures.leads same hash may.due.played.name (moment log) may.due.played.scene may.due.played.shown) c.len-number.result count c.in-Done.field-0 c.run_making.new.self
       c.no_effects-effects.result.items c.run_making.new.effects.items c.no_effects-effects.ensures c.in_ok-caller.ensures.there (subst (λ (x : Progress Setting). MakingRan c.in_ok-caller.caller c.len-number.result x c.no_effects-effects.result.items c.run_making.new.effects.items c.begin_making.new.self c.run_making.new.self) c.in-Done.is c.in_ok-told.ensures.ran)
       (subst (λ (x : Progress Setting). MakingFinds c.in_ok-caller.caller c.len-number.result x c.no_effects-effects.result.items c.run_making.new.effects.items c.begin_making.new.self c.run_making.new.self) c.in-Done.is c.in_ok-told.ensures.finds) _ refl refl c.in_ok-push-in-Done.ensures.items
+
+pub returns-in_err-told-clause-given : goal.returns-in_err-told-clause-given
+returns-in_err-told-clause-given g c = stays_on c.args.self.now.logged.executor c.begin_making.new.self.executor c.run_making.new.self.executor c.begin_making.ensures.given c.run_making.ensures.given
+
+pub returns-in-Refused-clause-given : goal.returns-in-Refused-clause-given
+returns-in-Refused-clause-given g c = stays_on c.args.self.now.logged.executor c.begin_making.new.self.executor c.run_making.new.self.executor c.begin_making.ensures.given c.run_making.ensures.given
+
+pub returns-in_err-push-in-Done-clause-given : goal.returns-in_err-push-in-Done-clause-given
+returns-in_err-push-in-Done-clause-given g c = stays_on c.args.self.now.logged.executor c.begin_making.new.self.executor c.run_making.new.self.executor c.begin_making.ensures.given c.run_making.ensures.given
+
+pub returns-in_ok-push-in-Done-clause-given : goal.returns-in_ok-push-in-Done-clause-given
+returns-in_ok-push-in-Done-clause-given g c = stays_on c.args.self.now.logged.executor c.begin_making.new.self.executor c.run_making.new.self.executor c.begin_making.ensures.given c.run_making.ensures.given

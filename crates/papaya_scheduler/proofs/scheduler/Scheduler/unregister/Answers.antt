@@ -4,6 +4,7 @@ use Rattle.seize_words.specs.declared.fault.Fault.TheVariants.{Busy}
 use Rattle.papaya_schedules.specs.declared.event.Event.TheVariants.{Unregister}
 use Rattle.papaya_schedules.specs.declared.outcome.Outcome.TheVariants.{Refused}
 use Rattle.papaya_scheduler.proofs.Unregisters.{not_registered, guards_live, may_free, fits, joined, joined_last}
+use Rattle.papaya_scheduler.proofs.KeptGiven.{given_as, given_still}
 use Rattle.papaya_scheduler.proofs.Rights.{so_played}
 use Rattle.papaya_scheduler.proofs.scheduler.Scheduler.unregister.Goals as goal
 use Rattle.papaya_scheduler.proofs.scheduler.Scheduler.unregister.Goals.{in_default-via-in-Some+else-living_on-eq0, in_default-via-in_default, then-guards_on-eq0+in_ok-do_row, else-guards_on-eq0}
@@ -47,3 +48,10 @@ returns-clause-plays g c =
             joined same hash terms log c.args.self.now c.args.registration.now due c.in-Some.slot found none_live c.if-guards_on-eq0.self c.if-guards_on-eq0.effects.items c.unregister.new.self
             c.unregister.ensures (λ z. w.if-guards_on-eq0.false (c.guards_on.ensures ∙ z)) w.self-is (ap (λ v. v.items) w.effects-is ∙ c.no_effects-effects.ensures)
       ]
+
+pub returns-clause-given : goal.returns-clause-given
+returns-clause-given g c =
+    elim c.if-guards_on-eq0.branch [
+      | then-guards_on-eq0+in_ok-do_row w ↦ given_as c.args.self.now w.do_row.new.self c.if-guards_on-eq0.self w.do_row.ensures.given w.self-is
+      | else-guards_on-eq0 w ↦ given_still c.args.self.now c.if-guards_on-eq0.self w.self-is
+    ]
