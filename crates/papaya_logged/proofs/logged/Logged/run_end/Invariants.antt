@@ -1,15 +1,17 @@
 -- What a run keeps from step to step, and what each step lowers.
 use Rattle.std.specs.Prelude.{false}
 use Rattle.papaya_executor.specs.IsAt.{KeepsGiven, work_of}
+use Rattle.papaya_logged.specs.Back.{EndBringsBack}
 use Rattle.papaya_logged.specs.Ends.{EndRan}
 use Rattle.papaya_logged.proofs.EndsRun.{end_left_of}
 use Rattle.papaya_logged.proofs.logged.Logged.run_end.Given as goal
 
--- the end goes on, what it did stands in the list, and what the executor was given stays
+-- the end goes on, what it did stands in the list, what that reclaims has come back, and what the executor was given stays
 abbrev pub invariant-loop-told : goal.invariant-loop-told
 invariant-loop-told g l = record {
   ran : EndRan l.fn.caller l.fn.map false l.fn.effects.items l.effects.items l.fn.self l.self;
   given : KeepsGiven l.fn.self.executor l.self.executor;
+  back : EndBringsBack l.fn.caller l.fn.map l.fn.effects.items l.effects.items l.fn.self l.fn.back.items l.back.items;
 }
 
 abbrev pub decreases-loop-told : goal.decreases-loop-told
