@@ -70,11 +70,8 @@ impl<K: Drop, V: Drop, S: Drop> Scheduler<K, V, S> {
     /// Nobody is there, and there is no map.
     pub fn new(alloc: Global, given: Given, hasher: S) -> Result<Self, AllocError>
         ensures played { IfOk result (λ scheduler. (same : K → K → Bool) (hash : K → ℕ) → IsPlayed same hash (terms_given given) [] scheduler) }
-<<<<<<< HEAD
         ensures begun { IfOk result (HasJustBegun given) }
-=======
         ensures back { IfOk result (λ scheduler. scheduler.back.items ≡ []) }
->>>>>>> y-back
         ensures hasher { IfOk result (λ scheduler. scheduler.logged.executor.hasher ≡ hasher) }
     {
         let setup = given.setup;
