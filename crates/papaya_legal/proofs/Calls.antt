@@ -85,10 +85,10 @@ call_events_begin_so K V S same hash name terms log beginning begins known s x a
   follows = λ alone. begun_so (and_both (moment log).is_alone (list_all (is_by (speaker event)) (moment log).calls) alone).0 (only alone);
 }
   where
-    abbrev things : List Thing
+    things : List Thing
     things = things_in log
 
-    abbrev sets : Sets
+    sets : Sets
     sets = sets_in terms.batch_size log
 
     -- no row is under way, or that of the call is
@@ -146,22 +146,22 @@ call_events_go_on_so K V S same hash name terms log event beginning map i c step
           (subst (λ (n : ℕ). FollowsInEvent n terms.roots (things_in log) (sets_in terms.batch_size log) (slot_of i) i done known s.world) (sym size) (midst.follows alone)) noted);
 }
   where
-    abbrev whole : ShowsWhole same name m known s
+    whole : ShowsWhole same name m known s
     whole = midst.calls.whole
 
-    abbrev here : s.calls map i ≡ Some u
+    here : s.calls map i ≡ Some u
     here = here_of same name log beginning map i c done m known s u midst.event_so
 
-    abbrev effects : List Effect
+    effects : List Effect
     effects = effects_of (acts.Call i map) known new.memory.changed
 
-    abbrev v : Moment K V
+    v : Moment K V
     v = with_effects (Some (name i)) (Some map) effects m
 
-    abbrev then_known : Known
+    then_known : Known
     then_known = known_after (acts.Call i map) new.memory.changed known
 
-    abbrev s2 : Scene K V
+    s2 : Scene K V
     s2 = scene_after same hash s old new map i (leads map u here).0 u (leads map u here).1 said (leads map u here).4
 
     -- the map of the call was made

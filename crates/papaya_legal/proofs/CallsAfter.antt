@@ -84,28 +84,28 @@ call_events_end_so K V S same hash name terms log beginning map i c first before
   over = over_stays_back K V terms log e goes reclaims run.over;
 }
   where
-    abbrev whole : ShowsWhole same name m known s
+    whole : ShowsWhole same name m known s
     whole = midst.calls.whole
 
-    abbrev here : s.calls map i ≡ Some u
+    here : s.calls map i ≡ Some u
     here = here_of same name log beginning map i c done m known s u midst.event_so
 
-    abbrev effects : List Effect
+    effects : List Effect
     effects = effects_of (acts.Call i map) known new.memory.changed
 
-    abbrev v : Moment K V
+    v : Moment K V
     v = with_effects (Some (name i)) (Some map) effects m
 
-    abbrev then_known : Known
+    then_known : Known
     then_known = known_after (acts.Call i map) new.memory.changed known
 
-    abbrev s2 : Scene K V
+    s2 : Scene K V
     s2 = scene_after same hash s old new map i (leads map u here).0 u (leads map u here).1 said (leads map u here).4
 
-    abbrev come : Moment K V
+    come : Moment K V
     come = come_to (name i) e.outcome e.steps v
 
-    abbrev last : Moment K V
+    last : Moment K V
     last = after e (moment log)
 
     all : ShowsWhole same name v then_known s2 × ShowsDue same name log v then_known s2 × ShowsAsCalled same name v then_known s2

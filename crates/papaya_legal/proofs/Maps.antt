@@ -142,19 +142,19 @@ making_events_go_on_so K V S same hash name terms log event beginning done m kno
           (subst (λ (n : ℕ). FollowsInMaking n terms.roots (things_in log) (sets_in terms.batch_size log) done known s.world) (sym size) (midst.1 alone)))),
 )
   where
-    abbrev whole : ShowsWhole same name m known s
+    whole : ShowsWhole same name m known s
     whole = midst.0.calls.whole
 
-    abbrev effects : List Effect
+    effects : List Effect
     effects = effects_of (acts.Making b.map) known new.memory.changed
 
-    abbrev v : Moment K V
+    v : Moment K V
     v = with_effects None (Some b.map) effects m
 
-    abbrev then_known : Known
+    then_known : Known
     then_known = known_after (acts.Making b.map) new.memory.changed known
 
-    abbrev then_whole : ShowsWhole same name v then_known (led same hash s old new at i b here said leads)
+    then_whole : ShowsWhole same name v then_known (led same hash s old new at i b here said leads)
     then_whole = makings_keep_whole K V S same hash name m known s old new at whole i said leads b here (Some b.map) was_new
 
 -- A step of an end.
@@ -223,14 +223,14 @@ end_events_go_on_so K V S same hash name terms log event map beginning first don
           (subst (λ (n : ℕ). FollowsInEnd n terms.roots (things_in log) (sets_in terms.batch_size log) first i done known s.world) (sym size) (midst.1 alone)))),
 )
   where
-    abbrev whole : ShowsWhole same name m known s
+    whole : ShowsWhole same name m known s
     whole = midst.0.calls.whole
 
-    abbrev effects : List Effect
+    effects : List Effect
     effects = effects_of (acts.Ending map) known new.memory.changed
 
-    abbrev v : Moment K V
+    v : Moment K V
     v = with_effects None (Some map) effects m
 
-    abbrev then_known : Known
+    then_known : Known
     then_known = known_after (acts.Ending map) new.memory.changed known

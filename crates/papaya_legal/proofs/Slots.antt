@@ -135,19 +135,19 @@ slot_events_go_on_so K V S same hash name terms log event i called first done m 
           (subst (λ (n : ℕ). FollowsInRow n terms.roots (things_in log) (sets_in terms.batch_size log) first i request done known s.world) (sym size) (midst.follows alone)));
 }
   where
-    abbrev whole : ShowsWhole same name m known s
+    whole : ShowsWhole same name m known s
     whole = midst.calls.whole
 
-    abbrev request : Request
+    request : Request
     request = request_of (slot_of i) called
 
-    abbrev effects : List Effect
+    effects : List Effect
     effects = effects_of acts.Row known new.memory.changed
 
-    abbrev v : Moment K V
+    v : Moment K V
     v = with_effects None None effects m
 
-    abbrev led : Scene K V
+    led : Scene K V
     led = scene_then same hash (Step i) s old new (leads row here).4
 
     found : AtEachEffect HadRetired None None effects m × AtEachEffect WaitUnreclaimed None None effects m

@@ -141,10 +141,10 @@ slot_events_end_so K V S same hash name terms log i called first m known before 
   over = over_stays_back K V terms log e goes reclaims run.over;
 }
   where
-    abbrev w : Moment K V
+    w : Moment K V
     w = with_effects None None e.effects (moment log)
 
-    abbrev v : Moment K V
+    v : Moment K V
     v = after e (moment log)
 
     c : ShowsCalls same name log w known s
