@@ -1,5 +1,5 @@
 -- What a moment shows of calls is so on between the steps of events.
-use Rattle.std.specs.Prelude.{◌≡◌, ◌≤◌, nat_lt, ℕ, Bool, true, false, List, [], ◌∷◌, Option, Some, None, if◌then◌else◌}
+use Rattle.std.specs.Prelude.{◌≡◌, ◌≤◌, nat_lt, ℕ, Bool, true, false, List, Option, Some, None, if◌then◌else◌}
 use Rattle.std.proofs.Common.{refl, ap, sym, subst, ◌∙◌, inl, inr, arith}
 use Rattle.papaya_histories.specs.Given.SeizeWords.declared.fault.Fault.TheVariants.{Memory}
 use Rattle.papaya_histories.specs.Given.Sweeps.SweepPoints.{after_next, next_at}
@@ -7,10 +7,8 @@ use Rattle.papaya_histories.specs.Given.Sweeps.declared.sweep.Sweep.{Sweep}
 use Rattle.papaya_histories.specs.Given.Sweeps.declared.sweep.Sweeping.{Sweeping}
 use Rattle.papaya_histories.specs.Given.Sweeps.declared.sweep.Sweeping.TheVariants as sweeping
 use Rattle.papaya_histories.specs.Given.Points.FactsCalls.{Unchanged}
-use Rattle.papaya_histories.specs.Given.Schedules.declared.effect.Effect.{Effect}
 use Rattle.papaya_histories.specs.Given.Schedules.After.{moment}
 use Rattle.papaya_histories.specs.Given.Schedules.Beginning.{with_call, with_map}
-use Rattle.papaya_histories.specs.Given.Schedules.Effects.{with_effect, with_effects}
 use Rattle.papaya_histories.specs.Given.Schedules.declared.outcome.Outcome.TheVariants.{Refused}
 use Rattle.papaya_histories.specs.Given.Schedules.Moment.{UnderWay as CallThere, Stands, Asking, Moment}
 use Rattle.papaya_histories.specs.Given.Schedules.Views.{call_of}
@@ -55,22 +53,15 @@ use Rattle.papaya_kept.proofs.Others.{endings_begin_kept}
 use Rattle.papaya_kept.proofs.Renamed.{asked, renamed, shows}
 use Rattle.papaya_kept.proofs.Stays.{makings_begin_kept, renamed_kept, stays_kept}
 use Rattle.papaya_purposes.specs.Kept.{AsksAboutIt}
-use Rattle.papaya_purposes.proofs.Between.{calls_begin_purposes, events_keep_purposes, walks_go_on_purposes}
+use Rattle.papaya_purposes.proofs.Between.{calls_begin_purposes, events_keep_purposes}
 use Rattle.papaya_purposes.proofs.Elsewhere.{purposes_stay}
-use Rattle.papaya_purposes.proofs.Stops.{walks_stop_purposes}
 use Rattle.papaya_purposes.proofs.Told.{calls_take_purposes}
 use Rattle.papaya_shards.specs.Adds.{adds_in_sweeping, adds_of}
 use Rattle.papaya_shards.specs.ShardWords.{ShowsCounters}
 use Rattle.papaya_shards.proofs.ShardBetween.{calls_begin_counters, calls_take_counters, counters_stay, fewer_add}
 use Rattle.papaya_shards.proofs.ShardOthers.{endings_begin_counters, makings_begin_counters}
-use Rattle.papaya_legal.specs.Between.{CallsBegin, CallsTake, EndsBegin, IsLike, LikesShow, LogsGrow, MakingsBegin, MapsCome, MapsGo, NamesChange, WalksGoOn, WalksStop}
+use Rattle.papaya_legal.specs.Between.{CallsBegin, CallsTake, EndsBegin, LikesShow, LogsGrow, MakingsBegin, MapsCome, MapsGo, NamesChange, WalksGoOn, WalksStop}
 use Rattle.papaya_legal.specs.Carried.{NoneCounted, ShowsCalls}
-
--- no effect makes a map
-module _ {K V : Type 0} (caller : Option (List ℕ)) (acted : Option ℕ) where
-  pub made_still : (effects : List Effect) (m : Moment K V) → (with_effects caller acted effects m).made ≡ m.made
-  made_still [] m = refl
-  made_still (f ∷ effects) m = made_still effects (with_effect caller acted f m)
 
 pub likes_show : (K V : Type 0) (same : K → K → Bool) → LikesShow K V same
 likes_show K V same name log m v known s all like = subst (λ (x : Moment K V). ShowsCalls same name log x known s) (sym like) (record {

@@ -7,7 +7,7 @@ use Rattle.papaya_histories.specs.Given.Schedules.declared.call.Call.TheVariants
 use Rattle.papaya_histories.specs.Given.Schedules.declared.event.Event.TheVariants.{OneCall, Next}
 use Rattle.papaya_histories.specs.Given.Schedules.After.{moment}
 use Rattle.papaya_histories.specs.Given.Schedules.Beginning.{fresh_call, with_call}
-use Rattle.papaya_histories.specs.Given.Schedules.Moment.{UnderWay as CallThere, Moment}
+use Rattle.papaya_histories.specs.Given.Schedules.Moment.{UnderWay as CallThere}
 use Rattle.papaya_histories.specs.Given.Schedules.Views.{call_of}
 use Rattle.papaya_histories.specs.Given.Seize.World.{with_at}
 use Rattle.papaya_histories.specs.Given.Callers.OverAll.{CallOverAll, gone_on}
@@ -32,8 +32,8 @@ use Rattle.papaya_legal.proofs.Maps.{stands_so}
 
 -- what a caller has under way is there on its map
 pub now_there : {K V : Type 0} (s : Scene K V) (map i : ℕ) (u : UnderWay K V K) → (scene_with map i u s).calls map i ≡ Some u
-now_there s map i u =
-    ap (λ (f : ℕ → Option (UnderWay _ _ _)). f i) (at_same s.calls map (with_at (s.calls map) i (Some u)) map refl) ∙ at_same (s.calls map) i (Some u) i refl
+now_there {K} {V} s map i u =
+    ap (λ (f : ℕ → Option (UnderWay K V K)). f i) (at_same s.calls map (with_at (s.calls map) i (Some u)) map refl) ∙ at_same (s.calls map) i (Some u) i refl
 
 pub whole_calls_begin : (K V S : Type 0) (same : K → K → Bool) (hash : K → ℕ) → WholeCallsBegin K V S same hash
 whole_calls_begin K V S same hash name terms log known s old new at run map i standing there u call guard begins right none rests at2 named on only = (

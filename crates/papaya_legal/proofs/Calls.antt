@@ -49,6 +49,7 @@ use Rattle.papaya_promises.specs.Sheltered.{SectionsHold}
 use Rattle.papaya_promises.proofs.Protected.{calls_protect}
 use Rattle.papaya_promises.proofs.Weights.{grants_add_up, operations_are_single, parts_add_up}
 use Rattle.papaya_legal.specs.CallEvents.{CallEventsBegin, CallEventsGoOn}
+use Rattle.papaya_legal.proofs.Uncounted.{calls_leave_uncounted}
 
 -- no steps, whoever's
 none_made : (q : Bool) → 0 ≡ (if q then 0 else 0)
@@ -123,6 +124,7 @@ call_events_go_on_so K V S same hash name terms log event beginning map i c step
     );
     kept = calls_keep_kept K V S same hash name m known s old new at whole midst.calls.kept map i u here said leads;
     counters = calls_keep_counters K V S same hash name m known s old new at whole midst.calls.kept.counts midst.calls.counters map i u here said leads;
+    uncounted = calls_leave_uncounted same hash name m known s old new at whole midst.calls.kept.counts midst.calls.counters midst.calls.uncounted map i u here said leads below;
     dues = all.1;
     as_called = all.2;
     questions = effects_keep_questions K V (Some (name i)) (Some map) effects m midst.calls.questions;

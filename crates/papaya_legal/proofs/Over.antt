@@ -70,8 +70,8 @@ runs_by_other_names K V same name name2 terms log known s agree run = record {
 -- lookups have read as much at a moment that is like this one
 pub reading_like : {K V : Type 0} (name : ℕ → List ℕ) (log : List (Entry K V)) (made : ℕ → ℕ) (m v : Moment K V) (s : Scene K V) → ShowsReading name log made m s → IsLike m v
     → ShowsReading name log made v s
-reading_like name log made m v s reading like =
-    subst (λ (x : Moment _ _). ShowsReading name log made x s) (sym like) (record { begun = reading.begun; reads = reading.reads })
+reading_like {K} {V} name log made m v s reading like =
+    subst (λ (x : Moment K V). ShowsReading name log made x s) (sym like) (record { begun = reading.begun; reads = reading.reads })
 
 -- An event that leaves the waiting sets.
 

@@ -1,5 +1,5 @@
 -- Once an event is over the moment after it shows all that the next event needs: where it does nothing, begins a call, tells it a reply, or gives a walk up; and where it has made a map, or ended one.
-use Rattle.std.specs.Prelude.{◌≡◌, ◌<◌, ◌^◌, ℕ, Bool, true, false, List, [], ◌∷◌, Some, None, Ok}
+use Rattle.std.specs.Prelude.{◌≡◌, ◌<◌, ◌^◌, ℕ, Bool, true, false, List, [], ◌∷◌, Option, Some, None, Ok}
 use Rattle.papaya_histories.specs.Given.SeizeWords.declared.fault.Fault.TheVariants.{Busy}
 use Rattle.papaya_histories.specs.Given.Seize.World.{Rests, with_at}
 use Rattle.papaya_histories.specs.Given.Runs.Same.{is_same}
