@@ -1,5 +1,5 @@
 -- Each pair that was stored, and is placed, is found as it was stored: among those that were given back, or those that are left.
-use Rattle.std.specs.Prelude.{◌≡◌, ◌≢◌, ◌≤◌, ◌<◌, ◌+◌, ◌==◌, ◌||◌, ℕ, zero, suc, Bool, true, false, List, [], ◌∷◌, ◌++◌, length, find, Option, Some, None, option_map, slice_get, ◌⊎◌, if◌then◌else◌}
+use Rattle.std.specs.Prelude.{◌≡◌, ◌≤◌, ◌<◌, ◌+◌, ◌==◌, ◌||◌, ℕ, zero, suc, Bool, true, false, List, [], ◌∷◌, ◌++◌, length, find, Option, Some, None, option_map, slice_get, ◌⊎◌, if◌then◌else◌}
 use Rattle.std.specs.List.{AllByRecursion}
 use Rattle.std.proofs.Common.{refl, sym, ap, subst, ◌∙◌, arith, eqb-true, inl, inr}
 use Rattle.std.proofs.lemmas.Bool.{cases_lt, eq-eqb}
@@ -18,11 +18,10 @@ use Rattle.papaya_schedules.specs.declared.event.Event.TheVariants.{Begin, MakeM
 use Rattle.papaya_schedules.specs.declared.outcome.Outcome.{Outcome}
 use Rattle.papaya_schedules.specs.declared.outcome.Outcome.TheVariants.{Done, Goes}
 use Rattle.papaya_schedules.specs.declared.record.Run.{Run}
-use Rattle.papaya_schedules.specs.After.{after, moment}
+use Rattle.papaya_schedules.specs.After.{moment}
 use Rattle.papaya_schedules.specs.Beginning.{begun, with_call}
 use Rattle.papaya_schedules.specs.Effects.{in_map, pairs_back, place_by, with_effect, with_effects}
 use Rattle.papaya_schedules.specs.Entry.{Entry, acted_on, caller_of, is_busy, nameless}
-use Rattle.papaya_schedules.specs.Lists.{is_among}
 use Rattle.papaya_schedules.specs.Moment.{Place, Moment}
 use Rattle.papaya_schedules.specs.Moment as at
 use Rattle.papaya_schedules.specs.Runs.{Lists, pair_of}
