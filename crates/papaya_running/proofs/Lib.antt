@@ -1,6 +1,8 @@
+mod Beginning
 mod Ended
 mod Forms
 mod Happened
+mod LawfulKeys
 mod Left
 mod Logs
 mod Turns
