@@ -99,7 +99,7 @@ module _ {K V S : Type 0} where
   pub brings_all : (first now next : ReclaimAll) (old mid new : Logged K V S) (xs ys zs : List Effect) (told : Settled (Node K V)) → ReclaimingSoFar first now xs ys old mid → ReclaimingSteps now next told ys zs mid new
       → zs ≡ ys ++ effects_of Row (known mid.notes) new.executor.memory.changed
       → (b0 b1 b2 : List (Pair K V)) → BroughtSoFar first xs ys old b0 b1 → b2 ≡ b1 ++ settled_back told zs → BroughtSoFar first xs zs old b0 b2
-  brings_all first now next old mid new xs ys zs told so step did b0 b1 b2 was then =
+  brings_all first now next old mid new xs ys zs told so step did b0 b1 b2 was follows =
       let more = effects_of Row (known mid.notes) new.executor.memory.changed in
       let one : was.0 ≡ so.0 = append_cancel_left xs was.0 so.0 (sym was.1 ∙ so.1) in (
         was.0 ++ more,
@@ -113,7 +113,7 @@ module _ {K V S : Type 0} where
             more_back m.stored was.0 more b0 b1 b2 (was.2 same hash name m s i lists shown had wait) (settled_back told (ys ++ more))
             (subst (λ (l : List (K × V)). IsBack l more (settled_back told (ys ++ more))) (stored_none None so.0 m)
             (all_brings same hash name (with_effects None None so.0 m) u.0 mid new.executor i u.1 now next told u.3 leads ys))
-            (then ∙ ap (λ (l : List Effect). b1 ++ settled_back told l) did)),
+            (follows ∙ ap (λ (l : List Effect). b1 ++ settled_back told l) did)),
       )
 
   -- in the end

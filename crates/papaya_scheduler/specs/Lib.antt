@@ -4,7 +4,7 @@ pub mod Telling
 pub mod Shapes
 pub mod Turns
 pub mod Played
-pub mod Back
 pub mod KeptOut
 pub mod Mapping
 pub mod Reclaiming
+pub mod Back
