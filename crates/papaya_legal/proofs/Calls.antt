@@ -65,23 +65,23 @@ module _ {K V : Type 0} (own : List ℕ) (m : Moment K V) (known : Known) (w : W
   begins_protected _ is = absurd (cc is)
 
 pub call_events_begin_so : (K V S : Type 0) (same : K → K → Bool) (hash : K → ℕ) → CallEventsBegin K V S same hash
-call_events_begin_so K V S same hash name terms log known s x at run event map i caller_is u here c c_is only = record {
+call_events_begin_so K V S same hash name terms log beginning begins known s x at all reading sections follows event map i caller_is u here c c_is only = record {
   of_call = caller_is;
-  event_so = events_begin K V S same hash name log (moment log) (refl, refl) known s x at run.calls.whole run.calls.dues run.calls.as_called map i u here c c_is;
-  calls = run.calls;
+  event_so = events_begin K V S same hash name log beginning begins known s x at all.whole all.dues all.as_called map i u here c c_is;
+  calls = all;
   worked = refl;
   few = let none : 0 ≤ 0 = omega arith in none;
   granted = refl;
   reading = record {
-    begun = run.reading.begun;
+    begun = reading.begun;
     reads = λ n j v is d found looks_for standing there.
         subst (λ (steps : ℕ). HasLooked (is_incremental standing.setting.mode) n standing.chart (moments_from d.begun log) (d.steps + steps) v) (none_made (j == i))
-            (run.reading.reads n j v is d found looks_for standing there);
+            (reading.reads n j v is d found looks_for standing there);
   };
   kinds = refl;
   finds = tt;
   stores = tt;
-  protects = begins_protected (name i) (moment log) known s.world run.sections event caller_is;
+  protects = begins_protected (name i) beginning known s.world sections event caller_is;
   follows = λ alone. begun_so (and_both (moment log).is_alone (list_all (is_by (speaker event)) (moment log).calls) alone).0 (only alone);
 }
   where
@@ -93,8 +93,8 @@ call_events_begin_so K V S same hash name terms log known s x at run event map i
 
     -- no row is under way, or that of the call is
     begun_so : (moment log).is_alone ≡ true → ((j : ℕ) → s.world.row j ≢ Rests → j ≡ i) → FollowsInEvent terms.batch_size terms.roots things sets (slot_of i) i [] known s.world
-    begun_so alone its = elim (run.follows alone) as (λ _. FollowsInEvent terms.batch_size terms.roots things sets (slot_of i) i [] known s.world) [
-      | inl follows ↦ call_events_begin K V terms.batch_size terms.roots things sets known s.world follows (slot_of i) i
+    begun_so alone its = elim (follows alone) as (λ _. FollowsInEvent terms.batch_size terms.roots things sets (slot_of i) i [] known s.world) [
+      | inl model ↦ call_events_begin K V terms.batch_size terms.roots things sets known s.world model (slot_of i) i
       | inr row ↦ record {
         come = tt;
         back = tt;

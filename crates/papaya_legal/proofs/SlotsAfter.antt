@@ -126,7 +126,7 @@ slot_events_end_so K V S same hash name terms log i called first m known before 
   calls = record {
     whole = whole_after log e.outcome e.steps e.effects same name known s c.whole e.event midst.of_slots;
     numbers = numbers_after log e.outcome e.steps e.effects e.event midst.of_slots c.numbers;
-    kept = stays_kept K V name w v known s s c.kept alike.0.calls alike.0.tables alike.1 alike.0.place refl refl refl;
+    kept = stays_kept K V name w v known s s c.kept alike.0.calls alike.0.tables alike.1 alike.0.place refl refl refl refl;
     counters = counters_stay K V name w v s s c.counters alike.0.calls alike.2 refl refl refl (λ of j u is removed adds. (u, is, adds));
     dues = events_keep_due K V same name log e known s ((dues_stay K V S same hash name log).alike w v known s c.dues alike.0);
     as_called = (as_called_stays K V S same hash name).alike w v known s c.as_called alike.0;

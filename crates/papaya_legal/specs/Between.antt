@@ -13,7 +13,6 @@ use Rattle.papaya_histories.specs.Given.Schedules.Entry.{Entry}
 use Rattle.papaya_histories.specs.Given.Schedules.Moment.{UnderWay as CallThere, Asking, MapThere, Remains, Moment}
 use Rattle.papaya_histories.specs.Given.Schedules.Views.{call_of, map_at}
 use Rattle.papaya_histories.specs.Given.Sweeps.SweepPoints.{after_next}
-use Rattle.papaya_histories.specs.Given.Sweeps.declared.sweep.Sweeping.TheVariants as at
 use Rattle.papaya_histories.specs.Given.Raw.Machine.{machine_replied}
 use Rattle.papaya_histories.specs.Given.Callers.OverAll.{CallOverAll, gone_on}
 use Rattle.papaya_histories.specs.Given.Callers.Together.{UnderWay, OverAll}
@@ -101,7 +100,7 @@ module _ (K V S : Type 0) (same : K → K → Bool) (hash : K → ℕ) where
   abbrev pub WalksGoOn : Type 0
   WalksGoOn =
       (name : ℕ → List ℕ) (log : List (Entry K V)) (m : Moment K V) (known : Known) (s : Scene K V) (old new : Executor K V S) → IsAt same hash old s → ShowsCalls same name log m known s
-      → (i : ℕ) (leads : AskLeads same hash i true s old new) (map : ℕ) (o : CallOverAll) (here : s.calls map i ≡ Some (OverAll o)) → o.sweep.stands ≡ at.Ready
+      → (i : ℕ) (leads : AskLeads same hash i true s old new) (map : ℕ) (o : CallOverAll) (here : s.calls map i ≡ Some (OverAll o))
       → (leads map (OverAll o) here).0 ≡ OverAll (gone_on o (after_next o.sweep)) → ShowsCalls same name log m known (scene_with map i (leads map (OverAll o) here).0 s)
 
   -- or is given up, and no call that is under way then has its name;
@@ -112,11 +111,11 @@ module _ (K V S : Type 0) (same : K → K → Bool) (hash : K → ℕ) where
       → (let after = record s { calls = with_call_of s.calls map i (unless_stopped stopped u) } in
       (stopped ≡ true → NoneNamed name (name i) after) → ShowsCalls same name log (given_up (name i) stopped m) known after)
 
-  -- where a map comes by the next number,
+  -- where a map comes by the next number, on which nothing was counted,
   abbrev pub MapsCome : Type 0
   MapsCome =
       (name : ℕ → List ℕ) (log : List (Entry K V)) (m : Moment K V) (known : Known) (s : Scene K V) (e : Executor K V S) → IsAt same hash e s → ShowsCalls same name log m known s
-      → (there : MapThere) → there.number ≡ m.made → ShowsCalls same name log (with_map there m) known s
+      → (there : MapThere) → there.number ≡ m.made → ShowsCalls same name log (with_map there m) known s × IsUncounted there.number (with_map there m)
 
   -- and its making begins, by one that makes none;
   abbrev pub MakingsBegin : Type 0

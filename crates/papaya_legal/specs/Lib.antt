@@ -1,5 +1,7 @@
 pub mod Carried
+pub mod Between
 pub mod CallEvents
 pub mod SlotEvents
 pub mod MapEvents
+pub mod Over
 pub mod Promises

@@ -28,7 +28,6 @@ use Rattle.papaya_histories.specs.Given.Executor.IsAt.{Scene, IsAt, slot_of}
 use Rattle.papaya_histories.specs.Given.Executor.Stepping.{StepLeads, scene_after}
 use Rattle.papaya_histories.specs.Given.Executor.declared.executor.Executor.{Executor}
 use Rattle.papaya_histories.specs.Given.Finishes.Endings.{Finishing, finishing_of}
-use Rattle.papaya_histories.specs.Given.Finishes.Maps.{Standing}
 use Rattle.papaya_histories.proofs.Given.Follows.Steps.{WentTo, went_to, DidSo}
 use Rattle.papaya_histories.proofs.Given.Others.RowPlans.{row_tells}
 use Rattle.papaya_histories.specs.Given.Moments.Whole.{ShowsWhole}
@@ -117,7 +116,7 @@ module _ {K V : Type 0} (known known2 : Known) (s t : Scene K V) (enders : t.end
   taken_as i b k = record { f = k.f; ends = ap (λ (g : ℕ → Option (Finishing K V)). g i) enders ∙ k.ends; fresh = k.fresh; turn = k.turn; from = k.from; made = k.made; is = k.is }
 
   -- by the same notes
-  left_as : ((b len : ℕ) (x : Table) → known2.roles b ≡ role.Table x len → known.roles b ≡ role.Table x len) → ((b j : ℕ) → t.world.hand b ≡ LeftTo j → s.world.hand b ≡ LeftTo j) → ShowsLeft known2 t
+  pub left_as : ((b len : ℕ) (x : Table) → known2.roles b ≡ role.Table x len → known.roles b ≡ role.Table x len) → ((b j : ℕ) → t.world.hand b ≡ LeftTo j → s.world.hand b ≡ LeftTo j) → ShowsLeft known2 t
   left_as was back b len x j is left = taken_as j b (shows b len x j (was b len x is) (back b j left))
 
   -- and where somebody's own table may have been linked

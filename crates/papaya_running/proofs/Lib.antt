@@ -1,8 +1,8 @@
+mod Beginning
+mod Ended
 mod Forms
 mod Happened
+mod LawfulKeys
 mod Left
 mod Logs
-mod Numbers
-mod Taken
-mod Tallies
 mod Turns

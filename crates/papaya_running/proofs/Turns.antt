@@ -27,18 +27,18 @@ use Rattle.papaya_scheduler.specs.declared.played.Played.{Played}
 use Rattle.papaya_scheduler.specs.declared.scheduler.NamedMap.{NamedMap}
 use Rattle.papaya_scheduler.specs.declared.scheduler.Scheduler.{Scheduler}
 use Rattle.papaya_running.specs.Acting.{acting_of, map_acted, singles_as, traced}
-use Rattle.papaya_running.specs.Asked.{AsksOfSteps, FindsRight, Happens, Holds}
+use Rattle.papaya_running.specs.Asked.{Happens, Holds}
 use Rattle.papaya_running.specs.Ending.{shown_of, told_map}
 use Rattle.papaya_running.specs.Run.{GoesRight, IsRightRun, SoFar, TellsMost, log_so}
-use Rattle.papaya_running.specs.Tally.{Tells, TellsAll, TellsMoment, counted, deferral, flag_of}
+use Rattle.papaya_tally.specs.Tally.{Tells, TellsAll, TellsMoment, counted, deferral, flag_of}
 use Rattle.papaya_running.specs.declared.record.Record.{Record}
-use Rattle.papaya_running.specs.declared.tally.Flagged.{Flagged}
-use Rattle.papaya_running.specs.declared.tally.Tally.{Tally}
-use Rattle.papaya_running.specs.declared.tally.Whereabouts.{Whereabouts}
-use Rattle.papaya_running.specs.declared.tally.Whereabouts.TheVariants.{Unborn}
+use Rattle.papaya_tally.specs.declared.tally.Flagged.{Flagged}
+use Rattle.papaya_tally.specs.declared.tally.Tally.{Tally}
+use Rattle.papaya_tally.specs.declared.tally.Whereabouts.{Whereabouts}
+use Rattle.papaya_tally.specs.declared.tally.Whereabouts.TheVariants.{Unborn}
 use Rattle.papaya_running.proofs.Logs.{acted_so, begun_same, log_long, log_more, singles_are}
-use Rattle.papaya_running.proofs.Numbers.{lists_map}
-use Rattle.papaya_running.proofs.Tallies.{told_moment}
+use Rattle.papaya_tally.proofs.Numbers.{lists_map}
+use Rattle.papaya_tally.proofs.Tallies.{told_moment}
 
 lists_same : (xs : List (Vec Effect)) → length (map (λ v. v.items) xs) ≡ length xs
 lists_same [] = refl
@@ -105,9 +105,9 @@ module _ {K V S : Type 0} (same : K → K → Bool) (hash : K → ℕ) (terms : 
       }
 
 -- what is promised of an event, as a run tells it
-pub goes_so : {K V S : Type 0} (same : K → K → Bool) (hash : K → ℕ) (name : ℕ → List ℕ) (terms : Terms) (log : List (Entry K V)) (e : Entry K V) (p : Scheduler K V S)
-    → AsksOfSteps same hash log name e.event e.effects p → Happens same hash name terms log e p → GoesRight terms log e
-goes_so same hash name terms log e p asks happens = record { right = λ finds. (happens.plays asks finds).right; makes = happens.makes; does = happens.does }
+pub goes_so : {K V S : Type 0} (same : K → K → Bool) (hash : K → ℕ) (terms : Terms) (log : List (Entry K V)) (e : Entry K V) (p : Scheduler K V S)
+    → Happens same hash terms log e p → GoesRight terms log e
+goes_so same hash terms log e p happens = record { right = λ finds. (happens.plays finds).right; makes = happens.makes; does = happens.does }
 
 -- before all events
 pub start_so : {K V S : Type 0} (same : K → K → Bool) (hash : K → ℕ) (terms : Terms) (rec : Record V) (tally : Tally) (p : Scheduler K V S) → rec.outcomes.items ≡ [] → rec.steps.items ≡ [] → rec.effects.items ≡ []

@@ -1,20 +1,17 @@
 -- What an event gives back is what its row, or its end, has brought back; and what came back is no part of how a scheduler stands.
-use Rattle.std.specs.Prelude.{◌≡◌, ℕ, Bool, List, [], ◌++◌, None}
+use Rattle.std.specs.Prelude.{◌≡◌, ℕ, Bool, List, [], ◌++◌}
 use Rattle.std.specs.Global.{Vec}
 use Rattle.std.proofs.Common.{sym, ap, subst, ◌∙◌}
 use Rattle.papaya_runs.specs.declared.record.Pair.{Pair}
 use Rattle.papaya_schedules.specs.declared.effect.Effect.{Effect}
 use Rattle.papaya_schedules.specs.declared.event.Event.{Event}
 use Rattle.papaya_schedules.specs.After.{moment}
-use Rattle.papaya_schedules.specs.Effects.{AtEachEffect}
 use Rattle.papaya_schedules.specs.Entry.{Entry}
 use Rattle.papaya_schedules.specs.Moment.{Moment}
 use Rattle.papaya_schedules.specs.Terms.{Terms}
 use Rattle.papaya_executor.specs.IsAt.{Scene, slot_of}
 use Rattle.papaya_executor.specs.OnSlots.{MayBegin}
 use Rattle.papaya_executor.specs.declared.row.SlotCall.{SlotCall}
-use Rattle.papaya_histories.specs.Given.Moments.OnSlots.{HadRetired}
-use Rattle.papaya_histories.specs.Given.Spots.OnSlots.{WaitUnreclaimed}
 use Rattle.papaya_reclaiming.specs.Reclaiming.{MayReclaim, NobodyHas}
 use Rattle.papaya_logged.specs.Back.{AllBringsBack, BringsBack, ComesBack}
 use Rattle.papaya_logged.specs.OnSlots.{OnSlotBegins}
@@ -87,10 +84,7 @@ module _ {K V S : Type 0} where
 
     -- what reclaiming all brings back
     pub all_came : (taken : Bool) → NobodyHas p.logged.executor → (lists : ℕ → List ℕ) → MayReclaim p.logged.executor due.played.scene lists taken → (before after : List Effect) → before ≡ []
-        → (b : List (Pair K V)) → AllBringsBack taken before after p.logged p.back.items b
-        → AtEachEffect HadRetired None None after (moment log) → AtEachEffect WaitUnreclaimed None None after (moment log) → ComesBack (moment log).stored after p.back.items b
-    all_came taken nobody lists may before after none b it retired unreclaimed =
-        let did : after ≡ it.0 = it.1 ∙ ap (λ (xs : List Effect). xs ++ it.0) none in
-        subst (λ (xs : List Effect). ComesBack (moment log).stored xs p.back.items b) (sym did)
-        (it.2 same hash due.played.name (moment log) due.played.scene lists due.played.shown nobody may (subst (λ (xs : List Effect). AtEachEffect HadRetired None None xs (moment log)) did retired)
-        (subst (λ (xs : List Effect). AtEachEffect WaitUnreclaimed None None xs (moment log)) did unreclaimed))
+        → (b : List (Pair K V)) → AllBringsBack taken before after p.logged p.back.items b → ComesBack (moment log).stored after p.back.items b
+    all_came taken nobody lists may before after none b it =
+        subst (λ (xs : List Effect). ComesBack (moment log).stored xs p.back.items b) (sym (it.1 ∙ ap (λ (xs : List Effect). xs ++ it.0) none))
+        (it.2 same hash due.played.name (moment log) due.played.scene lists due.played.shown nobody may)

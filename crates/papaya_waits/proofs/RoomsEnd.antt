@@ -94,8 +94,8 @@ module _ {K Q : Type 0} (V : Type 0) (same : K → K → Bool) (hash : K → ℕ
     -- what a copier of a whole table knows
     whole_knows : (copier : Copier) → CopiesWhole same hash w i its_setting c seen copier → CopierFacts same hash w i its_setting c seen copier
     whole_knows copier whole =
-        (chosen {X = (copier.whole ≡ true) × CopierFacts same hash w i its_setting c seen copier × IsEnding same hash w i its_setting c seen copier copier.stands}
-        {Y = CopierFactsBlocking same hash w i its_setting c seen copier} (is_incremental its_setting.mode) mode whole).1
+        (chosen ((copier.whole ≡ true) × CopierFacts same hash w i its_setting c seen copier × IsEnding same hash w i its_setting c seen copier copier.stands)
+        (CopierFactsBlocking same hash w i its_setting c seen copier) (is_incremental its_setting.mode) mode whole).1
 
     module _ (r : CallForRoom) (has : calls i ≡ Some (ForRoom r)) (none : IsRowOfReserve r.reserve.stands → ⊥) (p2 : Reserve) (end : Outcome (Node K V) Unit)
         (steps : Steps Took value_at w.memory (room_plans.reserve_plan hash r.reserve) m2 (p2, end))
@@ -124,7 +124,7 @@ module _ {K Q : Type 0} (V : Type 0) (same : K → K → Bool) (hash : K → ℕ
       by_fresh : (stands : Reserving) → r.reserve.stands ≡ stands → ReservingFacts same hash w i its_setting c seen stands → After
       by_fresh (reserves.Copies copier) here whole =
           let d = steps_back (room_plans.copied r.reserve) w.memory m2 (copier_plan hash copier) (p2, end)
-              (subst (λ (stands : Reserving). Steps Took value_at w.memory (room_plans.plan_at hash r.reserve stands) m2 (p2, end)) here steps) in
+          (subst (λ (stands : Reserving). Steps Took value_at w.memory (room_plans.plan_at hash r.reserve stands) m2 (p2, end)) here steps) in
           copier_keeps same hash are its_setting power mode w i c seen map calls ends m2 leads.went.c2 leads.went.blocks2 reached next copier
           (ap copier_then has ∙ ap copier_in_room here) (whole_knows copier whole)
           (λ row. none (subst (λ (stands : Reserving). IsRowOfReserve stands) (sym here) row)) d.0 d.1 (room_on Q r.reserve r.began d.0 p2 end d.2)
@@ -158,7 +158,7 @@ module _ {K Q : Type 0} (V : Type 0) (same : K → K → Bool) (hash : K → ℕ
       sweep_at : (stands : Sweeping) → o.sweep.stands ≡ stands → SweepingFacts same hash w i its_setting c seen o.began o.sweep stands → SweepsAfter
       sweep_at (sweeps.Copies copier) here (inl whole) =
           let d = steps_back (sweep_plans.copied o.sweep) w.memory m2 (copier_plan hash copier) (p2, end)
-              (subst (λ (stands : Sweeping). Steps Took value_at w.memory (sweep_plans.plan_at hash o.sweep stands) m2 (p2, end)) here steps) in
+          (subst (λ (stands : Sweeping). Steps Took value_at w.memory (sweep_plans.plan_at hash o.sweep stands) m2 (p2, end)) here steps) in
           copier_keeps same hash are its_setting power mode w i c seen sweeps_map calls ends m2 leads.went.c2 leads.went.blocks2 sweeps_reached sweeps_next copier
           (ap copier_then has ∙ ap copier_in_sweep here) (whole_knows copier whole)
           (λ row. none (subst (λ (stands : Sweeping). IsRowOfSweep stands) (sym here) row)) d.0 d.1 (sweep_on Q o.sweep o leads.entered2 leads.done2 d.0 p2 end d.2)

@@ -7,9 +7,9 @@ use Rattle.papaya_schedules.specs.After.{moment}
 use Rattle.papaya_schedules.specs.Entry.{is_busy}
 use Rattle.papaya_running.specs.Acting.{map_acted, singles_as}
 use Rattle.papaya_running.specs.Run.{SoFar, log_so}
-use Rattle.papaya_running.specs.Tally.{TellsAll}
+use Rattle.papaya_tally.specs.Tally.{TellsAll}
 use Rattle.papaya_running.proofs.Logs.{events_are}
-use Rattle.papaya_running.proofs.Tallies.{ok_four}
+use Rattle.papaya_tally.proofs.Tallies.{ok_four}
 use Rattle.papaya_running.proofs.Turns.{goes_so, long, next_so}
 use Rattle.papaya_running.proofs.running.take_turn.Goals as goal
 
@@ -38,6 +38,6 @@ returns g c =
           (next_so eq hash terms events rec tally c.args.scheduler.now so c.args.event played tally2 told c.add.new.self outcomes steps effects
           (subst (λ t. c.add.new.self.trace.items ≡ rec.trace.items ++ (if is_busy played.outcome then single.Whole (length rec.outcomes.items) ∷ [] else singles_as (length rec.outcomes.items) t played.steps))
           c.traced.ensures trace)
-          (goes_so eq hash so.holds.stands.name terms log _ c.happen.new.scheduler (c.in_ok-played.ensures.asked terms log so.holds) (c.in_ok-played.ensures.happens terms log first so.holds))
+          (goes_so eq hash terms log _ c.happen.new.scheduler (c.in_ok-played.ensures.happens terms log first so.holds))
           (c.in_ok-played.ensures.holds terms log so.holds)));
     }

@@ -11,7 +11,7 @@ pub loop-steps-init : goal.loop-steps-init
 loop-steps-init g c = (
   0,
   refl,
-  (refl, refl, refl),
+  (refl, refl, refl, refl),
   λ terms m own stands at. midst_first g.K.PartialEq.eq (g.S.Hashes.hash c.args.scheduler.now.logged.executor.hasher) terms own c.args.place m c.args.scheduler.now stands at c.args.effects.now.items
       (sym (append-nil c.args.effects.now.items)),
   0,

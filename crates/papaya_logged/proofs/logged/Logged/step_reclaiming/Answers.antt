@@ -6,7 +6,7 @@ use Rattle.papaya_effects.specs.declared.acting.Acting.TheVariants.{Row}
 use Rattle.papaya_executor.specs.declared.executor.Executor.{Executor}
 use Rattle.papaya_reclaiming.specs.Reclaiming.{ReclaimingLeads}
 use Rattle.papaya_logged.proofs.KeptGiven.{given_noted}
-use Rattle.papaya_logged.proofs.ReclaimSteps.{reclaiming_steps}
+use Rattle.papaya_logged.proofs.ReclaimsOn.{reclaiming_steps}
 use Rattle.papaya_logged.proofs.logged.Logged.step_reclaiming.Goals as goal
 
 pub returns-clause-leads : goal.returns-clause-leads
