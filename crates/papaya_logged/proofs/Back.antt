@@ -164,6 +164,29 @@ module _ {K V : Type 0} where
     contents = all_stored stored was.more more was.contents its.1;
   }
 
+module _ {K V : Type 0} where
+  come_none : (said : RowTold (Node K V)) (zs : List Effect) → has_come said ≡ true → row_back said zs ≡ []
+  come_none told.Goes zs e = refl
+  come_none told.Waits zs e = refl
+  come_none (told.Gave value) zs e = absurd (cc e)
+  come_none told.Done zs e = refl
+  come_none (told.Registered slot) zs e = refl
+  come_none (told.Refused fault) zs e = refl
+
+  -- the last step hands nothing out: of a row,
+  pub row_comes : (said : RowTold (Node K V)) (zs : List Effect) (b : List (Pair K V)) → has_come said ≡ true → b ≡ b ++ row_back said zs
+  row_comes said zs b come = sym (append-nil b) ∙ ap (λ (l : List (Pair K V)). b ++ l) (sym (come_none said zs come))
+
+  done_none : (said : Settled (Node K V)) (zs : List Effect) → is_done said ≡ true → settled_back said zs ≡ []
+  done_none settled.Goes zs e = refl
+  done_none settled.Waits zs e = refl
+  done_none (settled.Gave value) zs e = absurd (cc e)
+  done_none settled.Done zs e = refl
+
+  -- and of an end
+  pub end_comes : (said : Settled (Node K V)) (zs : List Effect) (b : List (Pair K V)) → is_done said ≡ true → b ≡ b ++ settled_back said zs
+  end_comes said zs b done = sym (append-nil b) ∙ ap (λ (l : List (Pair K V)). b ++ l) (sym (done_none said zs done))
+
 module _ {K V S : Type 0} where
   -- rows on slots
   pub brings_none : (l : Logged K V S) (xs : List Effect) (b : List (Pair K V)) → BringsBack xs xs l b b
@@ -238,18 +261,6 @@ module _ {K V S : Type 0} where
             (follows ∙ ap (λ (l : List Effect). b1 ++ row_back said l) did)),
       )
 
-  come_none : (said : RowTold (Node K V)) (zs : List Effect) → has_come said ≡ true → row_back said zs ≡ []
-  come_none told.Goes zs e = refl
-  come_none told.Waits zs e = refl
-  come_none (told.Gave value) zs e = absurd (cc e)
-  come_none told.Done zs e = refl
-  come_none (told.Registered slot) zs e = refl
-  come_none (told.Refused fault) zs e = refl
-
-  -- the last one hands nothing out
-  pub row_comes : (said : RowTold (Node K V)) (zs : List Effect) (b : List (Pair K V)) → has_come said ≡ true → b ≡ b ++ row_back said zs
-  row_comes said zs b come = sym (append-nil b) ∙ ap (λ (l : List (Pair K V)). b ++ l) (sym (come_none said zs come))
-
   pub end_brings_none : (i map : ℕ) (l : Logged K V S) (xs : List Effect) (b : List (Pair K V)) → EndBringsBack i map xs xs l b b
   end_brings_none i map l xs b = ([], sym (append-nil xs), λ same hash name m s shown f here not_there number first notes still. none_back m.stored b)
 
@@ -265,19 +276,10 @@ module _ {K V S : Type 0} where
             (let u = ran.3 same hash name m s shown f here not_there number first notes still in
             let g : Finishing K V = record f { machine = u.2.ender.0; back = f.back ++ u.1; waits = u.2.ender.1 } in
             let away = ap (λ (h : ℕ → Option (Standing K)). h map) u.2.maps ∙ not_there in
-            let to = step.2 same hash name (with_effects None (Some map) ran.0 m) u.0 u.5 g u.2.ender.2 away number first u.4 in
+            let to = step.2 same hash name (with_effects None (Some map) ran.0 m) u.0 u.5 g u.2.ender.2 away number first notes u.4 in
             more_back m.stored was.0 more b0 b1 b2 (was.2 same hash name m s shown f here not_there number first notes still) (settled_back said (ys ++ more))
             (subst (λ (l : List (K × V)). IsBack l more (settled_back said (ys ++ more))) (stored_none (Some map) ran.0 m)
             (end_brings same hash name (with_effects None (Some map) ran.0 m) u.0 mid u.5 new.executor i ys map said g u.2.ender.2 away to.0 first
             (append_cancel_left ys more step.0 (sym did ∙ step.1) ∙ to.1)))
             (follows ∙ ap (λ (l : List Effect). b1 ++ settled_back said l) did)),
       )
-
-  done_none : (said : Settled (Node K V)) (zs : List Effect) → is_done said ≡ true → settled_back said zs ≡ []
-  done_none settled.Goes zs e = refl
-  done_none settled.Waits zs e = refl
-  done_none (settled.Gave value) zs e = absurd (cc e)
-  done_none settled.Done zs e = refl
-
-  pub end_comes : (said : Settled (Node K V)) (zs : List Effect) (b : List (Pair K V)) → is_done said ≡ true → b ≡ b ++ settled_back said zs
-  end_comes said zs b done = sym (append-nil b) ∙ ap (λ (l : List (Pair K V)). b ++ l) (sym (done_none said zs done))
