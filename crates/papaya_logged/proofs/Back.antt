@@ -93,7 +93,7 @@ no_pairs_asked : (q : Bool) → flat_map pairs_back (if q then [] else Asked ABu
 no_pairs_asked true = refl
 no_pairs_asked false = refl
 
-row_quiet : (noted : Known) (x : Changed) → TellsRow x → TakesNone x → flat_map pairs_back (effects_of acts.Row noted x) ≡ []
+pub row_quiet : (noted : Known) (x : Changed) → TellsRow x → TakesNone x → flat_map pairs_back (effects_of acts.Row noted x) ≡ []
 row_quiet noted changed.Nothing is none = refl
 row_quiet noted (changed.Wrote (Slot s field) was now) is none = refl
 row_quiet noted (changed.Wrote (Entry b field) was now) is none = no_pairs (names_same was now)
@@ -107,10 +107,10 @@ row_quiet noted (changed.Roomed bucket had) is none = no_pairs_asked (had && nat
 
 module _ {K V : Type 0} where
   -- these pairs are those that the effects reclaim, each as it was stored
-  abbrev IsBack : List (K × V) → List Effect → List (Pair K V) → Type 0
+  abbrev pub IsBack : List (K × V) → List Effect → List (Pair K V) → Type 0
   IsBack stored did more = (numbers more ≡ flat_map pairs_back did) × AllByRecursion (IsStored stored) more
 
-  nothing_back : (stored : List (K × V)) (did : List Effect) (more : List (Pair K V)) → more ≡ [] → flat_map pairs_back did ≡ [] → IsBack stored did more
+  pub nothing_back : (stored : List (K × V)) (did : List Effect) (more : List (Pair K V)) → more ≡ [] → flat_map pairs_back did ≡ [] → IsBack stored did more
   nothing_back stored did more none silent = (ap numbers none ∙ sym silent, subst (AllByRecursion (IsStored stored)) (sym none) tt)
 
   -- what was in a block, by what that was noted as
@@ -132,7 +132,7 @@ module _ {K V : Type 0} where
     pair_was : (n : ℕ) (k : K) (v : V) → value_at w.memory b ≡ Some (node.Pair k v) → pair_back value (ys ++ pair_taken acting n ∷ []) ≡ record { number = n; key = k; value = v } ∷ []
     pair_was n k v is = its (node.Pair k v) is (pair_taken acting n ∷ []) ∙ ap (numbered k v) (last_is ys (pair_taken acting n) ∙ number_taken acting n)
 
-    taken_back : (r : Role) → HasRole w stored b r → IsBack stored (taken_by acting r) (pair_back value (ys ++ taken_by acting r))
+    pub taken_back : (r : Role) → HasRole w stored b r → IsBack stored (taken_by acting r) (pair_back value (ys ++ taken_by acting r))
     taken_back role.Free has = absurd (cc (has, held))
     taken_back (role.OwnPair caller) has = nothing_back stored (taken_by acting (role.OwnPair caller)) (pair_back value (ys ++ taken_by acting (role.OwnPair caller))) (own value) refl
     taken_back (role.OwnTable turn shape) has =
@@ -153,7 +153,7 @@ module _ {K V : Type 0} where
   all_stored stored [] ys f g = g
   all_stored stored (x ∷ xs) ys f g = (f.0, all_stored stored xs ys f.1 g)
 
-  more_back : (stored : List (K × V)) (first did : List Effect) (b0 b1 b2 : List (Pair K V)) → ComesBack stored first b0 b1 → (more : List (Pair K V)) → IsBack stored did more → b2 ≡ b1 ++ more
+  pub more_back : (stored : List (K × V)) (first did : List Effect) (b0 b1 b2 : List (Pair K V)) → ComesBack stored first b0 b1 → (more : List (Pair K V)) → IsBack stored did more → b2 ≡ b1 ++ more
       → ComesBack stored (first ++ did) b0 b2
   more_back stored first did b0 b1 b2 was more its then = record {
     more = was.more ++ more;

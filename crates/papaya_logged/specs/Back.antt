@@ -11,13 +11,16 @@ use Rattle.papaya_runs.specs.Runs.{IsStored}
 use Rattle.papaya_schedules.specs.declared.effect.Effect.{Effect}
 use Rattle.papaya_schedules.specs.declared.effect.Effect.TheVariants.{Ended, Reclaimed}
 use Rattle.papaya_schedules.specs.declared.effect.Thing.TheVariants.{APair}
-use Rattle.papaya_schedules.specs.Effects.{pairs_back}
+use Rattle.papaya_schedules.specs.Effects.{AtEachEffect, pairs_back}
 use Rattle.papaya_schedules.specs.Moment.{Moment}
 use Rattle.papaya_effects.specs.Known.{Known, known}
 use Rattle.papaya_executor.specs.IsAt.{Scene}
 use Rattle.papaya_executor.specs.declared.row.RowTold.{RowTold}
 use Rattle.papaya_executor.specs.declared.row.RowTold.TheVariants as told
+use Rattle.papaya_reclaiming.specs.Reclaiming.{MayReclaim, NobodyHas}
 use Rattle.papaya_histories.specs.Given.Finishes.Endings.{Finishing}
+use Rattle.papaya_histories.specs.Given.Moments.OnSlots.{HadRetired}
+use Rattle.papaya_histories.specs.Given.Spots.OnSlots.{WaitUnreclaimed}
 use Rattle.papaya_logged.specs.Ends.{NotedStill, NotesMap}
 use Rattle.papaya_logged.specs.Shown.{IsShown}
 use Rattle.papaya_logged.specs.declared.logged.Logged.{Logged}
@@ -65,16 +68,24 @@ module _ {K V : Type 0} where
     pub contents : AllByRecursion (IsStored stored) more
 
 module _ {K V S : Type 0} where
-  -- So it is of what follows in the list of effects, wherever a moment shows the executor before it;
+  -- So it is of what follows in the list of effects, wherever a moment shows the executor before it,
   abbrev pub BringsBack : (before after : List Effect) → (first : Logged K V S) → (old new : List (Pair K V)) → Type 0
   BringsBack before after first old new =
       (did : List Effect) × (after ≡ before ++ did)
       × ((same : K → K → Bool) (hash : K → ℕ) (name : ℕ → List ℕ) (m : Moment K V) (s : Scene K V) → IsShown same hash name m first s → ComesBack m.stored did old new)
 
-  -- of the end of a map, where the blocks of that are noted as its own.
+  -- of the end of a map, where the blocks of that are noted as its own;
   abbrev pub EndBringsBack : (i map : ℕ) → (before after : List Effect) → (first : Logged K V S) → (old new : List (Pair K V)) → Type 0
   EndBringsBack i map before after first old new =
       (did : List Effect) × (after ≡ before ++ did)
       × ((same : K → K → Bool) (hash : K → ℕ) (name : ℕ → List ℕ) (m : Moment K V) (s : Scene K V) → IsShown same hash name m first s
       → (f : Finishing K V) → s.enders i ≡ Some f → s.maps map ≡ None
       → (number : ℕ → ℕ) (noted : Known) → NotesMap map number noted f.setting f.chart f.blocks → NotedStill noted (known first.notes) f.back → ComesBack m.stored did old new)
+
+  -- and of reclaiming all, where each table that was reclaimed was retired, and what waited behind that was not reclaimed.
+  abbrev pub AllBringsBack : Bool → (before after : List Effect) → (first : Logged K V S) → (old new : List (Pair K V)) → Type 0
+  AllBringsBack taken before after first old new =
+      (did : List Effect) × (after ≡ before ++ did)
+      × ((same : K → K → Bool) (hash : K → ℕ) (name : ℕ → List ℕ) (m : Moment K V) (s : Scene K V) (lists : ℕ → List ℕ) → IsShown same hash name m first s
+      → NobodyHas first.executor → MayReclaim first.executor s lists taken
+      → AtEachEffect HadRetired None None did m → AtEachEffect WaitUnreclaimed None None did m → ComesBack m.stored did old new)

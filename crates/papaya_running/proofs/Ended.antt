@@ -20,13 +20,14 @@ use Rattle.papaya_schedules.specs.Views.{is_in_a_map, is_waiting}
 use Rattle.papaya_effects.specs.Known.{Known, known}
 use Rattle.papaya_effects.specs.declared.role.Role.TheVariants.{Free}
 use Rattle.papaya_scheduler.specs.declared.scheduler.Scheduler.{Scheduler}
-use Rattle.papaya_running.specs.Ending.{HoldPairs, noted_below, shown_of, told_map}
+use Rattle.papaya_running.specs.Ending.{shown_of, told_map}
+use Rattle.papaya_tally.specs.Left.{HoldPairs, noted_below}
 use Rattle.papaya_running.specs.Run.{SoFar, TellsMost, log_so}
-use Rattle.papaya_running.specs.Tally.{counted, numbers_at, passes}
+use Rattle.papaya_tally.specs.Tally.{counted, numbers_at, passes}
 use Rattle.papaya_running.specs.declared.record.Record.{Record}
-use Rattle.papaya_running.specs.declared.tally.Tally.{Tally}
+use Rattle.papaya_tally.specs.declared.tally.Tally.{Tally}
 use Rattle.papaya_running.proofs.Left.{hold_pairs, lists_left, stored_left}
-use Rattle.papaya_running.proofs.Numbers.{ascending, lists_waiting}
+use Rattle.papaya_tally.proofs.Numbers.{ascending, lists_waiting}
 use Rattle.papaya_running.proofs.Turns.{maps_shown, tables_told}
 
 module _ {K V S : Type 0} (same : K → K → Bool) (hash : K → ℕ) (terms : Terms) (events : List (Event K V)) (rec : Record V) (tally : Tally) (p : Scheduler K V S)

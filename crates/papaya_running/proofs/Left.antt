@@ -22,7 +22,7 @@ use Rattle.papaya_histories.specs.Given.Follows.Blocks.{HasRole, ShowsBlocks}
 use Rattle.papaya_histories.specs.Given.Spots.Unreclaimed.{ShowsUnreclaimed, is_unreclaimed}
 use Rattle.papaya_histories.specs.Given.Seize.World.{World}
 use Rattle.seize_words.specs.Mem.{value_at}
-use Rattle.papaya_running.specs.Ending.{HoldPairs, noted, noted_below}
+use Rattle.papaya_tally.specs.Left.{HoldPairs, noted, noted_below}
 
 -- whether a block is the pair of this number
 is_pair : ℕ → Role → Bool

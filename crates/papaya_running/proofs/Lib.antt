@@ -5,7 +5,4 @@ mod Happened
 mod LawfulKeys
 mod Left
 mod Logs
-mod Numbers
-mod Taken
-mod Tallies
 mod Turns

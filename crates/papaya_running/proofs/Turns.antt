@@ -30,15 +30,15 @@ use Rattle.papaya_running.specs.Acting.{acting_of, map_acted, singles_as, traced
 use Rattle.papaya_running.specs.Asked.{Happens, Holds}
 use Rattle.papaya_running.specs.Ending.{shown_of, told_map}
 use Rattle.papaya_running.specs.Run.{GoesRight, IsRightRun, SoFar, TellsMost, log_so}
-use Rattle.papaya_running.specs.Tally.{Tells, TellsAll, TellsMoment, counted, deferral, flag_of}
+use Rattle.papaya_tally.specs.Tally.{Tells, TellsAll, TellsMoment, counted, deferral, flag_of}
 use Rattle.papaya_running.specs.declared.record.Record.{Record}
-use Rattle.papaya_running.specs.declared.tally.Flagged.{Flagged}
-use Rattle.papaya_running.specs.declared.tally.Tally.{Tally}
-use Rattle.papaya_running.specs.declared.tally.Whereabouts.{Whereabouts}
-use Rattle.papaya_running.specs.declared.tally.Whereabouts.TheVariants.{Unborn}
+use Rattle.papaya_tally.specs.declared.tally.Flagged.{Flagged}
+use Rattle.papaya_tally.specs.declared.tally.Tally.{Tally}
+use Rattle.papaya_tally.specs.declared.tally.Whereabouts.{Whereabouts}
+use Rattle.papaya_tally.specs.declared.tally.Whereabouts.TheVariants.{Unborn}
 use Rattle.papaya_running.proofs.Logs.{acted_so, begun_same, log_long, log_more, singles_are}
-use Rattle.papaya_running.proofs.Numbers.{lists_map}
-use Rattle.papaya_running.proofs.Tallies.{told_moment}
+use Rattle.papaya_tally.proofs.Numbers.{lists_map}
+use Rattle.papaya_tally.proofs.Tallies.{told_moment}
 
 lists_same : (xs : List (Vec Effect)) → length (map (λ v. v.items) xs) ≡ length xs
 lists_same [] = refl

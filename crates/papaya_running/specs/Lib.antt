@@ -1,5 +1,4 @@
 pub mod Asked
-pub mod Tally
 pub mod Ending
 pub mod Acting
 pub mod Run

@@ -18,9 +18,9 @@ use Rattle.papaya_schedules.specs.Views.{is_in_a_map, is_retired, is_waiting}
 use Rattle.papaya_scheduler.specs.declared.scheduler.Given.{Given}
 use Rattle.papaya_scheduler.specs.declared.scheduler.Scheduler.{Scheduler}
 use Rattle.papaya_running.specs.Asked.{FindsRight, Holds}
-use Rattle.papaya_running.specs.Tally.{TellsMoment}
+use Rattle.papaya_tally.specs.Tally.{TellsMoment}
 use Rattle.papaya_running.specs.declared.record.Record.{Record}
-use Rattle.papaya_running.specs.declared.tally.Tally.{Tally}
+use Rattle.papaya_tally.specs.declared.tally.Tally.{Tally}
 
 -- more processors than these count as so many
 abbrev pub bounded : Given → Given

@@ -7,14 +7,15 @@ ghost use Rattle.papaya_scheduler.specs.Played.{terms_given};
 ghost use Rattle.papaya_running.specs.Run.{IsRightRun, SoFar, TellsMost, bounded, log_so};
 
 use crate::acting::{acting_of, traced};
-use crate::ending::{living, pairs_left};
+use crate::ending::living;
 use crate::happening::happen;
 use crate::record::Record;
-use crate::tally::Tally;
 use papaya_logged::logged::Logged;
 use papaya_raw::Hashes;
 use papaya_runs::event::Setup;
 use papaya_runs::pair_list::PairList;
+use papaya_tally::left::pairs_left;
+use papaya_tally::tally::Tally;
 use papaya_scheduler::scheduler::{Given, Scheduler};
 use papaya_schedules::event::Event;
 use papaya_schedules::record::Run;

@@ -40,14 +40,14 @@ HeldIsTold m p = (slot : ℕ) → word_at p.logged.executor.memory.memory (Slot 
 
 -- one that is found passes a test where some passes it
 pub one_passes : {X : Type 0} (p q : X → Bool) (xs : List X) (x : X) → find p xs ≡ Some x → q x ≡ true → list_any q xs ≡ true
-one_passes p q [] x is yes = absurd (cc is)
-one_passes {X} p q (y ∷ xs) x is yes = one (p y) is (λ f. one_passes p q xs x f yes)
+one_passes p q [] x is passes = absurd (cc is)
+one_passes {X} p q (y ∷ xs) x is passes = one (p y) is (λ f. one_passes p q xs x f passes)
   where
     the : (a b : X) → Some a ≡ Some b → a ≡ b
     the a b s = cc s
 
     one : (b : Bool) → cond b (Some y) (find p xs) ≡ Some x → (find p xs ≡ Some x → list_any q xs ≡ true) → (q y || list_any q xs) ≡ true
-    one true f ih = ap (λ (b : Bool). b || list_any q xs) (ap q (the y x f) ∙ yes)
+    one true f ih = ap (λ (b : Bool). b || list_any q xs) (ap q (the y x f) ∙ passes)
     one false f ih = ap (λ (b : Bool). q y || b) (ih f) ∙ any_or (q y)
       where
         any_or : (b : Bool) → (b || true) ≡ true
@@ -97,7 +97,7 @@ module _ {K V S : Type 0} (same : K → K → Bool) (hash : K → ℕ) (terms : 
     named : AllByRecursion (λ d. its d ≡ true → is_named own d ≡ true) calls
     named =
         all_so (IsUnderWay stands.name stands.scene p.there) (λ d. its d ≡ true → is_named own d ≡ true)
-        (λ d way yes. (same_tells d.name own).1 (sym way.2 ∙ ap stands.name (eqb-true d.number j (both_true (d.map == map) (d.number == j) yes).1))) calls stands.calls.each
+        (λ d way same_one. (same_tells d.name own).1 (sym way.2 ∙ ap stands.name (eqb-true d.number j (both_true (d.map == map) (d.number == j) same_one).1))) calls stands.calls.each
 
     -- the caller that is found by its name is its own
     found : (d : Caller V) × (find (is_named own) calls ≡ Some d) × (seen there.0 ≡ seen_of d)

@@ -4,6 +4,7 @@ ghost use Rattle.std.specs.List.{list_any};
 ghost use Rattle.papaya_runs.specs.Same.{is_same};
 ghost use Rattle.papaya_schedules.specs.declared.event.Event.TheVariants as event;
 ghost use Rattle.papaya_executor.specs.IsAt.{KeepsGiven};
+ghost use Rattle.papaya_scheduler.specs.Back.{GivesBack};
 ghost use Rattle.papaya_scheduler.specs.Mapping.{PlaysEnding};
 ghost use Rattle.papaya_scheduler.specs.Played.{MayPlay};
 
@@ -37,6 +38,7 @@ impl<K: Drop, V: Drop, S> Scheduler<K, V, S> {
         requires { (same : K → K → Bool) × (hash : K → ℕ) × MayPlay same hash (event.EndMap map.now) self.old }
         ensures steps { IfOk result (λ played. played.steps ≡ 0) }
         ensures plays { IfOk result (λ played. (same : K → K → Bool) (hash : K → ℕ) → PlaysEnding same hash (event.EndMap map.now) played self.old self.new) }
+        ensures back { IfOk result (λ played. (same : K → K → Bool) (hash : K → ℕ) → GivesBack same hash (event.EndMap map.now) played self.old self.new) }
         ensures given { KeepsGiven self.old.logged.executor self.new.logged.executor }
     {
         let Some(number) = self.number_of(map) else {
@@ -47,7 +49,8 @@ impl<K: Drop, V: Drop, S> Scheduler<K, V, S> {
         }
         let mut effects = self.no_effects();
         let caller = self.logged.begin_end(0, number)?;
-        self.logged.run_end(caller, number, &mut effects)?;
+        self.logged
+            .run_end(caller, number, &mut effects, &mut self.back)?;
         without(&mut self.maps, map);
         Ok(Played {
             outcome: Outcome::Done,

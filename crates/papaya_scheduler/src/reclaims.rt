@@ -29,11 +29,12 @@ impl<K: Drop, V: Drop, S> Scheduler<K, V, S> {
         requires { (same : K → K → Bool) × (hash : K → ℕ) × (name : ℕ → List ℕ) × (m : Moment K V) × (s : Scene K V) × (lists : ℕ → List ℕ) × IsShown same hash name m self.old.logged s
             × NobodyHas self.old.logged.executor × MayReclaim self.old.logged.executor s lists (nat_lt 0 (known self.old.logged.notes).buckets) }
         ensures ran { OnOk result (ReclaimingRan (nat_lt 0 (known self.old.logged.notes).buckets) effects.old.items effects.new.items self.old.logged self.new.logged) }
-        ensures rest { OnOk result (self.new ≡ record self.old { logged = self.new.logged; there = nobody }) }
+        ensures rest { OnOk result (self.new ≡ record self.old { logged = self.new.logged; there = nobody; back = self.new.back }) }
         ensures given { KeepsGiven self.old.logged.executor self.new.logged.executor }
     {
         let taken = self.logged.notes.buckets() > 0;
-        self.logged.run_reclaiming(taken, effects)?;
+        self.logged
+            .run_reclaiming(taken, effects, &mut self.back)?;
         self.there.clear();
         Ok(())
     }

@@ -4,6 +4,8 @@ ghost use Rattle.papaya_schedules.specs.Moment.{Moment};
 ghost use Rattle.papaya_schedules.specs.Terms.{Terms};
 ghost use Rattle.papaya_schedules.specs.declared.event.Event.TheVariants as event;
 ghost use Rattle.papaya_executor.specs.IsAt.{KeepsGiven};
+ghost use Rattle.papaya_logged.specs.Back.{BringsBack};
+ghost use Rattle.papaya_scheduler.specs.Back.{GivesBack};
 ghost use Rattle.papaya_scheduler.specs.Played.{MayPlay, PlaysAt, StandsFor};
 ghost use Rattle.papaya_rows.specs.Taking.{SlotTaken};
 
@@ -25,7 +27,8 @@ impl<K: Drop, V: Drop, S> Scheduler<K, V, S> {
     ) -> Result<Result<u64, Fault>, AllocError>
         requires { (same : K → K → Bool) × (hash : K → ℕ) × (terms : Terms) × (m : Moment K V) × StandsFor same hash terms m self.old }
         ensures taken { IfOk result (λ slot. SlotTaken enters slot effects.old.items effects.new.items self.old.logged self.new.logged) }
-        ensures rest { self.new ≡ record self.old { logged = self.new.logged } }
+        ensures back { IfOk result (λ slot. BringsBack effects.old.items effects.new.items self.old.logged self.old.back.items self.new.back.items) }
+        ensures rest { self.new ≡ record self.old { logged = self.new.logged; back = self.new.back } }
         ensures given { KeepsGiven self.old.logged.executor self.new.logged.executor }
     {
         let told = self.run_row(0, SlotCall::Register { enters }, effects)?;
@@ -41,6 +44,7 @@ impl<K: Drop, V: Drop, S> Scheduler<K, V, S> {
         requires { (same : K → K → Bool) × (hash : K → ℕ) × MayPlay same hash (event.Register registration) self.old }
         ensures steps { IfOk result (λ played. played.steps ≡ 0) }
         ensures plays { IfOk result (λ played. (same : K → K → Bool) (hash : K → ℕ) → PlaysAt same hash (event.Register registration) played self.old self.new) }
+        ensures back { IfOk result (λ played. (same : K → K → Bool) (hash : K → ℕ) → GivesBack same hash (event.Register registration) played self.old self.new) }
         ensures given { KeepsGiven self.old.logged.executor self.new.logged.executor }
     {
         if self.there.slot_of_registration(&registration).is_some() {
@@ -70,6 +74,7 @@ impl<K: Drop, V: Drop, S> Scheduler<K, V, S> {
         requires { (same : K → K → Bool) × (hash : K → ℕ) × MayPlay same hash (event.Own guard) self.old }
         ensures steps { IfOk result (λ played. played.steps ≡ 0) }
         ensures plays { IfOk result (λ played. (same : K → K → Bool) (hash : K → ℕ) → PlaysAt same hash (event.Own guard) played self.old self.new) }
+        ensures back { IfOk result (λ played. (same : K → K → Bool) (hash : K → ℕ) → GivesBack same hash (event.Own guard) played self.old self.new) }
         ensures given { KeepsGiven self.old.logged.executor self.new.logged.executor }
     {
         if self.there.has_guard(&guard) {
@@ -99,6 +104,7 @@ impl<K: Drop, V: Drop, S> Scheduler<K, V, S> {
         requires { (same : K → K → Bool) × (hash : K → ℕ) × MayPlay same hash (event.Unregister registration.now) self.old }
         ensures steps { IfOk result (λ played. played.steps ≡ 0) }
         ensures plays { IfOk result (λ played. (same : K → K → Bool) (hash : K → ℕ) → PlaysAt same hash (event.Unregister registration.now) played self.old self.new) }
+        ensures back { IfOk result (λ played. (same : K → K → Bool) (hash : K → ℕ) → GivesBack same hash (event.Unregister registration.now) played self.old self.new) }
         ensures given { KeepsGiven self.old.logged.executor self.new.logged.executor }
     {
         let slot = match self.there.slot_of_registration(registration) {

@@ -350,7 +350,7 @@ module _ {K V S : Type 0} (same : K → K → Bool) (hash : K → ℕ) (terms : 
         few = (operations_are_single (acts.Call d.number d.map) (known p.logged.notes) new.executor.memory.changed).0;
         comes = says.comes;
         works = λ waits. by_looking (only_looks c.call) refl waits;
-        waits = λ waits x x_is case. by_waits (said_waits by d.kind d.value said waits) x x_is case;
+        waits = λ waits x x_is sure. by_waits (said_waits by d.kind d.value said waits) x x_is sure;
         memory = λ refused x x_is.
             (step_keeps_grown same hash stands.name m (known p.logged.notes) stands.scene p.logged.executor new.executor stands.shown.is_at stands.shown.shows stands.shown.kept.short stands.shown.kept.grown
             d.map d.number here.way.0 here.way.1 said leads).1 (said_short by d.kind d.value said refused) x
@@ -369,7 +369,7 @@ module _ {K V S : Type 0} (same : K → K → Bool) (hash : K → ℕ) (terms : 
           -- one on one key that waits has done nothing, and waits for one that it may wait for
           by_waits : said ≡ progress.Waits → (x : CallThere K V) → call_of own (with_effects (Some own) (Some c.map) did m) ≡ Some x → waits_in_case x (with_effects (Some own) (Some c.map) did m) ≡ true
               → list_any (may_wait_for x (with_effects (Some own) (Some c.map) did m)) (with_effects (Some own) (Some c.map) did m).calls ≡ true
-          by_waits waits x x_is case = subst Right (sym nothing) right x x_is case
+          by_waits waits x x_is sure = subst Right (sym nothing) right x x_is sure
             where
               Right : List Effect → Type 0
               Right l =
@@ -387,7 +387,7 @@ module _ {K V S : Type 0} (same : K → K → Bool) (hash : K → ℕ) (terms : 
               on_key : is_on_key c.call ≡ true
               on_key =
                   let on = calls_after own c.map own did m c here.call_is in
-                  ap is_on_key (sym on.2.0.call) ∙ ap (λ (y : CallThere K V). is_on_key y.call) (the on.0 x (sym on.1 ∙ x_is)) ∙ first_of (is_on_key x.call) _ case
+                  ap is_on_key (sym on.2.0.call) ∙ ap (λ (y : CallThere K V). is_on_key y.call) (the on.0 x (sym on.1 ∙ x_is)) ∙ first_of (is_on_key x.call) _ sure
 
               its_step : StepsFrom same hash (machine_of here.way.0) p.logged.executor new.executor (leads d.map here.way.0 here.way.1).1 progress.Waits
               its_step = subst (λ (y : Progress (Node K V)). StepsFrom same hash (machine_of here.way.0) p.logged.executor new.executor (leads d.map here.way.0 here.way.1).1 y) waits (leads d.map here.way.0 here.way.1).3
@@ -397,9 +397,9 @@ module _ {K V S : Type 0} (same : K → K → Bool) (hash : K → ℕ) (terms : 
                   (key_quiet same hash terms m p stands own d.map d.number here.way.0 here.way.1 its_name new.executor (leads d.map here.way.0 here.way.1).1 its_step c here.call_is on_key)
 
               right : Right []
-              right y y_is y_case =
+              right y y_is y_sure =
                   key_waits_for same hash terms m p stands own d.map d.number here.way.0 here.way.1 its_name new.executor (leads d.map here.way.0 here.way.1).1 its_step y y_is
-                  (first_of (is_on_key y.call) _ y_case) (second_of (is_on_key y.call) _ y_case)
+                  (first_of (is_on_key y.call) _ y_sure) (second_of (is_on_key y.call) _ y_sure)
 
 module _ {K V S : Type 0} (same : K → K → Bool) (hash : K → ℕ) (terms : Terms) (m : Moment K V) (p new : Scheduler K V S) (stands : StandsFor same hash terms m p) (own : List ℕ) (place : ℕ)
     (at : GoesAt own place p) (outcome : Outcome V) (before after : List Effect) (step : IsStepped same hash place outcome before after p new) where

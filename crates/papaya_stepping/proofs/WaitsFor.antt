@@ -151,7 +151,7 @@ module _ {K V S : Type 0} (same : K → K → Bool) (hash : K → ℕ) (terms : 
 
     -- another row has the batch of its slot
     by_holder : AnotherHolds w i (row_of (slot_of i) u.call.stands) → Waits
-    by_holder (s, on, j, has, other, only) =
+    by_holder (s, on, (j, has, other, only)) =
         waits_for_holder same hash terms m p stands of i j (OnKey u) under
         (subst (λ (n : ℕ). has_batch n (w.row j) ≡ true) (on_slot (slot_of i) s (row_of (slot_of i) u.call.stands) its_row_on on) has) other
 

@@ -7,9 +7,9 @@ use Rattle.papaya_schedules.specs.After.{moment}
 use Rattle.papaya_schedules.specs.Entry.{is_busy}
 use Rattle.papaya_running.specs.Acting.{map_acted, singles_as}
 use Rattle.papaya_running.specs.Run.{SoFar, log_so}
-use Rattle.papaya_running.specs.Tally.{TellsAll}
+use Rattle.papaya_tally.specs.Tally.{TellsAll}
 use Rattle.papaya_running.proofs.Logs.{events_are}
-use Rattle.papaya_running.proofs.Tallies.{ok_four}
+use Rattle.papaya_tally.proofs.Tallies.{ok_four}
 use Rattle.papaya_running.proofs.Turns.{goes_so, long, next_so}
 use Rattle.papaya_running.proofs.running.take_turn.Goals as goal
 

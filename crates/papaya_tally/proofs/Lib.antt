@@ -1,0 +1,4 @@
+pub mod Tallies
+pub mod Numbers
+mod Taken
+pub mod Found
