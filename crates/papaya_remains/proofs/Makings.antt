@@ -42,14 +42,14 @@ module _ {K : Type 0} (maps maps2 : ℕ → Option (Standing K)) (alike : (n : �
           let one : st.setting ≡ t.setting = cc both in
           (n, t, e, ap (λ (x : Setting). x.root) (sym one) ∙ is)
 
+abbrev setting_in : {K : Type 0} → Option (Standing K) → Option Setting
+setting_in o = option_map (λ x. x.setting) o
+
 -- a map of this setting or another one of it
 with_setting : {K : Type 0} (maps : ℕ → Option (Standing K)) (k : ℕ) (st t : Standing K) → st.setting ≡ t.setting → (n : ℕ)
     → option_map (λ (x : Standing K). x.setting) (with_at maps k (Some st) n) ≡ option_map (λ (x : Standing K). x.setting) (with_at maps k (Some t) n)
-with_setting {K} maps k st t e n = by (cases_eq n k)
+with_setting maps k st t e n = by (cases_eq n k)
   where
-    abbrev setting_in : Option (Standing K) → Option Setting
-    setting_in o = option_map (λ (x : Standing K). x.setting) o
-
     by : (n ≡ k) ⊎ (n ≢ k) → setting_in (with_at maps k (Some st) n) ≡ setting_in (with_at maps k (Some t) n)
     by (inl same) = ap setting_in (at_same maps k (Some st) n same) ∙ ap (λ (x : Setting). Some x) e ∙ sym (ap setting_in (at_same maps k (Some t) n same))
     by (inr ne) = ap setting_in (at_other maps k (Some st) n ne) ∙ sym (ap setting_in (at_other maps k (Some t) n ne))

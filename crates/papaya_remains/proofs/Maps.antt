@@ -77,8 +77,8 @@ module _ (K V : Type 0) where
               (sym (used_among (with_map there m) r ∙ ap (λ (q : Bool). q || is_among r (left_roots m)) (roots_among r ∙ ap (λ (q : Bool). is_among r (map_roots m) || (q || false)) e)) ∙ is))
             where
               old : (a b : Bool) → ((a || (false || false)) || b) ≡ true → (a || b) ≡ true
-              old true b yes = refl
-              old false b yes = yes
+              old true b used = refl
+              old false b used = used
 
   module _ (roots : ℕ) (m : Moment K V) (s : Scene K V) (shows : ShowsRemains roots m s) (own : List ℕ) (f : MapThere) (found : map_of own m ≡ Some f)
       (alone : length (filter (λ g. is_same g.name own) m.maps) ≤ 1) where

@@ -65,8 +65,8 @@ module _ {K V : Type 0} where
       used : used_roots v ≡ used_roots m
       used = used_then m v maps remains
 
-zero_at : (n r : ℕ) → r < n → slice_get (replicate n 0) r ≡ Some 0
-zero_at n r l = slice_get-get_or (replicate n 0) r 0 (omega (arith, l, length-replicate n 0)) ∙ ap (λ (x : ℕ). Some x) (get_or-replicate n r 0 0 l)
+zero_at : (n r : ℕ) → r < n → slice_get {X = ℕ} (replicate n 0) r ≡ Some 0
+zero_at n r l = slice_get-get_or {X = ℕ} (replicate n 0) r 0 (omega (arith, l, length-replicate {A = ℕ} n 0)) ∙ ap (λ (x : ℕ). Some x) (get_or-replicate {A = ℕ} n r 0 0 l)
 
 pub begins_remain : (K V : Type 0) → BeginsRemain K V
 begins_remain K V roots = record {
