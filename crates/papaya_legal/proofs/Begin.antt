@@ -22,6 +22,7 @@ runs_begin K V same terms name = record {
     numbers = (numbers_begin K V, pairs_begin K V);
     kept = begins_kept K V terms.roots name;
     counters = counters_begin K V terms.roots name;
+    uncounted = λ of low shard. refl;
     dues = dues_begin K V same terms.roots name;
     as_called = as_called_begins K V same terms.roots name;
     questions = questions_begin K V;

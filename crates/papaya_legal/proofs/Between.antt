@@ -1,16 +1,14 @@
 -- What a moment shows of calls is so on between the steps of events.
-use Rattle.std.specs.Prelude.{◌≡◌, ◌≤◌, nat_lt, ℕ, Bool, true, false, List, [], ◌∷◌, Option, Some, None, if◌then◌else◌}
+use Rattle.std.specs.Prelude.{◌≡◌, ◌≤◌, nat_lt, ℕ, Bool, true, false, List, Option, Some, None, if◌then◌else◌}
 use Rattle.std.proofs.Common.{refl, ap, sym, subst, ◌∙◌, inl, inr, arith}
 use Rattle.papaya_histories.specs.Given.SeizeWords.declared.fault.Fault.TheVariants.{Memory}
 use Rattle.papaya_histories.specs.Given.Sweeps.SweepPoints.{after_next, next_at}
 use Rattle.papaya_histories.specs.Given.Sweeps.declared.sweep.Sweep.{Sweep}
 use Rattle.papaya_histories.specs.Given.Sweeps.declared.sweep.Sweeping.{Sweeping}
-use Rattle.papaya_histories.specs.Given.Sweeps.declared.sweep.Sweeping.TheVariants as at
+use Rattle.papaya_histories.specs.Given.Sweeps.declared.sweep.Sweeping.TheVariants as sweeping
 use Rattle.papaya_histories.specs.Given.Points.FactsCalls.{Unchanged}
-use Rattle.papaya_histories.specs.Given.Schedules.declared.effect.Effect.{Effect}
 use Rattle.papaya_histories.specs.Given.Schedules.After.{moment}
 use Rattle.papaya_histories.specs.Given.Schedules.Beginning.{with_call, with_map}
-use Rattle.papaya_histories.specs.Given.Schedules.Effects.{with_effect, with_effects}
 use Rattle.papaya_histories.specs.Given.Schedules.declared.outcome.Outcome.TheVariants.{Refused}
 use Rattle.papaya_histories.specs.Given.Schedules.Moment.{UnderWay as CallThere, Stands, Asking, Moment}
 use Rattle.papaya_histories.specs.Given.Schedules.Views.{call_of}
@@ -19,7 +17,7 @@ use Rattle.papaya_histories.specs.Given.Callers.Rooms.{CallForRoom}
 use Rattle.papaya_histories.specs.Given.Callers.Together.{UnderWay, CallOnKey, OnKey, ForRoom, Counting, OverAll}
 use Rattle.papaya_histories.specs.Given.Effects.Known.{Known}
 use Rattle.papaya_histories.specs.Given.Executor.Beginning.{Begins}
-use Rattle.papaya_histories.specs.Given.Executor.IsAt.{Scene}
+use Rattle.papaya_histories.specs.Given.Executor.IsAt.{Scene, HasCall}
 use Rattle.papaya_histories.specs.Given.Executor.Replying.{scene_with, unless_stopped}
 use Rattle.papaya_histories.specs.Given.Finishes.Machines.{machine_of}
 use Rattle.papaya_histories.specs.Given.Finishes.Maps.{Standing, with_call as with_call_of}
@@ -55,28 +53,21 @@ use Rattle.papaya_kept.proofs.Others.{endings_begin_kept}
 use Rattle.papaya_kept.proofs.Renamed.{asked, renamed, shows}
 use Rattle.papaya_kept.proofs.Stays.{makings_begin_kept, renamed_kept, stays_kept}
 use Rattle.papaya_purposes.specs.Kept.{AsksAboutIt}
-use Rattle.papaya_purposes.proofs.Between.{calls_begin_purposes, events_keep_purposes, walks_go_on_purposes}
+use Rattle.papaya_purposes.proofs.Between.{calls_begin_purposes, events_keep_purposes}
 use Rattle.papaya_purposes.proofs.Elsewhere.{purposes_stay}
-use Rattle.papaya_purposes.proofs.Stops.{walks_stop_purposes}
 use Rattle.papaya_purposes.proofs.Told.{calls_take_purposes}
 use Rattle.papaya_shards.specs.Adds.{adds_in_sweeping, adds_of}
 use Rattle.papaya_shards.specs.ShardWords.{ShowsCounters}
 use Rattle.papaya_shards.proofs.ShardBetween.{calls_begin_counters, calls_take_counters, counters_stay, fewer_add}
 use Rattle.papaya_shards.proofs.ShardOthers.{endings_begin_counters, makings_begin_counters}
-use Rattle.papaya_legal.specs.Between.{CallsBegin, CallsTake, EndsBegin, IsLike, LikesShow, LogsGrow, MakingsBegin, MapsCome, MapsGo, NamesChange, WalksGoOn, WalksStop}
+use Rattle.papaya_legal.specs.Between.{CallsBegin, CallsTake, EndsBegin, LikesShow, LogsGrow, MakingsBegin, MapsCome, MapsGo, NamesChange, WalksGoOn, WalksStop}
 use Rattle.papaya_legal.specs.Carried.{NoneCounted, ShowsCalls}
-
--- no effect makes a map
-module _ {K V : Type 0} (caller : Option (List ℕ)) (acted : Option ℕ) where
-  pub made_still : (effects : List Effect) (m : Moment K V) → (with_effects caller acted effects m).made ≡ m.made
-  made_still [] m = refl
-  made_still (f ∷ effects) m = made_still effects (with_effect caller acted f m)
 
 pub likes_show : (K V : Type 0) (same : K → K → Bool) → LikesShow K V same
 likes_show K V same name log m v known s all like = subst (λ (x : Moment K V). ShowsCalls same name log x known s) (sym like) (record {
   whole = all_stays_shown K V same name m known s all.whole v.events v.is_mapped v.is_closed v.is_alone v.there v.slots v.sheltered v.remains;
   numbers = (record { found = all.numbers.0.found; below = all.numbers.0.below; tables = all.numbers.0.tables }, all.numbers.1);
-  kept = stays_kept K V name m other known s s all.kept refl refl refl refl refl refl refl;
+  kept = stays_kept K V name m other known s s all.kept refl refl refl refl refl refl refl refl;
   counters = counters_stay K V name m other s s all.counters refl refl refl refl refl (λ of j x is removed adds. (x, is, adds));
   uncounted = all.uncounted;
   dues = (dues_stay K V (Unit {0}) same (λ k. 0) name log).alike m other known s all.dues alike;
@@ -85,7 +76,7 @@ likes_show K V same name log m v known s all like = subst (λ (x : Moment K V). 
   purposes = (purposes_stay K V (Unit {0}) same (λ k. 0) name log).alike m other known s all.purposes alike;
 })
   where
-    abbrev other : Moment K V
+    other : Moment K V
     other = record m {
       events = v.events;
       is_mapped = v.is_mapped;
@@ -112,6 +103,11 @@ logs_grow K V same name log e known s all = record {
   questions = all.questions;
   purposes = events_keep_purposes K V same name log e known s all.purposes;
 }
+
+-- a call by another name is that by its name
+pub named_as : {K V : Type 0} (name name2 : ℕ → List ℕ) (m : Moment K V) (s : Scene K V) → ((i : ℕ) → HasCall s i → name2 i ≡ name i)
+    → (map i : ℕ) (u : UnderWay K V K) → s.calls map i ≡ Some u → (c : CallThere K V) → call_of (name2 i) m ≡ Some c → call_of (name i) m ≡ Some c
+named_as name name2 m s agree map i u is c c_is = ap (λ (own : List ℕ). call_of own m) (sym (agree i (map, u, is))) ∙ c_is
 
 pub names_change : (K V : Type 0) (same : K → K → Bool) → NamesChange K V same
 names_change K V same name name2 log m known s agree all = record {
@@ -143,9 +139,9 @@ names_change K V same name name2 log m known s agree all = record {
 }
   where
     as_named : (map i : ℕ) (u : UnderWay K V K) → s.calls map i ≡ Some u → (c : CallThere K V) → call_of (name2 i) m ≡ Some c → call_of (name i) m ≡ Some c
-    as_named map i u is c c_is = ap (λ (own : List ℕ). call_of own m) (sym (agree i (map, u, is))) ∙ c_is
+    as_named map i u is c c_is = named_as name name2 m s agree map i u is c c_is
 
-    abbrev history : ShowsHistory same name2 log m known s
+    history : ShowsHistory same name2 log m known s
     history = record {
       shown = shows same name name2 m known s agree all.dues.history.shown;
       asked = asked same name name2 m known s agree all.dues.history.shown.number all.dues.history.asked;
@@ -176,17 +172,17 @@ about_pair known word None told = absurd told
 asks_about : {K V : Type 0} (known : Known) (u : UnderWay K V K) (question : Option ℕ) → ((o : CallOverAll) → u ≡ OverAll o → SweepAsks known o.sweep.stands question) → AsksAboutIt known u question
 asks_about known u question asks o is word stands =
     let it = asks o is in
-    let same_word : it.0 ≡ word = (let both : at.Asks it.0 ≡ at.Asks word = sym it.1 ∙ stands in cc both) in
+    let same_word : it.0 ≡ word = (let both : sweeping.Asks it.0 ≡ sweeping.Asks word = sym it.1 ∙ stands in cc both) in
     about_pair known word question (subst (λ (x : ℕ). IsToldQuestion known (Some x) question) same_word it.2)
 
 -- where one goes on otherwise, or is under way no more, what it is about to add is what it was
 
-not_ready : (q : Bool) (removed : ℕ) → adds_in_sweeping (if q then at.Words else at.Over) ≡ Some removed → ⊥
+not_ready : (q : Bool) (removed : ℕ) → adds_in_sweeping (if q then sweeping.Words else sweeping.Over) ≡ Some removed → ⊥
 not_ready true removed adds = absurd (cc adds)
 not_ready false removed adds = absurd (cc adds)
 
 adds_next : (p : Sweeping) (c : Sweep) (removed : ℕ) → c.stands ≡ p → adds_in_sweeping (next_at p c).stands ≡ Some removed → adds_in_sweeping c.stands ≡ Some removed
-adds_next at.Ready c removed is adds = absurd (not_ready (nat_lt c.place c.table.len) removed adds)
+adds_next sweeping.Ready c removed is adds = absurd (not_ready (nat_lt c.place c.table.len) removed adds)
 adds_next _ c removed is adds = adds
 
 module _ {K V : Type 0} (name : ℕ → List ℕ) (m : Moment K V) (s : Scene K V) (map i : ℕ) (next : Option (UnderWay K V K)) where
@@ -277,7 +273,7 @@ module _ (K V S : Type 0) (same : K → K → Bool) (hash : K → ℕ) where
     purposes = (purposes_stay K V S same hash name log).walks m known s old new at all.whole all.purposes i leads map o here is;
   }
     where
-      abbrev next : UnderWay K V K
+      next : UnderWay K V K
       next = (leads map (OverAll o) here).0
 
       its : (x : UnderWay K V K) → Some next ≡ Some x → (removed : ℕ) → adds_of (machine_of x) ≡ Some removed → Had name m s map i (Some next) map i removed
@@ -298,7 +294,7 @@ module _ (K V S : Type 0) (same : K → K → Bool) (hash : K → ℕ) where
     purposes = (purposes_stay K V S same hash name log).walks_stop m known s old new at all.whole all.purposes i stopped leads map u here none;
   }
     where
-      abbrev at_end : Bool → Scene K V
+      at_end : Bool → Scene K V
       at_end q = record s { calls = with_call_of s.calls map i (unless_stopped q u) }
 
       fewer : IsThere same name m (at_end true).calls
@@ -320,7 +316,7 @@ module _ (K V S : Type 0) (same : K → K → Bool) (hash : K → ℕ) where
         record {
           whole = maps_come_whole K V same name m known s all.whole there come.1;
           numbers = (come.0, pairs_stay_as_maps_come K V m all.numbers.1 there);
-          kept = stays_kept K V name m (with_map there m) known s s all.kept refl refl refl refl refl refl refl;
+          kept = stays_kept K V name m (with_map there m) known s s all.kept refl refl refl refl refl refl refl refl;
           counters = counters_stay K V name m (with_map there m) s s all.counters refl refl refl refl refl (λ of j x is removed adds. (x, is, adds));
           uncounted = λ of low. (let l : m.made ≤ of = omega (arith, low) in all.uncounted of l);
           dues = (dues_stay K V S same hash name log).maps_come m known s e e at all.whole all.dues there come.1;
@@ -345,10 +341,10 @@ module _ (K V S : Type 0) (same : K → K → Bool) (hash : K → ℕ) where
   }
 
   pub ends_begin : EndsBegin K V S same hash
-  ends_begin name log m known s old new at all map i standing there at2 = record {
+  ends_begin name log m known s old new at all map i standing there idle at2 = record {
     whole = endings_begin_whole K V S same hash name m known s new all.whole map i standing there at2;
     numbers = all.numbers;
-    kept = endings_begin_kept K V S same hash name m known s old new at all.kept map i standing at2;
+    kept = endings_begin_kept K V S same hash name m known s old new at all.kept map i standing idle at2;
     counters = endings_begin_counters K V name m s all.counters map i standing;
     uncounted = all.uncounted;
     dues = (dues_stay K V S same hash name log).endings_begin m known s old new at all.whole all.dues map i standing there at2;
@@ -361,7 +357,7 @@ module _ (K V S : Type 0) (same : K → K → Bool) (hash : K → ℕ) where
   maps_gone name log m known s e at all own remains apart = record {
     whole = endings_are_over_whole K V same name m known s all.whole own remains all.numbers.0.found apart;
     numbers = (maps_go K V m all.numbers.0 own remains, pairs_stay_as_maps_go K V m all.numbers.1 own remains);
-    kept = stays_kept K V name m (without_map own remains m) known s s all.kept refl refl refl refl refl refl refl;
+    kept = stays_kept K V name m (without_map own remains m) known s s all.kept refl refl refl refl refl refl refl refl;
     counters = counters_stay K V name m (without_map own remains m) s s all.counters refl refl refl refl refl (λ of j x is removed adds. (x, is, adds));
     uncounted = all.uncounted;
     dues = (dues_stay K V S same hash name log).endings_over m known s e e at all.whole all.dues own remains apart;

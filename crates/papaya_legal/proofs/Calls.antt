@@ -49,6 +49,7 @@ use Rattle.papaya_promises.specs.Sheltered.{SectionsHold}
 use Rattle.papaya_promises.proofs.Protected.{calls_protect}
 use Rattle.papaya_promises.proofs.Weights.{grants_add_up, operations_are_single, parts_add_up}
 use Rattle.papaya_legal.specs.CallEvents.{CallEventsBegin, CallEventsGoOn}
+use Rattle.papaya_legal.proofs.Uncounted.{calls_leave_uncounted}
 
 -- no steps, whoever's
 none_made : (q : Bool) → 0 ≡ (if q then 0 else 0)
@@ -85,10 +86,10 @@ call_events_begin_so K V S same hash name terms log beginning begins known s x a
   follows = λ alone. begun_so (and_both (moment log).is_alone (list_all (is_by (speaker event)) (moment log).calls) alone).0 (only alone);
 }
   where
-    abbrev things : List Thing
+    things : List Thing
     things = things_in log
 
-    abbrev sets : Sets
+    sets : Sets
     sets = sets_in terms.batch_size log
 
     -- no row is under way, or that of the call is
@@ -123,6 +124,7 @@ call_events_go_on_so K V S same hash name terms log event beginning map i c step
     );
     kept = calls_keep_kept K V S same hash name m known s old new at whole midst.calls.kept map i u here said leads;
     counters = calls_keep_counters K V S same hash name m known s old new at whole midst.calls.kept.counts midst.calls.counters map i u here said leads;
+    uncounted = calls_leave_uncounted same hash name m known s old new at whole midst.calls.kept.counts midst.calls.counters midst.calls.uncounted map i u here said leads below;
     dues = all.1;
     as_called = all.2;
     questions = effects_keep_questions K V (Some (name i)) (Some map) effects m midst.calls.questions;
@@ -146,22 +148,22 @@ call_events_go_on_so K V S same hash name terms log event beginning map i c step
           (subst (λ (n : ℕ). FollowsInEvent n terms.roots (things_in log) (sets_in terms.batch_size log) (slot_of i) i done known s.world) (sym size) (midst.follows alone)) noted);
 }
   where
-    abbrev whole : ShowsWhole same name m known s
+    whole : ShowsWhole same name m known s
     whole = midst.calls.whole
 
-    abbrev here : s.calls map i ≡ Some u
+    here : s.calls map i ≡ Some u
     here = here_of same name log beginning map i c done m known s u midst.event_so
 
-    abbrev effects : List Effect
+    effects : List Effect
     effects = effects_of (acts.Call i map) known new.memory.changed
 
-    abbrev v : Moment K V
+    v : Moment K V
     v = with_effects (Some (name i)) (Some map) effects m
 
-    abbrev then_known : Known
+    then_known : Known
     then_known = known_after (acts.Call i map) new.memory.changed known
 
-    abbrev s2 : Scene K V
+    s2 : Scene K V
     s2 = scene_after same hash s old new map i (leads map u here).0 u (leads map u here).1 said (leads map u here).4
 
     -- the map of the call was made

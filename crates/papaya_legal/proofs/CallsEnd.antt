@@ -72,19 +72,19 @@ call_events_are_legal K V S same hash name terms log beginning map i c c_is step
   safe.1,
 )
   where
-    abbrev whole : ShowsWhole same name m known s
+    whole : ShowsWhole same name m known s
     whole = midst.calls.whole
 
-    abbrev here : s.calls map i ≡ Some u
+    here : s.calls map i ≡ Some u
     here = here_of same name log beginning map i c done m known s u midst.event_so
 
-    abbrev effects : List Effect
+    effects : List Effect
     effects = effects_of (acts.Call i map) known new.memory.changed
 
-    abbrev v : Moment K V
+    v : Moment K V
     v = with_effects (Some (name i)) (Some map) effects m
 
-    abbrev then_known : Known
+    then_known : Known
     then_known = known_after (acts.Call i map) new.memory.changed known
 
     asked : IsLinearizable same log e × EventAsksStill log e

@@ -1,5 +1,5 @@
 -- Events that make a map, or end one, from step to step.
-use Rattle.std.specs.Prelude.{◌≡◌, ◌<◌, ℕ, Bool, ◌&&◌, List, ◌++◌, Option, Some, None}
+use Rattle.std.specs.Prelude.{◌≡◌, ◌<◌, ℕ, Bool, false, ◌&&◌, List, [], ◌++◌, Option, Some, None}
 use Rattle.std.specs.List.{list_all}
 use Rattle.std.proofs.Common.{refl, ap, sym, subst, ◌∙◌, inl, inr}
 use Rattle.std.proofs.lemmas.Bool.{cases_eq}
@@ -59,6 +59,8 @@ use Rattle.papaya_models.proofs.Ends.{ends_go_on}
 use Rattle.papaya_models.proofs.MapEvents.{making_events_go_on}
 use Rattle.papaya_legal.specs.MapEvents.{EndEventsGoOn, MakingEventsGoOn}
 use Rattle.papaya_legal.proofs.Slots.{each_join}
+use Rattle.papaya_shards.proofs.ShardKept.{none_shards}
+use Rattle.papaya_legal.proofs.Uncounted.{none_counted}
 
 -- a map that stands as it does
 pub stands_so : {K : Type 0} (maps : ℕ → Option (Standing K)) (n : ℕ) (st : Standing K) → maps n ≡ Some st → HasStood maps n st
@@ -120,6 +122,7 @@ making_events_go_on_so K V S same hash name terms log event beginning done m kno
       kept = makings_keep_kept K V S same hash name m known s old new at whole midst.0.calls.kept i said leads b here (Some b.map) was_new
           (made_at same hash s old new at i b here said leads) then_whole.all.shown;
       counters = makings_keep_counters K V S same hash name m known s old new at whole midst.0.calls.counters i said leads b here (Some b.map);
+      uncounted = none_counted None (Some b.map) effects m midst.0.calls.uncounted (none_shards (Some b.map) effects m);
       dues = (dues_stay K V S same hash name log).makings m known s old new at whole midst.0.calls.dues i said leads b here (Some b.map) was_new;
       as_called = (as_called_stays K V S same hash name).makings m known s old new at whole midst.0.calls.as_called i said leads b here (Some b.map) was_new;
       questions = effects_keep_questions K V None (Some b.map) effects m midst.0.calls.questions;
@@ -142,19 +145,19 @@ making_events_go_on_so K V S same hash name terms log event beginning done m kno
           (subst (λ (n : ℕ). FollowsInMaking n terms.roots (things_in log) (sets_in terms.batch_size log) done known s.world) (sym size) (midst.1 alone)))),
 )
   where
-    abbrev whole : ShowsWhole same name m known s
+    whole : ShowsWhole same name m known s
     whole = midst.0.calls.whole
 
-    abbrev effects : List Effect
+    effects : List Effect
     effects = effects_of (acts.Making b.map) known new.memory.changed
 
-    abbrev v : Moment K V
+    v : Moment K V
     v = with_effects None (Some b.map) effects m
 
-    abbrev then_known : Known
+    then_known : Known
     then_known = known_after (acts.Making b.map) new.memory.changed known
 
-    abbrev then_whole : ShowsWhole same name v then_known (led same hash s old new at i b here said leads)
+    then_whole : ShowsWhole same name v then_known (led same hash s old new at i b here said leads)
     then_whole = makings_keep_whole K V S same hash name m known s old new at whole i said leads b here (Some b.map) was_new
 
 -- A step of an end.
@@ -201,6 +204,7 @@ end_events_go_on_so K V S same hash name terms log event map beginning first don
       numbers = numbers_then m midst.0.calls.numbers map below (acts.Ending map) refl known new.memory.changed;
       kept = endings_keep_kept K V S same hash name m known s old new at whole midst.0.calls.kept i said leads f here map not_there (ended_at same hash s old new i f here said leads);
       counters = endings_keep_counters K V S same hash name m known s old new at midst.0.calls.counters i said leads f here map;
+      uncounted = none_counted None (Some map) effects m midst.0.calls.uncounted (none_shards (Some map) effects m);
       dues = (dues_stay K V S same hash name log).endings m known s old new at whole midst.0.calls.dues i said leads f here map not_there its;
       as_called = (as_called_stays K V S same hash name).endings m known s old new at whole midst.0.calls.as_called i said leads f here map not_there its;
       questions = effects_keep_questions K V None (Some map) effects m midst.0.calls.questions;
@@ -223,14 +227,14 @@ end_events_go_on_so K V S same hash name terms log event map beginning first don
           (subst (λ (n : ℕ). FollowsInEnd n terms.roots (things_in log) (sets_in terms.batch_size log) first i done known s.world) (sym size) (midst.1 alone)))),
 )
   where
-    abbrev whole : ShowsWhole same name m known s
+    whole : ShowsWhole same name m known s
     whole = midst.0.calls.whole
 
-    abbrev effects : List Effect
+    effects : List Effect
     effects = effects_of (acts.Ending map) known new.memory.changed
 
-    abbrev v : Moment K V
+    v : Moment K V
     v = with_effects None (Some map) effects m
 
-    abbrev then_known : Known
+    then_known : Known
     then_known = known_after (acts.Ending map) new.memory.changed known

@@ -83,7 +83,7 @@ map_events_are_legal K V same name terms log map beginning m known s e midst non
 )
   where
     -- each effect finds what it must of a call of this caller, if of any, on this map
-    abbrev AllBy : Option (List ℕ) → Option ℕ → Bool → Moment K V → Type 0
+    AllBy : Option (List ℕ) → Option ℕ → Bool → Moment K V → Type 0
     AllBy who o all b = AtEachEffect (Finds terms who o all (moments_of terms log (acting who b))) who o e.effects b
 
     all_find : AllFind terms log e (at_work e (moment log))

@@ -46,6 +46,8 @@ use Rattle.papaya_models.specs.OnSlots.{FollowsInRow}
 use Rattle.papaya_models.proofs.MapEvents.{moments_note_once}
 use Rattle.papaya_models.proofs.OnSlots.{slot_events_begin, slot_events_go_on}
 use Rattle.papaya_legal.specs.SlotEvents.{SlotEventsBegin, SlotEventsGoOn}
+use Rattle.papaya_shards.proofs.ShardKept.{none_shards}
+use Rattle.papaya_legal.proofs.Uncounted.{none_counted}
 
 -- each row on a slot is one
 of_slots : (slot : ℕ) (called : SlotCall) → IsOfSlots (request_of slot called)
@@ -90,6 +92,7 @@ slot_events_begin_so K V S same hash name terms log known s old new at size run 
         numbers = run.calls.numbers;
         kept = rows_begin_kept K V S same hash name m known s old new at run.calls.kept called i may leads;
         counters = rows_begin_counters K V S same hash name m s old new at run.calls.counters called i may leads;
+        uncounted = run.calls.uncounted;
         dues = (dues_stay K V S same hash name log).rows_begin m known s old new at run.calls.whole run.calls.dues called i may leads;
         as_called = (as_called_stays K V S same hash name).rows_begin m known s old new at run.calls.whole run.calls.as_called called i may leads;
         questions = run.calls.questions;
@@ -116,6 +119,7 @@ slot_events_go_on_so K V S same hash name terms log event i called first done m 
     numbers = (rows_keep_numbers K V S same hash m midst.calls.numbers.0 known s old new i said leads row here, effects_keep_pairs K V m midst.calls.numbers.1 None None effects (λ n is. absurd (cc is)));
     kept = rows_keep_kept K V S same hash name m known s old new at whole midst.calls.kept i said leads row here;
     counters = rows_keep_counters K V S same hash name m known s old new at whole midst.calls.counters i said leads row here;
+    uncounted = none_counted None None effects m midst.calls.uncounted (none_shards None effects m);
     dues = (dues_stay K V S same hash name log).rows m known s old new at whole midst.calls.dues i said leads row here found.0;
     as_called = (as_called_stays K V S same hash name).rows m known s old new at whole midst.calls.as_called i said leads row here found.0;
     questions = effects_keep_questions K V None None effects m midst.calls.questions;
@@ -135,19 +139,19 @@ slot_events_go_on_so K V S same hash name terms log event i called first done m 
           (subst (λ (n : ℕ). FollowsInRow n terms.roots (things_in log) (sets_in terms.batch_size log) first i request done known s.world) (sym size) (midst.follows alone)));
 }
   where
-    abbrev whole : ShowsWhole same name m known s
+    whole : ShowsWhole same name m known s
     whole = midst.calls.whole
 
-    abbrev request : Request
+    request : Request
     request = request_of (slot_of i) called
 
-    abbrev effects : List Effect
+    effects : List Effect
     effects = effects_of acts.Row known new.memory.changed
 
-    abbrev v : Moment K V
+    v : Moment K V
     v = with_effects None None effects m
 
-    abbrev led : Scene K V
+    led : Scene K V
     led = scene_then same hash (Step i) s old new (leads row here).4
 
     found : AtEachEffect HadRetired None None effects m × AtEachEffect WaitUnreclaimed None None effects m

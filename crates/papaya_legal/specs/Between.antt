@@ -1,6 +1,6 @@
 -- Between the steps of events what a moment shows of calls is so on: where a call begins, takes a reply, goes on as a walk, or is given up; where a map comes, or goes; by other names of callers that
 -- have no call; at a moment that is like it; and where an event is over.
-use Rattle.std.specs.Prelude.{◌≡◌, ℕ, Bool, true, false, List, [], ◌∷◌, Option, Some, None, Ok}
+use Rattle.std.specs.Prelude.{◌≡◌, ℕ, Bool, true, false, List, ◌∷◌, Option, Some, None, Ok}
 use Rattle.papaya_histories.specs.Given.Seize.World.{Rests, with_at}
 use Rattle.papaya_histories.specs.Given.Runs.Same.{is_same}
 use Rattle.papaya_histories.specs.Given.Schedules.declared.call.Call.{Call}
@@ -122,13 +122,13 @@ module _ (K V S : Type 0) (same : K → K → Bool) (hash : K → ℕ) where
   MakingsBegin =
       (name : ℕ → List ℕ) (log : List (Entry K V)) (m : Moment K V) (known : Known) (s : Scene K V) (old new : Executor K V S) → IsAt same hash old s → ShowsCalls same name log m known s
       → (i : ℕ) (b : Beginning K) → s.makers i ≡ None → (HasMade b.machine.stands → ⊥) → IsUncounted b.map m
-      → (let begun = record s { makers = with_at s.makers i (Some b) } in IsAt same hash new begun → ShowsCalls same name log m known begun)
+      → (let led = record s { makers = with_at s.makers i (Some b) } in IsAt same hash new led → ShowsCalls same name log m known led)
 
-  -- where the end of one begins,
+  -- where the end of one begins, by one that ends none,
   abbrev pub EndsBegin : Type 0
   EndsBegin =
       (name : ℕ → List ℕ) (log : List (Entry K V)) (m : Moment K V) (known : Known) (s : Scene K V) (old new : Executor K V S) → IsAt same hash old s → ShowsCalls same name log m known s
-      → (map i : ℕ) (standing : Standing K) → s.maps map ≡ Some standing → IsAt same hash new (ending_begun map i standing s) → ShowsCalls same name log m known (ending_begun map i standing s)
+      → (map i : ℕ) (standing : Standing K) → s.maps map ≡ Some standing → s.enders i ≡ None → IsAt same hash new (ending_begun map i standing s) → ShowsCalls same name log m known (ending_begun map i standing s)
 
   -- and where it is there no more: no map that stands has its name.
   abbrev pub MapsGo : Type 0

@@ -1,3 +1,4 @@
 pub mod Tallies
 pub mod Numbers
 mod Taken
+pub mod Found
