@@ -1,5 +1,5 @@
 -- What an event gives back is what its row, or its end, has brought back; and what came back is no part of how a scheduler stands.
-use Rattle.std.specs.Prelude.{◌≡◌, ℕ, Bool, List, [], ◌++◌, Some, None}
+use Rattle.std.specs.Prelude.{◌≡◌, ℕ, Bool, List, [], ◌++◌}
 use Rattle.std.specs.Global.{Vec}
 use Rattle.std.proofs.Common.{sym, ap, subst, ◌∙◌}
 use Rattle.papaya_runs.specs.declared.record.Pair.{Pair}
@@ -12,7 +12,8 @@ use Rattle.papaya_schedules.specs.Terms.{Terms}
 use Rattle.papaya_executor.specs.IsAt.{Scene, slot_of}
 use Rattle.papaya_executor.specs.OnSlots.{MayBegin}
 use Rattle.papaya_executor.specs.declared.row.SlotCall.{SlotCall}
-use Rattle.papaya_logged.specs.Back.{BringsBack, ComesBack}
+use Rattle.papaya_reclaiming.specs.Reclaiming.{MayReclaim, NobodyHas}
+use Rattle.papaya_logged.specs.Back.{AllBringsBack, BringsBack, ComesBack}
 use Rattle.papaya_logged.specs.OnSlots.{OnSlotBegins}
 use Rattle.papaya_logged.specs.Shown.{IsShown}
 use Rattle.papaya_logged.specs.declared.logged.Logged.{Logged}
@@ -80,3 +81,10 @@ module _ {K V S : Type 0} where
     pub stayed_as : (effects : List Effect) → effects ≡ [] → (q : Scheduler K V S) → q ≡ p → ComesBack (moment log).stored effects p.back.items q.back.items
     stayed_as effects none q is =
         subst (λ (x : Scheduler K V S). ComesBack (moment log).stored effects p.back.items x.back.items) (sym is) (none_came (moment log).stored effects p.back.items none)
+
+    -- what reclaiming all brings back
+    pub all_came : (taken : Bool) → NobodyHas p.logged.executor → (lists : ℕ → List ℕ) → MayReclaim p.logged.executor due.played.scene lists taken → (before after : List Effect) → before ≡ []
+        → (b : List (Pair K V)) → AllBringsBack taken before after p.logged p.back.items b → ComesBack (moment log).stored after p.back.items b
+    all_came taken nobody lists may before after none b it =
+        subst (λ (xs : List Effect). ComesBack (moment log).stored xs p.back.items b) (sym (it.1 ∙ ap (λ (xs : List Effect). xs ++ it.0) none))
+        (it.2 same hash due.played.name (moment log) due.played.scene lists due.played.shown nobody may)

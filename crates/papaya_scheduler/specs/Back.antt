@@ -6,6 +6,7 @@ use Rattle.papaya_schedules.specs.Entry.{Entry}
 use Rattle.papaya_schedules.specs.Terms.{Terms}
 use Rattle.papaya_logged.specs.Back.{ComesBack}
 use Rattle.papaya_scheduler.specs.Played.{IsDue}
+use Rattle.papaya_scheduler.specs.Reclaiming.{MayGiveAll}
 use Rattle.papaya_scheduler.specs.declared.played.Played.{Played}
 use Rattle.papaya_scheduler.specs.declared.scheduler.Scheduler.{Scheduler}
 
@@ -14,3 +15,9 @@ module _ {K V S : Type 0} (same : K → K → Bool) (hash : K → ℕ) where
   abbrev pub GivesBack : Event K V → Played V → (old new : Scheduler K V S) → Type 0
   GivesBack event played old new =
       (terms : Terms) (log : List (Entry K V)) → IsDue same hash terms log event old → ComesBack (moment log).stored played.effects.items old.back.items new.back.items
+
+  -- So it is of one that reclaims everything, by what is asked of that.
+  abbrev pub GivesAllBack : Event K V → Played V → (old new : Scheduler K V S) → Type 0
+  GivesAllBack event played old new =
+      (terms : Terms) (log : List (Entry K V)) (due : IsDue same hash terms log event old) → MayGiveAll old due.played.scene
+      → ComesBack (moment log).stored played.effects.items old.back.items new.back.items
