@@ -38,9 +38,7 @@ use Rattle.papaya_models.proofs.CallEvents.{call_events_begin, call_events_go_on
 use Rattle.papaya_models.proofs.MapEvents.{moments_note_once}
 use Rattle.papaya_histories.proofs.Given.Spots.Unreclaimed.{and_both}
 use Rattle.papaya_finds.specs.Life.{StoresOne}
-use Rattle.papaya_finds.specs.Parts.{FindAll}
 use Rattle.papaya_finds.proofs.Doing.{several_do_theirs}
-use Rattle.papaya_finds.proofs.Joined.{several_find_all}
 use Rattle.papaya_finds.proofs.Quiet.{several_store_one}
 use Rattle.papaya_finds.proofs.Steps.{steps_do_theirs, steps_store_one}
 use Rattle.papaya_promises.specs.Protected.{InMidst, is_of_slots}
@@ -80,7 +78,6 @@ call_events_begin_so K V S same hash name terms log beginning begins known s x a
             (reading.reads n j v is d found looks_for standing there);
   };
   kinds = refl;
-  finds = tt;
   stores = tt;
   protects = begins_protected (name i) beginning known s.world sections event caller_is;
   follows = λ alone. begun_so (and_both (moment log).is_alone (list_all (is_by (speaker event)) (moment log).calls) alone).0 (only alone);
@@ -113,7 +110,7 @@ out_of_slots own (Next caller) is = refl
 out_of_slots own _ is = absurd (cc is)
 
 pub call_events_go_on_so : (K V S : Type 0) (same : K → K → Bool) (hash : K → ℕ) → CallEventsGoOn K V S same hash
-call_events_go_on_so K V S same hash name terms log event beginning map i c steps done m known s u midst old new at size said leads pairs changes shards none finds noted reading next next_is = record {
+call_events_go_on_so K V S same hash name terms log event beginning map i c steps done m known s u midst old new at size said leads pairs changes shards none noted reading next next_is = record {
   of_call = midst.of_call;
   event_so = events_go_on K V S same hash name log beginning map i c done m known s u midst.event_so old new at said leads next next_is;
   calls = record {
@@ -124,7 +121,7 @@ call_events_go_on_so K V S same hash name terms log event beginning map i c step
     );
     kept = calls_keep_kept K V S same hash name m known s old new at whole midst.calls.kept map i u here said leads;
     counters = calls_keep_counters K V S same hash name m known s old new at whole midst.calls.kept.counts midst.calls.counters map i u here said leads;
-    uncounted = calls_leave_uncounted same hash name m known s old new at whole midst.calls.kept.counts midst.calls.counters midst.calls.uncounted map i u here said leads below;
+    uncounted = calls_leave_uncounted same hash name m known s old new at whole midst.calls.kept midst.calls.counters midst.calls.uncounted map i u here said leads below;
     dues = all.1;
     as_called = all.2;
     questions = effects_keep_questions K V (Some (name i)) (Some map) effects m midst.calls.questions;
@@ -135,8 +132,6 @@ call_events_go_on_so K V S same hash name terms log event beginning map i c step
   granted = grants_add_up done effects midst.granted (operations_are_single (acts.Call i map) known new.memory.changed).1;
   reading = reading;
   kinds = several_do_theirs done effects midst.kinds (steps_do_theirs K V S same hash name m known s old new at whole map i u here said leads);
-  finds = several_find_all K V terms (moments_from c.begun log) (name i) map done effects beginning midst.finds
-      (subst (λ (x : Moment K V). FindAll terms (moments_from c.begun log) (name i) map effects x) midst.worked finds);
   stores = several_store_one K V (name i) map done effects beginning midst.stores
       (subst (λ (x : Moment K V). AtEachEffect (StoresOne (Some (name i))) (Some (name i)) (Some map) effects x) midst.worked
           (steps_store_one K V S same hash name m known s old new at whole map i u here said leads));

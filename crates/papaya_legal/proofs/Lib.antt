@@ -16,4 +16,5 @@ pub mod Over
 pub mod Idle
 pub mod Begun
 pub mod MapsOver
+pub mod Chains
 pub mod Legal

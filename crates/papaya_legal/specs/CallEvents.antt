@@ -67,9 +67,8 @@ module _ {K V : Type 0} (same : K → K → Bool) (name : ℕ → List ℕ) (ter
     pub few : AreDoneBy steps done
     pub granted : is_granted false done ≡ true
     pub reading : ShowsReading name log (λ j. if j == i then steps else 0) m s
-    -- life: what each effect finds, of which kind it is, and that a pair is stored by who has one
+    -- life: of which kind each effect is, and that a pair is stored by who has one
     pub kinds : list_all is_call_effect done ≡ true
-    pub finds : FindAll terms (moments_from c.begun log) (name i) map done beginning
     pub stores : AtEachEffect (StoresOne (Some (name i))) (Some (name i)) (Some map) done beginning
     -- protected
     pub protects : InMidst event done m known s.world
@@ -116,7 +115,7 @@ module _ (K V S : Type 0) (same : K → K → Bool) (hash : K → ℕ) where
       → (ComesAlone (Next (name i)) log → (j : ℕ) → s.world.row j ≢ Rests → j ≡ i)
       → InCallEvent same name terms log (Next (name i)) (moment log) map i c 0 [] (moment log) known (scene_with map i (leads map (OverAll o) here).0 s) (leads map (OverAll o) here).0
 
-  -- after each step of it, where it goes on: no pair comes or goes twice, what a call reads of shards it may read, no pair of a walk is shown, the effects find what they must, what a row hands
+  -- after each step of it, where it goes on: no pair comes or goes twice, what a call reads of shards it may read, no pair of a walk is shown, what a row hands
   -- over that begins with the step is noted, and lookups have read as much as they may by one step more;
   abbrev pub CallEventsGoOn : Type 0
   CallEventsGoOn =
@@ -127,13 +126,13 @@ module _ (K V S : Type 0) (same : K → K → Bool) (hash : K → ℕ) where
       let v = with_effects (Some (name i)) (Some map) effects m in
       let to = leads map u (here_of same name log beginning map i c done m known s u midst.event_so) in
       let s2 = scene_after same hash s old new map i to.0 u to.1 said to.4 in
-      PairsChangeFirst log m map v → ChangesFirst log m same map v → ReadsShards log m s map u → ShowsNone said → FindAll terms (moments_from c.begun log) (name i) map effects m
+      PairsChangeFirst log m map v → ChangesFirst log m same map v → ReadsShards log m s map u → ShowsNone said
       → ((request : Request) (begun : World (Node K V)) → HandsOver to.0.setting i s.world request → Happens deferred_word old.batch_size (Begin i request) s.world begun
       → Happens deferred_word old.batch_size (Step i) begun to.4.w2 → IsNoted (things_then (things_in log) done) known (slot_of i) request)
       → ShowsReading name log (λ j. if j == i then steps + 1 else 0) v s2 → (next : UnderWay K V K) → to.4.next ≡ Some next
       → InCallEvent same name terms log event beginning map i c (steps + 1) (done ++ effects) v (known_after (acts.Call i map) new.memory.changed known) s2 next)
 
-  -- and the event that comes to what its last step says keeps its promises, if it reads briefly, does what it is for, is refused no growth that it made, leaves nothing behind, and is by the
+  -- and the event that comes to what its last step says keeps its promises, if its effects find what they must, if it reads briefly, does what it is for, is refused no growth that it made, leaves nothing behind, and is by the
   -- model; the sections of guards hold what they shelter.
   abbrev pub CallEventsAreLegal : Type 0
   CallEventsAreLegal =
@@ -142,7 +141,7 @@ module _ (K V S : Type 0) (same : K → K → Bool) (hash : K → ℕ) where
       → ShowsQuestions beginning → (old new : Executor K V S) → IsAt same hash old s → (said : Progress (Node K V)) (leads : StepLeads same hash i said s old new)
       → at_work e (moment log) ≡ beginning → acted_on e.event beginning ≡ Some map → e.effects ≡ done ++ effects_of (acts.Call i map) known new.memory.changed
       → ComesSo (known_after (acts.Call i map) new.memory.changed known) c.call c.replies said e.outcome → takes_steps e.event ≡ true → is_busy e.outcome ≡ false
-      → FindAll terms (moments_from c.begun log) (name i) map (effects_of (acts.Call i map) known new.memory.changed) m
+      → FindAll terms (moments_from c.begun log) (name i) map e.effects beginning
       → ReadsBriefly log e (worked e (moment log)) → IsSwept same terms log e → (not (refuses e.event) || not (list_any is_made e.effects)) ≡ true
       → IfCall (LeavesOf (comes_clear e.outcome) e.outcome) (acting (caller_of e.event) (worked e (moment log))) → IsByModel terms log e
       → IsLegalBut same terms log e

@@ -22,7 +22,6 @@ use Rattle.papaya_moments.specs.Given.Executor.declared.executor.Executor.{Execu
 use Rattle.papaya_moments.specs.Given.Finishes.Endings.{Finishing, StepsOfEnding, finishing_of, waiting_by}
 use Rattle.papaya_moments.specs.Given.Finishes.FactsEnds.{taken_by}
 use Rattle.papaya_moments.specs.Given.Others.Endings.{ending_after}
-use Rattle.papaya_reclaims.specs.Left.{GoesOnBy}
 use Rattle.papaya_reclaims.proofs.Left.Endings.{endings_begin_and_leave_it, endings_leave_it}
 use Rattle.papaya_remains.specs.Remains.{ShowsRemains, has_some, map_roots}
 use Rattle.papaya_remains.specs.Steps.{EndingsBeginRemain, EndingsKeepRemains}

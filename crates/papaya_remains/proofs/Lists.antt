@@ -1,5 +1,5 @@
 -- Roots in lists: how often one is there, and of which list it is.
-use Rattle.std.specs.Prelude.{◌==◌, ◌||◌, nat_lt, not, filter, find, length, map, cond, if◌then◌else◌, Option, Some}
+use Rattle.std.specs.Prelude.{◌==◌, ◌||◌, nat_lt, not, filter, find, length, map, cond, if◌then◌else◌, Some}
 use Rattle.std.proofs.Common.{◌≡◌, ◌≤◌, ℕ, ◌+◌, Bool, true, false, List, [], ◌∷◌, ◌++◌, refl, ap, sym, ◌∙◌, arith}
 use Rattle.std.proofs.lemmas.Bool.{eq-eqb}
 use Rattle.papaya_moments.specs.Given.Runs.LifeCycle.{times}

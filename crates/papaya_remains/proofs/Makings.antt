@@ -17,7 +17,7 @@ use Rattle.papaya_moments.proofs.Given.Callers.Together.At.{at_other, at_same}
 use Rattle.papaya_moments.specs.Given.Executor.IsAt.{Scene, IsAt, slot_of}
 use Rattle.papaya_moments.specs.Given.Executor.Making.{MakingComesTo}
 use Rattle.papaya_moments.specs.Given.Executor.declared.executor.Executor.{Executor}
-use Rattle.papaya_moments.specs.Given.Finishes.Endings.{Finishing, EndingsTogether, MakingStepsAmong}
+use Rattle.papaya_moments.specs.Given.Finishes.Endings.{EndingsTogether, MakingStepsAmong}
 use Rattle.papaya_moments.specs.Given.Finishes.Makings.{Beginning}
 use Rattle.papaya_moments.specs.Given.Finishes.Maps.{Standing}
 use Rattle.papaya_moments.specs.Given.Others.Makings.{making_after}

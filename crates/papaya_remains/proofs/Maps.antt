@@ -1,5 +1,5 @@
 -- A map comes with a root that was not used, and goes, and leaves something over, or nothing; and once all is reclaimed nothing is.
-use Rattle.std.specs.Prelude.{◌≢◌, ◌≤◌, ◌<◌, ◌⊎◌, ◌==◌, ◌||◌, ◌++◌, not, filter, length, map, Option, Some, None, if◌then◌else◌}
+use Rattle.std.specs.Prelude.{◌≤◌, ◌<◌, ◌⊎◌, ◌==◌, ◌||◌, ◌++◌, not, filter, length, map, Some, None, if◌then◌else◌}
 use Rattle.std.proofs.Common.{◌≡◌, ℕ, ◌+◌, Bool, true, false, List, [], ◌∷◌, inl, inr, refl, ap, sym, subst, ◌∙◌, arith, eqb-true}
 use Rattle.std.proofs.lemmas.Bool.{eq-eqb}
 use Rattle.std.proofs.lemmas.List.{map-append}
@@ -43,11 +43,11 @@ module _ (K V : Type 0) where
     left = shows.left;
     told = λ r l none. shows.told r l (neither (is_among r (map_roots m)) (is_among r (there.root ∷ [])) (sym (roots_among r) ∙ none)).0;
     once = λ r. (
-      let sum = used_times (with_map there m) r in
-      let more = ap (times r) roots_then ∙ times-append r (map_roots m) (there.root ∷ []) in
-      let before = used_times m r in
-      let one = once_more r in
-      omega (arith, sum, more, before, one));
+        let sum = used_times (with_map there m) r in
+        let more = ap (times r) roots_then ∙ times-append r (map_roots m) (there.root ∷ []) in
+        let before = used_times m r in
+        let one = once_more r in
+        omega (arith, sum, more, before, one));
     below = below_then;
     ending = λ j f is. roots_among f.setting.root ∙ or_first (is_among f.setting.root (map_roots m)) (is_among f.setting.root (there.root ∷ [])) (shows.ending j f is);
   }
@@ -123,12 +123,12 @@ module _ (K V : Type 0) where
         left = shows.left;
         told = told;
         once = λ r. (
-          let then_sum = used_times (without_map own remains m) r in
-          let sum = used_times m r in
-          let less = few r in
-          let taken = kept_times r in
-          let once = shows.once r in
-          omega (arith, then_sum, sum, less, taken, once));
+            let then_sum = used_times (without_map own remains m) r in
+            let sum = used_times m r in
+            let less = few r in
+            let taken = kept_times r in
+            let once = shows.once r in
+            omega (arith, then_sum, sum, less, taken, once));
         below = λ r is. by r (is_among r kept) refl (sym (used_among (without_map own remains m) r) ∙ is);
         ending = λ j g is. absurd (let none = no_ends j in cc (none, is));
       }

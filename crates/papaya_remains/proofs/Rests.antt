@@ -1,5 +1,5 @@
 -- Where no map is made, and none ends, roots are taken as the moment says, and what is behind them is what a caller finds there that reclaims all.
-use Rattle.std.specs.Prelude.{◌<◌, ◌||◌, ◌==◌, find, map, Option, Some, None, if◌then◌else◌}
+use Rattle.std.specs.Prelude.{◌<◌, ◌||◌, ◌==◌, map, Some, None, if◌then◌else◌}
 use Rattle.std.specs.List.{All, AllByRecursion}
 use Rattle.std.proofs.Common.{◌≡◌, ℕ, suc, Bool, true, false, List, [], ◌∷◌, inl, inr, refl, ap, sym, subst, ◌∙◌, arith, eqb-true}
 use Rattle.papaya_moments.specs.Given.SeizeWords.declared.at.At.TheVariants.{Used}

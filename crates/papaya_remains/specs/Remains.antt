@@ -1,12 +1,12 @@
 -- What ended maps have left over, while others go on: it is behind the roots that the moment says, and roots are used as it says.
-use Rattle.std.specs.Prelude.{◌≡◌, ◌<◌, ◌≤◌, ℕ, Bool, true, false, List, [], ◌∷◌, map, Option, Some, None, if◌then◌else◌}
+use Rattle.std.specs.Prelude.{◌≡◌, ◌<◌, ◌≤◌, ℕ, Bool, true, false, List, [], ◌∷◌, map, Some, if◌then◌else◌}
 use Rattle.std.specs.List.{AllByRecursion}
 use Rattle.papaya_moments.specs.Given.SeizeWords.declared.at.At.TheVariants.{Used}
 use Rattle.papaya_moments.specs.Given.SeizeWords.Mem.{Mem, word_at}
 use Rattle.papaya_moments.specs.Given.Runs.LifeCycle.{times}
 use Rattle.papaya_moments.specs.Given.Schedules.Beginning.{used_roots}
 use Rattle.papaya_moments.specs.Given.Schedules.Lists.{is_among}
-use Rattle.papaya_moments.specs.Given.Schedules.Moment.{MapThere, Moment}
+use Rattle.papaya_moments.specs.Given.Schedules.Moment.{Moment}
 use Rattle.papaya_moments.specs.Given.Finishes.Endings.{Finishing}
 use Rattle.papaya_moments.specs.Given.Finishes.Maps.{Standing}
 use Rattle.papaya_moments.specs.Given.Executor.IsAt.{Scene}

@@ -28,6 +28,8 @@ use Rattle.papaya_running.specs.declared.record.Record.{Record}
 use Rattle.papaya_tally.specs.declared.tally.Tally.{Tally}
 use Rattle.papaya_running.proofs.Left.{hold_pairs, lists_left, stored_left}
 use Rattle.papaya_tally.proofs.Numbers.{ascending, lists_waiting}
+use Rattle.papaya_tally.proofs.Found.{back_told, pairs_found}
+use Rattle.papaya_tally.specs.Told.{AreBack}
 use Rattle.papaya_running.proofs.Turns.{maps_shown, tables_told}
 
 module _ {K V S : Type 0} (same : K → K → Bool) (hash : K → ℕ) (terms : Terms) (events : List (Event K V)) (rec : Record V) (tally : Tally) (p : Scheduler K V S)
@@ -49,19 +51,25 @@ module _ {K V S : Type 0} (same : K → K → Bool) (hash : K → ℕ) (terms : 
 
   module _ (run : Run K V) (living : map shown_of run.maps.items ≡ map (told_map tally) p.maps.items) (waits : run.waiting.items ≡ numbers_at (passes None) 0 tally.pairs.items)
       (tables : run.tables ≡ counted tally.tables.items) (stored : run.stored ≡ noted.stored)
-      (left : (blocks : ℕ) × ((b : ℕ) → blocks ≤ b → noted.roles b ≡ Free) × (run.kept ≡ noted_below noted.roles (value_at memory) blocks)) where
+      (left : (blocks : ℕ) × ((b : ℕ) → blocks ≤ b → noted.roles b ≡ Free) × (run.kept ≡ noted_below noted.roles (value_at memory) blocks))
+      (given : run.given_back ≡ p.back.items) where
     pub tells_most : TellsMost m run
     tells_most =
         let st = so.holds.stands in
         let shows = st.shown.shows in
         let kept_is = left.2 ∙ ap (λ (x : Mem (Node K V)). noted_below noted.roles (value_at x) left.0) (sym st.shown.is_at.memory) in
+        let kept = subst (λ (l : List (Pair K V)). Lists (numbers l) (λ place. is_in_a_map place || is_waiting place) m) (sym kept_is)
+        (lists_left m noted st.scene.world shows.all.shown.blocks shows.blocks left.0 left.1) in
+        let as_stored = subst (AllByRecursion (IsStored m.stored)) (sym kept_is) (stored_left m noted st.scene.world shows.all.shown.blocks shows.blocks left.0 left.1) in
+        let back : AreBack m run.given_back = subst (AreBack m) (sym given) so.back in
         record {
           stored = stored ∙ shows.all.shown.blocks.stored;
           maps = maps_shown m tally so.told run.maps.items p.maps.items m.maps living st.maps.listed;
           waiting = subst (λ (l : List ℕ). Lists l is_waiting m) (sym waits) (lists_waiting tally m so.told);
           ascending = subst (IsSorted nat_cmp) (sym waits) (ascending (passes None) refl tally.pairs.items);
           tables = tables ∙ tables_told m tally so.told;
-          kept = subst (λ (l : List (Pair K V)). Lists (numbers l) (λ place. is_in_a_map place || is_waiting place) m) (sym kept_is)
-              (lists_left m noted st.scene.world shows.all.shown.blocks shows.blocks left.0 left.1);
-          contents = subst (AllByRecursion (IsStored m.stored)) (sym kept_is) (stored_left m noted st.scene.world shows.all.shown.blocks shows.blocks left.0 left.1);
+          given_back = back.told;
+          contents = back.contents;
+          kept = kept;
+          pairs = λ placed. pairs_found m run (back_told (log_so events rec)) placed back kept as_stored;
         }

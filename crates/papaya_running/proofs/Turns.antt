@@ -32,6 +32,9 @@ use Rattle.papaya_running.specs.Ending.{shown_of, told_map}
 use Rattle.papaya_running.specs.Run.{GoesRight, IsRightRun, SoFar, TellsMost, log_so}
 use Rattle.papaya_tally.specs.Tally.{Tells, TellsAll, TellsMoment, counted, deferral, flag_of}
 use Rattle.papaya_running.specs.declared.record.Record.{Record}
+use Rattle.papaya_logged.specs.Back.{ComesBack}
+use Rattle.papaya_tally.specs.Told.{AreBack}
+use Rattle.papaya_tally.proofs.Back.{back_then}
 use Rattle.papaya_tally.specs.declared.tally.Flagged.{Flagged}
 use Rattle.papaya_tally.specs.declared.tally.Tally.{Tally}
 use Rattle.papaya_tally.specs.declared.tally.Whereabouts.{Whereabouts}
@@ -93,8 +96,9 @@ module _ {K V S : Type 0} (same : K → K → Bool) (hash : K → ℕ) (terms : 
           ∙ ap (λ (l : List Single). trace_of log ++ l) (singles_are (length log) e)
 
       -- the event has happened, too
-      pub next_so : {p2 : Scheduler K V S} → GoesRight terms log e → Holds same hash terms (moment (e ∷ log)) p2 → SoFar same hash terms (events ++ event ∷ []) rec2 tally2 p2
-      next_so {p2} goes holds = record {
+      pub next_so : {p2 : Scheduler K V S} → GoesRight terms log e → Holds same hash terms (moment (e ∷ log)) p2 → ComesBack (moment log).stored played.effects.items p.back.items p2.back.items
+          → SoFar same hash terms (events ++ event ∷ []) rec2 tally2 p2
+      next_so {p2} goes holds comes = record {
         outcomes = one_more rec.outcomes.items rec2.outcomes.items played.outcome outcomes so.outcomes;
         steps = one_more rec.steps.items rec2.steps.items played.steps steps so.steps;
         effects = one_more rec.effects.items rec2.effects.items played.effects effects so.effects;
@@ -102,6 +106,8 @@ module _ {K V S : Type 0} (same : K → K → Bool) (hash : K → ℕ) (terms : 
         goes = subst (AtEachEvent (GoesRight terms)) (sym more) (goes, so.goes);
         holds = subst (λ (l : List (Entry K V)). Holds same hash terms (moment l) p2) (sym more) holds;
         told = subst (λ (l : List (Entry K V)). TellsMoment tally2 (moment l)) (sym more) tells_then;
+        back = subst (λ (l : List (Entry K V)). AreBack (moment l) p2.back.items) (sym more)
+            (subst (AreBack (moment (e ∷ log))) (sym comes.follow) (back_then e (moment log) p.back.items comes.more so.back comes.reclaimed comes.contents));
       }
 
 -- what is promised of an event, as a run tells it
@@ -111,8 +117,9 @@ goes_so same hash terms log e p happens = record { right = λ finds. (happens.pl
 
 -- before all events
 pub start_so : {K V S : Type 0} (same : K → K → Bool) (hash : K → ℕ) (terms : Terms) (rec : Record V) (tally : Tally) (p : Scheduler K V S) → rec.outcomes.items ≡ [] → rec.steps.items ≡ [] → rec.effects.items ≡ []
-    → rec.trace.items ≡ [] → tally.pairs.items ≡ [] → tally.behind.items ≡ [] → tally.tables.items ≡ [] → Holds same hash terms (start {K = K} {V = V}) p → SoFar same hash terms [] rec tally p
-start_so {K} {V} same hash terms rec tally p outcomes steps effects trace pairs behind flags holds = record {
+    → rec.trace.items ≡ [] → tally.pairs.items ≡ [] → tally.behind.items ≡ [] → tally.tables.items ≡ [] → p.back.items ≡ []
+    → Holds same hash terms (start {K = K} {V = V}) p → SoFar same hash terms [] rec tally p
+start_so {K} {V} same hash terms rec tally p outcomes steps effects trace pairs behind flags back holds = record {
   outcomes = ap length outcomes;
   steps = ap length steps;
   effects = ap length effects;
@@ -124,6 +131,7 @@ start_so {K} {V} same hash terms rec tally p outcomes steps effects trace pairs 
     behind = ap (map deferral) behind;
     flags = flags;
   });
+  back = subst (λ (l : List (Entry K V)). AreBack (moment l) p.back.items) (sym none) (subst (AreBack (start {K = K} {V = V})) (sym back) (record { told = refl; contents = tt }));
 }
   where
     none : log_so [] rec ≡ []

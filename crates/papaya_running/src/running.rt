@@ -92,12 +92,10 @@ fn end<K: Drop, V: Drop, S: Drop>(
     ensures effects { IfOk result (λ run. run.effects ≡ record.effects) }
     ensures trace { IfOk result (λ run. run.trace ≡ record.trace) }
 {
-    let Scheduler { logged, maps, .. } = scheduler;
-    let Logged {
-        executor,
-        notes,
-        given,
-    } = logged;
+    let Scheduler {
+        logged, maps, back, ..
+    } = scheduler;
+    let Logged { executor, notes } = logged;
     let living = living(alloc, maps, &tally)?;
     let waiting = tally.waiting(alloc)?;
     let kept = pairs_left(alloc, executor.memory.memory, &notes)?;
@@ -110,7 +108,7 @@ fn end<K: Drop, V: Drop, S: Drop>(
         waiting,
         tables: tally.waiting_tables(),
         stored: notes.stored(),
-        given_back: PairList::of(alloc, given)?,
+        given_back: PairList::of(alloc, back)?,
         kept: PairList::of(alloc, kept)?,
     })
 }

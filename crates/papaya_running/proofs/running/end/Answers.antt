@@ -10,4 +10,4 @@ pub returns-clause-tells : goal.returns-clause-tells
 returns-clause-tells g c = λ same hash terms events so.
     let left = c.in_ok-kept.ensures in
     tells_most same hash terms events c.args.record c.args.tally c.args.scheduler so _ c.in_ok-living.ensures c.in_ok-waiting.ensures c.waiting_tables.ensures c.stored.ensures
-    (left.0, left.1, c.in_ok-of-2.ensures ∙ left.2)
+    (left.0, left.1, c.in_ok-of-2.ensures ∙ left.2) c.in_ok-of.ensures

@@ -16,7 +16,7 @@ use Rattle.papaya_running.proofs.running.run.Goals as goal
 pub loop-choice-init : goal.loop-choice-init
 loop-choice-init g c =
     let made = c.in_ok-scheduler.ensures in
-    subst (λ (given : Given). Begins given c.in_ok-scheduler.scheduler) c.bounded.ensures (record { played = made.played; begun = made.begun })
+    subst (λ (given : Given). Begins given c.in_ok-scheduler.scheduler) c.bounded.ensures (record { played = made.played; begun = made.begun; back = made.back })
 
 pub loop-choice-preserved : goal.loop-choice-preserved
 loop-choice-preserved g c = still_begins (bounded c.args.given) c.loop-choice.scheduler c.loop-choice.invariant _ c.choose.new.self c.in_ok-choose.ensures.chosen
@@ -28,7 +28,7 @@ loop-event-init g c =
       [],
       given,
       start_so g.K.PartialEq.eq hash (terms_given (bounded c.args.given)) c.nothing-record.result c.nothing-tally.result c.loop-choice.scheduler c.nothing-record.ensures.outcomes c.nothing-record.ensures.steps
-          c.nothing-record.ensures.effects c.nothing-record.ensures.trace c.nothing-tally.ensures.pairs c.nothing-tally.ensures.behind c.nothing-tally.ensures.tables
+          c.nothing-record.ensures.effects c.nothing-record.ensures.trace c.nothing-tally.ensures.pairs c.nothing-tally.ensures.behind c.nothing-tally.ensures.tables c.loop-choice.invariant.back
           (first_holds g.K.PartialEq.eq hash (bounded c.args.given) c.loop-choice.scheduler c.loop-choice.invariant
           (are_lawful g.K.PartialEq.eq g.K.Hash.hash_input g.met.K.Eq.laws g.met.K.Hash.respects_eq
           (λ writes. g.S.Hasher.Hasher.finish (fold g.S.Hasher.Hasher.write (g.S.BuildHasher.build_hasher c.loop-choice.scheduler.logged.executor.hasher) writes)))

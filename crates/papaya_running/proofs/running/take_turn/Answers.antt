@@ -39,5 +39,5 @@ returns g c =
           (subst (λ t. c.add.new.self.trace.items ≡ rec.trace.items ++ (if is_busy played.outcome then single.Whole (length rec.outcomes.items) ∷ [] else singles_as (length rec.outcomes.items) t played.steps))
           c.traced.ensures trace)
           (goes_so eq hash terms log _ c.happen.new.scheduler (c.in_ok-played.ensures.happens terms log first so.holds))
-          (c.in_ok-played.ensures.holds terms log so.holds)));
+          (c.in_ok-played.ensures.holds terms log so.holds) (c.in_ok-played.ensures.back terms log so.holds)));
     }
