@@ -17,6 +17,7 @@ fn of_maps<K: Eq + Hash + Drop, V: Drop, S: Hashes<K>>(
     scheduler: &mut Scheduler<K, V, S>,
     is_first: bool,
     event: Event<K, V>,
+    back: &mut Vec<Pair<K, V>>,
 ) -> Result<Played<V>, AllocError>
     requires due { MayHappenDue K.eq (S.hash scheduler.old.logged.executor.hasher) event scheduler.old }
     requires maps { is_of_maps event ≡ true }
@@ -29,10 +30,10 @@ fn of_maps<K: Eq + Hash + Drop, V: Drop, S: Hashes<K>>(
             mode,
             capacity,
         } => scheduler.make_map(map, mode, capacity),
-        Event::EndMap { map } => scheduler.end_map(&map),
+        Event::EndMap { map } => scheduler.end_map(&map, back),
         Event::ShowShape { map } => scheduler.show_shape(&map),
-        Event::ReclaimAll => scheduler.reclaim_all(),
-        Event::Close => scheduler.close(),
+        Event::ReclaimAll => scheduler.reclaim_all(back),
+        Event::Close => scheduler.close(back),
         _ => unreachable!(),
     }
 }
@@ -42,6 +43,7 @@ fn of_slots<K: Eq + Hash + Drop, V: Drop, S: Hashes<K>>(
     scheduler: &mut Scheduler<K, V, S>,
     is_first: bool,
     event: Event<K, V>,
+    back: &mut Vec<Pair<K, V>>,
 ) -> Result<Played<V>, AllocError>
     requires due { MayHappenDue K.eq (S.hash scheduler.old.logged.executor.hasher) event scheduler.old }
     requires no_maps { is_of_maps event ≡ false }
@@ -53,16 +55,16 @@ fn of_slots<K: Eq + Hash + Drop, V: Drop, S: Hashes<K>>(
         Event::Collector(setup) => Ok(scheduler.collector(setup, is_first)),
         Event::Hash(by) => Ok(scheduler.hash(by)),
         Event::Choose(choice) => scheduler.choose(choice),
-        Event::Register { registration } => scheduler.register(registration),
-        Event::Unregister { registration } => scheduler.unregister(&registration),
+        Event::Register { registration } => scheduler.register(registration, back),
+        Event::Unregister { registration } => scheduler.unregister(&registration, back),
         Event::Enter {
             guard,
             registration,
-        } => scheduler.enter(guard, &registration),
-        Event::Own { guard } => scheduler.own(guard),
-        Event::Refresh { guard } => scheduler.refresh(&guard),
-        Event::Flush { guard } => scheduler.flush(&guard),
-        Event::DropGuard { guard } => scheduler.drop_guard(&guard),
+        } => scheduler.enter(guard, &registration, back),
+        Event::Own { guard } => scheduler.own(guard, back),
+        Event::Refresh { guard } => scheduler.refresh(&guard, back),
+        Event::Flush { guard } => scheduler.flush(&guard, back),
+        Event::DropGuard { guard } => scheduler.drop_guard(&guard, back),
         Event::Forget { guard } => Ok(scheduler.forget(&guard)),
         _ => unreachable!(),
     }
@@ -132,6 +134,7 @@ pub fn happen<K: Eq + Hash + Drop, V: Drop, S: Hashes<K>>(
     scheduler: &mut Scheduler<K, V, S>,
     is_first: bool,
     event: Event<K, V>,
+    back: &mut Vec<Pair<K, V>>,
 ) -> Result<Played<V>, AllocError>
     requires { MayHappen K.eq (S.hash scheduler.old.logged.executor.hasher) scheduler.old }
     ensures happens { IfOk result (λ played. HappensAt K.eq (S.hash scheduler.old.logged.executor.hasher) is_first event played scheduler.old scheduler.new) }
@@ -144,7 +147,7 @@ pub fn happen<K: Eq + Hash + Drop, V: Drop, S: Hashes<K>>(
         return of_calls(scheduler, is_first, event);
     }
     if is_of_maps(&event) {
-        return of_maps(scheduler, is_first, event);
+        return of_maps(scheduler, is_first, event, back);
     }
-    of_slots(scheduler, is_first, event)
+    of_slots(scheduler, is_first, event, back)
 }
