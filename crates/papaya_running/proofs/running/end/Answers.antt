@@ -4,10 +4,10 @@ use Rattle.papaya_running.proofs.Ended.{kept_so, tells_most}
 use Rattle.papaya_running.proofs.running.end.Goals as goal
 
 pub pairs_left-kept-requires : goal.pairs_left-kept-requires
-pairs_left-kept-requires g c = let r = c.requires in kept_so r.0 r.1 r.2 r.3 c.args.record c.args.tally c.args.scheduler r.4
+pairs_left-kept-requires g c = let r = c.requires in kept_so r.0 r.1 r.2 r.3 c.args.written c.args.tally c.args.scheduler r.4
 
 pub returns-clause-tells : goal.returns-clause-tells
 returns-clause-tells g c = λ same hash terms events so.
     let left = c.in_ok-kept.ensures in
-    tells_most same hash terms events c.args.record c.args.tally c.args.scheduler so _ c.in_ok-living.ensures c.in_ok-waiting.ensures c.waiting_tables.ensures c.stored.ensures
+    tells_most same hash terms events c.args.written c.args.tally c.args.scheduler so _ c.in_ok-living.ensures c.in_ok-waiting.ensures c.waiting_tables.ensures c.stored.ensures
     (left.0, left.1, c.in_ok-of-2.ensures ∙ left.2) c.in_ok-of.ensures

@@ -14,4 +14,4 @@ invariant-loop-event g l =
     (events : List (Event g.row.K.Denot g.row.V.Denot)) × (events ++ l.event-iterator.rest.items ≡ l.fn.schedule.items)
     × SoFar {K = g.row.K.Denot} {V = g.row.V.Denot} {S = g.row.S.Denot} g.K.PartialEq.eq
     (λ key. g.S.Hasher.Hasher.finish (fold g.S.Hasher.Hasher.write (g.S.BuildHasher.build_hasher l.scheduler.logged.executor.hasher) (g.K.Hash.hash_input key)) % 2 ^ 64)
-    (terms_given (bounded l.fn.given)) events l.record l.tally l.scheduler
+    (terms_given (bounded l.fn.given)) events l.written l.tally l.scheduler
