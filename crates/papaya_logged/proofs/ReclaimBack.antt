@@ -30,7 +30,7 @@ use Rattle.papaya_logged.specs.Back.{AllBringsBack, ComesBack, pair_back, settle
 use Rattle.papaya_logged.specs.Reclaims.{ReclaimingIsShown, ReclaimingSoFar, ReclaimingSteps}
 use Rattle.papaya_logged.specs.Shown.{IsShown}
 use Rattle.papaya_logged.specs.declared.logged.Logged.{Logged}
-use Rattle.papaya_logged.proofs.Back.{IsBack, more_back, none_back, nothing_back, row_quiet, taken_back}
+use Rattle.papaya_logged.proofs.BroughtBack.{IsBack, more_back, none_back, nothing_back, row_quiet, taken_back}
 use Rattle.papaya_logged.proofs.ReclaimGives.{GivesOr, reclaiming_gives, taken_gone}
 use Rattle.papaya_logged.proofs.ReclaimRows.{EmptiesRoot, reclaiming_tells}
 use Rattle.papaya_logged.proofs.ReclaimSteps.{left}

@@ -16,7 +16,7 @@ use Rattle.papaya_logged.specs.Back.{AllBringsBack, BringsBack, ComesBack}
 use Rattle.papaya_logged.specs.OnSlots.{OnSlotBegins}
 use Rattle.papaya_logged.specs.Shown.{IsShown}
 use Rattle.papaya_logged.specs.declared.logged.Logged.{Logged}
-use Rattle.papaya_logged.proofs.Back.{none_back}
+use Rattle.papaya_logged.proofs.BroughtBack.{none_back}
 use Rattle.papaya_scheduler.specs.Played.{IsDue}
 use Rattle.papaya_scheduler.specs.declared.scheduler.Scheduler.{Scheduler}
 
