@@ -31,7 +31,6 @@ use Rattle.papaya_histories.specs.Given.Others.Makings.{WasNew, making_after}
 use Rattle.papaya_histories.specs.Given.Others.Rows.{scene_then}
 use Rattle.papaya_histories.specs.Given.Tables.Nodes.{deferred_word}
 use Rattle.papaya_histories.specs.Given.Raw.declared.machines.progress.Progress.{Progress as CallTold}
-use Rattle.papaya_histories.specs.Given.Schedules.Entry.{Entry}
 use Rattle.papaya_histories.specs.Given.Schedules.Model.{things_in}
 use Rattle.papaya_histories.specs.Given.Schedules.Moment.{UnderWay as CallThere}
 use Rattle.papaya_histories.specs.Given.Callers.Together.{UnderWay, HandsOver}
