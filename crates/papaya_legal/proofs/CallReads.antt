@@ -47,7 +47,7 @@ module _ {K V : Type 0} (same : K → K → Bool) (name : ℕ → List ℕ) (log
 
 -- one more step of this caller alone
 one_more_step : (steps : ℕ) (q : Bool) → (if q then suc (if q then steps else 0) else (if q then steps else 0)) ≡ (if q then steps + 1 else 0)
-one_more_step steps true = omega arith
+one_more_step steps true = let more : suc steps ≡ steps + 1 = omega arith in more
 one_more_step steps false = refl
 
 -- none, by another one

@@ -5,15 +5,17 @@ use Rattle.papaya_histories.specs.Given.Schedules.Effects.{with_effects}
 use Rattle.papaya_histories.specs.Given.Effects.Effects.{effects_of, known_after}
 use Rattle.papaya_histories.specs.Given.Effects.declared.acting.Acting.TheVariants as acts
 use Rattle.papaya_histories.specs.Given.Others.Makings.{making_after}
-use Rattle.papaya_legal.specs.Chains.{Chain, Come, EndsChain, EndSteps, MakingsChain, MakingSteps, RowsChain, RowSteps}
+use Rattle.papaya_legal.specs.Chains.{CallCome, CallsChain, CallSteps, Chain, Come, EndsChain, EndSteps, MakingsChain, MakingSteps, RowsChain, RowSteps}
+use Rattle.papaya_histories.specs.InEvent.{here_of}
+use Rattle.papaya_legal.specs.CallEvents.{InCallEvent}
 use Rattle.papaya_legal.specs.MapEvents.{InEndEvent, InMakingEvent}
 use Rattle.papaya_legal.specs.SlotEvents.{InSlotEvent}
+use Rattle.papaya_legal.proofs.Calls.{call_events_go_on_so}
 use Rattle.papaya_legal.proofs.Maps.{end_events_go_on_so, making_events_go_on_so}
 use Rattle.papaya_legal.proofs.Slots.{slot_events_go_on_so}
 
 -- what each step keeps, a chain of them does
-pub chains_keep : {K V S : Type 0} (P : Come K V S → Type 0) (Steps : Come K V S → Come K V S → Type 0) → ((x y : Come K V S) → Steps x y → P x → P y)
-    → (n : ℕ) (from to : Come K V S) → Chain Steps n from to → P from → P to
+pub chains_keep : {X : Type 0} (P : X → Type 0) (Steps : X → X → Type 0) → ((x y : X) → Steps x y → P x → P y) → (n : ℕ) (from to : X) → Chain Steps n from to → P from → P to
 chains_keep P Steps keeps zero from to chain so = subst P chain so
 chains_keep P Steps keeps (suc n) from to chain so = keeps chain.0 to chain.2 (chains_keep P Steps keeps n from chain.0 chain.1 so)
 
@@ -61,3 +63,16 @@ module _ (K V S : Type 0) (same : K → K → Bool) (hash : K → ℕ) where
       keeps x y step midst = subst Midst (sym step.comes)
           (end_events_go_on_so K V S same hash name terms log event map beginning first x.did x.now x.notes x.scene i step.ending step.here step.gone midst x.executor y.executor step.is_at step.size
           step.below step.said step.leads step.its)
+
+  pub calls_chain : CallsChain K V S same hash
+  calls_chain name terms log event beginning map i c n from to chain so = chains_keep Midst (CallSteps same hash name terms log map i) keeps n from to chain so
+    where
+      Midst : CallCome K V S → Type 0
+      Midst x = InCallEvent same name terms log event beginning map i c x.steps x.come.did x.come.now x.come.notes x.come.scene x.under
+
+      keeps : (x y : CallCome K V S) → CallSteps same hash name terms log map i x y → Midst x → Midst y
+      keeps x y step midst =
+          let here = here_of same name log beginning map i c x.come.did x.come.now x.come.notes x.come.scene x.under midst.event_so in
+          subst Midst (sym (step.comes here))
+              (call_events_go_on_so K V S same hash name terms log event beginning map i c x.steps x.come.did x.come.now x.come.notes x.come.scene x.under midst x.come.executor y.come.executor step.is_at
+              step.size step.said step.leads step.pairs step.none (step.noted here) y.under (step.goes_on here))

@@ -41,9 +41,10 @@ use Rattle.papaya_histories.specs.InEvent.{ComesSo, InEvent, here_of}
 use Rattle.papaya_promises.specs.Protected.{InMidst}
 use Rattle.papaya_promises.specs.Reading.{ShowsReading, looks}
 use Rattle.papaya_promises.specs.Weights.{AreDoneBy}
-use Rattle.papaya_histories.specs.Kept.{ChangesFirst, HasJustBegun}
+use Rattle.papaya_histories.specs.Kept.{HasJustBegun}
 use Rattle.papaya_purposes.specs.Kept.{PairsChangeFirst, ShowsNone}
-use Rattle.papaya_purposes.specs.Shards.{ReadsShards}
+use Rattle.papaya_purposes.specs.Shards.{NoneCounted as NoneAdded}
+use Rattle.papaya_shards.specs.ShardSteps.{AddsUp}
 use Rattle.papaya_models.specs.CallEvents.{FollowsInEvent, IsNoted, things_then, slot_of_call}
 use Rattle.papaya_finds.specs.Doing.{takes_steps}
 use Rattle.papaya_finds.specs.Life.{StoresOne}
@@ -67,6 +68,8 @@ module _ {K V : Type 0} (same : K → K → Bool) (name : ℕ → List ℕ) (ter
     pub few : AreDoneBy steps done
     pub granted : is_granted false done ≡ true
     pub reading : ShowsReading name log (λ j. if j == i then steps else 0) m s
+    -- where it adds shards up, none was counted on
+    pub unadded : AddsUp u → NoneAdded log m map
     -- one that only looks has done nothing
     pub quiet : looks c.call ≡ true → (m.maps ≡ (moment log).maps) × (m.tables ≡ (moment log).tables)
     -- life: of which kind each effect is, and that a pair is stored by who has one
@@ -91,6 +94,7 @@ module _ (K V S : Type 0) (same : K → K → Bool) (hash : K → ℕ) where
   abbrev pub CallEventsBegin : Type 0
   CallEventsBegin =
       (name : ℕ → List ℕ) (terms : Terms) (log : List (Entry K V)) (beginning : Moment K V) → HasJustBegun log beginning → beginning.maps ≡ (moment log).maps → beginning.tables ≡ (moment log).tables
+      → beginning.shards ≡ (moment log).shards
       → (known : Known) (s : Scene K V) (x : Executor K V S) → IsAt same hash x s → ShowsCalls same name log beginning known s → ShowsReading name log (λ j. 0) beginning s
       → SectionsHold beginning known s.world → ((moment log).is_alone ≡ true → FollowsOrRows terms log known s.world)
       → (event : Event K V) (map i : ℕ) → caller_of event ≡ Some (name i) → (u : UnderWay K V K) → s.calls map i ≡ Some u → (c : CallThere K V) → call_of (name i) beginning ≡ Some c
@@ -117,7 +121,7 @@ module _ (K V S : Type 0) (same : K → K → Bool) (hash : K → ℕ) where
       → (ComesAlone (Next (name i)) log → (j : ℕ) → s.world.row j ≢ Rests → j ≡ i)
       → InCallEvent same name terms log (Next (name i)) (moment log) map i c 0 [] (moment log) known (scene_with map i (leads map (OverAll o) here).0 s) (leads map (OverAll o) here).0
 
-  -- after each step of it, where it goes on: no pair comes or goes twice, what a call reads of shards it may read, no pair of a walk is shown, and what a row hands
+  -- after each step of it, where it goes on: no pair comes or goes twice, no pair of a walk is shown, and what a row hands
   -- over that begins with the step is noted;
   abbrev pub CallEventsGoOn : Type 0
   CallEventsGoOn =
@@ -128,7 +132,7 @@ module _ (K V S : Type 0) (same : K → K → Bool) (hash : K → ℕ) where
       let v = with_effects (Some (name i)) (Some map) effects m in
       let to = leads map u (here_of same name log beginning map i c done m known s u midst.event_so) in
       let s2 = scene_after same hash s old new map i to.0 u to.1 said to.4 in
-      PairsChangeFirst log m map v → ChangesFirst log m same map v → ReadsShards log m s map u → ShowsNone said
+      PairsChangeFirst log m map v → ShowsNone said
       → ((request : Request) (begun : World (Node K V)) → HandsOver to.0.setting i s.world request → Happens deferred_word old.batch_size (Begin i request) s.world begun
       → Happens deferred_word old.batch_size (Step i) begun to.4.w2 → IsNoted (things_then (things_in log) done) known (slot_of i) request)
       → (next : UnderWay K V K) → to.4.next ≡ Some next
