@@ -35,6 +35,7 @@ use Rattle.papaya_finds.proofs.Over.{acts as acts_on_its}
 use Rattle.papaya_finds.proofs.Steps.{steps_do_theirs}
 use Rattle.papaya_legal.specs.CallEvents.{CallEventsAreLegal}
 use Rattle.papaya_legal.proofs.Calls.{out_of_slots}
+use Rattle.papaya_legal.proofs.CallReads.{reads_briefly}
 
 -- an event of a call that was not kept out need do nothing whole
 module _ {K V : Type 0} (own : List ℕ) (effects : List Effect) (m w : Moment K V) where
@@ -50,9 +51,9 @@ module _ {K V : Type 0} (own : List ℕ) (effects : List Effect) (m w : Moment K
   whole_so _ outcome is busy = absurd (cc is)
 
 pub call_events_are_legal : (K V S : Type 0) (same : K → K → Bool) (hash : K → ℕ) → CallEventsAreLegal K V S same hash
-call_events_are_legal K V S same hash name terms log beginning map i c c_is steps done m known s u e midst questions old new at said leads begins acted effects_are comes steps_taken busy finds brief swept refuses leaves by_model = (
+call_events_are_legal K V S same hash name terms log beginning map i c c_is steps done m known s u e midst questions old new at said leads begins acted effects_are comes steps_taken busy finds few_steps swept refuses leaves by_model = (
   record {
-    brief = brief;
+    brief = reads_briefly K V S same hash name terms log beginning map i c steps done m known s u e midst old new at said leads begins acted effects_are few_steps;
     linearizable = asked.0;
     swept = swept;
     life = record {

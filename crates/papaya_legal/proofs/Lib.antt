@@ -2,6 +2,7 @@
 pub mod Begin
 pub mod Uncounted
 pub mod Between
+pub mod CallReads
 pub mod Calls
 pub mod CallBegins
 pub mod CallFollows
