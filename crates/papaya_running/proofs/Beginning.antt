@@ -30,7 +30,6 @@ use Rattle.papaya_running.specs.Run.{bounded}
 pub record Begins {K V S : Type 0} (given : Given) (p : Scheduler K V S) : Type 0 where
   pub played : (same : K → K → Bool) (hash : K → ℕ) → IsPlayed same hash (terms_given given) [] p
   pub begun : HasJustBegun given p
-  pub back : p.back.items ≡ []
 
 -- So it is after a choice of a block's number, too.
 pub still_begins : {K V S : Type 0} (given : Given) (p : Scheduler K V S) → Begins given p → (choice : ℕ) (logged : Logged K V S) → logged ≡ logged_chosen choice p.logged
@@ -39,8 +38,7 @@ still_begins {K} {V} {S} given p begins choice logged is =
     let b = begins.begun in
     subst (λ (l : Logged K V S). Begins given (record p { logged = l })) (sym is) (record {
       played = λ same hash. stands_chosen same hash (terms_given given) start p (begins.played same hash) choice;
-      begun = record { maps = b.maps; known_is = b.known_is; many = b.many; free = b.free; nowhere = b.nowhere; slots = b.slots; blocks = b.blocks };
-      back = begins.back;
+      begun = record { maps = b.maps; known_is = b.known_is; many = b.many; free = b.free; nowhere = b.nowhere; slots = b.slots };
     })
 
 module _ {K V S : Type 0} (same : K → K → Bool) (hash : K → ℕ) (given : Given) (p : Scheduler K V S) (begins : Begins given p) where

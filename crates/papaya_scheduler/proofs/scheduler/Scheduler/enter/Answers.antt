@@ -4,7 +4,7 @@ use Rattle.std.proofs.lemmas.Bool.{lt-ltb}
 use Rattle.seize_words.specs.declared.fault.Fault.TheVariants.{Busy, GuardsFull}
 use Rattle.papaya_schedules.specs.declared.event.Event.TheVariants.{Enter}
 use Rattle.papaya_schedules.specs.declared.outcome.Outcome.TheVariants.{Refused}
-use Rattle.papaya_scheduler.proofs.Backs.{beside, came_as, due_beside, none_came, stayed_as}
+use Rattle.papaya_scheduler.proofs.Backs.{came_as, none_came, stayed_as}
 use Rattle.papaya_scheduler.proofs.Enters.{guard_there, no_registration, full, may_enter, fits, joined, joined_first}
 use Rattle.papaya_scheduler.proofs.KeptGiven.{given_as, given_still}
 use Rattle.papaya_scheduler.proofs.Rights.{so_played}
@@ -52,7 +52,7 @@ returns-clause-plays g c =
       let few = lt-ltb _ _ (let l = c.if-guards-ge-MOST_GUARDS.false in let e = c.guards_on-guards.ensures in omega (arith, l, e)) in
       elim c.if-guards-eq0.branch [
         | then-guards-eq0+in_ok-do_row w ↦
-            joined_first same hash terms log (beside w.do_row.new.self.back c.args.self.now) c.args.guard c.args.registration.now (due_beside same hash terms c.args.self.now w.do_row.new.self.back log (Enter c.args.guard c.args.registration.now) due) none c.in-Some.slot found few c.if-guards-eq0.self c.if-guards-eq0.effects.items c.enter.new.self
+            joined_first same hash terms log c.args.self.now c.args.guard c.args.registration.now due none c.in-Some.slot found few c.if-guards-eq0.self c.if-guards-eq0.effects.items c.enter.new.self
             c.in_ok-enter.ensures (sym c.guards_on-guards.ensures ∙ w.if-guards-eq0.true) c.no_effects-effects.result.items w.do_row.new.effects.items c.no_effects-effects.ensures
             (ap (λ v. v.items) w.effects-is) w.do_row.new.self w.self-is w.do_row.ensures.rest w.in_ok-do_row.ensures.ran
         | else-guards-eq0 w ↦
@@ -75,21 +75,21 @@ returns-clause-given g c =
     ]
 
 pub returns-then-has_guard-clause-back : goal.returns-then-has_guard-clause-back
-returns-then-has_guard-clause-back g c = λ same hash terms log due. none_came _ c.busy.result.effects.items c.args.self.now.back.items c.busy.ensures.effects
+returns-then-has_guard-clause-back g c = λ same hash terms log due. none_came _ c.busy.result.effects.items c.args.back.now.items c.busy.ensures.effects
 
 pub returns-in_default-clause-back : goal.returns-in_default-clause-back
-returns-in_default-clause-back g c = λ same hash terms log due. none_came _ c.busy-in_default.result.effects.items c.args.self.now.back.items c.busy-in_default.ensures.effects
+returns-in_default-clause-back g c = λ same hash terms log due. none_came _ c.busy-in_default.result.effects.items c.args.back.now.items c.busy-in_default.ensures.effects
 
 pub returns-then-guards-ge-MOST_GUARDS-clause-back : goal.returns-then-guards-ge-MOST_GUARDS-clause-back
-returns-then-guards-ge-MOST_GUARDS-clause-back g c = λ same hash terms log due. none_came _ c.quietly.result.effects.items c.args.self.now.back.items c.quietly.ensures.effects
+returns-then-guards-ge-MOST_GUARDS-clause-back g c = λ same hash terms log due. none_came _ c.quietly.result.effects.items c.args.back.now.items c.quietly.ensures.effects
 
 pub returns-clause-back : goal.returns-clause-back
 returns-clause-back g c =
     λ same hash terms log due.
       elim c.if-guards-eq0.branch [
         | then-guards-eq0+in_ok-do_row w ↦
-            came_as same hash terms log (Enter c.args.guard c.args.registration.now) c.args.self.now due c.if-guards-eq0.effects.items c.no_effects-effects.result.items w.do_row.new.effects.items (ap (λ v. v.items) w.effects-is)
-            c.no_effects-effects.ensures c.if-guards-eq0.self w.do_row.new.self w.self-is w.in_ok-do_row.ensures.back
+            came_as same hash terms log (Enter c.args.guard c.args.registration.now) c.args.self.now due c.args.back.now.items c.if-guards-eq0.effects.items c.no_effects-effects.result.items w.do_row.new.effects.items (ap (λ v. v.items) w.effects-is)
+            c.no_effects-effects.ensures w.do_row.new.back.items c.if-guards-eq0.back.items (ap (λ v. v.items) w.back-is) w.in_ok-do_row.ensures.back
         | else-guards-eq0 w ↦
-            stayed_as same hash terms log (Enter c.args.guard c.args.registration.now) c.args.self.now due c.if-guards-eq0.effects.items (ap (λ v. v.items) w.effects-is ∙ c.no_effects-effects.ensures) c.if-guards-eq0.self w.self-is
+            stayed_as _ c.if-guards-eq0.effects.items c.args.back.now.items c.if-guards-eq0.back.items (ap (λ v. v.items) w.effects-is ∙ c.no_effects-effects.ensures) (ap (λ v. v.items) w.back-is)
       ]
