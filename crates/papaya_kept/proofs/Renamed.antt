@@ -12,7 +12,7 @@ use Rattle.papaya_histories.specs.Given.Hands.Asked.{ShowsAsked}
 use Rattle.papaya_histories.specs.Given.Moments.Whole.{ShowsWhole}
 
 module _ {K V : Type 0} (same : K → K → Bool) (name name2 : ℕ → List ℕ) (m : Moment K V) (known : Known) (s : Scene K V) (agree : (i : ℕ) → HasCall s i → name2 i ≡ name i) where
-  calls : ShowsCalls same name m s.calls → ShowsCalls same name2 m s.calls
+  pub calls : ShowsCalls same name m s.calls → ShowsCalls same name2 m s.calls
   calls shown map i u here = let c = shown map i u here in (c.0, ap (λ x. call_of x m) (agree i (map, u, here)) ∙ c.1, c.2, c.3)
 
   abbrev pub shows : Shows same name m known s → Shows same name2 m known s

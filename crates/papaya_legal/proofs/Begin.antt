@@ -1,5 +1,5 @@
 -- Before all events all is carried that events need.
-use Rattle.std.proofs.Common.{inl}
+use Rattle.std.proofs.Common.{refl, inl}
 use Rattle.papaya_histories.proofs.Given.Moments.Calls.{whole_begins}
 use Rattle.papaya_histories.proofs.Given.Moments.NewMaps.{pairs_begin}
 use Rattle.papaya_histories.proofs.Given.Moments.Numbers.{numbers_begin}

@@ -276,7 +276,7 @@ module _ (K V S : Type 0) (same : K → K → Bool) (hash : K → ℕ) where
       next : UnderWay K V K
       next = (leads map (OverAll o) here).0
 
-      its : (x : UnderWay K V K) → Some next ≡ Some x → (removed : ℕ) → adds_of (machine_of x) ≡ Some removed → Had name m s map i (Some next) map i removed
+      its : (x : UnderWay K V K) → ◌≡◌ {A = Option (UnderWay K V K)} (Some next) (Some x) → (removed : ℕ) → adds_of (machine_of x) ≡ Some removed → Had name m s map i (Some next) map i removed
       its x e removed adds =
           let x_is : x ≡ OverAll (gone_on o (after_next o.sweep)) = sym (one_of next x e) ∙ is in
           (OverAll o, here, adds_next o.sweep.stands o.sweep removed refl (ap (λ (y : UnderWay K V K). adds_of (machine_of y)) (sym x_is) ∙ adds))

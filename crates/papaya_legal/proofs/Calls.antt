@@ -38,17 +38,18 @@ use Rattle.papaya_models.proofs.CallEvents.{call_events_begin, call_events_go_on
 use Rattle.papaya_models.proofs.MapEvents.{moments_note_once}
 use Rattle.papaya_histories.proofs.Given.Spots.Unreclaimed.{and_both}
 use Rattle.papaya_finds.specs.Life.{StoresOne}
-use Rattle.papaya_finds.specs.Parts.{FindAll}
 use Rattle.papaya_finds.proofs.Doing.{several_do_theirs}
-use Rattle.papaya_finds.proofs.Joined.{several_find_all}
 use Rattle.papaya_finds.proofs.Quiet.{several_store_one}
 use Rattle.papaya_finds.proofs.Steps.{steps_do_theirs, steps_store_one}
 use Rattle.papaya_promises.specs.Protected.{InMidst, is_of_slots}
-use Rattle.papaya_promises.specs.Reading.{HasLooked}
+use Rattle.papaya_promises.specs.Reading.{HasLooked, looks}
 use Rattle.papaya_promises.specs.Sheltered.{SectionsHold}
 use Rattle.papaya_promises.proofs.Protected.{calls_protect}
 use Rattle.papaya_promises.proofs.Weights.{grants_add_up, operations_are_single, parts_add_up}
 use Rattle.papaya_legal.specs.CallEvents.{CallEventsBegin, CallEventsGoOn}
+use Rattle.papaya_purposes.proofs.ShardsRead.{events_begin_uncounted}
+use Rattle.papaya_legal.proofs.CallChanges.{changes_first, reads_shards, unadded_still}
+use Rattle.papaya_legal.proofs.CallReads.{does_nothing, readings_go_on}
 use Rattle.papaya_legal.proofs.Uncounted.{calls_leave_uncounted}
 
 -- no steps, whoever's
@@ -66,7 +67,7 @@ module _ {K V : Type 0} (own : List ℕ) (m : Moment K V) (known : Known) (w : W
   begins_protected _ is = absurd (cc is)
 
 pub call_events_begin_so : (K V S : Type 0) (same : K → K → Bool) (hash : K → ℕ) → CallEventsBegin K V S same hash
-call_events_begin_so K V S same hash name terms log beginning begins known s x at all reading sections follows event map i caller_is u here c c_is only = record {
+call_events_begin_so K V S same hash name terms log beginning begins maps tables shards known s x at all reading sections follows event map i caller_is u here c c_is only = record {
   of_call = caller_is;
   event_so = events_begin K V S same hash name log beginning begins known s x at all.whole all.dues all.as_called map i u here c c_is;
   calls = all;
@@ -79,8 +80,9 @@ call_events_begin_so K V S same hash name terms log beginning begins known s x a
         subst (λ (steps : ℕ). HasLooked (is_incremental standing.setting.mode) n standing.chart (moments_from d.begun log) (d.steps + steps) v) (none_made (j == i))
             (reading.reads n j v is d found looks_for standing there);
   };
+  unadded = λ adds. events_begin_uncounted K V log beginning map shards;
+  quiet = λ looks_for. (maps, tables);
   kinds = refl;
-  finds = tt;
   stores = tt;
   protects = begins_protected (name i) beginning known s.world sections event caller_is;
   follows = λ alone. begun_so (and_both (moment log).is_alone (list_all (is_by (speaker event)) (moment log).calls) alone).0 (only alone);
@@ -113,7 +115,7 @@ out_of_slots own (Next caller) is = refl
 out_of_slots own _ is = absurd (cc is)
 
 pub call_events_go_on_so : (K V S : Type 0) (same : K → K → Bool) (hash : K → ℕ) → CallEventsGoOn K V S same hash
-call_events_go_on_so K V S same hash name terms log event beginning map i c steps done m known s u midst old new at size said leads pairs changes shards none finds noted reading next next_is = record {
+call_events_go_on_so K V S same hash name terms log event beginning map i c steps done m known s u midst old new at size said leads pairs none noted next next_is = record {
   of_call = midst.of_call;
   event_so = events_go_on K V S same hash name log beginning map i c done m known s u midst.event_so old new at said leads next next_is;
   calls = record {
@@ -124,19 +126,21 @@ call_events_go_on_so K V S same hash name terms log event beginning map i c step
     );
     kept = calls_keep_kept K V S same hash name m known s old new at whole midst.calls.kept map i u here said leads;
     counters = calls_keep_counters K V S same hash name m known s old new at whole midst.calls.kept.counts midst.calls.counters map i u here said leads;
-    uncounted = calls_leave_uncounted same hash name m known s old new at whole midst.calls.kept.counts midst.calls.counters midst.calls.uncounted map i u here said leads below;
+    uncounted = calls_leave_uncounted same hash name m known s old new at whole midst.calls.kept midst.calls.counters midst.calls.uncounted map i u here said leads below;
     dues = all.1;
     as_called = all.2;
     questions = effects_keep_questions K V (Some (name i)) (Some map) effects m midst.calls.questions;
-    purposes = calls_keep_purposes K V S same hash name log m known s old new at whole midst.calls.purposes map i u here said leads pairs changes shards none;
+    purposes = calls_keep_purposes K V S same hash name log m known s old new at whole midst.calls.purposes map i u here said leads pairs
+        (changes_first same hash name log beginning map i c done m known s old new at said leads u midst.event_so)
+        (reads_shards K V S same hash name log m known s old new at whole midst.calls.counters map i u here said leads midst.unadded) none;
   };
   worked = ap (λ (x : Moment K V). with_effects (Some (name i)) (Some map) effects x) midst.worked ∙ sym (effects_after (Some (name i)) (Some map) done effects beginning);
   few = parts_add_up steps 1 done effects midst.few (operations_are_single (acts.Call i map) known new.memory.changed).0;
   granted = grants_add_up done effects midst.granted (operations_are_single (acts.Call i map) known new.memory.changed).1;
-  reading = reading;
+  reading = readings_go_on K V S same hash name terms log event beginning map i c steps done m known s u midst old new at said leads;
+  unadded = unadded_still K V S same hash name log m known s old new at whole midst.calls.counters map i u here said leads midst.unadded next next_is;
+  quiet = λ looks_for. quiet_still looks_for;
   kinds = several_do_theirs done effects midst.kinds (steps_do_theirs K V S same hash name m known s old new at whole map i u here said leads);
-  finds = several_find_all K V terms (moments_from c.begun log) (name i) map done effects beginning midst.finds
-      (subst (λ (x : Moment K V). FindAll terms (moments_from c.begun log) (name i) map effects x) midst.worked finds);
   stores = several_store_one K V (name i) map done effects beginning midst.stores
       (subst (λ (x : Moment K V). AtEachEffect (StoresOne (Some (name i))) (Some (name i)) (Some map) effects x) midst.worked
           (steps_store_one K V S same hash name m known s old new at whole map i u here said leads));
@@ -173,3 +177,8 @@ call_events_go_on_so K V S same hash name terms log event beginning map i c step
 
     all : ShowsWhole same name v then_known s2 × ShowsDue same name log v then_known s2 × ShowsAsCalled same name v then_known s2
     all = events_keep_all K V S same hash name log beginning map i c done m known s u midst.event_so old new at said leads
+
+    -- a lookup does nothing by its steps
+    quiet_still : looks c.call ≡ true → (v.maps ≡ (moment log).maps) × (v.tables ≡ (moment log).tables)
+    quiet_still looks_for = subst (λ (x : Moment K V). (x.maps ≡ (moment log).maps) × (x.tables ≡ (moment log).tables))
+        (sym (does_nothing K V S same hash name terms log event beginning map i c steps done m known s u midst old new at said leads looks_for)) (midst.quiet looks_for)

@@ -82,7 +82,7 @@ call_events_end_so K V S same hash name terms log beginning map i c first before
         e.steps none)
         alike.calls (ap (λ (x : Moment K V). x.shards) worked_is) refl refl refl (λ of j x is removed adds. (x, is, adds));
     uncounted = uncounted_over log (name i) e.outcome e.steps e.effects e.event midst.of_call (subst NoneCounted (sym worked_is)
-        (calls_leave_uncounted same hash name m known s old new at whole midst.calls.kept.counts midst.calls.counters midst.calls.uncounted map i u here said leads below));
+        (calls_leave_uncounted same hash name m known s old new at whole midst.calls.kept midst.calls.counters midst.calls.uncounted map i u here said leads below));
     dues = over.1;
     as_called = over.2;
     questions = events_keep_questions K V log e run.calls.questions still;

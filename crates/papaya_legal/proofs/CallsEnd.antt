@@ -30,11 +30,12 @@ use Rattle.papaya_promises.proofs.Protected.{calls_protect, other_events_end_pro
 use Rattle.papaya_promises.proofs.Weights.{grants_add_up, operations_are_single}
 use Rattle.papaya_finds.specs.Parts.{FindAll}
 use Rattle.papaya_finds.proofs.Doing.{events_may_do, several_do_theirs}
-use Rattle.papaya_finds.proofs.Joined.{events_find_all, several_find_all}
+use Rattle.papaya_finds.proofs.Joined.{events_find_all}
 use Rattle.papaya_finds.proofs.Over.{acts as acts_on_its}
 use Rattle.papaya_finds.proofs.Steps.{steps_do_theirs}
 use Rattle.papaya_legal.specs.CallEvents.{CallEventsAreLegal}
 use Rattle.papaya_legal.proofs.Calls.{out_of_slots}
+use Rattle.papaya_legal.proofs.CallReads.{reads_briefly}
 
 -- an event of a call that was not kept out need do nothing whole
 module _ {K V : Type 0} (own : List ℕ) (effects : List Effect) (m w : Moment K V) where
@@ -50,9 +51,9 @@ module _ {K V : Type 0} (own : List ℕ) (effects : List Effect) (m w : Moment K
   whole_so _ outcome is busy = absurd (cc is)
 
 pub call_events_are_legal : (K V S : Type 0) (same : K → K → Bool) (hash : K → ℕ) → CallEventsAreLegal K V S same hash
-call_events_are_legal K V S same hash name terms log beginning map i c c_is steps done m known s u e midst questions old new at said leads begins acted effects_are comes steps_taken busy finds brief swept refuses leaves by_model = (
+call_events_are_legal K V S same hash name terms log beginning map i c c_is steps done m known s u e midst questions old new at said leads begins acted effects_are comes steps_taken busy finds few_steps swept refuses leaves by_model = (
   record {
-    brief = brief;
+    brief = reads_briefly K V S same hash name terms log beginning map i c steps done m known s u e midst old new at said leads begins acted effects_are few_steps;
     linearizable = asked.0;
     swept = swept;
     life = record {
@@ -94,14 +95,9 @@ call_events_are_legal K V S same hash name terms log beginning map i c c_is step
     its_map : map ≡ c.map
     its_map = let both : Some map ≡ Some c.map = sym acted ∙ acts_on_its e.event beginning (name i) c midst.of_call c_is in cc both
 
-    found : FindAll terms (moments_from c.begun log) (name i) map e.effects beginning
-    found = subst (λ (fs : List Effect). FindAll terms (moments_from c.begun log) (name i) map fs beginning) (sym effects_are)
-        (several_find_all K V terms (moments_from c.begun log) (name i) map done effects beginning midst.finds
-        (subst (λ (x : Moment K V). FindAll terms (moments_from c.begun log) (name i) map effects x) midst.worked finds))
-
     all_find : AllFind terms log e (at_work e (moment log))
     all_find = subst (λ (b : Moment K V). AllFind terms log e b) (sym begins)
-        (events_find_all K V terms log e beginning (name i) c midst.of_call c_is (subst (λ (n : ℕ). FindAll terms (moments_from c.begun log) (name i) n e.effects beginning) its_map found))
+        (events_find_all K V terms log e beginning (name i) c midst.of_call c_is (subst (λ (n : ℕ). FindAll terms (moments_from c.begun log) (name i) n e.effects beginning) its_map finds))
 
     worked_so : v ≡ with_effects (Some (name i)) (Some map) e.effects beginning
     worked_so = ap (λ (x : Moment K V). with_effects (Some (name i)) (Some map) effects x) midst.worked ∙ sym (effects_after (Some (name i)) (Some map) done effects beginning)

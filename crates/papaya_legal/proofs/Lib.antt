@@ -2,6 +2,8 @@
 pub mod Begin
 pub mod Uncounted
 pub mod Between
+pub mod CallChanges
+pub mod CallReads
 pub mod Calls
 pub mod CallBegins
 pub mod CallFollows
@@ -16,4 +18,5 @@ pub mod Over
 pub mod Idle
 pub mod Begun
 pub mod MapsOver
+pub mod Chains
 pub mod Legal

@@ -1,9 +1,7 @@
 -- Events that make a map, or end one, from step to step.
-use Rattle.std.specs.Prelude.{◌≡◌, ◌<◌, ℕ, Bool, false, ◌&&◌, List, [], ◌++◌, Option, Some, None}
-use Rattle.std.specs.List.{list_all}
+use Rattle.std.specs.Prelude.{◌≡◌, ◌<◌, ℕ, Bool, List, ◌++◌, Option, Some, None}
 use Rattle.std.proofs.Common.{refl, ap, sym, subst, ◌∙◌, inl, inr}
 use Rattle.std.proofs.lemmas.Bool.{cases_eq}
-use Rattle.std.proofs.lemmas.List.Folds.{list_all-append}
 use Rattle.papaya_histories.specs.Given.Seize.World.{World}
 use Rattle.papaya_histories.specs.Given.Seize.declared.progress.Progress.{Progress as Making}
 use Rattle.papaya_histories.specs.Given.Seize.declared.progress.Progress.TheVariants as progress
@@ -12,10 +10,7 @@ use Rattle.papaya_histories.specs.Given.Seize.declared.rows.settle.Settled.TheVa
 use Rattle.papaya_histories.specs.Given.Tables.declared.node.Node.{Node}
 use Rattle.papaya_histories.specs.Given.Tables.declared.setting.Setting.{Setting}
 use Rattle.papaya_histories.specs.Given.Schedules.declared.effect.Effect.{Effect}
-use Rattle.papaya_histories.specs.Given.Schedules.After.{moment}
-use Rattle.papaya_histories.specs.Given.Schedules.Effects.{with_effects, AtEachEffect}
-use Rattle.papaya_histories.specs.Given.Schedules.Handing.{may_do}
-use Rattle.papaya_histories.specs.Given.Schedules.Lives.{Finds}
+use Rattle.papaya_histories.specs.Given.Schedules.Effects.{with_effects}
 use Rattle.papaya_histories.specs.Given.Schedules.Model.{sets_in, things_in}
 use Rattle.papaya_histories.specs.Given.Schedules.Moment.{Moment}
 use Rattle.papaya_histories.specs.Given.Teller.declared.changed.Changed.{Changed}
@@ -58,7 +53,6 @@ use Rattle.papaya_models.specs.MapEvents.{FollowsInMaking}
 use Rattle.papaya_models.proofs.Ends.{ends_go_on}
 use Rattle.papaya_models.proofs.MapEvents.{making_events_go_on}
 use Rattle.papaya_legal.specs.MapEvents.{EndEventsGoOn, MakingEventsGoOn}
-use Rattle.papaya_legal.proofs.Slots.{each_join}
 use Rattle.papaya_shards.proofs.ShardKept.{none_shards}
 use Rattle.papaya_legal.proofs.Uncounted.{none_counted}
 
@@ -113,7 +107,7 @@ module _ {K V S : Type 0} (same : K → K → Bool) (hash : K → ℕ) (s : Scen
   made_stood (progress.Refused fault) leads n j x is st there = stands_so s.maps n st there
 
 pub making_events_go_on_so : (K V S : Type 0) (same : K → K → Bool) (hash : K → ℕ) → MakingEventsGoOn K V S same hash
-making_events_go_on_so K V S same hash name terms log event beginning done m known s i b here midst old new at size below said leads was_new may finds = (
+making_events_go_on_so K V S same hash name terms log event beginning done m known s i b here midst old new at size below said leads was_new = (
   record {
     of_maps = midst.0.of_maps;
     calls = record {
@@ -131,9 +125,6 @@ making_events_go_on_so K V S same hash name terms log event beginning done m kno
     reading = other_work_keeps_readings K V name log (λ j. 0) m s (led same hash s old new at i b here said leads) (Some b.map) effects (made_calls same hash s old new at i b here said leads)
         (made_stood same hash s old new at i b here said leads) midst.0.reading;
     worked = ap (λ (x : Moment K V). with_effects None (Some b.map) effects x) midst.0.worked ∙ sym (effects_after None (Some b.map) done effects beginning);
-    may = list_all-append (may_do event (moment log)) done effects ∙ ap (λ (q : Bool). q && list_all (may_do event (moment log)) effects) midst.0.may ∙ may;
-    finds = each_join (Finds terms None (Some b.map) false []) None (Some b.map) done effects beginning midst.0.finds
-        (subst (λ (x : Moment K V). AtEachEffect (Finds terms None (Some b.map) false []) None (Some b.map) effects x) midst.0.worked finds);
     granted = grants_add_up done effects midst.0.granted (operations_are_single (acts.Making b.map) known new.memory.changed).1;
     protects = subst (λ (w : World (Node K V)). InMidst event (done ++ effects) v then_known w) (sym (made_world same hash s old new at i b here said leads))
         (makings_protect K V S same hash name m known s old new at whole i said leads b here (Some b.map) was_new event midst.0.of_maps done midst.0.protects);
@@ -195,7 +186,7 @@ module _ {K V S : Type 0} (same : K → K → Bool) (hash : K → ℕ) (s : Scen
   ended_stood settled.Done leads n j x is st there = stands_so s.maps n st there
 
 pub end_events_go_on_so : (K V S : Type 0) (same : K → K → Bool) (hash : K → ℕ) → EndEventsGoOn K V S same hash
-end_events_go_on_so K V S same hash name terms log event map beginning first done m known s i f here not_there midst old new at size below said leads its may finds = (
+end_events_go_on_so K V S same hash name terms log event map beginning first done m known s i f here not_there midst old new at size below said leads its = (
   record {
     of_maps = midst.0.of_maps;
     calls = record {
@@ -213,9 +204,6 @@ end_events_go_on_so K V S same hash name terms log event map beginning first don
     reading = other_work_keeps_readings K V name log (λ j. 0) m s (ended same hash s old new i f here said leads) (Some map) effects (ended_calls same hash s old new i f here said leads)
         (ended_stood same hash s old new i f here said leads) midst.0.reading;
     worked = ap (λ (x : Moment K V). with_effects None (Some map) effects x) midst.0.worked ∙ sym (effects_after None (Some map) done effects beginning);
-    may = list_all-append (may_do event (moment log)) done effects ∙ ap (λ (q : Bool). q && list_all (may_do event (moment log)) effects) midst.0.may ∙ may;
-    finds = each_join (Finds terms None (Some map) false []) None (Some map) done effects beginning midst.0.finds
-        (subst (λ (x : Moment K V). AtEachEffect (Finds terms None (Some map) false []) None (Some map) effects x) midst.0.worked finds);
     granted = grants_add_up done effects midst.0.granted (operations_are_single (acts.Ending map) known new.memory.changed).1;
     protects = subst (λ (w : World (Node K V)). InMidst event (done ++ effects) v then_known w) (sym (ended_world same hash s old new i f here said leads))
         (endings_protect K V S same hash name m known s old new at whole i said leads f here map not_there event midst.0.of_maps done midst.0.protects);

@@ -12,7 +12,7 @@ use Rattle.papaya_histories.specs.Given.Schedules.After.{moment, remains_on}
 use Rattle.papaya_histories.specs.Given.Schedules.Beginning.{at_work, begun, with_map}
 use Rattle.papaya_histories.specs.Given.Schedules.Effects.{with_effect, with_effects, AtEachEffect, worked}
 use Rattle.papaya_histories.specs.Given.Schedules.Entry.{Entry, acted_on}
-use Rattle.papaya_histories.specs.Given.Schedules.Handing.{is_ending, is_first_making}
+use Rattle.papaya_histories.specs.Given.Schedules.Handing.{is_ending, is_first_making, may_do}
 use Rattle.papaya_histories.specs.Given.Schedules.Model.{changes_of, handing, left_last, sets_in, things_in}
 use Rattle.papaya_histories.specs.Given.Schedules.Moment.{Moment}
 use Rattle.papaya_histories.proofs.Given.Callers.Together.At.{at_other, at_same}
@@ -50,8 +50,6 @@ module _ (K V S : Type 0) (same : K → K → Bool) (hash : K → ℕ) where
           (subst (λ (n : ℕ). IsUncounted n (with_map there (moment log))) (sym map_is) come.1) at2;
       reading = record { begun = run.reading.begun; reads = run.reading.reads };
       worked = refl;
-      may = refl;
-      finds = tt;
       granted = refl;
       protects = record { inside = hold.0; sheltered = hold.1; spared = refl };
     },
@@ -71,8 +69,6 @@ module _ (K V S : Type 0) (same : K → K → Bool) (hash : K → ℕ) where
       calls = ends_begin K V S same hash name log (moment log) known s old new at run.calls map i standing there idle at2;
       reading = other_work_keeps_readings K V name log (λ j. 0) (moment log) s (ending_begun map i standing s) (Some map) [] (λ n j x is. is) (λ n j x is st stands. stood n st stands) run.reading;
       worked = refl;
-      may = refl;
-      finds = tt;
       granted = refl;
       protects = record { inside = hold.0; sheltered = hold.1; spared = refl };
     },
@@ -135,7 +131,7 @@ module _ (K V : Type 0) (same : K → K → Bool) where
   pub making_events_end_so : MakingEventsEnd K V same
   making_events_end_so name terms log map beginning m first known before s own mode capacity outcome steps effects midst begins acted run right life sections follows =
       runs_go_on K V same name name terms log first known before s run e right life
-          (each_store None (acted_on e.event (at_work e (moment log))) is_first_making (making_stores None (acted_on e.event (at_work e (moment log)))) effects (at_work e (moment log)) midst.may) tt
+          (each_store None (acted_on e.event (at_work e (moment log))) (may_do e.event (moment log)) (making_stores None (acted_on e.event (at_work e (moment log)))) effects (at_work e (moment log)) life.may) tt
           (likes_show K V same name log m (moment (e ∷ log)) known s midst.calls like) (reading_like name log (λ j. 0) m (moment (e ∷ log)) s midst.reading like) sections (λ alone. inl (follows alone))
     where
       e : Entry K V
@@ -151,7 +147,7 @@ module _ (K V S : Type 0) (same : K → K → Bool) (hash : K → ℕ) where
   pub end_events_end_so : EndEventsEnd K V S same hash
   end_events_end_so name terms log map m first known before s x at own steps effects midst number apart run right life sections follows =
       runs_go_on K V same name name terms log first known before s run e right life
-          (each_store None (acted_on e.event (moment log)) is_ending (ending_stores None (acted_on e.event (moment log))) effects (moment log) midst.may) tt
+          (each_store None (acted_on e.event (moment log)) (may_do e.event (moment log)) (ending_stores None (acted_on e.event (moment log))) effects (moment log) life.may) tt
           (likes_show K V same name log gone (moment (e ∷ log)) known s shown like) (reading_like name log (λ j. 0) gone (moment (e ∷ log)) s reading like) sections (λ alone. inl (follows alone))
     where
       e : Entry K V

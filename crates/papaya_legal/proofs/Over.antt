@@ -118,13 +118,13 @@ module _ {K V : Type 0} (log : List (Entry K V)) where
   after_of its outcome steps effects = after (record { event = its; outcome = outcome; steps = steps; effects = effects }) (moment log)
 
   -- calls by which none makes a step are as they were
-  busy_like : (its : Event K V) (own : List ℕ) → (map (kept_as (λ c. is_same c.caller own)) (moment log).calls ≡ (moment log).calls → IsLike (moment log) (after_of its (Refused Busy) 0 []))
+  busy_like : (its : Event K V) (own : List ℕ) → (map (kept_as (λ (c : CallThere K V). is_same c.caller own)) (moment log).calls ≡ (moment log).calls → IsLike (moment log) (after_of its (Refused Busy) 0 []))
       → (outcome : Outcome V) (steps : ℕ) → outcome ≡ Refused Busy → steps ≡ 0 → IsLike (moment log) (after_of its outcome steps [])
   busy_like its own like outcome steps busy none =
       subst (λ (o : Outcome V). IsLike (moment log) (after_of its o steps [])) (sym busy)
-      (subst (λ (n : ℕ). IsLike (moment log) (after_of its (Refused Busy) n [])) (sym none) (like (calls_still (λ c. is_same c.caller own) (moment log).calls)))
+      (subst (λ (n : ℕ). IsLike (moment log) (after_of its (Refused Busy) n [])) (sym none) (like (calls_still (λ (c : CallThere K V). is_same c.caller own) (moment log).calls)))
 
-  with_calls : Moment K V → List (CallThere K V) → Moment K V
+  abbrev with_calls : Moment K V → List (CallThere K V) → Moment K V
   with_calls m calls = record m { calls = calls }
 
   none_like : (its : Event K V) (outcome : Outcome V) (steps : ℕ) → LeavesAll its outcome steps → IsLike (moment log) (after_of its outcome steps [])

@@ -1,8 +1,6 @@
 -- An event whose work is a row on a slot, from its beginning on.
-use Rattle.std.specs.Prelude.{◌≡◌, ℕ, Bool, true, ◌&&◌, List, [], ◌∷◌, ◌++◌, Option, None}
-use Rattle.std.specs.List.{list_all}
+use Rattle.std.specs.Prelude.{◌≡◌, ℕ, Bool, true, List, [], ◌∷◌, ◌++◌, Option, None}
 use Rattle.std.proofs.Common.{refl, ap, sym, subst, ◌∙◌}
-use Rattle.std.proofs.lemmas.List.Folds.{list_all-append}
 use Rattle.papaya_histories.specs.Given.Seize.World.{World, Request, Begin, Step}
 use Rattle.papaya_histories.specs.Given.Tables.declared.node.Node.{Node}
 use Rattle.papaya_histories.specs.Given.Schedules.declared.effect.Effect.{Effect}
@@ -11,8 +9,6 @@ use Rattle.papaya_histories.specs.Given.Schedules.declared.event.Event.TheVarian
 use Rattle.papaya_histories.specs.Given.Schedules.declared.outcome.Outcome.TheVariants.{Done}
 use Rattle.papaya_histories.specs.Given.Schedules.After.{moment}
 use Rattle.papaya_histories.specs.Given.Schedules.Effects.{with_effect, with_effects, AtEachEffect}
-use Rattle.papaya_histories.specs.Given.Schedules.Handing.{gives_all, may_do}
-use Rattle.papaya_histories.specs.Given.Schedules.Lives.{Finds}
 use Rattle.papaya_histories.specs.Given.Schedules.Model.{sets_in, things_in}
 use Rattle.papaya_histories.specs.Given.Schedules.Moment.{Moment}
 use Rattle.papaya_histories.specs.Given.Callers.Together.{IsOfSlots}
@@ -100,8 +96,6 @@ slot_events_begin_so K V S same hash name terms log known s old new at size run 
       };
       reading = rows_keep_readings K V S same hash name log (λ j. 0) m s old new (Begin i request) to [] run.reading;
       worked = refl;
-      may = refl;
-      finds = tt;
       granted = refl;
       protects = rows_begin_protect K V S same hash m known s old new called i may leads event spares [] (slots_protected m known s.world run.sections event on);
       follows = λ alone.
@@ -111,7 +105,7 @@ slot_events_begin_so K V S same hash name terms log known s old new at size run 
     }
 
 pub slot_events_go_on_so : (K V S : Type 0) (same : K → K → Bool) (hash : K → ℕ) → SlotEventsGoOn K V S same hash
-slot_events_go_on_so K V S same hash name terms log event i called first done m known s midst old new at size said leads row here may finds = record {
+slot_events_go_on_so K V S same hash name terms log event i called first done m known s midst old new at size said leads row here = record {
   of_slots = midst.of_slots;
   once = midst.once;
   calls = record {
@@ -127,10 +121,6 @@ slot_events_go_on_so K V S same hash name terms log event i called first done m 
   };
   reading = rows_keep_readings K V S same hash name log (λ j. 0) m s old new (Step i) (leads row here).4 effects midst.reading;
   worked = ap (λ (x : Moment K V). with_effects None None effects x) midst.worked ∙ sym (effects_after None None done effects (moment log));
-  may =
-      list_all-append (may_do event (moment log)) done effects ∙ ap (λ (q : Bool). q && list_all (may_do event (moment log)) effects) midst.may ∙ may;
-  finds = each_join (Finds terms None None (gives_all event) []) None None done effects (moment log) midst.finds
-      (subst (λ (x : Moment K V). AtEachEffect (Finds terms None None (gives_all event) []) None None effects x) midst.worked finds);
   granted = grants_add_up done effects midst.granted (operations_are_single acts.Row known new.memory.changed).1;
   protects = rows_protect K V S same hash name m known s old new at whole i said leads row here event midst.of_slots done midst.protects;
   follows = λ alone.

@@ -39,11 +39,12 @@ use Rattle.papaya_histories.specs.Given.Executor.Stepping.{StepLeads, has_ended,
 use Rattle.papaya_histories.specs.Given.Executor.declared.executor.Executor.{Executor}
 use Rattle.papaya_histories.specs.InEvent.{ComesSo, InEvent, here_of}
 use Rattle.papaya_promises.specs.Protected.{InMidst}
-use Rattle.papaya_promises.specs.Reading.{ShowsReading}
+use Rattle.papaya_promises.specs.Reading.{ShowsReading, looks}
 use Rattle.papaya_promises.specs.Weights.{AreDoneBy}
-use Rattle.papaya_histories.specs.Kept.{ChangesFirst, HasJustBegun}
+use Rattle.papaya_histories.specs.Kept.{HasJustBegun}
 use Rattle.papaya_purposes.specs.Kept.{PairsChangeFirst, ShowsNone}
-use Rattle.papaya_purposes.specs.Shards.{ReadsShards}
+use Rattle.papaya_purposes.specs.Shards.{NoneCounted as NoneAdded}
+use Rattle.papaya_shards.specs.ShardSteps.{AddsUp}
 use Rattle.papaya_models.specs.CallEvents.{FollowsInEvent, IsNoted, things_then, slot_of_call}
 use Rattle.papaya_finds.specs.Doing.{takes_steps}
 use Rattle.papaya_finds.specs.Life.{StoresOne}
@@ -67,9 +68,12 @@ module _ {K V : Type 0} (same : K → K → Bool) (name : ℕ → List ℕ) (ter
     pub few : AreDoneBy steps done
     pub granted : is_granted false done ≡ true
     pub reading : ShowsReading name log (λ j. if j == i then steps else 0) m s
-    -- life: what each effect finds, of which kind it is, and that a pair is stored by who has one
+    -- where it adds shards up, none was counted on
+    pub unadded : AddsUp u → NoneAdded log m map
+    -- one that only looks has done nothing
+    pub quiet : looks c.call ≡ true → (m.maps ≡ (moment log).maps) × (m.tables ≡ (moment log).tables)
+    -- life: of which kind each effect is, and that a pair is stored by who has one
     pub kinds : list_all is_call_effect done ≡ true
-    pub finds : FindAll terms (moments_from c.begun log) (name i) map done beginning
     pub stores : AtEachEffect (StoresOne (Some (name i))) (Some (name i)) (Some map) done beginning
     -- protected
     pub protects : InMidst event done m known s.world
@@ -89,7 +93,8 @@ module _ (K V S : Type 0) (same : K → K → Bool) (hash : K → ℕ) where
   -- The promises: so it is where an event of a call that is under way has begun what it begins, in whose midst alone a row may be if the event comes alone;
   abbrev pub CallEventsBegin : Type 0
   CallEventsBegin =
-      (name : ℕ → List ℕ) (terms : Terms) (log : List (Entry K V)) (beginning : Moment K V) → HasJustBegun log beginning
+      (name : ℕ → List ℕ) (terms : Terms) (log : List (Entry K V)) (beginning : Moment K V) → HasJustBegun log beginning → beginning.maps ≡ (moment log).maps → beginning.tables ≡ (moment log).tables
+      → beginning.shards ≡ (moment log).shards
       → (known : Known) (s : Scene K V) (x : Executor K V S) → IsAt same hash x s → ShowsCalls same name log beginning known s → ShowsReading name log (λ j. 0) beginning s
       → SectionsHold beginning known s.world → ((moment log).is_alone ≡ true → FollowsOrRows terms log known s.world)
       → (event : Event K V) (map i : ℕ) → caller_of event ≡ Some (name i) → (u : UnderWay K V K) → s.calls map i ≡ Some u → (c : CallThere K V) → call_of (name i) beginning ≡ Some c
@@ -116,8 +121,8 @@ module _ (K V S : Type 0) (same : K → K → Bool) (hash : K → ℕ) where
       → (ComesAlone (Next (name i)) log → (j : ℕ) → s.world.row j ≢ Rests → j ≡ i)
       → InCallEvent same name terms log (Next (name i)) (moment log) map i c 0 [] (moment log) known (scene_with map i (leads map (OverAll o) here).0 s) (leads map (OverAll o) here).0
 
-  -- after each step of it, where it goes on: no pair comes or goes twice, what a call reads of shards it may read, no pair of a walk is shown, the effects find what they must, what a row hands
-  -- over that begins with the step is noted, and lookups have read as much as they may by one step more;
+  -- after each step of it, where it goes on: no pair comes or goes twice, no pair of a walk is shown, and what a row hands
+  -- over that begins with the step is noted;
   abbrev pub CallEventsGoOn : Type 0
   CallEventsGoOn =
       (name : ℕ → List ℕ) (terms : Terms) (log : List (Entry K V)) (event : Event K V) (beginning : Moment K V) (map i : ℕ) (c : CallThere K V) (steps : ℕ) (done : List Effect) (m : Moment K V) (known : Known)
@@ -127,13 +132,13 @@ module _ (K V S : Type 0) (same : K → K → Bool) (hash : K → ℕ) where
       let v = with_effects (Some (name i)) (Some map) effects m in
       let to = leads map u (here_of same name log beginning map i c done m known s u midst.event_so) in
       let s2 = scene_after same hash s old new map i to.0 u to.1 said to.4 in
-      PairsChangeFirst log m map v → ChangesFirst log m same map v → ReadsShards log m s map u → ShowsNone said → FindAll terms (moments_from c.begun log) (name i) map effects m
+      PairsChangeFirst log m map v → ShowsNone said
       → ((request : Request) (begun : World (Node K V)) → HandsOver to.0.setting i s.world request → Happens deferred_word old.batch_size (Begin i request) s.world begun
       → Happens deferred_word old.batch_size (Step i) begun to.4.w2 → IsNoted (things_then (things_in log) done) known (slot_of i) request)
-      → ShowsReading name log (λ j. if j == i then steps + 1 else 0) v s2 → (next : UnderWay K V K) → to.4.next ≡ Some next
+      → (next : UnderWay K V K) → to.4.next ≡ Some next
       → InCallEvent same name terms log event beginning map i c (steps + 1) (done ++ effects) v (known_after (acts.Call i map) new.memory.changed known) s2 next)
 
-  -- and the event that comes to what its last step says keeps its promises, if it reads briefly, does what it is for, is refused no growth that it made, leaves nothing behind, and is by the
+  -- and the event that comes to what its last step says keeps its promises, if its effects find what they must, if it made no more steps than these, does what it is for, is refused no growth that it made, leaves nothing behind, and is by the
   -- model; the sections of guards hold what they shelter.
   abbrev pub CallEventsAreLegal : Type 0
   CallEventsAreLegal =
@@ -142,8 +147,8 @@ module _ (K V S : Type 0) (same : K → K → Bool) (hash : K → ℕ) where
       → ShowsQuestions beginning → (old new : Executor K V S) → IsAt same hash old s → (said : Progress (Node K V)) (leads : StepLeads same hash i said s old new)
       → at_work e (moment log) ≡ beginning → acted_on e.event beginning ≡ Some map → e.effects ≡ done ++ effects_of (acts.Call i map) known new.memory.changed
       → ComesSo (known_after (acts.Call i map) new.memory.changed known) c.call c.replies said e.outcome → takes_steps e.event ≡ true → is_busy e.outcome ≡ false
-      → FindAll terms (moments_from c.begun log) (name i) map (effects_of (acts.Call i map) known new.memory.changed) m
-      → ReadsBriefly log e (worked e (moment log)) → IsSwept same terms log e → (not (refuses e.event) || not (list_any is_made e.effects)) ≡ true
+      → FindAll terms (moments_from c.begun log) (name i) map e.effects beginning
+      → e.steps ≤ steps + 1 → IsSwept same terms log e → (not (refuses e.event) || not (list_any is_made e.effects)) ≡ true
       → IfCall (LeavesOf (comes_clear e.outcome) e.outcome) (acting (caller_of e.event) (worked e (moment log))) → IsByModel terms log e
       → IsLegalBut same terms log e
       × SectionsHold (after e (moment log)) (known_after (acts.Call i map) new.memory.changed known) (leads map u (here_of same name log beginning map i c done m known s u midst.event_so)).4.w2

@@ -4,4 +4,5 @@ pub mod CallEvents
 pub mod SlotEvents
 pub mod MapEvents
 pub mod Over
+pub mod Chains
 pub mod Promises

@@ -47,8 +47,6 @@ module _ {K V : Type 0} (same : K → K → Bool) (name : ℕ → List ℕ) (ter
     pub calls : ShowsCalls same name log m known s
     pub reading : ShowsReading name log (λ j. 0) m s
     pub worked : m ≡ with_effects None None done (moment log)
-    pub may : list_all (may_do event (moment log)) done ≡ true
-    pub finds : AtEachEffect (Finds terms None None (gives_all event) []) None None done (moment log)
     pub granted : is_granted false done ≡ true
     pub protects : InMidst event done m known s.world
     pub follows : ComesAlone event log → FollowsInRow terms.batch_size terms.roots (things_in log) (sets_in terms.batch_size log) first i (request_of (slot_of i) called) done known s.world
@@ -63,23 +61,23 @@ module _ (K V S : Type 0) (same : K → K → Bool) (hash : K → ℕ) where
       → SparesGuards called (slot_of i) (there_in event (moment log).there) → (ComesAlone event log → FollowsModel terms.batch_size terms.roots log known s.world)
       → InSlotEvent same name terms log event i called known [] (moment log) known (scene_then same hash (Begin i (request_of (slot_of i) called)) s old new (leads may).3)
 
-  -- after each step of the row, if what that does it may do, and finds what it must,
+  -- after each step of the row,
   abbrev pub SlotEventsGoOn : Type 0
   SlotEventsGoOn =
       (name : ℕ → List ℕ) (terms : Terms) (log : List (Entry K V)) (event : Event K V) (i : ℕ) (called : SlotCall) (first : Known) (done : List Effect) (m : Moment K V) (known : Known) (s : Scene K V)
       → InSlotEvent same name terms log event i called first done m known s → (old new : Executor K V S) → IsAt same hash old s → old.batch_size ≡ terms.batch_size
       → (said : RowTold (Node K V)) (leads : RowLeads same hash i said s old new) (row : SlotRow) (here : work_of old i ≡ Some (OnSlot row))
       → (let effects = effects_of acts.Row known new.memory.changed in
-      list_all (may_do event (moment log)) effects ≡ true → AtEachEffect (Finds terms None None (gives_all event) []) None None effects m
-      → InSlotEvent same name terms log event i called first (done ++ effects) (with_effects None None effects m) (known_after acts.Row new.memory.changed known)
+      InSlotEvent same name terms log event i called first (done ++ effects) (with_effects None None effects m) (known_after acts.Row new.memory.changed known)
       (scene_then same hash (Step i) s old new (leads row here).4))
 
-  -- and once the row has ended the event keeps its promises, if it is that row to the waiting sets, and was not kept out; the sections of guards hold what they shelter,
-  -- and the sets are those of the model.
+  -- and once the row has ended the event keeps its promises, if what it did it may do, and finds what it must, if it is that row to the waiting sets, and was not kept out; the sections of guards hold
+  -- what they shelter, and the sets are those of the model.
   abbrev pub SlotEventsAreLegal : Type 0
   SlotEventsAreLegal =
       (name : ℕ → List ℕ) (terms : Terms) (log : List (Entry K V)) (i : ℕ) (called : SlotCall) (first : Known) (m : Moment K V) (known : Known) (s : Scene K V) (e : Entry K V)
-      → (midst : InSlotEvent same name terms log e.event i called first e.effects m known s) → terms.batch_size < 2 ^ 64 → s.world.row i ≡ Rests
+      → (midst : InSlotEvent same name terms log e.event i called first e.effects m known s) → list_all (may_do e.event (moment log)) e.effects ≡ true
+      → AtEachEffect (Finds terms None None (gives_all e.event) []) None None e.effects (moment log) → terms.batch_size < 2 ^ 64 → s.world.row i ≡ Rests
       → EndsInside s.world e.event e.outcome (moment log).there → is_busy e.outcome ≡ false
       → ((alone : ComesAlone e.event log) → IsRowFor (request_of (slot_of i) called) (midst.follows alone).began.uses s.world.uses e.event e.outcome (at_work e (moment log)))
       → IsLegalBut same terms log e × SectionsHold (after e (moment log)) known s.world

@@ -6,6 +6,7 @@ ghost use Rattle.papaya_legal.specs.CallEvents.{CallEventsAreLegal, CallEventsBe
 ghost use Rattle.papaya_legal.specs.SlotEvents.{SlotEventsBegin, SlotEventsGoOn, SlotEventsAreLegal, SlotEventsEnd};
 ghost use Rattle.papaya_legal.specs.MapEvents.{MakingEventsGoOn, EndEventsGoOn, MapEventsAreLegal, IdleEventsAreLegal};
 ghost use Rattle.papaya_legal.specs.Over.{BegunEventsEnd, EndEventsBegin, EndEventsEnd, EndEventsFollow, IdleEventsEnd, MakingEventsBegin, MakingEventsEnd, MakingEventsFollow, QuietEventsEnd, RunsByOtherNames, RunsGoOn, StoppedEventsEnd, ToldEventsEnd};
+ghost use Rattle.papaya_legal.specs.Chains.{CallsChain, EndsChain, MakingsChain, RowsChain};
 ghost use Rattle.papaya_legal.specs.Promises.{EventsAreLegal};
 
 /// Before all events a moment shows all by which the first event keeps its promises. A run goes on with an event that comes to what is right, whose life is as it must be, whose effects store
@@ -34,9 +35,8 @@ pub fn calls_stay<K, V, S>()
 {}
 
 /// Where an event has begun what it begins, and a call goes on by it, it is in the midst of it, and has done nothing yet: a call that is under way, one that the event begins, or a walk that it asks
-/// for its next pair. So it is after each step by which the call goes on: if what the step does finds what it must, no pair comes or goes twice, what the call reads of shards it may read, a row
-/// that begins hands over what is noted, and lookups have read few words.
-/// With its last step the event keeps its promises, if it reads briefly, does what it is for, is refused no growth that it made, leaves nothing behind, and is by the model; which it is if what
+/// for its next pair. So it is after each step by which the call goes on: if no pair comes or goes twice, and a row that begins hands over what is noted.
+/// With its last step the event keeps its promises, if its effects find what they must, if it made no more steps than these, does what it is for, is refused no growth that it made, leaves nothing behind, and is by the model; which it is if what
 /// a row hands over that begins with the last step is noted, and its slot is active.
 /// The moment after it shows all that the next event needs, if it shows what calls are for and have read once the call has come to its outcome, and the sets are as they must be.
 pub fn call_events<K, V, S>()
@@ -50,7 +50,7 @@ pub fn call_events<K, V, S>()
 {}
 
 /// An event whose work is a row on a slot is in its midst where the row begins, and after each step of it, by which the moment shows all that it has shown; if the slot has none
-/// of the guards whose sections the row does not end, and if what the row does it may do, and finds what it must. Once the row has ended, and is to the waiting sets what the event is,
+/// of the guards whose sections the row does not end. Once the row has ended, if what it did it may do, and finds what it must, and is to the waiting sets what the event is,
 /// the event keeps all these promises, sections and sets are as they must be, and the moment after it shows all that the next event needs.
 pub fn slot_events<K, V, S>()
     ensures begins { (same : K → K → Bool) (hash : K → ℕ) → SlotEventsBegin K V S same hash }
@@ -59,8 +59,8 @@ pub fn slot_events<K, V, S>()
     ensures ends { (same : K → K → Bool) (hash : K → ℕ) → SlotEventsEnd K V S same hash }
 {}
 
-/// An event that makes a map, or ends one, is in its midst where that begins, and still after each step, if what that does it may do, and finds what it must.
-/// Once its work is done it keeps its promises, if it is whole, and by the model; which it is if it was not kept out, and no table is left over. The moment after it shows all that the next event
+/// An event that makes a map, or ends one, is in its midst where that begins, and still after each step, an end if it takes tables of its map alone.
+/// Once its work is done it keeps its promises, if what it did it may do, and finds what it must, if it is whole, and by the model; which it is if it was not kept out, and no table is left over. The moment after it shows all that the next event
 /// needs, where no map that stands has the name of one that has ended.
 pub fn map_events<K, V, S>()
     ensures making { (same : K → K → Bool) (hash : K → ℕ) → MakingEventsBegin K V S same hash }
@@ -83,6 +83,14 @@ pub fn idle_events<K, V, S>()
     ensures begun { (same : K → K → Bool) (hash : K → ℕ) → BegunEventsEnd K V S same hash }
     ensures told { (same : K → K → Bool) (hash : K → ℕ) → ToldEventsEnd K V S same hash }
     ensures stopped { (same : K → K → Bool) (hash : K → ℕ) → StoppedEventsEnd K V S same hash }
+{}
+
+/// An event whose work is a row on a slot, the making or the end of a map, or a call that goes on, is in its midst wherever a chain of steps of that has led, from where it has begun.
+pub fn steps_chain<K, V, S>()
+    ensures rows { (same : K → K → Bool) (hash : K → ℕ) → RowsChain K V S same hash }
+    ensures makings { (same : K → K → Bool) (hash : K → ℕ) → MakingsChain K V S same hash }
+    ensures ends { (same : K → K → Bool) (hash : K → ℕ) → EndsChain K V S same hash }
+    ensures calls { (same : K → K → Bool) (hash : K → ℕ) → CallsChain K V S same hash }
 {}
 
 /// An event that comes to what is right, makes the steps that it may, and keeps the promises that need what is under way, is legal: little waits after it.

@@ -1,7 +1,7 @@
 -- What comes back while all is reclaimed is what was taken away.
 use Rattle.std.specs.Prelude.{◌≡◌, ◌⊎◌, ℕ, Bool, true, false, List, [], ◌++◌, flat_map, Some, None, if◌then◌else◌}
 use Rattle.std.proofs.Common.{refl, sym, ap, subst, ◌∙◌, inl, inr}
-use Rattle.std.proofs.lemmas.List.{append-nil, append_assoc, append_cancel_left}
+use Rattle.std.proofs.lemmas.List.{append-nil, append_assoc}
 use Rattle.papaya_histories.specs.Given.SeizeWords.declared.at.At.TheVariants.{Root, Used, Slot, Entry, Word}
 use Rattle.papaya_histories.specs.Given.SeizeWords.Mem.{value_at}
 use Rattle.seize.specs.declared.rows.reclaim_all.ReclaimAll.{ReclaimAll}
@@ -10,7 +10,7 @@ use Rattle.seize.specs.declared.rows.settle.Settled.TheVariants as settled
 use Rattle.papaya_histories.specs.Given.Tables.declared.node.Node.{Node}
 use Rattle.papaya_runs.specs.declared.record.Pair.{Pair}
 use Rattle.papaya_schedules.specs.declared.effect.Effect.{Effect}
-use Rattle.papaya_schedules.specs.Effects.{AtEachEffect, pairs_back, with_effects}
+use Rattle.papaya_schedules.specs.Effects.{pairs_back, with_effects}
 use Rattle.papaya_schedules.specs.Moment.{Moment}
 use Rattle.papaya_teller.specs.declared.changed.Changed.{Changed}
 use Rattle.papaya_teller.specs.declared.changed.Changed.TheVariants as changed
@@ -26,14 +26,11 @@ use Rattle.papaya_reclaiming.specs.Reclaiming.{MayReclaim, NobodyHas, Reclaiming
 use Rattle.papaya_histories.specs.Given.Follows.Steps.{TakesNone}
 use Rattle.papaya_histories.proofs.Given.Others.Quiet.{stored_none}
 use Rattle.papaya_histories.proofs.Given.Others.RowPlans.{TellsRow}
-use Rattle.papaya_histories.specs.Given.Moments.OnSlots.{HadRetired}
-use Rattle.papaya_histories.specs.Given.Spots.OnSlots.{WaitUnreclaimed}
-use Rattle.papaya_histories.proofs.Given.Moments.After.{each_parts}
 use Rattle.papaya_logged.specs.Back.{AllBringsBack, ComesBack, pair_back, settled_back}
 use Rattle.papaya_logged.specs.Reclaims.{ReclaimingIsShown, ReclaimingSoFar, ReclaimingSteps}
 use Rattle.papaya_logged.specs.Shown.{IsShown}
 use Rattle.papaya_logged.specs.declared.logged.Logged.{Logged}
-use Rattle.papaya_logged.proofs.Back.{IsBack, more_back, none_back, nothing_back, row_quiet, taken_back}
+use Rattle.papaya_logged.proofs.BroughtBack.{IsBack, more_back, none_back, nothing_back, row_quiet, taken_back}
 use Rattle.papaya_logged.proofs.ReclaimGives.{GivesOr, reclaiming_gives, taken_gone}
 use Rattle.papaya_logged.proofs.ReclaimRows.{EmptiesRoot, reclaiming_tells}
 use Rattle.papaya_logged.proofs.ReclaimSteps.{left}
@@ -59,10 +56,10 @@ module _ {K V S : Type 0} where
   BroughtSoFar all before after first old new =
       (did : List Effect) × (after ≡ before ++ did)
       × ((same : K → K → Bool) (hash : K → ℕ) (name : ℕ → List ℕ) (m : Moment K V) (s : Scene K V) (i : ℕ) (lists : ℕ → List ℕ) → ReclaimingIsShown same hash name m first s i lists all
-      → AtEachEffect HadRetired None None did m → AtEachEffect WaitUnreclaimed None None did m → ComesBack m.stored did old new)
+      → ComesBack m.stored did old new)
 
   pub brought_none : (all : ReclaimAll) (l : Logged K V S) (xs : List Effect) (b : List (Pair K V)) → BroughtSoFar all xs xs l b b
-  brought_none all l xs b = ([], sym (append-nil xs), λ same hash name m s i lists shown retired unreclaimed. none_back m.stored b)
+  brought_none all l xs b = ([], sym (append-nil xs), λ same hash name m s i lists shown. none_back m.stored b)
 
   module _ (same : K → K → Bool) (hash : K → ℕ) (name : ℕ → List ℕ) (m : Moment K V) (s : Scene K V) (mid : Logged K V S) (new : Executor K V S) (i : ℕ) (lists : ℕ → List ℕ) (before after : ReclaimAll)
       (told : Settled (Node K V)) (shown : ReclaimingIsShown same hash name m mid s i lists before) (leads : ReclaimingLeads same hash s i lists mid.executor new before after told) (ys : List Effect) where
@@ -99,21 +96,17 @@ module _ {K V S : Type 0} where
   pub brings_all : (first now next : ReclaimAll) (old mid new : Logged K V S) (xs ys zs : List Effect) (told : Settled (Node K V)) → ReclaimingSoFar first now xs ys old mid → ReclaimingSteps now next told ys zs mid new
       → zs ≡ ys ++ effects_of Row (known mid.notes) new.executor.memory.changed
       → (b0 b1 b2 : List (Pair K V)) → BroughtSoFar first xs ys old b0 b1 → b2 ≡ b1 ++ settled_back told zs → BroughtSoFar first xs zs old b0 b2
-  brings_all first now next old mid new xs ys zs told so step did b0 b1 b2 was then =
-      let more = effects_of Row (known mid.notes) new.executor.memory.changed in
-      let one : was.0 ≡ so.0 = append_cancel_left xs was.0 so.0 (sym was.1 ∙ so.1) in (
+  brings_all first now next old mid new xs ys zs told so step did b0 b1 b2 was follows =
+      let more = effects_of Row (known mid.notes) new.executor.memory.changed in (
         was.0 ++ more,
         did ∙ ap (λ (l : List Effect). l ++ more) was.1 ∙ append_assoc xs was.0 more,
-        λ same hash name m s i lists shown retired unreclaimed.
-            (let had = (each_parts None None HadRetired was.0 more m retired).0 in
-            let wait = (each_parts None None WaitUnreclaimed was.0 more m unreclaimed).0 in
-            let u = so.3 same hash name m s i lists shown (subst (λ (l : List Effect). AtEachEffect HadRetired None None l m) one had)
-                (subst (λ (l : List Effect). AtEachEffect WaitUnreclaimed None None l m) one wait) in
+        λ same hash name m s i lists shown.
+            (let u = so.3 same hash name m s i lists shown in
             let leads = (step.2 same hash name (with_effects None None so.0 m) u.0 i u.1 u.3).0 in
-            more_back m.stored was.0 more b0 b1 b2 (was.2 same hash name m s i lists shown had wait) (settled_back told (ys ++ more))
+            more_back m.stored was.0 more b0 b1 b2 (was.2 same hash name m s i lists shown) (settled_back told (ys ++ more))
             (subst (λ (l : List (K × V)). IsBack l more (settled_back told (ys ++ more))) (stored_none None so.0 m)
             (all_brings same hash name (with_effects None None so.0 m) u.0 mid new.executor i u.1 now next told u.3 leads ys))
-            (then ∙ ap (λ (l : List Effect). b1 ++ settled_back told l) did)),
+            (follows ∙ ap (λ (l : List Effect). b1 ++ settled_back told l) did)),
       )
 
   -- in the end
@@ -124,5 +117,5 @@ module _ {K V S : Type 0} where
   brought_all taken first xs zs old b0 b1 begins it = (
     it.0,
     it.1,
-    λ same hash name m s lists shown nobody may retired unreclaimed. it.2 same hash name m s 0 lists (begins same hash name m s 0 lists shown nobody may) retired unreclaimed,
+    λ same hash name m s lists shown nobody may. it.2 same hash name m s 0 lists (begins same hash name m s 0 lists shown nobody may),
   )

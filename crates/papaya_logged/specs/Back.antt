@@ -11,7 +11,7 @@ use Rattle.papaya_runs.specs.Runs.{IsStored}
 use Rattle.papaya_schedules.specs.declared.effect.Effect.{Effect}
 use Rattle.papaya_schedules.specs.declared.effect.Effect.TheVariants.{Ended, Reclaimed}
 use Rattle.papaya_schedules.specs.declared.effect.Thing.TheVariants.{APair}
-use Rattle.papaya_schedules.specs.Effects.{AtEachEffect, pairs_back}
+use Rattle.papaya_schedules.specs.Effects.{pairs_back}
 use Rattle.papaya_schedules.specs.Moment.{Moment}
 use Rattle.papaya_effects.specs.Known.{Known, known}
 use Rattle.papaya_executor.specs.IsAt.{Scene}
@@ -19,8 +19,6 @@ use Rattle.papaya_executor.specs.declared.row.RowTold.{RowTold}
 use Rattle.papaya_executor.specs.declared.row.RowTold.TheVariants as told
 use Rattle.papaya_reclaiming.specs.Reclaiming.{MayReclaim, NobodyHas}
 use Rattle.papaya_histories.specs.Given.Finishes.Endings.{Finishing}
-use Rattle.papaya_histories.specs.Given.Moments.OnSlots.{HadRetired}
-use Rattle.papaya_histories.specs.Given.Spots.OnSlots.{WaitUnreclaimed}
 use Rattle.papaya_logged.specs.Ends.{NotedStill, NotesMap}
 use Rattle.papaya_logged.specs.Shown.{IsShown}
 use Rattle.papaya_logged.specs.declared.logged.Logged.{Logged}
@@ -82,10 +80,9 @@ module _ {K V S : Type 0} where
       → (f : Finishing K V) → s.enders i ≡ Some f → s.maps map ≡ None
       → (number : ℕ → ℕ) (noted : Known) → NotesMap map number noted f.setting f.chart f.blocks → NotedStill noted (known first.notes) f.back → ComesBack m.stored did old new)
 
-  -- and of reclaiming all, where each table that was reclaimed was retired, and what waited behind that was not reclaimed.
+  -- and of reclaiming all, where nobody has anything under way.
   abbrev pub AllBringsBack : Bool → (before after : List Effect) → (first : Logged K V S) → (old new : List (Pair K V)) → Type 0
   AllBringsBack taken before after first old new =
       (did : List Effect) × (after ≡ before ++ did)
       × ((same : K → K → Bool) (hash : K → ℕ) (name : ℕ → List ℕ) (m : Moment K V) (s : Scene K V) (lists : ℕ → List ℕ) → IsShown same hash name m first s
-      → NobodyHas first.executor → MayReclaim first.executor s lists taken
-      → AtEachEffect HadRetired None None did m → AtEachEffect WaitUnreclaimed None None did m → ComesBack m.stored did old new)
+      → NobodyHas first.executor → MayReclaim first.executor s lists taken → ComesBack m.stored did old new)

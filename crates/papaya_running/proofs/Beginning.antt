@@ -38,7 +38,7 @@ still_begins {K} {V} {S} given p begins choice logged is =
     let b = begins.begun in
     subst (λ (l : Logged K V S). Begins given (record p { logged = l })) (sym is) (record {
       played = λ same hash. stands_chosen same hash (terms_given given) start p (begins.played same hash) choice;
-      begun = record { maps = b.maps; known_is = b.known_is; many = b.many; free = b.free; nowhere = b.nowhere; slots = b.slots; blocks = b.blocks };
+      begun = record { maps = b.maps; known_is = b.known_is; many = b.many; free = b.free; nowhere = b.nowhere; slots = b.slots };
     })
 
 module _ {K V S : Type 0} (same : K → K → Bool) (hash : K → ℕ) (given : Given) (p : Scheduler K V S) (begins : Begins given p) where

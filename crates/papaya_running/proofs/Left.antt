@@ -23,6 +23,7 @@ use Rattle.papaya_histories.specs.Given.Spots.Unreclaimed.{ShowsUnreclaimed, is_
 use Rattle.papaya_histories.specs.Given.Seize.World.{World}
 use Rattle.seize_words.specs.Mem.{value_at}
 use Rattle.papaya_tally.specs.Left.{HoldPairs, noted, noted_below}
+use Rattle.papaya_tally.proofs.Back.{joined}
 
 -- whether a block is the pair of this number
 is_pair : ℕ → Role → Bool
@@ -97,12 +98,8 @@ module _ {K V : Type 0} (roles : ℕ → Role) (value : ℕ → Option (Node K V
   each_noted : (P : Pair K V → Type 0) → ((b n : ℕ) (k : K) (v : V) → roles b ≡ role.Pair n → value b ≡ Some (node.Pair k v) → P (record { number = n; key = k; value = v }))
       → (count : ℕ) → AllByRecursion P (noted_below roles value count)
   each_noted P each zero = tt
-  each_noted P each (suc b) = joined (noted_below roles value b) (noted (roles b) (value b)) (each_noted P each b) (here (roles b) refl)
+  each_noted P each (suc b) = joined P (noted_below roles value b) (noted (roles b) (value b)) (each_noted P each b) (here (roles b) refl)
     where
-      joined : (xs ys : List (Pair K V)) → AllByRecursion P xs → AllByRecursion P ys → AllByRecursion P (xs ++ ys)
-      joined [] ys a c = c
-      joined (x ∷ xs) ys a c = (a.0, joined xs ys a.1 c)
-
       here : (r : Role) → roles b ≡ r → AllByRecursion P (noted r (value b))
       here (role.Pair n) is = let h = hold b n is in subst (λ (o : Option (Node K V)). AllByRecursion P (noted (role.Pair n) o)) (sym h.2) (each b n h.0 h.1 is h.2, tt)
       here role.Free is = tt

@@ -2,6 +2,7 @@ mod Beginning
 mod Ended
 mod Forms
 mod Happened
+mod Gives
 mod LawfulKeys
 mod Left
 mod Logs

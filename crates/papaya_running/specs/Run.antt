@@ -18,6 +18,7 @@ use Rattle.papaya_schedules.specs.Views.{is_in_a_map, is_retired, is_waiting}
 use Rattle.papaya_scheduler.specs.declared.scheduler.Given.{Given}
 use Rattle.papaya_scheduler.specs.declared.scheduler.Scheduler.{Scheduler}
 use Rattle.papaya_running.specs.Asked.{FindsRight, Holds}
+use Rattle.papaya_running.specs.Back.{ReclaimsRight, TellsBack}
 use Rattle.papaya_tally.specs.Tally.{TellsMoment}
 use Rattle.papaya_running.specs.declared.record.Record.{Record}
 use Rattle.papaya_tally.specs.declared.tally.Tally.{Tally}
@@ -55,6 +56,7 @@ module _ {K V : Type 0} where
     pub trace : run.trace.items ≡ trace_of (log_of schedule run)
     pub goes : AtEachEvent (GoesRight terms) (log_of schedule run)
     pub tells : TellsMost (moment (log_of schedule run)) run
+    pub back : AtEachEvent ReclaimsRight (log_of schedule run) → TellsBack (moment (log_of schedule run)) run
 
 module _ {K V S : Type 0} (same : K → K → Bool) (hash : K → ℕ) where
   -- These events have happened so far: the scheduler stands for the moment after them, and what events ask of it is so; and the tally tells where pairs and tables are then.

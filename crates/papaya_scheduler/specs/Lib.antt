@@ -5,7 +5,7 @@ pub mod Shapes
 pub mod Turns
 pub mod Played
 pub mod First
-pub mod Back
 pub mod KeptOut
 pub mod Mapping
 pub mod Reclaiming
+pub mod Back

@@ -26,6 +26,8 @@ use Rattle.papaya_schedules.specs.Moment.{Place, Moment}
 use Rattle.papaya_schedules.specs.Moment as at
 use Rattle.papaya_schedules.specs.Runs.{Lists, pair_of}
 use Rattle.papaya_schedules.specs.Views.{is_in_a_map, is_waiting, number_of}
+use Rattle.papaya_tally.specs.Told.{AreBack, ArePlaced}
+use Rattle.papaya_tally.proofs.Back.{joined}
 
 -- a pair that is placed as given back was given back
 abbrev pub BackIsTold : (ℕ → Place) → List ℕ → Type 0
@@ -120,22 +122,14 @@ module _ {K V : Type 0} where
       by true e f rest = inl (p, sym f, subst (λ (k : ℕ). pair_at stored k ≡ Some (p.key, p.value)) (eqb-true p.number n e) all.0)
       by false e f rest = more e (rest f)
 
-  joined : (P : Pair K V → Type 0) (xs ys : List (Pair K V)) → AllByRecursion P xs → AllByRecursion P ys → AllByRecursion P (xs ++ ys)
-  joined P [] ys a b = b
-  joined P (x ∷ xs) ys a b = (a.0, joined P xs ys a.1 b)
-
   -- there is no pair of a number that none has had
   none_past : (stored : List (K × V)) (k : ℕ) → length stored ≤ k → slice_get stored k ≡ None
   none_past [] k past = refl
   none_past (x ∷ stored) zero past = absurd (omega (arith, past))
   none_past (x ∷ stored) (suc k) past = none_past stored k (omega (arith, past))
 
-  -- each pair that was stored is somewhere
-  abbrev pub ArePlaced : Moment K V → Type 0
-  ArePlaced m = (n : ℕ) → 1 ≤ n → n ≤ length m.stored → m.place n ≡ at.Unborn → ⊥
-
-  module _ (m : Moment K V) (run : Run K V) (told : BackIsTold m.place m.given_back) (placed : ArePlaced m) (given_back : numbers run.given_back ≡ m.given_back)
-      (contents : AllByRecursion (IsStored m.stored) run.given_back) (kept : Lists (numbers run.kept) (λ place. is_in_a_map place || is_waiting place) m)
+  module _ (m : Moment K V) (run : Run K V) (told : BackIsTold m.place m.given_back) (placed : ArePlaced m) (back : AreBack m run.given_back)
+      (kept : Lists (numbers run.kept) (λ place. is_in_a_map place || is_waiting place) m)
       (as_stored : AllByRecursion (IsStored m.stored) run.kept) where
     -- one that is neither given back nor left is nowhere
     nowhere : (n : ℕ) → times n (numbers (run.given_back ++ run.kept)) ≡ 0 → (place : Place) → m.place n ≡ place → place ≡ at.Unborn
@@ -154,7 +148,7 @@ module _ {K V : Type 0} where
         by at.Handed e = absurd (one at.Handed e refl)
         by at.Behind e = absurd (one at.Behind e refl)
         by at.Left e = absurd (one at.Left e refl)
-        by at.GivenBack e = absurd (let a = told n e in let b = ap (times n) given_back in omega (arith, apart, a, b))
+        by at.GivenBack e = absurd (let a = told n e in let b = ap (times n) back.told in omega (arith, apart, a, b))
 
     unstored : (n : ℕ) → m.place n ≡ at.Unborn → pair_at m.stored n ≡ None
     unstored zero e = refl
@@ -166,7 +160,7 @@ module _ {K V : Type 0} where
 
     pub pairs_found : (n : ℕ) → option_map (λ p. (p.key, p.value)) (pair_of run n) ≡ pair_at m.stored n
     pairs_found n =
-        (elim (finds n (run.given_back ++ run.kept) m.stored (joined (IsStored m.stored) run.given_back run.kept contents as_stored) (pair_of run n) refl)
+        (elim (finds n (run.given_back ++ run.kept) m.stored (joined (IsStored m.stored) run.given_back run.kept back.contents as_stored) (pair_of run n) refl)
         as (λ _. option_map (λ p. (p.key, p.value)) (pair_of run n) ≡ pair_at m.stored n) [
           | inl there ↦ ap (option_map (λ (p : Pair K V). (p.key, p.value))) there.1 ∙ sym there.2
           | inr none ↦ ap (option_map (λ (p : Pair K V). (p.key, p.value))) none.0 ∙ sym (unstored n (nowhere n none.1 (m.place n) refl))

@@ -1,6 +1,6 @@
 -- What a machine is to be refused for, whichever it is: as it begins, by what it is told, and by a step by which no block is refused.
 use Rattle.std.specs.Prelude.{◌≡◌, ℕ, Bool, true, false}
-use Rattle.std.proofs.Common.{sym, ap, subst}
+use Rattle.std.proofs.Common.{sym, subst}
 use Rattle.papaya_moments.specs.Given.SeizeWords.Mem.{Mem}
 use Rattle.papaya_moments.specs.Given.SeizeWords.declared.fault.Fault.{Fault}
 use Rattle.papaya_moments.specs.Given.SeizeWords.declared.fault.Fault.TheVariants.{Capacity, RemoveNothing}

@@ -42,9 +42,9 @@ use Rattle.papaya_histories.specs.Given.Late.FactsReserves.{CopiesWhole, IsEndin
 use Rattle.papaya_histories.specs.Given.Late.FactsSweeps.{CopiesTable, SweepingFacts}
 use Rattle.papaya_histories.specs.Given.Late.ToldReserves.{IsRowOfReserve}
 use Rattle.papaya_histories.specs.Given.Late.ToldSweeps.{IsRowOfSweep}
-use Rattle.papaya_histories.specs.Given.Callers.OverAll.{row_of_sweep, past_sweeping}
+use Rattle.papaya_histories.specs.Given.Callers.OverAll.{row_of_sweep, past_sweeping, sweep_once_over}
 use Rattle.papaya_histories.specs.Given.Callers.Rooms.{row_of_room, past_room}
-use Rattle.papaya_histories.specs.Given.Callers.Rows.{row_of_disposal, row_of_copier, row_of, past_copying, past_row}
+use Rattle.papaya_histories.specs.Given.Callers.Rows.{row_of_disposal, row_of_copier, row_of, past_copying, past_row, once_over}
 use Rattle.papaya_histories.specs.Given.Callers.Together.{UnderWay, OnKey, ForRoom, Counting, OverAll, Stands, in_slot}
 use Rattle.papaya_histories.specs.Given.Executor.IsAt.{slot_of}
 use Rattle.papaya_histories.specs.Given.Finishes.Machines.{machine_of}
@@ -292,8 +292,8 @@ module _ {K V : Type 0} (same : K → K → Bool) (hash : K → ℕ) (setting : 
     | inr late ↦ late_key_held w i same hash its c blocks few x.keys x.began x.call x.call.stands late.1.point
   ]
   held_in_hand (OnKey x) (inr (row, is_row, knows)) = elim knows.facts as (λ _. HoldsOfCall (Held w i) (Held w i) x.call.stands) [
-    | inl facts ↦ key_row w i same hash its c blocks few (slot_of i) x.keys x.change _ x.call.stands is_row row facts.point
-    | inr late ↦ late_key_row w i same hash its c blocks few (slot_of i) x.keys x.began _ x.call.stands is_row row late.1.point
+    | inl facts ↦ key_row w i same hash its c blocks few (slot_of i) x.keys x.change (once_over x.call) x.call.stands is_row row facts.point
+    | inr late ↦ late_key_row w i same hash its c blocks few (slot_of i) x.keys x.began (once_over x.call) x.call.stands is_row row late.1.point
   ]
   held_in_hand (ForRoom r) (inl (rests, knows)) = elim knows.facts as (λ _. HoldsOfRoom (Held w i) (Held w i) r.reserve.stands) [
     | inl facts ↦ room_held w i same hash its c blocks few r.reserve.stands facts.point
@@ -305,4 +305,4 @@ module _ {K V : Type 0} (same : K → K → Bool) (hash : K → ℕ) (setting : 
   ]
   held_in_hand (Counting sum) stands = tt
   held_in_hand (OverAll o) (inl (rests, knows)) = sweep_held w i same hash its c blocks few o.began o.sweep o.sweep.stands knows.facts.point
-  held_in_hand (OverAll o) (inr (row, is_row, knows)) = sweep_row w i same hash its c blocks few (slot_of i) o.began _ o.sweep.stands is_row row knows.facts.point
+  held_in_hand (OverAll o) (inr (row, is_row, knows)) = sweep_row w i same hash its c blocks few (slot_of i) o.began (sweep_once_over o.sweep) o.sweep.stands is_row row knows.facts.point

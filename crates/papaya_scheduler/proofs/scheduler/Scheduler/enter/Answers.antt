@@ -4,6 +4,7 @@ use Rattle.std.proofs.lemmas.Bool.{lt-ltb}
 use Rattle.seize_words.specs.declared.fault.Fault.TheVariants.{Busy, GuardsFull}
 use Rattle.papaya_schedules.specs.declared.event.Event.TheVariants.{Enter}
 use Rattle.papaya_schedules.specs.declared.outcome.Outcome.TheVariants.{Refused}
+use Rattle.papaya_scheduler.proofs.Backs.{came_as, none_came, stayed_as}
 use Rattle.papaya_scheduler.proofs.Enters.{guard_there, no_registration, full, may_enter, fits, joined, joined_first}
 use Rattle.papaya_scheduler.proofs.KeptGiven.{given_as, given_still}
 use Rattle.papaya_scheduler.proofs.Rights.{so_played}
@@ -72,3 +73,23 @@ returns-clause-given g c =
       | then-guards-eq0+in_ok-do_row w ↦ given_as c.args.self.now w.do_row.new.self c.if-guards-eq0.self w.do_row.ensures.given w.self-is
       | else-guards-eq0 w ↦ given_still c.args.self.now c.if-guards-eq0.self w.self-is
     ]
+
+pub returns-then-has_guard-clause-back : goal.returns-then-has_guard-clause-back
+returns-then-has_guard-clause-back g c = λ same hash terms log due. none_came _ c.busy.result.effects.items c.args.back.now.items c.busy.ensures.effects
+
+pub returns-in_default-clause-back : goal.returns-in_default-clause-back
+returns-in_default-clause-back g c = λ same hash terms log due. none_came _ c.busy-in_default.result.effects.items c.args.back.now.items c.busy-in_default.ensures.effects
+
+pub returns-then-guards-ge-MOST_GUARDS-clause-back : goal.returns-then-guards-ge-MOST_GUARDS-clause-back
+returns-then-guards-ge-MOST_GUARDS-clause-back g c = λ same hash terms log due. none_came _ c.quietly.result.effects.items c.args.back.now.items c.quietly.ensures.effects
+
+pub returns-clause-back : goal.returns-clause-back
+returns-clause-back g c =
+    λ same hash terms log due.
+      elim c.if-guards-eq0.branch [
+        | then-guards-eq0+in_ok-do_row w ↦
+            came_as same hash terms log (Enter c.args.guard c.args.registration.now) c.args.self.now due c.args.back.now.items c.if-guards-eq0.effects.items c.no_effects-effects.result.items w.do_row.new.effects.items (ap (λ v. v.items) w.effects-is)
+            c.no_effects-effects.ensures w.do_row.new.back.items c.if-guards-eq0.back.items (ap (λ v. v.items) w.back-is) w.in_ok-do_row.ensures.back
+        | else-guards-eq0 w ↦
+            stayed_as _ c.if-guards-eq0.effects.items c.args.back.now.items c.if-guards-eq0.back.items (ap (λ v. v.items) w.effects-is ∙ c.no_effects-effects.ensures) (ap (λ v. v.items) w.back-is)
+      ]

@@ -4,6 +4,7 @@ use Rattle.std.proofs.Common.{sym, ap, ◌∙◌}
 use Rattle.seize_words.specs.declared.fault.Fault.TheVariants.{Busy}
 use Rattle.papaya_schedules.specs.declared.event.Event.TheVariants.{Register}
 use Rattle.papaya_schedules.specs.declared.outcome.Outcome.TheVariants.{Refused}
+use Rattle.papaya_scheduler.proofs.Backs.{came, none_came}
 use Rattle.papaya_scheduler.proofs.Registers.{joined_refused, joined_slot, name_taken}
 use Rattle.papaya_scheduler.proofs.Rights.{so_played}
 use Rattle.papaya_scheduler.proofs.scheduler.Scheduler.register.Goals as goal
@@ -29,3 +30,14 @@ returns-in_ok-register-in-Ok-clause-plays g c =
       joined_slot same hash terms log c.args.self.now c.args.registration due (sym (ap is_some c.slot_of_registration.ensures) ∙ sym c.if-is_some.ensures) c.take_slot.new.self c.take_slot.ensures.rest
       c.no_effects-effects.result.items c.take_slot.new.effects.items c.no_effects-effects.ensures c.in_ok-taken.taken c.in_ok-taken.ensures.taken c.in-Ok.slot c.in-Ok.is c.register.new.self
       c.in_ok-register-in-Ok.ensures
+
+pub returns-then-is_some-clause-back : goal.returns-then-is_some-clause-back
+returns-then-is_some-clause-back g c = λ same hash terms log due. none_came _ c.busy.result.effects.items c.args.back.now.items c.busy.ensures.effects
+
+pub returns-in-Err-clause-back : goal.returns-in-Err-clause-back
+returns-in-Err-clause-back g c = λ same hash terms log due.
+    came same hash terms log (Register c.args.registration) c.args.self.now due c.args.back.now.items c.no_effects-effects.result.items c.take_slot.new.effects.items c.no_effects-effects.ensures c.take_slot.new.back.items c.in_ok-taken.ensures.back
+
+pub returns-in_ok-register-in-Ok-clause-back : goal.returns-in_ok-register-in-Ok-clause-back
+returns-in_ok-register-in-Ok-clause-back g c = λ same hash terms log due.
+    came same hash terms log (Register c.args.registration) c.args.self.now due c.args.back.now.items c.no_effects-effects.result.items c.take_slot.new.effects.items c.no_effects-effects.ensures c.take_slot.new.back.items c.in_ok-taken.ensures.back

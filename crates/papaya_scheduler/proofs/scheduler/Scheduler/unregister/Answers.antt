@@ -3,6 +3,7 @@ use Rattle.std.proofs.Common.{[], sym, ap, ◌∙◌}
 use Rattle.seize_words.specs.declared.fault.Fault.TheVariants.{Busy}
 use Rattle.papaya_schedules.specs.declared.event.Event.TheVariants.{Unregister}
 use Rattle.papaya_schedules.specs.declared.outcome.Outcome.TheVariants.{Refused}
+use Rattle.papaya_scheduler.proofs.Backs.{came_as, none_came, stayed_as}
 use Rattle.papaya_scheduler.proofs.Unregisters.{not_registered, guards_live, may_free, fits, joined, joined_last}
 use Rattle.papaya_scheduler.proofs.KeptGiven.{given_as, given_still}
 use Rattle.papaya_scheduler.proofs.Rights.{so_played}
@@ -55,3 +56,17 @@ returns-clause-given g c =
       | then-guards_on-eq0+in_ok-do_row w ↦ given_as c.args.self.now w.do_row.new.self c.if-guards_on-eq0.self w.do_row.ensures.given w.self-is
       | else-guards_on-eq0 w ↦ given_still c.args.self.now c.if-guards_on-eq0.self w.self-is
     ]
+
+pub returns-in_default-clause-back : goal.returns-in_default-clause-back
+returns-in_default-clause-back g c = λ same hash terms log due. none_came _ c.busy.result.effects.items c.args.back.now.items c.busy.ensures.effects
+
+pub returns-clause-back : goal.returns-clause-back
+returns-clause-back g c =
+    λ same hash terms log due.
+      elim c.if-guards_on-eq0.branch [
+        | then-guards_on-eq0+in_ok-do_row w ↦
+            came_as same hash terms log (Unregister c.args.registration.now) c.args.self.now due c.args.back.now.items c.if-guards_on-eq0.effects.items c.no_effects-effects.result.items w.do_row.new.effects.items (ap (λ v. v.items) w.effects-is)
+            c.no_effects-effects.ensures w.do_row.new.back.items c.if-guards_on-eq0.back.items (ap (λ v. v.items) w.back-is) w.in_ok-do_row.ensures.back
+        | else-guards_on-eq0 w ↦
+            stayed_as _ c.if-guards_on-eq0.effects.items c.args.back.now.items c.if-guards_on-eq0.back.items (ap (λ v. v.items) w.effects-is ∙ c.no_effects-effects.ensures) (ap (λ v. v.items) w.back-is)
+      ]

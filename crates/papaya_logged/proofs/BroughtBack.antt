@@ -155,14 +155,37 @@ module _ {K V : Type 0} where
 
   pub more_back : (stored : List (K × V)) (first did : List Effect) (b0 b1 b2 : List (Pair K V)) → ComesBack stored first b0 b1 → (more : List (Pair K V)) → IsBack stored did more → b2 ≡ b1 ++ more
       → ComesBack stored (first ++ did) b0 b2
-  more_back stored first did b0 b1 b2 was more its then = record {
+  more_back stored first did b0 b1 b2 was more its follows = record {
     more = was.more ++ more;
-    follow = then ∙ ap (λ (l : List (Pair K V)). l ++ more) was.follow ∙ append_assoc b0 was.more more;
+    follow = follows ∙ ap (λ (l : List (Pair K V)). l ++ more) was.follow ∙ append_assoc b0 was.more more;
     reclaimed =
         numbers-append was.more more ∙ ap (λ (l : List ℕ). l ++ numbers more) was.reclaimed ∙ ap (λ (l : List ℕ). flat_map pairs_back first ++ l) its.0
         ∙ sym (flat_map-append pairs_back first did);
     contents = all_stored stored was.more more was.contents its.1;
   }
+
+module _ {K V : Type 0} where
+  come_none : (said : RowTold (Node K V)) (zs : List Effect) → has_come said ≡ true → row_back said zs ≡ []
+  come_none told.Goes zs e = refl
+  come_none told.Waits zs e = refl
+  come_none (told.Gave value) zs e = absurd (cc e)
+  come_none told.Done zs e = refl
+  come_none (told.Registered slot) zs e = refl
+  come_none (told.Refused fault) zs e = refl
+
+  -- the last step hands nothing out: of a row,
+  pub row_comes : (said : RowTold (Node K V)) (zs : List Effect) (b : List (Pair K V)) → has_come said ≡ true → b ≡ b ++ row_back said zs
+  row_comes said zs b come = sym (append-nil b) ∙ ap (λ (l : List (Pair K V)). b ++ l) (sym (come_none said zs come))
+
+  done_none : (said : Settled (Node K V)) (zs : List Effect) → is_done said ≡ true → settled_back said zs ≡ []
+  done_none settled.Goes zs e = refl
+  done_none settled.Waits zs e = refl
+  done_none (settled.Gave value) zs e = absurd (cc e)
+  done_none settled.Done zs e = refl
+
+  -- and of an end
+  pub end_comes : (said : Settled (Node K V)) (zs : List Effect) (b : List (Pair K V)) → is_done said ≡ true → b ≡ b ++ settled_back said zs
+  end_comes said zs b done = sym (append-nil b) ∙ ap (λ (l : List (Pair K V)). b ++ l) (sym (done_none said zs done))
 
 module _ {K V S : Type 0} where
   -- rows on slots
@@ -225,7 +248,7 @@ module _ {K V S : Type 0} where
       → zs ≡ ys ++ effects_of acts.Row (known mid.notes) new.executor.memory.changed
       → ((same : K → K → Bool) (hash : K → ℕ) (s : Scene K V) → IsAt same hash mid.executor s → RowLeads same hash i said s mid.executor new.executor)
       → (b0 b1 b2 : List (Pair K V)) → BringsBack xs ys old b0 b1 → b2 ≡ b1 ++ row_back said zs → BringsBack xs zs old b0 b2
-  brings_row old mid new xs ys zs i said row here ran did stepping b0 b1 b2 was then =
+  brings_row old mid new xs ys zs i said row here ran did stepping b0 b1 b2 was follows =
       let more = effects_of acts.Row (known mid.notes) new.executor.memory.changed in (
         was.0 ++ more,
         did ∙ ap (λ (l : List Effect). l ++ more) was.1 ∙ append_assoc xs was.0 more,
@@ -235,20 +258,8 @@ module _ {K V S : Type 0} where
             more_back m.stored was.0 more b0 b1 b2 (was.2 same hash name m s shown) (row_back said (ys ++ more))
             (subst (λ (l : List (K × V)). IsBack l more (row_back said (ys ++ more))) (stored_none None ran.0 m)
             (row_brings same hash name (with_effects None None ran.0 m) at mid u.2 new.executor i ys said row here (stepping same hash at u.2.is_at)))
-            (then ∙ ap (λ (l : List Effect). b1 ++ row_back said l) did)),
+            (follows ∙ ap (λ (l : List Effect). b1 ++ row_back said l) did)),
       )
-
-  come_none : (said : RowTold (Node K V)) (zs : List Effect) → has_come said ≡ true → row_back said zs ≡ []
-  come_none told.Goes zs e = refl
-  come_none told.Waits zs e = refl
-  come_none (told.Gave value) zs e = absurd (cc e)
-  come_none told.Done zs e = refl
-  come_none (told.Registered slot) zs e = refl
-  come_none (told.Refused fault) zs e = refl
-
-  -- the last one hands nothing out
-  pub row_comes : (said : RowTold (Node K V)) (zs : List Effect) (b : List (Pair K V)) → has_come said ≡ true → b ≡ b ++ row_back said zs
-  row_comes said zs b come = sym (append-nil b) ∙ ap (λ (l : List (Pair K V)). b ++ l) (sym (come_none said zs come))
 
   pub end_brings_none : (i map : ℕ) (l : Logged K V S) (xs : List Effect) (b : List (Pair K V)) → EndBringsBack i map xs xs l b b
   end_brings_none i map l xs b = ([], sym (append-nil xs), λ same hash name m s shown f here not_there number first notes still. none_back m.stored b)
@@ -257,7 +268,7 @@ module _ {K V S : Type 0} where
   pub brings_end : (i map : ℕ) (old mid new : Logged K V S) (xs ys zs : List Effect) (said : Settled (Node K V)) → EndRan i map false xs ys old mid → EndSteps i map said ys zs mid new
       → zs ≡ ys ++ effects_of (acts.Ending map) (known mid.notes) new.executor.memory.changed
       → (b0 b1 b2 : List (Pair K V)) → EndBringsBack i map xs ys old b0 b1 → b2 ≡ b1 ++ settled_back said zs → EndBringsBack i map xs zs old b0 b2
-  brings_end i map old mid new xs ys zs said ran step did b0 b1 b2 was then =
+  brings_end i map old mid new xs ys zs said ran step did b0 b1 b2 was follows =
       let more = effects_of (acts.Ending map) (known mid.notes) new.executor.memory.changed in (
         was.0 ++ more,
         did ∙ ap (λ (l : List Effect). l ++ more) was.1 ∙ append_assoc xs was.0 more,
@@ -265,19 +276,10 @@ module _ {K V S : Type 0} where
             (let u = ran.3 same hash name m s shown f here not_there number first notes still in
             let g : Finishing K V = record f { machine = u.2.ender.0; back = f.back ++ u.1; waits = u.2.ender.1 } in
             let away = ap (λ (h : ℕ → Option (Standing K)). h map) u.2.maps ∙ not_there in
-            let to = step.2 same hash name (with_effects None (Some map) ran.0 m) u.0 u.5 g u.2.ender.2 away number first u.4 in
+            let to = step.2 same hash name (with_effects None (Some map) ran.0 m) u.0 u.5 g u.2.ender.2 away number first notes u.4 in
             more_back m.stored was.0 more b0 b1 b2 (was.2 same hash name m s shown f here not_there number first notes still) (settled_back said (ys ++ more))
             (subst (λ (l : List (K × V)). IsBack l more (settled_back said (ys ++ more))) (stored_none (Some map) ran.0 m)
             (end_brings same hash name (with_effects None (Some map) ran.0 m) u.0 mid u.5 new.executor i ys map said g u.2.ender.2 away to.0 first
             (append_cancel_left ys more step.0 (sym did ∙ step.1) ∙ to.1)))
-            (then ∙ ap (λ (l : List Effect). b1 ++ settled_back said l) did)),
+            (follows ∙ ap (λ (l : List Effect). b1 ++ settled_back said l) did)),
       )
-
-  done_none : (said : Settled (Node K V)) (zs : List Effect) → is_done said ≡ true → settled_back said zs ≡ []
-  done_none settled.Goes zs e = refl
-  done_none settled.Waits zs e = refl
-  done_none (settled.Gave value) zs e = absurd (cc e)
-  done_none settled.Done zs e = refl
-
-  pub end_comes : (said : Settled (Node K V)) (zs : List Effect) (b : List (Pair K V)) → is_done said ≡ true → b ≡ b ++ settled_back said zs
-  end_comes said zs b done = sym (append-nil b) ∙ ap (λ (l : List (Pair K V)). b ++ l) (sym (done_none said zs done))
