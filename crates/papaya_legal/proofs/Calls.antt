@@ -53,7 +53,7 @@ use Rattle.papaya_legal.proofs.CallReads.{does_nothing, readings_go_on}
 use Rattle.papaya_legal.proofs.Uncounted.{calls_leave_uncounted}
 
 -- no steps, whoever's
-none_made : (q : Bool) → 0 ≡ (if q then 0 else 0)
+none_made : (q : Bool) → ◌≡◌ {A = ℕ} 0 (if q then 0 else 0)
 none_made true = refl
 none_made false = refl
 
