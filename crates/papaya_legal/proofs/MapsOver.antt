@@ -154,10 +154,10 @@ module _ (K V S : Type 0) (same : K → K → Bool) (hash : K → ℕ) where
       e = record { event = EndMap own; outcome = Done; steps = steps; effects = effects }
 
       gone : Moment K V
-      gone = without_map own (remains_on (EndMap {K = K} {V = V} own) Done effects (moment log)) m
+      gone = without_map own (remains_on e.event Done effects (moment log)) m
 
       shown : ShowsCalls same name log gone known s
-      shown = maps_gone K V S same hash name log m known s x at midst.calls own (remains_on (EndMap {K = K} {V = V} own) Done effects (moment log)) apart
+      shown = maps_gone K V S same hash name log m known s x at midst.calls own (remains_on e.event Done effects (moment log)) apart
 
       reading : ShowsReading name log (λ j. 0) gone s
       reading = record { begun = midst.reading.begun; reads = midst.reading.reads }
@@ -166,4 +166,4 @@ module _ (K V S : Type 0) (same : K → K → Bool) (hash : K → ℕ) where
       worked_is = ap (λ (o : Option ℕ). with_effects None o effects (moment log)) number ∙ sym midst.worked
 
       like : IsLike gone (moment (e ∷ log))
-      like = subst (λ (y : Moment K V). IsLike (without_map own (remains_on (EndMap {K = K} {V = V} own) Done effects (moment log)) y) (moment (e ∷ log))) worked_is refl
+      like = subst (λ (y : Moment K V). IsLike (without_map own (remains_on e.event Done effects (moment log)) y) (moment (e ∷ log))) worked_is refl
