@@ -74,7 +74,7 @@ module _ {K V : Type 0} (log : List (Entry K V)) (outcome : Outcome V) (steps : 
   like _ on = absurd (cc on)
 
 pub slot_events_end_so : (K V S : Type 0) (same : K → K → Bool) (hash : K → ℕ) → SlotEventsEnd K V S same hash
-slot_events_end_so K V S same hash name terms log i called first m known before s e midst run right but sections follows reclaims =
+slot_events_end_so K V S same hash name terms log i called first began m known before s e midst run right but sections follows reclaims =
     runs_go_on K V same name name terms log first known before s run e right but.life
         (each_stores e.event (moment log) midst.of_slots (caller_of e.event) (acted_on e.event (at_work e (moment log))) e.effects (at_work e (moment log)) but.life.may) reclaims
         (likes_show K V same name log m (moment (e ∷ log)) known s midst.calls is_like) (reading_like name log (λ j. 0) m (moment (e ∷ log)) s midst.reading is_like) sections (λ alone. inl (follows alone))
