@@ -1,7 +1,7 @@
 -- A batch that is held is in the hands of a call, which hands something over: so the moment says that it is held.
 use Rattle.std.specs.Prelude.{◌==◌, ◌&&◌, ◌||◌, cond, Option, Some, None, find, option_map, if◌then◌else◌}
 use Rattle.std.specs.List.{AllByRecursion, list_any}
-use Rattle.std.proofs.Common.{◌≡◌, ℕ, Bool, true, false, List, refl, sym, ap, ◌∙◌, eqb-true}
+use Rattle.std.proofs.Common.{◌≡◌, ℕ, Bool, true, false, List, [], ◌∷◌, refl, sym, ap, ◌∙◌, eqb-true}
 use Rattle.std.proofs.lemmas.Bool.{eq-eqb}
 use Rattle.seize.specs.declared.states.TheConstants.{BATCH, HELD}
 use Rattle.seize_words.specs.Mem.{Mem, word_at}
@@ -78,7 +78,8 @@ module _ {K V S : Type 0} (same : K → K → Bool) (hash : K → ℕ) (terms : 
       by (Some (work.Call map machine)) is =
           let h : option_map machine_of (stands.scene.calls map j) ≡ (if map == map then Some machine else None) =
                 stands.shown.is_at.calls map j ∙ ap (λ (x : Option (Work K V)). call_in x map) is in
-          (map, some_call (stands.scene.calls map j) machine (h ∙ ap (λ (b : Bool). if b then Some machine else None) (eq-eqb map map refl)))
+          let call = some_call (stands.scene.calls map j) machine (h ∙ ap (λ (b : Bool). if b then Some machine else None) (eq-eqb map map refl)) in
+          (map, call.0, call.1)
       by (Some (work.Making map opening)) is = absurd (others (Some (work.Making map opening)) is (λ n. refl))
       by (Some (work.Ending ending)) is = absurd (others (Some (work.Ending ending)) is (λ n. refl))
       by (Some (work.OnSlot row)) is = absurd (others (Some (work.OnSlot row)) is (λ n. refl))
