@@ -1,5 +1,6 @@
 -- An event as the chain of the steps that it has taken: what is so where it begins, and stays so by each step, is so where it has come.
-use Rattle.std.specs.Prelude.{◌+◌, ◌≡◌, ◌<◌, ℕ, Bool, zero, suc, List, ◌++◌, Some, None}
+use Rattle.std.specs.Prelude.{◌≡◌, ◌<◌, ◌^◌, ◌+◌, ℕ, Bool, true, false, zero, suc, List, [], ◌∷◌, ◌++◌, Some, None}
+use Rattle.std.specs.List.{list_all}
 use Rattle.papaya_histories.specs.Given.Seize.World.{World, Request, Begin, Step, Happens}
 use Rattle.papaya_histories.specs.Given.Seize.declared.progress.Progress.{Progress as Making}
 use Rattle.papaya_histories.specs.Given.Seize.declared.rows.settle.Settled.{Settled}
@@ -40,6 +41,22 @@ use Rattle.papaya_purposes.specs.Kept.{PairsChangeFirst, ShowsNone}
 use Rattle.papaya_models.specs.CallEvents.{IsNoted, things_then}
 use Rattle.papaya_legal.specs.CallEvents.{InCallEvent}
 use Rattle.papaya_legal.specs.MapEvents.{InEndEvent, InMakingEvent}
+use Rattle.papaya_histories.specs.Given.Seize.World.{Rests}
+use Rattle.papaya_histories.specs.Given.Schedules.After.{moment}
+use Rattle.papaya_histories.specs.Given.Schedules.Beginning.{at_work}
+use Rattle.papaya_histories.specs.Given.Schedules.Entry.{is_busy}
+use Rattle.papaya_histories.specs.Given.Schedules.Handing.{gives_all, may_do}
+use Rattle.papaya_histories.specs.Given.Schedules.InTurn.{ComesRight}
+use Rattle.papaya_histories.specs.Given.Schedules.Lives.{Finds}
+use Rattle.papaya_histories.specs.Given.Executor.OnSlots.{MayBegin, RowBegins}
+use Rattle.papaya_histories.specs.Given.Executor.Rows.{request_of}
+use Rattle.papaya_promises.specs.Others.{SparesGuards}
+use Rattle.papaya_promises.specs.Protected.{EndsInside, is_of_slots, there_in}
+use Rattle.papaya_models.specs.Follows.{FollowsModel}
+use Rattle.papaya_models.specs.OnSlots.{IsRowFor}
+use Rattle.papaya_finds.specs.Little.{ReclaimsAll}
+use Rattle.papaya_legal.specs.CallEvents.{IsLegalBut}
+use Rattle.papaya_legal.specs.Carried.{ComesAlone, ShowsRun}
 use Rattle.papaya_legal.specs.SlotEvents.{InSlotEvent}
 
 -- How far an event has come: with which executor, what it has done, the moment after that, what is known then, and the scene in which the executor is.
@@ -150,9 +167,9 @@ module _ (K V S : Type 0) (same : K → K → Bool) (hash : K → ℕ) where
   -- The promises: an event whose work is a row on a slot is in its midst wherever a chain of steps of the row has led,
   abbrev pub RowsChain : Type 0
   RowsChain =
-      (name : ℕ → List ℕ) (terms : Terms) (log : List (Entry K V)) (event : Event K V) (i : ℕ) (called : SlotCall) (first : Known) (n : ℕ) (from to : Come K V S)
-      → Chain (RowSteps same hash terms i) n from to → InSlotEvent same name terms log event i called first from.did from.now from.notes from.scene
-      → InSlotEvent same name terms log event i called first to.did to.now to.notes to.scene
+      (name : ℕ → List ℕ) (terms : Terms) (log : List (Entry K V)) (event : Event K V) (i : ℕ) (called : SlotCall) (first : Known) (began : World (Node K V)) (n : ℕ) (from to : Come K V S)
+      → Chain (RowSteps same hash terms i) n from to → InSlotEvent same name terms log event i called first began from.did from.now from.notes from.scene
+      → InSlotEvent same name terms log event i called first began to.did to.now to.notes to.scene
 
   -- and so is one that makes a map, or ends one.
   abbrev pub MakingsChain : Type 0
@@ -174,3 +191,24 @@ module _ (K V S : Type 0) (same : K → K → Bool) (hash : K → ℕ) where
       → Chain (CallSteps same hash name terms log map i) n from to
       → InCallEvent same name terms log event beginning map i c from.steps from.come.did from.come.now from.come.notes from.come.scene from.under
       → InCallEvent same name terms log event beginning map i c to.steps to.come.did to.come.now to.come.notes to.come.scene to.under
+
+  -- So an event whose row has begun, and has run to its end, is legal but for what it comes to, and a run goes on with it, if what it did it may do, and finds what it must, if it is that row to the
+  -- waiting sets, was not kept out, leaves its guards within their sections, and all is back if it reclaims all.
+  abbrev pub RowsRunToTheirEnds : Type 0
+  RowsRunToTheirEnds =
+      (name : ℕ → List ℕ) (terms : Terms) (log : List (Entry K V)) (known : Known) (s : Scene K V) (old new : Executor K V S) → IsAt same hash old s → old.batch_size ≡ terms.batch_size
+      → terms.batch_size < 2 ^ 64 → ShowsRun same name terms log known s
+      → (e : Entry K V) → is_of_slots e.event ≡ true → (i : ℕ) (called : SlotCall) (may : MayBegin old (slot_of i) called) (leads : RowBegins same hash called i s old new)
+      → SparesGuards called (slot_of i) (there_in e.event (moment log).there) → (ComesAlone e.event log → FollowsModel terms.batch_size terms.roots log known s.world)
+      → (n : ℕ) (to : Come K V S)
+      → Chain (RowSteps same hash terms i) n (record {
+        executor = new;
+        did = [];
+        now = moment log;
+        notes = known;
+        scene = scene_then same hash (Begin i (request_of (slot_of i) called)) s old new (leads may).3;
+      }) to
+      → to.did ≡ e.effects → to.scene.world.row i ≡ Rests → EndsInside to.scene.world e.event e.outcome (moment log).there → is_busy e.outcome ≡ false
+      → list_all (may_do e.event (moment log)) e.effects ≡ true → AtEachEffect (Finds terms None None (gives_all e.event) []) None None e.effects (moment log)
+      → (ComesAlone e.event log → IsRowFor (request_of (slot_of i) called) s.world.uses to.scene.world.uses e.event e.outcome (at_work e (moment log)))
+      → ComesRight terms log e → ReclaimsAll log e → IsLegalBut same terms log e × ShowsRun same name terms (e ∷ log) to.notes to.scene

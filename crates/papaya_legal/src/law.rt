@@ -6,7 +6,7 @@ ghost use Rattle.papaya_legal.specs.CallEvents.{CallEventsAreLegal, CallEventsBe
 ghost use Rattle.papaya_legal.specs.SlotEvents.{SlotEventsBegin, SlotEventsGoOn, SlotEventsAreLegal, SlotEventsEnd};
 ghost use Rattle.papaya_legal.specs.MapEvents.{MakingEventsGoOn, EndEventsGoOn, MapEventsAreLegal, IdleEventsAreLegal};
 ghost use Rattle.papaya_legal.specs.Over.{BegunEventsEnd, EndEventsBegin, EndEventsEnd, EndEventsFollow, IdleEventsEnd, MakingEventsBegin, MakingEventsEnd, MakingEventsFollow, QuietEventsEnd, RunsByOtherNames, RunsGoOn, StoppedEventsEnd, ToldEventsEnd};
-ghost use Rattle.papaya_legal.specs.Chains.{CallsChain, EndsChain, MakingsChain, RowsChain};
+ghost use Rattle.papaya_legal.specs.Chains.{CallsChain, EndsChain, MakingsChain, RowsChain, RowsRunToTheirEnds};
 ghost use Rattle.papaya_legal.specs.Promises.{EventsAreLegal};
 
 /// Before all events a moment shows all by which the first event keeps its promises. A run goes on with an event that comes to what is right, whose life is as it must be, whose effects store
@@ -55,8 +55,8 @@ pub fn call_events<K, V, S>()
 pub fn slot_events<K, V, S>()
     ensures begins { (same : K → K → Bool) (hash : K → ℕ) → SlotEventsBegin K V S same hash }
     ensures goes_on { (same : K → K → Bool) (hash : K → ℕ) → SlotEventsGoOn K V S same hash }
-    ensures legal { (same : K → K → Bool) (hash : K → ℕ) → SlotEventsAreLegal K V S same hash }
-    ensures ends { (same : K → K → Bool) (hash : K → ℕ) → SlotEventsEnd K V S same hash }
+    ensures legal { (same : K → K → Bool) → SlotEventsAreLegal K V same }
+    ensures ends { (same : K → K → Bool) → SlotEventsEnd K V same }
 {}
 
 /// An event that makes a map, or ends one, is in its midst where that begins, and still after each step, an end if it takes tables of its map alone.
@@ -85,12 +85,15 @@ pub fn idle_events<K, V, S>()
     ensures stopped { (same : K → K → Bool) (hash : K → ℕ) → StoppedEventsEnd K V S same hash }
 {}
 
-/// An event whose work is a row on a slot, the making or the end of a map, or a call that goes on, is in its midst wherever a chain of steps of that has led, from where it has begun.
+/// An event whose work is a row on a slot, the making or the end of a map, or a call that goes on, is in its midst wherever a chain of steps of that has led, from where it has begun. So an event whose
+/// row has begun, and has run to its end, is legal but for what it comes to, and a run goes on with it, if what it did it may do, and finds what it must, if it is that row to the waiting sets, was
+/// not kept out, leaves its guards within their sections, and all is back if it reclaims all.
 pub fn steps_chain<K, V, S>()
     ensures rows { (same : K → K → Bool) (hash : K → ℕ) → RowsChain K V S same hash }
     ensures makings { (same : K → K → Bool) (hash : K → ℕ) → MakingsChain K V S same hash }
     ensures ends { (same : K → K → Bool) (hash : K → ℕ) → EndsChain K V S same hash }
     ensures calls { (same : K → K → Bool) (hash : K → ℕ) → CallsChain K V S same hash }
+    ensures whole_rows { (same : K → K → Bool) (hash : K → ℕ) → RowsRunToTheirEnds K V S same hash }
 {}
 
 /// An event that comes to what is right, makes the steps that it may, and keeps the promises that need what is under way, is legal: little waits after it.

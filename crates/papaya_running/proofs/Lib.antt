@@ -3,6 +3,7 @@ mod Ended
 mod Forms
 mod Happened
 mod Gives
+pub mod Mays
 mod LawfulKeys
 mod Left
 mod Logs
