@@ -139,7 +139,7 @@ start_so {K} {V} same hash terms rec tally p outcomes steps effects trace pairs 
   });
 }
   where
-    none : log_so [] rec ≡ []
+    none : log_so {K = K} {V = V} [] rec ≡ []
     none = λ i. log_on [] [] (outcomes i) (steps i) (map (λ v. v.items) (effects i))
 
 pub back_first : {K V : Type 0} (rec : Record V) (b : List (Pair K V)) → rec.outcomes.items ≡ [] → rec.steps.items ≡ [] → rec.effects.items ≡ [] → b ≡ [] → BackSoFar (log_so [] rec) b
