@@ -45,9 +45,11 @@ use Rattle.papaya_legal.proofs.Over.{quiet_events_end}
 
 module _ (K V S : Type 0) (same : K → K → Bool) (hash : K → ℕ) where
   pub begun_events_end : BegunEventsEnd K V S same hash
-  begun_events_end name terms log known s old new at run map i standing there u call guard begins right none rests at2 on number steps comes =
-      (legal, quiet_events_end K V same name terms log known s (scene_with map i u s) run e comes legal.life refl refl refl tt (with_call (name i) guard call (Some map) (moment log)) shown reading
-          like refl sections)
+  begun_events_end name terms log known s old new at run map i standing there u call guard begins right none rests at2 on number steps comes = (
+    legal,
+    quiet_events_end K V same name terms log known s (scene_with map i u s) run e comes legal.life refl refl refl tt (with_call (name i) guard call (Some map) (moment log)) shown reading
+        like refl sections,
+  )
     where
       e : Entry K V
       e = record { event = event.Begin (name i) guard on call; outcome = Goes; steps = steps; effects = [] }
@@ -116,9 +118,11 @@ module _ (K V S : Type 0) (same : K → K → Bool) (hash : K → ℕ) where
       reading = calls_take_readings K V name log (λ j. 0) (moment log) s run.reading (λ n j x is. (let d = run.calls.whole.all.shown.calls n j x is in (d.0, d.1))) map i c c_is no_look is_told next
 
   pub stopped_events_end : StoppedEventsEnd K V S same hash
-  stopped_events_end name terms log known s old new at run i leads map u here steps none comes =
-      (legal, quiet_events_end K V same name terms log known s (record s { calls = with_call_of s.calls map i (unless_stopped true u) }) run e comes legal.life refl refl refl tt
-          (given_up (name i) true (moment log)) shown reading refl refl run.sections)
+  stopped_events_end name terms log known s old new at run i leads map u here steps none comes = (
+    legal,
+    quiet_events_end K V same name terms log known s (record s { calls = with_call_of s.calls map i (unless_stopped true u) }) run e comes legal.life refl refl refl tt
+        (given_up (name i) true (moment log)) shown reading refl refl run.sections,
+  )
     where
       e : Entry K V
       e = record { event = event.Stop (name i); outcome = Done; steps = steps; effects = [] }
@@ -144,7 +148,7 @@ module _ (K V S : Type 0) (same : K → K → Bool) (hash : K → ℕ) where
           let had = run.calls.whole.all.shown.calls n j x (left n j x is) in
           let named = caller_is (name j) (moment log) had.0 had.1 in
           let kept : not (is_same had.0.caller (name i)) ≡ true =
-              ap (λ (l : List ℕ). not (is_same l (name i))) named ∙ ap not (apart_back (name i) (name j) (none n j x is)) in
+          ap (λ (l : List ℕ). not (is_same l (name i))) named ∙ ap not (apart_back (name i) (name j) (none n j x is)) in
           let now = found_kept (λ (y : CallThere K V). is_same y.caller (name j)) (λ (y : CallThere K V). not (is_same y.caller (name i))) (moment log).calls had.0 had.1 kept in
           had.1 ∙ sym now ∙ d_is
 

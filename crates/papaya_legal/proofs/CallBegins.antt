@@ -57,7 +57,7 @@ over_all_looks same o _ called e = absurd (cc e)
 pub nexts_begin : (K V S : Type 0) (same : K → K → Bool) (hash : K → ℕ) → NextsBegin K V S same hash
 nexts_begin K V S same hash name terms log known s old new at run i leads map o here is c c_is only =
     call_events_begin_so K V S same hash name terms log (moment log) (refl, refl) refl refl refl known (scene_with map i next s) new (leads map (OverAll o) here).4 shown reading
-        run.sections run.follows (Next (name i)) map i refl next (now_there s map i next) c c_is only
+    run.sections run.follows (Next (name i)) map i refl next (now_there s map i next) c c_is only
   where
     next : UnderWay K V K
     next = (leads map (OverAll o) here).0
@@ -73,15 +73,15 @@ nexts_begin K V S same hash name terms log known s old new at run i leads map o 
         let same_call : there.0 ≡ d = one_of there.0 d (sym there.1 ∙ d_is) in
         let walk : x ≡ OverAll (gone_on o (after_next o.sweep)) = sym (one_of next x e) ∙ is in
         over_all_looks same (gone_on o (after_next o.sweep)) d.call
-            (subst (λ (y : UnderWay K V K). IsCalled same y d.call) walk (subst (λ (z : CallThere K V). IsCalled same x z.call) same_call there.3)) d_looks
+        (subst (λ (y : UnderWay K V K). IsCalled same y d.call) walk (subst (λ (z : CallThere K V). IsCalled same x z.call) same_call there.3)) d_looks
 
     stay : LookupsStay name (λ j. 0) (moment log) s (λ j. 0) (moment log) (scene_with map i next s)
     stay = record {
       calls = λ n j x x_is d d_is d_looks. elim (which s.calls map i (Some next) n j x x_is) as
           (λ _. (s.calls n j ≡ Some x) × (b : CallThere K V) × (call_of (name j) (moment log) ≡ Some b) × (looks b.call ≡ true) × (d.begun ≡ b.begun) × (d.steps + 0 ≡ b.steps + 0)) [
-        | inl own ↦ absurd (no_lookup n j x x_is own.2 d d_is d_looks)
-        | inr was ↦ (was.1, d, d_is, d_looks, refl, refl)
-      ];
+            | inl own ↦ absurd (no_lookup n j x x_is own.2 d d_is d_looks)
+            | inr was ↦ (was.1, d, d_is, d_looks, refl, refl)
+          ];
       maps = λ n j x x_is st there. stands_so s.maps n st there;
     }
 

@@ -95,7 +95,7 @@ module _ (K V S : Type 0) (same : K → K → Bool) (hash : K → ℕ) (name : �
       let standing = (leads map u here).0 in
       let looked = midst.reading.reads map i u here its.0 its.1 (looks_same ∙ looks_for) standing (leads map u here).2 in
       let none : effects ≡ [] = lookups_do_nothing K V S same hash known s old new i said leads map u here (is_incremental standing.setting.mode) standing.chart (moments_from its.0.begun log)
-          (its.0.steps + made i) looked in
+      (its.0.steps + made i) looked in
       ap (λ (fs : List Effect). with_effects (Some (name i)) (Some map) fs m) none
 
   -- the call of a name after the step, by what it was before it
@@ -110,12 +110,12 @@ module _ (K V S : Type 0) (same : K → K → Bool) (hash : K → ℕ) (name : �
       by : (q : Bool) → looks c.call ≡ q → ShowsReading name log (λ j. if j == i then steps + 1 else 0) v s2
       by true looks_for =
           let r = lookups_keep_readings K V S same hash name log made m known s old new at_old midst.calls.whole midst.reading (midst.quiet looks_for).0 (midst.quiet looks_for).1 map i u here said leads
-              its.0 its.1 (looks_same ∙ looks_for) in
+          its.0 its.1 (looks_same ∙ looks_for) in
           subst (λ (x : Moment K V). ShowsReading name log (λ j. if j == i then steps + 1 else 0) x s2) (sym (does_nothing looks_for)) (record {
             begun = r.begun;
             reads = λ n j x is d d_is d_looks standing there.
                 subst (λ (k : ℕ). HasLooked (is_incremental standing.setting.mode) n standing.chart (moments_from d.begun log) (d.steps + k) x) (one_more_step steps (j == i))
-                    (r.reads n j x is d d_is d_looks standing there);
+                (r.reads n j x is d d_is d_looks standing there);
           })
       by false no_look =
           let r = others_keep_readings K V S same hash name log made m known s old new at_old midst.calls.whole midst.reading map i u here said leads its.0 its.1 (looks_same ∙ no_look) in
@@ -123,10 +123,10 @@ module _ (K V S : Type 0) (same : K → K → Bool) (hash : K → ℕ) (name : �
             begun = r.begun;
             reads = λ n j x is d d_is d_looks standing there. elim (cases_eq j i) as
                 (λ _. HasLooked (is_incremental standing.setting.mode) n standing.chart (moments_from d.begun log) (d.steps + (if j == i then steps + 1 else 0)) x) [
-              | inl e ↦ absurd (let no = no_look_then no_look d (ap (λ (k : ℕ). call_of (name k) v) (sym e) ∙ d_is) in cc (no, d_looks))
-              | inr ne ↦ subst (λ (k : ℕ). HasLooked (is_incremental standing.setting.mode) n standing.chart (moments_from d.begun log) (d.steps + k) x) (no_more_step steps (j == i) (ne_eqb j i ne))
-                  (r.reads n j x is d d_is d_looks standing there)
-            ];
+                  | inl e ↦ absurd (let no = no_look_then no_look d (ap (λ (k : ℕ). call_of (name k) v) (sym e) ∙ d_is) in cc (no, d_looks))
+                  | inr ne ↦ subst (λ (k : ℕ). HasLooked (is_incremental standing.setting.mode) n standing.chart (moments_from d.begun log) (d.steps + k) x) (no_more_step steps (j == i) (ne_eqb j i ne))
+                      (r.reads n j x is d d_is d_looks standing there)
+                ];
           }
 
 module _ (K V S : Type 0) (same : K → K → Bool) (hash : K → ℕ) (name : ℕ → List ℕ) (terms : Terms) (log : List (Entry K V)) (beginning : Moment K V) (map i : ℕ) (c : CallThere K V)
@@ -169,5 +169,5 @@ module _ (K V S : Type 0) (same : K → K → Bool) (hash : K → ℕ) (name : �
       by false no_look =
           let kept = effects_steps (name i) map (name i) (effects_of (acts.Call i map) known new.memory.changed) m still.0 still.1 in
           subst (λ (o : Option (CallThere K V)). IfCall (λ (x : CallThere K V). IsBrief x.call x (moments_from x.begun log) then_moment (x.steps + e.steps)) o)
-              (sym (ap (λ (who : Option (List ℕ)). acting who then_moment) midst.of_call ∙ kept.1))
-              (brief_else kept.0.call kept.0 (moments_from kept.0.begun log) then_moment (kept.0.steps + e.steps) (ap looks kept.3 ∙ ap looks still.2.call ∙ no_look))
+          (sym (ap (λ (who : Option (List ℕ)). acting who then_moment) midst.of_call ∙ kept.1))
+          (brief_else kept.0.call kept.0 (moments_from kept.0.begun log) then_moment (kept.0.steps + e.steps) (ap looks kept.3 ∙ ap looks still.2.call ∙ no_look))

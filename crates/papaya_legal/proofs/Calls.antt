@@ -53,7 +53,7 @@ use Rattle.papaya_legal.proofs.CallReads.{does_nothing, readings_go_on}
 use Rattle.papaya_legal.proofs.Uncounted.{calls_leave_uncounted}
 
 -- no steps, whoever's
-none_made : (q : Bool) → 0 ≡ (if q then 0 else 0)
+none_made : (q : Bool) → ◌≡◌ {A = ℕ} 0 (if q then 0 else 0)
 none_made true = refl
 none_made false = refl
 
@@ -78,7 +78,7 @@ call_events_begin_so K V S same hash name terms log beginning begins maps tables
     begun = reading.begun;
     reads = λ n j v is d found looks_for standing there.
         subst (λ (steps : ℕ). HasLooked (is_incremental standing.setting.mode) n standing.chart (moments_from d.begun log) (d.steps + steps) v) (none_made (j == i))
-            (reading.reads n j v is d found looks_for standing there);
+        (reading.reads n j v is d found looks_for standing there);
   };
   unadded = λ adds. events_begin_uncounted K V log beginning map shards;
   quiet = λ looks_for. (maps, tables);
@@ -143,13 +143,13 @@ call_events_go_on_so K V S same hash name terms log event beginning map i c step
   kinds = several_do_theirs done effects midst.kinds (steps_do_theirs K V S same hash name m known s old new at whole map i u here said leads);
   stores = several_store_one K V (name i) map done effects beginning midst.stores
       (subst (λ (x : Moment K V). AtEachEffect (StoresOne (Some (name i))) (Some (name i)) (Some map) effects x) midst.worked
-          (steps_store_one K V S same hash name m known s old new at whole map i u here said leads));
+      (steps_store_one K V S same hash name m known s old new at whole map i u here said leads));
   protects = calls_protect K V S same hash name m known s old new at whole map i u here said leads event (out_of_slots (name i) event midst.of_call) done midst.protects;
   follows = λ alone.
       subst (λ (n : ℕ). FollowsInEvent n terms.roots (things_in log) (sets_in terms.batch_size log) (slot_of i) i (done ++ effects) then_known (leads map u here).4.w2) size
-          (call_events_go_on K V S same hash name m known s old new at whole map i u here said leads (moments_note_once K V same name v then_known s2 all.0) terms.roots (things_in log)
-          (sets_in terms.batch_size log) (slot_of i) done
-          (subst (λ (n : ℕ). FollowsInEvent n terms.roots (things_in log) (sets_in terms.batch_size log) (slot_of i) i done known s.world) (sym size) (midst.follows alone)) noted);
+      (call_events_go_on K V S same hash name m known s old new at whole map i u here said leads (moments_note_once K V same name v then_known s2 all.0) terms.roots (things_in log)
+      (sets_in terms.batch_size log) (slot_of i) done
+      (subst (λ (n : ℕ). FollowsInEvent n terms.roots (things_in log) (sets_in terms.batch_size log) (slot_of i) i done known s.world) (sym size) (midst.follows alone)) noted);
 }
   where
     whole : ShowsWhole same name m known s

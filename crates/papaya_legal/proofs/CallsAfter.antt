@@ -162,7 +162,7 @@ call_events_end_so K V S same hash name terms log beginning map i c first before
     stored = subst (λ (fs : List Effect). AtEachEffect (StoresOne (Some (name i))) (Some (name i)) (Some map) fs beginning) (sym effects_are)
         (several_store_one K V (name i) map done effects beginning midst.stores
         (subst (λ (x : Moment K V). AtEachEffect (StoresOne (Some (name i))) (Some (name i)) (Some map) effects x) midst.worked
-            (steps_store_one K V S same hash name m known s old new at whole map i u here said leads)))
+        (steps_store_one K V S same hash name m known s old new at whole map i u here said leads)))
 
     goes : GoesInOrder terms log e
     goes = record {

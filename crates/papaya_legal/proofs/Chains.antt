@@ -80,12 +80,12 @@ module _ (K V S : Type 0) (same : K → K → Bool) (hash : K → ℕ) where
       keeps x y step midst =
           let here = here_of same name log beginning map i c x.come.did x.come.now x.come.notes x.come.scene x.under midst.event_so in
           subst Midst (sym (step.comes here))
-              (call_events_go_on_so K V S same hash name terms log event beginning map i c x.steps x.come.did x.come.now x.come.notes x.come.scene x.under midst x.come.executor y.come.executor step.is_at
-              step.size step.said step.leads step.pairs step.none (step.noted here) y.under (step.goes_on here))
+          (call_events_go_on_so K V S same hash name terms log event beginning map i c x.steps x.come.did x.come.now x.come.notes x.come.scene x.under midst x.come.executor y.come.executor step.is_at
+          step.size step.said step.leads step.pairs step.none (step.noted here) y.under (step.goes_on here))
 
   pub rows_run_to_their_ends : RowsRunToTheirEnds K V S same hash
   rows_run_to_their_ends name terms log known s old new at size small run e on i called may leads spares before n to chain did rests ends busy allowed finds is_row right reclaims =
-      (legal.0, slot_events_end_so K V S same hash name terms log i called known s.world to.now to.notes s to.scene e midst run right legal.0 legal.1 legal.2 reclaims)
+      (legal.0, slot_events_end_so K V same name terms log i called known s.world to.now to.notes s to.scene e midst run right legal.0 legal.1 legal.2 reclaims)
     where
       midst : InSlotEvent same name terms log e.event i called known s.world e.effects to.now to.notes to.scene
       midst = subst (λ (fs : List Effect). InSlotEvent same name terms log e.event i called known s.world fs to.now to.notes to.scene) did
@@ -93,4 +93,4 @@ module _ (K V S : Type 0) (same : K → K → Bool) (hash : K → ℕ) where
 
       legal : IsLegalBut same terms log e × SectionsHold (moment (e ∷ log)) to.notes to.scene.world
           × ((moment (e ∷ log)).is_alone ≡ true → FollowsModel terms.batch_size terms.roots (e ∷ log) to.notes to.scene.world)
-      legal = slot_events_are_legal K V S same hash name terms log i called known s.world to.now to.notes to.scene e midst allowed finds small rests ends busy is_row
+      legal = slot_events_are_legal K V same name terms log i called known s.world to.now to.notes to.scene e midst allowed finds small rests ends busy is_row

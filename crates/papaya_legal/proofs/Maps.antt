@@ -132,8 +132,8 @@ making_events_go_on_so K V S same hash name terms log event beginning done m kno
   λ alone. subst (λ (w : World (Node K V)). FollowsInMaking terms.batch_size terms.roots (things_in log) (sets_in terms.batch_size log) (done ++ effects) then_known w)
       (sym (made_world same hash s old new at i b here said leads))
       (subst (λ (n : ℕ). FollowsInMaking n terms.roots (things_in log) (sets_in terms.batch_size log) (done ++ effects) then_known (leads b here).2.step.w2) size
-          (making_events_go_on K V S same hash name m known s old new at whole i said leads b here (Some b.map) was_new terms.roots (things_in log) (sets_in terms.batch_size log) done
-          (subst (λ (n : ℕ). FollowsInMaking n terms.roots (things_in log) (sets_in terms.batch_size log) done known s.world) (sym size) (midst.1 alone)))),
+      (making_events_go_on K V S same hash name m known s old new at whole i said leads b here (Some b.map) was_new terms.roots (things_in log) (sets_in terms.batch_size log) done
+      (subst (λ (n : ℕ). FollowsInMaking n terms.roots (things_in log) (sets_in terms.batch_size log) done known s.world) (sym size) (midst.1 alone)))),
 )
   where
     whole : ShowsWhole same name m known s
@@ -211,8 +211,8 @@ end_events_go_on_so K V S same hash name terms log event map beginning first don
   λ alone. subst (λ (w : World (Node K V)). FollowsInEnd terms.batch_size terms.roots (things_in log) (sets_in terms.batch_size log) first i (done ++ effects) then_known w)
       (sym (ended_world same hash s old new i f here said leads))
       (subst (λ (n : ℕ). FollowsInEnd n terms.roots (things_in log) (sets_in terms.batch_size log) first i (done ++ effects) then_known (leads f here).2.w2) size
-          (ends_go_on K V S same hash name m known s old new at whole i said leads f here map not_there terms.roots (things_in log) (sets_in terms.batch_size log) first done
-          (subst (λ (n : ℕ). FollowsInEnd n terms.roots (things_in log) (sets_in terms.batch_size log) first i done known s.world) (sym size) (midst.1 alone)))),
+      (ends_go_on K V S same hash name m known s old new at whole i said leads f here map not_there terms.roots (things_in log) (sets_in terms.batch_size log) first done
+      (subst (λ (n : ℕ). FollowsInEnd n terms.roots (things_in log) (sets_in terms.batch_size log) first i done known s.world) (sym size) (midst.1 alone)))),
 )
   where
     whole : ShowsWhole same name m known s

@@ -9,7 +9,7 @@ use Rattle.papaya_histories.specs.Given.Schedules.declared.effect.Growth.TheVari
 use Rattle.papaya_histories.specs.Given.Schedules.declared.event.Event.TheVariants.{MakeMap, EndMap}
 use Rattle.papaya_histories.specs.Given.Schedules.declared.outcome.Outcome.TheVariants.{Done}
 use Rattle.papaya_histories.specs.Given.Schedules.After.{moment, remains_on}
-use Rattle.papaya_histories.specs.Given.Schedules.Beginning.{at_work, begun, with_map}
+use Rattle.papaya_histories.specs.Given.Schedules.Beginning.{at_work, with_map}
 use Rattle.papaya_histories.specs.Given.Schedules.Effects.{with_effect, with_effects, AtEachEffect, worked}
 use Rattle.papaya_histories.specs.Given.Schedules.Entry.{Entry, acted_on}
 use Rattle.papaya_histories.specs.Given.Schedules.Handing.{is_ending, is_first_making, may_do}
@@ -131,8 +131,8 @@ module _ (K V : Type 0) (same : K → K → Bool) where
   pub making_events_end_so : MakingEventsEnd K V same
   making_events_end_so name terms log map beginning m first known before s own mode capacity outcome steps effects midst begins acted run right life sections follows =
       runs_go_on K V same name name terms log first known before s run e right life
-          (each_store None (acted_on e.event (at_work e (moment log))) (may_do e.event (moment log)) (making_stores None (acted_on e.event (at_work e (moment log)))) effects (at_work e (moment log)) life.may) tt
-          (likes_show K V same name log m (moment (e ∷ log)) known s midst.calls like) (reading_like name log (λ j. 0) m (moment (e ∷ log)) s midst.reading like) sections (λ alone. inl (follows alone))
+      (each_store None (acted_on e.event (at_work e (moment log))) (may_do e.event (moment log)) (making_stores None (acted_on e.event (at_work e (moment log)))) effects (at_work e (moment log)) life.may) tt
+      (likes_show K V same name log m (moment (e ∷ log)) known s midst.calls like) (reading_like name log (λ j. 0) m (moment (e ∷ log)) s midst.reading like) sections (λ alone. inl (follows alone))
     where
       e : Entry K V
       e = record { event = MakeMap own mode capacity; outcome = outcome; steps = steps; effects = effects }
@@ -147,17 +147,17 @@ module _ (K V S : Type 0) (same : K → K → Bool) (hash : K → ℕ) where
   pub end_events_end_so : EndEventsEnd K V S same hash
   end_events_end_so name terms log map m first known before s x at own steps effects midst number apart run right life sections follows =
       runs_go_on K V same name name terms log first known before s run e right life
-          (each_store None (acted_on e.event (moment log)) (may_do e.event (moment log)) (ending_stores None (acted_on e.event (moment log))) effects (moment log) life.may) tt
-          (likes_show K V same name log gone (moment (e ∷ log)) known s shown like) (reading_like name log (λ j. 0) gone (moment (e ∷ log)) s reading like) sections (λ alone. inl (follows alone))
+      (each_store None (acted_on e.event (moment log)) (may_do e.event (moment log)) (ending_stores None (acted_on e.event (moment log))) effects (moment log) life.may) tt
+      (likes_show K V same name log gone (moment (e ∷ log)) known s shown like) (reading_like name log (λ j. 0) gone (moment (e ∷ log)) s reading like) sections (λ alone. inl (follows alone))
     where
       e : Entry K V
       e = record { event = EndMap own; outcome = Done; steps = steps; effects = effects }
 
       gone : Moment K V
-      gone = without_map own (remains_on (EndMap {K = K} {V = V} own) Done effects (moment log)) m
+      gone = without_map own (remains_on e.event Done effects (moment log)) m
 
       shown : ShowsCalls same name log gone known s
-      shown = maps_gone K V S same hash name log m known s x at midst.calls own (remains_on (EndMap {K = K} {V = V} own) Done effects (moment log)) apart
+      shown = maps_gone K V S same hash name log m known s x at midst.calls own (remains_on e.event Done effects (moment log)) apart
 
       reading : ShowsReading name log (λ j. 0) gone s
       reading = record { begun = midst.reading.begun; reads = midst.reading.reads }
@@ -166,4 +166,4 @@ module _ (K V S : Type 0) (same : K → K → Bool) (hash : K → ℕ) where
       worked_is = ap (λ (o : Option ℕ). with_effects None o effects (moment log)) number ∙ sym midst.worked
 
       like : IsLike gone (moment (e ∷ log))
-      like = subst (λ (y : Moment K V). IsLike (without_map own (remains_on (EndMap {K = K} {V = V} own) Done effects (moment log)) y) (moment (e ∷ log))) worked_is refl
+      like = subst (λ (y : Moment K V). IsLike (without_map own (remains_on e.event Done effects (moment log)) y) (moment (e ∷ log))) worked_is refl

@@ -87,7 +87,7 @@ module _ {K V : Type 0} (terms : Terms) (known : Known) (w : World (Node K V)) w
 pub quiet_events_end : (K V : Type 0) (same : K → K → Bool) → QuietEventsEnd K V same
 quiet_events_end K V same name terms log known before s run e right life nothing unchanged none_left reclaims v all reading like world sections =
     runs_go_on K V same name name terms log known known before s run e right life stores reclaims (likes_show K V same name log v (moment (e ∷ log)) known s all like)
-        (reading_like name log (λ j. 0) v (moment (e ∷ log)) s reading like) sections follows
+    (reading_like name log (λ j. 0) v (moment (e ∷ log)) s reading like) sections follows
   where
     stores : AtEachEffect (StoresOne (caller_of e.event)) (caller_of e.event) (acted_on e.event (at_work e (moment log))) e.effects (at_work e (moment log))
     stores = subst (λ (fs : List Effect). AtEachEffect (StoresOne (caller_of e.event)) (caller_of e.event) (acted_on e.event (at_work e (moment log))) fs (at_work e (moment log))) (sym nothing) tt
@@ -155,4 +155,4 @@ module _ {K V : Type 0} (log : List (Entry K V)) where
 pub idle_events_end : (K V : Type 0) (same : K → K → Bool) → IdleEventsEnd K V same
 idle_events_end K V same name terms log known s run e right life nothing unchanged none_left reclaims leaves sections =
     quiet_events_end K V same name terms log known s s run e right life nothing unchanged none_left reclaims (moment log) run.calls run.reading
-        (like_so log e.event e.outcome e.steps e.effects nothing leaves) refl sections
+    (like_so log e.event e.outcome e.steps e.effects nothing leaves) refl sections

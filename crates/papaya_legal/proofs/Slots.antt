@@ -100,8 +100,8 @@ slot_events_begin_so K V S same hash name terms log known s old new at size run 
       protects = rows_begin_protect K V S same hash m known s old new called i may leads event spares [] (slots_protected m known s.world run.sections event on);
       follows = λ alone.
           subst (λ (n : ℕ). FollowsInRow n terms.roots (things_in log) (sets_in terms.batch_size log) known i request s.world [] known to.0) size
-              (slot_events_begin K V old.batch_size terms.roots (things_in log) (sets_in terms.batch_size log) known s.world to.0
-              (subst (λ (n : ℕ). FollowsSets n terms.roots (things_in log) (sets_in terms.batch_size log) known s.world) (sym size) (before alone)) i request (of_slots (slot_of i) called) to.1.0 to.1.1);
+          (slot_events_begin K V old.batch_size terms.roots (things_in log) (sets_in terms.batch_size log) known s.world to.0
+          (subst (λ (n : ℕ). FollowsSets n terms.roots (things_in log) (sets_in terms.batch_size log) known s.world) (sym size) (before alone)) i request (of_slots (slot_of i) called) to.1.0 to.1.1);
     }
 
 pub slot_events_go_on_so : (K V S : Type 0) (same : K → K → Bool) (hash : K → ℕ) → SlotEventsGoOn K V S same hash
@@ -125,8 +125,8 @@ slot_events_go_on_so K V S same hash name terms log event i called first began d
   protects = rows_protect K V S same hash name m known s old new at whole i said leads row here event midst.of_slots done midst.protects;
   follows = λ alone.
       subst (λ (n : ℕ). FollowsInRow n terms.roots (things_in log) (sets_in terms.batch_size log) first i request began (done ++ effects) (known_after acts.Row new.memory.changed known) (leads row here).4.0) size
-          (slot_events_go_on K V S same hash m known s old new at whole.all.shown.blocks i said leads row here terms.roots (things_in log) (sets_in terms.batch_size log) first request began done
-          (subst (λ (n : ℕ). FollowsInRow n terms.roots (things_in log) (sets_in terms.batch_size log) first i request began done known s.world) (sym size) (midst.follows alone)));
+      (slot_events_go_on K V S same hash m known s old new at whole.all.shown.blocks i said leads row here terms.roots (things_in log) (sets_in terms.batch_size log) first request began done
+      (subst (λ (n : ℕ). FollowsInRow n terms.roots (things_in log) (sets_in terms.batch_size log) first i request began done known s.world) (sym size) (midst.follows alone)));
 }
   where
     whole : ShowsWhole same name m known s

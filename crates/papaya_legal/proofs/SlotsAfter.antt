@@ -10,7 +10,7 @@ use Rattle.papaya_histories.specs.Given.Schedules.declared.event.Event.TheVarian
 use Rattle.papaya_histories.specs.Given.Schedules.declared.outcome.Outcome.{Outcome}
 use Rattle.papaya_histories.specs.Given.Schedules.After.{after, moment}
 use Rattle.papaya_histories.specs.Given.Schedules.Beginning.{at_work}
-use Rattle.papaya_histories.specs.Given.Schedules.Effects.{with_effect, with_effects, AtEachEffect, worked}
+use Rattle.papaya_histories.specs.Given.Schedules.Effects.{with_effect, with_effects, AtEachEffect}
 use Rattle.papaya_histories.specs.Given.Schedules.Entry.{Entry, acted_on, caller_of}
 use Rattle.papaya_histories.specs.Given.Schedules.Handing.{asks_for_bucket, is_only, is_reclaiming, may_do}
 use Rattle.papaya_histories.specs.Given.Schedules.Moment.{Moment}
@@ -73,11 +73,11 @@ module _ {K V : Type 0} (log : List (Entry K V)) (outcome : Outcome V) (steps : 
   like Close on = refl
   like _ on = absurd (cc on)
 
-pub slot_events_end_so : (K V S : Type 0) (same : K → K → Bool) (hash : K → ℕ) → SlotEventsEnd K V S same hash
-slot_events_end_so K V S same hash name terms log i called first began m known before s e midst run right but sections follows reclaims =
+pub slot_events_end_so : (K V : Type 0) (same : K → K → Bool) → SlotEventsEnd K V same
+slot_events_end_so K V same name terms log i called first began m known before s e midst run right but sections follows reclaims =
     runs_go_on K V same name name terms log first known before s run e right but.life
-        (each_stores e.event (moment log) midst.of_slots (caller_of e.event) (acted_on e.event (at_work e (moment log))) e.effects (at_work e (moment log)) but.life.may) reclaims
-        (likes_show K V same name log m (moment (e ∷ log)) known s midst.calls is_like) (reading_like name log (λ j. 0) m (moment (e ∷ log)) s midst.reading is_like) sections (λ alone. inl (follows alone))
+    (each_stores e.event (moment log) midst.of_slots (caller_of e.event) (acted_on e.event (at_work e (moment log))) e.effects (at_work e (moment log)) but.life.may) reclaims
+    (likes_show K V same name log m (moment (e ∷ log)) known s midst.calls is_like) (reading_like name log (λ j. 0) m (moment (e ∷ log)) s midst.reading is_like) sections (λ alone. inl (follows alone))
   where
     is_like : IsLike m (moment (e ∷ log))
     is_like = subst (λ (x : Moment K V). IsLike x (moment (e ∷ log))) (sym midst.worked) (like log e.outcome e.steps e.effects e.event midst.of_slots)

@@ -126,8 +126,8 @@ module _ {K V : Type 0} (effects : List Effect) (m w : Moment K V) where
   whole_so Close _ on busy = tt
   whole_so _ outcome on busy = absurd (cc on)
 
-pub slot_events_are_legal : (K V S : Type 0) (same : K → K → Bool) (hash : K → ℕ) → SlotEventsAreLegal K V S same hash
-slot_events_are_legal K V S same hash name terms log i called first began m known s e midst may finds small rests ends busy is_row = (
+pub slot_events_are_legal : (K V : Type 0) (same : K → K → Bool) → SlotEventsAreLegal K V same
+slot_events_are_legal K V same name terms log i called first began m known s e midst may finds small rests ends busy is_row = (
   record {
     brief = subst (λ (o : Option (List ℕ)). IfCall (λ (c : CallThere K V). IsBrief c.call c (moments_from c.begun log) (worked e (moment log)) (c.steps + e.steps)) (acting o (worked e (moment log)))) (sym none) tt;
     linearizable = no_calls_are_linearizable K V same log e none (all_shift_none e.event (moment log) e.effects midst.of_slots may);

@@ -37,6 +37,6 @@ pub calls_leave_uncounted : {K V S : Type 0} (same : K → K → Bool) (hash : K
     → NoneCounted (with_effects (Some (name i)) (Some map) (effects_of (acts.Call i map) known new.memory.changed) m)
 calls_leave_uncounted same hash name m known s old new at whole kept counters none map i u here said leads below of low shard =
     let before : m.made ≤ of =
-        (let made = made_still (Some (name i)) (Some map) (effects_of (acts.Call i map) known new.memory.changed) m in omega (arith, made, low)) in
+    (let made = made_still (Some (name i)) (Some map) (effects_of (acts.Call i map) known new.memory.changed) m in omega (arith, made, low)) in
     let other : of ≢ map = (λ e. (let past : map < of = omega (arith, below, before) in absurd (omega (arith, past, e)))) in
     ap (λ (f : ℕ → ℕ). f shard) (calls_spare_others same hash name m known s old new at whole kept.counts counters map i u here said leads of other) ∙ none of before shard

@@ -57,7 +57,7 @@ pub record IsBegunRight {K V : Type 0} (same : K → K → Bool) (u : UnderWay K
   pub given : IsBegunFor u call
   pub swept : IsBegunAs u call
   pub aim : IsFor u call
-  pub looks : BeginsToLook u call
+  pub looks : BeginsToLook K V same u call
 
 module _ (K V : Type 0) (same : K → K → Bool) where
   -- The promises: so it is at another moment that is like this one,

@@ -101,7 +101,7 @@ module _ (K V S : Type 0) (same : K → K → Bool) (hash : K → ℕ) where
       (name : ℕ → List ℕ) (terms : Terms) (log : List (Entry K V)) (known : Known) (s : Scene K V) (old new : Executor K V S) → IsAt same hash old s → ShowsRun same name terms log known s
       → (map i : ℕ) (standing : Standing K) → s.maps map ≡ Some standing → (u : UnderWay K V K) (call : Call K V) (guard : List ℕ) → Begins same standing i u → IsBegunRight same u call
       → NoneNamed name (name i) s → s.world.row i ≡ Rests → IsAt same hash new (scene_with map i u s) → (on : List ℕ) → number_of on (moment log) ≡ Some map → (steps : ℕ)
-      → (let e = record { event = Begin (name i) guard on call; outcome = Goes; steps = steps; effects = [] } in
+      → (let e : Entry K V = record { event = Begin (name i) guard on call; outcome = Goes; steps = steps; effects = [] } in
       ComesRight terms log e → IsLegalBut same terms log e × ShowsRun same name terms (e ∷ log) known (scene_with map i u s))
 
   -- that tells a reply to one that asks and takes it,
@@ -113,7 +113,7 @@ module _ (K V S : Type 0) (same : K → K → Bool) (hash : K → ℕ) where
       → machine_of next ≡ (machine_replied (machine_of u) (as_told is_told)).0 → (machine_replied (machine_of u) (as_told is_told)).1 ≡ Ok tt
       → ToldOfKind V same same old.batch_size old.roots slot_of standing i u (as_told is_told) next → ((one : OneKey K V) → c.call ≡ On one → IsTaken one is_told)
       → IsAt same hash new (scene_with map i next s) → (steps : ℕ)
-      → (let e = record { event = Replied (name i) is_told; outcome = Goes; steps = steps; effects = [] } in
+      → (let e : Entry K V = record { event = Replied (name i) is_told; outcome = Goes; steps = steps; effects = [] } in
       ComesRight terms log e → IsLegalBut same terms log e × ShowsRun same name terms (e ∷ log) known (scene_with map i next s))
 
   -- or that gives a walk up that is ready.
@@ -122,7 +122,7 @@ module _ (K V S : Type 0) (same : K → K → Bool) (hash : K → ℕ) where
       (name : ℕ → List ℕ) (terms : Terms) (log : List (Entry K V)) (known : Known) (s : Scene K V) (old new : Executor K V S) → IsAt same hash old s → ShowsRun same name terms log known s
       → (i : ℕ) → StopLeads same hash i true s old new → (map : ℕ) (u : UnderWay K V K) → s.calls map i ≡ Some u → (steps : ℕ)
       → (let after = record s { calls = with_call_of s.calls map i (unless_stopped true u) } in
-      let e = record { event = Stop (name i); outcome = Done; steps = steps; effects = [] } in
+      let e : Entry K V = record { event = Stop (name i); outcome = Done; steps = steps; effects = [] } in
       NoneNamed name (name i) after → ComesRight terms log e → IsLegalBut same terms log e × ShowsRun same name terms (e ∷ log) known after)
 
   -- An event that makes a map, or ends one, is in its midst where that begins, and no call is in the midst of a row if the event comes alone.
@@ -148,7 +148,7 @@ module _ (K V S : Type 0) (same : K → K → Bool) (hash : K → ℕ) where
       → (own : List ℕ) (steps : ℕ) (effects : List Effect) → InMapEvent same name terms log (EndMap own) map (moment log) effects m known s → number_of own (moment log) ≡ Some map
       → ((n : ℕ) (standing : Standing K) (there : MapThere) → s.maps n ≡ Some standing → map_at n m ≡ Some there → is_same there.name own ≡ false)
       → ShowsRun same name terms log first before
-      → (let e = record { event = EndMap own; outcome = Done; steps = steps; effects = effects } in
+      → (let e : Entry K V = record { event = EndMap own; outcome = Done; steps = steps; effects = effects } in
       ComesRight terms log e → MovesOn terms log e → SectionsHold (moment (e ∷ log)) known s.world
       → ((moment (e ∷ log)).is_alone ≡ true → FollowsModel terms.batch_size terms.roots (e ∷ log) known s.world) → ShowsRun same name terms (e ∷ log) known s)
 
@@ -173,6 +173,6 @@ module _ (K V : Type 0) (same : K → K → Bool) where
       (own : List ℕ) (mode : ResizeMode) (capacity : ℕ) (outcome : Outcome V) (steps : ℕ) (effects : List Effect)
       → InMapEvent same name terms log (MakeMap own mode capacity) map beginning effects m known s → begun (MakeMap own mode capacity) outcome (moment log) ≡ beginning
       → number_of own beginning ≡ Some map → ShowsRun same name terms log first before
-      → (let e = record { event = MakeMap own mode capacity; outcome = outcome; steps = steps; effects = effects } in
+      → (let e : Entry K V = record { event = MakeMap own mode capacity; outcome = outcome; steps = steps; effects = effects } in
       ComesRight terms log e → MovesOn terms log e → SectionsHold (moment (e ∷ log)) known s.world
       → ((moment (e ∷ log)).is_alone ≡ true → FollowsModel terms.batch_size terms.roots (e ∷ log) known s.world) → ShowsRun same name terms (e ∷ log) known s)

@@ -71,6 +71,7 @@ module _ (K V S : Type 0) (same : K → K → Bool) (hash : K → ℕ) where
       InSlotEvent same name terms log event i called first began (done ++ effects) (with_effects None None effects m) (known_after acts.Row new.memory.changed known)
       (scene_then same hash (Step i) s old new (leads row here).4))
 
+module _ (K V : Type 0) (same : K → K → Bool) where
   -- and once the row has ended the event keeps its promises, if what it did it may do, and finds what it must, if it is that row to the waiting sets, and was not kept out; the sections of guards hold
   -- what they shelter, and the sets are those of the model.
   abbrev pub SlotEventsAreLegal : Type 0

@@ -55,8 +55,8 @@ pub fn call_events<K, V, S>()
 pub fn slot_events<K, V, S>()
     ensures begins { (same : K → K → Bool) (hash : K → ℕ) → SlotEventsBegin K V S same hash }
     ensures goes_on { (same : K → K → Bool) (hash : K → ℕ) → SlotEventsGoOn K V S same hash }
-    ensures legal { (same : K → K → Bool) (hash : K → ℕ) → SlotEventsAreLegal K V S same hash }
-    ensures ends { (same : K → K → Bool) (hash : K → ℕ) → SlotEventsEnd K V S same hash }
+    ensures legal { (same : K → K → Bool) → SlotEventsAreLegal K V same }
+    ensures ends { (same : K → K → Bool) → SlotEventsEnd K V same }
 {}
 
 /// An event that makes a map, or ends one, is in its midst where that begins, and still after each step, an end if it takes tables of its map alone.

@@ -78,7 +78,7 @@ module _ {K V : Type 0} (size : ℕ) where
       let first = begun_kept size j request w v its.1 happens.1 in
       ap (λ (h : ℕ → Hand). h x) (sym first.1)
       ∙ rows_handed i events its.2 v w2 (happens_reached deferred_word size (Begin j request) w v r happens) runs x
-        (subst (λ (z : Mem (Node K V)). IsSome (value_at z x)) (sym first.0) some) none
+      (subst (λ (z : Mem (Node K V)). IsSome (value_at z x)) (sym first.0) some) none
   rows_handed i (Step j ∷ events) its w w2 r (v, happens, runs) x some none =
       by (value_at v.memory x) refl (λ there. rows_handed i events its.1 v w2 (happens_reached deferred_word size (Step j) w v r happens) runs x there none)
     where
