@@ -285,12 +285,16 @@ module _ {K V S : Type 0} (same : K → K → Bool) (hash : K → ℕ) (terms : 
           ap (λ (l : List Effect). with_effects (Some own) (Some midst.call.map) l m) (sym (follows_all same hash terms own place m n [] mid effects p walked midst said step))
           ∙ ap (λ (o : Option (CallThere K V)). with_effects (Some own) (option_map (λ x. x.map) o) effects m) (sym midst.call_is)
 
+      -- after what its last step did
+      abbrev last_w : Moment K V
+      last_w = w2 same hash terms own n (midst_w same hash terms own place m n [] mid effects p walked midst) p midst.stands place midst.ready walked.logged mid effects callers steps
+
       stands_told : StandsFor same hash terms (come_to own outcome steps w) then_new
       stands_told =
           subst (λ (x : Scheduler K V S). StandsFor same hash terms (come_to own outcome steps w) (record x { calls = callers })) (sym step.rest)
           (subst (λ (x : Moment K V). StandsFor same hash terms (come_to own outcome steps x) (record p { logged = walked.logged; calls = callers }))
           (all_did same hash terms own place m n [] mid effects p walked midst said step ∙ worked_is)
-          (subst (λ (o : Outcome V). StandsFor same hash terms (come_to own o steps _) (record p { logged = walked.logged; calls = callers })) outcome_is ends.stands_told))
+          (subst (λ (o : Outcome V). StandsFor same hash terms (come_to own o steps last_w) (record p { logged = walked.logged; calls = callers })) outcome_is ends.stands_told))
 
       is_next : IsNext outcome
       is_next = subst (λ (o : Outcome V). IsNext o) outcome_is ends.is_next
