@@ -1,7 +1,7 @@
 -- An event of a call keeps its promises once its last step is made.
-use Rattle.std.specs.Prelude.{◌≡◌, ℕ, Bool, true, false, List, Some}
+use Rattle.std.specs.Prelude.{◌≡◌, ◌⊎◌, [], ℕ, Bool, true, false, List, Some}
 use Rattle.std.specs.List.{list_all}
-use Rattle.std.proofs.Common.{ap, sym, subst, ◌∙◌}
+use Rattle.std.proofs.Common.{refl, ap, sym, subst, ◌∙◌, inl, inr}
 use Rattle.papaya_histories.specs.Given.SeizeWords.declared.fault.Fault.TheVariants.{Busy}
 use Rattle.papaya_histories.specs.Given.Schedules.declared.effect.Effect.{Effect}
 use Rattle.papaya_histories.specs.Given.Schedules.declared.event.Event.{Event}
@@ -12,7 +12,7 @@ use Rattle.papaya_histories.specs.Given.Schedules.After.{after, moment, moments_
 use Rattle.papaya_histories.specs.Given.Schedules.Beginning.{at_work}
 use Rattle.papaya_histories.specs.Given.Schedules.Effects.{with_effects, worked}
 use Rattle.papaya_histories.specs.Given.Schedules.Entry.{caller_of, is_busy}
-use Rattle.papaya_histories.specs.Given.Schedules.Handing.{AllFind, IsWhole, is_call_effect, is_granted}
+use Rattle.papaya_histories.specs.Given.Schedules.Handing.{AllFind, IsWhole, is_call_effect, is_granted, may_do}
 use Rattle.papaya_histories.specs.Given.Schedules.Linearizable.{IsLinearizable}
 use Rattle.papaya_histories.specs.Given.Schedules.Moment.{Moment}
 use Rattle.papaya_histories.specs.Given.Schedules.Reclaims.{IsProtected}
@@ -28,6 +28,7 @@ use Rattle.papaya_promises.specs.Protected.{InMidst}
 use Rattle.papaya_promises.specs.Sheltered.{SectionsHold}
 use Rattle.papaya_promises.proofs.Protected.{calls_protect, other_events_end_protected}
 use Rattle.papaya_promises.proofs.Weights.{grants_add_up, operations_are_single}
+use Rattle.papaya_finds.specs.Doing.{takes_steps}
 use Rattle.papaya_finds.specs.Parts.{FindAll}
 use Rattle.papaya_finds.proofs.Doing.{events_may_do, several_do_theirs}
 use Rattle.papaya_finds.proofs.Joined.{events_find_all}
@@ -58,9 +59,7 @@ call_events_are_legal K V S same hash name terms log beginning map i c c_is step
     swept = swept;
     life = record {
       finds = all_find;
-      may = events_may_do K V e.event (moment log) e.effects steps_taken
-          (subst (λ (fs : List Effect). list_all is_call_effect fs ≡ true) (sym effects_are)
-          (several_do_theirs done effects midst.kinds (steps_do_theirs K V S same hash name m known s old new at whole map i u here said leads)));
+      may = allowed steps_taken;
       granted = subst (λ (fs : List Effect). is_granted false fs ≡ true) (sym effects_are)
           (grants_add_up done effects midst.granted (operations_are_single (acts.Call i map) known new.memory.changed).1);
       refuses = refuses;
@@ -107,3 +106,10 @@ call_events_are_legal K V S same hash name terms log beginning map i c c_is step
     safe = other_events_end_protected K V log e beginning v (Some (name i)) (Some map) then_known (leads map u here).4.w2 (out_of_slots (name i) e.event midst.of_call) begins midst.of_call acted worked_so
         (subst (λ (fs : List Effect). InMidst e.event fs v then_known (leads map u here).4.w2) (sym effects_are)
         (calls_protect K V S same hash name m known s old new at whole map i u here said leads e.event (out_of_slots (name i) e.event midst.of_call) done midst.protects))
+
+    -- it may do all that, if it takes steps at all
+    allowed : (takes_steps e.event ≡ true) ⊎ (e.effects ≡ []) → list_all (may_do e.event (moment log)) e.effects ≡ true
+    allowed (inl takes) = events_may_do K V e.event (moment log) e.effects takes
+        (subst (λ (fs : List Effect). list_all is_call_effect fs ≡ true) (sym effects_are)
+        (several_do_theirs done effects midst.kinds (steps_do_theirs K V S same hash name m known s old new at whole map i u here said leads)))
+    allowed (inr none) = subst (λ (fs : List Effect). list_all (may_do e.event (moment log)) fs ≡ true) (sym none) refl

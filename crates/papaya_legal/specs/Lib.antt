@@ -1,6 +1,7 @@
 pub mod Carried
 pub mod Between
 pub mod CallEvents
+pub mod CallRuns
 pub mod SlotEvents
 pub mod MapEvents
 pub mod Over

@@ -3,6 +3,7 @@ ghost use Rattle.std.specs.Prelude.{ℕ, Bool};
 ghost use Rattle.papaya_legal.specs.Between.{CallsBegin, CallsTake, EndsBegin, LikesShow, LogsGrow, MakingsBegin, MapsCome, MapsGo, NamesChange, WalksGoOn, WalksStop};
 ghost use Rattle.papaya_legal.specs.Carried.{RunsBegin};
 ghost use Rattle.papaya_legal.specs.CallEvents.{CallEventsAreLegal, CallEventsBegin, CallEventsEnd, CallEventsFollow, CallEventsGoOn, NextsBegin, WholeCallsBegin};
+ghost use Rattle.papaya_legal.specs.CallRuns.{CallEventsRun};
 ghost use Rattle.papaya_legal.specs.SlotEvents.{SlotEventsBegin, SlotEventsGoOn, SlotEventsAreLegal, SlotEventsEnd};
 ghost use Rattle.papaya_legal.specs.MapEvents.{MakingEventsGoOn, EndEventsGoOn, MapEventsAreLegal, IdleEventsAreLegal};
 ghost use Rattle.papaya_legal.specs.Over.{BegunEventsEnd, EndEventsBegin, EndEventsEnd, EndEventsFollow, IdleEventsEnd, MakingEventsBegin, MakingEventsEnd, MakingEventsFollow, QuietEventsEnd, RunsByOtherNames, RunsGoOn, StoppedEventsEnd, ToldEventsEnd};
@@ -39,6 +40,7 @@ pub fn calls_stay<K, V, S>()
 /// With its last step the event keeps its promises, if its effects find what they must, if it made no more steps than these, does what it is for, is refused no growth that it made, leaves nothing behind, and is by the model; which it is if what
 /// a row hands over that begins with the last step is noted, and its slot is active.
 /// The moment after it shows all that the next event needs, if it shows what calls are for and have read once the call has come to its outcome, and the sets are as they must be.
+/// So an event that comes to what is right is legal but for that, and a run goes on with it: clause `runs` has what is left of all this to be asked.
 pub fn call_events<K, V, S>()
     ensures begins { (same : K → K → Bool) (hash : K → ℕ) → CallEventsBegin K V S same hash }
     ensures whole { (same : K → K → Bool) (hash : K → ℕ) → WholeCallsBegin K V S same hash }
@@ -47,6 +49,7 @@ pub fn call_events<K, V, S>()
     ensures legal { (same : K → K → Bool) (hash : K → ℕ) → CallEventsAreLegal K V S same hash }
     ensures follows { (same : K → K → Bool) (hash : K → ℕ) → CallEventsFollow K V S same hash }
     ensures ends { (same : K → K → Bool) (hash : K → ℕ) → CallEventsEnd K V S same hash }
+    ensures runs { (same : K → K → Bool) (hash : K → ℕ) → CallEventsRun K V S same hash }
 {}
 
 /// An event whose work is a row on a slot is in its midst where the row begins, and after each step of it, by which the moment shows all that it has shown; if the slot has none
@@ -60,7 +63,7 @@ pub fn slot_events<K, V, S>()
 {}
 
 /// An event that makes a map, or ends one, is in its midst where that begins, and still after each step, an end if it takes tables of its map alone.
-/// Once its work is done it keeps its promises, if what it did it may do, and finds what it must, if it is whole, and by the model; which it is if it was not kept out, and no table is left over. The moment after it shows all that the next event
+/// Once its work is done it keeps its promises, if what it did it may do, and finds what it must, if it is whole, and by the model; which it is if it was not kept out, and its end is over. The moment after it shows all that the next event
 /// needs, where no map that stands has the name of one that has ended.
 pub fn map_events<K, V, S>()
     ensures making { (same : K → K → Bool) (hash : K → ℕ) → MakingEventsBegin K V S same hash }

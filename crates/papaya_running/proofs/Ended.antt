@@ -77,7 +77,7 @@ module _ {K V S : Type 0} (same : K → K → Bool) (hash : K → ℕ) (terms : 
           ascending = subst (IsSorted nat_cmp) (sym waits) (ascending (passes None) refl tally.pairs.items);
           tables = tables ∙ tables_told m tally so.told;
           kept = lists_kept;
-          contents = as_stored;
+          as_stored = as_stored;
         }
 
     -- and what was reclaimed came back, as it was stored

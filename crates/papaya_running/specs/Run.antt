@@ -38,7 +38,7 @@ module _ {K V : Type 0} where
     pub makes : MakesSteps e.event (stands_or (acting (caller_of e.event) (at_work e (moment log)))) e.steps e.outcome
     pub does : DoesFew (caller_of e.event) e.steps e.effects
 
-  -- What a run tells at its end of maps, and of what is not reclaimed, is what its events say, also while calls are under way.
+  -- What a run tells at its end of maps, and of what is not reclaimed, is what its events say, also while calls are under way; pairs that are left are as they were stored.
   pub record TellsMost (m : Moment K V) (run : Run K V) : Type 0 where
     pub stored : run.stored ≡ length m.stored
     pub maps : ShowsMaps run.maps.items m.maps m
@@ -46,7 +46,7 @@ module _ {K V : Type 0} where
     pub ascending : IsSorted nat_cmp run.waiting.items
     pub tables : run.tables ≡ length (filter (λ u. is_retired u.stage) m.tables)
     pub kept : Lists (numbers run.kept) (λ place. is_in_a_map place || is_waiting place) m
-    pub contents : AllByRecursion (IsStored m.stored) run.kept
+    pub as_stored : AllByRecursion (IsStored m.stored) run.kept
 
   -- The run is one of this schedule, as far as that.
   pub record IsRightRun (terms : Terms) (schedule : List (Event K V)) (run : Run K V) : Type 0 where
