@@ -3,8 +3,8 @@ use Rattle.std.proofs.Common.{sym, subst, ◌∙◌}
 use Rattle.papaya_running.proofs.Ended.{kept_so, tells_back, tells_most}
 use Rattle.papaya_running.proofs.running.end.Goals as goal
 
-pub pairs_left-kept-requires : goal.pairs_left-kept-requires
-pairs_left-kept-requires g c = let r = c.requires in kept_so r.0 r.1 r.2 r.3 c.args.written c.args.tally c.args.scheduler r.4
+pub pairs_left-requires : goal.pairs_left-requires
+pairs_left-requires g c = let r = c.requires in kept_so r.0 r.1 r.2 r.3 c.args.written c.args.tally c.args.scheduler r.4
 
 pub returns-clause-tells : goal.returns-clause-tells
 returns-clause-tells g c = λ same hash terms events so.
