@@ -11,13 +11,13 @@ use Rattle.papaya_schedules.specs.declared.event.Event.{Event}
 use Rattle.papaya_schedules.specs.declared.event.Event.TheVariants.{Collector, Hash, Choose, Register, Unregister, Enter, Own, Refresh, Flush, DropGuard, Forget, ReclaimAll, Close, MakeMap, EndMap, ShowShape, Begin, Step, Go, Replied, OneCall, Next, Stop}
 use Rattle.papaya_schedules.specs.declared.outcome.Outcome.{Outcome}
 use Rattle.papaya_schedules.specs.declared.outcome.Outcome.TheVariants.{Done, Slot, Goes, Asks, Waits, Ready, Shows, Answered, Shape, Refused}
-use Rattle.papaya_schedules.specs.After.{after, moment}
+use Rattle.papaya_schedules.specs.After.{moment}
 use Rattle.papaya_schedules.specs.Beginning.{at_work, begun, fresh_call, with_call}
 use Rattle.papaya_schedules.specs.Entry.{Entry, acted_on, is_busy, nameless}
 use Rattle.papaya_schedules.specs.Moment.{MapThere, UnderWay, Moment}
-use Rattle.papaya_schedules.specs.Runs.{log_on, singles, singles_of, trace_of}
+use Rattle.papaya_schedules.specs.Runs.{log_on, singles, singles_of}
 use Rattle.papaya_schedules.specs.Terms.{Terms}
-use Rattle.papaya_schedules.specs.Views.{call_of, map_of, number_of}
+use Rattle.papaya_schedules.specs.Views.{call_of, number_of}
 use Rattle.papaya_rows.proofs.Lists.{found_alike}
 use Rattle.papaya_scheduler.specs.Played.{StandsFor}
 use Rattle.papaya_scheduler.specs.Seen.{Seen, is_named, number_named, seen, seen_of}

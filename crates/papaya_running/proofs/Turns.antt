@@ -7,8 +7,6 @@ use Rattle.papaya_runs.specs.declared.outcome.Single.{Single}
 use Rattle.papaya_runs.specs.declared.outcome.Single.TheVariants as single
 use Rattle.papaya_runs.specs.declared.record.Living.{Living}
 use Rattle.papaya_runs.specs.declared.record.Pair.{Pair}
-use Rattle.papaya_runs.specs.Pairs.{numbers}
-use Rattle.papaya_runs.specs.Runs.{IsStored}
 use Rattle.papaya_schedules.specs.declared.effect.Effect.{Effect}
 use Rattle.papaya_schedules.specs.declared.event.Event.{Event}
 use Rattle.papaya_schedules.specs.declared.outcome.Outcome.{Outcome}
@@ -16,11 +14,10 @@ use Rattle.papaya_schedules.specs.declared.record.Run.{Run}
 use Rattle.papaya_schedules.specs.After.{AtEachEvent, moment}
 use Rattle.papaya_schedules.specs.Beginning.{at_work}
 use Rattle.papaya_schedules.specs.Entry.{Entry, acted_on, caller_of, is_busy}
-use Rattle.papaya_schedules.specs.InTurn.{ComesRight}
 use Rattle.papaya_schedules.specs.Moment.{Place, Deferral, MapThere, TableThere, Moment, start}
-use Rattle.papaya_schedules.specs.Runs.{Lists, ShowsMaps, log_of, log_on, singles_of, trace_of}
+use Rattle.papaya_schedules.specs.Runs.{Lists, ShowsMaps, log_of, log_on, trace_of}
 use Rattle.papaya_schedules.specs.Terms.{Terms}
-use Rattle.papaya_schedules.specs.Views.{is_in_a_map, is_in_map, is_retired, is_waiting}
+use Rattle.papaya_schedules.specs.Views.{is_in_map, is_retired}
 use Rattle.papaya_scheduler.specs.Played.{entry_of}
 use Rattle.papaya_scheduler.specs.Seen.{named, named_of}
 use Rattle.papaya_scheduler.specs.declared.played.Played.{Played}

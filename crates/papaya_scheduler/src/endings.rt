@@ -54,8 +54,7 @@ impl<K: Drop, V: Drop, S> Scheduler<K, V, S> {
         }
         let mut effects = self.no_effects();
         let caller = self.logged.begin_end(0, number)?;
-        self.logged
-            .run_end(caller, number, &mut effects, back)?;
+        self.logged.run_end(caller, number, &mut effects, back)?;
         without(&mut self.maps, map);
         Ok(Played {
             outcome: Outcome::Done,

@@ -48,10 +48,7 @@ impl<K: Drop, V: Drop, S> Scheduler<K, V, S> {
 
     /// Everything that waits is reclaimed, and each slot is given up, where nobody is there but guards that were forgotten, and no call is under way. On an error nothing is said of
     /// the state after it.
-    pub fn reclaim_all(
-        &mut self,
-        back: &mut Vec<Pair<K, V>>,
-    ) -> Result<Played<V>, AllocError>
+    pub fn reclaim_all(&mut self, back: &mut Vec<Pair<K, V>>) -> Result<Played<V>, AllocError>
         requires { (same : K → K → Bool) × (hash : K → ℕ) × MayReclaimAll same hash event.ReclaimAll self.old }
         ensures steps { IfOk result (λ played. played.steps ≡ 0) }
         ensures plays { IfOk result (λ played. (same : K → K → Bool) (hash : K → ℕ) → PlaysGiving same hash event.ReclaimAll played self.old self.new) }
@@ -71,10 +68,7 @@ impl<K: Drop, V: Drop, S> Scheduler<K, V, S> {
     }
 
     /// The collector ends, where no map is there, either: all that waits is reclaimed. On an error nothing is said of the state after it.
-    pub fn close(
-        &mut self,
-        back: &mut Vec<Pair<K, V>>,
-    ) -> Result<Played<V>, AllocError>
+    pub fn close(&mut self, back: &mut Vec<Pair<K, V>>) -> Result<Played<V>, AllocError>
         requires { (same : K → K → Bool) × (hash : K → ℕ) × MayReclaimAll same hash event.Close self.old }
         ensures steps { IfOk result (λ played. played.steps ≡ 0) }
         ensures plays { IfOk result (λ played. (same : K → K → Bool) (hash : K → ℕ) → PlaysGiving same hash event.Close played self.old self.new) }

@@ -76,11 +76,7 @@ impl<K: Drop, V: Drop, S> Scheduler<K, V, S> {
     }
 
     /// A new guard with a slot of its own: the least one that is not in use.
-    pub fn own(
-        &mut self,
-        guard: Token,
-        back: &mut Vec<Pair<K, V>>,
-    ) -> Result<Played<V>, AllocError>
+    pub fn own(&mut self, guard: Token, back: &mut Vec<Pair<K, V>>) -> Result<Played<V>, AllocError>
         requires { (same : K → K → Bool) × (hash : K → ℕ) × MayPlay same hash (event.Own guard) self.old }
         ensures steps { IfOk result (λ played. played.steps ≡ 0) }
         ensures plays { IfOk result (λ played. (same : K → K → Bool) (hash : K → ℕ) → PlaysAt same hash (event.Own guard) played self.old self.new) }

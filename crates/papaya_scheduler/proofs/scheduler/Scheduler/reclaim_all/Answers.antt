@@ -1,5 +1,5 @@
 -- Everything is reclaimed.
-use Rattle.std.proofs.Common.{[], sym, refl, ◌∙◌}
+use Rattle.std.proofs.Common.{[], sym, ◌∙◌}
 use Rattle.seize_words.specs.declared.fault.Fault.TheVariants.{Busy}
 use Rattle.papaya_schedules.specs.After.{moment}
 use Rattle.papaya_schedules.specs.declared.event.Event.TheVariants.{ReclaimAll}
@@ -12,8 +12,8 @@ use Rattle.papaya_scheduler.proofs.scheduler.Scheduler.reclaim_all.Goals as goal
 pub returns-then-not-are_gone-clause-plays : goal.returns-then-not-are_gone-clause-plays
 returns-then-not-are_gone-clause-plays g c =
     λ same hash terms log due may.
-      so_played same hash terms log c.args.self.now ReclaimAll c.busy.result (Refused Busy) 0 [] c.busy.ensures.outcome c.busy.ensures.steps c.busy.ensures.effects
-      (not_left same hash terms log c.args.self.now due (sym c.are_gone.ensures ∙ c.if-not-are_gone.true))
+    so_played same hash terms log c.args.self.now ReclaimAll c.busy.result (Refused Busy) 0 [] c.busy.ensures.outcome c.busy.ensures.steps c.busy.ensures.effects
+    (not_left same hash terms log c.args.self.now due (sym c.are_gone.ensures ∙ c.if-not-are_gone.true))
 
 pub give_all_back-requires : goal.give_all_back-requires
 give_all_back-requires g c =
@@ -33,8 +33,8 @@ give_all_back-requires g c =
 pub returns-clause-plays : goal.returns-clause-plays
 returns-clause-plays g c =
     λ same hash terms log due may.
-      all_reclaimed same hash terms log c.args.self.now due (sym c.are_gone.ensures ∙ c.if-not-are_gone.false) may c.give_all_back.new.self.logged c.no_effects-effects.result.items c.give_all_back.new.effects.items
-      c.no_effects-effects.ensures c.in_ok-give_all_back.ensures.ran _ c.in_ok-give_all_back.ensures.rest
+    all_reclaimed same hash terms log c.args.self.now due (sym c.are_gone.ensures ∙ c.if-not-are_gone.false) may c.give_all_back.new.self.logged c.no_effects-effects.result.items c.give_all_back.new.effects.items
+    c.no_effects-effects.ensures c.in_ok-give_all_back.ensures.ran _ c.in_ok-give_all_back.ensures.rest
 
 pub returns-then-not-are_gone-clause-back : goal.returns-then-not-are_gone-clause-back
 returns-then-not-are_gone-clause-back g c = λ same hash terms log due may. none_came _ c.busy.result.effects.items c.args.back.now.items c.busy.ensures.effects
