@@ -1,9 +1,7 @@
-mod Beginning
 mod Ended
 mod Forms
 mod Happened
 mod Gives
-mod LawfulKeys
 mod Left
-mod Logs
-mod Turns
+mod MapsTold
+mod Singles
