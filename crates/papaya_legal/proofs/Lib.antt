@@ -13,6 +13,7 @@ pub mod SlotsEnd
 pub mod Maps
 pub mod MapsEnd
 pub mod CallsAfter
+pub mod CallLeaves
 pub mod CallRuns
 pub mod SlotsAfter
 pub mod Over
