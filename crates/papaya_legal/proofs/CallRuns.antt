@@ -50,6 +50,8 @@ use Rattle.papaya_legal.proofs.CallChanges.{changes_first, reads_shards}
 use Rattle.papaya_legal.proofs.CallFollows.{call_events_follow}
 use Rattle.papaya_histories.proofs.Given.Moments.After.{effects_after}
 use Rattle.papaya_legal.proofs.CallLeaves.{calls_leave_nothing}
+use Rattle.papaya_purposes.specs.Kept.{PairsChangeFirst}
+use Rattle.papaya_legal.proofs.CallPairs.{begun_so, pairs_first}
 use Rattle.papaya_legal.proofs.CallReads.{readings_go_on}
 use Rattle.papaya_legal.proofs.CallsAfter.{call_events_end_so}
 use Rattle.papaya_legal.proofs.CallsEnd.{call_events_are_legal}
@@ -79,7 +81,7 @@ module _ {K V : Type 0} (own : List ℕ) where
       by _ came is = absurd (cc is)
 
 pub call_events_run : (K V S : Type 0) (same : K → K → Bool) (hash : K → ℕ) → CallEventsRun K V S same hash
-call_events_run K V S same hash name terms log beginning map i c c_is first before run steps done m known s u e midst old new at size said leads begins acted effects_are steps_are comes tells_end shows takes busy right pairs finds swept refuses noted slot active = (
+call_events_run K V S same hash name terms log beginning map i c c_is first before run steps done m known s u e midst old new at size said leads begins acted effects_are steps_are comes tells_end shows takes busy right finds swept refuses noted slot active = (
   legal.0,
   call_events_end_so K V S same hash name terms log beginning map i c first before run steps done m known s u e midst old new at said leads begins acted effects_are comes tells_end.ends right legal.0 asked
       (reclaims_none (name i) log e midst.of_call) (purposes shows) reading legal.1 by_model.1,
@@ -131,6 +133,10 @@ call_events_run K V S same hash name terms log beginning map i c c_is first befo
 
     none : ends_call e.outcome ≡ true → NoneNamed name (name i) s2
     none = none_named same hash name log m known s midst.calls.dues map i u here old new said leads e tells_end.ends
+
+    pairs : PairsChangeFirst log m map v
+    pairs = pairs_first same hash name log beginning map i c done m known s whole old new at said leads u midst.event_so
+        (begun_so same name log beginning map i c done m known s u midst.event_so) midst.worked midst.its_own
 
     -- what calls are for, once its call has come to that
     purposes : ShowsAsTold then_known said e.outcome → ShowsPurposes same name log come then_known s2

@@ -3,6 +3,7 @@ pub mod Begin
 pub mod Uncounted
 pub mod Between
 pub mod CallChanges
+pub mod CallPairs
 pub mod CallReads
 pub mod Calls
 pub mod CallBegins

@@ -33,7 +33,7 @@ use Rattle.papaya_histories.specs.Given.Moments.Whole.{ShowsWhole}
 use Rattle.papaya_kept.specs.Kept.{ShowsKept}
 use Rattle.papaya_histories.specs.Answers.{NamesPair}
 use Rattle.papaya_histories.specs.InEvent.{ComesSo, here_of}
-use Rattle.papaya_purposes.specs.Kept.{PairsChangeFirst, ShowsNone, TellsNone}
+use Rattle.papaya_purposes.specs.Kept.{ShowsNone, TellsNone}
 use Rattle.papaya_models.specs.CallEvents.{IsNoted, slot_of_call, things_then}
 use Rattle.papaya_finds.specs.Doing.{takes_steps}
 use Rattle.papaya_finds.specs.Parts.{FindAll}
@@ -60,7 +60,7 @@ module _ (K V S : Type 0) (same : K → K → Bool) (hash : K → ℕ) where
       → (e : Entry K V) → caller_of e.event ≡ Some (name i) → worked e (moment log) ≡ with_effects (Some (name i)) (Some map) (effects_of (acts.Call i map) known new.memory.changed) m
       → TellsEnd said e.outcome → IfCall (LeavesOf (comes_clear e.outcome) e.outcome) (acting (caller_of e.event) (worked e (moment log)))
 
-  -- So it is of an event that has come to its last step, and comes to what is right, and to what that says, if no pair comes and goes twice by the step, if its effects find what they
+  -- So it is of an event that has come to its last step, and comes to what is right, and to what that says, if its effects find what they
   -- must, if it does what it is for, and is refused no growth that it made; if what a row hands over that begins with the step is noted, and its slot is active.
   abbrev pub CallEventsRun : Type 0
   CallEventsRun =
@@ -71,10 +71,9 @@ module _ (K V S : Type 0) (same : K → K → Bool) (hash : K → ℕ) where
       → (old new : Executor K V S) → IsAt same hash old s → old.batch_size ≡ terms.batch_size → (said : Progress (Node K V)) (leads : StepLeads same hash i said s old new)
       → at_work e (moment log) ≡ beginning → acted_on e.event beginning ≡ Some map → e.effects ≡ done ++ effects_of (acts.Call i map) known new.memory.changed → e.steps ≡ steps + 1
       → (let known2 = known_after (acts.Call i map) new.memory.changed known in
-      let v = with_effects (Some (name i)) (Some map) (effects_of (acts.Call i map) known new.memory.changed) m in
       let to = leads map u (here_of same name log beginning map i c done m known s u midst.event_so) in
       ComesSo known2 c.call c.replies said e.outcome → TellsEnd said e.outcome → ShowsAsTold known2 said e.outcome
-      → (takes_steps e.event ≡ true) ⊎ (e.effects ≡ []) → is_busy e.outcome ≡ false → ComesRight terms log e → PairsChangeFirst log m map v
+      → (takes_steps e.event ≡ true) ⊎ (e.effects ≡ []) → is_busy e.outcome ≡ false → ComesRight terms log e
       → FindAll terms (moments_from c.begun log) (name i) map e.effects beginning → IsSwept same terms log e → (not (refuses e.event) || not (list_any is_made e.effects)) ≡ true
       → ((request : Request) (begun : World (Node K V)) → HandsOver to.0.setting i s.world request → Happens deferred_word old.batch_size (Begin i request) s.world begun
       → Happens deferred_word old.batch_size (Step i) begun to.4.w2 → IsNoted (things_then (things_in log) done) known (slot_of i) request)

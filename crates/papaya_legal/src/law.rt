@@ -36,7 +36,7 @@ pub fn calls_stay<K, V, S>()
 {}
 
 /// Where an event has begun what it begins, and a call goes on by it, it is in the midst of it, and has done nothing yet: a call that is under way, one that the event begins, or a walk that it asks
-/// for its next pair. So it is after each step by which the call goes on: if no pair comes or goes twice, and a row that begins hands over what is noted.
+/// for its next pair. So it is after each step by which the call goes on: if a row that begins hands over what is noted.
 /// With its last step the event keeps its promises, if its effects find what they must, if it made no more steps than these, does what it is for, is refused no growth that it made, leaves nothing behind, and is by the model; which it is if what
 /// a row hands over that begins with the last step is noted, and its slot is active.
 /// The moment after it shows all that the next event needs, if it shows what calls are for and have read once the call has come to its outcome, and the sets are as they must be.
