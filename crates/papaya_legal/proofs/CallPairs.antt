@@ -50,7 +50,7 @@ each_is_its_own same hash name m known s e at whole map st there q is =
       (pair.0, pair.1),
       ap (pair_at m.stored) it.2 ∙ pair.3,
       had_pair same st number st.chart.now pair.0 (finite_map same map m pair.0) now it.0 (it.1, each.ground.moments.now_is it.0 ∙ current, pair.0, pair.2, lawful.lawful.classes.refl pair.0)
-      ∙ ap Some (sym it.2),
+          ∙ ap Some (sym it.2),
     )
 
 -- and at one that has the same pairs
