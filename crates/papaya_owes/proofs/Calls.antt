@@ -287,8 +287,8 @@ module _ {K V S : Type 0} (same : K → K → Bool) (hash : K → ℕ) (name : �
             )
         | inl own ↦ elim (each.stand i (OnKey x) is) as (λ _. HasGiven x.pair) [
           | inl k ↦
-              knows_given same st.hash st.setting slot_of w st.chart (seen_by st.blocks (st.sights (slot_of i))) i x x.call k.1 own hash old.memory.memory new.memory.memory told it.0 kind.Pair b
-              made_one it.2
+              knows_given same st.hash st.setting slot_of w st.chart (seen_by st.blocks (st.sights (slot_of i))) i x x.call k.1 own hash old.memory.memory new.memory.memory told it.0
+              (λ nothing. (let both = sym nothing ∙ made_one in cc both)) it.2
           | inr k ↦ absurd (row_no_own x.call.stands k.1 own)
         ]
       ]

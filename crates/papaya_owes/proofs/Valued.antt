@@ -41,7 +41,6 @@ use Rattle.papaya_moments.specs.Given.Callers.Pairs.{Given, Begun, IsTold, Keeps
 use Rattle.papaya_moments.specs.Given.Callers.Together.{CallOnKey, OnKey, in_slot, Knows}
 use Rattle.papaya_moments.specs.Given.Teller.declared.changed.Changed.{Changed}
 use Rattle.papaya_moments.specs.Given.Teller.declared.changed.Changed.TheVariants as changed
-use Rattle.papaya_moments.specs.Given.Teller.declared.changed.Kind.{Kind as TellsKind}
 use Rattle.papaya_moments.specs.Given.Teller.Tells.{StepsTold}
 use Rattle.papaya_moments.specs.Given.Effects.Known.{Known}
 use Rattle.papaya_moments.specs.Given.Follows.Calls.{IsCalled}
@@ -62,7 +61,7 @@ either_so false false (inl e) = absurd (cc e)
 either_so false false (inr e) = absurd (cc e)
 
 -- a value that a call was told is a gift
-gift_told : {V : Type 0} (number : ℕ → ℕ) (stored : ℕ) (asked : List (Asked V)) (replies : List (Option ℕ × Reply V)) (about : Option ℕ) (value : V) → AreReplies number stored asked replies
+pub gift_told : {V : Type 0} (number : ℕ → ℕ) (stored : ℕ) (asked : List (Asked V)) (replies : List (Option ℕ × Reply V)) (about : Option ℕ) (value : V) → AreReplies number stored asked replies
     → last_told about asked ≡ Some (reply.Insert value) → has_gift replies ≡ true
 gift_told number stored [] replies about value are e = absurd (cc e)
 gift_told number stored (a ∷ asked) [] about value are e = absurd are
@@ -201,22 +200,22 @@ module _ {K V : Type 0} (same : K → K → Bool) (hash : K → ℕ) (w : World 
   given_at g began (at.Drops end) own key facts keeps = absurd own
   given_at g began (at.Over end) own key facts keeps = absurd own
 
-  -- by a step in which a block was made
-  module _ (asks : K → K → Bool) (codes : K → ℕ) (m m2 : Mem (Node K V)) (told : Changed) (e : KeyCall K V K × Called (Node K V)) (k : TellsKind) (b : ℕ) (made : told ≡ changed.Made k b) where
+  -- by a step that has changed something: a block was made, or refused
+  module _ (asks : K → K → Bool) (codes : K → ℕ) (m m2 : Mem (Node K V)) (told : Changed) (e : KeyCall K V K × Called (Node K V)) (some : told ≡ changed.Nothing → ⊥) where
     fills_key : (word : ℕ) (o : Option K) → p.replies.key ≡ o → StepsTold K V (KeyCall K V K × Called (Node K V)) m changed.Nothing (fills_with o p word) m2 told e → (key : K) × (p.replies.key ≡ Some key)
     fills_key word (Some key) is s = (key, is)
-    fills_key word None is s = absurd (let both = sym s.1.1 ∙ made in cc both)
+    fills_key word None is s = absurd (some s.1.1)
 
     key_for : (q : Calling) → IsToOwn q → StepsTold K V (KeyCall K V K × Called (Node K V)) m changed.Nothing (calls.plan_at asks same codes p q) m2 told e → KeyFor q
     key_for (at.Asks (asking.Fills word)) own s = fills_key word p.replies.key refl s
     key_for _ own s = tt
 
 pub knows_given : {K V : Type 0} (same : K → K → Bool) (hash : K → ℕ) (setting : Setting) (slot : ℕ → ℕ) (w : World (Node K V)) (c : Chart K) (seen : Blocks) (i : ℕ) (u : CallOnKey K V K) (p : KeyCall K V K)
-    → Knows V same hash same setting slot w c seen i u p → IsToOwn p.stands → (codes : K → ℕ) (m m2 : Mem (Node K V)) (told : Changed) (e : KeyCall K V K × Called (Node K V)) (k : TellsKind) (b : ℕ) → told ≡ changed.Made k b
+    → Knows V same hash same setting slot w c seen i u p → IsToOwn p.stands → (codes : K → ℕ) (m m2 : Mem (Node K V)) (told : Changed) (e : KeyCall K V K × Called (Node K V)) → (told ≡ changed.Nothing → ⊥)
     → StepsTold K V (KeyCall K V K × Called (Node K V)) m changed.Nothing (calls.call_plan same same codes p) m2 told e → HasGiven u.pair
-knows_given same hash setting slot w c seen i u p knows own codes m m2 told e k b made s =
+knows_given same hash setting slot w c seen i u p knows own codes m m2 told e some s =
     given_at same hash w i (in_slot setting (slot i)) c seen u.keys u.change p u.pair u.began p.stands own
-    (key_for same hash w i (in_slot setting (slot i)) c seen u.keys u.change p same codes m m2 told e k b made p.stands own s)
+    (key_for same hash w i (in_slot setting (slot i)) c seen u.keys u.change p same codes m m2 told e some p.stands own s)
     (elim (knows.facts) as (λ _. CallingFacts same hash same w i (in_slot setting (slot i)) c seen u.keys u.change p p.stands ⊎ LateCalling same hash same w i (in_slot setting (slot i)) c seen u.keys u.began p p.stands) [
       | inl facts ↦ inl facts.point
       | inr late ↦ inr late.1.point

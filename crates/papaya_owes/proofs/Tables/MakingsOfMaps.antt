@@ -193,7 +193,7 @@ module _ {K V S : Type 0} (same : K → K → Bool) (hash : K → ℕ) (name : �
           | inr shards ↦ absurd (cc shards)
         ]
 
-    left_tables : Left
+    pub left_tables : Left
     left_tables = by had refl
       where
         by : (o : Option Planned) → had ≡ o → Left
