@@ -128,8 +128,12 @@ module _ {K V S : Type 0} where
     pub slots : new.slots.items ≡ old.slots.items
 
   -- what an executor was given stays: the hasher, the size of batches, the number of roots
+  abbrev pub StaysGiven : Executor K V S → Executor K V S → Type 0
+  StaysGiven old new = (new.hasher ≡ old.hasher) × (new.batch_size ≡ old.batch_size) × (new.roots ≡ old.roots)
+
+  -- and so does, but where maps are to be made, how many of them have a number
   abbrev pub KeepsGiven : Executor K V S → Executor K V S → Type 0
-  KeepsGiven old new = (new.hasher ≡ old.hasher) × (new.batch_size ≡ old.batch_size) × (new.roots ≡ old.roots)
+  KeepsGiven old new = (new.hasher ≡ old.hasher) × (new.batch_size ≡ old.batch_size) × (new.roots ≡ old.roots) × (length new.maps.items ≡ length old.maps.items)
 
 module _ {K V S : Type 0} (same : K → K → Bool) (hash : K → ℕ) where
   -- The executor is there: it has the memory, the settings of the maps that stand, of each caller what it has under way, and of each slot how it is used;

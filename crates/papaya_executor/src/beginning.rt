@@ -1,6 +1,6 @@
 //! The beginning of a call, and of the making of a map.
 ghost use Rattle.std.specs.Prelude.{◌≡◌, ◌<◌, ◌+◌, ◌*◌, ℕ, Bool, length, IfOk, IfErr, OnErr};
-ghost use Rattle.papaya_executor.specs.IsAt.{Scene, IsAt, KeepsGiven};
+ghost use Rattle.papaya_executor.specs.IsAt.{Scene, IsAt, StaysGiven, KeepsGiven};
 ghost use Rattle.papaya_executor.specs.Beginning.{BeginLeads, IsRefused, HasNoPlace, HasNoNumber};
 ghost use Rattle.papaya_executor.specs.MakingBegins.{MakingBegins};
 ghost use Rattle.papaya_executor.specs.declared.worker.TheConstants.{SLOTS};
@@ -46,7 +46,7 @@ impl<K: Drop, V: Drop, S> Executor<K, V, S> {
         ensures number { IfOk result (λ caller. caller ≡ length self.old.workers.items * SLOTS + slot) }
         ensures leads { IfOk result (λ caller. (same : K → K → Bool) (hash : K → ℕ) (s : Scene K V) → IsAt same hash self.old s → MakingBegins same hash given places caller s self.old self.new) }
         ensures numbers { IfOk result (λ caller. length self.new.maps.items ≡ length self.old.maps.items + 1) }
-        ensures given { KeepsGiven self.old self.new }
+        ensures given { StaysGiven self.old self.new }
         ensures refused { IfErr result (λ error. IsRefused self.old self.new) }
         ensures only { OnErr result (HasNoNumber self.old) }
     {

@@ -1,5 +1,5 @@
 //! The memory, the maps in it, and the callers that have something under way.
-ghost use Rattle.std.specs.Prelude.{◌≡◌, ℕ, Bool, IfOk};
+ghost use Rattle.std.specs.Prelude.{◌≡◌, ℕ, Bool, [], IfOk};
 ghost use Rattle.papaya_executor.specs.IsAt.{IsAt, at_first};
 
 use crate::row::SlotUse;
@@ -33,6 +33,7 @@ impl<K: Drop, V: Drop, S: Drop> Executor<K, V, S> {
     pub fn new(alloc: Global, hasher: S, batch_size: u64, roots: u64) -> Result<Self, AllocError>
         ensures stands { IfOk result (λ executor. (same : K → K → Bool) (hash : K → ℕ) → IsAt same hash executor (at_first roots)) }
         ensures given { IfOk result (λ executor. (executor.hasher ≡ hasher) × (executor.batch_size ≡ batch_size) × (executor.roots ≡ roots)) }
+        ensures maps { IfOk result (λ executor. executor.maps.items ≡ []) }
     {
         Ok(Executor {
             memory: Teller::new(Plain::new(alloc, roots)?),

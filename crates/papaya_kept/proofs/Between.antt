@@ -47,6 +47,7 @@ use Rattle.papaya_settles.proofs.Hand.Between.{calls_begin_owed, calls_take_owed
 use Rattle.papaya_settles.proofs.Handing.{calls_begin_handing, calls_take_handing, walks_go_on_handing, walks_stop_handing}
 use Rattle.papaya_lives.specs.Behind.{WaitsOnce}
 use Rattle.papaya_lives.specs.Retired.{CallsStay}
+use Rattle.papaya_lives.proofs.LeftTables.{others_keep_left}
 use Rattle.papaya_lives.proofs.Reclaimed.{others_leave_retired}
 use Rattle.papaya_lives.proofs.Waiting.{others_leave_waiting}
 use Rattle.papaya_kept.specs.Steps.{CallsBeginKept, CallsTakeKept, WalksGoOnKept, WalksStopKept}
@@ -66,7 +67,7 @@ module _ (K V : Type 0) (same : K → K → Bool) where
   key_begins hash setting slot i keys given call (RemovesIf q code few class) known = (refl, tt)
 
   -- nor to count
-  uncounted_at_first : (standing : Standing K) (i : ℕ) (u : UnderWay K V K) → Begins same standing i u → is_to_count (machine_of u) ≡ false
+  pub uncounted_at_first : (standing : Standing K) (i : ℕ) (u : UnderWay K V K) → Begins same standing i u → is_to_count (machine_of u) ≡ false
   uncounted_at_first standing i (OnKey u) begins = calls_begin_uncounted K V same standing.hash standing.setting slot_of i u.keys u.pair u.call begins.0
   uncounted_at_first standing i (ForRoom r) begins = refl
   uncounted_at_first standing i (Counting sum) begins = refl
@@ -180,6 +181,7 @@ module _ (K V S : Type 0) (same : K → K → Bool) (hash : K → ℕ) where
     waiting = others_leave_waiting K V m v known s.world kept.waiting refl refl;
     once = kept.once;
     retired = others_leave_retired K V m v known s (scene_with map i u s) kept.retired refl refl (calls_stay s map i (Some u) (λ is. absurd (cc is)));
+    left = others_keep_left K V known s (scene_with map i u s) kept.left refl refl;
   }
     where
       v : Moment K V
@@ -199,6 +201,7 @@ module _ (K V S : Type 0) (same : K → K → Bool) (hash : K → ℕ) where
     waiting = others_leave_waiting K V m v known s.world kept.waiting refl refl;
     once = kept.once;
     retired = others_leave_retired K V m v known s (scene_with map i next s) kept.retired refl refl (calls_stay s map i (Some next) (λ is. absurd (cc is)));
+    left = others_keep_left K V known s (scene_with map i next s) kept.left refl refl;
   }
     where
       v : Moment K V
@@ -220,6 +223,7 @@ module _ (K V S : Type 0) (same : K → K → Bool) (hash : K → ℕ) where
         waiting = kept.waiting;
         once = kept.once;
         retired = others_leave_retired K V m m known s (scene_with map i next s) kept.retired refl refl (calls_stay s map i (Some next) (λ is. absurd (cc is)));
+        left = others_keep_left K V known s (scene_with map i next s) kept.left refl refl;
       }
 
   pub walks_stop_kept : WalksStopKept K V S same hash
@@ -237,6 +241,7 @@ module _ (K V S : Type 0) (same : K → K → Bool) (hash : K → ℕ) where
     once = subst WaitsOnce (sym (given_deferred (name i) m stopped)) kept.once;
     retired = others_leave_retired K V m v known s (record s { calls = with_in s.calls map i (unless_stopped stopped u) }) kept.retired (given_tables (name i) m stopped) refl
         (calls_stay s map i (unless_stopped stopped u) (rests stopped refl));
+    left = others_keep_left K V known s (record s { calls = with_in s.calls map i (unless_stopped stopped u) }) kept.left refl refl;
   }
     where
       v : Moment K V

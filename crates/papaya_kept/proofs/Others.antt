@@ -1,6 +1,6 @@
 -- What is no call keeps all that is kept: a row on a slot, the making of a map, and the end of one.
 use Rattle.std.specs.Prelude.{◌≡◌, ℕ, Bool, List, Some, None}
-use Rattle.std.proofs.Common.{refl, ap, sym, subst, inl}
+use Rattle.std.proofs.Common.{refl, sym, subst, inl}
 use Rattle.papaya_histories.specs.Given.Seize.declared.progress.Progress.{Progress}
 use Rattle.papaya_histories.specs.Given.Seize.declared.progress.Progress.TheVariants as progress
 use Rattle.papaya_histories.specs.Given.Seize.declared.rows.settle.Settled.{Settled}
@@ -46,6 +46,8 @@ use Rattle.papaya_settles.proofs.Hand.Between.{stays_owed, effects_leave_owed}
 use Rattle.papaya_settles.proofs.Handing.{others_leave_handing}
 use Rattle.papaya_lives.specs.Behind.{ShowsWaiting, WaitsOnce}
 use Rattle.papaya_lives.proofs.Ends.{endings_find_waiting}
+use Rattle.papaya_lives.proofs.LeftEnds.{endings_keep_left}
+use Rattle.papaya_lives.proofs.LeftTables.{others_keep_left, endings_begin_left, rows_begin_left, rows_keep_left, makings_keep_left}
 use Rattle.papaya_lives.proofs.Makings.{makings_keep_waiting, world_then, apart}
 use Rattle.papaya_lives.proofs.Once.{once_fewer, row_fewer}
 use Rattle.papaya_lives.proofs.Reclaimed.{others_leave_retired, endings_begin_retired, rows_begin_retired, rows_keep_retired, rows_find_retired}
@@ -58,7 +60,7 @@ use Rattle.papaya_kept.proofs.Calls.{own_made}
 use Rattle.papaya_kept.proofs.InHand.{rows_leave_in_hand, makings_leave_in_hand, endings_leave_in_hand}
 use Rattle.papaya_kept.proofs.Stays.{calls_same, entries_stay, same_in_hand}
 
--- the calls that are under way after a step of a making, and of an end
+-- the calls and ends that are under way after a step of a making, and the calls after one of an end
 module _ {K V S : Type 0} (same : K → K → Bool) (hash : K → ℕ) (s : Scene K V) (old new : Executor K V S) (i : ℕ) where
   making_calls : (b : Beginning K) (opening : NewMap) (w2 : World (Node K V)) (said : Progress Setting) (comes : MakingComesTo same hash s old new i b opening w2 said)
       → (making_after same hash s old new i b opening w2 said comes).calls ≡ s.calls
@@ -66,6 +68,13 @@ module _ {K V S : Type 0} (same : K → K → Bool) (hash : K → ℕ) (s : Scen
   making_calls b opening w2 progress.Waits comes = refl
   making_calls b opening w2 (progress.Done setting) comes = refl
   making_calls b opening w2 (progress.Refused fault) comes = refl
+
+  making_enders : (b : Beginning K) (opening : NewMap) (w2 : World (Node K V)) (said : Progress Setting) (comes : MakingComesTo same hash s old new i b opening w2 said)
+      → (making_after same hash s old new i b opening w2 said comes).enders ≡ s.enders
+  making_enders b opening w2 progress.Goes comes = refl
+  making_enders b opening w2 progress.Waits comes = refl
+  making_enders b opening w2 (progress.Done setting) comes = refl
+  making_enders b opening w2 (progress.Refused fault) comes = refl
 
   ending_calls : (f : Finishing K V) (ending : EndMap) (w2 : World (Node K V)) (deed : Deed) (said : Settled (Node K V)) (comes : EndingComesTo same hash s new i f ending w2 deed said)
       → (ending_after same hash s new i f ending w2 deed said comes).calls ≡ s.calls
@@ -96,6 +105,7 @@ module _ (K V S : Type 0) (same : K → K → Bool) (hash : K → ℕ) where
     waiting = rows_begin_waiting K V S same hash m known s old new kept.waiting called i may leads;
     once = kept.once;
     retired = rows_begin_retired K V S same hash m known s old new at kept.retired called i may leads;
+    left = rows_begin_left K V S same hash known s old new kept.left called i may leads;
   }
     where
       t : Scene K V
@@ -117,6 +127,7 @@ module _ (K V S : Type 0) (same : K → K → Bool) (hash : K → ℕ) where
     once = once_fewer m.deferred v.deferred
         (row_fewer known m new.memory.changed (row_tells old.memory.memory new.memory.memory new.memory.changed ((leads row here).0, said) row (leads row here).1)) kept.once;
     retired = rows_keep_retired K V S same hash name m known s old new at whole kept.retired i said leads row here;
+    left = rows_keep_left K V S same hash name m known s old new at whole kept.left i said leads row here;
   }
     where
       effects : List Effect
@@ -151,6 +162,9 @@ module _ (K V S : Type 0) (same : K → K → Bool) (hash : K → ℕ) where
     retired = others_leave_retired K V v v known2 stepped led
         (makings_keep_retired K V S same hash name m known s old new at whole (own_made K V S same hash name m known s old at whole kept) kept.retired i said leads b here of was_new) refl world
         (λ j has. inl (calls_same stepped led calls j has));
+    left = others_keep_left K V known2 stepped led
+        (makings_keep_left K V S same hash known s old new (own_made K V S same hash name m known s old at whole kept) kept.left i said leads b here) world
+        (making_enders same hash s old new i b (leads b here).0 (leads b here).2.step.w2 said (leads b here).3);
   }
     where
       effects : List Effect
@@ -175,7 +189,7 @@ module _ (K V S : Type 0) (same : K → K → Bool) (hash : K → ℕ) where
       calls = making_calls same hash s old new i b (leads b here).0 (leads b here).2.step.w2 said (leads b here).3
 
   pub endings_begin_kept : EndingsBeginKept K V S same hash
-  endings_begin_kept name m known s old new at kept map i standing at2 = record {
+  endings_begin_kept name m known s old new at kept map i standing nobody at2 = record {
     entries = endings_begin_entries K V s kept.entries map i standing;
     made = stays_made K V name m m known s t kept.made refl refl;
     tables = stays_tables K V name m m known s t kept.tables refl refl refl;
@@ -188,6 +202,7 @@ module _ (K V S : Type 0) (same : K → K → Bool) (hash : K → ℕ) where
     waiting = endings_begin_waiting K V m known s kept.waiting map i standing;
     once = kept.once;
     retired = endings_begin_retired K V m known s kept.retired map i standing;
+    left = endings_begin_left K V known s kept.left map i standing nobody;
   }
     where
       t : Scene K V
@@ -208,6 +223,7 @@ module _ (K V S : Type 0) (same : K → K → Bool) (hash : K → ℕ) where
     waiting = endings_keep_waiting K V S same hash name m known s old new at whole kept.once kept.waiting i said leads f here map not_there;
     once = once_then same hash name m known s old new at whole kept.once kept.waiting i f here (leads f here).0 said (leads f here).1 (leads f here).2 map not_there (leads f here).3;
     retired = endings_keep_retired K V S same hash name m known s old new at whole kept.retired i said leads f here map not_there;
+    left = endings_keep_left K V S same hash name m known s old new at whole kept.left i said leads f here map not_there;
   }
     where
       effects : List Effect

@@ -27,6 +27,7 @@ use Rattle.papaya_settles.proofs.Hand.Between.{owed_begins, stays_owed, calls_co
 use Rattle.papaya_settles.proofs.Hand.Roles.{hand_kept}
 use Rattle.papaya_settles.proofs.Handing.{handing_begins, calls_come_to_handing}
 use Rattle.papaya_lives.specs.Behind.{ShowsWaiting, WaitsOnce}
+use Rattle.papaya_lives.proofs.LeftTables.{left_begins, others_keep_left}
 use Rattle.papaya_lives.proofs.Reclaimed.{retired_begins, others_leave_retired}
 use Rattle.papaya_lives.proofs.Waiting.{waiting_begins, others_leave_waiting}
 use Rattle.papaya_kept.specs.Steps.{BeginsKept, StaysKept, RenamedKept, CallsComeToKept, MakingsBeginKept}
@@ -45,6 +46,7 @@ begins_kept K V roots name = record {
   waiting = waiting_begins K V roots;
   once = tt;
   retired = retired_begins K V roots;
+  left = left_begins K V roots;
 }
 
 module _ {K V : Type 0} where
@@ -71,7 +73,7 @@ module _ {K V : Type 0} where
       (ap (λ (l : List (CallThere K V)). find (λ y. is_same y.caller (name i)) l) (sym listed) ∙ c_is)
 
 pub stays_kept : (K V : Type 0) → StaysKept K V
-stays_kept K V name m v known s t kept listed tables deferred place world calls makers = record {
+stays_kept K V name m v known s t kept listed tables deferred place world calls makers enders = record {
   entries = entries_stay s t kept.entries world calls;
   made = stays_made K V name m v known s t kept.made listed calls;
   tables = stays_tables K V name m v known s t kept.tables listed calls makers;
@@ -84,6 +86,7 @@ stays_kept K V name m v known s t kept listed tables deferred place world calls 
   waiting = subst (ShowsWaiting v known) (sym world) (others_leave_waiting K V m v known s.world kept.waiting deferred place);
   once = subst WaitsOnce (sym deferred) kept.once;
   retired = others_leave_retired K V m v known s t kept.retired tables world (λ j has. inl (calls_same s t calls j has));
+  left = others_keep_left K V known s t kept.left world enders;
 }
 
 pub renamed_kept : (K V : Type 0) → RenamedKept K V
@@ -100,6 +103,7 @@ renamed_kept K V name name2 m known s agree kept = record {
   waiting = kept.waiting;
   once = kept.once;
   retired = kept.retired;
+  left = kept.left;
 }
   where
     as_named : (map i : ℕ) (u : UnderWay K V K) → s.calls map i ≡ Some u → (c : CallThere K V) → call_of (name2 i) m ≡ Some c → call_of (name i) m ≡ Some c
@@ -119,6 +123,7 @@ calls_come_to_kept K V same name m known s whole kept own outcome steps none = r
   waiting = others_leave_waiting K V m (come_to own outcome steps m) known s.world kept.waiting refl refl;
   once = kept.once;
   retired = others_leave_retired K V m (come_to own outcome steps m) known s s kept.retired refl refl (λ j has. inl has);
+  left = kept.left;
 }
 
 pub makings_begin_kept : (K V : Type 0) → MakingsBeginKept K V
@@ -135,6 +140,7 @@ makings_begin_kept K V name m known s kept i b none = record {
   waiting = kept.waiting;
   once = kept.once;
   retired = others_leave_retired K V m m known s t kept.retired refl refl (λ j has. inl has);
+  left = others_keep_left K V known s t kept.left refl refl;
 }
   where
     t : Scene K V

@@ -59,7 +59,8 @@ module _ (K V : Type 0) where
   abbrev pub StaysKept : Type 0
   StaysKept =
       (name : ℕ → List ℕ) (m v : Moment K V) (known : Known) (s t : Scene K V) → ShowsKept name m known s
-      → v.calls ≡ m.calls → v.tables ≡ m.tables → v.deferred ≡ m.deferred → v.place ≡ m.place → t.world ≡ s.world → t.calls ≡ s.calls → t.makers ≡ s.makers → ShowsKept name v known t
+      → v.calls ≡ m.calls → v.tables ≡ m.tables → v.deferred ≡ m.deferred → v.place ≡ m.place → t.world ≡ s.world → t.calls ≡ s.calls → t.makers ≡ s.makers → t.enders ≡ s.enders
+      → ShowsKept name v known t
 
   -- by other names of callers that have no call,
   abbrev pub RenamedKept : Type 0
@@ -150,11 +151,11 @@ module _ (K V S : Type 0) (same : K → K → Bool) (hash : K → ℕ) where
       let led = making_after same hash s old new i b to.0 to.2.step.w2 said to.3 in
       IsAt same hash new led → Shows same name v after led → ShowsKept name v after led)
 
-  -- So it is where one begins, and then after each step of it;
+  -- So it is where one begins an end who has none under way, and then after each step of it;
   abbrev pub EndingsBeginKept : Type 0
   EndingsBeginKept =
       (name : ℕ → List ℕ) (m : Moment K V) (known : Known) (s : Scene K V) (old new : Executor K V S) → IsAt same hash old s → ShowsKept name m known s
-      → (map i : ℕ) (standing : Standing K) → IsAt same hash new (ending_begun map i standing s) → ShowsKept name m known (ending_begun map i standing s)
+      → (map i : ℕ) (standing : Standing K) → s.enders i ≡ None → IsAt same hash new (ending_begun map i standing s) → ShowsKept name m known (ending_begun map i standing s)
 
   abbrev pub EndingsKeepKept : Type 0
   EndingsKeepKept =

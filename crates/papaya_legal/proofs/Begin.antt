@@ -1,12 +1,9 @@
 -- Before all events all is carried that events need.
-use Rattle.std.proofs.Common.{inl}
+use Rattle.std.proofs.Common.{refl, inl}
 use Rattle.papaya_histories.proofs.Given.Moments.Calls.{whole_begins}
 use Rattle.papaya_histories.proofs.Given.Moments.NewMaps.{pairs_begin}
 use Rattle.papaya_histories.proofs.Given.Moments.Numbers.{numbers_begin}
 use Rattle.papaya_kept.proofs.Stays.{begins_kept}
-use Rattle.papaya_owes.proofs.Between.{made_begins}
-use Rattle.papaya_owes.proofs.Looking.Between.{looking_begins}
-use Rattle.papaya_settles.proofs.Between.{counts_begin}
 use Rattle.papaya_shards.proofs.ShardOthers.{counters_begin}
 use Rattle.papaya_histories.proofs.DueOn.{dues_begin}
 use Rattle.papaya_histories.proofs.NoKey.AsCalledOn.{as_called_begins}
@@ -24,10 +21,8 @@ runs_begin K V same terms name = record {
     whole = whole_begins K V same terms.roots name;
     numbers = (numbers_begin K V, pairs_begin K V);
     kept = begins_kept K V terms.roots name;
-    made = made_begins K V terms.roots name;
-    counts = counts_begin K V terms.roots name;
-    looking = looking_begins K V terms.roots name;
     counters = counters_begin K V terms.roots name;
+    uncounted = λ of low shard. refl;
     dues = dues_begin K V same terms.roots name;
     as_called = as_called_begins K V same terms.roots name;
     questions = questions_begin K V;

@@ -26,9 +26,6 @@ use Rattle.papaya_histories.proofs.Given.Moments.After.{effects_after}
 use Rattle.papaya_histories.proofs.Given.Moments.NewMaps.{effects_keep_pairs}
 use Rattle.papaya_histories.proofs.Given.Moments.Numbers.{numbers_are_below, steps_keep_numbers}
 use Rattle.papaya_kept.proofs.Calls.{calls_keep_kept}
-use Rattle.papaya_owes.proofs.Calls.{calls_keep_made}
-use Rattle.papaya_owes.proofs.Looking.Calls.{calls_keep_looking}
-use Rattle.papaya_settles.proofs.Calls.{calls_keep_counts}
 use Rattle.papaya_shards.proofs.ShardCalls.{calls_keep_counters}
 use Rattle.papaya_histories.specs.AsCalled.{ShowsAsCalled}
 use Rattle.papaya_histories.specs.Due.{ShowsDue}
@@ -41,20 +38,22 @@ use Rattle.papaya_models.proofs.CallEvents.{call_events_begin, call_events_go_on
 use Rattle.papaya_models.proofs.MapEvents.{moments_note_once}
 use Rattle.papaya_histories.proofs.Given.Spots.Unreclaimed.{and_both}
 use Rattle.papaya_finds.specs.Life.{StoresOne}
-use Rattle.papaya_finds.specs.Parts.{FindAll}
 use Rattle.papaya_finds.proofs.Doing.{several_do_theirs}
-use Rattle.papaya_finds.proofs.Joined.{several_find_all}
 use Rattle.papaya_finds.proofs.Quiet.{several_store_one}
 use Rattle.papaya_finds.proofs.Steps.{steps_do_theirs, steps_store_one}
 use Rattle.papaya_promises.specs.Protected.{InMidst, is_of_slots}
-use Rattle.papaya_promises.specs.Reading.{HasLooked}
+use Rattle.papaya_promises.specs.Reading.{HasLooked, looks}
 use Rattle.papaya_promises.specs.Sheltered.{SectionsHold}
 use Rattle.papaya_promises.proofs.Protected.{calls_protect}
 use Rattle.papaya_promises.proofs.Weights.{grants_add_up, operations_are_single, parts_add_up}
 use Rattle.papaya_legal.specs.CallEvents.{CallEventsBegin, CallEventsGoOn}
+use Rattle.papaya_purposes.proofs.ShardsRead.{events_begin_uncounted}
+use Rattle.papaya_legal.proofs.CallChanges.{changes_first, reads_shards, unadded_still}
+use Rattle.papaya_legal.proofs.CallReads.{does_nothing, readings_go_on}
+use Rattle.papaya_legal.proofs.Uncounted.{calls_leave_uncounted}
 
 -- no steps, whoever's
-none_made : (q : Bool) → 0 ≡ (if q then 0 else 0)
+none_made : (q : Bool) → ◌≡◌ {A = ℕ} 0 (if q then 0 else 0)
 none_made true = refl
 none_made false = refl
 
@@ -68,36 +67,37 @@ module _ {K V : Type 0} (own : List ℕ) (m : Moment K V) (known : Known) (w : W
   begins_protected _ is = absurd (cc is)
 
 pub call_events_begin_so : (K V S : Type 0) (same : K → K → Bool) (hash : K → ℕ) → CallEventsBegin K V S same hash
-call_events_begin_so K V S same hash name terms log known s x at run event map i caller_is u here c c_is only = record {
+call_events_begin_so K V S same hash name terms log beginning begins maps tables shards known s x at all reading sections follows event map i caller_is u here c c_is only = record {
   of_call = caller_is;
-  event_so = events_begin K V S same hash name log (moment log) (refl, refl) known s x at run.calls.whole run.calls.dues run.calls.as_called map i u here c c_is;
-  calls = run.calls;
+  event_so = events_begin K V S same hash name log beginning begins known s x at all.whole all.dues all.as_called map i u here c c_is;
+  calls = all;
   worked = refl;
   few = let none : 0 ≤ 0 = omega arith in none;
   granted = refl;
   reading = record {
-    begun = run.reading.begun;
+    begun = reading.begun;
     reads = λ n j v is d found looks_for standing there.
         subst (λ (steps : ℕ). HasLooked (is_incremental standing.setting.mode) n standing.chart (moments_from d.begun log) (d.steps + steps) v) (none_made (j == i))
-            (run.reading.reads n j v is d found looks_for standing there);
+        (reading.reads n j v is d found looks_for standing there);
   };
+  unadded = λ adds. events_begin_uncounted K V log beginning map shards;
+  quiet = λ looks_for. (maps, tables);
   kinds = refl;
-  finds = tt;
   stores = tt;
-  protects = begins_protected (name i) (moment log) known s.world run.sections event caller_is;
+  protects = begins_protected (name i) beginning known s.world sections event caller_is;
   follows = λ alone. begun_so (and_both (moment log).is_alone (list_all (is_by (speaker event)) (moment log).calls) alone).0 (only alone);
 }
   where
-    abbrev things : List Thing
+    things : List Thing
     things = things_in log
 
-    abbrev sets : Sets
+    sets : Sets
     sets = sets_in terms.batch_size log
 
     -- no row is under way, or that of the call is
     begun_so : (moment log).is_alone ≡ true → ((j : ℕ) → s.world.row j ≢ Rests → j ≡ i) → FollowsInEvent terms.batch_size terms.roots things sets (slot_of i) i [] known s.world
-    begun_so alone its = elim (run.follows alone) as (λ _. FollowsInEvent terms.batch_size terms.roots things sets (slot_of i) i [] known s.world) [
-      | inl follows ↦ call_events_begin K V terms.batch_size terms.roots things sets known s.world follows (slot_of i) i
+    begun_so alone its = elim (follows alone) as (λ _. FollowsInEvent terms.batch_size terms.roots things sets (slot_of i) i [] known s.world) [
+      | inl model ↦ call_events_begin K V terms.batch_size terms.roots things sets known s.world model (slot_of i) i
       | inr row ↦ record {
         come = tt;
         back = tt;
@@ -115,7 +115,7 @@ out_of_slots own (Next caller) is = refl
 out_of_slots own _ is = absurd (cc is)
 
 pub call_events_go_on_so : (K V S : Type 0) (same : K → K → Bool) (hash : K → ℕ) → CallEventsGoOn K V S same hash
-call_events_go_on_so K V S same hash name terms log event beginning map i c steps done m known s u midst old new at size said leads pairs changes shards none finds noted reading next next_is = record {
+call_events_go_on_so K V S same hash name terms log event beginning map i c steps done m known s u midst old new at size said leads pairs none noted next next_is = record {
   of_call = midst.of_call;
   event_so = events_go_on K V S same hash name log beginning map i c done m known s u midst.event_so old new at said leads next next_is;
   calls = record {
@@ -125,49 +125,49 @@ call_events_go_on_so K V S same hash name terms log event beginning map i c step
       effects_keep_pairs K V m midst.calls.numbers.1 (Some (name i)) (Some map) effects (λ n is. let one : map ≡ n = cc is in subst (λ (k : ℕ). k < m.made) one below),
     );
     kept = calls_keep_kept K V S same hash name m known s old new at whole midst.calls.kept map i u here said leads;
-    made = (calls_keep_made K V S same hash name m known s old new at whole midst.calls.made map i u here said leads).1;
-    counts = (calls_keep_counts K V S same hash name m known s old new at whole midst.calls.counts map i u here said leads).1;
-    looking = (calls_keep_looking K V S same hash name m known s old new at whole midst.calls.looking map i u here said leads).1;
-    counters = calls_keep_counters K V S same hash name m known s old new at whole midst.calls.counts midst.calls.counters map i u here said leads;
+    counters = calls_keep_counters K V S same hash name m known s old new at whole midst.calls.kept.counts midst.calls.counters map i u here said leads;
+    uncounted = calls_leave_uncounted same hash name m known s old new at whole midst.calls.kept midst.calls.counters midst.calls.uncounted map i u here said leads below;
     dues = all.1;
     as_called = all.2;
     questions = effects_keep_questions K V (Some (name i)) (Some map) effects m midst.calls.questions;
-    purposes = calls_keep_purposes K V S same hash name log m known s old new at whole midst.calls.purposes map i u here said leads pairs changes shards none;
+    purposes = calls_keep_purposes K V S same hash name log m known s old new at whole midst.calls.purposes map i u here said leads pairs
+        (changes_first same hash name log beginning map i c done m known s old new at said leads u midst.event_so)
+        (reads_shards K V S same hash name log m known s old new at whole midst.calls.counters map i u here said leads midst.unadded) none;
   };
   worked = ap (λ (x : Moment K V). with_effects (Some (name i)) (Some map) effects x) midst.worked ∙ sym (effects_after (Some (name i)) (Some map) done effects beginning);
   few = parts_add_up steps 1 done effects midst.few (operations_are_single (acts.Call i map) known new.memory.changed).0;
   granted = grants_add_up done effects midst.granted (operations_are_single (acts.Call i map) known new.memory.changed).1;
-  reading = reading;
+  reading = readings_go_on K V S same hash name terms log event beginning map i c steps done m known s u midst old new at said leads;
+  unadded = unadded_still K V S same hash name log m known s old new at whole midst.calls.counters map i u here said leads midst.unadded next next_is;
+  quiet = λ looks_for. quiet_still looks_for;
   kinds = several_do_theirs done effects midst.kinds (steps_do_theirs K V S same hash name m known s old new at whole map i u here said leads);
-  finds = several_find_all K V terms (moments_from c.begun log) (name i) map done effects beginning midst.finds
-      (subst (λ (x : Moment K V). FindAll terms (moments_from c.begun log) (name i) map effects x) midst.worked finds);
   stores = several_store_one K V (name i) map done effects beginning midst.stores
       (subst (λ (x : Moment K V). AtEachEffect (StoresOne (Some (name i))) (Some (name i)) (Some map) effects x) midst.worked
-          (steps_store_one K V S same hash name m known s old new at whole map i u here said leads));
+      (steps_store_one K V S same hash name m known s old new at whole map i u here said leads));
   protects = calls_protect K V S same hash name m known s old new at whole map i u here said leads event (out_of_slots (name i) event midst.of_call) done midst.protects;
   follows = λ alone.
       subst (λ (n : ℕ). FollowsInEvent n terms.roots (things_in log) (sets_in terms.batch_size log) (slot_of i) i (done ++ effects) then_known (leads map u here).4.w2) size
-          (call_events_go_on K V S same hash name m known s old new at whole map i u here said leads (moments_note_once K V same name v then_known s2 all.0) terms.roots (things_in log)
-          (sets_in terms.batch_size log) (slot_of i) done
-          (subst (λ (n : ℕ). FollowsInEvent n terms.roots (things_in log) (sets_in terms.batch_size log) (slot_of i) i done known s.world) (sym size) (midst.follows alone)) noted);
+      (call_events_go_on K V S same hash name m known s old new at whole map i u here said leads (moments_note_once K V same name v then_known s2 all.0) terms.roots (things_in log)
+      (sets_in terms.batch_size log) (slot_of i) done
+      (subst (λ (n : ℕ). FollowsInEvent n terms.roots (things_in log) (sets_in terms.batch_size log) (slot_of i) i done known s.world) (sym size) (midst.follows alone)) noted);
 }
   where
-    abbrev whole : ShowsWhole same name m known s
+    whole : ShowsWhole same name m known s
     whole = midst.calls.whole
 
-    abbrev here : s.calls map i ≡ Some u
+    here : s.calls map i ≡ Some u
     here = here_of same name log beginning map i c done m known s u midst.event_so
 
-    abbrev effects : List Effect
+    effects : List Effect
     effects = effects_of (acts.Call i map) known new.memory.changed
 
-    abbrev v : Moment K V
+    v : Moment K V
     v = with_effects (Some (name i)) (Some map) effects m
 
-    abbrev then_known : Known
+    then_known : Known
     then_known = known_after (acts.Call i map) new.memory.changed known
 
-    abbrev s2 : Scene K V
+    s2 : Scene K V
     s2 = scene_after same hash s old new map i (leads map u here).0 u (leads map u here).1 said (leads map u here).4
 
     -- the map of the call was made
@@ -177,3 +177,8 @@ call_events_go_on_so K V S same hash name terms log event beginning map i c step
 
     all : ShowsWhole same name v then_known s2 × ShowsDue same name log v then_known s2 × ShowsAsCalled same name v then_known s2
     all = events_keep_all K V S same hash name log beginning map i c done m known s u midst.event_so old new at said leads
+
+    -- a lookup does nothing by its steps
+    quiet_still : looks c.call ≡ true → (v.maps ≡ (moment log).maps) × (v.tables ≡ (moment log).tables)
+    quiet_still looks_for = subst (λ (x : Moment K V). (x.maps ≡ (moment log).maps) × (x.tables ≡ (moment log).tables))
+        (sym (does_nothing K V S same hash name terms log event beginning map i c steps done m known s u midst old new at said leads looks_for)) (midst.quiet looks_for)

@@ -17,9 +17,6 @@ use Rattle.papaya_histories.proofs.Given.Moments.After.{effects_after}
 use Rattle.papaya_histories.proofs.Given.Moments.NewMaps.{effects_keep_pairs}
 use Rattle.papaya_histories.proofs.Given.Moments.Numbers.{numbers_are_below, steps_keep_numbers}
 use Rattle.papaya_kept.proofs.Calls.{calls_keep_kept}
-use Rattle.papaya_owes.proofs.Calls.{calls_keep_made}
-use Rattle.papaya_owes.proofs.Looking.Calls.{calls_keep_looking}
-use Rattle.papaya_settles.proofs.Calls.{calls_keep_counts}
 use Rattle.papaya_shards.proofs.ShardCalls.{calls_keep_counters}
 use Rattle.papaya_histories.specs.AsCalled.{ShowsAsCalled}
 use Rattle.papaya_histories.specs.Due.{ShowsDue}
@@ -39,10 +36,6 @@ use Rattle.papaya_histories.proofs.AnyCall.Over.{events_are_over, like_over, non
 use Rattle.papaya_purposes.proofs.Between.{events_keep_purposes}
 use Rattle.papaya_purposes.proofs.Elsewhere.{purposes_stay}
 use Rattle.papaya_kept.proofs.Stays.{stays_kept, calls_come_to_kept}
-use Rattle.papaya_owes.proofs.Aside.{stays_made}
-use Rattle.papaya_owes.proofs.Between.{calls_come_to_made}
-use Rattle.papaya_owes.proofs.Looking.Between.{stays_looking, calls_come_to_looking}
-use Rattle.papaya_settles.proofs.Between.{stays_counts, calls_come_to_counts}
 use Rattle.papaya_shards.proofs.ShardBetween.{counters_stay, calls_come_to_counters}
 use Rattle.papaya_promises.proofs.Brief.Stays.{events_keep_readings, readings_stay}
 use Rattle.papaya_finds.specs.Within.{GoesInOrder}
@@ -51,6 +44,8 @@ use Rattle.papaya_finds.proofs.Closed.{over_stays_back}
 use Rattle.papaya_histories.specs.Given.Runs.Same.{is_same}
 use Rattle.papaya_legal.proofs.Maps.{stands_so}
 use Rattle.papaya_histories.specs.Given.Effects.declared.acting.Acting.TheVariants as acts
+use Rattle.papaya_legal.specs.Carried.{NoneCounted}
+use Rattle.papaya_legal.proofs.Uncounted.{calls_leave_uncounted}
 
 -- numbers of maps are those after its effects
 module _ {K V : Type 0} (log : List (Entry K V)) (own : List ℕ) (outcome : Outcome V) (steps : ℕ) (effects : List Effect) where
@@ -67,6 +62,13 @@ module _ {K V : Type 0} (log : List (Entry K V)) (own : List ℕ) (outcome : Out
   numbers_over (Next caller) is numbers = (record { found = numbers.0.found; below = numbers.0.below; tables = numbers.0.tables }, numbers.1)
   numbers_over _ is numbers = absurd (cc is)
 
+  uncounted_over : (event : Event K V) → caller_of event ≡ Some own → NoneCounted (worked (entry_as event) (moment log)) → NoneCounted (after (entry_as event) (moment log))
+  uncounted_over (OneCall guard map call) is none = none
+  uncounted_over (Step caller refuse) is none = none
+  uncounted_over (Go caller refuse) is none = none
+  uncounted_over (Next caller) is none = none
+  uncounted_over _ is none = absurd (cc is)
+
 pub call_events_end_so : (K V S : Type 0) (same : K → K → Bool) (hash : K → ℕ) → CallEventsEnd K V S same hash
 call_events_end_so K V S same hash name terms log beginning map i c first before run steps done m known s u e midst old new at said leads begins acted effects_are comes ends right but still reclaims purposes reading sections follows = record {
   calls = record {
@@ -74,20 +76,13 @@ call_events_end_so K V S same hash name terms log beginning map i c first before
     numbers = numbers_over log (name i) e.outcome e.steps e.effects e.event midst.of_call (subst (λ (x : Moment K V). NumbersMaps x × PairsAreBelow x) (sym worked_is) numbers);
     kept = stays_kept K V name come last then_known s2 s2
         (calls_come_to_kept K V same name v then_known s2 all.0 (calls_keep_kept K V S same hash name m known s old new at whole midst.calls.kept map i u here said leads) (name i) e.outcome e.steps none)
-        alike.calls alike.tables (ap (λ (x : Moment K V). x.deferred) worked_is) alike.place refl refl refl;
-    made = stays_made K V name come last then_known s2 s2
-        (calls_come_to_made K V same name v then_known s2 all.0 (calls_keep_made K V S same hash name m known s old new at whole midst.calls.made map i u here said leads).1 (name i) e.outcome e.steps none)
-        alike.calls refl;
-    counts = stays_counts K V name come last s2 s2
-        (calls_come_to_counts K V same name v then_known s2 all.0 (calls_keep_counts K V S same hash name m known s old new at whole midst.calls.counts map i u here said leads).1 (name i) e.outcome e.steps none)
-        alike.calls refl;
-    looking = stays_looking K V name come last s2 s2
-        (calls_come_to_looking K V same name v then_known s2 all.0 (calls_keep_looking K V S same hash name m known s old new at whole midst.calls.looking map i u here said leads).1 (name i) e.outcome e.steps none)
-        alike.calls refl;
+        alike.calls alike.tables (ap (λ (x : Moment K V). x.deferred) worked_is) alike.place refl refl refl refl;
     counters = counters_stay K V name come last s2 s2
-        (calls_come_to_counters K V same name v then_known s2 all.0 (calls_keep_counters K V S same hash name m known s old new at whole midst.calls.counts midst.calls.counters map i u here said leads) (name i) e.outcome
+        (calls_come_to_counters K V same name v then_known s2 all.0 (calls_keep_counters K V S same hash name m known s old new at whole midst.calls.kept.counts midst.calls.counters map i u here said leads) (name i) e.outcome
         e.steps none)
         alike.calls (ap (λ (x : Moment K V). x.shards) worked_is) refl refl refl (λ of j x is removed adds. (x, is, adds));
+    uncounted = uncounted_over log (name i) e.outcome e.steps e.effects e.event midst.of_call (subst NoneCounted (sym worked_is)
+        (calls_leave_uncounted same hash name m known s old new at whole midst.calls.kept midst.calls.counters midst.calls.uncounted map i u here said leads below));
     dues = over.1;
     as_called = over.2;
     questions = events_keep_questions K V log e run.calls.questions still;
@@ -100,28 +95,28 @@ call_events_end_so K V S same hash name terms log beginning map i c first before
   over = over_stays_back K V terms log e goes reclaims run.over;
 }
   where
-    abbrev whole : ShowsWhole same name m known s
+    whole : ShowsWhole same name m known s
     whole = midst.calls.whole
 
-    abbrev here : s.calls map i ≡ Some u
+    here : s.calls map i ≡ Some u
     here = here_of same name log beginning map i c done m known s u midst.event_so
 
-    abbrev effects : List Effect
+    effects : List Effect
     effects = effects_of (acts.Call i map) known new.memory.changed
 
-    abbrev v : Moment K V
+    v : Moment K V
     v = with_effects (Some (name i)) (Some map) effects m
 
-    abbrev then_known : Known
+    then_known : Known
     then_known = known_after (acts.Call i map) new.memory.changed known
 
-    abbrev s2 : Scene K V
+    s2 : Scene K V
     s2 = scene_after same hash s old new map i (leads map u here).0 u (leads map u here).1 said (leads map u here).4
 
-    abbrev come : Moment K V
+    come : Moment K V
     come = come_to (name i) e.outcome e.steps v
 
-    abbrev last : Moment K V
+    last : Moment K V
     last = after e (moment log)
 
     all : ShowsWhole same name v then_known s2 × ShowsDue same name log v then_known s2 × ShowsAsCalled same name v then_known s2
@@ -167,7 +162,7 @@ call_events_end_so K V S same hash name terms log beginning map i c first before
     stored = subst (λ (fs : List Effect). AtEachEffect (StoresOne (Some (name i))) (Some (name i)) (Some map) fs beginning) (sym effects_are)
         (several_store_one K V (name i) map done effects beginning midst.stores
         (subst (λ (x : Moment K V). AtEachEffect (StoresOne (Some (name i))) (Some (name i)) (Some map) effects x) midst.worked
-            (steps_store_one K V S same hash name m known s old new at whole map i u here said leads)))
+        (steps_store_one K V S same hash name m known s old new at whole map i u here said leads)))
 
     goes : GoesInOrder terms log e
     goes = record {

@@ -1,7 +1,7 @@
 -- An event of a call keeps its promises once its last step is made.
-use Rattle.std.specs.Prelude.{◌≡◌, ℕ, Bool, true, false, List, Some}
+use Rattle.std.specs.Prelude.{◌≡◌, ◌⊎◌, [], ℕ, Bool, true, false, List, Some}
 use Rattle.std.specs.List.{list_all}
-use Rattle.std.proofs.Common.{ap, sym, subst, ◌∙◌}
+use Rattle.std.proofs.Common.{refl, ap, sym, subst, ◌∙◌, inl, inr}
 use Rattle.papaya_histories.specs.Given.SeizeWords.declared.fault.Fault.TheVariants.{Busy}
 use Rattle.papaya_histories.specs.Given.Schedules.declared.effect.Effect.{Effect}
 use Rattle.papaya_histories.specs.Given.Schedules.declared.event.Event.{Event}
@@ -12,7 +12,7 @@ use Rattle.papaya_histories.specs.Given.Schedules.After.{after, moment, moments_
 use Rattle.papaya_histories.specs.Given.Schedules.Beginning.{at_work}
 use Rattle.papaya_histories.specs.Given.Schedules.Effects.{with_effects, worked}
 use Rattle.papaya_histories.specs.Given.Schedules.Entry.{caller_of, is_busy}
-use Rattle.papaya_histories.specs.Given.Schedules.Handing.{AllFind, IsWhole, is_call_effect, is_granted}
+use Rattle.papaya_histories.specs.Given.Schedules.Handing.{AllFind, IsWhole, is_call_effect, is_granted, may_do}
 use Rattle.papaya_histories.specs.Given.Schedules.Linearizable.{IsLinearizable}
 use Rattle.papaya_histories.specs.Given.Schedules.Moment.{Moment}
 use Rattle.papaya_histories.specs.Given.Schedules.Reclaims.{IsProtected}
@@ -28,13 +28,15 @@ use Rattle.papaya_promises.specs.Protected.{InMidst}
 use Rattle.papaya_promises.specs.Sheltered.{SectionsHold}
 use Rattle.papaya_promises.proofs.Protected.{calls_protect, other_events_end_protected}
 use Rattle.papaya_promises.proofs.Weights.{grants_add_up, operations_are_single}
+use Rattle.papaya_finds.specs.Doing.{takes_steps}
 use Rattle.papaya_finds.specs.Parts.{FindAll}
 use Rattle.papaya_finds.proofs.Doing.{events_may_do, several_do_theirs}
-use Rattle.papaya_finds.proofs.Joined.{events_find_all, several_find_all}
+use Rattle.papaya_finds.proofs.Joined.{events_find_all}
 use Rattle.papaya_finds.proofs.Over.{acts as acts_on_its}
 use Rattle.papaya_finds.proofs.Steps.{steps_do_theirs}
 use Rattle.papaya_legal.specs.CallEvents.{CallEventsAreLegal}
 use Rattle.papaya_legal.proofs.Calls.{out_of_slots}
+use Rattle.papaya_legal.proofs.CallReads.{reads_briefly}
 
 -- an event of a call that was not kept out need do nothing whole
 module _ {K V : Type 0} (own : List ℕ) (effects : List Effect) (m w : Moment K V) where
@@ -50,16 +52,14 @@ module _ {K V : Type 0} (own : List ℕ) (effects : List Effect) (m w : Moment K
   whole_so _ outcome is busy = absurd (cc is)
 
 pub call_events_are_legal : (K V S : Type 0) (same : K → K → Bool) (hash : K → ℕ) → CallEventsAreLegal K V S same hash
-call_events_are_legal K V S same hash name terms log beginning map i c c_is steps done m known s u e midst questions old new at said leads begins acted effects_are comes steps_taken busy finds brief swept refuses leaves by_model = (
+call_events_are_legal K V S same hash name terms log beginning map i c c_is steps done m known s u e midst questions old new at said leads begins acted effects_are comes steps_taken busy finds few_steps swept refuses leaves by_model = (
   record {
-    brief = brief;
+    brief = reads_briefly K V S same hash name terms log beginning map i c steps done m known s u e midst old new at said leads begins acted effects_are few_steps;
     linearizable = asked.0;
     swept = swept;
     life = record {
       finds = all_find;
-      may = events_may_do K V e.event (moment log) e.effects steps_taken
-          (subst (λ (fs : List Effect). list_all is_call_effect fs ≡ true) (sym effects_are)
-          (several_do_theirs done effects midst.kinds (steps_do_theirs K V S same hash name m known s old new at whole map i u here said leads)));
+      may = allowed steps_taken;
       granted = subst (λ (fs : List Effect). is_granted false fs ≡ true) (sym effects_are)
           (grants_add_up done effects midst.granted (operations_are_single (acts.Call i map) known new.memory.changed).1);
       refuses = refuses;
@@ -72,19 +72,19 @@ call_events_are_legal K V S same hash name terms log beginning map i c c_is step
   safe.1,
 )
   where
-    abbrev whole : ShowsWhole same name m known s
+    whole : ShowsWhole same name m known s
     whole = midst.calls.whole
 
-    abbrev here : s.calls map i ≡ Some u
+    here : s.calls map i ≡ Some u
     here = here_of same name log beginning map i c done m known s u midst.event_so
 
-    abbrev effects : List Effect
+    effects : List Effect
     effects = effects_of (acts.Call i map) known new.memory.changed
 
-    abbrev v : Moment K V
+    v : Moment K V
     v = with_effects (Some (name i)) (Some map) effects m
 
-    abbrev then_known : Known
+    then_known : Known
     then_known = known_after (acts.Call i map) new.memory.changed known
 
     asked : IsLinearizable same log e × EventAsksStill log e
@@ -94,14 +94,9 @@ call_events_are_legal K V S same hash name terms log beginning map i c c_is step
     its_map : map ≡ c.map
     its_map = let both : Some map ≡ Some c.map = sym acted ∙ acts_on_its e.event beginning (name i) c midst.of_call c_is in cc both
 
-    found : FindAll terms (moments_from c.begun log) (name i) map e.effects beginning
-    found = subst (λ (fs : List Effect). FindAll terms (moments_from c.begun log) (name i) map fs beginning) (sym effects_are)
-        (several_find_all K V terms (moments_from c.begun log) (name i) map done effects beginning midst.finds
-        (subst (λ (x : Moment K V). FindAll terms (moments_from c.begun log) (name i) map effects x) midst.worked finds))
-
     all_find : AllFind terms log e (at_work e (moment log))
     all_find = subst (λ (b : Moment K V). AllFind terms log e b) (sym begins)
-        (events_find_all K V terms log e beginning (name i) c midst.of_call c_is (subst (λ (n : ℕ). FindAll terms (moments_from c.begun log) (name i) n e.effects beginning) its_map found))
+        (events_find_all K V terms log e beginning (name i) c midst.of_call c_is (subst (λ (n : ℕ). FindAll terms (moments_from c.begun log) (name i) n e.effects beginning) its_map finds))
 
     worked_so : v ≡ with_effects (Some (name i)) (Some map) e.effects beginning
     worked_so = ap (λ (x : Moment K V). with_effects (Some (name i)) (Some map) effects x) midst.worked ∙ sym (effects_after (Some (name i)) (Some map) done effects beginning)
@@ -111,3 +106,10 @@ call_events_are_legal K V S same hash name terms log beginning map i c c_is step
     safe = other_events_end_protected K V log e beginning v (Some (name i)) (Some map) then_known (leads map u here).4.w2 (out_of_slots (name i) e.event midst.of_call) begins midst.of_call acted worked_so
         (subst (λ (fs : List Effect). InMidst e.event fs v then_known (leads map u here).4.w2) (sym effects_are)
         (calls_protect K V S same hash name m known s old new at whole map i u here said leads e.event (out_of_slots (name i) e.event midst.of_call) done midst.protects))
+
+    -- it may do all that, if it takes steps at all
+    allowed : (takes_steps e.event ≡ true) ⊎ (e.effects ≡ []) → list_all (may_do e.event (moment log)) e.effects ≡ true
+    allowed (inl takes) = events_may_do K V e.event (moment log) e.effects takes
+        (subst (λ (fs : List Effect). list_all is_call_effect fs ≡ true) (sym effects_are)
+        (several_do_theirs done effects midst.kinds (steps_do_theirs K V S same hash name m known s old new at whole map i u here said leads)))
+    allowed (inr none) = subst (λ (fs : List Effect). list_all (may_do e.event (moment log)) fs ≡ true) (sym none) refl

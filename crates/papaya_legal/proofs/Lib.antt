@@ -1,12 +1,23 @@
 -- Lemmas on the events of a run, and on what is carried from each to the next.
 pub mod Begin
+pub mod Uncounted
+pub mod Between
+pub mod CallChanges
+pub mod CallReads
 pub mod Calls
+pub mod CallBegins
+pub mod CallFollows
 pub mod CallsEnd
 pub mod Slots
 pub mod SlotsEnd
 pub mod Maps
 pub mod MapsEnd
 pub mod CallsAfter
+pub mod CallRuns
 pub mod SlotsAfter
+pub mod Over
 pub mod Idle
+pub mod Begun
+pub mod MapsOver
+pub mod Chains
 pub mod Legal

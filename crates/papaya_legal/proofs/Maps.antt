@@ -1,9 +1,7 @@
 -- Events that make a map, or end one, from step to step.
-use Rattle.std.specs.Prelude.{◌≡◌, ◌<◌, ℕ, Bool, ◌&&◌, List, ◌++◌, Option, Some, None}
-use Rattle.std.specs.List.{list_all}
+use Rattle.std.specs.Prelude.{◌≡◌, ◌<◌, ℕ, Bool, List, ◌++◌, Option, Some, None}
 use Rattle.std.proofs.Common.{refl, ap, sym, subst, ◌∙◌, inl, inr}
 use Rattle.std.proofs.lemmas.Bool.{cases_eq}
-use Rattle.std.proofs.lemmas.List.Folds.{list_all-append}
 use Rattle.papaya_histories.specs.Given.Seize.World.{World}
 use Rattle.papaya_histories.specs.Given.Seize.declared.progress.Progress.{Progress as Making}
 use Rattle.papaya_histories.specs.Given.Seize.declared.progress.Progress.TheVariants as progress
@@ -12,10 +10,7 @@ use Rattle.papaya_histories.specs.Given.Seize.declared.rows.settle.Settled.TheVa
 use Rattle.papaya_histories.specs.Given.Tables.declared.node.Node.{Node}
 use Rattle.papaya_histories.specs.Given.Tables.declared.setting.Setting.{Setting}
 use Rattle.papaya_histories.specs.Given.Schedules.declared.effect.Effect.{Effect}
-use Rattle.papaya_histories.specs.Given.Schedules.After.{moment}
-use Rattle.papaya_histories.specs.Given.Schedules.Effects.{with_effects, AtEachEffect}
-use Rattle.papaya_histories.specs.Given.Schedules.Handing.{may_do}
-use Rattle.papaya_histories.specs.Given.Schedules.Lives.{Finds}
+use Rattle.papaya_histories.specs.Given.Schedules.Effects.{with_effects}
 use Rattle.papaya_histories.specs.Given.Schedules.Model.{sets_in, things_in}
 use Rattle.papaya_histories.specs.Given.Schedules.Moment.{Moment}
 use Rattle.papaya_histories.specs.Given.Teller.declared.changed.Changed.{Changed}
@@ -34,11 +29,6 @@ use Rattle.papaya_histories.specs.Given.Finishes.Makings.{Beginning}
 use Rattle.papaya_histories.specs.Given.Finishes.Maps.{Standing}
 use Rattle.papaya_histories.specs.Given.Others.Endings.{ending_after}
 use Rattle.papaya_histories.specs.Given.Others.Makings.{making_after}
-use Rattle.papaya_histories.proofs.Given.Others.Quiet.{calls_none}
-use Rattle.papaya_owes.proofs.EndsOfMaps.{endings_keep_made}
-use Rattle.papaya_owes.proofs.Looking.Between.{stays_looking}
-use Rattle.papaya_owes.proofs.MakingsOfMaps.{makings_keep_made}
-use Rattle.papaya_settles.proofs.Between.{stays_counts}
 use Rattle.papaya_histories.specs.Given.Moments.Whole.{ShowsWhole}
 use Rattle.papaya_histories.specs.Given.Moments.Numbers.{NumbersMaps, PairsAreBelow}
 use Rattle.papaya_histories.proofs.Given.Moments.After.{effects_after}
@@ -63,7 +53,8 @@ use Rattle.papaya_models.specs.MapEvents.{FollowsInMaking}
 use Rattle.papaya_models.proofs.Ends.{ends_go_on}
 use Rattle.papaya_models.proofs.MapEvents.{making_events_go_on}
 use Rattle.papaya_legal.specs.MapEvents.{EndEventsGoOn, MakingEventsGoOn}
-use Rattle.papaya_legal.proofs.Slots.{each_join}
+use Rattle.papaya_shards.proofs.ShardKept.{none_shards}
+use Rattle.papaya_legal.proofs.Uncounted.{none_counted}
 
 -- a map that stands as it does
 pub stands_so : {K : Type 0} (maps : ℕ → Option (Standing K)) (n : ℕ) (st : Standing K) → maps n ≡ Some st → HasStood maps n st
@@ -116,7 +107,7 @@ module _ {K V S : Type 0} (same : K → K → Bool) (hash : K → ℕ) (s : Scen
   made_stood (progress.Refused fault) leads n j x is st there = stands_so s.maps n st there
 
 pub making_events_go_on_so : (K V S : Type 0) (same : K → K → Bool) (hash : K → ℕ) → MakingEventsGoOn K V S same hash
-making_events_go_on_so K V S same hash name terms log event beginning done m known s i b here midst old new at size below said leads was_new may finds = (
+making_events_go_on_so K V S same hash name terms log event beginning done m known s i b here midst old new at size below said leads was_new = (
   record {
     of_maps = midst.0.of_maps;
     calls = record {
@@ -124,10 +115,8 @@ making_events_go_on_so K V S same hash name terms log event beginning done m kno
       numbers = numbers_then m midst.0.calls.numbers b.map below (acts.Making b.map) refl known new.memory.changed;
       kept = makings_keep_kept K V S same hash name m known s old new at whole midst.0.calls.kept i said leads b here (Some b.map) was_new
           (made_at same hash s old new at i b here said leads) then_whole.all.shown;
-      made = (makings_keep_made K V S same hash name m known s old new at whole.all.shown midst.0.calls.made i said leads b here (Some b.map)).1;
-      counts = stays_counts K V name m v s (led same hash s old new at i b here said leads) midst.0.calls.counts (calls_none (Some b.map) effects m) (made_same same hash s old new at i b here said leads);
-      looking = stays_looking K V name m v s (led same hash s old new at i b here said leads) midst.0.calls.looking (calls_none (Some b.map) effects m) (made_same same hash s old new at i b here said leads);
       counters = makings_keep_counters K V S same hash name m known s old new at whole midst.0.calls.counters i said leads b here (Some b.map);
+      uncounted = none_counted None (Some b.map) effects m midst.0.calls.uncounted (none_shards (Some b.map) effects m);
       dues = (dues_stay K V S same hash name log).makings m known s old new at whole midst.0.calls.dues i said leads b here (Some b.map) was_new;
       as_called = (as_called_stays K V S same hash name).makings m known s old new at whole midst.0.calls.as_called i said leads b here (Some b.map) was_new;
       questions = effects_keep_questions K V None (Some b.map) effects m midst.0.calls.questions;
@@ -136,9 +125,6 @@ making_events_go_on_so K V S same hash name terms log event beginning done m kno
     reading = other_work_keeps_readings K V name log (λ j. 0) m s (led same hash s old new at i b here said leads) (Some b.map) effects (made_calls same hash s old new at i b here said leads)
         (made_stood same hash s old new at i b here said leads) midst.0.reading;
     worked = ap (λ (x : Moment K V). with_effects None (Some b.map) effects x) midst.0.worked ∙ sym (effects_after None (Some b.map) done effects beginning);
-    may = list_all-append (may_do event (moment log)) done effects ∙ ap (λ (q : Bool). q && list_all (may_do event (moment log)) effects) midst.0.may ∙ may;
-    finds = each_join (Finds terms None (Some b.map) false []) None (Some b.map) done effects beginning midst.0.finds
-        (subst (λ (x : Moment K V). AtEachEffect (Finds terms None (Some b.map) false []) None (Some b.map) effects x) midst.0.worked finds);
     granted = grants_add_up done effects midst.0.granted (operations_are_single (acts.Making b.map) known new.memory.changed).1;
     protects = subst (λ (w : World (Node K V)). InMidst event (done ++ effects) v then_known w) (sym (made_world same hash s old new at i b here said leads))
         (makings_protect K V S same hash name m known s old new at whole i said leads b here (Some b.map) was_new event midst.0.of_maps done midst.0.protects);
@@ -146,23 +132,23 @@ making_events_go_on_so K V S same hash name terms log event beginning done m kno
   λ alone. subst (λ (w : World (Node K V)). FollowsInMaking terms.batch_size terms.roots (things_in log) (sets_in terms.batch_size log) (done ++ effects) then_known w)
       (sym (made_world same hash s old new at i b here said leads))
       (subst (λ (n : ℕ). FollowsInMaking n terms.roots (things_in log) (sets_in terms.batch_size log) (done ++ effects) then_known (leads b here).2.step.w2) size
-          (making_events_go_on K V S same hash name m known s old new at whole i said leads b here (Some b.map) was_new terms.roots (things_in log) (sets_in terms.batch_size log) done
-          (subst (λ (n : ℕ). FollowsInMaking n terms.roots (things_in log) (sets_in terms.batch_size log) done known s.world) (sym size) (midst.1 alone)))),
+      (making_events_go_on K V S same hash name m known s old new at whole i said leads b here (Some b.map) was_new terms.roots (things_in log) (sets_in terms.batch_size log) done
+      (subst (λ (n : ℕ). FollowsInMaking n terms.roots (things_in log) (sets_in terms.batch_size log) done known s.world) (sym size) (midst.1 alone)))),
 )
   where
-    abbrev whole : ShowsWhole same name m known s
+    whole : ShowsWhole same name m known s
     whole = midst.0.calls.whole
 
-    abbrev effects : List Effect
+    effects : List Effect
     effects = effects_of (acts.Making b.map) known new.memory.changed
 
-    abbrev v : Moment K V
+    v : Moment K V
     v = with_effects None (Some b.map) effects m
 
-    abbrev then_known : Known
+    then_known : Known
     then_known = known_after (acts.Making b.map) new.memory.changed known
 
-    abbrev then_whole : ShowsWhole same name v then_known (led same hash s old new at i b here said leads)
+    then_whole : ShowsWhole same name v then_known (led same hash s old new at i b here said leads)
     then_whole = makings_keep_whole K V S same hash name m known s old new at whole i said leads b here (Some b.map) was_new
 
 -- A step of an end.
@@ -200,7 +186,7 @@ module _ {K V S : Type 0} (same : K → K → Bool) (hash : K → ℕ) (s : Scen
   ended_stood settled.Done leads n j x is st there = stands_so s.maps n st there
 
 pub end_events_go_on_so : (K V S : Type 0) (same : K → K → Bool) (hash : K → ℕ) → EndEventsGoOn K V S same hash
-end_events_go_on_so K V S same hash name terms log event map beginning first done m known s i f here not_there midst old new at size below said leads its may finds = (
+end_events_go_on_so K V S same hash name terms log event map beginning first done m known s i f here not_there midst old new at size below said leads its = (
   record {
     of_maps = midst.0.of_maps;
     calls = record {
@@ -208,10 +194,8 @@ end_events_go_on_so K V S same hash name terms log event map beginning first don
           (endings_find_kept K V S same hash name m known s old new at whole midst.0.calls.kept i said leads f here map not_there);
       numbers = numbers_then m midst.0.calls.numbers map below (acts.Ending map) refl known new.memory.changed;
       kept = endings_keep_kept K V S same hash name m known s old new at whole midst.0.calls.kept i said leads f here map not_there (ended_at same hash s old new i f here said leads);
-      made = (endings_keep_made K V S same hash name m known s old new at whole.all.shown midst.0.calls.made i said leads f here map not_there).1;
-      counts = stays_counts K V name m v s (ended same hash s old new i f here said leads) midst.0.calls.counts (calls_none (Some map) effects m) (ended_same same hash s old new i f here said leads);
-      looking = stays_looking K V name m v s (ended same hash s old new i f here said leads) midst.0.calls.looking (calls_none (Some map) effects m) (ended_same same hash s old new i f here said leads);
       counters = endings_keep_counters K V S same hash name m known s old new at midst.0.calls.counters i said leads f here map;
+      uncounted = none_counted None (Some map) effects m midst.0.calls.uncounted (none_shards (Some map) effects m);
       dues = (dues_stay K V S same hash name log).endings m known s old new at whole midst.0.calls.dues i said leads f here map not_there its;
       as_called = (as_called_stays K V S same hash name).endings m known s old new at whole midst.0.calls.as_called i said leads f here map not_there its;
       questions = effects_keep_questions K V None (Some map) effects m midst.0.calls.questions;
@@ -220,9 +204,6 @@ end_events_go_on_so K V S same hash name terms log event map beginning first don
     reading = other_work_keeps_readings K V name log (λ j. 0) m s (ended same hash s old new i f here said leads) (Some map) effects (ended_calls same hash s old new i f here said leads)
         (ended_stood same hash s old new i f here said leads) midst.0.reading;
     worked = ap (λ (x : Moment K V). with_effects None (Some map) effects x) midst.0.worked ∙ sym (effects_after None (Some map) done effects beginning);
-    may = list_all-append (may_do event (moment log)) done effects ∙ ap (λ (q : Bool). q && list_all (may_do event (moment log)) effects) midst.0.may ∙ may;
-    finds = each_join (Finds terms None (Some map) false []) None (Some map) done effects beginning midst.0.finds
-        (subst (λ (x : Moment K V). AtEachEffect (Finds terms None (Some map) false []) None (Some map) effects x) midst.0.worked finds);
     granted = grants_add_up done effects midst.0.granted (operations_are_single (acts.Ending map) known new.memory.changed).1;
     protects = subst (λ (w : World (Node K V)). InMidst event (done ++ effects) v then_known w) (sym (ended_world same hash s old new i f here said leads))
         (endings_protect K V S same hash name m known s old new at whole i said leads f here map not_there event midst.0.of_maps done midst.0.protects);
@@ -230,18 +211,18 @@ end_events_go_on_so K V S same hash name terms log event map beginning first don
   λ alone. subst (λ (w : World (Node K V)). FollowsInEnd terms.batch_size terms.roots (things_in log) (sets_in terms.batch_size log) first i (done ++ effects) then_known w)
       (sym (ended_world same hash s old new i f here said leads))
       (subst (λ (n : ℕ). FollowsInEnd n terms.roots (things_in log) (sets_in terms.batch_size log) first i (done ++ effects) then_known (leads f here).2.w2) size
-          (ends_go_on K V S same hash name m known s old new at whole i said leads f here map not_there terms.roots (things_in log) (sets_in terms.batch_size log) first done
-          (subst (λ (n : ℕ). FollowsInEnd n terms.roots (things_in log) (sets_in terms.batch_size log) first i done known s.world) (sym size) (midst.1 alone)))),
+      (ends_go_on K V S same hash name m known s old new at whole i said leads f here map not_there terms.roots (things_in log) (sets_in terms.batch_size log) first done
+      (subst (λ (n : ℕ). FollowsInEnd n terms.roots (things_in log) (sets_in terms.batch_size log) first i done known s.world) (sym size) (midst.1 alone)))),
 )
   where
-    abbrev whole : ShowsWhole same name m known s
+    whole : ShowsWhole same name m known s
     whole = midst.0.calls.whole
 
-    abbrev effects : List Effect
+    effects : List Effect
     effects = effects_of (acts.Ending map) known new.memory.changed
 
-    abbrev v : Moment K V
+    v : Moment K V
     v = with_effects None (Some map) effects m
 
-    abbrev then_known : Known
+    then_known : Known
     then_known = known_after (acts.Ending map) new.memory.changed known

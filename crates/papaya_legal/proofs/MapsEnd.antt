@@ -63,14 +63,14 @@ module _ {K V : Type 0} where
   never_refuses _ none = refl
 
 pub map_events_are_legal : (K V : Type 0) (same : K → K → Bool) → MapEventsAreLegal K V same
-map_events_are_legal K V same name terms log map beginning m known s e midst none begins acted whole by_model = (
+map_events_are_legal K V same name terms log map beginning m known s e midst may finds none begins acted whole by_model = (
   record {
     brief = subst (λ (o : Option (List ℕ)). IfCall (λ (c : CallThere K V). IsBrief c.call c (moments_from c.begun log) (worked e (moment log)) (c.steps + e.steps)) (acting o (worked e (moment log)))) (sym none) tt;
-    linearizable = no_calls_are_linearizable K V same log e none (all_shift_none e.event (moment log) e.effects midst.of_maps none midst.may);
+    linearizable = no_calls_are_linearizable K V same log e none (all_shift_none e.event (moment log) e.effects midst.of_maps none may);
     swept = no_calls_are_swept K V same terms log e none;
     life = record {
       finds = all_find;
-      may = midst.may;
+      may = may;
       granted = midst.granted;
       refuses = ap (λ (q : Bool). not q || not (list_any is_made e.effects)) (never_refuses e.event none);
       whole = whole;
@@ -83,14 +83,14 @@ map_events_are_legal K V same name terms log map beginning m known s e midst non
 )
   where
     -- each effect finds what it must of a call of this caller, if of any, on this map
-    abbrev AllBy : Option (List ℕ) → Option ℕ → Bool → Moment K V → Type 0
+    AllBy : Option (List ℕ) → Option ℕ → Bool → Moment K V → Type 0
     AllBy who o all b = AtEachEffect (Finds terms who o all (moments_of terms log (acting who b))) who o e.effects b
 
     all_find : AllFind terms log e (at_work e (moment log))
     all_find = subst (λ (b : Moment K V). AllBy (caller_of e.event) (acted_on e.event b) (gives_all e.event) b) (sym begins)
         (subst (λ (who : Option (List ℕ)). AllBy who (acted_on e.event beginning) (gives_all e.event) beginning) (sym none)
         (subst (λ (o : Option ℕ). AllBy None o (gives_all e.event) beginning) (sym acted)
-        (subst (λ (all : Bool). AllBy None (Some map) all beginning) (sym (gives_none e.event midst.of_maps)) midst.finds)))
+        (subst (λ (all : Bool). AllBy None (Some map) all beginning) (sym (gives_none e.event midst.of_maps)) finds)))
 
     safe : IsProtected log e × SectionsHold (after e (moment log)) known s.world
     safe = other_events_end_protected K V log e beginning m None (Some map) known s.world midst.of_maps begins none acted midst.worked midst.protects

@@ -1,8 +1,6 @@
 -- An event whose work is a row on a slot, from its beginning on.
-use Rattle.std.specs.Prelude.{◌≡◌, ℕ, Bool, true, ◌&&◌, List, [], ◌∷◌, ◌++◌, Option, None}
-use Rattle.std.specs.List.{list_all}
+use Rattle.std.specs.Prelude.{◌≡◌, ℕ, Bool, true, List, [], ◌∷◌, ◌++◌, Option, None}
 use Rattle.std.proofs.Common.{refl, ap, sym, subst, ◌∙◌}
-use Rattle.std.proofs.lemmas.List.Folds.{list_all-append}
 use Rattle.papaya_histories.specs.Given.Seize.World.{World, Request, Begin, Step}
 use Rattle.papaya_histories.specs.Given.Tables.declared.node.Node.{Node}
 use Rattle.papaya_histories.specs.Given.Schedules.declared.effect.Effect.{Effect}
@@ -11,8 +9,6 @@ use Rattle.papaya_histories.specs.Given.Schedules.declared.event.Event.TheVarian
 use Rattle.papaya_histories.specs.Given.Schedules.declared.outcome.Outcome.TheVariants.{Done}
 use Rattle.papaya_histories.specs.Given.Schedules.After.{moment}
 use Rattle.papaya_histories.specs.Given.Schedules.Effects.{with_effect, with_effects, AtEachEffect}
-use Rattle.papaya_histories.specs.Given.Schedules.Handing.{gives_all, may_do}
-use Rattle.papaya_histories.specs.Given.Schedules.Lives.{Finds}
 use Rattle.papaya_histories.specs.Given.Schedules.Model.{sets_in, things_in}
 use Rattle.papaya_histories.specs.Given.Schedules.Moment.{Moment}
 use Rattle.papaya_histories.specs.Given.Callers.Together.{IsOfSlots}
@@ -24,11 +20,6 @@ use Rattle.papaya_histories.specs.Given.Executor.Rows.{request_of}
 use Rattle.papaya_histories.specs.Given.Executor.declared.row.SlotCall.{SlotCall}
 use Rattle.papaya_histories.specs.Given.Executor.declared.row.SlotCall.TheVariants as call
 use Rattle.papaya_histories.specs.Given.Others.Rows.{scene_then}
-use Rattle.papaya_histories.proofs.Given.Others.Quiet.{calls_none}
-use Rattle.papaya_owes.proofs.Aside.{stays_made}
-use Rattle.papaya_owes.proofs.Looking.Between.{stays_looking}
-use Rattle.papaya_owes.proofs.RowsOnSlots.{rows_keep_made}
-use Rattle.papaya_settles.proofs.Between.{stays_counts}
 use Rattle.papaya_histories.specs.Given.Moments.OnSlots.{HadRetired}
 use Rattle.papaya_histories.specs.Given.Moments.Whole.{ShowsWhole}
 use Rattle.papaya_histories.proofs.Given.Moments.After.{effects_after}
@@ -51,6 +42,8 @@ use Rattle.papaya_models.specs.OnSlots.{FollowsInRow}
 use Rattle.papaya_models.proofs.MapEvents.{moments_note_once}
 use Rattle.papaya_models.proofs.OnSlots.{slot_events_begin, slot_events_go_on}
 use Rattle.papaya_legal.specs.SlotEvents.{SlotEventsBegin, SlotEventsGoOn}
+use Rattle.papaya_shards.proofs.ShardKept.{none_shards}
+use Rattle.papaya_legal.proofs.Uncounted.{none_counted}
 
 -- each row on a slot is one
 of_slots : (slot : ℕ) (called : SlotCall) → IsOfSlots (request_of slot called)
@@ -87,7 +80,6 @@ slot_events_begin_so K V S same hash name terms log known s old new at size run 
     let m = moment log in
     let request = request_of (slot_of i) called in
     let to = (leads may).3 in
-    let led = scene_then same hash (Begin i request) s old new to in
     record {
       of_slots = on;
       once = moments_note_once K V same name m known s run.calls.whole;
@@ -95,10 +87,8 @@ slot_events_begin_so K V S same hash name terms log known s old new at size run 
         whole = rows_begin_whole K V S same hash name m known s old new at run.calls.whole called i may leads;
         numbers = run.calls.numbers;
         kept = rows_begin_kept K V S same hash name m known s old new at run.calls.kept called i may leads;
-        made = stays_made K V name m m known s led run.calls.made refl refl;
-        counts = stays_counts K V name m m s led run.calls.counts refl refl;
-        looking = stays_looking K V name m m s led run.calls.looking refl refl;
         counters = rows_begin_counters K V S same hash name m s old new at run.calls.counters called i may leads;
+        uncounted = run.calls.uncounted;
         dues = (dues_stay K V S same hash name log).rows_begin m known s old new at run.calls.whole run.calls.dues called i may leads;
         as_called = (as_called_stays K V S same hash name).rows_begin m known s old new at run.calls.whole run.calls.as_called called i may leads;
         questions = run.calls.questions;
@@ -106,28 +96,24 @@ slot_events_begin_so K V S same hash name terms log known s old new at size run 
       };
       reading = rows_keep_readings K V S same hash name log (λ j. 0) m s old new (Begin i request) to [] run.reading;
       worked = refl;
-      may = refl;
-      finds = tt;
       granted = refl;
       protects = rows_begin_protect K V S same hash m known s old new called i may leads event spares [] (slots_protected m known s.world run.sections event on);
       follows = λ alone.
-          subst (λ (n : ℕ). FollowsInRow n terms.roots (things_in log) (sets_in terms.batch_size log) known i request [] known to.0) size
-              (slot_events_begin K V old.batch_size terms.roots (things_in log) (sets_in terms.batch_size log) known s.world to.0
-              (subst (λ (n : ℕ). FollowsSets n terms.roots (things_in log) (sets_in terms.batch_size log) known s.world) (sym size) (before alone)) i request (of_slots (slot_of i) called) to.1.0 to.1.1);
+          subst (λ (n : ℕ). FollowsInRow n terms.roots (things_in log) (sets_in terms.batch_size log) known i request s.world [] known to.0) size
+          (slot_events_begin K V old.batch_size terms.roots (things_in log) (sets_in terms.batch_size log) known s.world to.0
+          (subst (λ (n : ℕ). FollowsSets n terms.roots (things_in log) (sets_in terms.batch_size log) known s.world) (sym size) (before alone)) i request (of_slots (slot_of i) called) to.1.0 to.1.1);
     }
 
 pub slot_events_go_on_so : (K V S : Type 0) (same : K → K → Bool) (hash : K → ℕ) → SlotEventsGoOn K V S same hash
-slot_events_go_on_so K V S same hash name terms log event i called first done m known s midst old new at size said leads row here may finds = record {
+slot_events_go_on_so K V S same hash name terms log event i called first began done m known s midst old new at size said leads row here = record {
   of_slots = midst.of_slots;
   once = midst.once;
   calls = record {
     whole = rows_keep_whole K V S same hash name m known s old new at whole i said leads row here found.0 found.1;
     numbers = (rows_keep_numbers K V S same hash m midst.calls.numbers.0 known s old new i said leads row here, effects_keep_pairs K V m midst.calls.numbers.1 None None effects (λ n is. absurd (cc is)));
     kept = rows_keep_kept K V S same hash name m known s old new at whole midst.calls.kept i said leads row here;
-    made = (rows_keep_made K V S same hash name m known s old new at whole.all.shown midst.calls.made i said leads row here).1;
-    counts = stays_counts K V name m v s led midst.calls.counts (calls_none None effects m) refl;
-    looking = stays_looking K V name m v s led midst.calls.looking (calls_none None effects m) refl;
     counters = rows_keep_counters K V S same hash name m known s old new at whole midst.calls.counters i said leads row here;
+    uncounted = none_counted None None effects m midst.calls.uncounted (none_shards None effects m);
     dues = (dues_stay K V S same hash name log).rows m known s old new at whole midst.calls.dues i said leads row here found.0;
     as_called = (as_called_stays K V S same hash name).rows m known s old new at whole midst.calls.as_called i said leads row here found.0;
     questions = effects_keep_questions K V None None effects m midst.calls.questions;
@@ -135,31 +121,27 @@ slot_events_go_on_so K V S same hash name terms log event i called first done m 
   };
   reading = rows_keep_readings K V S same hash name log (λ j. 0) m s old new (Step i) (leads row here).4 effects midst.reading;
   worked = ap (λ (x : Moment K V). with_effects None None effects x) midst.worked ∙ sym (effects_after None None done effects (moment log));
-  may =
-      list_all-append (may_do event (moment log)) done effects ∙ ap (λ (q : Bool). q && list_all (may_do event (moment log)) effects) midst.may ∙ may;
-  finds = each_join (Finds terms None None (gives_all event) []) None None done effects (moment log) midst.finds
-      (subst (λ (x : Moment K V). AtEachEffect (Finds terms None None (gives_all event) []) None None effects x) midst.worked finds);
   granted = grants_add_up done effects midst.granted (operations_are_single acts.Row known new.memory.changed).1;
   protects = rows_protect K V S same hash name m known s old new at whole i said leads row here event midst.of_slots done midst.protects;
   follows = λ alone.
-      subst (λ (n : ℕ). FollowsInRow n terms.roots (things_in log) (sets_in terms.batch_size log) first i request (done ++ effects) (known_after acts.Row new.memory.changed known) (leads row here).4.0) size
-          (slot_events_go_on K V S same hash m known s old new at whole.all.shown.blocks i said leads row here terms.roots (things_in log) (sets_in terms.batch_size log) first request done
-          (subst (λ (n : ℕ). FollowsInRow n terms.roots (things_in log) (sets_in terms.batch_size log) first i request done known s.world) (sym size) (midst.follows alone)));
+      subst (λ (n : ℕ). FollowsInRow n terms.roots (things_in log) (sets_in terms.batch_size log) first i request began (done ++ effects) (known_after acts.Row new.memory.changed known) (leads row here).4.0) size
+      (slot_events_go_on K V S same hash m known s old new at whole.all.shown.blocks i said leads row here terms.roots (things_in log) (sets_in terms.batch_size log) first request began done
+      (subst (λ (n : ℕ). FollowsInRow n terms.roots (things_in log) (sets_in terms.batch_size log) first i request began done known s.world) (sym size) (midst.follows alone)));
 }
   where
-    abbrev whole : ShowsWhole same name m known s
+    whole : ShowsWhole same name m known s
     whole = midst.calls.whole
 
-    abbrev request : Request
+    request : Request
     request = request_of (slot_of i) called
 
-    abbrev effects : List Effect
+    effects : List Effect
     effects = effects_of acts.Row known new.memory.changed
 
-    abbrev v : Moment K V
+    v : Moment K V
     v = with_effects None None effects m
 
-    abbrev led : Scene K V
+    led : Scene K V
     led = scene_then same hash (Step i) s old new (leads row here).4
 
     found : AtEachEffect HadRetired None None effects m × AtEachEffect WaitUnreclaimed None None effects m

@@ -126,15 +126,15 @@ module _ {K V : Type 0} (effects : List Effect) (m w : Moment K V) where
   whole_so Close _ on busy = tt
   whole_so _ outcome on busy = absurd (cc on)
 
-pub slot_events_are_legal : (K V S : Type 0) (same : K → K → Bool) (hash : K → ℕ) → SlotEventsAreLegal K V S same hash
-slot_events_are_legal K V S same hash name terms log i called first m known s e midst small rests ends busy is_row = (
+pub slot_events_are_legal : (K V : Type 0) (same : K → K → Bool) → SlotEventsAreLegal K V same
+slot_events_are_legal K V same name terms log i called first began m known s e midst may finds small rests ends busy is_row = (
   record {
     brief = subst (λ (o : Option (List ℕ)). IfCall (λ (c : CallThere K V). IsBrief c.call c (moments_from c.begun log) (worked e (moment log)) (c.steps + e.steps)) (acting o (worked e (moment log)))) (sym none) tt;
-    linearizable = no_calls_are_linearizable K V same log e none (all_shift_none e.event (moment log) e.effects midst.of_slots midst.may);
+    linearizable = no_calls_are_linearizable K V same log e none (all_shift_none e.event (moment log) e.effects midst.of_slots may);
     swept = no_calls_are_swept K V same terms log e none;
     life = record {
-      finds = finds_so terms log e.effects e.event e.outcome e.steps midst.of_slots midst.finds;
-      may = midst.may;
+      finds = finds_so terms log e.effects e.event e.outcome e.steps midst.of_slots finds;
+      may = may;
       granted = midst.granted;
       refuses = ap (λ (q : Bool). not q || not (list_any is_made e.effects)) (never_refuses e.event midst.of_slots);
       whole = whole_so e.effects (moment log) (worked e (moment log)) e.event e.outcome midst.of_slots busy;
@@ -155,7 +155,7 @@ slot_events_are_legal K V S same hash name terms log i called first m known s e 
 
     followed : ComesAlone e.event log → IsFollowed terms log e known s.world
     followed alone =
-        slot_events_end K V terms log e first i (request_of (slot_of i) called) known s.world small midst.once (midst.follows alone) rests m midst.calls.whole.all.shown.blocks (is_row alone)
+        slot_events_end K V terms log e first i (request_of (slot_of i) called) known began s.world small midst.once (midst.follows alone) rests m midst.calls.whole.all.shown.blocks (is_row alone)
 
     before : (after e (moment log)).is_alone ≡ true → ComesAlone e.event log
     before alone = subst (λ (q : Bool). ((moment log).is_alone && (q || list_all (is_by (speaker e.event)) (moment log).calls)) ≡ true) busy alone

@@ -1,16 +1,19 @@
 -- Events in which a call takes steps: in the midst of one, and at its end.
-use Rattle.std.specs.Prelude.{◌≡◌, ◌≢◌, ℕ, ◌+◌, ◌==◌, Bool, true, false, List, [], ◌∷◌, ◌++◌, Some, if◌then◌else◌, not, ◌||◌, ◌⊎◌}
+use Rattle.std.specs.Prelude.{◌≡◌, ◌⊎◌, ◌≢◌, ◌≤◌, ℕ, ◌+◌, ◌==◌, Bool, true, false, List, [], ◌∷◌, ◌++◌, Some, if◌then◌else◌, not, ◌||◌}
 use Rattle.std.specs.List.{list_all, list_any}
+use Rattle.papaya_histories.specs.Given.SeizeWaiting.Held.{count}
 use Rattle.papaya_histories.specs.Given.Seize.World.{World, Rests, Request, Begin, Step, Happens}
 use Rattle.papaya_histories.specs.Given.Tables.Nodes.{deferred_word}
 use Rattle.papaya_histories.specs.Given.Tables.declared.node.Node.{Node}
 use Rattle.papaya_histories.specs.Given.Raw.declared.machines.progress.Progress.{Progress}
 use Rattle.papaya_histories.specs.Given.Schedules.declared.effect.Effect.{Effect}
+use Rattle.papaya_histories.specs.Given.Schedules.declared.call.Call.{Call}
 use Rattle.papaya_histories.specs.Given.Schedules.declared.event.Event.{Event}
+use Rattle.papaya_histories.specs.Given.Schedules.declared.event.Event.TheVariants.{OneCall, Next}
 use Rattle.papaya_histories.specs.Given.Schedules.After.{moment, moments_from, after}
-use Rattle.papaya_histories.specs.Given.Schedules.Beginning.{at_work}
+use Rattle.papaya_histories.specs.Given.Schedules.Beginning.{at_work, fresh_call, with_call}
 use Rattle.papaya_histories.specs.Given.Schedules.Effects.{with_effects, AtEachEffect}
-use Rattle.papaya_histories.specs.Given.Schedules.Entry.{Entry, acted_on, caller_of, ends_call, IfCall, acting, is_busy}
+use Rattle.papaya_histories.specs.Given.Schedules.Entry.{Entry, acted_on, caller_of, ends_call, IfCall, acting, is_busy, nameless}
 use Rattle.papaya_histories.specs.Given.Schedules.Handing.{MovesOn, is_call_effect, is_granted, LeavesOf, comes_clear, is_made, refuses}
 use Rattle.papaya_histories.specs.Given.Schedules.InTurn.{ComesRight}
 use Rattle.papaya_histories.specs.Given.Schedules.Linearizable.{IsLinearizable}
@@ -22,31 +25,37 @@ use Rattle.papaya_histories.specs.Given.Schedules.Effects.{worked}
 use Rattle.papaya_histories.specs.Given.Schedules.Sweeps.{IsSwept}
 use Rattle.papaya_histories.specs.Given.Schedules.Terms.{Terms}
 use Rattle.papaya_histories.specs.Given.Schedules.Views.{call_of}
-use Rattle.papaya_histories.specs.Given.Callers.Together.{UnderWay, HandsOver}
+use Rattle.papaya_histories.specs.Given.Sweeps.SweepPoints.{after_next}
+use Rattle.papaya_histories.specs.Given.Callers.OverAll.{CallOverAll, gone_on}
+use Rattle.papaya_histories.specs.Given.Callers.Together.{UnderWay, OverAll, HandsOver}
 use Rattle.papaya_histories.specs.Given.Effects.Effects.{effects_of, known_after}
 use Rattle.papaya_histories.specs.Given.Effects.Known.{Known}
 use Rattle.papaya_histories.specs.Given.Effects.declared.acting.Acting.TheVariants as acts
 use Rattle.papaya_histories.specs.Given.Executor.IsAt.{Scene, IsAt, slot_of}
+use Rattle.papaya_histories.specs.Given.Executor.Beginning.{Begins}
+use Rattle.papaya_histories.specs.Given.Executor.Replying.{AskLeads, scene_with}
+use Rattle.papaya_histories.specs.Given.Finishes.Maps.{Standing}
 use Rattle.papaya_histories.specs.Given.Executor.Stepping.{StepLeads, has_ended, scene_after}
 use Rattle.papaya_histories.specs.Given.Executor.declared.executor.Executor.{Executor}
 use Rattle.papaya_histories.specs.InEvent.{ComesSo, InEvent, here_of}
 use Rattle.papaya_promises.specs.Protected.{InMidst}
-use Rattle.papaya_promises.specs.Reading.{ShowsReading}
+use Rattle.papaya_promises.specs.Reading.{ShowsReading, looks}
 use Rattle.papaya_promises.specs.Weights.{AreDoneBy}
-use Rattle.papaya_histories.specs.Kept.{ChangesFirst}
+use Rattle.papaya_histories.specs.Kept.{HasJustBegun}
 use Rattle.papaya_purposes.specs.Kept.{PairsChangeFirst, ShowsNone}
-use Rattle.papaya_purposes.specs.Shards.{ReadsShards}
-use Rattle.papaya_models.specs.CallEvents.{FollowsInEvent, IsNoted, things_then, IsInItsRow}
+use Rattle.papaya_purposes.specs.Shards.{NoneCounted as NoneAdded}
+use Rattle.papaya_shards.specs.ShardSteps.{AddsUp}
+use Rattle.papaya_models.specs.CallEvents.{FollowsInEvent, IsNoted, things_then, slot_of_call}
 use Rattle.papaya_finds.specs.Doing.{takes_steps}
 use Rattle.papaya_finds.specs.Life.{StoresOne}
 use Rattle.papaya_finds.specs.Parts.{FindAll}
 use Rattle.papaya_histories.specs.Questions.{ShowsQuestions, EventAsksStill}
 use Rattle.papaya_promises.specs.Sheltered.{SectionsHold}
 use Rattle.papaya_finds.specs.Little.{ReclaimsAll}
-use Rattle.papaya_histories.specs.Given.Follows.Calling.{come_to}
+use Rattle.papaya_histories.specs.Given.Follows.Calling.{come_to, NoneNamed}
 use Rattle.papaya_purposes.specs.Purposes.{ShowsPurposes}
-use Rattle.papaya_models.specs.Follows.{FollowsModel}
-use Rattle.papaya_legal.specs.Carried.{ComesAlone, ShowsCalls, ShowsRun}
+use Rattle.papaya_legal.specs.Between.{IsBegunRight}
+use Rattle.papaya_legal.specs.Carried.{ComesAlone, FollowsOrRows, ShowsCalls, ShowsRun}
 
 module _ {K V : Type 0} (same : K → K → Bool) (name : ℕ → List ℕ) (terms : Terms) (log : List (Entry K V)) (event : Event K V) (beginning : Moment K V) (map i : ℕ) (c : CallThere K V) where
   -- In the midst of an event of the call of caller i, which has made so many steps, and done this, since the moment at which it has begun what it begins.
@@ -59,9 +68,12 @@ module _ {K V : Type 0} (same : K → K → Bool) (name : ℕ → List ℕ) (ter
     pub few : AreDoneBy steps done
     pub granted : is_granted false done ≡ true
     pub reading : ShowsReading name log (λ j. if j == i then steps else 0) m s
-    -- life: what each effect finds, of which kind it is, and that a pair is stored by who has one
+    -- where it adds shards up, none was counted on
+    pub unadded : AddsUp u → NoneAdded log m map
+    -- one that only looks has done nothing
+    pub quiet : looks c.call ≡ true → (m.maps ≡ (moment log).maps) × (m.tables ≡ (moment log).tables)
+    -- life: of which kind each effect is, and that a pair is stored by who has one
     pub kinds : list_all is_call_effect done ≡ true
-    pub finds : FindAll terms (moments_from c.begun log) (name i) map done beginning
     pub stores : AtEachEffect (StoresOne (Some (name i))) (Some (name i)) (Some map) done beginning
     -- protected
     pub protects : InMidst event done m known s.world
@@ -78,16 +90,39 @@ pub record IsLegalBut {K V : Type 0} (same : K → K → Bool) (terms : Terms) (
   pub by_model : IsByModel terms log e
 
 module _ (K V S : Type 0) (same : K → K → Bool) (hash : K → ℕ) where
-  -- The promises: so it is where an event of a call that is under way begins, in whose midst alone a row may be if the event comes alone;
+  -- The promises: so it is where an event of a call that is under way has begun what it begins, in whose midst alone a row may be if the event comes alone;
   abbrev pub CallEventsBegin : Type 0
   CallEventsBegin =
-      (name : ℕ → List ℕ) (terms : Terms) (log : List (Entry K V)) (known : Known) (s : Scene K V) (x : Executor K V S) → IsAt same hash x s → ShowsRun same name terms log known s
-      → (event : Event K V) (map i : ℕ) → caller_of event ≡ Some (name i) → (u : UnderWay K V K) → s.calls map i ≡ Some u → (c : CallThere K V) → call_of (name i) (moment log) ≡ Some c
-      → (ComesAlone event log → (j : ℕ) → s.world.row j ≢ Rests → j ≡ i)
-      → InCallEvent same name terms log event (moment log) map i c 0 [] (moment log) known s u
+      (name : ℕ → List ℕ) (terms : Terms) (log : List (Entry K V)) (beginning : Moment K V) → HasJustBegun log beginning → beginning.maps ≡ (moment log).maps → beginning.tables ≡ (moment log).tables
+      → beginning.shards ≡ (moment log).shards
+      → (known : Known) (s : Scene K V) (x : Executor K V S) → IsAt same hash x s → ShowsCalls same name log beginning known s → ShowsReading name log (λ j. 0) beginning s
+      → SectionsHold beginning known s.world → ((moment log).is_alone ≡ true → FollowsOrRows terms log known s.world)
+      → (event : Event K V) (map i : ℕ) → caller_of event ≡ Some (name i) → (u : UnderWay K V K) → s.calls map i ≡ Some u → (c : CallThere K V) → call_of (name i) beginning ≡ Some c
+      → (ComesAlone event log → (j : ℕ) → s.world.row j ≢ Rests → j ≡ i) → InCallEvent same name terms log event beginning map i c 0 [] beginning known s u
 
-  -- after each step of it, where it goes on: no pair comes or goes twice, what a call reads of shards it may read, no pair of a walk is shown, the effects find what they must, what a row hands
-  -- over that begins with the step is noted, and lookups have read as much as they may by one step more;
+  -- so it is where a whole call begins that has no name, on a map that stands, by a caller that has no row under way,
+  abbrev pub WholeCallsBegin : Type 0
+  WholeCallsBegin =
+      (name : ℕ → List ℕ) (terms : Terms) (log : List (Entry K V)) (known : Known) (s : Scene K V) (old new : Executor K V S) → IsAt same hash old s → ShowsRun same name terms log known s
+      → (map i : ℕ) (standing : Standing K) → s.maps map ≡ Some standing → (u : UnderWay K V K) (call : Call K V) (guard : List ℕ) → Begins same standing i u → IsBegunRight same u call
+      → NoneNamed name (name i) s → s.world.row i ≡ Rests → IsAt same hash new (scene_with map i u s) → name i ≡ nameless
+      → (on : List ℕ) → (ComesAlone (OneCall guard on call) log → (j : ℕ) → s.world.row j ≢ Rests → j ≡ i)
+      → (let beginning = with_call (name i) guard call (Some map) (moment log) in
+      let c = fresh_call (name i) guard call map (moment log).events in
+      (call_of (name i) beginning ≡ Some c)
+      × InCallEvent same name terms log (OneCall guard on call) beginning map i c 0 [] beginning known (scene_with map i u s) u)
+
+  -- and where a walk that is ready is asked for its next pair;
+  abbrev pub NextsBegin : Type 0
+  NextsBegin =
+      (name : ℕ → List ℕ) (terms : Terms) (log : List (Entry K V)) (known : Known) (s : Scene K V) (old new : Executor K V S) → IsAt same hash old s → ShowsRun same name terms log known s
+      → (i : ℕ) (leads : AskLeads same hash i true s old new) (map : ℕ) (o : CallOverAll) (here : s.calls map i ≡ Some (OverAll o))
+      → (leads map (OverAll o) here).0 ≡ OverAll (gone_on o (after_next o.sweep)) → (c : CallThere K V) → call_of (name i) (moment log) ≡ Some c
+      → (ComesAlone (Next (name i)) log → (j : ℕ) → s.world.row j ≢ Rests → j ≡ i)
+      → InCallEvent same name terms log (Next (name i)) (moment log) map i c 0 [] (moment log) known (scene_with map i (leads map (OverAll o) here).0 s) (leads map (OverAll o) here).0
+
+  -- after each step of it, where it goes on: no pair comes or goes twice, no pair of a walk is shown, and what a row hands
+  -- over that begins with the step is noted;
   abbrev pub CallEventsGoOn : Type 0
   CallEventsGoOn =
       (name : ℕ → List ℕ) (terms : Terms) (log : List (Entry K V)) (event : Event K V) (beginning : Moment K V) (map i : ℕ) (c : CallThere K V) (steps : ℕ) (done : List Effect) (m : Moment K V) (known : Known)
@@ -97,13 +132,13 @@ module _ (K V S : Type 0) (same : K → K → Bool) (hash : K → ℕ) where
       let v = with_effects (Some (name i)) (Some map) effects m in
       let to = leads map u (here_of same name log beginning map i c done m known s u midst.event_so) in
       let s2 = scene_after same hash s old new map i to.0 u to.1 said to.4 in
-      PairsChangeFirst log m map v → ChangesFirst log m same map v → ReadsShards log m s map u → ShowsNone said → FindAll terms (moments_from c.begun log) (name i) map effects m
+      PairsChangeFirst log m map v → ShowsNone said
       → ((request : Request) (begun : World (Node K V)) → HandsOver to.0.setting i s.world request → Happens deferred_word old.batch_size (Begin i request) s.world begun
       → Happens deferred_word old.batch_size (Step i) begun to.4.w2 → IsNoted (things_then (things_in log) done) known (slot_of i) request)
-      → ShowsReading name log (λ j. if j == i then steps + 1 else 0) v s2 → (next : UnderWay K V K) → to.4.next ≡ Some next
+      → (next : UnderWay K V K) → to.4.next ≡ Some next
       → InCallEvent same name terms log event beginning map i c (steps + 1) (done ++ effects) v (known_after (acts.Call i map) new.memory.changed known) s2 next)
 
-  -- and the event that comes to what its last step says keeps its promises, if it reads briefly, does what it is for, is refused no growth that it made, leaves nothing behind, and is by the
+  -- and the event that comes to what its last step says keeps its promises, if its effects find what they must, if it made no more steps than these, does what it is for, is refused no growth that it made, leaves nothing behind, and is by the
   -- model; the sections of guards hold what they shelter.
   abbrev pub CallEventsAreLegal : Type 0
   CallEventsAreLegal =
@@ -111,9 +146,9 @@ module _ (K V S : Type 0) (same : K → K → Bool) (hash : K → ℕ) where
       → (steps : ℕ) (done : List Effect) (m : Moment K V) (known : Known) (s : Scene K V) (u : UnderWay K V K) (e : Entry K V) (midst : InCallEvent same name terms log e.event beginning map i c steps done m known s u)
       → ShowsQuestions beginning → (old new : Executor K V S) → IsAt same hash old s → (said : Progress (Node K V)) (leads : StepLeads same hash i said s old new)
       → at_work e (moment log) ≡ beginning → acted_on e.event beginning ≡ Some map → e.effects ≡ done ++ effects_of (acts.Call i map) known new.memory.changed
-      → ComesSo (known_after (acts.Call i map) new.memory.changed known) c.call c.replies said e.outcome → takes_steps e.event ≡ true → is_busy e.outcome ≡ false
-      → FindAll terms (moments_from c.begun log) (name i) map (effects_of (acts.Call i map) known new.memory.changed) m
-      → ReadsBriefly log e (worked e (moment log)) → IsSwept same terms log e → (not (refuses e.event) || not (list_any is_made e.effects)) ≡ true
+      → ComesSo (known_after (acts.Call i map) new.memory.changed known) c.call c.replies said e.outcome → (takes_steps e.event ≡ true) ⊎ (e.effects ≡ []) → is_busy e.outcome ≡ false
+      → FindAll terms (moments_from c.begun log) (name i) map e.effects beginning
+      → e.steps ≤ steps + 1 → IsSwept same terms log e → (not (refuses e.event) || not (list_any is_made e.effects)) ≡ true
       → IfCall (LeavesOf (comes_clear e.outcome) e.outcome) (acting (caller_of e.event) (worked e (moment log))) → IsByModel terms log e
       → IsLegalBut same terms log e
       × SectionsHold (after e (moment log)) (known_after (acts.Call i map) new.memory.changed known) (leads map u (here_of same name log beginning map i c done m known s u midst.event_so)).4.w2
@@ -132,6 +167,19 @@ module _ (K V S : Type 0) (same : K → K → Bool) (hash : K → ℕ) where
       let s2 = scene_after same hash s old new map i to.0 u to.1 said to.4 in
       let come = come_to (name i) e.outcome e.steps (with_effects (Some (name i)) (Some map) (effects_of (acts.Call i map) known new.memory.changed) m) in
       ShowsPurposes same name log come known2 s2 → ShowsReading name log (λ j. 0) come s2 → SectionsHold (after e (moment log)) known2 s2.world
-      → ((moment (e ∷ log)).is_alone ≡ true → FollowsModel terms.batch_size terms.roots (e ∷ log) known2 s2.world
-      ⊎ ((j : ℕ) × IsInItsRow terms.batch_size terms.roots (things_in (e ∷ log)) (sets_in terms.batch_size (e ∷ log)) (slot_of j) j known2 s2.world))
-      → ShowsRun same name terms (e ∷ log) known2 s2)
+      → ((moment (e ∷ log)).is_alone ≡ true → FollowsOrRows terms (e ∷ log) known2 s2.world) → ShowsRun same name terms (e ∷ log) known2 s2)
+
+  -- Where it is not kept out, it is by the model, if what a row hands over that begins with its last step is noted, and its slot is active; and the sets are those of the model after it, or the call
+  -- is in the midst of a row still.
+  abbrev pub CallEventsFollow : Type 0
+  CallEventsFollow =
+      (name : ℕ → List ℕ) (terms : Terms) (log : List (Entry K V)) (beginning : Moment K V) (map i : ℕ) (c : CallThere K V) (steps : ℕ) (done : List Effect) (m : Moment K V) (known : Known)
+      (s : Scene K V) (u : UnderWay K V K) (e : Entry K V) (midst : InCallEvent same name terms log e.event beginning map i c steps done m known s u)
+      → (old new : Executor K V S) → IsAt same hash old s → old.batch_size ≡ terms.batch_size → (said : Progress (Node K V)) (leads : StepLeads same hash i said s old new)
+      → e.effects ≡ done ++ effects_of (acts.Call i map) known new.memory.changed → is_busy e.outcome ≡ false
+      → (let to = leads map u (here_of same name log beginning map i c done m known s u midst.event_so) in
+      let known2 = known_after (acts.Call i map) new.memory.changed known in
+      ((request : Request) (begun : World (Node K V)) → HandsOver to.0.setting i s.world request → Happens deferred_word old.batch_size (Begin i request) s.world begun
+      → Happens deferred_word old.batch_size (Step i) begun to.4.w2 → IsNoted (things_then (things_in log) done) known (slot_of i) request)
+      → slot_of_call e.event (at_work e (moment log)) ≡ slot_of i → (ComesAlone e.event log → 1 ≤ count (slot_of i) (sets_in terms.batch_size log).active)
+      → IsByModel terms log e × ((moment (e ∷ log)).is_alone ≡ true → FollowsOrRows terms (e ∷ log) known2 to.4.w2))

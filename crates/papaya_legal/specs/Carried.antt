@@ -1,6 +1,8 @@
 -- What is so after each event of a run, of the moment and of the scene that it shows: by this each promise is had of the next event.
-use Rattle.std.specs.Prelude.{◌≡◌, ◌⊎◌, ℕ, Bool, true, ◌&&◌, List, []}
+use Rattle.std.specs.Prelude.{◌≡◌, ◌⊎◌, ◌≤◌, ℕ, Bool, true, ◌&&◌, List, []}
 use Rattle.std.specs.List.{list_all}
+use Rattle.papaya_histories.specs.Given.Seize.World.{World}
+use Rattle.papaya_histories.specs.Given.Tables.declared.node.Node.{Node}
 use Rattle.papaya_histories.specs.Given.Schedules.declared.event.Event.{Event}
 use Rattle.papaya_histories.specs.Given.Schedules.After.{is_by, moment}
 use Rattle.papaya_histories.specs.Given.Schedules.Entry.{Entry, speaker}
@@ -19,41 +21,44 @@ use Rattle.papaya_promises.specs.Sheltered.{SectionsHold}
 use Rattle.papaya_purposes.specs.Purposes.{ShowsPurposes}
 use Rattle.papaya_models.specs.CallEvents.{IsInItsRow}
 use Rattle.papaya_models.specs.Follows.{FollowsModel}
-use Rattle.papaya_shards.specs.ShardWords.{ShowsCounters}
+use Rattle.papaya_shards.specs.ShardWords.{IsUncounted, ShowsCounters}
 use Rattle.papaya_finds.specs.Little.{OverIsBack}
 use Rattle.papaya_finds.specs.Within.{AllIsInOrder, ReadyOweNone}
 use Rattle.papaya_kept.specs.Kept.{ShowsKept}
-use Rattle.papaya_owes.specs.Looking.{ShowsLooking}
-use Rattle.papaya_owes.specs.Made.{ShowsMade}
-use Rattle.papaya_settles.specs.Counts.{ShowsCounts}
 
 -- calls came one after another so far, and the event is one of those that do
 abbrev pub ComesAlone : {K V : Type 0} → Event K V → List (Entry K V) → Type 0
 ComesAlone event log = ((moment log).is_alone && list_all (is_by (speaker event)) (moment log).calls) ≡ true
 
--- What a moment shows beside who is there, wherever in an event it is, so far since the log: numbers of maps; what every step keeps; which blocks calls have made for pairs, which have pairs to count,
--- and which only look; the shards of maps; what calls owe as answers, are called for, and are for.
+-- nothing was counted on a map of a number that none has had yet
+abbrev pub NoneCounted : {K V : Type 0} → Moment K V → Type 0
+NoneCounted m = (of : ℕ) → m.made ≤ of → IsUncounted of m
+
+-- What a moment shows beside who is there, wherever in an event it is, so far since the log: numbers of maps; what every step keeps; the shards of maps; what calls owe as answers, are called for,
+-- have asked, and are for.
 pub record ShowsCalls {K V : Type 0} (same : K → K → Bool) (name : ℕ → List ℕ) (log : List (Entry K V)) (m : Moment K V) (known : Known) (s : Scene K V) : Type 0 where
   pub whole : ShowsWhole same name m known s
   pub numbers : NumbersMaps m × PairsAreBelow m
   pub kept : ShowsKept name m known s
-  pub made : ShowsMade name m known s
-  pub counts : ShowsCounts name m s
-  pub looking : ShowsLooking name m s
   pub counters : ShowsCounters name m s
+  pub uncounted : NoneCounted m
   pub dues : ShowsDue same name log m known s
   pub as_called : ShowsAsCalled same name m known s
   pub questions : ShowsQuestions m
   pub purposes : ShowsPurposes same name log m known s
 
+-- the waiting sets are those of the model after the log, or a call is in the midst of a row that has told its part
+abbrev pub FollowsOrRows : {K V : Type 0} → Terms → List (Entry K V) → Known → World (Node K V) → Type 0
+FollowsOrRows terms log known w =
+    FollowsModel terms.batch_size terms.roots log known w ⊎ ((i : ℕ) × IsInItsRow terms.batch_size terms.roots (things_in log) (sets_in terms.batch_size log) (slot_of i) i known w)
+
 -- And once an event is over: no lookup has read more than the moment says; sections hold what they shelter; where calls came one after another so far, the waiting sets are those of the
--- model, or the call that is under way is in the midst of a row that has told its part; all waits in order; and once the collector has ended all is back.
+-- model, but for a row that is under way; all waits in order; and once the collector has ended all is back.
 pub record ShowsRun {K V : Type 0} (same : K → K → Bool) (name : ℕ → List ℕ) (terms : Terms) (log : List (Entry K V)) (known : Known) (s : Scene K V) : Type 0 where
   pub calls : ShowsCalls same name log (moment log) known s
   pub reading : ShowsReading name log (λ i. 0) (moment log) s
   pub sections : SectionsHold (moment log) known s.world
-  pub follows : (moment log).is_alone ≡ true → FollowsModel terms.batch_size terms.roots log known s.world
-      ⊎ ((i : ℕ) × IsInItsRow terms.batch_size terms.roots (things_in log) (sets_in terms.batch_size log) (slot_of i) i known s.world)
+  pub follows : (moment log).is_alone ≡ true → FollowsOrRows terms log known s.world
   pub order : AllIsInOrder (moment log) × ReadyOweNone (moment log)
   pub over : OverIsBack (moment log)
 

@@ -1,5 +1,9 @@
 pub mod Carried
+pub mod Between
 pub mod CallEvents
+pub mod CallRuns
 pub mod SlotEvents
 pub mod MapEvents
+pub mod Over
+pub mod Chains
 pub mod Promises

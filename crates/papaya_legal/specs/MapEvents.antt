@@ -48,8 +48,6 @@ module _ {K V : Type 0} (same : K → K → Bool) (name : ℕ → List ℕ) (ter
     pub calls : ShowsCalls same name log m known s
     pub reading : ShowsReading name log (λ j. 0) m s
     pub worked : m ≡ with_effects None (Some map) done beginning
-    pub may : list_all (may_do event (moment log)) done ≡ true
-    pub finds : AtEachEffect (Finds terms None (Some map) false []) None (Some map) done beginning
     pub granted : is_granted false done ≡ true
     pub protects : InMidst event done m known s.world
 
@@ -64,7 +62,7 @@ module _ {K V : Type 0} (same : K → K → Bool) (name : ℕ → List ℕ) (ter
       InMapEvent done m known s × (ComesAlone event log → FollowsInEnd terms.batch_size terms.roots (things_in log) (sets_in terms.batch_size log) first i done known s.world)
 
 module _ (K V S : Type 0) (same : K → K → Bool) (hash : K → ℕ) where
-  -- The promises: a making goes on so, if what it does it may do, and finds what it must,
+  -- The promises: a making goes on so,
   abbrev pub MakingEventsGoOn : Type 0
   MakingEventsGoOn =
       (name : ℕ → List ℕ) (terms : Terms) (log : List (Entry K V)) (event : Event K V) (beginning : Moment K V) (done : List Effect) (m : Moment K V) (known : Known) (s : Scene K V) (i : ℕ) (b : Beginning K)
@@ -72,8 +70,7 @@ module _ (K V S : Type 0) (same : K → K → Bool) (hash : K → ℕ) where
       → old.batch_size ≡ terms.batch_size → b.map < m.made → (said : Making Setting) (leads : MakingLeads same hash i said s old new) → WasNew b.map said m
       → (let to = leads b here in
       let effects = effects_of (acts.Making b.map) known new.memory.changed in
-      list_all (may_do event (moment log)) effects ≡ true → AtEachEffect (Finds terms None (Some b.map) false []) None (Some b.map) effects m
-      → InMakingEvent same name terms log event b.map beginning (done ++ effects) (with_effects None (Some b.map) effects m) (known_after (acts.Making b.map) new.memory.changed known)
+      InMakingEvent same name terms log event b.map beginning (done ++ effects) (with_effects None (Some b.map) effects m) (known_after (acts.Making b.map) new.memory.changed known)
       (making_after same hash s old new i b to.0 to.2.step.w2 said to.3))
 
   -- and so does an end, which takes tables of its map alone;
@@ -84,16 +81,16 @@ module _ (K V S : Type 0) (same : K → K → Bool) (hash : K → ℕ) where
       → old.batch_size ≡ terms.batch_size → map < m.made → (said : Settled (Node K V)) (leads : EndingLeads same hash i said s old new)
       → (let to = leads f here in
       let effects = effects_of (acts.Ending map) known new.memory.changed in
-      AtEachEffect (IsOfIts map) None (Some map) effects m → list_all (may_do event (moment log)) effects ≡ true
-      → AtEachEffect (Finds terms None (Some map) false []) None (Some map) effects m
+      AtEachEffect (IsOfIts map) None (Some map) effects m
       → InEndEvent same name terms log event map beginning first i (done ++ effects) (with_effects None (Some map) effects m) (known_after (acts.Ending map) new.memory.changed known)
       (ending_after same hash s new i f to.0 to.2.w2 to.2.deed said to.3))
 
--- Once its work is done such an event keeps its promises, if it is whole, and by the model; the sections of guards hold what they shelter.
+-- Once its work is done such an event keeps its promises, if what it did it may do, and finds what it must, if it is whole, and by the model; the sections of guards hold what they shelter.
 abbrev pub MapEventsAreLegal : (K V : Type 0) → (K → K → Bool) → Type 0
 MapEventsAreLegal K V same =
     (name : ℕ → List ℕ) (terms : Terms) (log : List (Entry K V)) (map : ℕ) (beginning m : Moment K V) (known : Known) (s : Scene K V) (e : Entry K V)
-    → InMapEvent same name terms log e.event map beginning e.effects m known s → caller_of e.event ≡ None → at_work e (moment log) ≡ beginning → acted_on e.event beginning ≡ Some map
+    → InMapEvent same name terms log e.event map beginning e.effects m known s → list_all (may_do e.event (moment log)) e.effects ≡ true
+    → AtEachEffect (Finds terms None (Some map) false []) None (Some map) e.effects beginning → caller_of e.event ≡ None → at_work e (moment log) ≡ beginning → acted_on e.event beginning ≡ Some map
     → IsWhole e.event e.outcome e.effects (moment log) (worked e (moment log)) → IsByModel terms log e → IsLegalBut same terms log e × SectionsHold (after e (moment log)) known s.world
 
 -- And an event that does nothing to pairs, tables and blocks, and by which no call has come to an end or asks, keeps its promises, if it changes no waiting sets, reads briefly, does what it is for,

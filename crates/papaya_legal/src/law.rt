@@ -1,48 +1,102 @@
 //! What is promised of each event of a run, whatever calls are under way.
 ghost use Rattle.std.specs.Prelude.{ℕ, Bool};
+ghost use Rattle.papaya_legal.specs.Between.{CallsBegin, CallsTake, EndsBegin, LikesShow, LogsGrow, MakingsBegin, MapsCome, MapsGo, NamesChange, WalksGoOn, WalksStop};
 ghost use Rattle.papaya_legal.specs.Carried.{RunsBegin};
-ghost use Rattle.papaya_legal.specs.CallEvents.{CallEventsBegin, CallEventsGoOn, CallEventsAreLegal, CallEventsEnd};
+ghost use Rattle.papaya_legal.specs.CallEvents.{CallEventsAreLegal, CallEventsBegin, CallEventsEnd, CallEventsFollow, CallEventsGoOn, NextsBegin, WholeCallsBegin};
+ghost use Rattle.papaya_legal.specs.CallRuns.{CallEventsRun};
 ghost use Rattle.papaya_legal.specs.SlotEvents.{SlotEventsBegin, SlotEventsGoOn, SlotEventsAreLegal, SlotEventsEnd};
 ghost use Rattle.papaya_legal.specs.MapEvents.{MakingEventsGoOn, EndEventsGoOn, MapEventsAreLegal, IdleEventsAreLegal};
+ghost use Rattle.papaya_legal.specs.Over.{BegunEventsEnd, EndEventsBegin, EndEventsEnd, EndEventsFollow, IdleEventsEnd, MakingEventsBegin, MakingEventsEnd, MakingEventsFollow, QuietEventsEnd, RunsByOtherNames, RunsGoOn, StoppedEventsEnd, ToldEventsEnd};
+ghost use Rattle.papaya_legal.specs.Chains.{CallsChain, EndsChain, MakingsChain, RowsChain, RowsRunToTheirEnds};
 ghost use Rattle.papaya_legal.specs.Promises.{EventsAreLegal};
 
-/// Before all events a moment shows all by which the first event keeps its promises.
+/// Before all events a moment shows all by which the first event keeps its promises. A run goes on with an event that comes to what is right, whose life is as it must be, whose effects store
+/// one pair at most, each, and by which all is back if it reclaims all, if the moment after it shows what it must of calls, readings, sections and sets; and by other names of callers that have
+/// no call.
 pub fn runs_begin<K, V>()
     ensures begins { RunsBegin K V }
+    ensures goes_on { (same : K → K → Bool) → RunsGoOn K V same }
+    ensures names { (same : K → K → Bool) → RunsByOtherNames K V same }
 {}
 
-/// Where an event begins in which a call goes on that is under way, it is in the midst of it, and has done nothing yet. So it is after each step by which the call goes on: if what the
-/// step does finds what it must, no pair comes or goes twice, what the call reads of shards it may read, a row that begins hands over what is noted, and lookups have read few words.
-/// With its last step the event keeps its promises, if it reads briefly, does what it is for, is refused no growth that it made, leaves nothing behind, and is by the model.
+/// What a moment shows of calls it shows, too, where a call begins as the next event does, takes a reply, is asked as a walk for its next pair, or is given up; where a map comes, its making begins,
+/// its end begins, and where it is there no more; at a moment that is like it; once the moment is one of the log; and by other names of callers that have no call.
+pub fn calls_stay<K, V, S>()
+    ensures like { (same : K → K → Bool) → LikesShow K V same }
+    ensures grows { (same : K → K → Bool) → LogsGrow K V same }
+    ensures names { (same : K → K → Bool) → NamesChange K V same }
+    ensures begins { (same : K → K → Bool) (hash : K → ℕ) → CallsBegin K V S same hash }
+    ensures takes { (same : K → K → Bool) (hash : K → ℕ) → CallsTake K V S same hash }
+    ensures walks { (same : K → K → Bool) (hash : K → ℕ) → WalksGoOn K V S same hash }
+    ensures stops { (same : K → K → Bool) (hash : K → ℕ) → WalksStop K V S same hash }
+    ensures maps_come { (same : K → K → Bool) (hash : K → ℕ) → MapsCome K V S same hash }
+    ensures makings { (same : K → K → Bool) (hash : K → ℕ) → MakingsBegin K V S same hash }
+    ensures endings { (same : K → K → Bool) (hash : K → ℕ) → EndsBegin K V S same hash }
+    ensures maps_go { (same : K → K → Bool) (hash : K → ℕ) → MapsGo K V S same hash }
+{}
+
+/// Where an event has begun what it begins, and a call goes on by it, it is in the midst of it, and has done nothing yet: a call that is under way, one that the event begins, or a walk that it asks
+/// for its next pair. So it is after each step by which the call goes on: if no pair comes or goes twice, and a row that begins hands over what is noted.
+/// With its last step the event keeps its promises, if its effects find what they must, if it made no more steps than these, does what it is for, is refused no growth that it made, leaves nothing behind, and is by the model; which it is if what
+/// a row hands over that begins with the last step is noted, and its slot is active.
 /// The moment after it shows all that the next event needs, if it shows what calls are for and have read once the call has come to its outcome, and the sets are as they must be.
+/// So an event that comes to what is right is legal but for that, and a run goes on with it: clause `runs` has what is left of all this to be asked.
 pub fn call_events<K, V, S>()
     ensures begins { (same : K → K → Bool) (hash : K → ℕ) → CallEventsBegin K V S same hash }
+    ensures whole { (same : K → K → Bool) (hash : K → ℕ) → WholeCallsBegin K V S same hash }
+    ensures nexts { (same : K → K → Bool) (hash : K → ℕ) → NextsBegin K V S same hash }
     ensures goes_on { (same : K → K → Bool) (hash : K → ℕ) → CallEventsGoOn K V S same hash }
     ensures legal { (same : K → K → Bool) (hash : K → ℕ) → CallEventsAreLegal K V S same hash }
+    ensures follows { (same : K → K → Bool) (hash : K → ℕ) → CallEventsFollow K V S same hash }
     ensures ends { (same : K → K → Bool) (hash : K → ℕ) → CallEventsEnd K V S same hash }
+    ensures runs { (same : K → K → Bool) (hash : K → ℕ) → CallEventsRun K V S same hash }
 {}
 
 /// An event whose work is a row on a slot is in its midst where the row begins, and after each step of it, by which the moment shows all that it has shown; if the slot has none
-/// of the guards whose sections the row does not end, and if what the row does it may do, and finds what it must. Once the row has ended, and is to the waiting sets what the event is,
+/// of the guards whose sections the row does not end. Once the row has ended, if what it did it may do, and finds what it must, and is to the waiting sets what the event is,
 /// the event keeps all these promises, sections and sets are as they must be, and the moment after it shows all that the next event needs.
 pub fn slot_events<K, V, S>()
     ensures begins { (same : K → K → Bool) (hash : K → ℕ) → SlotEventsBegin K V S same hash }
     ensures goes_on { (same : K → K → Bool) (hash : K → ℕ) → SlotEventsGoOn K V S same hash }
-    ensures legal { (same : K → K → Bool) (hash : K → ℕ) → SlotEventsAreLegal K V S same hash }
-    ensures ends { (same : K → K → Bool) (hash : K → ℕ) → SlotEventsEnd K V S same hash }
+    ensures legal { (same : K → K → Bool) → SlotEventsAreLegal K V same }
+    ensures ends { (same : K → K → Bool) → SlotEventsEnd K V same }
 {}
 
-/// An event that makes a map, or ends one, is in its midst still after each step, if what that does it may do, and finds what it must.
-/// Once its work is done it keeps its promises, if it is whole, and by the model.
+/// An event that makes a map, or ends one, is in its midst where that begins, and still after each step, an end if it takes tables of its map alone.
+/// Once its work is done it keeps its promises, if what it did it may do, and finds what it must, if it is whole, and by the model; which it is if it was not kept out, and its end is over. The moment after it shows all that the next event
+/// needs, where no map that stands has the name of one that has ended.
 pub fn map_events<K, V, S>()
+    ensures making { (same : K → K → Bool) (hash : K → ℕ) → MakingEventsBegin K V S same hash }
+    ensures ending { (same : K → K → Bool) (hash : K → ℕ) → EndEventsBegin K V S same hash }
     ensures makings { (same : K → K → Bool) (hash : K → ℕ) → MakingEventsGoOn K V S same hash }
     ensures ends { (same : K → K → Bool) (hash : K → ℕ) → EndEventsGoOn K V S same hash }
     ensures legal { (same : K → K → Bool) → MapEventsAreLegal K V same }
+    ensures making_follows { (same : K → K → Bool) → MakingEventsFollow K V same }
+    ensures end_follows { (same : K → K → Bool) → EndEventsFollow K V same }
+    ensures made { (same : K → K → Bool) → MakingEventsEnd K V same }
+    ensures ended { (same : K → K → Bool) (hash : K → ℕ) → EndEventsEnd K V S same hash }
 {}
 
-/// An event that does nothing keeps its promises, as one that is kept out does, and one that begins a call, or tells it a reply.
-pub fn idle_events<K, V>()
+/// An event that does nothing keeps its promises, as one that is kept out does. The moment after it shows all that the next event needs, if it is like one that does; so it is where calls and maps are as
+/// they were. An event that begins a call, tells it a reply that it takes, or gives up a walk that is ready, is legal but for what it comes to, and the moment after it shows all that the next one needs.
+pub fn idle_events<K, V, S>()
     ensures legal { (same : K → K → Bool) → IdleEventsAreLegal K V same }
+    ensures quiet { (same : K → K → Bool) → QuietEventsEnd K V same }
+    ensures ends { (same : K → K → Bool) → IdleEventsEnd K V same }
+    ensures begun { (same : K → K → Bool) (hash : K → ℕ) → BegunEventsEnd K V S same hash }
+    ensures told { (same : K → K → Bool) (hash : K → ℕ) → ToldEventsEnd K V S same hash }
+    ensures stopped { (same : K → K → Bool) (hash : K → ℕ) → StoppedEventsEnd K V S same hash }
+{}
+
+/// An event whose work is a row on a slot, the making or the end of a map, or a call that goes on, is in its midst wherever a chain of steps of that has led, from where it has begun. So an event whose
+/// row has begun, and has run to its end, is legal but for what it comes to, and a run goes on with it, if what it did it may do, and finds what it must, if it is that row to the waiting sets, was
+/// not kept out, leaves its guards within their sections, and all is back if it reclaims all.
+pub fn steps_chain<K, V, S>()
+    ensures rows { (same : K → K → Bool) (hash : K → ℕ) → RowsChain K V S same hash }
+    ensures makings { (same : K → K → Bool) (hash : K → ℕ) → MakingsChain K V S same hash }
+    ensures ends { (same : K → K → Bool) (hash : K → ℕ) → EndsChain K V S same hash }
+    ensures calls { (same : K → K → Bool) (hash : K → ℕ) → CallsChain K V S same hash }
+    ensures whole_rows { (same : K → K → Bool) (hash : K → ℕ) → RowsRunToTheirEnds K V S same hash }
 {}
 
 /// An event that comes to what is right, makes the steps that it may, and keeps the promises that need what is under way, is legal: little waits after it.

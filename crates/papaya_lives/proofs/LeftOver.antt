@@ -2,6 +2,7 @@
 use Rattle.std.specs.Prelude.{◌≡◌, ◌⊎◌, ◌<◌, ◌+◌, ℕ, Bool, cond, List, [], ◌∷◌, Option, Some, if◌then◌else◌}
 use Rattle.std.proofs.Common.{refl, ap, sym, subst, ◌∙◌, inl, inr, arith}
 use Rattle.std.proofs.lemmas.Bool.{cases_eq, eq-eqb}
+use Rattle.papaya_histories.specs.Given.SeizeWords.Op.{Store}
 use Rattle.papaya_histories.specs.Given.Seize.World.{World, Hand, NoBlock, Making, InUse, Parting, Cutting, Handed, LeftTo, MayCut, Drops, Unlinks, Operates, LeavesOver, Relinks, Clears, Happens, Runs, times}
 use Rattle.papaya_histories.specs.Given.Seize.declared.states.TheConstants.{LAST_SLOT}
 use Rattle.papaya_histories.proofs.Given.SeizeMoves.Moves.Takes.{first_doomed}
@@ -104,7 +105,7 @@ module _ {T : Type 0} (defers : T → Option ℕ) (size i : ℕ) (w w2 : World T
   deed_waits (TakesCounter c) runs left b t waits free =
       inl (ap (λ (z : World T). waits_behind b z.log) runs.2 ∙ same_log w runs.0 b t (log_back defers size w runs.0 (Drops i c) tt runs.1 b) waits)
   deed_waits (WritesRoot at word) runs left b t waits free =
-      inl (ap (λ (z : World T). waits_behind b z.log) runs.2 ∙ same_log w runs.0 b t (log_back defers size w runs.0 (Operates _) tt runs.1 b) waits)
+      inl (ap (λ (z : World T). waits_behind b z.log) runs.2 ∙ same_log w runs.0 b t (log_back defers size w runs.0 (Operates (Store at word)) tt runs.1 b) waits)
 
   -- what the collector has it does not take
   pub handed_untaken : (deed : Deed) → Runs defers size (events_of i deed) w w2 → (b : ℕ) → w.hand b ≡ Handed → 0 < times b (taken_by deed) → ⊥

@@ -21,3 +21,5 @@ pub mod CallRows
 pub mod LeftOver
 pub mod WaitingEnds
 pub mod RetiredEnds
+pub mod LeftTables
+pub mod LeftEnds

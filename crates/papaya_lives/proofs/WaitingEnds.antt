@@ -73,7 +73,7 @@ left_not (Cutting i) none left = left
 left_not Handed none left = left
 left_not (LeftTo i) none left = none
 
-none_of : (k : ℕ) → (0 < k → ⊥) → k ≡ 0
+pub none_of : (k : ℕ) → (0 < k → ⊥) → k ≡ 0
 none_of zero none = refl
 none_of (suc k) none = absurd (none (omega arith))
 

@@ -2,3 +2,4 @@ pub mod Waiting
 pub mod Behind
 pub mod Steps
 pub mod Retired
+pub mod LeftTables

@@ -1,6 +1,7 @@
 //! What is promised of what waits behind a table, and of its blocks.
 ghost use Rattle.std.specs.Prelude.{Option, ℕ, Bool};
 ghost use Rattle.papaya_lives.specs.Behind.{WaitingIsThere};
+ghost use Rattle.papaya_lives.specs.LeftTables.{LeftBegins, OthersKeepLeft, EndingsBeginLeft, NoneIsLeftTo, NoneIsLeft, WhereNoneIsLeft, RowsBeginLeft, RowsKeepLeft, MakingsKeepLeft, CallsKeepLeft, EndingsKeepLeft};
 ghost use Rattle.papaya_lives.specs.Retired.{RetiredBegins, OthersLeaveRetired, EndingsBeginRetired, RowsBeginRetired, RowsKeepRetired, RowsFindRetired, MakingsKeepRetired, CallsKeepRetired, EndingsKeepRetired};
 ghost use Rattle.papaya_lives.specs.Steps.{WaitingBegins, OthersLeaveWaiting, EndingsBeginWaiting, EffectsFindWaiting, UsersKeepWaiting, RowsBeginWaiting, RowsKeepWaiting, RowsFindWaiting, MakingsKeepWaiting, CallsKeepWaiting, CallRowsKeepWaiting, EndingsFindWaiting, EndingsKeepWaiting};
 ghost use Rattle.papaya_lives.specs.Waiting.{WaitUnretired, PutsWait};
@@ -47,4 +48,21 @@ pub fn collected_tables_are_retired<K, V, S>()
     ensures makings { (same : K → K → Bool) (hash : K → ℕ) → MakingsKeepRetired K V S same hash }
     ensures calls { (same : K → K → Bool) (hash : K → ℕ) → CallsKeepRetired K V S same hash }
     ensures endings { (same : K → K → Bool) (hash : K → ℕ) → EndingsKeepRetired K V S same hash }
+{}
+
+/// Each table that is left over is one of a map whose end is under way, and which that end has not reclaimed: so it is before all events, in the same world with the same
+/// ends under way, where one begins an end who had none under way, where rows begin on slots, and after each step of a row on a slot, of the making of a map, of a call,
+/// whoever's row it is, and of the end of a map. So none is left over to who ends no map, and none at all where nobody ends one; and where none is, it is so.
+pub fn left_tables_are_to_be_reclaimed<K, V, S>()
+    ensures begins { LeftBegins K V }
+    ensures others { OthersKeepLeft K V }
+    ensures endings_begin { EndingsBeginLeft K V }
+    ensures none_to { NoneIsLeftTo K V }
+    ensures none { NoneIsLeft K V }
+    ensures where_none { WhereNoneIsLeft K V }
+    ensures rows_begin { (same : K → K → Bool) (hash : K → ℕ) → RowsBeginLeft K V S same hash }
+    ensures rows { (same : K → K → Bool) (hash : K → ℕ) → RowsKeepLeft K V S same hash }
+    ensures makings { (same : K → K → Bool) (hash : K → ℕ) → MakingsKeepLeft K V S same hash }
+    ensures calls { (same : K → K → Bool) (hash : K → ℕ) → CallsKeepLeft K V S same hash }
+    ensures endings { (same : K → K → Bool) (hash : K → ℕ) → EndingsKeepLeft K V S same hash }
 {}

@@ -22,7 +22,7 @@ use Rattle.papaya_histories.proofs.Given.Moments.Calls.{whole_begins, calls_begi
 use Rattle.papaya_logged.specs.Calling.{CallBegins}
 use Rattle.papaya_logged.specs.Shown.{IsShown}
 use Rattle.papaya_logged.specs.declared.logged.Logged.{Logged}
-use Rattle.papaya_logged.proofs.Renamed.{renamed}
+use Rattle.papaya_kept.proofs.Renamed.{renamed}
 
 -- one that is named gets its name, and the others keep theirs
 named : (i : ℕ) (own : List ℕ) (name : ℕ → List ℕ) → put i own name i ≡ own

@@ -19,6 +19,7 @@ use Rattle.papaya_settles.specs.Entries.{IsBlank}
 use Rattle.papaya_settles.proofs.EntryScenes.{one_as}
 use Rattle.papaya_lives.specs.Behind.{LiesBehind}
 use Rattle.papaya_lives.proofs.Each.{each_on}
+use Rattle.papaya_lives.proofs.LeftTables.{left_as}
 use Rattle.papaya_kept.specs.Kept.{ShowsKept}
 use Rattle.papaya_logged.specs.Choosing.{ChoiceIsShown, logged_chosen, memory_chosen, scene_chosen}
 use Rattle.papaya_logged.specs.declared.logged.Logged.{Logged}
@@ -95,6 +96,7 @@ module _ {K V : Type 0} (choice : ℕ) (name : ℕ → List ℕ) (m : Moment K V
         kept.waiting;
     once = kept.once;
     retired = record { tables = kept.retired.tables; lengths = kept.retired.lengths };
+    left = left_as noted noted s (scene_chosen choice s) refl kept.left (λ b len x is. is) (λ b j left. left);
   }
 
 module _ {K V S : Type 0} (choice : ℕ) (old : Logged K V S) where

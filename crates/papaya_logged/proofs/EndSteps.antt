@@ -102,9 +102,10 @@ module _ {K V S : Type 0} (same : K → K → Bool) (hash : K → ℕ) where
           tables = whole.1;
         }
 
-  pub end_is_begun : (old new : Logged K V S) (map i : ℕ) → ((s : Scene K V) → IsAt same hash old.executor s → EndingBegins same hash map i s old.executor new.executor) → new.notes ≡ old.notes
+  pub end_is_begun : (old new : Logged K V S) (map i : ℕ) → ((s : Scene K V) → IsAt same hash old.executor s → EndingBegins same hash map i s old.executor new.executor)
+      → ((s : Scene K V) → IsAt same hash old.executor s → s.enders i ≡ None) → new.notes ≡ old.notes
       → (name : ℕ → List ℕ) (m : Moment K V) (s : Scene K V) → IsShown same hash name m old s → EndIsBegun same hash name m s map i old new
-  end_is_begun old new map i begins noted name m s shown nobody =
+  end_is_begun old new map i begins yet noted name m s shown nobody =
       let to = begins s shown.is_at nobody in (
         to.0,
         to.1,
@@ -119,7 +120,7 @@ module _ {K V S : Type 0} (same : K → K → Bool) (hash : K → ℕ) where
           shows = subst (λ (n : Notes). ShowsWhole {K = K} {V = V} same name m (known n) (ending_begun map i to.0 s)) (sym noted)
               (endings_begin_whole K V S same hash name m (known old.notes) s new.executor shown.shows map i to.0 to.1 to.4);
           kept = subst (λ (n : Notes). ShowsKept {K = K} {V = V} name m (known n) (ending_begun map i to.0 s)) (sym noted)
-              (endings_begin_kept K V S same hash name m (known old.notes) s old.executor new.executor shown.is_at shown.kept map i to.0 to.4);
+              (endings_begin_kept K V S same hash name m (known old.notes) s old.executor new.executor shown.is_at shown.kept map i to.0 (yet s shown.is_at) to.4);
         },
       )
 
@@ -277,5 +278,5 @@ end_is_over {K} {V} l same hash name m s shown own remains found others =
     record {
       is_at = shown.is_at;
       shows = endings_are_over_whole K V same name m (known l.notes) s shown.shows own remains found others;
-      kept = stays_kept K V name m (without_map own remains m) (known l.notes) s s shown.kept refl refl refl refl refl refl refl;
+      kept = stays_kept K V name m (without_map own remains m) (known l.notes) s s shown.kept refl refl refl refl refl refl refl refl;
     }

@@ -1,12 +1,11 @@
--- A step by which all is reclaimed is written down: nobody has a call, a making or an end under way.
-use Rattle.std.specs.Prelude.{◌≡◌, ℕ, Bool, true, false, List, [], ◌++◌, Option, Some, None, IsSome, ◌⊎◌, if◌then◌else◌}
+-- A moment shows the scene after a step by which all is reclaimed: nobody has a call, a making or an end under way.
+use Rattle.std.specs.Prelude.{◌≡◌, ℕ, Bool, true, false, List, [], Option, Some, None, IsSome, ◌⊎◌, if◌then◌else◌}
 use Rattle.std.proofs.Common.{refl, ap, sym, subst, ◌∙◌, inl, inr}
 use Rattle.papaya_histories.specs.Given.SeizeWords.declared.at.At.TheVariants.{Root, Used}
 use Rattle.papaya_histories.specs.Given.SeizeWords.Mem.{Mem, value_at}
 use Rattle.papaya_histories.specs.Given.SeizeWords.Word.{block_in}
 use Rattle.seize.specs.declared.rows.reclaim_all.ReclaimAll.{ReclaimAll}
 use Rattle.seize.specs.declared.rows.settle.Settled.{Settled}
-use Rattle.seize.specs.declared.rows.settle.Settled.TheVariants as settled
 use Rattle.seize.specs.ReclaimAll.{reclaim_all_plan}
 use Rattle.seize.specs.World.{World, Hand, Event, Runs}
 use Rattle.papaya_histories.proofs.Given.SeizeAlone.Histories.Reached.{Reached, runs_reached}
@@ -19,9 +18,8 @@ use Rattle.papaya_teller.specs.declared.changed.Changed.{Changed}
 use Rattle.papaya_teller.specs.declared.changed.Changed.TheVariants as changed
 use Rattle.papaya_histories.proofs.Given.Callers.Together.Came.{came_reached}
 use Rattle.papaya_effects.specs.Effects.{led_to, linked_on, named, names_same, effects_of, known_after}
-use Rattle.papaya_effects.specs.Known.{Known, known}
+use Rattle.papaya_effects.specs.Known.{Known}
 use Rattle.papaya_effects.specs.declared.acting.Acting.TheVariants.{Row}
-use Rattle.papaya_effects.specs.declared.notes.Notes.{Notes}
 use Rattle.papaya_effects.specs.declared.role.Role.{Role}
 use Rattle.papaya_effects.specs.declared.role.Role.TheVariants as role
 use Rattle.papaya_histories.specs.Given.Callers.Together.{UnderWay}
@@ -30,7 +28,7 @@ use Rattle.papaya_histories.specs.Given.Finishes.Maps.{Standing}
 use Rattle.papaya_reclaims.specs.Slots.{AreItsRows}
 use Rattle.papaya_executor.specs.IsAt.{Scene}
 use Rattle.papaya_executor.specs.declared.executor.Executor.{Executor}
-use Rattle.papaya_reclaiming.specs.Reclaiming.{IsReclaiming, ReclaimingLeads, ReclaimingComesTo}
+use Rattle.papaya_reclaiming.specs.Reclaiming.{IsReclaiming, ReclaimingLeads}
 use Rattle.papaya_reclaiming.proofs.Reclaims.{may_step}
 use Rattle.papaya_histories.proofs.Given.Follows.Operations.{StaysThere, LeavesBy, operated, operated_leaves}
 use Rattle.papaya_histories.proofs.Given.Follows.Writes.{nothing_free}
@@ -48,9 +46,6 @@ use Rattle.papaya_histories.specs.Given.Moments.OnSlots.{HadRetired}
 use Rattle.papaya_histories.specs.Given.Moments.Whole.{ShowsWhole}
 use Rattle.papaya_histories.proofs.Given.Moments.Beside.{IsBeside, hands_beside}
 use Rattle.papaya_histories.proofs.Given.Moments.OnSlots.{stood_same, with_outside, was_retired, row_alone, row_keeps}
-use Rattle.papaya_logged.specs.Reclaims.{ReclaimingIsShown, ReclaimingThen, ReclaimingGoesOn, ReclaimingSteps}
-use Rattle.papaya_logged.specs.Shown.{IsShown}
-use Rattle.papaya_logged.specs.declared.logged.Logged.{Logged}
 use Rattle.papaya_logged.proofs.ReclaimRows.{KeptThere, rows_kept, left_kept, root_kept, EmptiesRoot, reclaiming_tells}
 
 module _ {K V S : Type 0} (same : K → K → Bool) (hash : K → ℕ) (name : ℕ → List ℕ) (m : Moment K V) (known : Known) (s : Scene K V) (whole : ShowsWhole same name m known s)
@@ -179,52 +174,3 @@ module _ {K V S : Type 0} (same : K → K → Bool) (hash : K → ℕ) (name : �
         | inl tells ↦ row_whole new.memory.changed tells left retired unreclaimed
         | inr empties ↦ root_whole new.memory.changed empties left
       ]
-
-module _ {K V S : Type 0} (same : K → K → Bool) (hash : K → ℕ) where
-  -- it begins where the executor is shown
-  pub reclaiming_begins : (l : Logged K V S) (name : ℕ → List ℕ) (m : Moment K V) (s : Scene K V) (i : ℕ) (lists : ℕ → List ℕ) (all : ReclaimAll) → IsShown same hash name m l s
-      → IsReclaiming same hash l.executor s i lists all → ReclaimingIsShown same hash name m l s i lists all
-  reclaiming_begins l name m s i lists all shown at = record { under_way = at; shows = shown.shows }
-
-  module _ (old : Logged K V S) (stepped : Executor K V S) (notes : Notes) (name : ℕ → List ℕ) (m : Moment K V) (s : Scene K V) (i : ℕ) (lists : ℕ → List ℕ) (before after : ReclaimAll) where
-    abbrev moment_then : Moment K V
-    moment_then = with_effects None None (effects_of Row (known old.notes) stepped.memory.changed) m
-
-    abbrev then_logged : Logged K V S
-    then_logged = record { executor = stepped; notes = notes }
-
-    then_so : (to : Scene K V) (lists2 : ℕ → List ℕ) (told : Settled (Node K V)) → ReclaimingComesTo same hash s i lists old.executor stepped to lists2 after told
-        → ShowsWhole same name moment_then (known notes) to → ReclaimingThen same hash name moment_then s i lists to lists2 after old then_logged told
-    then_so to lists2 settled.Goes comes shows = record { under_way = comes; shows = shows }
-    then_so to lists2 settled.Waits comes shows = record { under_way = comes; shows = shows }
-    then_so to lists2 (settled.Gave value) comes shows = record { under_way = comes; shows = shows }
-    then_so to lists2 settled.Done comes shows = (comes.0, comes.1, shows)
-
-    reclaiming_so : (told : Settled (Node K V))
-        → ((s : Scene K V) (i : ℕ) (lists : ℕ → List ℕ) → IsReclaiming same hash old.executor s i lists before → ReclaimingLeads same hash s i lists old.executor stepped before after told)
-        → known notes ≡ known_after Row stepped.memory.changed (known old.notes) → ReclaimingIsShown same hash name m old s i lists before
-        → ReclaimingGoesOn same hash name m s i lists before after told (effects_of Row (known old.notes) stepped.memory.changed) old then_logged
-    reclaiming_so told stepping noted shown =
-        let leads = stepping s i lists shown.under_way in
-        let to : Scene K V = record s { world = leads.1.w2; maps = leads.1.maps2 } in (
-          leads,
-          λ retired unreclaimed. then_so to leads.1.lists2 told leads.2
-              (subst (λ (k : Known). ShowsWhole {K = K} {V = V} same name moment_then k to) (sym noted)
-              (reclaiming_whole same hash name m (known old.notes) s shown.shows old.executor stepped i lists before after told shown.under_way leads retired unreclaimed)),
-        )
-
--- The step was taken, and then the memory was noted: the executor stayed as it was.
-pub reclaiming_steps : {K V S : Type 0} (old new : Logged K V S) (stepped : Executor K V S) (before after : ReclaimAll) (told : Settled (Node K V)) (had has : List Effect)
-    → ((same : K → K → Bool) (hash : K → ℕ) (s : Scene K V) (i : ℕ) (lists : ℕ → List ℕ) → IsReclaiming same hash old.executor s i lists before
-    → ReclaimingLeads same hash s i lists old.executor stepped before after told)
-    → has ≡ had ++ effects_of Row (known old.notes) stepped.memory.changed
-    → known new.notes ≡ known_after Row stepped.memory.changed (known old.notes)
-    → new.executor ≡ stepped → ReclaimingSteps before after told had has old new
-reclaiming_steps {K} {V} {S} old new stepped before after told had has stepping did noted executor =
-    let effects = effects_of Row (known old.notes) stepped.memory.changed in (
-      effects,
-      did,
-      λ same hash name m s i lists shown.
-          subst (λ (e : Executor K V S). ReclaimingGoesOn same hash name m s i lists before after told effects old (record { executor = e; notes = new.notes })) (sym executor)
-          (reclaiming_so same hash old stepped new.notes name m s i lists before after told (stepping same hash) noted shown),
-    )

@@ -1,5 +1,5 @@
 -- All is reclaimed by steps: what they do follows one upon another, until nothing is left.
-use Rattle.std.specs.Prelude.{◌≡◌, ℕ, Bool, true, false, List, [], ◌++◌, Option, Some, None, option_map}
+use Rattle.std.specs.Prelude.{◌≡◌, ℕ, Bool, true, false, List, [], ◌∷◌, ◌++◌, Option, Some, None, option_map}
 use Rattle.std.proofs.Common.{refl, ap, subst, sym, ◌∙◌}
 use Rattle.std.proofs.lemmas.List.{append-nil, append_assoc}
 use Rattle.seize.specs.declared.rows.reclaim_all.ReclaimAll.{ReclaimAll}
@@ -7,16 +7,16 @@ use Rattle.seize.specs.declared.rows.settle.Settled.{Settled}
 use Rattle.seize.specs.declared.rows.settle.Settled.TheVariants as settled
 use Rattle.papaya_histories.specs.Given.Tables.declared.node.Node.{Node}
 use Rattle.papaya_schedules.specs.declared.effect.Effect.{Effect}
-use Rattle.papaya_schedules.specs.Effects.{with_effects, AtEachEffect}
+use Rattle.papaya_schedules.specs.Effects.{with_effect, with_effects, AtEachEffect}
 use Rattle.papaya_schedules.specs.Moment.{Moment}
 use Rattle.papaya_executor.specs.IsAt.{Scene}
 use Rattle.papaya_histories.specs.Given.Finishes.Maps.{IsSameMap, Standing}
 use Rattle.papaya_reclaiming.specs.Reclaiming.{IsReclaiming, MayReclaim, NobodyHas, ReclaimingComesTo, ReclaimingLeads}
 use Rattle.papaya_histories.specs.Given.Spots.OnSlots.{WaitUnreclaimed}
-use Rattle.papaya_histories.proofs.Given.Moments.After.{effects_after, each_parts}
+use Rattle.papaya_histories.proofs.Given.Moments.After.{effects_after}
 use Rattle.papaya_histories.specs.Given.Moments.OnSlots.{HadRetired}
 use Rattle.papaya_logged.specs.Ends.{is_done}
-use Rattle.papaya_logged.specs.Reclaims.{ReclaimingCame, ReclaimingIsShown, ReclaimingRan, ReclaimingSoFar, ReclaimingSteps, ReclaimingThen}
+use Rattle.papaya_logged.specs.Reclaims.{ReclaimRetired, ReclaimingCame, ReclaimingIsShown, ReclaimingRan, ReclaimingSoFar, ReclaimingSteps, ReclaimingThen}
 use Rattle.papaya_logged.specs.Shown.{IsShown}
 use Rattle.papaya_logged.specs.declared.logged.Logged.{Logged}
 
@@ -29,13 +29,22 @@ module _ {K V : Type 0} where
   came_first : (s : Scene K V) → ReclaimingCame s s
   came_first s = record { maps = λ n. refl; calls = refl; makers = refl; enders = refl }
 
+  -- what is so of each effect of two lists is so of one behind the other
+  each_joined : (P : Moment K V → Effect → Type 0) (xs ys : List Effect) (m : Moment K V) → AtEachEffect P None None xs m → AtEachEffect P None None ys (with_effects None None xs m)
+      → AtEachEffect P None None (xs ++ ys) m
+  each_joined P [] ys m each later = later
+  each_joined P (f ∷ xs) ys m each later = (each.0, each_joined P xs ys (with_effect None None f m) each.1 later)
+
+  retired_joined : (xs ys : List Effect) (m : Moment K V) → ReclaimRetired xs m → ReclaimRetired ys (with_effects None None xs m) → ReclaimRetired (xs ++ ys) m
+  retired_joined xs ys m first later = (each_joined HadRetired xs ys m first.0 later.0, each_joined WaitUnreclaimed xs ys m first.1 later.1)
+
 module _ {K V S : Type 0} where
   pub reclaims_none : (l : Logged K V S) (xs : List Effect) (first : ReclaimAll) → ReclaimingSoFar first first xs xs l l
   reclaims_none l xs first = (
     [],
     sym (append-nil xs),
     λ same hash s i lists is. (s, lists, is),
-    λ same hash name m s i lists shown retired unreclaimed. (s, lists, came_first s, shown),
+    λ same hash name m s i lists shown. (s, lists, came_first s, shown, (tt, tt)),
   )
 
   module _ (first now next : ReclaimAll) (old mid new : Logged K V S) (xs ys zs : List Effect) (so : ReclaimingSoFar first now xs ys old mid) (told : Settled (Node K V))
@@ -59,16 +68,9 @@ module _ {K V S : Type 0} where
     shown_to same hash name m s i lists (settled.Gave value) more s2 lists2 comes = comes
     shown_to same hash name m s i lists settled.Done more s2 lists2 comes = absurd (cc more)
 
-    module _ (same : K → K → Bool) (hash : K → ℕ) (name : ℕ → List ℕ) (m : Moment K V) (s : Scene K V) (i : ℕ) (lists : ℕ → List ℕ) (shown : ReclaimingIsShown same hash name m old s i lists first)
-        (retired : AtEachEffect HadRetired None None (so.0 ++ step.0) m) (unreclaimed : AtEachEffect WaitUnreclaimed None None (so.0 ++ step.0) m) where
-      abbrev parts : AtEachEffect HadRetired None None so.0 m × AtEachEffect HadRetired None None step.0 (with_effects None None so.0 m)
-      parts = each_parts None None HadRetired so.0 step.0 m retired
-
-      abbrev waits : AtEachEffect WaitUnreclaimed None None so.0 m × AtEachEffect WaitUnreclaimed None None step.0 (with_effects None None so.0 m)
-      waits = each_parts None None WaitUnreclaimed so.0 step.0 m unreclaimed
-
-      abbrev u : (s1 : Scene K V) × (lists1 : ℕ → List ℕ) × ReclaimingCame s s1 × ReclaimingIsShown same hash name (with_effects None None so.0 m) mid s1 i lists1 now
-      u = so.3 same hash name m s i lists shown parts.0 waits.0
+    module _ (same : K → K → Bool) (hash : K → ℕ) (name : ℕ → List ℕ) (m : Moment K V) (s : Scene K V) (i : ℕ) (lists : ℕ → List ℕ) (shown : ReclaimingIsShown same hash name m old s i lists first) where
+      abbrev u : (s1 : Scene K V) × (lists1 : ℕ → List ℕ) × ReclaimingCame s s1 × ReclaimingIsShown same hash name (with_effects None None so.0 m) mid s1 i lists1 now × ReclaimRetired so.0 m
+      u = so.3 same hash name m s i lists shown
 
       abbrev leads : ReclaimingLeads same hash u.0 i u.1 mid.executor new.executor now next told
       leads = (step.2 same hash name (with_effects None None so.0 m) u.0 i u.1 u.3).0
@@ -90,7 +92,10 @@ module _ {K V S : Type 0} where
       pub shown_then : ReclaimingThen same hash name (with_effects None None (so.0 ++ step.0) m) u.0 i u.1 s2 leads.1.lists2 next mid new told
       shown_then =
           subst (λ (x : Moment K V). ReclaimingThen same hash name x u.0 i u.1 s2 leads.1.lists2 next mid new told) after_it
-          ((step.2 same hash name (with_effects None None so.0 m) u.0 i u.1 u.3).1 parts.1 waits.1)
+          (step.2 same hash name (with_effects None None so.0 m) u.0 i u.1 u.3).2
+
+      pub retired_then : ReclaimRetired (so.0 ++ step.0) m
+      retired_then = retired_joined so.0 step.0 m u.4 (step.2 same hash name (with_effects None None so.0 m) u.0 i u.1 u.3).1
 
     pub reclaims_on : is_done told ≡ false → ReclaimingSoFar first next xs zs old new
     reclaims_on more = (
@@ -101,13 +106,13 @@ module _ {K V S : Type 0} where
           let to = stepping same hash v.0 i v.1 v.2 in
           let s3 : Scene K V = record v.0 { world = to.1.w2; maps = to.1.maps2 } in
           (s3, to.1.lists2, goes_to same hash v.0 i v.1 told more s3 to.1.lists2 to.2)),
-      λ same hash name m s i lists shown retired unreclaimed. (
-        s2 same hash name m s i lists shown retired unreclaimed,
-        (leads same hash name m s i lists shown retired unreclaimed).1.lists2,
-        came_then same hash name m s i lists shown retired unreclaimed,
-        shown_to same hash name (with_effects None None (so.0 ++ step.0) m) (u same hash name m s i lists shown retired unreclaimed).0 i (u same hash name m s i lists shown retired unreclaimed).1 told more
-            (s2 same hash name m s i lists shown retired unreclaimed) (leads same hash name m s i lists shown retired unreclaimed).1.lists2
-            (shown_then same hash name m s i lists shown retired unreclaimed),
+      λ same hash name m s i lists shown. (
+        s2 same hash name m s i lists shown,
+        (leads same hash name m s i lists shown).1.lists2,
+        came_then same hash name m s i lists shown,
+        shown_to same hash name (with_effects None None (so.0 ++ step.0) m) (u same hash name m s i lists shown).0 i (u same hash name m s i lists shown).1 told more
+            (s2 same hash name m s i lists shown) (leads same hash name m s i lists shown).1.lists2 (shown_then same hash name m s i lists shown),
+        retired_then same hash name m s i lists shown,
       ),
     )
 
@@ -122,15 +127,15 @@ module _ {K V S : Type 0} where
   reclaims_last taken first now next old mid new xs ys zs begins so settled.Done over step stepping = (
     so.0 ++ step.0,
     did_so first now next old mid new xs ys zs so settled.Done step stepping,
-    λ same hash name m s lists shown nobody may retired unreclaimed.
+    λ same hash name m s lists shown nobody may.
         (let there = begins same hash name m s 0 lists shown nobody may in
-        let to = shown_then first now next old mid new xs ys zs so settled.Done step stepping same hash name m s 0 lists there retired unreclaimed in (
-          s2 first now next old mid new xs ys zs so settled.Done step stepping same hash name m s 0 lists there retired unreclaimed,
-          came_then first now next old mid new xs ys zs so settled.Done step stepping same hash name m s 0 lists there retired unreclaimed,
+        let to = shown_then first now next old mid new xs ys zs so settled.Done step stepping same hash name m s 0 lists there in (
+          s2 first now next old mid new xs ys zs so settled.Done step stepping same hash name m s 0 lists there,
+          came_then first now next old mid new xs ys zs so settled.Done step stepping same hash name m s 0 lists there,
           to.0.nothing,
           to.0.carry,
           to.1,
-          to.2,
+          retired_then first now next old mid new xs ys zs so settled.Done step stepping same hash name m s 0 lists there,
         )),
   )
   reclaims_last taken first now next old mid new xs ys zs begins so settled.Goes over step stepping = absurd (cc over)

@@ -6,4 +6,5 @@ pub mod Makings
 pub mod Roots
 pub mod Ends
 pub mod Reclaims
+pub mod Back
 pub mod Choosing

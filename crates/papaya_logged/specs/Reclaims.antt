@@ -12,34 +12,40 @@ use Rattle.papaya_schedules.specs.Moment.{Moment}
 use Rattle.papaya_effects.specs.Known.{known}
 use Rattle.papaya_reclaims.specs.Deferred.{TablesCarryPairs}
 use Rattle.papaya_reclaims.specs.Reclaims.{AllIsReclaimed}
-use Rattle.papaya_executor.specs.IsAt.{Scene, IsAt}
+use Rattle.papaya_executor.specs.IsAt.{Scene}
 use Rattle.papaya_reclaiming.specs.Reclaiming.{IsReclaiming, MayReclaim, NobodyHas, ReclaimingLeads}
 use Rattle.papaya_histories.specs.Given.Spots.OnSlots.{WaitUnreclaimed}
 use Rattle.papaya_histories.specs.Given.Moments.OnSlots.{HadRetired}
 use Rattle.papaya_histories.specs.Given.Moments.Whole.{ShowsWhole}
+use Rattle.papaya_kept.specs.Kept.{ShowsKept}
 use Rattle.papaya_logged.specs.Shown.{IsShown}
 use Rattle.papaya_logged.specs.declared.logged.Logged.{Logged}
 
 module _ {K V S : Type 0} (same : K → K → Bool) (hash : K → ℕ) (name : ℕ → List ℕ) where
-  -- All is being reclaimed, it is so far, and these lists are behind the roots still; and a moment shows the scene with the notes.
+  -- All is being reclaimed, it is so far, and these lists are behind the roots still; and a moment shows the scene with the notes, of which all is so that every step keeps.
   pub record ReclaimingIsShown (m : Moment K V) (l : Logged K V S) (s : Scene K V) (i : ℕ) (lists : ℕ → List ℕ) (all : ReclaimAll) : Type 0 where
     pub under_way : IsReclaiming same hash l.executor s i lists all
     pub shows : ShowsWhole same name m (known l.notes) s
+    pub kept : ShowsKept name m (known l.notes) s
 
   module _ (m : Moment K V) (s : Scene K V) (i : ℕ) (lists : ℕ → List ℕ) where
-    -- what is shown after a step: it goes on; or it is over, all is reclaimed, the executor is there, and the moment shows that
+    -- what is shown after a step: it goes on; or it is over, all is reclaimed, and the moment shows the executor
     abbrev pub ReclaimingThen : Scene K V → (ℕ → List ℕ) → ReclaimAll → (old new : Logged K V S) → Settled (Node K V) → Type 0
-    ReclaimingThen s2 lists2 after old new settled.Done = AllIsReclaimed old.executor.roots s2.world s2.maps × IsAt same hash new.executor s2 × ShowsWhole same name m (known new.notes) s2
+    ReclaimingThen s2 lists2 after old new settled.Done = AllIsReclaimed old.executor.roots s2.world s2.maps × IsShown same hash name m new s2
     ReclaimingThen s2 lists2 after old new _ = ReclaimingIsShown m new s2 i lists2 after
 
--- A step of it, which did this. If a table that it reclaims was retired, and what waits behind that is not reclaimed, the moment after it shows where it has led.
+-- each table that is reclaimed was retired, and what waits behind that is not reclaimed
+abbrev pub ReclaimRetired : {K V : Type 0} → List Effect → Moment K V → Type 0
+ReclaimRetired did m = AtEachEffect HadRetired None None did m × AtEachEffect WaitUnreclaimed None None did m
+
+-- A step of it, which did this: what it reclaims was retired so, and the moment after it shows where it has led.
 module _ {K V S : Type 0} where
   abbrev pub ReclaimingGoesOn : (same : K → K → Bool) (hash : K → ℕ) → (ℕ → List ℕ) → Moment K V → Scene K V → ℕ → (ℕ → List ℕ) → (before after : ReclaimAll) → Settled (Node K V) → List Effect
       → (old new : Logged K V S) → Type 0
   ReclaimingGoesOn same hash name m s i lists before after told did old new =
       (leads : ReclaimingLeads same hash s i lists old.executor new.executor before after told)
-      × (AtEachEffect HadRetired None None did m → AtEachEffect WaitUnreclaimed None None did m
-      → ReclaimingThen same hash name (with_effects None None did m) s i lists (record s { world = leads.1.w2; maps = leads.1.maps2 }) leads.1.lists2 after old new told)
+      × ReclaimRetired did m
+      × ReclaimingThen same hash name (with_effects None None did m) s i lists (record s { world = leads.1.w2; maps = leads.1.maps2 }) leads.1.lists2 after old new told
 
   -- What it does follows in the list, whatever shows the scene.
   abbrev pub ReclaimingSteps : (before after : ReclaimAll) → Settled (Node K V) → (had has : List Effect) → (old new : Logged K V S) → Type 0
@@ -56,22 +62,22 @@ pub record ReclaimingCame {K V : Type 0} (s s2 : Scene K V) : Type 0 where
   pub enders : s2.enders ≡ s.enders
 
 module _ {K V S : Type 0} where
-  -- It has run so far, and what it did follows in the list: where it has come it goes on, and a moment shows that, if each table that was reclaimed was retired, and what waited behind that was not reclaimed.
+  -- It has run so far, and what it did follows in the list: where it has come it goes on, and a moment shows that; each table that was reclaimed was retired, and what waited
+  -- behind that was not reclaimed.
   abbrev pub ReclaimingSoFar : (first now : ReclaimAll) → (before after : List Effect) → (old mid : Logged K V S) → Type 0
   ReclaimingSoFar first now before after old mid =
       (did : List Effect) × (after ≡ before ++ did)
       × ((same : K → K → Bool) (hash : K → ℕ) (s : Scene K V) (i : ℕ) (lists : ℕ → List ℕ) → IsReclaiming same hash old.executor s i lists first
       → (s2 : Scene K V) × (lists2 : ℕ → List ℕ) × IsReclaiming same hash mid.executor s2 i lists2 now)
       × ((same : K → K → Bool) (hash : K → ℕ) (name : ℕ → List ℕ) (m : Moment K V) (s : Scene K V) (i : ℕ) (lists : ℕ → List ℕ) → ReclaimingIsShown same hash name m old s i lists first
-      → AtEachEffect HadRetired None None did m → AtEachEffect WaitUnreclaimed None None did m
-      → (s2 : Scene K V) × (lists2 : ℕ → List ℕ) × ReclaimingCame s s2 × ReclaimingIsShown same hash name (with_effects None None did m) mid s2 i lists2 now)
+      → (s2 : Scene K V) × (lists2 : ℕ → List ℕ) × ReclaimingCame s s2 × ReclaimingIsShown same hash name (with_effects None None did m) mid s2 i lists2 now × ReclaimRetired did m)
 
-  -- It has run to its end: nothing is left of what was retired, no slot is in use, the executor is there, and a moment shows it.
+  -- It has run to its end: nothing is left of what was retired, no slot is in use, and a moment shows the executor; each table that was reclaimed was retired, and what waited
+  -- behind that was not reclaimed.
   abbrev pub ReclaimingRan : Bool → (before after : List Effect) → (old new : Logged K V S) → Type 0
   ReclaimingRan taken before after old new =
       (did : List Effect) × (after ≡ before ++ did)
       × ((same : K → K → Bool) (hash : K → ℕ) (name : ℕ → List ℕ) (m : Moment K V) (s : Scene K V) (lists : ℕ → List ℕ) → IsShown same hash name m old s
       → NobodyHas old.executor → MayReclaim old.executor s lists taken
-      → AtEachEffect HadRetired None None did m → AtEachEffect WaitUnreclaimed None None did m
-      → (s2 : Scene K V) × ReclaimingCame s s2 × HasNothingLeft deferred_word s2.world × TablesCarryPairs s2.world s2.maps × IsAt same hash new.executor s2
-      × ShowsWhole same name (with_effects None None did m) (known new.notes) s2)
+      → (s2 : Scene K V) × ReclaimingCame s s2 × HasNothingLeft deferred_word s2.world × TablesCarryPairs s2.world s2.maps
+      × IsShown same hash name (with_effects None None did m) new s2 × ReclaimRetired did m)

@@ -1,18 +1,24 @@
 //! Ends of maps begin, take steps, and run to their ends.
-ghost use Rattle.std.specs.Prelude.{◌≡◌, ◌<◌, ◌+◌, ◌*◌, ℕ, Bool, true, List, length, slice_index_or, Some, None, IfOk, IfErr};
+ghost use Rattle.std.specs.Prelude.{◌≡◌, ◌<◌, ◌+◌, ◌*◌, ◌++◌, ℕ, Bool, true, List, length, slice_index_or, Some, None, IfOk, IfErr};
+ghost use Rattle.papaya_effects.specs.Effects.{effects_of};
+ghost use Rattle.papaya_effects.specs.Known.{known};
+ghost use Rattle.papaya_effects.specs.declared.acting.Acting.TheVariants.{Ending};
 ghost use Rattle.papaya_schedules.specs.Moment.{Moment};
 ghost use Rattle.papaya_histories.specs.Given.Tables.declared.setting.Setting.{Setting};
 ghost use Rattle.papaya_executor.specs.Beginning.{IsRefused};
 ghost use Rattle.papaya_executor.specs.Ending.{EndingLeads};
 ghost use Rattle.papaya_executor.specs.IsAt.{Scene, IsAt, IsEnding, KeepsGiven};
 ghost use Rattle.papaya_executor.specs.declared.worker.TheConstants.{SLOTS};
+ghost use Rattle.papaya_logged.specs.Back.{EndBringsBack};
 ghost use Rattle.papaya_logged.specs.Ends.{EndIsBegun, EndSteps, EndRan, EndIsOver, is_done};
 ghost use Rattle.papaya_logged.specs.Shown.{IsShown};
 
+use crate::back::keep_settled;
 use crate::logged::Logged;
 use papaya_effects::acting::Acting;
 use papaya_executor::worker::SLOTS;
 use papaya_raw::Node;
+use papaya_runs::record::Pair;
 use papaya_schedules::effect::Effect;
 use seize::rows::Settled;
 use std::alloc::AllocError;
@@ -55,6 +61,7 @@ impl<K: Drop, V: Drop, S> Logged<K, V, S> {
         ensures leads { IfOk result (λ told. EndSteps caller map told effects.old.items effects.new.items self.old self.new) }
         ensures steps { IfOk result (λ told. (same : K → K → Bool) (hash : K → ℕ) (s : Scene K V) → IsAt same hash self.old.executor s
             → EndingLeads same hash caller told s self.old.executor self.new.executor) }
+        ensures did { IfOk result (λ told. effects.new.items ≡ effects.old.items ++ effects_of (Ending map) (known self.old.notes) self.new.executor.memory.changed) }
         ensures given { KeepsGiven self.old.executor self.new.executor }
     {
         let told = self.executor.step_ending(caller);
@@ -63,23 +70,27 @@ impl<K: Drop, V: Drop, S> Logged<K, V, S> {
     }
 
     /// Takes steps of the end of this map that a caller has under way, until it is over. What the steps do is added to the list, in their order, and the pairs that they
-    /// reclaim are dropped. It is refused as a step is.
+    /// reclaim come back, behind those before. It is refused as a step is; or where there is no room for a pair that comes back, before the step that might reclaim one is taken.
     pub fn run_end(
         &mut self,
         caller: u64,
         map: u64,
         effects: &mut Vec<Effect>,
+        back: &mut Vec<Pair<K, V>>,
     ) -> Result<(), AllocError>
         requires { (same : K → K → Bool) × (hash : K → ℕ) × (s : Scene K V) × IsAt same hash self.old.executor s × IsEnding s caller }
         ensures ran { IfOk result (λ done. EndRan caller map true effects.old.items effects.new.items self.old self.new) }
         ensures over { IfOk result (λ done. EndIsOver self.new) }
+        ensures back { IfOk result (λ done. EndBringsBack caller map effects.old.items effects.new.items self.old back.old.items back.new.items) }
         ensures given { KeepsGiven self.old.executor self.new.executor }
     {
         loop {
+            back.reserve(1)?;
             let told = self.step_end(caller, map, effects)?;
             if is_done(&told) {
                 return Ok(());
             }
+            keep_settled(told, effects.as_slice(), back);
         }
     }
 }

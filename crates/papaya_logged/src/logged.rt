@@ -1,8 +1,8 @@
 //! An executor, with what is noted of its memory.
-ghost use Rattle.std.specs.Prelude.{◌≡◌, ◌++◌, ℕ, Bool, true, List, IfOk, OnOk};
+ghost use Rattle.std.specs.Prelude.{◌≡◌, ◌++◌, ℕ, Bool, true, List, [], IfOk, OnOk};
 ghost use Rattle.papaya_schedules.specs.Moment.{start};
 ghost use Rattle.papaya_effects.specs.Effects.{effects_of, known_after, HasNumber};
-ghost use Rattle.papaya_effects.specs.Known.{known};
+ghost use Rattle.papaya_effects.specs.Known.{known, nothing_known};
 ghost use Rattle.papaya_executor.specs.IsAt.{KeepsGiven, at_first};
 ghost use Rattle.papaya_logged.specs.Choosing.{ChoiceIsShown, logged_chosen};
 ghost use Rattle.papaya_logged.specs.Shown.{IsShown};
@@ -42,6 +42,8 @@ impl<K: Drop, V: Drop, S: Drop> Logged<K, V, S> {
     pub fn new(alloc: Global, hasher: S, batch_size: u64, roots: u64) -> Result<Self, AllocError>
         ensures shown { IfOk result (λ logged. (same : K → K → Bool) (hash : K → ℕ) (name : ℕ → List ℕ) → IsShown same hash name start logged (at_first roots)) }
         ensures given { IfOk result (λ logged. (logged.executor.hasher ≡ hasher) × (logged.executor.batch_size ≡ batch_size) × (logged.executor.roots ≡ roots)) }
+        ensures maps { IfOk result (λ logged. logged.executor.maps.items ≡ []) }
+        ensures notes { IfOk result (λ logged. known logged.notes ≡ nothing_known) }
     {
         let executor = Executor::new(alloc, hasher, batch_size, roots)?;
         let notes = Notes::nothing(alloc);

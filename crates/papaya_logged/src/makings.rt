@@ -6,7 +6,7 @@ ghost use Rattle.papaya_effects.specs.declared.acting.Acting.TheVariants.{Making
 ghost use Rattle.papaya_histories.specs.Given.Finishes.Makings.{Beginning};
 ghost use Rattle.papaya_schedules.specs.Moment.{Moment};
 ghost use Rattle.papaya_executor.specs.Beginning.{IsRefused};
-ghost use Rattle.papaya_executor.specs.IsAt.{Scene, IsAt, IsMaking, KeepsGiven};
+ghost use Rattle.papaya_executor.specs.IsAt.{Scene, IsAt, IsMaking, StaysGiven, KeepsGiven};
 ghost use Rattle.papaya_executor.specs.Making.{MakingLeads};
 ghost use Rattle.papaya_executor.specs.declared.worker.TheConstants.{SLOTS};
 ghost use Rattle.papaya_logged.specs.Makings.{MakingIsBegun, MakingSteps, MakingRan, MapIsThere, given_back, is_over, numbers_then};
@@ -58,7 +58,7 @@ impl<K: Drop, V: Drop, S> Logged<K, V, S> {
             → MakingIsBegun same hash name m s given places caller self.old self.new) }
         ensures there { IfOk result (λ caller. MapIsThere self.new) }
         ensures numbers { IfOk result (λ caller. length self.new.executor.maps.items ≡ length self.old.executor.maps.items + 1) }
-        ensures given { KeepsGiven self.old.executor self.new.executor }
+        ensures given { StaysGiven self.old.executor self.new.executor }
         ensures refused { IfErr result (λ error. IsRefused self.old.executor self.new.executor × (self.new.notes ≡ self.old.notes)) }
     {
         let caller = self.executor.begin_making(slot, given, places)?;
@@ -99,7 +99,7 @@ impl<K: Drop, V: Drop, S> Logged<K, V, S> {
         ensures numbers { IfOk result (λ told. length self.new.executor.maps.items ≡ numbers_then map told (length self.old.executor.maps.items)) }
         ensures ran { IfOk result (λ told. MakingRan caller map told effects.old.items effects.new.items self.old self.new) }
         ensures finds { IfOk result (λ told. MakingFinds caller map told effects.old.items effects.new.items self.old self.new) }
-        ensures given { KeepsGiven self.old.executor self.new.executor }
+        ensures given { StaysGiven self.old.executor self.new.executor }
     {
         loop {
             let told = self.step_making(caller, map, effects)?;

@@ -10,15 +10,18 @@ ghost use Rattle.papaya_executor.specs.OnSlots.{RowLeads};
 ghost use Rattle.papaya_executor.specs.declared.row.SlotRow.{SlotRow};
 ghost use Rattle.papaya_executor.specs.declared.worker.TheConstants.{SLOTS};
 ghost use Rattle.papaya_executor.specs.declared.worker.Work.TheVariants.{OnSlot};
+ghost use Rattle.papaya_logged.specs.Back.{BringsBack};
 ghost use Rattle.papaya_logged.specs.Ended.{has_ended, uses_ended};
 ghost use Rattle.papaya_logged.specs.OnSlots.{EndsTelling, OnSlotBegins, OnSlotSteps, OnSlotRan, OnSlotComes, OnSlotLast, has_come};
 ghost use Rattle.papaya_logged.specs.Shown.{IsShown};
 
+use crate::back::keep_row;
 use crate::logged::Logged;
 use papaya_effects::acting::Acting;
 use papaya_executor::row::{RowTold, SlotCall};
 use papaya_executor::worker::SLOTS;
 use papaya_raw::Node;
+use papaya_runs::record::Pair;
 use papaya_schedules::effect::Effect;
 use std::alloc::AllocError;
 
@@ -67,11 +70,13 @@ impl<K: Drop, V: Drop, S> Logged<K, V, S> {
     }
 
     /// Takes steps of the row that a caller has under way on its slot, until it ends, or waits for a batch that another row has in hand, and answers what the last step
-    /// told. What the steps do is added to the list, in their order, and what they reclaim is dropped. It is refused as a step is.
+    /// told. What the steps do is added to the list, in their order, and the pairs that they reclaim come back, behind those before. It is refused as a step is; or where there is
+    /// no room for a pair that comes back, before the step that might reclaim one is taken.
     pub fn run_on_slot(
         &mut self,
         caller: u64,
         effects: &mut Vec<Effect>,
+        back: &mut Vec<Pair<K, V>>,
     ) -> Result<RowTold<Node<K, V>>, AllocError>
         requires { (same : K → K → Bool) × (hash : K → ℕ) × (s : Scene K V) × IsAt same hash self.old.executor s × (row : SlotRow) × (work_of self.old.executor caller ≡ Some (OnSlot row)) }
         ensures comes { IfOk result (λ told. OnSlotComes caller told self.new) }
@@ -80,13 +85,16 @@ impl<K: Drop, V: Drop, S> Logged<K, V, S> {
             → self.new.executor.slots.items ≡ uses_ended row told self.old.executor.slots.items) }
         ensures ran { IfOk result (λ told. OnSlotRan effects.old.items effects.new.items self.old self.new) }
         ensures tells { IfOk result (λ told. EndsTelling effects.new.items self.new.executor) }
+        ensures back { IfOk result (λ told. BringsBack effects.old.items effects.new.items self.old back.old.items back.new.items) }
         ensures given { KeepsGiven self.old.executor self.new.executor }
     {
         loop {
+            back.reserve(1)?;
             let told = self.step_on_slot(caller, effects)?;
             if has_come(&told) {
                 return Ok(told);
             }
+            keep_row(told, effects.as_slice(), back);
         }
     }
 }

@@ -1,16 +1,22 @@
 //! All is reclaimed, step by step, while nobody has anything under way.
-ghost use Rattle.std.specs.Prelude.{◌≡◌, ℕ, Bool, List, IfOk, OnOk};
+ghost use Rattle.std.specs.Prelude.{◌≡◌, ◌++◌, ℕ, Bool, List, IfOk, OnOk};
+ghost use Rattle.papaya_effects.specs.Effects.{effects_of};
+ghost use Rattle.papaya_effects.specs.Known.{known};
+ghost use Rattle.papaya_effects.specs.declared.acting.Acting.TheVariants.{Row};
 ghost use Rattle.papaya_schedules.specs.Moment.{Moment};
 ghost use Rattle.papaya_executor.specs.IsAt.{Scene, KeepsGiven};
 ghost use Rattle.papaya_reclaiming.specs.Reclaiming.{NobodyHas, MayReclaim, IsReclaiming, ReclaimingLeads};
+ghost use Rattle.papaya_logged.specs.Back.{AllBringsBack};
 ghost use Rattle.papaya_logged.specs.Reclaims.{ReclaimingIsShown, ReclaimingRan, ReclaimingSteps};
 ghost use Rattle.papaya_logged.specs.Shown.{IsShown};
 
+use crate::back::keep_settled;
 use crate::ends::is_done;
 use crate::logged::Logged;
 use papaya_effects::acting::Acting;
 use papaya_raw::Node;
 use papaya_reclaiming::reclaiming::Reclaiming;
+use papaya_runs::record::Pair;
 use papaya_schedules::effect::Effect;
 use seize::rows::Settled;
 use std::alloc::AllocError;
@@ -35,6 +41,7 @@ impl<K: Drop, V: Drop, S> Logged<K, V, S> {
         ensures leads { IfOk result (λ told. ReclaimingSteps reclaiming.old.all reclaiming.new.all told effects.old.items effects.new.items self.old self.new) }
         ensures steps { IfOk result (λ told. (same : K → K → Bool) (hash : K → ℕ) (s : Scene K V) (i : ℕ) (lists : ℕ → List ℕ) → IsReclaiming same hash self.old.executor s i lists reclaiming.old.all
             → ReclaimingLeads same hash s i lists self.old.executor self.new.executor reclaiming.old.all reclaiming.new.all told) }
+        ensures did { IfOk result (λ told. effects.new.items ≡ effects.old.items ++ effects_of Row (known self.old.notes) self.new.executor.memory.changed) }
         ensures given { KeepsGiven self.old.executor self.new.executor }
     {
         let told = reclaiming.step(&mut self.executor);
@@ -42,25 +49,29 @@ impl<K: Drop, V: Drop, S> Logged<K, V, S> {
         Ok(told)
     }
 
-    /// Takes steps until all is reclaimed, with the slots first, if one was ever taken, else with the roots alone. What the steps do is added to the list, in their order, and what
-    /// they reclaim is dropped. It is refused as a step is, and if so many steps are not enough as a number can tell.
+    /// Takes steps until all is reclaimed, with the slots first, if one was ever taken, else with the roots alone. What the steps do is added to the list, in their order, and the
+    /// pairs that they reclaim come back, behind those before. It is refused as a step is; where there is no room for a pair that comes back, before the step is taken; and if so many steps are not enough as a number can tell.
     pub fn run_reclaiming(
         &mut self,
         taken: bool,
         effects: &mut Vec<Effect>,
+        back: &mut Vec<Pair<K, V>>,
     ) -> Result<(), AllocError>
         requires { (same : K → K → Bool) × (hash : K → ℕ) × (name : ℕ → List ℕ) × (m : Moment K V) × (s : Scene K V) × (lists : ℕ → List ℕ) × IsShown same hash name m self.old s
             × NobodyHas self.old.executor × MayReclaim self.old.executor s lists taken }
         ensures ran { OnOk result (ReclaimingRan taken effects.old.items effects.new.items self.old self.new) }
+        ensures back { OnOk result (AllBringsBack taken effects.old.items effects.new.items self.old back.old.items back.new.items) }
         ensures given { KeepsGiven self.old.executor self.new.executor }
     {
         let mut reclaiming = self.begin_reclaiming(taken);
         let mut left = u64::MAX;
         while left > 0 {
+            back.reserve(1)?;
             let told = self.step_reclaiming(&mut reclaiming, effects)?;
             if is_done(&told) {
                 return Ok(());
             }
+            keep_settled(told, effects.as_slice(), back);
             left -= 1;
         }
         Err(AllocError)

@@ -74,7 +74,6 @@ begun_log defers size i (Defer' s b t) w w2 of h = absurd of
 pub slot_events_begin : (K V : Type 0) → SlotEventsBegin K V
 slot_events_begin K V batch_size roots things sets known w w2 follows i request of rests begins = record {
   of_slots = of;
-  began = w;
   before = follows.before;
   row = rows_begin deferred_word batch_size roots w w2 follows.before follows.came i request rests begins;
   alike = follows.alike;
@@ -129,8 +128,8 @@ module _ {K V S : Type 0} (same : K → K → Bool) (hash : K → ℕ) (m : Mome
       let taken = subst (LeavesBy w.memory w2.memory) is l in
       none_some (value_at w.memory b) taken.0 (subst (λ (r : Role). HasRole w m.stored b r) free (blocks.roles b))
 
-  module _ (roots : ℕ) (things : List Thing) (sets : Sets) (first : Known) (request : Request) (done : List Effect)
-      (r : FollowsInRow old.batch_size roots things sets first i request done known s.world) where
+  module _ (roots : ℕ) (things : List Thing) (sets : Sets) (first : Known) (request : Request) (began : World (Node K V)) (done : List Effect)
+      (r : FollowsInRow old.batch_size roots things sets first i request began done known s.world) where
     as_first : (b : ℕ) → new.memory.changed ≡ changed.Took b → known.roles b ≡ first.roles b
     as_first b is = by (r.noted b)
       where
@@ -138,21 +137,20 @@ module _ {K V S : Type 0} (same : K → K → Bool) (hash : K → ℕ) (m : Mome
         by (inl e) = e
         by (inr free) = absurd (not_free new.memory.changed left b is free)
 
-    pub goes_on : FollowsInRow old.batch_size roots things sets first i request (done ++ effects_of Row known new.memory.changed) (known_after Row new.memory.changed known) w2
+    pub goes_on : FollowsInRow old.batch_size roots things sets first i request began (done ++ effects_of Row known new.memory.changed) (known_after Row new.memory.changed known) w2
     goes_on =
         let stepped = it deferred_word old.batch_size w reached i w2 happened.1 in
         let so = takes_so deferred_word old.batch_size w reached i w2 happened.1 new.memory.changed left tells in
         let back = step_back known first new.memory.changed tells (taken_in effects) so as_first in
         record {
           of_slots = r.of_slots;
-          began = r.began;
           before = r.before;
-          row = rows_go_on deferred_word old.batch_size roots i request r.began w w2 r.before r.row happened.1;
+          row = rows_go_on deferred_word old.batch_size roots i request began w w2 r.before r.row happened.1;
           alike = r.alike;
           back = r.back ++ taken_in effects;
           taken =
               ap taken_in stepped.logged ∙ taken_append effects w.log ∙ ap (λ (l : List ℕ). l ++ taken_in effects) r.taken
-              ∙ append_assoc (taken_in r.began.log) r.back (taken_in effects);
+              ∙ append_assoc (taken_in began.log) r.back (taken_in effects);
           reclaimed =
               both_more thing_back done (effects_of Row known new.memory.changed) _ _ r.reclaimed back.0
               ∙ sym (flat_map-append (λ (b : ℕ). things_of (first.roles b)) r.back (taken_in effects));
@@ -162,9 +160,9 @@ module _ {K V S : Type 0} (same : K → K → Bool) (hash : K → ℕ) (m : Mome
 
 module _ (K V S : Type 0) (same : K → K → Bool) (hash : K → ℕ) where
   pub slot_events_go_on : SlotEventsGoOn K V S same hash
-  slot_events_go_on m known s old new at blocks i told leads row here roots things sets first request done r =
+  slot_events_go_on m known s old new at blocks i told leads row here roots things sets first request began done r =
       let to = leads row here in
-      goes_on same hash m known s old new at blocks i row here (to.0, told) to.1 to.4 roots things sets first request done r
+      goes_on same hash m known s old new at blocks i row here (to.0, told) to.1 to.4 roots things sets first request began done r
 
 -- Where it has ended.
 
@@ -244,18 +242,18 @@ numbers_back known things (b ∷ blocks) (n ∷ numbers) h =
     both : (j k : ℕ) (l r : List ℕ) → j ≡ k → l ≡ r → (j ∷ l) ≡ (k ∷ r)
     both j k l r p q = cc (p, q)
 
-module _ {K V : Type 0} (terms : Terms) (log : List (Entry K V)) (e : Entry K V) (first : Known) (i : ℕ) (request : Request) (known : Known) (w : World (Node K V))
+module _ {K V : Type 0} (terms : Terms) (log : List (Entry K V)) (e : Entry K V) (first : Known) (i : ℕ) (request : Request) (known : Known) (began w : World (Node K V))
     (small : terms.batch_size < 2 ^ 64) (once : EachIsOnce first)
-    (r : FollowsInRow terms.batch_size terms.roots (things_in log) (sets_in terms.batch_size log) first i request e.effects known w) (rests : w.row i ≡ Rests)
-    (m : Moment K V) (blocks : ShowsBlocks m known w) (is : IsRowFor request r.began.uses w.uses e.event e.outcome (at_work e (moment log))) where
+    (r : FollowsInRow terms.batch_size terms.roots (things_in log) (sets_in terms.batch_size log) first i request began e.effects known w) (rests : w.row i ≡ Rests)
+    (m : Moment K V) (blocks : ShowsBlocks m known w) (is : IsRowFor request began.uses w.uses e.event e.outcome (at_work e (moment log))) where
   abbrev now : List Change
-  now = changes request r.began.uses w.uses
+  now = changes request began.uses w.uses
 
   abbrev sets_then_of : Sets
   sets_then_of = (all_changed terms.batch_size now (sets_in terms.batch_size log)).sets
 
-  run : HasRun deferred_word terms.batch_size terms.roots request r.began r.before w
-  run = rows_end deferred_word terms.batch_size terms.roots small i request r.began w r.before r.row rests
+  run : HasRun deferred_word terms.batch_size terms.roots request began r.before w
+  run = rows_end deferred_word terms.batch_size terms.roots small i request began w r.before r.row rests
 
   things_same : things_in (e ∷ log) ≡ things_in log
   things_same = same_things terms log e (none_came e.effects r.all)
@@ -266,10 +264,10 @@ module _ {K V : Type 0} (terms : Terms) (log : List (Entry K V)) (e : Entry K V)
   both : AfterAlike (HasNumber first (things_in log)) (all_changed terms.batch_size now (sets_of terms.batch_size r.before)) (all_changed terms.batch_size now (sets_in terms.batch_size log))
   both =
       all_alike (HasNumber first (things_in log)) (has_one first (things_in log) once) terms.batch_size now now (sets_of terms.batch_size r.before) (sets_in terms.batch_size log) r.alike
-      (row_alike (HasNumber first (things_in log)) request r.began.uses w.uses r.of_slots)
+      (row_alike (HasNumber first (things_in log)) request began.uses w.uses r.of_slots)
 
   back_is : (all_changed terms.batch_size now (sets_of terms.batch_size r.before)).reclaimed ≡ r.back
-  back_is = append_cancel_left (taken_in r.began.log) _ r.back (sym run.taken ∙ r.taken)
+  back_is = append_cancel_left (taken_in began.log) _ r.back (sym run.taken ∙ r.taken)
 
   reclaimed : AreAlike (HasNumber first (things_in log)) r.back (all_changed terms.batch_size now (sets_in terms.batch_size log)).reclaimed
   reclaimed = subst (λ (l : List ℕ). AreAlike (HasNumber first (things_in log)) l (all_changed terms.batch_size now (sets_in terms.batch_size log)).reclaimed) back_is both.reclaimed
@@ -296,7 +294,7 @@ module _ {K V : Type 0} (terms : Terms) (log : List (Entry K V)) (e : Entry K V)
 
   pub is_followed : IsFollowed terms log e known w
   is_followed = (
-    by_model terms log e now are (none_left request r.began.uses w.uses e.event e.outcome (moment log) (at_work e (moment log)) is) numbers_are,
+    by_model terms log e now are (none_left request began.uses w.uses e.event e.outcome (moment log) (at_work e (moment log)) is) numbers_are,
     record {
       before = r.before ++ now;
       came = run.came;
@@ -307,4 +305,4 @@ module _ {K V : Type 0} (terms : Terms) (log : List (Entry K V)) (e : Entry K V)
   )
 
 pub slot_events_end : (K V : Type 0) → SlotEventsEnd K V
-slot_events_end K V terms log e first i request known w small once r rests m blocks is = is_followed terms log e first i request known w small once r rests m blocks is
+slot_events_end K V terms log e first i request known began w small once r rests m blocks is = is_followed terms log e first i request known began w small once r rests m blocks is

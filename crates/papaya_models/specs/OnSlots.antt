@@ -34,11 +34,10 @@ use Rattle.papaya_models.specs.Numbers.{things_of, HasNumber, EachIsOnce, AreOfR
 use Rattle.papaya_models.specs.Turns.{sets_of, IsInRow}
 
 module _ {K V : Type 0} (batch_size roots : ℕ) where
-  -- In the midst of an event that is a row of caller i, once it has done this. As the row began these were the sets, by what was noted then; what it has
+  -- In the midst of an event that is a row of caller i, which began in that world, once it has done this. As the row began these were the sets, by what was noted then; what it has
   -- reclaimed since are the things that were noted in the blocks that it took away, and nothing else is noted otherwise.
-  pub record FollowsInRow (things : List Thing) (sets : Sets) (first : Known) (i : ℕ) (request : Request) (done : List Effect) (known : Known) (w : World (Node K V)) : Type 0 where
+  pub record FollowsInRow (things : List Thing) (sets : Sets) (first : Known) (i : ℕ) (request : Request) (began : World (Node K V)) (done : List Effect) (known : Known) (w : World (Node K V)) : Type 0 where
     pub of_slots : IsOfSlots request
-    pub began : World (Node K V)
     pub before : List Change
     pub row : IsInRow deferred_word batch_size roots i request began before w
     pub alike : SetsAlike (HasNumber first things) (sets_of batch_size before) sets
@@ -59,16 +58,16 @@ module _ (K V : Type 0) where
   SlotEventsBegin =
       (batch_size roots : ℕ) (things : List Thing) (sets : Sets) (known : Known) (w w2 : World (Node K V)) → FollowsSets batch_size roots things sets known w
       → (i : ℕ) (request : Request) → IsOfSlots request → w.row i ≡ Rests → Begins deferred_word batch_size i request w w2
-      → FollowsInRow batch_size roots things sets known i request [] known w2
+      → FollowsInRow batch_size roots things sets known i request w [] known w2
 
   -- and where its caller rests, and the event is that row to the waiting sets, it has reclaimed what the model reclaims.
   abbrev pub SlotEventsEnd : Type 0
   SlotEventsEnd =
-      (terms : Terms) (log : List (Entry K V)) (e : Entry K V) (first : Known) (i : ℕ) (request : Request) (known : Known) (w : World (Node K V))
+      (terms : Terms) (log : List (Entry K V)) (e : Entry K V) (first : Known) (i : ℕ) (request : Request) (known : Known) (began w : World (Node K V))
       → terms.batch_size < 2 ^ 64 → EachIsOnce first
-      → (r : FollowsInRow terms.batch_size terms.roots (things_in log) (sets_in terms.batch_size log) first i request e.effects known w)
+      → FollowsInRow terms.batch_size terms.roots (things_in log) (sets_in terms.batch_size log) first i request began e.effects known w
       → w.row i ≡ Rests → (m : Moment K V) → ShowsBlocks m known w
-      → IsRowFor request r.began.uses w.uses e.event e.outcome (at_work e (moment log)) → IsFollowed terms log e known w
+      → IsRowFor request began.uses w.uses e.event e.outcome (at_work e (moment log)) → IsFollowed terms log e known w
 
 module _ (K V S : Type 0) (same : K → K → Bool) (hash : K → ℕ) where
   -- It goes on so by each step of the row.
@@ -76,7 +75,7 @@ module _ (K V S : Type 0) (same : K → K → Bool) (hash : K → ℕ) where
   SlotEventsGoOn =
       (m : Moment K V) (known : Known) (s : Scene K V) (old new : Executor K V S) → IsAt same hash old s → ShowsBlocks m known s.world
       → (i : ℕ) (told : RowTold (Node K V)) (leads : RowLeads same hash i told s old new) (row : SlotRow) (here : work_of old i ≡ Some (OnSlot row))
-      → (roots : ℕ) (things : List Thing) (sets : Sets) (first : Known) (request : Request) (done : List Effect)
-      → FollowsInRow old.batch_size roots things sets first i request done known s.world
-      → FollowsInRow old.batch_size roots things sets first i request (done ++ effects_of Row known new.memory.changed) (known_after Row new.memory.changed known)
+      → (roots : ℕ) (things : List Thing) (sets : Sets) (first : Known) (request : Request) (began : World (Node K V)) (done : List Effect)
+      → FollowsInRow old.batch_size roots things sets first i request began done known s.world
+      → FollowsInRow old.batch_size roots things sets first i request began (done ++ effects_of Row known new.memory.changed) (known_after Row new.memory.changed known)
       (scene_then same hash (Step i) s old new (leads row here).4).world

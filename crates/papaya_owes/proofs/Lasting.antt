@@ -132,7 +132,7 @@ module _ {K V S : Type 0} (same : K → K → Bool) (hash : K → ℕ) (name : �
   ending_keeps_held b j held is =
       ending_spares b
       (record {
-        used = λ o use. (let own = held.hand in cc (use, own));
+        used = λ o in_use. (let own = held.hand in cc (in_use, own));
         over = λ k left_over. (let own = held.hand in cc (left_over, own));
         value = held.value;
         there = held.is;

@@ -19,6 +19,11 @@ use Rattle.papaya_schedules.specs.Moment.{Stands}
 use Rattle.papaya_schedules.specs.Steps.{DoesFew, MakesSteps}
 use Rattle.papaya_running.specs.Asked.{is_of_calls, is_of_maps, takes_steps}
 
+-- what does nothing does few
+pub does_nothing : (own : Option (List ℕ)) (steps : ℕ) (effects : List Effect) → effects ≡ [] → DoesFew own steps effects
+does_nothing None steps effects none = tt
+does_nothing (Some caller) steps effects none = subst (λ (l : List Effect). DoesFew (Some caller) steps l) (sym none) (omega arith)
+
 module _ {K V : Type 0} where
   none_made : (form : Event K V) → takes_steps form ≡ false → (stand : Stands) (o : Outcome V) → MakesSteps form stand 0 o
   none_made form so stand (Refused Busy) = refl
@@ -108,11 +113,6 @@ module _ {K V : Type 0} where
 
   pub makes_out : (form : Event K V) (stand : Stands) (steps : ℕ) → steps ≡ 0 → (o : Outcome V) → IsKeptOut form o → MakesSteps form stand steps o
   makes_out form stand steps none o out = subst (λ (n : ℕ). MakesSteps form stand n o) (sym none) (out_makes form stand o out)
-
-  -- what does nothing does few
-  pub does_nothing : (own : Option (List ℕ)) (steps : ℕ) (effects : List Effect) → effects ≡ [] → DoesFew own steps effects
-  does_nothing None steps effects none = tt
-  does_nothing (Some caller) steps effects none = subst (λ (l : List Effect). DoesFew (Some caller) steps l) (sym none) (omega arith)
 
   -- An event of calls has one of these forms,
   pub some_call : (e : Event K V) → is_of_calls e ≡ true

@@ -18,12 +18,12 @@ use Rattle.papaya_scheduler.specs.declared.played.Played.{Played}
 use Rattle.papaya_scheduler.specs.declared.scheduler.Scheduler.{Scheduler}
 use Rattle.papaya_stepping.specs.Stepping.{ComesInCase, PlaysNextAt, PlaysOnAt}
 use Rattle.papaya_scheduler.proofs.KeptOut.{kept_out_is}
-use Rattle.papaya_running.specs.Asked.{AsksOfSteps, FindsRight, Happens, HappensAt, HappensDue, Holds, MayHappenDue, takes_steps}
+use Rattle.papaya_running.specs.Asked.{FindsRight, Happens, HappensAt, HappensDue, Holds, MayHappenDue, takes_steps}
 use Rattle.papaya_running.proofs.Forms.{does_none, does_nothing, makes_none, makes_out}
 
 module _ {K V S : Type 0} (same : K → K → Bool) (hash : K → ℕ) (event form : Event K V) (is : event ≡ form) (old : Scheduler K V S) where
   -- it may happen in this form, too
-  pub due_so : (terms : Terms) (log : List (Entry K V)) → Holds same hash terms (moment log) old → is_kept_out terms event (moment log) ≡ false → IsDue same hash terms log form old
+  abbrev pub due_so : (terms : Terms) (log : List (Entry K V)) → Holds same hash terms (moment log) old → is_kept_out terms event (moment log) ≡ false → IsDue same hash terms log form old
   due_so terms log holds out = record { played = holds.stands; in_turn = subst (λ (x : Event K V). is_kept_out terms x (moment log) ≡ false) is out }
 
   pub may_play : MayHappenDue same hash event old → MayPlay same hash form old
@@ -39,8 +39,8 @@ module _ {K V S : Type 0} (same : K → K → Bool) (hash : K → ℕ) (event fo
     -- what is promised of an event of this form, but for its steps
     abbrev pub PlaysForm : Played V → Type 0
     PlaysForm played =
-        (terms : Terms) (log : List (Entry K V)) → is_first ≡ ((moment log).events == 0) → (holds : Holds same hash terms (moment log) old) → is_kept_out terms event (moment log) ≡ false
-        → AsksOfSteps same hash log holds.stands.name form played.effects.items new → Plays same hash terms log (entry_of form played) new
+        (terms : Terms) (log : List (Entry K V)) → is_first ≡ ((moment log).events == 0) → Holds same hash terms (moment log) old → is_kept_out terms event (moment log) ≡ false
+        → Plays same hash terms log (entry_of form played) new
 
     abbrev Due : Played V → Type 0
     Due played = HappensDue same hash is_first event played old new
@@ -48,9 +48,9 @@ module _ {K V S : Type 0} (same : K → K → Bool) (hash : K → ℕ) (event fo
     -- one by which no call takes steps
     pub still : takes_steps form ≡ false → (played : Played V) → played.steps ≡ 0 → PlaysForm played → Due played
     still so played none plays = λ terms log first holds out.
-        subst (λ (x : Event K V). Happens same hash holds.stands.name terms log (entry_of x played) new) (sym is) (record {
-          played = λ asks. (plays terms log first holds out asks).played;
-          plays = λ asks finds. plays terms log first holds out asks;
+        subst (λ (x : Event K V). Happens same hash terms log (entry_of x played) new) (sym is) (record {
+          played = (plays terms log first holds out).played;
+          plays = λ finds. plays terms log first holds out;
           makes = makes_none form so (stands_or (acting (caller_of form) (at_work (entry_of form played) (moment log)))) played.steps none played.outcome;
           does = does_none form so played.steps played.effects.items;
         })
@@ -64,9 +64,9 @@ module _ {K V S : Type 0} (same : K → K → Bool) (hash : K → ℕ) (event fo
         → (result : Result (Played V) X) → IfOk result (λ played. PlaysOnAt same hash form played old new) → IfOk result Due
     goes_if case_of (Ok played) plays = λ terms log first holds out.
         let on = plays terms log (due_so terms log holds out) in
-        subst (λ (x : Event K V). Happens same hash holds.stands.name terms log (entry_of x played) new) (sym is) (record {
-          played = λ asks. on.played;
-          plays = λ asks finds. on.plays (case_of terms log played finds);
+        subst (λ (x : Event K V). Happens same hash terms log (entry_of x played) new) (sym is) (record {
+          played = on.played;
+          plays = λ finds. on.plays (case_of terms log played finds);
           makes = on.makes;
           does = on.does;
         })
@@ -77,7 +77,7 @@ module _ {K V S : Type 0} (same : K → K → Bool) (hash : K → ℕ) (event : 
   pub next_if : {X : Type 0} (result : Result (Played V) X) → IfOk result (λ played. PlaysNextAt same hash own played old new) → IfOk result (λ played. HappensDue same hash is_first event played old new)
   next_if (Ok played) plays = λ terms log first holds out.
       let on = plays terms log (due_so same hash event (Next own) is old terms log holds out) in
-      subst (λ (x : Event K V). Happens same hash holds.stands.name terms log (entry_of x played) new) (sym is) (record { played = λ asks. on.plays.played; plays = λ asks finds. on.plays; makes = on.makes; does = on.does })
+      subst (λ (x : Event K V). Happens same hash terms log (entry_of x played) new) (sym is) (record { played = on.plays.played; plays = λ finds. on.plays; makes = on.makes; does = on.does })
   next_if (Err x) plays = tt
 
 -- An event is kept out, or in turn.
@@ -89,8 +89,8 @@ module _ {K V S : Type 0} (same : K → K → Bool) (hash : K → ℕ) (event : 
     pub stays_out : (played : Played V) → IsKeptOut event played.outcome → played.steps ≡ 0 → played.effects.items ≡ [] → PlaysKeptOut same hash event played old new → keeps_out event old ≡ true
         → HappensAt same hash is_first event played old new
     stays_out played kept none nothing plays out = λ terms log first holds. record {
-      played = λ asks. (plays terms log holds.stands out).played;
-      plays = λ asks finds. plays terms log holds.stands out;
+      played = (plays terms log holds.stands out).played;
+      plays = λ finds. plays terms log holds.stands out;
       makes = makes_out event (stands_or (acting (caller_of event) (at_work (entry_of event played) (moment log)))) played.steps none played.outcome kept;
       does = does_nothing (caller_of event) played.steps played.effects.items nothing;
     }

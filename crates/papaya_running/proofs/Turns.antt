@@ -27,18 +27,22 @@ use Rattle.papaya_scheduler.specs.declared.played.Played.{Played}
 use Rattle.papaya_scheduler.specs.declared.scheduler.NamedMap.{NamedMap}
 use Rattle.papaya_scheduler.specs.declared.scheduler.Scheduler.{Scheduler}
 use Rattle.papaya_running.specs.Acting.{acting_of, map_acted, singles_as, traced}
-use Rattle.papaya_running.specs.Asked.{AsksOfSteps, FindsRight, Happens, Holds}
+use Rattle.papaya_running.specs.Asked.{Happens, Holds}
+use Rattle.papaya_running.specs.Back.{BackSoFar, ReclaimsBy, ReclaimsRight, TellsBack}
 use Rattle.papaya_running.specs.Ending.{shown_of, told_map}
 use Rattle.papaya_running.specs.Run.{GoesRight, IsRightRun, SoFar, TellsMost, log_so}
-use Rattle.papaya_running.specs.Tally.{Tells, TellsAll, TellsMoment, counted, deferral, flag_of}
+use Rattle.papaya_tally.specs.Tally.{Tells, TellsAll, TellsMoment, counted, deferral, flag_of}
 use Rattle.papaya_running.specs.declared.record.Record.{Record}
-use Rattle.papaya_running.specs.declared.tally.Flagged.{Flagged}
-use Rattle.papaya_running.specs.declared.tally.Tally.{Tally}
-use Rattle.papaya_running.specs.declared.tally.Whereabouts.{Whereabouts}
-use Rattle.papaya_running.specs.declared.tally.Whereabouts.TheVariants.{Unborn}
+use Rattle.papaya_logged.specs.Back.{ComesBack}
+use Rattle.papaya_tally.specs.Told.{AreBack}
+use Rattle.papaya_tally.proofs.Back.{back_then}
+use Rattle.papaya_tally.specs.declared.tally.Flagged.{Flagged}
+use Rattle.papaya_tally.specs.declared.tally.Tally.{Tally}
+use Rattle.papaya_tally.specs.declared.tally.Whereabouts.{Whereabouts}
+use Rattle.papaya_tally.specs.declared.tally.Whereabouts.TheVariants.{Unborn}
 use Rattle.papaya_running.proofs.Logs.{acted_so, begun_same, log_long, log_more, singles_are}
-use Rattle.papaya_running.proofs.Numbers.{lists_map}
-use Rattle.papaya_running.proofs.Tallies.{told_moment}
+use Rattle.papaya_tally.proofs.Numbers.{lists_map}
+use Rattle.papaya_tally.proofs.Tallies.{told_moment}
 
 lists_same : (xs : List (Vec Effect)) → length (map (λ v. v.items) xs) ≡ length xs
 lists_same [] = refl
@@ -93,7 +97,8 @@ module _ {K V S : Type 0} (same : K → K → Bool) (hash : K → ℕ) (terms : 
           ∙ ap (λ (l : List Single). trace_of log ++ l) (singles_are (length log) e)
 
       -- the event has happened, too
-      pub next_so : {p2 : Scheduler K V S} → GoesRight terms log e → Holds same hash terms (moment (e ∷ log)) p2 → SoFar same hash terms (events ++ event ∷ []) rec2 tally2 p2
+      pub next_so : {p2 : Scheduler K V S} → GoesRight terms log e → Holds same hash terms (moment (e ∷ log)) p2
+          → SoFar same hash terms (events ++ event ∷ []) rec2 tally2 p2
       next_so {p2} goes holds = record {
         outcomes = one_more rec.outcomes.items rec2.outcomes.items played.outcome outcomes so.outcomes;
         steps = one_more rec.steps.items rec2.steps.items played.steps steps so.steps;
@@ -104,14 +109,22 @@ module _ {K V S : Type 0} (same : K → K → Bool) (hash : K → ℕ) (terms : 
         told = subst (λ (l : List (Entry K V)). TellsMoment tally2 (moment l)) (sym more) tells_then;
       }
 
+      -- and what it reclaims has come back
+      pub back_so : {b0 b1 : List (Pair K V)} → BackSoFar log b0 → (ReclaimsBy event played.effects.items → ComesBack (moment log).stored played.effects.items b0 b1)
+          → BackSoFar (log_so (events ++ event ∷ []) rec2) b1
+      back_so {b0} {b1} before comes = subst (λ (l : List (Entry K V)). BackSoFar l b1) (sym more) (λ right.
+          (let c = comes right.0 in
+          subst (AreBack (moment (e ∷ log))) (sym c.follow) (back_then e (moment log) b0 c.more (before right.1) c.reclaimed c.contents)))
+
 -- what is promised of an event, as a run tells it
-pub goes_so : {K V S : Type 0} (same : K → K → Bool) (hash : K → ℕ) (name : ℕ → List ℕ) (terms : Terms) (log : List (Entry K V)) (e : Entry K V) (p : Scheduler K V S)
-    → AsksOfSteps same hash log name e.event e.effects p → Happens same hash name terms log e p → GoesRight terms log e
-goes_so same hash name terms log e p asks happens = record { right = λ finds. (happens.plays asks finds).right; makes = happens.makes; does = happens.does }
+pub goes_so : {K V S : Type 0} (same : K → K → Bool) (hash : K → ℕ) (terms : Terms) (log : List (Entry K V)) (e : Entry K V) (p : Scheduler K V S)
+    → Happens same hash terms log e p → GoesRight terms log e
+goes_so same hash terms log e p happens = record { right = λ finds. (happens.plays finds).right; makes = happens.makes; does = happens.does }
 
 -- before all events
 pub start_so : {K V S : Type 0} (same : K → K → Bool) (hash : K → ℕ) (terms : Terms) (rec : Record V) (tally : Tally) (p : Scheduler K V S) → rec.outcomes.items ≡ [] → rec.steps.items ≡ [] → rec.effects.items ≡ []
-    → rec.trace.items ≡ [] → tally.pairs.items ≡ [] → tally.behind.items ≡ [] → tally.tables.items ≡ [] → Holds same hash terms (start {K = K} {V = V}) p → SoFar same hash terms [] rec tally p
+    → rec.trace.items ≡ [] → tally.pairs.items ≡ [] → tally.behind.items ≡ [] → tally.tables.items ≡ []
+    → Holds same hash terms (start {K = K} {V = V}) p → SoFar same hash terms [] rec tally p
 start_so {K} {V} same hash terms rec tally p outcomes steps effects trace pairs behind flags holds = record {
   outcomes = ap length outcomes;
   steps = ap length steps;
@@ -126,8 +139,13 @@ start_so {K} {V} same hash terms rec tally p outcomes steps effects trace pairs 
   });
 }
   where
-    none : log_so [] rec ≡ []
+    none : log_so {K = K} {V = V} [] rec ≡ []
     none = λ i. log_on [] [] (outcomes i) (steps i) (map (λ v. v.items) (effects i))
+
+pub back_first : {K V : Type 0} (rec : Record V) (b : List (Pair K V)) → rec.outcomes.items ≡ [] → rec.steps.items ≡ [] → rec.effects.items ≡ [] → b ≡ [] → BackSoFar (log_so [] rec) b
+back_first {K} {V} rec b outcomes steps effects none =
+    subst (λ (l : List (Entry K V)). BackSoFar l b) (sym (λ i. log_on [] [] (outcomes i) (steps i) (map (λ v. v.items) (effects i))))
+    (λ right. subst (AreBack (start {K = K} {V = V})) (sym none) (record { told = refl; contents = tt }))
 
 -- What is told of maps.
 module _ {K V : Type 0} (m : Moment K V) (tally : Tally) (tells : TellsMoment tally m) where
@@ -168,8 +186,9 @@ module _ {K V : Type 0} (m : Moment K V) (tally : Tally) (tells : TellsMoment ta
 
 -- The run of a schedule whose events have all happened.
 module _ {K V S : Type 0} (same : K → K → Bool) (hash : K → ℕ) (terms : Terms) (events : List (Event K V)) (rec : Record V) (tally : Tally) (p : Scheduler K V S) (so : SoFar same hash terms events rec tally p) where
-  pub run_so : (run : Run K V) → run.outcomes ≡ rec.outcomes → run.steps ≡ rec.steps → run.effects ≡ rec.effects → run.trace ≡ rec.trace → TellsMost (moment (log_so events rec)) run → IsRightRun terms events run
-  run_so run outcomes steps effects trace tells =
+  pub run_so : (run : Run K V) → run.outcomes ≡ rec.outcomes → run.steps ≡ rec.steps → run.effects ≡ rec.effects → run.trace ≡ rec.trace → TellsMost (moment (log_so events rec)) run
+      → (AtEachEvent ReclaimsRight (log_so events rec) → TellsBack (moment (log_so events rec)) run) → IsRightRun terms events run
+  run_so run outcomes steps effects trace tells back =
       let same_log : log_of events run ≡ log_so events rec = λ i. log_on [] events (outcomes i).items (steps i).items (map (λ v. v.items) (effects i).items) in
       record {
         outcomes = ap (λ v. length v.items) outcomes ∙ so.outcomes;
@@ -178,4 +197,5 @@ module _ {K V S : Type 0} (same : K → K → Bool) (hash : K → ℕ) (terms : 
         trace = ap (λ v. v.items) trace ∙ so.trace ∙ ap trace_of (sym same_log);
         goes = subst (AtEachEvent (GoesRight terms)) (sym same_log) so.goes;
         tells = subst (λ (l : List (Entry K V)). TellsMost (moment l) run) (sym same_log) tells;
+        back = subst (λ (l : List (Entry K V)). AtEachEvent ReclaimsRight l → TellsBack (moment l) run) (sym same_log) back;
       }

@@ -3,7 +3,6 @@ use Rattle.std.specs.Prelude.{◌≡◌, ◌==◌, ℕ, Bool, true, false, List,
 use Rattle.papaya_histories.specs.Given.Points.Steps.{AreLawful}
 use Rattle.papaya_schedules.specs.declared.event.Event.{Event}
 use Rattle.papaya_schedules.specs.declared.event.Event.TheVariants.{ReclaimAll, Close, MakeMap, EndMap, ShowShape, Begin, Step, Go, Replied, OneCall, Next, Stop}
-use Rattle.papaya_schedules.specs.declared.effect.Effect.{Effect}
 use Rattle.papaya_schedules.specs.After.{moment}
 use Rattle.papaya_schedules.specs.Beginning.{at_work}
 use Rattle.papaya_schedules.specs.Entry.{Entry, acting, caller_of}
@@ -13,7 +12,7 @@ use Rattle.papaya_schedules.specs.Steps.{DoesFew, MakesSteps, stands_or}
 use Rattle.papaya_schedules.specs.Terms.{Terms}
 use Rattle.papaya_scheduler.specs.Mapping.{CountsMaps}
 use Rattle.papaya_scheduler.specs.Played.{Plays, StandsFor, entry_of, IsPlayed}
-use Rattle.papaya_scheduler.specs.Reclaiming.{MayComeBack, MayGiveAll}
+use Rattle.papaya_scheduler.specs.Reclaiming.{MayGiveAll}
 use Rattle.papaya_scheduler.specs.declared.played.Played.{Played}
 use Rattle.papaya_scheduler.specs.declared.scheduler.Scheduler.{Scheduler}
 use Rattle.papaya_stepping.specs.Stepping.{ComesInCase}
@@ -67,16 +66,10 @@ module _ {K V S : Type 0} (same : K → K → Bool) (hash : K → ℕ) where
     pub counts : CountsMaps m p
     pub gives : MayGiveAll p stands.scene
 
-  -- What is asked of single steps that is not promised of them yet: what every step keeps is so once all is reclaimed.
-  abbrev pub AsksOfSteps : List (Entry K V) → (ℕ → List ℕ) → Event K V → List Effect → Scheduler K V S → Type 0
-  AsksOfSteps log name ReclaimAll did new = MayComeBack same hash (moment log) name did new.logged
-  AsksOfSteps log name Close did new = MayComeBack same hash (moment log) name did new.logged
-  AsksOfSteps log name _ did new = Unit {0}
-
   -- What is promised of an event: the scheduler has played the log with it; it comes to what is right, where it finds what it must; it makes as many steps as it may, and does not more.
-  pub record Happens (name : ℕ → List ℕ) (terms : Terms) (log : List (Entry K V)) (e : Entry K V) (p : Scheduler K V S) : Type 0 where
-    pub played : AsksOfSteps log name e.event e.effects p → IsPlayed same hash terms (e ∷ log) p
-    pub plays : AsksOfSteps log name e.event e.effects p → FindsRight terms log e → Plays same hash terms log e p
+  pub record Happens (terms : Terms) (log : List (Entry K V)) (e : Entry K V) (p : Scheduler K V S) : Type 0 where
+    pub played : IsPlayed same hash terms (e ∷ log) p
+    pub plays : FindsRight terms log e → Plays same hash terms log e p
     pub makes : MakesSteps e.event (stands_or (acting (caller_of e.event) (at_work e (moment log)))) e.steps e.outcome
     pub does : DoesFew (caller_of e.event) e.steps e.effects
 
@@ -90,9 +83,9 @@ module _ {K V S : Type 0} (same : K → K → Bool) (hash : K → ℕ) where
 
   abbrev pub HappensAt : Bool → Event K V → Played V → (old new : Scheduler K V S) → Type 0
   HappensAt is_first event played old new =
-      (terms : Terms) (log : List (Entry K V)) → is_first ≡ ((moment log).events == 0) → (holds : Holds terms (moment log) old) → Happens holds.stands.name terms log (entry_of event played) new
+      (terms : Terms) (log : List (Entry K V)) → is_first ≡ ((moment log).events == 0) → Holds terms (moment log) old → Happens terms log (entry_of event played) new
 
   abbrev pub HappensDue : Bool → Event K V → Played V → (old new : Scheduler K V S) → Type 0
   HappensDue is_first event played old new =
-      (terms : Terms) (log : List (Entry K V)) → is_first ≡ ((moment log).events == 0) → (holds : Holds terms (moment log) old) → is_kept_out terms event (moment log) ≡ false
-      → Happens holds.stands.name terms log (entry_of event played) new
+      (terms : Terms) (log : List (Entry K V)) → is_first ≡ ((moment log).events == 0) → Holds terms (moment log) old → is_kept_out terms event (moment log) ≡ false
+      → Happens terms log (entry_of event played) new

@@ -1,14 +1,9 @@
--- What is told of maps and pairs at the end of a run.
-use Rattle.std.specs.Prelude.{◌≡◌, ℕ, zero, suc, List, [], ◌∷◌, ◌++◌, Option, Some, None}
-use Rattle.papaya_histories.specs.Given.Tables.declared.node.Node.{Node}
-use Rattle.papaya_histories.specs.Given.Tables.declared.node.Node.TheVariants as node
+-- What is told of maps at the end of a run.
+use Rattle.std.specs.Prelude.{ℕ, List, Some}
 use Rattle.papaya_runs.specs.declared.record.Living.{Living}
-use Rattle.papaya_runs.specs.declared.record.Pair.{Pair}
-use Rattle.papaya_effects.specs.declared.role.Role.{Role}
-use Rattle.papaya_effects.specs.declared.role.Role.TheVariants as role
 use Rattle.papaya_scheduler.specs.declared.scheduler.NamedMap.{NamedMap}
-use Rattle.papaya_running.specs.Tally.{numbers_at, passes}
-use Rattle.papaya_running.specs.declared.tally.Tally.{Tally}
+use Rattle.papaya_tally.specs.Tally.{numbers_at, passes}
+use Rattle.papaya_tally.specs.declared.tally.Tally.{Tally}
 
 -- a map that lives, and what is told of it
 abbrev pub shown_of : Living → List ℕ × List ℕ
@@ -16,18 +11,3 @@ shown_of living = (living.name, living.pairs.items)
 
 abbrev pub told_map : Tally → NamedMap → List ℕ × List ℕ
 told_map tally named = (named.name, numbers_at (passes (Some named.number)) 0 tally.pairs.items)
-
-module _ {K V : Type 0} where
-  -- a block that is noted as a pair holds one
-  abbrev pub HoldPairs : (ℕ → Role) → (ℕ → Option (Node K V)) → Type 0
-  HoldPairs roles value = (b n : ℕ) → roles b ≡ role.Pair n → (k : K) × (v : V) × (value b ≡ Some (node.Pair k v))
-
-  -- the pair in a block that is noted so
-  abbrev pub noted : Role → Option (Node K V) → List (Pair K V)
-  noted (role.Pair n) (Some (node.Pair k v)) = record { number = n; key = k; value = v } ∷ []
-  noted _ _ = []
-
-  -- and those in all blocks of so many numbers
-  abbrev pub noted_below : (ℕ → Role) → (ℕ → Option (Node K V)) → ℕ → List (Pair K V)
-  noted_below roles value zero = []
-  noted_below roles value (suc b) = noted_below roles value b ++ noted (roles b) (value b)

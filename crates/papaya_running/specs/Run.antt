@@ -18,9 +18,10 @@ use Rattle.papaya_schedules.specs.Views.{is_in_a_map, is_retired, is_waiting}
 use Rattle.papaya_scheduler.specs.declared.scheduler.Given.{Given}
 use Rattle.papaya_scheduler.specs.declared.scheduler.Scheduler.{Scheduler}
 use Rattle.papaya_running.specs.Asked.{FindsRight, Holds}
-use Rattle.papaya_running.specs.Tally.{TellsMoment}
+use Rattle.papaya_running.specs.Back.{ReclaimsRight, TellsBack}
+use Rattle.papaya_tally.specs.Tally.{TellsMoment}
 use Rattle.papaya_running.specs.declared.record.Record.{Record}
-use Rattle.papaya_running.specs.declared.tally.Tally.{Tally}
+use Rattle.papaya_tally.specs.declared.tally.Tally.{Tally}
 
 -- more processors than these count as so many
 abbrev pub bounded : Given → Given
@@ -37,7 +38,7 @@ module _ {K V : Type 0} where
     pub makes : MakesSteps e.event (stands_or (acting (caller_of e.event) (at_work e (moment log)))) e.steps e.outcome
     pub does : DoesFew (caller_of e.event) e.steps e.effects
 
-  -- What a run tells at its end of maps, and of what is not reclaimed, is what its events say, also while calls are under way.
+  -- What a run tells at its end of maps, and of what is not reclaimed, is what its events say, also while calls are under way; pairs that are left are as they were stored.
   pub record TellsMost (m : Moment K V) (run : Run K V) : Type 0 where
     pub stored : run.stored ≡ length m.stored
     pub maps : ShowsMaps run.maps.items m.maps m
@@ -45,7 +46,7 @@ module _ {K V : Type 0} where
     pub ascending : IsSorted nat_cmp run.waiting.items
     pub tables : run.tables ≡ length (filter (λ u. is_retired u.stage) m.tables)
     pub kept : Lists (numbers run.kept) (λ place. is_in_a_map place || is_waiting place) m
-    pub contents : AllByRecursion (IsStored m.stored) run.kept
+    pub as_stored : AllByRecursion (IsStored m.stored) run.kept
 
   -- The run is one of this schedule, as far as that.
   pub record IsRightRun (terms : Terms) (schedule : List (Event K V)) (run : Run K V) : Type 0 where
@@ -55,6 +56,7 @@ module _ {K V : Type 0} where
     pub trace : run.trace.items ≡ trace_of (log_of schedule run)
     pub goes : AtEachEvent (GoesRight terms) (log_of schedule run)
     pub tells : TellsMost (moment (log_of schedule run)) run
+    pub back : AtEachEvent ReclaimsRight (log_of schedule run) → TellsBack (moment (log_of schedule run)) run
 
 module _ {K V S : Type 0} (same : K → K → Bool) (hash : K → ℕ) where
   -- These events have happened so far: the scheduler stands for the moment after them, and what events ask of it is so; and the tally tells where pairs and tables are then.

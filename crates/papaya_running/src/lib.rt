@@ -6,4 +6,3 @@ pub mod ending;
 pub mod happening;
 pub mod record;
 pub mod running;
-pub mod tally;

@@ -1,7 +1,7 @@
 -- A batch that is held is in the hands of a call, which hands something over: so the moment says that it is held.
 use Rattle.std.specs.Prelude.{◌==◌, ◌&&◌, ◌||◌, cond, Option, Some, None, find, option_map, if◌then◌else◌}
 use Rattle.std.specs.List.{AllByRecursion, list_any}
-use Rattle.std.proofs.Common.{◌≡◌, ℕ, Bool, true, false, List, refl, sym, ap, ◌∙◌, eqb-true}
+use Rattle.std.proofs.Common.{◌≡◌, ℕ, Bool, true, false, List, [], ◌∷◌, refl, sym, ap, ◌∙◌, eqb-true}
 use Rattle.std.proofs.lemmas.Bool.{eq-eqb}
 use Rattle.seize.specs.declared.states.TheConstants.{BATCH, HELD}
 use Rattle.seize_words.specs.Mem.{Mem, word_at}
@@ -40,14 +40,14 @@ HeldIsTold m p = (slot : ℕ) → word_at p.logged.executor.memory.memory (Slot 
 
 -- one that is found passes a test where some passes it
 pub one_passes : {X : Type 0} (p q : X → Bool) (xs : List X) (x : X) → find p xs ≡ Some x → q x ≡ true → list_any q xs ≡ true
-one_passes p q [] x is yes = absurd (cc is)
-one_passes {X} p q (y ∷ xs) x is yes = one (p y) is (λ f. one_passes p q xs x f yes)
+one_passes p q [] x is passes = absurd (cc is)
+one_passes {X} p q (y ∷ xs) x is passes = one (p y) is (λ f. one_passes p q xs x f passes)
   where
     the : (a b : X) → Some a ≡ Some b → a ≡ b
     the a b s = cc s
 
     one : (b : Bool) → cond b (Some y) (find p xs) ≡ Some x → (find p xs ≡ Some x → list_any q xs ≡ true) → (q y || list_any q xs) ≡ true
-    one true f ih = ap (λ (b : Bool). b || list_any q xs) (ap q (the y x f) ∙ yes)
+    one true f ih = ap (λ (b : Bool). b || list_any q xs) (ap q (the y x f) ∙ passes)
     one false f ih = ap (λ (b : Bool). q y || b) (ih f) ∙ any_or (q y)
       where
         any_or : (b : Bool) → (b || true) ≡ true
@@ -77,8 +77,9 @@ module _ {K V S : Type 0} (same : K → K → Bool) (hash : K → ℕ) (terms : 
       by None is = absurd (idle is)
       by (Some (work.Call map machine)) is =
           let h : option_map machine_of (stands.scene.calls map j) ≡ (if map == map then Some machine else None) =
-                stands.shown.is_at.calls map j ∙ ap (λ (x : Option (Work K V)). call_in x map) is in
-          (map, some_call (stands.scene.calls map j) machine (h ∙ ap (λ (b : Bool). if b then Some machine else None) (eq-eqb map map refl)))
+          stands.shown.is_at.calls map j ∙ ap (λ (x : Option (Work K V)). call_in x map) is in
+          let call = some_call (stands.scene.calls map j) machine (h ∙ ap (λ (b : Bool). if b then Some machine else None) (eq-eqb map map refl)) in
+          (map, call.0, call.1)
       by (Some (work.Making map opening)) is = absurd (others (Some (work.Making map opening)) is (λ n. refl))
       by (Some (work.Ending ending)) is = absurd (others (Some (work.Ending ending)) is (λ n. refl))
       by (Some (work.OnSlot row)) is = absurd (others (Some (work.OnSlot row)) is (λ n. refl))
@@ -97,13 +98,13 @@ module _ {K V S : Type 0} (same : K → K → Bool) (hash : K → ℕ) (terms : 
     named : AllByRecursion (λ d. its d ≡ true → is_named own d ≡ true) calls
     named =
         all_so (IsUnderWay stands.name stands.scene p.there) (λ d. its d ≡ true → is_named own d ≡ true)
-        (λ d way yes. (same_tells d.name own).1 (sym way.2 ∙ ap stands.name (eqb-true d.number j (both_true (d.map == map) (d.number == j) yes).1))) calls stands.calls.each
+        (λ d way same_one. (same_tells d.name own).1 (sym way.2 ∙ ap stands.name (eqb-true d.number j (both_true (d.map == map) (d.number == j) same_one).1))) calls stands.calls.each
 
     -- the caller that is found by its name is its own
     found : (d : Caller V) × (find (is_named own) calls ≡ Some d) × (seen there.0 ≡ seen_of d)
     found =
         let it = both_some seen_of seen (find (is_named own) calls) (call_of own m)
-              (sym (found_alike seen seen_of m.calls calls stands.calls.listed (λ (z : Seen). is_same z.name own))) there.0 there.1 in
+        (sym (found_alike seen seen_of m.calls calls stands.calls.listed (λ (z : Seen). is_same z.name own))) there.0 there.1 in
         (it.0, it.1, sym it.2)
 
     its_own : its found.0 ≡ true
@@ -127,7 +128,7 @@ module _ {K V S : Type 0} (same : K → K → Bool) (hash : K → ℕ) (terms : 
   held_is_told slot word =
       let at = stands.shown.is_at in
       let says : words_of stands.scene.world.memory (Slot slot BATCH) ≡ HELD =
-            ap (λ (x : Mem (Node K V)). words_of x (Slot slot BATCH)) at.memory ∙ word_found p.logged.executor.memory.memory (Slot slot BATCH) HELD word in
+      ap (λ (x : Mem (Node K V)). words_of x (Slot slot BATCH)) at.memory ∙ word_found p.logged.executor.memory.memory (Slot slot BATCH) HELD word in
       let holder = held same hash p.logged.executor stands.scene at slot says in
       let call = has_call holder.0 slot holder.1 in
       told_there call.0 holder.0 call.1 call.2 slot holder.1

@@ -1,3 +1,5 @@
+pub mod KeptGiven
+pub mod Backs
 pub mod Rights
 pub mod Quiet
 pub mod Simple

@@ -7,6 +7,7 @@ use Rattle.seize_words.specs.declared.fault.Fault.TheVariants.{Busy}
 use Rattle.papaya_runs.specs.Same.{is_same}
 use Rattle.papaya_histories.specs.Given.Tables.Chunks.{is_incremental}
 use Rattle.papaya_histories.specs.Given.Rule.Chart.{Chart}
+use Rattle.papaya_runs.specs.declared.record.Pair.{Pair}
 use Rattle.papaya_schedules.specs.declared.effect.Effect.{Effect}
 use Rattle.papaya_schedules.specs.declared.effect.Effect.TheVariants.{Ended}
 use Rattle.papaya_schedules.specs.declared.event.Event.TheVariants.{EndMap}
@@ -34,6 +35,7 @@ use Rattle.papaya_histories.proofs.Given.Moments.Numbers.{found_of}
 use Rattle.papaya_histories.specs.Given.Moments.Numbers.{AreFound}
 use Rattle.papaya_histories.specs.Given.Moments.WholeEnds.{all_ended, tables_ended}
 use Rattle.papaya_histories.specs.Given.Finishes.Orders.{pairs_of}
+use Rattle.papaya_logged.specs.Back.{ComesBack, EndBringsBack}
 use Rattle.papaya_logged.specs.Ends.{EndCame, EndIsBegun, EndIsOver, EndRan, NotedStill, ended_as}
 use Rattle.papaya_logged.specs.Shown.{IsShown}
 use Rattle.papaya_logged.specs.declared.logged.Logged.{Logged}
@@ -139,6 +141,12 @@ module _ {K V S : Type 0} (same : K → K → Bool) (hash : K → ℕ) (terms : 
 
         pub may_run : (t : Scene K V) × IsAt same hash mid.executor t × IsEnding t i
         may_run = (s1, shown_mid.is_at, (f, here))
+
+        -- what the end reclaims comes back
+        pub end_came : (before after : List Effect) → before ≡ [] → (b0 b1 : List (Pair K V)) → EndBringsBack i number before after mid b0 b1 → ComesBack m.stored after b0 b1
+        end_came before after none_before b0 b1 it =
+            subst (λ (xs : List Effect). ComesBack m.stored xs b0 b1) (sym (it.1 ∙ ap (λ (xs : List Effect). xs ++ it.0) none_before))
+            (it.2 same hash stands.name m s1 shown_mid f here (at_same s.maps number None number refl) (begun no_call).3.0 (known mid.notes) (begun no_call).3.1 (λ b t. refl))
 
         module _ (new : Logged K V S) (before after : List Effect) (empty : before ≡ []) (ran : EndRan i number true before after mid new) (over : EndIsOver new) (are : AreApart m) where
           did_is : after ≡ ran.0

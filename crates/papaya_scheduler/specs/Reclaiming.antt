@@ -5,19 +5,10 @@ use Rattle.seize_words.specs.Mem.{Mem, word_at}
 use Rattle.seize_words.specs.declared.at.At.TheVariants.{Slot}
 use Rattle.papaya_runs.specs.Present.{Present, all_forgotten}
 use Rattle.papaya_schedules.specs.declared.event.Event.{Event}
-use Rattle.papaya_schedules.specs.declared.effect.Effect.{Effect}
-use Rattle.papaya_schedules.specs.After.{moment}
-use Rattle.papaya_schedules.specs.Effects.{AtEachEffect, with_effects}
 use Rattle.papaya_schedules.specs.Entry.{Entry}
-use Rattle.papaya_schedules.specs.Moment.{Moment}
 use Rattle.papaya_schedules.specs.Terms.{Terms}
-use Rattle.papaya_histories.specs.Given.Spots.OnSlots.{WaitUnreclaimed}
-use Rattle.papaya_histories.specs.Given.Moments.OnSlots.{HadRetired}
-use Rattle.papaya_histories.specs.Given.Moments.Whole.{ShowsWhole}
-use Rattle.papaya_kept.specs.Kept.{ShowsKept}
-use Rattle.papaya_logged.specs.declared.logged.Logged.{Logged}
 use Rattle.papaya_effects.specs.Known.{Known, known}
-use Rattle.papaya_executor.specs.IsAt.{Scene, IsAt}
+use Rattle.papaya_executor.specs.IsAt.{Scene}
 use Rattle.papaya_reclaims.specs.Reclaims.{LeftBehind}
 use Rattle.papaya_scheduler.specs.Played.{IsDue, Plays, entry_of}
 use Rattle.papaya_scheduler.specs.declared.caller.Caller.{Caller}
@@ -43,14 +34,6 @@ module _ {K V S : Type 0} (same : K → K → Bool) (hash : K → ℕ) where
   abbrev pub MayReclaimAll : Event K V → Scheduler K V S → Type 0
   MayReclaimAll event p = (terms : Terms) × (log : List (Entry K V)) × (due : IsDue same hash terms log event p) × MayGiveAll p due.played.scene
 
-  -- Where a table that is reclaimed was retired, and what waits behind it is not reclaimed; and what every step keeps is so once all is.
-  pub record MayComeBack (m : Moment K V) (name : ℕ → List ℕ) (did : List Effect) (new : Logged K V S) : Type 0 where
-    pub retired : AtEachEffect HadRetired None None did m
-    pub unreclaimed : AtEachEffect WaitUnreclaimed None None did m
-    pub kept : (s2 : Scene K V) → IsAt same hash new.executor s2 → ShowsWhole same name (with_effects None None did m) (known new.notes) s2
-        → ShowsKept name (with_effects None None did m) (known new.notes) s2
-
   abbrev pub PlaysGiving : Event K V → Played V → (old new : Scheduler K V S) → Type 0
   PlaysGiving event played old new =
-      (terms : Terms) (log : List (Entry K V)) (due : IsDue same hash terms log event old) → MayGiveAll old due.played.scene
-      → MayComeBack (moment log) due.played.name played.effects.items new.logged → Plays same hash terms log (entry_of event played) new
+      (terms : Terms) (log : List (Entry K V)) (due : IsDue same hash terms log event old) → MayGiveAll old due.played.scene → Plays same hash terms log (entry_of event played) new

@@ -4,6 +4,7 @@ ghost use Rattle.papaya_schedules.specs.declared.event.Event.TheVariants as even
 ghost use Rattle.papaya_schedules.specs.Moment.{Moment};
 ghost use Rattle.papaya_schedules.specs.Terms.{Terms};
 ghost use Rattle.papaya_histories.specs.Given.Hands.Asked.{as_told};
+ghost use Rattle.papaya_executor.specs.IsAt.{KeepsGiven};
 ghost use Rattle.papaya_scheduler.specs.Machines.{aborted_by};
 ghost use Rattle.papaya_scheduler.specs.Played.{BeginsSo, MayPlay, PlaysAt, StandsFor};
 ghost use Rattle.papaya_scheduler.specs.Seen.{ready_place};
@@ -46,7 +47,7 @@ impl<K: Eq + Hash + Drop, V: Drop, S: Hashes<K>> Scheduler<K, V, S> {
         requires { (terms : Terms) × (m : Moment K V) × StandsFor K.eq (S.hash self.old.logged.executor.hasher) terms m self.old }
         ensures begins { IfOk result (λ begun. (terms : Terms) (m : Moment K V) → StandsFor K.eq (S.hash self.old.logged.executor.hasher) terms m self.old
             → BeginsSo K.eq (S.hash self.old.logged.executor.hasher) terms m name guard map.now call begun self.old self.new) }
-        ensures hasher { self.new.logged.executor.hasher ≡ self.old.logged.executor.hasher }
+        ensures given { KeepsGiven self.old.logged.executor self.new.logged.executor }
     {
         if self.calls.place_of(&name).is_some() {
             return Ok(false);
@@ -84,6 +85,7 @@ impl<K: Eq + Hash + Drop, V: Drop, S: Hashes<K>> Scheduler<K, V, S> {
         requires { MayPlay K.eq (S.hash self.old.logged.executor.hasher) (event.Begin caller guard map.now call) self.old }
         ensures steps { IfOk result (λ played. played.steps ≡ 0) }
         ensures plays { IfOk result (λ played. PlaysAt K.eq (S.hash self.old.logged.executor.hasher) (event.Begin caller guard map.now call) played self.old self.new) }
+        ensures given { KeepsGiven self.old.logged.executor self.new.logged.executor }
     {
         if self.begins(caller, guard, map, call)? {
             Ok(self.quietly(Outcome::Goes))
@@ -99,6 +101,7 @@ impl<K: Drop, V: Drop, S> Scheduler<K, V, S> {
         requires { (same : K → K → Bool) × (hash : K → ℕ) × MayPlay same hash (event.Replied caller.now reply) self.old }
         ensures steps { result.steps ≡ 0 }
         ensures plays { (same : K → K → Bool) (hash : K → ℕ) → PlaysAt same hash (event.Replied caller.now reply) result self.old self.new }
+        ensures given { KeepsGiven self.old.logged.executor self.new.logged.executor }
     {
         let Some(place) = self.calls.place_of(caller) else {
             return self.busy();
@@ -130,6 +133,7 @@ impl<K: Drop, V: Drop, S> Scheduler<K, V, S> {
         requires { (same : K → K → Bool) × (hash : K → ℕ) × MayPlay same hash (event.Stop caller.now) self.old }
         ensures steps { result.steps ≡ 0 }
         ensures plays { (same : K → K → Bool) (hash : K → ℕ) → PlaysAt same hash (event.Stop caller.now) result self.old self.new }
+        ensures given { KeepsGiven self.old.logged.executor self.new.logged.executor }
     {
         let Some(place) = self.place_of_ready(caller) else {
             return self.busy();

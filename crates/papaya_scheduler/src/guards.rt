@@ -4,12 +4,15 @@ ghost use Rattle.seize.specs.declared.states.TheConstants.{BATCH, HELD};
 ghost use Rattle.seize_words.specs.Mem.{word_at};
 ghost use Rattle.seize_words.specs.declared.at.At.TheVariants.{Slot};
 ghost use Rattle.papaya_schedules.specs.declared.event.Event.TheVariants as event;
+ghost use Rattle.papaya_executor.specs.IsAt.{KeepsGiven};
+ghost use Rattle.papaya_scheduler.specs.Back.{GivesBack};
 ghost use Rattle.papaya_scheduler.specs.Played.{MayPlay, PlaysAt};
 ghost use Rattle.papaya_rows.specs.Rows.{left_as};
 
 use crate::played::Played;
 use crate::scheduler::Scheduler;
 use papaya_executor::row::SlotCall;
+use papaya_runs::record::Pair;
 use papaya_runs::token::Token;
 use papaya_schedules::outcome::Outcome;
 use seize::states::{BATCH, HELD};
@@ -21,10 +24,17 @@ const MOST_GUARDS: usize = 65_535;
 
 impl<K: Drop, V: Drop, S> Scheduler<K, V, S> {
     /// A new guard of a registration. The first one on its slot enters the slot.
-    pub fn enter(&mut self, guard: Token, registration: &Token) -> Result<Played<V>, AllocError>
+    pub fn enter(
+        &mut self,
+        guard: Token,
+        registration: &Token,
+        back: &mut Vec<Pair<K, V>>,
+    ) -> Result<Played<V>, AllocError>
         requires { (same : K → K → Bool) × (hash : K → ℕ) × MayPlay same hash (event.Enter guard registration.now) self.old }
         ensures steps { IfOk result (λ played. played.steps ≡ 0) }
         ensures plays { IfOk result (λ played. (same : K → K → Bool) (hash : K → ℕ) → PlaysAt same hash (event.Enter guard registration.now) played self.old self.new) }
+        ensures back { IfOk result (λ played. (same : K → K → Bool) (hash : K → ℕ) → GivesBack same hash (event.Enter guard registration.now) played self.old back.old.items back.new.items) }
+        ensures given { KeepsGiven self.old.logged.executor self.new.logged.executor }
     {
         if self.there.has_guard(&guard) {
             return Ok(self.busy());
@@ -38,7 +48,7 @@ impl<K: Drop, V: Drop, S> Scheduler<K, V, S> {
         }
         let mut effects = self.no_effects();
         if guards == 0 {
-            self.do_row(slot, SlotCall::Enter, &mut effects)?;
+            self.do_row(slot, SlotCall::Enter, &mut effects, back)?;
         }
         self.there.enter(guard, slot)?;
         Ok(Played {
@@ -49,17 +59,23 @@ impl<K: Drop, V: Drop, S> Scheduler<K, V, S> {
     }
 
     /// The guard's section begins anew, where the guard is the only one on its slot.
-    pub fn refresh(&mut self, guard: &Token) -> Result<Played<V>, AllocError>
+    pub fn refresh(
+        &mut self,
+        guard: &Token,
+        back: &mut Vec<Pair<K, V>>,
+    ) -> Result<Played<V>, AllocError>
         requires { (same : K → K → Bool) × (hash : K → ℕ) × MayPlay same hash (event.Refresh guard.now) self.old }
         ensures steps { IfOk result (λ played. played.steps ≡ 0) }
         ensures plays { IfOk result (λ played. (same : K → K → Bool) (hash : K → ℕ) → PlaysAt same hash (event.Refresh guard.now) played self.old self.new) }
+        ensures back { IfOk result (λ played. (same : K → K → Bool) (hash : K → ℕ) → GivesBack same hash (event.Refresh guard.now) played self.old back.old.items back.new.items) }
+        ensures given { KeepsGiven self.old.logged.executor self.new.logged.executor }
     {
         let Some(slot) = self.slot_of_free(guard) else {
             return Ok(self.busy());
         };
         let mut effects = self.no_effects();
         if self.there.guards_on(slot) == 1 {
-            self.do_row(slot, SlotCall::Refresh, &mut effects)?;
+            self.do_row(slot, SlotCall::Refresh, &mut effects, back)?;
         }
         Ok(Played {
             outcome: Outcome::Done,
@@ -69,10 +85,16 @@ impl<K: Drop, V: Drop, S> Scheduler<K, V, S> {
     }
 
     /// The open batch of the guard's slot is tried, unless a call holds it.
-    pub fn flush(&mut self, guard: &Token) -> Result<Played<V>, AllocError>
+    pub fn flush(
+        &mut self,
+        guard: &Token,
+        back: &mut Vec<Pair<K, V>>,
+    ) -> Result<Played<V>, AllocError>
         requires { (same : K → K → Bool) × (hash : K → ℕ) × MayPlay same hash (event.Flush guard.now) self.old }
         ensures steps { IfOk result (λ played. played.steps ≡ 0) }
         ensures plays { IfOk result (λ played. (same : K → K → Bool) (hash : K → ℕ) → PlaysAt same hash (event.Flush guard.now) played self.old self.new) }
+        ensures back { IfOk result (λ played. (same : K → K → Bool) (hash : K → ℕ) → GivesBack same hash (event.Flush guard.now) played self.old back.old.items back.new.items) }
+        ensures given { KeepsGiven self.old.logged.executor self.new.logged.executor }
     {
         let Some(slot) = self.there.slot_of_living(guard) else {
             return Ok(self.busy());
@@ -81,7 +103,7 @@ impl<K: Drop, V: Drop, S> Scheduler<K, V, S> {
             return Ok(self.busy());
         }
         let mut effects = self.no_effects();
-        self.do_row(slot, SlotCall::Flush, &mut effects)?;
+        self.do_row(slot, SlotCall::Flush, &mut effects, back)?;
         Ok(Played {
             outcome: Outcome::Done,
             steps: 0,
@@ -110,10 +132,16 @@ impl<K: Drop, V: Drop, S> Scheduler<K, V, S> {
     }
 
     /// The guard ends. The only one on its slot leaves the slot, and gives it up where that is its own.
-    pub fn drop_guard(&mut self, guard: &Token) -> Result<Played<V>, AllocError>
+    pub fn drop_guard(
+        &mut self,
+        guard: &Token,
+        back: &mut Vec<Pair<K, V>>,
+    ) -> Result<Played<V>, AllocError>
         requires { (same : K → K → Bool) × (hash : K → ℕ) × MayPlay same hash (event.DropGuard guard.now) self.old }
         ensures steps { IfOk result (λ played. played.steps ≡ 0) }
         ensures plays { IfOk result (λ played. (same : K → K → Bool) (hash : K → ℕ) → PlaysAt same hash (event.DropGuard guard.now) played self.old self.new) }
+        ensures back { IfOk result (λ played. (same : K → K → Bool) (hash : K → ℕ) → GivesBack same hash (event.DropGuard guard.now) played self.old back.old.items back.new.items) }
+        ensures given { KeepsGiven self.old.logged.executor self.new.logged.executor }
     {
         let Some(slot) = self.slot_of_free(guard) else {
             return Ok(self.busy());
@@ -121,7 +149,7 @@ impl<K: Drop, V: Drop, S> Scheduler<K, V, S> {
         let mut effects = self.no_effects();
         if self.there.guards_on(slot) == 1 {
             let called = self.leaves_as(slot);
-            self.do_row(slot, called, &mut effects)?;
+            self.do_row(slot, called, &mut effects, back)?;
         }
         self.there.leave(guard);
         Ok(Played {
@@ -136,6 +164,7 @@ impl<K: Drop, V: Drop, S> Scheduler<K, V, S> {
         requires { (same : K → K → Bool) × (hash : K → ℕ) × MayPlay same hash (event.Forget guard.now) self.old }
         ensures steps { result.steps ≡ 0 }
         ensures plays { (same : K → K → Bool) (hash : K → ℕ) → PlaysAt same hash (event.Forget guard.now) result self.old self.new }
+        ensures given { KeepsGiven self.old.logged.executor self.new.logged.executor }
     {
         if self.slot_of_free(guard).is_none() {
             return self.busy();

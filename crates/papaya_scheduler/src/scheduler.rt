@@ -1,11 +1,13 @@
 //! The state of a run whose calls stay under way: the executor, and who is there by name.
 ghost use Rattle.std.specs.Prelude.{◌≡◌, ◌<◌, ℕ, Bool, List, [], IfOk, OnOk};
 ghost use Rattle.papaya_schedules.specs.Moment.{Moment};
-ghost use Rattle.papaya_executor.specs.IsAt.{Scene};
+ghost use Rattle.papaya_executor.specs.IsAt.{Scene, KeepsGiven};
+ghost use Rattle.papaya_logged.specs.Back.{BringsBack};
 ghost use Rattle.papaya_logged.specs.Shown.{IsShown};
 ghost use Rattle.papaya_executor.specs.OnSlots.{MayBegin};
 ghost use Rattle.papaya_executor.specs.declared.worker.TheConstants.{SLOTS};
 ghost use Rattle.papaya_scheduler.specs.Seen.{free_slot, number_named, setting_named};
+ghost use Rattle.papaya_scheduler.specs.First.{HasJustBegun};
 ghost use Rattle.papaya_scheduler.specs.Played.{IsPlayed, terms_given};
 ghost use Rattle.papaya_rows.specs.Rows.{RowRan, RowRanOn};
 ghost use Rattle.seize_words.specs.declared.fault.Fault.TheVariants.{Busy};
@@ -17,6 +19,7 @@ use papaya_logged::logged::Logged;
 use papaya_present::Present;
 use papaya_raw::{Node, Setting};
 use papaya_runs::event::Setup;
+use papaya_runs::record::Pair;
 use papaya_runs::token::Token;
 use papaya_schedules::effect::Effect;
 use papaya_schedules::outcome::Outcome;
@@ -65,6 +68,7 @@ impl<K: Drop, V: Drop, S: Drop> Scheduler<K, V, S> {
     /// Nobody is there, and there is no map.
     pub fn new(alloc: Global, given: Given, hasher: S) -> Result<Self, AllocError>
         ensures played { IfOk result (λ scheduler. (same : K → K → Bool) (hash : K → ℕ) → IsPlayed same hash (terms_given given) [] scheduler) }
+        ensures begun { IfOk result (HasJustBegun given) }
         ensures hasher { IfOk result (λ scheduler. scheduler.logged.executor.hasher ≡ hasher) }
     {
         let setup = given.setup;
@@ -139,21 +143,24 @@ impl<K: Drop, V: Drop, S> Scheduler<K, V, S> {
         self.there.slot_of_living(guard)
     }
 
-    /// Runs what a caller in this slot does with it, until it ends, or waits. What it does is added to the list, and what it reclaims is dropped.
+    /// Runs what a caller in this slot does with it, until it ends, or waits. What it does is added to the list, and the pairs that it reclaims come back, behind those before.
     pub fn run_row(
         &mut self,
         slot: u64,
         called: SlotCall,
         effects: &mut Vec<Effect>,
+        back: &mut Vec<Pair<K, V>>,
     ) -> Result<RowTold<Node<K, V>>, AllocError>
         requires fits { slot < SLOTS }
         requires may { (same : K → K → Bool) × (hash : K → ℕ) × (name : ℕ → List ℕ) × (m : Moment K V) × (s : Scene K V) × IsShown same hash name m self.old.logged s }
         requires begins { MayBegin self.old.logged.executor slot called }
         ensures ran { IfOk result (λ told. RowRan slot called told effects.old.items effects.new.items self.old.logged self.new.logged) }
+        ensures back { IfOk result (λ done. BringsBack effects.old.items effects.new.items self.old.logged back.old.items back.new.items) }
         ensures rest { self.new ≡ record self.old { logged = self.new.logged } }
+        ensures given { KeepsGiven self.old.logged.executor self.new.logged.executor }
     {
         let caller = self.logged.begin_on_slot(slot, called)?;
-        let told = self.logged.run_on_slot(caller, effects)?;
+        let told = self.logged.run_on_slot(caller, effects, back)?;
         Ok(told)
     }
 
@@ -163,14 +170,17 @@ impl<K: Drop, V: Drop, S> Scheduler<K, V, S> {
         slot: u64,
         called: SlotCall,
         effects: &mut Vec<Effect>,
+        back: &mut Vec<Pair<K, V>>,
     ) -> Result<(), AllocError>
         requires fits { slot < SLOTS }
         requires may { (same : K → K → Bool) × (hash : K → ℕ) × (name : ℕ → List ℕ) × (m : Moment K V) × (s : Scene K V) × IsShown same hash name m self.old.logged s }
         requires begins { MayBegin self.old.logged.executor slot called }
         ensures ran { OnOk result (RowRanOn slot called effects.old.items effects.new.items self.old.logged self.new.logged) }
+        ensures back { IfOk result (λ done. BringsBack effects.old.items effects.new.items self.old.logged back.old.items back.new.items) }
         ensures rest { self.new ≡ record self.old { logged = self.new.logged } }
+        ensures given { KeepsGiven self.old.logged.executor self.new.logged.executor }
     {
-        self.run_row(slot, called, effects)?;
+        self.run_row(slot, called, effects, back)?;
         Ok(())
     }
 }

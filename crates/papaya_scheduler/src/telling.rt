@@ -1,6 +1,5 @@
 //! What a call is told to have come to, by what its machine says.
 ghost use Rattle.std.specs.Prelude.{◌≡◌};
-ghost use Rattle.seize_words.specs.Word.{block_in};
 ghost use Rattle.papaya_effects.specs.Known.{known};
 ghost use Rattle.papaya_scheduler.specs.Telling.{answer_of, answer_on, aborted_with, number_by, occupied_by};
 

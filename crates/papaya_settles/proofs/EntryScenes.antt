@@ -49,10 +49,10 @@ module _ {T : Type 0} (m : Mem T) where
       by None is = ap or_zero is
       by (Some word) is = ap or_zero is ∙ none word is
 
-  as_zero : (b : ℕ) → IsBlank m b → IsZero m b
+  pub as_zero : (b : ℕ) → IsBlank m b → IsZero m b
   as_zero b blank = (zero_of (Entry b NEXT) blank.next, zero_of (Entry b FIRST) blank.first)
 
-  as_blank : (b : ℕ) → IsZero m b → IsBlank m b
+  pub as_blank : (b : ℕ) → IsZero m b → IsBlank m b
   as_blank b zero = record { next = λ word is. sym (ap or_zero is) ∙ zero.0; first = λ word is. sym (ap or_zero is) ∙ zero.1 }
 
 -- where blocks of which one is so are so as another says

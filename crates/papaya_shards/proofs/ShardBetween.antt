@@ -159,7 +159,7 @@ calls_take_counters K V same name m known s whole counters of i u here reply nex
 -- where one comes to an outcome
 module _ {K V : Type 0} (same : K → K → Bool) (name : ℕ → List ℕ) (m v : Moment K V) (s : Scene K V) (shown : ShowsCalls same name m s.calls) (adds : ShowsAdds name m s) where
   -- the calls that are under way are there, but for that of this name
-  fewer_add : (own : List ℕ) → NoneNamed name own s → v.calls ≡ without_call own m.calls → ShowsAdds name v s
+  pub fewer_add : (own : List ℕ) → NoneNamed name own s → v.calls ≡ without_call own m.calls → ShowsAdds name v s
   fewer_add own apart calls_are n j x is removed to_add d d_is =
       let there = shown n j x is in
       let is_its = caller_is (name j) m there.0 there.1 in

@@ -2,17 +2,22 @@
 use Rattle.std.specs.Prelude.{◌≡◌, ◌≢◌, ℕ, ◌≤◌, Bool, List, length, Some, None, option_map, slice_index_or}
 use Rattle.std.proofs.Common.{refl, ap, sym, subst, ◌∙◌, arith}
 use Rattle.std.proofs.Math.ListN.{get_or-eq_default}
+use Rattle.papaya_histories.specs.Given.Tables.declared.node.Node.{Node}
+use Rattle.papaya_histories.specs.Given.Raw.declared.machines.progress.Progress.{Progress}
 use Rattle.papaya_histories.specs.Given.Schedules.Effects.{with_effects}
 use Rattle.papaya_histories.specs.Given.Schedules.Moment.{Moment}
-use Rattle.papaya_histories.specs.Given.Callers.Together.{OnKey, ForRoom, Counting, OverAll}
+use Rattle.papaya_histories.specs.Given.Callers.Together.{UnderWay, OnKey, ForRoom, Counting, OverAll}
 use Rattle.papaya_histories.specs.Given.Effects.Effects.{effects_of}
 use Rattle.papaya_histories.specs.Given.Effects.Known.{Known}
 use Rattle.papaya_histories.specs.Given.Effects.declared.acting.Acting.TheVariants as acts
 use Rattle.papaya_histories.specs.Given.Executor.IsAt.{Scene, IsAt}
+use Rattle.papaya_histories.specs.Given.Executor.Stepping.{StepLeads}
 use Rattle.papaya_histories.specs.Given.Executor.declared.executor.Executor.{Executor}
 use Rattle.papaya_histories.specs.Given.Finishes.Maps.{Standing}
+use Rattle.papaya_histories.specs.Given.Moments.Whole.{ShowsWhole}
+use Rattle.papaya_settles.specs.Counts.{ShowsCounts}
 use Rattle.papaya_shards.specs.ShardSteps.{CallsKeepNumbers, NumbersBegin, NumbersStay}
-use Rattle.papaya_shards.specs.ShardWords.{NumbersUncounted}
+use Rattle.papaya_shards.specs.ShardWords.{NumbersUncounted, ShowsCounters}
 use Rattle.papaya_shards.proofs.KeyAdds.{key_adds}
 use Rattle.papaya_shards.proofs.RestAdds.{room_adds, sum_adds, sweep_adds}
 use Rattle.papaya_shards.proofs.ShardCalls.{others_then}
@@ -36,26 +41,28 @@ module _ {K V S : Type 0} (same : K → K → Bool) (hash : K → ℕ) (name : �
       let ne : n ≢ map = (λ e. none_past same hash s old at_old map st there (subst (λ (k : ℕ). length old.maps.items ≤ k) e past_then)) in
       ap (λ (f : ℕ → ℕ). f shard) (others n ne) ∙ numbers n past_then shard
 
+-- a step of a call counts on its map alone
+pub calls_spare_others : {K V S : Type 0} (same : K → K → Bool) (hash : K → ℕ) (name : ℕ → List ℕ) (m : Moment K V) (known : Known) (s : Scene K V) (old new : Executor K V S) → IsAt same hash old s
+    → ShowsWhole same name m known s → ShowsCounts name m s → ShowsCounters name m s
+    → (map i : ℕ) (u : UnderWay K V K) (here : s.calls map i ≡ Some u) (said : Progress (Node K V)) (leads : StepLeads same hash i said s old new)
+    → (n : ℕ) → n ≢ map → (with_effects (Some (name i)) (Some map) (effects_of (acts.Call i map) known new.memory.changed) m).shards n ≡ m.shards n
+calls_spare_others same hash name m known s old new at_old whole counts counters map i (OnKey x) here said leads =
+    others_then same hash name m known s old new at_old whole counts counters map i (OnKey x) here said leads
+    (key_adds same hash name m known s old new at_old whole.all.shown map i x here said leads (leads map (OnKey x) here).4.did)
+calls_spare_others same hash name m known s old new at_old whole counts counters map i (ForRoom x) here said leads =
+    others_then same hash name m known s old new at_old whole counts counters map i (ForRoom x) here said leads
+    (room_adds same hash name m known s old new at_old whole.all.shown map i (ForRoom x) here said leads x refl (leads map (ForRoom x) here).4.did)
+calls_spare_others same hash name m known s old new at_old whole counts counters map i (Counting x) here said leads =
+    others_then same hash name m known s old new at_old whole counts counters map i (Counting x) here said leads
+    (sum_adds same hash name m known s old new at_old whole.all.shown map i (Counting x) here said leads x refl (leads map (Counting x) here).4.did)
+calls_spare_others same hash name m known s old new at_old whole counts counters map i (OverAll x) here said leads =
+    others_then same hash name m known s old new at_old whole counts counters map i (OverAll x) here said leads
+    (sweep_adds same hash name m known s old new at_old whole.all.shown map i (OverAll x) here said leads x refl (leads map (OverAll x) here).4.did)
+
 pub calls_keep_numbers : (K V S : Type 0) (same : K → K → Bool) (hash : K → ℕ) → CallsKeepNumbers K V S same hash
-calls_keep_numbers K V S same hash name m known s old new at_old whole counts counters numbers map i (OnKey x) here said leads more =
-    let to = leads map (OnKey x) here in
-    numbers_then same hash name m known s old new at_old numbers map i to.0 to.2 more
-    (others_then same hash name m known s old new at_old whole counts counters map i (OnKey x) here said leads (key_adds same hash name m known s old new at_old whole.all.shown map i x here said leads to.4.did))
-calls_keep_numbers K V S same hash name m known s old new at_old whole counts counters numbers map i (ForRoom x) here said leads more =
-    let to = leads map (ForRoom x) here in
-    numbers_then same hash name m known s old new at_old numbers map i to.0 to.2 more
-    (others_then same hash name m known s old new at_old whole counts counters map i (ForRoom x) here said leads
-    (room_adds same hash name m known s old new at_old whole.all.shown map i (ForRoom x) here said leads x refl to.4.did))
-calls_keep_numbers K V S same hash name m known s old new at_old whole counts counters numbers map i (Counting x) here said leads more =
-    let to = leads map (Counting x) here in
-    numbers_then same hash name m known s old new at_old numbers map i to.0 to.2 more
-    (others_then same hash name m known s old new at_old whole counts counters map i (Counting x) here said leads
-    (sum_adds same hash name m known s old new at_old whole.all.shown map i (Counting x) here said leads x refl to.4.did))
-calls_keep_numbers K V S same hash name m known s old new at_old whole counts counters numbers map i (OverAll x) here said leads more =
-    let to = leads map (OverAll x) here in
-    numbers_then same hash name m known s old new at_old numbers map i to.0 to.2 more
-    (others_then same hash name m known s old new at_old whole counts counters map i (OverAll x) here said leads
-    (sweep_adds same hash name m known s old new at_old whole.all.shown map i (OverAll x) here said leads x refl to.4.did))
+calls_keep_numbers K V S same hash name m known s old new at_old whole counts counters numbers map i u here said leads more =
+    numbers_then same hash name m known s old new at_old numbers map i (leads map u here).0 (leads map u here).2 more
+    (calls_spare_others same hash name m known s old new at_old whole counts counters map i u here said leads)
 
 pub numbers_begin : (K V S : Type 0) → NumbersBegin K V S
 numbers_begin K V S e of past shard = refl

@@ -12,6 +12,7 @@ mod OneStep
 mod PlaysAgain
 mod PlaysSteps
 mod PlaysWhole
+mod QuietWaits
 mod RightSteps
 mod RoomSays
 mod StepSays
@@ -21,3 +22,4 @@ mod SweepSays
 mod SweepSteps
 mod TakenBy
 mod Waiting
+mod WaitsFor

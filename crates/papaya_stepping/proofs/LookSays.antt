@@ -39,7 +39,7 @@ SumOn end = Advances end
 
 module _ {K V : Type 0} where
   -- what waits has said so
-  key_waits : (x : Called (Node K V)) → of_called x ≡ progress.Waits → x ≡ says.Waits
+  pub key_waits : (x : Called (Node K V)) → of_called x ≡ progress.Waits → x ≡ says.Waits
   key_waits says.Waits e = refl
   key_waits says.Goes e = absurd (cc e)
   key_waits (says.Gave value) e = absurd (cc e)

@@ -27,7 +27,7 @@ use Rattle.papaya_logged.specs.Calling.{WalkGoesOn}
 use Rattle.papaya_logged.specs.Shown.{IsShown}
 use Rattle.papaya_logged.specs.declared.logged.Logged.{Logged}
 use Rattle.papaya_scheduler.specs.Machines.{IsAsFar, IsFor}
-use Rattle.papaya_scheduler.specs.Played.{AsFar, CallsAs, IsUnderWay, IsUnderWayAs, StandsAs, StandsFor}
+use Rattle.papaya_scheduler.specs.Played.{IsUnderWay, IsUnderWayAs, StandsAs, StandsFor}
 use Rattle.papaya_scheduler.specs.Seen.{is_named}
 use Rattle.papaya_stepping.specs.Stepping.{IsWalking, WalksFar}
 use Rattle.papaya_scheduler.specs.declared.caller.Caller.{Caller}

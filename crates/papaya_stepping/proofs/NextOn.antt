@@ -17,7 +17,6 @@ use Rattle.papaya_schedules.specs.Effects.{with_effects}
 use Rattle.papaya_schedules.specs.Steps.{weight}
 use Rattle.papaya_schedules.specs.Moment.{UnderWay as CallThere, Moment}
 use Rattle.papaya_schedules.specs.Terms.{Terms}
-use Rattle.papaya_schedules.specs.Views.{call_of}
 use Rattle.papaya_histories.specs.Given.Callers.Together.{UnderWay, OnKey, ForRoom, Counting, OverAll, Together}
 use Rattle.papaya_histories.specs.Given.Effects.Known.{known}
 use Rattle.papaya_histories.specs.Given.Effects.declared.acting.Acting.TheVariants as acts
@@ -28,14 +27,14 @@ use Rattle.papaya_histories.specs.Given.Executor.Stepping.{StepLeads, StepsFrom,
 use Rattle.papaya_histories.specs.Given.Executor.declared.executor.Executor.{Executor}
 use Rattle.papaya_histories.proofs.Given.Executor.Changed.{standing_is}
 use Rattle.papaya_histories.proofs.Given.Follows.Calling.{is_same_refl}
-use Rattle.papaya_histories.proofs.Given.Hands.Replacing.{IsOn, calls_after}
+use Rattle.papaya_histories.proofs.Given.Hands.Replacing.{calls_after}
 use Rattle.papaya_logged.specs.Calling.{CallGoesOn, step_did}
 use Rattle.papaya_logged.specs.Shown.{IsShown}
 use Rattle.papaya_logged.specs.declared.logged.Logged.{Logged}
 use Rattle.papaya_histories.proofs.Given.Moments.After.{effects_after}
 use Rattle.papaya_promises.proofs.Weights.{operations_are_single, parts_add_up}
 use Rattle.papaya_scheduler.specs.Played.{StandsAs}
-use Rattle.papaya_scheduler.specs.Seen.{Seen, is_named, seen, seen_of}
+use Rattle.papaya_scheduler.specs.Seen.{Seen, seen, seen_of}
 use Rattle.papaya_stepping.specs.Stepping.{IsMidWalk, IsStepOf, IsWalking, ReadyAt, WalksFar}
 use Rattle.papaya_scheduler.specs.declared.caller.Caller.{Caller}
 use Rattle.papaya_scheduler.specs.declared.caller.Stands.TheVariants as far
@@ -195,7 +194,7 @@ module _ {K V S : Type 0} (same : K → K → Bool) (hash : K → ℕ) (terms : 
       λ holds. (
         (its_walk same hash terms own n w p stands place at_place).0,
         subst (IsWalking (n + 1)) (sym (goes_as_said same hash terms own n w p stands place at_place progress.Goes new before after leads_so x goes))
-            (to.2 ∙ it.walks, inl (to.3.0, further_on same hash n stands.scene its.caller.map its.caller.number _ _ its.way.0 its.way.1 (its_walk same hash terms own n w p stands place at_place).1 it.sweep it.over to.0.place to.3.1)),
+            (to.2 ∙ it.walks, inl (to.3.0, further_on same hash n stands.scene its.caller.map its.caller.number (st same hash terms own n w p stands place at_place).0 (together same hash terms own n w p stands place at_place) its.way.0 its.way.1 (its_walk same hash terms own n w p stands place at_place).1 it.sweep it.over to.0.place to.3.1)),
       ),
       λ fails. absurd (let a = ap (λ (l : List ℕ). is_same l own) its.named ∙ is_same_refl own in cc (a, fails)),
     )

@@ -1,5 +1,6 @@
 -- The events by which a call that is under way goes on: one step, or as many as it may take.
 use Rattle.std.specs.Prelude.{◌≡◌, ◌+◌, ◌≤◌, ◌&&◌, ℕ, Bool, true, false, List, [], is_some, position, sum_by, Option, Some, option_map}
+use Rattle.std.specs.List.{list_any}
 use Rattle.std.proofs.Common.{refl, sym, ap, subst, ◌∙◌}
 use Rattle.papaya_histories.specs.Given.SeizeWords.declared.fault.Fault.TheVariants.{Busy, Memory}
 use Rattle.papaya_runs.specs.Present.{Present}
@@ -15,6 +16,7 @@ use Rattle.papaya_schedules.specs.Effects.{with_effects}
 use Rattle.papaya_schedules.specs.Entry.{ByCall, Entry, IfCall}
 use Rattle.papaya_schedules.specs.Growing.{only_looks}
 use Rattle.papaya_schedules.specs.InTurn.{GoesOn}
+use Rattle.papaya_schedules.specs.InUse.{may_wait_for}
 use Rattle.papaya_schedules.specs.Moment.{Remains, Sheltered, UnderWay as CallThere, Moment}
 use Rattle.papaya_schedules.specs.Steps.{stands_or, weight}
 use Rattle.papaya_schedules.specs.Terms.{Terms}
@@ -24,7 +26,7 @@ use Rattle.papaya_histories.specs.Given.Follows.Calling.{come_to}
 use Rattle.papaya_histories.proofs.Given.Hands.Replacing.{IsOn, calls_after}
 use Rattle.papaya_scheduler.specs.Played.{IsDue, StandsFor}
 use Rattle.papaya_scheduler.specs.Seen.{Seen, far_of, is_named}
-use Rattle.papaya_stepping.specs.Stepping.{ComesAs, ComesBy, IsInCase, PlaysOn, TakesUpTo}
+use Rattle.papaya_stepping.specs.Stepping.{ComesAs, ComesBy, IsInCase, PlaysOn, TakesUpTo, waits_in_case}
 use Rattle.papaya_scheduler.specs.declared.caller.Stands.TheVariants as far
 use Rattle.papaya_scheduler.specs.declared.scheduler.Scheduler.{Scheduler}
 use Rattle.papaya_stepping.proofs.AfterEffects.{closed_stays, mapped_stays}
@@ -95,6 +97,10 @@ module _ {K V S : Type 0} (same : K → K → Bool) (hash : K → ℕ) (terms : 
   d_works : outcome ≡ Waits → only_looks d.call ≡ false
   d_works waits = subst (λ (x : Call K V). only_looks x ≡ false) (sym d_on.call) (comes.works waits)
 
+  d_waits : outcome ≡ Waits → waits_in_case d w ≡ true → list_any (may_wait_for d w) w.calls ≡ true
+  d_waits waits = subst (λ (x : Moment K V). waits_in_case d x ≡ true → list_any (may_wait_for d x) x.calls ≡ true) worked_is
+      (comes.waits waits d (calls_after own c.map own comes.did m c comes.call_is).1)
+
   d_short : outcome ≡ Refused Memory → d.is_short ≡ true
   d_short refused = comes.memory refused d (calls_after own c.map own comes.did m c comes.call_is).1
 
@@ -115,7 +121,7 @@ module _ {K V S : Type 0} (same : K → K → Bool) (hash : K → ℕ) (terms : 
 
     pub goes_right : ByCall (λ x. Progresses terms x.stands x (moments_from x.begun log) w outcome) (call_of own w)
     goes_right = subst (λ (o : Option (CallThere K V)). ByCall (λ x. Progresses terms x.stands x (moments_from x.begun log) w outcome) o) (sym d_is)
-        (progresses terms d (moments_from d.begun log) w d.stands (ap far_of d_on.stands ∙ call_goes) outcome (may_come terms d (moments_from d.begun log) w outcome d_comes d_works d_short case_of))
+        (progresses terms d (moments_from d.begun log) w d.stands (ap far_of d_on.stands ∙ call_goes) outcome (may_come terms d (moments_from d.begun log) w outcome d_comes d_works d_waits d_short case_of))
 
   pub few_steps : sum_by weight effects ≤ steps
   few_steps = subst (λ (l : List Effect). sum_by weight l ≤ steps) (sym comes.follows) comes.few

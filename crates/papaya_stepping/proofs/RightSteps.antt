@@ -17,7 +17,7 @@ use Rattle.papaya_schedules.specs.Moment.{Stands, Going, Asking, Told, IsReady, 
 use Rattle.papaya_schedules.specs.Steps.{MakesSteps}
 use Rattle.papaya_schedules.specs.Terms.{Terms}
 use Rattle.papaya_scheduler.specs.Seen.{far_of}
-use Rattle.papaya_stepping.specs.Stepping.{ComesAs, IsInCase, TakesUpTo}
+use Rattle.papaya_stepping.specs.Stepping.{ComesAs, IsInCase, TakesUpTo, waits_in_case}
 use Rattle.papaya_scheduler.specs.declared.caller.Stands.TheVariants as far
 
 module _ {K V : Type 0} where
@@ -56,17 +56,25 @@ module _ {K V : Type 0} where
   not_busy call o comes is = let it = (other_fault call Busy (subst (λ (x : Outcome V). ComesAs call x) is comes) (λ e. cc e) (λ e. cc e)).0 in cc it
 
   module _ (terms : Terms) (c : CallThere K V) (moments : List (Moment K V)) (now : Moment K V) where
-    pub may_come : (o : Outcome V) → ComesAs c.call o → (o ≡ Waits → only_looks c.call ≡ false) → (o ≡ Refused Memory → c.is_short ≡ true) → IsInCase terms c moments now o → MayCome terms c moments now o
-    may_come Goes comes works short within = tt
-    may_come (Asks question) comes works short within = comes
-    may_come Waits comes works short within = ap (λ (b : Bool). not b && list_any (may_wait_for c now) now.calls) (works refl) ∙ within
-    may_come Ready comes works short within = comes
-    may_come (Answered a) comes works short within = comes
-    may_come (Refused Memory) comes works short within = short refl
-    may_come (Refused Capacity) comes works short within = (works_so c.call Capacity comes, within)
-    may_come (Refused RemoveNothing) comes works short within = (other_fault c.call RemoveNothing comes (λ e. cc e) (λ e. cc e)).1
-    may_come (Refused fault) comes works short within = absurd (let it = (other_fault c.call fault comes (λ e. cc e) (λ e. cc e)).0 in cc it)
-    may_come _ comes works short within = absurd comes
+    -- where it waits in its case, and elsewhere
+    waits_so : (b : Bool) → waits_in_case c now ≡ b → (waits_in_case c now ≡ true → list_any (may_wait_for c now) now.calls ≡ true)
+        → (waits_in_case c now ≡ false → list_any (may_wait_for c now) now.calls ≡ true) → list_any (may_wait_for c now) now.calls ≡ true
+    waits_so true e known within = known e
+    waits_so false e known within = within e
+
+    pub may_come : (o : Outcome V) → ComesAs c.call o → (o ≡ Waits → only_looks c.call ≡ false) → (o ≡ Waits → waits_in_case c now ≡ true → list_any (may_wait_for c now) now.calls ≡ true)
+        → (o ≡ Refused Memory → c.is_short ≡ true) → IsInCase terms c moments now o → MayCome terms c moments now o
+    may_come Goes comes works known short within = tt
+    may_come (Asks question) comes works known short within = comes
+    may_come Waits comes works known short within =
+        ap (λ (b : Bool). not b && list_any (may_wait_for c now) now.calls) (works refl) ∙ waits_so (waits_in_case c now) refl (known refl) within
+    may_come Ready comes works known short within = comes
+    may_come (Answered a) comes works known short within = comes
+    may_come (Refused Memory) comes works known short within = short refl
+    may_come (Refused Capacity) comes works known short within = (works_so c.call Capacity comes, within)
+    may_come (Refused RemoveNothing) comes works known short within = (other_fault c.call RemoveNothing comes (λ e. cc e) (λ e. cc e)).1
+    may_come (Refused fault) comes works known short within = absurd (let it = (other_fault c.call fault comes (λ e. cc e) (λ e. cc e)).0 in cc it)
+    may_come _ comes works known short within = absurd comes
 
     -- so it progresses, as far as it was
     pub progresses : (stand : Stands) → far_of stand ≡ far.Goes → (o : Outcome V) → MayCome terms c moments now o → Progresses terms stand c moments now o

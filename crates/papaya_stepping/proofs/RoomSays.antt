@@ -18,7 +18,7 @@ use Rattle.papaya_histories.specs.Given.Sweeps.declared.sweep.Sweep.{Sweep}
 use Rattle.papaya_histories.specs.Given.Sweeps.declared.sweep.Swept.{Swept}
 use Rattle.papaya_histories.specs.Given.Sweeps.declared.sweep.Swept.TheVariants as ends
 use Rattle.papaya_raw.specs.Machine.{counted, reserved, swept}
-use Rattle.papaya_raw.specs.Progress.{of_counting, of_outcome, of_swept}
+use Rattle.papaya_raw.specs.Progress.{of_outcome, of_swept}
 use Rattle.papaya_raw.specs.declared.machines.machine.Machine.{Machine}
 use Rattle.papaya_raw.specs.declared.machines.machine.Machine.TheVariants as kinds
 use Rattle.papaya_raw.specs.declared.machines.progress.Progress.{Progress}

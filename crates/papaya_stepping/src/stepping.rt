@@ -2,6 +2,7 @@
 ghost use Rattle.std.specs.Prelude.{◌≡◌, ◌<◌, ◌≤◌, length, slice_get, Some, IfOk};
 ghost use Rattle.papaya_schedules.specs.declared.event.Event.TheVariants as event;
 ghost use Rattle.papaya_histories.specs.Given.Effects.Known.{known};
+ghost use Rattle.papaya_histories.specs.Given.Executor.IsAt.{KeepsGiven};
 ghost use Rattle.papaya_scheduler.specs.Played.{MayPlay};
 ghost use Rattle.papaya_runs.specs.Stopped.{most_steps};
 ghost use Rattle.papaya_stepping.specs.Stepping.{IsStepped, MayGo, MayStep, PlaysOnAt, StandsAt, StepsCome, TakenAs, TookSteps, TookWhole, callers_then, outcome_of};
@@ -103,7 +104,7 @@ fn take_step<K: Eq + Hash + Drop, V: Drop, S: Hashes<K>>(
 ) -> Result<Outcome<V>, AllocError>
     requires { MayStep K.eq (S.hash scheduler.old.logged.executor.hasher) place scheduler.old }
     ensures stepped { IfOk result (λ outcome. IsStepped K.eq (S.hash scheduler.old.logged.executor.hasher) place outcome effects.old.items effects.new.items scheduler.old scheduler.new) }
-    ensures hasher { scheduler.new.logged.executor.hasher ≡ scheduler.old.logged.executor.hasher }
+    ensures given { KeepsGiven scheduler.old.logged.executor scheduler.new.logged.executor }
 {
     let (number, map) = scheduler.calls.way_of(place);
     let progress = scheduler.logged.step(number, map, effects)?;
@@ -119,7 +120,8 @@ fn go_on<K: Eq + Hash + Drop, V: Drop, S: Hashes<K>>(
 ) -> Result<(Outcome<V>, u64), AllocError>
     requires some { 1 ≤ most }
     requires goes { MayGo K.eq (S.hash scheduler.old.logged.executor.hasher) place scheduler.old }
-    ensures { IfOk result (λ come. StepsCome K.eq (S.hash scheduler.old.logged.executor.hasher) place most come.1 come.0 effects.old.items effects.new.items scheduler.old scheduler.new) }
+    ensures comes { IfOk result (λ come. StepsCome K.eq (S.hash scheduler.old.logged.executor.hasher) place most come.1 come.0 effects.old.items effects.new.items scheduler.old scheduler.new) }
+    ensures given { KeepsGiven scheduler.old.logged.executor scheduler.new.logged.executor }
 {
     for steps in 1..most {
         let outcome = take_step(scheduler, place, effects)?;
@@ -140,7 +142,8 @@ fn take_steps<K: Eq + Hash + Drop, V: Drop, S: Hashes<K>>(
 ) -> Result<Played<V>, AllocError>
     requires some { 1 ≤ most }
     requires stands { StandsAt K.eq (S.hash scheduler.old.logged.executor.hasher) place scheduler.old }
-    ensures { IfOk result (λ played. TakenAs K.eq (S.hash scheduler.old.logged.executor.hasher) place most played scheduler.old scheduler.new) }
+    ensures taken { IfOk result (λ played. TakenAs K.eq (S.hash scheduler.old.logged.executor.hasher) place most played scheduler.old scheduler.new) }
+    ensures given { KeepsGiven scheduler.old.logged.executor scheduler.new.logged.executor }
 {
     match scheduler.calls.far_of(place) {
         Stands::Asks(question) => return Ok(scheduler.quietly(Outcome::Asks(question))),
@@ -167,6 +170,7 @@ pub fn step<K: Eq + Hash + Drop, V: Drop, S: Hashes<K>>(
     requires { MayPlay K.eq (S.hash scheduler.old.logged.executor.hasher) (event.Step caller.now refuse) scheduler.old }
     ensures plays { IfOk result (λ played. PlaysOnAt K.eq (S.hash scheduler.old.logged.executor.hasher) (event.Step caller.now refuse) played scheduler.old scheduler.new) }
     ensures took { IfOk result (λ played. TookSteps K.eq (S.hash scheduler.old.logged.executor.hasher) 1 caller.now played scheduler.old scheduler.new) }
+    ensures given { KeepsGiven scheduler.old.logged.executor scheduler.new.logged.executor }
 {
     match scheduler.calls.place_of(caller) {
         Some(place) => take_steps(scheduler, place, 1, refuse),
@@ -183,6 +187,7 @@ pub fn go<K: Eq + Hash + Drop, V: Drop, S: Hashes<K>>(
     requires { MayPlay K.eq (S.hash scheduler.old.logged.executor.hasher) (event.Go caller.now refuse) scheduler.old }
     ensures plays { IfOk result (λ played. PlaysOnAt K.eq (S.hash scheduler.old.logged.executor.hasher) (event.Go caller.now refuse) played scheduler.old scheduler.new) }
     ensures took { IfOk result (λ played. TookSteps K.eq (S.hash scheduler.old.logged.executor.hasher) most_steps caller.now played scheduler.old scheduler.new) }
+    ensures given { KeepsGiven scheduler.old.logged.executor scheduler.new.logged.executor }
 {
     match scheduler.calls.place_of(caller) {
         Some(place) => take_steps(scheduler, place, MOST_STEPS, refuse),
@@ -200,6 +205,7 @@ pub fn one_call<K: Eq + Hash + Drop, V: Drop, S: Hashes<K>>(
     requires { MayPlay K.eq (S.hash scheduler.old.logged.executor.hasher) (event.OneCall guard map.now call) scheduler.old }
     ensures plays { IfOk result (λ played. PlaysOnAt K.eq (S.hash scheduler.old.logged.executor.hasher) (event.OneCall guard map.now call) played scheduler.old scheduler.new) }
     ensures took { IfOk result (λ played. TookWhole K.eq (S.hash scheduler.old.logged.executor.hasher) guard map.now call played scheduler.old scheduler.new) }
+    ensures given { KeepsGiven scheduler.old.logged.executor scheduler.new.logged.executor }
 {
     let nameless = Token::copy_of(*scheduler.maps.allocator(), b"-")?;
     if scheduler.begins(nameless, guard, map, call)? {

@@ -1,6 +1,7 @@
 //! Walks show their pairs, one by one.
 ghost use Rattle.std.specs.Prelude.{◌≡◌, ◌↔◌, true, IfOk};
 ghost use Rattle.papaya_schedules.specs.declared.event.Event.TheVariants as event;
+ghost use Rattle.papaya_histories.specs.Given.Executor.IsAt.{KeepsGiven};
 ghost use Rattle.papaya_scheduler.specs.Played.{MayPlay};
 ghost use Rattle.papaya_stepping.specs.Stepping.{MayWalk, PlaysNextAt, WalkComes};
 
@@ -28,7 +29,8 @@ fn walk_on<K: Eq + Hash + Drop, V: Drop, S: Hashes<K>>(
     effects: &mut Vec<Effect>,
 ) -> Result<(Progress<Node<K, V>>, u64), AllocError>
     requires { MayWalk K.eq (S.hash scheduler.old.logged.executor.hasher) place scheduler.old }
-    ensures { IfOk result (λ come. WalkComes K.eq (S.hash scheduler.old.logged.executor.hasher) place come.1 come.0 effects.old.items effects.new.items scheduler.old scheduler.new) }
+    ensures comes { IfOk result (λ come. WalkComes K.eq (S.hash scheduler.old.logged.executor.hasher) place come.1 come.0 effects.old.items effects.new.items scheduler.old scheduler.new) }
+    ensures given { KeepsGiven scheduler.old.logged.executor scheduler.new.logged.executor }
 {
     let (number, map) = scheduler.calls.way_of(place);
     for steps in 1..u64::MAX {
@@ -47,6 +49,7 @@ pub fn next<K: Eq + Hash + Drop, V: Drop, S: Hashes<K>>(
 ) -> Result<Played<V>, AllocError>
     requires { MayPlay K.eq (S.hash scheduler.old.logged.executor.hasher) (event.Next caller.now) scheduler.old }
     ensures plays { IfOk result (λ played. PlaysNextAt K.eq (S.hash scheduler.old.logged.executor.hasher) caller.now played scheduler.old scheduler.new) }
+    ensures given { KeepsGiven scheduler.old.logged.executor scheduler.new.logged.executor }
 {
     let Some(place) = scheduler.place_of_ready(caller) else {
         return Ok(scheduler.busy());

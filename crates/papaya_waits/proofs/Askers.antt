@@ -39,13 +39,13 @@ done_one k i share is e = ap (is_done_by i) is ∙ ap {B = ℕ} (λ (q : Bool). 
 -- by the rule of the map, a place of the root that is settled, and not counted, was done by a caller
 is_done : {K : Type 0} (same : K → K → Bool) (hash : K → ℕ) (c : Chart K) → Rule same (spot_of hash) true c
     → (j : ℕ) → j < c.len c.first → is_settled (c.place c.first j) ≡ true → IsToCount (c.share (suc c.first) j) → (k : ℕ) × (c.share (suc c.first) j ≡ Done k)
-is_done same hash c rule j l settled open = by (c.share (suc c.first) j) refl (rule.in_mode.shares j l)
+is_done same hash c rule j l settled uncounted = by (c.share (suc c.first) j) refl (rule.in_mode.shares j l)
   where
     by : (share : Share) → c.share (suc c.first) j ≡ share → Agrees share (c.place c.first j) → (k : ℕ) × (c.share (suc c.first) j ≡ Done k)
     by (Done k) is agrees = (k, is)
     by Free is agrees = absurd (let marked = settled_marked (c.place c.first j) settled in cc (agrees, marked))
     by (Claimed k) is agrees = absurd (let no : is_settled (c.place c.first j) ≡ false = ap is_settled agrees.2 in cc (settled, no))
-    by Counted is agrees = absurd (subst (λ (x : Share). IsToCount x) is open)
+    by Counted is agrees = absurd (subst (λ (x : Share). IsToCount x) is uncounted)
     by Lost is agrees = absurd agrees
 
 module _ {K Q : Type 0} (V : Type 0) (same : K → K → Bool) (hash : K → ℕ) (asks : Q → K → Bool) (setting : Setting) (slot : ℕ → ℕ) where
@@ -58,8 +58,8 @@ module _ {K Q : Type 0} (V : Type 0) (same : K → K → Bool) (hash : K → ℕ
         by : (o : Option (UnderWay K V Q)) → calls k ≡ o → (u : UnderWay K V Q) × (calls k ≡ Some u)
         by (Some u) is = (u, is)
         by None is =
-            let idle = chosen {X = HasDone same hash w k (in_slot setting (slot k)) c blocks 0 × ClaimsNone same hash w k (in_slot setting (slot k)) c blocks}
-                {Y = HasNoShares same hash w k (in_slot setting (slot k)) c blocks} (is_incremental setting.mode) mode (s.idle k is) in
+            let idle = chosen (HasDone same hash w k (in_slot setting (slot k)) c blocks 0 × ClaimsNone same hash w k (in_slot setting (slot k)) c blocks)
+            (HasNoShares same hash w k (in_slot setting (slot k)) c blocks) (is_incremental setting.mode) mode (s.idle k is) in
             let none = total_zero (is_done_by k) (c.share (suc c.first)) (c.len c.first) (sym idle.0) j l in
             let one = done_one k k (c.share (suc c.first) j) done refl in
             absurd (omega (arith, none, one))
@@ -93,14 +93,13 @@ module _ {K Q : Type 0} (V : Type 0) (same : K → K → Bool) (hash : K → ℕ
 
       -- one that has done a place that is not counted is another, as this one has none
       by_place : f.0 ≡ c.first → (j : ℕ) → j < c.len c.first → IsToCount (c.share (suc f.0) j) → Another
-      by_place root j l open =
+      by_place root j l uncounted =
           let inside : j < c.len f.0 = subst (λ (t : ℕ). j < c.len t) (sym root) l in
           let settled : is_settled (c.place c.first j) ≡ true = subst (λ (t : ℕ). is_settled (c.place t j) ≡ true) root (f.7 f.6 j inside) in
           let rule : Rule same (spot_of hash) true c = subst (λ (b : Bool). Rule same (spot_of hash) b c) mode s.ground.map.map.rule in
-          let done = is_done same hash c rule j l settled (subst (λ (t : ℕ). IsToCount (c.share (suc t) j)) root open) in
+          let done = is_done same hash c rule j l settled (subst (λ (t : ℕ). IsToCount (c.share (suc t) j)) root uncounted) in
           let other = has_call done.0 j l done.1 in
-          let none = total_zero (is_done_by i) (c.share (suc c.first)) (c.len c.first) (sym f.3) j l in
-          (
+          let none = total_zero (is_done_by i) (c.share (suc c.first)) (c.len c.first) (sym f.3) j l in (
             done.0,
             other.0,
             other.1,
@@ -112,7 +111,7 @@ module _ {K Q : Type 0} (V : Type 0) (same : K → K → Bool) (hash : K → ℕ
       another ends unfinished = by (ends (suc f.0) (omega arith) f.1.1.made (subst (λ (t : ℕ). IsUnfinished c t) target unfinished))
         where
           by : IsOpen c (suc f.0) ⊎ ((k : ℕ) × (u : UnderWay K V Q) × (q : Copier) × (calls k ≡ Some u) × (copier_of u ≡ Some q) × EndsAt c q q.stands (suc f.0)) → Another
-          by (inl (behind, j, l, open)) = by_place (let upto = f.1.2 in omega (arith, behind, upto)) j l open
+          by (inl (behind, j, l, uncounted)) = by_place (let upto = f.1.2 in omega (arith, behind, upto)) j l uncounted
           by (inr (k, u, q, is, of, ends)) = by_end k u q is of ends
 
   pub askers_have_others : AskersHaveOthers V same hash asks setting slot

@@ -89,7 +89,7 @@ module _ {K Q : Type 0} (V : Type 0) (same : K → K → Bool) (hash : K → ℕ
     by_copier : (copier : Copier) (goal : Table) → u.call.stands ≡ at.Helps copier goal → CopierFacts same hash w i its_setting c seen copier → After
     by_copier copier goal here facts =
         let d = steps_back (helped u.call goal) w.memory m2 (copier_plan hash copier) (p2, progress)
-            (subst (λ (stands : Calling). Steps Took value_at w.memory (plan_at asks same hash u.call stands) m2 (p2, progress)) here steps) in
+        (subst (λ (stands : Calling). Steps Took value_at w.memory (plan_at asks same hash u.call stands) m2 (p2, progress)) here steps) in
         copier_keeps same hash are its_setting power mode w i c seen map calls ends m2 leads.went.c2 leads.went.blocks2 reached next copier (ap copier_then has ∙ ap copier_in here) facts
         (λ row. none (subst (λ (stands : Calling). IsRowOfCall stands) (sym here) row)) d.0 d.1
         (helps_on u.call goal like (λ q. refl) d.0 p2 progress d.2)

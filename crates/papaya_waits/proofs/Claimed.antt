@@ -1,26 +1,21 @@
 -- In incremental mode the pair at a place that is being copied stands in the root, and a caller that has a call has claimed that place.
 use Rattle.std.specs.Prelude.{cond, Option, Some, None}
-use Rattle.std.proofs.Common.{◌≡◌, ℕ, suc, ◌<◌, ◌≤◌, ◌⊎◌, inl, inr, Bool, true, false, refl, ap, sym, subst, ◌∙◌, arith}
+use Rattle.std.proofs.Common.{◌≡◌, ℕ, suc, ◌<◌, ◌≤◌, ◌⊎◌, inl, inr, Bool, true, false, refl, ap, subst, arith}
 use Rattle.std.proofs.lemmas.Bool.{cases_lt}
-use Rattle.papaya_callers.specs.Given.Seize.World.{World}
 use Rattle.papaya_callers.specs.Given.Tables.Chunks.{is_incremental}
-use Rattle.papaya_callers.specs.Given.Tables.declared.node.Node.{Node}
 use Rattle.papaya_callers.specs.Given.Tables.declared.setting.Setting.{Setting}
-use Rattle.papaya_callers.specs.Given.Rule.Chart.{Copying, Place, Holds, Share, Free, Claimed, Done, Counted, Lost, Chart, is_marked, is_settled}
+use Rattle.papaya_callers.specs.Given.Rule.Chart.{Copying, Holds, Share, Free, Claimed, Done, Counted, Lost, Chart, is_marked, is_settled}
 use Rattle.papaya_callers.specs.Given.Rule.Maps.{spot_of}
 use Rattle.papaya_callers.specs.Given.Rule.Rule.{Agrees, Rule}
-use Rattle.papaya_callers.specs.Given.Rule.Words.{Blocks}
 use Rattle.papaya_callers.specs.Given.Points.FactsCopies.{ClaimsNone, HasDone}
 use Rattle.papaya_callers.specs.Given.Points.FactsCopiesBlocking.{HasNoShares}
-use Rattle.papaya_callers.specs.Sights.{Sight}
-use Rattle.papaya_callers.specs.Together.{UnderWay, Together, in_slot}
+use Rattle.papaya_callers.specs.Together.{UnderWay, in_slot}
 use Rattle.papaya_waits.specs.Others.{PairsAreCopiedByCalls}
-use Rattle.papaya_waits.specs.Waits.{IsBeingCopied}
 
 -- one of two, where the choice is made
-pub chosen : {X Y : Type 0} (b : Bool) → b ≡ true → cond b X Y → X
-chosen true e x = x
-chosen false e y = absurd (cc e)
+pub chosen : (X Y : Type 0) (b : Bool) → b ≡ true → cond b X Y → X
+chosen X Y true e x = x
+chosen X Y false e y = absurd (cc e)
 
 -- by the rule of the map
 module _ {K : Type 0} (same : K → K → Bool) (hash : K → ℕ) (c : Chart K) (rule : Rule same (spot_of hash) true c) (t place n : ℕ) (borrowed : Bool) (here : c.place t place ≡ Holds n Copying borrowed) where
@@ -87,8 +82,8 @@ module _ {K Q : Type 0} (V : Type 0) (same : K → K → Bool) (hash : K → ℕ
       by : (o : Option (UnderWay K V Q)) → calls claimed.0 ≡ o → (u : UnderWay K V Q) × (calls claimed.0 ≡ Some u)
       by (Some u) is = (u, is)
       by None is =
-          let idle = chosen {X = HasDone same hash w claimed.0 (in_slot setting (slot claimed.0)) c blocks 0 × ClaimsNone same hash w claimed.0 (in_slot setting (slot claimed.0)) c blocks}
-              {Y = HasNoShares same hash w claimed.0 (in_slot setting (slot claimed.0)) c blocks} (is_incremental setting.mode) mode (s.idle claimed.0 is) in
+          let idle = chosen (HasDone same hash w claimed.0 (in_slot setting (slot claimed.0)) c blocks 0 × ClaimsNone same hash w claimed.0 (in_slot setting (slot claimed.0)) c blocks)
+          (HasNoShares same hash w claimed.0 (in_slot setting (slot claimed.0)) c blocks) (is_incremental setting.mode) mode (s.idle claimed.0 is) in
           absurd (idle.1 place claimed.1)
 
       call : (u : UnderWay K V Q) × (calls claimed.0 ≡ Some u)

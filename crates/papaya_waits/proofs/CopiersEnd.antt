@@ -1,7 +1,7 @@
 -- In incremental mode, after each step of a copier each copying that is not over has a place that is not counted, or others that end it; or this copier
 -- goes on, and is to end it; if so before.
 use Rattle.std.specs.Prelude.{if◌then◌else◌, ◌==◌, ◌*◌, cond, Some}
-use Rattle.std.proofs.Common.{◌≡◌, ◌≢◌, ℕ, suc, ◌+◌, ◌%◌, ◌^◌, ◌<◌, ◌≤◌, ◌⊎◌, inl, inr, Bool, true, false, refl, ap, sym, subst, ◌∙◌, arith, eq-or-lt_of_le}
+use Rattle.std.proofs.Common.{◌≡◌, ◌≢◌, ℕ, suc, ◌+◌, ◌%◌, ◌^◌, ◌<◌, ◌⊎◌, inl, inr, Bool, true, false, refl, ap, sym, subst, ◌∙◌, arith, eq-or-lt_of_le}
 use Rattle.std.proofs.lemmas.Bool.{eq-eqb, ne_eqb}
 use Rattle.papaya_callers.specs.Given.SeizeWords.Mem.{Mem, Took, value_at, word_at, with_word}
 use Rattle.papaya_callers.specs.Given.SeizeWords.Plan.{Steps, Ends}
@@ -68,7 +68,7 @@ module _ {K V : Type 0} (same : K → K → Bool) (hash : K → ℕ) (caller : �
           let done = f.2 in
           let whole : c.copied (suc c.first) + p.done ≡ c.len c.first = omega (arith, tally, sum, all, done) in
           let equal : (found + p.done) % 2 ^ 64 ≡ p.source.len = ap (λ n. (n + p.done) % 2 ^ 64) e ∙ no_wrap same hash caller setting w c blocks map p f.0 f.2 ∙ whole
-              ∙ sym (len_is hash w.memory c blocks setting.root map.map.shows p.source c.first f.0.0) in
+          ∙ sym (len_is hash w.memory c blocks setting.root map.map.shows p.source c.first f.0.0) in
           let yes : ((found + p.done) % 2 ^ 64 == p.source.len) ≡ true = eq-eqb ((found + p.done) % 2 ^ 64) p.source.len equal in
           cc (yes, other)
 
@@ -134,10 +134,10 @@ module _ {K V : Type 0} (same : K → K → Bool) (hash : K → ℕ) (caller : �
     by_counts moved all (inl (goes, stands, turn)) = inr (
       goes,
       subst (λ (x : Chart K). AllEnd P A x end.0 end.0.stands) (sym moved)
-      (endings.counted P A same hash c rule caller p.done
-      (λ t. EndsAt (after (spot_of hash) true (Counts caller (suc c.first) p.done) c) end.0 end.0.stands t)
-      (inl (subst (λ (stage : Point). EndsAt (after (spot_of hash) true (Counts caller (suc c.first) p.done) c) end.0 stage (suc c.first)) (sym stands) (turn, omega arith)))
-      all),
+          (endings.counted P A same hash c rule caller p.done
+          (λ t. EndsAt (after (spot_of hash) true (Counts caller (suc c.first) p.done) c) end.0 end.0.stands t)
+          (inl (subst (λ (stage : Point). EndsAt (after (spot_of hash) true (Counts caller (suc c.first) p.done) c) end.0 stage (suc c.first)) (sym stands) (turn, omega arith)))
+          all),
     )
     by_counts moved all (inr left) =
         inl (subst (λ (x : Chart K). AllOr P A x (λ t. ⊥)) (sym moved) (endings.counted P A same hash c rule caller p.done (λ t. ⊥) (inr left) all))
@@ -154,7 +154,7 @@ module _ {K V : Type 0} (same : K → K → Bool) (hash : K → ℕ) (caller : �
       without l t some made unfinished = by (all t some made unfinished)
         where
           by : IsOpen c t ⊎ (OthersEnd P A c t ⊎ EndsAt c p at.Promotes t) → IsOpen c t ⊎ (OthersEnd P A c t ⊎ ⊥)
-          by (inl open) = inl open
+          by (inl uncounted) = inl uncounted
           by (inr (inl others)) = inr (inl others)
           by (inr (inr (turn, ahead))) = absurd (omega (arith, turn, ahead, target, l))
 
@@ -162,8 +162,8 @@ module _ {K V : Type 0} (same : K → K → Bool) (hash : K → ℕ) (caller : �
       by_promotes (inl (ends, root)) (inl (same_end, moved)) = inr (
         ap (λ (x : Copier × Outcome (Node K V) Table). x.1) ends,
         subst (λ (x : Copier × Outcome (Node K V) Table). AllEnd P A c2 x.0 x.0.stands) (sym ends)
-        (subst (λ (x : Chart K). AllEnd P A x (standing p at.Announces) at.Announces) (sym moved)
-        (endings.promoted P A same hash c rule p (target ∙ ap (λ (n : ℕ). suc n) root) all)),
+            (subst (λ (x : Chart K). AllEnd P A x (standing p at.Announces) at.Announces) (sym moved)
+            (endings.promoted P A same hash c rule p (target ∙ ap (λ (n : ℕ). suc n) root) all)),
       )
       by_promotes (inl (ends, root)) (inr (same_chart, other)) = absurd (other (source ∙ root))
       by_promotes (inr (ends, l)) (inl (same_end, moved)) =

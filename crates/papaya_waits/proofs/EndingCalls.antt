@@ -1,6 +1,6 @@
 -- That each copying that is not over has who ends it, as one caller sees it: by its own call, and by those of others; and back, with what its call has become.
 use Rattle.std.specs.Prelude.{Option, Some, None}
-use Rattle.std.proofs.Common.{◌≡◌, ◌≢◌, ℕ, ◌<◌, ◌⊎◌, inl, inr, Bool, true, false, refl, ap, sym, subst, ◌∙◌, eqb-true, eqb}
+use Rattle.std.proofs.Common.{◌≡◌, ◌≢◌, ℕ, ◌⊎◌, inl, inr, Bool, true, false, refl, sym, subst, ◌∙◌, eqb-true, eqb}
 use Rattle.std.proofs.lemmas.Bool.{eq-eqb}
 use Rattle.papaya_callers.specs.Given.Seize.World.{with_at}
 use Rattle.papaya_callers.specs.Given.Resize.declared.copier.Copier.{Copier}
@@ -10,7 +10,6 @@ use Rattle.papaya_callers.specs.Given.Rule.Chart.{Chart}
 use Rattle.papaya_callers.specs.Together.{UnderWay}
 use Rattle.papaya_callers.proofs.Together.At.{at_other, at_same}
 use Rattle.papaya_waits.specs.Others.{IsOpen, EndsAt, HaveEnds, copier_of}
-use Rattle.papaya_waits.specs.Waits.{IsUnfinished}
 use Rattle.papaya_waits.proofs.Endings.{OthersEnd, AllOr, AllEnd, weaker}
 
 -- the copier, if there is one, is to end the copying
@@ -45,14 +44,14 @@ module _ {K V Q : Type 0} (calls : ℕ → Option (UnderWay K V Q)) (i : ℕ) wh
     others t k u p is other of ends = by p.stands refl ends
       where
         by : (stands : Point) → p.stands ≡ stands → EndsAt c p stands t → OthersEnd (AnotherAt at.Promotes) (AnotherAt at.Announces) c t
-        by at.Promotes here (turn, ahead) = inl (ahead, k, u, p, is, other, of, here, turn)
-        by at.Announces here (turn, upto) = inr (upto, k, u, p, is, other, of, here, turn)
+        by at.Promotes here (turn, ahead) = inl (ahead, (k, u, p, is, other, of, here, turn))
+        by at.Announces here (turn, upto) = inr (upto, (k, u, p, is, other, of, here, turn))
         by _ here none = absurd none
 
     pub as_own : HaveEnds c calls → AllOrOwn c (copier_then (calls i))
     as_own ends t some made unfinished = by (ends t some made unfinished)
       where
-        abbrev Found : Type 0
+        Found : Type 0
         Found = IsOpen c t ⊎ (OthersEnd (AnotherAt at.Promotes) (AnotherAt at.Announces) c t ⊎ OwnEnds c (copier_then (calls i)) t)
 
         own : (u : UnderWay K V Q) (p : Copier) → calls i ≡ Some u → copier_of u ≡ Some p → EndsAt c p p.stands t → OwnEnds c (copier_then (calls i)) t
@@ -63,7 +62,7 @@ module _ {K V Q : Type 0} (calls : ℕ → Option (UnderWay K V Q)) (i : ℕ) wh
         whose k u p is of ends false e = inr (inl (others t k u p is (λ same. (let yes = eq-eqb k i same in cc (yes, e))) of ends))
 
         by : IsOpen c t ⊎ AnyEnds t → Found
-        by (inl open) = inl open
+        by (inl uncounted) = inl uncounted
         by (inr (k, u, p, is, of, ends)) = whose k u p is of ends (eqb k i) refl
 
   -- as its call has become another, or has ended
@@ -86,16 +85,16 @@ module _ {K V Q : Type 0} (calls : ℕ → Option (UnderWay K V Q)) (i : ℕ) wh
         of_call None is none = absurd none
 
     by_others : (t : ℕ) → OthersEnd (AnotherAt at.Promotes) (AnotherAt at.Announces) c t → Ending t
-    by_others t (inl (ahead, k, u, p, is, other, of, here, turn)) =
+    by_others t (inl (ahead, (k, u, p, is, other, of, here, turn))) =
         (k, u, p, at_other calls i next k other ∙ is, of, subst (λ (stands : Point). EndsAt c p stands t) (sym here) (turn, ahead))
-    by_others t (inr (upto, k, u, p, is, other, of, here, turn)) =
+    by_others t (inr (upto, (k, u, p, is, other, of, here, turn))) =
         (k, u, p, at_other calls i next k other ∙ is, of, subst (λ (stands : Point). EndsAt c p stands t) (sym here) (turn, upto))
 
     pub with_own : AllOrOwn c (copier_then next) → HaveEnds c calls2
     with_own all t some made unfinished = by (all t some made unfinished)
       where
         by : IsOpen c t ⊎ (OthersEnd (AnotherAt at.Promotes) (AnotherAt at.Announces) c t ⊎ OwnEnds c (copier_then next) t) → IsOpen c t ⊎ Ending t
-        by (inl open) = inl open
+        by (inl uncounted) = inl uncounted
         by (inr (inl others)) = inr (by_others t others)
         by (inr (inr own)) = inr (by_own t own)
 
@@ -107,7 +106,7 @@ module _ {K V Q : Type 0} (calls : ℕ → Option (UnderWay K V Q)) (i : ℕ) wh
       where
         by : (t : ℕ) → IsOpen c t ⊎ (OthersEnd (AnotherAt at.Promotes) (AnotherAt at.Announces) c t ⊎ OwnEnds c (copier_then (calls i)) t)
             → IsOpen c t ⊎ (OthersEnd (AnotherAt at.Promotes) (AnotherAt at.Announces) c t ⊎ ⊥)
-        by t (inl open) = inl open
+        by t (inl uncounted) = inl uncounted
         by t (inr (inl others)) = inr (inl others)
         by t (inr (inr own)) = absurd (none t own)
 

@@ -18,10 +18,10 @@ use Rattle.papaya_waits.specs.Waits.{IsUnfinished}
 
 -- a share that is put among others
 put_open : (f : ℕ → ℕ → Share) (t k : ℕ) (share : Share) → IsToCount share → (u j : ℕ) → IsToCount (f u j) → IsToCount (put_in f t k share u j)
-put_open f t k share yes u j old = by (eqb u t) (eqb j k)
+put_open f t k share kept u j old = by (eqb u t) (eqb j k)
   where
     by : (a b : Bool) → IsToCount (cond a (cond b share (f u j)) (f u j))
-    by true true = yes
+    by true true = kept
     by true false = old
     by false b = old
 
@@ -33,20 +33,17 @@ share_open i (Holds n phase borrowed) = tt
 -- where not all shares are counted, and none is lost, one is to be counted
 pub some_left : (d : ℕ → Share) (n : ℕ) → ((j : ℕ) → j < n → d j ≢ Lost) → total is_counted d n ≢ n → (j : ℕ) × (j < n) × IsToCount (d j)
 some_left d zero lost few = absurd (few refl)
-some_left d (suc n) lost few = by (d n) refl
+some_left d (suc n) lost few = by (d n) refl (λ one. some_left d n (λ j l. lost j (omega (arith, l))) (λ e. few (omega (arith, e, one))))
   where
     here : (share : Share) → d n ≡ share → IsToCount share → (j : ℕ) × (j < suc n) × IsToCount (d j)
-    here share is open = (n, omega arith, subst (λ (x : Share). IsToCount x) (sym is) open)
+    here share is uncounted = (n, omega arith, subst (λ (x : Share). IsToCount x) (sym is) uncounted)
 
-    by : (share : Share) → d n ≡ share → (j : ℕ) × (j < suc n) × IsToCount (d j)
-    by Counted is =
-        let one : is_counted (d n) ≡ 1 = ap is_counted is in
-        let before = some_left d n (λ j l. lost j (omega (arith, l))) (λ e. few (omega (arith, e, one))) in
-        (before.0, (let l = before.1 in omega (arith, l)), before.2)
-    by Lost is = absurd (lost n (omega arith) is)
-    by Free is = here Free is tt
-    by (Claimed k) is = here (Claimed k) is tt
-    by (Done k) is = here (Done k) is tt
+    by : (share : Share) → d n ≡ share → (is_counted (d n) ≡ 1 → (j : ℕ) × (j < n) × IsToCount (d j)) → (j : ℕ) × (j < suc n) × IsToCount (d j)
+    by Counted is rest = let before = rest (ap is_counted is) in (before.0, (let l = before.1 in omega (arith, l)), before.2)
+    by Lost is rest = absurd (lost n (omega arith) is)
+    by Free is rest = here Free is tt
+    by (Claimed k) is rest = here (Claimed k) is tt
+    by (Done k) is rest = here (Done k) is tt
 
 -- in incremental mode no share is lost, counted or not
 not_lost : (i : ℕ) (share : Share) (place : Place) → Agrees share place → with_counted i share ≢ Lost
@@ -81,7 +78,7 @@ module _ {K : Type 0} (P A : ℕ → Type 0) where
   weaker c Own all t some made unfinished = by (all t some made unfinished)
     where
       by : IsOpen c t ⊎ (OthersEnd c t ⊎ ⊥) → IsOpen c t ⊎ (OthersEnd c t ⊎ Own t)
-      by (inl open) = inl open
+      by (inl uncounted) = inl uncounted
       by (inr (inl others)) = inr (inl others)
       by (inr (inr none)) = absurd none
 
@@ -93,7 +90,7 @@ module _ {K : Type 0} (P A : ℕ → Type 0) where
     -- where shares that are to be counted are so on, and all else is as it was
     still : (d : Chart K) → d.first ≡ c.first → d.past ≡ c.past → d.status ≡ c.status → d.len ≡ c.len → ((t j : ℕ) → IsToCount (c.share t j) → IsToCount (d.share t j))
         → AllOr c (λ t. ⊥) → AllOr d (λ t. ⊥)
-    still d first past status len open all t some made unfinished =
+    still d first past status len uncounted all t some made unfinished =
         on (all t some (subst (λ (n : ℕ). t < n) past made) (subst (λ (s : ℕ → ℕ). (s t ≢ PROMOTED) × (s t ≢ ABORTED)) status unfinished))
       where
         on : IsOpen c t ⊎ (OthersEnd c t ⊎ ⊥) → IsOpen d t ⊎ (OthersEnd d t ⊎ ⊥)
@@ -101,7 +98,7 @@ module _ {K : Type 0} (P A : ℕ → Type 0) where
           subst (λ (n : ℕ). n < t) (sym first) behind,
           j,
           subst (λ (n : ℕ). j < d.len n) (sym first) (subst (λ (g : ℕ → ℕ). j < g c.first) (sym len) l),
-          open t j is,
+          uncounted t j is,
         )
         on (inr (inl (inl (behind, who)))) = inr (inl (inl (subst (λ (n : ℕ). n < t) (sym first) behind, who)))
         on (inr (inl (inr (upto, who)))) = inr (inl (inr (subst (λ (n : ℕ). t ≤ n) (sym first) upto, who)))
@@ -111,7 +108,7 @@ module _ {K : Type 0} (P A : ℕ → Type 0) where
     linked : (len limit : ℕ) → AllOr c (λ t. ⊥) → AllOr (after (spot_of hash) true (Links len limit) c) (λ t. ⊥)
     linked len limit all t some made unfinished = by (cases_lt t c.past)
       where
-        abbrev linked_chart : Chart K
+        linked_chart : Chart K
         linked_chart = after (spot_of hash) true (Links len limit) c
 
         rooted : 0 < c.past → c.first < c.past
@@ -144,7 +141,7 @@ module _ {K : Type 0} (P A : ℕ → Type 0) where
     pub plain : (i : ℕ) (d : Chart K) → MovedPlain hash i c d → AllOr c (λ t. ⊥) → AllOr d (λ t. ⊥)
     plain i d (inl is) all =
         still d (ap (λ (x : Chart K). x.first) is) (ap (λ (x : Chart K). x.past) is) (ap (λ (x : Chart K). x.status) is) (ap (λ (x : Chart K). x.len) is)
-        (λ t j. subst (λ (x : Chart K). IsToCount (c.share t j) → IsToCount (x.share t j)) (sym is) (λ open. open)) all
+        (λ t j. subst (λ (x : Chart K). IsToCount (c.share t j) → IsToCount (x.share t j)) (sym is) (λ uncounted. uncounted)) all
     plain i d (inr (move, fits, is)) all = subst (λ (x : Chart K). AllOr x (λ t. ⊥)) (sym is) (by move fits)
       where
         by : (move : Move K) → IsPlain hash i c move → AllOr (after (spot_of hash) true move c) (λ t. ⊥)
@@ -152,9 +149,9 @@ module _ {K : Type 0} (P A : ℕ → Type 0) where
         by (Marks k j) fits = still (after (spot_of hash) true (Marks k j) c) refl refl refl refl
             (put_open c.share (suc c.first) j (share_of k (c.place c.first j)) (share_open k (c.place c.first j))) all
         by (Unmarks k j) fits = still (after (spot_of hash) true (Unmarks k j) c) refl refl refl refl (put_open c.share (suc c.first) j Free tt) all
-        by (Puts k j t key try) fits = still (after (spot_of hash) true (Puts k j t key try) c) refl refl refl refl (λ u n open. open) all
+        by (Puts k j t key try) fits = still (after (spot_of hash) true (Puts k j t key try) c) refl refl refl refl (λ u n uncounted. uncounted) all
         by (Covers k j) fits = still (after (spot_of hash) true (Covers k j) c) refl refl refl refl (put_open c.share (suc c.first) j (Done k) tt) all
-        by (Reclaims t claim) fits = still (after (spot_of hash) true (Reclaims t claim) c) refl refl refl refl (λ u n open. open) all
+        by (Reclaims t claim) fits = still (after (spot_of hash) true (Reclaims t claim) c) refl refl refl refl (λ u n uncounted. uncounted) all
         by _ fits = absurd fits
 
     -- what a call does beside its copying
@@ -164,9 +161,9 @@ module _ {K : Type 0} (P A : ℕ → Type 0) where
       where
         by : (move : Move K) → IsBeside move → AllOr (after (spot_of hash) true move c) (λ t. ⊥)
         by (Links len limit) fits = linked len limit all
-        by (Stores t key try) fits = still (after (spot_of hash) true (Stores t key try) c) refl refl refl refl (λ u n open. open) all
-        by (Replaces t place key) fits = still (after (spot_of hash) true (Replaces t place key) c) refl refl refl refl (λ u n open. open) all
-        by (Removes t place) fits = still (after (spot_of hash) true (Removes t place) c) refl refl refl refl (λ u n open. open) all
+        by (Stores t key try) fits = still (after (spot_of hash) true (Stores t key try) c) refl refl refl refl (λ u n uncounted. uncounted) all
+        by (Replaces t place key) fits = still (after (spot_of hash) true (Replaces t place key) c) refl refl refl refl (λ u n uncounted. uncounted) all
+        by (Removes t place) fits = still (after (spot_of hash) true (Removes t place) c) refl refl refl refl (λ u n uncounted. uncounted) all
         by _ fits = absurd fits
 
     -- what a caller has done is counted: a place is left, or this ends the copying
@@ -174,24 +171,24 @@ module _ {K : Type 0} (P A : ℕ → Type 0) where
         → AllOr c (λ t. ⊥) → AllOr (after (spot_of hash) true (Counts i (suc c.first) done) c) Own
     counted i done Own how all t some made unfinished = by (eqb t (suc c.first)) refl
       where
-        abbrev counted_chart : Chart K
+        counted_chart : Chart K
         counted_chart = after (spot_of hash) true (Counts i (suc c.first) done) c
 
-        abbrev EndsIn : ℕ → Type 0
+        EndsIn : ℕ → Type 0
         EndsIn t = IsOpen counted_chart t ⊎ (OthersEnd counted_chart t ⊎ Own t)
 
         next : Own (suc c.first) ⊎ ((j : ℕ) × (j < c.len c.first) × IsToCount (with_counted i (c.share (suc c.first) j))) → EndsIn (suc c.first)
         next (inl own) = inr (inr own)
-        next (inr (j, l, open)) = inl (
+        next (inr (j, l, uncounted)) = inl (
           omega arith,
           j,
           l,
-          subst (λ (b : Bool). IsToCount (cond b (with_counted i (c.share (suc c.first) j)) (c.share (suc c.first) j))) (sym (eq-eqb (suc c.first) (suc c.first) refl)) open,
+          subst (λ (b : Bool). IsToCount (cond b (with_counted i (c.share (suc c.first) j)) (c.share (suc c.first) j))) (sym (eq-eqb (suc c.first) (suc c.first) refl)) uncounted,
         )
 
         on : eqb t (suc c.first) ≡ false → IsOpen c t ⊎ (OthersEnd c t ⊎ ⊥) → EndsIn t
-        on other (inl (behind, j, l, open)) =
-            inl (behind, j, l, subst (λ (b : Bool). IsToCount (cond b (with_counted i (c.share t j)) (c.share t j))) (sym other) open)
+        on other (inl (behind, j, l, uncounted)) =
+            inl (behind, j, l, subst (λ (b : Bool). IsToCount (cond b (with_counted i (c.share t j)) (c.share t j))) (sym other) uncounted)
         on other (inr (inl others)) = inr (inl others)
         on other (inr (inr none)) = absurd none
 
@@ -204,15 +201,15 @@ module _ {K : Type 0} (P A : ℕ → Type 0) where
         → AllEnd (after (spot_of hash) true (Promotes (suc c.first)) c) (standing p at.Announces) at.Announces
     promoted p target all t some made unfinished = by (cases_lt t (suc c.first)) (cases_lt (suc c.first) t)
       where
-        abbrev promoted_chart : Chart K
+        promoted_chart : Chart K
         promoted_chart = after (spot_of hash) true (Promotes (suc c.first)) c
 
-        abbrev EndsIn : Type 0
+        EndsIn : Type 0
         EndsIn = IsOpen promoted_chart t ⊎ (OthersEnd promoted_chart t ⊎ EndsAt promoted_chart (standing p at.Announces) at.Announces t)
 
         -- those that the root had come to, or had left
         before : t < suc c.first → IsOpen c t ⊎ (OthersEnd c t ⊎ EndsAt c p at.Promotes t) → EndsIn
-        before l (inl (behind, open)) = absurd (omega (arith, l, behind))
+        before l (inl uncounted) = absurd (let behind = uncounted.0 in omega (arith, l, behind))
         before l (inr (inl (inl (behind, who)))) = absurd (omega (arith, l, behind))
         before l (inr (inl (inr (upto, who)))) = inr (inl (inr (omega (arith, upto), who)))
         before l (inr (inr (turn, behind))) = absurd (omega (arith, l, behind))
@@ -231,12 +228,12 @@ module _ {K : Type 0} (P A : ℕ → Type 0) where
     pub announced : (p : Copier) → AllEnd c p at.Announces → AllOr (after (spot_of hash) true (Announces p.target.turn) c) (λ t. ⊥)
     announced p all t some made unfinished = by (eqb t p.target.turn) refl
       where
-        abbrev announced_chart : Chart K
+        announced_chart : Chart K
         announced_chart = after (spot_of hash) true (Announces p.target.turn) c
 
         on : eqb t p.target.turn ≡ false → IsOpen c t ⊎ (OthersEnd c t ⊎ EndsAt c p at.Announces t)
             → IsOpen announced_chart t ⊎ (OthersEnd announced_chart t ⊎ ⊥)
-        on other (inl open) = inl open
+        on other (inl uncounted) = inl uncounted
         on other (inr (inl others)) = inr (inl others)
         on other (inr (inr own)) = absurd (let it = eq-eqb t p.target.turn (sym own.0) in cc (it, other))
 

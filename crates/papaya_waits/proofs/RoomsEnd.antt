@@ -51,23 +51,23 @@ use Rattle.papaya_waits.proofs.Promised.{map_of}
 use Rattle.papaya_waits.proofs.SameEnds.{Reached}
 
 -- it goes on within its copier where that goes on
-room_on : {K V Q : Type 0} (p : Reserve) (began : ℕ) (b : Copier × Outcome (Node K V) Table) (p2 : Reserve) (end : Outcome (Node K V) Unit)
+room_on : {K V : Type 0} (Q : Type 0) (p : Reserve) (began : ℕ) (b : Copier × Outcome (Node K V) Table) (p2 : Reserve) (end : Outcome (Node K V) Unit)
     → (p2, end) ≡ room_plans.copied p b → b.1 ≡ outcome.Goes → copier_then (next_for_room {K = K} {V = V} {Q = Q} (record { began = began; reserve = p2 }) end) ≡ Some b.0
-room_on {K} {V} {Q} p began (q, outcome.Goes) p2 end e goes =
+room_on {K} {V} Q p began (q, outcome.Goes) p2 end e goes =
     ap (λ (x : Reserve × Outcome (Node K V) Unit). copier_then (next_for_room {K = K} {V = V} {Q = Q} (record { began = began; reserve = x.0 }) x.1)) e
-room_on p began (q, outcome.Waits) p2 end e goes = absurd (cc goes)
-room_on p began (q, outcome.Gave value) p2 end e goes = absurd (cc goes)
-room_on p began (q, outcome.Done table) p2 end e goes = absurd (cc goes)
-room_on p began (q, outcome.Refused fault) p2 end e goes = absurd (cc goes)
+room_on Q p began (q, outcome.Waits) p2 end e goes = absurd (cc goes)
+room_on Q p began (q, outcome.Gave value) p2 end e goes = absurd (cc goes)
+room_on Q p began (q, outcome.Done table) p2 end e goes = absurd (cc goes)
+room_on Q p began (q, outcome.Refused fault) p2 end e goes = absurd (cc goes)
 
-sweep_on : {K V Q : Type 0} (p : Sweep) (o : CallOverAll) (entered : ℕ) (done : List ℕ) (b : Copier × Outcome (Node K V) Table) (p2 : Sweep) (end : Swept (Node K V))
+sweep_on : {K V : Type 0} (Q : Type 0) (p : Sweep) (o : CallOverAll) (entered : ℕ) (done : List ℕ) (b : Copier × Outcome (Node K V) Table) (p2 : Sweep) (end : Swept (Node K V))
     → (p2, end) ≡ sweep_plans.copied p b → b.1 ≡ outcome.Goes → copier_then (next_over_all {K = K} {V = V} {Q = Q} (come_to o entered done p2) end) ≡ Some b.0
-sweep_on {K} {V} {Q} p o entered done (q, outcome.Goes) p2 end e goes =
+sweep_on {K} {V} Q p o entered done (q, outcome.Goes) p2 end e goes =
     ap (λ (x : Sweep × Swept (Node K V)). copier_then (next_over_all {K = K} {V = V} {Q = Q} (come_to o entered done x.0) x.1)) e
-sweep_on p o entered done (q, outcome.Waits) p2 end e goes = absurd (cc goes)
-sweep_on p o entered done (q, outcome.Gave value) p2 end e goes = absurd (cc goes)
-sweep_on p o entered done (q, outcome.Done table) p2 end e goes = absurd (cc goes)
-sweep_on p o entered done (q, outcome.Refused fault) p2 end e goes = absurd (cc goes)
+sweep_on Q p o entered done (q, outcome.Waits) p2 end e goes = absurd (cc goes)
+sweep_on Q p o entered done (q, outcome.Gave value) p2 end e goes = absurd (cc goes)
+sweep_on Q p o entered done (q, outcome.Done table) p2 end e goes = absurd (cc goes)
+sweep_on Q p o entered done (q, outcome.Refused fault) p2 end e goes = absurd (cc goes)
 
 module _ {K : Type 0} (hash : K → ℕ) (mode : ResizeMode) (c d : Chart K) where
   abbrev MovesBeside : Type 0
@@ -94,8 +94,8 @@ module _ {K Q : Type 0} (V : Type 0) (same : K → K → Bool) (hash : K → ℕ
     -- what a copier of a whole table knows
     whole_knows : (copier : Copier) → CopiesWhole same hash w i its_setting c seen copier → CopierFacts same hash w i its_setting c seen copier
     whole_knows copier whole =
-        (chosen {X = (copier.whole ≡ true) × CopierFacts same hash w i its_setting c seen copier × IsEnding same hash w i its_setting c seen copier copier.stands}
-        {Y = CopierFactsBlocking same hash w i its_setting c seen copier} (is_incremental its_setting.mode) mode whole).1
+        (chosen ((copier.whole ≡ true) × CopierFacts same hash w i its_setting c seen copier × IsEnding same hash w i its_setting c seen copier copier.stands)
+        (CopierFactsBlocking same hash w i its_setting c seen copier) (is_incremental its_setting.mode) mode whole).1
 
     module _ (r : CallForRoom) (has : calls i ≡ Some (ForRoom r)) (none : IsRowOfReserve r.reserve.stands → ⊥) (p2 : Reserve) (end : Outcome (Node K V) Unit)
         (steps : Steps Took value_at w.memory (room_plans.reserve_plan hash r.reserve) m2 (p2, end))
@@ -124,10 +124,10 @@ module _ {K Q : Type 0} (V : Type 0) (same : K → K → Bool) (hash : K → ℕ
       by_fresh : (stands : Reserving) → r.reserve.stands ≡ stands → ReservingFacts same hash w i its_setting c seen stands → After
       by_fresh (reserves.Copies copier) here whole =
           let d = steps_back (room_plans.copied r.reserve) w.memory m2 (copier_plan hash copier) (p2, end)
-              (subst (λ (stands : Reserving). Steps Took value_at w.memory (room_plans.plan_at hash r.reserve stands) m2 (p2, end)) here steps) in
+          (subst (λ (stands : Reserving). Steps Took value_at w.memory (room_plans.plan_at hash r.reserve stands) m2 (p2, end)) here steps) in
           copier_keeps same hash are its_setting power mode w i c seen map calls ends m2 leads.went.c2 leads.went.blocks2 reached next copier
           (ap copier_then has ∙ ap copier_in_room here) (whole_knows copier whole)
-          (λ row. none (subst (λ (stands : Reserving). IsRowOfReserve stands) (sym here) row)) d.0 d.1 (room_on r.reserve r.began d.0 p2 end d.2)
+          (λ row. none (subst (λ (stands : Reserving). IsRowOfReserve stands) (sym here) row)) d.0 d.1 (room_on Q r.reserve r.began d.0 p2 end d.2)
       by_fresh _ here f = by_beside (ap copier_in_room here) (λ copying. subst (λ (stands : Reserving). CopiesPairs stands) here copying)
 
       room_knows : ReserveFacts same hash w i its_setting c seen r.reserve ⊎ LateReserveFacts same hash w i its_setting c seen r.began r.reserve → After
@@ -158,10 +158,10 @@ module _ {K Q : Type 0} (V : Type 0) (same : K → K → Bool) (hash : K → ℕ
       sweep_at : (stands : Sweeping) → o.sweep.stands ≡ stands → SweepingFacts same hash w i its_setting c seen o.began o.sweep stands → SweepsAfter
       sweep_at (sweeps.Copies copier) here (inl whole) =
           let d = steps_back (sweep_plans.copied o.sweep) w.memory m2 (copier_plan hash copier) (p2, end)
-              (subst (λ (stands : Sweeping). Steps Took value_at w.memory (sweep_plans.plan_at hash o.sweep stands) m2 (p2, end)) here steps) in
+          (subst (λ (stands : Sweeping). Steps Took value_at w.memory (sweep_plans.plan_at hash o.sweep stands) m2 (p2, end)) here steps) in
           copier_keeps same hash are its_setting power mode w i c seen sweeps_map calls ends m2 leads.went.c2 leads.went.blocks2 sweeps_reached sweeps_next copier
           (ap copier_then has ∙ ap copier_in_sweep here) (whole_knows copier whole)
-          (λ row. none (subst (λ (stands : Sweeping). IsRowOfSweep stands) (sym here) row)) d.0 d.1 (sweep_on o.sweep o leads.entered2 leads.done2 d.0 p2 end d.2)
+          (λ row. none (subst (λ (stands : Sweeping). IsRowOfSweep stands) (sym here) row)) d.0 d.1 (sweep_on Q o.sweep o leads.entered2 leads.done2 d.0 p2 end d.2)
       sweep_at (sweeps.Copies copier) here (inr (blocking, late)) = absurd (cc (mode, blocking))
       sweep_at _ here f =
           beside_keeps same hash are its_setting power mode w i c seen sweeps_map calls ends m2 leads.went.c2 leads.went.blocks2 sweeps_reached sweeps_next

@@ -27,7 +27,7 @@ use Rattle.papaya_waits.proofs.Endings.{some_left}
 
 -- where one is to be counted, not all are
 few : (share : ℕ → Share) (n j : ℕ) → j < n → IsToCount (share j) → total is_counted share n ≢ n
-few share n j l open all = subst (λ (s : Share). IsToCount s) (total_full share n all j l) open
+few share n j l uncounted all = subst (λ (s : Share). IsToCount s) (total_full share n all j l) uncounted
 
 -- in incremental mode a place is left where the count is not full
 open_where : {K : Type 0} (same : K → K → Bool) (hash : K → ℕ) (c : Chart K) → Rule same (spot_of hash) true c
@@ -45,10 +45,9 @@ open_where same hash c rule t behind made short = by (cases_lt (suc c.first) t)
       (rule.common.lens c.first (omega (arith, behind, made))).0,
       subst (λ (s : Share). IsToCount s) (sym (rule.in_mode.only_next t 0 l)) tt,
     )
-    by (inr le) = (
-      behind,
-      some_left (c.share t) (c.len c.first) (lost (omega (arith, behind, le))) (λ all. short (rule.common.counts t behind made ∙ all)),
-    )
+    by (inr le) =
+        let left = some_left (c.share t) (c.len c.first) (lost (omega (arith, behind, le))) (λ all. short (rule.common.counts t behind made ∙ all)) in
+        (behind, left.0, left.1, left.2)
 
 module _ {K V : Type 0} (same : K → K → Bool) (hash : K → ℕ) (setting : Setting) (lawful : IsLawful same (spot_of hash)) (bits : is_incremental setting.mode ≡ true)
     (w : World (Node K V)) (caller : ℕ) (c : Chart K) (blocks : Blocks) (map : IsMapIn same hash setting w c blocks) (m2 : Mem (Node K V)) where
@@ -154,9 +153,9 @@ module _ {K V : Type 0} (same : K → K → Bool) (hash : K → ℕ) (setting : 
 
       -- for a table that was there
       old : (t : ℕ) → t < c.past → t < c2.past → IsOpen d t ⊎ AnyEnds d t → IsOpen c2 t ⊎ AnyEnds c2 t
-      old t l made (inl (behind, j, within, open)) = inl
+      old t l made (inl (behind, j, within, uncounted)) = inl
           (open_where same hash c2 (rule c2 blocks2 r) t (subst (λ (n : ℕ). n < t) (sym (first_same (omega (arith, l)))) behind) made
-          (λ full. few (d.share t) (d.len d.first) j within open
+          (λ full. few (d.share t) (d.len d.first) j within uncounted
           (sym ((rule d blocks3 s).common.counts t behind (past_on d blocks3 s t l)) ∙ sym (copied_same t l) ∙ full ∙ len_same (omega (arith, l)))))
       old t l made (inr (k, u, p, is, of, ends)) = inr (k, u, p, is, of, ends_on (omega (arith, l)) t p p.stands ends)
 

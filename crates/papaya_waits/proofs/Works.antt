@@ -49,9 +49,9 @@ module _ {K V Q : Type 0} (same : K → K → Bool) (hash : K → ℕ) (asks : Q
   HasShare = (c.share (suc c.first) j ≡ Claimed k) ⊎ ((j < c.len c.first) × (c.share (suc c.first) j ≡ Done k))
 
   -- one that has no part in a copying has none
-  not_idle : (seen : Blocks) → IsIdle same hash w k (in_slot setting (slot k)) c seen → HasShare → ⊥
-  not_idle seen idle share = by (chosen {X = HasDone same hash w k (in_slot setting (slot k)) c seen 0 × ClaimsNone same hash w k (in_slot setting (slot k)) c seen}
-      {Y = HasNoShares same hash w k (in_slot setting (slot k)) c seen} (is_incremental setting.mode) mode idle) share
+  pub not_idle : (seen : Blocks) → IsIdle same hash w k (in_slot setting (slot k)) c seen → HasShare → ⊥
+  not_idle seen idle share = by (chosen (HasDone same hash w k (in_slot setting (slot k)) c seen 0 × ClaimsNone same hash w k (in_slot setting (slot k)) c seen)
+      (HasNoShares same hash w k (in_slot setting (slot k)) c seen) (is_incremental setting.mode) mode idle) share
     where
       by : HasDone same hash w k (in_slot setting (slot k)) c seen 0 × ClaimsNone same hash w k (in_slot setting (slot k)) c seen → HasShare → ⊥
       by part (inl claimed) = part.1 j claimed

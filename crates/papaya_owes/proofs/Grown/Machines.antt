@@ -1,6 +1,6 @@
 -- What a machine is to be refused for, whichever it is: as it begins, by what it is told, and by a step by which no block is refused.
 use Rattle.std.specs.Prelude.{◌≡◌, ℕ, Bool, true, false}
-use Rattle.std.proofs.Common.{sym, ap, subst}
+use Rattle.std.proofs.Common.{sym, subst}
 use Rattle.papaya_moments.specs.Given.SeizeWords.Mem.{Mem}
 use Rattle.papaya_moments.specs.Given.SeizeWords.declared.fault.Fault.{Fault}
 use Rattle.papaya_moments.specs.Given.SeizeWords.declared.fault.Fault.TheVariants.{Capacity, RemoveNothing}
@@ -86,12 +86,20 @@ module _ (Is : Fault → Type 0) {K V : Type 0} where
   sweep_says (c, swept.Done) so = (so.0, tt)
   sweep_says (c, swept.Refused fault) so = so
 
-  sum_says : (end : Sum × CountTold ℕ) → CountsOn end → MachineFor (of_sum end)
-  sum_says (sum, counting.Goes) on = (tt, tt)
-  sum_says (sum, counting.Waits) on = (tt, tt)
-  sum_says (sum, counting.Done count) on = (tt, tt)
-  sum_says (sum, counting.Refused fault) on = absurd on
+-- a counting is refused for nothing, and one over all pairs that is told what it asks
+module _ (Is : Fault → Type 0) where
+  sum_says : (K V : Type 0) (end : Sum × CountTold ℕ) → CountsOn end → MachineFor Is {K = K} {V = V} (of_sum end)
+  sum_says K V (sum, counting.Goes) on = (tt, tt)
+  sum_says K V (sum, counting.Waits) on = (tt, tt)
+  sum_says K V (sum, counting.Done count) on = (tt, tt)
+  sum_says K V (sum, counting.Refused fault) on = absurd on
 
+  sweep_told_so : {V : Type 0} (q : Sweeping) (c : Sweep) (told : MachineReply V) → SoInSweeping Is c.stands → SoInSweeping Is (sweep_told q c told).0.stands
+  sweep_told_so (sweeping.Asks word) c reply.Yes so = (told_so_on Is c so).1 true
+  sweep_told_so (sweeping.Asks word) c reply.No so = (told_so_on Is c so).1 false
+  sweep_told_so _ c told so = so
+
+module _ (Is : Fault → Type 0) {K V : Type 0} where
   -- a walk that is asked for its next pair
   pub asked_so : (y : Machine K V K) → SoInMachine Is y → SoInMachine Is (machine_asked y).0
   asked_so (kinds.Sweep c) so = (told_so_on Is c so).0
@@ -99,15 +107,10 @@ module _ (Is : Fault → Type 0) {K V : Type 0} where
   asked_so (kinds.Reserve r) so = so
   asked_so (kinds.Count sum) so = so
 
-  sweep_told_so : (q : Sweeping) (c : Sweep) (told : MachineReply V) → SoInSweeping Is c.stands → SoInSweeping Is (sweep_told q c told).0.stands
-  sweep_told_so (sweeping.Asks word) c reply.Yes so = (told_so_on Is c so).1 true
-  sweep_told_so (sweeping.Asks word) c reply.No so = (told_so_on Is c so).1 false
-  sweep_told_so _ c told so = so
-
   -- and one that is told what it asks
   pub replied_so : Is Capacity → Is RemoveNothing → (y : Machine K V K) (told : MachineReply V) → SoInMachine Is y → SoInMachine Is (machine_replied y told).0
   replied_so long nothing (kinds.Key p) told so = key_told_so Is long nothing p so told
-  replied_so long nothing (kinds.Sweep c) told so = sweep_told_so c.stands c told so
+  replied_so long nothing (kinds.Sweep c) told so = sweep_told_so Is c.stands c told so
   replied_so long nothing (kinds.Reserve r) told so = so
   replied_so long nothing (kinds.Count sum) told so = so
 
@@ -133,16 +136,16 @@ module _ (Is : Fault → Type 0) {K V : Type 0} where
   -- a step by which no block is refused
   module _ (long : Is Capacity) (m m2 : Mem (Node K V)) (told : Changed) (unrefused : (k : Kind) → told ≡ changed.Unmade k → ⊥) (asks : K → K → Bool) (same : K → K → Bool) (hash : K → ℕ)
       (machine : Machine K V K) (said : Progress (Node K V)) where
-    pub machine_so : (before : Machine K V K) → SoInMachine Is before → Step m m2 told (machine_plan asks same hash before) (machine, said) → SoInMachine Is machine × SaysSo said
+    pub machine_so : (before : Machine K V K) → SoInMachine Is before → Step m m2 told (machine_plan asks same hash before) (machine, said) → SoInMachine Is machine × SaysSo Is said
     machine_so (kinds.Key p) so s =
         let it = told_in m m2 told of_key (call_plan asks same hash p) (machine, said) s in
-        subst MachineFor (sym it.1) (key_says it.0 (key_so Is long m m2 told unrefused asks same hash p so it.0 it.2))
+        subst (MachineFor Is) (sym it.1) (key_says Is it.0 (key_so Is long m m2 told unrefused asks same hash p so it.0 it.2))
     machine_so (kinds.Reserve r) so s =
         let it = told_in m m2 told of_room (reserve_plan hash r) (machine, said) s in
-        subst MachineFor (sym it.1) (room_says it.0 (reserve_so Is long m m2 told unrefused hash r so it.0 it.2))
+        subst (MachineFor Is) (sym it.1) (room_says Is it.0 (reserve_so Is long m m2 told unrefused hash r so it.0 it.2))
     machine_so (kinds.Sweep c) so s =
         let it = told_in m m2 told of_sweep (sweep_plan hash c) (machine, said) s in
-        subst MachineFor (sym it.1) (sweep_says it.0 (sweep_so Is long m m2 told unrefused hash c so it.0 it.2))
+        subst (MachineFor Is) (sym it.1) (sweep_says Is it.0 (sweep_so Is long m m2 told unrefused hash c so it.0 it.2))
     machine_so (kinds.Count sum) so s =
         let it = told_in m m2 told of_sum (sum_plan sum) (machine, said) s in
-        subst MachineFor (sym it.1) (sum_says it.0 (so_always Is long m m2 told unrefused CountsOn (sum_plan sum) it.0 (sum_counts (Node K V) sum) it.2))
+        subst (MachineFor Is) (sym it.1) (sum_says Is K V it.0 (so_always Is long m m2 told unrefused CountsOn (sum_plan sum) it.0 (sum_counts (Node K V) sum) it.2))

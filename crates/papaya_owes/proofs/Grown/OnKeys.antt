@@ -49,7 +49,6 @@ use Rattle.papaya_moments.specs.Given.Raw.declared.machines.answer.Missing.{Miss
 use Rattle.papaya_moments.specs.Given.Raw.declared.machines.answer.Missing.TheVariants as missing
 use Rattle.papaya_moments.specs.Given.Raw.declared.machines.answer.There.{There}
 use Rattle.papaya_moments.specs.Given.Raw.declared.machines.answer.There.TheVariants as there
-use Rattle.papaya_moments.specs.Given.Raw.declared.machines.asking.Asking.{Asking}
 use Rattle.papaya_moments.specs.Given.Raw.declared.machines.asking.Asking.TheVariants as asking
 use Rattle.papaya_moments.specs.Given.Raw.declared.machines.asking.Gap.{Gap}
 use Rattle.papaya_moments.specs.Given.Raw.declared.machines.asking.Gap.TheVariants as gaps

@@ -1,5 +1,5 @@
 -- A step by which no block is refused: what the making and the copying of a table, a reservation and a sweep are to be refused for stays of one kind, which need not be want of memory.
-use Rattle.std.specs.Prelude.{◌≡◌, ℕ, Err}
+use Rattle.std.specs.Prelude.{◌≡◌, ℕ, ◌+◌, ◌%◌, ◌^◌, Err}
 use Rattle.std.proofs.Common.{ap, sym, subst, ◌∙◌}
 use Rattle.papaya_moments.specs.Given.SeizeWords.Mem.{Mem, value_at}
 use Rattle.papaya_moments.specs.Given.SeizeWords.Op.{Out, Make, Made}
@@ -12,6 +12,7 @@ use Rattle.papaya_moments.specs.Given.Tables.Nodes.{deferred_word}
 use Rattle.papaya_moments.specs.Given.Tables.declared.node.Node.{Node}
 use Rattle.papaya_moments.specs.Given.Tables.declared.node.Node.TheVariants as node
 use Rattle.papaya_moments.specs.Given.Tables.declared.table.Table.{Table}
+use Rattle.papaya_moments.specs.Given.Tables.declared.table_words.TheConstants.{PLACES}
 use Rattle.papaya_moments.specs.Given.Resize.Copier.{copier_plan}
 use Rattle.papaya_moments.specs.Given.Resize.Copier as copiers
 use Rattle.papaya_moments.specs.Given.Resize.CopierFurther.{grown, remade}
@@ -75,8 +76,8 @@ module _ (Is : Fault → Type 0) (long : Is Capacity) {K V : Type 0} (m m2 : Mem
           subst (MakesFor Is) (sym it.1) (counted_so Is long n before reason it.0 (so_always CountsOn (sum_plan sum) it.0 (sum_counts (Node K V) sum) it.2))
       by (making.Makes table) so s =
           always_ends (MakesFor Is) (value_at m2) (tables.made n table s.0) end
-          (made_so Is long n here table s.0 (λ value refused. absurd (was_made (node.Table table.len table.limit table.turn) _ s.0 s.1.1 value refused))) s.2
-      by stage so s = so_always (MakesFor Is) (tables.plan_at n stage) end (plain_so Is long n here stage tt so) s
+          (made_so Is long n here table s.0 (λ value refused. absurd (was_made (node.Table table.len table.limit table.turn) ((table.len + PLACES) % 2 ^ 64) s.0 s.1.1 value refused))) s.2
+      by stage so s = so_always (MakesFor Is) (tables.plan_at n stage) end (plain_so Is long n K V here stage tt so) s
 
   -- of its copying
   module _ (hash : K → ℕ) (p : Copier) (here : SoInCopying Is p.stands) where

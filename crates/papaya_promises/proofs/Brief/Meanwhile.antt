@@ -91,7 +91,7 @@ module _ {K V : Type 0} where
   if_steps change kept c false = refl
 
   -- each call is found after effects, with its steps
-  effects_steps : (own : List ℕ) (acted : ℕ) (name : List ℕ) (effects : List Effect) (m : Moment K V) (c : CallThere K V) → call_of name m ≡ Some c
+  pub effects_steps : (own : List ℕ) (acted : ℕ) (name : List ℕ) (effects : List Effect) (m : Moment K V) (c : CallThere K V) → call_of name m ≡ Some c
       → (d : CallThere K V) × (call_of name (with_effects (Some own) (Some acted) effects m) ≡ Some d) × (d.steps ≡ c.steps) × (d.call ≡ c.call)
   effects_steps own acted name [] m c is = (c, is, refl, refl)
   effects_steps own acted name (f ∷ effects) m c is =

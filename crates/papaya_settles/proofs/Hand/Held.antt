@@ -42,9 +42,9 @@ use Rattle.papaya_histories.specs.Given.Late.FactsReserves.{CopiesWhole, IsEndin
 use Rattle.papaya_histories.specs.Given.Late.FactsSweeps.{CopiesTable, SweepingFacts}
 use Rattle.papaya_histories.specs.Given.Late.ToldReserves.{IsRowOfReserve}
 use Rattle.papaya_histories.specs.Given.Late.ToldSweeps.{IsRowOfSweep}
-use Rattle.papaya_histories.specs.Given.Callers.OverAll.{row_of_sweep, past_sweeping}
+use Rattle.papaya_histories.specs.Given.Callers.OverAll.{row_of_sweep, past_sweeping, sweep_once_over}
 use Rattle.papaya_histories.specs.Given.Callers.Rooms.{row_of_room, past_room}
-use Rattle.papaya_histories.specs.Given.Callers.Rows.{row_of_disposal, row_of_copier, row_of, past_copying, past_row}
+use Rattle.papaya_histories.specs.Given.Callers.Rows.{row_of_disposal, row_of_copier, row_of, past_copying, past_row, once_over}
 use Rattle.papaya_histories.specs.Given.Callers.Together.{UnderWay, OnKey, ForRoom, Counting, OverAll, Stands, in_slot}
 use Rattle.papaya_histories.specs.Given.Executor.IsAt.{slot_of}
 use Rattle.papaya_histories.specs.Given.Finishes.Machines.{machine_of}
@@ -129,7 +129,7 @@ module _ {K V : Type 0} (w : World (Node K V)) (i : ℕ) where
     fresh_held : (p : Copier) (stands : Copying) → CopyingFacts same hash w i setting c blocks p stands → HoldsTables Held p stands
     fresh_held p copying.Announces ((s, before, source, target, cut), done, none) = λ some. held_cut (blocks.table s) p.source.link cut (ap (λ (x : Table). x.link) source.is)
     fresh_held p (copying.Succeeds table) ((s, before, source, target, cut), done, none, is) = λ some. held_cut (blocks.table s) table cut (is ∙ ap (λ (x : Table). x.link) source.is)
-    fresh_held p (copying.Retires settle rest) (s, before, (is, cut), none, further) =
+    fresh_held p (copying.Retires settle rest) (s, before, (is, cut), none, has_done, claims, there) =
         (settle_held settle setting.slot setting.batch_size (blocks.table s) is cut, λ some. absurd (some none))
     fresh_held p _ facts = tt
 
@@ -219,7 +219,7 @@ module _ {K V : Type 0} (w : World (Node K V)) (i : ℕ) where
         by false = held
 
     key_held : (keys : K → Bool) (change : Change) (x : KeyCall K V K) (p : Calling) → CallingFacts same hash same w i setting c blocks keys change x p → HoldsOfCall Held Held p
-    key_held keys change x (calling.Counts removed) (inl (none, more)) = subst (λ (n : ℕ). HoldsAt Held (pair_in_calling (calling.Counts n))) (sym none) tt
+    key_held keys change x (calling.Counts removed) (inl facts) = subst (λ (n : ℕ). HoldsAt Held (pair_in_calling (calling.Counts n))) (sym facts.0) tt
     key_held keys change x (calling.Counts removed) (inr (n, t, borrowed, changed, left, is, table, hand)) =
         counted removed (held_pair n removed (out_of (cond (is_incremental setting.mode) borrowed false) n _ _ hand) (ap block_in is ∙ few n Still borrowed))
     key_held keys change x (calling.Disposes dispose answer) facts = disposed_held dispose facts.0
@@ -292,8 +292,8 @@ module _ {K V : Type 0} (same : K → K → Bool) (hash : K → ℕ) (setting : 
     | inr late ↦ late_key_held w i same hash its c blocks few x.keys x.began x.call x.call.stands late.1.point
   ]
   held_in_hand (OnKey x) (inr (row, is_row, knows)) = elim knows.facts as (λ _. HoldsOfCall (Held w i) (Held w i) x.call.stands) [
-    | inl facts ↦ key_row w i same hash its c blocks few (slot_of i) x.keys x.change _ x.call.stands is_row row facts.point
-    | inr late ↦ late_key_row w i same hash its c blocks few (slot_of i) x.keys x.began _ x.call.stands is_row row late.1.point
+    | inl facts ↦ key_row w i same hash its c blocks few (slot_of i) x.keys x.change (once_over x.call) x.call.stands is_row row facts.point
+    | inr late ↦ late_key_row w i same hash its c blocks few (slot_of i) x.keys x.began (once_over x.call) x.call.stands is_row row late.1.point
   ]
   held_in_hand (ForRoom r) (inl (rests, knows)) = elim knows.facts as (λ _. HoldsOfRoom (Held w i) (Held w i) r.reserve.stands) [
     | inl facts ↦ room_held w i same hash its c blocks few r.reserve.stands facts.point
@@ -305,4 +305,4 @@ module _ {K V : Type 0} (same : K → K → Bool) (hash : K → ℕ) (setting : 
   ]
   held_in_hand (Counting sum) stands = tt
   held_in_hand (OverAll o) (inl (rests, knows)) = sweep_held w i same hash its c blocks few o.began o.sweep o.sweep.stands knows.facts.point
-  held_in_hand (OverAll o) (inr (row, is_row, knows)) = sweep_row w i same hash its c blocks few (slot_of i) o.began _ o.sweep.stands is_row row knows.facts.point
+  held_in_hand (OverAll o) (inr (row, is_row, knows)) = sweep_row w i same hash its c blocks few (slot_of i) o.began (sweep_once_over o.sweep) o.sweep.stands is_row row knows.facts.point

@@ -119,6 +119,12 @@ module _ (T : Type 0) where
       by (sums.Adds shard total) = word_read shard total
       by (sums.Over count) = tt
 
+-- it neither counts nor makes its block
+abbrev pub IsPlain : Making → Type 0
+IsPlain (makes.Sums before r sum) = ⊥
+IsPlain (makes.Makes table) = ⊥
+IsPlain _ = Unit {0}
+
 module _ (Is : Fault → Type 0) where
   -- each step leads to a point that is so, and a refusal is so
   abbrev pub MakesFor : NewTable × Progress Table → Type 0
@@ -159,17 +165,13 @@ module _ (Is : Fault → Type 0) where
       linked_so table (Taken value) = here
       linked_so table (Roomed r) = here
 
-      -- it neither counts nor makes its block
-      abbrev pub IsPlain : Making → Type 0
-      IsPlain (makes.Sums before r sum) = ⊥
-      IsPlain (makes.Makes table) = ⊥
-      IsPlain _ = Unit {0}
-
+    -- each step of its own leads to a point that is so, and a refusal is so
+    module _ (K V : Type 0) (here : SoInMaking Is n.stands) where
       pub plain_so : (stage : Making) → IsPlain stage → SoInMaking Is stage → AlwaysOf MakesFor (plan_at {K = K} {V = V} n stage)
       plain_so (makes.Sums before r sum) plain so = absurd plain
       plain_so (makes.Makes table) plain so = absurd plain
       plain_so (makes.Promotes table) plain so = λ out. tt
-      plain_so (makes.Links table) plain so = linked_so table
+      plain_so (makes.Links table) plain so = linked_so here table
       plain_so (makes.Drops table found) plain so = λ out value. tt
       plain_so (makes.Over table) plain so = here
       plain_so (makes.Refused fault) plain so = (here, so)
@@ -186,8 +188,8 @@ module _ {K V : Type 0} (n : NewTable) (here : RoomInMaking n.stands) where
           let d = steps_back (counted n before r) m m2 (sum_plan sum) end s in
           subst MakesRoom (sym d.2) (counted_so IsRoom (inr refl) n before r d.0 (always_steps CountsOn m m2 (sum_plan sum) d.0 (sum_counts (Node K V) sum) d.1))
       by (makes.Makes table) room s = always_steps MakesRoom m m2 (plan_at n (makes.Makes table)) end (λ out. made_so IsRoom (inr refl) n here table out (λ value is. inl refl)) s
-      by (makes.Promotes table) room s = always_steps MakesRoom m m2 (plan_at n (makes.Promotes table)) end (plain_so IsRoom (inr refl) n here (makes.Promotes table) tt room) s
-      by (makes.Links table) room s = always_steps MakesRoom m m2 (plan_at n (makes.Links table)) end (plain_so IsRoom (inr refl) n here (makes.Links table) tt room) s
-      by (makes.Drops table found) room s = always_steps MakesRoom m m2 (plan_at n (makes.Drops table found)) end (plain_so IsRoom (inr refl) n here (makes.Drops table found) tt room) s
-      by (makes.Over table) room s = always_steps MakesRoom m m2 (plan_at n (makes.Over table)) end (plain_so IsRoom (inr refl) n here (makes.Over table) tt room) s
-      by (makes.Refused fault) room s = always_steps MakesRoom m m2 (plan_at n (makes.Refused fault)) end (plain_so IsRoom (inr refl) n here (makes.Refused fault) tt room) s
+      by (makes.Promotes table) room s = always_steps MakesRoom m m2 (plan_at n (makes.Promotes table)) end (plain_so IsRoom (inr refl) n K V here (makes.Promotes table) tt room) s
+      by (makes.Links table) room s = always_steps MakesRoom m m2 (plan_at n (makes.Links table)) end (plain_so IsRoom (inr refl) n K V here (makes.Links table) tt room) s
+      by (makes.Drops table found) room s = always_steps MakesRoom m m2 (plan_at n (makes.Drops table found)) end (plain_so IsRoom (inr refl) n K V here (makes.Drops table found) tt room) s
+      by (makes.Over table) room s = always_steps MakesRoom m m2 (plan_at n (makes.Over table)) end (plain_so IsRoom (inr refl) n K V here (makes.Over table) tt room) s
+      by (makes.Refused fault) room s = always_steps MakesRoom m m2 (plan_at n (makes.Refused fault)) end (plain_so IsRoom (inr refl) n K V here (makes.Refused fault) tt room) s

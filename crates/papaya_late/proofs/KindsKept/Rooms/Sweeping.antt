@@ -62,7 +62,7 @@ module _ (Is : Fault → Type 0) where
 
   module _ (K V : Type 0) (hash : K → ℕ) (c : Sweep) where
     abbrev Rooms : Sweep × Swept (Node K V) → Type 0
-    Rooms end = SweepsFor Is end
+    Rooms end = SweepsFor end
 
     told_so : (stands : Sweeping) → SoInSweeping Is stands → SweepRefusesSo Is (told {T = Node K V} stands)
     told_so (at.Refused fault) room = room

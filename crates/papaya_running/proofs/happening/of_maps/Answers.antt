@@ -2,6 +2,7 @@
 use Rattle.std.proofs.Common.{refl}
 use Rattle.std.proofs.lemmas.Result.{IfOk-weaker}
 use Rattle.papaya_running.proofs.Forms.{some_map}
+use Rattle.papaya_running.proofs.Gives.{gave, gave_all, gave_none_if}
 use Rattle.papaya_running.proofs.Happened.{due_so, may_give, may_map, may_play, still_if}
 use Rattle.papaya_running.proofs.happening.of_maps.Goals as goal
 
@@ -13,7 +14,7 @@ make_map-requires g c =
 pub returns-in-MakeMap-clause-happens : goal.returns-in-MakeMap-clause-happens
 returns-in-MakeMap-clause-happens g c =
     still_if g.K.PartialEq.eq (g.S.Hashes.hash c.args.scheduler.now.logged.executor.hasher) c.args.event _ c.in-MakeMap.is c.args.scheduler.now c.args.is_first c.make_map.new.self refl c.make_map.result c.make_map.ensures.steps
-    (IfOk-weaker c.make_map.result _ _ (λ played all. let plays = all g.K.PartialEq.eq (g.S.Hashes.hash c.args.scheduler.now.logged.executor.hasher) in λ terms log first holds out asks. plays terms log (may_map g.K.PartialEq.eq (g.S.Hashes.hash c.args.scheduler.now.logged.executor.hasher) c.args.event _ c.in-MakeMap.is c.args.scheduler.now terms log holds out)) c.make_map.ensures.plays)
+    (IfOk-weaker c.make_map.result _ _ (λ played all. let plays = all g.K.PartialEq.eq (g.S.Hashes.hash c.args.scheduler.now.logged.executor.hasher) in λ terms log first holds out. plays terms log (may_map g.K.PartialEq.eq (g.S.Hashes.hash c.args.scheduler.now.logged.executor.hasher) c.args.event _ c.in-MakeMap.is c.args.scheduler.now terms log holds out)) c.make_map.ensures.plays)
 
 pub end_map-requires : goal.end_map-requires
 end_map-requires g c = (g.K.PartialEq.eq, g.S.Hashes.hash c.args.scheduler.now.logged.executor.hasher, may_play g.K.PartialEq.eq (g.S.Hashes.hash c.args.scheduler.now.logged.executor.hasher) c.args.event _ c.in-EndMap.is c.args.scheduler.now c.requires.due)
@@ -21,7 +22,7 @@ end_map-requires g c = (g.K.PartialEq.eq, g.S.Hashes.hash c.args.scheduler.now.l
 pub returns-in-EndMap-clause-happens : goal.returns-in-EndMap-clause-happens
 returns-in-EndMap-clause-happens g c =
     still_if g.K.PartialEq.eq (g.S.Hashes.hash c.args.scheduler.now.logged.executor.hasher) c.args.event _ c.in-EndMap.is c.args.scheduler.now c.args.is_first c.end_map.new.self refl c.end_map.result c.end_map.ensures.steps
-    (IfOk-weaker c.end_map.result _ _ (λ played all. let plays = all g.K.PartialEq.eq (g.S.Hashes.hash c.args.scheduler.now.logged.executor.hasher) in λ terms log first holds out asks. plays terms log (due_so g.K.PartialEq.eq (g.S.Hashes.hash c.args.scheduler.now.logged.executor.hasher) c.args.event _ c.in-EndMap.is c.args.scheduler.now terms log holds out) holds.counts.apart) c.end_map.ensures.plays)
+    (IfOk-weaker c.end_map.result _ _ (λ played all. let plays = all g.K.PartialEq.eq (g.S.Hashes.hash c.args.scheduler.now.logged.executor.hasher) in λ terms log first holds out. plays terms log (due_so g.K.PartialEq.eq (g.S.Hashes.hash c.args.scheduler.now.logged.executor.hasher) c.args.event _ c.in-EndMap.is c.args.scheduler.now terms log holds out) holds.counts.apart) c.end_map.ensures.plays)
 
 pub show_shape-requires : goal.show_shape-requires
 show_shape-requires g c = (g.K.PartialEq.eq, g.S.Hashes.hash c.args.scheduler.now.logged.executor.hasher, may_play g.K.PartialEq.eq (g.S.Hashes.hash c.args.scheduler.now.logged.executor.hasher) c.args.event _ c.in-ShowShape.is c.args.scheduler.now c.requires.due)
@@ -29,7 +30,7 @@ show_shape-requires g c = (g.K.PartialEq.eq, g.S.Hashes.hash c.args.scheduler.no
 pub returns-in-ShowShape-clause-happens : goal.returns-in-ShowShape-clause-happens
 returns-in-ShowShape-clause-happens g c =
     still_if g.K.PartialEq.eq (g.S.Hashes.hash c.args.scheduler.now.logged.executor.hasher) c.args.event _ c.in-ShowShape.is c.args.scheduler.now c.args.is_first c.args.scheduler.now refl c.show_shape.result c.show_shape.ensures.steps
-    (IfOk-weaker c.show_shape.result _ _ (λ played all. let plays = all g.K.PartialEq.eq (g.S.Hashes.hash c.args.scheduler.now.logged.executor.hasher) in λ terms log first holds out asks. plays terms log (due_so g.K.PartialEq.eq (g.S.Hashes.hash c.args.scheduler.now.logged.executor.hasher) c.args.event _ c.in-ShowShape.is c.args.scheduler.now terms log holds out)) c.show_shape.ensures.plays)
+    (IfOk-weaker c.show_shape.result _ _ (λ played all. let plays = all g.K.PartialEq.eq (g.S.Hashes.hash c.args.scheduler.now.logged.executor.hasher) in λ terms log first holds out. plays terms log (due_so g.K.PartialEq.eq (g.S.Hashes.hash c.args.scheduler.now.logged.executor.hasher) c.args.event _ c.in-ShowShape.is c.args.scheduler.now terms log holds out)) c.show_shape.ensures.plays)
 
 pub reclaim_all-requires : goal.reclaim_all-requires
 reclaim_all-requires g c = (g.K.PartialEq.eq, g.S.Hashes.hash c.args.scheduler.now.logged.executor.hasher, may_give g.K.PartialEq.eq (g.S.Hashes.hash c.args.scheduler.now.logged.executor.hasher) c.args.event _ c.in-ReclaimAll.is c.args.scheduler.now c.requires.due)
@@ -37,7 +38,7 @@ reclaim_all-requires g c = (g.K.PartialEq.eq, g.S.Hashes.hash c.args.scheduler.n
 pub returns-in-ReclaimAll-clause-happens : goal.returns-in-ReclaimAll-clause-happens
 returns-in-ReclaimAll-clause-happens g c =
     still_if g.K.PartialEq.eq (g.S.Hashes.hash c.args.scheduler.now.logged.executor.hasher) c.args.event _ c.in-ReclaimAll.is c.args.scheduler.now c.args.is_first c.reclaim_all.new.self refl c.reclaim_all.result c.reclaim_all.ensures.steps
-    (IfOk-weaker c.reclaim_all.result _ _ (λ played all. let plays = all g.K.PartialEq.eq (g.S.Hashes.hash c.args.scheduler.now.logged.executor.hasher) in λ terms log first holds out asks. plays terms log (due_so g.K.PartialEq.eq (g.S.Hashes.hash c.args.scheduler.now.logged.executor.hasher) c.args.event _ c.in-ReclaimAll.is c.args.scheduler.now terms log holds out) holds.gives asks) c.reclaim_all.ensures.plays)
+    (IfOk-weaker c.reclaim_all.result _ _ (λ played all. let plays = all g.K.PartialEq.eq (g.S.Hashes.hash c.args.scheduler.now.logged.executor.hasher) in λ terms log first holds out. plays terms log (due_so g.K.PartialEq.eq (g.S.Hashes.hash c.args.scheduler.now.logged.executor.hasher) c.args.event _ c.in-ReclaimAll.is c.args.scheduler.now terms log holds out) holds.gives) c.reclaim_all.ensures.plays)
 
 pub close-requires : goal.close-requires
 close-requires g c = (g.K.PartialEq.eq, g.S.Hashes.hash c.args.scheduler.now.logged.executor.hasher, may_give g.K.PartialEq.eq (g.S.Hashes.hash c.args.scheduler.now.logged.executor.hasher) c.args.event _ c.in-Close.is c.args.scheduler.now c.requires.due)
@@ -45,7 +46,22 @@ close-requires g c = (g.K.PartialEq.eq, g.S.Hashes.hash c.args.scheduler.now.log
 pub returns-in-Close-clause-happens : goal.returns-in-Close-clause-happens
 returns-in-Close-clause-happens g c =
     still_if g.K.PartialEq.eq (g.S.Hashes.hash c.args.scheduler.now.logged.executor.hasher) c.args.event _ c.in-Close.is c.args.scheduler.now c.args.is_first c.close.new.self refl c.close.result c.close.ensures.steps
-    (IfOk-weaker c.close.result _ _ (λ played all. let plays = all g.K.PartialEq.eq (g.S.Hashes.hash c.args.scheduler.now.logged.executor.hasher) in λ terms log first holds out asks. plays terms log (due_so g.K.PartialEq.eq (g.S.Hashes.hash c.args.scheduler.now.logged.executor.hasher) c.args.event _ c.in-Close.is c.args.scheduler.now terms log holds out) holds.gives asks) c.close.ensures.plays)
+    (IfOk-weaker c.close.result _ _ (λ played all. let plays = all g.K.PartialEq.eq (g.S.Hashes.hash c.args.scheduler.now.logged.executor.hasher) in λ terms log first holds out. plays terms log (due_so g.K.PartialEq.eq (g.S.Hashes.hash c.args.scheduler.now.logged.executor.hasher) c.args.event _ c.in-Close.is c.args.scheduler.now terms log holds out) holds.gives) c.close.ensures.plays)
 
 pub unreachable-requires : goal.unreachable-requires
 unreachable-requires g c = let d = c.in_default in some_map c.args.event c.requires.maps d.not-MakeMap d.not-EndMap d.not-ShowShape d.not-ReclaimAll d.not-Close
+
+pub returns-in-MakeMap-clause-back : goal.returns-in-MakeMap-clause-back
+returns-in-MakeMap-clause-back g c = gave_none_if g.K.PartialEq.eq (g.S.Hashes.hash c.args.scheduler.now.logged.executor.hasher) c.args.event _ c.in-MakeMap.is c.args.scheduler.now (λ did none. none) c.make_map.result c.args.back.now.items
+
+pub returns-in-EndMap-clause-back : goal.returns-in-EndMap-clause-back
+returns-in-EndMap-clause-back g c = gave g.K.PartialEq.eq (g.S.Hashes.hash c.args.scheduler.now.logged.executor.hasher) c.args.event _ c.in-EndMap.is c.args.scheduler.now c.end_map.result c.args.back.now.items c.end_map.new.back.items c.end_map.ensures.back
+
+pub returns-in-ShowShape-clause-back : goal.returns-in-ShowShape-clause-back
+returns-in-ShowShape-clause-back g c = gave_none_if g.K.PartialEq.eq (g.S.Hashes.hash c.args.scheduler.now.logged.executor.hasher) c.args.event _ c.in-ShowShape.is c.args.scheduler.now (λ did none. none) c.show_shape.result c.args.back.now.items
+
+pub returns-in-ReclaimAll-clause-back : goal.returns-in-ReclaimAll-clause-back
+returns-in-ReclaimAll-clause-back g c = gave_all g.K.PartialEq.eq (g.S.Hashes.hash c.args.scheduler.now.logged.executor.hasher) c.args.event _ c.in-ReclaimAll.is c.args.scheduler.now c.reclaim_all.result c.args.back.now.items c.reclaim_all.new.back.items c.reclaim_all.ensures.back
+
+pub returns-in-Close-clause-back : goal.returns-in-Close-clause-back
+returns-in-Close-clause-back g c = gave_all g.K.PartialEq.eq (g.S.Hashes.hash c.args.scheduler.now.logged.executor.hasher) c.args.event _ c.in-Close.is c.args.scheduler.now c.close.result c.args.back.now.items c.close.new.back.items c.close.ensures.back

@@ -1,6 +1,7 @@
 -- A call takes steps while it goes on.
 use Rattle.std.proofs.Common.{◌+◌, suc, refl, sym, ap, subst, ◌∙◌, arith}
 use Rattle.std.proofs.lemmas.List.{append-nil}
+use Rattle.papaya_logged.proofs.KeptGiven.{given_on}
 use Rattle.papaya_stepping.specs.Stepping.{IsStepped, MayStep}
 use Rattle.papaya_stepping.proofs.ComesOn.{midst_first}
 use Rattle.papaya_stepping.proofs.StepsOn.{goes_further, may_step, stops_at, takes_all}
@@ -10,7 +11,7 @@ pub loop-steps-init : goal.loop-steps-init
 loop-steps-init g c = (
   0,
   refl,
-  refl,
+  (refl, refl, refl, refl),
   λ terms m own stands at. midst_first g.K.PartialEq.eq (g.S.Hashes.hash c.args.scheduler.now.logged.executor.hasher) terms own c.args.place m c.args.scheduler.now stands at c.args.effects.now.items
       (sym (append-nil c.args.effects.now.items)),
   0,
@@ -22,15 +23,15 @@ pub take_step-requires : goal.take_step-requires
 take_step-requires g c =
     let r = c.requires.goes in
     let i = c.loop-steps.invariant in
-    subst (λ h. MayStep g.K.PartialEq.eq (g.S.Hashes.hash h) c.args.place c.loop-steps.scheduler) (sym i.2)
+    subst (λ h. MayStep g.K.PartialEq.eq (g.S.Hashes.hash h) c.args.place c.loop-steps.scheduler) (sym i.2.0)
     (may_step g.K.PartialEq.eq (g.S.Hashes.hash c.args.scheduler.now.logged.executor.hasher) c.args.place c.args.scheduler.now c.args.effects.now.items r.0 r.1 r.2 r.3 r.4 i.0 c.loop-steps.effects.items c.loop-steps.scheduler i.3)
 
-pub returns-then-not-goes_on : goal.returns-then-not-goes_on
-returns-then-not-goes_on g c =
+pub returns-then-not-goes_on-clause-comes : goal.returns-then-not-goes_on-clause-comes
+returns-then-not-goes_on-clause-comes g c =
     let i = c.loop-steps.invariant in
     stops_at g.K.PartialEq.eq (g.S.Hashes.hash c.args.scheduler.now.logged.executor.hasher) c.args.place c.args.scheduler.now c.args.effects.now.items i.0 c.loop-steps.effects.items c.take_step.new.effects.items
     c.loop-steps.scheduler c.take_step.new.scheduler c.in_ok-outcome.outcome i.3
-    (subst (λ h. IsStepped g.K.PartialEq.eq (g.S.Hashes.hash h) c.args.place c.in_ok-outcome.outcome c.loop-steps.effects.items c.take_step.new.effects.items c.loop-steps.scheduler c.take_step.new.scheduler) i.2
+    (subst (λ h. IsStepped g.K.PartialEq.eq (g.S.Hashes.hash h) c.args.place c.in_ok-outcome.outcome c.loop-steps.effects.items c.take_step.new.effects.items c.loop-steps.scheduler c.take_step.new.scheduler) i.2.0
     c.in_ok-outcome.ensures.stepped)
     c.args.most c.loop-steps.steps i.1 c.loop-steps-test.true (sym c.goes_on.ensures ∙ c.if-not-goes_on.true) i.4 i.5 i.6
 
@@ -39,10 +40,10 @@ loop-steps-preserved g c =
     let i = c.loop-steps.invariant in (
       i.0 + 1,
       ap (λ k. k + 1) i.1,
-      c.take_step.ensures.hasher ∙ i.2,
+      given_on c.args.scheduler.now.logged.executor c.loop-steps.scheduler.logged.executor c.take_step.new.scheduler.logged.executor i.2 c.take_step.ensures.given,
       (goes_further g.K.PartialEq.eq (g.S.Hashes.hash c.args.scheduler.now.logged.executor.hasher) c.args.place c.args.scheduler.now c.args.effects.now.items i.0 c.loop-steps.effects.items c.take_step.new.effects.items
           c.loop-steps.scheduler c.take_step.new.scheduler c.in_ok-outcome.outcome i.3
-          (subst (λ h. IsStepped g.K.PartialEq.eq (g.S.Hashes.hash h) c.args.place c.in_ok-outcome.outcome c.loop-steps.effects.items c.take_step.new.effects.items c.loop-steps.scheduler c.take_step.new.scheduler) i.2
+          (subst (λ h. IsStepped g.K.PartialEq.eq (g.S.Hashes.hash h) c.args.place c.in_ok-outcome.outcome c.loop-steps.effects.items c.take_step.new.effects.items c.loop-steps.scheduler c.take_step.new.scheduler) i.2.0
           c.in_ok-outcome.ensures.stepped)
           (sym c.goes_on.ensures ∙ c.if-not-goes_on.false)),
       suc i.4,
@@ -53,7 +54,7 @@ loop-steps-preserved g c =
         c.in_ok-outcome.outcome,
         i.6,
         sym c.goes_on.ensures ∙ c.if-not-goes_on.false,
-        subst (λ h. IsStepped g.K.PartialEq.eq (g.S.Hashes.hash h) c.args.place c.in_ok-outcome.outcome c.loop-steps.effects.items c.take_step.new.effects.items c.loop-steps.scheduler c.take_step.new.scheduler) i.2
+        subst (λ h. IsStepped g.K.PartialEq.eq (g.S.Hashes.hash h) c.args.place c.in_ok-outcome.outcome c.loop-steps.effects.items c.take_step.new.effects.items c.loop-steps.scheduler c.take_step.new.scheduler) i.2.0
             c.in_ok-outcome.ensures.stepped,
       ),
     )
@@ -62,17 +63,29 @@ pub take_step-requires-2 : goal.take_step-requires-2
 take_step-requires-2 g c =
     let r = c.requires.goes in
     let i = c.loop-steps.invariant in
-    subst (λ h. MayStep g.K.PartialEq.eq (g.S.Hashes.hash h) c.args.place c.loop-steps.scheduler) (sym i.2)
+    subst (λ h. MayStep g.K.PartialEq.eq (g.S.Hashes.hash h) c.args.place c.loop-steps.scheduler) (sym i.2.0)
     (may_step g.K.PartialEq.eq (g.S.Hashes.hash c.args.scheduler.now.logged.executor.hasher) c.args.place c.args.scheduler.now c.args.effects.now.items r.0 r.1 r.2 r.3 r.4 i.0 c.loop-steps.effects.items c.loop-steps.scheduler i.3)
 
-pub returns : goal.returns
-returns g c =
+pub returns-clause-comes : goal.returns-clause-comes
+returns-clause-comes g c =
     let i = c.loop-steps.invariant in
     let ended = c.loop-steps-test.false in
     let few = c.loop-steps.auto.steps-end c.requires.some in
     let is = i.1 in
     takes_all g.K.PartialEq.eq (g.S.Hashes.hash c.args.scheduler.now.logged.executor.hasher) c.args.place c.args.scheduler.now c.args.effects.now.items i.0 c.loop-steps.effects.items c.take_step-2.new.effects.items
     c.loop-steps.scheduler c.take_step-2.new.scheduler c.in_ok-outcome-2.outcome i.3
-    (subst (λ h. IsStepped g.K.PartialEq.eq (g.S.Hashes.hash h) c.args.place c.in_ok-outcome-2.outcome c.loop-steps.effects.items c.take_step-2.new.effects.items c.loop-steps.scheduler c.take_step-2.new.scheduler) i.2
+    (subst (λ h. IsStepped g.K.PartialEq.eq (g.S.Hashes.hash h) c.args.place c.in_ok-outcome-2.outcome c.loop-steps.effects.items c.take_step-2.new.effects.items c.loop-steps.scheduler c.take_step-2.new.scheduler) i.2.0
     c.in_ok-outcome-2.ensures.stepped)
     c.args.most (omega (arith, ended, few, is)) i.4 (let kept = i.5 in omega (arith, ended, few, kept)) i.6
+
+pub returns-in_err-outcome-clause-given : goal.returns-in_err-outcome-clause-given
+returns-in_err-outcome-clause-given g c = given_on c.args.scheduler.now.logged.executor c.loop-steps.scheduler.logged.executor c.take_step.new.scheduler.logged.executor c.loop-steps.invariant.2 c.take_step.ensures.given
+
+pub returns-then-not-goes_on-clause-given : goal.returns-then-not-goes_on-clause-given
+returns-then-not-goes_on-clause-given g c = given_on c.args.scheduler.now.logged.executor c.loop-steps.scheduler.logged.executor c.take_step.new.scheduler.logged.executor c.loop-steps.invariant.2 c.take_step.ensures.given
+
+pub returns-in_err-outcome-2-clause-given : goal.returns-in_err-outcome-2-clause-given
+returns-in_err-outcome-2-clause-given g c = given_on c.args.scheduler.now.logged.executor c.loop-steps.scheduler.logged.executor c.take_step-2.new.scheduler.logged.executor c.loop-steps.invariant.2 c.take_step-2.ensures.given
+
+pub returns-clause-given : goal.returns-clause-given
+returns-clause-given g c = given_on c.args.scheduler.now.logged.executor c.loop-steps.scheduler.logged.executor c.take_step-2.new.scheduler.logged.executor c.loop-steps.invariant.2 c.take_step-2.ensures.given

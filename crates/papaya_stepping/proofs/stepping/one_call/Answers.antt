@@ -8,6 +8,7 @@ use Rattle.papaya_schedules.specs.Entry.{nameless}
 use Rattle.papaya_schedules.specs.Views.{number_of}
 use Rattle.papaya_schedules.specs.declared.event.Event.TheVariants.{OneCall}
 use Rattle.papaya_schedules.specs.declared.outcome.Outcome.TheVariants.{Refused}
+use Rattle.papaya_logged.proofs.KeptGiven.{given_on}
 use Rattle.papaya_scheduler.specs.Played.{BeginsSo}
 use Rattle.papaya_stepping.specs.Stepping.{PlaysOn, StandsAt, TakenAs}
 use Rattle.papaya_stepping.proofs.PlaysWhole.{goes_first, map_there, plays_begun, whole_busy}
@@ -35,6 +36,7 @@ returns-else-branch g c = record {
       (subst (λ own. BeginsSo g.K.PartialEq.eq hash terms m own c.args.guard c.args.map.now c.args.call c.in_ok-begins.field-0 c.args.scheduler.now c.begins.new.self) named
       (c.in_ok-begins.ensures.begins terms m stands)) in
       (false, c.begins.new.self, so, λ begun. absurd (cc begun));
+  given = c.begins.ensures.given;
 }
 
 pub take_steps-requires : goal.take_steps-requires
@@ -49,7 +51,7 @@ take_steps-requires g c =
     c.begins.new.self (begun.stands refl) in
     record {
       some = omega arith;
-      stands = subst (λ h. StandsAt g.K.PartialEq.eq (g.S.Hashes.hash h) 0 c.begins.new.self) (sym c.begins.ensures.hasher) (r.0, _, nameless, begun.stands refl, first.0);
+      stands = subst (λ h. StandsAt g.K.PartialEq.eq (g.S.Hashes.hash h) 0 c.begins.new.self) (sym c.begins.ensures.given.0) (r.0, _, nameless, begun.stands refl, first.0);
     }
 
 pub returns-then-branch : goal.returns-then-branch
@@ -62,7 +64,7 @@ returns-then-branch g c =
           (subst (λ own. BeginsSo g.K.PartialEq.eq hash terms (moment log) own c.args.guard c.args.map.now c.args.call c.in_ok-begins.field-0 c.args.scheduler.now c.begins.new.self) named
           (c.in_ok-begins.ensures.begins terms (moment log) due.played)) in
           plays_begun g.K.PartialEq.eq hash terms log c.args.guard c.args.map.now c.args.call c.args.scheduler.now c.begins.new.self due begun played c.take_steps.new.scheduler
-          (subst (λ h. TakenAs g.K.PartialEq.eq (g.S.Hashes.hash h) 0 most_steps played c.begins.new.self c.take_steps.new.scheduler) c.begins.ensures.hasher taken)) c.take_steps.ensures;
+          (subst (λ h. TakenAs g.K.PartialEq.eq (g.S.Hashes.hash h) 0 most_steps played c.begins.new.self c.take_steps.new.scheduler) c.begins.ensures.given.0 taken)) c.take_steps.ensures.taken;
       took = IfOk-weaker c.take_steps.result _ _ (λ played taken. λ terms m stands.
           let begun = subst (λ (b : Bool). BeginsSo g.K.PartialEq.eq hash terms m nameless c.args.guard c.args.map.now c.args.call b c.args.scheduler.now c.begins.new.self) c.if-branch.true
           (subst (λ own. BeginsSo g.K.PartialEq.eq hash terms m own c.args.guard c.args.map.now c.args.call c.in_ok-begins.field-0 c.args.scheduler.now c.begins.new.self) named
@@ -71,6 +73,7 @@ returns-then-branch g c =
             true,
             c.begins.new.self,
             begun,
-            λ so. subst (λ h. TakenAs g.K.PartialEq.eq (g.S.Hashes.hash h) 0 most_steps played c.begins.new.self c.take_steps.new.scheduler) c.begins.ensures.hasher taken,
-          )) c.take_steps.ensures;
+            λ so. subst (λ h. TakenAs g.K.PartialEq.eq (g.S.Hashes.hash h) 0 most_steps played c.begins.new.self c.take_steps.new.scheduler) c.begins.ensures.given.0 taken,
+          )) c.take_steps.ensures.taken;
+      given = given_on c.args.scheduler.now.logged.executor c.begins.new.self.logged.executor c.take_steps.new.scheduler.logged.executor c.begins.ensures.given c.take_steps.ensures.given;
     }

@@ -1,9 +1,10 @@
 -- A call takes one step.
-use Rattle.std.proofs.Common.{◌≡◌, sym, ap, subst, ◌∙◌}
+use Rattle.std.proofs.Common.{◌≡◌, sym, ap, subst}
 use Rattle.papaya_histories.specs.Given.Effects.Known.{known}
 use Rattle.papaya_histories.specs.Given.Executor.IsAt.{HasCall}
 use Rattle.papaya_logged.specs.Calling.{CallGoesOn}
 use Rattle.papaya_rows.proofs.Lists.{got_within}
+use Rattle.papaya_scheduler.proofs.KeptGiven.{given_as}
 use Rattle.papaya_stepping.specs.Stepping.{callers_then, outcome_of}
 use Rattle.papaya_stepping.proofs.stepping.take_step.Goals as goal
 
@@ -37,5 +38,6 @@ returns-clause-stepped g c =
       rest = subst (λ l. c.come_to.new.scheduler ≡ record c.args.scheduler.now { logged = l; calls = c.come_to.new.scheduler.calls }) (sym logged_is) c.come_to.ensures.rest;
     }
 
-pub returns-clause-hasher : goal.returns-clause-hasher
-returns-clause-hasher g c = ap (λ x. x.logged.executor.hasher) c.come_to.ensures.rest ∙ c.step.ensures.hasher
+pub returns-clause-given : goal.returns-clause-given
+returns-clause-given g c =
+    given_as c.args.scheduler.now (record c.args.scheduler.now { logged = c.step.new.self; calls = c.come_to.new.scheduler.calls }) c.come_to.new.scheduler c.step.ensures.given c.come_to.ensures.rest

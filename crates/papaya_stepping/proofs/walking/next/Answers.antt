@@ -5,6 +5,8 @@ use Rattle.papaya_schedules.specs.After.{moment}
 use Rattle.papaya_schedules.specs.declared.event.Event.TheVariants.{Next}
 use Rattle.papaya_schedules.specs.declared.outcome.Outcome.TheVariants.{Refused}
 use Rattle.papaya_histories.specs.Given.Executor.IsAt.{HasCall}
+use Rattle.papaya_logged.proofs.KeptGiven.{given_on}
+use Rattle.papaya_scheduler.proofs.KeptGiven.{given_as}
 use Rattle.papaya_logged.specs.Calling.{WalkGoesOn}
 use Rattle.papaya_rows.proofs.Lists.{got_within}
 use Rattle.papaya_stepping.specs.Stepping.{MayWalk, PlaysNext, WalkComes}
@@ -19,6 +21,7 @@ returns-in_default g c = record {
       subst (λ e. PlaysNext g.K.PartialEq.eq hash terms log e c.args.scheduler.now)
       (sym (entry_is (Next c.args.caller.now) c.busy.result (Refused Busy) 0 [] c.busy.ensures.outcome c.busy.ensures.steps c.busy.ensures.effects))
       (next_busy g.K.PartialEq.eq hash terms log c.args.caller.now c.args.scheduler.now due (sym c.in_default.is ∙ c.place_of_ready.ensures));
+  given = (refl, refl, refl, refl);
 }
 
 pub way_of-number-requires : goal.way_of-number-requires
@@ -48,7 +51,7 @@ walk_on-requires g c =
     let ready = sym c.in-Some.is ∙ c.place_of_ready.ensures in
     let here = asked_here g.K.PartialEq.eq hash r.0 r.1 c.args.caller.now c.args.scheduler.now r.2 c.in-Some.place ready in
     let read = c.way_of-number.ensures here.caller here.at in
-    subst (λ h. MayWalk g.K.PartialEq.eq (g.S.Hashes.hash h) c.in-Some.place (record c.args.scheduler.now { logged = c.next.new.self })) (sym c.next.ensures.hasher) (
+    subst (λ h. MayWalk g.K.PartialEq.eq (g.S.Hashes.hash h) c.in-Some.place (record c.args.scheduler.now { logged = c.next.new.self })) (sym c.next.ensures.given.0) (
       r.0,
       moment r.1,
       c.args.caller.now,
@@ -70,9 +73,9 @@ come_to-outcome-requires g c =
     (subst (λ x. WalkGoesOn g.K.PartialEq.eq hash r.2.played.name (moment r.1) r.2.played.scene x.0 c.next.result c.args.scheduler.now.logged c.next.new.self) read
     (c.next.ensures.leads g.K.PartialEq.eq hash r.2.played.name (moment r.1) r.2.played.scene r.2.played.shown)) in
     let at_place = next_ready g.K.PartialEq.eq hash r.0 r.1 c.args.caller.now c.args.scheduler.now r.2 c.in-Some.place ready c.next.new.self in
-    let comes = subst (λ h. WalkComes g.K.PartialEq.eq (g.S.Hashes.hash h) c.in-Some.place c.in_ok-come.come.1 c.in_ok-come.come.0 [] c.walk_on.new.effects.items asked c.walk_on.new.scheduler) c.next.ensures.hasher
+    let comes = subst (λ h. WalkComes g.K.PartialEq.eq (g.S.Hashes.hash h) c.in-Some.place c.in_ok-come.come.1 c.in_ok-come.come.0 [] c.walk_on.new.effects.items asked c.walk_on.new.scheduler) c.next.ensures.given.0
     (subst (λ l. WalkComes g.K.PartialEq.eq (g.S.Hashes.hash c.next.new.self.executor.hasher) c.in-Some.place c.in_ok-come.come.1 c.in_ok-come.come.0 l c.walk_on.new.effects.items asked c.walk_on.new.scheduler)
-    c.no_effects-effects.ensures c.in_ok-come.ensures) in
+    c.no_effects-effects.ensures c.in_ok-come.ensures.comes) in
     got_within c.walk_on.new.scheduler.calls.items.items c.in-Some.place _
     (there g.K.PartialEq.eq hash r.0 r.1 c.args.caller.now c.args.scheduler.now r.2 c.in-Some.place asked stands at_place c.in_ok-come.come.1 c.in_ok-come.come.0 c.walk_on.new.effects.items
     c.walk_on.new.scheduler comes)
@@ -90,10 +93,15 @@ returns g c = record {
       (subst (λ x. WalkGoesOn g.K.PartialEq.eq hash due.played.name (moment log) due.played.scene x.0 c.next.result c.args.scheduler.now.logged c.next.new.self) read
       (c.next.ensures.leads g.K.PartialEq.eq hash due.played.name (moment log) due.played.scene due.played.shown)) in
       let at_place = next_ready g.K.PartialEq.eq hash terms log own c.args.scheduler.now due c.in-Some.place ready c.next.new.self in
-      let comes = subst (λ h. WalkComes g.K.PartialEq.eq (g.S.Hashes.hash h) c.in-Some.place c.in_ok-come.come.1 c.in_ok-come.come.0 [] c.walk_on.new.effects.items asked c.walk_on.new.scheduler) c.next.ensures.hasher
+      let comes = subst (λ h. WalkComes g.K.PartialEq.eq (g.S.Hashes.hash h) c.in-Some.place c.in_ok-come.come.1 c.in_ok-come.come.0 [] c.walk_on.new.effects.items asked c.walk_on.new.scheduler) c.next.ensures.given.0
       (subst (λ l. WalkComes g.K.PartialEq.eq (g.S.Hashes.hash c.next.new.self.executor.hasher) c.in-Some.place c.in_ok-come.come.1 c.in_ok-come.come.0 l c.walk_on.new.effects.items asked c.walk_on.new.scheduler)
-      c.no_effects-effects.ensures c.in_ok-come.ensures) in
+      c.no_effects-effects.ensures c.in_ok-come.ensures.comes) in
       subst (λ p. PlaysNext g.K.PartialEq.eq hash terms log (entry (Next own) c.come_to-outcome.result c.in_ok-come.come.1 c.walk_on.new.effects.items) p) (sym c.come_to-outcome.ensures.rest)
       (plays_next g.K.PartialEq.eq hash terms log own c.args.scheduler.now due c.in-Some.place asked stands at_place c.in_ok-come.come.1 c.in_ok-come.come.0 c.walk_on.new.effects.items
       c.walk_on.new.scheduler comes ready c.come_to-outcome.new.scheduler.calls c.come_to-outcome.ensures.calls c.come_to-outcome.result c.come_to-outcome.ensures.outcome);
+  given = given_as c.args.scheduler.now (record c.walk_on.new.scheduler { calls = c.come_to-outcome.new.scheduler.calls }) c.come_to-outcome.new.scheduler
+      (given_on c.args.scheduler.now.logged.executor c.next.new.self.executor c.walk_on.new.scheduler.logged.executor c.next.ensures.given c.walk_on.ensures.given) c.come_to-outcome.ensures.rest;
 }
+
+pub returns-in_err-come-clause-given : goal.returns-in_err-come-clause-given
+returns-in_err-come-clause-given g c = given_on c.args.scheduler.now.logged.executor c.next.new.self.executor c.walk_on.new.scheduler.logged.executor c.next.ensures.given c.walk_on.ensures.given

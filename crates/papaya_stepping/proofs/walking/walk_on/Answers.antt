@@ -2,11 +2,11 @@
 use Rattle.std.specs.Prelude.{slice_get, Some}
 use Rattle.std.proofs.Common.{◌+◌, refl, sym, ap, subst, ◌∙◌, arith}
 use Rattle.std.proofs.lemmas.List.{append-nil}
-use Rattle.papaya_histories.specs.Given.Executor.IsAt.{HasCall, IsAt, Scene}
+use Rattle.papaya_histories.specs.Given.Executor.IsAt.{HasCall, IsAt}
+use Rattle.papaya_logged.proofs.KeptGiven.{given_on}
 use Rattle.papaya_logged.specs.Calling.{CallGoesOn}
 use Rattle.papaya_logged.specs.Shown.{IsShown}
 use Rattle.papaya_rows.proofs.Lists.{got_within}
-use Rattle.papaya_stepping.specs.Stepping.{IsStepOf}
 use Rattle.papaya_stepping.proofs.NextOn.{logged_on, may_walk, mid_few, mid_first, mid_next}
 use Rattle.papaya_stepping.proofs.walking.walk_on.Goals as goal
 
@@ -18,7 +18,7 @@ loop-steps-init g c = (
   0,
   refl,
   refl,
-  refl,
+  (refl, refl, refl, refl),
   λ terms m own stands at. mid_first g.K.PartialEq.eq (g.S.Hashes.hash c.args.scheduler.now.logged.executor.hasher) terms own c.args.place m c.args.scheduler.now stands at c.args.effects.now.items
       (sym (append-nil c.args.effects.now.items)),
 )
@@ -30,10 +30,10 @@ step-requires g c =
     let there = ap (λ p. slice_get p.calls.items.items c.args.place) i.2 ∙ r.4.2 in
     let read = c.way_of-number.ensures r.4.1 r.4.2 in
     let may = may_walk g.K.PartialEq.eq (g.S.Hashes.hash c.args.scheduler.now.logged.executor.hasher) r.0 r.2 c.args.place r.1 i.0 c.args.effects.now.items c.loop-steps.effects.items c.loop-steps.scheduler (i.4 r.0 r.1 r.2 r.3 r.4) r.4.1 there in
-    (may.0, subst (λ h. IsAt g.K.PartialEq.eq (g.S.Hashes.hash h) c.loop-steps.scheduler.logged.executor may.0) (sym i.3) may.1, subst (λ x. HasCall may.0 x.0) (sym read) may.2)
+    (may.0, subst (λ h. IsAt g.K.PartialEq.eq (g.S.Hashes.hash h) c.loop-steps.scheduler.logged.executor may.0) (sym i.3.0) may.1, subst (λ x. HasCall may.0 x.0) (sym read) may.2)
 
-pub returns-then-not-just_goes : goal.returns-then-not-just_goes
-returns-then-not-just_goes g c =
+pub returns-then-not-just_goes-clause-comes : goal.returns-then-not-just_goes-clause-comes
+returns-then-not-just_goes-clause-comes g c =
     let r = c.requires in
     let i = c.loop-steps.invariant in
     let there = ap (λ p. slice_get p.calls.items.items c.args.place) i.2 ∙ r.4.2 in
@@ -50,7 +50,7 @@ returns-then-not-just_goes g c =
             subst (λ x. CallGoesOn g.K.PartialEq.eq (g.S.Hashes.hash c.args.scheduler.now.logged.executor.hasher) name m s x.0 x.1 c.in_ok-progress.progress c.loop-steps.effects.items c.step.new.effects.items
             c.loop-steps.scheduler.logged c.step.new.self) read
             (subst (λ h. CallGoesOn g.K.PartialEq.eq (g.S.Hashes.hash h) name m s c.way_of-number.result.0 c.way_of-number.result.1 c.in_ok-progress.progress c.loop-steps.effects.items c.step.new.effects.items
-            c.loop-steps.scheduler.logged c.step.new.self) i.3 (c.in_ok-progress.ensures.leads name m s (subst (λ h. IsShown g.K.PartialEq.eq (g.S.Hashes.hash h) name m c.loop-steps.scheduler.logged s) (sym i.3) shown)));
+            c.loop-steps.scheduler.logged c.step.new.self) i.3.0 (c.in_ok-progress.ensures.leads name m s (subst (λ h. IsShown g.K.PartialEq.eq (g.S.Hashes.hash h) name m c.loop-steps.scheduler.logged s) (sym i.3.0) shown)));
         rest = refl;
       },
       i.4,
@@ -66,7 +66,7 @@ loop-steps-preserved g c =
       i.0 + 1,
       ap (λ k. k + 1) i.1,
       logged_on c.loop-steps.scheduler c.args.scheduler.now c.step.new.self i.2,
-      c.step.ensures.hasher ∙ i.3,
+      given_on c.args.scheduler.now.logged.executor c.loop-steps.scheduler.logged.executor c.step.new.self.executor i.3 c.step.ensures.given,
       λ terms m own stands at. mid_next g.K.PartialEq.eq (g.S.Hashes.hash c.args.scheduler.now.logged.executor.hasher) terms own c.args.place m i.0 c.args.effects.now.items c.loop-steps.effects.items
           c.step.new.effects.items c.loop-steps.scheduler (record c.loop-steps.scheduler { logged = c.step.new.self }) (i.4 terms m own stands at) (record {
             caller = r.4.1;
@@ -77,7 +77,7 @@ loop-steps-preserved g c =
                 (subst (λ x. CallGoesOn g.K.PartialEq.eq (g.S.Hashes.hash c.args.scheduler.now.logged.executor.hasher) name m2 s x.0 x.1 c.in_ok-progress.progress c.loop-steps.effects.items c.step.new.effects.items
                 c.loop-steps.scheduler.logged c.step.new.self) read
                 (subst (λ h. CallGoesOn g.K.PartialEq.eq (g.S.Hashes.hash h) name m2 s c.way_of-number.result.0 c.way_of-number.result.1 c.in_ok-progress.progress c.loop-steps.effects.items c.step.new.effects.items
-                c.loop-steps.scheduler.logged c.step.new.self) i.3 (c.in_ok-progress.ensures.leads name m2 s (subst (λ h. IsShown g.K.PartialEq.eq (g.S.Hashes.hash h) name m2 c.loop-steps.scheduler.logged s) (sym i.3) shown))));
+                c.loop-steps.scheduler.logged c.step.new.self) i.3.0 (c.in_ok-progress.ensures.leads name m2 s (subst (λ h. IsShown g.K.PartialEq.eq (g.S.Hashes.hash h) name m2 c.loop-steps.scheduler.logged s) (sym i.3.0) shown))));
             rest = refl;
           }),
     )
@@ -90,3 +90,9 @@ unreachable-requires g c =
     let ended = c.loop-steps-test.false in
     let is = i.1 in
     omega (arith, ended, is, few)
+
+pub returns-in_err-progress-clause-given : goal.returns-in_err-progress-clause-given
+returns-in_err-progress-clause-given g c = given_on c.args.scheduler.now.logged.executor c.loop-steps.scheduler.logged.executor c.step.new.self.executor c.loop-steps.invariant.3 c.step.ensures.given
+
+pub returns-then-not-just_goes-clause-given : goal.returns-then-not-just_goes-clause-given
+returns-then-not-just_goes-clause-given g c = given_on c.args.scheduler.now.logged.executor c.loop-steps.scheduler.logged.executor c.step.new.self.executor c.loop-steps.invariant.3 c.step.ensures.given

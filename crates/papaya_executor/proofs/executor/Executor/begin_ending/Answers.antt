@@ -1,6 +1,7 @@
 -- The beginning of the end of a map.
 use Rattle.std.proofs.Common.{rules, ◌≡◌, ◌+◌, ◌*◌, ◌++◌, ◌∷◌, [], ℕ, length, refl, sym, ap, subst, ◌∙◌}
-use Rattle.std.specs.Prelude.{Some}
+use Rattle.std.specs.Prelude.{Some, None}
+use Rattle.std.proofs.lemmas.List.{length-set}
 use Rattle.papaya_raw.specs.declared.machines.end_map.EndMap.{EndMap}
 use Rattle.papaya_executor.specs.Ending.{EndingBegins}
 use Rattle.papaya_executor.specs.declared.worker.TheConstants.{SLOTS}
@@ -20,3 +21,6 @@ returns-clause-leads g c = λ same hash s at.
     ∙ ap (λ (x : EndMap). c.args.self.now.workers.items ++ Some (record { slot = c.args.slot; work = work.Ending x }) ∷ []) c.new-ending.ensures in
     subst (λ (n : ℕ). EndingBegins same hash c.args.map (n * SLOTS + c.args.slot) s c.args.self.now new) (sym count)
     (ending_begins same hash c.args.self.now s at c.args.slot c.requires.slot c.args.map c.setting_of-setting.result c.setting_of-setting.ensures new refl items refl refl refl refl c.forget.ensures)
+
+pub returns-clause-given : goal.returns-clause-given
+returns-clause-given g c = (refl, refl, refl, ap length c.forget.ensures ∙ length-set c.args.self.now.maps.items c.args.map None)

@@ -1,5 +1,5 @@
 -- What a call is told.
-use Rattle.std.proofs.Common.{refl}
+use Rattle.std.proofs.Common.{length, refl, ap}
 use Rattle.papaya_executor.proofs.Replies.{reply_leads}
 use Rattle.papaya_executor.proofs.Taken.{has_place}
 use Rattle.papaya_executor.proofs.executor.Executor.reply.Goals as goal
@@ -13,4 +13,4 @@ returns-clause-leads g c = λ same hash s at.
     c.args.reply c.reply-taken.result c.reply-taken.ensures
 
 pub returns-clause-given : goal.returns-clause-given
-returns-clause-given g c = (c.put_back.ensures.1.hasher, c.put_back.ensures.1.batch_size, c.put_back.ensures.1.roots)
+returns-clause-given g c = (c.put_back.ensures.1.hasher, c.put_back.ensures.1.batch_size, c.put_back.ensures.1.roots, ap length c.put_back.ensures.1.maps)

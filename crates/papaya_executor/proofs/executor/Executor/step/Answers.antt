@@ -1,5 +1,5 @@
 -- A step of a call that a caller has under way.
-use Rattle.std.proofs.Common.{refl}
+use Rattle.std.proofs.Common.{length, refl, ap}
 use Rattle.papaya_executor.proofs.Steps.{may_step, leads_on}
 use Rattle.papaya_executor.proofs.Taken.{has_place, taken_call}
 use Rattle.papaya_executor.proofs.executor.Executor.step.Goals as goal
@@ -18,4 +18,4 @@ returns-clause-leads g c = λ s at m u here.
     (taken_call _ _ _ s at c.args.caller m u here _ _ c.take_call-slot.result.machine c.take_call-slot.ensures.before) c.step_out.ensures
 
 pub returns-clause-given : goal.returns-clause-given
-returns-clause-given g c = (c.step_out.ensures.2.2.hasher, c.step_out.ensures.2.2.batch_size, c.step_out.ensures.2.2.roots)
+returns-clause-given g c = (c.step_out.ensures.2.hasher, c.step_out.ensures.2.batch_size, c.step_out.ensures.2.roots, ap length c.step_out.ensures.2.maps)

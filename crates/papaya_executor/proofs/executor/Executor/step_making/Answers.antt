@@ -26,3 +26,6 @@ returns-clause-leads g c = λ same hash s at b here.
     (c.put_at.ensures ∙ ap (λ xs. slice_set xs (place_of c.args.caller) c.going_on-next.result) c.take_making-slot.ensures.after
     ∙ ap (λ x. slice_set (slice_set c.args.self.now.workers.items (place_of c.args.caller) None) (place_of c.args.caller) x) c.going_on-next.ensures)
     refl refl refl refl c.keep.ensures
+
+pub returns-clause-given : goal.returns-clause-given
+returns-clause-given g c = (refl, refl, refl, ap length c.keep.ensures ∙ same_count _ _ _)

@@ -1,5 +1,5 @@
 -- The beginning of it that all is reclaimed.
-use Rattle.papaya_logged.proofs.ReclaimSteps.{reclaiming_begins}
+use Rattle.papaya_logged.proofs.ReclaimsOn.{reclaiming_begins}
 use Rattle.papaya_logged.proofs.logged.Logged.begin_reclaiming.Goals as goal
 
 pub returns : goal.returns

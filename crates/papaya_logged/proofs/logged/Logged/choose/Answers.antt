@@ -8,7 +8,7 @@ pub returns : goal.returns
 returns g c =
     let old = c.args.self.now in
     let is : with_memory c.args.choice old c.choose.new.self ≡ logged_chosen c.args.choice old = chosen_is c.args.choice old c.choose.new.self c.in_ok-choose.ensures.ok in
-    record { chosen = is; shown = subst (λ n. ChoiceIsShown c.args.choice old n) (sym is) (choice_shown c.args.choice old); given = (refl, refl, refl) }
+    record { chosen = is; shown = subst (λ n. ChoiceIsShown c.args.choice old n) (sym is) (choice_shown c.args.choice old); given = (refl, refl, refl, refl) }
 
 pub returns-in_err-choose-clause-given : goal.returns-in_err-choose-clause-given
-returns-in_err-choose-clause-given g c = (refl, refl, refl)
+returns-in_err-choose-clause-given g c = (refl, refl, refl, refl)

@@ -4,3 +4,9 @@ use Rattle.papaya_logged.proofs.logged.Logged.new.Goals as goal
 
 pub returns-clause-shown : goal.returns-clause-shown
 returns-clause-shown g c = λ same hash name. first_shown same hash name _ _ (c.in_ok-executor.ensures.stands same hash) c.nothing-notes.ensures
+
+pub returns-clause-maps : goal.returns-clause-maps
+returns-clause-maps g c = c.in_ok-executor.ensures.maps
+
+pub returns-clause-notes : goal.returns-clause-notes
+returns-clause-notes g c = c.nothing-notes.ensures

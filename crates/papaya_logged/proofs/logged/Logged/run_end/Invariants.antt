@@ -1,16 +1,18 @@
 -- What a run keeps from step to step, and what each step lowers.
 use Rattle.std.specs.Prelude.{false}
 use Rattle.papaya_executor.specs.IsAt.{KeepsGiven, work_of}
+use Rattle.papaya_logged.specs.Back.{EndBringsBack}
 use Rattle.papaya_logged.specs.Ends.{EndRan}
 use Rattle.papaya_logged.proofs.EndsRun.{end_left_of}
 use Rattle.papaya_logged.proofs.logged.Logged.run_end.Given as goal
 
--- the end goes on, what it did stands in the list, and what the executor was given stays
-abbrev pub invariant-loop-told : goal.invariant-loop-told
-invariant-loop-told g l = record {
+-- the end goes on, what it did stands in the list, what that reclaims has come back, and what the executor was given stays
+abbrev pub invariant-loop-self : goal.invariant-loop-self
+invariant-loop-self g l = record {
   ran : EndRan l.fn.caller l.fn.map false l.fn.effects.items l.effects.items l.fn.self l.self;
   given : KeepsGiven l.fn.self.executor l.self.executor;
+  back : EndBringsBack l.fn.caller l.fn.map l.fn.effects.items l.effects.items l.fn.self l.fn.back.items l.back.items;
 }
 
-abbrev pub decreases-loop-told : goal.decreases-loop-told
-decreases-loop-told g l = end_left_of l.self.executor.memory.memory (work_of l.self.executor l.fn.caller)
+abbrev pub decreases-loop-self : goal.decreases-loop-self
+decreases-loop-self g l = end_left_of l.self.executor.memory.memory (work_of l.self.executor l.fn.caller)

@@ -2,7 +2,7 @@
 use Rattle.std.proofs.Common.{length, refl, ap, sym, ◌∙◌}
 use Rattle.papaya_logged.specs.Makings.{numbers_then}
 use Rattle.papaya_logged.proofs.GivenBack.{has_place, numbers_given, ran_given}
-use Rattle.papaya_logged.proofs.KeptGiven.{given_none, given_on}
+use Rattle.papaya_logged.proofs.KeptGiven.{given_none, given_on, stays_so}
 use Rattle.papaya_logged.proofs.MakingsRun.{makes_none, makes_on, still_making, ran_goes, making_less}
 use Rattle.papaya_logged.proofs.RootsFound.{none_found, goes_found, last_found}
 use Rattle.papaya_logged.proofs.logged.Logged.run_making.Goals as goal
@@ -41,10 +41,12 @@ returns-then-is_over-clause-finds g c =
     last_found c.args.caller c.args.map c.args.self.now c.loop-told.self c.step_making.new.self _ _ _ c.in_ok-told.told c.loop-told.invariant.ran c.loop-told.invariant.finds e.steps e.did (sym c.is_over.ensures ∙ c.if-is_over.true)
 
 pub returns-then-is_over-clause-given : goal.returns-then-is_over-clause-given
-returns-then-is_over-clause-given g c = given_on c.args.self.now.executor c.loop-told.self.executor c.step_making.new.self.executor c.loop-told.invariant.given c.step_making.ensures.given
+returns-then-is_over-clause-given g c = stays_so c.args.self.now.executor c.step_making.new.self.executor
+    (given_on c.args.self.now.executor c.loop-told.self.executor c.step_making.new.self.executor c.loop-told.invariant.given c.step_making.ensures.given)
 
 pub returns-in_err-told-clause-given : goal.returns-in_err-told-clause-given
-returns-in_err-told-clause-given g c = given_on c.args.self.now.executor c.loop-told.self.executor c.step_making.new.self.executor c.loop-told.invariant.given c.step_making.ensures.given
+returns-in_err-told-clause-given g c = stays_so c.args.self.now.executor c.step_making.new.self.executor
+    (given_on c.args.self.now.executor c.loop-told.self.executor c.step_making.new.self.executor c.loop-told.invariant.given c.step_making.ensures.given)
 
 pub loop-told-smaller : goal.loop-told-smaller
 loop-told-smaller g c =

@@ -3,20 +3,22 @@ use Rattle.std.specs.Prelude.{◌≡◌, ℕ, Some}
 use Rattle.papaya_executor.specs.IsAt.{KeepsGiven, work_of}
 use Rattle.papaya_executor.specs.declared.row.SlotRow.{SlotRow}
 use Rattle.papaya_executor.specs.declared.worker.Work.TheVariants.{OnSlot}
+use Rattle.papaya_logged.specs.Back.{BringsBack}
 use Rattle.papaya_logged.specs.OnSlots.{GoesOnFor, OnSlotRan}
 use Rattle.papaya_logged.proofs.RowsFall.{steps_left_of}
 use Rattle.papaya_logged.proofs.Runs.{EndsAs}
 use Rattle.papaya_logged.proofs.logged.Logged.run_on_slot.Given as goal
 
--- the row is under way, what it did stands in the list, and what the executor was given stays
-abbrev pub invariant-loop-told : goal.invariant-loop-told
-invariant-loop-told g l = record {
+-- the row is under way, what it did stands in the list, what that reclaims has come back, and what the executor was given stays
+abbrev pub invariant-loop-self : goal.invariant-loop-self
+invariant-loop-self g l = record {
   ran : OnSlotRan l.fn.effects.items l.effects.items l.fn.self l.self;
   goes : (n : ℕ) × GoesOnFor l.fn.caller n l.fn.self.executor l.self.executor;
   used : EndsAs l.fn.self l.self l.fn.caller;
   under : (row : SlotRow) × (work_of l.self.executor l.fn.caller ≡ Some (OnSlot row));
   given : KeepsGiven l.fn.self.executor l.self.executor;
+  back : BringsBack l.fn.effects.items l.effects.items l.fn.self l.fn.back.items l.back.items;
 }
 
-abbrev pub decreases-loop-told : goal.decreases-loop-told
-decreases-loop-told g l = steps_left_of l.self.executor.memory.memory (work_of l.self.executor l.fn.caller)
+abbrev pub decreases-loop-self : goal.decreases-loop-self
+decreases-loop-self g l = steps_left_of l.self.executor.memory.memory (work_of l.self.executor l.fn.caller)

@@ -1,5 +1,8 @@
 -- A step of the end of a map.
-use Rattle.std.proofs.Common.{sym, subst}
+use Rattle.std.proofs.Common.{◌++◌, sym, ap, subst, ◌∙◌}
+use Rattle.papaya_effects.specs.Effects.{effects_of}
+use Rattle.papaya_effects.specs.Known.{known}
+use Rattle.papaya_effects.specs.declared.acting.Acting.TheVariants.{Ending}
 use Rattle.papaya_executor.specs.Ending.{EndingLeads}
 use Rattle.papaya_executor.specs.declared.executor.Executor.{Executor}
 use Rattle.papaya_logged.proofs.EndSteps.{end_steps}
@@ -15,6 +18,11 @@ pub returns-clause-steps : goal.returns-clause-steps
 returns-clause-steps g c = λ same hash s at.
     subst (λ (e : Executor _ _ _). EndingLeads same hash c.args.caller c.step_ending-told.result s c.args.self.now.executor e) (sym c.note.ensures.executor)
     (c.step_ending-told.ensures.leads same hash s at)
+
+pub returns-clause-did : goal.returns-clause-did
+returns-clause-did g c =
+    c.in_ok-note.ensures.did
+    ∙ ap (λ (e : Executor _ _ _). c.args.effects.now.items ++ effects_of (Ending c.args.map) (known c.args.self.now.notes) e.memory.changed) (sym c.note.ensures.executor)
 
 pub returns-in_err-note-clause-given : goal.returns-in_err-note-clause-given
 returns-in_err-note-clause-given g c = given_noted c.args.self.now.executor c.step_ending-told.new.self c.note.new.self.executor c.step_ending-told.ensures.given c.note.ensures.executor

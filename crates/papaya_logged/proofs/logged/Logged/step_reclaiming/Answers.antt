@@ -1,9 +1,12 @@
 -- A step by which all is reclaimed.
-use Rattle.std.proofs.Common.{subst, sym}
+use Rattle.std.proofs.Common.{◌++◌, ap, subst, sym, ◌∙◌}
+use Rattle.papaya_effects.specs.Effects.{effects_of}
+use Rattle.papaya_effects.specs.Known.{known}
+use Rattle.papaya_effects.specs.declared.acting.Acting.TheVariants.{Row}
 use Rattle.papaya_executor.specs.declared.executor.Executor.{Executor}
 use Rattle.papaya_reclaiming.specs.Reclaiming.{ReclaimingLeads}
 use Rattle.papaya_logged.proofs.KeptGiven.{given_noted}
-use Rattle.papaya_logged.proofs.ReclaimSteps.{reclaiming_steps}
+use Rattle.papaya_logged.proofs.ReclaimsOn.{reclaiming_steps}
 use Rattle.papaya_logged.proofs.logged.Logged.step_reclaiming.Goals as goal
 
 pub returns-clause-leads : goal.returns-clause-leads
@@ -15,6 +18,11 @@ pub returns-clause-steps : goal.returns-clause-steps
 returns-clause-steps g c = λ same hash s i lists at.
     subst (λ (e : Executor _ _ _). ReclaimingLeads same hash s i lists c.args.self.now.executor e c.args.reclaiming.now.all c.step-told.new.self.all c.step-told.result) (sym c.note.ensures.executor)
     (c.step-told.ensures.leads same hash s i lists at)
+
+pub returns-clause-did : goal.returns-clause-did
+returns-clause-did g c =
+    c.in_ok-note.ensures.did
+    ∙ ap (λ (e : Executor _ _ _). c.args.effects.now.items ++ effects_of Row (known c.args.self.now.notes) e.memory.changed) (sym c.note.ensures.executor)
 
 pub returns-in_err-note-clause-given : goal.returns-in_err-note-clause-given
 returns-in_err-note-clause-given g c = given_noted c.args.self.now.executor c.step-told.new.executor c.note.new.self.executor c.step-told.ensures.given c.note.ensures.executor

@@ -10,4 +10,4 @@ returns-clause-leads g c = λ same hash s i lists at.
     leads same hash _ s i lists _ at _ _ c.step_nobodys-told.result c.step_nobodys-told.ensures.told c.step_nobodys-told.ensures.rest _ c.leave.ensures
 
 pub returns-clause-given : goal.returns-clause-given
-returns-clause-given g c = given_then _ _ _ c.step_nobodys-told.result c.step_nobodys-told.ensures.rest c.leave.ensures
+returns-clause-given g c = given_then c.args.executor.now c.step_nobodys-told.new.self c.leave.new.executor c.step_nobodys-told.result c.step_nobodys-told.ensures.rest c.leave.ensures

@@ -9,7 +9,7 @@ returns-then-is_some g c = record {
   begins = λ terms m stands.
       is_named_so g.K.PartialEq.eq (g.S.Hashes.hash c.args.self.now.logged.executor.hasher) terms m c.args.self.now stands c.args.name c.args.guard c.args.map.now c.args.call c.place_of.result
       c.place_of.ensures (sym c.is_some.ensures ∙ c.if-is_some.true);
-  hasher = refl;
+  given = (refl, refl, refl, refl);
 }
 
 pub returns-in_default : goal.returns-in_default
@@ -17,7 +17,7 @@ returns-in_default g c = record {
   begins = λ terms m stands.
       no_guard g.K.PartialEq.eq (g.S.Hashes.hash c.args.self.now.logged.executor.hasher) terms m c.args.self.now stands c.args.name c.args.guard c.args.map.now c.args.call
       (sym c.slot_of_living.ensures ∙ c.in_default.is);
-  hasher = refl;
+  given = (refl, refl, refl, refl);
 }
 
 pub returns-in_default-setting_of : goal.returns-in_default-setting_of
@@ -25,7 +25,7 @@ returns-in_default-setting_of g c = record {
   begins = λ terms m stands.
       no_map g.K.PartialEq.eq (g.S.Hashes.hash c.args.self.now.logged.executor.hasher) terms m c.args.self.now stands c.args.name c.args.guard c.args.map.now c.args.call
       (sym c.setting_of.ensures ∙ c.in_default-setting_of.is);
-  hasher = refl;
+  given = (refl, refl, refl, refl);
 }
 
 pub begin-requires : goal.begin-requires
@@ -45,5 +45,5 @@ returns g c = record {
       (sym c.slot_of_living.ensures ∙ c.in-Some.is) c.in-Some-setting_of.map c.in-Some-setting_of.setting (sym c.setting_of.ensures ∙ c.in-Some-setting_of.is) c.in_ok-number.number
       c.in_ok-number.ensures.number c.machine_for-machine.result c.machine_for-machine.ensures c.of-kind.result c.of-kind.ensures c.begin.new.self
       (λ names v t shown. c.in_ok-number.ensures.leads g.K.PartialEq.eq (g.S.Hashes.hash c.args.self.now.logged.executor.hasher) names v t shown) c.add.new.self c.in_ok-add.ensures;
-  hasher = c.begin.ensures.hasher;
+  given = c.begin.ensures.given;
 }

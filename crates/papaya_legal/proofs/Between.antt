@@ -1,0 +1,367 @@
+-- What a moment shows of calls is so on between the steps of events.
+use Rattle.std.specs.Prelude.{◌≡◌, ◌≤◌, nat_lt, ℕ, Bool, true, false, List, Option, Some, None, if◌then◌else◌}
+use Rattle.std.proofs.Common.{refl, ap, sym, subst, ◌∙◌, inl, inr, arith}
+use Rattle.papaya_histories.specs.Given.SeizeWords.declared.fault.Fault.TheVariants.{Memory}
+use Rattle.papaya_histories.specs.Given.Sweeps.SweepPoints.{after_next, next_at}
+use Rattle.papaya_histories.specs.Given.Sweeps.declared.sweep.Sweep.{Sweep}
+use Rattle.papaya_histories.specs.Given.Sweeps.declared.sweep.Sweeping.{Sweeping}
+use Rattle.papaya_histories.specs.Given.Sweeps.declared.sweep.Sweeping.TheVariants as sweeping
+use Rattle.papaya_histories.specs.Given.Points.FactsCalls.{Unchanged}
+use Rattle.papaya_histories.specs.Given.Schedules.After.{moment}
+use Rattle.papaya_histories.specs.Given.Schedules.Beginning.{with_call, with_map}
+use Rattle.papaya_histories.specs.Given.Schedules.declared.outcome.Outcome.TheVariants.{Refused}
+use Rattle.papaya_histories.specs.Given.Schedules.Moment.{UnderWay as CallThere, Stands, Asking, Moment}
+use Rattle.papaya_histories.specs.Given.Schedules.Views.{call_of}
+use Rattle.papaya_histories.specs.Given.Callers.OverAll.{CallOverAll, gone_on}
+use Rattle.papaya_histories.specs.Given.Callers.Rooms.{CallForRoom}
+use Rattle.papaya_histories.specs.Given.Callers.Together.{UnderWay, CallOnKey, OnKey, ForRoom, Counting, OverAll}
+use Rattle.papaya_histories.specs.Given.Effects.Known.{Known}
+use Rattle.papaya_histories.specs.Given.Executor.Beginning.{Begins}
+use Rattle.papaya_histories.specs.Given.Executor.IsAt.{Scene, HasCall}
+use Rattle.papaya_histories.specs.Given.Executor.Replying.{scene_with, unless_stopped}
+use Rattle.papaya_histories.specs.Given.Finishes.Machines.{machine_of}
+use Rattle.papaya_histories.specs.Given.Finishes.Maps.{Standing, with_call as with_call_of}
+use Rattle.papaya_histories.specs.Given.Follows.Calling.{NoneNamed}
+use Rattle.papaya_histories.specs.Given.Follows.Calls.{IsCalled, ShowsCalls as IsThere}
+use Rattle.papaya_histories.specs.Given.Hands.Asked.{as_told}
+use Rattle.papaya_histories.specs.Given.Others.Elsewhere.{HasSame}
+use Rattle.papaya_histories.specs.Given.Others.Endings.{without_map}
+use Rattle.papaya_histories.specs.Given.Others.Walks.{given_up}
+use Rattle.papaya_histories.proofs.Given.Hands.Asking.{which}
+use Rattle.papaya_histories.proofs.Given.Follows.Steps.{one_of}
+use Rattle.papaya_histories.specs.Given.Moments.Numbers.{NumbersMaps, PairsAreBelow}
+use Rattle.papaya_histories.proofs.Given.Moments.Calls.{calls_begin_whole, calls_take_whole}
+use Rattle.papaya_histories.proofs.Given.Moments.Ends.{endings_begin_whole}
+use Rattle.papaya_histories.proofs.Given.Moments.MapsCome.{makings_begin_whole, maps_come_whole}
+use Rattle.papaya_histories.proofs.Given.Moments.NewMaps.{pairs_stay_as_maps_come, pairs_stay_as_maps_go}
+use Rattle.papaya_histories.proofs.Given.Moments.Numbers.{maps_come_by_number, maps_go}
+use Rattle.papaya_histories.proofs.Given.Moments.Over.{endings_are_over_whole}
+use Rattle.papaya_histories.proofs.Given.Moments.Walks.{walks_go_on_whole, walks_stop_whole}
+use Rattle.papaya_histories.specs.Answers.{NamesPair}
+use Rattle.papaya_histories.specs.AsCalled.{IsAsCalled, IsSweptAs, SweepAsks}
+use Rattle.papaya_histories.specs.Asking.{IsToldQuestion}
+use Rattle.papaya_histories.specs.Histories.{ShowsHistory, began_of}
+use Rattle.papaya_histories.proofs.AnyCall.Whole.{all_stays_shown}
+use Rattle.papaya_histories.proofs.Aside.Stays.{as_called_stays, dues_stay}
+use Rattle.papaya_histories.proofs.BeginsCall.{events_are}
+use Rattle.papaya_histories.proofs.DueOn.{calls_begin_due, calls_take_due, events_keep_due}
+use Rattle.papaya_histories.proofs.NoKey.AsCalledOn.{calls_begin_as_called, calls_take_as_called}
+use Rattle.papaya_histories.proofs.Questions.{calls_begin_questions, calls_come_to_questions, calls_take_questions}
+use Rattle.papaya_histories.specs.Questions.{AsksStill, ShowsQuestions}
+use Rattle.papaya_kept.proofs.Between.{calls_begin_kept, calls_take_kept, uncounted_at_first, walks_go_on_kept, walks_stop_kept}
+use Rattle.papaya_kept.proofs.Others.{endings_begin_kept}
+use Rattle.papaya_kept.proofs.Renamed.{asked, renamed, shows}
+use Rattle.papaya_kept.proofs.Stays.{makings_begin_kept, renamed_kept, stays_kept}
+use Rattle.papaya_purposes.specs.Kept.{AsksAboutIt}
+use Rattle.papaya_purposes.proofs.Between.{calls_begin_purposes, events_keep_purposes}
+use Rattle.papaya_purposes.proofs.Elsewhere.{purposes_stay}
+use Rattle.papaya_purposes.proofs.Told.{calls_take_purposes}
+use Rattle.papaya_shards.specs.Adds.{adds_in_sweeping, adds_of}
+use Rattle.papaya_shards.specs.ShardWords.{ShowsCounters}
+use Rattle.papaya_shards.proofs.ShardBetween.{calls_begin_counters, calls_take_counters, counters_stay, fewer_add}
+use Rattle.papaya_shards.proofs.ShardOthers.{endings_begin_counters, makings_begin_counters}
+use Rattle.papaya_legal.specs.Between.{CallsBegin, CallsTake, EndsBegin, LikesShow, LogsGrow, MakingsBegin, MapsCome, MapsGo, NamesChange, WalksGoOn, WalksStop}
+use Rattle.papaya_legal.specs.Carried.{NoneCounted, ShowsCalls}
+
+pub likes_show : (K V : Type 0) (same : K → K → Bool) → LikesShow K V same
+likes_show K V same name log m v known s all like = subst (λ (x : Moment K V). ShowsCalls same name log x known s) (sym like) (record {
+  whole = all_stays_shown K V same name m known s all.whole v.events v.is_mapped v.is_closed v.is_alone v.there v.slots v.sheltered v.remains;
+  numbers = (record { found = all.numbers.0.found; below = all.numbers.0.below; tables = all.numbers.0.tables }, all.numbers.1);
+  kept = stays_kept K V name m other known s s all.kept refl refl refl refl refl refl refl refl;
+  counters = counters_stay K V name m other s s all.counters refl refl refl refl refl (λ of j x is removed adds. (x, is, adds));
+  uncounted = all.uncounted;
+  dues = (dues_stay K V (Unit {0}) same (λ k. 0) name log).alike m other known s all.dues alike;
+  as_called = (as_called_stays K V (Unit {0}) same (λ k. 0) name).alike m other known s all.as_called alike;
+  questions = all.questions;
+  purposes = (purposes_stay K V (Unit {0}) same (λ k. 0) name log).alike m other known s all.purposes alike;
+})
+  where
+    other : Moment K V
+    other = record m {
+      events = v.events;
+      is_mapped = v.is_mapped;
+      is_closed = v.is_closed;
+      is_alone = v.is_alone;
+      there = v.there;
+      slots = v.slots;
+      sheltered = v.sheltered;
+      remains = v.remains;
+    }
+
+    alike : HasSame m other
+    alike = record { place = refl; born = refl; stored = refl; maps = refl; tables = refl; calls = refl }
+
+pub logs_grow : (K V : Type 0) (same : K → K → Bool) → LogsGrow K V same
+logs_grow K V same name log e known s all = record {
+  whole = all.whole;
+  numbers = all.numbers;
+  kept = all.kept;
+  counters = all.counters;
+  uncounted = all.uncounted;
+  dues = events_keep_due K V same name log e known s all.dues;
+  as_called = all.as_called;
+  questions = all.questions;
+  purposes = events_keep_purposes K V same name log e known s all.purposes;
+}
+
+-- a call by another name is that by its name
+pub named_as : {K V : Type 0} (name name2 : ℕ → List ℕ) (m : Moment K V) (s : Scene K V) → ((i : ℕ) → HasCall s i → name2 i ≡ name i)
+    → (map i : ℕ) (u : UnderWay K V K) → s.calls map i ≡ Some u → (c : CallThere K V) → call_of (name2 i) m ≡ Some c → call_of (name i) m ≡ Some c
+named_as name name2 m s agree map i u is c c_is = ap (λ (own : List ℕ). call_of own m) (sym (agree i (map, u, is))) ∙ c_is
+
+pub names_change : (K V : Type 0) (same : K → K → Bool) → NamesChange K V same
+names_change K V same name name2 log m known s agree all = record {
+  whole = renamed same name name2 m known s agree all.whole;
+  numbers = all.numbers;
+  kept = renamed_kept K V name name2 m known s agree all.kept;
+  counters = record {
+    shards = all.counters.shards;
+    makes = all.counters.makes;
+    adds = λ of i u is removed adds c c_is. all.counters.adds of i u is removed adds c (as_named of i u is c c_is);
+  };
+  uncounted = all.uncounted;
+  dues = record {
+    history = history;
+    owes = λ map i u is standing there c c_is. all.dues.owes map i u is standing there c (as_named map i (OnKey u) is c c_is);
+    taken = λ map i u is c c_is. all.dues.taken map i u is c (as_named map i u is c c_is);
+  };
+  as_called = record {
+    shown = shows same name name2 m known s agree all.as_called.shown;
+    each = λ map i u is standing there c c_is. all.as_called.each map i u is standing there c (as_named map i u is c c_is);
+  };
+  questions = all.questions;
+  purposes = record {
+    shown = shows same name name2 m known s agree all.purposes.shown;
+    begun = λ of i u is c c_is. all.purposes.begun of i u is c (as_named of i u is c c_is);
+    is_for = λ of i u is c c_is. all.purposes.is_for of i u is c (as_named of i u is c c_is);
+    come = λ of i u is standing there c c_is. all.purposes.come of i u is standing there c (as_named of i u is c c_is);
+  };
+}
+  where
+    as_named : (map i : ℕ) (u : UnderWay K V K) → s.calls map i ≡ Some u → (c : CallThere K V) → call_of (name2 i) m ≡ Some c → call_of (name i) m ≡ Some c
+    as_named map i u is c c_is = named_as name name2 m s agree map i u is c c_is
+
+    history : ShowsHistory same name2 log m known s
+    history = record {
+      shown = shows same name name2 m known s agree all.dues.history.shown;
+      asked = asked same name name2 m known s agree all.dues.history.shown.number all.dues.history.asked;
+      begun = λ map i u is c c_is. all.dues.history.begun map i u is c (as_named map i u is c c_is);
+      within = λ map i u is standing there c c_is. all.dues.history.within map i u is standing there c (as_named map i u is c c_is);
+    }
+
+-- A call begins now, and has changed nothing.
+
+module _ {K V : Type 0} (same : K → K → Bool) (standing : Standing K) (i : ℕ) where
+  began_now : (u : UnderWay K V K) → Begins same standing i u → (began : ℕ) → began_of u ≡ Some began → began ≡ standing.chart.now
+  began_now (OnKey u) begins began is = let now : u.began ≡ standing.chart.now = ap (λ (x : CallOnKey K V K). x.began) begins.1 in let its : u.began ≡ began = cc is in sym its ∙ now
+  began_now (ForRoom r) begins began is = let its : r.began ≡ began = cc is in sym its ∙ ap (λ (x : CallForRoom). x.began) begins.1
+  began_now (Counting sum) begins began is = absurd (cc is)
+  began_now (OverAll o) begins began is = let its : o.began ≡ began = cc is in sym its ∙ ap (λ (x : CallOverAll). x.began) begins.1
+
+  unchanged : (u : UnderWay K V K) → Begins same standing i u → (x : CallOnKey K V K) → u ≡ OnKey x → x.change ≡ Unchanged
+  unchanged (OnKey u) begins x is = let one : u ≡ x = cc is in ap (λ (y : CallOnKey K V K). y.change) (sym one) ∙ ap (λ (y : CallOnKey K V K). y.change) begins.1
+  unchanged (ForRoom r) begins x is = absurd (cc is)
+  unchanged (Counting sum) begins x is = absurd (cc is)
+  unchanged (OverAll o) begins x is = absurd (cc is)
+
+-- what a retaining asks about is the pair of its word
+about_pair : (known : Known) (word : ℕ) (question : Option ℕ) → IsToldQuestion known (Some word) question → (q : ℕ) × (question ≡ Some q) × NamesPair known word q
+about_pair known word (Some q) told = (q, refl, told)
+about_pair known word None told = absurd told
+
+asks_about : {K V : Type 0} (known : Known) (u : UnderWay K V K) (question : Option ℕ) → ((o : CallOverAll) → u ≡ OverAll o → SweepAsks known o.sweep.stands question) → AsksAboutIt known u question
+asks_about known u question asks o is word stands =
+    let it = asks o is in
+    let same_word : it.0 ≡ word = (let both : sweeping.Asks it.0 ≡ sweeping.Asks word = sym it.1 ∙ stands in cc both) in
+    about_pair known word question (subst (λ (x : ℕ). IsToldQuestion known (Some x) question) same_word it.2)
+
+-- where one goes on otherwise, or is under way no more, what it is about to add is what it was
+
+not_ready : (q : Bool) (removed : ℕ) → adds_in_sweeping (if q then sweeping.Words else sweeping.Over) ≡ Some removed → ⊥
+not_ready true removed adds = absurd (cc adds)
+not_ready false removed adds = absurd (cc adds)
+
+adds_next : (p : Sweeping) (c : Sweep) (removed : ℕ) → c.stands ≡ p → adds_in_sweeping (next_at p c).stands ≡ Some removed → adds_in_sweeping c.stands ≡ Some removed
+adds_next sweeping.Ready c removed is adds = absurd (not_ready (nat_lt c.place c.table.len) removed adds)
+adds_next _ c removed is adds = adds
+
+module _ {K V : Type 0} (name : ℕ → List ℕ) (m : Moment K V) (s : Scene K V) (map i : ℕ) (next : Option (UnderWay K V K)) where
+  abbrev then_at : Scene K V
+  then_at = record s { calls = with_call_of s.calls map i next }
+
+  abbrev Had : ℕ → ℕ → ℕ → Type 0
+  Had of j removed = (y : UnderWay K V K) × (s.calls of j ≡ Some y) × (adds_of (machine_of y) ≡ Some removed)
+
+  on_counters : ((x : UnderWay K V K) → next ≡ Some x → (removed : ℕ) → adds_of (machine_of x) ≡ Some removed → Had map i removed) → ShowsCounters name m s → ShowsCounters name m then_at
+  on_counters its counters = counters_stay K V name m m s then_at counters refl refl refl refl refl before
+    where
+      before : (of j : ℕ) (x : UnderWay K V K) → then_at.calls of j ≡ Some x → (removed : ℕ) → adds_of (machine_of x) ≡ Some removed → Had of j removed
+      before of j x is removed adds = elim (which s.calls map i next of j x is) as (λ _. Had of j removed) [
+        | inl own ↦ let had = its x own.2 removed adds in (had.0, ap (λ (k : ℕ). s.calls k j) own.0 ∙ ap (s.calls map) own.1 ∙ had.1, had.2)
+        | inr was ↦ (x, was.1, adds)
+      ]
+
+-- where one is given up, all but its call is as it was
+module _ {K V : Type 0} (own : List ℕ) (m : Moment K V) where
+  given_numbers : (q : Bool) → NumbersMaps m × PairsAreBelow m → NumbersMaps (given_up own q m) × PairsAreBelow (given_up own q m)
+  given_numbers true numbers = (record { found = numbers.0.found; below = numbers.0.below; tables = numbers.0.tables }, numbers.1)
+  given_numbers false numbers = numbers
+
+  given_uncounted : (q : Bool) → NoneCounted m → NoneCounted (given_up own q m)
+  given_uncounted true none = none
+  given_uncounted false none = none
+
+  asks_still : (st : Stands) → AsksStill {V = V} st (Refused Memory)
+  asks_still (Asking question) = λ goes. goes
+  asks_still _ = tt
+
+  given_questions : (q : Bool) → ShowsQuestions m → ShowsQuestions (given_up own q m)
+  given_questions true questions = calls_come_to_questions K V own (Refused Memory) 0 m questions (λ c c_is. asks_still c.stands)
+  given_questions false questions = questions
+
+module _ (K V S : Type 0) (same : K → K → Bool) (hash : K → ℕ) where
+  pub calls_begin : CallsBegin K V S same hash
+  calls_begin name log known s old new at all map i standing there u call guard begins right none rests at2 =
+      let m = moment log in
+      let v = with_call (name i) guard call (Some map) m in
+      let then_at = scene_with map i u s in
+      let whole = calls_begin_whole K V same name m known s all.whole map i u call guard none right.called right.given rests in
+      record {
+        whole = whole;
+        numbers = (record { found = all.numbers.0.found; below = all.numbers.0.below; tables = all.numbers.0.tables }, all.numbers.1);
+        kept = calls_begin_kept K V S same hash name m known s old new at all.whole all.kept map i standing there u call guard begins right.called right.given none rests at2 whole.all.shown;
+        counters = calls_begin_counters K V name m s all.counters map i u call guard none (uncounted_at_first K V same standing i u begins);
+        uncounted = all.uncounted;
+        dues = calls_begin_due K V S same hash name log m known s old at all.dues map i u call guard standing there (began_now same standing i u begins) (unchanged same standing i u begins) none right.called
+            right.given (events_are log);
+        as_called = calls_begin_as_called K V same name m known s all.as_called map i u call guard none right.called right.swept;
+        questions = calls_begin_questions K V (name i) guard call (Some map) m all.questions;
+        purposes = calls_begin_purposes K V S same hash name log m known s old at all.purposes map i u call guard standing there begins none right.called right.aim (events_are log) refl;
+      }
+
+  pub calls_take : CallsTake K V S same hash
+  calls_take name log m known s old new at all map i u here c c_is question asks standing there is_told next next_is takes told_kind taken at2 =
+      let whole = calls_take_whole K V S same hash name m known s old at all.whole map i u here c c_is question asks standing there is_told next next_is takes told_kind in
+      record {
+        whole = whole;
+        numbers = (record { found = all.numbers.0.found; below = all.numbers.0.below; tables = all.numbers.0.tables }, all.numbers.1);
+        kept = calls_take_kept K V S same hash name m known s old new at all.whole all.kept map i u here (as_told is_told) next next_is is_told at2 whole.all.shown;
+        counters = calls_take_counters K V same name m known s all.whole all.counters map i u here (as_told is_told) next next_is is_told;
+        uncounted = all.uncounted;
+        dues = calls_take_due K V S same hash name log m known s old at all.dues map i u here c c_is question asks standing there is_told next next_is takes told_kind taken;
+        as_called = calls_take_as_called K V S same hash name m known s old at all.whole all.as_called map i u here c c_is question asks standing there is_told next next_is takes told_kind;
+        questions = calls_take_questions K V (name i) is_told m all.questions;
+        purposes = calls_take_purposes K V S same hash name log m known s old at all.whole all.purposes map i u here c c_is question asks (asks_about known u question about) standing there is_told next takes told_kind;
+      }
+    where
+      about : (o : CallOverAll) → u ≡ OverAll o → SweepAsks known o.sweep.stands question
+      about o is = (its o is).asks question asks
+        where
+          its : (o : CallOverAll) → u ≡ OverAll o → IsSweptAs (all.as_called.shown.number map) standing.chart.stored known o c
+          its o is = subst (λ (x : UnderWay K V K). IsAsCalled (all.as_called.shown.number map) standing.chart.stored known x c) is (all.as_called.each map i u here standing there c c_is)
+
+  pub walks_go_on : WalksGoOn K V S same hash
+  walks_go_on name log m known s old new at all i leads map o here is = record {
+    whole = walks_go_on_whole K V S same hash name m known s old new all.whole i leads map (OverAll o) here;
+    numbers = all.numbers;
+    kept = walks_go_on_kept K V S same hash name m known s old new all.whole all.kept i leads map (OverAll o) here;
+    counters = on_counters name m s map i (Some next) its all.counters;
+    uncounted = all.uncounted;
+    dues = (dues_stay K V S same hash name log).walks m known s old new at all.whole all.dues i leads map o here is;
+    as_called = (as_called_stays K V S same hash name).walks m known s old new at all.whole all.as_called i leads map o here is;
+    questions = all.questions;
+    purposes = (purposes_stay K V S same hash name log).walks m known s old new at all.whole all.purposes i leads map o here is;
+  }
+    where
+      next : UnderWay K V K
+      next = (leads map (OverAll o) here).0
+
+      its : (x : UnderWay K V K) → ◌≡◌ {A = Option (UnderWay K V K)} (Some next) (Some x) → (removed : ℕ) → adds_of (machine_of x) ≡ Some removed → Had name m s map i (Some next) map i removed
+      its x e removed adds =
+          let x_is : x ≡ OverAll (gone_on o (after_next o.sweep)) = sym (one_of next x e) ∙ is in
+          (OverAll o, here, adds_next o.sweep.stands o.sweep removed refl (ap (λ (y : UnderWay K V K). adds_of (machine_of y)) (sym x_is) ∙ adds))
+
+  pub walks_stop : WalksStop K V S same hash
+  walks_stop name log m known s old new at all i stopped leads map u here none = record {
+    whole = walks_stop_whole K V S same hash name m known s old new all.whole i stopped leads map u here none;
+    numbers = given_numbers (name i) m stopped all.numbers;
+    kept = walks_stop_kept K V S same hash name m known s old new at all.whole all.kept i stopped leads map u here none;
+    counters = by stopped none;
+    uncounted = given_uncounted (name i) m stopped all.uncounted;
+    dues = (dues_stay K V S same hash name log).walks_stop m known s old new at all.whole all.dues i stopped leads map u here none;
+    as_called = (as_called_stays K V S same hash name).walks_stop m known s old new at all.whole all.as_called i stopped leads map u here none;
+    questions = given_questions (name i) m stopped all.questions;
+    purposes = (purposes_stay K V S same hash name log).walks_stop m known s old new at all.whole all.purposes i stopped leads map u here none;
+  }
+    where
+      at_end : Bool → Scene K V
+      at_end q = record s { calls = with_call_of s.calls map i (unless_stopped q u) }
+
+      fewer : IsThere same name m (at_end true).calls
+      fewer n j x is = elim (which s.calls map i None n j x is) as (λ _. (c : CallThere K V) × (call_of (name j) m ≡ Some c) × (c.map ≡ n) × IsCalled same x c.call) [
+        | inl own ↦ absurd (let gone = own.2 in cc gone)
+        | inr was ↦ all.whole.all.shown.calls n j x was.1
+      ]
+
+      by : (q : Bool) → (q ≡ true → NoneNamed name (name i) (at_end q)) → ShowsCounters name (given_up (name i) q m) (at_end q)
+      by true apart =
+          let went = on_counters name m s map i None (λ x e removed adds. absurd (cc e)) all.counters in
+          record { shards = went.shards; makes = went.makes; adds = fewer_add same name m (given_up (name i) true m) (at_end true) fewer went.adds (name i) (apart refl) refl }
+      by false apart =
+          on_counters name m s map i (Some u) (λ x e removed adds. (u, here, ap (λ (y : UnderWay K V K). adds_of (machine_of y)) (one_of u x e) ∙ adds)) all.counters
+
+  pub maps_come : MapsCome K V S same hash
+  maps_come name log m known s e at all there number =
+      let come = maps_come_by_number K V m all.numbers.0 there number in (
+        record {
+          whole = maps_come_whole K V same name m known s all.whole there come.1;
+          numbers = (come.0, pairs_stay_as_maps_come K V m all.numbers.1 there);
+          kept = stays_kept K V name m (with_map there m) known s s all.kept refl refl refl refl refl refl refl refl;
+          counters = counters_stay K V name m (with_map there m) s s all.counters refl refl refl refl refl (λ of j x is removed adds. (x, is, adds));
+          uncounted = λ of low. (let l : m.made ≤ of = omega (arith, low) in all.uncounted of l);
+          dues = (dues_stay K V S same hash name log).maps_come m known s e e at all.whole all.dues there come.1;
+          as_called = (as_called_stays K V S same hash name).maps_come m known s e e at all.whole all.as_called there come.1;
+          questions = all.questions;
+          purposes = (purposes_stay K V S same hash name log).maps_come m known s e e at all.whole all.purposes there come.1;
+        },
+        (let l : m.made ≤ there.number = omega (arith, number) in all.uncounted there.number l),
+      )
+
+  pub makings_begin : MakingsBegin K V S same hash
+  makings_begin name log m known s old new at all i b none not_made uncounted at2 = record {
+    whole = makings_begin_whole K V same name m known s all.whole i b not_made;
+    numbers = all.numbers;
+    kept = makings_begin_kept K V name m known s all.kept i b none;
+    counters = makings_begin_counters K V name m s all.counters i b not_made uncounted;
+    uncounted = all.uncounted;
+    dues = (dues_stay K V S same hash name log).makings_begin m known s old new at all.whole all.dues i b at2;
+    as_called = (as_called_stays K V S same hash name).makings_begin m known s old new at all.whole all.as_called i b at2;
+    questions = all.questions;
+    purposes = (purposes_stay K V S same hash name log).makings_begin m known s old new at all.whole all.purposes i b at2;
+  }
+
+  pub ends_begin : EndsBegin K V S same hash
+  ends_begin name log m known s old new at all map i standing there idle at2 = record {
+    whole = endings_begin_whole K V S same hash name m known s new all.whole map i standing there at2;
+    numbers = all.numbers;
+    kept = endings_begin_kept K V S same hash name m known s old new at all.kept map i standing idle at2;
+    counters = endings_begin_counters K V name m s all.counters map i standing;
+    uncounted = all.uncounted;
+    dues = (dues_stay K V S same hash name log).endings_begin m known s old new at all.whole all.dues map i standing there at2;
+    as_called = (as_called_stays K V S same hash name).endings_begin m known s old new at all.whole all.as_called map i standing there at2;
+    questions = all.questions;
+    purposes = (purposes_stay K V S same hash name log).endings_begin m known s old new at all.whole all.purposes map i standing there at2;
+  }
+
+  pub maps_gone : MapsGo K V S same hash
+  maps_gone name log m known s e at all own remains apart = record {
+    whole = endings_are_over_whole K V same name m known s all.whole own remains all.numbers.0.found apart;
+    numbers = (maps_go K V m all.numbers.0 own remains, pairs_stay_as_maps_go K V m all.numbers.1 own remains);
+    kept = stays_kept K V name m (without_map own remains m) known s s all.kept refl refl refl refl refl refl refl refl;
+    counters = counters_stay K V name m (without_map own remains m) s s all.counters refl refl refl refl refl (λ of j x is removed adds. (x, is, adds));
+    uncounted = all.uncounted;
+    dues = (dues_stay K V S same hash name log).endings_over m known s e e at all.whole all.dues own remains apart;
+    as_called = (as_called_stays K V S same hash name).endings_over m known s e e at all.whole all.as_called own remains apart;
+    questions = all.questions;
+    purposes = (purposes_stay K V S same hash name log).endings_over m known s e e at all.whole all.purposes own remains apart;
+  }

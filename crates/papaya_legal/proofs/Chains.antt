@@ -1,0 +1,96 @@
+-- Steps of an event, one after another.
+use Rattle.std.specs.Prelude.{◌≡◌, ◌∷◌, true, List, ℕ, Bool, zero, suc, ◌++◌, Some, None}
+use Rattle.std.proofs.Common.{sym, subst}
+use Rattle.papaya_histories.specs.Given.Schedules.declared.effect.Effect.{Effect}
+use Rattle.papaya_histories.specs.Given.Schedules.After.{moment}
+use Rattle.papaya_histories.specs.Given.Schedules.Effects.{with_effects}
+use Rattle.papaya_promises.specs.Sheltered.{SectionsHold}
+use Rattle.papaya_models.specs.Follows.{FollowsModel}
+use Rattle.papaya_histories.specs.Given.Effects.Effects.{effects_of, known_after}
+use Rattle.papaya_histories.specs.Given.Effects.declared.acting.Acting.TheVariants as acts
+use Rattle.papaya_histories.specs.Given.Others.Makings.{making_after}
+use Rattle.papaya_legal.specs.Chains.{CallCome, CallsChain, CallSteps, Chain, Come, EndsChain, EndSteps, MakingsChain, MakingSteps, RowsChain, RowsRunToTheirEnds, RowSteps}
+use Rattle.papaya_histories.specs.InEvent.{here_of}
+use Rattle.papaya_legal.specs.CallEvents.{InCallEvent, IsLegalBut}
+use Rattle.papaya_legal.specs.MapEvents.{InEndEvent, InMakingEvent}
+use Rattle.papaya_legal.specs.SlotEvents.{InSlotEvent}
+use Rattle.papaya_legal.proofs.Calls.{call_events_go_on_so}
+use Rattle.papaya_legal.proofs.Maps.{end_events_go_on_so, making_events_go_on_so}
+use Rattle.papaya_legal.proofs.Slots.{slot_events_begin_so, slot_events_go_on_so}
+use Rattle.papaya_legal.proofs.SlotsAfter.{slot_events_end_so}
+use Rattle.papaya_legal.proofs.SlotsEnd.{slot_events_are_legal}
+
+-- what each step keeps, a chain of them does
+pub chains_keep : {X : Type 0} (P : X → Type 0) (Steps : X → X → Type 0) → ((x y : X) → Steps x y → P x → P y) → (n : ℕ) (from to : X) → Chain Steps n from to → P from → P to
+chains_keep P Steps keeps zero from to chain so = subst P chain so
+chains_keep P Steps keeps (suc n) from to chain so = keeps chain.0 to chain.2 (chains_keep P Steps keeps n from chain.0 chain.1 so)
+
+module _ (K V S : Type 0) (same : K → K → Bool) (hash : K → ℕ) where
+  pub rows_chain : RowsChain K V S same hash
+  rows_chain name terms log event i called first began n from to chain so = chains_keep Midst (RowSteps same hash terms i) keeps n from to chain so
+    where
+      Midst : Come K V S → Type 0
+      Midst x = InSlotEvent same name terms log event i called first began x.did x.now x.notes x.scene
+
+      keeps : (x y : Come K V S) → RowSteps same hash terms i x y → Midst x → Midst y
+      keeps x y step midst = subst Midst (sym step.comes)
+          (slot_events_go_on_so K V S same hash name terms log event i called first began x.did x.now x.notes x.scene midst x.executor y.executor step.is_at step.size step.said step.leads step.row step.here)
+
+  pub makings_chain : MakingsChain K V S same hash
+  makings_chain name terms log event i map beginning n from to chain so = chains_keep Midst (MakingSteps same hash terms i map) keeps n from to chain so
+    where
+      Midst : Come K V S → Type 0
+      Midst x = InMakingEvent same name terms log event map beginning x.did x.now x.notes x.scene
+
+      keeps : (x y : Come K V S) → MakingSteps same hash terms i map x y → Midst x → Midst y
+      keeps x y step midst = subst Midst (sym step.comes)
+          (subst (λ (of : ℕ). InMakingEvent same name terms log event of beginning (after_step x y step).did (after_step x y step).now (after_step x y step).notes (after_step x y step).scene) step.map_is
+          (making_events_go_on_so K V S same hash name terms log event beginning x.did x.now x.notes x.scene i step.making step.here
+          (subst (λ (of : ℕ). InMakingEvent same name terms log event of beginning x.did x.now x.notes x.scene) (sym step.map_is) midst) x.executor y.executor step.is_at step.size step.below step.said
+          step.leads step.was_new))
+        where
+          after_step : (x y : Come K V S) → MakingSteps same hash terms i map x y → Come K V S
+          after_step x y step = record {
+            executor = y.executor;
+            did = x.did ++ effects_of (acts.Making step.making.map) x.notes y.executor.memory.changed;
+            now = with_effects None (Some step.making.map) (effects_of (acts.Making step.making.map) x.notes y.executor.memory.changed) x.now;
+            notes = known_after (acts.Making step.making.map) y.executor.memory.changed x.notes;
+            scene = making_after same hash x.scene x.executor y.executor i step.making (step.leads step.making step.here).0 (step.leads step.making step.here).2.step.w2 step.said
+                (step.leads step.making step.here).3;
+          }
+
+  pub ends_chain : EndsChain K V S same hash
+  ends_chain name terms log event i map beginning first n from to chain so = chains_keep Midst (EndSteps same hash terms i map) keeps n from to chain so
+    where
+      Midst : Come K V S → Type 0
+      Midst x = InEndEvent same name terms log event map beginning first i x.did x.now x.notes x.scene
+
+      keeps : (x y : Come K V S) → EndSteps same hash terms i map x y → Midst x → Midst y
+      keeps x y step midst = subst Midst (sym step.comes)
+          (end_events_go_on_so K V S same hash name terms log event map beginning first x.did x.now x.notes x.scene i step.ending step.here step.gone midst x.executor y.executor step.is_at step.size
+          step.below step.said step.leads step.its)
+
+  pub calls_chain : CallsChain K V S same hash
+  calls_chain name terms log event beginning map i c n from to chain so = chains_keep Midst (CallSteps same hash name terms log map i) keeps n from to chain so
+    where
+      Midst : CallCome K V S → Type 0
+      Midst x = InCallEvent same name terms log event beginning map i c x.steps x.come.did x.come.now x.come.notes x.come.scene x.under
+
+      keeps : (x y : CallCome K V S) → CallSteps same hash name terms log map i x y → Midst x → Midst y
+      keeps x y step midst =
+          let here = here_of same name log beginning map i c x.come.did x.come.now x.come.notes x.come.scene x.under midst.event_so in
+          subst Midst (sym (step.comes here))
+          (call_events_go_on_so K V S same hash name terms log event beginning map i c x.steps x.come.did x.come.now x.come.notes x.come.scene x.under midst x.come.executor y.come.executor step.is_at
+          step.size step.said step.leads step.pairs step.none (step.noted here) y.under (step.goes_on here))
+
+  pub rows_run_to_their_ends : RowsRunToTheirEnds K V S same hash
+  rows_run_to_their_ends name terms log known s old new at size small run e on i called may leads spares before n to chain did rests ends busy allowed finds is_row right reclaims =
+      (legal.0, slot_events_end_so K V same name terms log i called known s.world to.now to.notes s to.scene e midst run right legal.0 legal.1 legal.2 reclaims)
+    where
+      midst : InSlotEvent same name terms log e.event i called known s.world e.effects to.now to.notes to.scene
+      midst = subst (λ (fs : List Effect). InSlotEvent same name terms log e.event i called known s.world fs to.now to.notes to.scene) did
+          (rows_chain name terms log e.event i called known s.world n _ to chain (slot_events_begin_so K V S same hash name terms log known s old new at size run e.event on i called may leads spares before))
+
+      legal : IsLegalBut same terms log e × SectionsHold (moment (e ∷ log)) to.notes to.scene.world
+          × ((moment (e ∷ log)).is_alone ≡ true → FollowsModel terms.batch_size terms.roots (e ∷ log) to.notes to.scene.world)
+      legal = slot_events_are_legal K V same name terms log i called known s.world to.now to.notes to.scene e midst allowed finds small rests ends busy is_row

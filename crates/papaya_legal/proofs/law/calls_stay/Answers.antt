@@ -1,0 +1,18 @@
+-- What is shown of calls is shown between the steps of events.
+use Rattle.papaya_legal.proofs.Between.{calls_begin, calls_take, ends_begin, likes_show, logs_grow, makings_begin, maps_come, maps_gone, names_change, walks_go_on, walks_stop}
+use Rattle.papaya_legal.proofs.law.calls_stay.Goals as goal
+
+pub returns : goal.returns
+returns c d = record {
+  like = likes_show _ _;
+  grows = logs_grow _ _;
+  names = names_change _ _;
+  begins = calls_begin _ _ _;
+  takes = calls_take _ _ _;
+  walks = walks_go_on _ _ _;
+  stops = walks_stop _ _ _;
+  maps_come = maps_come _ _ _;
+  makings = makings_begin _ _ _;
+  endings = ends_begin _ _ _;
+  maps_go = maps_gone _ _ _;
+}

@@ -1,0 +1,66 @@
+-- An event of a call, from its last step on: it is legal but for what it comes to, and a run goes on with it.
+use Rattle.std.specs.Prelude.{◌≡◌, ◌⊎◌, ◌≤◌, ℕ, ◌+◌, Bool, true, false, List, [], ◌∷◌, ◌++◌, Some, not, ◌||◌}
+use Rattle.std.specs.List.{list_any}
+use Rattle.papaya_histories.specs.Given.SeizeWaiting.Held.{count}
+use Rattle.papaya_histories.specs.Given.Seize.World.{World, Request, Begin, Step, Happens}
+use Rattle.papaya_histories.specs.Given.Tables.Nodes.{deferred_word}
+use Rattle.papaya_histories.specs.Given.Tables.declared.node.Node.{Node}
+use Rattle.papaya_histories.specs.Given.Raw.declared.machines.progress.Progress.{Progress}
+use Rattle.papaya_histories.specs.Given.Raw.declared.machines.progress.Progress.TheVariants as progress
+use Rattle.papaya_histories.specs.Given.Schedules.declared.effect.Effect.{Effect}
+use Rattle.papaya_histories.specs.Given.Schedules.declared.outcome.Outcome.{Outcome}
+use Rattle.papaya_histories.specs.Given.Schedules.declared.outcome.Outcome.TheVariants as outcome
+use Rattle.papaya_histories.specs.Given.Schedules.After.{moment, moments_from}
+use Rattle.papaya_histories.specs.Given.Schedules.Beginning.{at_work}
+use Rattle.papaya_histories.specs.Given.Schedules.Effects.{with_effects, worked}
+use Rattle.papaya_histories.specs.Given.Schedules.Entry.{Entry, IfCall, acted_on, acting, caller_of, ends_call, is_busy}
+use Rattle.papaya_histories.specs.Given.Schedules.Handing.{LeavesOf, comes_clear, is_made, refuses}
+use Rattle.papaya_histories.specs.Given.Schedules.InTurn.{ComesRight}
+use Rattle.papaya_histories.specs.Given.Schedules.Model.{sets_in, things_in}
+use Rattle.papaya_histories.specs.Given.Schedules.Moment.{UnderWay as CallThere, Moment}
+use Rattle.papaya_histories.specs.Given.Schedules.Sweeps.{IsSwept}
+use Rattle.papaya_histories.specs.Given.Schedules.Terms.{Terms}
+use Rattle.papaya_histories.specs.Given.Schedules.Views.{call_of}
+use Rattle.papaya_histories.specs.Given.Callers.Together.{UnderWay, HandsOver}
+use Rattle.papaya_histories.specs.Given.Effects.Effects.{effects_of, known_after}
+use Rattle.papaya_histories.specs.Given.Effects.Known.{Known}
+use Rattle.papaya_histories.specs.Given.Effects.declared.acting.Acting.TheVariants as acts
+use Rattle.papaya_histories.specs.Given.Executor.IsAt.{Scene, IsAt, slot_of}
+use Rattle.papaya_histories.specs.Given.Executor.Stepping.{StepLeads, has_ended, scene_after}
+use Rattle.papaya_histories.specs.Given.Executor.declared.executor.Executor.{Executor}
+use Rattle.papaya_histories.specs.Answers.{NamesPair}
+use Rattle.papaya_histories.specs.InEvent.{ComesSo, here_of}
+use Rattle.papaya_purposes.specs.Kept.{PairsChangeFirst, ShowsNone, TellsNone}
+use Rattle.papaya_models.specs.CallEvents.{IsNoted, slot_of_call, things_then}
+use Rattle.papaya_finds.specs.Doing.{takes_steps}
+use Rattle.papaya_finds.specs.Parts.{FindAll}
+use Rattle.papaya_legal.specs.CallEvents.{InCallEvent, IsLegalBut}
+use Rattle.papaya_legal.specs.Carried.{ComesAlone, ShowsRun}
+
+-- a step that shows a pair of a walk comes to that, by its number, and any other one shows none
+abbrev pub ShowsAsTold : {K V : Type 0} → Known → Progress (Node K V) → Outcome V → Type 0
+ShowsAsTold known said told =
+    (ShowsNone said × TellsNone told) ⊎ ((word q : ℕ) × (said ≡ progress.Pair word) × (told ≡ outcome.Shows q) × NamesPair known word q)
+
+module _ (K V S : Type 0) (same : K → K → Bool) (hash : K → ℕ) where
+  -- The promise: so it is of an event that has come to its last step, and comes to what is right, and to what that says, if no pair comes and goes twice by the step, if its effects find what they
+  -- must, if it does what it is for, is refused no growth that it made, and leaves nothing behind; if what a row hands over that begins with the step is noted, and its slot is active.
+  abbrev pub CallEventsRun : Type 0
+  CallEventsRun =
+      (name : ℕ → List ℕ) (terms : Terms) (log : List (Entry K V)) (beginning : Moment K V) (map i : ℕ) (c : CallThere K V) → call_of (name i) beginning ≡ Some c
+      → (first : Known) (before : Scene K V) → ShowsRun same name terms log first before
+      → (steps : ℕ) (done : List Effect) (m : Moment K V) (known : Known) (s : Scene K V) (u : UnderWay K V K) (e : Entry K V)
+      → (midst : InCallEvent same name terms log e.event beginning map i c steps done m known s u)
+      → (old new : Executor K V S) → IsAt same hash old s → old.batch_size ≡ terms.batch_size → (said : Progress (Node K V)) (leads : StepLeads same hash i said s old new)
+      → at_work e (moment log) ≡ beginning → acted_on e.event beginning ≡ Some map → e.effects ≡ done ++ effects_of (acts.Call i map) known new.memory.changed → e.steps ≡ steps + 1
+      → (let known2 = known_after (acts.Call i map) new.memory.changed known in
+      let v = with_effects (Some (name i)) (Some map) (effects_of (acts.Call i map) known new.memory.changed) m in
+      let to = leads map u (here_of same name log beginning map i c done m known s u midst.event_so) in
+      ComesSo known2 c.call c.replies said e.outcome → ends_call e.outcome ≡ has_ended said → ShowsAsTold known2 said e.outcome
+      → (takes_steps e.event ≡ true) ⊎ (e.effects ≡ []) → is_busy e.outcome ≡ false → ComesRight terms log e → PairsChangeFirst log m map v
+      → FindAll terms (moments_from c.begun log) (name i) map e.effects beginning → IsSwept same terms log e → (not (refuses e.event) || not (list_any is_made e.effects)) ≡ true
+      → IfCall (LeavesOf (comes_clear e.outcome) e.outcome) (acting (caller_of e.event) (worked e (moment log)))
+      → ((request : Request) (begun : World (Node K V)) → HandsOver to.0.setting i s.world request → Happens deferred_word old.batch_size (Begin i request) s.world begun
+      → Happens deferred_word old.batch_size (Step i) begun to.4.w2 → IsNoted (things_then (things_in log) done) known (slot_of i) request)
+      → slot_of_call e.event (at_work e (moment log)) ≡ slot_of i → (ComesAlone e.event log → 1 ≤ count (slot_of i) (sets_in terms.batch_size log).active)
+      → IsLegalBut same terms log e × ShowsRun same name terms (e ∷ log) known2 (scene_after same hash s old new map i to.0 u to.1 said to.4))

@@ -1,0 +1,177 @@
+-- Once an event is over the moment after it shows all that the next event needs: where it does nothing, begins a call, tells it a reply, or gives a walk up; and where it has made a map, or ended one.
+use Rattle.std.specs.Prelude.{◌≡◌, ◌<◌, ◌^◌, ℕ, Bool, true, false, List, [], ◌∷◌, Option, Some, None, Ok}
+use Rattle.papaya_histories.specs.Given.SeizeWords.declared.fault.Fault.TheVariants.{Busy}
+use Rattle.papaya_histories.specs.Given.Seize.World.{Rests, with_at}
+use Rattle.papaya_histories.specs.Given.Runs.Same.{is_same}
+use Rattle.papaya_histories.specs.Given.Schedules.declared.call.Call.{Call}
+use Rattle.papaya_histories.specs.Given.Schedules.declared.call.Call.TheVariants.{On}
+use Rattle.papaya_histories.specs.Given.Schedules.declared.call.OneKey.{OneKey}
+use Rattle.papaya_histories.specs.Given.Schedules.declared.call.Reply.{Reply}
+use Rattle.papaya_histories.specs.Given.Tables.declared.resize_mode.ResizeMode.{ResizeMode}
+use Rattle.papaya_histories.specs.Given.Schedules.declared.effect.Effect.{Effect}
+use Rattle.papaya_histories.specs.Given.Schedules.declared.event.Event.{Event}
+use Rattle.papaya_histories.specs.Given.Schedules.declared.event.Event.TheVariants.{MakeMap, EndMap, Begin, Step, Go, Replied, OneCall, Next, Stop}
+use Rattle.papaya_histories.specs.Given.Schedules.declared.outcome.Outcome.{Outcome}
+use Rattle.papaya_histories.specs.Given.Schedules.declared.outcome.Outcome.TheVariants.{Done, Goes, Refused}
+use Rattle.papaya_histories.specs.Given.Schedules.After.{moment}
+use Rattle.papaya_histories.specs.Given.Schedules.Beginning.{at_work, begun, with_map}
+use Rattle.papaya_histories.specs.Given.Schedules.Effects.{AtEachEffect}
+use Rattle.papaya_histories.specs.Given.Schedules.Entry.{Entry, acted_on, caller_of, is_busy}
+use Rattle.papaya_histories.specs.Given.Schedules.Handing.{MovesOn}
+use Rattle.papaya_histories.specs.Given.Schedules.InTurn.{ComesRight}
+use Rattle.papaya_histories.specs.Given.Schedules.Model.{IsByModel, changes_of, left_last}
+use Rattle.papaya_histories.specs.Given.Schedules.Moment.{UnderWay as CallThere, Asking, MapThere, Moment}
+use Rattle.papaya_histories.specs.Given.Schedules.Terms.{Terms}
+use Rattle.papaya_histories.specs.Given.Schedules.Views.{call_of, map_at, number_of}
+use Rattle.papaya_histories.specs.Given.Raw.Machine.{machine_replied}
+use Rattle.papaya_histories.specs.Given.Callers.Together.{UnderWay}
+use Rattle.papaya_histories.specs.Given.Effects.Known.{Known}
+use Rattle.papaya_histories.specs.Given.Executor.Beginning.{Begins}
+use Rattle.papaya_histories.specs.Given.Executor.Ending.{ending_begun}
+use Rattle.papaya_histories.specs.Given.Executor.IsAt.{Scene, IsAt, HasCall, slot_of}
+use Rattle.papaya_histories.specs.Given.Executor.Replying.{StopLeads, scene_with, unless_stopped}
+use Rattle.papaya_histories.specs.Given.Executor.declared.executor.Executor.{Executor}
+use Rattle.papaya_histories.specs.Given.Finishes.Machines.{machine_of, ToldOfKind}
+use Rattle.papaya_histories.specs.Given.Finishes.Makings.{Beginning, HasMade}
+use Rattle.papaya_histories.specs.Given.Finishes.Maps.{Standing, with_call as with_call_of}
+use Rattle.papaya_histories.specs.Given.Follows.Calling.{NoneNamed}
+use Rattle.papaya_histories.specs.Given.Hands.Asked.{as_told}
+use Rattle.papaya_histories.specs.Changes.{IsTaken}
+use Rattle.papaya_promises.specs.Reading.{ShowsReading}
+use Rattle.papaya_promises.specs.Sheltered.{SectionsHold}
+use Rattle.papaya_models.specs.Follows.{FollowsModel}
+use Rattle.papaya_models.specs.Numbers.{EachIsOnce}
+use Rattle.papaya_finds.specs.Life.{StoresOne}
+use Rattle.papaya_finds.specs.Little.{ReclaimsAll}
+use Rattle.papaya_legal.specs.Between.{IsBegunRight, IsLike}
+use Rattle.papaya_legal.specs.CallEvents.{IsLegalBut}
+use Rattle.papaya_legal.specs.Carried.{ComesAlone, FollowsOrRows, ShowsCalls, ShowsRun}
+use Rattle.papaya_legal.specs.MapEvents.{InEndEvent, InMakingEvent, InMapEvent}
+
+-- by such an event calls and maps are as they were: it is none that makes or ends a map, begins a call, tells it a reply, gives it up, or takes its steps, or it is kept out
+abbrev pub LeavesAll : {K V : Type 0} → Event K V → Outcome V → ℕ → Type 0
+LeavesAll (MakeMap map mode capacity) Done steps = ⊥
+LeavesAll (EndMap map) Done steps = ⊥
+LeavesAll (Begin caller guard map call) Goes steps = ⊥
+LeavesAll (Replied caller reply) Goes steps = ⊥
+LeavesAll (Stop caller) Done steps = ⊥
+LeavesAll (OneCall guard map call) outcome steps = (outcome ≡ Refused Busy) × (steps ≡ 0)
+LeavesAll (Step caller refuse) outcome steps = (outcome ≡ Refused Busy) × (steps ≡ 0)
+LeavesAll (Go caller refuse) outcome steps = (outcome ≡ Refused Busy) × (steps ≡ 0)
+LeavesAll (Next caller) outcome steps = (outcome ≡ Refused Busy) × (steps ≡ 0)
+LeavesAll _ outcome steps = Unit {0}
+
+module _ (K V : Type 0) (same : K → K → Bool) where
+  -- The promises: a run goes on with an event that comes to what is right, whose life is as it must be, whose effects store one pair at most, each, and by which all is back if it reclaims all;
+  -- if the moment after it shows what it must of calls, of readings, sections and sets.
+  abbrev pub RunsGoOn : Type 0
+  RunsGoOn =
+      (name name2 : ℕ → List ℕ) (terms : Terms) (log : List (Entry K V)) (first known : Known) (before s : Scene K V) → ShowsRun same name terms log first before
+      → (e : Entry K V) → ComesRight terms log e → MovesOn terms log e
+      → (let b = at_work e (moment log) in AtEachEffect (StoresOne (caller_of e.event)) (caller_of e.event) (acted_on e.event b) e.effects b) → ReclaimsAll log e
+      → ShowsCalls same name2 log (moment (e ∷ log)) known s → ShowsReading name2 log (λ j. 0) (moment (e ∷ log)) s → SectionsHold (moment (e ∷ log)) known s.world
+      → ((moment (e ∷ log)).is_alone ≡ true → FollowsOrRows terms (e ∷ log) known s.world) → ShowsRun same name2 terms (e ∷ log) known s
+
+  -- It goes on by other names of callers that have no call,
+  abbrev pub RunsByOtherNames : Type 0
+  RunsByOtherNames =
+      (name name2 : ℕ → List ℕ) (terms : Terms) (log : List (Entry K V)) (known : Known) (s : Scene K V) → ((i : ℕ) → HasCall s i → name2 i ≡ name i) → ShowsRun same name terms log known s
+      → ShowsRun same name2 terms log known s
+
+  -- with an event that has no effects and leaves the waiting sets, if the moment after it is like one that shows all of a scene in which the collector is as it was,
+  abbrev pub QuietEventsEnd : Type 0
+  QuietEventsEnd =
+      (name : ℕ → List ℕ) (terms : Terms) (log : List (Entry K V)) (known : Known) (before s : Scene K V) → ShowsRun same name terms log known before
+      → (e : Entry K V) → ComesRight terms log e → MovesOn terms log e → e.effects ≡ [] → changes_of log e ≡ [] → left_last e.event e.outcome (moment log) ≡ [] → ReclaimsAll log e
+      → (v : Moment K V) → ShowsCalls same name log v known s → ShowsReading name log (λ j. 0) v s → IsLike v (moment (e ∷ log)) → s.world ≡ before.world → SectionsHold (moment (e ∷ log)) known s.world
+      → ShowsRun same name terms (e ∷ log) known s
+
+  -- and so with one by which calls and maps are as they were.
+  abbrev pub IdleEventsEnd : Type 0
+  IdleEventsEnd =
+      (name : ℕ → List ℕ) (terms : Terms) (log : List (Entry K V)) (known : Known) (s : Scene K V) → ShowsRun same name terms log known s
+      → (e : Entry K V) → ComesRight terms log e → MovesOn terms log e → e.effects ≡ [] → changes_of log e ≡ [] → left_last e.event e.outcome (moment log) ≡ [] → ReclaimsAll log e
+      → LeavesAll e.event e.outcome e.steps → SectionsHold (moment (e ∷ log)) known s.world → ShowsRun same name terms (e ∷ log) known s
+
+module _ (K V S : Type 0) (same : K → K → Bool) (hash : K → ℕ) where
+  -- It is legal, and a run goes on with it, that an event begins a call on the map of this name,
+  abbrev pub BegunEventsEnd : Type 0
+  BegunEventsEnd =
+      (name : ℕ → List ℕ) (terms : Terms) (log : List (Entry K V)) (known : Known) (s : Scene K V) (old new : Executor K V S) → IsAt same hash old s → ShowsRun same name terms log known s
+      → (map i : ℕ) (standing : Standing K) → s.maps map ≡ Some standing → (u : UnderWay K V K) (call : Call K V) (guard : List ℕ) → Begins same standing i u → IsBegunRight same u call
+      → NoneNamed name (name i) s → s.world.row i ≡ Rests → IsAt same hash new (scene_with map i u s) → (on : List ℕ) → number_of on (moment log) ≡ Some map → (steps : ℕ)
+      → (let e : Entry K V = record { event = Begin (name i) guard on call; outcome = Goes; steps = steps; effects = [] } in
+      ComesRight terms log e → IsLegalBut same terms log e × ShowsRun same name terms (e ∷ log) known (scene_with map i u s))
+
+  -- that tells a reply to one that asks and takes it,
+  abbrev pub ToldEventsEnd : Type 0
+  ToldEventsEnd =
+      (name : ℕ → List ℕ) (terms : Terms) (log : List (Entry K V)) (known : Known) (s : Scene K V) (old new : Executor K V S) → IsAt same hash old s → ShowsRun same name terms log known s
+      → (map i : ℕ) (u : UnderWay K V K) → s.calls map i ≡ Some u → (c : CallThere K V) → call_of (name i) (moment log) ≡ Some c → (question : Option ℕ) → c.stands ≡ Asking question
+      → (standing : Standing K) → s.maps map ≡ Some standing → (is_told : Reply V) (next : UnderWay K V K)
+      → machine_of next ≡ (machine_replied (machine_of u) (as_told is_told)).0 → (machine_replied (machine_of u) (as_told is_told)).1 ≡ Ok tt
+      → ToldOfKind V same same old.batch_size old.roots slot_of standing i u (as_told is_told) next → ((one : OneKey K V) → c.call ≡ On one → IsTaken one is_told)
+      → IsAt same hash new (scene_with map i next s) → (steps : ℕ)
+      → (let e : Entry K V = record { event = Replied (name i) is_told; outcome = Goes; steps = steps; effects = [] } in
+      ComesRight terms log e → IsLegalBut same terms log e × ShowsRun same name terms (e ∷ log) known (scene_with map i next s))
+
+  -- or that gives a walk up that is ready.
+  abbrev pub StoppedEventsEnd : Type 0
+  StoppedEventsEnd =
+      (name : ℕ → List ℕ) (terms : Terms) (log : List (Entry K V)) (known : Known) (s : Scene K V) (old new : Executor K V S) → IsAt same hash old s → ShowsRun same name terms log known s
+      → (i : ℕ) → StopLeads same hash i true s old new → (map : ℕ) (u : UnderWay K V K) → s.calls map i ≡ Some u → (steps : ℕ)
+      → (let after = record s { calls = with_call_of s.calls map i (unless_stopped true u) } in
+      let e : Entry K V = record { event = Stop (name i); outcome = Done; steps = steps; effects = [] } in
+      NoneNamed name (name i) after → ComesRight terms log e → IsLegalBut same terms log e × ShowsRun same name terms (e ∷ log) known after)
+
+  -- An event that makes a map, or ends one, is in its midst where that begins, and no call is in the midst of a row if the event comes alone.
+  abbrev pub MakingEventsBegin : Type 0
+  MakingEventsBegin =
+      (name : ℕ → List ℕ) (terms : Terms) (log : List (Entry K V)) (known : Known) (s : Scene K V) (old new : Executor K V S) → IsAt same hash old s → ShowsRun same name terms log known s
+      → (own : List ℕ) (mode : ResizeMode) (capacity : ℕ) (there : MapThere) → there.number ≡ (moment log).made → (i : ℕ) (b : Beginning K) → s.makers i ≡ None → b.map ≡ there.number
+      → (HasMade b.machine.stands → ⊥) → (ComesAlone (MakeMap own mode capacity) log → FollowsModel terms.batch_size terms.roots log known s.world)
+      → (let led = record s { makers = with_at s.makers i (Some b) } in
+      IsAt same hash new led → InMakingEvent same name terms log (MakeMap own mode capacity) b.map (with_map there (moment log)) [] (with_map there (moment log)) known led)
+
+  abbrev pub EndEventsBegin : Type 0
+  EndEventsBegin =
+      (name : ℕ → List ℕ) (terms : Terms) (log : List (Entry K V)) (known : Known) (s : Scene K V) (old new : Executor K V S) → IsAt same hash old s → ShowsRun same name terms log known s
+      → terms.batch_size < 2 ^ 64 → (own : List ℕ) (map i : ℕ) (standing : Standing K) → s.maps map ≡ Some standing → s.enders i ≡ None
+      → IsAt same hash new (ending_begun map i standing s) → (ComesAlone (EndMap own) log → FollowsModel terms.batch_size terms.roots log known s.world)
+      → InEndEvent same name terms log (EndMap own) map (moment log) known i [] (moment log) known (ending_begun map i standing s)
+
+  -- Once one has ended a run goes on, if no map that stands has its name.
+  abbrev pub EndEventsEnd : Type 0
+  EndEventsEnd =
+      (name : ℕ → List ℕ) (terms : Terms) (log : List (Entry K V)) (map : ℕ) (m : Moment K V) (first known : Known) (before s : Scene K V) (x : Executor K V S) → IsAt same hash x s
+      → (own : List ℕ) (steps : ℕ) (effects : List Effect) → InMapEvent same name terms log (EndMap own) map (moment log) effects m known s → number_of own (moment log) ≡ Some map
+      → ((n : ℕ) (standing : Standing K) (there : MapThere) → s.maps n ≡ Some standing → map_at n m ≡ Some there → is_same there.name own ≡ false)
+      → ShowsRun same name terms log first before
+      → (let e : Entry K V = record { event = EndMap own; outcome = Done; steps = steps; effects = effects } in
+      ComesRight terms log e → MovesOn terms log e → SectionsHold (moment (e ∷ log)) known s.world
+      → ((moment (e ∷ log)).is_alone ≡ true → FollowsModel terms.batch_size terms.roots (e ∷ log) known s.world) → ShowsRun same name terms (e ∷ log) known s)
+
+module _ (K V : Type 0) (same : K → K → Bool) where
+  -- Where an event that makes a map was not kept out, it is by the model, and the sets are those of the model after it; so is one that ends a map, where that is over;
+  abbrev pub MakingEventsFollow : Type 0
+  MakingEventsFollow =
+      (name : ℕ → List ℕ) (terms : Terms) (log : List (Entry K V)) (map : ℕ) (beginning m : Moment K V) (known : Known) (s : Scene K V) (e : Entry K V)
+      → InMakingEvent same name terms log e.event map beginning e.effects m known s → is_busy e.outcome ≡ false
+      → IsByModel terms log e × ((moment (e ∷ log)).is_alone ≡ true → FollowsModel terms.batch_size terms.roots (e ∷ log) known s.world)
+
+  abbrev pub EndEventsFollow : Type 0
+  EndEventsFollow =
+      (name : ℕ → List ℕ) (terms : Terms) (log : List (Entry K V)) (map : ℕ) (beginning m : Moment K V) (first known : Known) (i : ℕ) (s : Scene K V) (e : Entry K V)
+      → InEndEvent same name terms log e.event map beginning first i e.effects m known s → terms.batch_size < 2 ^ 64 → EachIsOnce first → s.enders i ≡ None → is_busy e.outcome ≡ false
+      → IsByModel terms log e × ((moment (e ∷ log)).is_alone ≡ true → FollowsModel terms.batch_size terms.roots (e ∷ log) known s.world)
+
+  -- and once a map was made, or its making was refused, a run goes on.
+  abbrev pub MakingEventsEnd : Type 0
+  MakingEventsEnd =
+      (name : ℕ → List ℕ) (terms : Terms) (log : List (Entry K V)) (map : ℕ) (beginning m : Moment K V) (first known : Known) (before s : Scene K V)
+      (own : List ℕ) (mode : ResizeMode) (capacity : ℕ) (outcome : Outcome V) (steps : ℕ) (effects : List Effect)
+      → InMapEvent same name terms log (MakeMap own mode capacity) map beginning effects m known s → begun (MakeMap own mode capacity) outcome (moment log) ≡ beginning
+      → number_of own beginning ≡ Some map → ShowsRun same name terms log first before
+      → (let e : Entry K V = record { event = MakeMap own mode capacity; outcome = outcome; steps = steps; effects = effects } in
+      ComesRight terms log e → MovesOn terms log e → SectionsHold (moment (e ∷ log)) known s.world
+      → ((moment (e ∷ log)).is_alone ≡ true → FollowsModel terms.batch_size terms.roots (e ∷ log) known s.world) → ShowsRun same name terms (e ∷ log) known s)

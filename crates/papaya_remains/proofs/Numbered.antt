@@ -1,0 +1,97 @@
+-- Each step leaves numbers of maps below the next one that the executor gives.
+use Rattle.std.specs.Prelude.{◌⊎◌, ◌≤◌, ◌<◌, ◌==◌, find, List, [], ◌∷◌, length, Option, Some, None, option_map}
+use Rattle.std.specs.List.{All}
+use Rattle.std.proofs.Common.{◌≡◌, ℕ, zero, suc, Bool, inl, inr, refl, ap, sym, subst, ◌∙◌, arith}
+use Rattle.std.proofs.lemmas.Bool.{cases_lt}
+use Rattle.std.proofs.lemmas.List.{get_or_past, length-map}
+use Rattle.papaya_moments.specs.Given.Teller.declared.changed.Changed.TheVariants.{Took}
+use Rattle.papaya_moments.specs.Given.Schedules.declared.effect.Effect.{Effect}
+use Rattle.papaya_moments.specs.Given.Schedules.declared.effect.Effect.TheVariants.{Taken}
+use Rattle.papaya_moments.specs.Given.Schedules.declared.effect.Table.{Table}
+use Rattle.papaya_moments.specs.Given.Schedules.Effects.{at_stage, maps_by, tables_by, with_effect, with_effects}
+use Rattle.papaya_moments.specs.Given.Schedules.Moment.{IsTaken, MapThere, Moment, TableThere}
+use Rattle.papaya_moments.specs.Given.Effects.Effects.{effects_of}
+use Rattle.papaya_moments.specs.Given.Effects.Known.{Known}
+use Rattle.papaya_moments.specs.Given.Effects.declared.acting.Acting.TheVariants as acts
+use Rattle.papaya_moments.specs.Given.Effects.declared.role.Role.TheVariants as role
+use Rattle.papaya_moments.specs.Given.Executor.IsAt.{Scene, IsAt}
+use Rattle.papaya_moments.specs.Given.Executor.declared.executor.Executor.{Executor}
+use Rattle.papaya_moments.specs.Given.Finishes.Maps.{Standing}
+use Rattle.papaya_moments.specs.Numbers.{NumbersMaps}
+use Rattle.papaya_moments.proofs.Numbers.{rows_keep_numbers, steps_keep_numbers}
+use Rattle.papaya_remains.specs.Numbered.{CallsKeepCount, EndsKeepCount, MakingsKeepCount, MoreAreCounted, NumbersUpTo, RowsKeepCount}
+
+module _ {K V : Type 0} (caller : Option (List ℕ)) (acted : Option ℕ) where
+  -- of maps and tables effects look at these alone, and they leave the count
+  alike_then : (effects : List Effect) (x y : Moment K V) → x.maps ≡ y.maps → x.tables ≡ y.tables
+      → ((with_effects caller acted effects x).maps ≡ (with_effects caller acted effects y).maps) × ((with_effects caller acted effects x).tables ≡ (with_effects caller acted effects y).tables)
+  alike_then [] x y maps tables = (maps, tables)
+  alike_then (f ∷ effects) x y maps tables = alike_then effects (with_effect caller acted f x) (with_effect caller acted f y) (ap (maps_by f) maps) (ap (tables_by f) tables)
+
+  made_stays : (effects : List Effect) (x : Moment K V) → (with_effects caller acted effects x).made ≡ x.made
+  made_stays [] x = refl
+  made_stays (f ∷ effects) x = made_stays effects (with_effect caller acted f x)
+
+  to_count : (effects : List Effect) (m : Moment K V) (count : ℕ) → NumbersMaps (with_effects caller acted effects (record m { made = count })) → NumbersUpTo count (with_effects caller acted effects m)
+  to_count effects m count n =
+      let x : Moment K V = with_effects caller acted effects (record m { made = count }) in
+      let alike = alike_then effects (record m { made = count }) m refl refl in
+      let made : x.made ≡ count = made_stays effects (record m { made = count }) in
+      record {
+        found = subst (λ (ms : List MapThere). All (λ there. find (λ f. f.number == there.number) ms ≡ Some there) ms) alike.0 n.found;
+        below = subst (λ (ms : List MapThere). All (λ there. there.number < count) ms) alike.0 (subst (λ (k : ℕ). All (λ there. there.number < k) x.maps) made n.below);
+        tables = subst (λ (ts : List TableThere). All (λ t. t.table.map < count) ts) alike.1 (subst (λ (k : ℕ). All (λ t. t.table.map < k) x.tables) made n.tables);
+      }
+
+-- a map that stands has a number
+module _ {K V S : Type 0} (same : K → K → Bool) (hash : K → ℕ) (e : Executor K V S) (s : Scene K V) (at : IsAt same hash e s) where
+  standing_below : (n : ℕ) (st : Standing K) → s.maps n ≡ Some st → n < length e.maps.items
+  standing_below n st here = by (cases_lt n (length e.maps.items))
+    where
+      by : (n < length e.maps.items) ⊎ (length e.maps.items ≤ n) → n < length e.maps.items
+      by (inl l) = l
+      by (inr past) =
+          absurd (let none : Some st.setting ≡ None = sym (ap (option_map (λ (x : Standing K). x.setting)) here) ∙ at.maps n ∙ get_or_past e.maps.items n None past in cc none)
+
+module _ (K V S : Type 0) (same : K → K → Bool) (hash : K → ℕ) where
+  pub calls_keep_count : CallsKeepCount K V S same hash
+  calls_keep_count m known s old new at numbers map i u here said leads caller acted =
+      to_count caller acted (effects_of (acts.Call i map) known new.memory.changed) m (length old.maps.items)
+      (steps_keep_numbers K V (record m { made = length old.maps.items }) numbers caller acted (acts.Call i map) known new.memory.changed
+      (standing_below same hash old s at map (leads map u here).0 (leads map u here).2))
+
+  pub rows_keep_count : RowsKeepCount K V S same hash
+  rows_keep_count m known s old new count numbers i said leads row here =
+      to_count None None (effects_of acts.Row known new.memory.changed) m count
+      (rows_keep_numbers K V S same hash (record m { made = count }) numbers known s old new i said leads row here)
+
+  pub makings_keep_count : MakingsKeepCount K V S same hash
+  makings_keep_count m known s old new at numbers i b here caller acted =
+      to_count caller acted (effects_of (acts.Making b.map) known new.memory.changed) m (length old.maps.items)
+      (steps_keep_numbers K V (record m { made = length old.maps.items }) numbers caller acted (acts.Making b.map) known new.memory.changed (at.numbers i b here))
+
+pub more_are_counted : (K V : Type 0) → MoreAreCounted K V
+more_are_counted K V m count more numbers = record {
+  found = numbers.found;
+  below = λ k d l. (let b = numbers.below k d l in omega (arith, b));
+  tables = λ k d l. (let b = numbers.tables k d l in omega (arith, b));
+}
+
+-- what is known of a memory whose blocks all are this table
+abbrev all_are : Table → ℕ → Known
+all_are t len = record { roles = λ b. role.Table t len; stored = 0; buckets = 0 }
+
+-- What ends is told of the map's number alone where it is a table that was not linked: there the number does not matter.
+pub ends_keep_count : (K V : Type 0) → EndsKeepCount K V
+ends_keep_count K V m count numbers map role.Free caller acted = numbers
+ends_keep_count K V m count numbers map (role.OwnPair i) caller acted = record { found = numbers.found; below = numbers.below; tables = numbers.tables }
+ends_keep_count K V m count numbers map (role.OwnTable turn shape) caller acted = record { found = numbers.found; below = numbers.below; tables = numbers.tables }
+ends_keep_count K V m count numbers map (role.Counter n) caller acted = numbers
+ends_keep_count K V m count numbers map (role.Pair n) caller acted = record { found = numbers.found; below = numbers.below; tables = numbers.tables }
+ends_keep_count K V m zero numbers map (role.Table t len) caller acted = record {
+  found = numbers.found;
+  below = numbers.below;
+  tables = λ k d l. absurd (let long = length-map m.tables (at_stage t IsTaken) in let b = numbers.tables k d (omega (arith, l, long)) in omega (arith, b));
+}
+ends_keep_count K V m (suc n) numbers map (role.Table t len) caller acted =
+    to_count caller acted (Taken t ∷ []) m (suc n) (steps_keep_numbers K V (record m { made = suc n }) numbers caller acted (acts.Ending 0) (all_are t len) (Took 0) (omega arith))

@@ -1,0 +1,48 @@
+-- Each step of a call leaves what is left over where it is, and so does each row on a slot.
+use Rattle.std.specs.Prelude.{ℕ, Bool}
+use Rattle.std.proofs.Common.{refl}
+use Rattle.papaya_moments.specs.Given.Seize.World.{Begin, Step}
+use Rattle.papaya_moments.specs.Given.Schedules.Effects.{with_effects}
+use Rattle.papaya_moments.specs.Given.Callers.Together.{IsOfSlots}
+use Rattle.papaya_moments.specs.Given.Executor.IsAt.{slot_of}
+use Rattle.papaya_moments.specs.Given.Executor.Rows.{request_of}
+use Rattle.papaya_moments.specs.Given.Executor.Stepping.{scene_after}
+use Rattle.papaya_moments.specs.Given.Executor.declared.row.SlotCall.{SlotCall}
+use Rattle.papaya_moments.specs.Given.Executor.declared.row.SlotCall.TheVariants as call
+use Rattle.papaya_moments.specs.Given.Others.Rows.{scene_then}
+use Rattle.papaya_reclaims.proofs.Left.Calls.{guards_leave_it, machines_leave_it}
+use Rattle.papaya_remains.specs.Steps.{CallsKeepRemains, RowsBeginRemain, RowsKeepRemains}
+use Rattle.papaya_remains.proofs.Stays.{goes_on, remains_stay, roots_stay}
+
+-- what callers ask of slots is of slots
+is_of_slots : (slot : ℕ) (called : SlotCall) → IsOfSlots (request_of slot called)
+is_of_slots slot (call.Register enters) = tt
+is_of_slots slot call.Enter = tt
+is_of_slots slot call.Leave = tt
+is_of_slots slot call.LeaveOwned = tt
+is_of_slots slot call.Refresh = tt
+is_of_slots slot call.Flush = tt
+is_of_slots slot call.Unregister = tt
+
+module _ (K V S : Type 0) (same : K → K → Bool) (hash : K → ℕ) where
+  pub calls_keep_remains : CallsKeepRemains K V S same hash
+  calls_keep_remains m s old new at shows map i u here said leads caller acted effects =
+      let to = leads map u here in
+      goes_on old.roots m (with_effects caller acted effects m) s (scene_after same hash s old new map i to.0 u to.1 said to.4) shows (roots_stay caller acted effects m) (remains_stay caller acted effects m)
+      (machines_leave_it V same same old.batch_size old.roots slot_of s.world s.maps s.calls s.makers s.enders shows.lists at.together shows.left map to.0 to.2 i u here new.memory.memory to.1 said to.4)
+      shows.ending
+
+  pub rows_begin_remain : RowsBeginRemain K V S same hash
+  rows_begin_remain m s old new at shows called i may leads =
+      let happened = (leads may).3 in
+      goes_on old.roots m m s (scene_then same hash (Begin i (request_of (slot_of i) called)) s old new happened) shows refl refl
+      ((guards_leave_it V same same old.batch_size old.roots slot_of s.world s.maps s.calls s.makers s.enders shows.lists at.together shows.left i happened.0 happened.2 happened.3).0
+      (request_of (slot_of i) called) (is_of_slots (slot_of i) called) happened.1)
+      shows.ending
+
+  pub rows_keep_remains : RowsKeepRemains K V S same hash
+  rows_keep_remains m s old new at shows i said leads row here caller acted effects =
+      let happened = (leads row here).4 in
+      goes_on old.roots m (with_effects caller acted effects m) s (scene_then same hash (Step i) s old new happened) shows (roots_stay caller acted effects m) (remains_stay caller acted effects m)
+      ((guards_leave_it V same same old.batch_size old.roots slot_of s.world s.maps s.calls s.makers s.enders shows.lists at.together shows.left i happened.0 happened.2 happened.3).1 happened.1)
+      shows.ending

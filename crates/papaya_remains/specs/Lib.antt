@@ -1,0 +1,4 @@
+pub mod Remains
+pub mod Steps
+pub mod Numbered
+pub mod Slots

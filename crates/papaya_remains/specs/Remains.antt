@@ -1,0 +1,44 @@
+-- What ended maps have left over, while others go on: it is behind the roots that the moment says, and roots are used as it says.
+use Rattle.std.specs.Prelude.{◌≡◌, ◌<◌, ◌≤◌, ℕ, Bool, true, false, List, [], ◌∷◌, map, Some, if◌then◌else◌}
+use Rattle.std.specs.List.{AllByRecursion}
+use Rattle.papaya_moments.specs.Given.SeizeWords.declared.at.At.TheVariants.{Used}
+use Rattle.papaya_moments.specs.Given.SeizeWords.Mem.{Mem, word_at}
+use Rattle.papaya_moments.specs.Given.Runs.LifeCycle.{times}
+use Rattle.papaya_moments.specs.Given.Schedules.Beginning.{used_roots}
+use Rattle.papaya_moments.specs.Given.Schedules.Lists.{is_among}
+use Rattle.papaya_moments.specs.Given.Schedules.Moment.{Moment}
+use Rattle.papaya_moments.specs.Given.Finishes.Endings.{Finishing}
+use Rattle.papaya_moments.specs.Given.Finishes.Maps.{Standing}
+use Rattle.papaya_moments.specs.Given.Executor.IsAt.{Scene}
+use Rattle.papaya_reclaims.specs.Left.{LeftAmong}
+
+-- there is something in the list
+abbrev pub has_some : List ℕ → Bool
+has_some [] = false
+has_some (b ∷ list) = true
+
+module _ {K V : Type 0} where
+  -- the roots of the maps that are there, and those of what is left over
+  abbrev pub map_roots : Moment K V → List ℕ
+  map_roots m = map (λ f. f.root) m.maps
+
+  abbrev pub left_roots : Moment K V → List ℕ
+  left_roots m = map (λ r. r.root) m.remains
+
+-- These lists are behind the roots that are nobody's, and the moment tells a root, if no map has it that is there, just where something is behind it. It tells each of so many roots once. The root of a map
+-- that ends is that of one that is there until its event is over.
+pub record ShowsRemains {K V : Type 0} (roots : ℕ) (m : Moment K V) (s : Scene K V) : Type 0 where
+  pub lists : ℕ → List ℕ
+  pub left : LeftAmong roots s.world s.maps s.makers s.enders lists
+  pub told : (r : ℕ) → r < roots → is_among r (map_roots m) ≡ false → is_among r (left_roots m) ≡ has_some (lists r)
+  pub once : (r : ℕ) → times r (used_roots m) ≤ 1
+  pub below : (r : ℕ) → is_among r (used_roots m) ≡ true → r < roots
+  pub ending : (j : ℕ) (f : Finishing K V) → s.enders j ≡ Some f → is_among f.setting.root (map_roots m) ≡ true
+
+-- each map that is there stands
+abbrev pub AllStand : {K V : Type 0} → Moment K V → Scene K V → Type 0
+AllStand {K} m s = AllByRecursion (λ f. (standing : Standing K) × (s.maps f.number ≡ Some standing)) m.maps
+
+-- of so many roots those are taken that the moment says, and the others are free
+abbrev pub RootsAreTaken : {K V T : Type 0} → ℕ → Moment K V → Mem T → Type 0
+RootsAreTaken roots m memory = (r : ℕ) → r < roots → word_at memory (Used r) ≡ Some (if is_among r (used_roots m) then 1 else 0)

@@ -1,0 +1,4 @@
+//! What ended maps have left over: it is behind the roots that a moment of a run says, while others go on.
+#![tactic(auto)]
+
+pub mod law;

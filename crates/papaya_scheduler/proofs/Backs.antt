@@ -1,0 +1,58 @@
+-- What an event gives back is what its row has brought back, or reclaiming all.
+use Rattle.std.specs.Prelude.{◌≡◌, ℕ, Bool, List, [], ◌++◌}
+use Rattle.std.proofs.Common.{sym, ap, subst, ◌∙◌}
+use Rattle.papaya_runs.specs.declared.record.Pair.{Pair}
+use Rattle.papaya_schedules.specs.declared.effect.Effect.{Effect}
+use Rattle.papaya_schedules.specs.declared.event.Event.{Event}
+use Rattle.papaya_schedules.specs.After.{moment}
+use Rattle.papaya_schedules.specs.Entry.{Entry}
+use Rattle.papaya_schedules.specs.Moment.{Moment}
+use Rattle.papaya_schedules.specs.Terms.{Terms}
+use Rattle.papaya_executor.specs.IsAt.{Scene, slot_of}
+use Rattle.papaya_executor.specs.OnSlots.{MayBegin}
+use Rattle.papaya_executor.specs.declared.row.SlotCall.{SlotCall}
+use Rattle.papaya_reclaiming.specs.Reclaiming.{MayReclaim, NobodyHas}
+use Rattle.papaya_logged.specs.Back.{AllBringsBack, BringsBack, ComesBack}
+use Rattle.papaya_logged.specs.OnSlots.{OnSlotBegins}
+use Rattle.papaya_logged.specs.Shown.{IsShown}
+use Rattle.papaya_logged.specs.declared.logged.Logged.{Logged}
+use Rattle.papaya_logged.proofs.BroughtBack.{none_back}
+use Rattle.papaya_scheduler.specs.Played.{IsDue}
+use Rattle.papaya_scheduler.specs.declared.scheduler.Scheduler.{Scheduler}
+
+module _ {K V S : Type 0} where
+  -- what a row brings back that has begun before it ran
+  pub brought : (slot : ℕ) (called : SlotCall) (caller : ℕ) (old began : Logged K V S) (before after : List Effect) (b0 b1 : List (Pair K V)) → slot_of caller ≡ slot → MayBegin old.executor slot called
+      → ((same : K → K → Bool) (hash : K → ℕ) (name : ℕ → List ℕ) (m : Moment K V) (s : Scene K V) → IsShown same hash name m old s → OnSlotBegins same hash name m s called caller old began)
+      → BringsBack before after began b0 b1 → BringsBack before after old b0 b1
+  brought slot called caller old began before after b0 b1 in_slot may begins it =
+      let may_there = subst (λ (x : ℕ). MayBegin old.executor x called) (sym in_slot) may in
+      (it.0, it.1, λ same hash name m s shown. it.2 same hash name m _ (begins same hash name m s shown may_there).1)
+
+  module _ (same : K → K → Bool) (hash : K → ℕ) (terms : Terms) (log : List (Entry K V)) (event : Event K V) (p : Scheduler K V S) (due : IsDue same hash terms log event p) (b0 : List (Pair K V)) where
+    -- what the row of an event brings back,
+    pub came : (before after : List Effect) → before ≡ [] → (b1 : List (Pair K V)) → BringsBack before after p.logged b0 b1 → ComesBack (moment log).stored after b0 b1
+    came before after none b1 it =
+        subst (λ (xs : List Effect). ComesBack (moment log).stored xs b0 b1) (sym (it.1 ∙ ap (λ (xs : List Effect). xs ++ it.0) none))
+        (it.2 same hash due.played.name (moment log) due.played.scene due.played.shown)
+
+    -- by what the code does
+    pub came_as : (effects before after : List Effect) → effects ≡ after → before ≡ [] → (b1 b2 : List (Pair K V)) → b2 ≡ b1 → BringsBack before after p.logged b0 b1
+        → ComesBack (moment log).stored effects b0 b2
+    came_as effects before after did none b1 b2 is it =
+        subst (ComesBack (moment log).stored effects b0) (sym is) (subst (λ (xs : List Effect). ComesBack (moment log).stored xs b0 b1) (sym did) (came before after none b1 it))
+
+    -- what reclaiming all brings back
+    pub all_came : (taken : Bool) → NobodyHas p.logged.executor → (lists : ℕ → List ℕ) → MayReclaim p.logged.executor due.played.scene lists taken → (before after : List Effect) → before ≡ []
+        → (b1 : List (Pair K V)) → AllBringsBack taken before after p.logged b0 b1 → ComesBack (moment log).stored after b0 b1
+    all_came taken nobody lists may before after none b1 it =
+        subst (λ (xs : List Effect). ComesBack (moment log).stored xs b0 b1) (sym (it.1 ∙ ap (λ (xs : List Effect). xs ++ it.0) none))
+        (it.2 same hash due.played.name (moment log) due.played.scene lists due.played.shown nobody may)
+
+module _ {K V : Type 0} where
+  -- nothing, where nothing was done
+  pub none_came : (stored : List (K × V)) (effects : List Effect) (b : List (Pair K V)) → effects ≡ [] → ComesBack stored effects b b
+  none_came stored effects b none = subst (λ (xs : List Effect). ComesBack stored xs b b) (sym none) (none_back stored b)
+
+  pub stayed_as : (stored : List (K × V)) (effects : List Effect) (b0 b2 : List (Pair K V)) → effects ≡ [] → b2 ≡ b0 → ComesBack stored effects b0 b2
+  stayed_as stored effects b0 b2 none is = subst (ComesBack stored effects b0) (sym is) (none_came stored effects b0 none)

@@ -1,0 +1,270 @@
+-- A call on one key that waits, on a map that grows in chunks, waits for a call that the moment tells, for which it may wait; and its step has changed nothing.
+use Rattle.std.specs.Prelude.{List, Option, Some}
+use Rattle.std.specs.List.{list_any}
+use Rattle.std.proofs.Common.{◌≡◌, ℕ, suc, ◌<◌, ◌⊎◌, inl, inr, Bool, true, false, refl, ap, sym, subst, ◌∙◌}
+use Rattle.papaya_histories.specs.Given.SeizeWords.Mem.{Mem, Took, value_at}
+use Rattle.papaya_histories.specs.Given.SeizeWords.Plan.{Steps}
+use Rattle.papaya_histories.specs.Given.Seize.World.{World, Row, Settles, Leaves}
+use Rattle.papaya_histories.specs.Given.Seize.declared.rows.settle.Settle.{Settle}
+use Rattle.papaya_histories.specs.Given.SeizeEnds.Holders.{has_batch}
+use Rattle.papaya_histories.specs.Given.Tables.Chunks.{is_incremental}
+use Rattle.papaya_histories.specs.Given.Tables.declared.node.Node.{Node}
+use Rattle.papaya_histories.specs.Given.Tables.declared.setting.Setting.{Setting}
+use Rattle.papaya_histories.specs.Given.Resize.declared.copier.Copier.{Copier}
+use Rattle.papaya_histories.specs.Given.Resize.declared.copier.Copying.{Copying}
+use Rattle.papaya_histories.specs.Given.Resize.declared.copier.Copying.TheVariants as copies
+use Rattle.papaya_histories.specs.Given.Resize.declared.dispose.Disposing.{Disposing}
+use Rattle.papaya_histories.specs.Given.Resize.declared.dispose.Disposing.TheVariants as disposing
+use Rattle.papaya_raw.specs.Call.{call_plan}
+use Rattle.papaya_raw.specs.Call as calls
+use Rattle.papaya_raw.specs.Machine.{called as of_key}
+use Rattle.papaya_raw.specs.declared.machines.answer.Called.{Called}
+use Rattle.papaya_raw.specs.declared.machines.answer.Called.TheVariants as says
+use Rattle.papaya_raw.specs.declared.machines.call.Calling.{Calling}
+use Rattle.papaya_raw.specs.declared.machines.call.Calling.TheVariants as at
+use Rattle.papaya_raw.specs.declared.machines.call.KeyCall.{KeyCall}
+use Rattle.papaya_raw.specs.declared.machines.machine.Machine.{Machine}
+use Rattle.papaya_raw.specs.declared.machines.progress.Progress.{Progress}
+use Rattle.papaya_raw.specs.declared.machines.progress.Progress.TheVariants as progress
+use Rattle.papaya_histories.specs.Given.Rule.Chart.{Claimed}
+use Rattle.papaya_histories.specs.Given.Rule.Words.{Blocks}
+use Rattle.papaya_histories.specs.Given.Points.FactsCalls.{CallFacts, CallingFacts, IsCopying, Unchanged}
+use Rattle.papaya_histories.specs.Given.Points.FactsCopies.{CopyingFacts}
+use Rattle.papaya_histories.specs.Given.Points.FactsDisposes.{DisposingFacts}
+use Rattle.papaya_histories.specs.Given.Points.Steps.{AreLawful}
+use Rattle.papaya_histories.specs.Given.Points.Told.{IsRowOfCall}
+use Rattle.papaya_histories.specs.Given.Late.LateCalls.{LateCallFacts}
+use Rattle.papaya_histories.specs.Given.Callers.Rows.{IsRowOn, row_of, row_of_copier, row_of_disposal}
+use Rattle.papaya_histories.specs.Given.Callers.Sights.{seen_by}
+use Rattle.papaya_histories.specs.Given.Callers.Together.{CallOnKey, UnderWay, OnKey, ForRoom, Counting, OverAll, Together, in_slot}
+use Rattle.papaya_owned.specs.Given.SeizeActs.Waits.{SettlesOn}
+use Rattle.papaya_owned.proofs.Given.Whole.Rows.Kinds.{row_decided}
+use Rattle.papaya_waits.specs.Waits.{AnotherHolds, CallAwaits, CopierAwaits, IsBeingCopied}
+use Rattle.papaya_owned.proofs.Given.Waits.Claimed.{pairs_are_copied_by_calls}
+use Rattle.papaya_owned.proofs.Given.Waits.Laws.{calls_wait_for_a_copying, call_rows_wait_for_a_holder}
+use Rattle.papaya_owned.proofs.Given.Waits.Works.{OnlyLooks, not_idle, works}
+use Rattle.papaya_schedules.specs.InUse.{may_wait_for}
+use Rattle.papaya_schedules.specs.declared.call.Call.{Call}
+use Rattle.papaya_schedules.specs.declared.call.Call.TheVariants.{On}
+use Rattle.papaya_schedules.specs.Moment.{UnderWay as CallThere, Moment}
+use Rattle.papaya_schedules.specs.Terms.{Terms}
+use Rattle.papaya_schedules.specs.Views.{call_of, grows_in_chunks, map_at}
+use Rattle.papaya_histories.specs.Given.Effects.Known.{known}
+use Rattle.papaya_histories.specs.Given.Teller.declared.changed.Changed.{Changed}
+use Rattle.papaya_histories.specs.Given.Teller.declared.changed.Changed.TheVariants as changed
+use Rattle.papaya_histories.specs.Given.Finishes.Machines.{machine_of}
+use Rattle.papaya_histories.specs.Given.Finishes.Maps.{Standing}
+use Rattle.papaya_histories.specs.Given.Executor.IsAt.{slot_of}
+use Rattle.papaya_histories.specs.Given.Executor.Stepping.{StepsFrom}
+use Rattle.papaya_histories.specs.Given.Executor.declared.executor.Executor.{Executor}
+use Rattle.papaya_histories.proofs.Given.Executor.Changed.{standing_is}
+use Rattle.papaya_histories.proofs.Given.Executor.Forgotten.{as_step}
+use Rattle.papaya_histories.specs.Given.Follows.Calls.{IsCalled}
+use Rattle.papaya_histories.specs.Given.Follows.Maps.{ShowsThere}
+use Rattle.papaya_histories.proofs.Given.Others.Outcomes.{told_in}
+use Rattle.papaya_owes.specs.Looking.{IsLooking}
+use Rattle.papaya_owes.proofs.Tables.Hosts.{Step}
+use Rattle.papaya_scheduler.specs.Played.{StandsFor}
+use Rattle.papaya_scheduler.specs.declared.scheduler.Scheduler.{Scheduler}
+use Rattle.papaya_stepping.specs.Stepping.{is_on_key}
+use Rattle.papaya_stepping.proofs.LookSays.{key_waits}
+use Rattle.papaya_stepping.proofs.QuietWaits.{asked_quiet, row_quiet, try_quiet}
+use Rattle.papaya_stepping.proofs.StepSays.{the}
+use Rattle.papaya_stepping.proofs.Waiting.{waits_for_copier, waits_for_holder}
+
+-- a row that works on one slot settles on that
+on_slot : (slot s : ℕ) (row : Row) → IsRowOn slot row → SettlesOn s row → s ≡ slot
+on_slot slot s (Settles c) is on = sym on ∙ is
+on_slot slot s (Leaves c) is on = sym on ∙ is
+on_slot slot s _ is on = absurd on
+
+-- one whose machine looks only looks
+only_looks_by : {K V : Type 0} (x : UnderWay K V K) → IsLooking (machine_of x) → OnlyLooks x
+only_looks_by (OnKey u) looks = looks.1
+only_looks_by (Counting sum) looks = tt
+only_looks_by (ForRoom r) looks = looks
+only_looks_by (OverAll o) looks = looks
+
+module _ {K V S : Type 0} (same : K → K → Bool) (hash : K → ℕ) (terms : Terms) (m : Moment K V) (p : Scheduler K V S) (stands : StandsFor same hash terms m p) (of i : ℕ) (u : CallOnKey K V K)
+    (under : stands.scene.calls of i ≡ Some (OnKey u)) (st : Standing K) (is : stands.scene.maps of ≡ Some st) where
+  abbrev w : World (Node K V)
+  w = stands.scene.world
+
+  abbrev seen : Blocks
+  seen = seen_by st.blocks (st.sights (slot_of i))
+
+  abbrev its_setting : Setting
+  its_setting = in_slot st.setting (slot_of i)
+
+  abbrev calls_on : ℕ → Option (UnderWay K V K)
+  calls_on = stands.scene.calls of
+
+  hash_is : st.hash ≡ hash
+  hash_is = stands.shown.is_at.hashes of st is
+
+  together : Together V same hash same st.setting slot_of w st.chart st.blocks st.sights calls_on
+  together = subst (λ (h : K → ℕ). Together V same h same st.setting slot_of w st.chart st.blocks st.sights calls_on) hash_is (stands.shown.is_at.together.makings.standing.each of st is)
+
+  lawful : AreLawful same hash
+  lawful = subst (λ (h : K → ℕ). AreLawful same h) hash_is (stands.shown.is_at.together.makings.standing.fit of st is).0
+
+  abbrev Waits : Type 0
+  Waits = list_any (may_wait_for (stands.shown.shows.all.shown.calls of i (OnKey u) under).0 m) m.calls ≡ true
+
+  module _ (mode : is_incremental st.setting.mode ≡ true) where
+    -- in incremental mode it goes on in the tables from the root on
+    fresh_of : CallFacts same hash same w i its_setting st.chart seen u.keys u.change u.call
+        ⊎ ((u.change ≡ Unchanged) × LateCallFacts same hash same w i its_setting st.chart seen u.keys u.began u.call) → CallFacts same hash same w i its_setting st.chart seen u.keys u.change u.call
+    fresh_of (inl fresh) = fresh
+    fresh_of (inr (same_change, late)) = absurd (let blocking = late.blocking in cc (mode, blocking))
+
+    -- at its try it has claimed no place
+    none_claimed : u.call.stands ≡ at.Probes → (j : ℕ) → st.chart.share (suc st.chart.first) j ≡ Claimed i → ⊥
+    none_claimed here j claimed = elim (together.stand i (OnKey u) under) as (λ _. ⊥) [
+      | inl rests ↦
+          not_idle same hash same st.setting slot_of w st.chart st.blocks st.sights calls_on together mode i j seen
+          ((fresh_of rests.1.facts).idle (λ copying. subst (λ (q : Calling). IsCopying q) here copying)) (inl claimed)
+      | inr within ↦ subst (λ (q : Calling). IsRowOfCall q) here within.1
+    ]
+
+    -- the row that it stands at, which it has under way or is about to begin, works on its slot
+    begins_on : (q : Calling) → CallingFacts same hash same w i its_setting st.chart seen u.keys u.change u.call q → IsRowOn (slot_of i) (row_of (slot_of i) q)
+    begins_on (at.Disposes dispose answer) f = by dispose.stands f.0.point
+      where
+        by : (q : Disposing) → DisposingFacts w i its_setting st.chart seen f.0.n f.0.t q → IsRowOn (slot_of i) (row_of_disposal (slot_of i) q)
+        by (disposing.Settles settle) g = ap (λ (x : Settle). x.slot) g.0.0
+        by (disposing.Defers defer) g = refl
+        by _ g = tt
+    begins_on (at.Helps copier goal) f = by copier.stands f.6.point
+      where
+        by : (q : Copying) → CopyingFacts same hash w i its_setting st.chart seen copier q → IsRowOn (slot_of i) (row_of_copier q)
+        by (copies.Retires settle rest) g = ap (λ (x : Settle). x.slot) g.2.0
+        by _ g = tt
+    begins_on (at.Copies copier) f = absurd (let blocking = f.1 in cc (mode, blocking))
+    begins_on _ f = tt
+
+    its_row_on : IsRowOn (slot_of i) (row_of (slot_of i) u.call.stands)
+    its_row_on = elim (together.stand i (OnKey u) under) as (λ _. IsRowOn (slot_of i) (row_of (slot_of i) u.call.stands)) [
+      | inl rests ↦ begins_on u.call.stands (fresh_of rests.1.facts).point
+      | inr within ↦ subst (λ (row : Row). IsRowOn (slot_of i) row) within.0 (stands.shown.is_at.on_slots i)
+    ]
+
+    -- another row has the batch of its slot
+    by_holder : AnotherHolds w i (row_of (slot_of i) u.call.stands) → Waits
+    by_holder (s, on, (j, has, other, only)) =
+        waits_for_holder same hash terms m p stands of i j (OnKey u) under
+        (subst (λ (n : ℕ). has_batch n (w.row j) ≡ true) (on_slot (slot_of i) s (row_of (slot_of i) u.call.stands) its_row_on on) has) other
+
+    -- another call copies the pair that it has come to
+    by_copier : u.call.stands ≡ at.Probes → (t place : ℕ) → IsBeingCopied st.chart t place → Waits
+    by_copier here t place being =
+        let pair = pairs_are_copied_by_calls V same hash same st.setting slot_of w st.chart st.blocks st.sights calls_on together mode t place being in
+        waits_for_copier same hash terms m p stands of of i pair.2 (OnKey u) pair.3 under pair.4
+        (λ e. none_claimed here place (subst (λ (n : ℕ). st.chart.share (suc st.chart.first) place ≡ Claimed n) e pair.5)) refl
+        (λ looks. works same hash same st.setting slot_of w st.chart st.blocks st.sights calls_on together mode pair.2 place pair.3 pair.4 (inl pair.5) (only_looks_by pair.3 looks))
+        st is pair.1
+
+  module _ (m2 : Mem (Node K V)) (told : Changed) (p2 : KeyCall K V K) (s : Step p.logged.executor.memory.memory m2 told (call_plan same same hash u.call) (p2, says.Waits)) where
+    steps : Steps Took value_at w.memory (call_plan same same hash u.call) m2 (p2, says.Waits)
+    steps = subst (λ (x : Mem (Node K V)). Steps Took value_at x (call_plan same same hash u.call) m2 (p2, says.Waits)) (sym stands.shown.is_at.memory)
+        (as_step p.logged.executor.memory.memory changed.Nothing (call_plan same same hash u.call) m2 told (p2, says.Waits) s)
+
+    -- its step has changed nothing
+    pub quiet : told ≡ changed.Nothing
+    quiet = elim (row_decided u.call.stands) as (λ _. told ≡ changed.Nothing) [
+      | inl row ↦ row_quiet p.logged.executor.memory.memory m2 told same same hash u.call u.call.stands row (p2, says.Waits) s refl
+      | inr none ↦
+          by u.call.stands (calls_wait_for_a_copying V same hash same st.setting slot_of lawful w st.chart st.blocks st.sights calls_on together i u under none m2 p2 steps).1 s
+    ]
+      where
+        copying : (copier : Copier) → (q : Copying) → copier.stands ≡ q → CopierAwaits st.chart (is_incremental st.setting.mode) copier q → is_incremental st.setting.mode ≡ false
+            → Step p.logged.executor.memory.memory m2 told (calls.plan_at same same hash u.call (at.Copies copier)) (p2, says.Waits) → told ≡ changed.Nothing
+        copying copier copies.Asks here awaits blocking t = asked_quiet p.logged.executor.memory.memory m2 told same same hash u.call copier here (p2, says.Waits) t
+        copying copier copies.Marks here (yes_mode, being, open_still) blocking t = absurd (cc (yes_mode, blocking))
+        copying copier _ here none blocking t = absurd none
+
+        by : (q : Calling) → CallAwaits st.chart (is_incremental st.setting.mode) u.call q
+            → Step p.logged.executor.memory.memory m2 told (calls.plan_at same same hash u.call q) (p2, says.Waits) → told ≡ changed.Nothing
+        by at.Probes awaits t = try_quiet p.logged.executor.memory.memory m2 told same same hash u.call (p2, says.Waits) t
+        by (at.Copies copier) (blocking, awaits) t = copying copier copier.stands refl awaits blocking t
+        by _ none t = absurd none
+
+    module _ (mode : is_incremental st.setting.mode ≡ true) where
+      pub waits_so : Waits
+      waits_so = elim (row_decided u.call.stands) as (λ _. Waits) [
+        | inl row ↦ by_holder mode (call_rows_wait_for_a_holder V same hash same st.setting slot_of w st.chart st.blocks st.sights calls_on together i u under row m2 p2 steps)
+        | inr none ↦
+            by u.call.stands refl (calls_wait_for_a_copying V same hash same st.setting slot_of lawful w st.chart st.blocks st.sights calls_on together i u under none m2 p2 steps).1
+      ]
+        where
+          by : (q : Calling) → u.call.stands ≡ q → CallAwaits st.chart (is_incremental st.setting.mode) u.call q → Waits
+          by at.Probes here (incremental, being) = by_copier mode here u.call.trial.table.turn u.call.trial.probe.i being
+          by (at.Copies copier) here (blocking, awaits) = absurd (cc (mode, blocking))
+          by _ here none = absurd none
+
+-- what was called on one key is a call on one
+as_key : {K V : Type 0} (same : K → K → Bool) (x : UnderWay K V K) (call : Call K V) → IsCalled same x call → is_on_key call ≡ true → (u : CallOnKey K V K) × (x ≡ OnKey u)
+as_key same (OnKey u) (On one) called key = (u, refl)
+as_key same (ForRoom r) (On one) called key = absurd called
+as_key same (Counting sum) (On one) called key = absurd called
+as_key same (OverAll o) (On one) called key = absurd called
+as_key same x _ called key = absurd (cc key)
+
+-- so it is of the call of this name, whose machine has taken a step that waits
+module _ {K V S : Type 0} (same : K → K → Bool) (hash : K → ℕ) (terms : Terms) (m : Moment K V) (p : Scheduler K V S) (stands : StandsFor same hash terms m p) (own : List ℕ) (of i : ℕ)
+    (x : UnderWay K V K) (under : stands.scene.calls of i ≡ Some x) (named : stands.name i ≡ own) (new : Executor K V S) (next : Machine K V K)
+    (step : StepsFrom same hash (machine_of x) p.logged.executor new next progress.Waits) (c : CallThere K V) (c_is : call_of own m ≡ Some c) (key : is_on_key c.call ≡ true) where
+  abbrev its : (d : CallThere K V) × (call_of (stands.name i) m ≡ Some d) × (d.map ≡ of) × IsCalled same x d.call
+  its = stands.shown.shows.all.shown.calls of i x under
+
+  same_call : (d : CallThere K V) → call_of (stands.name i) m ≡ Some d → d ≡ c
+  same_call d d_is = the d c (sym d_is ∙ ap (λ (l : List ℕ). call_of l m) named ∙ c_is)
+
+  as_one : (u : CallOnKey K V K) × (x ≡ OnKey u)
+  as_one = as_key same x its.0.call its.3 (ap (λ (d : CallThere K V). is_on_key d.call) (same_call its.0 its.1) ∙ key)
+
+  abbrev u : CallOnKey K V K
+  u = as_one.0
+
+  there : stands.scene.calls of i ≡ Some (OnKey u)
+  there = under ∙ ap (λ (y : UnderWay K V K). Some y) as_one.1
+
+  abbrev st : Standing K
+  st = (standing_is same hash p.logged.executor stands.scene stands.shown.is_at of i x under).0
+
+  st_is : stands.scene.maps of ≡ Some st
+  st_is = (standing_is same hash p.logged.executor stands.scene stands.shown.is_at of i x under).1
+
+  abbrev before : Mem (Node K V)
+  before = p.logged.executor.memory.memory
+
+  abbrev Told : Type 0
+  Told = (p2 : KeyCall K V K) × Step before new.memory.memory new.memory.changed (call_plan same same hash u.call) (p2, says.Waits)
+
+  -- its own step, within that of its machine
+  own_step : Told
+  own_step =
+      let it = told_in before new.memory.memory new.memory.changed of_key (call_plan same same hash u.call) (next, progress.Waits)
+          (subst (λ (y : UnderWay K V K). StepsFrom same hash (machine_of y) p.logged.executor new next progress.Waits) as_one.1 step) in
+      by it.0 (key_waits it.0.1 (ap (λ (y : Machine K V K × Progress (Node K V)). y.1) (sym it.1))) it.2
+    where
+      by : (end : KeyCall K V K × Called (Node K V)) → end.1 ≡ says.Waits → Step before new.memory.memory new.memory.changed (call_plan same same hash u.call) end → Told
+      by (p2, says.Waits) e s = (p2, s)
+      by (p2, _) e s = absurd (cc e)
+
+  pub key_quiet : new.memory.changed ≡ changed.Nothing
+  key_quiet = quiet same hash terms m p stands of i u there st st_is new.memory.memory new.memory.changed own_step.0 own_step.1
+
+  pub key_waits_for : grows_in_chunks (map_at c.map m) ≡ true → list_any (may_wait_for c m) m.calls ≡ true
+  key_waits_for chunks =
+      subst (λ (d : CallThere K V). list_any (may_wait_for d m) m.calls ≡ true)
+      (same_call (stands.shown.shows.all.shown.calls of i (OnKey u) there).0 (stands.shown.shows.all.shown.calls of i (OnKey u) there).1)
+      (waits_so same hash terms m p stands of i u there st st_is new.memory.memory new.memory.changed own_step.0 own_step.1 mode)
+    where
+      shows : ShowsThere of st m (known p.logged.notes)
+      shows = (stands.shown.shows.all.shown.maps of st st_is).there
+
+      mode : is_incremental st.setting.mode ≡ true
+      mode =
+          ap is_incremental (sym shows.mode) ∙ ap grows_in_chunks (sym shows.is)
+          ∙ ap (λ (n : ℕ). grows_in_chunks (map_at n m)) (sym (ap (λ (d : CallThere K V). d.map) (sym (same_call its.0 its.1)) ∙ its.2)) ∙ chunks

@@ -1,0 +1,5 @@
+pub mod Tallies
+pub mod Numbers
+mod Taken
+pub mod Back
+pub mod Found

@@ -1,0 +1,3 @@
+pub mod Tally
+pub mod Left
+pub mod Told
