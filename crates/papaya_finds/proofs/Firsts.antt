@@ -80,7 +80,7 @@ first_opens setting places = by (nat_le (max places 8) (2 ^ 48))
     by true = (refl, refl)
     by false = tt
 
-module _ {K V : Type 0} (c : NewMap) where
+module _ (c : NewMap) where
   abbrev GoesSo : NewMap × Progress Setting → Type 0
   GoesSo e = (e.0.len ≡ c.len) × OpensFor c.len e.0.stands
 
@@ -92,21 +92,9 @@ module _ {K V : Type 0} (c : NewMap) where
   next_so stays =
       by_test (nat_lt c.setting.root (c.roots - 1)) (record c { setting = at_root c.setting (c.setting.root + 1) }, progress.Goes) (refused c RootsUsedUp) (refl, stays) (refl, tt)
 
-  taken_so : OpensFor c.len c.stands → (out : Out (Node K V)) → Always GoesSo (taken c out)
-  taken_so stays (Exchanged (Ok free)) = (refl, tt)
-  taken_so stays (Exchanged (Err used)) = next_so stays
-  taken_so stays _ = (refl, stays)
-
   -- with its counter
   abbrev counted : ℕ → NewMap
   counted block = record c { setting = with_counter c.setting block }
-
-  made_so : OpensFor c.len c.stands → (out : Out (Node K V)) → Always GoesSo (made c out)
-  made_so stays (Made (Ok block)) =
-      by_test (c.len == 0) (done (counted block)) (goes (counted block) (at.Tables (first_table (with_counter c.setting block) c.len))) (refl, tt)
-      (refl, first_opens (with_counter c.setting block) c.len)
-  made_so stays (Made (Err value)) = (refl, tt)
-  made_so stays _ = (refl, stays)
 
   abbrev TableGoesSo : NewTable → NewTable × Progress Planned → Type 0
   TableGoesSo n e = (e.0.setting ≡ n.setting) × ShapedAt (λ before reason. ⊥) (IsForPlaces c.len) e.0.stands
@@ -117,21 +105,36 @@ module _ {K V : Type 0} (c : NewMap) where
   opened_so n (making, progress.Done table) so = (refl, tt)
   opened_so n (making, progress.Refused fault) so = (refl, tt)
 
-  by_point : (p : Opening) → OpensFor c.len p → OpensFor c.len c.stands → AlwaysOf GoesSo (plan_at {K = K} {V = V} c p)
-  by_point at.Takes so stays = λ out. taken_so stays out
-  by_point at.Shards so stays = λ out. made_so stays out
-  by_point (at.Tables n) so stays =
-      always_plan_more (TableGoesSo n) GoesSo (opened c) (opened_so n) (new_table_plan n)
-      (goes_shaped {K = K} {V = V} (λ before reason. ⊥) (IsForPlaces c.len) (λ t b is. is) n (λ before reason count none. absurd none) so)
-  by_point (at.Unmakes fault) so stays = λ out. (refl, tt)
-  by_point (at.Frees fault) so stays = λ out. (refl, tt)
-  by_point at.Over so stays = (refl, stays)
-  by_point (at.Refused fault) so stays = (refl, stays)
+  module _ {K V : Type 0} where
+    taken_so : OpensFor c.len c.stands → (out : Out (Node K V)) → Always GoesSo (taken c out)
+    taken_so stays (Exchanged (Ok free)) = (refl, tt)
+    taken_so stays (Exchanged (Err used)) = next_so stays
+    taken_so stays _ = (refl, stays)
 
-  step_opens : (m m2 : Mem (Node K V)) (told : Changed) (end : NewMap × Progress Setting) → OpensFor c.len c.stands
-      → StepsTold K V (NewMap × Progress Setting) m changed.Nothing (new_map_plan c) m2 told end → GoesSo end
-  step_opens m m2 told end so s =
-      always_steps GoesSo m m2 (new_map_plan c) end (by_point c.stands so so) (as_step m changed.Nothing (new_map_plan c) m2 told end s)
+    made_so : OpensFor c.len c.stands → (out : Out (Node K V)) → Always GoesSo (made c out)
+    made_so stays (Made (Ok block)) =
+        by_test (c.len == 0) (done (counted block)) (goes (counted block) (at.Tables (first_table (with_counter c.setting block) c.len))) (refl, tt)
+        (refl, first_opens (with_counter c.setting block) c.len)
+    made_so stays (Made (Err value)) = (refl, tt)
+    made_so stays _ = (refl, stays)
+
+  module _ (K V : Type 0) where
+    by_point : (p : Opening) → OpensFor c.len p → OpensFor c.len c.stands → AlwaysOf GoesSo (plan_at {K = K} {V = V} c p)
+    by_point at.Takes so stays = λ out. taken_so stays out
+    by_point at.Shards so stays = λ out. made_so stays out
+    by_point (at.Tables n) so stays =
+        always_plan_more (TableGoesSo n) GoesSo (opened c) (opened_so n) (new_table_plan n)
+        (goes_shaped (λ before reason. ⊥) (IsForPlaces c.len) (λ t b is. is) n (λ before reason count none. absurd none) K V so)
+    by_point (at.Unmakes fault) so stays = λ out. (refl, tt)
+    by_point (at.Frees fault) so stays = λ out. (refl, tt)
+    by_point at.Over so stays = (refl, stays)
+    by_point (at.Refused fault) so stays = (refl, stays)
+
+  module _ {K V : Type 0} where
+    step_opens : (m m2 : Mem (Node K V)) (told : Changed) (end : NewMap × Progress Setting) → OpensFor c.len c.stands
+        → StepsTold K V (NewMap × Progress Setting) m changed.Nothing (new_map_plan c) m2 told end → GoesSo end
+    step_opens m m2 told end so s =
+        always_steps GoesSo m m2 (new_map_plan c) end (by_point K V c.stands so so) (as_step m changed.Nothing (new_map_plan c) m2 told end s)
 
 -- So makings are so at each moment.
 
@@ -176,7 +179,7 @@ makings_go_on K V S same hash s old new shows i told leads b here =
 
 -- With the tables that are made and linked that is all.
 
-module _ {K V : Type 0} (map : ℕ) (everything : Bool) where
+module _ (map : ℕ) where
   -- if this one makes a table, that is the first
   abbrev MakesIt : Effect → Type 0
   MakesIt (effect.TableMade t) = (t.map ≡ map) × (t.turn ≡ 0)
@@ -186,19 +189,20 @@ module _ {K V : Type 0} (map : ℕ) (everything : Bool) where
   made_first (effect.TableMade t) fs firsts = ((firsts.0, firsts.1), firsts.2)
   made_first _ fs firsts = (tt, firsts)
 
-  found_so : (m : Moment K V) (f : Effect) → is_first_making f ≡ true → MakesIt f → FindsFirst map m f → EventFinds (Some map) everything m f
-  found_so m (effect.Asked ABlock) kind made finds = tt
-  found_so m (effect.TableMade t) kind made finds = made
-  found_so m (effect.Linked t shape) kind made finds = finds
-  found_so m (effect.Asked ABucket) kind made finds = absurd (cc kind)
-  found_so m _ kind made finds = absurd (cc kind)
+  module _ {K V : Type 0} (everything : Bool) where
+    found_so : (m : Moment K V) (f : Effect) → is_first_making f ≡ true → MakesIt f → FindsFirst map m f → EventFinds (Some map) everything m f
+    found_so m (effect.Asked ABlock) kind made finds = tt
+    found_so m (effect.TableMade t) kind made finds = made
+    found_so m (effect.Linked t shape) kind made finds = finds
+    found_so m (effect.Asked ABucket) kind made finds = absurd (cc kind)
+    found_so m _ kind made finds = absurd (cc kind)
 
-  all_found : (of : Option ℕ) (effects : List Effect) (m : Moment K V) → list_all is_first_making effects ≡ true → MakesFirst map effects → AtEachEffect (FindsFirst map) None of effects m
-      → AtEachEffect (EventFinds (Some map) everything) None of effects m
-  all_found of [] m kinds firsts finds = tt
-  all_found of (f ∷ fs) m kinds firsts finds =
-      let both = and_parts (is_first_making f) (list_all is_first_making fs) kinds in
-      let its = made_first f fs firsts in (found_so m f both.0 its.0 finds.0, all_found of fs (with_effect None of f m) both.1 its.1 finds.1)
+    all_found : (of : Option ℕ) (effects : List Effect) (m : Moment K V) → list_all is_first_making effects ≡ true → MakesFirst map effects → AtEachEffect (FindsFirst map) None of effects m
+        → AtEachEffect (EventFinds (Some map) everything) None of effects m
+    all_found of [] m kinds firsts finds = tt
+    all_found of (f ∷ fs) m kinds firsts finds =
+        let both = and_parts (is_first_making f) (list_all is_first_making fs) kinds in
+        let its = made_first f fs firsts in (found_so m f both.0 its.0 finds.0, all_found of fs (with_effect None of f m) both.1 its.1 finds.1)
 
 pub firsts_are_all : (K V : Type 0) → FirstsAreAll K V
 firsts_are_all K V map everything of effects m kinds firsts finds = all_found map everything of effects m kinds firsts finds

@@ -136,7 +136,7 @@ module _ {K V : Type 0} (hash : K → ℕ) (m : Mem (Node K V)) (c : Chart K) (s
 
   told_for : (kind : Kind) (its : Option K) (asked : List (Asked V)) → IsAsTold hash m c seen its asked p.replies p.own → p.missing ≡ kind.absent → HasForNone p → StoresForNone kind asked
   told_for kind its asked as_told is (inl puts) = inl (sym is ∙ puts)
-  told_for kind its asked as_told is (inr (asks, some)) = inr (sym is ∙ asks, by p.replies.absent refl)
+  told_for kind its asked as_told is (inr (asks, some)) = (let it = by p.replies.absent refl in inr (sym is ∙ asks, it.0, it.1))
     where
       by : (t : Told V) → p.replies.absent ≡ t → (value : V) × (last_told None asked ≡ Some (reply.Insert value))
       by tells.Nothing e = absurd (some e)

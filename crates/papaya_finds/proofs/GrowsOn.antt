@@ -87,14 +87,11 @@ module _ {K V : Type 0} (had : ℕ) (p : KeyCall K V K) (m : Mem (Node K V)) whe
   TableTells _ = Unit {0}
 
 module _ {K V : Type 0} (many : ℕ) where
-  abbrev End' : Type 0
-  End' = KeyCall K V K × Called (Node K V)
-
   -- where it has come it goes on to make a table for what it has
   abbrev pub GrowsSo : KeyCall K V K × Called (Node K V) → Type 0
   GrowsSo e = GrowsAt many e.0 e.0.stands
 
-  by_test : (b : Bool) (x y : End') → (b ≡ true → GrowsSo x) → (b ≡ false → GrowsSo y) → GrowsSo (if b then x else y)
+  by_test : (b : Bool) (x y : KeyCall K V K × Called (Node K V)) → (b ≡ true → GrowsSo x) → (b ≡ false → GrowsSo y) → GrowsSo (if b then x else y)
   by_test true x y f g = f refl
   by_test false x y f g = g refl
 
@@ -315,7 +312,7 @@ module _ {K V : Type 0} (many : ℕ) where
   fills_so p word is (Some key) = fill_so (record p { replies = as_own p.replies word }) word is (value_for p.replies word) word key
   fills_so p word is None = λ out. emptied_so p word out
 
-  module _ (had : ℕ) (le : had ≤ many) (asks : K → K → Bool) (same : K → K → Bool) (hash : K → ℕ) (p : KeyCall K V K) (m m2 : Mem (Node K V)) (told_by : Changed) (end : End') where
+  module _ (had : ℕ) (le : had ≤ many) (asks : K → K → Bool) (same : K → K → Bool) (hash : K → ℕ) (p : KeyCall K V K) (m m2 : Mem (Node K V)) (told_by : Changed) (end : KeyCall K V K × Called (Node K V)) where
     abbrev pub StepAt : Calling → Type 0
     StepAt q = StepsTold K V (KeyCall K V K × Called (Node K V)) m changes.Nothing (plan_at asks same hash p q) m2 told_by end
 

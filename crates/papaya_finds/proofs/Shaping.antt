@@ -38,7 +38,7 @@ module _ {T A B : Type 0} (Q : A → Type 0) (P : B → Type 0) (f : A → B) (a
   always_plan_more (Do op rest) so = λ out. always_more (rest out) (so out)
 
 -- Of a making that is to make such a table, whatever its link: what counts for that is that of the sum, and of the table alone its length and its last try.
-module _ {K V : Type 0} (Sums : Table → Reason → Type 0) (Is : Table → Type 0) (kept : (t : Table) (b : ℕ) → Is t → Is (with_block t b)) where
+module _ (Sums : Table → Reason → Type 0) (Is : Table → Type 0) (kept : (t : Table) (b : ℕ) → Is t → Is (with_block t b)) where
   after_so : (link : At) (t : Table) → Is t → ShapedAt Sums Is (after_making link t)
   after_so (places.Root r) t is = is
   after_so (places.Used r) t is = is
@@ -57,27 +57,28 @@ module _ {K V : Type 0} (Sums : Table → Reason → Type 0) (Is : Table → Typ
     counted_so before reason sums (sum, progress.Done count) = (refl, counts before reason count sums)
     counted_so before reason sums (sum, progress.Refused fault) = (refl, tt)
 
-    made_so : (t : Table) → Is t → So (n, progress.Goes) → (out : Out (Node K V)) → Always So (made n t out)
-    made_so t is stays (Made (Ok block)) = (refl, after_so n.link (with_block t block) (kept t block is))
-    made_so t is stays (Made (Err value)) = (refl, tt)
-    made_so t is stays _ = stays
+    module _ (K V : Type 0) where
+      made_so : (t : Table) → Is t → So (n, progress.Goes) → (out : Out (Node K V)) → Always So (made n t out)
+      made_so t is stays (Made (Ok block)) = (refl, after_so n.link (with_block t block) (kept t block is))
+      made_so t is stays (Made (Err value)) = (refl, tt)
+      made_so t is stays _ = stays
 
-    linked_so : (t : Table) → Is t → So (n, progress.Goes) → (out : Out (Node K V)) → Always So (linked n t out)
-    linked_so t is stays (Exchanged (Ok empty)) = (refl, tt)
-    linked_so t is stays (Exchanged (Err found)) = (refl, is)
-    linked_so t is stays _ = stays
+      linked_so : (t : Table) → Is t → So (n, progress.Goes) → (out : Out (Node K V)) → Always So (linked n t out)
+      linked_so t is stays (Exchanged (Ok empty)) = (refl, tt)
+      linked_so t is stays (Exchanged (Err found)) = (refl, is)
+      linked_so t is stays _ = stays
 
-    by_point : (p : Making) → ShapedAt Sums Is p → So (n, progress.Goes) → AlwaysOf So (plan_at {K = K} {V = V} n p)
-    by_point (makes.Sums before reason sum) so stays = always_plan_as So (counted n before reason) (counted_so before reason so) (sum_plan sum)
-    by_point (makes.Makes t) so stays = λ out. made_so t so stays out
-    by_point (makes.Promotes t) so stays = λ out. (refl, so)
-    by_point (makes.Links t) so stays = λ out. linked_so t so stays out
-    by_point (makes.Drops t found) so stays = λ out value. (refl, tt)
-    by_point (makes.Over t) so stays = stays
-    by_point (makes.Refused fault) so stays = stays
+      by_point : (p : Making) → ShapedAt Sums Is p → So (n, progress.Goes) → AlwaysOf So (plan_at {K = K} {V = V} n p)
+      by_point (makes.Sums before reason sum) so stays = always_plan_as So (counted n before reason) (counted_so before reason so) (sum_plan sum)
+      by_point (makes.Makes t) so stays = λ out. made_so t so stays out
+      by_point (makes.Promotes t) so stays = λ out. (refl, so)
+      by_point (makes.Links t) so stays = λ out. linked_so t so stays out
+      by_point (makes.Drops t found) so stays = λ out value. (refl, tt)
+      by_point (makes.Over t) so stays = stays
+      by_point (makes.Refused fault) so stays = stays
 
-    pub goes_shaped : ShapedAt Sums Is n.stands → AlwaysOf So (new_table_plan {K = K} {V = V} n)
-    goes_shaped so = by_point n.stands so (refl, so)
+      pub goes_shaped : ShapedAt Sums Is n.stands → AlwaysOf So (new_table_plan {K = K} {V = V} n)
+      goes_shaped so = by_point n.stands so (refl, so)
 
 -- The first table.
 
@@ -86,7 +87,7 @@ FirstGoes n e = (e.0.setting ≡ n.setting) × IsFirstMaking e.0
 
 module _ (K V : Type 0) where
   pub first_goes : (n : NewTable) → IsFirstMaking n → AlwaysOf (FirstGoes n) (new_table_plan {K = K} {V = V} n)
-  first_goes n so = goes_shaped {K = K} {V = V} (λ before reason. ⊥) IsFirstTable (λ t b is. is) n (λ before reason count none. absurd none) so
+  first_goes n so = goes_shaped (λ before reason. ⊥) IsFirstTable (λ t b is. is) n (λ before reason count none. absurd none) K V so
 
 pub first_begun : (setting : Setting) → IsFirstMaking (first_table setting FIRST_LEN)
 first_begun setting = (refl, refl)
@@ -135,7 +136,7 @@ module _ (setting : Setting) (before : Table) where
   module _ (K V : Type 0) where
     pub next_goes : (n : NewTable) → n.setting ≡ setting → Follows' n.stands → AlwaysOf (NextGoes n) (new_table_plan {K = K} {V = V} n)
     next_goes n setting_is so =
-        goes_shaped {K = K} {V = V} (λ b reason. (b ≡ before) × (reason ≡ Full)) (IsNextTable setting before) (λ t b is. is) n (counts_so n setting_is) so
+        goes_shaped (λ b reason. (b ≡ before) × (reason ≡ Full)) (IsNextTable setting before) (λ t b is. is) n (counts_so n setting_is) K V so
 
 pub next_begun : (setting : Setting) (before : Table) → IsNextMaking setting before (table_after setting before Full)
 next_begun setting before = (refl, (refl, refl))
