@@ -94,11 +94,11 @@ module _ {K V : Type 0} where
     told_valued (TryInsert k v) of are e = refl
     told_valued (GetOrInsert k v) of are e = refl
     told_valued (UpdateOrInsert k v) of are e = refl
-    told_valued (TryInsertWith k) of are e = gift_there of are (let one : asked ≡ of = cc e in one) (λ puts. (let kind_is = kind_same Its (TryInsertWith k) of e in cc (kind_is, puts)))
-    told_valued (GetOrInsertWith k) of are e = gift_there of are (let one : asked ≡ of = cc e in one) (λ puts. (let kind_is = kind_same Its (GetOrInsertWith k) of e in cc (kind_is, puts)))
-    told_valued (Update k) of are e = gift_there of are (let one : asked ≡ of = cc e in one) (λ puts. (let kind_is = kind_same Its (Update k) of e in cc (kind_is, puts)))
-    told_valued (UpdateOrInsertWith k) of are e = gift_there of are (let one : asked ≡ of = cc e in one) (λ puts. (let kind_is = kind_same Its (UpdateOrInsertWith k) of e in cc (kind_is, puts)))
-    told_valued (Compute k) of are e = gift_there of are (let one : asked ≡ of = cc e in one) (λ puts. (let kind_is = kind_same Its (Compute k) of e in cc (kind_is, puts)))
+    told_valued (TryInsertWith k) of are e = gift_there of are (let one : asked ≡ of = cc e in one) (λ puts. cc (e, puts))
+    told_valued (GetOrInsertWith k) of are e = gift_there of are (let one : asked ≡ of = cc e in one) (λ puts. cc (e, puts))
+    told_valued (Update k) of are e = gift_there of are (let one : asked ≡ of = cc e in one) (λ puts. cc (e, puts))
+    told_valued (UpdateOrInsertWith k) of are e = gift_there of are (let one : asked ≡ of = cc e in one) (λ puts. cc (e, puts))
+    told_valued (Compute k) of are e = gift_there of are (let one : asked ≡ of = cc e in one) (λ puts. cc (e, puts))
     told_valued (RemoveIf k) of are e = absurd (answers_none kind asked (kind_same Its (RemoveIf k) of e) stores)
     told_valued (Get k) of are e = absurd (cc e)
     told_valued (GetKeyValue k) of are e = absurd (cc e)

@@ -67,16 +67,16 @@ module _ {K V : Type 0} where
     told_stores (GetOrInsert k v) of are e = refl
     told_stores (UpdateOrInsert k v) of are e = refl
     told_stores (TryInsertWith k) of are e =
-        let it = replied of are (let one : asked ≡ of = cc e in one) (λ puts. (let kind_is = kind_same Its (TryInsertWith k) of e in cc (kind_is, puts))) in
+        let it = replied of are (let one : asked ≡ of = cc e in one) (λ puts. cc (e, puts)) in
         ap (λ (x : Option (Reply V)). puts_any (means (TryInsertWith k) x None 0)) it.1
     told_stores (GetOrInsertWith k) of are e =
-        let it = replied of are (let one : asked ≡ of = cc e in one) (λ puts. (let kind_is = kind_same Its (GetOrInsertWith k) of e in cc (kind_is, puts))) in
+        let it = replied of are (let one : asked ≡ of = cc e in one) (λ puts. cc (e, puts)) in
         ap (λ (x : Option (Reply V)). puts_any (means (GetOrInsertWith k) x None 0)) it.1
     told_stores (UpdateOrInsertWith k) of are e =
-        let it = replied of are (let one : asked ≡ of = cc e in one) (λ puts. (let kind_is = kind_same Its (UpdateOrInsertWith k) of e in cc (kind_is, puts))) in
+        let it = replied of are (let one : asked ≡ of = cc e in one) (λ puts. cc (e, puts)) in
         ap (λ (x : Option (Reply V)). puts_any (means (UpdateOrInsertWith k) x None 0)) it.1
     told_stores (Compute k) of are e =
-        let it = replied of are (let one : asked ≡ of = cc e in one) (λ puts. (let kind_is = kind_same Its (Compute k) of e in cc (kind_is, puts))) in
+        let it = replied of are (let one : asked ≡ of = cc e in one) (λ puts. cc (e, puts)) in
         ap (λ (x : Option (Reply V)). puts_any (means (Compute k) x None 0)) it.1
     told_stores (Update k) of are e = absurd (answers_none kind asked (kind_same Its (Update k) of e) stores)
     told_stores (RemoveIf k) of are e = absurd (answers_none kind asked (kind_same Its (RemoveIf k) of e) stores)
