@@ -280,7 +280,7 @@ module _ {K V S : Type 0} (same : K → K → Bool) (hash : K → ℕ) (name : �
       by_point (at_point.Allocs k) n is made other grows after =
           let one : n ≡ k = (let back : k ≡ n = cc is in sym back) in
           let next = made_so (λ b reason. (b ≡ u.call.trial.table) × (reason ≡ Full)) (IsNextTable u.call.setting u.call.trial.table) k.stands p grows.1.1
-              (subst (λ (y : NewTable). table_in y.stands ≡ Some p) one made) in
+          (subst (λ (y : NewTable). table_in y.stands ≡ Some p) one made) in
           follow_next u.call.trial.table p (next_as u.call.trial.table next) (tables_of map m) (λ none. (let turn = after.2 in omega (arith, turn_is, none, turn))) (newest after.0 after.1 after.2)
       by_point (at_point.Helps copier goal) n is made other grows turn = absurd (other tt)
       by_point (at_point.Copies copier) n is made other grows turn = absurd (other tt)
