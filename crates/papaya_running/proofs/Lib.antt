@@ -1,10 +1,8 @@
-mod Beginning
 mod Ended
 mod Forms
 mod Happened
 mod Gives
 pub mod Mays
-mod LawfulKeys
 mod Left
-mod Logs
-mod Turns
+mod MapsTold
+mod Singles

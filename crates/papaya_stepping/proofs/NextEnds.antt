@@ -1,10 +1,9 @@
 -- The last step of a walk to its next pair: it shows a pair, or has shown all; and the event by which it does.
-use Rattle.std.specs.Prelude.{◌≡◌, ◌+◌, ◌≤◌, ◌&&◌, ℕ, Bool, true, false, not, List, [], ◌++◌, filter, find, map, position, slice_get, slice_set, sum_by, is_some, Option, Some, None, option_map, if◌then◌else◌}
+use Rattle.std.specs.Prelude.{◌≡◌, ◌+◌, ◌≤◌, ◌&&◌, ℕ, Bool, true, false, List, [], ◌++◌, find, map, position, slice_get, slice_set, sum_by, Option, Some, None, option_map}
 use Rattle.std.specs.List.{remove}
 use Rattle.std.proofs.Common.{refl, sym, ap, subst, ◌∙◌, arith}
 use Rattle.papaya_histories.specs.Given.SeizeWords.declared.fault.Fault.TheVariants.{Busy}
 use Rattle.papaya_histories.specs.Given.Tables.declared.node.Node.{Node}
-use Rattle.papaya_histories.specs.Given.Sweeps.declared.sweep.Purpose.TheVariants.{Walks}
 use Rattle.papaya_histories.specs.Given.Sweeps.declared.sweep.Sweep.{Sweep}
 use Rattle.papaya_histories.specs.Given.Sweeps.declared.sweep.Sweeping.{Sweeping}
 use Rattle.papaya_raw.specs.declared.machines.machine.Machine.{Machine}
@@ -111,8 +110,7 @@ module _ {K V S : Type 0} (same : K → K → Bool) (hash : K → ℕ) (terms : 
 
         as_far : AsFar (record d { stands = far.Ready; value = d.value }) (machine_of more.0)
         as_far = subst (AsFar (record d { stands = far.Ready; value = d.value }))
-            (sym (goes_as_said same hash terms own n w p stands place at_place (progress.Pair word) new before after leads_so more.0 more.1))
-            (
+            (sym (goes_as_said same hash terms own n w p stands place at_place (progress.Pair word) new before after leads_so more.0 more.1)) (
               (subst (λ (k : Kind). IsFor k says.0.purpose) (sym (its_walk same hash terms own n w p stands place at_place).0) (says.2 ∙ (its_sweep same hash terms own n w p stands place at_place).walks), says.3),
               subst (λ (q : Sweeping). RoomInSweeping q) (sym says.3) tt,
             )
