@@ -81,7 +81,7 @@ module _ (K V S : Type 0) (same : K → K → Bool) (hash : K → ℕ) where
           let here = here_of same name log beginning map i c x.come.did x.come.now x.come.notes x.come.scene x.under midst.event_so in
           subst Midst (sym (step.comes here))
           (call_events_go_on_so K V S same hash name terms log event beginning map i c x.steps x.come.did x.come.now x.come.notes x.come.scene x.under midst x.come.executor y.come.executor step.is_at
-          step.size step.said step.leads step.pairs step.none (step.noted here) y.under (step.goes_on here))
+          step.size step.said step.leads step.none (step.noted here) y.under (step.goes_on here))
 
   pub rows_run_to_their_ends : RowsRunToTheirEnds K V S same hash
   rows_run_to_their_ends name terms log known s old new at size small run e on i called may leads spares before n to chain did rests ends busy allowed finds is_row right reclaims =

@@ -37,7 +37,7 @@ use Rattle.papaya_histories.specs.Given.Schedules.Moment.{UnderWay as CallThere}
 use Rattle.papaya_histories.specs.Given.Callers.Together.{UnderWay, HandsOver}
 use Rattle.papaya_histories.specs.Given.Executor.IsAt.{slot_of}
 use Rattle.papaya_histories.specs.Given.Executor.Stepping.{StepLeads, scene_after}
-use Rattle.papaya_purposes.specs.Kept.{PairsChangeFirst, ShowsNone}
+use Rattle.papaya_purposes.specs.Kept.{ShowsNone}
 use Rattle.papaya_models.specs.CallEvents.{IsNoted, things_then}
 use Rattle.papaya_legal.specs.CallEvents.{InCallEvent}
 use Rattle.papaya_legal.specs.MapEvents.{InEndEvent, InMakingEvent}
@@ -135,15 +135,13 @@ module _ {K V S : Type 0} (same : K → K → Bool) (hash : K → ℕ) (terms : 
     }
 
 module _ {K V S : Type 0} (same : K → K → Bool) (hash : K → ℕ) (name : ℕ → List ℕ) (terms : Terms) (log : List (Entry K V)) (map i : ℕ) where
-  -- A step of the call of caller i on its map, by which the call goes on: no pair comes or goes twice, no pair of a walk is shown, and what a row hands over
+  -- A step of the call of caller i on its map, by which the call goes on: no pair of a walk is shown, and what a row hands over
   -- that begins with the step is noted.
   pub record CallSteps (from to : CallCome K V S) : Type 0 where
     pub is_at : IsAt same hash from.come.executor from.come.scene
     pub size : from.come.executor.batch_size ≡ terms.batch_size
     pub said : CallTold (Node K V)
     pub leads : StepLeads same hash i said from.come.scene from.come.executor to.come.executor
-    pub pairs : PairsChangeFirst log from.come.now map
-        (with_effects (Some (name i)) (Some map) (effects_of (acts.Call i map) from.come.notes to.come.executor.memory.changed) from.come.now)
     pub none : ShowsNone said
     pub noted : (here : from.come.scene.calls map i ≡ Some from.under) (request : Request) (begun : World (Node K V))
         → HandsOver (leads map from.under here).0.setting i from.come.scene.world request
