@@ -7,7 +7,7 @@ ghost use Rattle.papaya_legal.specs.CallRuns.{CallEventsRun, CallsLeaveNothing, 
 ghost use Rattle.papaya_legal.specs.SlotEvents.{SlotEventsBegin, SlotEventsGoOn, SlotEventsAreLegal, SlotEventsEnd};
 ghost use Rattle.papaya_legal.specs.MapEvents.{MakingEventsGoOn, EndEventsGoOn, MapEventsAreLegal, IdleEventsAreLegal};
 ghost use Rattle.papaya_legal.specs.Over.{BegunEventsEnd, EndEventsBegin, EndEventsEnd, EndEventsFollow, IdleEventsEnd, MakingEventsBegin, MakingEventsEnd, MakingEventsFollow, QuietEventsEnd, RunsByOtherNames, RunsGoOn, StoppedEventsEnd, ToldEventsEnd};
-ghost use Rattle.papaya_legal.specs.Chains.{CallsChain, EndsChain, MakingsChain, RowsChain, RowsRunToTheirEnds};
+ghost use Rattle.papaya_legal.specs.Chains.{CallsChain, EndsChain, MakingsChain, RowsChain, RowsRunToTheirEnds, MakingsRunToTheirEnds, EndsRunToTheirEnds};
 ghost use Rattle.papaya_legal.specs.Promises.{EventsAreLegal};
 
 /// Before all events a moment shows all by which the first event keeps its promises. A run goes on with an event that comes to what is right, whose life is as it must be, whose effects store
@@ -94,12 +94,15 @@ pub fn idle_events<K, V, S>()
 
 /// An event whose work is a row on a slot, the making or the end of a map, or a call that goes on, is in its midst wherever a chain of steps of that has led, from where it has begun. So an event whose
 /// row has begun, and has run to its end, is legal but for what it comes to, and a run goes on with it, if what it did it may do, and finds what it must, if it is that row to the waiting sets, was
-/// not kept out, leaves its guards within their sections, and all is back if it reclaims all.
+/// not kept out, leaves its guards within their sections, and all is back if it reclaims all. So it is of an event that has made a map, if it is whole, and of one that has ended one, if no table is
+/// left over, and no map that stands then has its name.
 pub fn steps_chain<K, V, S>()
     ensures rows { (same : K → K → Bool) (hash : K → ℕ) → RowsChain K V S same hash }
     ensures makings { (same : K → K → Bool) (hash : K → ℕ) → MakingsChain K V S same hash }
     ensures ends { (same : K → K → Bool) (hash : K → ℕ) → EndsChain K V S same hash }
     ensures calls { (same : K → K → Bool) (hash : K → ℕ) → CallsChain K V S same hash }
+    ensures whole_makings { (same : K → K → Bool) (hash : K → ℕ) → MakingsRunToTheirEnds K V S same hash }
+    ensures whole_ends { (same : K → K → Bool) (hash : K → ℕ) → EndsRunToTheirEnds K V S same hash }
     ensures whole_rows { (same : K → K → Bool) (hash : K → ℕ) → RowsRunToTheirEnds K V S same hash }
 {}
 
