@@ -28,6 +28,7 @@ use Rattle.papaya_models.specs.CallEvents.{slot_of_call}
 use Rattle.papaya_models.specs.Follows.{IsFollowed}
 use Rattle.papaya_models.proofs.CallEvents.{others_hand_over}
 use Rattle.papaya_models.proofs.Ends.{ends_begin as sets_begin}
+use Rattle.papaya_lives.proofs.LeftTables.{none_is_left_to}
 use Rattle.papaya_models.proofs.MapEvents.{end_events_end as sets_end, making_events_begin as making_sets_begin, making_events_end as making_sets_end}
 use Rattle.papaya_shards.specs.ShardWords.{IsUncounted}
 use Rattle.papaya_finds.specs.Life.{StoresOne}
@@ -98,14 +99,15 @@ module _ (K V : Type 0) (same : K → K → Bool) where
       over alone = making_sets_end K V terms log e (slot_of_call e.event (at_work e (moment log))) known s.world (midst.1 alone) hands.0 hands.1
 
   pub end_events_follow : EndEventsFollow K V same
-  end_events_follow name terms log map beginning m first known i s e midst small once no_table busy =
+  end_events_follow name terms log map beginning m first known i s e midst small once ended busy =
       (by_model_so terms log e busy (λ alone. (over alone).0), λ alone. (over (was_alone terms log e busy alone)).1)
     where
       hands : (changes_of log e ≡ flat_map (handing (things_in (e ∷ log)) (slot_of_call e.event (at_work e (moment log)))) e.effects) × (left_last e.event e.outcome (moment log) ≡ [])
       hands = others_hand_over K V log e (of_no_slot e.event midst.0.of_maps)
 
       over : ComesAlone e.event log → IsFollowed terms log e known s.world
-      over alone = sets_end K V terms log e (slot_of_call e.event (at_work e (moment log))) i first known s.world small once (midst.1 alone) m midst.0.calls.whole.all.shown.blocks no_table hands.0 hands.1
+      over alone = sets_end K V terms log e (slot_of_call e.event (at_work e (moment log))) i first known s.world small once (midst.1 alone) m midst.0.calls.whole.all.shown.blocks
+          (none_is_left_to K V known s midst.0.calls.kept.left i ended) hands.0 hands.1
 
 -- Their effects store nothing.
 

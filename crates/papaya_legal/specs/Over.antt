@@ -39,7 +39,6 @@ use Rattle.papaya_histories.specs.Given.Hands.Asked.{as_told}
 use Rattle.papaya_histories.specs.Changes.{IsTaken}
 use Rattle.papaya_promises.specs.Reading.{ShowsReading}
 use Rattle.papaya_promises.specs.Sheltered.{SectionsHold}
-use Rattle.papaya_models.specs.Ends.{NoTableIsLeft}
 use Rattle.papaya_models.specs.Follows.{FollowsModel}
 use Rattle.papaya_models.specs.Numbers.{EachIsOnce}
 use Rattle.papaya_finds.specs.Life.{StoresOne}
@@ -153,7 +152,7 @@ module _ (K V S : Type 0) (same : K → K → Bool) (hash : K → ℕ) where
       → ((moment (e ∷ log)).is_alone ≡ true → FollowsModel terms.batch_size terms.roots (e ∷ log) known s.world) → ShowsRun same name terms (e ∷ log) known s)
 
 module _ (K V : Type 0) (same : K → K → Bool) where
-  -- Where an event that makes a map was not kept out, it is by the model, and the sets are those of the model after it; so is one that ends a map, if no table is left over;
+  -- Where an event that makes a map was not kept out, it is by the model, and the sets are those of the model after it; so is one that ends a map, where that is over;
   abbrev pub MakingEventsFollow : Type 0
   MakingEventsFollow =
       (name : ℕ → List ℕ) (terms : Terms) (log : List (Entry K V)) (map : ℕ) (beginning m : Moment K V) (known : Known) (s : Scene K V) (e : Entry K V)
@@ -163,7 +162,7 @@ module _ (K V : Type 0) (same : K → K → Bool) where
   abbrev pub EndEventsFollow : Type 0
   EndEventsFollow =
       (name : ℕ → List ℕ) (terms : Terms) (log : List (Entry K V)) (map : ℕ) (beginning m : Moment K V) (first known : Known) (i : ℕ) (s : Scene K V) (e : Entry K V)
-      → InEndEvent same name terms log e.event map beginning first i e.effects m known s → terms.batch_size < 2 ^ 64 → EachIsOnce first → NoTableIsLeft known i s.world → is_busy e.outcome ≡ false
+      → InEndEvent same name terms log e.event map beginning first i e.effects m known s → terms.batch_size < 2 ^ 64 → EachIsOnce first → s.enders i ≡ None → is_busy e.outcome ≡ false
       → IsByModel terms log e × ((moment (e ∷ log)).is_alone ≡ true → FollowsModel terms.batch_size terms.roots (e ∷ log) known s.world)
 
   -- and once a map was made, or its making was refused, a run goes on.

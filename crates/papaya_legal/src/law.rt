@@ -67,7 +67,7 @@ pub fn slot_events<K, V, S>()
 {}
 
 /// An event that makes a map, or ends one, is in its midst where that begins, and still after each step, an end if it takes tables of its map alone.
-/// Once its work is done it keeps its promises, if what it did it may do, and finds what it must, if it is whole, and by the model; which it is if it was not kept out, and no table is left over. The moment after it shows all that the next event
+/// Once its work is done it keeps its promises, if what it did it may do, and finds what it must, if it is whole, and by the model; which it is if it was not kept out, and its end is over. The moment after it shows all that the next event
 /// needs, where no map that stands has the name of one that has ended.
 pub fn map_events<K, V, S>()
     ensures making { (same : K → K → Bool) (hash : K → ℕ) → MakingEventsBegin K V S same hash }

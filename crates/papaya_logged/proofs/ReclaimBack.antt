@@ -1,9 +1,8 @@
 -- What comes back while all is reclaimed is what was taken away.
-use Rattle.std.specs.Prelude.{◌≡◌, ◌⊎◌, ℕ, Bool, true, false, List, [], ◌++◌, flat_map, Some, None, if◌then◌else◌}
+use Rattle.std.specs.Prelude.{◌≡◌, ◌⊎◌, ℕ, Bool, true, false, List, [], ◌++◌, flat_map, None, if◌then◌else◌}
 use Rattle.std.proofs.Common.{refl, sym, ap, subst, ◌∙◌, inl, inr}
 use Rattle.std.proofs.lemmas.List.{append-nil, append_assoc}
-use Rattle.papaya_histories.specs.Given.SeizeWords.declared.at.At.TheVariants.{Root, Used, Slot, Entry, Word}
-use Rattle.papaya_histories.specs.Given.SeizeWords.Mem.{value_at}
+use Rattle.papaya_histories.specs.Given.SeizeWords.declared.at.At.TheVariants.{Root, Used}
 use Rattle.seize.specs.declared.rows.reclaim_all.ReclaimAll.{ReclaimAll}
 use Rattle.seize.specs.declared.rows.settle.Settled.{Settled}
 use Rattle.seize.specs.declared.rows.settle.Settled.TheVariants as settled
@@ -30,7 +29,7 @@ use Rattle.papaya_logged.specs.Back.{AllBringsBack, ComesBack, pair_back, settle
 use Rattle.papaya_logged.specs.Reclaims.{ReclaimingIsShown, ReclaimingSoFar, ReclaimingSteps}
 use Rattle.papaya_logged.specs.Shown.{IsShown}
 use Rattle.papaya_logged.specs.declared.logged.Logged.{Logged}
-use Rattle.papaya_logged.proofs.Back.{IsBack, more_back, none_back, nothing_back, row_quiet, taken_back}
+use Rattle.papaya_logged.proofs.BroughtBack.{IsBack, more_back, none_back, nothing_back, row_quiet, taken_back}
 use Rattle.papaya_logged.proofs.ReclaimGives.{GivesOr, reclaiming_gives, taken_gone}
 use Rattle.papaya_logged.proofs.ReclaimRows.{EmptiesRoot, reclaiming_tells}
 use Rattle.papaya_logged.proofs.ReclaimSteps.{left}

@@ -78,15 +78,15 @@ module _ {K V : Type 0} (size : ℕ) where
       let first = begun_kept size j request w v its.1 happens.1 in
       ap (λ (h : ℕ → Hand). h x) (sym first.1)
       ∙ rows_handed i events its.2 v w2 (happens_reached deferred_word size (Begin j request) w v r happens) runs x
-        (subst (λ (z : Mem (Node K V)). IsSome (value_at z x)) (sym first.0) some) none
-  rows_handed i (Step j ∷ events) its w w2 r (v, happens, runs) x some none = by (value_at v.memory x) refl
+      (subst (λ (z : Mem (Node K V)). IsSome (value_at z x)) (sym first.0) some) none
+  rows_handed i (Step j ∷ events) its w w2 r (v, happens, runs) x some none =
+      by (value_at v.memory x) refl (λ there. rows_handed i events its.1 v w2 (happens_reached deferred_word size (Step j) w v r happens) runs x there none)
     where
-      by : (o : Option (Node K V)) → value_at v.memory x ≡ o → w.hand x ≡ Handed
-      by None e = step_handed j w v r happens x some e
-      by (Some value) e =
+      by : (o : Option (Node K V)) → value_at v.memory x ≡ o → (IsSome (value_at v.memory x) → v.hand x ≡ Handed) → w.hand x ≡ Handed
+      by None e later = step_handed j w v r happens x some e
+      by (Some value) e later =
           let there : IsSome (value_at v.memory x) = subst (λ (q : Option (Node K V)). IsSome q) (sym e) refl in
-          sym (step_kept size j w v r happens x there).1
-          ∙ rows_handed i events its.1 v w2 (happens_reached deferred_word size (Step j) w v r happens) runs x there none
+          sym (step_kept size j w v r happens x there).1 ∙ later there
   rows_handed i (_ ∷ events) its w w2 r runs x some none = absurd its
 
   -- one that is taken away as it was left over is so before,

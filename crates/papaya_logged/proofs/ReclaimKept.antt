@@ -99,7 +99,7 @@ module _ {K V S : Type 0} (same : K → K → Bool) (hash : K → ℕ) (name : �
   root_comes : (x : Changed) → EmptiesRoot x → LeavesBy w.memory w2.memory x → ComesSo (effects_of Row known x) (known_after Row x known)
   root_comes (changed.Wrote (Root r) was now) empty l =
       let none = root_none same hash name m known s whole old new i lists before after told at leads (names_same was now) (named known was) (named known now) (block_in now)
-          (nothing_there same hash name m known s whole old new i lists before after told at leads now empty) in
+      (nothing_there same hash name m known s whole old new i lists before after told at leads now empty) in
       subst (λ (fs : List Effect). ComesSo fs (if names_same was now then known else linked_on Row (block_in now) (named known now) known)) (sym none.0)
       (subst (ComesSo []) (sym none.1) (idle_comes l.2))
   root_comes (changed.Wrote (Used r) was now) empty l = idle_comes l.2

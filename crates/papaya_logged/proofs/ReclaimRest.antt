@@ -121,7 +121,7 @@ module _ {K V S : Type 0} (same : K → K → Bool) (hash : K → ℕ) (name : �
   root_back : (x : Changed) → EmptiesRoot x → (b : ℕ) (r : Role) → (known_after Row x known).roles b ≡ r → known.roles b ≡ r
   root_back (changed.Wrote (Root root) was now) empty b r is =
       let none = root_none same hash name m known s whole old new i lists before after told at leads (names_same was now) (named known was) (named known now) (block_in now)
-          (nothing_there same hash name m known s whole old new i lists before after told at leads now empty) in
+      (nothing_there same hash name m known s whole old new i lists before after told at leads now empty) in
       sym (ap (λ (k : Known). k.roles b) none.1) ∙ is
   root_back (changed.Wrote (Used root) was now) empty b r is = is
   root_back _ empty b r is = absurd empty

@@ -37,7 +37,7 @@ module _ {K V S : Type 0} (same : K → K → Bool) (hash : K → ℕ) (old new 
       let taken : (machine_replied (machine_of u) (as_told is_told)).1 ≡ Ok tt = subst (λ (r : MachineReply V). (machine_replied (machine_of u) r).1 ≡ Ok tt) told_as (subst (λ (r : Result Unit (MachineReply V)). r ≡ Ok tt) to.4 ok) in
       let next_is : machine_of to.1 ≡ (machine_replied (machine_of u) (as_told is_told)).0 = subst (λ (r : MachineReply V). machine_of to.1 ≡ (machine_replied (machine_of u) r).0) told_as to.3 in
       let whole = calls_take_whole K V S same hash name m (known old.notes) s old.executor shown.is_at shown.shows map i u here c there question asks to.0 to.2 is_told to.1 next_is taken
-            (subst (λ (r : MachineReply V). ToldOfKind V same same old.executor.batch_size old.executor.roots slot_of to.0 i u r to.1) told_as to.5) in (
+      (subst (λ (r : MachineReply V). ToldOfKind V same same old.executor.batch_size old.executor.roots slot_of to.0 i u r to.1) told_as to.5) in (
         to.1,
         to.3,
         record {

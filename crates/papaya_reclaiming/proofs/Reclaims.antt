@@ -144,9 +144,12 @@ module _ {K V S : Type 0} (same : K → K → Bool) (hash : K → ℕ) (e : Exec
 -- a step in the memory alone, and what it leaves then, keep what the executor was given
 module _ {K V S : Type 0} (e mid e2 : Executor K V S) where
   given_by : e2 ≡ record mid { slots = e2.slots } → mid ≡ record e { memory = mid.memory } → KeepsGiven e e2
-  given_by left rest =
-      (ap (λ x. x.hasher) left ∙ ap (λ x. x.hasher) rest, ap (λ x. x.batch_size) left ∙ ap (λ x. x.batch_size) rest, ap (λ x. x.roots) left ∙ ap (λ x. x.roots) rest,
-      ap (λ x. length x.maps.items) left ∙ ap (λ x. length x.maps.items) rest)
+  given_by left rest = (
+    ap (λ x. x.hasher) left ∙ ap (λ x. x.hasher) rest,
+    ap (λ x. x.batch_size) left ∙ ap (λ x. x.batch_size) rest,
+    ap (λ x. x.roots) left ∙ ap (λ x. x.roots) rest,
+    ap (λ x. length x.maps.items) left ∙ ap (λ x. length x.maps.items) rest,
+  )
 
   given_by_none : e2 ≡ mid → mid ≡ record e { memory = mid.memory } → KeepsGiven e e2
   given_by_none left rest = given_by (left ∙ sym (ap (λ x. record mid { slots = x.slots }) left)) rest

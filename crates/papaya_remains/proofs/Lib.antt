@@ -7,3 +7,4 @@ pub mod Endings
 pub mod Maps
 pub mod Rests
 pub mod Numbered
+pub mod Slots

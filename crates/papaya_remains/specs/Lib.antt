@@ -1,3 +1,4 @@
 pub mod Remains
 pub mod Steps
 pub mod Numbered
+pub mod Slots

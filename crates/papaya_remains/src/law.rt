@@ -1,6 +1,7 @@
 //! What is promised of what ended maps have left over.
 ghost use Rattle.std.specs.Prelude.{ℕ, Bool};
 ghost use Rattle.papaya_remains.specs.Numbered.{CallsKeepCount, RowsKeepCount, MakingsKeepCount, EndsKeepCount, MoreAreCounted};
+ghost use Rattle.papaya_remains.specs.Slots.{SlotsBegin, CallsNoteSlots, RowsNoteSlots, MakingsNoteSlots, EndingsNoteSlots};
 ghost use Rattle.papaya_remains.specs.Steps.{BeginsRemain, StaysRemain, MakingsBeginRemain, MapsComeRemain, MapsGoRemain, ReclaimedRemain, CallsKeepRemains, RowsBeginRemain, RowsKeepRemains, MakingsKeepRemains, EndingsBeginRemain, EndingsKeepRemains, RestsRemain};
 
 /// At each moment of a run what ended maps have left over is behind the roots that the moment says, each of which it tells once, however many others go on: so it is before all events; after each step of a
@@ -30,4 +31,13 @@ pub fn numbers_stay_counted<K, V, S>()
     ensures makings { (same : K → K → Bool) (hash : K → ℕ) → MakingsKeepCount K V S same hash }
     ensures ends { EndsKeepCount K V }
     ensures more { MoreAreCounted K V }
+{}
+
+/// Where a bucket of slots is noted the first slot has a word, and where none is there is no slot: so it is before all events, and after each step of a call, of a row on a slot, of a making and of an end.
+pub fn slots_are_noted<K, V, S>()
+    ensures begins { SlotsBegin K V }
+    ensures calls { (same : K → K → Bool) (hash : K → ℕ) → CallsNoteSlots K V S same hash }
+    ensures rows { (same : K → K → Bool) (hash : K → ℕ) → RowsNoteSlots K V S same hash }
+    ensures makings { (same : K → K → Bool) (hash : K → ℕ) → MakingsNoteSlots K V S same hash }
+    ensures endings { (same : K → K → Bool) (hash : K → ℕ) → EndingsNoteSlots K V S same hash }
 {}

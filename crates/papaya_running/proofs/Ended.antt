@@ -11,8 +11,7 @@ use Rattle.papaya_runs.specs.Pairs.{numbers}
 use Rattle.papaya_runs.specs.Runs.{IsStored}
 use Rattle.papaya_schedules.specs.declared.event.Event.{Event}
 use Rattle.papaya_schedules.specs.declared.record.Run.{Run}
-use Rattle.papaya_schedules.specs.After.{moment}
-use Rattle.papaya_schedules.specs.Entry.{Entry}
+use Rattle.papaya_schedules.specs.After.{AtEachEvent, moment}
 use Rattle.papaya_schedules.specs.Moment.{Moment}
 use Rattle.papaya_schedules.specs.Runs.{Lists}
 use Rattle.papaya_schedules.specs.Terms.{Terms}
@@ -20,6 +19,7 @@ use Rattle.papaya_schedules.specs.Views.{is_in_a_map, is_waiting}
 use Rattle.papaya_effects.specs.Known.{Known, known}
 use Rattle.papaya_effects.specs.declared.role.Role.TheVariants.{Free}
 use Rattle.papaya_scheduler.specs.declared.scheduler.Scheduler.{Scheduler}
+use Rattle.papaya_running.specs.Back.{BackSoFar, ReclaimsRight, TellsBack}
 use Rattle.papaya_running.specs.Ending.{shown_of, told_map}
 use Rattle.papaya_tally.specs.Left.{HoldPairs, noted_below}
 use Rattle.papaya_running.specs.Run.{SoFar, TellsMost, log_so}
@@ -30,7 +30,7 @@ use Rattle.papaya_running.proofs.Left.{hold_pairs, lists_left, stored_left}
 use Rattle.papaya_tally.proofs.Numbers.{ascending, lists_waiting}
 use Rattle.papaya_tally.proofs.Found.{back_told, pairs_found}
 use Rattle.papaya_tally.specs.Told.{AreBack}
-use Rattle.papaya_running.proofs.Turns.{maps_shown, tables_told}
+use Rattle.papaya_running.proofs.MapsTold.{maps_shown, tables_told}
 
 module _ {K V S : Type 0} (same : K → K → Bool) (hash : K → ℕ) (terms : Terms) (events : List (Event K V)) (rec : Record V) (tally : Tally) (p : Scheduler K V S)
     (so : SoFar same hash terms events rec tally p) where
@@ -51,25 +51,40 @@ module _ {K V S : Type 0} (same : K → K → Bool) (hash : K → ℕ) (terms : 
 
   module _ (run : Run K V) (living : map shown_of run.maps.items ≡ map (told_map tally) p.maps.items) (waits : run.waiting.items ≡ numbers_at (passes None) 0 tally.pairs.items)
       (tables : run.tables ≡ counted tally.tables.items) (stored : run.stored ≡ noted.stored)
-      (left : (blocks : ℕ) × ((b : ℕ) → blocks ≤ b → noted.roles b ≡ Free) × (run.kept ≡ noted_below noted.roles (value_at memory) blocks))
-      (given : run.given_back ≡ p.back.items) where
+      (left : (blocks : ℕ) × ((b : ℕ) → blocks ≤ b → noted.roles b ≡ Free) × (run.kept ≡ noted_below noted.roles (value_at memory) blocks)) where
+    kept_is : run.kept ≡ noted_below noted.roles (value_at so.holds.stands.scene.world.memory) left.0
+    kept_is = left.2 ∙ ap (λ (x : Mem (Node K V)). noted_below noted.roles (value_at x) left.0) (sym so.holds.stands.shown.is_at.memory)
+
+    lists_kept : Lists (numbers run.kept) (λ place. is_in_a_map place || is_waiting place) m
+    lists_kept =
+        let st = so.holds.stands in
+        subst (λ (l : List (Pair K V)). Lists (numbers l) (λ place. is_in_a_map place || is_waiting place) m) (sym kept_is)
+        (lists_left m noted st.scene.world st.shown.shows.all.shown.blocks st.shown.shows.blocks left.0 left.1)
+
+    as_stored : AllByRecursion (IsStored m.stored) run.kept
+    as_stored =
+        let st = so.holds.stands in
+        subst (AllByRecursion (IsStored m.stored)) (sym kept_is) (stored_left m noted st.scene.world st.shown.shows.all.shown.blocks st.shown.shows.blocks left.0 left.1)
+
     pub tells_most : TellsMost m run
     tells_most =
         let st = so.holds.stands in
-        let shows = st.shown.shows in
-        let kept_is = left.2 ∙ ap (λ (x : Mem (Node K V)). noted_below noted.roles (value_at x) left.0) (sym st.shown.is_at.memory) in
-        let kept = subst (λ (l : List (Pair K V)). Lists (numbers l) (λ place. is_in_a_map place || is_waiting place) m) (sym kept_is)
-        (lists_left m noted st.scene.world shows.all.shown.blocks shows.blocks left.0 left.1) in
-        let as_stored = subst (AllByRecursion (IsStored m.stored)) (sym kept_is) (stored_left m noted st.scene.world shows.all.shown.blocks shows.blocks left.0 left.1) in
-        let back : AreBack m run.given_back = subst (AreBack m) (sym given) so.back in
         record {
-          stored = stored ∙ shows.all.shown.blocks.stored;
+          stored = stored ∙ st.shown.shows.all.shown.blocks.stored;
           maps = maps_shown m tally so.told run.maps.items p.maps.items m.maps living st.maps.listed;
           waiting = subst (λ (l : List ℕ). Lists l is_waiting m) (sym waits) (lists_waiting tally m so.told);
           ascending = subst (IsSorted nat_cmp) (sym waits) (ascending (passes None) refl tally.pairs.items);
           tables = tables ∙ tables_told m tally so.told;
+          kept = lists_kept;
+          as_stored = as_stored;
+        }
+
+    -- and what was reclaimed came back, as it was stored
+    pub tells_back : (given : List (Pair K V)) → run.given_back ≡ given → BackSoFar (log_so events rec) given → AtEachEvent ReclaimsRight (log_so events rec) → TellsBack m run
+    tells_back given is so_far right =
+        let back : AreBack m run.given_back = subst (AreBack m) (sym is) (so_far right) in
+        record {
           given_back = back.told;
           contents = back.contents;
-          kept = kept;
-          pairs = λ placed. pairs_found m run (back_told (log_so events rec)) placed back kept as_stored;
+          pairs = λ placed. pairs_found m run (back_told (log_so events rec)) placed back lists_kept as_stored;
         }

@@ -23,7 +23,7 @@ use Rattle.papaya_running.proofs.Forms.{does_none, does_nothing, makes_none, mak
 
 module _ {K V S : Type 0} (same : K → K → Bool) (hash : K → ℕ) (event form : Event K V) (is : event ≡ form) (old : Scheduler K V S) where
   -- it may happen in this form, too
-  pub due_so : (terms : Terms) (log : List (Entry K V)) → Holds same hash terms (moment log) old → is_kept_out terms event (moment log) ≡ false → IsDue same hash terms log form old
+  abbrev pub due_so : (terms : Terms) (log : List (Entry K V)) → Holds same hash terms (moment log) old → is_kept_out terms event (moment log) ≡ false → IsDue same hash terms log form old
   due_so terms log holds out = record { played = holds.stands; in_turn = subst (λ (x : Event K V). is_kept_out terms x (moment log) ≡ false) is out }
 
   pub may_play : MayHappenDue same hash event old → MayPlay same hash form old

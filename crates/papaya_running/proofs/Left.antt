@@ -26,7 +26,7 @@ use Rattle.papaya_tally.specs.Left.{HoldPairs, noted, noted_below}
 use Rattle.papaya_tally.proofs.Back.{joined}
 
 -- whether a block is the pair of this number
-is_pair : ℕ → Role → Bool
+abbrev is_pair : ℕ → Role → Bool
 is_pair n (role.Pair k) = n == k
 is_pair n _ = false
 
@@ -41,7 +41,7 @@ pair_is n (role.Counter map) is = absurd (cc is)
 is_pair_of : (n : ℕ) (r : Role) → r ≡ role.Pair n → is_pair n r ≡ true
 is_pair_of n r is = ap (is_pair n) is ∙ eq-eqb n n refl
 
-bit : Bool → ℕ
+abbrev bit : Bool → ℕ
 bit true = 1
 bit false = 0
 
@@ -74,7 +74,7 @@ module _ {K V : Type 0} (roles : ℕ → Role) (value : ℕ → Option (Node K V
 
   one_of : (n count d : ℕ) → d < count → is_pair n (roles d) ≡ true → ((c : ℕ) → is_pair n (roles c) ≡ true → c ≡ d) → times n (numbers (noted_below roles value count)) ≡ 1
   one_of n zero d less is only = absurd (omega (arith, less))
-  one_of n (suc b) d less is only = by (cases_eq d b)
+  one_of n (suc b) d less is only = by (cases_eq d b) (λ before. one_of n b d before is only)
     where
       not_here : d ≢ b → (q : Bool) → is_pair n (roles b) ≡ q → bit (is_pair n (roles b)) ≡ 0
       not_here other true e = absurd (other (sym (only b e)))
@@ -84,13 +84,13 @@ module _ {K V : Type 0} (roles : ℕ → Role) (value : ℕ → Option (Node K V
       not_before same c before true e = absurd (let one = only c e in omega (arith, one, same, before))
       not_before same c before false e = e
 
-      by : (d ≡ b) ⊎ (d ≢ b) → times n (numbers (noted_below roles value (suc b))) ≡ 1
-      by (inl same) =
+      by : (d ≡ b) ⊎ (d ≢ b) → (d < b → times n (numbers (noted_below roles value b)) ≡ 1) → times n (numbers (noted_below roles value (suc b))) ≡ 1
+      by (inl same) again =
           let rest = none_of n b (λ c before. not_before same c before (is_pair n (roles c)) refl) in
           let here : bit (is_pair n (roles b)) ≡ 1 = ap (λ (c : ℕ). bit (is_pair n (roles c))) (sym same) ∙ ap bit is in
           let all = one_more n b in omega (arith, rest, here, all)
-      by (inr other) =
-          let rest = one_of n b d (omega (arith, less, other)) is only in
+      by (inr other) again =
+          let rest = again (omega (arith, less, other)) in
           let here = not_here other (is_pair n (roles b)) refl in
           let all = one_more n b in omega (arith, rest, here, all)
 

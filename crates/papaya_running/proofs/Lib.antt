@@ -1,8 +1,8 @@
-mod Beginning
 mod Ended
 mod Forms
 mod Happened
-mod LawfulKeys
+mod Gives
+pub mod Mays
 mod Left
-mod Logs
-mod Turns
+mod MapsTold
+mod Singles

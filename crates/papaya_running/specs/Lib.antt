@@ -1,4 +1,5 @@
 pub mod Asked
+pub mod Back
 pub mod Ending
 pub mod Acting
 pub mod Run

@@ -1,8 +1,7 @@
--- What so many events of a schedule have come to, and what is promised of the run of a schedule.
-use Rattle.std.specs.Prelude.{◌≡◌, ◌^◌, ◌||◌, ℕ, min, Bool, List, [], length, filter, map, option_map, IsSorted}
+-- What so many events of a schedule have come to, and what their run tells at its end.
+use Rattle.std.specs.Prelude.{◌≡◌, ◌||◌, ℕ, Bool, List, [], length, filter, map, IsSorted}
 use Rattle.std.specs.List.{AllByRecursion}
 use Rattle.std.specs.Ordering.{nat_cmp}
-use Rattle.papaya_runs.specs.Log.{pair_at}
 use Rattle.papaya_runs.specs.Pairs.{numbers}
 use Rattle.papaya_runs.specs.Runs.{IsStored}
 use Rattle.papaya_schedules.specs.declared.event.Event.{Event}
@@ -12,21 +11,15 @@ use Rattle.papaya_schedules.specs.Beginning.{at_work}
 use Rattle.papaya_schedules.specs.Entry.{Entry, acting, caller_of}
 use Rattle.papaya_schedules.specs.InTurn.{ComesRight}
 use Rattle.papaya_schedules.specs.Moment.{Moment}
-use Rattle.papaya_schedules.specs.Runs.{Lists, ShowsMaps, log_of, log_on, pair_of, trace_of}
+use Rattle.papaya_schedules.specs.Runs.{Lists, ShowsMaps, log_on, trace_of}
 use Rattle.papaya_schedules.specs.Steps.{DoesFew, MakesSteps, stands_or}
 use Rattle.papaya_schedules.specs.Terms.{Terms}
 use Rattle.papaya_schedules.specs.Views.{is_in_a_map, is_retired, is_waiting}
-use Rattle.papaya_scheduler.specs.declared.scheduler.Given.{Given}
 use Rattle.papaya_scheduler.specs.declared.scheduler.Scheduler.{Scheduler}
 use Rattle.papaya_running.specs.Asked.{FindsRight, Holds}
 use Rattle.papaya_tally.specs.Tally.{TellsMoment}
-use Rattle.papaya_tally.specs.Told.{AreBack, ArePlaced}
 use Rattle.papaya_running.specs.declared.record.Record.{Record}
 use Rattle.papaya_tally.specs.declared.tally.Tally.{Tally}
-
--- more processors than these count as so many
-abbrev pub bounded : Given → Given
-bounded given = record given { setup = record given.setup { processors = min given.setup.processors (2 ^ 63) } }
 
 module _ {K V : Type 0} where
   -- the log of these events, by what they came to
@@ -39,30 +32,18 @@ module _ {K V : Type 0} where
     pub makes : MakesSteps e.event (stands_or (acting (caller_of e.event) (at_work e (moment log)))) e.steps e.outcome
     pub does : DoesFew (caller_of e.event) e.steps e.effects
 
-  -- What a run tells at its end is what its events say, also while calls are under way; which pair has a number, where each that was stored is somewhere.
+  -- What a run tells at its end of maps, and of what is not reclaimed, is what its events say, also while calls are under way; pairs that are left are as they were stored.
   pub record TellsMost (m : Moment K V) (run : Run K V) : Type 0 where
     pub stored : run.stored ≡ length m.stored
     pub maps : ShowsMaps run.maps.items m.maps m
     pub waiting : Lists run.waiting.items is_waiting m
     pub ascending : IsSorted nat_cmp run.waiting.items
     pub tables : run.tables ≡ length (filter (λ u. is_retired u.stage) m.tables)
-    pub given_back : numbers run.given_back ≡ m.given_back
-    pub contents : AllByRecursion (IsStored m.stored) run.given_back
     pub kept : Lists (numbers run.kept) (λ place. is_in_a_map place || is_waiting place) m
-    pub pairs : ArePlaced m → (n : ℕ) → option_map (λ p. (p.key, p.value)) (pair_of run n) ≡ pair_at m.stored n
-
-  -- The run is one of this schedule, as far as that.
-  pub record IsRightRun (terms : Terms) (schedule : List (Event K V)) (run : Run K V) : Type 0 where
-    pub outcomes : length run.outcomes.items ≡ length schedule
-    pub steps : length run.steps.items ≡ length schedule
-    pub effects : length run.effects.items ≡ length schedule
-    pub trace : run.trace.items ≡ trace_of (log_of schedule run)
-    pub goes : AtEachEvent (GoesRight terms) (log_of schedule run)
-    pub tells : TellsMost (moment (log_of schedule run)) run
+    pub as_stored : AllByRecursion (IsStored m.stored) run.kept
 
 module _ {K V S : Type 0} (same : K → K → Bool) (hash : K → ℕ) where
-  -- These events have happened so far: the scheduler stands for the moment after them, and what events ask of it is so; the tally tells where pairs and tables are
-  -- then; and what was reclaimed has come back.
+  -- These events have happened so far: the scheduler stands for the moment after them, and what events ask of it is so; and the tally tells where pairs and tables are then.
   pub record SoFar (terms : Terms) (events : List (Event K V)) (rec : Record V) (tally : Tally) (p : Scheduler K V S) : Type 0 where
     pub outcomes : length rec.outcomes.items ≡ length events
     pub steps : length rec.steps.items ≡ length events
@@ -71,4 +52,3 @@ module _ {K V S : Type 0} (same : K → K → Bool) (hash : K → ℕ) where
     pub goes : AtEachEvent (GoesRight terms) (log_so events rec)
     pub holds : Holds same hash terms (moment (log_so events rec)) p
     pub told : TellsMoment tally (moment (log_so events rec))
-    pub back : AreBack (moment (log_so events rec)) p.back.items

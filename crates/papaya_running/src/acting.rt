@@ -42,7 +42,7 @@ pub fn is_busy<V>(outcome: &Outcome<V>) -> bool
 }
 
 /// Which single events an event is of, if it is in turn.
-pub fn traced<K, V>(event: &Event<K, V>) -> Traced
+pub fn traced_as<K, V>(event: &Event<K, V>) -> Traced
     ensures { result ≡ traced event.now }
 {
     match event {

@@ -2,8 +2,10 @@
 ghost use Rattle.std.specs.Prelude.{◌≡◌, true, false, IfOk};
 ghost use Rattle.papaya_histories.specs.Given.Executor.IsAt.{StaysGiven, KeepsGiven};
 ghost use Rattle.papaya_running.specs.Asked.{HappensAt, HappensDue, MayHappen, MayHappenDue, is_of_calls, is_of_maps};
+ghost use Rattle.papaya_running.specs.Back.{GivesAt, GivesDue};
 
 use papaya_raw::Hashes;
+use papaya_runs::record::Pair;
 use papaya_scheduler::played::Played;
 use papaya_scheduler::scheduler::Scheduler;
 use papaya_schedules::event::Event;
@@ -17,10 +19,12 @@ fn of_maps<K: Eq + Hash + Drop, V: Drop, S: Hashes<K>>(
     scheduler: &mut Scheduler<K, V, S>,
     is_first: bool,
     event: Event<K, V>,
+    back: &mut Vec<Pair<K, V>>,
 ) -> Result<Played<V>, AllocError>
     requires due { MayHappenDue K.eq (S.hash scheduler.old.logged.executor.hasher) event scheduler.old }
     requires maps { is_of_maps event ≡ true }
     ensures happens { IfOk result (λ played. HappensDue K.eq (S.hash scheduler.old.logged.executor.hasher) is_first event played scheduler.old scheduler.new) }
+    ensures back { IfOk result (λ played. GivesDue K.eq (S.hash scheduler.old.logged.executor.hasher) event played scheduler.old back.old.items back.new.items) }
     ensures given { StaysGiven scheduler.old.logged.executor scheduler.new.logged.executor }
 {
     match event {
@@ -29,10 +33,10 @@ fn of_maps<K: Eq + Hash + Drop, V: Drop, S: Hashes<K>>(
             mode,
             capacity,
         } => scheduler.make_map(map, mode, capacity),
-        Event::EndMap { map } => scheduler.end_map(&map),
+        Event::EndMap { map } => scheduler.end_map(&map, back),
         Event::ShowShape { map } => scheduler.show_shape(&map),
-        Event::ReclaimAll => scheduler.reclaim_all(),
-        Event::Close => scheduler.close(),
+        Event::ReclaimAll => scheduler.reclaim_all(back),
+        Event::Close => scheduler.close(back),
         _ => unreachable!(),
     }
 }
@@ -42,27 +46,29 @@ fn of_slots<K: Eq + Hash + Drop, V: Drop, S: Hashes<K>>(
     scheduler: &mut Scheduler<K, V, S>,
     is_first: bool,
     event: Event<K, V>,
+    back: &mut Vec<Pair<K, V>>,
 ) -> Result<Played<V>, AllocError>
     requires due { MayHappenDue K.eq (S.hash scheduler.old.logged.executor.hasher) event scheduler.old }
     requires no_maps { is_of_maps event ≡ false }
     requires no_calls { is_of_calls event ≡ false }
     ensures happens { IfOk result (λ played. HappensDue K.eq (S.hash scheduler.old.logged.executor.hasher) is_first event played scheduler.old scheduler.new) }
+    ensures back { IfOk result (λ played. GivesDue K.eq (S.hash scheduler.old.logged.executor.hasher) event played scheduler.old back.old.items back.new.items) }
     ensures given { KeepsGiven scheduler.old.logged.executor scheduler.new.logged.executor }
 {
     match event {
         Event::Collector(setup) => Ok(scheduler.collector(setup, is_first)),
         Event::Hash(by) => Ok(scheduler.hash(by)),
         Event::Choose(choice) => scheduler.choose(choice),
-        Event::Register { registration } => scheduler.register(registration),
-        Event::Unregister { registration } => scheduler.unregister(&registration),
+        Event::Register { registration } => scheduler.register(registration, back),
+        Event::Unregister { registration } => scheduler.unregister(&registration, back),
         Event::Enter {
             guard,
             registration,
-        } => scheduler.enter(guard, &registration),
-        Event::Own { guard } => scheduler.own(guard),
-        Event::Refresh { guard } => scheduler.refresh(&guard),
-        Event::Flush { guard } => scheduler.flush(&guard),
-        Event::DropGuard { guard } => scheduler.drop_guard(&guard),
+        } => scheduler.enter(guard, &registration, back),
+        Event::Own { guard } => scheduler.own(guard, back),
+        Event::Refresh { guard } => scheduler.refresh(&guard, back),
+        Event::Flush { guard } => scheduler.flush(&guard, back),
+        Event::DropGuard { guard } => scheduler.drop_guard(&guard, back),
         Event::Forget { guard } => Ok(scheduler.forget(&guard)),
         _ => unreachable!(),
     }
@@ -132,9 +138,11 @@ pub fn happen<K: Eq + Hash + Drop, V: Drop, S: Hashes<K>>(
     scheduler: &mut Scheduler<K, V, S>,
     is_first: bool,
     event: Event<K, V>,
+    back: &mut Vec<Pair<K, V>>,
 ) -> Result<Played<V>, AllocError>
     requires { MayHappen K.eq (S.hash scheduler.old.logged.executor.hasher) scheduler.old }
     ensures happens { IfOk result (λ played. HappensAt K.eq (S.hash scheduler.old.logged.executor.hasher) is_first event played scheduler.old scheduler.new) }
+    ensures back { IfOk result (λ played. GivesAt K.eq (S.hash scheduler.old.logged.executor.hasher) event played scheduler.old back.old.items back.new.items) }
     ensures given { StaysGiven scheduler.old.logged.executor scheduler.new.logged.executor }
 {
     if scheduler.keeps_out(&event) {
@@ -144,7 +152,7 @@ pub fn happen<K: Eq + Hash + Drop, V: Drop, S: Hashes<K>>(
         return of_calls(scheduler, is_first, event);
     }
     if is_of_maps(&event) {
-        return of_maps(scheduler, is_first, event);
+        return of_maps(scheduler, is_first, event, back);
     }
-    of_slots(scheduler, is_first, event)
+    of_slots(scheduler, is_first, event, back)
 }

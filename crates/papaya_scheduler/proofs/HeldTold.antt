@@ -1,7 +1,7 @@
 -- A batch that is held is in the hands of a call, which hands something over: so the moment says that it is held.
 use Rattle.std.specs.Prelude.{◌==◌, ◌&&◌, ◌||◌, cond, Option, Some, None, find, option_map, if◌then◌else◌}
 use Rattle.std.specs.List.{AllByRecursion, list_any}
-use Rattle.std.proofs.Common.{◌≡◌, ℕ, Bool, true, false, List, refl, sym, ap, ◌∙◌, eqb-true}
+use Rattle.std.proofs.Common.{◌≡◌, ℕ, Bool, true, false, List, [], ◌∷◌, refl, sym, ap, ◌∙◌, eqb-true}
 use Rattle.std.proofs.lemmas.Bool.{eq-eqb}
 use Rattle.seize.specs.declared.states.TheConstants.{BATCH, HELD}
 use Rattle.seize_words.specs.Mem.{Mem, word_at}
@@ -77,8 +77,9 @@ module _ {K V S : Type 0} (same : K → K → Bool) (hash : K → ℕ) (terms : 
       by None is = absurd (idle is)
       by (Some (work.Call map machine)) is =
           let h : option_map machine_of (stands.scene.calls map j) ≡ (if map == map then Some machine else None) =
-                stands.shown.is_at.calls map j ∙ ap (λ (x : Option (Work K V)). call_in x map) is in
-          (map, some_call (stands.scene.calls map j) machine (h ∙ ap (λ (b : Bool). if b then Some machine else None) (eq-eqb map map refl)))
+          stands.shown.is_at.calls map j ∙ ap (λ (x : Option (Work K V)). call_in x map) is in
+          let call = some_call (stands.scene.calls map j) machine (h ∙ ap (λ (b : Bool). if b then Some machine else None) (eq-eqb map map refl)) in
+          (map, call.0, call.1)
       by (Some (work.Making map opening)) is = absurd (others (Some (work.Making map opening)) is (λ n. refl))
       by (Some (work.Ending ending)) is = absurd (others (Some (work.Ending ending)) is (λ n. refl))
       by (Some (work.OnSlot row)) is = absurd (others (Some (work.OnSlot row)) is (λ n. refl))
@@ -103,7 +104,7 @@ module _ {K V S : Type 0} (same : K → K → Bool) (hash : K → ℕ) (terms : 
     found : (d : Caller V) × (find (is_named own) calls ≡ Some d) × (seen there.0 ≡ seen_of d)
     found =
         let it = both_some seen_of seen (find (is_named own) calls) (call_of own m)
-              (sym (found_alike seen seen_of m.calls calls stands.calls.listed (λ (z : Seen). is_same z.name own))) there.0 there.1 in
+        (sym (found_alike seen seen_of m.calls calls stands.calls.listed (λ (z : Seen). is_same z.name own))) there.0 there.1 in
         (it.0, it.1, sym it.2)
 
     its_own : its found.0 ≡ true
@@ -127,7 +128,7 @@ module _ {K V S : Type 0} (same : K → K → Bool) (hash : K → ℕ) (terms : 
   held_is_told slot word =
       let at = stands.shown.is_at in
       let says : words_of stands.scene.world.memory (Slot slot BATCH) ≡ HELD =
-            ap (λ (x : Mem (Node K V)). words_of x (Slot slot BATCH)) at.memory ∙ word_found p.logged.executor.memory.memory (Slot slot BATCH) HELD word in
+      ap (λ (x : Mem (Node K V)). words_of x (Slot slot BATCH)) at.memory ∙ word_found p.logged.executor.memory.memory (Slot slot BATCH) HELD word in
       let holder = held same hash p.logged.executor stands.scene at slot says in
       let call = has_call holder.0 slot holder.1 in
       told_there call.0 holder.0 call.1 call.2 slot holder.1

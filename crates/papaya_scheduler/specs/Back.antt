@@ -1,5 +1,6 @@
 -- What an event gives back.
 use Rattle.std.specs.Prelude.{ℕ, Bool, List}
+use Rattle.papaya_runs.specs.declared.record.Pair.{Pair}
 use Rattle.papaya_schedules.specs.declared.event.Event.{Event}
 use Rattle.papaya_schedules.specs.After.{moment}
 use Rattle.papaya_schedules.specs.Entry.{Entry}
@@ -11,13 +12,12 @@ use Rattle.papaya_scheduler.specs.declared.played.Played.{Played}
 use Rattle.papaya_scheduler.specs.declared.scheduler.Scheduler.{Scheduler}
 
 module _ {K V S : Type 0} (same : K → K → Bool) (hash : K → ℕ) where
-  -- What the event has reclaimed has come back, where it was in turn: those pairs follow in the scheduler's list, each as it was stored.
-  abbrev pub GivesBack : Event K V → Played V → (old new : Scheduler K V S) → Type 0
-  GivesBack event played old new =
-      (terms : Terms) (log : List (Entry K V)) → IsDue same hash terms log event old → ComesBack (moment log).stored played.effects.items old.back.items new.back.items
+  -- What the event has reclaimed has come back, where it was in turn: those pairs follow in the list, each as it was stored.
+  abbrev pub GivesBack : Event K V → Played V → Scheduler K V S → (before after : List (Pair K V)) → Type 0
+  GivesBack event played old before after =
+      (terms : Terms) (log : List (Entry K V)) → IsDue same hash terms log event old → ComesBack (moment log).stored played.effects.items before after
 
   -- So it is of one that reclaims everything, by what is asked of that.
-  abbrev pub GivesAllBack : Event K V → Played V → (old new : Scheduler K V S) → Type 0
-  GivesAllBack event played old new =
-      (terms : Terms) (log : List (Entry K V)) (due : IsDue same hash terms log event old) → MayGiveAll old due.played.scene
-      → ComesBack (moment log).stored played.effects.items old.back.items new.back.items
+  abbrev pub GivesAllBack : Event K V → Played V → Scheduler K V S → (before after : List (Pair K V)) → Type 0
+  GivesAllBack event played old before after =
+      (terms : Terms) (log : List (Entry K V)) (due : IsDue same hash terms log event old) → MayGiveAll old due.played.scene → ComesBack (moment log).stored played.effects.items before after

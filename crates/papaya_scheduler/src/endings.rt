@@ -11,6 +11,7 @@ ghost use Rattle.papaya_scheduler.specs.Played.{MayPlay};
 use crate::caller::Callers;
 use crate::played::Played;
 use crate::scheduler::{NamedMap, Scheduler};
+use papaya_runs::record::Pair;
 use papaya_runs::token::Token;
 use papaya_schedules::outcome::Outcome;
 use std::alloc::AllocError;
@@ -34,11 +35,15 @@ fn without(maps: &mut Vec<NamedMap>, own: &Token)
 impl<K: Drop, V: Drop, S> Scheduler<K, V, S> {
     /// Ends a map on which no call is under way: the pairs that are still in it are reclaimed, and then its tables. What waits behind these waits behind its root from then on.
     /// On an error nothing is said of the state after it: lists or notes of the run found no memory.
-    pub fn end_map(&mut self, map: &Token) -> Result<Played<V>, AllocError>
+    pub fn end_map(
+        &mut self,
+        map: &Token,
+        back: &mut Vec<Pair<K, V>>,
+    ) -> Result<Played<V>, AllocError>
         requires { (same : K → K → Bool) × (hash : K → ℕ) × MayPlay same hash (event.EndMap map.now) self.old }
         ensures steps { IfOk result (λ played. played.steps ≡ 0) }
         ensures plays { IfOk result (λ played. (same : K → K → Bool) (hash : K → ℕ) → PlaysEnding same hash (event.EndMap map.now) played self.old self.new) }
-        ensures back { IfOk result (λ played. (same : K → K → Bool) (hash : K → ℕ) → GivesBack same hash (event.EndMap map.now) played self.old self.new) }
+        ensures back { IfOk result (λ played. (same : K → K → Bool) (hash : K → ℕ) → GivesBack same hash (event.EndMap map.now) played self.old back.old.items back.new.items) }
         ensures given { KeepsGiven self.old.logged.executor self.new.logged.executor }
     {
         let Some(number) = self.number_of(map) else {
@@ -49,8 +54,7 @@ impl<K: Drop, V: Drop, S> Scheduler<K, V, S> {
         }
         let mut effects = self.no_effects();
         let caller = self.logged.begin_end(0, number)?;
-        self.logged
-            .run_end(caller, number, &mut effects, &mut self.back)?;
+        self.logged.run_end(caller, number, &mut effects, back)?;
         without(&mut self.maps, map);
         Ok(Played {
             outcome: Outcome::Done,

@@ -12,6 +12,7 @@ ghost use Rattle.papaya_rows.specs.Rows.{left_as};
 use crate::played::Played;
 use crate::scheduler::Scheduler;
 use papaya_executor::row::SlotCall;
+use papaya_runs::record::Pair;
 use papaya_runs::token::Token;
 use papaya_schedules::outcome::Outcome;
 use seize::states::{BATCH, HELD};
@@ -23,11 +24,16 @@ const MOST_GUARDS: usize = 65_535;
 
 impl<K: Drop, V: Drop, S> Scheduler<K, V, S> {
     /// A new guard of a registration. The first one on its slot enters the slot.
-    pub fn enter(&mut self, guard: Token, registration: &Token) -> Result<Played<V>, AllocError>
+    pub fn enter(
+        &mut self,
+        guard: Token,
+        registration: &Token,
+        back: &mut Vec<Pair<K, V>>,
+    ) -> Result<Played<V>, AllocError>
         requires { (same : K → K → Bool) × (hash : K → ℕ) × MayPlay same hash (event.Enter guard registration.now) self.old }
         ensures steps { IfOk result (λ played. played.steps ≡ 0) }
         ensures plays { IfOk result (λ played. (same : K → K → Bool) (hash : K → ℕ) → PlaysAt same hash (event.Enter guard registration.now) played self.old self.new) }
-        ensures back { IfOk result (λ played. (same : K → K → Bool) (hash : K → ℕ) → GivesBack same hash (event.Enter guard registration.now) played self.old self.new) }
+        ensures back { IfOk result (λ played. (same : K → K → Bool) (hash : K → ℕ) → GivesBack same hash (event.Enter guard registration.now) played self.old back.old.items back.new.items) }
         ensures given { KeepsGiven self.old.logged.executor self.new.logged.executor }
     {
         if self.there.has_guard(&guard) {
@@ -42,7 +48,7 @@ impl<K: Drop, V: Drop, S> Scheduler<K, V, S> {
         }
         let mut effects = self.no_effects();
         if guards == 0 {
-            self.do_row(slot, SlotCall::Enter, &mut effects)?;
+            self.do_row(slot, SlotCall::Enter, &mut effects, back)?;
         }
         self.there.enter(guard, slot)?;
         Ok(Played {
@@ -53,11 +59,15 @@ impl<K: Drop, V: Drop, S> Scheduler<K, V, S> {
     }
 
     /// The guard's section begins anew, where the guard is the only one on its slot.
-    pub fn refresh(&mut self, guard: &Token) -> Result<Played<V>, AllocError>
+    pub fn refresh(
+        &mut self,
+        guard: &Token,
+        back: &mut Vec<Pair<K, V>>,
+    ) -> Result<Played<V>, AllocError>
         requires { (same : K → K → Bool) × (hash : K → ℕ) × MayPlay same hash (event.Refresh guard.now) self.old }
         ensures steps { IfOk result (λ played. played.steps ≡ 0) }
         ensures plays { IfOk result (λ played. (same : K → K → Bool) (hash : K → ℕ) → PlaysAt same hash (event.Refresh guard.now) played self.old self.new) }
-        ensures back { IfOk result (λ played. (same : K → K → Bool) (hash : K → ℕ) → GivesBack same hash (event.Refresh guard.now) played self.old self.new) }
+        ensures back { IfOk result (λ played. (same : K → K → Bool) (hash : K → ℕ) → GivesBack same hash (event.Refresh guard.now) played self.old back.old.items back.new.items) }
         ensures given { KeepsGiven self.old.logged.executor self.new.logged.executor }
     {
         let Some(slot) = self.slot_of_free(guard) else {
@@ -65,7 +75,7 @@ impl<K: Drop, V: Drop, S> Scheduler<K, V, S> {
         };
         let mut effects = self.no_effects();
         if self.there.guards_on(slot) == 1 {
-            self.do_row(slot, SlotCall::Refresh, &mut effects)?;
+            self.do_row(slot, SlotCall::Refresh, &mut effects, back)?;
         }
         Ok(Played {
             outcome: Outcome::Done,
@@ -75,11 +85,15 @@ impl<K: Drop, V: Drop, S> Scheduler<K, V, S> {
     }
 
     /// The open batch of the guard's slot is tried, unless a call holds it.
-    pub fn flush(&mut self, guard: &Token) -> Result<Played<V>, AllocError>
+    pub fn flush(
+        &mut self,
+        guard: &Token,
+        back: &mut Vec<Pair<K, V>>,
+    ) -> Result<Played<V>, AllocError>
         requires { (same : K → K → Bool) × (hash : K → ℕ) × MayPlay same hash (event.Flush guard.now) self.old }
         ensures steps { IfOk result (λ played. played.steps ≡ 0) }
         ensures plays { IfOk result (λ played. (same : K → K → Bool) (hash : K → ℕ) → PlaysAt same hash (event.Flush guard.now) played self.old self.new) }
-        ensures back { IfOk result (λ played. (same : K → K → Bool) (hash : K → ℕ) → GivesBack same hash (event.Flush guard.now) played self.old self.new) }
+        ensures back { IfOk result (λ played. (same : K → K → Bool) (hash : K → ℕ) → GivesBack same hash (event.Flush guard.now) played self.old back.old.items back.new.items) }
         ensures given { KeepsGiven self.old.logged.executor self.new.logged.executor }
     {
         let Some(slot) = self.there.slot_of_living(guard) else {
@@ -89,7 +103,7 @@ impl<K: Drop, V: Drop, S> Scheduler<K, V, S> {
             return Ok(self.busy());
         }
         let mut effects = self.no_effects();
-        self.do_row(slot, SlotCall::Flush, &mut effects)?;
+        self.do_row(slot, SlotCall::Flush, &mut effects, back)?;
         Ok(Played {
             outcome: Outcome::Done,
             steps: 0,
@@ -118,11 +132,15 @@ impl<K: Drop, V: Drop, S> Scheduler<K, V, S> {
     }
 
     /// The guard ends. The only one on its slot leaves the slot, and gives it up where that is its own.
-    pub fn drop_guard(&mut self, guard: &Token) -> Result<Played<V>, AllocError>
+    pub fn drop_guard(
+        &mut self,
+        guard: &Token,
+        back: &mut Vec<Pair<K, V>>,
+    ) -> Result<Played<V>, AllocError>
         requires { (same : K → K → Bool) × (hash : K → ℕ) × MayPlay same hash (event.DropGuard guard.now) self.old }
         ensures steps { IfOk result (λ played. played.steps ≡ 0) }
         ensures plays { IfOk result (λ played. (same : K → K → Bool) (hash : K → ℕ) → PlaysAt same hash (event.DropGuard guard.now) played self.old self.new) }
-        ensures back { IfOk result (λ played. (same : K → K → Bool) (hash : K → ℕ) → GivesBack same hash (event.DropGuard guard.now) played self.old self.new) }
+        ensures back { IfOk result (λ played. (same : K → K → Bool) (hash : K → ℕ) → GivesBack same hash (event.DropGuard guard.now) played self.old back.old.items back.new.items) }
         ensures given { KeepsGiven self.old.logged.executor self.new.logged.executor }
     {
         let Some(slot) = self.slot_of_free(guard) else {
@@ -131,7 +149,7 @@ impl<K: Drop, V: Drop, S> Scheduler<K, V, S> {
         let mut effects = self.no_effects();
         if self.there.guards_on(slot) == 1 {
             let called = self.leaves_as(slot);
-            self.do_row(slot, called, &mut effects)?;
+            self.do_row(slot, called, &mut effects, back)?;
         }
         self.there.leave(guard);
         Ok(Played {

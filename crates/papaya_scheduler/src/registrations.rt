@@ -12,6 +12,7 @@ ghost use Rattle.papaya_rows.specs.Taking.{SlotTaken};
 use crate::played::Played;
 use crate::scheduler::Scheduler;
 use papaya_executor::row::{RowTold, SlotCall};
+use papaya_runs::record::Pair;
 use papaya_runs::token::Token;
 use papaya_schedules::effect::Effect;
 use papaya_schedules::outcome::Outcome;
@@ -24,14 +25,15 @@ impl<K: Drop, V: Drop, S> Scheduler<K, V, S> {
         &mut self,
         enters: bool,
         effects: &mut Vec<Effect>,
+        back: &mut Vec<Pair<K, V>>,
     ) -> Result<Result<u64, Fault>, AllocError>
         requires { (same : K → K → Bool) × (hash : K → ℕ) × (terms : Terms) × (m : Moment K V) × StandsFor same hash terms m self.old }
         ensures taken { IfOk result (λ slot. SlotTaken enters slot effects.old.items effects.new.items self.old.logged self.new.logged) }
-        ensures back { IfOk result (λ slot. BringsBack effects.old.items effects.new.items self.old.logged self.old.back.items self.new.back.items) }
-        ensures rest { self.new ≡ record self.old { logged = self.new.logged; back = self.new.back } }
+        ensures back { IfOk result (λ slot. BringsBack effects.old.items effects.new.items self.old.logged back.old.items back.new.items) }
+        ensures rest { self.new ≡ record self.old { logged = self.new.logged } }
         ensures given { KeepsGiven self.old.logged.executor self.new.logged.executor }
     {
-        let told = self.run_row(0, SlotCall::Register { enters }, effects)?;
+        let told = self.run_row(0, SlotCall::Register { enters }, effects, back)?;
         match told {
             RowTold::Registered(slot) => Ok(Ok(slot)),
             RowTold::Refused(fault) => Ok(Err(fault)),
@@ -40,18 +42,22 @@ impl<K: Drop, V: Drop, S> Scheduler<K, V, S> {
     }
 
     /// A new registration, on the least slot that is not in use.
-    pub fn register(&mut self, registration: Token) -> Result<Played<V>, AllocError>
+    pub fn register(
+        &mut self,
+        registration: Token,
+        back: &mut Vec<Pair<K, V>>,
+    ) -> Result<Played<V>, AllocError>
         requires { (same : K → K → Bool) × (hash : K → ℕ) × MayPlay same hash (event.Register registration) self.old }
         ensures steps { IfOk result (λ played. played.steps ≡ 0) }
         ensures plays { IfOk result (λ played. (same : K → K → Bool) (hash : K → ℕ) → PlaysAt same hash (event.Register registration) played self.old self.new) }
-        ensures back { IfOk result (λ played. (same : K → K → Bool) (hash : K → ℕ) → GivesBack same hash (event.Register registration) played self.old self.new) }
+        ensures back { IfOk result (λ played. (same : K → K → Bool) (hash : K → ℕ) → GivesBack same hash (event.Register registration) played self.old back.old.items back.new.items) }
         ensures given { KeepsGiven self.old.logged.executor self.new.logged.executor }
     {
         if self.there.slot_of_registration(&registration).is_some() {
             return Ok(self.busy());
         }
         let mut effects = self.no_effects();
-        let taken = self.take_slot(false, &mut effects)?;
+        let taken = self.take_slot(false, &mut effects, back)?;
         match taken {
             Err(fault) => Ok(Played {
                 outcome: Outcome::Refused(fault),
@@ -70,18 +76,18 @@ impl<K: Drop, V: Drop, S> Scheduler<K, V, S> {
     }
 
     /// A new guard with a slot of its own: the least one that is not in use.
-    pub fn own(&mut self, guard: Token) -> Result<Played<V>, AllocError>
+    pub fn own(&mut self, guard: Token, back: &mut Vec<Pair<K, V>>) -> Result<Played<V>, AllocError>
         requires { (same : K → K → Bool) × (hash : K → ℕ) × MayPlay same hash (event.Own guard) self.old }
         ensures steps { IfOk result (λ played. played.steps ≡ 0) }
         ensures plays { IfOk result (λ played. (same : K → K → Bool) (hash : K → ℕ) → PlaysAt same hash (event.Own guard) played self.old self.new) }
-        ensures back { IfOk result (λ played. (same : K → K → Bool) (hash : K → ℕ) → GivesBack same hash (event.Own guard) played self.old self.new) }
+        ensures back { IfOk result (λ played. (same : K → K → Bool) (hash : K → ℕ) → GivesBack same hash (event.Own guard) played self.old back.old.items back.new.items) }
         ensures given { KeepsGiven self.old.logged.executor self.new.logged.executor }
     {
         if self.there.has_guard(&guard) {
             return Ok(self.busy());
         }
         let mut effects = self.no_effects();
-        let taken = self.take_slot(true, &mut effects)?;
+        let taken = self.take_slot(true, &mut effects, back)?;
         match taken {
             Err(fault) => Ok(Played {
                 outcome: Outcome::Refused(fault),
@@ -100,11 +106,15 @@ impl<K: Drop, V: Drop, S> Scheduler<K, V, S> {
     }
 
     /// The registration ends, where each guard of it was forgotten. A slot on which guards are left is not given up.
-    pub fn unregister(&mut self, registration: &Token) -> Result<Played<V>, AllocError>
+    pub fn unregister(
+        &mut self,
+        registration: &Token,
+        back: &mut Vec<Pair<K, V>>,
+    ) -> Result<Played<V>, AllocError>
         requires { (same : K → K → Bool) × (hash : K → ℕ) × MayPlay same hash (event.Unregister registration.now) self.old }
         ensures steps { IfOk result (λ played. played.steps ≡ 0) }
         ensures plays { IfOk result (λ played. (same : K → K → Bool) (hash : K → ℕ) → PlaysAt same hash (event.Unregister registration.now) played self.old self.new) }
-        ensures back { IfOk result (λ played. (same : K → K → Bool) (hash : K → ℕ) → GivesBack same hash (event.Unregister registration.now) played self.old self.new) }
+        ensures back { IfOk result (λ played. (same : K → K → Bool) (hash : K → ℕ) → GivesBack same hash (event.Unregister registration.now) played self.old back.old.items back.new.items) }
         ensures given { KeepsGiven self.old.logged.executor self.new.logged.executor }
     {
         let slot = match self.there.slot_of_registration(registration) {
@@ -113,7 +123,7 @@ impl<K: Drop, V: Drop, S> Scheduler<K, V, S> {
         };
         let mut effects = self.no_effects();
         if self.there.guards_on(slot) == 0 {
-            self.do_row(slot, SlotCall::Unregister, &mut effects)?;
+            self.do_row(slot, SlotCall::Unregister, &mut effects, back)?;
         }
         self.there.unregister(registration);
         Ok(Played {

@@ -58,8 +58,6 @@ pub struct Scheduler<K, V, S> {
     pub maps: Vec<NamedMap>,
     /// The callers that have a call under way.
     pub calls: Callers<V>,
-    /// The pairs that were reclaimed, in that order.
-    pub back: Vec<Pair<K, V>>,
     /// Whether an event was to make a map.
     pub is_mapped: bool,
     /// Whether the collector has ended.
@@ -71,7 +69,6 @@ impl<K: Drop, V: Drop, S: Drop> Scheduler<K, V, S> {
     pub fn new(alloc: Global, given: Given, hasher: S) -> Result<Self, AllocError>
         ensures played { IfOk result (λ scheduler. (same : K → K → Bool) (hash : K → ℕ) → IsPlayed same hash (terms_given given) [] scheduler) }
         ensures begun { IfOk result (HasJustBegun given) }
-        ensures back { IfOk result (λ scheduler. scheduler.back.items ≡ []) }
         ensures hasher { IfOk result (λ scheduler. scheduler.logged.executor.hasher ≡ hasher) }
     {
         let setup = given.setup;
@@ -81,7 +78,6 @@ impl<K: Drop, V: Drop, S: Drop> Scheduler<K, V, S> {
             there: Present::nobody(alloc),
             maps: Vec::new(alloc),
             calls: Callers::nobody(alloc),
-            back: Vec::new(alloc),
             is_mapped: false,
             is_closed: false,
         })
@@ -147,23 +143,24 @@ impl<K: Drop, V: Drop, S> Scheduler<K, V, S> {
         self.there.slot_of_living(guard)
     }
 
-    /// Runs what a caller in this slot does with it, until it ends, or waits. What it does is added to the list, and the pairs that it reclaims come back.
+    /// Runs what a caller in this slot does with it, until it ends, or waits. What it does is added to the list, and the pairs that it reclaims come back, behind those before.
     pub fn run_row(
         &mut self,
         slot: u64,
         called: SlotCall,
         effects: &mut Vec<Effect>,
+        back: &mut Vec<Pair<K, V>>,
     ) -> Result<RowTold<Node<K, V>>, AllocError>
         requires fits { slot < SLOTS }
         requires may { (same : K → K → Bool) × (hash : K → ℕ) × (name : ℕ → List ℕ) × (m : Moment K V) × (s : Scene K V) × IsShown same hash name m self.old.logged s }
         requires begins { MayBegin self.old.logged.executor slot called }
         ensures ran { IfOk result (λ told. RowRan slot called told effects.old.items effects.new.items self.old.logged self.new.logged) }
-        ensures back { IfOk result (λ done. BringsBack effects.old.items effects.new.items self.old.logged self.old.back.items self.new.back.items) }
-        ensures rest { self.new ≡ record self.old { logged = self.new.logged; back = self.new.back } }
+        ensures back { IfOk result (λ done. BringsBack effects.old.items effects.new.items self.old.logged back.old.items back.new.items) }
+        ensures rest { self.new ≡ record self.old { logged = self.new.logged } }
         ensures given { KeepsGiven self.old.logged.executor self.new.logged.executor }
     {
         let caller = self.logged.begin_on_slot(slot, called)?;
-        let told = self.logged.run_on_slot(caller, effects, &mut self.back)?;
+        let told = self.logged.run_on_slot(caller, effects, back)?;
         Ok(told)
     }
 
@@ -173,16 +170,17 @@ impl<K: Drop, V: Drop, S> Scheduler<K, V, S> {
         slot: u64,
         called: SlotCall,
         effects: &mut Vec<Effect>,
+        back: &mut Vec<Pair<K, V>>,
     ) -> Result<(), AllocError>
         requires fits { slot < SLOTS }
         requires may { (same : K → K → Bool) × (hash : K → ℕ) × (name : ℕ → List ℕ) × (m : Moment K V) × (s : Scene K V) × IsShown same hash name m self.old.logged s }
         requires begins { MayBegin self.old.logged.executor slot called }
         ensures ran { OnOk result (RowRanOn slot called effects.old.items effects.new.items self.old.logged self.new.logged) }
-        ensures back { IfOk result (λ done. BringsBack effects.old.items effects.new.items self.old.logged self.old.back.items self.new.back.items) }
-        ensures rest { self.new ≡ record self.old { logged = self.new.logged; back = self.new.back } }
+        ensures back { IfOk result (λ done. BringsBack effects.old.items effects.new.items self.old.logged back.old.items back.new.items) }
+        ensures rest { self.new ≡ record self.old { logged = self.new.logged } }
         ensures given { KeepsGiven self.old.logged.executor self.new.logged.executor }
     {
-        self.run_row(slot, called, effects)?;
+        self.run_row(slot, called, effects, back)?;
         Ok(())
     }
 }

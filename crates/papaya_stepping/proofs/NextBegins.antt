@@ -1,5 +1,5 @@
 -- A walk that is ready is asked for its next pair: the scheduler stands on, while that walk goes over the places of its table.
-use Rattle.std.specs.Prelude.{◌≡◌, ◌≢◌, ◌⊎◌, ◌≤◌, ◌==◌, ◌&&◌, ℕ, nat_lt, Bool, true, false, List, length, filter, map, position, slice_get, slice_set, Option, Some, None, if◌then◌else◌}
+use Rattle.std.specs.Prelude.{◌≡◌, ◌≢◌, ◌⊎◌, ◌==◌, ◌&&◌, ℕ, nat_lt, Bool, true, false, List, slice_set, Option, Some, None, if◌then◌else◌}
 use Rattle.std.specs.List.{AllByRecursion, list_any}
 use Rattle.std.proofs.Common.{refl, sym, ap, subst, ◌∙◌, inl, inr, arith}
 use Rattle.std.proofs.lemmas.Bool.{cases_eq}
@@ -10,7 +10,6 @@ use Rattle.papaya_histories.specs.Given.Sweeps.declared.sweep.Sweep.{Sweep}
 use Rattle.papaya_histories.specs.Given.Sweeps.declared.sweep.Sweeping.{Sweeping}
 use Rattle.papaya_histories.specs.Given.Sweeps.declared.sweep.Sweeping.TheVariants as at
 use Rattle.papaya_raw.specs.Machine.{is_ready as sweep_is_ready, machine_asked}
-use Rattle.papaya_raw.specs.declared.machines.machine.Machine.{Machine}
 use Rattle.papaya_raw.specs.declared.machines.machine.Machine.TheVariants as kinds
 use Rattle.papaya_runs.specs.Same.{is_same}
 use Rattle.papaya_schedules.specs.Moment.{Moment}

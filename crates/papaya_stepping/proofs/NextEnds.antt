@@ -1,11 +1,11 @@
 -- The last step of a walk to its next pair: it shows a pair, or has shown all; and the event by which it does.
-use Rattle.std.specs.Prelude.{◌≡◌, ◌+◌, ◌≤◌, ◌&&◌, ℕ, Bool, true, false, not, List, [], ◌++◌, filter, find, map, position, slice_get, slice_set, sum_by, is_some, Option, Some, None, option_map, if◌then◌else◌}
+use Rattle.std.specs.Prelude.{◌≡◌, ◌+◌, ◌≤◌, ◌&&◌, ℕ, Bool, true, false, List, [], ◌++◌, find, map, position, slice_get, slice_set, sum_by, Option, Some, None, option_map}
 use Rattle.std.specs.List.{remove}
 use Rattle.std.proofs.Common.{refl, sym, ap, subst, ◌∙◌, arith}
 use Rattle.papaya_histories.specs.Given.SeizeWords.declared.fault.Fault.TheVariants.{Busy}
 use Rattle.papaya_histories.specs.Given.Tables.declared.node.Node.{Node}
-use Rattle.papaya_histories.specs.Given.Sweeps.declared.sweep.Purpose.TheVariants.{Walks}
 use Rattle.papaya_histories.specs.Given.Sweeps.declared.sweep.Sweep.{Sweep}
+use Rattle.papaya_histories.specs.Given.Sweeps.declared.sweep.Sweeping.{Sweeping}
 use Rattle.papaya_raw.specs.declared.machines.machine.Machine.{Machine}
 use Rattle.papaya_raw.specs.declared.machines.machine.Machine.TheVariants as kinds
 use Rattle.papaya_raw.specs.declared.machines.progress.Answer.TheVariants as answers
@@ -26,6 +26,7 @@ use Rattle.papaya_schedules.specs.Moment.{Stands, UnderWay as CallThere, Moment}
 use Rattle.papaya_schedules.specs.Steps.{MakesSteps, stands_or, weight}
 use Rattle.papaya_schedules.specs.Terms.{Terms}
 use Rattle.papaya_schedules.specs.Views.{call_of}
+use Rattle.papaya_histories.specs.Given.Late.Faults.{RoomInSweeping}
 use Rattle.papaya_histories.specs.Given.Callers.Together.{UnderWay}
 use Rattle.papaya_histories.specs.Given.Effects.Known.{Known, known}
 use Rattle.papaya_histories.specs.Given.Finishes.Machines.{machine_of}
@@ -109,8 +110,10 @@ module _ {K V S : Type 0} (same : K → K → Bool) (hash : K → ℕ) (terms : 
 
         as_far : AsFar (record d { stands = far.Ready; value = d.value }) (machine_of more.0)
         as_far = subst (AsFar (record d { stands = far.Ready; value = d.value }))
-            (sym (goes_as_said same hash terms own n w p stands place at_place (progress.Pair word) new before after leads_so more.0 more.1))
-            (subst (λ (k : Kind). IsFor k says.0.purpose) (sym (its_walk same hash terms own n w p stands place at_place).0) (says.2 ∙ (its_sweep same hash terms own n w p stands place at_place).walks), says.3)
+            (sym (goes_as_said same hash terms own n w p stands place at_place (progress.Pair word) new before after leads_so more.0 more.1)) (
+              (subst (λ (k : Kind). IsFor k says.0.purpose) (sym (its_walk same hash terms own n w p stands place at_place).0) (says.2 ∙ (its_sweep same hash terms own n w p stands place at_place).walks), says.3),
+              subst (λ (q : Sweeping). RoomInSweeping q) (sym says.3) tt,
+            )
 
         change : CallThere K V → CallThere K V
         change x = comes_to (Shows (number_by by word)) (record x { steps = x.steps + counted })
@@ -182,7 +185,7 @@ module _ {K V S : Type 0} (same : K → K → Bool) (hash : K → ℕ) (terms : 
         of progress.Goes fails l it after_it so = absurd (fails refl)
         of (progress.Pair word) fails l it after_it so = record { is_next = tt; stands_told = shows_pair word l it }
         of (progress.Done answers.Swept) fails l it after_it so = record {
-          is_next = subst (λ (k : Kind). IsNext {V = V} (Answered (swept k))) (sym (its_walk same hash terms own n w p stands place at_place).0) tt;
+          is_next = subst (λ (k : Kind). IsNext {V = V} (Answered (swept by k))) (sym (its_walk same hash terms own n w p stands place at_place).0) tt;
           stands_told = shows_none l it;
         }
         of _ fails l it after_it so = absurd so
@@ -280,12 +283,16 @@ module _ {K V S : Type 0} (same : K → K → Bool) (hash : K → ℕ) (terms : 
           ap (λ (l : List Effect). with_effects (Some own) (Some midst.call.map) l m) (sym (follows_all same hash terms own place m n [] mid effects p walked midst said step))
           ∙ ap (λ (o : Option (CallThere K V)). with_effects (Some own) (option_map (λ x. x.map) o) effects m) (sym midst.call_is)
 
+      -- after what its last step did
+      abbrev last_w : Moment K V
+      last_w = w2 same hash terms own n (midst_w same hash terms own place m n [] mid effects p walked midst) p midst.stands place midst.ready walked.logged mid effects callers steps
+
       stands_told : StandsFor same hash terms (come_to own outcome steps w) then_new
       stands_told =
           subst (λ (x : Scheduler K V S). StandsFor same hash terms (come_to own outcome steps w) (record x { calls = callers })) (sym step.rest)
           (subst (λ (x : Moment K V). StandsFor same hash terms (come_to own outcome steps x) (record p { logged = walked.logged; calls = callers }))
           (all_did same hash terms own place m n [] mid effects p walked midst said step ∙ worked_is)
-          (subst (λ (o : Outcome V). StandsFor same hash terms (come_to own o steps _) (record p { logged = walked.logged; calls = callers })) outcome_is ends.stands_told))
+          (subst (λ (o : Outcome V). StandsFor same hash terms (come_to own o steps last_w) (record p { logged = walked.logged; calls = callers })) outcome_is ends.stands_told))
 
       is_next : IsNext outcome
       is_next = subst (λ (o : Outcome V). IsNext o) outcome_is ends.is_next

@@ -1,5 +1,5 @@
 -- The steps of a walk to its next pair: what each says, and that the walk goes on over the places of its table.
-use Rattle.std.specs.Prelude.{◌≡◌, ◌≢◌, ◌<◌, ◌⊎◌, ◌≤◌, ◌+◌, ◌^◌, ℕ, Bool, true, false, List, [], ◌++◌, map, slice_get, sum_by, Option, Some, None}
+use Rattle.std.specs.Prelude.{◌≡◌, ◌<◌, ◌⊎◌, ◌≤◌, ◌+◌, ◌^◌, ℕ, Bool, false, List, [], ◌++◌, map, slice_get, sum_by, Option, Some}
 use Rattle.std.proofs.Common.{refl, sym, ap, subst, ◌∙◌, inl, inr, arith}
 use Rattle.std.proofs.lemmas.List.{append_assoc}
 use Rattle.papaya_histories.specs.Given.Tables.declared.node.Node.{Node}
@@ -194,7 +194,7 @@ module _ {K V S : Type 0} (same : K → K → Bool) (hash : K → ℕ) (terms : 
       λ holds. (
         (its_walk same hash terms own n w p stands place at_place).0,
         subst (IsWalking (n + 1)) (sym (goes_as_said same hash terms own n w p stands place at_place progress.Goes new before after leads_so x goes))
-            (to.2 ∙ it.walks, inl (to.3.0, further_on same hash n stands.scene its.caller.map its.caller.number _ _ its.way.0 its.way.1 (its_walk same hash terms own n w p stands place at_place).1 it.sweep it.over to.0.place to.3.1)),
+            (to.2 ∙ it.walks, inl (to.3.0, further_on same hash n stands.scene its.caller.map its.caller.number (st same hash terms own n w p stands place at_place).0 (together same hash terms own n w p stands place at_place) its.way.0 its.way.1 (its_walk same hash terms own n w p stands place at_place).1 it.sweep it.over to.0.place to.3.1)),
       ),
       λ fails. absurd (let a = ap (λ (l : List ℕ). is_same l own) its.named ∙ is_same_refl own in cc (a, fails)),
     )

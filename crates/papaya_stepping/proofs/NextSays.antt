@@ -1,5 +1,5 @@
 -- What a step of a walk says that was asked for its next pair: it goes on to the next place, shows a pair, or has shown all.
-use Rattle.std.specs.Prelude.{◌≡◌, ◌<◌, ◌≤◌, ◌+◌, ◌*◌, ◌%◌, ◌^◌, ◌==◌, ◌&&◌, ℕ, nat_lt, Bool, true, false, Ok, Err, if◌then◌else◌}
+use Rattle.std.specs.Prelude.{◌≡◌, ◌<◌, ◌≤◌, ◌^◌, ◌==◌, ◌&&◌, ℕ, nat_lt, Bool, true, false, if◌then◌else◌}
 use Rattle.std.proofs.Common.{refl, sym, ap, subst, arith}
 use Rattle.papaya_histories.specs.Given.SeizeWords.Mem.{Mem, Gives, value_at}
 use Rattle.papaya_histories.specs.Given.SeizeWords.Op.{Out, Load, Found, Stored, Exchanged, Made, Taken, Roomed}

@@ -1,6 +1,5 @@
 -- A step by which a call on one key waits changes nothing: it was a load, at a try, of how a copying stands, or of the batch of its slot.
-use Rattle.std.specs.Prelude.{Option, Some, None}
-use Rattle.std.proofs.Common.{◌≡◌, ℕ, Bool, ◌⊎◌, refl, sym, ap, subst, ◌∙◌}
+use Rattle.std.proofs.Common.{◌≡◌, ℕ, Bool, refl, sym, ap, subst, ◌∙◌}
 use Rattle.papaya_histories.specs.Given.SeizeWords.Mem.{Mem}
 use Rattle.papaya_histories.specs.Given.Seize.Defer.{defer_plan}
 use Rattle.papaya_histories.specs.Given.Seize.Settle.{settle_plan}

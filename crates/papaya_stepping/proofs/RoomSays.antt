@@ -1,6 +1,6 @@
 -- For what a call on no key is refused: for room alone, at each of its steps, and one that counts never.
-use Rattle.std.specs.Prelude.{◌≡◌, ℕ, Bool}
-use Rattle.std.proofs.Common.{refl, sym, ap, subst}
+use Rattle.std.specs.Prelude.{ℕ, Bool}
+use Rattle.std.proofs.Common.{sym, subst}
 use Rattle.papaya_histories.specs.Given.SeizeWords.Mem.{Mem}
 use Rattle.papaya_histories.specs.Given.SeizeWords.Plan.{plan_as}
 use Rattle.papaya_histories.specs.Given.Seize.declared.progress.Progress.{Progress as Counted}

@@ -1,7 +1,7 @@
 -- A call on one key that waits, on a map that grows in chunks, waits for a call that the moment tells, for which it may wait; and its step has changed nothing.
 use Rattle.std.specs.Prelude.{List, Option, Some}
 use Rattle.std.specs.List.{list_any}
-use Rattle.std.proofs.Common.{◌≡◌, ℕ, suc, ◌<◌, ◌⊎◌, inl, inr, Bool, true, false, refl, ap, sym, subst, ◌∙◌}
+use Rattle.std.proofs.Common.{◌≡◌, ℕ, suc, ◌⊎◌, inl, inr, Bool, true, false, refl, ap, sym, subst, ◌∙◌}
 use Rattle.papaya_histories.specs.Given.SeizeWords.Mem.{Mem, Took, value_at}
 use Rattle.papaya_histories.specs.Given.SeizeWords.Plan.{Steps}
 use Rattle.papaya_histories.specs.Given.Seize.World.{World, Row, Settles, Leaves}
@@ -245,7 +245,7 @@ module _ {K V S : Type 0} (same : K → K → Bool) (hash : K → ℕ) (terms : 
   own_step : Told
   own_step =
       let it = told_in before new.memory.memory new.memory.changed of_key (call_plan same same hash u.call) (next, progress.Waits)
-          (subst (λ (y : UnderWay K V K). StepsFrom same hash (machine_of y) p.logged.executor new next progress.Waits) as_one.1 step) in
+      (subst (λ (y : UnderWay K V K). StepsFrom same hash (machine_of y) p.logged.executor new next progress.Waits) as_one.1 step) in
       by it.0 (key_waits it.0.1 (ap (λ (y : Machine K V K × Progress (Node K V)). y.1) (sym it.1))) it.2
     where
       by : (end : KeyCall K V K × Called (Node K V)) → end.1 ≡ says.Waits → Step before new.memory.memory new.memory.changed (call_plan same same hash u.call) end → Told

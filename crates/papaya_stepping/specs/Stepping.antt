@@ -46,6 +46,7 @@ use Rattle.papaya_scheduler.specs.declared.caller.Caller.{Caller}
 use Rattle.papaya_scheduler.specs.declared.caller.Stands.{Stands as HowFar}
 use Rattle.papaya_scheduler.specs.declared.caller.Stands.TheVariants as far
 use Rattle.papaya_scheduler.specs.declared.kind.Kind.{Kind}
+use Rattle.papaya_scheduler.specs.declared.kind.Kind.TheVariants as kind
 use Rattle.papaya_scheduler.specs.declared.played.Played.{Played}
 use Rattle.papaya_scheduler.specs.declared.scheduler.Scheduler.{Scheduler}
 

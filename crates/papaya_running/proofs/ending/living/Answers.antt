@@ -14,10 +14,10 @@ loop-named-init c =
 
 pub loop-named-preserved : goal.loop-named-preserved
 loop-named-preserved c =
-    let named = c.in-Some-named.named in
+    let named = c.in-Some.named in
     let told = told_map c.args.tally.now in
-    let rest = c.next-in-loop-named.new.self.rest.items in
-    let next : c.loop-named.named-iterator.rest.items ≡ named ∷ rest = let s = c.in-Some-named.ensures.steps in search rules in
+    let rest = c.next.new.self.rest.items in
+    let next : c.loop-named.named-iterator.rest.items ≡ named ∷ rest = let s = c.in-Some.ensures.steps in search rules in
     let one : Living = record { name = named.name; pairs = c.in_ok-pairs.pairs } in
     let one_is : shown_of one ≡ told named = ap (λ (l : List ℕ). (named.name, l)) c.in_ok-pairs.ensures in
     ap (λ (l : List Living). map shown_of l ++ map told rest) c.in_ok-push.ensures.items
@@ -28,5 +28,5 @@ loop-named-preserved c =
 pub returns : goal.returns
 returns c =
     let empty : c.loop-named.named-iterator.rest.items ≡ [] =
-    nil_from_length c.loop-named.named-iterator.rest.items (let a = c.loop-named.named-iterator.rest.ok in let s = c.in-None-named.ensures.steps in omega (arith, a, s.0)) in
+    nil_from_length c.loop-named.named-iterator.rest.items (let a = c.loop-named.named-iterator.rest.ok in let s = c.in-None.ensures.steps in omega (arith, a, s.0)) in
     sym (append-nil (map shown_of c.loop-named.living.items)) ∙ ap (λ (l : List NamedMap). map shown_of c.loop-named.living.items ++ map (told_map c.args.tally.now) l) (sym empty) ∙ c.loop-named.invariant

@@ -1,5 +1,6 @@
 -- An event is kept out, or happens by its kind.
 use Rattle.std.proofs.Common.{refl, sym, ap, ◌∙◌}
+use Rattle.papaya_running.proofs.Gives.{calls_reclaim_none, gave_in_turn, gave_none_if, gave_out}
 use Rattle.papaya_running.proofs.Happened.{in_turn_if, out_so, stays_out}
 use Rattle.papaya_running.proofs.happening.happen.Goals as goal
 
@@ -9,6 +10,7 @@ returns-then-keeps_out g c = record {
       stays_out g.K.PartialEq.eq (g.S.Hashes.hash c.args.scheduler.now.logged.executor.hasher) c.args.event c.args.scheduler.now c.args.is_first c.refuse.new.self c.refuse.result
       c.refuse.ensures.outcome c.refuse.ensures.steps c.refuse.ensures.effects
       (c.refuse.ensures.plays g.K.PartialEq.eq (g.S.Hashes.hash c.args.scheduler.now.logged.executor.hasher)) (sym c.keeps_out.ensures ∙ c.if-keeps_out.true);
+  back = gave_out g.K.PartialEq.eq (g.S.Hashes.hash c.args.scheduler.now.logged.executor.hasher) c.args.event c.args.scheduler.now c.refuse.result c.args.back.now.items c.refuse.ensures.effects;
   given = (ap (λ p. p.logged.executor.hasher) c.refuse.ensures.mapped, ap (λ p. p.logged.executor.batch_size) c.refuse.ensures.mapped, ap (λ p. p.logged.executor.roots) c.refuse.ensures.mapped);
 }
 
@@ -24,6 +26,10 @@ returns-then-is_of_calls g c = record {
   happens =
       in_turn_if g.K.PartialEq.eq (g.S.Hashes.hash c.args.scheduler.now.logged.executor.hasher) c.args.event c.args.scheduler.now c.args.is_first c.of_calls.new.scheduler c.of_calls.result
       c.of_calls.ensures.happens (sym c.keeps_out.ensures ∙ c.if-keeps_out.false);
+  back =
+      gave_in_turn g.K.PartialEq.eq (g.S.Hashes.hash c.args.scheduler.now.logged.executor.hasher) c.args.event c.args.scheduler.now c.of_calls.result c.args.back.now.items c.args.back.now.items
+      (gave_none_if g.K.PartialEq.eq (g.S.Hashes.hash c.args.scheduler.now.logged.executor.hasher) c.args.event c.args.event refl c.args.scheduler.now
+      (calls_reclaim_none c.args.event (sym c.is_of_calls.ensures ∙ c.if-is_of_calls.true)) c.of_calls.result c.args.back.now.items) (sym c.keeps_out.ensures ∙ c.if-keeps_out.false);
   given = (c.of_calls.ensures.given.0, c.of_calls.ensures.given.1, c.of_calls.ensures.given.2);
 }
 
@@ -39,6 +45,9 @@ returns-then-is_of_maps g c = record {
   happens =
       in_turn_if g.K.PartialEq.eq (g.S.Hashes.hash c.args.scheduler.now.logged.executor.hasher) c.args.event c.args.scheduler.now c.args.is_first c.of_maps.new.scheduler c.of_maps.result
       c.of_maps.ensures.happens (sym c.keeps_out.ensures ∙ c.if-keeps_out.false);
+  back =
+      gave_in_turn g.K.PartialEq.eq (g.S.Hashes.hash c.args.scheduler.now.logged.executor.hasher) c.args.event c.args.scheduler.now c.of_maps.result c.args.back.now.items c.of_maps.new.back.items c.of_maps.ensures.back
+      (sym c.keeps_out.ensures ∙ c.if-keeps_out.false);
   given = c.of_maps.ensures.given;
 }
 
@@ -55,5 +64,8 @@ returns g c = record {
   happens =
       in_turn_if g.K.PartialEq.eq (g.S.Hashes.hash c.args.scheduler.now.logged.executor.hasher) c.args.event c.args.scheduler.now c.args.is_first c.of_slots.new.scheduler c.of_slots.result
       c.of_slots.ensures.happens (sym c.keeps_out.ensures ∙ c.if-keeps_out.false);
+  back =
+      gave_in_turn g.K.PartialEq.eq (g.S.Hashes.hash c.args.scheduler.now.logged.executor.hasher) c.args.event c.args.scheduler.now c.of_slots.result c.args.back.now.items c.of_slots.new.back.items c.of_slots.ensures.back
+      (sym c.keeps_out.ensures ∙ c.if-keeps_out.false);
   given = (c.of_slots.ensures.given.0, c.of_slots.ensures.given.1, c.of_slots.ensures.given.2);
 }

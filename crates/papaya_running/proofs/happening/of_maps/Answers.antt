@@ -2,6 +2,7 @@
 use Rattle.std.proofs.Common.{refl}
 use Rattle.std.proofs.lemmas.Result.{IfOk-weaker}
 use Rattle.papaya_running.proofs.Forms.{some_map}
+use Rattle.papaya_running.proofs.Gives.{gave, gave_all, gave_none_if}
 use Rattle.papaya_running.proofs.Happened.{due_so, may_give, may_map, may_play, still_if}
 use Rattle.papaya_running.proofs.happening.of_maps.Goals as goal
 
@@ -49,3 +50,18 @@ returns-in-Close-clause-happens g c =
 
 pub unreachable-requires : goal.unreachable-requires
 unreachable-requires g c = let d = c.in_default in some_map c.args.event c.requires.maps d.not-MakeMap d.not-EndMap d.not-ShowShape d.not-ReclaimAll d.not-Close
+
+pub returns-in-MakeMap-clause-back : goal.returns-in-MakeMap-clause-back
+returns-in-MakeMap-clause-back g c = gave_none_if g.K.PartialEq.eq (g.S.Hashes.hash c.args.scheduler.now.logged.executor.hasher) c.args.event _ c.in-MakeMap.is c.args.scheduler.now (λ did none. none) c.make_map.result c.args.back.now.items
+
+pub returns-in-EndMap-clause-back : goal.returns-in-EndMap-clause-back
+returns-in-EndMap-clause-back g c = gave g.K.PartialEq.eq (g.S.Hashes.hash c.args.scheduler.now.logged.executor.hasher) c.args.event _ c.in-EndMap.is c.args.scheduler.now c.end_map.result c.args.back.now.items c.end_map.new.back.items c.end_map.ensures.back
+
+pub returns-in-ShowShape-clause-back : goal.returns-in-ShowShape-clause-back
+returns-in-ShowShape-clause-back g c = gave_none_if g.K.PartialEq.eq (g.S.Hashes.hash c.args.scheduler.now.logged.executor.hasher) c.args.event _ c.in-ShowShape.is c.args.scheduler.now (λ did none. none) c.show_shape.result c.args.back.now.items
+
+pub returns-in-ReclaimAll-clause-back : goal.returns-in-ReclaimAll-clause-back
+returns-in-ReclaimAll-clause-back g c = gave_all g.K.PartialEq.eq (g.S.Hashes.hash c.args.scheduler.now.logged.executor.hasher) c.args.event _ c.in-ReclaimAll.is c.args.scheduler.now c.reclaim_all.result c.args.back.now.items c.reclaim_all.new.back.items c.reclaim_all.ensures.back
+
+pub returns-in-Close-clause-back : goal.returns-in-Close-clause-back
+returns-in-Close-clause-back g c = gave_all g.K.PartialEq.eq (g.S.Hashes.hash c.args.scheduler.now.logged.executor.hasher) c.args.event _ c.in-Close.is c.args.scheduler.now c.close.result c.args.back.now.items c.close.new.back.items c.close.ensures.back

@@ -2,6 +2,7 @@
 use Rattle.std.proofs.Common.{refl}
 use Rattle.std.proofs.lemmas.Result.{IfOk-weaker}
 use Rattle.papaya_running.proofs.Forms.{some_slot}
+use Rattle.papaya_running.proofs.Gives.{gave, gave_none, gave_none_if}
 use Rattle.papaya_running.proofs.Happened.{due_so, may_play, still, still_if}
 use Rattle.papaya_running.proofs.happening.of_slots.Goals as goal
 
@@ -100,3 +101,36 @@ pub unreachable-requires : goal.unreachable-requires
 unreachable-requires g c =
     let d = c.in_default in
     some_slot c.args.event c.requires.no_maps c.requires.no_calls d.not-Collector d.not-Hash d.not-Choose d.not-Register d.not-Unregister d.not-Enter d.not-Own d.not-Refresh d.not-Flush d.not-DropGuard d.not-Forget
+
+pub returns-in-Collector-clause-back : goal.returns-in-Collector-clause-back
+returns-in-Collector-clause-back g c = gave_none g.K.PartialEq.eq (g.S.Hashes.hash c.args.scheduler.now.logged.executor.hasher) c.args.event _ c.in-Collector.is c.args.scheduler.now (λ did none. none) c.collector.result c.args.back.now.items
+
+pub returns-in-Hash-clause-back : goal.returns-in-Hash-clause-back
+returns-in-Hash-clause-back g c = gave_none g.K.PartialEq.eq (g.S.Hashes.hash c.args.scheduler.now.logged.executor.hasher) c.args.event _ c.in-Hash.is c.args.scheduler.now (λ did none. none) c.hash.result c.args.back.now.items
+
+pub returns-in-Choose-clause-back : goal.returns-in-Choose-clause-back
+returns-in-Choose-clause-back g c = gave_none_if g.K.PartialEq.eq (g.S.Hashes.hash c.args.scheduler.now.logged.executor.hasher) c.args.event _ c.in-Choose.is c.args.scheduler.now (λ did none. none) c.choose.result c.args.back.now.items
+
+pub returns-in-Register-clause-back : goal.returns-in-Register-clause-back
+returns-in-Register-clause-back g c = gave g.K.PartialEq.eq (g.S.Hashes.hash c.args.scheduler.now.logged.executor.hasher) c.args.event _ c.in-Register.is c.args.scheduler.now c.register.result c.args.back.now.items c.register.new.back.items c.register.ensures.back
+
+pub returns-in-Unregister-clause-back : goal.returns-in-Unregister-clause-back
+returns-in-Unregister-clause-back g c = gave g.K.PartialEq.eq (g.S.Hashes.hash c.args.scheduler.now.logged.executor.hasher) c.args.event _ c.in-Unregister.is c.args.scheduler.now c.unregister.result c.args.back.now.items c.unregister.new.back.items c.unregister.ensures.back
+
+pub returns-in-Enter-clause-back : goal.returns-in-Enter-clause-back
+returns-in-Enter-clause-back g c = gave g.K.PartialEq.eq (g.S.Hashes.hash c.args.scheduler.now.logged.executor.hasher) c.args.event _ c.in-Enter.is c.args.scheduler.now c.enter.result c.args.back.now.items c.enter.new.back.items c.enter.ensures.back
+
+pub returns-in-Own-clause-back : goal.returns-in-Own-clause-back
+returns-in-Own-clause-back g c = gave g.K.PartialEq.eq (g.S.Hashes.hash c.args.scheduler.now.logged.executor.hasher) c.args.event _ c.in-Own.is c.args.scheduler.now c.own.result c.args.back.now.items c.own.new.back.items c.own.ensures.back
+
+pub returns-in-Refresh-clause-back : goal.returns-in-Refresh-clause-back
+returns-in-Refresh-clause-back g c = gave g.K.PartialEq.eq (g.S.Hashes.hash c.args.scheduler.now.logged.executor.hasher) c.args.event _ c.in-Refresh.is c.args.scheduler.now c.refresh.result c.args.back.now.items c.refresh.new.back.items c.refresh.ensures.back
+
+pub returns-in-Flush-clause-back : goal.returns-in-Flush-clause-back
+returns-in-Flush-clause-back g c = gave g.K.PartialEq.eq (g.S.Hashes.hash c.args.scheduler.now.logged.executor.hasher) c.args.event _ c.in-Flush.is c.args.scheduler.now c.flush.result c.args.back.now.items c.flush.new.back.items c.flush.ensures.back
+
+pub returns-in-DropGuard-clause-back : goal.returns-in-DropGuard-clause-back
+returns-in-DropGuard-clause-back g c = gave g.K.PartialEq.eq (g.S.Hashes.hash c.args.scheduler.now.logged.executor.hasher) c.args.event _ c.in-DropGuard.is c.args.scheduler.now c.drop_guard.result c.args.back.now.items c.drop_guard.new.back.items c.drop_guard.ensures.back
+
+pub returns-in-Forget-clause-back : goal.returns-in-Forget-clause-back
+returns-in-Forget-clause-back g c = gave_none g.K.PartialEq.eq (g.S.Hashes.hash c.args.scheduler.now.logged.executor.hasher) c.args.event _ c.in-Forget.is c.args.scheduler.now (λ did none. none) c.forget.result c.args.back.now.items

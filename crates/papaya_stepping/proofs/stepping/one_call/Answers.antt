@@ -68,8 +68,7 @@ returns-then-branch g c =
       took = IfOk-weaker c.take_steps.result _ _ (λ played taken. λ terms m stands.
           let begun = subst (λ (b : Bool). BeginsSo g.K.PartialEq.eq hash terms m nameless c.args.guard c.args.map.now c.args.call b c.args.scheduler.now c.begins.new.self) c.if-branch.true
           (subst (λ own. BeginsSo g.K.PartialEq.eq hash terms m own c.args.guard c.args.map.now c.args.call c.in_ok-begins.field-0 c.args.scheduler.now c.begins.new.self) named
-          (c.in_ok-begins.ensures.begins terms m stands)) in
-          (
+          (c.in_ok-begins.ensures.begins terms m stands)) in (
             true,
             c.begins.new.self,
             begun,

@@ -1,7 +1,7 @@
 -- Each step may be taken, leads on, and leaves less to do, until the end is over.
 use Rattle.std.proofs.Common.{◌++◌, sym, ap, ◌∙◌}
 use Rattle.papaya_logged.specs.Back.{settled_back}
-use Rattle.papaya_logged.proofs.Back.{brings_end, end_brings_none, end_comes}
+use Rattle.papaya_logged.proofs.BroughtBack.{brings_end, end_brings_none, end_comes}
 use Rattle.papaya_logged.proofs.EndSteps.{end_is_over}
 use Rattle.papaya_logged.proofs.EndsRun.{ends_none, ends_last, still_ending, ran_goes, ending_less}
 use Rattle.papaya_logged.proofs.KeptGiven.{given_none, given_on}

@@ -2,7 +2,7 @@
 use Rattle.std.proofs.Common.{◌++◌, refl, suc, sym, ap, ◌∙◌}
 use Rattle.papaya_effects.specs.Known.{known}
 use Rattle.papaya_logged.specs.Back.{row_back}
-use Rattle.papaya_logged.proofs.Back.{brings_none, brings_row, row_comes}
+use Rattle.papaya_logged.proofs.BroughtBack.{brings_none, brings_row, row_comes}
 use Rattle.papaya_logged.proofs.KeptGiven.{given_none, given_on}
 use Rattle.papaya_logged.proofs.Runs.{ends_at_first, ends_now, ran_none, ran_on, run_goes, still_there}
 use Rattle.papaya_logged.proofs.logged.Logged.run_on_slot.Goals as goal

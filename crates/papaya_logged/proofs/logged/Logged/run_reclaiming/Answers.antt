@@ -1,7 +1,7 @@
 -- Each step may be taken, and leads on, until nothing is left.
 use Rattle.std.proofs.Common.{◌++◌, sym, ap, ◌∙◌}
 use Rattle.papaya_logged.specs.Back.{settled_back}
-use Rattle.papaya_logged.proofs.Back.{end_comes}
+use Rattle.papaya_logged.proofs.BroughtBack.{end_comes}
 use Rattle.papaya_logged.proofs.KeptGiven.{given_none, given_on}
 use Rattle.papaya_logged.proofs.ReclaimBack.{brings_all, brought_all, brought_none}
 use Rattle.papaya_logged.proofs.ReclaimsRun.{reclaims_none, reclaims_on, reclaims_last}

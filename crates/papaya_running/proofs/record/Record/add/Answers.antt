@@ -6,14 +6,14 @@ use Rattle.papaya_runs.specs.declared.outcome.Single.TheVariants as single
 use Rattle.papaya_running.specs.Acting.{singles_as}
 use Rattle.papaya_running.specs.declared.acting.Traced.{Traced}
 use Rattle.papaya_running.specs.declared.acting.Traced.TheVariants.{Whole}
-use Rattle.papaya_running.proofs.Logs.{by_turn}
+use Rattle.papaya_running.proofs.Singles.{by_turn}
 use Rattle.papaya_running.proofs.record.Record.add.Goals as goal
 use Rattle.papaya_running.proofs.record.Record.add.Goals.{then-is_busy, else-is_busy}
 
 pub returns-clause-trace : goal.returns-clause-trace
 returns-clause-trace g c =
     let place = length c.args.self.now.outcomes.items in
-    let place_is : c.len.result ≡ place = c.len.ensures ∙ c.args.self.now.outcomes.ok.0 in
+    let place_is : c.len-place.result ≡ place = c.len-place.ensures ∙ c.args.self.now.outcomes.ok.0 in
     let so : c.if-is_busy.traced ≡ (if c.is_busy.result then Whole else c.args.traced) =
     elim c.if-is_busy.branch [
       | then-is_busy w ↦ w.traced-is ∙ ap (λ (b : Bool). if b then Whole else c.args.traced) (sym w.if-is_busy.true)

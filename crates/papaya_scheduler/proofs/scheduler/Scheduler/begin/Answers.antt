@@ -15,24 +15,24 @@ begins-requires g c = let r = c.requires in (r.0, moment r.1, r.2.played)
 pub returns-then-branch-clause-plays : goal.returns-then-branch-clause-plays
 returns-then-branch-clause-plays g c =
     λ terms log due.
-      let hash = g.S.Hashes.hash c.args.self.now.logged.executor.hasher in
-      let own = c.args.caller in
-      let guard = c.args.guard in
-      let map = c.args.map.now in
-      so_played g.K.PartialEq.eq hash terms log c.begins.new.self (Begin own guard map c.args.call) c.quietly.result Goes 0 [] c.quietly.ensures.outcome c.quietly.ensures.steps
-      c.quietly.ensures.effects
-      (begins_call g.K.PartialEq.eq hash terms log own guard map c.args.call c.args.self.now c.begins.new.self due
-      (subst (λ (b : Bool). BeginsSo g.K.PartialEq.eq hash terms (moment log) own guard map c.args.call b c.args.self.now c.begins.new.self) c.if-branch.true
-      (c.in_ok-begins.ensures.begins terms (moment log) due.played)))
+    let hash = g.S.Hashes.hash c.args.self.now.logged.executor.hasher in
+    let own = c.args.caller in
+    let guard = c.args.guard in
+    let map = c.args.map.now in
+    so_played g.K.PartialEq.eq hash terms log c.begins.new.self (Begin own guard map c.args.call) c.quietly.result Goes 0 [] c.quietly.ensures.outcome c.quietly.ensures.steps
+    c.quietly.ensures.effects
+    (begins_call g.K.PartialEq.eq hash terms log own guard map c.args.call c.args.self.now c.begins.new.self due
+    (subst (λ (b : Bool). BeginsSo g.K.PartialEq.eq hash terms (moment log) own guard map c.args.call b c.args.self.now c.begins.new.self) c.if-branch.true
+    (c.in_ok-begins.ensures.begins terms (moment log) due.played)))
 
 pub returns-else-branch-clause-plays : goal.returns-else-branch-clause-plays
 returns-else-branch-clause-plays g c =
     λ terms log due.
-      let hash = g.S.Hashes.hash c.args.self.now.logged.executor.hasher in
-      let own = c.args.caller in
-      let guard = c.args.guard in
-      let map = c.args.map.now in
-      so_played g.K.PartialEq.eq hash terms log c.begins.new.self (Begin own guard map c.args.call) c.busy.result (Refused Busy) 0 [] c.busy.ensures.outcome c.busy.ensures.steps c.busy.ensures.effects
-      (begins_none g.K.PartialEq.eq hash terms log own guard map c.args.call c.args.self.now c.begins.new.self due
-      (subst (λ (b : Bool). BeginsSo g.K.PartialEq.eq hash terms (moment log) own guard map c.args.call b c.args.self.now c.begins.new.self) c.if-branch.false
-      (c.in_ok-begins.ensures.begins terms (moment log) due.played)))
+    let hash = g.S.Hashes.hash c.args.self.now.logged.executor.hasher in
+    let own = c.args.caller in
+    let guard = c.args.guard in
+    let map = c.args.map.now in
+    so_played g.K.PartialEq.eq hash terms log c.begins.new.self (Begin own guard map c.args.call) c.busy.result (Refused Busy) 0 [] c.busy.ensures.outcome c.busy.ensures.steps c.busy.ensures.effects
+    (begins_none g.K.PartialEq.eq hash terms log own guard map c.args.call c.args.self.now c.begins.new.self due
+    (subst (λ (b : Bool). BeginsSo g.K.PartialEq.eq hash terms (moment log) own guard map c.args.call b c.args.self.now c.begins.new.self) c.if-branch.false
+    (c.in_ok-begins.ensures.begins terms (moment log) due.played)))

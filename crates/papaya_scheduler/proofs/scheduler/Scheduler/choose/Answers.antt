@@ -9,5 +9,5 @@ use Rattle.papaya_scheduler.proofs.scheduler.Scheduler.choose.Goals as goal
 pub returns-clause-plays : goal.returns-clause-plays
 returns-clause-plays g c =
     λ same hash terms log due.
-      so_played same hash terms log (record c.args.self.now { logged = c.choose.new.self }) (Choose c.args.choice) c.quietly.result Done 0 [] c.quietly.ensures.outcome c.quietly.ensures.steps
-      c.quietly.ensures.effects (choice_plays same hash terms log c.args.self.now c.args.choice due c.choose.new.self c.in_ok-choose.ensures.chosen)
+    so_played same hash terms log (record c.args.self.now { logged = c.choose.new.self }) (Choose c.args.choice) c.quietly.result Done 0 [] c.quietly.ensures.outcome c.quietly.ensures.steps
+    c.quietly.ensures.effects (choice_plays same hash terms log c.args.self.now c.args.choice due c.choose.new.self c.in_ok-choose.ensures.chosen)

@@ -8,5 +8,5 @@ use Rattle.papaya_scheduler.proofs.scheduler.Scheduler.collector.Goals as goal
 pub returns-clause-plays : goal.returns-clause-plays
 returns-clause-plays g c =
     λ same hash terms log first due.
-      so_played same hash terms log c.args.self.now (Collector c.args.setup) c.if_so.result _ 0 [] c.if_so.ensures.outcome c.if_so.ensures.steps c.if_so.ensures.effects
-      (collector_plays same hash terms log c.args.self.now c.args.setup due c.args.is_first first)
+    so_played same hash terms log c.args.self.now (Collector c.args.setup) c.if_so.result _ 0 [] c.if_so.ensures.outcome c.if_so.ensures.steps c.if_so.ensures.effects
+    (collector_plays same hash terms log c.args.self.now c.args.setup due c.args.is_first first)

@@ -5,7 +5,7 @@ use Rattle.papaya_schedules.specs.declared.event.Event.TheVariants.{DropGuard}
 use Rattle.papaya_schedules.specs.declared.outcome.Outcome.TheVariants.{Refused}
 use Rattle.papaya_executor.specs.OnSlots.{MayBegin}
 use Rattle.papaya_executor.specs.declared.row.SlotCall.{SlotCall}
-use Rattle.papaya_scheduler.proofs.Backs.{beside, came_as, due_beside, none_came, stayed_as}
+use Rattle.papaya_scheduler.proofs.Backs.{came_as, none_came, stayed_as}
 use Rattle.papaya_scheduler.proofs.Drops.{not_free, may_leave, its_fits, joined, joined_alone}
 use Rattle.papaya_scheduler.proofs.KeptGiven.{given_as, given_still}
 use Rattle.papaya_scheduler.proofs.Rights.{so_played}
@@ -15,8 +15,8 @@ use Rattle.papaya_scheduler.proofs.scheduler.Scheduler.drop_guard.Goals.{then-gu
 pub returns-in_default-clause-plays : goal.returns-in_default-clause-plays
 returns-in_default-clause-plays g c =
     λ same hash terms log due.
-      so_played same hash terms log c.args.self.now (DropGuard c.args.guard.now) c.busy.result (Refused Busy) 0 [] c.busy.ensures.outcome c.busy.ensures.steps c.busy.ensures.effects
-      (not_free same hash terms log c.args.self.now c.args.guard.now due (sym c.slot_of_free.ensures ∙ c.in_default.is))
+    so_played same hash terms log c.args.self.now (DropGuard c.args.guard.now) c.busy.result (Refused Busy) 0 [] c.busy.ensures.outcome c.busy.ensures.steps c.busy.ensures.effects
+    (not_free same hash terms log c.args.self.now c.args.guard.now due (sym c.slot_of_free.ensures ∙ c.in_default.is))
 
 pub do_row-requires : goal.do_row-requires
 do_row-requires g c =
@@ -33,16 +33,16 @@ do_row-requires g c =
 pub returns-clause-plays : goal.returns-clause-plays
 returns-clause-plays g c =
     λ same hash terms log due.
-      let free = sym c.slot_of_free.ensures ∙ c.in-Some.is in
-      elim c.if-guards_on-eq1.branch [
-        | then-guards_on-eq1+in_ok-do_row w ↦
-            joined_alone same hash terms log (beside w.do_row.new.self.back c.args.self.now) c.args.guard.now (due_beside same hash terms c.args.self.now w.do_row.new.self.back log (DropGuard c.args.guard.now) due) c.in-Some.slot free c.if-guards_on-eq1.self c.if-guards_on-eq1.effects.items c.leave.new.self c.leave.ensures
-            (sym c.guards_on.ensures ∙ w.if-guards_on-eq1.true) c.no_effects-effects.result.items w.do_row.new.effects.items c.no_effects-effects.ensures
-            (ap (λ v. v.items) w.effects-is) w.do_row.new.self w.self-is w.do_row.ensures.rest w.leaves_as-called.result w.leaves_as-called.ensures w.in_ok-do_row.ensures.ran
-        | else-guards_on-eq1 w ↦
-            joined same hash terms log c.args.self.now c.args.guard.now due c.in-Some.slot free c.if-guards_on-eq1.self c.if-guards_on-eq1.effects.items c.leave.new.self c.leave.ensures
-            (λ z. w.if-guards_on-eq1.false (c.guards_on.ensures ∙ z)) w.self-is (ap (λ v. v.items) w.effects-is ∙ c.no_effects-effects.ensures)
-      ]
+    let free = sym c.slot_of_free.ensures ∙ c.in-Some.is in
+    elim c.if-guards_on-eq1.branch [
+      | then-guards_on-eq1+in_ok-do_row w ↦
+          joined_alone same hash terms log c.args.self.now c.args.guard.now due c.in-Some.slot free c.if-guards_on-eq1.self c.if-guards_on-eq1.effects.items c.leave.new.self c.leave.ensures
+          (sym c.guards_on.ensures ∙ w.if-guards_on-eq1.true) c.no_effects-effects.result.items w.do_row.new.effects.items c.no_effects-effects.ensures
+          (ap (λ v. v.items) w.effects-is) w.do_row.new.self w.self-is w.do_row.ensures.rest w.leaves_as-called.result w.leaves_as-called.ensures w.in_ok-do_row.ensures.ran
+      | else-guards_on-eq1 w ↦
+          joined same hash terms log c.args.self.now c.args.guard.now due c.in-Some.slot free c.if-guards_on-eq1.self c.if-guards_on-eq1.effects.items c.leave.new.self c.leave.ensures
+          (λ z. w.if-guards_on-eq1.false (c.guards_on.ensures ∙ z)) w.self-is (ap (λ v. v.items) w.effects-is ∙ c.no_effects-effects.ensures)
+    ]
 
 pub returns-clause-given : goal.returns-clause-given
 returns-clause-given g c =
@@ -52,15 +52,15 @@ returns-clause-given g c =
     ]
 
 pub returns-in_default-clause-back : goal.returns-in_default-clause-back
-returns-in_default-clause-back g c = λ same hash terms log due. none_came _ c.busy.result.effects.items c.args.self.now.back.items c.busy.ensures.effects
+returns-in_default-clause-back g c = λ same hash terms log due. none_came _ c.busy.result.effects.items c.args.back.now.items c.busy.ensures.effects
 
 pub returns-clause-back : goal.returns-clause-back
 returns-clause-back g c =
     λ same hash terms log due.
-      elim c.if-guards_on-eq1.branch [
-        | then-guards_on-eq1+in_ok-do_row w ↦
-            came_as same hash terms log (DropGuard c.args.guard.now) c.args.self.now due c.if-guards_on-eq1.effects.items c.no_effects-effects.result.items w.do_row.new.effects.items (ap (λ v. v.items) w.effects-is)
-            c.no_effects-effects.ensures c.if-guards_on-eq1.self w.do_row.new.self w.self-is w.in_ok-do_row.ensures.back
-        | else-guards_on-eq1 w ↦
-            stayed_as same hash terms log (DropGuard c.args.guard.now) c.args.self.now due c.if-guards_on-eq1.effects.items (ap (λ v. v.items) w.effects-is ∙ c.no_effects-effects.ensures) c.if-guards_on-eq1.self w.self-is
-      ]
+    elim c.if-guards_on-eq1.branch [
+      | then-guards_on-eq1+in_ok-do_row w ↦
+          came_as same hash terms log (DropGuard c.args.guard.now) c.args.self.now due c.args.back.now.items c.if-guards_on-eq1.effects.items c.no_effects-effects.result.items w.do_row.new.effects.items (ap (λ v. v.items) w.effects-is)
+          c.no_effects-effects.ensures w.do_row.new.back.items c.if-guards_on-eq1.back.items (ap (λ v. v.items) w.back-is) w.in_ok-do_row.ensures.back
+      | else-guards_on-eq1 w ↦
+          stayed_as _ c.if-guards_on-eq1.effects.items c.args.back.now.items c.if-guards_on-eq1.back.items (ap (λ v. v.items) w.effects-is ∙ c.no_effects-effects.ensures) (ap (λ v. v.items) w.back-is)
+    ]

@@ -4,7 +4,7 @@ use Rattle.seize_words.specs.declared.fault.Fault.TheVariants.{Busy}
 use Rattle.papaya_schedules.specs.declared.event.Event.TheVariants.{Flush}
 use Rattle.papaya_schedules.specs.After.{moment}
 use Rattle.papaya_schedules.specs.declared.outcome.Outcome.TheVariants.{Refused}
-use Rattle.papaya_scheduler.proofs.Backs.{beside, came, due_beside, none_came}
+use Rattle.papaya_scheduler.proofs.Backs.{came, none_came}
 use Rattle.papaya_scheduler.proofs.Flushes.{not_living, its_word, is_held_now, may_flush, its_fits, has_run}
 use Rattle.papaya_scheduler.proofs.HeldTold.{held_is_told}
 use Rattle.papaya_scheduler.proofs.Rights.{so_played}
@@ -13,8 +13,8 @@ use Rattle.papaya_scheduler.proofs.scheduler.Scheduler.flush.Goals as goal
 pub returns-in_default-clause-plays : goal.returns-in_default-clause-plays
 returns-in_default-clause-plays g c =
     λ same hash terms log due.
-      so_played same hash terms log c.args.self.now (Flush c.args.guard.now) c.busy.result (Refused Busy) 0 [] c.busy.ensures.outcome c.busy.ensures.steps c.busy.ensures.effects
-      (not_living same hash terms log c.args.self.now c.args.guard.now due (sym c.slot_of_living.ensures ∙ c.in_default.is))
+    so_played same hash terms log c.args.self.now (Flush c.args.guard.now) c.busy.result (Refused Busy) 0 [] c.busy.ensures.outcome c.busy.ensures.steps c.busy.ensures.effects
+    (not_living same hash terms log c.args.self.now c.args.guard.now due (sym c.slot_of_living.ensures ∙ c.in_default.is))
 
 pub is_held-requires : goal.is_held-requires
 is_held-requires g c =
@@ -24,10 +24,10 @@ is_held-requires g c =
 pub returns-then-is_held-clause-plays : goal.returns-then-is_held-clause-plays
 returns-then-is_held-clause-plays g c =
     λ same hash terms log due.
-      so_played same hash terms log c.args.self.now (Flush c.args.guard.now) c.busy-then-is_held.result (Refused Busy) 0 [] c.busy-then-is_held.ensures.outcome
-      c.busy-then-is_held.ensures.steps c.busy-then-is_held.ensures.effects
-      (is_held_now same hash terms log c.args.self.now c.args.guard.now due c.in-Some.slot (sym c.slot_of_living.ensures ∙ c.in-Some.is)
-      (held_is_told same hash terms (moment log) c.args.self.now due.played) c.is_held.result c.is_held.ensures c.if-is_held.true)
+    so_played same hash terms log c.args.self.now (Flush c.args.guard.now) c.busy-then-is_held.result (Refused Busy) 0 [] c.busy-then-is_held.ensures.outcome
+    c.busy-then-is_held.ensures.steps c.busy-then-is_held.ensures.effects
+    (is_held_now same hash terms log c.args.self.now c.args.guard.now due c.in-Some.slot (sym c.slot_of_living.ensures ∙ c.in-Some.is)
+    (held_is_told same hash terms (moment log) c.args.self.now due.played) c.is_held.result c.is_held.ensures c.if-is_held.true)
 
 pub do_row-requires : goal.do_row-requires
 do_row-requires g c =
@@ -42,16 +42,15 @@ do_row-requires g c =
 pub returns-clause-plays : goal.returns-clause-plays
 returns-clause-plays g c =
     λ same hash terms log due.
-      has_run same hash terms log (beside c.do_row.new.self.back c.args.self.now) c.args.guard.now
-      (due_beside same hash terms c.args.self.now c.do_row.new.self.back log (Flush c.args.guard.now) due) c.in-Some.slot (sym c.slot_of_living.ensures ∙ c.in-Some.is) c.is_held.result c.is_held.ensures c.if-is_held.false
-      c.no_effects-effects.result.items c.do_row.new.effects.items c.no_effects-effects.ensures c.do_row.new.self c.do_row.ensures.rest c.in_ok-do_row.ensures.ran
+    has_run same hash terms log c.args.self.now c.args.guard.now due c.in-Some.slot (sym c.slot_of_living.ensures ∙ c.in-Some.is) c.is_held.result c.is_held.ensures c.if-is_held.false
+    c.no_effects-effects.result.items c.do_row.new.effects.items c.no_effects-effects.ensures c.do_row.new.self c.do_row.ensures.rest c.in_ok-do_row.ensures.ran
 
 pub returns-in_default-clause-back : goal.returns-in_default-clause-back
-returns-in_default-clause-back g c = λ same hash terms log due. none_came _ c.busy.result.effects.items c.args.self.now.back.items c.busy.ensures.effects
+returns-in_default-clause-back g c = λ same hash terms log due. none_came _ c.busy.result.effects.items c.args.back.now.items c.busy.ensures.effects
 
 pub returns-then-is_held-clause-back : goal.returns-then-is_held-clause-back
-returns-then-is_held-clause-back g c = λ same hash terms log due. none_came _ c.busy-then-is_held.result.effects.items c.args.self.now.back.items c.busy-then-is_held.ensures.effects
+returns-then-is_held-clause-back g c = λ same hash terms log due. none_came _ c.busy-then-is_held.result.effects.items c.args.back.now.items c.busy-then-is_held.ensures.effects
 
 pub returns-clause-back : goal.returns-clause-back
 returns-clause-back g c = λ same hash terms log due.
-    came same hash terms log (Flush c.args.guard.now) c.args.self.now due c.no_effects-effects.result.items c.do_row.new.effects.items c.no_effects-effects.ensures c.do_row.new.self.back.items c.in_ok-do_row.ensures.back
+    came same hash terms log (Flush c.args.guard.now) c.args.self.now due c.args.back.now.items c.no_effects-effects.result.items c.do_row.new.effects.items c.no_effects-effects.ensures c.do_row.new.back.items c.in_ok-do_row.ensures.back

@@ -11,11 +11,11 @@ use Rattle.papaya_scheduler.proofs.scheduler.Scheduler.forget.Goals as goal
 pub returns-then-is_none-clause-plays : goal.returns-then-is_none-clause-plays
 returns-then-is_none-clause-plays g c =
     λ same hash terms log due.
-      so_played same hash terms log c.args.self.now (Forget c.args.guard.now) c.busy.result (Refused Busy) 0 [] c.busy.ensures.outcome c.busy.ensures.steps c.busy.ensures.effects
-      (not_forgotten same hash terms log c.args.self.now c.args.guard.now due (sym (ap is_some c.slot_of_free.ensures) ∙ c.if-is_none.ensures))
+    so_played same hash terms log c.args.self.now (Forget c.args.guard.now) c.busy.result (Refused Busy) 0 [] c.busy.ensures.outcome c.busy.ensures.steps c.busy.ensures.effects
+    (not_forgotten same hash terms log c.args.self.now c.args.guard.now due (sym (ap is_some c.slot_of_free.ensures) ∙ c.if-is_none.ensures))
 
 pub returns-clause-plays : goal.returns-clause-plays
 returns-clause-plays g c =
     λ same hash terms log due.
-      so_played same hash terms log (record c.args.self.now { there = c.forget.new.self }) (Forget c.args.guard.now) c.quietly.result Done 0 [] c.quietly.ensures.outcome c.quietly.ensures.steps c.quietly.ensures.effects
-      (forgotten same hash terms log c.args.self.now c.args.guard.now due (sym (ap is_some c.slot_of_free.ensures) ∙ c.if-is_none.ensures) c.forget.new.self c.forget.ensures)
+    so_played same hash terms log (record c.args.self.now { there = c.forget.new.self }) (Forget c.args.guard.now) c.quietly.result Done 0 [] c.quietly.ensures.outcome c.quietly.ensures.steps c.quietly.ensures.effects
+    (forgotten same hash terms log c.args.self.now c.args.guard.now due (sym (ap is_some c.slot_of_free.ensures) ∙ c.if-is_none.ensures) c.forget.new.self c.forget.ensures)

@@ -10,5 +10,5 @@ returns-clause-ran g c =
 
 pub returns-clause-back : goal.returns-clause-back
 returns-clause-back g c =
-    subst (λ (n : ℕ). AllBringsBack (nat_lt 0 n) c.args.effects.now.items c.run_reclaiming.new.effects.items c.args.self.now.logged c.args.self.now.back.items c.run_reclaiming.new.back.items) c.buckets-taken.ensures
+    subst (λ (n : ℕ). AllBringsBack (nat_lt 0 n) c.args.effects.now.items c.run_reclaiming.new.effects.items c.args.self.now.logged c.args.back.now.items c.run_reclaiming.new.back.items) c.buckets-taken.ensures
     c.in_ok-run_reclaiming.ensures.back

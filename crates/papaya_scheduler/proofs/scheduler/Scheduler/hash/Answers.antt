@@ -8,5 +8,5 @@ use Rattle.papaya_scheduler.proofs.scheduler.Scheduler.hash.Goals as goal
 pub returns-clause-plays : goal.returns-clause-plays
 returns-clause-plays g c =
     λ same hash terms log due.
-      so_played same hash terms log c.args.self.now (Hash c.args.by) c.if_so.result _ 0 [] c.if_so.ensures.outcome c.if_so.ensures.steps c.if_so.ensures.effects
-      (hash_plays same hash terms log c.args.self.now c.args.by due _ refl)
+    so_played same hash terms log c.args.self.now (Hash c.args.by) c.if_so.result _ 0 [] c.if_so.ensures.outcome c.if_so.ensures.steps c.if_so.ensures.effects
+    (hash_plays same hash terms log c.args.self.now c.args.by due _ refl)

@@ -16,21 +16,21 @@ use Rattle.papaya_scheduler.proofs.scheduler.Scheduler.make_map.Goals as goal
 pub returns-in-Err-clause-plays : goal.returns-in-Err-clause-plays
 returns-in-Err-clause-plays g c =
     λ same hash terms log may.
-      so_played same hash terms log _ (MakeMap c.args.map c.args.mode c.args.capacity) c.quietly.result (Refused c.in-Err.fault) 0 [] c.quietly.ensures.outcome c.quietly.ensures.steps c.quietly.ensures.effects
-      (has_fault same hash terms log c.args.self.now c.args.map c.args.mode c.args.capacity may c.in-Err.fault c.in-Err.ensures.fault)
+    so_played same hash terms log _ (MakeMap c.args.map c.args.mode c.args.capacity) c.quietly.result (Refused c.in-Err.fault) 0 [] c.quietly.ensures.outcome c.quietly.ensures.steps c.quietly.ensures.effects
+    (has_fault same hash terms log c.args.self.now c.args.map c.args.mode c.args.capacity may c.in-Err.fault c.in-Err.ensures.fault)
 
 pub returns-then-not-may_make-clause-plays : goal.returns-then-not-may_make-clause-plays
 returns-then-not-may_make-clause-plays g c =
     λ same hash terms log may.
-      so_played same hash terms log _ (MakeMap c.args.map c.args.mode c.args.capacity) c.busy.result (Refused Busy) 0 [] c.busy.ensures.outcome c.busy.ensures.steps c.busy.ensures.effects
-      (not_now same hash terms log c.args.self.now c.args.map c.args.mode c.args.capacity may c.in-Ok.ensures.none (sym c.may_make.ensures ∙ c.if-not-may_make.true))
+    so_played same hash terms log _ (MakeMap c.args.map c.args.mode c.args.capacity) c.busy.result (Refused Busy) 0 [] c.busy.ensures.outcome c.busy.ensures.steps c.busy.ensures.effects
+    (not_now same hash terms log c.args.self.now c.args.map c.args.mode c.args.capacity may c.in-Ok.ensures.none (sym c.may_make.ensures ∙ c.if-not-may_make.true))
 
 pub returns-then-self-eq0-clause-plays : goal.returns-then-self-eq0-clause-plays
 returns-then-self-eq0-clause-plays g c =
     λ same hash terms log may.
-      so_played same hash terms log _ (MakeMap c.args.map c.args.mode c.args.capacity) c.quietly-then-self-eq0.result (Refused RootsUsedUp) 0 [] c.quietly-then-self-eq0.ensures.outcome c.quietly-then-self-eq0.ensures.steps
-      c.quietly-then-self-eq0.ensures.effects
-      (no_roots same hash terms log c.args.self.now c.args.map c.args.mode c.args.capacity may c.in-Ok.ensures.none (sym c.may_make.ensures ∙ c.if-not-may_make.false) c.if-self-eq0.true)
+    so_played same hash terms log _ (MakeMap c.args.map c.args.mode c.args.capacity) c.quietly-then-self-eq0.result (Refused RootsUsedUp) 0 [] c.quietly-then-self-eq0.ensures.outcome c.quietly-then-self-eq0.ensures.steps
+    c.quietly-then-self-eq0.ensures.effects
+    (no_roots same hash terms log c.args.self.now c.args.map c.args.mode c.args.capacity may c.in-Ok.ensures.none (sym c.may_make.ensures ∙ c.if-not-may_make.false) c.if-self-eq0.true)
 
 pub setting_for-given-requires : goal.setting_for-given-requires
 setting_for-given-requires g c = c.requires.4.counts.processors
@@ -50,22 +50,22 @@ run_making-requires g c =
 pub returns-in-Refused-clause-plays : goal.returns-in-Refused-clause-plays
 returns-in-Refused-clause-plays g c =
     λ same hash terms log may.
-      let count : c.len-number.result ≡ length c.args.self.now.logged.executor.maps.items = search (rules, c.len-number.ensures) in
-      not_made same hash terms log c.args.self.now c.args.map c.args.mode c.args.capacity may c.in-Ok.ensures.none (sym c.may_make.ensures ∙ c.if-not-may_make.false)
-      (let ne = c.if-self-eq0.false in omega (arith, ne)) c.in-Ok.places c.in-Ok.ensures.first c.setting_for-given.result c.setting_for-given.ensures c.in_ok-caller.caller c.begin_making.new.self
-      (c.in_ok-caller.ensures.leads same hash may.due.played.name (moment log) may.due.played.scene may.due.played.shown) c.len-number.result count c.in-Refused.fault c.run_making.new.self
-      c.no_effects-effects.result.items c.run_making.new.effects.items c.no_effects-effects.ensures (subst (λ (x : Progress Setting). MakingRan c.in_ok-caller.caller c.len-number.result x c.no_effects-effects.result.items c.run_making.new.effects.items c.begin_making.new.self c.run_making.new.self) c.in-Refused.is c.in_ok-told.ensures.ran)
-      (subst (λ (x : Progress Setting). MakingFinds c.in_ok-caller.caller c.len-number.result x c.no_effects-effects.result.items c.run_making.new.effects.items c.begin_making.new.self c.run_making.new.self) c.in-Refused.is c.in_ok-told.ensures.finds) _ refl refl refl
+    let count : c.len-number.result ≡ length c.args.self.now.logged.executor.maps.items = search (rules, c.len-number.ensures) in
+    not_made same hash terms log c.args.self.now c.args.map c.args.mode c.args.capacity may c.in-Ok.ensures.none (sym c.may_make.ensures ∙ c.if-not-may_make.false)
+    (let ne = c.if-self-eq0.false in omega (arith, ne)) c.in-Ok.places c.in-Ok.ensures.first c.setting_for-given.result c.setting_for-given.ensures c.in_ok-caller.caller c.begin_making.new.self
+    (c.in_ok-caller.ensures.leads same hash may.due.played.name (moment log) may.due.played.scene may.due.played.shown) c.len-number.result count c.in-Refused.fault c.run_making.new.self
+    c.no_effects-effects.result.items c.run_making.new.effects.items c.no_effects-effects.ensures (subst (λ (x : Progress Setting). MakingRan c.in_ok-caller.caller c.len-number.result x c.no_effects-effects.result.items c.run_making.new.effects.items c.begin_making.new.self c.run_making.new.self) c.in-Refused.is c.in_ok-told.ensures.ran)
+    (subst (λ (x : Progress Setting). MakingFinds c.in_ok-caller.caller c.len-number.result x c.no_effects-effects.result.items c.run_making.new.effects.items c.begin_making.new.self c.run_making.new.self) c.in-Refused.is c.in_ok-told.ensures.finds) _ refl refl refl
 
 pub returns-in_ok-push-in-Done-clause-plays : goal.returns-in_ok-push-in-Done-clause-plays
 returns-in_ok-push-in-Done-clause-plays g c =
     λ same hash terms log may.
-      let count : c.len-number.result ≡ length c.args.self.now.logged.executor.maps.items = search (rules, c.len-number.ensures) in
-      made same hash terms log c.args.self.now c.args.map c.args.mode c.args.capacity may c.in-Ok.ensures.none (sym c.may_make.ensures ∙ c.if-not-may_make.false)
-      (let ne = c.if-self-eq0.false in omega (arith, ne)) c.in-Ok.places c.in-Ok.ensures.first c.setting_for-given.result c.setting_for-given.ensures c.in_ok-caller.caller c.begin_making.new.self
-      (c.in_ok-caller.ensures.leads same hash may.due.played.name (moment log) may.due.played.scene may.due.played.shown) c.len-number.result count c.in-Done.field-0 c.run_making.new.self
-      c.no_effects-effects.result.items c.run_making.new.effects.items c.no_effects-effects.ensures c.in_ok-caller.ensures.there (subst (λ (x : Progress Setting). MakingRan c.in_ok-caller.caller c.len-number.result x c.no_effects-effects.result.items c.run_making.new.effects.items c.begin_making.new.self c.run_making.new.self) c.in-Done.is c.in_ok-told.ensures.ran)
-      (subst (λ (x : Progress Setting). MakingFinds c.in_ok-caller.caller c.len-number.result x c.no_effects-effects.result.items c.run_making.new.effects.items c.begin_making.new.self c.run_making.new.self) c.in-Done.is c.in_ok-told.ensures.finds) _ refl refl c.in_ok-push-in-Done.ensures.items
+    let count : c.len-number.result ≡ length c.args.self.now.logged.executor.maps.items = search (rules, c.len-number.ensures) in
+    made same hash terms log c.args.self.now c.args.map c.args.mode c.args.capacity may c.in-Ok.ensures.none (sym c.may_make.ensures ∙ c.if-not-may_make.false)
+    (let ne = c.if-self-eq0.false in omega (arith, ne)) c.in-Ok.places c.in-Ok.ensures.first c.setting_for-given.result c.setting_for-given.ensures c.in_ok-caller.caller c.begin_making.new.self
+    (c.in_ok-caller.ensures.leads same hash may.due.played.name (moment log) may.due.played.scene may.due.played.shown) c.len-number.result count c.in-Done.field-0 c.run_making.new.self
+    c.no_effects-effects.result.items c.run_making.new.effects.items c.no_effects-effects.ensures c.in_ok-caller.ensures.there (subst (λ (x : Progress Setting). MakingRan c.in_ok-caller.caller c.len-number.result x c.no_effects-effects.result.items c.run_making.new.effects.items c.begin_making.new.self c.run_making.new.self) c.in-Done.is c.in_ok-told.ensures.ran)
+    (subst (λ (x : Progress Setting). MakingFinds c.in_ok-caller.caller c.len-number.result x c.no_effects-effects.result.items c.run_making.new.effects.items c.begin_making.new.self c.run_making.new.self) c.in-Done.is c.in_ok-told.ensures.finds) _ refl refl c.in_ok-push-in-Done.ensures.items
 
 pub returns-in_err-told-clause-given : goal.returns-in_err-told-clause-given
 returns-in_err-told-clause-given g c = stays_on c.args.self.now.logged.executor c.begin_making.new.self.executor c.run_making.new.self.executor c.begin_making.ensures.given c.run_making.ensures.given

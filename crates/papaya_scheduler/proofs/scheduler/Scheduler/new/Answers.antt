@@ -18,5 +18,4 @@ returns-clause-begun g c =
       free = ap (λ m. m.used) first;
       nowhere = ap (λ m. m.roots) first;
       slots = ap (λ m. m.slots) first;
-      blocks = ap (λ m. m.blocks) first;
     }

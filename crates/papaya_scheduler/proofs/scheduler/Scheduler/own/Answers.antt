@@ -3,7 +3,7 @@ use Rattle.std.proofs.Common.{[], sym, ◌∙◌}
 use Rattle.seize_words.specs.declared.fault.Fault.TheVariants.{Busy}
 use Rattle.papaya_schedules.specs.declared.event.Event.TheVariants.{Own}
 use Rattle.papaya_schedules.specs.declared.outcome.Outcome.TheVariants.{Refused}
-use Rattle.papaya_scheduler.proofs.Backs.{beside, came, due_beside, none_came}
+use Rattle.papaya_scheduler.proofs.Backs.{came, none_came}
 use Rattle.papaya_scheduler.proofs.Owns.{joined_refused, joined_slot, name_taken}
 use Rattle.papaya_scheduler.proofs.Rights.{so_played}
 use Rattle.papaya_scheduler.proofs.scheduler.Scheduler.own.Goals as goal
@@ -11,8 +11,8 @@ use Rattle.papaya_scheduler.proofs.scheduler.Scheduler.own.Goals as goal
 pub returns-then-has_guard-clause-plays : goal.returns-then-has_guard-clause-plays
 returns-then-has_guard-clause-plays g c =
     λ same hash terms log due.
-      so_played same hash terms log c.args.self.now (Own c.args.guard) c.busy.result (Refused Busy) 0 [] c.busy.ensures.outcome c.busy.ensures.steps c.busy.ensures.effects
-      (name_taken same hash terms log c.args.self.now c.args.guard due (sym c.has_guard.ensures ∙ c.if-has_guard.true))
+    so_played same hash terms log c.args.self.now (Own c.args.guard) c.busy.result (Refused Busy) 0 [] c.busy.ensures.outcome c.busy.ensures.steps c.busy.ensures.effects
+    (name_taken same hash terms log c.args.self.now c.args.guard due (sym c.has_guard.ensures ∙ c.if-has_guard.true))
 
 pub take_slot-requires : goal.take_slot-requires
 take_slot-requires g c = let r = c.requires in (r.0, r.1, r.2.0, _, r.2.2.played)
@@ -20,25 +20,23 @@ take_slot-requires g c = let r = c.requires in (r.0, r.1, r.2.0, _, r.2.2.played
 pub returns-in-Err-clause-plays : goal.returns-in-Err-clause-plays
 returns-in-Err-clause-plays g c =
     λ same hash terms log due.
-      joined_refused same hash terms log (beside c.take_slot.new.self.back c.args.self.now) c.args.guard
-      (due_beside same hash terms c.args.self.now c.take_slot.new.self.back log (Own c.args.guard) due) (sym c.has_guard.ensures ∙ c.if-has_guard.false) c.take_slot.new.self c.take_slot.ensures.rest
-      c.no_effects-effects.result.items c.take_slot.new.effects.items c.no_effects-effects.ensures c.in_ok-taken.taken c.in_ok-taken.ensures.taken c.in-Err.fault c.in-Err.is
+    joined_refused same hash terms log c.args.self.now c.args.guard due (sym c.has_guard.ensures ∙ c.if-has_guard.false) c.take_slot.new.self c.take_slot.ensures.rest
+    c.no_effects-effects.result.items c.take_slot.new.effects.items c.no_effects-effects.ensures c.in_ok-taken.taken c.in_ok-taken.ensures.taken c.in-Err.fault c.in-Err.is
 
 pub returns-in_ok-enter-in-Ok-clause-plays : goal.returns-in_ok-enter-in-Ok-clause-plays
 returns-in_ok-enter-in-Ok-clause-plays g c =
     λ same hash terms log due.
-      joined_slot same hash terms log (beside c.take_slot.new.self.back c.args.self.now) c.args.guard
-      (due_beside same hash terms c.args.self.now c.take_slot.new.self.back log (Own c.args.guard) due) (sym c.has_guard.ensures ∙ c.if-has_guard.false) c.take_slot.new.self c.take_slot.ensures.rest
-      c.no_effects-effects.result.items c.take_slot.new.effects.items c.no_effects-effects.ensures c.in_ok-taken.taken c.in_ok-taken.ensures.taken c.in-Ok.slot c.in-Ok.is c.enter.new.self
-      c.in_ok-enter-in-Ok.ensures
+    joined_slot same hash terms log c.args.self.now c.args.guard due (sym c.has_guard.ensures ∙ c.if-has_guard.false) c.take_slot.new.self c.take_slot.ensures.rest
+    c.no_effects-effects.result.items c.take_slot.new.effects.items c.no_effects-effects.ensures c.in_ok-taken.taken c.in_ok-taken.ensures.taken c.in-Ok.slot c.in-Ok.is c.enter.new.self
+    c.in_ok-enter-in-Ok.ensures
 
 pub returns-then-has_guard-clause-back : goal.returns-then-has_guard-clause-back
-returns-then-has_guard-clause-back g c = λ same hash terms log due. none_came _ c.busy.result.effects.items c.args.self.now.back.items c.busy.ensures.effects
+returns-then-has_guard-clause-back g c = λ same hash terms log due. none_came _ c.busy.result.effects.items c.args.back.now.items c.busy.ensures.effects
 
 pub returns-in-Err-clause-back : goal.returns-in-Err-clause-back
 returns-in-Err-clause-back g c = λ same hash terms log due.
-    came same hash terms log (Own c.args.guard) c.args.self.now due c.no_effects-effects.result.items c.take_slot.new.effects.items c.no_effects-effects.ensures c.take_slot.new.self.back.items c.in_ok-taken.ensures.back
+    came same hash terms log (Own c.args.guard) c.args.self.now due c.args.back.now.items c.no_effects-effects.result.items c.take_slot.new.effects.items c.no_effects-effects.ensures c.take_slot.new.back.items c.in_ok-taken.ensures.back
 
 pub returns-in_ok-enter-in-Ok-clause-back : goal.returns-in_ok-enter-in-Ok-clause-back
 returns-in_ok-enter-in-Ok-clause-back g c = λ same hash terms log due.
-    came same hash terms log (Own c.args.guard) c.args.self.now due c.no_effects-effects.result.items c.take_slot.new.effects.items c.no_effects-effects.ensures c.take_slot.new.self.back.items c.in_ok-taken.ensures.back
+    came same hash terms log (Own c.args.guard) c.args.self.now due c.args.back.now.items c.no_effects-effects.result.items c.take_slot.new.effects.items c.no_effects-effects.ensures c.take_slot.new.back.items c.in_ok-taken.ensures.back

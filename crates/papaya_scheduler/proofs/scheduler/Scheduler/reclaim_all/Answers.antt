@@ -1,10 +1,10 @@
 -- Everything is reclaimed.
-use Rattle.std.proofs.Common.{[], sym, refl, ◌∙◌}
+use Rattle.std.proofs.Common.{[], sym, ◌∙◌}
 use Rattle.seize_words.specs.declared.fault.Fault.TheVariants.{Busy}
 use Rattle.papaya_schedules.specs.After.{moment}
 use Rattle.papaya_schedules.specs.declared.event.Event.TheVariants.{ReclaimAll}
 use Rattle.papaya_schedules.specs.declared.outcome.Outcome.TheVariants.{Refused}
-use Rattle.papaya_scheduler.proofs.Backs.{all_came, beside, due_beside, gives_beside, none_came}
+use Rattle.papaya_scheduler.proofs.Backs.{all_came, none_came}
 use Rattle.papaya_scheduler.proofs.AllGiven.{all_reclaimed, may_reclaim, nobody_has, not_left}
 use Rattle.papaya_scheduler.proofs.Rights.{so_played}
 use Rattle.papaya_scheduler.proofs.scheduler.Scheduler.reclaim_all.Goals as goal
@@ -12,8 +12,8 @@ use Rattle.papaya_scheduler.proofs.scheduler.Scheduler.reclaim_all.Goals as goal
 pub returns-then-not-are_gone-clause-plays : goal.returns-then-not-are_gone-clause-plays
 returns-then-not-are_gone-clause-plays g c =
     λ same hash terms log due may.
-      so_played same hash terms log c.args.self.now ReclaimAll c.busy.result (Refused Busy) 0 [] c.busy.ensures.outcome c.busy.ensures.steps c.busy.ensures.effects
-      (not_left same hash terms log c.args.self.now due (sym c.are_gone.ensures ∙ c.if-not-are_gone.true))
+    so_played same hash terms log c.args.self.now ReclaimAll c.busy.result (Refused Busy) 0 [] c.busy.ensures.outcome c.busy.ensures.steps c.busy.ensures.effects
+    (not_left same hash terms log c.args.self.now due (sym c.are_gone.ensures ∙ c.if-not-are_gone.true))
 
 pub give_all_back-requires : goal.give_all_back-requires
 give_all_back-requires g c =
@@ -33,16 +33,15 @@ give_all_back-requires g c =
 pub returns-clause-plays : goal.returns-clause-plays
 returns-clause-plays g c =
     λ same hash terms log due may.
-      all_reclaimed same hash terms log (beside c.give_all_back.new.self.back c.args.self.now)
-      (due_beside same hash terms c.args.self.now c.give_all_back.new.self.back log ReclaimAll due) (sym c.are_gone.ensures ∙ c.if-not-are_gone.false) (gives_beside c.args.self.now c.give_all_back.new.self.back due.played.scene may) c.give_all_back.new.self.logged c.no_effects-effects.result.items c.give_all_back.new.effects.items
-      c.no_effects-effects.ensures c.in_ok-give_all_back.ensures.ran _ c.in_ok-give_all_back.ensures.rest
+    all_reclaimed same hash terms log c.args.self.now due (sym c.are_gone.ensures ∙ c.if-not-are_gone.false) may c.give_all_back.new.self.logged c.no_effects-effects.result.items c.give_all_back.new.effects.items
+    c.no_effects-effects.ensures c.in_ok-give_all_back.ensures.ran _ c.in_ok-give_all_back.ensures.rest
 
 pub returns-then-not-are_gone-clause-back : goal.returns-then-not-are_gone-clause-back
-returns-then-not-are_gone-clause-back g c = λ same hash terms log due may. none_came _ c.busy.result.effects.items c.args.self.now.back.items c.busy.ensures.effects
+returns-then-not-are_gone-clause-back g c = λ same hash terms log due may. none_came _ c.busy.result.effects.items c.args.back.now.items c.busy.ensures.effects
 
 pub returns-clause-back : goal.returns-clause-back
 returns-clause-back g c = λ same hash terms log due may.
     let gone = sym c.are_gone.ensures ∙ c.if-not-are_gone.false in
-    all_came same hash terms log ReclaimAll c.args.self.now due _ (nobody_has same hash terms (moment log) c.args.self.now due.played gone)
+    all_came same hash terms log ReclaimAll c.args.self.now due c.args.back.now.items _ (nobody_has same hash terms (moment log) c.args.self.now due.played gone)
     may.lists (may_reclaim same hash terms (moment log) c.args.self.now due.played gone may) c.no_effects-effects.result.items c.give_all_back.new.effects.items c.no_effects-effects.ensures
-    c.give_all_back.new.self.back.items c.in_ok-give_all_back.ensures.back
+    c.give_all_back.new.back.items c.in_ok-give_all_back.ensures.back

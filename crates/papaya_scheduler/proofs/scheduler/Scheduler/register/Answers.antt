@@ -4,7 +4,7 @@ use Rattle.std.proofs.Common.{sym, ap, ◌∙◌}
 use Rattle.seize_words.specs.declared.fault.Fault.TheVariants.{Busy}
 use Rattle.papaya_schedules.specs.declared.event.Event.TheVariants.{Register}
 use Rattle.papaya_schedules.specs.declared.outcome.Outcome.TheVariants.{Refused}
-use Rattle.papaya_scheduler.proofs.Backs.{beside, came, due_beside, none_came}
+use Rattle.papaya_scheduler.proofs.Backs.{came, none_came}
 use Rattle.papaya_scheduler.proofs.Registers.{joined_refused, joined_slot, name_taken}
 use Rattle.papaya_scheduler.proofs.Rights.{so_played}
 use Rattle.papaya_scheduler.proofs.scheduler.Scheduler.register.Goals as goal
@@ -12,8 +12,8 @@ use Rattle.papaya_scheduler.proofs.scheduler.Scheduler.register.Goals as goal
 pub returns-then-is_some-clause-plays : goal.returns-then-is_some-clause-plays
 returns-then-is_some-clause-plays g c =
     λ same hash terms log due.
-      so_played same hash terms log c.args.self.now (Register c.args.registration) c.busy.result (Refused Busy) 0 [] c.busy.ensures.outcome c.busy.ensures.steps c.busy.ensures.effects
-      (name_taken same hash terms log c.args.self.now c.args.registration due (sym (ap is_some c.slot_of_registration.ensures) ∙ sym c.if-is_some.ensures))
+    so_played same hash terms log c.args.self.now (Register c.args.registration) c.busy.result (Refused Busy) 0 [] c.busy.ensures.outcome c.busy.ensures.steps c.busy.ensures.effects
+    (name_taken same hash terms log c.args.self.now c.args.registration due (sym (ap is_some c.slot_of_registration.ensures) ∙ sym c.if-is_some.ensures))
 
 pub take_slot-requires : goal.take_slot-requires
 take_slot-requires g c = let r = c.requires in (r.0, r.1, r.2.0, _, r.2.2.played)
@@ -21,25 +21,23 @@ take_slot-requires g c = let r = c.requires in (r.0, r.1, r.2.0, _, r.2.2.played
 pub returns-in-Err-clause-plays : goal.returns-in-Err-clause-plays
 returns-in-Err-clause-plays g c =
     λ same hash terms log due.
-      joined_refused same hash terms log (beside c.take_slot.new.self.back c.args.self.now) c.args.registration
-      (due_beside same hash terms c.args.self.now c.take_slot.new.self.back log (Register c.args.registration) due) (sym (ap is_some c.slot_of_registration.ensures) ∙ sym c.if-is_some.ensures) c.take_slot.new.self c.take_slot.ensures.rest
-      c.no_effects-effects.result.items c.take_slot.new.effects.items c.no_effects-effects.ensures c.in_ok-taken.taken c.in_ok-taken.ensures.taken c.in-Err.fault c.in-Err.is
+    joined_refused same hash terms log c.args.self.now c.args.registration due (sym (ap is_some c.slot_of_registration.ensures) ∙ sym c.if-is_some.ensures) c.take_slot.new.self c.take_slot.ensures.rest
+    c.no_effects-effects.result.items c.take_slot.new.effects.items c.no_effects-effects.ensures c.in_ok-taken.taken c.in_ok-taken.ensures.taken c.in-Err.fault c.in-Err.is
 
 pub returns-in_ok-register-in-Ok-clause-plays : goal.returns-in_ok-register-in-Ok-clause-plays
 returns-in_ok-register-in-Ok-clause-plays g c =
     λ same hash terms log due.
-      joined_slot same hash terms log (beside c.take_slot.new.self.back c.args.self.now) c.args.registration
-      (due_beside same hash terms c.args.self.now c.take_slot.new.self.back log (Register c.args.registration) due) (sym (ap is_some c.slot_of_registration.ensures) ∙ sym c.if-is_some.ensures) c.take_slot.new.self c.take_slot.ensures.rest
-      c.no_effects-effects.result.items c.take_slot.new.effects.items c.no_effects-effects.ensures c.in_ok-taken.taken c.in_ok-taken.ensures.taken c.in-Ok.slot c.in-Ok.is c.register.new.self
-      c.in_ok-register-in-Ok.ensures
+    joined_slot same hash terms log c.args.self.now c.args.registration due (sym (ap is_some c.slot_of_registration.ensures) ∙ sym c.if-is_some.ensures) c.take_slot.new.self c.take_slot.ensures.rest
+    c.no_effects-effects.result.items c.take_slot.new.effects.items c.no_effects-effects.ensures c.in_ok-taken.taken c.in_ok-taken.ensures.taken c.in-Ok.slot c.in-Ok.is c.register.new.self
+    c.in_ok-register-in-Ok.ensures
 
 pub returns-then-is_some-clause-back : goal.returns-then-is_some-clause-back
-returns-then-is_some-clause-back g c = λ same hash terms log due. none_came _ c.busy.result.effects.items c.args.self.now.back.items c.busy.ensures.effects
+returns-then-is_some-clause-back g c = λ same hash terms log due. none_came _ c.busy.result.effects.items c.args.back.now.items c.busy.ensures.effects
 
 pub returns-in-Err-clause-back : goal.returns-in-Err-clause-back
 returns-in-Err-clause-back g c = λ same hash terms log due.
-    came same hash terms log (Register c.args.registration) c.args.self.now due c.no_effects-effects.result.items c.take_slot.new.effects.items c.no_effects-effects.ensures c.take_slot.new.self.back.items c.in_ok-taken.ensures.back
+    came same hash terms log (Register c.args.registration) c.args.self.now due c.args.back.now.items c.no_effects-effects.result.items c.take_slot.new.effects.items c.no_effects-effects.ensures c.take_slot.new.back.items c.in_ok-taken.ensures.back
 
 pub returns-in_ok-register-in-Ok-clause-back : goal.returns-in_ok-register-in-Ok-clause-back
 returns-in_ok-register-in-Ok-clause-back g c = λ same hash terms log due.
-    came same hash terms log (Register c.args.registration) c.args.self.now due c.no_effects-effects.result.items c.take_slot.new.effects.items c.no_effects-effects.ensures c.take_slot.new.self.back.items c.in_ok-taken.ensures.back
+    came same hash terms log (Register c.args.registration) c.args.self.now due c.args.back.now.items c.no_effects-effects.result.items c.take_slot.new.effects.items c.no_effects-effects.ensures c.take_slot.new.back.items c.in_ok-taken.ensures.back

@@ -13,19 +13,19 @@ use Rattle.papaya_scheduler.proofs.scheduler.Scheduler.replied.Goals as goal
 pub returns-in_default-clause-plays : goal.returns-in_default-clause-plays
 returns-in_default-clause-plays g c =
     λ same hash terms log due.
-      so_played same hash terms log c.args.self.now (Replied c.args.caller.now c.args.reply) c.busy.result (Refused Busy) 0 [] c.busy.ensures.outcome c.busy.ensures.steps c.busy.ensures.effects
-      (nobody same hash terms log c.args.self.now c.args.caller.now c.args.reply due (sym c.place_of.ensures ∙ c.in_default.is))
+    so_played same hash terms log c.args.self.now (Replied c.args.caller.now c.args.reply) c.busy.result (Refused Busy) 0 [] c.busy.ensures.outcome c.busy.ensures.steps c.busy.ensures.effects
+    (nobody same hash terms log c.args.self.now c.args.caller.now c.args.reply due (sym c.place_of.ensures ∙ c.in_default.is))
 
 pub returns-then-not-takes-clause-plays : goal.returns-then-not-takes-clause-plays
 returns-then-not-takes-clause-plays g c =
     λ same hash terms log due.
-      let placed = sym c.in-Some.is ∙ c.place_of.ensures in
-      let here = here_at same hash terms (moment log) c.args.self.now due.played c.args.caller.now c.in-Some.place placed in
-      so_played same hash terms log c.args.self.now (Replied c.args.caller.now c.args.reply) c.busy-then-not-takes.result (Refused Busy) 0 [] c.busy-then-not-takes.ensures.outcome
-      c.busy-then-not-takes.ensures.steps c.busy-then-not-takes.ensures.effects
-      (takes_none same hash terms log c.args.self.now c.args.caller.now c.args.reply due c.in-Some.place placed c.index.result.now
-      (here.at ∙ ap Some (sym (read_here same hash terms (moment log) c.args.self.now due.played c.args.caller.now c.in-Some.place here c.index.result.now c.index.ensures)))
-      (sym c.takes.ensures ∙ c.if-not-takes.true))
+    let placed = sym c.in-Some.is ∙ c.place_of.ensures in
+    let here = here_at same hash terms (moment log) c.args.self.now due.played c.args.caller.now c.in-Some.place placed in
+    so_played same hash terms log c.args.self.now (Replied c.args.caller.now c.args.reply) c.busy-then-not-takes.result (Refused Busy) 0 [] c.busy-then-not-takes.ensures.outcome
+    c.busy-then-not-takes.ensures.steps c.busy-then-not-takes.ensures.effects
+    (takes_none same hash terms log c.args.self.now c.args.caller.now c.args.reply due c.in-Some.place placed c.index.result.now
+    (here.at ∙ ap Some (sym (read_here same hash terms (moment log) c.args.self.now due.played c.args.caller.now c.in-Some.place here c.index.result.now c.index.ensures)))
+    (sym c.takes.ensures ∙ c.if-not-takes.true))
 
 pub reply-requires : goal.reply-requires
 reply-requires g c =
@@ -41,18 +41,18 @@ reply-requires g c =
 pub returns-then-is_err-clause-plays : goal.returns-then-is_err-clause-plays
 returns-then-is_err-clause-plays g c =
     λ same hash terms log due. absurd (
-      let plain = is_taken same hash terms log c.args.self.now c.args.caller.now c.args.reply due c.in-Some.place (sym c.in-Some.is ∙ c.place_of.ensures) c.index.result.now c.index.ensures
-      (sym c.takes.ensures ∙ c.if-not-takes.false) c.index-2.result.now c.index-2.ensures c.told_by-told.result.0 (ap (λ t. t.0) c.told_by-told.ensures) c.reply.result c.reply.new.self
-      (c.reply.ensures.taken same hash due.played.scene due.played.shown.is_at) (c.reply.ensures.leads same hash due.played.name (moment log) due.played.scene due.played.shown) in
-      let yes = sym c.is_err.ensures.value ∙ c.if-is_err.true in
-      cc (plain, yes)
-      )
+    let plain = is_taken same hash terms log c.args.self.now c.args.caller.now c.args.reply due c.in-Some.place (sym c.in-Some.is ∙ c.place_of.ensures) c.index.result.now c.index.ensures
+    (sym c.takes.ensures ∙ c.if-not-takes.false) c.index-2.result.now c.index-2.ensures c.told_by-told.result.0 (ap (λ t. t.0) c.told_by-told.ensures) c.reply.result c.reply.new.self
+    (c.reply.ensures.taken same hash due.played.scene due.played.shown.is_at) (c.reply.ensures.leads same hash due.played.name (moment log) due.played.scene due.played.shown) in
+    let yes = sym c.is_err.ensures.value ∙ c.if-is_err.true in
+    cc (plain, yes)
+    )
 
 pub returns-clause-plays : goal.returns-clause-plays
 returns-clause-plays g c =
     λ same hash terms log due.
-      so_played same hash terms log _ (Replied c.args.caller.now c.args.reply) c.quietly.result Goes 0 [] c.quietly.ensures.outcome c.quietly.ensures.steps c.quietly.ensures.effects
-      (goes_on same hash terms log c.args.self.now c.args.caller.now c.args.reply due c.in-Some.place (sym c.in-Some.is ∙ c.place_of.ensures) c.index.result.now c.index.ensures
-      (sym c.takes.ensures ∙ c.if-not-takes.false) c.index-2.result.now c.index-2.ensures c.told_by-told.result.0 (ap (λ t. t.0) c.told_by-told.ensures) c.reply.result c.reply.new.self
-      (c.reply.ensures.taken same hash due.played.scene due.played.shown.is_at) (c.reply.ensures.leads same hash due.played.name (moment log) due.played.scene due.played.shown)
-      c.told_by-told.result.1 c.resume.new.self (λ d at. c.resume.ensures d at))
+    so_played same hash terms log _ (Replied c.args.caller.now c.args.reply) c.quietly.result Goes 0 [] c.quietly.ensures.outcome c.quietly.ensures.steps c.quietly.ensures.effects
+    (goes_on same hash terms log c.args.self.now c.args.caller.now c.args.reply due c.in-Some.place (sym c.in-Some.is ∙ c.place_of.ensures) c.index.result.now c.index.ensures
+    (sym c.takes.ensures ∙ c.if-not-takes.false) c.index-2.result.now c.index-2.ensures c.told_by-told.result.0 (ap (λ t. t.0) c.told_by-told.ensures) c.reply.result c.reply.new.self
+    (c.reply.ensures.taken same hash due.played.scene due.played.shown.is_at) (c.reply.ensures.leads same hash due.played.name (moment log) due.played.scene due.played.shown)
+    c.told_by-told.result.1 c.resume.new.self (λ d at. c.resume.ensures d at))

@@ -10,8 +10,8 @@ use Rattle.papaya_scheduler.proofs.scheduler.Scheduler.show_shape.Goals as goal
 pub returns-in-None-clause-plays : goal.returns-in-None-clause-plays
 returns-in-None-clause-plays g c =
     λ same hash terms log due.
-      so_played same hash terms log c.args.self.now (ShowShape c.args.map.now) c.busy.result (Refused Busy) 0 [] c.busy.ensures.outcome c.busy.ensures.steps c.busy.ensures.effects
-      (not_there same hash terms log c.args.self.now c.args.map.now due (sym c.setting_of.ensures ∙ c.in-None.is))
+    so_played same hash terms log c.args.self.now (ShowShape c.args.map.now) c.busy.result (Refused Busy) 0 [] c.busy.ensures.outcome c.busy.ensures.steps c.busy.ensures.effects
+    (not_there same hash terms log c.args.self.now c.args.map.now due (sym c.setting_of.ensures ∙ c.in-None.is))
 
 pub shapes-requires : goal.shapes-requires
 shapes-requires g c =
@@ -22,9 +22,9 @@ shapes-requires g c =
 pub returns-in_ok-shapes-in-Some-clause-plays : goal.returns-in_ok-shapes-in-Some-clause-plays
 returns-in_ok-shapes-in-Some-clause-plays g c =
     λ same hash terms log due.
-      let is = sym c.setting_of.ensures ∙ c.in-Some.is in
-      let own = c.args.map.now in
-      let shaped = c.in_ok-shapes-in-Some.ensures same hash _ _ (stands_there same hash terms log c.args.self.now own due.played _ c.in-Some.setting is)
-      ∙ sym (shapes_are same hash terms log c.args.self.now own due.played _ c.in-Some.setting is) in
-      so_played same hash terms log c.args.self.now (ShowShape own) c.quietly.result (Shape c.in_ok-shapes-in-Some.shapes) 0 [] c.quietly.ensures.outcome c.quietly.ensures.steps c.quietly.ensures.effects
-      (shown same hash terms log c.args.self.now own due _ c.in-Some.setting is (Shape c.in_ok-shapes-in-Some.shapes) shaped)
+    let is = sym c.setting_of.ensures ∙ c.in-Some.is in
+    let own = c.args.map.now in
+    let shaped = c.in_ok-shapes-in-Some.ensures same hash _ _ (stands_there same hash terms log c.args.self.now own due.played _ c.in-Some.setting is)
+    ∙ sym (shapes_are same hash terms log c.args.self.now own due.played _ c.in-Some.setting is) in
+    so_played same hash terms log c.args.self.now (ShowShape own) c.quietly.result (Shape c.in_ok-shapes-in-Some.shapes) 0 [] c.quietly.ensures.outcome c.quietly.ensures.steps c.quietly.ensures.effects
+    (shown same hash terms log c.args.self.now own due _ c.in-Some.setting is (Shape c.in_ok-shapes-in-Some.shapes) shaped)

@@ -14,8 +14,8 @@ use Rattle.papaya_scheduler.proofs.scheduler.Scheduler.stop.Goals as goal
 pub returns-in_default-clause-plays : goal.returns-in_default-clause-plays
 returns-in_default-clause-plays g c =
     λ same hash terms log due.
-      so_played same hash terms log c.args.self.now (Stop c.args.caller.now) c.busy.result (Refused Busy) 0 [] c.busy.ensures.outcome c.busy.ensures.steps c.busy.ensures.effects
-      (not_ready same hash terms log c.args.self.now c.args.caller.now due (sym c.in_default.is ∙ c.place_of_ready.ensures))
+    so_played same hash terms log c.args.self.now (Stop c.args.caller.now) c.busy.result (Refused Busy) 0 [] c.busy.ensures.outcome c.busy.ensures.steps c.busy.ensures.effects
+    (not_ready same hash terms log c.args.self.now c.args.caller.now due (sym c.in_default.is ∙ c.place_of_ready.ensures))
 
 pub stop-requires : goal.stop-requires
 stop-requires g c =
@@ -30,13 +30,13 @@ stop-requires g c =
 pub returns-clause-plays : goal.returns-clause-plays
 returns-clause-plays g c =
     λ same hash terms log due.
-      let ready = sym c.in-Some.is ∙ c.place_of_ready.ensures in
-      let own = c.args.caller.now in
-      let numbered = ap (λ x. x.number) (read_here same hash terms (moment log) c.args.self.now due.played own c.in-Some.place
-      (here_at same hash terms (moment log) c.args.self.now due.played own c.in-Some.place (ready_parts same hash terms log c.args.self.now own due.played c.in-Some.place ready).0)
-      c.index.result.now c.index.ensures) in
-      so_played same hash terms log _ (Stop own) c.quietly.result Done 0 [] c.quietly.ensures.outcome c.quietly.ensures.steps c.quietly.ensures.effects
-      (done same hash terms log c.args.self.now own due c.in-Some.place ready c.stop.result c.stop.new.self
-      (subst (λ (n : ℕ). WalkStops same hash due.played.name (moment log) due.played.scene n c.stop.result c.args.self.now.logged c.stop.new.self) numbered
-      (c.stop.ensures.leads same hash due.played.name (moment log) due.played.scene due.played.shown))
-      (record { items = c.remove.new.self }) c.remove.ensures.items)
+    let ready = sym c.in-Some.is ∙ c.place_of_ready.ensures in
+    let own = c.args.caller.now in
+    let numbered = ap (λ x. x.number) (read_here same hash terms (moment log) c.args.self.now due.played own c.in-Some.place
+    (here_at same hash terms (moment log) c.args.self.now due.played own c.in-Some.place (ready_parts same hash terms log c.args.self.now own due.played c.in-Some.place ready).0)
+    c.index.result.now c.index.ensures) in
+    so_played same hash terms log _ (Stop own) c.quietly.result Done 0 [] c.quietly.ensures.outcome c.quietly.ensures.steps c.quietly.ensures.effects
+    (done same hash terms log c.args.self.now own due c.in-Some.place ready c.stop.result c.stop.new.self
+    (subst (λ (n : ℕ). WalkStops same hash due.played.name (moment log) due.played.scene n c.stop.result c.args.self.now.logged c.stop.new.self) numbered
+    (c.stop.ensures.leads same hash due.played.name (moment log) due.played.scene due.played.shown))
+    (record { items = c.remove.new.self }) c.remove.ensures.items)

@@ -3,7 +3,7 @@ use Rattle.std.proofs.Common.{[], sym, ap, ◌∙◌}
 use Rattle.seize_words.specs.declared.fault.Fault.TheVariants.{Busy}
 use Rattle.papaya_schedules.specs.declared.event.Event.TheVariants.{Unregister}
 use Rattle.papaya_schedules.specs.declared.outcome.Outcome.TheVariants.{Refused}
-use Rattle.papaya_scheduler.proofs.Backs.{beside, came_as, due_beside, none_came, stayed_as}
+use Rattle.papaya_scheduler.proofs.Backs.{came_as, none_came, stayed_as}
 use Rattle.papaya_scheduler.proofs.Unregisters.{not_registered, guards_live, may_free, fits, joined, joined_last}
 use Rattle.papaya_scheduler.proofs.KeptGiven.{given_as, given_still}
 use Rattle.papaya_scheduler.proofs.Rights.{so_played}
@@ -14,14 +14,14 @@ use Rattle.std.proofs.lemmas.Bool.{eq-eqb, ne_eqb}
 pub returns-in_default-clause-plays : goal.returns-in_default-clause-plays
 returns-in_default-clause-plays g c =
     λ same hash terms log due.
-      so_played same hash terms log c.args.self.now (Unregister c.args.registration.now) c.busy.result (Refused Busy) 0 [] c.busy.ensures.outcome c.busy.ensures.steps c.busy.ensures.effects
-      (elim c.in_default.branch [
-        | in_default-via-in-Some+else-living_on-eq0 w ↦
-            guards_live same hash terms log c.args.self.now c.args.registration.now due w.in-Some.slot (sym c.slot_of_registration.ensures ∙ w.in-Some.is)
-            (ne_eqb _ _ (λ e. w.if-living_on-eq0.false (w.living_on.ensures ∙ e)))
-        | in_default-via-in_default w ↦
-            not_registered same hash terms log c.args.self.now c.args.registration.now due (sym c.slot_of_registration.ensures ∙ w.in_default.is)
-      ])
+    so_played same hash terms log c.args.self.now (Unregister c.args.registration.now) c.busy.result (Refused Busy) 0 [] c.busy.ensures.outcome c.busy.ensures.steps c.busy.ensures.effects
+    (elim c.in_default.branch [
+      | in_default-via-in-Some+else-living_on-eq0 w ↦
+          guards_live same hash terms log c.args.self.now c.args.registration.now due w.in-Some.slot (sym c.slot_of_registration.ensures ∙ w.in-Some.is)
+          (ne_eqb _ _ (λ e. w.if-living_on-eq0.false (w.living_on.ensures ∙ e)))
+      | in_default-via-in_default w ↦
+          not_registered same hash terms log c.args.self.now c.args.registration.now due (sym c.slot_of_registration.ensures ∙ w.in_default.is)
+    ])
 
 pub do_row-requires-clause-fits : goal.do_row-requires-clause-fits
 do_row-requires-clause-fits g c =
@@ -38,17 +38,17 @@ do_row-requires-clause-begins g c =
 pub returns-clause-plays : goal.returns-clause-plays
 returns-clause-plays g c =
     λ same hash terms log due.
-      let found = sym c.slot_of_registration.ensures ∙ c.in-Some.is in
-      let none_live = eq-eqb _ _ (sym c.living_on.ensures ∙ c.if-living_on-eq0.true) in
-      elim c.if-guards_on-eq0.branch [
-        | then-guards_on-eq0+in_ok-do_row w ↦
-            joined_last same hash terms log (beside w.do_row.new.self.back c.args.self.now) c.args.registration.now (due_beside same hash terms c.args.self.now w.do_row.new.self.back log (Unregister c.args.registration.now) due) c.in-Some.slot found none_live c.if-guards_on-eq0.self c.if-guards_on-eq0.effects.items c.unregister.new.self
-            c.unregister.ensures (sym c.guards_on.ensures ∙ w.if-guards_on-eq0.true) c.no_effects-effects.result.items w.do_row.new.effects.items c.no_effects-effects.ensures
-            (ap (λ v. v.items) w.effects-is) w.do_row.new.self w.self-is w.do_row.ensures.rest w.in_ok-do_row.ensures.ran
-        | else-guards_on-eq0 w ↦
-            joined same hash terms log c.args.self.now c.args.registration.now due c.in-Some.slot found none_live c.if-guards_on-eq0.self c.if-guards_on-eq0.effects.items c.unregister.new.self
-            c.unregister.ensures (λ z. w.if-guards_on-eq0.false (c.guards_on.ensures ∙ z)) w.self-is (ap (λ v. v.items) w.effects-is ∙ c.no_effects-effects.ensures)
-      ]
+    let found = sym c.slot_of_registration.ensures ∙ c.in-Some.is in
+    let none_live = eq-eqb _ _ (sym c.living_on.ensures ∙ c.if-living_on-eq0.true) in
+    elim c.if-guards_on-eq0.branch [
+      | then-guards_on-eq0+in_ok-do_row w ↦
+          joined_last same hash terms log c.args.self.now c.args.registration.now due c.in-Some.slot found none_live c.if-guards_on-eq0.self c.if-guards_on-eq0.effects.items c.unregister.new.self
+          c.unregister.ensures (sym c.guards_on.ensures ∙ w.if-guards_on-eq0.true) c.no_effects-effects.result.items w.do_row.new.effects.items c.no_effects-effects.ensures
+          (ap (λ v. v.items) w.effects-is) w.do_row.new.self w.self-is w.do_row.ensures.rest w.in_ok-do_row.ensures.ran
+      | else-guards_on-eq0 w ↦
+          joined same hash terms log c.args.self.now c.args.registration.now due c.in-Some.slot found none_live c.if-guards_on-eq0.self c.if-guards_on-eq0.effects.items c.unregister.new.self
+          c.unregister.ensures (λ z. w.if-guards_on-eq0.false (c.guards_on.ensures ∙ z)) w.self-is (ap (λ v. v.items) w.effects-is ∙ c.no_effects-effects.ensures)
+    ]
 
 pub returns-clause-given : goal.returns-clause-given
 returns-clause-given g c =
@@ -58,15 +58,15 @@ returns-clause-given g c =
     ]
 
 pub returns-in_default-clause-back : goal.returns-in_default-clause-back
-returns-in_default-clause-back g c = λ same hash terms log due. none_came _ c.busy.result.effects.items c.args.self.now.back.items c.busy.ensures.effects
+returns-in_default-clause-back g c = λ same hash terms log due. none_came _ c.busy.result.effects.items c.args.back.now.items c.busy.ensures.effects
 
 pub returns-clause-back : goal.returns-clause-back
 returns-clause-back g c =
     λ same hash terms log due.
-      elim c.if-guards_on-eq0.branch [
-        | then-guards_on-eq0+in_ok-do_row w ↦
-            came_as same hash terms log (Unregister c.args.registration.now) c.args.self.now due c.if-guards_on-eq0.effects.items c.no_effects-effects.result.items w.do_row.new.effects.items (ap (λ v. v.items) w.effects-is)
-            c.no_effects-effects.ensures c.if-guards_on-eq0.self w.do_row.new.self w.self-is w.in_ok-do_row.ensures.back
-        | else-guards_on-eq0 w ↦
-            stayed_as same hash terms log (Unregister c.args.registration.now) c.args.self.now due c.if-guards_on-eq0.effects.items (ap (λ v. v.items) w.effects-is ∙ c.no_effects-effects.ensures) c.if-guards_on-eq0.self w.self-is
-      ]
+    elim c.if-guards_on-eq0.branch [
+      | then-guards_on-eq0+in_ok-do_row w ↦
+          came_as same hash terms log (Unregister c.args.registration.now) c.args.self.now due c.args.back.now.items c.if-guards_on-eq0.effects.items c.no_effects-effects.result.items w.do_row.new.effects.items (ap (λ v. v.items) w.effects-is)
+          c.no_effects-effects.ensures w.do_row.new.back.items c.if-guards_on-eq0.back.items (ap (λ v. v.items) w.back-is) w.in_ok-do_row.ensures.back
+      | else-guards_on-eq0 w ↦
+          stayed_as _ c.if-guards_on-eq0.effects.items c.args.back.now.items c.if-guards_on-eq0.back.items (ap (λ v. v.items) w.effects-is ∙ c.no_effects-effects.ensures) (ap (λ v. v.items) w.back-is)
+    ]

@@ -1,0 +1,62 @@
+-- That words of slots are noted just where there are some, and what is promised of each kind of step.
+use Rattle.std.specs.Prelude.{◌≡◌, ◌<◌, ℕ, Bool, [], Some, IsSome}
+use Rattle.papaya_moments.specs.Given.SeizeWords.declared.at.At.TheVariants.{Slot}
+use Rattle.papaya_moments.specs.Given.SeizeWords.Mem.{Mem, word_at}
+use Rattle.papaya_moments.specs.Given.Seize.declared.progress.Progress.{Progress}
+use Rattle.papaya_moments.specs.Given.Seize.declared.rows.settle.Settled.{Settled}
+use Rattle.papaya_moments.specs.Given.Seize.declared.states.TheConstants.{HEAD}
+use Rattle.papaya_moments.specs.Given.Tables.declared.node.Node.{Node}
+use Rattle.papaya_moments.specs.Given.Tables.declared.setting.Setting.{Setting}
+use Rattle.papaya_moments.specs.Given.Raw.declared.machines.progress.Progress.{Progress as CallTold}
+use Rattle.papaya_moments.specs.Given.Callers.Together.{UnderWay}
+use Rattle.papaya_moments.specs.Given.Effects.Effects.{known_after}
+use Rattle.papaya_moments.specs.Given.Effects.Known.{Known, nothing_known}
+use Rattle.papaya_moments.specs.Given.Effects.declared.acting.Acting.TheVariants as acts
+use Rattle.papaya_moments.specs.Given.Executor.Ending.{EndingLeads}
+use Rattle.papaya_moments.specs.Given.Executor.IsAt.{Scene, IsAt, at_first, work_of}
+use Rattle.papaya_moments.specs.Given.Executor.Making.{MakingLeads}
+use Rattle.papaya_moments.specs.Given.Executor.OnSlots.{RowLeads}
+use Rattle.papaya_moments.specs.Given.Executor.Stepping.{StepLeads}
+use Rattle.papaya_moments.specs.Given.Executor.declared.executor.Executor.{Executor}
+use Rattle.papaya_moments.specs.Given.Executor.declared.row.RowTold.{RowTold}
+use Rattle.papaya_moments.specs.Given.Executor.declared.row.SlotRow.{SlotRow}
+use Rattle.papaya_moments.specs.Given.Executor.declared.worker.Work.TheVariants.{OnSlot}
+use Rattle.papaya_moments.specs.Given.Finishes.Endings.{Finishing}
+use Rattle.papaya_moments.specs.Given.Finishes.Makings.{Beginning}
+
+-- where a bucket is noted the first slot has a word, and where none is there is no slot
+pub record SlotsNoted {T : Type 0} (noted : Known) (m : Mem T) : Type 0 where
+  pub some : 0 < noted.buckets → IsSome (word_at m (Slot 0 HEAD))
+  pub none : noted.buckets ≡ 0 → m.slots ≡ []
+
+-- The promises: so it is before all events,
+abbrev pub SlotsBegin : Type 0 → Type 0 → Type 0
+SlotsBegin K V = (roots : ℕ) → SlotsNoted nothing_known (at_first {K = K} {V = V} roots).world.memory
+
+module _ (K V S : Type 0) (same : K → K → Bool) (hash : K → ℕ) where
+  -- after each step of a call,
+  abbrev pub CallsNoteSlots : Type 0
+  CallsNoteSlots =
+      (known : Known) (s : Scene K V) (old new : Executor K V S) → IsAt same hash old s → SlotsNoted known old.memory.memory
+      → (map i : ℕ) (u : UnderWay K V K) → s.calls map i ≡ Some u → (said : CallTold (Node K V)) → StepLeads same hash i said s old new
+      → SlotsNoted (known_after (acts.Call i map) new.memory.changed known) new.memory.memory
+
+  -- of a row on a slot,
+  abbrev pub RowsNoteSlots : Type 0
+  RowsNoteSlots =
+      (known : Known) (s : Scene K V) (old new : Executor K V S) → IsAt same hash old s → SlotsNoted known old.memory.memory
+      → (i : ℕ) (said : RowTold (Node K V)) → RowLeads same hash i said s old new → (row : SlotRow) → work_of old i ≡ Some (OnSlot row)
+      → SlotsNoted (known_after acts.Row new.memory.changed known) new.memory.memory
+
+  -- of the making of a map, and of the end of one.
+  abbrev pub MakingsNoteSlots : Type 0
+  MakingsNoteSlots =
+      (known : Known) (s : Scene K V) (old new : Executor K V S) → IsAt same hash old s → SlotsNoted known old.memory.memory
+      → (i : ℕ) (said : Progress Setting) → MakingLeads same hash i said s old new → (b : Beginning K) → s.makers i ≡ Some b → (map : ℕ)
+      → SlotsNoted (known_after (acts.Making map) new.memory.changed known) new.memory.memory
+
+  abbrev pub EndingsNoteSlots : Type 0
+  EndingsNoteSlots =
+      (known : Known) (s : Scene K V) (old new : Executor K V S) → IsAt same hash old s → SlotsNoted known old.memory.memory
+      → (i : ℕ) (said : Settled (Node K V)) → EndingLeads same hash i said s old new → (f : Finishing K V) → s.enders i ≡ Some f → (map : ℕ)
+      → SlotsNoted (known_after (acts.Ending map) new.memory.changed known) new.memory.memory

@@ -1,0 +1,64 @@
+-- What is promised of what an event gives back, and of what a run tells of that at its end.
+use Rattle.std.specs.Prelude.{◌≡◌, ℕ, Bool, false, List, [], flat_map, option_map}
+use Rattle.std.specs.List.{AllByRecursion}
+use Rattle.papaya_runs.specs.declared.record.Pair.{Pair}
+use Rattle.papaya_runs.specs.Log.{pair_at}
+use Rattle.papaya_runs.specs.Pairs.{numbers}
+use Rattle.papaya_runs.specs.Runs.{IsStored}
+use Rattle.papaya_schedules.specs.declared.effect.Effect.{Effect}
+use Rattle.papaya_schedules.specs.declared.event.Event.{Event}
+use Rattle.papaya_schedules.specs.declared.event.Event.TheVariants.{Register, Unregister, Enter, Own, Refresh, Flush, DropGuard, ReclaimAll, Close, EndMap}
+use Rattle.papaya_schedules.specs.declared.record.Run.{Run}
+use Rattle.papaya_schedules.specs.After.{AtEachEvent, moment}
+use Rattle.papaya_schedules.specs.Effects.{pairs_back}
+use Rattle.papaya_schedules.specs.Entry.{Entry}
+use Rattle.papaya_schedules.specs.InTurn.{is_kept_out}
+use Rattle.papaya_schedules.specs.Moment.{Moment}
+use Rattle.papaya_schedules.specs.Runs.{pair_of}
+use Rattle.papaya_schedules.specs.Terms.{Terms}
+use Rattle.papaya_logged.specs.Back.{ComesBack}
+use Rattle.papaya_scheduler.specs.declared.played.Played.{Played}
+use Rattle.papaya_scheduler.specs.declared.scheduler.Scheduler.{Scheduler}
+use Rattle.papaya_tally.specs.Told.{AreBack, ArePlaced}
+use Rattle.papaya_running.specs.Asked.{Holds}
+
+module _ {K V : Type 0} where
+  -- Pairs are reclaimed by those alone who do something with a slot, end a map, or reclaim everything.
+  abbrev pub ReclaimsBy : Event K V → List Effect → Type 0
+  ReclaimsBy (Register registration) did = Unit {0}
+  ReclaimsBy (Unregister registration) did = Unit {0}
+  ReclaimsBy (Enter guard registration) did = Unit {0}
+  ReclaimsBy (Own guard) did = Unit {0}
+  ReclaimsBy (Refresh guard) did = Unit {0}
+  ReclaimsBy (Flush guard) did = Unit {0}
+  ReclaimsBy (DropGuard guard) did = Unit {0}
+  ReclaimsBy (EndMap name) did = Unit {0}
+  ReclaimsBy ReclaimAll did = Unit {0}
+  ReclaimsBy Close did = Unit {0}
+  ReclaimsBy _ did = flat_map pairs_back did ≡ []
+
+  -- so it is of the event of an entry, and of each of a log
+  abbrev pub ReclaimsRight : List (Entry K V) → Entry K V → Type 0
+  ReclaimsRight log e = ReclaimsBy e.event e.effects
+
+  -- What a run tells at its end of pairs that were given back is what its events say; and which pair has a number, where each that was stored is somewhere.
+  pub record TellsBack (m : Moment K V) (run : Run K V) : Type 0 where
+    pub given_back : numbers run.given_back ≡ m.given_back
+    pub contents : AllByRecursion (IsStored m.stored) run.given_back
+    pub pairs : ArePlaced m → (n : ℕ) → option_map (λ p. (p.key, p.value)) (pair_of run n) ≡ pair_at m.stored n
+
+  -- what was reclaimed so far has come back
+  abbrev pub BackSoFar : List (Entry K V) → List (Pair K V) → Type 0
+  BackSoFar log pairs = AtEachEvent ReclaimsRight log → AreBack (moment log) pairs
+
+module _ {K V S : Type 0} (same : K → K → Bool) (hash : K → ℕ) where
+  -- What an event reclaims comes back: those pairs follow in the list, each as it was stored.
+  abbrev pub GivesAt : Event K V → Played V → Scheduler K V S → (before after : List (Pair K V)) → Type 0
+  GivesAt event played old before after =
+      (terms : Terms) (log : List (Entry K V)) → Holds same hash terms (moment log) old → ReclaimsBy event played.effects.items → ComesBack (moment log).stored played.effects.items before after
+
+  -- so it is of one that is in turn
+  abbrev pub GivesDue : Event K V → Played V → Scheduler K V S → (before after : List (Pair K V)) → Type 0
+  GivesDue event played old before after =
+      (terms : Terms) (log : List (Entry K V)) → Holds same hash terms (moment log) old → is_kept_out terms event (moment log) ≡ false → ReclaimsBy event played.effects.items
+      → ComesBack (moment log).stored played.effects.items before after
