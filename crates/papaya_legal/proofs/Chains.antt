@@ -125,7 +125,7 @@ module _ (K V S : Type 0) (same : K → K → Bool) (hash : K → ℕ) where
       legal = map_events_are_legal K V same name terms log b.map (with_map there (moment log)) to.now to.notes to.scene e midst.0 allowed finds refl begins acted whole by_model.0
 
   pub ends_run_to_their_ends : EndsRunToTheirEnds K V S same hash
-  ends_run_to_their_ends name terms log known s old new at run small own map i standing there idle at2 before n to chain at_end steps effects did number no_table apart allowed finds whole right =
+  ends_run_to_their_ends name terms log known s old new at run small own map i standing there idle at2 before n to chain at_end steps effects did number over apart allowed finds whole right =
       (legal.0, end_events_end_so K V S same hash name terms log map to.now known to.notes s to.scene to.executor at_end own steps effects midst.0 number apart run right legal.0.life legal.1 by_model.1)
     where
       e : Entry K V
@@ -137,7 +137,7 @@ module _ (K V S : Type 0) (same : K → K → Bool) (hash : K → ℕ) where
           (end_events_begin_so K V S same hash name terms log known s old new at run small own map i standing there idle at2 before))
 
       by_model : IsByModel terms log e × ((moment (e ∷ log)).is_alone ≡ true → FollowsModel terms.batch_size terms.roots (e ∷ log) to.notes to.scene.world)
-      by_model = end_events_follow K V same name terms log map (moment log) to.now known to.notes i to.scene e midst small (moments_note_once K V same name (moment log) known s run.calls.whole) no_table refl
+      by_model = end_events_follow K V same name terms log map (moment log) to.now known to.notes i to.scene e midst small (moments_note_once K V same name (moment log) known s run.calls.whole) over refl
 
       legal : IsLegalBut same terms log e × SectionsHold (moment (e ∷ log)) to.notes to.scene.world
       legal = map_events_are_legal K V same name terms log map (moment log) to.now to.notes to.scene e midst.0 allowed finds refl refl number whole by_model.0

@@ -70,7 +70,6 @@ use Rattle.papaya_histories.specs.Given.Schedules.Views.{map_at, number_of}
 use Rattle.papaya_histories.specs.Given.Executor.Ending.{ending_begun}
 use Rattle.papaya_histories.specs.Given.Finishes.Makings.{HasMade}
 use Rattle.papaya_histories.specs.Given.Finishes.Maps.{Standing}
-use Rattle.papaya_models.specs.Ends.{NoTableIsLeft}
 use Rattle.papaya_legal.specs.SlotEvents.{InSlotEvent}
 
 -- How far an event has come: with which executor, what it has done, the moment after that, what is known then, and the scene in which the executor is.
@@ -245,14 +244,14 @@ module _ (K V S : Type 0) (same : K → K → Bool) (hash : K → ℕ) where
       → AtEachEffect (Finds terms None (Some b.map) false []) None (Some b.map) effects (with_map there (moment log))
       → IsWhole e.event e.outcome effects (moment log) (worked e (moment log)) → ComesRight terms log e → IsLegalBut same terms log e × ShowsRun same name terms (e ∷ log) to.notes to.scene)
 
-  -- and of one that ends a map, if no table is left over, and no map that stands then has its name.
+  -- and of one that ends a map, whose end is over, if no map that stands then has its name.
   abbrev pub EndsRunToTheirEnds : Type 0
   EndsRunToTheirEnds =
       (name : ℕ → List ℕ) (terms : Terms) (log : List (Entry K V)) (known : Known) (s : Scene K V) (old new : Executor K V S) → IsAt same hash old s → ShowsRun same name terms log known s
       → terms.batch_size < 2 ^ 64 → (own : List ℕ) (map i : ℕ) (standing : Standing K) → s.maps map ≡ Some standing → s.enders i ≡ None → IsAt same hash new (ending_begun map i standing s)
       → (ComesAlone (EndMap own) log → FollowsModel terms.batch_size terms.roots log known s.world) → (n : ℕ) (to : Come K V S)
       → Chain (EndSteps same hash terms i map) n (record { executor = new; did = []; now = moment log; notes = known; scene = ending_begun map i standing s }) to → IsAt same hash to.executor to.scene
-      → (steps : ℕ) (effects : List Effect) → to.did ≡ effects → number_of own (moment log) ≡ Some map → NoTableIsLeft to.notes i to.scene.world
+      → (steps : ℕ) (effects : List Effect) → to.did ≡ effects → number_of own (moment log) ≡ Some map → to.scene.enders i ≡ None
       → ((k : ℕ) (st : Standing K) (there : MapThere) → to.scene.maps k ≡ Some st → map_at k to.now ≡ Some there → is_same there.name own ≡ false)
       → (let e : Entry K V = record { event = EndMap own; outcome = Done; steps = steps; effects = effects } in
       list_all (may_do e.event (moment log)) effects ≡ true → AtEachEffect (Finds terms None (Some map) false []) None (Some map) effects (moment log)

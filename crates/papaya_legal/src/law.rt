@@ -94,8 +94,8 @@ pub fn idle_events<K, V, S>()
 
 /// An event whose work is a row on a slot, the making or the end of a map, or a call that goes on, is in its midst wherever a chain of steps of that has led, from where it has begun. So an event whose
 /// row has begun, and has run to its end, is legal but for what it comes to, and a run goes on with it, if what it did it may do, and finds what it must, if it is that row to the waiting sets, was
-/// not kept out, leaves its guards within their sections, and all is back if it reclaims all. So it is of an event that has made a map, if it is whole, and of one that has ended one, if no table is
-/// left over, and no map that stands then has its name.
+/// not kept out, leaves its guards within their sections, and all is back if it reclaims all. So it is of an event that has made a map, if it is whole, and of one that has ended one, if no map
+/// that stands then has its name.
 pub fn steps_chain<K, V, S>()
     ensures rows { (same : K → K → Bool) (hash : K → ℕ) → RowsChain K V S same hash }
     ensures makings { (same : K → K → Bool) (hash : K → ℕ) → MakingsChain K V S same hash }
