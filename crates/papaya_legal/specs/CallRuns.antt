@@ -19,7 +19,8 @@ use Rattle.papaya_histories.specs.Given.Schedules.InTurn.{ComesRight}
 use Rattle.papaya_histories.specs.Given.Schedules.Model.{sets_in, things_in}
 use Rattle.papaya_histories.specs.Given.Schedules.Moment.{UnderWay as CallThere, Moment}
 use Rattle.papaya_histories.specs.Given.Schedules.Sweeps.{IsSwept}
-use Rattle.papaya_histories.specs.Given.Schedules.Terms.{Terms}
+use Rattle.papaya_histories.specs.Given.Runs.Present.{slot_of_guard}
+use Rattle.papaya_histories.specs.Given.Schedules.Terms.{Terms, shards_of}
 use Rattle.papaya_histories.specs.Given.Schedules.Views.{call_of}
 use Rattle.papaya_histories.specs.Given.Callers.Together.{UnderWay, HandsOver}
 use Rattle.papaya_histories.specs.Given.Effects.Effects.{effects_of, known_after}
@@ -36,7 +37,7 @@ use Rattle.papaya_histories.specs.InEvent.{ComesSo, here_of}
 use Rattle.papaya_purposes.specs.Kept.{ShowsNone, TellsNone}
 use Rattle.papaya_models.specs.CallEvents.{IsNoted, slot_of_call, things_then}
 use Rattle.papaya_finds.specs.Doing.{takes_steps}
-use Rattle.papaya_finds.specs.Parts.{FindAll}
+use Rattle.papaya_finds.specs.Parts.{FindAll, FindRest}
 use Rattle.papaya_legal.specs.CallEvents.{InCallEvent, IsLegalBut}
 use Rattle.papaya_legal.specs.Carried.{ComesAlone, ShowsRun}
 
@@ -59,6 +60,16 @@ module _ (K V S : Type 0) (same : K → K → Bool) (hash : K → ℕ) where
       → ShowsKept name m known s → (map i : ℕ) (u : UnderWay K V K) → s.calls map i ≡ Some u → (said : Progress (Node K V)) → StepLeads same hash i said s old new
       → (e : Entry K V) → caller_of e.event ≡ Some (name i) → worked e (moment log) ≡ with_effects (Some (name i)) (Some map) (effects_of (acts.Call i map) known new.memory.changed) m
       → TellsEnd said e.outcome → IfCall (LeavesOf (comes_clear e.outcome) e.outcome) (acting (caller_of e.event) (worked e (moment log)))
+
+  -- What the effects of a step of a call must find they find, but for what is left: why a block is asked for, which shape follows, where a pair may wait, and that a pair that is retired is past; if the
+  -- map has as many shards as the terms say, and the guard of the call is on the slot of its caller.
+  abbrev pub StepsFindAll : Type 0
+  StepsFindAll =
+      (name : ℕ → List ℕ) (m : Moment K V) (known : Known) (s : Scene K V) (old new : Executor K V S) → IsAt same hash old s → ShowsWhole same name m known s → ShowsKept name m known s
+      → (map i : ℕ) (u : UnderWay K V K) (here : s.calls map i ≡ Some u) (said : Progress (Node K V)) (leads : StepLeads same hash i said s old new)
+      → (terms : Terms) → (leads map u here).0.setting.mask + 1 ≡ shards_of terms → (c : CallThere K V) → call_of (name i) m ≡ Some c → slot_of_guard c.guard m.there ≡ slot_of i
+      → (moments : List (Moment K V)) → FindRest terms moments (name i) map (effects_of (acts.Call i map) known new.memory.changed) m
+      → FindAll terms moments (name i) map (effects_of (acts.Call i map) known new.memory.changed) m
 
   -- So it is of an event that has come to its last step, and comes to what is right, and to what that says, if its effects find what they
   -- must, if it does what it is for, and is refused no growth that it made; if what a row hands over that begins with the step is noted, and its slot is active.
