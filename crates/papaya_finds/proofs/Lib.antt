@@ -31,3 +31,17 @@ pub mod Begun
 pub mod Runs
 pub mod Closed
 pub mod Little
+pub mod Shaping
+pub mod GrowsOn
+pub mod GrowsThere
+pub mod GrowsGiven
+pub mod GrowsAsked
+pub mod GrowsSteps
+pub mod GrowsBetween
+pub mod StoresNone
+pub mod Linking
+pub mod CopiersNext
+pub mod CopiersAsk
+pub mod Rest
+pub mod Capacities
+pub mod Firsts

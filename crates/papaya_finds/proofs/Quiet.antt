@@ -27,7 +27,7 @@ use Rattle.papaya_finds.specs.Quiet.{is_found, FoundLeaveNothing, OthersOweNothi
 use Rattle.papaya_finds.specs.Life.{StoresOne}
 use Rattle.papaya_finds.proofs.Joined.{valued_grows}
 
-neither : (a b : Bool) → (a || b) ≡ false → (a ≡ false) × (b ≡ false)
+pub neither : (a b : Bool) → (a || b) ≡ false → (a ≡ false) × (b ≡ false)
 neither true b e = absurd (cc e)
 neither false b e = (refl, e)
 

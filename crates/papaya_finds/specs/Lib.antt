@@ -14,3 +14,10 @@ pub mod Events
 pub mod Endings
 pub mod Within
 pub mod Little
+pub mod Growing
+pub mod Nexts
+pub mod Shaping
+pub mod Linking
+pub mod Rest
+pub mod Capacities
+pub mod Firsts

@@ -29,7 +29,7 @@ use Rattle.papaya_settles.specs.Shards.{is_counting}
 --   Deferred            what is owed (owed), and where it may wait (rest)
 --   Retired             what is owed (owed), and of a pair that the root has come to where it lies (rest)
 -- The others are no call's (kinds). `made` is FindsMade of `papaya_owes`, `map` FindsMap of `papaya_follows`, `owed` FindsOwed and `count` CountsFindShards of
--- `papaya_settles`.
+-- `papaya_settles`. The rest has three parts, which are in `Rest`.
 
 module _ {K V : Type 0} where
   -- A pair is copied to where a copy may lie, and stored where no pair of the map lies, or the one that it replaces.

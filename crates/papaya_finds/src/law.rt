@@ -1,12 +1,18 @@
 //! What is promised of the effects of calls, which find what they must, and of what they leave to wait: little, each for a reason, and nothing in the end.
 ghost use Rattle.std.specs.Prelude.{ℕ, Bool};
 ghost use Rattle.papaya_finds.specs.Joined.{PartsAreAll, SeveralFindAll, EventsFindAll, PairsAreAskedFor};
+ghost use Rattle.papaya_finds.specs.Capacities.{GivenAreFor, CapacitiesBegin, CapacitiesStay, EffectsKeepCapacities, SameMapsStood, CallsKeepCapacities, MakingsKeepCapacities};
+ghost use Rattle.papaya_finds.specs.Firsts.{OpeningsBegin, OpeningsStay, MakingsOpen, FirstsAreAll, MakingsGoOn, MakingsLinkFirst};
 ghost use Rattle.papaya_finds.specs.Doing.{SeveralDoTheirs, EventsMayDo};
 ghost use Rattle.papaya_finds.specs.Past.{EffectsLeavePast, CallsFindOnward};
 ghost use Rattle.papaya_finds.specs.Quiet.{FoundLeaveNothing, OthersOweNothing, SeveralStoreOne, ValuedMayAsk};
+ghost use Rattle.papaya_finds.specs.Rest.{RestIsAll, OthersHandNone};
 ghost use Rattle.papaya_finds.specs.Steps.{StepsDoTheirs, StepsFindPlaces, StepsStoreOne, StepsFindParts};
 ghost use Rattle.papaya_finds.specs.Bounded.{LittleWaits, NothingRetiredOnceReclaimed};
 ghost use Rattle.papaya_finds.specs.Endings.{NamedAtFirst, EventsKeepNamed, EventsKeepRoots, EventsKeepSomewhere};
+ghost use Rattle.papaya_finds.specs.Growing.{GrowingBegins, GrowingStays, TablesHaveBeen, CallsBeginGrowing, CallsTakeGrowing, WalksGoOnGrowing, CallsGoGrowing, CallsKeepGrowing, KeyCallsMayAsk};
+ghost use Rattle.papaya_finds.specs.Nexts.{CopiersHaveNext, CopiersMayAsk};
+ghost use Rattle.papaya_finds.specs.Linking.{KeyCallsLink};
 ghost use Rattle.papaya_finds.specs.Events.{BeginningsKeepPlaced, EventsKeepPlaced, BeginningsKeepTables, EventsKeepTables};
 ghost use Rattle.papaya_finds.specs.Life.{LifeFindsPlaced, LifeKeepsPlaced};
 ghost use Rattle.papaya_finds.specs.Little.{EventsLeaveLittle, OverStaysBack, RunsLeaveLittle};
@@ -30,7 +36,7 @@ pub fn steps_find_theirs<K, V, S>()
 /// These parts, with what is left, make up all that an effect of a call must find, for each kind of effect: so it is for the effects of a step, of several steps,
 /// and of an event of the call. Where a block for a pair is made nothing is left: the call has a value for it, so it may ask for the block. Nothing is left of an effect
 /// that asks for no block, links no table, and hands no pair over, nor of one that asks for a block, if the call began with the value that it stores; and one that hands nothing over need find
-/// nothing that is owed. Effects of several steps store one pair each, too.
+/// nothing that is owed. Effects of several steps store one pair each, too. What is left is why a block is asked for, which table is linked, and where a pair is handed over.
 pub fn parts_are_all<K, V>()
     ensures joined { PartsAreAll K V }
     ensures several { SeveralFindAll K V }
@@ -40,6 +46,8 @@ pub fn parts_are_all<K, V>()
     ensures others { OthersOweNothing K V }
     ensures stores { SeveralStoreOne K V }
     ensures valued { ValuedMayAsk K V }
+    ensures left { RestIsAll K V }
+    ensures handed { OthersHandNone K V }
 {}
 
 /// A pair that has left its map lies where it lay after any effects, whoever makes them, and the root of no map goes back: so a pair that may be retired, as it lies
@@ -109,4 +117,52 @@ pub fn all_waits_in_order<K, V>()
     ensures life { LifeKeepsOrder K V }
     ensures events { EventsKeepOrder K V }
     ensures runs { RunsAreInOrder K V }
+{}
+
+/// A call on one key makes a table only where it has what it stores where its key is missing: it began with that, or asks there, and was told it. So it is as a run begins,
+/// where a call begins, goes on by a reply, or as a walk, and is under way no more; after each step of a call, whoever's; and as long as calls on one key are as they were, and no map has had
+/// fewer tables, which is so after any effects. So for each block for which such a call asks it may ask, while it copies no pairs: for its pair, as for a table, whether it gets it or not. The table that it
+/// links is the first of its map, of 32 places, or follows the newest by that one's length and a count of the pairs, in a map that was made for the capacity that the moment says.
+pub fn calls_grow_for_values<K, V, S>()
+    ensures begins { GrowingBegins K V }
+    ensures stays { GrowingStays K V }
+    ensures had { TablesHaveBeen K V }
+    ensures begun { CallsBeginGrowing K V }
+    ensures told { CallsTakeGrowing K V }
+    ensures walks { WalksGoOnGrowing K V }
+    ensures gone { CallsGoGrowing K V }
+    ensures steps { (same : K → K → Bool) (hash : K → ℕ) → CallsKeepGrowing K V S same hash }
+    ensures asked { (same : K → K → Bool) (hash : K → ℕ) → KeyCallsMayAsk K V S same hash }
+    ensures linked { (same : K → K → Bool) (hash : K → ℕ) → KeyCallsLink K V S same hash }
+{}
+
+/// Where a copier makes a further table its map has a second one, into which the root's is copied; or, in blocking mode, the root has left a table at the moment of the map at which the call
+/// began, or since. So a call on one key that copies, and a sweep, may ask for each block that it makes in a step, if the root has left none.
+pub fn copiers_have_next_tables<K, V, S>()
+    ensures next { (same : K → K → Bool) (hash : K → ℕ) → CopiersHaveNext K V S same hash }
+    ensures asked { (same : K → K → Bool) (hash : K → ℕ) → CopiersMayAsk K V S same hash }
+{}
+
+/// Each map that stands was made for the capacity that the moment says: so it is as a run begins, after each step of a call, of the making of a map that began so, and of a row on a slot, and
+/// wherever maps stand that stood before, with the capacities that they had. With the places that a map is to have at first, where its mode and capacity have no fault, its making begins so.
+pub fn maps_keep_their_capacities<K, V, S>()
+    ensures given { GivenAreFor K V }
+    ensures begins { CapacitiesBegin K V }
+    ensures stays { CapacitiesStay K V }
+    ensures effects { EffectsKeepCapacities K V }
+    ensures stood { SameMapsStood K V }
+    ensures calls { (same : K → K → Bool) (hash : K → ℕ) → CallsKeepCapacities K V S same hash }
+    ensures makings { (same : K → K → Bool) (hash : K → ℕ) → MakingsKeepCapacities K V S same hash }
+{}
+
+/// The making of a map makes a table for the places that the map is to have: so it is as a run begins, as long as makings are as they were, where one begins, and after each step of one. So the table
+/// that it links, where the map is there without one, and is to have the places of its capacity, is the first that the map must have: as long as the capacity asks, with the last try that goes with that.
+/// With that, and with the tables that are made, effects such as a making has find all that they must.
+pub fn makings_link_first_tables<K, V, S>()
+    ensures begins { OpeningsBegin K V }
+    ensures stays { OpeningsStay K V }
+    ensures opens { MakingsOpen K V }
+    ensures steps { (same : K → K → Bool) (hash : K → ℕ) → MakingsGoOn K V S same hash }
+    ensures linked { (same : K → K → Bool) (hash : K → ℕ) → MakingsLinkFirst K V S same hash }
+    ensures found { FirstsAreAll K V }
 {}

@@ -1,19 +1,20 @@
 -- An event of a call, from its last step on.
-use Rattle.std.specs.Prelude.{flat_map, ◌≡◌, ◌==◌, ℕ, ◌+◌, Bool, true, false, List, ◌∷◌, Some, if◌then◌else◌}
+use Rattle.std.specs.Prelude.{flat_map, ◌≡◌, ◌==◌, ℕ, ◌+◌, Bool, true, false, List, ◌∷◌, Option, Some, if◌then◌else◌}
 use Rattle.std.proofs.Common.{refl, ap, sym, subst, ◌∙◌, inl, inr, arith}
 use Rattle.std.proofs.lemmas.Bool.{cases_eq, eq-eqb, ne_eqb}
 use Rattle.papaya_histories.specs.Given.Tables.declared.node.Node.{Node}
 use Rattle.papaya_histories.specs.Given.Raw.declared.machines.progress.Progress.{Progress}
 use Rattle.papaya_histories.specs.Given.Raw.declared.machines.progress.Progress.TheVariants as progress
 use Rattle.papaya_histories.specs.Given.Runs.Same.{is_same}
+use Rattle.papaya_histories.specs.Given.Schedules.declared.effect.Effect.{Effect}
 use Rattle.papaya_histories.specs.Given.Schedules.declared.event.Event.{Event}
 use Rattle.papaya_histories.specs.Given.Schedules.declared.event.Event.TheVariants.{OneCall, Step, Go, Next}
 use Rattle.papaya_histories.specs.Given.Schedules.declared.outcome.Outcome.{Outcome}
 use Rattle.papaya_histories.specs.Given.Schedules.declared.outcome.Outcome.TheVariants as outcome
 use Rattle.papaya_histories.specs.Given.Schedules.After.{after, moment}
 use Rattle.papaya_histories.specs.Given.Schedules.Beginning.{begun, with_call}
-use Rattle.papaya_histories.specs.Given.Schedules.Effects.{with_effects}
-use Rattle.papaya_histories.specs.Given.Schedules.Entry.{Entry, caller_of, ends_call, is_busy, nameless}
+use Rattle.papaya_histories.specs.Given.Schedules.Effects.{with_effects, worked}
+use Rattle.papaya_histories.specs.Given.Schedules.Entry.{Entry, acted_on, caller_of, ends_call, is_busy, nameless}
 use Rattle.papaya_histories.specs.Given.Schedules.Moment.{UnderWay as CallThere, Moment}
 use Rattle.papaya_histories.specs.Given.Schedules.Views.{call_of, number_of}
 use Rattle.papaya_histories.specs.Given.Callers.Together.{UnderWay}
@@ -47,6 +48,10 @@ use Rattle.papaya_legal.specs.Carried.{FollowsOrRows}
 use Rattle.papaya_histories.specs.Given.Schedules.Model.{IsByModel}
 use Rattle.papaya_legal.proofs.CallChanges.{changes_first, reads_shards}
 use Rattle.papaya_legal.proofs.CallFollows.{call_events_follow}
+use Rattle.papaya_histories.proofs.Given.Moments.After.{effects_after}
+use Rattle.papaya_legal.proofs.CallLeaves.{calls_leave_nothing}
+use Rattle.papaya_purposes.specs.Kept.{PairsChangeFirst}
+use Rattle.papaya_legal.proofs.CallPairs.{begun_so, pairs_first}
 use Rattle.papaya_legal.proofs.CallReads.{readings_go_on}
 use Rattle.papaya_legal.proofs.CallsAfter.{call_events_end_so}
 use Rattle.papaya_legal.proofs.CallsEnd.{call_events_are_legal}
@@ -76,9 +81,9 @@ module _ {K V : Type 0} (own : List ℕ) where
       by _ came is = absurd (cc is)
 
 pub call_events_run : (K V S : Type 0) (same : K → K → Bool) (hash : K → ℕ) → CallEventsRun K V S same hash
-call_events_run K V S same hash name terms log beginning map i c c_is first before run steps done m known s u e midst old new at size said leads begins acted effects_are steps_are comes ends shows takes busy right pairs finds swept refuses leaves noted slot active = (
+call_events_run K V S same hash name terms log beginning map i c c_is first before run steps done m known s u e midst old new at size said leads begins acted effects_are steps_are comes tells_end shows takes busy right finds swept refuses noted slot active = (
   legal.0,
-  call_events_end_so K V S same hash name terms log beginning map i c first before run steps done m known s u e midst old new at said leads begins acted effects_are comes ends right legal.0 asked
+  call_events_end_so K V S same hash name terms log beginning map i c first before run steps done m known s u e midst old new at said leads begins acted effects_are comes tells_end.ends right legal.0 asked
       (reclaims_none (name i) log e midst.of_call) (purposes shows) reading legal.1 by_model.1,
 )
   where
@@ -109,15 +114,29 @@ call_events_run K V S same hash name terms log beginning map i c c_is first befo
     by_model : IsByModel terms log e × ((moment (e ∷ log)).is_alone ≡ true → FollowsOrRows terms (e ∷ log) then_known s2.world)
     by_model = call_events_follow K V S same hash name terms log beginning map i c steps done m known s u e midst old new at size said leads effects_are busy noted slot active
 
+    worked_is : worked e (moment log) ≡ v
+    worked_is =
+        ap (λ (b : Moment K V). with_effects (caller_of e.event) (acted_on e.event b) e.effects b) begins
+        ∙ ap (λ (o : Option ℕ). with_effects (caller_of e.event) o e.effects beginning) acted
+        ∙ ap (λ (who : Option (List ℕ)). with_effects who (Some map) e.effects beginning) midst.of_call
+        ∙ ap (λ (fs : List Effect). with_effects (Some (name i)) (Some map) fs beginning) effects_are
+        ∙ effects_after (Some (name i)) (Some map) done (effects_of (acts.Call i map) known new.memory.changed) beginning
+        ∙ ap (λ (x : Moment K V). with_effects (Some (name i)) (Some map) (effects_of (acts.Call i map) known new.memory.changed) x) (sym midst.worked)
+
     legal : IsLegalBut same terms log e × SectionsHold (moment (e ∷ log)) then_known s2.world
     legal = call_events_are_legal K V S same hash name terms log beginning map i c c_is steps done m known s u e midst questions old new at said leads begins acted effects_are comes takes busy finds
-        (let one : e.steps ≡ steps + 1 = steps_are in omega (arith, one)) swept refuses leaves by_model.0
+        (let one : e.steps ≡ steps + 1 = steps_are in omega (arith, one)) swept refuses
+        (calls_leave_nothing K V S same hash name log m known s old new at whole midst.calls.kept map i u here said leads e midst.of_call worked_is tells_end) by_model.0
 
     all : ShowsWhole same name v then_known s2
     all = (events_keep_all K V S same hash name log beginning map i c done m known s u midst.event_so old new at said leads).0
 
     none : ends_call e.outcome ≡ true → NoneNamed name (name i) s2
-    none = none_named same hash name log m known s midst.calls.dues map i u here old new said leads e ends
+    none = none_named same hash name log m known s midst.calls.dues map i u here old new said leads e tells_end.ends
+
+    pairs : PairsChangeFirst log m map v
+    pairs = pairs_first same hash name log beginning map i c done m known s whole old new at said leads u midst.event_so
+        (begun_so same name log beginning map i c done m known s u midst.event_so) midst.worked midst.its_own
 
     -- what calls are for, once its call has come to that
     purposes : ShowsAsTold then_known said e.outcome → ShowsPurposes same name log come then_known s2

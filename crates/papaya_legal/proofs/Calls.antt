@@ -49,6 +49,8 @@ use Rattle.papaya_promises.proofs.Weights.{grants_add_up, operations_are_single,
 use Rattle.papaya_legal.specs.CallEvents.{CallEventsBegin, CallEventsGoOn}
 use Rattle.papaya_purposes.proofs.ShardsRead.{events_begin_uncounted}
 use Rattle.papaya_legal.proofs.CallChanges.{changes_first, reads_shards, unadded_still}
+use Rattle.papaya_histories.proofs.Several.{stands}
+use Rattle.papaya_legal.proofs.CallPairs.{begun_so, each_is_its_own, own_alike, pairs_first}
 use Rattle.papaya_legal.proofs.CallReads.{does_nothing, readings_go_on}
 use Rattle.papaya_legal.proofs.Uncounted.{calls_leave_uncounted}
 
@@ -81,6 +83,8 @@ call_events_begin_so K V S same hash name terms log beginning begins maps tables
         (reading.reads n j v is d found looks_for standing there);
   };
   unadded = λ adds. events_begin_uncounted K V log beginning map shards;
+  its_own = own_alike same map beginning (moment log) begins.0 begins.1
+      (each_is_its_own same hash name beginning known s x at all.whole map (stands same hash s x at map i u here).0 (stands same hash s x at map i u here).1);
   quiet = λ looks_for. (maps, tables);
   kinds = refl;
   stores = tt;
@@ -115,7 +119,7 @@ out_of_slots own (Next caller) is = refl
 out_of_slots own _ is = absurd (cc is)
 
 pub call_events_go_on_so : (K V S : Type 0) (same : K → K → Bool) (hash : K → ℕ) → CallEventsGoOn K V S same hash
-call_events_go_on_so K V S same hash name terms log event beginning map i c steps done m known s u midst old new at size said leads pairs none noted next next_is = record {
+call_events_go_on_so K V S same hash name terms log event beginning map i c steps done m known s u midst old new at size said leads none noted next next_is = record {
   of_call = midst.of_call;
   event_so = events_go_on K V S same hash name log beginning map i c done m known s u midst.event_so old new at said leads next next_is;
   calls = record {
@@ -130,7 +134,9 @@ call_events_go_on_so K V S same hash name terms log event beginning map i c step
     dues = all.1;
     as_called = all.2;
     questions = effects_keep_questions K V (Some (name i)) (Some map) effects m midst.calls.questions;
-    purposes = calls_keep_purposes K V S same hash name log m known s old new at whole midst.calls.purposes map i u here said leads pairs
+    purposes = calls_keep_purposes K V S same hash name log m known s old new at whole midst.calls.purposes map i u here said leads
+        (pairs_first same hash name log beginning map i c done m known s whole old new at said leads u midst.event_so
+        (begun_so same name log beginning map i c done m known s u midst.event_so) midst.worked midst.its_own)
         (changes_first same hash name log beginning map i c done m known s old new at said leads u midst.event_so)
         (reads_shards K V S same hash name log m known s old new at whole midst.calls.counters map i u here said leads midst.unadded) none;
   };
@@ -139,6 +145,7 @@ call_events_go_on_so K V S same hash name terms log event beginning map i c step
   granted = grants_add_up done effects midst.granted (operations_are_single (acts.Call i map) known new.memory.changed).1;
   reading = readings_go_on K V S same hash name terms log event beginning map i c steps done m known s u midst old new at said leads;
   unadded = unadded_still K V S same hash name log m known s old new at whole midst.calls.counters map i u here said leads midst.unadded next next_is;
+  its_own = midst.its_own;
   quiet = λ looks_for. quiet_still looks_for;
   kinds = several_do_theirs done effects midst.kinds (steps_do_theirs K V S same hash name m known s old new at whole map i u here said leads);
   stores = several_store_one K V (name i) map done effects beginning midst.stores

@@ -1,6 +1,6 @@
 -- Steps of an event, one after another.
 use Rattle.std.specs.Prelude.{◌≡◌, ◌∷◌, true, List, ℕ, Bool, zero, suc, ◌++◌, Some, None}
-use Rattle.std.proofs.Common.{sym, subst}
+use Rattle.std.proofs.Common.{refl, sym, subst}
 use Rattle.papaya_histories.specs.Given.Schedules.declared.effect.Effect.{Effect}
 use Rattle.papaya_histories.specs.Given.Schedules.After.{moment}
 use Rattle.papaya_histories.specs.Given.Schedules.Effects.{with_effects}
@@ -9,13 +9,21 @@ use Rattle.papaya_models.specs.Follows.{FollowsModel}
 use Rattle.papaya_histories.specs.Given.Effects.Effects.{effects_of, known_after}
 use Rattle.papaya_histories.specs.Given.Effects.declared.acting.Acting.TheVariants as acts
 use Rattle.papaya_histories.specs.Given.Others.Makings.{making_after}
-use Rattle.papaya_legal.specs.Chains.{CallCome, CallsChain, CallSteps, Chain, Come, EndsChain, EndSteps, MakingsChain, MakingSteps, RowsChain, RowsRunToTheirEnds, RowSteps}
+use Rattle.papaya_legal.specs.Chains.{CallCome, CallsChain, CallSteps, Chain, Come, EndsChain, EndsRunToTheirEnds, EndSteps, MakingsChain, MakingsRunToTheirEnds, MakingSteps, RowsChain, RowsRunToTheirEnds, RowSteps}
 use Rattle.papaya_histories.specs.InEvent.{here_of}
 use Rattle.papaya_legal.specs.CallEvents.{InCallEvent, IsLegalBut}
 use Rattle.papaya_legal.specs.MapEvents.{InEndEvent, InMakingEvent}
 use Rattle.papaya_legal.specs.SlotEvents.{InSlotEvent}
 use Rattle.papaya_legal.proofs.Calls.{call_events_go_on_so}
 use Rattle.papaya_legal.proofs.Maps.{end_events_go_on_so, making_events_go_on_so}
+use Rattle.papaya_histories.specs.Given.Schedules.declared.event.Event.TheVariants.{EndMap, MakeMap}
+use Rattle.papaya_histories.specs.Given.Schedules.declared.outcome.Outcome.TheVariants.{Done}
+use Rattle.papaya_histories.specs.Given.Schedules.Beginning.{with_map}
+use Rattle.papaya_histories.specs.Given.Schedules.Entry.{Entry}
+use Rattle.papaya_histories.specs.Given.Schedules.Model.{IsByModel}
+use Rattle.papaya_models.proofs.MapEvents.{moments_note_once}
+use Rattle.papaya_legal.proofs.MapsEnd.{map_events_are_legal}
+use Rattle.papaya_legal.proofs.MapsOver.{end_events_begin_so, end_events_end_so, end_events_follow, making_events_begin_so, making_events_end_so, making_events_follow}
 use Rattle.papaya_legal.proofs.Slots.{slot_events_begin_so, slot_events_go_on_so}
 use Rattle.papaya_legal.proofs.SlotsAfter.{slot_events_end_so}
 use Rattle.papaya_legal.proofs.SlotsEnd.{slot_events_are_legal}
@@ -81,7 +89,7 @@ module _ (K V S : Type 0) (same : K → K → Bool) (hash : K → ℕ) where
           let here = here_of same name log beginning map i c x.come.did x.come.now x.come.notes x.come.scene x.under midst.event_so in
           subst Midst (sym (step.comes here))
           (call_events_go_on_so K V S same hash name terms log event beginning map i c x.steps x.come.did x.come.now x.come.notes x.come.scene x.under midst x.come.executor y.come.executor step.is_at
-          step.size step.said step.leads step.pairs step.none (step.noted here) y.under (step.goes_on here))
+          step.size step.said step.leads step.none (step.noted here) y.under (step.goes_on here))
 
   pub rows_run_to_their_ends : RowsRunToTheirEnds K V S same hash
   rows_run_to_their_ends name terms log known s old new at size small run e on i called may leads spares before n to chain did rests ends busy allowed finds is_row right reclaims =
@@ -94,3 +102,42 @@ module _ (K V S : Type 0) (same : K → K → Bool) (hash : K → ℕ) where
       legal : IsLegalBut same terms log e × SectionsHold (moment (e ∷ log)) to.notes to.scene.world
           × ((moment (e ∷ log)).is_alone ≡ true → FollowsModel terms.batch_size terms.roots (e ∷ log) to.notes to.scene.world)
       legal = slot_events_are_legal K V same name terms log i called known s.world to.now to.notes to.scene e midst allowed finds small rests ends busy is_row
+
+  pub makings_run_to_their_ends : MakingsRunToTheirEnds K V S same hash
+  makings_run_to_their_ends name terms log known s old new at run own mode capacity there number i b idle map_is not_made before at2 n to chain steps effects did begins acted allowed finds whole right = (
+    legal.0,
+    making_events_end_so K V same name terms log b.map (with_map there (moment log)) to.now known to.notes s to.scene own mode capacity Done steps effects midst.0 begins acted run right legal.0.life
+        legal.1 by_model.1,
+  )
+    where
+      e : Entry K V
+      e = record { event = MakeMap own mode capacity; outcome = Done; steps = steps; effects = effects }
+
+      midst : InMakingEvent same name terms log (MakeMap own mode capacity) b.map (with_map there (moment log)) effects to.now to.notes to.scene
+      midst = subst (λ (fs : List Effect). InMakingEvent same name terms log (MakeMap own mode capacity) b.map (with_map there (moment log)) fs to.now to.notes to.scene) did
+          (makings_chain name terms log (MakeMap own mode capacity) i b.map (with_map there (moment log)) n _ to chain
+          (making_events_begin_so K V S same hash name terms log known s old new at run own mode capacity there number i b idle map_is not_made before at2))
+
+      by_model : IsByModel terms log e × ((moment (e ∷ log)).is_alone ≡ true → FollowsModel terms.batch_size terms.roots (e ∷ log) to.notes to.scene.world)
+      by_model = making_events_follow K V same name terms log b.map (with_map there (moment log)) to.now to.notes to.scene e midst refl
+
+      legal : IsLegalBut same terms log e × SectionsHold (moment (e ∷ log)) to.notes to.scene.world
+      legal = map_events_are_legal K V same name terms log b.map (with_map there (moment log)) to.now to.notes to.scene e midst.0 allowed finds refl begins acted whole by_model.0
+
+  pub ends_run_to_their_ends : EndsRunToTheirEnds K V S same hash
+  ends_run_to_their_ends name terms log known s old new at run small own map i standing there idle at2 before n to chain at_end steps effects did number over apart allowed finds whole right =
+      (legal.0, end_events_end_so K V S same hash name terms log map to.now known to.notes s to.scene to.executor at_end own steps effects midst.0 number apart run right legal.0.life legal.1 by_model.1)
+    where
+      e : Entry K V
+      e = record { event = EndMap own; outcome = Done; steps = steps; effects = effects }
+
+      midst : InEndEvent same name terms log (EndMap own) map (moment log) known i effects to.now to.notes to.scene
+      midst = subst (λ (fs : List Effect). InEndEvent same name terms log (EndMap own) map (moment log) known i fs to.now to.notes to.scene) did
+          (ends_chain name terms log (EndMap own) i map (moment log) known n _ to chain
+          (end_events_begin_so K V S same hash name terms log known s old new at run small own map i standing there idle at2 before))
+
+      by_model : IsByModel terms log e × ((moment (e ∷ log)).is_alone ≡ true → FollowsModel terms.batch_size terms.roots (e ∷ log) to.notes to.scene.world)
+      by_model = end_events_follow K V same name terms log map (moment log) to.now known to.notes i to.scene e midst small (moments_note_once K V same name (moment log) known s run.calls.whole) over refl
+
+      legal : IsLegalBut same terms log e × SectionsHold (moment (e ∷ log)) to.notes to.scene.world
+      legal = map_events_are_legal K V same name terms log map (moment log) to.now to.notes to.scene e midst.0 allowed finds refl refl number whole by_model.0

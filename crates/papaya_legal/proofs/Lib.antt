@@ -3,6 +3,7 @@ pub mod Begin
 pub mod Uncounted
 pub mod Between
 pub mod CallChanges
+pub mod CallPairs
 pub mod CallReads
 pub mod Calls
 pub mod CallBegins
@@ -13,6 +14,8 @@ pub mod SlotsEnd
 pub mod Maps
 pub mod MapsEnd
 pub mod CallsAfter
+pub mod CallFinds
+pub mod CallLeaves
 pub mod CallRuns
 pub mod SlotsAfter
 pub mod Over

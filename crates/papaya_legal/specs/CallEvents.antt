@@ -24,7 +24,8 @@ use Rattle.papaya_histories.specs.Given.Schedules.Steps.{ReadsBriefly}
 use Rattle.papaya_histories.specs.Given.Schedules.Effects.{worked}
 use Rattle.papaya_histories.specs.Given.Schedules.Sweeps.{IsSwept}
 use Rattle.papaya_histories.specs.Given.Schedules.Terms.{Terms}
-use Rattle.papaya_histories.specs.Given.Schedules.Views.{call_of}
+use Rattle.papaya_histories.specs.Given.Runs.Log.{pair_at}
+use Rattle.papaya_histories.specs.Given.Schedules.Views.{call_of, finite_map, is_in_map}
 use Rattle.papaya_histories.specs.Given.Sweeps.SweepPoints.{after_next}
 use Rattle.papaya_histories.specs.Given.Callers.OverAll.{CallOverAll, gone_on}
 use Rattle.papaya_histories.specs.Given.Callers.Together.{UnderWay, OverAll, HandsOver}
@@ -42,7 +43,7 @@ use Rattle.papaya_promises.specs.Protected.{InMidst}
 use Rattle.papaya_promises.specs.Reading.{ShowsReading, looks}
 use Rattle.papaya_promises.specs.Weights.{AreDoneBy}
 use Rattle.papaya_histories.specs.Kept.{HasJustBegun}
-use Rattle.papaya_purposes.specs.Kept.{PairsChangeFirst, ShowsNone}
+use Rattle.papaya_purposes.specs.Kept.{ShowsNone}
 use Rattle.papaya_purposes.specs.Shards.{NoneCounted as NoneAdded}
 use Rattle.papaya_shards.specs.ShardSteps.{AddsUp}
 use Rattle.papaya_models.specs.CallEvents.{FollowsInEvent, IsNoted, things_then, slot_of_call}
@@ -57,6 +58,10 @@ use Rattle.papaya_purposes.specs.Purposes.{ShowsPurposes}
 use Rattle.papaya_legal.specs.Between.{IsBegunRight}
 use Rattle.papaya_legal.specs.Carried.{ComesAlone, FollowsOrRows, ShowsCalls, ShowsRun}
 
+-- each pair that is in this map is the one of its class there
+abbrev pub EachIsItsOwn : {K V : Type 0} → (K → K → Bool) → ℕ → Moment K V → Type 0
+EachIsItsOwn {K} {V} same map m = (q : ℕ) → is_in_map map (m.place q) ≡ true → (p : K × V) × (pair_at m.stored q ≡ Some p) × (finite_map same map m p.0 ≡ Some q)
+
 module _ {K V : Type 0} (same : K → K → Bool) (name : ℕ → List ℕ) (terms : Terms) (log : List (Entry K V)) (event : Event K V) (beginning : Moment K V) (map i : ℕ) (c : CallThere K V) where
   -- In the midst of an event of the call of caller i, which has made so many steps, and done this, since the moment at which it has begun what it begins.
   pub record InCallEvent (steps : ℕ) (done : List Effect) (m : Moment K V) (known : Known) (s : Scene K V) (u : UnderWay K V K) : Type 0 where
@@ -68,6 +73,8 @@ module _ {K V : Type 0} (same : K → K → Bool) (name : ℕ → List ℕ) (ter
     pub few : AreDoneBy steps done
     pub granted : is_granted false done ≡ true
     pub reading : ShowsReading name log (λ j. if j == i then steps else 0) m s
+    -- each pair that was in its map as the last event ended was the one of its class
+    pub its_own : EachIsItsOwn same map (moment log)
     -- where it adds shards up, none was counted on
     pub unadded : AddsUp u → NoneAdded log m map
     -- one that only looks has done nothing
@@ -121,7 +128,7 @@ module _ (K V S : Type 0) (same : K → K → Bool) (hash : K → ℕ) where
       → (ComesAlone (Next (name i)) log → (j : ℕ) → s.world.row j ≢ Rests → j ≡ i)
       → InCallEvent same name terms log (Next (name i)) (moment log) map i c 0 [] (moment log) known (scene_with map i (leads map (OverAll o) here).0 s) (leads map (OverAll o) here).0
 
-  -- after each step of it, where it goes on: no pair comes or goes twice, no pair of a walk is shown, and what a row hands
+  -- after each step of it, where it goes on: no pair of a walk is shown, and what a row hands
   -- over that begins with the step is noted;
   abbrev pub CallEventsGoOn : Type 0
   CallEventsGoOn =
@@ -132,7 +139,7 @@ module _ (K V S : Type 0) (same : K → K → Bool) (hash : K → ℕ) where
       let v = with_effects (Some (name i)) (Some map) effects m in
       let to = leads map u (here_of same name log beginning map i c done m known s u midst.event_so) in
       let s2 = scene_after same hash s old new map i to.0 u to.1 said to.4 in
-      PairsChangeFirst log m map v → ShowsNone said
+      ShowsNone said
       → ((request : Request) (begun : World (Node K V)) → HandsOver to.0.setting i s.world request → Happens deferred_word old.batch_size (Begin i request) s.world begun
       → Happens deferred_word old.batch_size (Step i) begun to.4.w2 → IsNoted (things_then (things_in log) done) known (slot_of i) request)
       → (next : UnderWay K V K) → to.4.next ≡ Some next

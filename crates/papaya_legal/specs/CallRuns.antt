@@ -19,7 +19,8 @@ use Rattle.papaya_histories.specs.Given.Schedules.InTurn.{ComesRight}
 use Rattle.papaya_histories.specs.Given.Schedules.Model.{sets_in, things_in}
 use Rattle.papaya_histories.specs.Given.Schedules.Moment.{UnderWay as CallThere, Moment}
 use Rattle.papaya_histories.specs.Given.Schedules.Sweeps.{IsSwept}
-use Rattle.papaya_histories.specs.Given.Schedules.Terms.{Terms}
+use Rattle.papaya_histories.specs.Given.Runs.Present.{slot_of_guard}
+use Rattle.papaya_histories.specs.Given.Schedules.Terms.{Terms, shards_of}
 use Rattle.papaya_histories.specs.Given.Schedules.Views.{call_of}
 use Rattle.papaya_histories.specs.Given.Callers.Together.{UnderWay, HandsOver}
 use Rattle.papaya_histories.specs.Given.Effects.Effects.{effects_of, known_after}
@@ -28,12 +29,15 @@ use Rattle.papaya_histories.specs.Given.Effects.declared.acting.Acting.TheVarian
 use Rattle.papaya_histories.specs.Given.Executor.IsAt.{Scene, IsAt, slot_of}
 use Rattle.papaya_histories.specs.Given.Executor.Stepping.{StepLeads, has_ended, scene_after}
 use Rattle.papaya_histories.specs.Given.Executor.declared.executor.Executor.{Executor}
+use Rattle.papaya_histories.specs.Given.SeizeWords.declared.fault.Fault.TheVariants.{Memory}
+use Rattle.papaya_histories.specs.Given.Moments.Whole.{ShowsWhole}
+use Rattle.papaya_kept.specs.Kept.{ShowsKept}
 use Rattle.papaya_histories.specs.Answers.{NamesPair}
 use Rattle.papaya_histories.specs.InEvent.{ComesSo, here_of}
-use Rattle.papaya_purposes.specs.Kept.{PairsChangeFirst, ShowsNone, TellsNone}
+use Rattle.papaya_purposes.specs.Kept.{ShowsNone, TellsNone}
 use Rattle.papaya_models.specs.CallEvents.{IsNoted, slot_of_call, things_then}
 use Rattle.papaya_finds.specs.Doing.{takes_steps}
-use Rattle.papaya_finds.specs.Parts.{FindAll}
+use Rattle.papaya_finds.specs.Parts.{FindAll, FindRest}
 use Rattle.papaya_legal.specs.CallEvents.{InCallEvent, IsLegalBut}
 use Rattle.papaya_legal.specs.Carried.{ComesAlone, ShowsRun}
 
@@ -42,9 +46,33 @@ abbrev pub ShowsAsTold : {K V : Type 0} → Known → Progress (Node K V) → Ou
 ShowsAsTold known said told =
     (ShowsNone said × TellsNone told) ⊎ ((word q : ℕ) × (said ≡ progress.Pair word) × (told ≡ outcome.Shows q) × NamesPair known word q)
 
+-- the outcome ends the call just where the step says so, is ready only where that is, and is a refusal for want of memory where the step was
+pub record TellsEnd {K V : Type 0} (said : Progress (Node K V)) (told : Outcome V) : Type 0 where
+  pub ends : ends_call told ≡ has_ended said
+  pub ready : told ≡ outcome.Ready → said ≡ progress.Ready
+  pub memory : said ≡ progress.Refused Memory → told ≡ outcome.Refused Memory
+
 module _ (K V S : Type 0) (same : K → K → Bool) (hash : K → ℕ) where
-  -- The promise: so it is of an event that has come to its last step, and comes to what is right, and to what that says, if no pair comes and goes twice by the step, if its effects find what they
-  -- must, if it does what it is for, is refused no growth that it made, and leaves nothing behind; if what a row hands over that begins with the step is noted, and its slot is active.
+  -- The promises: a call that has ended with its last step, or is ready, leaves nothing behind: neither what it made, nor what it owes, nor what it has to count.
+  abbrev pub CallsLeaveNothing : Type 0
+  CallsLeaveNothing =
+      (name : ℕ → List ℕ) (log : List (Entry K V)) (m : Moment K V) (known : Known) (s : Scene K V) (old new : Executor K V S) → IsAt same hash old s → ShowsWhole same name m known s
+      → ShowsKept name m known s → (map i : ℕ) (u : UnderWay K V K) → s.calls map i ≡ Some u → (said : Progress (Node K V)) → StepLeads same hash i said s old new
+      → (e : Entry K V) → caller_of e.event ≡ Some (name i) → worked e (moment log) ≡ with_effects (Some (name i)) (Some map) (effects_of (acts.Call i map) known new.memory.changed) m
+      → TellsEnd said e.outcome → IfCall (LeavesOf (comes_clear e.outcome) e.outcome) (acting (caller_of e.event) (worked e (moment log)))
+
+  -- What the effects of a step of a call must find they find, but for what is left: why a block is asked for, which shape follows, where a pair may wait, and that a pair that is retired is past; if the
+  -- map has as many shards as the terms say, and the guard of the call is on the slot of its caller.
+  abbrev pub StepsFindAll : Type 0
+  StepsFindAll =
+      (name : ℕ → List ℕ) (m : Moment K V) (known : Known) (s : Scene K V) (old new : Executor K V S) → IsAt same hash old s → ShowsWhole same name m known s → ShowsKept name m known s
+      → (map i : ℕ) (u : UnderWay K V K) (here : s.calls map i ≡ Some u) (said : Progress (Node K V)) (leads : StepLeads same hash i said s old new)
+      → (terms : Terms) → (leads map u here).0.setting.mask + 1 ≡ shards_of terms → (c : CallThere K V) → call_of (name i) m ≡ Some c → slot_of_guard c.guard m.there ≡ slot_of i
+      → (moments : List (Moment K V)) → FindRest terms moments (name i) map (effects_of (acts.Call i map) known new.memory.changed) m
+      → FindAll terms moments (name i) map (effects_of (acts.Call i map) known new.memory.changed) m
+
+  -- So it is of an event that has come to its last step, and comes to what is right, and to what that says, if its effects find what they
+  -- must, if it does what it is for, and is refused no growth that it made; if what a row hands over that begins with the step is noted, and its slot is active.
   abbrev pub CallEventsRun : Type 0
   CallEventsRun =
       (name : ℕ → List ℕ) (terms : Terms) (log : List (Entry K V)) (beginning : Moment K V) (map i : ℕ) (c : CallThere K V) → call_of (name i) beginning ≡ Some c
@@ -54,12 +82,10 @@ module _ (K V S : Type 0) (same : K → K → Bool) (hash : K → ℕ) where
       → (old new : Executor K V S) → IsAt same hash old s → old.batch_size ≡ terms.batch_size → (said : Progress (Node K V)) (leads : StepLeads same hash i said s old new)
       → at_work e (moment log) ≡ beginning → acted_on e.event beginning ≡ Some map → e.effects ≡ done ++ effects_of (acts.Call i map) known new.memory.changed → e.steps ≡ steps + 1
       → (let known2 = known_after (acts.Call i map) new.memory.changed known in
-      let v = with_effects (Some (name i)) (Some map) (effects_of (acts.Call i map) known new.memory.changed) m in
       let to = leads map u (here_of same name log beginning map i c done m known s u midst.event_so) in
-      ComesSo known2 c.call c.replies said e.outcome → ends_call e.outcome ≡ has_ended said → ShowsAsTold known2 said e.outcome
-      → (takes_steps e.event ≡ true) ⊎ (e.effects ≡ []) → is_busy e.outcome ≡ false → ComesRight terms log e → PairsChangeFirst log m map v
+      ComesSo known2 c.call c.replies said e.outcome → TellsEnd said e.outcome → ShowsAsTold known2 said e.outcome
+      → (takes_steps e.event ≡ true) ⊎ (e.effects ≡ []) → is_busy e.outcome ≡ false → ComesRight terms log e
       → FindAll terms (moments_from c.begun log) (name i) map e.effects beginning → IsSwept same terms log e → (not (refuses e.event) || not (list_any is_made e.effects)) ≡ true
-      → IfCall (LeavesOf (comes_clear e.outcome) e.outcome) (acting (caller_of e.event) (worked e (moment log)))
       → ((request : Request) (begun : World (Node K V)) → HandsOver to.0.setting i s.world request → Happens deferred_word old.batch_size (Begin i request) s.world begun
       → Happens deferred_word old.batch_size (Step i) begun to.4.w2 → IsNoted (things_then (things_in log) done) known (slot_of i) request)
       → slot_of_call e.event (at_work e (moment log)) ≡ slot_of i → (ComesAlone e.event log → 1 ≤ count (slot_of i) (sets_in terms.batch_size log).active)

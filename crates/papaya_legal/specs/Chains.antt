@@ -37,7 +37,7 @@ use Rattle.papaya_histories.specs.Given.Schedules.Moment.{UnderWay as CallThere}
 use Rattle.papaya_histories.specs.Given.Callers.Together.{UnderWay, HandsOver}
 use Rattle.papaya_histories.specs.Given.Executor.IsAt.{slot_of}
 use Rattle.papaya_histories.specs.Given.Executor.Stepping.{StepLeads, scene_after}
-use Rattle.papaya_purposes.specs.Kept.{PairsChangeFirst, ShowsNone}
+use Rattle.papaya_purposes.specs.Kept.{ShowsNone}
 use Rattle.papaya_models.specs.CallEvents.{IsNoted, things_then}
 use Rattle.papaya_legal.specs.CallEvents.{InCallEvent}
 use Rattle.papaya_legal.specs.MapEvents.{InEndEvent, InMakingEvent}
@@ -57,6 +57,19 @@ use Rattle.papaya_models.specs.OnSlots.{IsRowFor}
 use Rattle.papaya_finds.specs.Little.{ReclaimsAll}
 use Rattle.papaya_legal.specs.CallEvents.{IsLegalBut}
 use Rattle.papaya_legal.specs.Carried.{ComesAlone, ShowsRun}
+use Rattle.papaya_histories.specs.Given.Seize.World.{with_at}
+use Rattle.papaya_histories.specs.Given.Runs.Same.{is_same}
+use Rattle.papaya_histories.specs.Given.Tables.declared.resize_mode.ResizeMode.{ResizeMode}
+use Rattle.papaya_histories.specs.Given.Schedules.declared.event.Event.TheVariants.{EndMap, MakeMap}
+use Rattle.papaya_histories.specs.Given.Schedules.declared.outcome.Outcome.TheVariants.{Done}
+use Rattle.papaya_histories.specs.Given.Schedules.Beginning.{with_map}
+use Rattle.papaya_histories.specs.Given.Schedules.Effects.{worked}
+use Rattle.papaya_histories.specs.Given.Schedules.Handing.{IsWhole}
+use Rattle.papaya_histories.specs.Given.Schedules.Moment.{MapThere}
+use Rattle.papaya_histories.specs.Given.Schedules.Views.{map_at, number_of}
+use Rattle.papaya_histories.specs.Given.Executor.Ending.{ending_begun}
+use Rattle.papaya_histories.specs.Given.Finishes.Makings.{HasMade}
+use Rattle.papaya_histories.specs.Given.Finishes.Maps.{Standing}
 use Rattle.papaya_legal.specs.SlotEvents.{InSlotEvent}
 
 -- How far an event has come: with which executor, what it has done, the moment after that, what is known then, and the scene in which the executor is.
@@ -135,15 +148,13 @@ module _ {K V S : Type 0} (same : K → K → Bool) (hash : K → ℕ) (terms : 
     }
 
 module _ {K V S : Type 0} (same : K → K → Bool) (hash : K → ℕ) (name : ℕ → List ℕ) (terms : Terms) (log : List (Entry K V)) (map i : ℕ) where
-  -- A step of the call of caller i on its map, by which the call goes on: no pair comes or goes twice, no pair of a walk is shown, and what a row hands over
+  -- A step of the call of caller i on its map, by which the call goes on: no pair of a walk is shown, and what a row hands over
   -- that begins with the step is noted.
   pub record CallSteps (from to : CallCome K V S) : Type 0 where
     pub is_at : IsAt same hash from.come.executor from.come.scene
     pub size : from.come.executor.batch_size ≡ terms.batch_size
     pub said : CallTold (Node K V)
     pub leads : StepLeads same hash i said from.come.scene from.come.executor to.come.executor
-    pub pairs : PairsChangeFirst log from.come.now map
-        (with_effects (Some (name i)) (Some map) (effects_of (acts.Call i map) from.come.notes to.come.executor.memory.changed) from.come.now)
     pub none : ShowsNone said
     pub noted : (here : from.come.scene.calls map i ≡ Some from.under) (request : Request) (begun : World (Node K V))
         → HandsOver (leads map from.under here).0.setting i from.come.scene.world request
@@ -212,3 +223,36 @@ module _ (K V S : Type 0) (same : K → K → Bool) (hash : K → ℕ) where
       → list_all (may_do e.event (moment log)) e.effects ≡ true → AtEachEffect (Finds terms None None (gives_all e.event) []) None None e.effects (moment log)
       → (ComesAlone e.event log → IsRowFor (request_of (slot_of i) called) s.world.uses to.scene.world.uses e.event e.outcome (at_work e (moment log)))
       → ComesRight terms log e → ReclaimsAll log e → IsLegalBut same terms log e × ShowsRun same name terms (e ∷ log) to.notes to.scene
+
+  -- So it is of an event that makes a map, whose making has come to its end, if what it did it may do, and finds what it must, and if it is whole;
+  abbrev pub MakingsRunToTheirEnds : Type 0
+  MakingsRunToTheirEnds =
+      (name : ℕ → List ℕ) (terms : Terms) (log : List (Entry K V)) (known : Known) (s : Scene K V) (old new : Executor K V S) → IsAt same hash old s → ShowsRun same name terms log known s
+      → (own : List ℕ) (mode : ResizeMode) (capacity : ℕ) (there : MapThere) → there.number ≡ (moment log).made → (i : ℕ) (b : Beginning K) → s.makers i ≡ None → b.map ≡ there.number
+      → (HasMade b.machine.stands → ⊥) → (ComesAlone (MakeMap own mode capacity) log → FollowsModel terms.batch_size terms.roots log known s.world)
+      → IsAt same hash new (record s { makers = with_at s.makers i (Some b) }) → (n : ℕ) (to : Come K V S)
+      → Chain (MakingSteps same hash terms i b.map) n (record {
+        executor = new;
+        did = [];
+        now = with_map there (moment log);
+        notes = known;
+        scene = record s { makers = with_at s.makers i (Some b) };
+      }) to
+      → (steps : ℕ) (effects : List Effect) → to.did ≡ effects
+      → (let e : Entry K V = record { event = MakeMap own mode capacity; outcome = Done; steps = steps; effects = effects } in
+      at_work e (moment log) ≡ with_map there (moment log) → number_of own (with_map there (moment log)) ≡ Some b.map → list_all (may_do e.event (moment log)) effects ≡ true
+      → AtEachEffect (Finds terms None (Some b.map) false []) None (Some b.map) effects (with_map there (moment log))
+      → IsWhole e.event e.outcome effects (moment log) (worked e (moment log)) → ComesRight terms log e → IsLegalBut same terms log e × ShowsRun same name terms (e ∷ log) to.notes to.scene)
+
+  -- and of one that ends a map, whose end is over, if no map that stands then has its name.
+  abbrev pub EndsRunToTheirEnds : Type 0
+  EndsRunToTheirEnds =
+      (name : ℕ → List ℕ) (terms : Terms) (log : List (Entry K V)) (known : Known) (s : Scene K V) (old new : Executor K V S) → IsAt same hash old s → ShowsRun same name terms log known s
+      → terms.batch_size < 2 ^ 64 → (own : List ℕ) (map i : ℕ) (standing : Standing K) → s.maps map ≡ Some standing → s.enders i ≡ None → IsAt same hash new (ending_begun map i standing s)
+      → (ComesAlone (EndMap own) log → FollowsModel terms.batch_size terms.roots log known s.world) → (n : ℕ) (to : Come K V S)
+      → Chain (EndSteps same hash terms i map) n (record { executor = new; did = []; now = moment log; notes = known; scene = ending_begun map i standing s }) to → IsAt same hash to.executor to.scene
+      → (steps : ℕ) (effects : List Effect) → to.did ≡ effects → number_of own (moment log) ≡ Some map → to.scene.enders i ≡ None
+      → ((k : ℕ) (st : Standing K) (there : MapThere) → to.scene.maps k ≡ Some st → map_at k to.now ≡ Some there → is_same there.name own ≡ false)
+      → (let e : Entry K V = record { event = EndMap own; outcome = Done; steps = steps; effects = effects } in
+      list_all (may_do e.event (moment log)) effects ≡ true → AtEachEffect (Finds terms None (Some map) false []) None (Some map) effects (moment log)
+      → IsWhole e.event e.outcome effects (moment log) (worked e (moment log)) → ComesRight terms log e → IsLegalBut same terms log e × ShowsRun same name terms (e ∷ log) to.notes to.scene)

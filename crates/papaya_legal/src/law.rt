@@ -3,11 +3,11 @@ ghost use Rattle.std.specs.Prelude.{ℕ, Bool};
 ghost use Rattle.papaya_legal.specs.Between.{CallsBegin, CallsTake, EndsBegin, LikesShow, LogsGrow, MakingsBegin, MapsCome, MapsGo, NamesChange, WalksGoOn, WalksStop};
 ghost use Rattle.papaya_legal.specs.Carried.{RunsBegin};
 ghost use Rattle.papaya_legal.specs.CallEvents.{CallEventsAreLegal, CallEventsBegin, CallEventsEnd, CallEventsFollow, CallEventsGoOn, NextsBegin, WholeCallsBegin};
-ghost use Rattle.papaya_legal.specs.CallRuns.{CallEventsRun};
+ghost use Rattle.papaya_legal.specs.CallRuns.{CallEventsRun, CallsLeaveNothing, StepsFindAll};
 ghost use Rattle.papaya_legal.specs.SlotEvents.{SlotEventsBegin, SlotEventsGoOn, SlotEventsAreLegal, SlotEventsEnd};
 ghost use Rattle.papaya_legal.specs.MapEvents.{MakingEventsGoOn, EndEventsGoOn, MapEventsAreLegal, IdleEventsAreLegal};
 ghost use Rattle.papaya_legal.specs.Over.{BegunEventsEnd, EndEventsBegin, EndEventsEnd, EndEventsFollow, IdleEventsEnd, MakingEventsBegin, MakingEventsEnd, MakingEventsFollow, QuietEventsEnd, RunsByOtherNames, RunsGoOn, StoppedEventsEnd, ToldEventsEnd};
-ghost use Rattle.papaya_legal.specs.Chains.{CallsChain, EndsChain, MakingsChain, RowsChain, RowsRunToTheirEnds};
+ghost use Rattle.papaya_legal.specs.Chains.{CallsChain, EndsChain, MakingsChain, RowsChain, RowsRunToTheirEnds, MakingsRunToTheirEnds, EndsRunToTheirEnds};
 ghost use Rattle.papaya_legal.specs.Promises.{EventsAreLegal};
 
 /// Before all events a moment shows all by which the first event keeps its promises. A run goes on with an event that comes to what is right, whose life is as it must be, whose effects store
@@ -36,10 +36,12 @@ pub fn calls_stay<K, V, S>()
 {}
 
 /// Where an event has begun what it begins, and a call goes on by it, it is in the midst of it, and has done nothing yet: a call that is under way, one that the event begins, or a walk that it asks
-/// for its next pair. So it is after each step by which the call goes on: if no pair comes or goes twice, and a row that begins hands over what is noted.
+/// for its next pair. So it is after each step by which the call goes on: if a row that begins hands over what is noted.
 /// With its last step the event keeps its promises, if its effects find what they must, if it made no more steps than these, does what it is for, is refused no growth that it made, leaves nothing behind, and is by the model; which it is if what
 /// a row hands over that begins with the last step is noted, and its slot is active.
 /// The moment after it shows all that the next event needs, if it shows what calls are for and have read once the call has come to its outcome, and the sets are as they must be.
+/// What the effects of a step must find they find, but for why a block is asked for, which shape follows, where a pair may wait, and that a pair that is retired is past.
+/// A call that has ended with the last step, or is ready, leaves nothing behind.
 /// So an event that comes to what is right is legal but for that, and a run goes on with it: clause `runs` has what is left of all this to be asked.
 pub fn call_events<K, V, S>()
     ensures begins { (same : K → K → Bool) (hash : K → ℕ) → CallEventsBegin K V S same hash }
@@ -49,6 +51,8 @@ pub fn call_events<K, V, S>()
     ensures legal { (same : K → K → Bool) (hash : K → ℕ) → CallEventsAreLegal K V S same hash }
     ensures follows { (same : K → K → Bool) (hash : K → ℕ) → CallEventsFollow K V S same hash }
     ensures ends { (same : K → K → Bool) (hash : K → ℕ) → CallEventsEnd K V S same hash }
+    ensures finds { (same : K → K → Bool) (hash : K → ℕ) → StepsFindAll K V S same hash }
+    ensures leaves { (same : K → K → Bool) (hash : K → ℕ) → CallsLeaveNothing K V S same hash }
     ensures runs { (same : K → K → Bool) (hash : K → ℕ) → CallEventsRun K V S same hash }
 {}
 
@@ -90,12 +94,15 @@ pub fn idle_events<K, V, S>()
 
 /// An event whose work is a row on a slot, the making or the end of a map, or a call that goes on, is in its midst wherever a chain of steps of that has led, from where it has begun. So an event whose
 /// row has begun, and has run to its end, is legal but for what it comes to, and a run goes on with it, if what it did it may do, and finds what it must, if it is that row to the waiting sets, was
-/// not kept out, leaves its guards within their sections, and all is back if it reclaims all.
+/// not kept out, leaves its guards within their sections, and all is back if it reclaims all. So it is of an event that has made a map, if it is whole, and of one that has ended one, if no map
+/// that stands then has its name.
 pub fn steps_chain<K, V, S>()
     ensures rows { (same : K → K → Bool) (hash : K → ℕ) → RowsChain K V S same hash }
     ensures makings { (same : K → K → Bool) (hash : K → ℕ) → MakingsChain K V S same hash }
     ensures ends { (same : K → K → Bool) (hash : K → ℕ) → EndsChain K V S same hash }
     ensures calls { (same : K → K → Bool) (hash : K → ℕ) → CallsChain K V S same hash }
+    ensures whole_makings { (same : K → K → Bool) (hash : K → ℕ) → MakingsRunToTheirEnds K V S same hash }
+    ensures whole_ends { (same : K → K → Bool) (hash : K → ℕ) → EndsRunToTheirEnds K V S same hash }
     ensures whole_rows { (same : K → K → Bool) (hash : K → ℕ) → RowsRunToTheirEnds K V S same hash }
 {}
 

@@ -1,6 +1,7 @@
 -- The parts are all that effects must find.
 use Rattle.papaya_finds.proofs.Joined.{parts_are_all, several_find_all, events_find_all, pairs_are_asked_for}
 use Rattle.papaya_finds.proofs.Quiet.{found_leave_nothing, others_owe_nothing, several_store_one, valued_may_ask}
+use Rattle.papaya_finds.proofs.Rest.{rest_is_all, others_hand_none}
 use Rattle.papaya_finds.proofs.law.parts_are_all.Goals as goal
 
 pub returns : goal.returns
@@ -13,4 +14,6 @@ returns c d = record {
   others = others_owe_nothing _ _;
   stores = several_store_one _ _;
   valued = valued_may_ask _ _;
+  left = rest_is_all _ _;
+  handed = others_hand_none _ _;
 }

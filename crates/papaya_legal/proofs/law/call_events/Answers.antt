@@ -1,6 +1,8 @@
 -- An event of a call is in its midst.
 use Rattle.papaya_legal.proofs.CallBegins.{nexts_begin, whole_calls_begin}
 use Rattle.papaya_legal.proofs.CallFollows.{call_events_follow}
+use Rattle.papaya_legal.proofs.CallFinds.{steps_find_all}
+use Rattle.papaya_legal.proofs.CallLeaves.{calls_leave_nothing}
 use Rattle.papaya_legal.proofs.CallRuns.{call_events_run}
 use Rattle.papaya_legal.proofs.Calls.{call_events_begin_so, call_events_go_on_so}
 use Rattle.papaya_legal.proofs.CallsAfter.{call_events_end_so}
@@ -16,5 +18,7 @@ returns c d = record {
   legal = call_events_are_legal _ _ _;
   follows = call_events_follow _ _ _;
   ends = call_events_end_so _ _ _;
+  finds = steps_find_all _ _ _;
+  leaves = calls_leave_nothing _ _ _;
   runs = call_events_run _ _ _;
 }

@@ -1,0 +1,135 @@
+-- A call that copies pairs may ask for each block that it makes, as its map has a second table.
+use Rattle.std.specs.Prelude.{◌≡◌, ℕ, Bool, List, ◌∷◌, Some}
+use Rattle.std.proofs.Common.{refl, sym, subst, ◌∙◌, inl, inr}
+use Rattle.papaya_tables.specs.declared.node.Node.{Node}
+use Rattle.papaya_raw.specs.Call.{call_plan}
+use Rattle.papaya_raw.specs.Machine.{called as of_key, swept as of_sweep}
+use Rattle.papaya_raw.specs.declared.machines.call.Calling.{Calling}
+use Rattle.papaya_raw.specs.declared.machines.call.Calling.TheVariants as calling
+use Rattle.papaya_raw.specs.declared.machines.progress.Progress.{Progress}
+use Rattle.papaya_resize.specs.declared.new_table.NewTable.{NewTable}
+use Rattle.papaya_sweeps.specs.Sweep.{sweep_plan}
+use Rattle.papaya_schedules.specs.declared.call.Call.{Call}
+use Rattle.papaya_schedules.specs.declared.call.Call.TheVariants as call
+use Rattle.papaya_schedules.specs.Growing.{HasNext, MayGrow}
+use Rattle.papaya_schedules.specs.Moment.{UnderWay as CallThere, Moment}
+use Rattle.papaya_schedules.specs.Terms.{Terms}
+use Rattle.papaya_schedules.specs.Views.{call_of}
+use Rattle.papaya_teller.specs.declared.changed.Changed.{Changed}
+use Rattle.papaya_points.specs.FactsCalls.{IsCopying}
+use Rattle.papaya_callers.specs.OverAll.{CallOverAll}
+use Rattle.papaya_callers.specs.Together.{CallOnKey, UnderWay, OnKey, ForRoom, Counting, OverAll}
+use Rattle.papaya_effects.specs.Known.{Known}
+use Rattle.papaya_executor.specs.IsAt.{Scene, IsAt}
+use Rattle.papaya_executor.specs.Stepping.{StepsFrom, StepLeads}
+use Rattle.papaya_executor.specs.declared.executor.Executor.{Executor}
+use Rattle.papaya_finishes.specs.Machines.{machine_of}
+use Rattle.papaya_follows.specs.Calls.{IsCalled}
+use Rattle.papaya_follows.proofs.Steps.{WentTo, went_to}
+use Rattle.papaya_moments.specs.Whole.{ShowsWhole}
+use Rattle.papaya_others.proofs.Outcomes.{told_in}
+use Rattle.papaya_owes.specs.Making.{making_in_calling, making_in_sweeping}
+use Rattle.papaya_owes.proofs.Walks.{IsToOwn, call_makes, sweep_makes}
+use Rattle.papaya_finds.specs.Nexts.{copier_in_calling, making_of_copier, RootHasLeft, MakesByCopier, CopiersMayAsk}
+use Rattle.papaya_finds.proofs.CopiersNext.{copiers_have_next}
+use Rattle.papaya_finds.proofs.GrowsAsked.{Asks, made_of, may_ask}
+
+-- a call that copies makes no block for a pair, and no table but its copier's
+
+copies_no_own : (q : Calling) → IsCopying q → IsToOwn q → ⊥
+copies_no_own (calling.Helps copier goal) copies own = own
+copies_no_own (calling.Copies copier) copies own = own
+copies_no_own _ copies own = copies
+
+call_of_copier : (q : Calling) → IsCopying q → copier_in_calling q ≡ making_in_calling q
+call_of_copier (calling.Helps copier goal) copies = refl
+call_of_copier (calling.Copies copier) copies = refl
+call_of_copier _ copies = absurd copies
+
+-- such a call makes no room
+abbrev IsNoReservation : {K V : Type 0} → Call K V → Type 0
+IsNoReservation (call.Reserve more) = ⊥
+IsNoReservation _ = Unit {0}
+
+module _ {K V : Type 0} (same : K → K → Bool) where
+  no_reservation : (u : UnderWay K V K) → MakesByCopier u → (its : Call K V) → IsCalled same u its → IsNoReservation its
+  no_reservation (OnKey x) copies (call.On one) is = tt
+  no_reservation (OnKey x) copies (call.Reserve more) is = absurd is
+  no_reservation (OnKey x) copies call.Clear is = tt
+  no_reservation (OnKey x) copies call.Retain is = tt
+  no_reservation (OnKey x) copies call.Len is = tt
+  no_reservation (OnKey x) copies call.Walk is = tt
+  no_reservation (OverAll o) copies (call.On one) is = tt
+  no_reservation (OverAll o) copies (call.Reserve more) is = absurd is
+  no_reservation (OverAll o) copies call.Clear is = tt
+  no_reservation (OverAll o) copies call.Retain is = tt
+  no_reservation (OverAll o) copies call.Len is = tt
+  no_reservation (OverAll o) copies call.Walk is = tt
+  no_reservation (ForRoom r) copies its is = absurd copies
+  no_reservation (Counting sum) copies its is = absurd copies
+
+next_grows : {K V : Type 0} (terms : Terms) (m : Moment K V) (moments : List (Moment K V)) (its : Call K V) (c : CallThere K V) → IsNoReservation its → HasNext c.map m → MayGrow terms its c (m ∷ moments)
+next_grows terms m moments (call.Reserve more) c none next = absurd none
+next_grows terms m moments (call.On one) c none next = inr (inl next)
+next_grows terms m moments call.Clear c none next = inr (inl next)
+next_grows terms m moments call.Retain c none next = inr (inl next)
+next_grows terms m moments call.Len c none next = inr (inl next)
+next_grows terms m moments call.Walk c none next = inr (inl next)
+
+module _ {K V S : Type 0} (same : K → K → Bool) (hash : K → ℕ) (name : ℕ → List ℕ) (m : Moment K V) (known : Known) (s : Scene K V) (old new : Executor K V S) (at : IsAt same hash old s)
+    (whole : ShowsWhole same name m known s) (map i : ℕ) (u : UnderWay K V K) (here : s.calls map i ≡ Some u) (said : Progress (Node K V)) (leads : StepLeads same hash i said s old new) where
+  abbrev to : WentTo same hash name m known s old new at whole.all.shown map i u here said leads
+  to = went_to same hash name m known s old new at whole.all.shown map i u here said leads
+
+  abbrev told : Changed
+  told = new.memory.changed
+
+  -- its copier has a table to make
+  abbrev HasMaking : UnderWay K V K → Type 0
+  HasMaking x = (n : NewTable) × (making_of_copier (machine_of x) ≡ Some n)
+
+  abbrev Stepped : UnderWay K V K → Type 0
+  Stepped x = StepsFrom same hash (machine_of x) old new to.1 said
+
+  key_making : (x : CallOnKey K V K) → IsCopying x.call.stands → Stepped (OnKey x) → Asks told → HasMaking (OnKey x)
+  key_making x copies steps asks =
+      let it = told_in old.memory.memory new.memory.memory told of_key (call_plan same same hash x.call) (to.1, said) steps in
+      elim (call_makes same same hash x.call) as (λ _. HasMaking (OnKey x)) [
+        | inl own ↦ absurd (copies_no_own x.call.stands copies own)
+        | inr so ↦
+            let n = made_of (making_in_calling x.call.stands) old.memory.memory new.memory.memory told (call_plan same same hash x.call) it.0 it.2 so asks in
+            (n.0, call_of_copier x.call.stands copies ∙ n.1)
+      ]
+
+  sweep_making : (o : CallOverAll) → Stepped (OverAll o) → Asks told → HasMaking (OverAll o)
+  sweep_making o steps asks =
+      let it = told_in old.memory.memory new.memory.memory told of_sweep (sweep_plan hash o.sweep) (to.1, said) steps in
+      made_of (making_in_sweeping o.sweep.stands) old.memory.memory new.memory.memory told (sweep_plan hash o.sweep) it.0 it.2 (sweep_makes K V hash o.sweep) asks
+
+  making_by : (x : UnderWay K V K) → MakesByCopier x → Stepped x → Asks told → HasMaking x
+  making_by (OnKey x) copies steps asks = key_making x copies steps asks
+  making_by (OverAll o) copies steps asks = sweep_making o steps asks
+  making_by (ForRoom r) copies steps asks = absurd copies
+  making_by (Counting sum) copies steps asks = absurd copies
+
+  module _ (copies : MakesByCopier u) (stays : RootHasLeft s map u → ⊥) (terms : Terms) (moments : List (Moment K V)) where
+    abbrev its_call : (c : CallThere K V) × (call_of (name i) m ≡ Some c) × (c.map ≡ map) × IsCalled same u c.call
+    its_call = whole.all.shown.calls map i u here
+
+    has_next : Asks told → HasNext map m
+    has_next asks =
+        let n = making_by u copies to.3 asks in
+        elim (copiers_have_next K V S same hash name m known s old at whole.all.shown map i u here n.0 n.1) as (λ _. HasNext map m) [
+          | inl next ↦ next
+          | inr left ↦ absurd (stays left)
+        ]
+
+    may_grow : Asks told → MayGrow terms its_call.0.call its_call.0 (m ∷ moments)
+    may_grow asks =
+        next_grows terms m moments its_call.0.call its_call.0 (no_reservation same u copies its_call.0.call its_call.3) (subst (λ (k : ℕ). HasNext k m) (sym its_call.2) (has_next asks))
+
+pub copiers_may_ask : (K V S : Type 0) (same : K → K → Bool) (hash : K → ℕ) → CopiersMayAsk K V S same hash
+copiers_may_ask K V S same hash name m known s old new at whole map i u here said leads copies stays terms moments =
+    let c = whole.all.shown.calls map i u here in
+    may_ask same hash name m known s old new at whole map i u here said leads terms moments c.0 c.1
+    (may_grow same hash name m known s old new at whole map i u here said leads copies stays terms moments)

@@ -1,0 +1,63 @@
+-- What is left of what effects of calls find is made up by three parts.
+use Rattle.std.specs.Prelude.{◌≡◌, ℕ, false, List, [], ◌∷◌, Option, Some, None}
+use Rattle.std.specs.List.{list_any}
+use Rattle.std.proofs.Common.{sym, subst}
+use Rattle.papaya_schedules.specs.declared.effect.Effect.{Effect}
+use Rattle.papaya_schedules.specs.declared.effect.Effect.TheVariants as effect
+use Rattle.papaya_schedules.specs.declared.effect.Growth.TheVariants.{ABlock, ABucket}
+use Rattle.papaya_schedules.specs.declared.effect.Thing.TheVariants.{APair, ATable}
+use Rattle.papaya_schedules.specs.Effects.{call_by, with_effect}
+use Rattle.papaya_schedules.specs.Entry.{ByCall, acting}
+use Rattle.papaya_schedules.specs.Moment.{UnderWay as CallThere, Moment}
+use Rattle.papaya_schedules.specs.Terms.{Terms}
+use Rattle.papaya_schedules.specs.Views.{call_of}
+use Rattle.papaya_owes.proofs.Fields.{its_effect}
+use Rattle.papaya_settles.specs.Owing.{hands_over}
+use Rattle.papaya_finds.specs.Growing.{FindsAsked, FindAsked}
+use Rattle.papaya_finds.specs.Linking.{FindsShape, FindShapes}
+use Rattle.papaya_finds.specs.Parts.{FindsRest, FindRest}
+use Rattle.papaya_finds.specs.Rest.{FindsHanded, FindHanded, RestIsAll, OthersHandNone}
+use Rattle.papaya_finds.proofs.Quiet.{neither}
+
+module _ {K V : Type 0} (terms : Terms) (moments : List (Moment K V)) where
+  -- by the kind of effect
+  by_kind : (m : Moment K V) (f : Effect) (c : CallThere K V) → FindsAsked terms moments m f c → FindsShape terms moments m f c → FindsHanded m f c → FindsRest terms moments m f c
+  by_kind m (effect.Asked ABlock) c asks shape handed = asks
+  by_kind m (effect.Asked ABucket) c asks shape handed = tt
+  by_kind m (effect.Linked t form) c asks shape handed = shape
+  by_kind m (effect.Deferred n t) c asks shape handed = handed
+  by_kind m (effect.Retired (APair n)) c asks shape handed = handed
+  by_kind m (effect.Retired (ATable t)) c asks shape handed = tt
+  by_kind m _ c asks shape handed = tt
+
+  by_call : (m : Moment K V) (f : Effect) (o : Option (CallThere K V)) → ByCall (FindsAsked terms moments m f) o → ByCall (FindsShape terms moments m f) o → ByCall (FindsHanded m f) o
+      → ByCall (FindsRest terms moments m f) o
+  by_call m f None asks shape handed = asks
+  by_call m f (Some c) asks shape handed = by_kind m f c asks shape handed
+
+  all_joined : (own : List ℕ) (map : ℕ) (effects : List Effect) (m : Moment K V) → FindAsked terms moments own map effects m → FindShapes terms moments own map effects m → FindHanded own map effects m
+      → FindRest terms moments own map effects m
+  all_joined own map [] m asks shape handed = tt
+  all_joined own map (f ∷ fs) m asks shape handed =
+      (by_call m f (acting (Some own) m) asks.0 shape.0 handed.0, all_joined own map fs (with_effect (Some own) (Some map) f m) asks.1 shape.1 handed.1)
+
+pub rest_is_all : (K V : Type 0) → RestIsAll K V
+rest_is_all K V terms moments own map effects m asks shape handed = all_joined terms moments own map effects m asks shape handed
+
+module _ {K V : Type 0} where
+  hands_none : (m : Moment K V) (f : Effect) (c : CallThere K V) → hands_over f ≡ false → FindsHanded m f c
+  hands_none m (effect.Deferred n t) c e = absurd (cc e)
+  hands_none m (effect.Retired (APair n)) c e = absurd (cc e)
+  hands_none m (effect.Retired (ATable t)) c e = tt
+  hands_none m _ c e = tt
+
+  all_none : (own : List ℕ) (map : ℕ) (effects : List Effect) (m : Moment K V) (c : CallThere K V) → call_of own m ≡ Some c → list_any hands_over effects ≡ false → FindHanded own map effects m
+  all_none own map [] m c c_is e = tt
+  all_none own map (f ∷ fs) m c c_is e =
+      let both = neither (hands_over f) (list_any hands_over fs) e in (
+        subst (ByCall (FindsHanded m f)) (sym c_is) (hands_none m f c both.0),
+        all_none own map fs (with_effect (Some own) (Some map) f m) (call_by m f c) (its_effect own map f m c c_is) both.1,
+      )
+
+pub others_hand_none : (K V : Type 0) → OthersHandNone K V
+others_hand_none K V own map effects m c c_is e = all_none own map effects m c c_is e

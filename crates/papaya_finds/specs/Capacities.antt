@@ -1,0 +1,75 @@
+-- Each map that stands was made for the capacity that the moment says: so it stays, whatever is done, once a map has come so.
+use Rattle.std.specs.Prelude.{◌≡◌, ℕ, Bool, List, max, Option, Some, None}
+use Rattle.seize.specs.declared.progress.Progress.{Progress as Making}
+use Rattle.papaya_tables.specs.declared.node.Node.{Node}
+use Rattle.papaya_tables.specs.declared.setting.Setting.{Setting}
+use Rattle.papaya_raw.specs.declared.machines.progress.Progress.{Progress}
+use Rattle.papaya_runs.specs.Runs.{map_fault}
+use Rattle.papaya_schedules.specs.declared.effect.Effect.{Effect}
+use Rattle.papaya_schedules.specs.Effects.{with_effects}
+use Rattle.papaya_schedules.specs.Moment.{MapThere, Moment, start}
+use Rattle.papaya_schedules.specs.Views.{map_at, capacity_or}
+use Rattle.papaya_callers.specs.Together.{UnderWay}
+use Rattle.papaya_calls.specs.Beginning.{first_places}
+use Rattle.papaya_effects.specs.Effects.{effects_of}
+use Rattle.papaya_effects.specs.Known.{Known}
+use Rattle.papaya_effects.specs.declared.acting.Acting.TheVariants as acts
+use Rattle.papaya_executor.specs.IsAt.{Scene, at_first}
+use Rattle.papaya_executor.specs.Making.{MakingLeads}
+use Rattle.papaya_executor.specs.Stepping.{StepLeads, scene_after}
+use Rattle.papaya_executor.specs.declared.executor.Executor.{Executor}
+use Rattle.papaya_finishes.specs.Makings.{Beginning}
+use Rattle.papaya_finishes.specs.Maps.{Standing, IsSameMap}
+use Rattle.papaya_others.specs.Makings.{making_after}
+use Rattle.papaya_finds.specs.Linking.{IsMadeFor}
+
+abbrev pub ShowsCapacities : {K V : Type 0} → Moment K V → Scene K V → Type 0
+ShowsCapacities {K} m s = (map : ℕ) (standing : Standing K) → s.maps map ≡ Some standing → IsMadeFor map m standing.setting
+
+-- each map that stands has the capacity at the other moment that it has at this one
+abbrev pub KeepsCapacities : {K V : Type 0} → Scene K V → Moment K V → Moment K V → Type 0
+KeepsCapacities {K} s m v = (map : ℕ) (standing : Standing K) → s.maps map ≡ Some standing → capacity_or (map_at map v) ≡ capacity_or (map_at map m)
+
+-- each map that stands then stood before, made for as many entries
+abbrev pub StoodSo : {K V : Type 0} → Scene K V → Scene K V → Type 0
+StoodSo {K} s t = (map : ℕ) (standing : Standing K) → t.maps map ≡ Some standing → (before : Standing K) × (s.maps map ≡ Some before) × (standing.setting.initial ≡ before.setting.initial)
+
+module _ (K V : Type 0) where
+  -- The promises: a setting with the places that a map is to have at first, where its mode and capacity have no fault, is one for its capacity.
+  abbrev pub GivenAreFor : Type 0
+  GivenAreFor =
+      (m : Moment K V) (map : ℕ) (f : MapThere) → map_at map m ≡ Some f → map_fault f.mode f.capacity ≡ None
+      → (given : Setting) → given.initial ≡ max (first_places f.capacity) 1 → IsMadeFor map m given
+
+  -- So it is as a run begins,
+  abbrev pub CapacitiesBegin : Type 0
+  CapacitiesBegin = (roots : ℕ) → ShowsCapacities {K = K} {V = V} start (at_first roots)
+
+  -- as long as maps stand that stood before, and have the capacities that they had, as where maps end, or come by other numbers, and where calls begin or are over;
+  abbrev pub CapacitiesStay : Type 0
+  CapacitiesStay = (m v : Moment K V) (s t : Scene K V) → ShowsCapacities m s → KeepsCapacities s m v → StoodSo s t → ShowsCapacities v t
+
+  -- effects leave capacities as they are, and what leaves maps the same, as a row on a slot, leaves them made as they were;
+  abbrev pub EffectsKeepCapacities : Type 0
+  EffectsKeepCapacities =
+      (caller : Option (List ℕ)) (acted : Option ℕ) (effects : List Effect) (m : Moment K V) (map : ℕ) → capacity_or (map_at map (with_effects caller acted effects m)) ≡ capacity_or (map_at map m)
+
+  abbrev pub SameMapsStood : Type 0
+  SameMapsStood = (s t : Scene K V) → ((n : ℕ) → IsSameMap (s.maps n) (t.maps n)) → StoodSo s t
+
+module _ (K V S : Type 0) (same : K → K → Bool) (hash : K → ℕ) where
+  -- after each step of a call,
+  abbrev pub CallsKeepCapacities : Type 0
+  CallsKeepCapacities =
+      (name : ℕ → List ℕ) (m : Moment K V) (known : Known) (s : Scene K V) (old new : Executor K V S) → ShowsCapacities m s
+      → (map i : ℕ) (u : UnderWay K V K) (here : s.calls map i ≡ Some u) (said : Progress (Node K V)) (leads : StepLeads same hash i said s old new)
+      → (let to = leads map u here in
+      ShowsCapacities (with_effects (Some (name i)) (Some map) (effects_of (acts.Call i map) known new.memory.changed) m) (scene_after same hash s old new map i to.0 u to.1 said to.4))
+
+  -- and of the making of a map that began with a setting for its capacity.
+  abbrev pub MakingsKeepCapacities : Type 0
+  MakingsKeepCapacities =
+      (m : Moment K V) (known : Known) (s : Scene K V) (old new : Executor K V S) → ShowsCapacities m s
+      → (i : ℕ) (told : Making Setting) (leads : MakingLeads same hash i told s old new) (b : Beginning K) (here : s.makers i ≡ Some b) (of : Option ℕ) → IsMadeFor b.map m b.given
+      → (let to = leads b here in
+      ShowsCapacities (with_effects None of (effects_of (acts.Making b.map) known new.memory.changed) m) (making_after same hash s old new i b to.0 to.2.step.w2 told to.3))

@@ -1,0 +1,46 @@
+-- Which table a call on one key links, while it copies no pairs: the first one of its map, or the one that follows the newest, as its length and a count of the pairs say.
+use Rattle.std.specs.Prelude.{◌≡◌, ℕ, Bool, List, ◌∷◌, Some}
+use Rattle.papaya_tables.specs.Lengths.{entries_of}
+use Rattle.papaya_tables.specs.declared.node.Node.{Node}
+use Rattle.papaya_tables.specs.declared.setting.Setting.{Setting}
+use Rattle.papaya_raw.specs.declared.machines.progress.Progress.{Progress}
+use Rattle.papaya_schedules.specs.declared.effect.Effect.{Effect}
+use Rattle.papaya_schedules.specs.declared.effect.Effect.TheVariants.{Linked}
+use Rattle.papaya_schedules.specs.Effects.{AtEachEffect}
+use Rattle.papaya_schedules.specs.Entry.{ByCall, acting}
+use Rattle.papaya_schedules.specs.Growing.{Has, Follows}
+use Rattle.papaya_schedules.specs.Moment.{UnderWay as CallThere, Moment}
+use Rattle.papaya_schedules.specs.Terms.{Terms}
+use Rattle.papaya_schedules.specs.Views.{map_at, capacity_or, tables_of}
+use Rattle.papaya_points.specs.FactsCalls.{IsCopying}
+use Rattle.papaya_callers.specs.Together.{CallOnKey, OnKey}
+use Rattle.papaya_effects.specs.Effects.{effects_of}
+use Rattle.papaya_effects.specs.Known.{Known}
+use Rattle.papaya_effects.specs.declared.acting.Acting.TheVariants as acts
+use Rattle.papaya_executor.specs.IsAt.{Scene, IsAt}
+use Rattle.papaya_executor.specs.Stepping.{StepLeads}
+use Rattle.papaya_executor.specs.declared.executor.Executor.{Executor}
+use Rattle.papaya_moments.specs.Whole.{ShowsWhole}
+use Rattle.papaya_owes.specs.Tables.{ShowsTables}
+use Rattle.papaya_finds.specs.Growing.{ShowsGrowing}
+
+module _ {K V : Type 0} (terms : Terms) where
+  -- what is left of an effect that links a table: it follows
+  abbrev pub FindsShape : List (Moment K V) → Moment K V → Effect → CallThere K V → Type 0
+  FindsShape moments m (Linked t shape) c = Follows terms c (m ∷ moments) (capacity_or (map_at c.map m)) shape (tables_of c.map m)
+  FindsShape moments m _ c = Unit {0}
+
+  abbrev pub FindShapes : List (Moment K V) → List ℕ → ℕ → List Effect → Moment K V → Type 0
+  FindShapes moments own map effects m = AtEachEffect (λ v f. ByCall (FindsShape moments v f) (acting (Some own) v)) (Some own) (Some map) effects m
+
+-- the map was made with the capacity that the moment says: no later table has fewer entries than it
+abbrev pub IsMadeFor : {K V : Type 0} → ℕ → Moment K V → Setting → Type 0
+IsMadeFor map m setting = Has (entries_of (capacity_or (map_at map m))) setting.initial
+
+-- The promise.
+abbrev pub KeyCallsLink : (K V S : Type 0) (same : K → K → Bool) (hash : K → ℕ) → Type 0
+KeyCallsLink K V S same hash =
+    (name : ℕ → List ℕ) (m : Moment K V) (known : Known) (s : Scene K V) (old new : Executor K V S) → IsAt same hash old s → ShowsWhole same name m known s → ShowsTables name m known s → ShowsGrowing m s
+    → (map i : ℕ) (u : CallOnKey K V K) (here : s.calls map i ≡ Some (OnKey u)) (said : Progress (Node K V)) (leads : StepLeads same hash i said s old new)
+    → (IsCopying u.call.stands → ⊥) → IsMadeFor map m (leads map (OnKey u) here).0.setting → (terms : Terms) (moments : List (Moment K V))
+    → FindShapes terms moments (name i) map (effects_of (acts.Call i map) known new.memory.changed) m

@@ -1,0 +1,80 @@
+-- For what a copier makes a further table: the map has a second one then, into which the root's is copied; or, in blocking mode, the root has left a table at the moment of
+-- the map at which the call began, or since. So a call that copies may ask for each block that it makes, if it has left none.
+use Rattle.std.specs.Prelude.{◌≡◌, ℕ, Bool, List, Option, Some, None, ◌⊎◌}
+use Rattle.papaya_tables.specs.declared.node.Node.{Node}
+use Rattle.papaya_resize.specs.declared.new_table.NewTable.{NewTable}
+use Rattle.papaya_reserves.specs.declared.reserve.Reserving.{Reserving}
+use Rattle.papaya_reserves.specs.declared.reserve.Reserving.TheVariants as reserving
+use Rattle.papaya_raw.specs.declared.machines.call.Calling.{Calling}
+use Rattle.papaya_raw.specs.declared.machines.call.Calling.TheVariants as calling
+use Rattle.papaya_raw.specs.declared.machines.machine.Machine.{Machine}
+use Rattle.papaya_raw.specs.declared.machines.machine.Machine.TheVariants as kinds
+use Rattle.papaya_raw.specs.declared.machines.progress.Progress.{Progress}
+use Rattle.papaya_schedules.specs.Growing.{HasNext}
+use Rattle.papaya_schedules.specs.Moment.{Moment}
+use Rattle.papaya_schedules.specs.Terms.{Terms}
+use Rattle.papaya_points.specs.FactsCalls.{IsCopying}
+use Rattle.papaya_late.specs.Left.{Left}
+use Rattle.papaya_callers.specs.Together.{UnderWay, OnKey, ForRoom, Counting, OverAll}
+use Rattle.papaya_effects.specs.Effects.{effects_of}
+use Rattle.papaya_effects.specs.Known.{Known}
+use Rattle.papaya_effects.specs.declared.acting.Acting.TheVariants as acts
+use Rattle.papaya_executor.specs.IsAt.{Scene, IsAt}
+use Rattle.papaya_executor.specs.Stepping.{StepLeads}
+use Rattle.papaya_executor.specs.declared.executor.Executor.{Executor}
+use Rattle.papaya_finishes.specs.Machines.{machine_of}
+use Rattle.papaya_finishes.specs.Maps.{Standing}
+use Rattle.papaya_follows.specs.Shows.{Shows}
+use Rattle.papaya_moments.specs.Whole.{ShowsWhole}
+use Rattle.papaya_owes.specs.Making.{making_in_copying, making_in_sweeping}
+use Rattle.papaya_finds.specs.Growing.{FindAsked}
+
+-- The making of a table that is under way within a copier, if one is: that of a call on one key,
+abbrev pub copier_in_calling : Calling → Option NewTable
+copier_in_calling (calling.Helps copier goal) = making_in_copying copier.stands
+copier_in_calling (calling.Copies copier) = making_in_copying copier.stands
+copier_in_calling _ = None
+
+-- of a reservation,
+abbrev pub copier_in_reserving : Reserving → Option NewTable
+copier_in_reserving (reserving.Copies copier) = making_in_copying copier.stands
+copier_in_reserving _ = None
+
+-- and of a sweep, which makes no other one
+abbrev pub making_of_copier : {K V Q : Type 0} → Machine K V Q → Option NewTable
+making_of_copier (kinds.Key p) = copier_in_calling p.stands
+making_of_copier (kinds.Reserve r) = copier_in_reserving r.stands
+making_of_copier (kinds.Sweep c) = making_in_sweeping c.stands
+making_of_copier (kinds.Count sum) = None
+
+-- the moment of its map at which a call began
+abbrev pub began_of : {K V Q : Type 0} → UnderWay K V Q → ℕ
+began_of (OnKey u) = u.began
+began_of (ForRoom r) = r.began
+began_of (Counting sum) = 0
+began_of (OverAll o) = o.began
+
+-- the root has left a table of the map at the moment of the map at which the call began, or since
+abbrev pub RootHasLeft : {K V : Type 0} → Scene K V → ℕ → UnderWay K V K → Type 0
+RootHasLeft {K} s map u = (standing : Standing K) × (s.maps map ≡ Some standing) × (t : ℕ) × Left standing.chart (began_of u) t
+
+-- what a call makes its copier makes: a call on one key that copies, or a sweep
+abbrev pub MakesByCopier : {K V : Type 0} → UnderWay K V K → Type 0
+MakesByCopier (OnKey u) = IsCopying u.call.stands
+MakesByCopier (OverAll o) = Unit {0}
+MakesByCopier _ = ⊥
+
+module _ (K V S : Type 0) (same : K → K → Bool) (hash : K → ℕ) where
+  -- The promises: where a copier makes a table, the map has a second one, or the root has left one;
+  abbrev pub CopiersHaveNext : Type 0
+  CopiersHaveNext =
+      (name : ℕ → List ℕ) (m : Moment K V) (known : Known) (s : Scene K V) (e : Executor K V S) → IsAt same hash e s → Shows same name m known s
+      → (map i : ℕ) (u : UnderWay K V K) → s.calls map i ≡ Some u → (n : NewTable) → making_of_copier (machine_of u) ≡ Some n → HasNext map m ⊎ RootHasLeft s map u
+
+  -- and each block for which such a call asks in a step it may ask for, if the root has left none.
+  abbrev pub CopiersMayAsk : Type 0
+  CopiersMayAsk =
+      (name : ℕ → List ℕ) (m : Moment K V) (known : Known) (s : Scene K V) (old new : Executor K V S) → IsAt same hash old s → ShowsWhole same name m known s
+      → (map i : ℕ) (u : UnderWay K V K) (here : s.calls map i ≡ Some u) (said : Progress (Node K V)) → StepLeads same hash i said s old new
+      → MakesByCopier u → (RootHasLeft s map u → ⊥) → (terms : Terms) (moments : List (Moment K V))
+      → FindAsked terms moments (name i) map (effects_of (acts.Call i map) known new.memory.changed) m

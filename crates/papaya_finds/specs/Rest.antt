@@ -1,0 +1,38 @@
+-- What is left of what effects of calls find, by three parts: why a block is asked for, which table is linked, and where a pair is handed over. They make it up, and only rows
+-- hand pairs over.
+use Rattle.std.specs.Prelude.{◌≡◌, ℕ, false, List, Some}
+use Rattle.std.specs.List.{list_any}
+use Rattle.papaya_schedules.specs.declared.effect.Effect.{Effect}
+use Rattle.papaya_schedules.specs.declared.effect.Effect.TheVariants.{Deferred, Retired}
+use Rattle.papaya_schedules.specs.declared.effect.Thing.TheVariants.{APair}
+use Rattle.papaya_schedules.specs.Effects.{AtEachEffect}
+use Rattle.papaya_schedules.specs.Entry.{ByCall, acting}
+use Rattle.papaya_schedules.specs.Lives.{IsPast, MayDefer}
+use Rattle.papaya_schedules.specs.Moment.{UnderWay as CallThere, Moment}
+use Rattle.papaya_schedules.specs.Terms.{Terms}
+use Rattle.papaya_schedules.specs.Views.{call_of, first_of}
+use Rattle.papaya_settles.specs.Owing.{hands_over}
+use Rattle.papaya_finds.specs.Growing.{FindAsked}
+use Rattle.papaya_finds.specs.Linking.{FindShapes}
+use Rattle.papaya_finds.specs.Parts.{FindRest}
+
+module _ {K V : Type 0} where
+  -- a pair is put behind a table where it may wait, and retired once the root has come to where it lies
+  abbrev pub FindsHanded : Moment K V → Effect → CallThere K V → Type 0
+  FindsHanded m (Deferred n t) c = MayDefer c.map m n t
+  FindsHanded m (Retired (APair n)) c = IsPast (m.born n).turn (m.spot n).turn (first_of c.map m)
+  FindsHanded m _ c = Unit {0}
+
+  abbrev pub FindHanded : List ℕ → ℕ → List Effect → Moment K V → Type 0
+  FindHanded own map effects m = AtEachEffect (λ v f. ByCall (FindsHanded v f) (acting (Some own) v)) (Some own) (Some map) effects m
+
+-- The promises: the three are all that is left,
+abbrev pub RestIsAll : Type 0 → Type 0 → Type 0
+RestIsAll K V =
+    (terms : Terms) (moments : List (Moment K V)) (own : List ℕ) (map : ℕ) (effects : List Effect) (m : Moment K V)
+    → FindAsked terms moments own map effects m → FindShapes terms moments own map effects m → FindHanded own map effects m → FindRest terms moments own map effects m
+
+-- and such effects as hand nothing over need find nothing of the third.
+abbrev pub OthersHandNone : Type 0 → Type 0 → Type 0
+OthersHandNone K V =
+    (own : List ℕ) (map : ℕ) (effects : List Effect) (m : Moment K V) (c : CallThere K V) → call_of own m ≡ Some c → list_any hands_over effects ≡ false → FindHanded own map effects m
