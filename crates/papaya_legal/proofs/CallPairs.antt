@@ -31,7 +31,7 @@ use Rattle.papaya_histories.proofs.Found.{map_alike}
 use Rattle.papaya_histories.proofs.Had.{had_pair}
 use Rattle.papaya_histories.proofs.Now.{now_had, pair_is}
 use Rattle.papaya_histories.proofs.Retaining.{found_there}
-use Rattle.papaya_purposes.specs.Kept.{PairsChangeFirst}
+use Rattle.papaya_purposes.specs.Kept.{NoneCame, PairsChangeFirst}
 use Rattle.papaya_legal.specs.CallEvents.{EachIsItsOwn}
 use Rattle.papaya_legal.proofs.CallChanges.{changes_first}
 
@@ -107,6 +107,16 @@ module _ {K V S : Type 0} (same : K → K → Bool) (hash : K → ℕ) (name : �
 
   first_class : (k : K) → (finite_map same map v k ≡ finite_map same map m k) ⊎ (finite_map same map m k ≡ finite_map same map (moment log) k)
   first_class = changes_first same hash name log beginning map i c done m known s old new at said leads u midst
+
+  -- by a call on no key none comes
+  pub none_comes : ((k : K) → (finite_map same map v k ≡ finite_map same map beginning k) ⊎ (finite_map same map v k ≡ None)) → NoneCame log v map
+  none_comes fewer n v_in =
+      let own = own_then n v_in in
+      elim (fewer own.0.0) as (λ _. is_in_map map ((moment log).place n) ≡ true) [
+        | inl e ↦
+            ap (λ (f : ℕ → Place). is_in_map map (f n)) (sym begun.0) ∙ found_there same map beginning own.0.0 n (sym e ∙ own.2)
+        | inr e ↦ absurd (let found = own.2 in cc (e, found))
+      ]
 
   pub pairs_first : PairsChangeFirst log m map v
   pairs_first n = by (is_in_map map (m.place n)) (is_in_map map (v.place n)) refl refl

@@ -39,7 +39,7 @@ use Rattle.papaya_legal.specs.CallEvents.{InCallEvent}
 -- the call of the event is there still, as it was
 module _ {K V : Type 0} (same : K → K → Bool) (name : ℕ → List ℕ) (log : List (Entry K V)) (beginning : Moment K V) (map i : ℕ) (c : CallThere K V) (done : List Effect) (m : Moment K V) (known : Known)
     (s : Scene K V) where
-  there_still : (u : UnderWay K V K) → InEvent same name log beginning map i c done m known s u → (d : CallThere K V) × (call_of (name i) m ≡ Some d) × IsSameCall c d
+  pub there_still : (u : UnderWay K V K) → InEvent same name log beginning map i c done m known s u → (d : CallThere K V) × (call_of (name i) m ≡ Some d) × IsSameCall c d
   there_still (OnKey x) midst = (midst.2.there, midst.2.there_is, midst.2.same_call)
   there_still (ForRoom r) midst = (midst.there, midst.there_is, midst.same_call)
   there_still (Counting sum) midst = (midst.there, midst.there_is, midst.same_call)

@@ -17,6 +17,7 @@ pub mod CallsAfter
 pub mod CallFinds
 pub mod CallLeaves
 pub mod CallRuns
+pub mod CallSwept
 pub mod SlotsAfter
 pub mod Over
 pub mod Idle

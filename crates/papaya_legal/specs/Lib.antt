@@ -2,6 +2,7 @@ pub mod Carried
 pub mod Between
 pub mod CallEvents
 pub mod CallRuns
+pub mod CallSwept
 pub mod SlotEvents
 pub mod MapEvents
 pub mod Over

@@ -1,5 +1,5 @@
 -- On which map an event acts, by the scheduler before it and by what it comes to; and which single events it is of.
-use Rattle.std.specs.Prelude.{ℕ, Bool, List, [], ◌∷◌, length, find, Option, Some, None, option_map, if◌then◌else◌}
+use Rattle.std.specs.Prelude.{ℕ, List, [], ◌∷◌, length, find, Option, Some, None, option_map, if◌then◌else◌}
 use Rattle.papaya_runs.specs.declared.outcome.Single.{Single}
 use Rattle.papaya_runs.specs.declared.outcome.Single.TheVariants as single
 use Rattle.papaya_schedules.specs.declared.event.Event.{Event}

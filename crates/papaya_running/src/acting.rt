@@ -76,10 +76,7 @@ pub fn acting_of<K: Drop, V: Drop, S>(
         Event::Next { caller } => Ok(Acting::On(called_map(scheduler, caller))),
         Event::OneCall { map, .. } => {
             let nameless = Token::copy_of(*scheduler.maps.allocator(), b"-")?;
-            Ok(Acting::Calls(
-                scheduler.number_of(map),
-                called_map(scheduler, &nameless),
-            ))
+            Ok(Acting::Calls(scheduler.number_of(map), called_map(scheduler, &nameless)))
         }
         Event::MakeMap { map, .. } => Ok(Acting::Makes(
             scheduler.logged.executor.maps.len() as u64,

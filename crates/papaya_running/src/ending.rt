@@ -8,11 +8,7 @@ use papaya_tally::tally::Tally;
 use std::alloc::{AllocError, Global};
 
 /// The maps that live, with the numbers of their pairs.
-pub fn living(
-    alloc: Global,
-    maps: Vec<NamedMap>,
-    tally: &Tally,
-) -> Result<Vec<Living>, AllocError>
+pub fn living(alloc: Global, maps: Vec<NamedMap>, tally: &Tally) -> Result<Vec<Living>, AllocError>
     ensures { IfOk result (λ living. map shown_of living.items ≡ map (told_map tally.now) maps.items) }
 {
     let mut living = Vec::new(alloc);

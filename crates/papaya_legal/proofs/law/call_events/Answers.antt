@@ -4,6 +4,7 @@ use Rattle.papaya_legal.proofs.CallFollows.{call_events_follow}
 use Rattle.papaya_legal.proofs.CallFinds.{steps_find_all}
 use Rattle.papaya_legal.proofs.CallLeaves.{calls_leave_nothing}
 use Rattle.papaya_legal.proofs.CallRuns.{call_events_run}
+use Rattle.papaya_legal.proofs.CallSwept.{calls_are_swept}
 use Rattle.papaya_legal.proofs.Calls.{call_events_begin_so, call_events_go_on_so}
 use Rattle.papaya_legal.proofs.CallsAfter.{call_events_end_so}
 use Rattle.papaya_legal.proofs.CallsEnd.{call_events_are_legal}
@@ -19,6 +20,7 @@ returns c d = record {
   follows = call_events_follow _ _ _;
   ends = call_events_end_so _ _ _;
   finds = steps_find_all _ _ _;
+  swept = calls_are_swept _ _ _;
   leaves = calls_leave_nothing _ _ _;
   runs = call_events_run _ _ _;
 }

@@ -1,6 +1,6 @@
 -- Each map that lives is told.
 use Rattle.std.specs.Prelude.{◌≡◌, ◌++◌, ◌∷◌, List, [], map}
-use Rattle.std.proofs.Common.{rules, arith, ℕ, refl, sym, ap, ◌∙◌, append_assoc}
+use Rattle.std.proofs.Common.{rules, arith, ℕ, sym, ap, ◌∙◌, append_assoc}
 use Rattle.std.proofs.lemmas.List.{append-nil, map-append, nil_from_length}
 use Rattle.papaya_runs.specs.declared.record.Living.{Living}
 use Rattle.papaya_scheduler.specs.declared.scheduler.NamedMap.{NamedMap}

@@ -1,5 +1,5 @@
 -- What a run tells at its end.
-use Rattle.std.proofs.Common.{sym, subst, ◌∙◌}
+use Rattle.std.proofs.Common.{◌∙◌}
 use Rattle.papaya_running.proofs.Ended.{kept_so, tells_back, tells_most}
 use Rattle.papaya_running.proofs.running.end.Goals as goal
 

@@ -1,6 +1,6 @@
 -- An event is written down: one that was out of turn is a single event itself.
-use Rattle.std.specs.Prelude.{◌≡◌, ◌++◌, ◌∷◌, [], ℕ, Bool, true, false, List, length, if◌then◌else◌}
-use Rattle.std.proofs.Common.{refl, sym, ap, ◌∙◌}
+use Rattle.std.specs.Prelude.{◌≡◌, ◌++◌, ◌∷◌, [], ℕ, Bool, List, length, if◌then◌else◌}
+use Rattle.std.proofs.Common.{sym, ap, ◌∙◌}
 use Rattle.papaya_runs.specs.declared.outcome.Single.{Single}
 use Rattle.papaya_runs.specs.declared.outcome.Single.TheVariants as single
 use Rattle.papaya_running.specs.Acting.{singles_as}
