@@ -6,4 +6,3 @@ mod Once
 pub mod Together
 pub mod MapBegins
 pub mod Claims
-pub mod Given

@@ -11,4 +11,3 @@ pub mod Pairs
 pub mod Claims
 pub mod OverAll
 pub mod Sweeps
-pub mod Given

@@ -21,4 +21,3 @@ pub mod Stops
 pub mod Taken
 pub mod Uses
 pub mod Vacated
-pub mod Given

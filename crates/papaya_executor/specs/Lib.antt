@@ -7,4 +7,3 @@ pub mod OnSlots
 pub mod Replying
 pub mod Rows
 pub mod Stepping
-pub mod Given

@@ -1,4 +1,3 @@
 pub mod Ends
 pub mod Among
 pub mod Beside
-pub mod Given

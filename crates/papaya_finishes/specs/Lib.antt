@@ -9,4 +9,3 @@ pub mod Maps
 pub mod Makings
 pub mod Owners
 pub mod Choices
-pub mod Given

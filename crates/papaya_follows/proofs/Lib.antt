@@ -24,4 +24,3 @@ pub mod Beginning
 pub mod Rows
 pub mod Handed
 pub mod RowSteps
-pub mod Given

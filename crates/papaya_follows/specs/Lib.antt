@@ -6,4 +6,3 @@ pub mod Calling
 pub mod Finds
 pub mod Steps
 pub mod Beginning
-pub mod Given

@@ -37,4 +37,3 @@ pub mod NoKey
 pub mod Aside
 pub mod AnyCall
 mod Samples
-pub mod Given

@@ -16,4 +16,3 @@ pub mod AsCalled
 pub mod Elsewhere
 pub mod Words
 pub mod InEvent
-pub mod Given

@@ -10,4 +10,3 @@ pub mod Rooms
 pub mod KindsKept
 pub mod Swept
 pub mod Plans
-pub mod Given

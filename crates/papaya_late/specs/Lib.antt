@@ -21,4 +21,3 @@ pub mod Covers
 pub mod CoversSweeps
 pub mod LastsSweeps
 pub mod RowsSweeps
-pub mod Given

@@ -5,4 +5,3 @@ pub mod Ends
 mod OtherMaps
 mod Samples
 pub mod Laws
-pub mod Given

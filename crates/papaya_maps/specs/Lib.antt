@@ -17,4 +17,3 @@ pub mod EndingsReserves
 pub mod Listed
 pub mod Spares
 pub mod FaultsBegins
-pub mod Given

@@ -12,4 +12,3 @@ pub mod WholeEnds
 pub mod Calls
 pub mod Walks
 pub mod Roles
-pub mod Given

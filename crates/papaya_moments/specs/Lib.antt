@@ -5,4 +5,3 @@ pub mod Endings
 pub mod Makings
 pub mod Walks
 pub mod WholeEnds
-pub mod Given

@@ -22,4 +22,3 @@ pub mod Counters
 pub mod Elsewhere
 pub mod Outcomes
 pub mod RowGives
-pub mod Given

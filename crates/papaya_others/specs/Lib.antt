@@ -7,4 +7,3 @@ pub mod Makings
 pub mod Counters
 pub mod Elsewhere
 pub mod Gives
-pub mod Given

@@ -5,4 +5,3 @@ pub mod Owned
 pub mod Passing
 pub mod Runs
 pub mod Walks
-pub mod Given

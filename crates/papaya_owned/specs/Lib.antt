@@ -8,4 +8,3 @@ pub mod Rooms
 pub mod Standing
 pub mod Tries
 pub mod Within
-pub mod Given

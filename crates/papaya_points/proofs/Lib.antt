@@ -8,4 +8,3 @@ pub mod MovedLasts
 pub mod Steps
 pub mod Values
 pub mod Descents
-pub mod Given

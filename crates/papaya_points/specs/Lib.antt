@@ -17,4 +17,3 @@ pub mod ToldMoves
 pub mod Looks
 pub mod Made
 pub mod Others
-pub mod Given

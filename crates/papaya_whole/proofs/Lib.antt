@@ -7,4 +7,3 @@ pub mod Sweeps
 pub mod Contents
 mod Samples
 mod SweptSamples
-pub mod Given

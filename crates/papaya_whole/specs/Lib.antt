@@ -7,4 +7,3 @@ pub mod LoneSweeps
 pub mod SweptPairs
 pub mod KeptBy
 pub mod WholeSweeps
-pub mod Given
