@@ -85,7 +85,7 @@ counted len count initial is_len is_initial =
     ]
 
 made_after : (reason : Reason) (len count initial : ℕ) → IsTableLen len → IsPowerOfTwo initial → IfOk (next_len reason len count initial) IsTableLen
-made_after Full len count initial is_len is_initial = within (by_count len count initial) (counted len count initial is_len is_initial)
+made_after (Full met) len count initial is_len is_initial = within (by_count len (max count met) initial) (counted len (max count met) initial is_len is_initial)
 made_after (Reserved additional) len count initial is_len is_initial = made_for (count + additional)
 made_after NoPlace len count initial is_len is_initial = within (len * 2) (twice len is_len.power)
 

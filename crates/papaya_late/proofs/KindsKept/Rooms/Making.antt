@@ -43,7 +43,7 @@ few_long places number = by (nat_le places (2 ^ 48))
     by false = refl
 
 len_long : (r : Reason) (len count initial : ℕ) → IsLong (next_len r len count initial)
-len_long reason.Full len count initial = few_long _ _
+len_long (reason.Full met) len count initial = few_long _ _
 len_long (reason.Reserved additional) len count initial = few_long _ _
 len_long reason.NoPlace len count initial = few_long _ _
 
@@ -75,7 +75,7 @@ making_room r before (Ok len) long = following_room r before (max len 8) (next_t
 making_room r before (Err fault) long = inr long
 
 begun_room : (setting : Setting) (before : Table) (r : Reason) → RoomInMaking (begun_for setting before r)
-begun_room setting before reason.Full = tt
+begun_room setting before (reason.Full met) = tt
 begun_room setting before (reason.Reserved additional) = tt
 begun_room setting before reason.NoPlace = making_room reason.NoPlace before (next_len reason.NoPlace before.len 0 setting.initial) (len_long reason.NoPlace before.len 0 setting.initial)
 
