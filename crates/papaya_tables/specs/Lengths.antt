@@ -1,5 +1,5 @@
 -- How long the tables of a map are, and where they are too long.
-use Rattle.std.specs.Prelude.{ℕ, ◌+◌, ◌-◌, ◌*◌, ◌/◌, ◌^◌, ◌≤◌, ◌==◌, nat_le, nat_lt, if◌then◌else◌, max, Result, Ok, Err, IfOk}
+use Rattle.std.specs.Prelude.{◌≡◌, ℕ, ◌+◌, ◌-◌, ◌*◌, ◌/◌, ◌^◌, ◌≤◌, ◌==◌, nat_le, nat_lt, if◌then◌else◌, max, Result, Ok, Err, IfOk}
 use Rattle.std.specs.Int.{IsPowerOfTwo}
 use Rattle.seize_words.specs.declared.fault.Fault.{Fault}
 use Rattle.seize_words.specs.declared.fault.Fault.TheVariants.{Capacity}
@@ -58,3 +58,7 @@ pub record IsTableLen (len : ℕ) : Type 0 where
 pub record HaveTableLens : Type 0 where
   pub made_for : (pairs : ℕ) → IfOk (len_of pairs) IsTableLen
   pub made_after : (reason : Reason) (len count initial : ℕ) → IsTableLen len → IsPowerOfTwo initial → IfOk (next_len reason len count initial) IsTableLen
+
+-- where a probe met no more pairs than the counter says, the length is that by the counter alone
+abbrev pub GoByTheCounter : Type 0
+GoByTheCounter = (met len count initial : ℕ) → met ≤ count → next_len (Full met) len count initial ≡ next_len (Full 0) len count initial

@@ -1,7 +1,7 @@
 //! How long the tables of a map are.
 ghost use Rattle.std.specs.Prelude.{◌≡◌, ◌*◌, ◌≤◌, ◌^◌, max, IfOk};
 ghost use Rattle.std.specs.Int.{IsNextPowerOfTwo};
-ghost use Rattle.papaya_tables.specs.Lengths.{if_few, places_for, entries_of, len_of, by_count, next_len, next_limit, next_turn, HaveTableLens};
+ghost use Rattle.papaya_tables.specs.Lengths.{if_few, places_for, entries_of, len_of, by_count, next_len, next_limit, next_turn, HaveTableLens, GoByTheCounter};
 
 use crate::probe::limit;
 use seize_words::Fault;
@@ -88,6 +88,11 @@ pub fn turn_after(turn: u64) -> Result<u64, Fault>
 /// Every table's length is a power of two from 8 to 2^48, if it is made for some pairs or after such a table.
 pub fn lengths_are_powers_of_two()
     ensures { HaveTableLens }
+{}
+
+/// Where a probe met no more pairs than the counter says, the length goes by the counter alone.
+pub fn lengths_go_by_the_counter()
+    ensures { GoByTheCounter }
 {}
 
 /// The length that a map with so many pairs goes on with. The fault is Capacity.
