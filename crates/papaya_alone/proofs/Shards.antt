@@ -4,3 +4,4 @@ mod Counts
 pub mod Counted
 pub mod Fewer
 pub mod PairsChanged
+pub mod Met

@@ -1,0 +1,128 @@
+-- The tries of a hash at the last table meet no more pairs than the map has.
+use Rattle.std.specs.Prelude.{◌==◌, if◌then◌else◌, nat_lt, IfSome}
+use Rattle.std.proofs.Common.{◌≡◌, ◌≢◌, ℕ, suc, ◌+◌, ◌-◌, ◌%◌, ◌^◌, ◌<◌, ◌≤◌, Bool, true, false, cond, Option, Some, None, inl, inr, refl, ap, sym, subst, ◌∙◌, arith}
+use Rattle.std.proofs.lemmas.Bool.{cases_eq, true≢false}
+use Rattle.seize_words.specs.Word.{block_in}
+use Rattle.papaya_tables.specs.Lengths.{IsTableLen}
+use Rattle.papaya_tables.specs.Probes.{place_at, probe_after}
+use Rattle.papaya_tables.specs.Trials.{with_met, next_trial}
+use Rattle.papaya_tables.specs.declared.status.TheConstants.Status.{ABORTED}
+use Rattle.papaya_tables.specs.declared.trial.Trial.{Trial}
+use Rattle.papaya_tables.proofs.Places.{has_distinct_places}
+use Rattle.papaya_rule.specs.Chart.{Phase, Copied, Place, Empty, Tombstone, Holds, Share, Free, Chart, is_marked}
+use Rattle.papaya_rule.specs.Rule.{IsLawful, Agrees, Rule, is_of}
+use Rattle.papaya_rule.specs.Words.{Blocks, word_of, byte_of, place_word}
+use Rattle.papaya_rule.specs.Maps.{spot_at, spot_of}
+use Rattle.papaya_rule.proofs.Keys.TriesSeen.{spot_inside}
+use Rattle.papaya_alone.specs.Counting.{one_if, pairs_in}
+use Rattle.papaya_alone.specs.Met.{has_pair, met_in, MetPairsAreFew, TriesMeetPairs}
+use Rattle.papaya_alone.proofs.Shards.Fewer.{no_more}
+
+-- what is not marked was not copied
+uncopied : (place : Place) (n : ℕ) (phase : Phase) (borrowed : Bool) → is_marked place ≡ false → place ≡ Holds n phase borrowed → phase ≢ Copied
+uncopied place n phase borrowed unmarked is copied =
+    true≢false (sym (ap (λ (x : Place). is_marked x) is ∙ ap (λ (x : Phase). is_marked (Holds n x borrowed)) copied) ∙ unmarked)
+
+module _ {K : Type 0} (same : K → K → Bool) (hash : K → ℕ) (lawful : IsLawful same (spot_of hash)) (c : Chart K) (t : ℕ) (last : suc t ≡ c.past) where
+  -- in incremental mode, the last table is the root or behind it
+  behind : Rule same (spot_of hash) true c → c.first ≤ t
+  behind rule = let root = rule.common.rooted (omega (arith, last)) in omega (arith, last, root)
+
+  -- and nothing is marked in it
+  unmarked : Rule same (spot_of hash) true c → (i : ℕ) → i < c.len t → is_marked (c.place t i) ≡ false
+  unmarked rule i inside =
+      elim (cases_eq t c.first) as (λ _. is_marked (c.place t i) ≡ false) [
+        | inl at_root ↦ subst (λ (x : ℕ). is_marked (c.place x i) ≡ false) (sym at_root) (agrees at_root)
+        | inr later ↦ (let from = behind rule in rule.common.unmarked t i (omega (arith, from, later)))
+      ]
+    where
+      agrees : t ≡ c.first → is_marked (c.place c.first i) ≡ false
+      agrees at_root =
+          subst (λ (s : Share). Agrees s (c.place c.first i)) (rule.common.unshared (suc c.first) i (omega (arith, last, at_root)))
+          (rule.in_mode.shares i (subst (λ (x : ℕ). i < c.len x) at_root inside))
+
+  -- no pair was copied from it
+  stays : (b : Bool) → Rule same (spot_of hash) b c → (i n : ℕ) (phase : Phase) (borrowed : Bool) → i < c.len t → c.place t i ≡ Holds n phase borrowed → phase ≢ Copied
+  stays true rule i n phase borrowed inside is = uncopied (c.place t i) n phase borrowed (unmarked rule i inside) is
+  stays false rule i n phase borrowed inside is = (rule.in_mode.plain t i n phase borrowed is).0
+
+  home : (b : Bool) → Rule same (spot_of hash) b c → (b ≡ false → t ≡ c.first) → cond b (c.first ≤ t) (t ≡ c.first)
+  home true rule root = behind rule
+  home false rule root = root refl
+
+  kept : (b : Bool) → Rule same (spot_of hash) b c → (b ≡ false → t ≡ c.first) → c.status t ≢ ABORTED
+  kept true rule root = rule.in_mode.never_aborted t
+  kept false rule root = λ aborted. rule.common.live (subst (λ (x : ℕ). c.status x ≡ ABORTED) (root refl) aborted)
+
+  module _ (b : Bool) (rule : Rule same (spot_of hash) b c) (root : b ≡ false → t ≡ c.first) (is_len : IsTableLen (c.len t)) (code : ℕ) where
+    -- a pair stands at the place of a try
+    abbrev MeetsAt : ℕ → ℕ → Type 0
+    MeetsAt j n = (phase : Phase) × (borrowed : Bool) × (c.place t (spot_at (c.len t) code j) ≡ Holds n phase borrowed)
+
+    -- that is one of the map
+    meets : (j : ℕ) (place : Place) → c.place t (spot_at (c.len t) code j) ≡ place → has_pair place ≡ true → (n : ℕ) × (n < c.stored) × (c.current n ≡ true) × MeetsAt j n
+    meets j (Empty marked) is e = absurd (true≢false (sym e))
+    meets j (Tombstone marked) is e = absurd (true≢false (sym e))
+    meets j (Holds n phase borrowed) is e =
+        let inside = spot_inside (c.len t) code j (let least = is_len.least in omega (arith, least)) in (
+          n,
+          (rule.common.keyed t (spot_at (c.len t) code j) n phase borrowed is).0,
+          rule.common.is_current t (spot_at (c.len t) code j) n phase borrowed is (stays b rule (spot_at (c.len t) code j) n phase borrowed inside is) (home b rule root),
+          (phase, borrowed, is),
+        )
+
+    -- it stands at one place, which is that of one try
+    one_try : (tries : ℕ) → tries ≤ c.len t → (j o n : ℕ) → j < tries → o < tries → MeetsAt j n → MeetsAt o n → j ≡ o
+    one_try tries within j o n l m (phase, borrowed, is) (phase2, borrowed2, is2) =
+        has_distinct_places code is_len.power.0 j o (let power = is_len.power.1 in omega (arith, l, within, power)) (let power = is_len.power.1 in omega (arith, m, within, power)) same_place
+      where
+        key : (k : K) × (c.key n ≡ Some k)
+        key = (rule.common.keyed t (spot_at (c.len t) code j) n phase borrowed is).1
+
+        of_class : is_of same (spot_of hash) b key.0 (c.key n) ≡ true
+        of_class = ap (is_of same (spot_of hash) b key.0) key.1 ∙ lawful.classes.refl key.0
+
+        same_spot : spot_at (c.len t) code j ≡ spot_at (c.len t) code o
+        same_spot =
+            rule.common.once t (spot_at (c.len t) code j) (spot_at (c.len t) code o) n n phase phase2 borrowed borrowed2 key.0 (kept b rule root) is is2 of_class of_class
+
+        same_place : place_at code is_len.power.0 j ≡ place_at code is_len.power.0 o
+        same_place = sym (ap (λ (x : ℕ). spot_at x code j) is_len.power.1) ∙ same_spot ∙ ap (λ (x : ℕ). spot_at x code o) is_len.power.1
+
+    few : (tries : ℕ) → tries ≤ c.len t → met_in c code t tries ≤ pairs_in c
+    few tries within =
+        no_more MeetsAt (λ j. has_pair (c.place t (spot_at (c.len t) code j))) tries c.current c.stored
+        (λ j l is. meets j (c.place t (spot_at (c.len t) code j)) refl is) (λ j o n l m a e. one_try tries within j o n l m a e)
+
+pub met_pairs_are_few : {K : Type 0} (same : K → K → Bool) (hash : K → ℕ) (incremental : Bool) → MetPairsAreFew same hash incremental
+met_pairs_are_few same hash incremental lawful c rule t last root is_len code tries within = few same hash lawful c t last incremental rule root is_len code tries within
+
+-- the word of a place counts one at most, and that only where a pair stands
+module _ (block byte : ℕ → ℕ) (met : ℕ) where
+  counts_one : (place : Place) → (if block_in (word_of block byte place) == 0 then met else (met + 1) % 2 ^ 64) ≤ met + one_if (has_pair place)
+  counts_one (Empty true) = omega arith
+  counts_one (Empty false) = omega arith
+  counts_one (Tombstone true) = omega arith
+  counts_one (Tombstone false) = omega arith
+  counts_one (Holds n phase borrowed) = by (block_in (word_of block byte (Holds n phase borrowed)) == 0)
+    where
+      by : (q : Bool) → (if q then met else (met + 1) % 2 ^ 64) ≤ met + 1
+      by true = omega arith
+      by false = omega arith
+
+module _ {K : Type 0} (hash : K → ℕ) (c : Chart K) (blocks : Blocks) (code t : ℕ) where
+  counts : (trial : Trial) (j : ℕ) → trial.met ≤ met_in c code t j
+      → (with_met trial (place_word hash c blocks (c.place t (spot_at (c.len t) code j)))).met ≤ met_in c code t (suc j)
+  counts trial j before =
+      let one = counts_one blocks.pair (λ n. byte_of hash (c.key n)) trial.met (c.place t (spot_at (c.len t) code j)) in omega (arith, one, before)
+
+-- the next try goes on with what was met
+same_next : (trial : Trial) → IfSome (next_trial trial) (λ next. next.met ≡ trial.met)
+same_next trial = by (nat_lt trial.probe.len trial.table.limit)
+  where
+    by : (q : Bool) → IfSome (if q then Some record { table = trial.table; probe = probe_after trial.probe (trial.table.len - 1); met = trial.met } else None) (λ (next : Trial). next.met ≡ trial.met)
+    by true = refl
+    by false = tt
+
+pub tries_meet_pairs : {K : Type 0} (hash : K → ℕ) → TriesMeetPairs hash
+tries_meet_pairs hash c blocks code t = (λ table. omega arith, counts hash c blocks code t, same_next)

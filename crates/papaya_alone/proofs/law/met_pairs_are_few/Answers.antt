@@ -1,0 +1,6 @@
+-- The pairs that the tries of a hash meet.
+use Rattle.papaya_alone.proofs.Shards.Met.{met_pairs_are_few, tries_meet_pairs}
+use Rattle.papaya_alone.proofs.law.met_pairs_are_few.Goals as goal
+
+pub returns : goal.returns
+returns c d = record { few = met_pairs_are_few; tries = tries_meet_pairs }
