@@ -5,3 +5,4 @@ pub mod Places
 mod Samples
 pub mod TableLens
 mod Triangular
+mod Tries

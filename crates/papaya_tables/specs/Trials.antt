@@ -1,5 +1,5 @@
 -- The tries of a key at a table.
-use Rattle.std.specs.Prelude.{ℕ, ◌+◌, ◌-◌, ◌%◌, ◌^◌, ◌==◌, nat_lt, if◌then◌else◌, Option, Some, None}
+use Rattle.std.specs.Prelude.{ℕ, ◌+◌, ◌-◌, ◌%◌, ◌^◌, ◌<◌, ◌≤◌, ◌==◌, nat_lt, if◌then◌else◌, Option, Some, None, IfSome}
 use Rattle.seize_words.specs.Word.{block_in}
 use Rattle.seize_words.specs.declared.at.At.{At}
 use Rattle.papaya_tables.specs.Probes.{probe_from, probe_after}
@@ -29,3 +29,9 @@ abbrev pub next_trial : Trial → Option Trial
 next_trial trial =
     if nat_lt trial.probe.len trial.table.limit
     then Some record { table = trial.table; probe = probe_after trial.probe (trial.table.len - 1); met = trial.met } else None
+
+-- What was met at a table are no more pairs than were tries, so their number never wraps. At a try those before it are counted, and then that one, too.
+abbrev pub TriesMeetFew : Type 0
+TriesMeetFew =
+    (trial : Trial) (word : ℕ) → trial.table.limit < 2 ^ 64 → trial.met ≤ trial.probe.len
+    → ((with_met trial word).met ≤ trial.probe.len + 1) × IfSome (next_trial (with_met trial word)) (λ next. next.met ≤ next.probe.len)

@@ -1,6 +1,6 @@
 //! One try after another at a table.
 ghost use Rattle.std.specs.Prelude.{◌≡◌};
-ghost use Rattle.papaya_tables.specs.Trials.{first_trial, place_tried, with_met, next_trial};
+ghost use Rattle.papaya_tables.specs.Trials.{first_trial, place_tried, with_met, next_trial, TriesMeetFew};
 
 use crate::hash::h1;
 use crate::probe::Probe;
@@ -61,3 +61,8 @@ impl Trial {
         Some(Trial { probe, ..self })
     }
 }
+
+/// The tries at a table meet no more pairs than they are.
+pub fn tries_meet_few()
+    ensures { TriesMeetFew }
+{}
