@@ -5,7 +5,6 @@ use Rattle.seize_words.specs.Word.{link_to}
 use Rattle.seize_words.specs.declared.at.At.TheVariants.{Word}
 use Rattle.seize_words.specs.declared.fault.Fault.TheVariants.{Capacity}
 use Rattle.papaya_tables.specs.declared.lengths.Reason.TheVariants.{Full, Reserved, NoPlace}
-use Rattle.papaya_tables.specs.declared.marks.TheConstants.{TOMBSTONE, COPYING, COPIED}
 use Rattle.papaya_tables.specs.declared.resize_mode.ResizeMode.TheVariants.{Incremental, Blocking}
 use Rattle.papaya_tables.specs.declared.table.Table.{Table}
 use Rattle.papaya_tables.specs.declared.trial.Trial.{Trial}
@@ -27,7 +26,7 @@ lengths_for_pairs = refl
 
 -- the length after another goes by what made it necessary
 
-full_of_pairs : next_len (Full 8) 8 8 8 ∷ next_len (Full 26) 32 26 1 ∷ next_len (Full 241) (2 ^ 48) (2 ^ 48) 1 ∷ [] ≡ Ok 16 ∷ Ok 64 ∷ Err Capacity ∷ []
+full_of_pairs : next_len (Full 8) 8 8 8 ∷ next_len (Full 26) 32 26 1 ∷ next_len (Full 0) (2 ^ 48) (2 ^ 48) 1 ∷ [] ≡ Ok 16 ∷ Ok 64 ∷ Err Capacity ∷ []
 full_of_pairs = refl
 
 few_pairs : next_len (Full 8) 64 8 1 ∷ next_len (Full 0) 64 8 64 ∷ next_len (Full 0) 8 0 1 ∷ [] ≡ Ok 32 ∷ Ok 64 ∷ Ok 8 ∷ []
@@ -90,16 +89,13 @@ tried_next = refl
 no_third : then_on second next_trial ≡ None
 no_third = refl
 
--- A try whose word names a pair has met it, one at an empty place, a tombstone or a place that is shut has not; and the next goes on from that count.
+-- A try whose word names a pair has met it, also where that was copied (2); one at an empty place (0), a tombstone (2) or a place that is shut (1) has not. The
+-- next try goes on from that count.
 
-met_of : Option Trial → List ℕ
-met_of None = []
-met_of (Some trial) = trial.met ∷ []
-
-meets_pairs : map (λ (word : ℕ). (with_met (first_trial table 15) word).met) (0 ∷ TOMBSTONE ∷ COPYING ∷ 3 * 2048 ∷ (3 * 2048 + COPIED) ∷ []) ≡ 0 ∷ 0 ∷ 0 ∷ 1 ∷ 1 ∷ []
+meets_pairs : map (λ (word : ℕ). (with_met (first_trial table 15) word).met) (0 ∷ 2 ∷ 1 ∷ (3 * 2048) ∷ (3 * 2048 + 2) ∷ []) ≡ 0 ∷ 0 ∷ 0 ∷ 1 ∷ 1 ∷ []
 meets_pairs = refl
 
-met_before : met_of (next_trial (with_met (first_trial table 15) (3 * 2048))) ≡ 1 ∷ []
+met_before : then_on (next_trial (with_met (first_trial table 15) (3 * 2048))) (λ trial. Some trial.met) ≡ Some 1
 met_before = refl
 
 -- pairs are counted in the shard of the slot, and a negative sum is none
