@@ -2,20 +2,28 @@
 use Rattle.std.specs.Prelude.{◌==◌, if◌then◌else◌, nat_lt, IfSome}
 use Rattle.std.proofs.Common.{◌≡◌, ◌≢◌, ℕ, suc, ◌+◌, ◌-◌, ◌%◌, ◌^◌, ◌<◌, ◌≤◌, Bool, true, false, cond, Option, Some, None, inl, inr, refl, ap, sym, subst, ◌∙◌, arith}
 use Rattle.std.proofs.lemmas.Bool.{cases_eq, true≢false}
+use Rattle.seize_words.specs.Mem.{Mem, word_at}
 use Rattle.seize_words.specs.Word.{block_in}
+use Rattle.papaya_tables.specs.Chunks.{is_incremental}
 use Rattle.papaya_tables.specs.Lengths.{IsTableLen}
 use Rattle.papaya_tables.specs.Probes.{place_at, probe_after}
+use Rattle.papaya_tables.specs.TablePlaces.{at_place}
 use Rattle.papaya_tables.specs.Trials.{with_met, next_trial}
+use Rattle.papaya_tables.specs.declared.node.Node.{Node}
+use Rattle.papaya_tables.specs.declared.resize_mode.ResizeMode.{ResizeMode}
 use Rattle.papaya_tables.specs.declared.status.TheConstants.Status.{ABORTED}
+use Rattle.papaya_tables.specs.declared.table.Table.{Table}
 use Rattle.papaya_tables.specs.declared.trial.Trial.{Trial}
 use Rattle.papaya_tables.proofs.Places.{has_distinct_places}
+use Rattle.papaya_tables.proofs.TableLens.{go_by_the_counter}
 use Rattle.papaya_rule.specs.Chart.{Phase, Copied, Place, Empty, Tombstone, Holds, Share, Free, Chart, is_marked}
 use Rattle.papaya_rule.specs.Rule.{IsLawful, Agrees, Rule, is_of}
 use Rattle.papaya_rule.specs.Words.{Blocks, word_of, byte_of, place_word}
-use Rattle.papaya_rule.specs.Maps.{spot_at, spot_of}
+use Rattle.papaya_rule.specs.Maps.{spot_at, spot_of, IsMap, IsTable}
 use Rattle.papaya_rule.proofs.Keys.TriesSeen.{spot_inside}
+use Rattle.papaya_rule.proofs.Words.TablesSeen.{place_there}
 use Rattle.papaya_alone.specs.Counting.{one_if, pairs_in}
-use Rattle.papaya_alone.specs.Met.{has_pair, met_in, MetPairsAreFew, TriesMeetPairs}
+use Rattle.papaya_alone.specs.Met.{has_pair, met_in, MetPairsAreFew, TriesMeetPairs, names_block, words_met, WordsSayWhatStands, GoesByTheCounterAlone}
 use Rattle.papaya_alone.proofs.Shards.Fewer.{no_more}
 
 -- what is not marked was not copied
@@ -126,3 +134,45 @@ same_next trial = by (nat_lt trial.probe.len trial.table.limit)
 
 pub tries_meet_pairs : {K : Type 0} (hash : K → ℕ) → TriesMeetPairs hash
 tries_meet_pairs hash c blocks code t = (λ table. omega arith, counts hash c blocks code t, same_next)
+
+-- only the word of a pair names a block
+names_pair : (block byte : ℕ → ℕ) (place : Place) → names_block (Some (word_of block byte place)) ≡ true → has_pair place ≡ true
+names_pair block byte (Empty true) e = absurd (true≢false (sym e))
+names_pair block byte (Empty false) e = absurd (true≢false (sym e))
+names_pair block byte (Tombstone true) e = absurd (true≢false (sym e))
+names_pair block byte (Tombstone false) e = absurd (true≢false (sym e))
+names_pair block byte (Holds n phase borrowed) e = refl
+
+module _ {K V : Type 0} (same : K → K → Bool) (hash : K → ℕ) (mode : ResizeMode) (root : ℕ) (m : Mem (Node K V)) (c : Chart K) (blocks : Blocks) (map : IsMap same hash mode root m c blocks)
+    (table : Table) (t : ℕ) (is : IsTable c blocks table t) (code : ℕ) where
+  there : (j : ℕ) → word_at m (at_place table (spot_at table.len code j)) ≡ Some (place_word hash c blocks (c.place t (spot_at (c.len t) code j)))
+  there j =
+      ap (λ (x : Table). word_at m (at_place table (spot_at x.len code j))) is.is
+      ∙ place_there hash m c blocks root map.shows table t is (spot_at (c.len t) code j) (spot_inside (c.len t) code j (map.rule.common.lens t is.made).0)
+
+  stands_there : (j : ℕ) → names_block (word_at m (at_place table (spot_at table.len code j))) ≡ true → has_pair (c.place t (spot_at (c.len t) code j)) ≡ true
+  stands_there j named =
+      names_pair blocks.pair (λ n. byte_of hash (c.key n)) (c.place t (spot_at (c.len t) code j)) (subst (λ (o : Option ℕ). names_block o ≡ true) (there j) named)
+
+  words_few : (tries : ℕ) → words_met m table code tries ≤ met_in c code t tries
+  words_few tries =
+      no_more (λ j o. j ≡ o) (λ j. names_block (word_at m (at_place table (spot_at table.len code j)))) tries (λ j. has_pair (c.place t (spot_at (c.len t) code j))) tries
+      (λ j l named. (j, l, stands_there j named, refl)) (λ j o n l k a e. a ∙ sym e)
+
+pub words_say : {K : Type 0} (V : Type 0) (same : K → K → Bool) (hash : K → ℕ) → WordsSayWhatStands V same hash
+words_say V same hash mode root m c blocks map table t is code tries = words_few same hash mode root m c blocks map table t is code tries
+
+pub goes_by_the_counter : {K : Type 0} (V Q : Type 0) (same : K → K → Bool) (hash : K → ℕ) → GoesByTheCounterAlone V Q same hash
+goes_by_the_counter V Q same hash lawful mode root m c blocks map p t is last at_root is_len met len initial = go_by_the_counter p.trial.met len (pairs_in c) initial fewer
+  where
+    limit_is : p.trial.table.limit ≡ c.limit t
+    limit_is = ap (λ (x : Table). x.limit) is.is
+
+    within : suc p.trial.table.limit ≤ c.len t
+    within = let low = (map.rule.common.lens t is.made).1 in omega (arith, low, limit_is)
+
+    fewer : p.trial.met ≤ pairs_in c
+    fewer =
+        let words = words_few same hash mode root m c blocks map p.trial.table t is p.hash (suc p.trial.table.limit) in
+        let pairs = met_pairs_are_few same hash (is_incremental mode) lawful c map.rule t last at_root is_len p.hash (suc p.trial.table.limit) within in
+        omega (arith, met, words, pairs)
