@@ -1,5 +1,5 @@
 -- How many pairs the tries of a hash meet at a table: no more than the map has, where that table is the last.
-use Rattle.std.specs.Prelude.{◌≡◌, ◌≢◌, ℕ, suc, ◌<◌, ◌≤◌, ◌^◌, ◌==◌, Bool, true, false, not, Option, Some, None, IfSome}
+use Rattle.std.specs.Prelude.{◌≡◌, ◌≢◌, ℕ, suc, ◌<◌, ◌≤◌, ◌==◌, Bool, true, false, not, Option, Some, None, IfSome}
 use Rattle.seize_words.specs.Mem.{Mem, Took, value_at, word_at}
 use Rattle.seize_words.specs.Plan.{Steps}
 use Rattle.seize_words.specs.Word.{block_in}
@@ -23,7 +23,7 @@ use Rattle.papaya_raw.specs.declared.machines.call.Calling.TheVariants as at
 use Rattle.papaya_rule.specs.Chart.{Place, Holds, Chart}
 use Rattle.papaya_rule.specs.Rule.{IsLawful, Rule, total}
 use Rattle.papaya_rule.specs.Words.{Blocks, place_word}
-use Rattle.papaya_rule.specs.Maps.{spot_at, spot_of, IsMap, IsTable}
+use Rattle.papaya_rule.specs.Maps.{spot_at, spot_of, IsMap, IsTable, IsTrial}
 use Rattle.papaya_alone.specs.Counting.{one_if, pairs_in}
 
 -- a pair stands at a place
@@ -60,10 +60,9 @@ abbrev pub words_met : {T : Type 0} → Mem T → Table → ℕ → ℕ → ℕ
 words_met m table code tries = total one_if (λ j. names_block (word_at m (at_place table (spot_at table.len code j)))) tries
 
 module _ {K V Q : Type 0} where
-  -- a call is at a try of its hash
-  abbrev pub IsAtTry : KeyCall K V Q → Type 0
-  IsAtTry p =
-      (p.trial.probe.i ≡ spot_at p.trial.table.len p.hash p.trial.probe.len) × (p.trial.probe.len ≤ p.trial.table.limit) × (p.trial.table.limit < 2 ^ 64)
+  -- a call is at a try of its hash at some table
+  abbrev pub IsAtTry : Chart K → Blocks → KeyCall K V Q → Type 0
+  IsAtTry c blocks p = (t : ℕ) × (j : ℕ) × IsTrial c blocks p.trial p.hash t j × IsTableLen (c.len t) × (c.limit t < c.len t)
 
   abbrev pub IsTrying : Calling → Type 0
   IsTrying at.Probes = Unit {0}
@@ -90,7 +89,7 @@ module _ {K V Q : Type 0} where
 -- Each step of a call that does not ask leaves it so, in the memory that it leaves.
 abbrev pub CallsMeetPairs : {K Q : Type 0} → Type 0 → (K → K → Bool) → (K → ℕ) → (Q → K → Bool) → Type 0
 CallsMeetPairs {K} {Q} V same hash asks =
-    (m m2 : Mem (Node K V)) (p : KeyCall K V Q) (end : KeyCall K V Q × Called (Node K V)) → (IsTrying p.stands → IsAtTry p)
+    (m m2 : Mem (Node K V)) (c : Chart K) (blocks : Blocks) (p : KeyCall K V Q) (end : KeyCall K V Q × Called (Node K V)) → (IsTrying p.stands → IsAtTry c blocks p)
     → ((asking : Asking) → p.stands ≢ at.Asks asking) → MetAt m p p.stands → Steps Took value_at m (call_plan asks same hash p) m2 end
     → MetAt m2 end.0 end.0.stands
 

@@ -14,16 +14,17 @@ use Rattle.papaya_tables.specs.declared.resize_mode.ResizeMode.{ResizeMode}
 use Rattle.papaya_tables.specs.declared.status.TheConstants.Status.{ABORTED}
 use Rattle.papaya_tables.specs.declared.table.Table.{Table}
 use Rattle.papaya_tables.specs.declared.trial.Trial.{Trial}
+use Rattle.papaya_raw.specs.declared.machines.call.KeyCall.{KeyCall}
 use Rattle.papaya_tables.proofs.Places.{has_distinct_places}
 use Rattle.papaya_tables.proofs.TableLens.{go_by_the_counter}
-use Rattle.papaya_rule.specs.Chart.{Phase, Copied, Place, Empty, Tombstone, Holds, Share, Free, Chart, is_marked}
+use Rattle.papaya_rule.specs.Chart.{Phase, Copied, Place, Empty, Tombstone, Holds, Share, Chart, is_marked}
 use Rattle.papaya_rule.specs.Rule.{IsLawful, Agrees, Rule, is_of}
 use Rattle.papaya_rule.specs.Words.{Blocks, word_of, byte_of, place_word}
 use Rattle.papaya_rule.specs.Maps.{spot_at, spot_of, IsMap, IsTable}
 use Rattle.papaya_rule.proofs.Keys.TriesSeen.{spot_inside}
 use Rattle.papaya_rule.proofs.Words.TablesSeen.{place_there}
 use Rattle.papaya_alone.specs.Counting.{one_if, pairs_in}
-use Rattle.papaya_alone.specs.Met.{has_pair, met_in, MetPairsAreFew, TriesMeetPairs, names_block, words_met, WordsSayWhatStands, GoesByTheCounterAlone}
+use Rattle.papaya_alone.specs.Met.{has_pair, met_in, MetPairsAreFew, TriesMeetPairs, names_block, words_met, WordsSayWhatStands, GoesByTheCounterAlone, IsAtTry}
 use Rattle.papaya_alone.proofs.Shards.Fewer.{no_more}
 
 -- what is not marked was not copied
@@ -176,3 +177,26 @@ goes_by_the_counter V Q same hash lawful mode root m c blocks map p t is last at
         let words = words_few same hash mode root m c blocks map p.trial.table t is p.hash (suc p.trial.table.limit) in
         let pairs = met_pairs_are_few same hash (is_incremental mode) lawful c map.rule t last at_root is_len p.hash (suc p.trial.table.limit) within in
         omega (arith, met, words, pairs)
+
+-- what is known of a try, by the call alone
+module _ {K V Q : Type 0} where
+  abbrev pub AtSpot : KeyCall K V Q → Type 0
+  AtSpot p = (p.trial.probe.i ≡ spot_at p.trial.table.len p.hash p.trial.probe.len) × (p.trial.probe.len ≤ p.trial.table.limit) × (p.trial.table.limit < 2 ^ 64)
+
+  pub at_spot_of : (c : Chart K) (blocks : Blocks) (p : KeyCall K V Q) → IsAtTry c blocks p → AtSpot p
+  at_spot_of c blocks p (t, j, trial, is_len, low) = (place, within, few)
+    where
+      len_is : p.trial.table.len ≡ c.len t
+      len_is = ap (λ (x : Table). x.len) trial.table.is
+
+      limit_is : p.trial.table.limit ≡ c.limit t
+      limit_is = ap (λ (x : Table). x.limit) trial.table.is
+
+      place : p.trial.probe.i ≡ spot_at p.trial.table.len p.hash p.trial.probe.len
+      place = trial.place ∙ ap (λ (n : ℕ). spot_at n p.hash j) (sym len_is) ∙ ap (λ (n : ℕ). spot_at p.trial.table.len p.hash n) (sym trial.try)
+
+      within : p.trial.probe.len ≤ p.trial.table.limit
+      within = let try = trial.try in let most = trial.most in omega (arith, try, most, limit_is)
+
+      few : p.trial.table.limit < 2 ^ 64
+      few = let most = is_len.most in omega (arith, most, low, limit_is)

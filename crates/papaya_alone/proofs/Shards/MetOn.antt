@@ -1,6 +1,6 @@
 -- What a call has met at its table, from one step to the next: no more pairs than its tries meet there, until the pairs are counted for the next table.
 use Rattle.std.specs.Prelude.{◌==◌, ◌-◌, ◌%◌, ◌^◌, nat_le, nat_lt, not, Option, Some, None, Result, Ok, Err, if◌then◌else◌, max}
-use Rattle.std.proofs.Common.{◌≡◌, ◌≢◌, ℕ, zero, suc, ◌+◌, ◌<◌, ◌≤◌, ◌⊎◌, inl, inr, Bool, true, false, refl, ap, sym, subst, arith}
+use Rattle.std.proofs.Common.{◌≡◌, ◌≢◌, ℕ, zero, suc, ◌+◌, ◌<◌, ◌≤◌, inl, inr, Bool, true, false, refl, ap, sym, subst, arith}
 use Rattle.std.proofs.lemmas.Bool.{cases_lt, ltb-true}
 use Rattle.seize_words.specs.declared.at.At.{At}
 use Rattle.seize_words.specs.declared.at.At.TheVariants as names
@@ -20,7 +20,7 @@ use Rattle.papaya_tables.specs.Finding.{may_name}
 use Rattle.papaya_tables.specs.Lengths.{next_len, next_limit, next_turn}
 use Rattle.papaya_tables.specs.Probes.{probe_after}
 use Rattle.papaya_tables.specs.TablePlaces.{at_place, at_word}
-use Rattle.papaya_tables.specs.Trials.{place_tried, with_met, next_trial}
+use Rattle.papaya_tables.specs.Trials.{place_tried, with_met}
 use Rattle.papaya_tables.specs.declared.finding.Finding.{Finding}
 use Rattle.papaya_tables.specs.declared.finding.Finding.TheVariants as finds
 use Rattle.papaya_tables.specs.declared.lengths.Reason.{Reason}
@@ -46,7 +46,7 @@ use Rattle.papaya_resize.specs.declared.outcome.Outcome.TheVariants as outcome
 use Rattle.papaya_resize.specs.declared.sum.Sum.{Sum}
 use Rattle.papaya_resize.specs.declared.sum.Summing.{Summing}
 use Rattle.papaya_resize.specs.declared.sum.Summing.TheVariants as sums
-use Rattle.papaya_raw.specs.Call.{made, makes_of, root_found, next_read, next_found, dropped, key_read, pair_read, word_read, word_found, tried, looked, looks_for, first_made, next_made, disposed, helped, copied, call_plan, plan_at}
+use Rattle.papaya_raw.specs.Call.{made, makes_of, root_found, next_read, next_found, dropped, key_read, pair_read, word_read, word_found, tried, looked, looks_for, first_made, next_made, disposed, helped, copied, plan_at}
 use Rattle.papaya_raw.specs.CallPoints.{going, standing, over, ending, tableless, at_free, following_made, asking_at, gap_by, at_last, at_pair, passed, halted, told_of, entering, went_on, changed, counted, having_met}
 use Rattle.papaya_raw.specs.declared.machines.answer.Called.{Called}
 use Rattle.papaya_raw.specs.declared.machines.answer.Called.TheVariants as called
@@ -70,7 +70,8 @@ use Rattle.papaya_rule.specs.Rule.{total}
 use Rattle.papaya_rule.specs.Maps.{spot_at}
 use Rattle.papaya_rule.proofs.Keys.Always.{Always, AlwaysOf, always_if, always_ends, always_plan_as, always_steps}
 use Rattle.papaya_alone.specs.Counting.{one_if}
-use Rattle.papaya_alone.specs.Met.{names_block, words_met, IsAtTry, IsTrying, HasMet, MetMaking, MetAt, CallsMeetPairs}
+use Rattle.papaya_alone.specs.Met.{names_block, words_met, IsTrying, HasMet, MetMaking, MetAt, CallsMeetPairs}
+use Rattle.papaya_alone.proofs.Shards.Met.{AtSpot, at_spot_of}
 
 -- more tries meet no fewer pairs
 total_more : (f : ℕ → Bool) (n k : ℕ) → n ≤ k → total one_if f n ≤ total one_if f k
@@ -188,7 +189,7 @@ module _ {K V Q : Type 0} (m : Mem (Node K V)) where
         by tells.Removes = following_met
 
   -- at a try
-  module _ (q : KeyCall K V Q) (tries : IsAtTry q) (here : HasMet m q q.trial.probe.len) where
+  module _ (q : KeyCall K V Q) (tries : AtSpot q) (here : HasMet m q q.trial.probe.len) where
     all_met : HasMet m q (suc q.trial.table.limit)
     all_met =
         let within = tries.1 in
@@ -347,12 +348,12 @@ module _ {K V Q : Type 0} (asks : Q → K → Bool) (same : K → K → Bool) (h
   as_was : m2 ≡ m → MetAt m end.0 end.0.stands → So
   as_was e met = subst (λ (x : Mem (Node K V)). MetAt x end.0 end.0.stands) (sym e) met
 
-  at_probes : IsAtTry p → HasMet m p p.trial.probe.len → Stepped at.Probes → So
+  at_probes : AtSpot p → HasMet m p p.trial.probe.len → Stepped at.Probes → So
   at_probes tries here s =
       let d = loaded m (word_found asks same p) (place_tried p.trial) m2 end s in
       as_was d.2 (always_ends (On m) (value_at m) (word_read asks same true p d.0) end (read_met m p tries here d.0 d.1 asks same true) d.3)
 
-  at_tries : (word new : ℕ) → IsAtTry p → HasMet m p p.trial.probe.len → Stepped (at.Tries word new) → So
+  at_tries : (word new : ℕ) → AtSpot p → HasMet m p p.trial.probe.len → Stepped (at.Tries word new) → So
   at_tries word new tries here s =
       elim (exchanged m (tried asks same p word new) (place_tried p.trial) word new m2 end s) as (λ _. So) [
         | inl d ↦ subst (λ (e : KeyCall K V Q × Called (Node K V)). MetAt m2 e.0 e.0.stands) (sym d.3) (changed_met m2 p word new)
@@ -446,7 +447,7 @@ module _ {K V Q : Type 0} (asks : Q → K → Bool) (same : K → K → Bool) (h
     on_dropped over (Made r) = self
     on_dropped over (Roomed r) = self
 
-  steps_meet : (IsTrying p.stands → IsAtTry p) → ((asking : Asking) → p.stands ≢ at.Asks asking) → MetAt m p p.stands → Stepped p.stands → So
+  steps_meet : (IsTrying p.stands → AtSpot p) → ((asking : Asking) → p.stands ≢ at.Asks asking) → MetAt m p p.stands → Stepped p.stands → So
   steps_meet tries never met s = by p.stands refl tries met s
     where
       self : (stands : Calling) → p.stands ≡ stands → MetAt m2 p stands → On m2 (p, called.Goes)
@@ -455,7 +456,7 @@ module _ {K V Q : Type 0} (asks : Q → K → Bool) (same : K → K → Bool) (h
       whole : (stands : Calling) → AlwaysOf (On m2) (plan_at asks same hash p stands) → Stepped stands → So
       whole stands all st = always_steps (On m2) m m2 (plan_at asks same hash p stands) end all st
 
-      by : (stands : Calling) → p.stands ≡ stands → (IsTrying stands → IsAtTry p) → MetAt m p stands → Stepped stands → So
+      by : (stands : Calling) → p.stands ≡ stands → (IsTrying stands → AtSpot p) → MetAt m p stands → Stepped stands → So
       by at.Makes is try had st = whole at.Makes (on_made (self at.Makes is tt) p.unmade) st
       by (at.Looks l) is try had st = whole (at.Looks l) (on_looks (self (at.Looks l) is tt) l p.asked) st
       by at.Roots is try had st = whole at.Roots (on_root (self at.Roots is tt)) st
@@ -473,4 +474,5 @@ module _ {K V Q : Type 0} (asks : Q → K → Bool) (same : K → K → Bool) (h
       by (at.Over over) is try had st = whole (at.Over over) (self (at.Over over) is tt) st
 
 pub calls_meet_pairs : {K Q : Type 0} (V : Type 0) (same : K → K → Bool) (hash : K → ℕ) (asks : Q → K → Bool) → CallsMeetPairs V same hash asks
-calls_meet_pairs V same hash asks m m2 p end tries never met s = steps_meet asks same hash m m2 p end tries never met s
+calls_meet_pairs V same hash asks m m2 c blocks p end tries never met s =
+    steps_meet asks same hash m m2 p end (λ trying. at_spot_of c blocks p (tries trying)) never met s
