@@ -1,16 +1,17 @@
 -- What a call has met at its table, from one step to the next: no more pairs than its tries meet there, until the pairs are counted for the next table.
 use Rattle.std.specs.Prelude.{◌==◌, ◌-◌, ◌%◌, ◌^◌, nat_le, nat_lt, not, Option, Some, None, Result, Ok, Err, if◌then◌else◌, max}
-use Rattle.std.proofs.Common.{◌≡◌, ◌≢◌, ℕ, zero, suc, ◌+◌, ◌<◌, ◌≤◌, inl, inr, Bool, true, false, refl, ap, sym, subst, arith}
-use Rattle.std.proofs.lemmas.Bool.{cases_lt, ltb-true}
+use Rattle.std.proofs.Common.{◌≡◌, ◌≢◌, ℕ, suc, ◌+◌, ◌≤◌, inl, inr, Bool, true, false, refl, ap, sym, subst, arith}
+use Rattle.std.proofs.lemmas.Bool.{ltb-true}
 use Rattle.seize_words.specs.declared.at.At.{At}
 use Rattle.seize_words.specs.declared.at.At.TheVariants as names
 use Rattle.seize_words.specs.declared.fault.Fault.{Fault}
 use Rattle.seize_words.specs.declared.fault.Fault.TheVariants.{Memory, Capacity}
 use Rattle.seize_words.specs.Mem.{Mem, value_at, word_at, Took}
 use Rattle.seize_words.specs.Op.{Out, Found, Stored, Exchanged, Made, Taken, Roomed}
-use Rattle.seize_words.specs.Plan.{Plan, Then, Turn, Do, Now, Seeing, Sure, Steps, then_as, plan_as}
+use Rattle.seize_words.specs.Plan.{Steps, plan_as}
 use Rattle.seize_words.specs.Word.{block_in}
 use Rattle.seize_words.proofs.OneOwner.Operations.{loaded, exchanged}
+use Rattle.seize_rule.proofs.Rows.Leaving.{steps_back}
 use Rattle.seize.specs.declared.progress.Progress.{Progress}
 use Rattle.seize.specs.declared.progress.Progress.TheVariants as progress
 use Rattle.seize.specs.declared.rows.settle.Settled.{Settled}
@@ -66,34 +67,16 @@ use Rattle.papaya_raw.specs.declared.machines.call.KeyCall.{KeyCall}
 use Rattle.papaya_raw.specs.declared.machines.call.Calling.{Calling}
 use Rattle.papaya_raw.specs.declared.machines.call.Calling.TheVariants as at
 use Rattle.papaya_points.proofs.Calls.Asked.{asking_so, asking_of_so, beyond_so}
-use Rattle.papaya_rule.specs.Rule.{total}
 use Rattle.papaya_rule.specs.Maps.{spot_at}
 use Rattle.papaya_rule.proofs.Keys.Always.{Always, AlwaysOf, always_if, always_ends, always_plan_as, always_steps}
 use Rattle.papaya_alone.specs.Counting.{one_if}
 use Rattle.papaya_alone.specs.Met.{names_block, words_met, IsTrying, HasMet, MetMaking, MetAt, CallsMeetPairs}
 use Rattle.papaya_alone.proofs.Shards.Met.{AtSpot, at_spot_of}
+use Rattle.papaya_alone.proofs.Shards.Sums.{total_more}
 
 -- more tries meet no fewer pairs
-total_more : (f : ℕ → Bool) (n k : ℕ) → n ≤ k → total one_if f n ≤ total one_if f k
-total_more f n zero l = subst (λ (x : ℕ). total one_if f x ≤ total one_if f 0) (sym (let e : n ≡ 0 = omega (arith, l) in e)) (omega arith)
-total_more f n (suc k) l = elim (cases_lt n (suc k)) as (λ _. total one_if f n ≤ total one_if f (suc k)) [
-  | inl below ↦ (let rest = total_more f n k (omega (arith, below)) in omega (arith, rest))
-  | inr above ↦ subst (λ (x : ℕ). total one_if f n ≤ total one_if f x) (let e : n ≡ suc k = omega (arith, l, above) in e) (omega arith)
-]
-
 words_more : {T : Type 0} (m : Mem T) (table : Table) (code n k : ℕ) → n ≤ k → words_met m table code n ≤ words_met m table code k
-words_more m table code n k l = total_more (λ j. names_block (word_at m (at_place table (spot_at table.len code j)))) n k l
-
--- what is so of each outcome of a machine inside, as that is turned, is so of each outcome of the step
-module _ {T A B : Type 0} (P : B → Type 0) (f : A → B) where
-  always_turned : (rest : Then T A) → Always (λ a. P (f a)) rest → Always P (then_as f rest)
-  always_turned (Now end) all = all
-  always_turned (Seeing block rest) all = λ value. always_turned (rest value) (all value)
-  always_turned (Sure fact rest) all = always_turned rest all
-
-  plan_turned : (plan : Plan T A) → AlwaysOf (λ a. P (f a)) plan → AlwaysOf P (plan_as f plan)
-  plan_turned (Turn rest) all = always_turned rest all
-  plan_turned (Do op rest) all = λ out. always_turned (rest out) (all out)
+words_more m table code n k l = total_more one_if (λ j. names_block (word_at m (at_place table (spot_at table.len code j)))) n k l
 
 module _ {K V Q : Type 0} (m : Mem (Node K V)) where
   -- so it is where a step comes to, in this memory
@@ -371,20 +354,17 @@ module _ {K V Q : Type 0} (asks : Q → K → Bool) (same : K → K → Bool) (h
     MakesSo x = Steps Took value_at m (plan_as (next_made p) (making.plan_at n x)) m2 end
 
     module _ (before : Table) (reason : Reason) (sum : Sum) where
-      abbrev counts_as : Plan (Node K V) (Sum × Progress ℕ) → Plan (Node K V) (KeyCall K V Q × Called (Node K V))
-      counts_as plan = plan_as (next_made p) (plan_as (making.counted n before reason) plan)
-
-      same_memory : (x : Summing) → Steps Took value_at m (counts_as (summing.plan_at sum x)) m2 end → m2 ≡ m
-      same_memory (sums.Adds shard so_far) s =
-          (loaded m (λ out. then_as (next_made p) (then_as (making.counted n before reason) (summing.added sum shard so_far out))) (names.Word sum.setting.counter shard) m2 end s).2
-      same_memory (sums.Over count) s = s.0
+      same_memory : (x : Summing) (b : Sum × Progress ℕ) → Steps Took value_at m (summing.plan_at {T = Node K V} sum x) m2 b → m2 ≡ m
+      same_memory (sums.Adds shard so_far) b s = (loaded m (summing.added sum shard so_far) (names.Word sum.setting.counter shard) m2 b s).2
+      same_memory (sums.Over count) b s = s.0
 
       at_sums : MetMaking m p (makes.Sums before reason sum) → MakesSo (makes.Sums before reason sum) → So
       at_sums met s =
-          as_was (same_memory sum.stands s)
-          (always_steps (On m) m m2 (counts_as (summing.sum_plan sum)) end
-          (plan_turned (On m) (next_made p) (plan_as (making.counted n before reason) (summing.sum_plan sum))
-          (always_plan_as (Inside m p) (making.counted n before reason) (counting_met m p n before reason sum met) (summing.sum_plan sum))) s)
+          let told = steps_back (next_made p) m m2 (plan_as (making.counted n before reason) (summing.sum_plan sum)) end s in
+          let counts = steps_back (making.counted n before reason) m m2 (summing.sum_plan sum) told.0 told.1 in
+          as_was (same_memory sum.stands counts.0 counts.1)
+          (subst (λ (e : KeyCall K V Q × Called (Node K V)). On m e) (sym told.2)
+          (subst (λ (e : NewTable × Progress Table). Inside m p e) (sym counts.2) (counting_met m p n before reason sum met counts.0)))
 
     nothing : (x : Making) → ((before : Table) (reason : Reason) (sum : Sum) → x ≢ makes.Sums before reason sum) → MetMaking m2 p x
     nothing (makes.Sums before reason sum) other = absurd (other before reason sum refl)
@@ -397,8 +377,9 @@ module _ {K V Q : Type 0} (asks : Q → K → Bool) (same : K → K → Bool) (h
 
     at_others : ((before : Table) (reason : Reason) (sum : Sum) → n.stands ≢ makes.Sums before reason sum) → MakesSo n.stands → So
     at_others other s =
-        always_steps (On m2) m m2 (plan_as (next_made p) (making.plan_at n n.stands)) end
-        (plan_turned (On m2) (next_made p) (making.plan_at n n.stands) (making_met m2 p n (nothing n.stands other) n.stands other)) s
+        let told = steps_back (next_made p) m m2 (making.plan_at n n.stands) end s in
+        subst (λ (e : KeyCall K V Q × Called (Node K V)). On m2 e) (sym told.2)
+        (always_steps (Inside m2 p) m m2 (making.plan_at n n.stands) told.0 (making_met m2 p n (nothing n.stands other) n.stands other) told.1)
 
     at_allocs : MetMaking m p n.stands → MakesSo n.stands → So
     at_allocs met s = by n.stands refl
