@@ -4,3 +4,5 @@ mod Counts
 pub mod Counted
 pub mod Fewer
 pub mod PairsChanged
+pub mod Met
+mod MetOn

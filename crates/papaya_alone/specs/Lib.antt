@@ -8,3 +8,4 @@ pub mod FactsAloneCalls
 pub mod Values
 pub mod WholeCalls
 pub mod LoneCalls
+pub mod Met

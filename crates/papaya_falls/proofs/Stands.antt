@@ -5,6 +5,7 @@ use Rattle.seize_words.specs.declared.at.At.{At}
 use Rattle.seize_words.specs.declared.at.At.TheVariants.{Root, Word}
 use Rattle.seize_words.specs.Mem.{Mem, word_at, value_at}
 use Rattle.papaya_tables.specs.Chunks.{is_incremental}
+use Rattle.papaya_tables.specs.Trials.{trial_at}
 use Rattle.papaya_tables.specs.declared.node.Node.{Node}
 use Rattle.papaya_tables.specs.declared.node.Node.TheVariants as node
 use Rattle.papaya_tables.specs.declared.setting.Setting.{Setting}
@@ -81,7 +82,7 @@ module _ {K V : Type 0} (setting : Setting) (m : Mem (Node K V)) (c : Chart K) (
 
   -- at a try for a pair
   abbrev pub AtTry : ℕ → Table → Probe → Type 0
-  AtTry code table probe = (t : ℕ) × (j : ℕ) × IsTrial c blocks (record { table = table; probe = probe }) code t j
+  AtTry code table probe = (t : ℕ) × (j : ℕ) × IsTrial c blocks (trial_at table probe) code t j
 
   -- at an old table
   abbrev pub AtOld : Copier → ℕ → Type 0

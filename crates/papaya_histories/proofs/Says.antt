@@ -9,14 +9,13 @@ use Rattle.seize.specs.declared.rows.settle.Settled.{Settled}
 use Rattle.seize.specs.declared.rows.settle.Settled.TheVariants as settled
 use Rattle.papaya_tables.specs.Chunks.{is_incremental}
 use Rattle.papaya_tables.specs.Finding.{may_name}
-use Rattle.papaya_tables.specs.Trials.{next_trial}
+use Rattle.papaya_tables.specs.Trials.{next_trial, with_met}
 use Rattle.papaya_tables.specs.declared.finding.Finding.{Finding}
 use Rattle.papaya_tables.specs.declared.finding.Finding.TheVariants as finds
 use Rattle.papaya_tables.specs.declared.marks.TheConstants.{TOMBSTONE}
 use Rattle.papaya_tables.specs.declared.node.Node.{Node}
 use Rattle.papaya_tables.specs.declared.node.Node.TheVariants as node
 use Rattle.papaya_tables.specs.declared.table.Table.{Table}
-use Rattle.papaya_tables.specs.declared.trial.Trial.{Trial}
 use Rattle.papaya_resize.specs.Copier.{copier_plan}
 use Rattle.papaya_resize.specs.CopierStates.{copying_all}
 use Rattle.papaya_resize.specs.Dispose.{dispose_plan}
@@ -31,7 +30,7 @@ use Rattle.papaya_resize.specs.declared.outcome.Outcome.TheVariants as outcome
 use Rattle.papaya_raw.specs.Answers.{ended}
 use Rattle.papaya_raw.specs.Call.{made, makes_of, root_found, next_found, dropped, key_read, pair_read, word_read, word_found, tried, looked, looks_for, first_made, next_made, disposed, helped, copied, plan_at}
 use Rattle.papaya_raw.specs.CallFills.{filled, putting_by, fill_by, emptied, fills_with, given_up, asks_at}
-use Rattle.papaya_raw.specs.CallPoints.{going, standing, over, ending, following_made, storing, burying, at_gap, gap_by, asking_at, pair_by, tableless, at_free, at_end, at_last, at_pair, passed, told_of, entering, went_on, changed, counted}
+use Rattle.papaya_raw.specs.CallPoints.{going, standing, over, ending, following_made, storing, burying, at_gap, gap_by, asking_at, pair_by, tableless, at_free, at_last, at_pair, told_of, entering, went_on, changed, counted, having_met}
 use Rattle.papaya_raw.specs.Replies.{value_for, as_own}
 use Rattle.papaya_raw.specs.declared.machines.answer.KeyAnswer.{KeyAnswer}
 use Rattle.papaya_raw.specs.declared.machines.answer.KeyAnswer.TheVariants as answers
@@ -52,6 +51,7 @@ use Rattle.papaya_raw.specs.declared.machines.asking.Told.TheVariants as tells
 use Rattle.papaya_raw.specs.declared.machines.call.Calling.{Calling}
 use Rattle.papaya_raw.specs.declared.machines.call.Calling.TheVariants as at
 use Rattle.papaya_raw.specs.declared.machines.call.KeyCall.{KeyCall}
+use Rattle.papaya_points.proofs.Calls.Asked.{passed_so}
 use Rattle.papaya_rule.proofs.Keys.Always.{Always, AlwaysOf, always_if, always_plan_as}
 
 -- it asks there what it says
@@ -116,11 +116,6 @@ module _ {K V Q : Type 0} where
     free_so missing.Puts = tt
     free_so missing.Asks = asking_so gaps.Free
 
-    end_so : (t : Missing) → SaysSo (at_end t p)
-    end_so missing.Answers = ending_so (ends.Answered answers.Absent)
-    end_so missing.Puts = tt
-    end_so missing.Asks = asking_so gaps.Past
-
     last_so : (t : Missing) → SaysSo (at_last t p)
     last_so missing.Answers = either (is_incremental p.setting.mode) (ending p (ends.Answered answers.Absent)) (following_made p) (ending_so (ends.Answered answers.Absent)) tt
     last_so missing.Puts = tt
@@ -133,13 +128,12 @@ module _ {K V Q : Type 0} where
     there_so there.Asks word =
         either (block_in word == p.replies.pair) (pair_by p.replies.present p word) (pair_by tells.Nothing p word) (pair_so p.replies.present word) (pair_so tells.Nothing word)
 
-    passed_so : (trial : Option Trial) → SaysSo (passed p trial)
-    passed_so (Some trial) = tt
-    passed_so None = either (is_incremental p.setting.mode) (going p at.Nexts) (at_end p.missing p) tt (end_so p.missing)
-
     told_so : (loaded : Bool) (word : ℕ) (found : Finding) → SaysSo (told_of loaded p word found)
     told_so loaded word finds.Free = free_so p.missing
-    told_so loaded word finds.Passed = passed_so (next_trial p.trial)
+    told_so loaded word finds.Passed =
+        passed_so SaysSo (having_met p word) (λ next. tt) tt
+        (λ e. either (p.own == 0) (over (having_met p word) (ends.Answered answers.Absent)) (going (having_met p word) (at.Drops (ends.Answered answers.Absent))) tt tt)
+        (λ e untold. (gaps.Past, refl)) (next_trial (with_met p.trial word))
     told_so loaded word finds.Moved = tt
     told_so loaded word finds.Copying = either loaded (standing p at.Probes, called.Waits) (going p at.Probes) tt tt
     told_so loaded word finds.There = there_so p.there word

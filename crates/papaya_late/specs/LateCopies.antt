@@ -2,6 +2,7 @@
 use Rattle.std.specs.Prelude.{◌≡◌, ℕ, suc, ◌*◌, ◌<◌, ◌≤◌, Bool, true, false, Some}
 use Rattle.seize_words.specs.declared.at.At.TheVariants.{Word}
 use Rattle.seize.specs.World.{World, Cutting}
+use Rattle.papaya_tables.specs.Trials.{trial_at}
 use Rattle.papaya_tables.specs.declared.node.Node.{Node}
 use Rattle.papaya_tables.specs.declared.probe.Probe.{Probe}
 use Rattle.papaya_tables.specs.declared.setting.Setting.{Setting}
@@ -52,7 +53,7 @@ module _ {K V : Type 0} (same : K → K → Bool) (hash : K → ℕ) (w : World 
   abbrev pub TriesLate : Copier → ℕ → ℕ → Table → Probe → Type 0
   TriesLate p word code table probe =
       (u : ℕ) × (t : ℕ) × (n : ℕ) × (k : K) × (j : ℕ) × WorksLate p u t n k word × (code ≡ hash k) × (table ≡ p.target)
-      × IsTrial c blocks (record { table = table; probe = probe }) code t j
+      × IsTrial c blocks (trial_at table probe) code t j
 
   -- The tables from s on, up to its target, which was the root and which the root has left, are its own: it has unlinked them.
   abbrev pub HasUnlinkedLate : Copier → ℕ → ℕ → Type 0

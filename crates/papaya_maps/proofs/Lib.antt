@@ -3,5 +3,6 @@ pub mod Reserves
 pub mod Rests
 pub mod Ends
 mod OtherMaps
+mod NextTables
 mod Samples
 pub mod Laws

@@ -17,3 +17,4 @@ pub mod EndingsReserves
 pub mod Listed
 pub mod Spares
 pub mod FaultsBegins
+pub mod NextTables

@@ -5,6 +5,7 @@ ghost use Rattle.papaya_maps.specs.Listed.{ListsAddUp, InOneOfTwo, FirstOrBehind
 ghost use Rattle.papaya_maps.specs.EndingsBegins.{BeginningsEnd, BeginningsLeaveLess};
 ghost use Rattle.papaya_maps.specs.EndingsEnds.{EndsOfMapsEnd, EndsLeaveLess};
 ghost use Rattle.papaya_maps.specs.LoneReserves.{LoneReservesBegin, LoneReservesGoOn};
+ghost use Rattle.papaya_maps.specs.NextTables.{NextTablesGoByTheCounter};
 ghost use Rattle.papaya_maps.specs.WholeBegins.{MapsBeginAlone, MapsGoOnAlone};
 ghost use Rattle.papaya_maps.specs.FaultsBegins.{FreeRootsSuffice, MemoryAloneIsRefused};
 ghost use Rattle.papaya_maps.specs.Spares.{SameSlotsAreKept, CallsSpareOthers, ReservationsSpareOthers};
@@ -93,4 +94,10 @@ pub fn blocks_are_listed<K>()
     ensures first { FirstOrBehind }
     ensures waits { WaitsBehindTables K }
     ensures marked { MarkedIsSettledOrOwn }
+{}
+
+/// Where a call counts the pairs for the table after the last one, has met no more of them than its tries meet, and will count as many as the map has,
+/// each step of that counts on, or makes the table for so many pairs, as long as it is by the counter alone.
+pub fn next_tables_go_by_the_counter<K, V, Q>()
+    ensures steps { (same : K → K → Bool) (hash : K → ℕ) (asks : Q → K → Bool) → NextTablesGoByTheCounter V same hash asks }
 {}

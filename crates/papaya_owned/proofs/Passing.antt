@@ -10,7 +10,7 @@ use Rattle.seize_words.specs.declared.at.At.{At}
 use Rattle.seize.specs.declared.progress.Progress.TheVariants as progress
 use Rattle.papaya_tables.specs.Chunks.{is_incremental}
 use Rattle.papaya_tables.specs.Finding.{finding, may_name, shut, vacant}
-use Rattle.papaya_tables.specs.Trials.{place_tried, next_trial}
+use Rattle.papaya_tables.specs.Trials.{place_tried, next_trial, with_met}
 use Rattle.papaya_tables.specs.declared.finding.Aim.{Aim}
 use Rattle.papaya_tables.specs.declared.finding.Aim.TheVariants.{Looks}
 use Rattle.papaya_tables.specs.declared.finding.Finding.{Finding}
@@ -20,7 +20,7 @@ use Rattle.papaya_tables.specs.declared.node.Node.{Node}
 use Rattle.papaya_tables.specs.declared.resize_mode.ResizeMode.{ResizeMode}
 use Rattle.papaya_tables.specs.declared.trial.Trial.{Trial}
 use Rattle.papaya_raw.specs.Call.{pair_read, plan_at}
-use Rattle.papaya_raw.specs.CallPoints.{aim_of, told, told_of, passed}
+use Rattle.papaya_raw.specs.CallPoints.{aim_of, told, told_of, passed, having_met}
 use Rattle.papaya_raw.specs.declared.machines.call.Calling.{Calling}
 use Rattle.papaya_raw.specs.declared.machines.call.Calling.TheVariants as at
 use Rattle.papaya_owned.specs.Machines.{at_trial, on_key_after, on_key_plan}
@@ -52,7 +52,7 @@ passed_by mode aim w = by (block_in w == 0)
 module _ {K V Q S : Type 0} (asks : Q → K → Bool) (same : K → K → Bool) (hashes : S → K → ℕ) (m : Mem (Node K V)) (u : OnKey K V Q S) (w : ℕ) (n : Trial) where
   -- the step that makes this try is the one to the next
   passes : u.call.stands ≡ at.Probes → word_at m (place_tried u.call.trial) ≡ Some w → may_name u.call.hash w ≡ false
-      → finding u.call.setting.mode Looks w false ≡ is.Passed → next_trial u.call.trial ≡ Some n
+      → finding u.call.setting.mode Looks w false ≡ is.Passed → next_trial (with_met u.call.trial w) ≡ Some n
       → Steps Took value_at m (on_key_plan asks same hashes u) m (at_trial u n, progress.Goes)
   passes stands found other so next =
       subst (λ (s : Calling). Steps Took value_at m (plan_as (on_key_after u) (plan_at asks same (hashes u.hasher.now) u.call s)) m (at_trial u n, progress.Goes)) (sym stands)
@@ -61,7 +61,7 @@ module _ {K V Q S : Type 0} (asks : Q → K → Bool) (same : K → K → Bool) 
       ends : (at_trial u n, progress.Goes) ≡ on_key_after u (told true u.call w false)
       ends =
           sym (ap (λ (f : Finding). on_key_after u (told_of true u.call w f)) (passed_by u.call.setting.mode (aim_of u.call.missing) w so)
-          ∙ ap (λ x. on_key_after u (passed u.call x)) next
+          ∙ ap (λ x. on_key_after u (passed (having_met u.call w) x)) next
           ∙ ap (λ (s : Calling). (record u { call = record u.call { trial = n; stands = s } }, progress.Goes)) (sym stands))
 
       by : (b : Bool) → b ≡ false
@@ -72,7 +72,7 @@ module _ {K V Q S : Type 0} (asks : Q → K → Bool) (same : K → K → Bool) 
 module _ {K V Q S : Type 0} (asks : Q → K → Bool) (same : K → K → Bool) (hashes : S → K → ℕ) (m : Mem (Node K V)) (u : OnKey K V Q S) (trial : Trial) where
   -- if there is a next one
   pub passes_if : (w : ℕ) → u.call.stands ≡ at.Probes → word_at m (place_tried trial) ≡ Some w → may_name u.call.hash w ≡ false
-      → finding u.call.setting.mode Looks w false ≡ is.Passed → (next : Option Trial) → next ≡ next_trial trial
+      → finding u.call.setting.mode Looks w false ≡ is.Passed → (next : Option Trial) → next ≡ next_trial (with_met trial w)
       → IfSome next (λ n. Steps Took value_at m (on_key_plan asks same hashes (at_trial u trial)) m (at_trial u n, progress.Goes))
   passes_if w stands found other so None is = tt
   passes_if w stands found other so (Some n) is = passes asks same hashes m (at_trial u trial) w n stands found other so (sym is)

@@ -31,7 +31,7 @@ fn next_try<K: Eq + Hash + Drop, V: Drop, Q: Equivalent<K>, S: Hashes<K>>(
         return None;
     }
     match seen(mode, Aim::Looks, word, false) {
-        Finding::Passed => trial.next(),
+        Finding::Passed => trial.meets(word).next(),
         Finding::Free | Finding::Moved | Finding::Copying | Finding::There => None,
     }
 }

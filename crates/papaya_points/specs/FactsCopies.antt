@@ -1,6 +1,7 @@
 -- What a copier knows, at each of its points, where pairs move in incremental mode.
 use Rattle.std.specs.Prelude.{◌≡◌, ◌≢◌, ℕ, suc, ◌<◌, ◌≤◌, Bool, true, false, Some}
 use Rattle.seize.specs.World.{World, Cutting}
+use Rattle.papaya_tables.specs.Trials.{trial_at}
 use Rattle.papaya_tables.specs.declared.node.Node.{Node}
 use Rattle.papaya_tables.specs.declared.setting.Setting.{Setting}
 use Rattle.papaya_tables.specs.declared.probe.Probe.{Probe}
@@ -67,7 +68,7 @@ module _ {K V : Type 0} (same : K → K → Bool) (hash : K → ℕ) (w : World 
   abbrev pub Tries : Copier → ℕ → ℕ → Table → Probe → Type 0
   Tries p word code table probe =
       (n : ℕ) × (k : K) × (t : ℕ) × (j : ℕ) × Works p n k word × (code ≡ hash k) × (c.first < t)
-      × IsTrial c blocks (record { table = table; probe = probe }) code t j
+      × IsTrial c blocks (trial_at table probe) code t j
       × ((g : ℕ) → g < j → Taken same (spot_of hash) true c t k g) × LooksFor k t
 
   -- a place of its own is marked, and it is to be refused

@@ -2,6 +2,7 @@
 use Rattle.std.specs.Prelude.{◌≡◌, ◌≢◌, ℕ, suc, ◌*◌, ◌^◌, ◌<◌, ◌≤◌, Bool, true, false, Some}
 use Rattle.seize_words.specs.declared.at.At.TheVariants.{Word}
 use Rattle.seize.specs.World.{World, Cutting}
+use Rattle.papaya_tables.specs.Trials.{trial_at}
 use Rattle.papaya_tables.specs.declared.node.Node.{Node}
 use Rattle.papaya_tables.specs.declared.probe.Probe.{Probe}
 use Rattle.papaya_tables.specs.declared.setting.Setting.{Setting}
@@ -61,7 +62,7 @@ module _ {K V : Type 0} (same : K → K → Bool) (hash : K → ℕ) (w : World 
   abbrev pub TriesIn : Copier → ℕ → ℕ → Table → Probe → Type 0
   TriesIn p word code table probe =
       (t : ℕ) × (n : ℕ) × (k : K) × (j : ℕ) × WorksIn p t n k word × (code ≡ hash k) × (table ≡ p.target)
-      × IsTrial c blocks (record { table = table; probe = probe }) code t j × ((g : ℕ) → g < j → Taken same (spot_of hash) false c t k g)
+      × IsTrial c blocks (trial_at table probe) code t j × ((g : ℕ) → g < j → Taken same (spot_of hash) false c t k g)
 
   -- some place was given up for that table
   abbrev pub GaveUp : Copier → ℕ → Type 0

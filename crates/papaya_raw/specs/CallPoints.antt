@@ -2,7 +2,7 @@
 use Rattle.std.specs.Prelude.{ℕ, ◌+◌, ◌*◌, ◌/◌, ◌%◌, ◌^◌, ◌==◌, Bool, true, false, if◌then◌else◌, Option, Some, None}
 use Rattle.seize_words.specs.Word.{link_to, block_in}
 use Rattle.papaya_tables.specs.Chunks.{is_incremental}
-use Rattle.papaya_tables.specs.Trials.{first_trial, next_trial}
+use Rattle.papaya_tables.specs.Trials.{first_trial, with_met, next_trial}
 use Rattle.papaya_tables.specs.Finding.{finding}
 use Rattle.papaya_resize.specs.Lookup.{looking}
 use Rattle.papaya_raw.specs.Answers.{ended}
@@ -54,7 +54,7 @@ word_to block hash = (link_to block % 2 ^ 64 + hash / 2 ^ 57 * 8) % 2 ^ 64
 
 -- nothing was tried yet
 abbrev pub untried : Trial
-untried = record { table = record { link = 0; len = 0; limit = 0; turn = 0 }; probe = record { i = 0; len = 0 } }
+untried = record { table = record { link = 0; len = 0; limit = 0; turn = 0 }; probe = record { i = 0; len = 0 }; met = 0 }
 
 module _ {K V Q : Type 0} where
   -- a call that begins
@@ -109,9 +109,9 @@ module _ {K V Q : Type 0} where
   abbrev pub answering : KeyCall K V Q → KeyAnswer → KeyCall K V Q × Called (Node K V)
   answering c answer = ending c (ends.Answered answer)
 
-  -- no table follows the one that was tried: who needs one makes it
+  -- no table follows the one that was tried: who needs one makes it, for the pairs that its tries have met at least
   abbrev pub following_made : KeyCall K V Q → KeyCall K V Q × Called (Node K V)
-  following_made c = going c (at.Allocs (table_after c.setting c.trial.table Full))
+  following_made c = going c (at.Allocs (table_after c.setting c.trial.table (Full c.trial.met)))
 
   -- It puts its own block in the place of a word, once that has the value which it was told.
   abbrev pub storing : Told V → KeyCall K V Q → ℕ → KeyCall K V Q × Called (Node K V)
@@ -182,6 +182,10 @@ module _ {K V Q : Type 0} where
   at_pair there.Removes c word = going c (at.Tries word TOMBSTONE)
   at_pair there.Asks c word = asking_of c word
 
+  -- the word of its try is counted, if it names a pair
+  abbrev pub having_met : KeyCall K V Q → ℕ → KeyCall K V Q
+  having_met c word = record c { trial = with_met c.trial word }
+
   -- a try was passed
   abbrev pub passed : KeyCall K V Q → Option Trial → KeyCall K V Q × Called (Node K V)
   passed c (Some trial) = going (record c { trial = trial }) at.Probes
@@ -194,7 +198,7 @@ module _ {K V Q : Type 0} where
   -- how it goes on by what the word of a try says
   abbrev pub told_of : Bool → KeyCall K V Q → ℕ → Finding → KeyCall K V Q × Called (Node K V)
   told_of loaded c word is.Free = at_free c.missing c
-  told_of loaded c word is.Passed = passed c (next_trial c.trial)
+  told_of loaded c word is.Passed = passed (having_met c word) (next_trial (with_met c.trial word))
   told_of loaded c word is.Moved = going c at.Nexts
   told_of loaded c word is.Copying = halted loaded c
   told_of loaded c word is.There = at_pair c.there c word

@@ -55,7 +55,7 @@ behind setting before stands = record { setting = setting; link = Word (block_in
 
 -- the table after another one: its length goes by the count of the pairs, and by the table before where a copy found no place
 abbrev pub begun_for : Setting → Table → Reason → Making
-begun_for setting before Full = at.Sums before Full (summing setting)
+begun_for setting before (Full met) = at.Sums before (Full met) (summing setting)
 begun_for setting before (Reserved additional) = at.Sums before (Reserved additional) (summing setting)
 begun_for setting before NoPlace = making_of NoPlace before (next_len NoPlace before.len 0 setting.initial)
 

@@ -117,6 +117,7 @@ fn no_trial() -> Trial
             turn: 0,
         },
         probe: Probe { i: 0, len: 0 },
+        met: 0,
     }
 }
 

@@ -79,7 +79,7 @@ module _ {K V : Type 0} (terms : Terms) where
   -- why a call makes a further table: it has found no place for its pair, it reserves, or a copy has found no place
   abbrev pub MayMakeFor : UnderWay K V → List (Moment K V) → Call K V → ℕ → Reason → Type 0
   MayMakeFor c moments (Reserve more) count (Reserved additional) = (additional ≡ more) × Counts (shards_of terms) c.map moments count
-  MayMakeFor c moments call count Full = has_value_for call c ≡ true
+  MayMakeFor c moments call count (Full met) = has_value_for call c ≡ true
   MayMakeFor c moments call count NoPlace = OneOf (HasNext c.map) moments
   MayMakeFor c moments call count reason = ⊥
 

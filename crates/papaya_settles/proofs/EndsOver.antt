@@ -11,7 +11,7 @@ use Rattle.seize.specs.declared.progress.Progress.{Progress}
 use Rattle.seize.specs.declared.progress.Progress.TheVariants as progress
 use Rattle.papaya_tables.specs.Chunks.{is_incremental}
 use Rattle.papaya_tables.specs.Finding.{may_name}
-use Rattle.papaya_tables.specs.Trials.{next_trial}
+use Rattle.papaya_tables.specs.Trials.{next_trial, with_met}
 use Rattle.papaya_tables.specs.declared.finding.Finding.{Finding}
 use Rattle.papaya_tables.specs.declared.finding.Finding.TheVariants as finds
 use Rattle.papaya_tables.specs.declared.marks.TheConstants.{TOMBSTONE}
@@ -20,7 +20,6 @@ use Rattle.papaya_tables.specs.declared.node.Node.TheVariants as node
 use Rattle.papaya_tables.specs.declared.table.Table.{Table}
 use Rattle.papaya_resize.specs.Dispose.{dispose_plan}
 use Rattle.papaya_resize.specs.declared.dispose.Dispose.{Dispose}
-use Rattle.papaya_tables.specs.declared.trial.Trial.{Trial}
 use Rattle.papaya_resize.specs.Copier.{copier_plan}
 use Rattle.papaya_resize.specs.CopierStates.{copying_all}
 use Rattle.papaya_resize.specs.Lookup.{lookup_plan}
@@ -33,7 +32,7 @@ use Rattle.papaya_resize.specs.declared.outcome.Outcome.TheVariants as outcome
 use Rattle.papaya_raw.specs.Answers.{ended}
 use Rattle.papaya_raw.specs.Call.{made, makes_of, root_found, next_found, dropped, key_read, pair_read, word_read, word_found, tried, looked, looks_for, first_made, next_made, helped, copied, disposed, plan_at, call_plan}
 use Rattle.papaya_raw.specs.CallFills.{filled, putting_by, fill_by, emptied, fills_with, given_up}
-use Rattle.papaya_raw.specs.CallPoints.{going, over, ending, storing, burying, at_gap, gap_by, asking_at, pair_by, tableless, at_free, at_end, at_last, at_pair, passed, told_of, entering, went_on, changed}
+use Rattle.papaya_raw.specs.CallPoints.{going, over, ending, storing, burying, at_gap, gap_by, asking_at, pair_by, tableless, at_free, at_last, at_pair, told_of, entering, went_on, changed, having_met}
 use Rattle.papaya_raw.specs.Replies.{value_for, as_own}
 use Rattle.papaya_raw.specs.declared.machines.answer.Called.{Called}
 use Rattle.papaya_raw.specs.declared.machines.answer.Called.TheVariants as called
@@ -53,6 +52,7 @@ use Rattle.papaya_raw.specs.declared.machines.asking.Told.TheVariants as tells
 use Rattle.papaya_raw.specs.declared.machines.call.Calling.{Calling}
 use Rattle.papaya_raw.specs.declared.machines.call.Calling.TheVariants as at
 use Rattle.papaya_raw.specs.declared.machines.call.KeyCall.{KeyCall}
+use Rattle.papaya_points.proofs.Calls.Asked.{passed_so}
 use Rattle.papaya_rule.proofs.Keys.Always.{Always, AlwaysOf, always_if, always_plan_as, always_steps}
 
 -- it is over
@@ -119,11 +119,6 @@ module _ {K V Q : Type 0} where
     free_ends missing.Puts = tt
     free_ends missing.Asks = asking_ends gaps.Free
 
-    end_ends : (t : Missing) → IsEnded (at_end t p)
-    end_ends missing.Answers = ending_ends (ends.Answered answers.Absent)
-    end_ends missing.Puts = tt
-    end_ends missing.Asks = asking_ends gaps.Past
-
     last_ends : (t : Missing) → IsEnded (at_last t p)
     last_ends missing.Answers = either (is_incremental p.setting.mode) (ending p (ends.Answered answers.Absent)) _ (ending_ends (ends.Answered answers.Absent)) tt
     last_ends missing.Puts = tt
@@ -136,13 +131,12 @@ module _ {K V Q : Type 0} where
     there_ends there.Asks word =
         either (block_in word == p.replies.pair) (pair_by p.replies.present p word) (pair_by tells.Nothing p word) (pair_ends p.replies.present word) (pair_ends tells.Nothing word)
 
-    passed_ends : (trial : Option Trial) → IsEnded (passed p trial)
-    passed_ends (Some trial) = tt
-    passed_ends None = either (is_incremental p.setting.mode) (going p at.Nexts) (at_end p.missing p) tt (end_ends p.missing)
-
     told_ends : (loaded : Bool) (word : ℕ) (found : Finding) → IsEnded (told_of loaded p word found)
     told_ends loaded word finds.Free = free_ends p.missing
-    told_ends loaded word finds.Passed = passed_ends (next_trial p.trial)
+    told_ends loaded word finds.Passed =
+        passed_so IsEnded (having_met p word) (λ next. tt) tt
+        (λ e. either (p.own == 0) (over (having_met p word) (ends.Answered answers.Absent)) (going (having_met p word) (at.Drops (ends.Answered answers.Absent))) tt tt)
+        (λ e untold. tt) (next_trial (with_met p.trial word))
     told_ends loaded word finds.Moved = tt
     told_ends true word finds.Copying = tt
     told_ends false word finds.Copying = tt

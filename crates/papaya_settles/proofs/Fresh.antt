@@ -9,7 +9,7 @@ use Rattle.seize.specs.declared.progress.Progress.{Progress}
 use Rattle.seize.specs.declared.progress.Progress.TheVariants as progress
 use Rattle.papaya_tables.specs.Chunks.{is_incremental}
 use Rattle.papaya_tables.specs.Finding.{may_name}
-use Rattle.papaya_tables.specs.Trials.{next_trial}
+use Rattle.papaya_tables.specs.Trials.{next_trial, with_met}
 use Rattle.papaya_tables.specs.declared.finding.Finding.{Finding}
 use Rattle.papaya_tables.specs.declared.finding.Finding.TheVariants as finds
 use Rattle.papaya_tables.specs.declared.marks.TheConstants.{TOMBSTONE}
@@ -19,7 +19,6 @@ use Rattle.papaya_tables.specs.declared.setting.Setting.{Setting}
 use Rattle.papaya_tables.specs.declared.table.Table.{Table}
 use Rattle.papaya_resize.specs.Dispose.{disposing}
 use Rattle.papaya_resize.specs.declared.dispose.Dispose.{Dispose}
-use Rattle.papaya_tables.specs.declared.trial.Trial.{Trial}
 use Rattle.papaya_resize.specs.Copier.{copier_plan}
 use Rattle.papaya_resize.specs.CopierStates.{copying_all}
 use Rattle.papaya_resize.specs.Lookup.{lookup_plan}
@@ -31,7 +30,7 @@ use Rattle.papaya_resize.specs.declared.outcome.Outcome.{Outcome}
 use Rattle.papaya_resize.specs.declared.outcome.Outcome.TheVariants as outcome
 use Rattle.papaya_raw.specs.Call.{made, makes_of, root_found, next_found, dropped, key_read, pair_read, word_read, word_found, tried, looked, looks_for, first_made, next_made, helped, copied, plan_at, call_plan}
 use Rattle.papaya_raw.specs.CallFills.{filled, putting_by, fill_by, emptied, fills_with, given_up}
-use Rattle.papaya_raw.specs.CallPoints.{going, over, ending, storing, burying, at_gap, gap_by, asking_at, pair_by, tableless, at_free, at_end, at_last, at_pair, passed, told_of, entering, went_on, changed}
+use Rattle.papaya_raw.specs.CallPoints.{going, over, ending, storing, burying, at_gap, gap_by, asking_at, pair_by, tableless, at_free, at_last, at_pair, told_of, entering, went_on, changed, having_met}
 use Rattle.papaya_raw.specs.Replies.{value_for, as_own}
 use Rattle.papaya_raw.specs.declared.machines.answer.Called.{Called}
 use Rattle.papaya_raw.specs.declared.machines.answer.Called.TheVariants as called
@@ -51,6 +50,7 @@ use Rattle.papaya_raw.specs.declared.machines.asking.Told.TheVariants as tells
 use Rattle.papaya_raw.specs.declared.machines.call.Calling.{Calling}
 use Rattle.papaya_raw.specs.declared.machines.call.Calling.TheVariants as at
 use Rattle.papaya_raw.specs.declared.machines.call.KeyCall.{KeyCall}
+use Rattle.papaya_points.proofs.Calls.Asked.{passed_so}
 use Rattle.papaya_rule.proofs.Keys.Always.{Always, AlwaysOf, always_if, always_plan_as, always_steps}
 use Rattle.papaya_settles.specs.Counts.{counts_in_calling}
 
@@ -159,11 +159,6 @@ module _ {K V Q : Type 0} where
     free_fresh missing.Puts = tt
     free_fresh missing.Asks = asking_fresh gaps.Free
 
-    end_fresh : (t : Missing) → IsFresh (at_end t p)
-    end_fresh missing.Answers = ending_fresh (ends.Answered answers.Absent) tt
-    end_fresh missing.Puts = tt
-    end_fresh missing.Asks = asking_fresh gaps.Past
-
     last_fresh : (t : Missing) → IsFresh (at_last t p)
     last_fresh missing.Answers = either (is_incremental p.setting.mode) (ending p (ends.Answered answers.Absent)) _ (ending_fresh (ends.Answered answers.Absent) tt) tt
     last_fresh missing.Puts = tt
@@ -176,13 +171,12 @@ module _ {K V Q : Type 0} where
     there_fresh there.Asks word =
         either (block_in word == p.replies.pair) (pair_by p.replies.present p word) (pair_by tells.Nothing p word) (pair_fresh p.replies.present word) (pair_fresh tells.Nothing word)
 
-    passed_fresh : (trial : Option Trial) → IsFresh (passed p trial)
-    passed_fresh (Some trial) = tt
-    passed_fresh None = either (is_incremental p.setting.mode) (going p at.Nexts) (at_end p.missing p) tt (end_fresh p.missing)
-
     told_fresh : (loaded : Bool) (word : ℕ) (found : Finding) → IsFresh (told_of loaded p word found)
     told_fresh loaded word finds.Free = free_fresh p.missing
-    told_fresh loaded word finds.Passed = passed_fresh (next_trial p.trial)
+    told_fresh loaded word finds.Passed =
+        passed_so IsFresh (having_met p word) (λ next. tt) tt
+        (λ e. either (p.own == 0) (over (having_met p word) (ends.Answered answers.Absent)) (going (having_met p word) (at.Drops (ends.Answered answers.Absent))) (tt, refl) tt)
+        (λ e untold. tt) (next_trial (with_met p.trial word))
     told_fresh loaded word finds.Moved = tt
     told_fresh true word finds.Copying = tt
     told_fresh false word finds.Copying = tt

@@ -5,4 +5,5 @@ pub mod Places
 mod Samples
 pub mod TableLens
 mod Triangular
+mod Tries
 mod Words

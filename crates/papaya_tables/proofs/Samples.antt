@@ -1,5 +1,5 @@
 -- The formulas by rows that were worked by hand.
-use Rattle.std.specs.Prelude.{ℕ, ◌+◌, ◌-◌, ◌^◌, ◌%◌, ◌≡◌, List, [], ◌∷◌, Option, Some, None, Ok, Err, map, sum, bit_and}
+use Rattle.std.specs.Prelude.{ℕ, ◌+◌, ◌-◌, ◌*◌, ◌^◌, ◌%◌, ◌≡◌, List, [], ◌∷◌, Option, Some, None, Ok, Err, map, sum, bit_and}
 use Rattle.std.proofs.Common.{refl}
 use Rattle.seize_words.specs.Word.{link_to}
 use Rattle.seize_words.specs.declared.at.At.TheVariants.{Word}
@@ -12,7 +12,7 @@ use Rattle.papaya_tables.specs.Lengths.{entries_of, len_of, next_len, next_limit
 use Rattle.papaya_tables.specs.Probes.{place_at, probe_from, probe_after, limit_of}
 use Rattle.papaya_tables.specs.Counts.{count_in}
 use Rattle.papaya_tables.specs.Chunks.{chunk_of}
-use Rattle.papaya_tables.specs.Trials.{first_trial, place_tried, next_trial}
+use Rattle.papaya_tables.specs.Trials.{first_trial, place_tried, with_met, next_trial}
 
 -- a length has room for a third more than the pairs
 
@@ -26,14 +26,22 @@ lengths_for_pairs = refl
 
 -- the length after another goes by what made it necessary
 
-full_of_pairs : next_len Full 8 8 8 ∷ next_len Full 32 26 1 ∷ next_len Full (2 ^ 48) (2 ^ 48) 1 ∷ [] ≡ Ok 16 ∷ Ok 64 ∷ Err Capacity ∷ []
+full_of_pairs : next_len (Full 8) 8 8 8 ∷ next_len (Full 26) 32 26 1 ∷ next_len (Full 0) (2 ^ 48) (2 ^ 48) 1 ∷ [] ≡ Ok 16 ∷ Ok 64 ∷ Err Capacity ∷ []
 full_of_pairs = refl
 
-few_pairs : next_len Full 64 8 1 ∷ next_len Full 64 8 64 ∷ next_len Full 8 0 1 ∷ [] ≡ Ok 32 ∷ Ok 64 ∷ Ok 8 ∷ []
+few_pairs : next_len (Full 8) 64 8 1 ∷ next_len (Full 0) 64 8 64 ∷ next_len (Full 0) 8 0 1 ∷ [] ≡ Ok 32 ∷ Ok 64 ∷ Ok 8 ∷ []
 few_pairs = refl
 
-one_hash : next_len Full 64 31 1 ∷ next_len NoPlace 64 0 1 ∷ [] ≡ Ok 64 ∷ Ok 128 ∷ []
+one_hash : next_len (Full 31) 64 31 1 ∷ next_len NoPlace 64 0 1 ∷ [] ≡ Ok 64 ∷ Ok 128 ∷ []
 one_hash = refl
+
+-- A probe that met more pairs than were counted goes by those: of 64 places, 9 are more than an eighth, and 32 are half of them; 4 of 32 are an eighth.
+more_met : next_len (Full 9) 64 8 1 ∷ next_len (Full 32) 64 0 1 ∷ next_len (Full 4) 32 0 1 ∷ next_len (Full 8) 8 0 8 ∷ [] ≡ Ok 64 ∷ Ok 128 ∷ Ok 16 ∷ Ok 16 ∷ []
+more_met = refl
+
+-- and the counter tells of pairs that it did not meet
+fewer_met : next_len (Full 0) 64 32 1 ∷ next_len (Full 31) 64 32 1 ∷ next_len (Full 7) 64 9 1 ∷ [] ≡ Ok 128 ∷ Ok 128 ∷ Ok 64 ∷ []
+fewer_met = refl
 
 room_for_all : next_len (Reserved 10) 8 0 1 ∷ next_len (Reserved 14) 16 10 1 ∷ next_len (Reserved (2 ^ 64 - 1)) 16 1 1 ∷ [] ≡ Ok 16 ∷ Ok 32 ∷ Err Capacity ∷ []
 unfolding lib.Count.count_leading_zeros
@@ -45,7 +53,7 @@ limits : map limit_of (1 ∷ 8 ∷ 16 ∷ 32 ∷ 64 ∷ []) ≡ 0 ∷ 7 ∷ 15 �
 unfolding lib.Count.count_leading_zeros
 limits = refl
 
-limits_after : next_limit Full 32 64 ∷ next_limit Full 64 64 ∷ next_limit NoPlace 64 128 ∷ next_limit (Reserved 14) 16 32 ∷ [] ≡ 30 ∷ 63 ∷ 127 ∷ 25 ∷ []
+limits_after : next_limit (Full 32) 32 64 ∷ next_limit (Full 32) 64 64 ∷ next_limit NoPlace 64 128 ∷ next_limit (Reserved 14) 16 32 ∷ [] ≡ 30 ∷ 63 ∷ 127 ∷ 25 ∷ []
 unfolding lib.Count.count_leading_zeros
 limits_after = refl
 
@@ -80,6 +88,15 @@ tried_next = refl
 
 no_third : then_on second next_trial ≡ None
 no_third = refl
+
+-- A try whose word names a pair has met it, also where that was copied (2); one at an empty place (0), a tombstone (2) or a place that is shut (1) has not. The
+-- next try goes on from that count.
+
+meets_pairs : map (λ (word : ℕ). (with_met (first_trial table 15) word).met) (0 ∷ 2 ∷ 1 ∷ (3 * 2048) ∷ (3 * 2048 + 2) ∷ []) ≡ 0 ∷ 0 ∷ 0 ∷ 1 ∷ 1 ∷ []
+meets_pairs = refl
+
+met_before : then_on (next_trial (with_met (first_trial table 15) (3 * 2048))) (λ trial. Some trial.met) ≡ Some 1
+met_before = refl
 
 -- pairs are counted in the shard of the slot, and a negative sum is none
 

@@ -10,7 +10,7 @@ use Rattle.std.proofs.lemmas.Bool.Decides.{leb_tells}
 use Rattle.papaya_tables.specs.declared.lengths.Reason.{Reason}
 use Rattle.papaya_tables.specs.declared.lengths.Reason.TheVariants.{Full, Reserved, NoPlace}
 use Rattle.papaya_tables.specs.Powers.{floor_log2, next_power}
-use Rattle.papaya_tables.specs.Lengths.{if_few, places_for, len_of, by_count, next_len, IsTableLen, HaveTableLens}
+use Rattle.papaya_tables.specs.Lengths.{if_few, places_for, len_of, by_count, next_len, IsTableLen, HaveTableLens, GoByTheCounter}
 
 -- what holds of a number that is answered
 if_few-holds : (places number : ℕ) (Holds : ℕ → Type 0) → (places ≤ 2 ^ 48 → Holds number) → IfOk (if_few places number) Holds
@@ -85,9 +85,16 @@ counted len count initial is_len is_initial =
     ]
 
 made_after : (reason : Reason) (len count initial : ℕ) → IsTableLen len → IsPowerOfTwo initial → IfOk (next_len reason len count initial) IsTableLen
-made_after Full len count initial is_len is_initial = within (by_count len count initial) (counted len count initial is_len is_initial)
+made_after (Full met) len count initial is_len is_initial = within (by_count len (max count met) initial) (counted len (max count met) initial is_len is_initial)
 made_after (Reserved additional) len count initial is_len is_initial = made_for (count + additional)
 made_after NoPlace len count initial is_len is_initial = within (len * 2) (twice len is_len.power)
 
 pub have_table_lens : HaveTableLens
 have_table_lens = record { made_for = made_for; made_after = made_after }
+
+pub go_by_the_counter : GoByTheCounter
+go_by_the_counter met len count initial fewer =
+    ap (λ (n : ℕ). if_few (max (by_count len n initial) 8) (max (by_count len n initial) 8)) most_counted
+  where
+    most_counted : max count met ≡ max count 0
+    most_counted = omega (arith, fewer)

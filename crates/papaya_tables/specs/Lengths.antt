@@ -1,5 +1,5 @@
 -- How long the tables of a map are, and where they are too long.
-use Rattle.std.specs.Prelude.{ℕ, ◌+◌, ◌-◌, ◌*◌, ◌/◌, ◌^◌, ◌≤◌, ◌==◌, nat_le, nat_lt, if◌then◌else◌, max, Result, Ok, Err, IfOk}
+use Rattle.std.specs.Prelude.{◌≡◌, ℕ, ◌+◌, ◌-◌, ◌*◌, ◌/◌, ◌^◌, ◌≤◌, ◌==◌, nat_le, nat_lt, if◌then◌else◌, max, Result, Ok, Err, IfOk}
 use Rattle.std.specs.Int.{IsPowerOfTwo}
 use Rattle.seize_words.specs.declared.fault.Fault.{Fault}
 use Rattle.seize_words.specs.declared.fault.Fault.TheVariants.{Capacity}
@@ -29,16 +29,18 @@ abbrev pub by_count : ℕ → ℕ → ℕ → ℕ
 by_count len count initial =
     if nat_le (len / 2) count then len * 2 else (if nat_le count (len / 8) then max initial (len / 2) else len)
 
--- the length of the table after one of this length
+-- The length of the table after one of this length. Where a probe found no place, the count of the pairs is that of the counter, or that of those
+-- which it met, whichever is greater: others may have stored pairs that they have not counted yet.
 abbrev pub next_len : Reason → ℕ → ℕ → ℕ → Result ℕ Fault
-next_len Full len count initial = if_few (max (by_count len count initial) 8) (max (by_count len count initial) 8)
+next_len (Full met) len count initial =
+    if_few (max (by_count len (max count met) initial) 8) (max (by_count len (max count met) initial) 8)
 next_len (Reserved additional) len count initial = len_of (count + additional)
 next_len NoPlace len count initial = if_few (max (len * 2) 8) (max (len * 2) 8)
 
 -- The last try at the table after one of a length. All places are tried where the table is as long as the one before, which
 -- pairs with one hash can fill, and where it is there since a pair found no place.
 abbrev pub next_limit : Reason → ℕ → ℕ → ℕ
-next_limit Full before len = if len == before then len - 1 else limit_of len
+next_limit (Full met) before len = if len == before then len - 1 else limit_of len
 next_limit (Reserved additional) before len = if len == before then len - 1 else limit_of len
 next_limit NoPlace before len = len - 1
 
@@ -56,3 +58,7 @@ pub record IsTableLen (len : ℕ) : Type 0 where
 pub record HaveTableLens : Type 0 where
   pub made_for : (pairs : ℕ) → IfOk (len_of pairs) IsTableLen
   pub made_after : (reason : Reason) (len count initial : ℕ) → IsTableLen len → IsPowerOfTwo initial → IfOk (next_len reason len count initial) IsTableLen
+
+-- where a probe met no more pairs than the counter says, the length is that by the counter alone
+abbrev pub GoByTheCounter : Type 0
+GoByTheCounter = (met len count initial : ℕ) → met ≤ count → next_len (Full met) len count initial ≡ next_len (Full 0) len count initial

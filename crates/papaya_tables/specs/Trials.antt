@@ -1,21 +1,37 @@
 -- The tries of a key at a table.
-use Rattle.std.specs.Prelude.{ℕ, ◌-◌, nat_lt, if◌then◌else◌, Option, Some, None}
+use Rattle.std.specs.Prelude.{ℕ, ◌+◌, ◌-◌, ◌%◌, ◌^◌, ◌<◌, ◌≤◌, ◌==◌, nat_lt, if◌then◌else◌, Option, Some, None, IfSome}
+use Rattle.seize_words.specs.Word.{block_in}
 use Rattle.seize_words.specs.declared.at.At.{At}
 use Rattle.papaya_tables.specs.Probes.{probe_from, probe_after}
 use Rattle.papaya_tables.specs.TablePlaces.{at_place}
+use Rattle.papaya_tables.specs.declared.probe.Probe.{Probe}
 use Rattle.papaya_tables.specs.declared.table.Table.{Table}
 use Rattle.papaya_tables.specs.declared.trial.Trial.{Trial}
 
+-- a try that has met no pair
+abbrev pub trial_at : Table → Probe → Trial
+trial_at table probe = record { table = table; probe = probe; met = 0 }
+
 -- the first try for a hash
 abbrev pub first_trial : Table → ℕ → Trial
-first_trial table hash = record { table = table; probe = probe_from hash (table.len - 1) }
+first_trial table hash = trial_at table (probe_from hash (table.len - 1))
 
 -- the name of the word of its place
 abbrev pub place_tried : Trial → At
 place_tried trial = at_place trial.table trial.probe.i
 
+-- the same try, once the word of its place is counted: it has met a pair where that names one
+abbrev pub with_met : Trial → ℕ → Trial
+with_met trial word = record trial { met = if block_in word == 0 then trial.met else (trial.met + 1) % 2 ^ 64 }
+
 -- the next try, if the table is tried so often
 abbrev pub next_trial : Trial → Option Trial
 next_trial trial =
     if nat_lt trial.probe.len trial.table.limit
-    then Some record { table = trial.table; probe = probe_after trial.probe (trial.table.len - 1) } else None
+    then Some record { table = trial.table; probe = probe_after trial.probe (trial.table.len - 1); met = trial.met } else None
+
+-- What was met at a table are no more pairs than were tries, so their number never wraps. At a try those before it are counted, and then that one, too.
+abbrev pub TriesMeetFew : Type 0
+TriesMeetFew =
+    (trial : Trial) (word : ℕ) → trial.table.limit < 2 ^ 64 → trial.met ≤ trial.probe.len
+    → ((with_met trial word).met ≤ trial.probe.len + 1) × IfSome (next_trial (with_met trial word)) (λ next. next.met ≤ next.probe.len)

@@ -1,7 +1,7 @@
 //! How long the tables of a map are.
 ghost use Rattle.std.specs.Prelude.{◌≡◌, ◌*◌, ◌≤◌, ◌^◌, max, IfOk};
 ghost use Rattle.std.specs.Int.{IsNextPowerOfTwo};
-ghost use Rattle.papaya_tables.specs.Lengths.{if_few, places_for, entries_of, len_of, next_len, next_limit, next_turn, HaveTableLens};
+ghost use Rattle.papaya_tables.specs.Lengths.{if_few, places_for, entries_of, len_of, by_count, next_len, next_limit, next_turn, HaveTableLens, GoByTheCounter};
 
 use crate::probe::limit;
 use seize_words::Fault;
@@ -21,8 +21,8 @@ pub const LAST_TURN: u64 = 1 << 63;
 /// What made a further table necessary.
 #[derive(Clone, Copy, PartialEq, Eq)]
 pub enum Reason {
-    /// A probe went past the limit.
-    Full,
+    /// A probe went past the limit. Of its tries, so many had words that named a pair.
+    Full(u64),
     /// Room for this many more pairs was asked for.
     Reserved(u64),
     /// A copied pair found no place.
@@ -47,15 +47,13 @@ pub fn len_for(pairs: u64) -> Result<u64, Fault>
     Ok(entries_for(pairs)?.max(LEAST_LEN))
 }
 
-/// The length of the table after one of this length, for a map with this many pairs that was made with `initial`
-/// places. The fault is Capacity.
+/// The length of the table after one of this length, for a map with this many pairs by its counter that was made with
+/// `initial` places. A probe that met more pairs than that knows better. The fault is Capacity.
 pub fn len_after(reason: Reason, len: u64, count: u64, initial: u64) -> Result<u64, Fault>
     ensures { result ≡ next_len reason len count initial }
 {
     match reason {
-        Reason::Full if count >= len / 2 => double(len),
-        Reason::Full if count <= len / 8 => at_least(initial.max(len / 2)),
-        Reason::Full => at_least(len),
+        Reason::Full(met) => len_by(len, count.max(met), initial),
         Reason::Reserved(additional) => match count.checked_add(additional) {
             Some(pairs) => len_for(pairs),
             None => Err(Fault::Capacity),
@@ -91,6 +89,24 @@ pub fn turn_after(turn: u64) -> Result<u64, Fault>
 pub fn lengths_are_powers_of_two()
     ensures { HaveTableLens }
 {}
+
+/// Where a probe met no more pairs than the counter says, the length goes by the counter alone.
+pub fn lengths_go_by_the_counter()
+    ensures { GoByTheCounter }
+{}
+
+/// The length that a map with so many pairs goes on with. The fault is Capacity.
+fn len_by(len: u64, pairs: u64, initial: u64) -> Result<u64, Fault>
+    ensures { result ≡ if_few (max (by_count len pairs initial) 8) (max (by_count len pairs initial) 8) }
+{
+    if pairs >= len / 2 {
+        double(len)
+    } else if pairs <= len / 8 {
+        at_least(initial.max(len / 2))
+    } else {
+        at_least(len)
+    }
+}
 
 /// Twice the length. The fault is Capacity.
 fn double(len: u64) -> Result<u64, Fault>

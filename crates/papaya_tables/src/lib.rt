@@ -30,4 +30,4 @@ pub use resize_mode::ResizeMode;
 pub use setting::Setting;
 pub use status::Status;
 pub use table::Table;
-pub use trial::Trial;
+pub use trial::{Trial, tries_meet_few};

@@ -1,19 +1,21 @@
 //! One try after another at a table.
 ghost use Rattle.std.specs.Prelude.{◌≡◌};
-ghost use Rattle.papaya_tables.specs.Trials.{first_trial, place_tried, next_trial};
+ghost use Rattle.papaya_tables.specs.Trials.{first_trial, place_tried, with_met, next_trial, TriesMeetFew};
 
 use crate::hash::h1;
 use crate::probe::Probe;
 use crate::table::Table;
-use seize_words::At;
+use seize_words::{At, Link};
 
-/// A try at a table: the table in which a key is looked for, and the place at which it is.
+/// A try at a table: the table in which a key is looked for, the place at which it is, and what the tries before it have met.
 #[derive(Clone, Copy)]
 pub struct Trial {
     /// The table.
     pub table: Table,
     /// The place, and the number of the try.
     pub probe: Probe,
+    /// How many tries at the table had words that named a pair, of those that were counted.
+    pub met: u64,
 }
 
 impl Trial {
@@ -24,6 +26,7 @@ impl Trial {
         Trial {
             table,
             probe: Probe::start(h1(hash), table.mask()),
+            met: 0,
         }
     }
 
@@ -32,6 +35,18 @@ impl Trial {
         ensures { result ≡ place_tried self }
     {
         self.table.at(self.probe.i)
+    }
+
+    /// The same try, once the word of its place is counted: it has met a pair if that names one.
+    pub fn meets(self, word: u64) -> Trial
+        ensures { result ≡ with_met self word }
+    {
+        let met = if Link::block_of(word) == 0 {
+            self.met
+        } else {
+            self.met.wrapping_add(1)
+        };
+        Trial { met, ..self }
     }
 
     /// The next try, up to the last one of the table.
@@ -43,9 +58,11 @@ impl Trial {
         }
         let mut probe = self.probe;
         probe.next(self.table.mask());
-        Some(Trial {
-            table: self.table,
-            probe,
-        })
+        Some(Trial { probe, ..self })
     }
 }
+
+/// The tries at a table meet no more pairs than they are.
+pub fn tries_meet_few()
+    ensures { TriesMeetFew }
+{}

@@ -90,7 +90,7 @@ fn a_table_is_made_where_none_stands(rt: HostRuntime) -> Result<(), AllocError> 
     let reserved = NewTable::reserved(SETTING, BEFORE, 16);
     let too_long = NewTable::reserved(SETTING, BEFORE, u64::MAX);
     let no_place = NewTable::after(SETTING, BEFORE, Reason::NoPlace);
-    let full = NewTable::after(SETTING, BEFORE, Reason::Full);
+    let full = NewTable::after(SETTING, BEFORE, Reason::Full(0));
     let further = Ok((3 * 2048, 16, 15, 1));
     for row in [
         (

@@ -10,7 +10,7 @@ use Rattle.seize.specs.declared.rows.settle.Settled.{Settled}
 use Rattle.seize.specs.declared.rows.settle.Settled.TheVariants as settled
 use Rattle.papaya_tables.specs.Chunks.{is_incremental}
 use Rattle.papaya_tables.specs.Finding.{finding, may_name}
-use Rattle.papaya_tables.specs.Trials.{next_trial}
+use Rattle.papaya_tables.specs.Trials.{next_trial, with_met}
 use Rattle.papaya_tables.specs.declared.finding.Finding.{Finding}
 use Rattle.papaya_tables.specs.declared.finding.Finding.TheVariants as is
 use Rattle.papaya_tables.specs.declared.marks.TheConstants.{TOMBSTONE}
@@ -21,7 +21,7 @@ use Rattle.papaya_tables.specs.declared.trial.Trial.{Trial}
 use Rattle.papaya_raw.specs.Answers.{ended}
 use Rattle.papaya_raw.specs.Call.{have_one_key, made, makes_of, root_found, next_found, dropped, key_read, pair_read, tried, looked, looks_for, first_made, next_made, disposed, plan_at}
 use Rattle.papaya_raw.specs.CallFills.{filled, putting_by, fill_by, emptied, fills_with, given_up, asks_at}
-use Rattle.papaya_raw.specs.CallPoints.{aim_of, standing, going, over, ending, storing, at_gap, gap_by, pair_by, tableless, at_free, at_end, at_last, at_pair, passed, told_of, told, went_on, changed, counted}
+use Rattle.papaya_raw.specs.CallPoints.{aim_of, standing, going, over, ending, storing, at_gap, gap_by, pair_by, tableless, at_free, at_end, at_last, at_pair, passed, told_of, told, went_on, changed, counted, having_met}
 use Rattle.papaya_raw.specs.declared.machines.answer.KeyAnswer.{KeyAnswer}
 use Rattle.papaya_raw.specs.declared.machines.answer.Called.{Called}
 use Rattle.papaya_raw.specs.declared.machines.answer.Called.TheVariants as called
@@ -134,7 +134,7 @@ module _ {K V Q : Type 0} where
   -- it halts only where it has just read the word of a pair that is being copied
   pub told_goes : (loaded : Bool) (q : KeyCall K V Q) (word : ℕ) (x : Finding) → (loaded ≡ true → x ≢ is.Copying) → On (told_of {V = V} loaded q word x)
   told_goes loaded q word is.Free other = free_goes q.missing q
-  told_goes loaded q word is.Passed other = passed_goes q (next_trial q.trial)
+  told_goes loaded q word is.Passed other = passed_goes (having_met q word) (next_trial (with_met q.trial word))
   told_goes loaded q word is.Moved other = tt
   told_goes true q word is.Copying other = absurd (other refl refl)
   told_goes false q word is.Copying other = tt

@@ -9,7 +9,7 @@ use Rattle.seize.specs.declared.progress.Progress.{Progress}
 use Rattle.seize.specs.declared.progress.Progress.TheVariants as progress
 use Rattle.papaya_raw.specs.Answers.{ended}
 use Rattle.papaya_raw.specs.Call.{made, makes_of, root_found, next_found, dropped, key_read, pair_read, word_read, word_found, tried, looked, looks_for, first_made, next_made, helped, copied, plan_at}
-use Rattle.papaya_raw.specs.CallPoints.{going, standing, over, ending, tableless, at_free, at_end, following_made, asking_at, at_last, at_pair, passed, told_of, entering, went_on, changed, counted}
+use Rattle.papaya_raw.specs.CallPoints.{going, standing, over, ending, tableless, at_free, following_made, asking_at, at_last, at_pair, told_of, entering, went_on, changed, counted, having_met}
 use Rattle.papaya_tables.specs.Chunks.{is_incremental}
 use Rattle.papaya_resize.specs.Copier.{copier_plan}
 use Rattle.papaya_resize.specs.CopierStates.{copying_all}
@@ -17,7 +17,7 @@ use Rattle.papaya_resize.specs.Dispose.{disposing}
 use Rattle.papaya_tables.specs.Finding.{may_name}
 use Rattle.papaya_resize.specs.Lookup.{lookup_plan}
 use Rattle.papaya_resize.specs.NewTable.{new_table_plan}
-use Rattle.papaya_tables.specs.Trials.{next_trial}
+use Rattle.papaya_tables.specs.Trials.{next_trial, with_met}
 use Rattle.papaya_tables.specs.declared.marks.TheConstants.{TOMBSTONE}
 use Rattle.papaya_tables.specs.declared.node.Node.{Node}
 use Rattle.papaya_resize.specs.declared.outcome.Outcome.{Outcome}
@@ -43,9 +43,8 @@ use Rattle.papaya_tables.specs.declared.finding.Finding.{Finding}
 use Rattle.papaya_tables.specs.declared.finding.Finding.TheVariants as finds
 use Rattle.papaya_resize.specs.declared.lookup.Lookup.{Lookup}
 use Rattle.papaya_resize.specs.declared.new_table.NewTable.{NewTable}
-use Rattle.papaya_tables.specs.declared.trial.Trial.{Trial}
 use Rattle.papaya_points.specs.Unlinked.{has_unlinked}
-use Rattle.papaya_points.proofs.Calls.Asked.{asking_so, asking_of_so}
+use Rattle.papaya_points.proofs.Calls.Asked.{asking_so, asking_of_so, passed_so}
 use Rattle.papaya_rule.proofs.Keys.Always.{Always, AlwaysOf, always_if, always_plan_as, always_steps}
 use Rattle.papaya_points.proofs.Copiers.CopiersWhole.{unlinks_none}
 use Rattle.papaya_points.proofs.Steps.RootSteps.{call_is_promoting}
@@ -102,11 +101,6 @@ module _ {K V Q : Type 0} where
     fresh_free missing.Puts = (refl, tt)
     fresh_free missing.Asks = fresh_missing gaps.Free
 
-    fresh_end : (m : Missing) → IsFresh (at_end m p)
-    fresh_end missing.Answers = fresh_ending p (ends.Answered answers.Absent) tt
-    fresh_end missing.Puts = (refl, tt)
-    fresh_end missing.Asks = fresh_missing gaps.Past
-
     fresh_last : (m : Missing) → IsFresh (at_last m p)
     fresh_last missing.Answers =
         either (is_incremental p.setting.mode) (ending p (ends.Answered answers.Absent)) (following_made p) (fresh_ending p (ends.Answered answers.Absent) tt) (refl, tt)
@@ -119,13 +113,11 @@ module _ {K V Q : Type 0} where
     fresh_pair there.Removes word = (refl, tt)
     fresh_pair there.Asks word = asking_of_so IsFresh p (λ word new. (refl, tt)) (λ asking. (refl, tt)) (λ asking asked. (refl, tt)) word
 
-    fresh_passed : (trial : Option Trial) → IsFresh (passed p trial)
-    fresh_passed (Some trial) = (refl, tt)
-    fresh_passed None = either (is_incremental p.setting.mode) (going p at.Nexts) (at_end p.missing p) (refl, tt) (fresh_end p.missing)
-
     fresh_told : (loaded : Bool) (word : ℕ) (found : Finding) → IsFresh (told_of loaded p word found)
     fresh_told loaded word finds.Free = fresh_free p.missing
-    fresh_told loaded word finds.Passed = fresh_passed (next_trial p.trial)
+    fresh_told loaded word finds.Passed =
+        passed_so IsFresh (having_met p word) (λ next. (refl, tt)) (refl, tt) (λ e. fresh_ending (having_met p word) (ends.Answered answers.Absent) tt) (λ e untold. (refl, tt))
+        (next_trial (with_met p.trial word))
     fresh_told loaded word finds.Moved = (refl, tt)
     fresh_told loaded word finds.Copying = either loaded (standing p at.Probes, called.Waits) (going p at.Probes) (refl, tt) (refl, tt)
     fresh_told loaded word finds.There = fresh_pair p.there word

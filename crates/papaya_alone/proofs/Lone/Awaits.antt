@@ -1,12 +1,12 @@
 -- What a call waits for: a pair that is being copied, and what a machine within it waits for. And where it begins to copy.
 use Rattle.papaya_raw.specs.Answers.{ended}
 use Rattle.papaya_raw.specs.Call.{copied, disposed, first_made, helped, looked, next_made}
-use Rattle.papaya_raw.specs.CallPoints.{answering, asking_at, at_end, at_free, at_last, at_pair, changed, counted, ending, entering, following_made, going, passed, standing, tableless, told_of, went_on}
+use Rattle.papaya_raw.specs.CallPoints.{answering, asking_at, at_free, at_last, at_pair, changed, counted, ending, entering, following_made, going, passed, standing, tableless, told_of, went_on, having_met}
 use Rattle.papaya_tables.specs.Chunks.{is_incremental}
 use Rattle.papaya_resize.specs.CopierStates.{copying_all, helping}
 use Rattle.papaya_resize.specs.Dispose.{disposing}
 use Rattle.papaya_tables.specs.Finding.{finding}
-use Rattle.papaya_tables.specs.Trials.{next_trial}
+use Rattle.papaya_tables.specs.Trials.{next_trial, with_met}
 use Rattle.papaya_raw.specs.declared.machines.answer.KeyAnswer.{KeyAnswer}
 use Rattle.papaya_raw.specs.declared.machines.answer.Called.{Called}
 use Rattle.papaya_raw.specs.declared.machines.answer.Called.TheVariants.{Waits, Unstored, Asks}
@@ -22,7 +22,6 @@ use Rattle.papaya_tables.specs.declared.finding.Aim.TheVariants.{Changes, Looks,
 use Rattle.papaya_tables.specs.declared.finding.Finding.{Finding}
 use Rattle.papaya_resize.specs.declared.lookup.Lookup.{Lookup}
 use Rattle.papaya_resize.specs.declared.new_table.NewTable.{NewTable}
-use Rattle.papaya_tables.specs.declared.trial.Trial.{Trial}
 use Rattle.papaya_tables.specs.declared.marks.TheConstants.{TOMBSTONE}
 use Rattle.papaya_tables.specs.declared.node.Node.{Node}
 use Rattle.papaya_resize.specs.declared.outcome.Outcome.{Outcome}
@@ -48,10 +47,11 @@ use Rattle.papaya_raw.specs.declared.machines.answer.KeyAnswer.TheVariants as an
 use Rattle.papaya_raw.specs.declared.machines.answer.Missing.TheVariants as missing
 use Rattle.papaya_tables.specs.declared.finding.Finding.TheVariants as is
 use Rattle.papaya_raw.specs.declared.machines.answer.There.TheVariants as there
-use Rattle.papaya_points.proofs.Calls.Asked.{asking_so, asking_of_so}
+use Rattle.papaya_points.proofs.Calls.Asked.{asking_so, asking_of_so, passed_so}
 use Rattle.papaya_raw.specs.CallFills.{asks_at as plan_of}
 use Rattle.papaya_alone.proofs.Asks.{asks_so}
 use Rattle.papaya_raw.specs.declared.machines.asking.Asking.{Asking}
+use Rattle.papaya_raw.specs.declared.machines.asking.Asking.TheVariants as asking
 use Rattle.papaya_raw.specs.declared.machines.asking.Gap.{Gap}
 use Rattle.papaya_raw.specs.declared.machines.asking.Gap.TheVariants as gaps
 use Rattle.papaya_rule.proofs.Keys.Always.{AlwaysOf}
@@ -187,20 +187,13 @@ module _ {K V Q : Type 0} (p : KeyCall K V Q) where
       pair there.Puts = (tt, tt)
       pair there.Removes = (tt, tt)
       pair there.Asks = asking_of_so On p (λ word new. (tt, tt)) (λ asks_at. (tt, tt)) (λ asks_at asked. ((asks_at, refl), tt)) word
-  told_on loaded word is.Passed = goes (passed p (next_trial p.trial)) (pass (next_trial p.trial))
+  told_on loaded word is.Passed =
+      goes (passed (having_met p word) (next_trial (with_met p.trial word)))
+      (passed_so On (having_met p word) (λ next. (tt, tt)) (tt, tt) (λ e. answered (p.own == 0)) (λ e untold. ((asking.Absent gaps.Past, refl), tt)) (next_trial (with_met p.trial word)))
     where
-      end : (m : Missing) → On (at_end m p)
-      end missing.Answers = ending_on (ends.Answered answers.Absent)
-      end missing.Puts = (tt, tt)
-      end missing.Asks = gap_on gaps.Past
-
-      past : (b : Bool) → On (if b then going p at.Nexts else at_end p.missing p)
-      past true = (tt, tt)
-      past false = end p.missing
-
-      pass : (o : Option Trial) → On (passed p o)
-      pass (Some trial) = (tt, tt)
-      pass None = past (is_incremental p.setting.mode)
+      answered : (b : Bool) → On (if b then (record (having_met p word) { stands = at.Over (ends.Answered answers.Absent) }, ended (ends.Answered answers.Absent)) else going (having_met p word) (at.Drops (ends.Answered answers.Absent)))
+      answered true = (tt, tt)
+      answered false = (tt, tt)
 
   pub looked_on : (end : Lookup × Progress (Option ℕ)) → end.1 ≢ progress.Waits → On (looked p end)
   looked_on (next, progress.Goes) none = (tt, tt)

@@ -11,7 +11,7 @@ use Rattle.seize.specs.declared.rows.settle.Settled.TheVariants as settled
 use Rattle.papaya_tables.specs.Counts.{count_change}
 use Rattle.papaya_raw.specs.Answers.{ended}
 use Rattle.papaya_raw.specs.Call.{made, makes_of, root_found, next_found, dropped, key_read, pair_read, word_read, word_found, tried, looked, looks_for, first_made, next_made, disposed, helped, copied, plan_at}
-use Rattle.papaya_raw.specs.CallPoints.{going, standing, over, ending, tableless, at_free, at_end, following_made, asking_at, at_last, at_pair, passed, told_of, entering, went_on, changed, counted}
+use Rattle.papaya_raw.specs.CallPoints.{going, standing, over, ending, tableless, at_free, following_made, asking_at, at_last, at_pair, told_of, entering, went_on, changed, counted, having_met}
 use Rattle.papaya_tables.specs.Chunks.{is_incremental}
 use Rattle.papaya_resize.specs.Copier.{copier_plan}
 use Rattle.papaya_resize.specs.CopierStates.{copying_all}
@@ -19,7 +19,7 @@ use Rattle.papaya_resize.specs.Dispose.{disposing, dispose_plan}
 use Rattle.papaya_tables.specs.Finding.{may_name}
 use Rattle.papaya_resize.specs.Lookup.{lookup_plan}
 use Rattle.papaya_resize.specs.NewTable.{new_table_plan}
-use Rattle.papaya_tables.specs.Trials.{next_trial}
+use Rattle.papaya_tables.specs.Trials.{next_trial, with_met}
 use Rattle.papaya_tables.specs.declared.marks.TheConstants.{TOMBSTONE}
 use Rattle.papaya_tables.specs.declared.node.Node.{Node}
 use Rattle.papaya_resize.specs.declared.outcome.Outcome.{Outcome}
@@ -46,8 +46,7 @@ use Rattle.papaya_tables.specs.declared.finding.Finding.{Finding}
 use Rattle.papaya_tables.specs.declared.finding.Finding.TheVariants as finds
 use Rattle.papaya_resize.specs.declared.lookup.Lookup.{Lookup}
 use Rattle.papaya_resize.specs.declared.new_table.NewTable.{NewTable}
-use Rattle.papaya_tables.specs.declared.trial.Trial.{Trial}
-use Rattle.papaya_points.proofs.Calls.Asked.{asking_so, asking_of_so}
+use Rattle.papaya_points.proofs.Calls.Asked.{asking_so, asking_of_so, passed_so}
 use Rattle.papaya_rule.proofs.Keys.Always.{Always, AlwaysOf, always_if, always_plan_as, always_steps}
 use Rattle.papaya_alone.proofs.Asks.{asks_so}
 use Rattle.papaya_alone.specs.Counted.{counted_for, counted_end, counted_at}
@@ -116,11 +115,6 @@ module _ {K V Q : Type 0} where
     says_free missing.Puts = (refl, tt)
     says_free missing.Asks = says_missing gaps.Free
 
-    says_end : (m : Missing) → SaysNone (at_end m p)
-    says_end missing.Answers = says_ending p (ends.Answered answers.Absent) refl
-    says_end missing.Puts = (refl, tt)
-    says_end missing.Asks = says_missing gaps.Past
-
     says_last : (m : Missing) → SaysNone (at_last m p)
     says_last missing.Answers =
         either 0 (is_incremental p.setting.mode) (ending p (ends.Answered answers.Absent)) (following_made p) (says_ending p (ends.Answered answers.Absent) refl) (refl, tt)
@@ -133,13 +127,11 @@ module _ {K V Q : Type 0} where
     says_pair there.Removes word = (refl, tt)
     says_pair there.Asks word = asking_of_so SaysNone p (λ word new. (refl, tt)) (λ asking. (refl, tt)) (λ asking asked. (refl, tt)) word
 
-    says_passed : (trial : Option Trial) → SaysNone (passed p trial)
-    says_passed (Some trial) = (refl, tt)
-    says_passed None = either 0 (is_incremental p.setting.mode) (going p at.Nexts) (at_end p.missing p) (refl, tt) (says_end p.missing)
-
     says_told : (loaded : Bool) (word : ℕ) (found : Finding) → SaysNone (told_of loaded p word found)
     says_told loaded word finds.Free = says_free p.missing
-    says_told loaded word finds.Passed = says_passed (next_trial p.trial)
+    says_told loaded word finds.Passed =
+        passed_so SaysNone (having_met p word) (λ next. (refl, tt)) (refl, tt) (λ e. says_ending (having_met p word) (ends.Answered answers.Absent) refl) (λ e untold. (refl, tt))
+        (next_trial (with_met p.trial word))
     says_told loaded word finds.Moved = (refl, tt)
     says_told loaded word finds.Copying = either 0 loaded (standing p at.Probes, called.Waits) (going p at.Probes) (refl, tt) (refl, tt)
     says_told loaded word finds.There = says_pair p.there word

@@ -1,7 +1,7 @@
 -- What the shards of a counter say, added up: where their words are the same, and where one of them changes.
 use Rattle.std.specs.Prelude.{◌==◌, ◌&&◌, bit_and}
-use Rattle.std.proofs.Common.{◌≡◌, ◌≢◌, ℕ, zero, suc, ◌+◌, ◌%◌, ◌^◌, ◌<◌, Bool, true, false, cond, inl, inr, refl, ap, sym, ◌∙◌, arith, Option, Some}
-use Rattle.std.proofs.lemmas.Bool.{cases_eq, eq-eqb, ne_eqb}
+use Rattle.std.proofs.Common.{◌≡◌, ◌≢◌, ℕ, zero, suc, ◌+◌, ◌%◌, ◌^◌, ◌<◌, ◌≤◌, Bool, true, false, cond, inl, inr, refl, ap, sym, subst, ◌∙◌, arith, Option, Some}
+use Rattle.std.proofs.lemmas.Bool.{cases_lt, cases_eq, eq-eqb, ne_eqb}
 use Rattle.std.proofs.lemmas.Nat.{and_le_r}
 use Rattle.seize_words.specs.declared.at.At.{At}
 use Rattle.seize_words.specs.declared.at.At.TheVariants.{Word}
@@ -27,6 +27,15 @@ one_step g d e k n l h ih = elim (cases_eq n k) as (λ _. total g e (suc n) + g 
 pub total_one_else : {X : Type 0} (g : X → ℕ) (d e : ℕ → X) (k n : ℕ) → k < n → ((j : ℕ) → j < n → j ≢ k → g (e j) ≡ g (d j)) → total g e n + g (d k) ≡ total g d n + g (e k)
 total_one_else g d e k zero l h = absurd (omega (arith, l))
 total_one_else g d e k (suc n) l h = one_step g d e k n l h (total_one_else g d e k n)
+
+-- sums grow
+pub total_more : {X : Type 0} (f : X → ℕ) (d : ℕ → X) (a b : ℕ) → a ≤ b → total f d a ≤ total f d b
+total_more f d a zero l = let e : a ≡ 0 = omega (arith, l) in subst (λ (x : ℕ). total f d x ≤ total f d 0) (sym e) (omega arith)
+total_more f d a (suc b) l =
+    elim (cases_lt a (suc b)) as (λ _. total f d a ≤ total f d (suc b)) [
+      | inl low ↦ (let ih = total_more f d a b (omega (arith, low)) in omega (arith, ih))
+      | inr high ↦ (let e : a ≡ suc b = omega (arith, l, high) in subst (λ (x : ℕ). total f d x ≤ total f d (suc b)) (sym e) (omega arith))
+    ]
 
 mod_added : (s2 s old by : ℕ) → s2 + old ≡ s + (old + by) % 2 ^ 64 → s2 % 2 ^ 64 ≡ (s + by) % 2 ^ 64
 mod_added s2 s old by e = omega (arith, e)

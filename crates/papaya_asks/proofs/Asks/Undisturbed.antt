@@ -13,12 +13,12 @@ use Rattle.seize.specs.declared.progress.Progress.TheVariants as progress
 use Rattle.seize.specs.declared.rows.settle.Settled.{Settled}
 use Rattle.seize.specs.declared.rows.settle.Settled.TheVariants as settled
 use Rattle.papaya_raw.specs.Call.{first_made, next_made, disposed, helped, copied}
-use Rattle.papaya_raw.specs.CallPoints.{going, standing, over, ending, storing, at_gap, gap_by, asking_at, pair_by, tableless, at_free, at_end, at_last, at_pair, passed, told_of, entering, went_on, changed, counted}
+use Rattle.papaya_raw.specs.CallPoints.{going, standing, over, ending, storing, at_gap, gap_by, asking_at, pair_by, tableless, at_free, at_last, at_pair, told_of, entering, went_on, changed, counted, having_met}
 use Rattle.papaya_raw.specs.Replies.{value_told, value_for}
 use Rattle.papaya_tables.specs.Chunks.{is_incremental}
 use Rattle.papaya_tables.specs.Finding.{finding, vacant, named, marked}
 use Rattle.papaya_tables.specs.Marks.{has_mark}
-use Rattle.papaya_tables.specs.Trials.{place_tried, next_trial}
+use Rattle.papaya_tables.specs.Trials.{place_tried, next_trial, with_met}
 use Rattle.papaya_tables.specs.declared.finding.Aim.TheVariants as aims
 use Rattle.papaya_tables.specs.declared.finding.Finding.{Finding}
 use Rattle.papaya_tables.specs.declared.finding.Finding.TheVariants as finds
@@ -27,7 +27,6 @@ use Rattle.papaya_tables.specs.declared.node.Node.{Node}
 use Rattle.papaya_tables.specs.declared.node.Node.TheVariants as node
 use Rattle.papaya_tables.specs.declared.resize_mode.ResizeMode.{ResizeMode}
 use Rattle.papaya_tables.specs.declared.table.Table.{Table}
-use Rattle.papaya_tables.specs.declared.trial.Trial.{Trial}
 use Rattle.papaya_resize.specs.CopierStates.{copying_all}
 use Rattle.papaya_resize.specs.Dispose.{disposing}
 use Rattle.papaya_resize.specs.NewTable.{table_after}
@@ -57,6 +56,7 @@ use Rattle.papaya_raw.specs.declared.machines.call.KeyCall.{KeyCall}
 use Rattle.papaya_raw.specs.declared.machines.call.Calling.{Calling}
 use Rattle.papaya_raw.specs.declared.machines.call.Calling.TheVariants as at
 use Rattle.papaya_points.specs.Steps.{told_first}
+use Rattle.papaya_points.proofs.Calls.Asked.{passed_so}
 use Rattle.papaya_owned.proofs.Owned.HandsBack.{IsOver}
 
 -- where the key is there it asks, or answers with the pair
@@ -104,6 +104,11 @@ free_is mode word same =
   where
     i : Bool
     i = is_incremental mode
+
+-- where it was told nothing to store, it knows of nothing
+none_known : {V : Type 0} (known : Option V) → told_first known ≡ tells.Nothing → known ≡ None
+none_known None e = refl
+none_known (Some value) e = absurd (cc e)
 
 module _ {K V Q : Type 0} where
   -- it has no block of its own, its key is in hand, and this is what it knows to store where that is missing
@@ -253,12 +258,7 @@ module _ {K V Q : Type 0} (its : Option K) (known value : Option V) (seeks : Boo
         stays_free missing.Puts so empty = absurd so
         stays_free missing.Asks so empty = stays_asking gaps.Free (empty refl)
 
-        stays_end : (x : Missing) → AsksMissing x → So (at_end x p)
-        stays_end missing.Answers so = stays_ending (ends.Answered answers.Absent)
-        stays_end missing.Puts so = absurd so
-        stays_end missing.Asks so = stays_asking gaps.Past tt
-
-        stays_made : So (going p (at.Allocs (table_after p.setting p.trial.table Full)))
+        stays_made : So (going p (at.Allocs (table_after p.setting p.trial.table (Full p.trial.met))))
         stays_made = goes_on _ (seek, bare)
 
         pub stays_last : (x : Missing) → AsksMissing x → So (at_last x p)
@@ -276,13 +276,13 @@ module _ {K V Q : Type 0} (its : Option K) (known value : Option V) (seeks : Boo
             asks_it : So (pair_by tells.Nothing p word)
             asks_it = (goes_on (at.Asks (asking.Present word)) (seek, bare, is), refl)
 
-        stays_passed : (trial : Option Trial) → So (passed p trial)
-        stays_passed (Some trial) = record { present = asks; absent = absent; point = (seek, bare) }
-        stays_passed None = either (is_incremental p.setting.mode) (going p at.Nexts) (at_end p.missing p) (goes_on at.Nexts (seek, bare)) (stays_end p.missing absent)
-
         pub stays_told : (word : ℕ) → WordIs m2 p word → (found : Finding) → (found ≡ finds.Free → p.missing ≡ missing.Asks → word ≡ 0) → So (told_of true p word found)
         stays_told word is finds.Free zero = stays_free p.missing absent (λ e. subst (WordIs m2 p) (zero refl e) is)
-        stays_told word is finds.Passed zero = stays_passed (next_trial p.trial)
+        stays_told word is finds.Passed zero =
+            passed_so So (having_met p word) (λ next. record { present = asks; absent = absent; point = (seek, bare) }) (record { present = asks; absent = absent; point = (seek, bare) })
+            (λ e. by_test (p.own == 0) (over (having_met p word) (ends.Answered answers.Absent)) (going (having_met p word) (at.Drops (ends.Answered answers.Absent)))
+            (λ none. tt) (λ some. absurd (eqb-false p.own 0 some bare.0)))
+            (λ e untold. (record { present = asks; absent = absent; point = (seek, bare, none_known known (sym bare.2 ∙ untold), tt) }, tt)) (next_trial (with_met p.trial word))
         stays_told word is finds.Moved zero = goes_on at.Nexts (seek, bare)
         stays_told word is finds.Copying zero = goes_on at.Probes (seek, bare)
         stays_told word is finds.There zero = stays_pair p.there asks word is

@@ -4,18 +4,17 @@ use Rattle.std.proofs.Common.{refl, eqb-true, inl, inr}
 use Rattle.std.proofs.lemmas.Bool.{eqb-false}
 use Rattle.seize_words.specs.Word.{block_in}
 use Rattle.papaya_raw.specs.Call.{first_made, next_made, helped, copied, key_read, pair_read, word_read, have_one_key}
-use Rattle.papaya_raw.specs.CallPoints.{aim_of, going, over, ending, tableless, at_free, at_end, beyond, following_made, storing, burying, at_gap, gap_by, asking_at, pair_by, asking_of, at_last, at_pair, passed, halted, told_of, told, entering, went_on}
+use Rattle.papaya_raw.specs.CallPoints.{aim_of, going, over, ending, tableless, at_free, following_made, storing, burying, at_gap, gap_by, asking_at, pair_by, asking_of, at_last, at_pair, halted, told_of, told, entering, went_on, having_met}
 use Rattle.papaya_tables.specs.Chunks.{is_incremental}
 use Rattle.papaya_resize.specs.CopierStates.{helping, copying_all}
 use Rattle.papaya_tables.specs.Finding.{finding, may_name}
 use Rattle.papaya_resize.specs.Lookup.{names_pair}
-use Rattle.papaya_tables.specs.Trials.{next_trial}
+use Rattle.papaya_tables.specs.Trials.{next_trial, with_met}
 use Rattle.papaya_tables.specs.declared.marks.TheConstants.{TOMBSTONE}
 use Rattle.papaya_tables.specs.declared.node.Node.{Node}
 use Rattle.papaya_tables.specs.declared.table.Table.{Table}
 use Rattle.papaya_tables.specs.declared.finding.Finding.{Finding}
 use Rattle.papaya_tables.specs.declared.finding.Finding.TheVariants as is
-use Rattle.papaya_tables.specs.declared.trial.Trial.{Trial}
 use Rattle.papaya_resize.specs.declared.copier.Copier.{Copier}
 use Rattle.papaya_resize.specs.declared.new_table.NewTable.{NewTable}
 use Rattle.papaya_resize.specs.declared.outcome.Outcome.{Outcome}
@@ -46,6 +45,7 @@ use Rattle.papaya_late.specs.Faults.{IsRoom}
 use Rattle.papaya_late.proofs.KindsKept.Rooms.Copying.{CopiesRoom}
 use Rattle.papaya_late.proofs.KindsKept.Rooms.Making.{MakesRoom}
 use Rattle.papaya_points.specs.FactsCalls.{MayStore}
+use Rattle.papaya_points.proofs.Calls.Asked.{passed_so}
 use Rattle.papaya_points.proofs.Values.Copying.{AllThen, all_if}
 use Rattle.papaya_points.proofs.Values.Sought.{kept_of}
 
@@ -177,14 +177,6 @@ module _ {K V Q : Type 0} where
       free_by missing.Puts is so = absurd so
       free_by missing.Asks is so = missing_by gaps.Free
 
-      end_by : (x : Missing) → p.missing ≡ x → GoesBy Read p (at_end x p)
-      end_by missing.Answers is = ending_by (ends.Answered answers.Absent) is
-      end_by missing.Puts is = (refl, tt, tt)
-      end_by missing.Asks is = missing_by gaps.Past
-
-      beyond_by : GoesBy Read p (beyond p)
-      beyond_by = by_if (is_incremental p.setting.mode) (going p at.Nexts) (at_end p.missing p) (refl, tt, tt) (end_by p.missing refl)
-
       pub last_by : (x : Missing) → p.missing ≡ x → GoesBy Read p (at_last x p)
       last_by missing.Answers is =
           by_if (is_incremental p.setting.mode) (ending p (ends.Answered answers.Absent)) (following_made p) (ending_by (ends.Answered answers.Absent) is) (refl, tt, tt)
@@ -197,17 +189,16 @@ module _ {K V Q : Type 0} where
       pair_by_word there.Removes is so word read = absurd so
       pair_by_word there.Asks is so word read = there_by word read
 
-      passed_by : (o : Option Trial) → GoesBy Read p (passed p o)
-      passed_by (Some trial) = (refl, tt, tt)
-      passed_by None = beyond_by
-
       halted_by : (q : Bool) → GoesBy Read p (halted q p)
       halted_by true = (refl, tt, tt)
       halted_by false = (refl, tt, tt)
 
       told_of_by : (q : Bool) (word : ℕ) → Read word → (f : Finding) → GoesBy Read p (told_of q p word f)
       told_of_by q word read is.Free = free_by p.missing refl missing_asks
-      told_of_by q word read is.Passed = passed_by (next_trial p.trial)
+      told_of_by q word read is.Passed =
+          passed_so (GoesBy Read p) (having_met p word) (λ next. (refl, tt, tt)) (refl, tt, tt)
+          (λ none. by_if (p.own == 0) (over (having_met p word) (ends.Answered answers.Absent)) (going (having_met p word) (at.Drops (ends.Answered answers.Absent))) (refl, tt, none) (refl, tt, none))
+          (λ e untold. (refl, untold, tt)) (next_trial (with_met p.trial word))
       told_of_by q word read is.Moved = (refl, tt, tt)
       told_of_by q word read is.Copying = halted_by q
       told_of_by q word read is.There = pair_by_word p.there refl there_asks word read

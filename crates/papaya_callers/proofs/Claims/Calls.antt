@@ -9,14 +9,14 @@ use Rattle.seize.specs.declared.rows.settle.Settled.{Settled}
 use Rattle.seize.specs.declared.rows.settle.Settled.TheVariants as settled
 use Rattle.papaya_tables.specs.Chunks.{is_incremental}
 use Rattle.papaya_tables.specs.Finding.{may_name}
-use Rattle.papaya_tables.specs.Trials.{next_trial}
+use Rattle.papaya_tables.specs.Trials.{next_trial, with_met}
 use Rattle.papaya_resize.specs.CopierStates.{copying_all, resting}
 use Rattle.papaya_resize.specs.Dispose.{dispose_plan}
 use Rattle.papaya_resize.specs.Lookup.{lookup_plan}
 use Rattle.papaya_resize.specs.NewTable.{new_table_plan}
 use Rattle.papaya_raw.specs.Call.{made, makes_of, root_found, next_found, dropped, key_read, pair_read, word_read, word_found, tried, looked, looks_for, first_made, next_made, disposed, copied, plan_at, call_plan}
 use Rattle.papaya_raw.specs.CallFills.{filled, putting_by, fill_by, emptied, fills_with, fills, given_up, asks_at}
-use Rattle.papaya_raw.specs.CallPoints.{ending, asking_at, tableless, at_free, at_end, at_last, at_pair, passed, told_of, went_on, changed, counted}
+use Rattle.papaya_raw.specs.CallPoints.{ending, asking_at, tableless, at_free, at_last, at_pair, told_of, went_on, changed, counted, having_met}
 use Rattle.papaya_tables.specs.declared.finding.Finding.{Finding}
 use Rattle.papaya_tables.specs.declared.finding.Finding.TheVariants as finds
 use Rattle.papaya_tables.specs.declared.marks.TheConstants.{TOMBSTONE}
@@ -24,7 +24,6 @@ use Rattle.papaya_tables.specs.declared.node.Node.{Node}
 use Rattle.papaya_tables.specs.declared.node.Node.TheVariants as node
 use Rattle.papaya_tables.specs.declared.setting.Setting.{Setting}
 use Rattle.papaya_tables.specs.declared.table.Table.{Table}
-use Rattle.papaya_tables.specs.declared.trial.Trial.{Trial}
 use Rattle.papaya_resize.specs.declared.copier.Copier.{Copier}
 use Rattle.papaya_resize.specs.declared.copier.Copying.TheVariants as copies
 use Rattle.papaya_resize.specs.declared.dispose.Dispose.{Dispose}
@@ -49,7 +48,7 @@ use Rattle.papaya_raw.specs.declared.machines.call.Calling.{Calling}
 use Rattle.papaya_raw.specs.declared.machines.call.Calling.TheVariants as at
 use Rattle.papaya_rule.proofs.Keys.Always.{Always, AlwaysOf, always_if, always_plan_as, always_steps}
 use Rattle.papaya_points.specs.FactsCalls.{IsCopying}
-use Rattle.papaya_points.proofs.Calls.Asked.{asking_so, asking_of_so}
+use Rattle.papaya_points.proofs.Calls.Asked.{asking_so, asking_of_so, passed_so}
 use Rattle.papaya_callers.proofs.Claims.Copiers.{IsOther}
 
 -- it is not to claim places next
@@ -95,11 +94,6 @@ module _ {K V Q : Type 0} where
     free_other missing.Puts = tt
     free_other missing.Asks = missing_other gaps.Free
 
-    end_other : (m : Missing) → OtherStep (at_end m p)
-    end_other missing.Answers = ending_other _
-    end_other missing.Puts = tt
-    end_other missing.Asks = missing_other gaps.Past
-
     last_other : (m : Missing) → OtherStep (at_last m p)
     last_other missing.Answers = either (is_incremental p.setting.mode) _ _ (ending_other _) tt
     last_other missing.Puts = tt
@@ -111,13 +105,10 @@ module _ {K V Q : Type 0} where
     pair_other there.Removes word = tt
     pair_other there.Asks word = asking_of_so OtherStep p (λ word new. tt) (λ asking. tt) (λ asking asked. tt) word
 
-    passed_other : (trial : Option Trial) → OtherStep (passed p trial)
-    passed_other (Some trial) = tt
-    passed_other None = either (is_incremental p.setting.mode) _ _ tt (end_other p.missing)
-
     told_other : (loaded : Bool) (word : ℕ) (found : Finding) → OtherStep (told_of loaded p word found)
     told_other loaded word finds.Free = free_other p.missing
-    told_other loaded word finds.Passed = passed_other (next_trial p.trial)
+    told_other loaded word finds.Passed =
+        passed_so OtherStep (having_met p word) (λ next. tt) tt (λ e. either (p.own == 0) _ _ tt tt) (λ e untold. tt) (next_trial (with_met p.trial word))
     told_other loaded word finds.Moved = tt
     told_other loaded word finds.Copying = either loaded _ _ tt tt
     told_other loaded word finds.There = pair_other p.there word

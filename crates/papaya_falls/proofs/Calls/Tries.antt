@@ -5,7 +5,7 @@ use Rattle.std.proofs.lemmas.Bool.{eq-eqb}
 use Rattle.seize_words.specs.Word.{block_in}
 use Rattle.papaya_tables.specs.Chunks.{is_incremental}
 use Rattle.papaya_tables.specs.Finding.{finding}
-use Rattle.papaya_tables.specs.Trials.{next_trial}
+use Rattle.papaya_tables.specs.Trials.{next_trial, with_met}
 use Rattle.papaya_tables.specs.declared.finding.Aim.TheVariants.{Stores}
 use Rattle.papaya_tables.specs.declared.finding.Finding.{Finding}
 use Rattle.papaya_tables.specs.declared.finding.Finding.TheVariants as is
@@ -36,7 +36,7 @@ use Rattle.papaya_raw.specs.declared.machines.call.Calling.TheVariants as at
 use Rattle.papaya_rule.specs.Chart.{Still, Copying, Copied, Place, Empty, Tombstone, Holds, Chart}
 use Rattle.papaya_rule.specs.Maps.{spot_at, IsTrial}
 use Rattle.papaya_rule.specs.Words.{Blocks, word_of, byte_of, place_word}
-use Rattle.papaya_rule.proofs.Keys.TriesSeen.{IsNext}
+use Rattle.papaya_rule.proofs.Keys.TriesSeen.{IsNext, next_met}
 use Rattle.papaya_rule.proofs.Words.PlaceWords.{HasBlock, HasByte}
 use Rattle.papaya_rule.proofs.Words.PlaceWordsFinding.{finding-tombstone, finding-other, finding-still, finding-copying, finding-copied}
 use Rattle.papaya_points.specs.Measures.{IsBelow}
@@ -155,8 +155,9 @@ module _ {K V Q : Type 0} (hash : K → ℕ) (c : Chart K) (blocks : Blocks) whe
           by true = told_of_pair p.replies.present
           by false = told_of_pair tells.Nothing
 
-      leaves : Leads (going p at.Nexts)
-      leaves goes = inr (refl, inr (refl, inr (refl, inr (refl, inl (omega arith)))))
+      -- whatever its tries have met
+      leaves : (met : ℕ) → Leads (going (record p { trial = record p.trial { met = met } }) at.Nexts)
+      leaves met goes = inr (refl, inr (refl, inr (refl, inr (refl, inl (omega arith)))))
 
       free_there : (flag : Bool) → finding p.setting.mode Stores (place_word hash c blocks here) flag ≡ is.Free → 0 ≡ word
       free_there flag free = sym (free_empty blocks.pair (λ n. byte_of hash (c.key n)) p.setting.mode here flag some low free) ∙ sym word_is
@@ -166,18 +167,18 @@ module _ {K V Q : Type 0} (hash : K → ℕ) (c : Chart K) (blocks : Blocks) whe
       frees missing.Asks e flag free = asking_below p gaps.Free (trying hash c blocks p point) (stores p.replies.absent 0 (free_there flag free))
       frees missing.Puts e flag free = tries_there 0 p.own (free_there flag free)
 
-      ends_there : (m : Missing) → p.missing ≡ m → Leads (at_end m p)
-      ends_there missing.Asks e = asking_below p gaps.Past (trying hash c blocks p point) leaves
-      ends_there missing.Answers e = ending_below p (ends.Answered answers.Absent) 5 _ (omega arith)
-      ends_there missing.Puts e = leaves
+      ends_there : (met : ℕ) (m : Missing) → p.missing ≡ m → Leads (at_end m (record p { trial = record p.trial { met = met } }))
+      ends_there met missing.Asks e = asking_below (record p { trial = record p.trial { met = met } }) gaps.Past (trying hash c blocks p point) (leaves met)
+      ends_there met missing.Answers e = ending_below (record p { trial = record p.trial { met = met } }) (ends.Answered answers.Absent) 5 _ (omega arith)
+      ends_there met missing.Puts e = leaves met
 
-      passes : (o : Option Trial) → IsNext c blocks p.hash t o j → Leads (passed p o)
-      passes None is = by_mode (is_incremental p.setting.mode)
+      passes : (met : ℕ) (o : Option Trial) → IsNext c blocks p.hash t o j → Leads (passed (record p { trial = record p.trial { met = met } }) o)
+      passes met None is = by_mode (is_incremental p.setting.mode)
         where
-          by_mode : (b : Bool) → Leads (if b then going p at.Nexts else at_end p.missing p)
-          by_mode true = leaves
-          by_mode false = ends_there p.missing refl
-      passes (Some other) is = λ goes.
+          by_mode : (b : Bool) → Leads (if b then going (record p { trial = record p.trial { met = met } }) at.Nexts else at_end p.missing (record p { trial = record p.trial { met = met } }))
+          by_mode true = leaves met
+          by_mode false = ends_there met p.missing refl
+      passes met (Some other) is = λ goes.
           let turn = ap (λ (x : Table). x.turn) trial.table.is in
           let turn2 = ap (λ (x : Table). x.turn) is.table.is in
           let limit = ap (λ (x : Table). x.limit) trial.table.is in
@@ -197,8 +198,8 @@ module _ {K V Q : Type 0} (hash : K → ℕ) (c : Chart K) (blocks : Blocks) whe
 
       by_finding : (flag : Bool) (x : Finding) → finding p.setting.mode (aim_of p.missing) (place_word hash c blocks here) flag ≡ x → Leads (told_of loaded p word x)
       by_finding flag is.Free e = frees p.missing refl flag e
-      by_finding flag is.Passed e = passes (next_trial p.trial) next
-      by_finding flag is.Moved e = leaves
+      by_finding flag is.Passed e = passes (with_met p.trial word).met (next_trial (with_met p.trial word)) (next_met c blocks p.hash t p.trial j (with_met p.trial word).met next)
+      by_finding flag is.Moved e = leaves p.trial.met
       by_finding flag is.Copying e = halts loaded refl
       by_finding flag is.There e = pairs p.there refl
 

@@ -10,13 +10,12 @@ use Rattle.seize.specs.declared.rows.settle.Settled.{Settled}
 use Rattle.seize.specs.declared.rows.settle.Settled.TheVariants as settled
 use Rattle.papaya_tables.specs.Chunks.{is_incremental}
 use Rattle.papaya_tables.specs.Finding.{may_name}
-use Rattle.papaya_tables.specs.Trials.{next_trial}
+use Rattle.papaya_tables.specs.Trials.{next_trial, with_met}
 use Rattle.papaya_tables.specs.declared.finding.Finding.{Finding}
 use Rattle.papaya_tables.specs.declared.finding.Finding.TheVariants as finds
 use Rattle.papaya_tables.specs.declared.marks.TheConstants.{TOMBSTONE}
 use Rattle.papaya_tables.specs.declared.node.Node.{Node}
 use Rattle.papaya_tables.specs.declared.table.Table.{Table}
-use Rattle.papaya_tables.specs.declared.trial.Trial.{Trial}
 use Rattle.papaya_resize.specs.CopierStates.{copying_all}
 use Rattle.papaya_resize.specs.Dispose.{disposing}
 use Rattle.papaya_resize.specs.declared.copier.Copier.{Copier}
@@ -27,7 +26,7 @@ use Rattle.papaya_resize.specs.declared.outcome.Outcome.{Outcome}
 use Rattle.papaya_resize.specs.declared.outcome.Outcome.TheVariants as outcome
 use Rattle.papaya_raw.specs.Answers.{ended}
 use Rattle.papaya_raw.specs.Call.{root_found, next_found, key_read, pair_read, word_read, word_found, tried, looked, first_made, next_made, disposed, helped, copied}
-use Rattle.papaya_raw.specs.CallPoints.{going, standing, over, ending, following_made, storing, burying, at_gap, gap_by, asking_at, pair_by, tableless, at_free, at_end, at_last, at_pair, passed, told_of, entering, went_on, changed, counted}
+use Rattle.papaya_raw.specs.CallPoints.{going, standing, over, ending, following_made, storing, burying, at_gap, gap_by, asking_at, pair_by, tableless, at_free, at_last, at_pair, told_of, entering, went_on, changed, counted, having_met}
 use Rattle.papaya_raw.specs.declared.machines.answer.KeyAnswer.{KeyAnswer}
 use Rattle.papaya_raw.specs.declared.machines.answer.KeyAnswer.TheVariants as answers
 use Rattle.papaya_raw.specs.declared.machines.answer.Called.{Called}
@@ -46,6 +45,7 @@ use Rattle.papaya_raw.specs.declared.machines.asking.Told.TheVariants as tells
 use Rattle.papaya_raw.specs.declared.machines.call.Calling.{Calling}
 use Rattle.papaya_raw.specs.declared.machines.call.Calling.TheVariants as at
 use Rattle.papaya_raw.specs.declared.machines.call.KeyCall.{KeyCall}
+use Rattle.papaya_points.proofs.Calls.Asked.{passed_so}
 use Rattle.papaya_rule.proofs.Keys.Always.{Always, always_if}
 use Rattle.papaya_holds.specs.Came.{TellsOwn, EndsOwn, OwnsAt, Owns}
 
@@ -155,11 +155,6 @@ module _ {K V Q : Type 0} where
     free_so missing.Puts e = puts_so 0
     free_so missing.Asks e = asking_so (asks_so e) gaps.Free
 
-    end_so : (t : Missing) → p.missing ≡ t → GoesWith p.own (at_end t p)
-    end_so missing.Answers e = ending_so (ends.Answered answers.Absent) tt
-    end_so missing.Puts e = on_to at.Nexts tt
-    end_so missing.Asks e = asking_so (asks_so e) gaps.Past
-
     last_so : (t : Missing) → p.missing ≡ t → GoesWith p.own (at_last t p)
     last_so missing.Answers e = either p.own (is_incremental p.setting.mode) (ending p (ends.Answered answers.Absent)) (following_made p) (ending_so (ends.Answered answers.Absent) tt) following_so
     last_so missing.Puts e = following_so
@@ -173,13 +168,15 @@ module _ {K V Q : Type 0} where
         either p.own (block_in word == p.replies.pair) (pair_by p.replies.present p word) (pair_by tells.Nothing p word) (pair_so (λ r. cc (e, r)) p.replies.present word)
         (pair_so (λ r. cc (e, r)) tells.Nothing word)
 
-    passed_so : (trial : Option Trial) → GoesWith p.own (passed p trial)
-    passed_so (Some trial) = (record { code = o.code; live = o.live; removes = o.removes; point = tt }, tt, refl)
-    passed_so None = either p.own (is_incremental p.setting.mode) (going p at.Nexts) (at_end p.missing p) (on_to at.Nexts tt) (end_so p.missing refl)
-
     told_so : (loaded : Bool) (word : ℕ) (found : Finding) → GoesWith p.own (told_of loaded p word found)
     told_so loaded word finds.Free = free_so p.missing refl
-    told_so loaded word finds.Passed = passed_so (next_trial p.trial)
+    told_so loaded word finds.Passed =
+        passed_so (GoesWith p.own) (having_met p word) (λ next. (record { code = o.code; live = o.live; removes = o.removes; point = tt }, tt, refl))
+        (record { code = o.code; live = o.live; removes = o.removes; point = tt }, tt, refl)
+        (λ e. by_test p.own (p.own == 0) (over (having_met p word) (ends.Answered answers.Absent)) (going (having_met p word) (at.Drops (ends.Answered answers.Absent)))
+        (λ none. (record { code = o.code; live = o.live; removes = o.removes; point = eqb-true p.own 0 none }, eqb-true p.own 0 none, refl))
+        (λ some. (record { code = o.code; live = o.live; removes = o.removes; point = plain_ends (ends.Answered answers.Absent) tt }, tt, refl)))
+        (λ e untold. (record { code = o.code; live = o.live; removes = o.removes; point = asks_so e }, tt, refl)) (next_trial (with_met p.trial word))
     told_so loaded word finds.Moved = on_to at.Nexts tt
     told_so loaded word finds.Copying = either p.own loaded (standing p at.Probes, called.Waits) (going p at.Probes) (waiting at.Probes tt) (on_to at.Probes tt)
     told_so loaded word finds.There = there_so p.there refl word

@@ -4,7 +4,7 @@ use Rattle.std.proofs.Common.{refl, ap, sym, subst, ◌∙◌, inl, inr}
 use Rattle.seize.specs.World.{World}
 use Rattle.papaya_tables.specs.Chunks.{is_incremental}
 use Rattle.papaya_tables.specs.Finding.{finding}
-use Rattle.papaya_tables.specs.Trials.{next_trial}
+use Rattle.papaya_tables.specs.Trials.{next_trial, with_met}
 use Rattle.papaya_tables.specs.declared.marks.TheConstants.{TOMBSTONE}
 use Rattle.papaya_tables.specs.declared.node.Node.{Node}
 use Rattle.papaya_tables.specs.declared.setting.Setting.{Setting}
@@ -31,9 +31,9 @@ use Rattle.papaya_rule.proofs.Words.PlaceWords.{HasBlock}
 use Rattle.papaya_rule.proofs.Words.PlacesShown.{AreStored, are_stored, shown_block, shown_byte, shown_known}
 use Rattle.papaya_rule.proofs.Words.PlacesRead.{place_keyed}
 use Rattle.papaya_rule.proofs.Words.WordsSeen.{HasKey, Tells, Says, SaysFree, SaysPassed, SaysThere, says}
-use Rattle.papaya_rule.proofs.Keys.TriesSeen.{IsNext, next_is}
+use Rattle.papaya_rule.proofs.Keys.TriesSeen.{IsNext, next_is, trial_met}
 use Rattle.papaya_rule.proofs.Keys.ClassesSeen.{passed_further}
-use Rattle.papaya_points.proofs.Calls.CallsOn.{Seeking}
+use Rattle.papaya_points.proofs.Calls.CallsOn.{Seeking, seeking_at}
 use Rattle.papaya_points.specs.FactsCalls.{Unchanged, NamesPair}
 use Rattle.papaya_points.proofs.Calls.Holdings.{pair_missing, pair_there, none_removes}
 use Rattle.papaya_points.proofs.Calls.CallsFound.{not_looks}
@@ -69,8 +69,9 @@ module _ {K V Q : Type 0} (same : K → K → Bool) (hash : K → ℕ) (asks : Q
   has_block : HasBlock blocks.pair here
   has_block = shown_block hash w.memory c blocks setting.root map.map.shows stored t (spot_at (c.len t) p.hash j) trial.table.made trial.table.known
 
-  to_next : Late (going p at.Nexts)
-  to_next = goes_late same hash asks caller setting alone keys began w c blocks p s p.trial at.Nexts (λ answer h. h) (s.own, t, trial.table, left)
+  -- whatever its tries have met
+  to_next : (met : ℕ) → Late (going (record p { trial = record p.trial { met = met } }) at.Nexts)
+  to_next met = goes_late same hash asks caller setting alone keys began w c blocks p s (record p.trial { met = met }) at.Nexts (λ answer h. h) (s.own, t, trial.table, left)
 
   frees : (m : Missing) → p.missing ≡ m → SaysFree keys c.key here false (aim_of m) → Late (at_free m p)
   frees missing.Answers e (inl empty) =
@@ -89,30 +90,37 @@ module _ {K V Q : Type 0} (same : K → K → Bool) (hash : K → ℕ) (asks : Q
   frees missing.Asks e (inr shut) = absurd (shut.2 refl)
 
   -- all tries are made
-  past_all : ((k : K) → keys k ≡ true → Passed same (spot_of hash) false c t k (suc (c.limit t))) → Late (beyond p)
-  past_all all = by_mode (is_incremental p.setting.mode) (ap (λ (x : Setting). is_incremental x.mode) s.setting_is ∙ alone)
+  past_all : (met : ℕ) → ((k : K) → keys k ≡ true → Passed same (spot_of hash) false c t k (suc (c.limit t))) → Late (beyond (record p { trial = record p.trial { met = met } }))
+  past_all met all = by_mode (is_incremental p.setting.mode) (ap (λ (x : Setting). is_incremental x.mode) s.setting_is ∙ alone)
     where
-      at_ends : (m : Missing) → p.missing ≡ m → Late (at_end m p)
-      at_ends missing.Answers e =
-          answers_late same hash asks caller setting alone keys began w c blocks p s answers.Absent (was_past same hash lawful keys p.hash s.class c rule moments blocks began t left all)
-      at_ends missing.Puts e = to_next
-      at_ends missing.Asks e =
-          missing_asks_late same hash asks caller setting alone keys began w c blocks p s e gaps.Past (t, trial.table, left) (was_past same hash lawful keys p.hash s.class c rule moments blocks began t left all)
+      seeks : Seeking same hash asks caller setting keys w c blocks (record p { trial = record p.trial { met = met } })
+      seeks = seeking_at same hash asks caller setting keys w c blocks p s (record p.trial { met = met })
 
-      by_mode : (b : Bool) → b ≡ false → Late (if b then going p at.Nexts else at_end p.missing p)
+      at_ends : (m : Missing) → p.missing ≡ m → Late (at_end m (record p { trial = record p.trial { met = met } }))
+      at_ends missing.Answers e =
+          answers_late same hash asks caller setting alone keys began w c blocks (record p { trial = record p.trial { met = met } }) seeks answers.Absent
+          (was_past same hash lawful keys p.hash s.class c rule moments blocks began t left all)
+      at_ends missing.Puts e = to_next met
+      at_ends missing.Asks e =
+          missing_asks_late same hash asks caller setting alone keys began w c blocks (record p { trial = record p.trial { met = met } }) seeks e gaps.Past (t, trial.table, left)
+          (was_past same hash lawful keys p.hash s.class c rule moments blocks began t left all)
+
+      by_mode : (b : Bool) → b ≡ false → Late (if b then going (record p { trial = record p.trial { met = met } }) at.Nexts else at_end p.missing (record p { trial = record p.trial { met = met } }))
       by_mode true e = absurd (cc)
       by_mode false e = at_ends p.missing refl
 
   -- a try is passed
-  passes : SaysPassed keys c.key here false → Late (passed p (next_trial p.trial))
-  passes so = by_next (next_trial p.trial) (next_is c blocks p.hash t p.trial j trial (map.map.shows.sized t trial.table.made) (rule.common.lens t trial.table.made).1)
+  passes : (met : ℕ) → SaysPassed keys c.key here false → Late (passed (record p { trial = record p.trial { met = met } }) (next_trial (record p.trial { met = met })))
+  passes met so =
+      by_next (next_trial (record p.trial { met = met }))
+      (next_is c blocks p.hash t (record p.trial { met = met }) j (trial_met c blocks p.hash t p.trial j met trial) (map.map.shows.sized t trial.table.made) (rule.common.lens t trial.table.made).1)
     where
       further : (k : K) → keys k ≡ true → Passed same (spot_of hash) false c t k (suc j)
       further = passed_further same hash lawful keys p.hash s.class c t j false before keyed so
 
-      by_next : (o : Option Trial) → IsNext c blocks p.hash t o j → Late (passed p o)
+      by_next : (o : Option Trial) → IsNext c blocks p.hash t o j → Late (passed (record p { trial = record p.trial { met = met } }) o)
       by_next (Some next) is = goes_late same hash asks caller setting alone keys began w c blocks p s next at.Probes (λ answer h. h) (s.own, (t, suc j, is, further, left))
-      by_next None is = past_all (subst (λ (x : ℕ). (k : K) → keys k ≡ true → Passed same (spot_of hash) false c t k (suc x)) is further)
+      by_next None is = past_all met (subst (λ (x : ℕ). (k : K) → keys k ≡ true → Passed same (spot_of hash) false c t k (suc x)) is further)
 
   pairs : SaysThere keys c.key here false (aim_of p.missing) → Late (at_pair p.there p word)
   pairs (n, phase, borrowed, holds, still, uncopied) = by_kind p.there refl
@@ -148,8 +156,8 @@ module _ {K V Q : Type 0} (same : K → K → Bool) (hash : K → ℕ) (asks : Q
 
   by_finding : (loaded : Bool) (x : Finding) → Says keys c.key here false (aim_of p.missing) x → Late (told_of loaded p word x)
   by_finding loaded is.Free so = frees p.missing refl so
-  by_finding loaded is.Passed so = passes so
-  by_finding loaded is.Moved so = to_next
+  by_finding loaded is.Passed so = passes (with_met p.trial word).met so
+  by_finding loaded is.Moved so = to_next p.trial.met
   by_finding loaded is.Copying so = absurd (let e = so.0 in cc e)
   by_finding loaded is.There so = pairs so
 

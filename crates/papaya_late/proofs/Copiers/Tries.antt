@@ -12,6 +12,7 @@ use Rattle.papaya_tables.specs.Chunks.{is_incremental}
 use Rattle.papaya_tables.specs.Marks.{unmarked_in}
 use Rattle.papaya_tables.specs.Probes.{probe_after}
 use Rattle.papaya_tables.specs.TablePlaces.{at_place}
+use Rattle.papaya_tables.specs.Trials.{trial_at}
 use Rattle.papaya_tables.specs.declared.node.Node.{Node}
 use Rattle.papaya_tables.specs.declared.probe.Probe.{Probe}
 use Rattle.papaya_tables.specs.declared.setting.Setting.{Setting}
@@ -43,7 +44,7 @@ module _ {K V : Type 0} (same : K → K → Bool) (hash : K → ℕ) (caller : �
     (map : IsMapIn same hash setting w c blocks) (lawful : IsLawful same (spot_of hash)) (blocking : is_incremental setting.mode ≡ false) (p : Copier)
     (setting_is : p.setting ≡ setting)
     (pair code : ℕ) (table : Table) (probe : Probe) (u t n : ℕ) (k : K) (j : ℕ) (works : WorksLate same hash w caller setting c blocks began p u t n k pair) (code_is : code ≡ hash k)
-    (table_is : table ≡ p.target) (trial : IsTrial c blocks (record { table = table; probe = probe }) code t j) where
+    (table_is : table ≡ p.target) (trial : IsTrial c blocks (trial_at table probe) code t j) where
   abbrev late : CopiesLate same hash w caller setting c blocks began p u t
   late = works.copies.0
 
@@ -80,10 +81,10 @@ module _ {K V : Type 0} (same : K → K → Bool) (hash : K → ℕ) (caller : �
     went_further : end ≡ (next_try p pair code table probe, Goes) → LateCame same hash caller setting began w c blocks m2 end
     went_further ends =
         by_limit (nat_lt probe.len table.limit) refl
-        (next_is c blocks code t (record { table = table; probe = probe }) j trial (map.map.shows.sized t trial.table.made) (map.map.rule.common.lens t trial.table.made).1)
+        (next_is c blocks code t (trial_at table probe) j trial (map.map.shows.sized t trial.table.made) (map.map.rule.common.lens t trial.table.made).1)
       where
         by_limit : (b : Bool) → nat_lt probe.len table.limit ≡ b
-            → IsNext c blocks code t (if nat_lt probe.len table.limit then Some (record { table = table; probe = probe_after probe (table.len - 1) }) else None) j
+            → IsNext c blocks code t (if nat_lt probe.len table.limit then Some (trial_at table (probe_after probe (table.len - 1))) else None) j
             → LateCame same hash caller setting began w c blocks m2 end
         by_limit true e next =
             late_goes same hash caller setting began w c blocks map m2 end (standing p (at.Probes pair code table (probe_after probe (table.len - 1)))) still
@@ -96,7 +97,7 @@ module _ {K V : Type 0} (same : K → K → Bool) (hash : K → ℕ) (caller : �
               works_at (at.Probes pair code table (probe_after probe (table.len - 1))),
               code_is,
               table_is,
-              subst (λ (b : Bool). IsNext c blocks code t (if b then Some (record { table = table; probe = probe_after probe (table.len - 1) }) else None) j) e
+              subst (λ (b : Bool). IsNext c blocks code t (if b then Some (trial_at table (probe_after probe (table.len - 1))) else None) j) e
                   next,
             )
         by_limit false e next =

@@ -5,6 +5,7 @@ use Rattle.seize.specs.World.{World, Cutting}
 use Rattle.seize.specs.declared.rows.settle.Settle.{Settle}
 use Rattle.seize.specs.Settle.{retiring}
 use Rattle.papaya_tables.specs.Chunks.{is_incremental}
+use Rattle.papaya_tables.specs.Trials.{trial_at}
 use Rattle.papaya_tables.specs.declared.node.Node.{Node}
 use Rattle.papaya_tables.specs.declared.probe.Probe.{Probe}
 use Rattle.papaya_tables.specs.declared.setting.Setting.{Setting}
@@ -169,7 +170,7 @@ module _ {K V : Type 0} (same : K → K → Bool) (hash : K → ℕ) (setting : 
       works_same p t n k word works,
       code_is,
       table_is,
-      trial_on same hash setting caller w w2 c c2 blocks blocks2 others (record { table = table; probe = probe }) code t j trial,
+      trial_on same hash setting caller w w2 c c2 blocks blocks2 others (trial_at table probe) code t j trial,
       λ g l. taken_same t k g works.copies.2.made (taken g l),
     )
 
@@ -296,7 +297,7 @@ module _ {K V : Type 0} (same : K → K → Bool) (hash : K → ℕ) (setting : 
       works_late p t n k word works,
       code_is,
       table_is,
-      trial_on same hash setting caller w w2 c c2 blocks blocks2 others (record { table = table; probe = probe }) code t j trial,
+      trial_on same hash setting caller w w2 c c2 blocks blocks2 others (trial_at table probe) code t j trial,
     )
 
     unlinked_late : (p : Copier) (s : ℕ) → HasUnlinkedFrom same hash w caller setting c blocks p s → HasUnlinkedLate same hash w2 caller setting c2 blocks2 began p s c.first
@@ -408,7 +409,7 @@ module _ {K V : Type 0} (same : K → K → Bool) (hash : K → ℕ) (setting : 
   late_tries : (p : Copier) (word code : ℕ) (table : Table) (probe : Probe) → TriesLate same hash w caller setting c blocks began p word code table probe
       → TriesLate same hash w2 caller setting c2 blocks2 began p word code table probe
   late_tries p word code table probe (u, t, n, k, j, works, code_is, table_is, trial) =
-      (u, t, n, k, j, late_works p u t n k word works, code_is, table_is, trial_on same hash setting caller w w2 c c2 blocks blocks2 others (record { table = table; probe = probe }) code t j trial)
+      (u, t, n, k, j, late_works p u t n k word works, code_is, table_is, trial_on same hash setting caller w w2 c c2 blocks blocks2 others (trial_at table probe) code t j trial)
 
   late_unlinked : (p : Copier) (s t : ℕ) → HasUnlinkedLate same hash w caller setting c blocks began p s t → HasUnlinkedLate same hash w2 caller setting c2 blocks2 began p s t
   late_unlinked p s t (l, target, left, idle, cut) = (

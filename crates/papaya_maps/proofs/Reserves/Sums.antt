@@ -1,7 +1,7 @@
 -- A counting comes to what the shards of the counter say, as long as they stay as they are.
-use Rattle.std.specs.Prelude.{◌≡◌, ℕ, zero, suc, ◌+◌, ◌-◌, ◌%◌, ◌^◌, ◌<◌, ◌≤◌, false, nat_lt, Some}
+use Rattle.std.specs.Prelude.{◌≡◌, ℕ, suc, ◌+◌, ◌-◌, ◌%◌, ◌^◌, ◌<◌, ◌≤◌, false, nat_lt, Some}
 use Rattle.std.proofs.Common.{refl, ap, sym, subst, ◌∙◌, arith, inl, inr}
-use Rattle.std.proofs.lemmas.Bool.{ltb-true, cases_lt}
+use Rattle.std.proofs.lemmas.Bool.{ltb-true}
 use Rattle.seize_words.specs.declared.at.At.TheVariants.{Word}
 use Rattle.seize_words.specs.Mem.{Mem, Took, word_at, value_at}
 use Rattle.seize_words.specs.Plan.{Steps}
@@ -15,18 +15,9 @@ use Rattle.papaya_tables.specs.declared.setting.Setting.{Setting}
 use Rattle.papaya_resize.specs.declared.sum.Sum.{Sum}
 use Rattle.papaya_resize.specs.declared.sum.Summing.{Summing}
 use Rattle.papaya_resize.specs.declared.sum.Summing.TheVariants as sums
-use Rattle.papaya_rule.specs.Rule.{total}
 use Rattle.papaya_points.specs.FactsTables.{CountsShards}
 use Rattle.papaya_alone.specs.Counting.{count_ahead, number_in, shards_sum}
-
--- sums grow
-total_more : {X : Type 0} (f : X → ℕ) (d : ℕ → X) (a b : ℕ) → a ≤ b → total f d a ≤ total f d b
-total_more f d a zero l = let e : a ≡ 0 = omega (arith, l) in subst (λ (x : ℕ). total f d x ≤ total f d 0) (sym e) (omega arith)
-total_more f d a (suc b) l =
-    elim (cases_lt a (suc b)) as (λ _. total f d a ≤ total f d (suc b)) [
-      | inl low ↦ (let ih = total_more f d a b (omega (arith, low)) in omega (arith, ih))
-      | inr high ↦ (let e : a ≡ suc b = omega (arith, l, high) in subst (λ (x : ℕ). total f d x ≤ total f d (suc b)) (sym e) (omega arith))
-    ]
+use Rattle.papaya_alone.proofs.Shards.Sums.{total_more}
 
 -- a remainder of a part
 mod_part : (a b : ℕ) → (a % 2 ^ 64 + b) % 2 ^ 64 ≡ (a + b) % 2 ^ 64

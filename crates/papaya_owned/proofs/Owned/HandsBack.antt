@@ -11,14 +11,14 @@ use Rattle.seize.specs.declared.rows.settle.Settled.{Settled}
 use Rattle.seize.specs.declared.rows.settle.Settled.TheVariants as settled
 use Rattle.papaya_raw.specs.Answers.{ended}
 use Rattle.papaya_raw.specs.Call.{makes_of, root_found, next_found, dropped, key_read, pair_read, word_read, word_found, tried, first_made, next_made, disposed, helped, copied, plan_at}
-use Rattle.papaya_raw.specs.CallPoints.{word_to, going, standing, over, ending, tableless, at_free, at_end, at_last, at_pair, passed, told_of, entering, went_on, changed, counted}
+use Rattle.papaya_raw.specs.CallPoints.{word_to, going, standing, over, ending, tableless, at_free, at_last, at_pair, told_of, entering, went_on, changed, counted, having_met}
 use Rattle.papaya_tables.specs.Chunks.{is_incremental}
 use Rattle.papaya_resize.specs.Copier.{copier_plan}
 use Rattle.papaya_resize.specs.CopierStates.{copying_all}
 use Rattle.papaya_resize.specs.Dispose.{disposing, dispose_plan}
 use Rattle.papaya_tables.specs.Finding.{may_name}
 use Rattle.papaya_resize.specs.NewTable.{new_table_plan}
-use Rattle.papaya_tables.specs.Trials.{next_trial}
+use Rattle.papaya_tables.specs.Trials.{next_trial, with_met}
 use Rattle.papaya_tables.specs.declared.marks.TheConstants.{TOMBSTONE}
 use Rattle.papaya_tables.specs.declared.node.Node.{Node}
 use Rattle.papaya_resize.specs.declared.outcome.Outcome.{Outcome}
@@ -41,7 +41,7 @@ use Rattle.papaya_resize.specs.declared.dispose.Dispose.{Dispose}
 use Rattle.papaya_tables.specs.declared.finding.Finding.{Finding}
 use Rattle.papaya_tables.specs.declared.finding.Finding.TheVariants as finds
 use Rattle.papaya_resize.specs.declared.new_table.NewTable.{NewTable}
-use Rattle.papaya_tables.specs.declared.trial.Trial.{Trial}
+use Rattle.papaya_points.proofs.Calls.Asked.{passed_so}
 use Rattle.papaya_rule.proofs.Keys.Always.{Always, AlwaysOf, always_if, always_plan_as, always_steps}
 use Rattle.papaya_owned.specs.Owned.{PutsIt}
 
@@ -146,9 +146,6 @@ module _ {K V Q : Type 0} where
       keeps_free : KeepsPair (at_free p.missing p)
       keeps_free = subst (λ m. KeepsPair (at_free m p)) (sym absent) (goes_on (at.Tries 0 p.own) (some, no_tombstone))
 
-      keeps_end : KeepsPair (at_end p.missing p)
-      keeps_end = subst (λ m. KeepsPair (at_end m p)) (sym absent) (goes_on at.Nexts some)
-
       keeps_last : KeepsPair (at_last p.missing p)
       keeps_last = subst (λ m. KeepsPair (at_last m p)) (sym absent) (goes_on _ some)
 
@@ -158,13 +155,13 @@ module _ {K V Q : Type 0} where
       keeps_pair there.Removes so word = absurd so
       keeps_pair there.Asks so word = absurd so
 
-      keeps_passed : (trial : Option Trial) → KeepsPair (passed p trial)
-      keeps_passed (Some trial) = record { absent = absent; present = present; own = no_tombstone; pair = some }
-      keeps_passed None = either (is_incremental p.setting.mode) (going p at.Nexts) (at_end p.missing p) (goes_on at.Nexts some) keeps_end
-
       keeps_told : (loaded : Bool) (word : ℕ) (found : Finding) → KeepsPair (told_of loaded p word found)
       keeps_told loaded word finds.Free = keeps_free
-      keeps_told loaded word finds.Passed = keeps_passed (next_trial p.trial)
+      keeps_told loaded word finds.Passed =
+          passed_so KeepsPair (having_met p word) (λ next. record { absent = absent; present = present; own = no_tombstone; pair = some })
+          (record { absent = absent; present = present; own = no_tombstone; pair = some })
+          (λ e. let none : p.missing ≡ missing.Answers = e in absurd (cc (absent, none))) (λ e untold. let told : p.missing ≡ missing.Asks = e in absurd (cc (absent, told)))
+          (next_trial (with_met p.trial word))
       keeps_told loaded word finds.Moved = goes_on at.Nexts some
       keeps_told loaded word finds.Copying = either loaded (standing p at.Probes, called.Waits) (going p at.Probes) (goes_on at.Probes some) (goes_on at.Probes some)
       keeps_told loaded word finds.There = keeps_pair p.there present word

@@ -10,6 +10,7 @@ use Rattle.seize_words.proofs.Plans.{see_if}
 use Rattle.seize.specs.World.{World}
 use Rattle.papaya_tables.specs.Chunks.{is_incremental}
 use Rattle.papaya_tables.specs.TablePlaces.{at_place}
+use Rattle.papaya_tables.specs.Trials.{trial_at}
 use Rattle.papaya_tables.specs.declared.node.Node.{Node}
 use Rattle.papaya_tables.specs.declared.probe.Probe.{Probe}
 use Rattle.papaya_tables.specs.declared.setting.Setting.{Setting}
@@ -33,7 +34,7 @@ use Rattle.papaya_rule.proofs.World.Footprints.{MayWrite}
 module _ {K V : Type 0} (same : K → K → Bool) (hash : K → ℕ) (setting : Setting) (w : World (Node K V)) (c : Chart K) (blocks : Blocks)
     (map : IsMapIn same hash setting w c blocks)
     (code : ℕ) (table : Table) (probe : Probe) (t : ℕ) (k : K) (j : ℕ) (code_is : code ≡ hash k)
-    (trial : IsTrial c blocks (record { table = table; probe = probe }) code t j) where
+    (trial : IsTrial c blocks (trial_at table probe) code t j) where
   abbrev spot : ℕ
   spot = spot_of hash (c.len t) k j
 

@@ -12,6 +12,7 @@ use Rattle.seize.specs.World.{World}
 use Rattle.papaya_tables.specs.Chunks.{is_incremental}
 use Rattle.papaya_tables.specs.Marks.{unmarked_in}
 use Rattle.papaya_tables.specs.Probes.{probe_after}
+use Rattle.papaya_tables.specs.Trials.{trial_at}
 use Rattle.papaya_tables.specs.declared.node.Node.{Node}
 use Rattle.papaya_resize.specs.declared.outcome.Outcome.{Outcome}
 use Rattle.papaya_resize.specs.declared.outcome.Outcome.TheVariants.{Goes}
@@ -55,7 +56,7 @@ word_taken block byte (Holds n phase borrowed) plain some = refl
 module _ {K V : Type 0} (same : K → K → Bool) (hash : K → ℕ) (caller : ℕ) (setting : Setting) (w : World (Node K V)) (c : Chart K) (blocks : Blocks)
     (map : IsMapIn same hash setting w c blocks) (lawful : IsLawful same (spot_of hash)) (blocking : is_incremental setting.mode ≡ false) (p : Copier) (setting_is : p.setting ≡ setting)
     (pair code : ℕ) (table : Table) (probe : Probe) (t n : ℕ) (k : K) (j : ℕ) (works : WorksIn same hash w caller setting c blocks p t n k pair) (code_is : code ≡ hash k)
-    (table_is : table ≡ p.target) (trial : IsTrial c blocks (record { table = table; probe = probe }) code t j)
+    (table_is : table ≡ p.target) (trial : IsTrial c blocks (trial_at table probe) code t j)
     (taken : (g : ℕ) → g < j → Taken same (spot_of hash) false c t k g) where
   abbrev spot : ℕ
   spot = spot_of hash (c.len t) k j
@@ -97,7 +98,7 @@ module _ {K V : Type 0} (same : K → K → Bool) (hash : K → ℕ) (caller : �
     went_further : place_word hash c blocks place ≢ 0 → end ≡ (next_try p pair code table probe, Goes) → CopierCame same hash caller setting w c blocks alone_here m2 end
     went_further some ends =
         by_limit (nat_lt probe.len table.limit) refl
-        (next_is c blocks code t (record { table = table; probe = probe }) j trial (map.map.shows.sized t trial.table.made) (map.map.rule.common.lens t trial.table.made).1)
+        (next_is c blocks code t (trial_at table probe) j trial (map.map.shows.sized t trial.table.made) (map.map.rule.common.lens t trial.table.made).1)
       where
         passed : (g : ℕ) → g < suc j → Taken same (spot_of hash) false c t k g
         passed g l =
@@ -107,7 +108,7 @@ module _ {K V : Type 0} (same : K → K → Bool) (hash : K → ℕ) (caller : �
             ]
 
         by_limit : (b : Bool) → nat_lt probe.len table.limit ≡ b
-            → IsNext c blocks code t (if nat_lt probe.len table.limit then Some (record { table = table; probe = probe_after probe (table.len - 1) }) else None) j
+            → IsNext c blocks code t (if nat_lt probe.len table.limit then Some (trial_at table (probe_after probe (table.len - 1))) else None) j
             → CopierCame same hash caller setting w c blocks alone_here m2 end
         by_limit true e next =
             copier_goes same hash caller setting w c blocks alone_here map m2 end (standing p (at.Probes pair code table (probe_after probe (table.len - 1)))) still
@@ -119,7 +120,7 @@ module _ {K V : Type 0} (same : K → K → Bool) (hash : K → ℕ) (caller : �
               works_at (at.Probes pair code table (probe_after probe (table.len - 1))),
               code_is,
               table_is,
-              subst (λ (b : Bool). IsNext c blocks code t (if b then Some (record { table = table; probe = probe_after probe (table.len - 1) }) else None) j) e next,
+              subst (λ (b : Bool). IsNext c blocks code t (if b then Some (trial_at table (probe_after probe (table.len - 1))) else None) j) e next,
               passed,
             )
             (λ a. a)

@@ -1,13 +1,20 @@
 -- Where a call goes on that asks: what is so of each point that it may come to is so of it.
-use Rattle.std.specs.Prelude.{ℕ, ◌==◌, if◌then◌else◌, Bool, true, false, Option}
+use Rattle.std.specs.Prelude.{◌≡◌, ℕ, ◌==◌, if◌then◌else◌, Bool, true, false, Option, Some, None}
+use Rattle.std.proofs.Common.{refl}
 use Rattle.seize_words.specs.Word.{block_in}
+use Rattle.papaya_tables.specs.Chunks.{is_incremental}
 use Rattle.papaya_resize.specs.NewTable.{first_table}
 use Rattle.papaya_tables.specs.declared.lengths.TheConstants.{FIRST_LEN}
 use Rattle.papaya_tables.specs.declared.marks.TheConstants.{TOMBSTONE}
 use Rattle.papaya_tables.specs.declared.node.Node.{Node}
-use Rattle.papaya_raw.specs.CallPoints.{standing, going, following_made, storing, burying, at_gap, gap_by, asking_at, pair_by, asking_of}
+use Rattle.papaya_tables.specs.declared.trial.Trial.{Trial}
+use Rattle.papaya_raw.specs.CallPoints.{standing, going, ending, following_made, storing, burying, at_gap, gap_by, asking_at, pair_by, asking_of, at_end, beyond, passed}
 use Rattle.papaya_raw.specs.declared.machines.answer.Called.{Called}
 use Rattle.papaya_raw.specs.declared.machines.answer.Called.TheVariants.{Asks}
+use Rattle.papaya_raw.specs.declared.machines.answer.End.TheVariants as ends
+use Rattle.papaya_raw.specs.declared.machines.answer.KeyAnswer.TheVariants as answers
+use Rattle.papaya_raw.specs.declared.machines.answer.Missing.{Missing}
+use Rattle.papaya_raw.specs.declared.machines.answer.Missing.TheVariants as missing
 use Rattle.papaya_raw.specs.declared.machines.asking.Asking.{Asking}
 use Rattle.papaya_raw.specs.declared.machines.asking.Asking.TheVariants as asking
 use Rattle.papaya_raw.specs.declared.machines.asking.Gap.{Gap}
@@ -63,3 +70,34 @@ module _ {K V Q : Type 0} (So : KeyCall K V Q × Called (Node K V) → Type 0) (
         by (tells.Value value) = gap_so gap
         by tells.Own = gap_so gap
         by tells.Removes = gap_so gap
+
+-- Where all tries at a table are made, it reads the link to the next table, or answers that the key is missing, or asks, where it was told nothing for that.
+module _ {K V Q : Type 0} (So : KeyCall K V Q × Called (Node K V) → Type 0) (p : KeyCall K V Q) (nexts : So (going p at.Nexts))
+    (answered : p.missing ≡ missing.Answers → So (ending p (ends.Answered answers.Absent)))
+    (asked : p.missing ≡ missing.Asks → p.replies.absent ≡ tells.Nothing → So (standing p (at.Asks (asking.Absent gaps.Past)), Asks None)) where
+  pub beyond_so : So (beyond p)
+  beyond_so = by_mode (is_incremental p.setting.mode)
+    where
+      past : (told : Told V) → p.replies.absent ≡ told → p.missing ≡ missing.Asks → So (gap_by told gaps.Past p)
+      past tells.Nothing is e = asked e is
+      past (tells.Value value) is e = nexts
+      past tells.Own is e = nexts
+      past tells.Removes is e = nexts
+
+      by_missing : (m : Missing) → p.missing ≡ m → So (at_end m p)
+      by_missing missing.Answers e = answered e
+      by_missing missing.Puts e = nexts
+      by_missing missing.Asks e = past p.replies.absent refl e
+
+      by_mode : (b : Bool) → So (if b then going p at.Nexts else at_end p.missing p)
+      by_mode true = nexts
+      by_mode false = by_missing p.missing refl
+
+-- where a try is passed, the next one is made, or all are
+module _ {K V Q : Type 0} (So : KeyCall K V Q × Called (Node K V) → Type 0) (p : KeyCall K V Q)
+    (probes : (next : Trial) → So (going (record p { trial = next }) at.Probes)) (nexts : So (going p at.Nexts))
+    (answered : p.missing ≡ missing.Answers → So (ending p (ends.Answered answers.Absent)))
+    (asked : p.missing ≡ missing.Asks → p.replies.absent ≡ tells.Nothing → So (standing p (at.Asks (asking.Absent gaps.Past)), Asks None)) where
+  pub passed_so : (next : Option Trial) → So (passed p next)
+  passed_so (Some next) = probes next
+  passed_so None = beyond_so So p nexts answered asked

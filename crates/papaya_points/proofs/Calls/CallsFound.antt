@@ -5,7 +5,7 @@ use Rattle.seize.specs.World.{World}
 use Rattle.papaya_tables.specs.Chunks.{is_incremental}
 use Rattle.papaya_raw.specs.CallPoints.{aim_of, going, told, told_of, at_free, at_end, at_pair, beyond, passed, halted}
 use Rattle.papaya_tables.specs.Finding.{finding}
-use Rattle.papaya_tables.specs.Trials.{next_trial}
+use Rattle.papaya_tables.specs.Trials.{next_trial, with_met}
 use Rattle.papaya_tables.specs.declared.marks.TheConstants.{TOMBSTONE}
 use Rattle.papaya_tables.specs.declared.node.Node.{Node}
 use Rattle.papaya_tables.specs.declared.resize_mode.ResizeMode.{ResizeMode}
@@ -33,11 +33,11 @@ use Rattle.papaya_rule.proofs.Words.PlaceWords.{HasBlock, HasByte}
 use Rattle.papaya_rule.proofs.Words.PlaceWordsFinding.{finding-other}
 use Rattle.papaya_rule.proofs.Words.PlacesShown.{are_stored, shown_block, shown_byte, shown_known}
 use Rattle.papaya_rule.proofs.Words.PlacesRead.{place_keyed}
-use Rattle.papaya_rule.proofs.Keys.TriesSeen.{spot_inside, IsNext, next_is}
+use Rattle.papaya_rule.proofs.Keys.TriesSeen.{spot_inside, IsNext, next_is, trial_met}
 use Rattle.papaya_rule.proofs.Words.WordsSeen.{HasKey, Tells, Says, SaysFree, SaysPassed, SaysMoved, SaysThere, says}
 use Rattle.papaya_rule.proofs.Keys.ClassesSeen.{none_further, shut_past, shut_moved, absent_past}
 use Rattle.papaya_rule.proofs.Keys.ClassesFound.{absent_free, pair_there}
-use Rattle.papaya_points.proofs.Calls.CallsOn.{Seeking, Comes, goes, waits, answers_so}
+use Rattle.papaya_points.proofs.Calls.CallsOn.{Seeking, Comes, seeking_at, goes, waits, answers_so}
 use Rattle.papaya_points.proofs.Calls.Asking.{missing_asks, there_asks}
 use Rattle.papaya_points.proofs.Calls.Holdings.{pair_missing, pair_there as pair_there_own, none_removes, key_stored}
 
@@ -99,9 +99,13 @@ module _ {K V Q : Type 0} (same : K → K → Bool) (hash : K → ℕ) (asks : Q
     at_root : is_incremental setting.mode ≡ false → (k : K) × (keys k ≡ true) → t ≡ c.first
     at_root e k = (none_in false e k.0 k.1).1
 
-    -- the next table is read
+    -- the next table is read, whatever its tries have met
+    to_next_met : (met : ℕ) → ShutUpTo same hash asks w caller setting c blocks keys Unchanged t
+        → Comes same hash asks caller setting keys w c blocks (going (record p { trial = record p.trial { met = met } }) at.Nexts)
+    to_next_met met shut = goes same hash asks caller setting keys w c blocks p s (record p.trial { met = met }) p.helped at.Nexts (λ answer h. h) (s.own, t, (trial.table, shut))
+
     to_next : ShutUpTo same hash asks w caller setting c blocks keys Unchanged t → Comes same hash asks caller setting keys w c blocks (going p at.Nexts)
-    to_next shut = goes same hash asks caller setting keys w c blocks p s p.trial p.helped at.Nexts (λ answer h. h) (s.own, t, (trial.table, shut))
+    to_next = to_next_met p.trial.met
 
     frees : (m : Missing) → p.missing ≡ m → SaysFree keys c.key here (is_incremental setting.mode) (aim_of m) → Comes same hash asks caller setting keys w c blocks (at_free m p)
     frees missing.Answers e free =
@@ -115,37 +119,48 @@ module _ {K V Q : Type 0} (same : K → K → Bool) (hash : K → ℕ) (asks : Q
         (absent_free same hash lawful keys p.hash s.class c (is_incremental setting.mode) map.map.rule t j Stores trial.most inside none free)
 
     -- all tries are made
-    past_all : j ≡ c.limit t → NoneBefore same hash (is_incremental setting.mode) c keys t (suc j) → Comes same hash asks caller setting keys w c blocks (beyond p)
-    past_all last further = by_mode (is_incremental p.setting.mode) refl
+    past_all : (met : ℕ) → j ≡ c.limit t → NoneBefore same hash (is_incremental setting.mode) c keys t (suc j)
+        → Comes same hash asks caller setting keys w c blocks (beyond (record p { trial = record p.trial { met = met } }))
+    past_all met last further = by_mode (is_incremental p.setting.mode) refl
       where
+        seeks : Seeking same hash asks caller setting keys w c blocks (record p { trial = record p.trial { met = met } })
+        seeks = seeking_at same hash asks caller setting keys w c blocks p s (record p.trial { met = met })
+
         further_in : (b : Bool) → is_incremental setting.mode ≡ b → NoneBefore same hash b c keys t (suc (c.limit t))
         further_in b e = subst (λ (x : ℕ). NoneBefore same hash b c keys t (suc x)) last (subst (λ (x : Bool). NoneBefore same hash x c keys t (suc j)) e further)
 
         mode_is : (b : Bool) → is_incremental p.setting.mode ≡ b → is_incremental setting.mode ≡ b
         mode_is b e = ap (λ (x : Setting). is_incremental x.mode) (sym s.setting_is) ∙ e
 
-        at_ends : (m : Missing) → p.missing ≡ m → is_incremental setting.mode ≡ false → Comes same hash asks caller setting keys w c blocks (at_end m p)
+        at_ends : (m : Missing) → p.missing ≡ m → is_incremental setting.mode ≡ false
+            → Comes same hash asks caller setting keys w c blocks (at_end m (record p { trial = record p.trial { met = met } }))
         at_ends missing.Answers e alone =
-            answers_so same hash asks caller setting keys w c blocks p s answers.Absent (absent_past same hash lawful keys p.hash s.class c (rule_in false alone) t (further_in false alone))
-        at_ends missing.Puts e alone = to_next (shut_in false alone t (at_root alone (own_key (λ none. cc (none, e)))))
+            answers_so same hash asks caller setting keys w c blocks (record p { trial = record p.trial { met = met } }) seeks answers.Absent
+            (absent_past same hash lawful keys p.hash s.class c (rule_in false alone) t (further_in false alone))
+        at_ends missing.Puts e alone = to_next_met met (shut_in false alone t (at_root alone (own_key (λ none. cc (none, e)))))
         at_ends missing.Asks e alone =
-            missing_asks same hash asks caller setting keys w c blocks p s e gaps.Past (t, (trial.table, shut_in false alone t (at_root alone (own_key (λ none. cc (none, e)))))) (λ last. absurd last)
+            missing_asks same hash asks caller setting keys w c blocks (record p { trial = record p.trial { met = met } }) seeks e gaps.Past (t, (trial.table, shut_in false alone t (at_root alone (own_key (λ none. cc (none, e)))))) (λ last. absurd last)
             (absent_past same hash lawful keys p.hash s.class c (rule_in false alone) t (further_in false alone))
 
-        by_mode : (b : Bool) → is_incremental p.setting.mode ≡ b → Comes same hash asks caller setting keys w c blocks (if b then going p at.Nexts else at_end p.missing p)
-        by_mode true e = let m = mode_is true e in to_next (shut_in true m t (shut_past same hash lawful keys p.hash s.class c (rule_in true m) t (further_in true m)))
+        by_mode : (b : Bool) → is_incremental p.setting.mode ≡ b
+            → Comes same hash asks caller setting keys w c blocks
+            (if b then going (record p { trial = record p.trial { met = met } }) at.Nexts else at_end p.missing (record p { trial = record p.trial { met = met } }))
+        by_mode true e = let m = mode_is true e in to_next_met met (shut_in true m t (shut_past same hash lawful keys p.hash s.class c (rule_in true m) t (further_in true m)))
         by_mode false e = at_ends p.missing refl (mode_is false e)
 
     -- a try is passed
-    passes : SaysPassed keys c.key here (is_incremental setting.mode) → Comes same hash asks caller setting keys w c blocks (passed p (next_trial p.trial))
-    passes says = by_next (next_trial p.trial) (next_is c blocks p.hash t p.trial j trial (map.map.shows.sized t trial.table.made) (map.map.rule.common.lens t trial.table.made).1)
+    passes : (met : ℕ) → SaysPassed keys c.key here (is_incremental setting.mode)
+        → Comes same hash asks caller setting keys w c blocks (passed (record p { trial = record p.trial { met = met } }) (next_trial (record p.trial { met = met })))
+    passes met says =
+        by_next (next_trial (record p.trial { met = met }))
+        (next_is c blocks p.hash t (record p.trial { met = met }) j (trial_met c blocks p.hash t p.trial j met trial) (map.map.shows.sized t trial.table.made) (map.map.rule.common.lens t trial.table.made).1)
       where
         further : NoneBefore same hash (is_incremental setting.mode) c keys t (suc j)
         further = none_further same hash lawful keys p.hash s.class c t j (is_incremental setting.mode) none keyed says
 
-        by_next : (o : Option Trial) → IsNext c blocks p.hash t o j → Comes same hash asks caller setting keys w c blocks (passed p o)
+        by_next : (o : Option Trial) → IsNext c blocks p.hash t o j → Comes same hash asks caller setting keys w c blocks (passed (record p { trial = record p.trial { met = met } }) o)
         by_next (Some next) is = goes same hash asks caller setting keys w c blocks p s next p.helped at.Probes (λ answer h. h) (s.own, (t, suc j, is, further, root))
-        by_next None is = past_all is further
+        by_next None is = past_all met is further
 
     module _ (word : ℕ) (flag : Bool) (word_is : word ≡ place_word hash c blocks here) (tells : Tells keys c.key here flag) where
       moves : (m : Missing) → p.missing ≡ m → finding setting.mode (aim_of m) (place_word hash c blocks here) flag ≡ is.Moved → SaysMoved keys c.key here (is_incremental setting.mode) (aim_of m)
@@ -200,7 +215,7 @@ module _ {K V Q : Type 0} (same : K → K → Bool) (hash : K → ℕ) (asks : Q
       by_finding : (loaded : Bool) (x : Finding) → finding setting.mode (aim_of p.missing) (place_word hash c blocks here) flag ≡ x
           → Says keys c.key here (is_incremental setting.mode) (aim_of p.missing) x → Comes same hash asks caller setting keys w c blocks (told_of loaded p word x)
       by_finding loaded is.Free e free = frees p.missing refl free
-      by_finding loaded is.Passed e so = passes so
+      by_finding loaded is.Passed e so = passes (with_met p.trial word).met so
       by_finding loaded is.Moved e so = moves p.missing refl e so
       by_finding loaded is.Copying e so = halts loaded
       by_finding loaded is.There e so = pairs so

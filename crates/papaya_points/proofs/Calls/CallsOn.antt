@@ -60,6 +60,10 @@ module _ {K V Q : Type 0} (same : K → K → Bool) (hash : K → ℕ) (asks : Q
     }
 
     module _ (p : KeyCall K V Q) (s : Seeking p) where
+      -- at any try
+      pub seeking_at : (trial : Trial) → Seeking (record p { trial = trial })
+      seeking_at trial = record { setting_is = s.setting_is; may = s.may; code = s.code; class = s.class; idle = s.idle; own = s.own }
+
       pub facts_at : (trial : Trial) (helped : Bool) (stands : Calling)
           → CallingFacts same hash asks w caller setting c blocks keys Unchanged (record p { trial = trial; helped = helped; stands = stands }) stands
           → CallFacts same hash asks w caller setting c blocks keys Unchanged (record p { trial = trial; helped = helped; stands = stands })

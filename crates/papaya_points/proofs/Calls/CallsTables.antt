@@ -74,9 +74,9 @@ module _ {K V Q : Type 0} (same : K → K → Bool) (hash : K → ℕ) (asks : Q
     -- it is the last one
     pub makes_next : IsPowerOfTwo setting.initial → Comes same hash asks caller setting keys w c blocks (following_made p)
     makes_next power =
-        subst (λ (x : Setting). Comes same hash asks caller setting keys w c blocks (going p (at.Allocs (table_after x p.trial.table Full)))) (sym s.setting_is)
-        (goes same hash asks caller setting keys w c blocks p s p.trial p.helped (at.Allocs (table_after setting p.trial.table Full)) (λ answer h. h)
-        (s.own, t, (entered, shut), table_after_facts w caller setting c blocks p.trial.table t entered (free (is_incremental setting.mode) refl) (map.shows.sized t entered.made) power Full))
+        subst (λ (x : Setting). Comes same hash asks caller setting keys w c blocks (going p (at.Allocs (table_after x p.trial.table (Full p.trial.met))))) (sym s.setting_is)
+        (goes same hash asks caller setting keys w c blocks p s p.trial p.helped (at.Allocs (table_after setting p.trial.table (Full p.trial.met))) (λ answer h. h)
+        (s.own, t, (entered, shut), table_after_facts w caller setting c blocks p.trial.table t entered (free (is_incremental setting.mode) refl) (map.shows.sized t entered.made) power (Full p.trial.met)))
       where
         free : (b : Bool) → is_incremental setting.mode ≡ b → cond (is_incremental setting.mode) (Unit {0}) (c.first < t → c.status t ≡ ABORTED)
         free true e = subst (λ (x : Bool). cond x (Unit {0}) (c.first < t → c.status t ≡ ABORTED)) (sym e) tt

@@ -8,6 +8,7 @@ use Rattle.papaya_resize.specs.CopierStates.{standing}
 use Rattle.papaya_resize.specs.CopierMarks.{probing}
 use Rattle.papaya_resize.specs.CopierPlaces.{next_try}
 use Rattle.papaya_tables.specs.Probes.{probe_from, probe_after}
+use Rattle.papaya_tables.specs.Trials.{trial_at}
 use Rattle.papaya_tables.specs.declared.node.Node.{Node}
 use Rattle.papaya_tables.specs.declared.probe.Probe.{Probe}
 use Rattle.papaya_tables.specs.declared.setting.Setting.{Setting}
@@ -77,7 +78,7 @@ module _ {K V : Type 0} (same : K → K → Bool) (hash : K → ℕ) (w : World 
       → is_taken true (tried same (spot_of hash) true c tries.2 tries.1 tries.3) ≡ true
       → CopierFacts same hash w caller setting c blocks (next_try p word code table probe)
   facts_next_try p word code table probe is bits lens (n, k, t, j, works, code_is, later, trial, taken, looks) here =
-      by_test (nat_lt probe.len table.limit) (next_is c blocks code t (record { table = table; probe = probe }) j trial (lens t made).0 (lens t made).1)
+      by_test (nat_lt probe.len table.limit) (next_is c blocks code t (trial_at table probe) j trial (lens t made).0 (lens t made).1)
     where
       made : t < c.past
       made = trial.table.made
@@ -104,7 +105,7 @@ module _ {K V : Type 0} (same : K → K → Bool) (hash : K → ℕ) (w : World 
       }
 
       by_test : (b : Bool)
-          → IsNext c blocks code t (if b then Some record { table = table; probe = probe_after probe (table.len - 1) } else None) j
+          → IsNext c blocks code t (if b then Some (trial_at table (probe_after probe (table.len - 1))) else None) j
           → CopierFacts same hash w caller setting c blocks
           (if b then standing p (at.Probes word code table (probe_after probe (table.len - 1))) else
           (if is_incremental p.setting.mode then standing p (at.Passes word code table) else record p { place = 0; end = 0; done = 0; stands = at.Aborts }))

@@ -28,7 +28,7 @@ limit_by true len some = omega arith
 limit_by false len some = limit_below _ len some
 
 next_limit_below : (reason : Reason) (before len : ℕ) → 8 ≤ len → next_limit reason before len < len
-next_limit_below Full before len some = limit_by (len == before) len some
+next_limit_below (Full met) before len some = limit_by (len == before) len some
 next_limit_below (Reserved additional) before len some = limit_by (len == before) len some
 next_limit_below NoPlace before len some = omega arith
 

@@ -2,12 +2,12 @@
 use Rattle.std.specs.Prelude.{◌≡◌, ℕ, ◌==◌, Bool, true, false, Option, Some, None, max, if◌then◌else◌}
 use Rattle.std.proofs.Common.{refl, ap, eqb-true}
 use Rattle.papaya_raw.specs.Call.{key_read, pair_read, word_read, have_one_key}
-use Rattle.papaya_raw.specs.CallPoints.{aim_of, going, over, ending, tableless, at_free, at_end, beyond, following_made, asking_at, at_last, at_pair, passed, halted, told_of, told, entering, went_on}
+use Rattle.papaya_raw.specs.CallPoints.{aim_of, going, over, ending, tableless, at_free, following_made, asking_at, at_last, at_pair, halted, told_of, told, entering, went_on, having_met}
 use Rattle.papaya_tables.specs.Chunks.{is_incremental}
 use Rattle.papaya_resize.specs.CopierStates.{helping, copying_all}
 use Rattle.papaya_tables.specs.Finding.{finding, may_name}
 use Rattle.papaya_resize.specs.Lookup.{names_pair}
-use Rattle.papaya_tables.specs.Trials.{next_trial}
+use Rattle.papaya_tables.specs.Trials.{next_trial, with_met}
 use Rattle.papaya_tables.specs.declared.lengths.TheConstants.{FIRST_LEN}
 use Rattle.papaya_tables.specs.declared.node.Node.{Node}
 use Rattle.papaya_tables.specs.declared.table.Table.{Table}
@@ -31,9 +31,8 @@ use Rattle.papaya_raw.specs.declared.machines.call.Calling.TheVariants as at
 use Rattle.papaya_resize.specs.declared.copier.Copier.{Copier}
 use Rattle.papaya_tables.specs.declared.finding.Finding.{Finding}
 use Rattle.papaya_tables.specs.declared.finding.Finding.TheVariants as is
-use Rattle.papaya_tables.specs.declared.trial.Trial.{Trial}
 use Rattle.papaya_points.specs.Made.{IsMadeByCall}
-use Rattle.papaya_points.proofs.Calls.Asked.{asking_so, asking_of_so}
+use Rattle.papaya_points.proofs.Calls.Asked.{asking_so, asking_of_so, passed_so}
 use Rattle.papaya_points.proofs.Values.Making.{MadeNone, none_made, first_made_none}
 use Rattle.papaya_points.proofs.Values.Copying.{AllThen, all_if, CopierMadeNone, none_made_by_copier}
 
@@ -145,14 +144,6 @@ module _ {K V Q : Type 0} where
     free_so missing.Puts = ((refl, tt), tt)
     free_so missing.Asks = missing_so gaps.Free
 
-    end_so : (x : Missing) → GoesPlainly p (at_end x p)
-    end_so missing.Answers = ending_so (ends.Answered answers.Absent) tt
-    end_so missing.Puts = ((refl, tt), tt)
-    end_so missing.Asks = missing_so gaps.Past
-
-    beyond_so : GoesPlainly p (beyond p)
-    beyond_so = plainly_if (is_incremental p.setting.mode) (going p at.Nexts) (at_end p.missing p) ((refl, tt), tt) (end_so p.missing)
-
     pub last_so : (x : Missing) → GoesPlainly p (at_last x p)
     last_so missing.Answers =
         plainly_if (is_incremental p.setting.mode) (ending p (ends.Answered answers.Absent)) (following_made p) (ending_so (ends.Answered answers.Absent) tt) ((refl, tt), tt)
@@ -166,17 +157,20 @@ module _ {K V Q : Type 0} where
     pair_so there.Asks word =
         asking_of_so (GoesPlainly p) p (λ word new. ((refl, tt), tt)) (λ asking. ((refl, tt), tt)) (λ asking asked. ((refl, tt), tt)) word
 
-    passed_so : (o : Option Trial) → GoesPlainly p (passed p o)
-    passed_so (Some trial) = ((refl, tt), tt)
-    passed_so None = beyond_so
-
     halted_so : (q : Bool) → GoesPlainly p (halted q p)
     halted_so true = ((refl, tt), tt)
     halted_so false = ((refl, tt), tt)
 
     told_of_so : (q : Bool) (word : ℕ) (f : Finding) → GoesPlainly p (told_of q p word f)
     told_of_so q word is.Free = free_so p.missing
-    told_of_so q word is.Passed = passed_so (next_trial p.trial)
+    told_of_so q word is.Passed =
+        passed_so (GoesPlainly p) (having_met p word) (λ next. ((refl, tt), tt)) ((refl, tt), tt) (λ e. answered (p.own == 0) (eqb-true p.own 0)) (λ e untold. ((refl, tt), tt))
+        (next_trial (with_met p.trial word))
+      where
+        answered : (b : Bool) → (b ≡ true → p.own ≡ 0)
+            → GoesPlainly p (if b then over (having_met p word) (ends.Answered answers.Absent) else going (having_met p word) (at.Drops (ends.Answered answers.Absent)))
+        answered true none = ((refl, (none refl, tt)), tt)
+        answered false none = ((refl, tt), tt)
     told_of_so q word is.Moved = ((refl, tt), tt)
     told_of_so q word is.Copying = halted_so q
     told_of_so q word is.There = pair_so p.there word

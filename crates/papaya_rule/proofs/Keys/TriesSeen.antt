@@ -55,6 +55,10 @@ module _ {K : Type 0} (c : Chart K) (blocks : Blocks) (code t : ℕ) where
     most = omega arith;
   }
 
+  -- whatever was counted of it and those before
+  pub trial_met : (trial : Trial) (j met : ℕ) → IsTrial c blocks trial code t j → IsTrial c blocks (record trial { met = met }) code t j
+  trial_met trial j met at = record { table = at.table; place = at.place; try = at.try; most = at.most }
+
   -- What is behind a try: a further one, or none, where it was the last.
   abbrev pub IsNext : Option Trial → ℕ → Type 0
   IsNext (Some trial) j = IsTrial c blocks trial code t (suc j)
@@ -73,7 +77,7 @@ module _ {K : Type 0} (c : Chart K) (blocks : Blocks) (code t : ℕ) where
       goes = next_spot (c.len t) code is_len trial.probe j at.try at.place before_last
 
       by_test : (b : Bool) → nat_lt trial.probe.len trial.table.limit ≡ b
-          → IsNext (if b then Some record { table = trial.table; probe = probe_after trial.probe (trial.table.len - 1) } else None) j
+          → IsNext (if b then Some record { table = trial.table; probe = probe_after trial.probe (trial.table.len - 1); met = trial.met } else None) j
       by_test true e =
           let l = ltb-true trial.probe.len trial.table.limit e in
           record {
@@ -87,3 +91,11 @@ module _ {K : Type 0} (c : Chart K) (blocks : Blocks) (code t : ℕ) where
           let try = at.try in
           let most = at.most in
           omega (arith, limits, try, l, most)
+
+  pub next_met : (trial : Trial) (j met : ℕ) → IsNext (next_trial trial) j → IsNext (next_trial (record trial { met = met })) j
+  next_met trial j met = by_test (nat_lt trial.probe.len trial.table.limit)
+    where
+      by_test : (b : Bool) → IsNext (if b then Some record { table = trial.table; probe = probe_after trial.probe (trial.table.len - 1); met = trial.met } else None) j
+          → IsNext (if b then Some record { table = trial.table; probe = probe_after trial.probe (trial.table.len - 1); met = met } else None) j
+      by_test true next = record { table = next.table; place = next.place; try = next.try; most = next.most }
+      by_test false last = last

@@ -61,7 +61,7 @@ resizes =
             (
               (refl, (refl, refl, refl, omega arith)),
               (
-                (refl, (refl, refl, (Full, 2, 8, refl, refl, refl, refl))),
+                (refl, (refl, refl, (Full 0, 2, 8, refl, refl, refl, refl))),
                 (
                   (refl, (omega arith, omega arith, refl, λ e. cc e, omega arith, refl)),
                   (

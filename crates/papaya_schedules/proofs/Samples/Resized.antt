@@ -73,7 +73,7 @@ since_1 = (
                 (
                   (refl, (refl, refl, refl, omega arith)),
                   (
-                    (refl, (refl, refl, (Full, 8, 8, refl, refl, refl, refl))),
+                    (refl, (refl, refl, (Full 0, 8, 8, refl, refl, refl, refl))),
                     (
                       (refl, (refl, omega arith, omega arith, refl)),
                       ((refl, (refl, refl, refl, omega arith, refl)), ((refl, (omega arith, refl)), tt)),

@@ -126,7 +126,7 @@ module _ {K V Q : Type 0} (present : There) (absent : Missing) (takes : Takes) w
         (λ e. fit_removes more word some may) (λ e. ((is_there, is_missing, is_told, is_own, (more, some, may)), tt))
 
     pub fit_following : IsMore present absent takes → ComesFit present absent takes (following_made p)
-    fit_following more = ((is_there, is_missing, is_told, is_own, (more, table_after_room p.setting p.trial.table Full)), tt)
+    fit_following more = ((is_there, is_missing, is_told, is_own, (more, table_after_room p.setting p.trial.table (Full p.trial.met))), tt)
 
     -- where the key is missing, and it asks there
     module _ (asks : absent ≡ missing.Asks) where

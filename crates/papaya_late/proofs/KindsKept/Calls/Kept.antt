@@ -12,7 +12,7 @@ use Rattle.seize.specs.declared.rows.settle.Settled.TheVariants as settled
 use Rattle.seize_rule.proofs.Rows.Leaving.{steps_back}
 use Rattle.papaya_raw.specs.Answers.{ended}
 use Rattle.papaya_raw.specs.Call.{made, makes_of, root_found, next_found, dropped, key_read, pair_read, word_read, word_found, tried, looked, looks_for, first_made, next_made, disposed, helped, copied, plan_at}
-use Rattle.papaya_raw.specs.CallPoints.{aim_of, told, going, standing, over, ending, tableless, at_free, at_end, following_made, asking_at, at_last, at_pair, passed, told_of, entering, went_on, changed, counted}
+use Rattle.papaya_raw.specs.CallPoints.{aim_of, told, going, standing, over, ending, tableless, at_free, following_made, asking_at, at_last, at_pair, told_of, entering, went_on, changed, counted, having_met}
 use Rattle.papaya_tables.specs.Chunks.{is_incremental}
 use Rattle.papaya_resize.specs.Copier.{copier_plan}
 use Rattle.papaya_resize.specs.CopierStates.{copying_all, resting}
@@ -23,7 +23,7 @@ use Rattle.papaya_tables.specs.declared.resize_mode.ResizeMode.{ResizeMode}
 use Rattle.papaya_resize.specs.Lookup.{lookup_plan}
 use Rattle.papaya_resize.specs.Lookup as lookups
 use Rattle.papaya_resize.specs.NewTable.{new_table_plan}
-use Rattle.papaya_tables.specs.Trials.{next_trial}
+use Rattle.papaya_tables.specs.Trials.{next_trial, with_met}
 use Rattle.papaya_tables.specs.declared.lengths.TheConstants.{FIRST_LEN}
 use Rattle.papaya_tables.specs.declared.marks.TheConstants.{TOMBSTONE}
 use Rattle.papaya_tables.specs.declared.node.Node.{Node}
@@ -61,6 +61,7 @@ use Rattle.papaya_resize.specs.declared.lookup.Looking.{Looking}
 use Rattle.papaya_resize.specs.declared.lookup.Looking.TheVariants as looks
 use Rattle.papaya_resize.specs.declared.new_table.NewTable.{NewTable}
 use Rattle.papaya_tables.specs.declared.trial.Trial.{Trial}
+use Rattle.papaya_points.proofs.Calls.Asked.{passed_so}
 use Rattle.papaya_rule.proofs.Keys.Always.{Always, AlwaysOf, always_if, always_plan_as, always_steps}
 use Rattle.papaya_late.specs.Faults.{RoomInCopying}
 use Rattle.papaya_late.specs.Kinds.{ToldFits, IsMore, Fits, FitsStore, FitsExchange, FitsCount, OverFits, FitsAt, TellsFit, IsFit, ComesFit, KindsBegin, AskingKindsBegin, CallsKeepTheirKind}
@@ -190,11 +191,6 @@ module _ {K V Q : Type 0} (present : There) (absent : Missing) (takes : Takes) w
       fit_free missing.Puts e = puts_fit 0 ((λ z. inl (sym is_missing ∙ e)), (λ n. absurd (n refl)))
       fit_free missing.Asks e = asking_fits e gaps.Free
 
-      fit_end : (m : Missing) → p.missing ≡ m → ComesFit present absent takes (at_end m p)
-      fit_end missing.Answers e = fit_absent e
-      fit_end missing.Puts e = ((is_there, is_missing, is_told, is_own, more), tt)
-      fit_end missing.Asks e = asking_fits e gaps.Past
-
       fit_last : (m : Missing) → p.missing ≡ m → ComesFit present absent takes (at_last m p)
       fit_last missing.Answers e =
           either present absent takes (is_incremental p.setting.mode) (ending p (ends.Answered answers.Absent)) (following_made p) (λ i. fit_absent e) (λ i. following_fits)
@@ -207,16 +203,15 @@ module _ {K V Q : Type 0} (present : There) (absent : Missing) (takes : Takes) w
       fit_pair there.Removes e word some = fit_removes present absent takes p is_there is_missing is_told is_own more word some (inl (sym is_there ∙ e))
       fit_pair there.Asks e word some = fit_asking_of present absent takes p is_there is_missing is_told is_own (sym is_there ∙ e) word some
 
-      fit_passed : (trial : Option Trial) → ComesFit present absent takes (passed p trial)
-      fit_passed (Some trial) = ((is_there, is_missing, is_told, is_own, more), tt)
-      fit_passed None = either present absent takes (is_incremental p.setting.mode) (going p at.Nexts) (at_end p.missing p) (λ e. ((is_there, is_missing, is_told, is_own, more), tt)) (λ e. fit_end p.missing refl)
-
       fit_told : (loaded : Bool) (word : ℕ) (named : Bool) → ComesFit present absent takes (told loaded p word named)
       fit_told loaded word named = by (finding p.setting.mode (aim_of p.missing) word named) refl
         where
           by : (found : Finding) → finding p.setting.mode (aim_of p.missing) word named ≡ found → ComesFit present absent takes (told_of loaded p word found)
           by finds.Free e = fit_free p.missing refl
-          by finds.Passed e = fit_passed (next_trial p.trial)
+          by finds.Passed e =
+              passed_so (ComesFit present absent takes) (having_met p word) (λ next. ((is_there, is_missing, is_told, is_own, more), tt)) ((is_there, is_missing, is_told, is_own, more), tt)
+              (λ none. fit_ending present absent takes (having_met p word) is_there is_missing is_told is_own (ends.Answered answers.Absent) (inl (sym is_missing ∙ none)))
+              (λ asks untold. ((is_there, is_missing, is_told, is_own, sym is_missing ∙ asks), sym is_missing ∙ asks)) (next_trial (with_met p.trial word))
           by finds.Moved e = ((is_there, is_missing, is_told, is_own, more), tt)
           by finds.Copying e =
               either present absent takes loaded (standing p at.Probes, called.Waits) (going p at.Probes) (λ q. ((is_there, is_missing, is_told, is_own, more), tt)) (λ q. ((is_there, is_missing, is_told, is_own, more), tt))

@@ -43,7 +43,7 @@ few_long places number = by (nat_le places (2 ^ 48))
     by false = refl
 
 len_long : (r : Reason) (len count initial : ℕ) → IsLong (next_len r len count initial)
-len_long reason.Full len count initial = few_long _ _
+len_long (reason.Full met) len count initial = few_long _ _
 len_long (reason.Reserved additional) len count initial = few_long _ _
 len_long reason.NoPlace len count initial = few_long _ _
 
@@ -76,7 +76,7 @@ module _ (Is : Fault → Type 0) (long : Is Capacity) where
   making_so r before (Err fault) fails = subst Is (sym fails) long
 
   begun_so : (setting : Setting) (before : Table) (r : Reason) → SoInMaking Is (begun_for setting before r)
-  begun_so setting before reason.Full = tt
+  begun_so setting before (reason.Full met) = tt
   begun_so setting before (reason.Reserved additional) = tt
   begun_so setting before reason.NoPlace = making_so reason.NoPlace before (next_len reason.NoPlace before.len 0 setting.initial) (len_long reason.NoPlace before.len 0 setting.initial)
 

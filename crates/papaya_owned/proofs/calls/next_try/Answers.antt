@@ -2,6 +2,7 @@
 use Rattle.std.specs.Prelude.{false}
 use Rattle.std.proofs.Common.{sym, ap, ◌∙◌}
 use Rattle.papaya_tables.specs.Finding.{finding, may_name}
+use Rattle.papaya_tables.specs.Trials.{next_trial}
 use Rattle.papaya_tables.specs.declared.finding.Aim.TheVariants.{Looks}
 use Rattle.papaya_owned.proofs.Lookups.Tries.{found_at}
 use Rattle.papaya_owned.proofs.Passing.{passes_if, try_can}
@@ -16,4 +17,4 @@ pub returns-in-Passed : goal.returns-in-Passed
 returns-in-Passed g c = λ u probing of_hash of_mode.
     passes_if g.Q.Equivalent.equivalent g.K.PartialEq.eq g.S.Hashes.hash c.args.memory.now u c.args.trial c.load-word.result
     probing (found_at _ _ c.look.ensures _ _ c.at.ensures _ c.load-word.ensures.0) (ap (λ h. may_name h c.load-word.result) of_hash ∙ sym c.may_be.ensures ∙ c.if-may_be.false)
-    (ap (λ mode. finding mode Looks c.load-word.result false) of_mode ∙ sym c.seen.ensures ∙ c.in-Passed.is) c.next.result c.next.ensures
+    (ap (λ mode. finding mode Looks c.load-word.result false) of_mode ∙ sym c.seen.ensures ∙ c.in-Passed.is) c.next.result (c.next.ensures ∙ ap next_trial c.meets.ensures)

@@ -35,8 +35,8 @@ impl<K, V, Q> KeyCall<K, V, Q> {
     pub(super) fn make_next(&mut self) -> Called<Node<K, V>>
         ensures { (self.new, result) ≡ following_made self.old }
     {
-        let table = self.trial.table;
-        self.go_to(Calling::Allocs(NewTable::after(self.setting, table, Reason::Full)))
+        let (table, met) = (self.trial.table, self.trial.met);
+        self.go_to(Calling::Allocs(NewTable::after(self.setting, table, Reason::Full(met))))
     }
 
     /// Goes on where the key is missing, to store a pair.

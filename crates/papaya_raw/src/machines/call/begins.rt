@@ -218,6 +218,7 @@ impl<K, V, Q> KeyCall<K, V, Q> {
             trial: Trial {
                 table,
                 probe: Probe { i: 0, len: 0 },
+                met: 0,
             },
             helped: false,
             stands,

@@ -1,7 +1,8 @@
 //! Tries of the key at a table: what a word says, and its exchange.
 ghost use Rattle.std.specs.Prelude.{◌≡◌, true, false};
 ghost use Rattle.seize_words.specs.Plan.{May, MaySee, Steps, Ends};
-ghost use Rattle.papaya_raw.specs.CallPoints.{going, at_free, at_pair, beyond, halted, told, changed, counted, aim_of};
+ghost use Rattle.papaya_tables.specs.Trials.{with_met, next_trial};
+ghost use Rattle.papaya_raw.specs.CallPoints.{going, at_free, at_pair, having_met, passed, beyond, halted, told, changed, counted, aim_of};
 ghost use Rattle.papaya_raw.specs.Call.{have_one_key, word_read, probes, tries, counts};
 ghost use Rattle.papaya_raw.specs.declared.machines.call.Calling.TheVariants as at;
 
@@ -94,16 +95,24 @@ impl<K, V, Q> KeyCall<K, V, Q> {
     {
         match seen(self.setting.mode, self.missing.aim(), word, same) {
             Finding::Free => self.is_free(),
-            Finding::Passed => match self.trial.next() {
-                Some(trial) => {
-                    self.trial = trial;
-                    self.probe_on()
-                }
-                None => self.go_beyond(),
-            },
+            Finding::Passed => self.pass(word),
             Finding::Moved => self.go_to(Calling::Nexts),
             Finding::Copying => self.halt(loaded),
             Finding::There => self.is_there(word),
+        }
+    }
+
+    /// Goes on from its try, whose word is this one.
+    fn pass(&mut self, word: u64) -> Called<Node<K, V>>
+        ensures { (self.new, result) ≡ passed (having_met self.old word) (next_trial (with_met self.old.trial word)) }
+    {
+        self.trial = self.trial.meets(word);
+        match self.trial.next() {
+            Some(trial) => {
+                self.trial = trial;
+                self.probe_on()
+            }
+            None => self.go_beyond(),
         }
     }
 

@@ -1,0 +1,108 @@
+-- How many pairs the tries of a hash meet at a table: no more than the map has, where that table is the last.
+use Rattle.std.specs.Prelude.{◌≡◌, ◌≢◌, ℕ, suc, ◌<◌, ◌≤◌, ◌==◌, Bool, true, false, not, Option, Some, None, IfSome}
+use Rattle.seize_words.specs.Mem.{Mem, Took, value_at, word_at}
+use Rattle.seize_words.specs.Plan.{Steps}
+use Rattle.seize_words.specs.Word.{block_in}
+use Rattle.papaya_tables.specs.Chunks.{is_incremental}
+use Rattle.papaya_tables.specs.Lengths.{next_len, IsTableLen}
+use Rattle.papaya_tables.specs.TablePlaces.{at_place}
+use Rattle.papaya_tables.specs.Trials.{first_trial, with_met, next_trial}
+use Rattle.papaya_tables.specs.declared.lengths.Reason.TheVariants.{Full}
+use Rattle.papaya_tables.specs.declared.node.Node.{Node}
+use Rattle.papaya_tables.specs.declared.resize_mode.ResizeMode.{ResizeMode}
+use Rattle.papaya_tables.specs.declared.table.Table.{Table}
+use Rattle.papaya_tables.specs.declared.trial.Trial.{Trial}
+use Rattle.papaya_resize.specs.declared.new_table.Making.{Making}
+use Rattle.papaya_resize.specs.declared.new_table.Making.TheVariants as makes
+use Rattle.papaya_raw.specs.Call.{call_plan}
+use Rattle.papaya_raw.specs.declared.machines.answer.Called.{Called}
+use Rattle.papaya_raw.specs.declared.machines.asking.Asking.{Asking}
+use Rattle.papaya_raw.specs.declared.machines.call.KeyCall.{KeyCall}
+use Rattle.papaya_raw.specs.declared.machines.call.Calling.{Calling}
+use Rattle.papaya_raw.specs.declared.machines.call.Calling.TheVariants as at
+use Rattle.papaya_rule.specs.Chart.{Place, Holds, Chart}
+use Rattle.papaya_rule.specs.Rule.{IsLawful, Rule, total}
+use Rattle.papaya_rule.specs.Words.{Blocks, place_word}
+use Rattle.papaya_rule.specs.Maps.{spot_at, spot_of, IsMap, IsTable, IsTrial}
+use Rattle.papaya_alone.specs.Counting.{one_if, pairs_in}
+
+-- a pair stands at a place
+abbrev pub has_pair : Place → Bool
+has_pair (Holds n phase borrowed) = true
+has_pair _ = false
+
+-- at how many of the first tries of a hash at a table a pair stands
+abbrev pub met_in : {K : Type 0} → Chart K → ℕ → ℕ → ℕ → ℕ
+met_in c code t tries = total one_if (λ j. has_pair (c.place t (spot_at (c.len t) code j))) tries
+
+-- At the last table, which is the root where all pairs are copied at once, these are no more than the pairs of the map.
+abbrev pub MetPairsAreFew : {K : Type 0} → (K → K → Bool) → (K → ℕ) → Bool → Type 0
+MetPairsAreFew {K} same hash incremental =
+    IsLawful same (spot_of hash) → (c : Chart K) → Rule same (spot_of hash) incremental c
+    → (t : ℕ) → suc t ≡ c.past → (incremental ≡ false → t ≡ c.first) → IsTableLen (c.len t)
+    → (code tries : ℕ) → tries ≤ c.len t → met_in c code t tries ≤ pairs_in c
+
+-- A call that enters a table has met none there, and what it has met is no more than that: also once it has counted the word of a try, and goes on to the next.
+abbrev pub TriesMeetPairs : {K : Type 0} → (K → ℕ) → Type 0
+TriesMeetPairs {K} hash =
+    (c : Chart K) (blocks : Blocks) (code t : ℕ)
+    → ((table : Table) → (first_trial table code).met ≤ met_in c code t 0)
+    × ((trial : Trial) (j : ℕ) → trial.met ≤ met_in c code t j
+        → (with_met trial (place_word hash c blocks (c.place t (spot_at (c.len t) code j)))).met ≤ met_in c code t (suc j))
+    × ((trial : Trial) → IfSome (next_trial trial) (λ next. next.met ≡ trial.met))
+
+-- the same by the words of a memory: a word names a block
+abbrev pub names_block : Option ℕ → Bool
+names_block None = false
+names_block (Some word) = not (block_in word == 0)
+
+abbrev pub words_met : {T : Type 0} → Mem T → Table → ℕ → ℕ → ℕ
+words_met m table code tries = total one_if (λ j. names_block (word_at m (at_place table (spot_at table.len code j)))) tries
+
+module _ {K V Q : Type 0} where
+  -- a call is at a try of its hash at some table
+  abbrev pub IsAtTry : Chart K → Blocks → KeyCall K V Q → Type 0
+  IsAtTry c blocks p = (t : ℕ) × (j : ℕ) × IsTrial c blocks p.trial p.hash t j × IsTableLen (c.len t) × (c.limit t < c.len t)
+
+  abbrev pub IsTrying : Calling → Type 0
+  IsTrying at.Probes = Unit {0}
+  IsTrying (at.Tries word new) = Unit {0}
+  IsTrying _ = ⊥
+
+  -- it has met no more pairs than so many tries at its table meet
+  abbrev pub HasMet : Mem (Node K V) → KeyCall K V Q → ℕ → Type 0
+  HasMet m p tries = p.trial.met ≤ words_met m p.trial.table p.hash tries
+
+  -- it makes the next table for them, and counts the pairs first
+  abbrev pub MetMaking : Mem (Node K V) → KeyCall K V Q → Making → Type 0
+  MetMaking m p (makes.Sums before reason sum) = (before ≡ p.trial.table) × (reason ≡ Full p.trial.met) × HasMet m p (suc p.trial.table.limit)
+  MetMaking m p _ = Unit {0}
+
+  -- so it is from the first try at a table on, until the pairs are counted for the next one
+  abbrev pub MetAt : Mem (Node K V) → KeyCall K V Q → Calling → Type 0
+  MetAt m p at.Probes = HasMet m p p.trial.probe.len
+  MetAt m p (at.Tries word new) = HasMet m p p.trial.probe.len
+  MetAt m p at.Nexts = HasMet m p (suc p.trial.table.limit)
+  MetAt m p (at.Allocs making) = MetMaking m p making.stands
+  MetAt m p _ = Unit {0}
+
+-- Each step of a call that does not ask leaves it so, in the memory that it leaves.
+abbrev pub CallsMeetPairs : {K Q : Type 0} → Type 0 → (K → K → Bool) → (K → ℕ) → (Q → K → Bool) → Type 0
+CallsMeetPairs {K} {Q} V same hash asks =
+    (m m2 : Mem (Node K V)) (c : Chart K) (blocks : Blocks) (p : KeyCall K V Q) (end : KeyCall K V Q × Called (Node K V)) → (IsTrying p.stands → IsAtTry c blocks p)
+    → ((asking : Asking) → p.stands ≢ at.Asks asking) → MetAt m p p.stands → Steps Took value_at m (call_plan asks same hash p) m2 end
+    → MetAt m2 end.0 end.0.stands
+
+-- The words of a table say what stands in it.
+abbrev pub WordsSayWhatStands : {K : Type 0} → Type 0 → (K → K → Bool) → (K → ℕ) → Type 0
+WordsSayWhatStands {K} V same hash =
+    (mode : ResizeMode) (root : ℕ) (m : Mem (Node K V)) (c : Chart K) (blocks : Blocks) → IsMap same hash mode root m c blocks
+    → (table : Table) (t : ℕ) → IsTable c blocks table t → (code tries : ℕ) → words_met m table code tries ≤ met_in c code t tries
+
+-- So where a call makes the table after the last one, and the counter says how many pairs the map has, what it has met changes nothing.
+abbrev pub GoesByTheCounterAlone : {K : Type 0} → Type 0 → Type 0 → (K → K → Bool) → (K → ℕ) → Type 0
+GoesByTheCounterAlone {K} V Q same hash =
+    IsLawful same (spot_of hash) → (mode : ResizeMode) (root : ℕ) (m : Mem (Node K V)) (c : Chart K) (blocks : Blocks) → IsMap same hash mode root m c blocks
+    → (p : KeyCall K V Q) (t : ℕ) → IsTable c blocks p.trial.table t → suc t ≡ c.past → (is_incremental mode ≡ false → t ≡ c.first) → IsTableLen (c.len t)
+    → HasMet m p (suc p.trial.table.limit)
+    → (len initial : ℕ) → next_len (Full p.trial.met) len (pairs_in c) initial ≡ next_len (Full 0) len (pairs_in c) initial

@@ -1,0 +1,45 @@
+-- The table after the last one, where a call that is alone counts the pairs for it.
+use Rattle.std.specs.Prelude.{◌≡◌, ℕ, suc, Bool, false, ◌⊎◌}
+use Rattle.seize_words.specs.Mem.{Mem, Took, value_at}
+use Rattle.seize_words.specs.Plan.{Steps}
+use Rattle.seize.specs.World.{World}
+use Rattle.papaya_tables.specs.Chunks.{is_incremental}
+use Rattle.papaya_tables.specs.Lengths.{next_len, IsTableLen}
+use Rattle.papaya_tables.specs.declared.lengths.Reason.{Reason}
+use Rattle.papaya_tables.specs.declared.lengths.Reason.TheVariants.{Full}
+use Rattle.papaya_tables.specs.declared.node.Node.{Node}
+use Rattle.papaya_tables.specs.declared.setting.Setting.{Setting}
+use Rattle.papaya_tables.specs.declared.table.Table.{Table}
+use Rattle.papaya_resize.specs.NewTable.{standing, making_of}
+use Rattle.papaya_resize.specs.declared.new_table.NewTable.{NewTable}
+use Rattle.papaya_resize.specs.declared.new_table.Making.TheVariants as makes
+use Rattle.papaya_resize.specs.declared.sum.Sum.{Sum}
+use Rattle.papaya_raw.specs.Call.{call_plan}
+use Rattle.papaya_raw.specs.declared.machines.answer.Called.{Called}
+use Rattle.papaya_raw.specs.declared.machines.call.KeyCall.{KeyCall}
+use Rattle.papaya_raw.specs.declared.machines.call.Calling.{Calling}
+use Rattle.papaya_raw.specs.declared.machines.call.Calling.TheVariants as at
+use Rattle.papaya_rule.specs.Chart.{Chart}
+use Rattle.papaya_rule.specs.Rule.{IsLawful}
+use Rattle.papaya_rule.specs.Words.{Blocks}
+use Rattle.papaya_rule.specs.Maps.{spot_of, IsTable}
+use Rattle.papaya_rule.specs.InWorld.{IsMapIn}
+use Rattle.papaya_points.specs.FactsTables.{SumFacts}
+use Rattle.papaya_alone.specs.Counting.{pairs_in, count_ahead}
+use Rattle.papaya_alone.specs.Met.{MetMaking}
+
+-- it counts on, and will come to how many pairs the map has, or makes the table for so many, whatever it has met
+abbrev pub CountsOrMakes : {K T : Type 0} → Setting → Mem T → Chart K → NewTable → Table → Reason → Calling → Type 0
+CountsOrMakes setting m c n before reason stands =
+    ((sum : Sum) × (stands ≡ at.Allocs (standing n (makes.Sums before reason sum))) × SumFacts setting sum × (count_ahead setting m sum.stands ≡ pairs_in c))
+    ⊎ (stands ≡ at.Allocs (standing n (making_of reason before (next_len (Full 0) before.len (pairs_in c) setting.initial))))
+
+-- Where a call makes the table after the last one, has met no more pairs than its tries meet, and will count as many as the map has, a step leads there.
+abbrev pub NextTablesGoByTheCounter : {K Q : Type 0} → Type 0 → (K → K → Bool) → (K → ℕ) → (Q → K → Bool) → Type 0
+NextTablesGoByTheCounter {K} {Q} V same hash asks =
+    IsLawful same (spot_of hash) → (setting : Setting) (w : World (Node K V)) (c : Chart K) (blocks : Blocks) → IsMapIn same hash setting w c blocks
+    → (p : KeyCall K V Q) (n : NewTable) (before : Table) (reason : Reason) (sum : Sum) → p.stands ≡ at.Allocs n → n.setting ≡ setting → n.stands ≡ makes.Sums before reason sum
+    → SumFacts setting sum → MetMaking w.memory p n.stands → count_ahead setting w.memory sum.stands ≡ pairs_in c
+    → (t : ℕ) → IsTable c blocks p.trial.table t → suc t ≡ c.past → (is_incremental setting.mode ≡ false → t ≡ c.first) → IsTableLen (c.len t)
+    → (m2 : Mem (Node K V)) (end : KeyCall K V Q × Called (Node K V)) → Steps Took value_at w.memory (call_plan asks same hash p) m2 end
+    → CountsOrMakes setting m2 c n before reason end.0.stands
