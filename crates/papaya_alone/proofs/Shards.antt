@@ -5,4 +5,4 @@ pub mod Counted
 pub mod Fewer
 pub mod PairsChanged
 pub mod Met
-mod MetOn
+pub mod MetOn

@@ -59,15 +59,16 @@ names_block (Some word) = not (block_in word == 0)
 abbrev pub words_met : {T : Type 0} → Mem T → Table → ℕ → ℕ → ℕ
 words_met m table code tries = total one_if (λ j. names_block (word_at m (at_place table (spot_at table.len code j)))) tries
 
+-- a call is about to look at the word of a try, or to change it
+abbrev pub IsTrying : Calling → Type 0
+IsTrying at.Probes = Unit {0}
+IsTrying (at.Tries word new) = Unit {0}
+IsTrying _ = ⊥
+
 module _ {K V Q : Type 0} where
   -- a call is at a try of its hash at some table
   abbrev pub IsAtTry : Chart K → Blocks → KeyCall K V Q → Type 0
   IsAtTry c blocks p = (t : ℕ) × (j : ℕ) × IsTrial c blocks p.trial p.hash t j × IsTableLen (c.len t) × (c.limit t < c.len t)
-
-  abbrev pub IsTrying : Calling → Type 0
-  IsTrying at.Probes = Unit {0}
-  IsTrying (at.Tries word new) = Unit {0}
-  IsTrying _ = ⊥
 
   -- it has met no more pairs than so many tries at its table meet
   abbrev pub HasMet : Mem (Node K V) → KeyCall K V Q → ℕ → Type 0

@@ -86,7 +86,7 @@ module _ {K : Type 0} (same : K → K → Bool) (hash : K → ℕ) (lawful : IsL
         has_distinct_places code is_len.power.0 j o (let power = is_len.power.1 in omega (arith, l, within, power)) (let power = is_len.power.1 in omega (arith, m, within, power)) same_place
       where
         key : (k : K) × (c.key n ≡ Some k)
-        key = (rule.common.keyed t (spot_at (c.len t) code j) n phase borrowed is).1
+        key = let keyed = rule.common.keyed t (spot_at (c.len t) code j) n phase borrowed is in (keyed.1, keyed.2)
 
         of_class : is_of same (spot_of hash) b key.0 (c.key n) ≡ true
         of_class = ap (is_of same (spot_of hash) b key.0) key.1 ∙ lawful.classes.refl key.0

@@ -18,6 +18,7 @@ use Rattle.seize.specs.declared.rows.settle.Settled.{Settled}
 use Rattle.seize.specs.declared.rows.settle.Settled.TheVariants as settled
 use Rattle.papaya_tables.specs.Chunks.{is_incremental}
 use Rattle.papaya_tables.specs.Finding.{may_name}
+use Rattle.papaya_tables.specs.Nodes.{table_seen}
 use Rattle.papaya_tables.specs.Lengths.{next_len, next_limit, next_turn}
 use Rattle.papaya_tables.specs.Probes.{probe_after}
 use Rattle.papaya_tables.specs.TablePlaces.{at_place, at_word}
@@ -413,7 +414,7 @@ module _ {K V Q : Type 0} (asks : Q → K → Bool) (same : K → K → Bool) (h
     on_looks l None = tt
 
     on_root : (out : Out (Node K V)) → Always (On m2) (root_found p out)
-    on_root (Found link) = always_if (On m2) (link == 0) _ _ (tableless_met m2 p.missing p) (λ value. entering_met m2 p _)
+    on_root (Found link) = always_if (On m2) (link == 0) _ _ (tableless_met m2 p.missing p) (λ value. entering_met m2 p (table_seen link value))
     on_root Stored = self
     on_root (Exchanged r) = self
     on_root (Made r) = self

@@ -12,7 +12,7 @@ use Rattle.seize.specs.declared.rows.settle.Settled.{Settled}
 use Rattle.seize.specs.declared.rows.settle.Settled.TheVariants as settled
 use Rattle.papaya_tables.specs.Chunks.{is_incremental}
 use Rattle.papaya_tables.specs.Finding.{finding, may_name}
-use Rattle.papaya_tables.specs.Trials.{next_trial}
+use Rattle.papaya_tables.specs.Trials.{next_trial, with_met}
 use Rattle.papaya_tables.specs.declared.finding.Finding.{Finding}
 use Rattle.papaya_tables.specs.declared.finding.Finding.TheVariants as finds
 use Rattle.papaya_tables.specs.declared.lengths.Reason.TheVariants.{Full}
@@ -21,7 +21,6 @@ use Rattle.papaya_tables.specs.declared.marks.TheConstants.{TOMBSTONE}
 use Rattle.papaya_tables.specs.declared.node.Node.{Node}
 use Rattle.papaya_tables.specs.declared.node.Node.TheVariants as node
 use Rattle.papaya_tables.specs.declared.table.Table.{Table}
-use Rattle.papaya_tables.specs.declared.trial.Trial.{Trial}
 use Rattle.papaya_resize.specs.Copier.{copier_plan}
 use Rattle.papaya_resize.specs.CopierStates.{copying_all}
 use Rattle.papaya_resize.specs.Dispose.{disposing, dispose_plan}
@@ -37,7 +36,7 @@ use Rattle.papaya_raw.specs.Call.{call_plan, made, makes_of, root_found, next_fo
 use Rattle.papaya_raw.specs.Call as calls
 use Rattle.papaya_raw.specs.CallAsks.{absent_told, present_told, told_at, with_absent, with_present}
 use Rattle.papaya_raw.specs.CallFills.{emptied, fill_by, filled, fills_with, given_up, putting_by}
-use Rattle.papaya_raw.specs.CallPoints.{aim_of, asking_at, asking_of, at_end, at_free, at_gap, at_last, at_pair, burying, changed, counted, ending, entering, following_made, gap_by, going, over, pair_by, passed, standing, storing, tableless, told, told_of, went_on}
+use Rattle.papaya_raw.specs.CallPoints.{aim_of, asking_at, asking_of, at_free, at_gap, at_last, at_pair, burying, changed, counted, ending, entering, following_made, gap_by, going, having_met, over, pair_by, standing, storing, tableless, told, told_of, went_on}
 use Rattle.papaya_raw.specs.Replies.{as_own, value_for}
 use Rattle.papaya_raw.specs.declared.machines.answer.Called.{Called}
 use Rattle.papaya_raw.specs.declared.machines.answer.Called.TheVariants as called
@@ -61,6 +60,7 @@ use Rattle.papaya_raw.specs.declared.machines.asking.Told.TheVariants as tells
 use Rattle.papaya_raw.specs.declared.machines.call.Calling.{Calling}
 use Rattle.papaya_raw.specs.declared.machines.call.Calling.TheVariants as at
 use Rattle.papaya_raw.specs.declared.machines.call.KeyCall.{KeyCall}
+use Rattle.papaya_points.proofs.Calls.Asked.{passed_so}
 use Rattle.papaya_rule.proofs.Keys.Always.{Always, AlwaysOf, always_ends, always_if}
 use Rattle.papaya_late.specs.Faults.{SoInCalling, CallRefusesSo}
 use Rattle.papaya_late.proofs.KindsKept.Calls.Kept.{LooksOn, looks_on}
@@ -105,7 +105,7 @@ module _ (Is : Fault → Type 0) where
     ending_so end so = either (p.own == 0) (over p end) (going p (at.Drops end)) (over_so end so) (drops_so end so)
 
     following_so : So (following_made p)
-    following_so = (table_after_so Is long p.setting p.trial.table Full, tt)
+    following_so = (table_after_so Is long p.setting p.trial.table (Full p.trial.met), tt)
 
     storing_so : (t : Told V) (word : ℕ) → So (storing t p word)
     storing_so tells.Own word = (tt, tt)
@@ -151,11 +151,6 @@ module _ (Is : Fault → Type 0) where
     free_so missing.Puts = (tt, tt)
     free_so missing.Asks = asking_so gaps.Free
 
-    end_so : (m : Missing) → So (at_end m p)
-    end_so missing.Answers = absent_so
-    end_so missing.Puts = (tt, tt)
-    end_so missing.Asks = asking_so gaps.Past
-
     last_so : (m : Missing) → So (at_last m p)
     last_so missing.Answers = either (is_incremental p.setting.mode) (ending p (ends.Answered answers.Absent)) (following_made p) absent_so following_so
     last_so missing.Puts = following_so
@@ -167,16 +162,15 @@ module _ (Is : Fault → Type 0) where
     pair_so there.Removes word = (tt, tt)
     pair_so there.Asks word = asking_of_so word
 
-    passed_so : (trial : Option Trial) → So (passed p trial)
-    passed_so (Some trial) = (tt, tt)
-    passed_so None = either (is_incremental p.setting.mode) (going p at.Nexts) (at_end p.missing p) (tt, tt) (end_so p.missing)
-
     told_so : (loaded : Bool) (word : ℕ) (named : Bool) → So (told loaded p word named)
     told_so loaded word named = by (finding p.setting.mode (aim_of p.missing) word named)
       where
         by : (found : Finding) → So (told_of loaded p word found)
         by finds.Free = free_so p.missing
-        by finds.Passed = passed_so (next_trial p.trial)
+        by finds.Passed =
+            passed_so So (having_met p word) (λ next. (tt, tt)) (tt, tt)
+            (λ e. either (p.own == 0) (over (having_met p word) (ends.Answered answers.Absent)) (going (having_met p word) (at.Drops (ends.Answered answers.Absent))) (tt, tt) (tt, tt))
+            (λ e untold. (tt, tt)) (next_trial (with_met p.trial word))
         by finds.Moved = (tt, tt)
         by finds.Copying = either loaded (standing p at.Probes, called.Waits) (going p at.Probes) (tt, tt) (tt, tt)
         by finds.There = pair_so p.there word
